@@ -1,0 +1,4 @@
+pub mod Numbers
+pub mod Cursors
+pub mod Items
+pub mod OneReading
