@@ -1,5 +1,5 @@
 -- A cursor goes on by the bytes of an item exactly where it takes the item.
-use Rattle.std.proofs.Common.{◌≡◌, ℕ, ◌+◌, ◌<◌, ◌≤◌, Bool, true, false, cond, List, ◌++◌, length, take, drop, Result, Ok, Err, IfOk, IsOkAnd, refl, sym, ap, ◌∙◌, arith}
+use Rattle.std.proofs.Common.{◌≡◌, ℕ, ◌+◌, ◌≤◌, Bool, true, false, cond, List, ◌++◌, length, take, drop, Result, Ok, Err, IfOk, IsOkAnd, refl, sym, ap, ◌∙◌, arith}
 use Rattle.std.proofs.lemmas.List.{take_at, drop_at, take-append-drop, length-append, length-take-le}
 use Rattle.nr_xdr.specs.declared.fault.ItemFault.{ItemFault}
 use Rattle.nr_xdr.specs.Item.{Item, Reads}

@@ -1,16 +1,16 @@
 -- Each item: what is read at a cursor is what the cursor takes, and what a cursor takes is read.
-use Rattle.std.proofs.Common.{◌≡◌, ℕ, ◌+◌, ◌-◌, ◌^◌, ◌<◌, ◌≤◌, Bool, true, false, cond, eqb, ltb, List, [], ◌++◌, length, take, drop, Result, Ok, Err, refl, sym, ap, subst, ◌∙◌, append_assoc, arith, inl, inr}
+use Rattle.std.proofs.Common.{◌≡◌, ℕ, ◌+◌, ◌^◌, ◌<◌, ◌≤◌, Bool, true, false, cond, ltb, List, [], ◌++◌, length, take, drop, Result, Ok, Err, refl, sym, ap, subst, ◌∙◌, arith}
 use Rattle.std.proofs.lemmas.Bool.{ltb-false, le-ltb}
 use Rattle.std.proofs.lemmas.Bool.Decides.{nat_tests}
-use Rattle.std.proofs.lemmas.List.{take_at, drop_at, take-append-drop, length-append, length-take, length-take-le, length-drop, take-take, drop-take}
+use Rattle.std.proofs.lemmas.List.{take_at, drop_at, length-append, length-take-le, length-drop, take-take, drop-take}
 use Rattle.std.proofs.Math.Seq.{take-add}
 use Rattle.nr_xdr.specs.declared.fault.ItemFault.{ItemFault}
-use Rattle.nr_xdr.specs.declared.fault.ItemFault.TheVariants.{Short, Long, BadBool}
-use Rattle.nr_xdr.specs.Item.{Item, Reads, IsBytes, word, word_of, hyper, hyper_of, pad_len, bit}
+use Rattle.nr_xdr.specs.declared.fault.ItemFault.TheVariants.{Short, Long}
+use Rattle.nr_xdr.specs.Item.{Reads, IsBytes, word, word_of, hyper, hyper_of, pad_len, bit}
 use Rattle.nr_xdr.specs.Item.Item.{Unsigned, Hyper, Boolean, Opaque, Fixed}
 use Rattle.nr_xdr.specs.Reading.{Cursor, Takes, past, unsigned_at, hyper_at, boolean_at, boolean_by, opaque_at, opaque_by, fixed_at}
-use Rattle.nr_xdr.proofs.Numbers.{IsBytes-take, IsBytes-drop, length-word, word-word_of, word_of-word, word_of-below, length-hyper, hyper-hyper_of, hyper_of-hyper, hyper_of-below}
-use Rattle.nr_xdr.proofs.Cursors.{guard_ok, ok_parts, past_takes, takes_past, Took}
+use Rattle.nr_xdr.proofs.Numbers.{IsBytes-take, length-word, word-word_of, word_of-word, word_of-below, length-hyper, hyper-hyper_of, hyper_of-hyper, hyper_of-below}
+use Rattle.nr_xdr.proofs.Cursors.{guard_ok, ok_parts, past_takes, takes_past}
 
 -- the first four bytes spell their number
 record FrontWord (bytes : List ℕ) (n : ℕ) : Type 0 where

@@ -1,5 +1,5 @@
 -- No reading begins another of its type: both would be read at one place.
-use Rattle.std.proofs.Common.{◌≡◌, ℕ, ◌+◌, ◌^◌, ◌<◌, ◌≤◌, Bool, List, [], ◌++◌, length, Result, Ok, refl, sym, ap, ◌∙◌, arith}
+use Rattle.std.proofs.Common.{◌≡◌, ℕ, ◌+◌, List, ◌++◌, length, Result, Ok, refl, sym, ap, ◌∙◌, arith}
 use Rattle.nr_xdr.specs.declared.fault.ItemFault.{ItemFault}
 use Rattle.nr_xdr.specs.Item.{Item, Reads, AreOfOneType}
 use Rattle.nr_xdr.specs.Item.Item.{Unsigned, Hyper, Boolean, Opaque, Fixed}

@@ -1,5 +1,5 @@
 -- The items of XDR (RFC 4506), and the bytes that spell them.
-use Rattle.std.specs.Prelude.{◌≡◌, ℕ, ◌+◌, ◌-◌, ◌%◌, ◌^◌, ◌<◌, Bool, true, false, List, [], ◌∷◌, ◌++◌, length, replicate, get_or}
+use Rattle.std.specs.Prelude.{◌≡◌, ℕ, ◌-◌, ◌%◌, ◌^◌, ◌<◌, Bool, true, false, List, ◌++◌, length, replicate, get_or}
 use Rattle.std.specs.Int.{w32, w64, to_be_bytes, from_be_bytes}
 
 -- each number of the list is a byte

@@ -1,5 +1,4 @@
-use Rattle.std.proofs.Common.{◌≡◌}
-use Rattle.nr_xdr.specs.Reading.{Cursor, Takes, boolean_at}
+use Rattle.nr_xdr.specs.Reading.{Takes, boolean_at}
 use Rattle.nr_xdr.specs.Item.Item.{Boolean}
 use Rattle.nr_xdr.proofs.Cursors.{found_by, only_by}
 use Rattle.nr_xdr.proofs.Items.{boolean_takes, boolean_again}

@@ -1,5 +1,5 @@
 use Rattle.std.proofs.Common.{◌≡◌, length}
-use Rattle.nr_xdr.specs.Reading.{Cursor, Takes, fixed_at}
+use Rattle.nr_xdr.specs.Reading.{Takes, fixed_at}
 use Rattle.nr_xdr.specs.Item.Item.{Fixed}
 use Rattle.nr_xdr.proofs.Cursors.{found_by, only_by}
 use Rattle.nr_xdr.proofs.Items.{fixed_takes, fixed_again}

@@ -1,5 +1,5 @@
-use Rattle.std.proofs.Common.{◌≡◌, ◌≤◌, length}
-use Rattle.nr_xdr.specs.Reading.{Cursor, Takes, opaque_at}
+use Rattle.std.proofs.Common.{◌≤◌, length}
+use Rattle.nr_xdr.specs.Reading.{Takes, opaque_at}
 use Rattle.nr_xdr.specs.Item.Item.{Opaque}
 use Rattle.nr_xdr.proofs.Cursors.{found_by, only_by}
 use Rattle.nr_xdr.proofs.Items.{opaque_takes, opaque_again}

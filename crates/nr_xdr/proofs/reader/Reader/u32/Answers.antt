@@ -1,5 +1,4 @@
-use Rattle.std.proofs.Common.{◌≡◌}
-use Rattle.nr_xdr.specs.Reading.{Cursor, Takes, unsigned_at}
+use Rattle.nr_xdr.specs.Reading.{Takes, unsigned_at}
 use Rattle.nr_xdr.specs.Item.Item.{Unsigned}
 use Rattle.nr_xdr.proofs.Cursors.{found_by, only_by}
 use Rattle.nr_xdr.proofs.Items.{unsigned_takes, unsigned_again}

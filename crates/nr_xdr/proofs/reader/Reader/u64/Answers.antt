@@ -1,5 +1,4 @@
-use Rattle.std.proofs.Common.{◌≡◌}
-use Rattle.nr_xdr.specs.Reading.{Cursor, Takes, hyper_at}
+use Rattle.nr_xdr.specs.Reading.{Takes, hyper_at}
 use Rattle.nr_xdr.specs.Item.Item.{Hyper}
 use Rattle.nr_xdr.proofs.Cursors.{found_by, only_by}
 use Rattle.nr_xdr.proofs.Items.{hyper_takes, hyper_again}
