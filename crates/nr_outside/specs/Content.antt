@@ -1,4 +1,4 @@
--- What moves the bytes of a source or a sink, each told or not, and those of a buffer.
+-- The bytes of a source, each told or not, and those of a buffer, as they pass from one to the other.
 use Rattle.std.specs.Prelude.{ℕ, List, ◌++◌, Option, length, drop}
 use Rattle.std.specs.Io.KnownBytes.{Appends, Consumes}
 
