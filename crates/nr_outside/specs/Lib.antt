@@ -1,0 +1,7 @@
+pub mod Content
+pub mod Counted
+pub mod Faults
+pub mod MemSink
+pub mod MemSource
+pub mod Pipe
+pub mod Whole
