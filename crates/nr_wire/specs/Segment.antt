@@ -1,0 +1,115 @@
+-- FPDUs (RFC 5044 section 4) and the DDP segments in them (RFC 5041 section 4, RFC 5040 section 4).
+use Rattle.std.specs.Prelude.{ℕ, ◌+◌, ◌-◌, ◌*◌, ◌/◌, ◌%◌, Bool, true, false, not, ◌||◌, ◌==◌, nat_lt, if◌then◌else◌, List, [], ◌∷◌, ◌++◌, length, replicate, take, drop, slice_index, Option, None, Some, Result}
+use Rattle.nr_xdr.specs.Item.{bit, word, hyper, pad_len}
+use Rattle.nr_wire.specs.declared.numbers.TheConstants.{LENGTH_LEN, CRC_LEN, TAGGED_LEN, UNTAGGED_LEN, BIT_TAGGED, BIT_LAST, OPCODE_WRITE, OPCODE_READ_REQUEST, OPCODE_READ_RESPONSE, OPCODE_SEND, OPCODE_TERMINATE, QUEUE_SEND, QUEUE_READ_REQUEST, QUEUE_TERMINATE, REASON_LENGTH, REASON_DDP_VERSION, REASON_RDMAP_VERSION, REASON_OPCODE, REASON_TAGGED, REASON_QUEUE}
+use Rattle.nr_wire.specs.Numbers.{half_word, half_word_at, word_at, hyper_at, has_bit}
+use Rattle.nr_wire.specs.Hello.{unless}
+
+-- a segment without where it lies in memory
+pub data Segment : Type 0 where
+  Tagged : (last : Bool) → (opcode stag to : ℕ) → (payload : List ℕ) → Segment
+  Untagged : (last : Bool) → (opcode word queue msn offset : ℕ) → (payload : List ℕ) → Segment
+
+-- The opcodes let through, each with its form. Of the tagged ones the payload goes to memory of the receiver.
+abbrev pub is_tagged_opcode : ℕ → Bool
+is_tagged_opcode opcode = opcode == OPCODE_WRITE || opcode == OPCODE_READ_RESPONSE
+
+abbrev pub is_untagged_opcode : ℕ → Bool
+is_untagged_opcode opcode = opcode == OPCODE_READ_REQUEST || opcode == OPCODE_SEND || opcode == OPCODE_TERMINATE
+
+abbrev pub is_let_through : ℕ → Bool
+is_let_through opcode = is_tagged_opcode opcode || is_untagged_opcode opcode
+
+-- the queue of an untagged opcode (RFC 5040 section 4.1)
+abbrev pub queue_for : ℕ → ℕ
+queue_for opcode =
+    if opcode == OPCODE_READ_REQUEST then QUEUE_READ_REQUEST
+    else (if opcode == OPCODE_TERMINATE then QUEUE_TERMINATE
+    else QUEUE_SEND)
+
+-- How many bytes an FPDU with an ULPDU of n bytes has: the length field, the ULPDU, the pad to a multiple of four, the CRC.
+unfoldable pub fpdu_size : ℕ → ℕ
+fpdu_size n = LENGTH_LEN + n + pad_len (LENGTH_LEN + n) + CRC_LEN
+
+abbrev pub ulpdu_len : List ℕ → ℕ
+ulpdu_len bytes = half_word_at 0 bytes
+
+unfoldable pub fpdu_len : List ℕ → ℕ
+fpdu_len bytes = fpdu_size (ulpdu_len bytes)
+
+-- The two bytes that open an ULPDU: the tagged and last bits and the version of DDP; the version of RDMAP and the
+-- opcode. Both versions are 1. The other bits are sent as zeros.
+abbrev pub control : Bool → Bool → ℕ → List ℕ
+control tagged last opcode = (BIT_TAGGED * bit tagged + BIT_LAST * bit last + 1) ∷ (64 + opcode) ∷ []
+
+-- the ULPDU of a segment
+unfoldable pub ulpdu : Segment → List ℕ
+ulpdu (Tagged last opcode stag to payload) = control true last opcode ++ (word stag ++ hyper to) ++ payload
+ulpdu (Untagged last opcode w queue msn offset payload) =
+    control false last opcode ++ (word w ++ word queue ++ word msn ++ word offset) ++ payload
+
+-- the FPDU of an ULPDU, with these bytes behind it
+abbrev pub framed : List ℕ → List ℕ → List ℕ
+framed content behind = half_word (length content) ++ content ++ behind
+
+-- the bytes of a segment: its FPDU, with zeros for pad and CRC
+unfoldable pub spelling : Segment → List ℕ
+spelling segment =
+    framed (ulpdu segment) (replicate (pad_len (LENGTH_LEN + length (ulpdu segment)) + CRC_LEN) 0)
+
+-- the fields of a whole FPDU
+abbrev pub is_tagged : List ℕ → Bool
+is_tagged frame = has_bit BIT_TAGGED (slice_index frame 2)
+
+abbrev pub is_last : List ℕ → Bool
+is_last frame = has_bit BIT_LAST (slice_index frame 2)
+
+abbrev pub ddp_version : List ℕ → ℕ
+ddp_version frame = slice_index frame 2 % 4
+
+abbrev pub rdmap_version : List ℕ → ℕ
+rdmap_version frame = slice_index frame 3 / 64
+
+abbrev pub opcode_of : List ℕ → ℕ
+opcode_of frame = slice_index frame 3 % 16
+
+-- how many bytes come before the payload, by the tagged bit
+abbrev pub header_len : List ℕ → ℕ
+header_len frame = if is_tagged frame then TAGGED_LEN else UNTAGGED_LEN
+
+-- the payload: what the ULPDU has behind a header of n bytes
+abbrev pub payload_of : ℕ → List ℕ → List ℕ
+payload_of n frame = take (ulpdu_len frame - n) (drop (LENGTH_LEN + n) frame)
+
+abbrev pub queue_of : List ℕ → ℕ
+queue_of frame = word_at 8 frame
+
+abbrev pub read_as : Bool → List ℕ → Segment
+read_as true frame =
+    Tagged (is_last frame) (opcode_of frame) (word_at 4 frame) (hyper_at 8 frame) (payload_of TAGGED_LEN frame)
+read_as false frame =
+    Untagged (is_last frame) (opcode_of frame) (word_at 4 frame) (queue_of frame) (word_at 12 frame) (word_at 16 frame) (payload_of UNTAGGED_LEN frame)
+
+-- the tagged bit or, of an untagged FPDU, the queue isn't the opcode's
+abbrev pub is_of_other_form : Bool → ℕ → Bool
+is_of_other_form true opcode = not (is_tagged_opcode opcode)
+is_of_other_form false opcode = is_tagged_opcode opcode
+
+abbrev pub is_of_other_queue : Bool → ℕ → ℕ → Bool
+is_of_other_queue true opcode queue = false
+is_of_other_queue false opcode queue = not (queue == queue_for opcode)
+
+-- Why a whole FPDU is refused: the first reason of the table that stands. (An ULPDU below two bytes is below both headers.)
+unfoldable pub segment_flaw : List ℕ → Option ℕ
+segment_flaw frame =
+    if nat_lt (ulpdu_len frame) (header_len frame) then Some REASON_LENGTH
+    else (if not (ddp_version frame == 1) then Some REASON_DDP_VERSION
+    else (if not (rdmap_version frame == 1) then Some REASON_RDMAP_VERSION
+    else (if not (is_let_through (opcode_of frame)) then Some REASON_OPCODE
+    else (if is_of_other_form (is_tagged frame) (opcode_of frame) then Some REASON_TAGGED
+    else (if is_of_other_queue (is_tagged frame) (opcode_of frame) (queue_of frame) then Some REASON_QUEUE
+    else None)))))
+
+-- what a whole FPDU says, or why it is refused
+unfoldable pub segment_of : List ℕ → Result Segment ℕ
+segment_of frame = unless (segment_flaw frame) (read_as (is_tagged frame) frame)
