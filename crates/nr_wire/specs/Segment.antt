@@ -1,7 +1,7 @@
 -- FPDUs (RFC 5044 section 4) and the DDP segments in them (RFC 5041 section 4, RFC 5040 section 4).
 use Rattle.std.specs.Prelude.{ℕ, ◌+◌, ◌-◌, ◌*◌, ◌/◌, ◌%◌, Bool, true, false, not, ◌||◌, ◌==◌, nat_lt, if◌then◌else◌, List, [], ◌∷◌, ◌++◌, length, replicate, take, drop, slice_index, Option, None, Some, Result}
 use Rattle.nr_xdr.specs.Item.{bit, word, hyper, pad_len}
-use Rattle.nr_wire.specs.declared.numbers.TheConstants.{LENGTH_LEN, CRC_LEN, TAGGED_LEN, UNTAGGED_LEN, BIT_TAGGED, BIT_LAST, OPCODE_WRITE, OPCODE_READ_REQUEST, OPCODE_READ_RESPONSE, OPCODE_SEND, OPCODE_TERMINATE, QUEUE_SEND, QUEUE_READ_REQUEST, QUEUE_TERMINATE, REASON_LENGTH, REASON_DDP_VERSION, REASON_RDMAP_VERSION, REASON_OPCODE, REASON_TAGGED, REASON_QUEUE}
+use Rattle.nr_wire.specs.declared.numbers.TheConstants.{LENGTH_LEN, CRC_LEN, TAGGED_LEN, UNTAGGED_LEN, BIT_TAGGED, BIT_LAST, DDP_VERSION, RDMAP_VERSION, OPCODE_WRITE, OPCODE_READ_REQUEST, OPCODE_READ_RESPONSE, OPCODE_SEND, OPCODE_TERMINATE, QUEUE_SEND, QUEUE_READ_REQUEST, QUEUE_TERMINATE, REASON_LENGTH, REASON_DDP_VERSION, REASON_RDMAP_VERSION, REASON_OPCODE, REASON_TAGGED, REASON_QUEUE}
 use Rattle.nr_wire.specs.Numbers.{half_word, half_word_at, word_at, hyper_at, has_bit}
 use Rattle.nr_wire.specs.Hello.{unless}
 
@@ -38,9 +38,9 @@ unfoldable pub fpdu_len : List ℕ → ℕ
 fpdu_len bytes = fpdu_size (ulpdu_len bytes)
 
 -- The two bytes that open an ULPDU: the tagged and last bits and the version of DDP; the version of RDMAP and the
--- opcode. Both versions are 1. The other bits are sent as zeros.
+-- opcode. The other bits are sent as zeros.
 abbrev pub control : Bool → Bool → ℕ → List ℕ
-control tagged last opcode = (BIT_TAGGED * bit tagged + BIT_LAST * bit last + 1) ∷ (64 + opcode) ∷ []
+control tagged last opcode = (BIT_TAGGED * bit tagged + BIT_LAST * bit last + DDP_VERSION) ∷ (64 * RDMAP_VERSION + opcode) ∷ []
 
 -- the ULPDU of a segment
 unfoldable pub ulpdu : Segment → List ℕ
@@ -73,9 +73,9 @@ rdmap_version frame = slice_index frame 3 / 64
 abbrev pub opcode_of : List ℕ → ℕ
 opcode_of frame = slice_index frame 3 % 16
 
--- how many bytes come before the payload, by the tagged bit
-abbrev pub header_len : List ℕ → ℕ
-header_len frame = if is_tagged frame then TAGGED_LEN else UNTAGGED_LEN
+-- how many bytes a header has
+abbrev pub header_len : Bool → ℕ
+header_len tagged = if tagged then TAGGED_LEN else UNTAGGED_LEN
 
 -- the payload: what the ULPDU has behind a header of n bytes
 abbrev pub payload_of : ℕ → List ℕ → List ℕ
@@ -102,9 +102,9 @@ is_of_other_queue false opcode queue = not (queue == queue_for opcode)
 -- Why a whole FPDU is refused: the first reason of the table that stands. (An ULPDU below two bytes is below both headers.)
 unfoldable pub segment_flaw : List ℕ → Option ℕ
 segment_flaw frame =
-    if nat_lt (ulpdu_len frame) (header_len frame) then Some REASON_LENGTH
-    else (if not (ddp_version frame == 1) then Some REASON_DDP_VERSION
-    else (if not (rdmap_version frame == 1) then Some REASON_RDMAP_VERSION
+    if nat_lt (ulpdu_len frame) (header_len (is_tagged frame)) then Some REASON_LENGTH
+    else (if not (ddp_version frame == DDP_VERSION) then Some REASON_DDP_VERSION
+    else (if not (rdmap_version frame == RDMAP_VERSION) then Some REASON_RDMAP_VERSION
     else (if not (is_let_through (opcode_of frame)) then Some REASON_OPCODE
     else (if is_of_other_form (is_tagged frame) (opcode_of frame) then Some REASON_TAGGED
     else (if is_of_other_queue (is_tagged frame) (opcode_of frame) (queue_of frame) then Some REASON_QUEUE

@@ -1,6 +1,6 @@
 -- A stream (RFC 5044 section 3): a hello, FPDUs, and a rest that is less than a frame. Frames are cut by their length
 -- fields, whatever else they hold.
-use Rattle.std.specs.Prelude.{◌≡◌, ℕ, ◌-◌, ◌≤◌, zero, suc, Bool, false, ◌&&◌, nat_lt, nat_le, if◌then◌else◌, List, [], ◌∷◌, ◌++◌, length, take, drop}
+use Rattle.std.specs.Prelude.{◌≡◌, ℕ, ◌-◌, ◌≤◌, zero, suc, Bool, false, ◌&&◌, nat_lt, nat_le, if◌then◌else◌, List, [], ◌∷◌, ◌++◌, length, take, drop, ◌<◌}
 use Rattle.std.specs.List.{concat}
 use Rattle.nr_wire.specs.declared.numbers.TheConstants.{HELLO_LEN, LENGTH_LEN}
 use Rattle.nr_wire.specs.declared.stream.Awaited.{Awaited}
@@ -27,6 +27,12 @@ pub record IsFrame (a : Awaited) (bytes : List ℕ) : Type 0 where
   pub fields : fields_len a ≤ length bytes
   pub len : frame_len a bytes ≡ length bytes
 
+-- the bytes are less than the awaited frame: a proper prefix of one, by its length fields
+pub record IsPartial (a : Awaited) (bytes : List ℕ) : Type 0 where
+  pub more : List ℕ
+  pub some : 0 < length more
+  pub frame : IsFrame a (bytes ++ more)
+
 -- How many bytes the awaited frame still lacks: those of its fields, and then those of the frame.
 unfoldable pub lacking : Awaited → List ℕ → ℕ
 lacking a rest = if nat_lt (length rest) (fields_len a) then fields_len a - length rest else frame_len a rest - length rest
@@ -45,7 +51,7 @@ AreFrames a (frame ∷ frames) = IsFrame a frame × AreFrames Fpdu frames
 pub record Splits (a : Awaited) (stream : List ℕ) (frames : List (List ℕ)) (rest : List ℕ) : Type 0 where
   pub whole : stream ≡ concat frames ++ rest
   pub each : AreFrames a frames
-  pub partial : is_whole (awaited_after a frames) rest ≡ false
+  pub partial : IsPartial (awaited_after a frames) rest
 
 -- the frames of a stream and what is left, as they are cut from its front
 pub record Split : Type 0 where

@@ -1,4 +1,5 @@
 -- The values of the code, without where they lie in memory.
+use Rattle.std.specs.Prelude.{ℕ, Result, Ok, Err}
 use Rattle.nr_wire.specs.declared.hello.Hello.{Hello as HelloFrame}
 use Rattle.nr_wire.specs.declared.hello.NextHello.{NextHello}
 use Rattle.nr_wire.specs.declared.hello.NextHello.TheVariants.{Whole as WholeHello, More as MoreHello, Bad as BadHello}
@@ -28,3 +29,8 @@ abbrev pub next_segment : NextSegment → Next Segment
 next_segment (WholeSegment s len) = Whole (segment s) len
 next_segment MoreSegment = More
 next_segment (BadSegment reason) = Bad reason
+
+-- an answer with its value seen so
+abbrev pub shown : {X Y : Type 0} → (X → Y) → Result X ℕ → Result Y ℕ
+shown view (Ok x) = Ok (view x)
+shown view (Err reason) = Err reason

@@ -1,14 +1,15 @@
 //! The hello that each side sends first.
 
 ghost use Rattle.std.specs.Prelude.{◌≡◌, ℕ, ◌+◌, ◌<◌, ◌≤◌, length, take};
-ghost use Rattle.nr_wire.specs.Hello.{key, is_refused_by, hello_flaw, hello_len};
+ghost use Rattle.nr_wire.specs.Hello.{key, is_refused_by, hello_flaw, hello_of, hello_len};
 ghost use Rattle.nr_wire.specs.Next.{hello_in};
-ghost use Rattle.nr_wire.specs.View.{next_hello};
+ghost use Rattle.nr_wire.specs.View.{hello as plain, next_hello, shown};
 
 use crate::numbers::{
     FLAG_CRC, FLAG_MARKERS, FLAG_REJECT, HELLO_LEN, HELLO_REVISION, PRIVATE_MAX, REASON_FLAGS,
     REASON_KEY, REASON_PRIVATE, REASON_REVISION,
 };
+use crate::stream::{Awaited, whole_frame};
 use crate::words::{half_word_at, has_bit};
 
 /// An end of a connection: the initiator opened it, the responder accepted it.
@@ -78,4 +79,50 @@ fn flaw(side: Side, head: &[u8]) -> Option<u32>
         return Some(REASON_PRIVATE);
     }
     None
+}
+
+/// How many bytes the hello has that these begin: 20 where it is refused.
+#[tactic(auto, unfolding(crate::specs::Hello::hello_len))]
+pub fn hello_len(side: Side, bytes: &[u8]) -> usize
+    requires { HELLO_LEN ≤ length bytes.now }
+    ensures { result ≡ hello_len side bytes.now }
+{
+    let (head, _) = bytes.split_at(HELLO_LEN);
+    match flaw(side, head) {
+        None => HELLO_LEN + usize::from(half_word_at(bytes, 18)),
+        Some(_) => HELLO_LEN,
+    }
+}
+
+/// What a whole hello says, or the reason for which it is refused.
+#[tactic(auto, unfolding(crate::specs::Hello::hello_of))]
+fn hello_of(side: Side, frame: &[u8]) -> Result<Hello<'_>, u32>
+    requires { HELLO_LEN ≤ length frame.now }
+    ensures { shown plain result ≡ hello_of side frame.now }
+{
+    let (head, private) = frame.split_at(HELLO_LEN);
+    match flaw(side, head) {
+        None => Ok(Hello {
+            side,
+            flags: frame[16],
+            private,
+        }),
+        Some(reason) => Err(reason),
+    }
+}
+
+/// Reads the hello of `side` at the front of some bytes. It is `More` exactly where they are less than a whole hello by
+/// its private length; one that is refused is whole with its first 20 bytes.
+#[tactic(auto, unfolding(crate::specs::Next::hello_in))]
+pub fn read_hello(side: Side, bytes: &[u8]) -> NextHello<'_>
+    ensures exact { next_hello result ≡ hello_in side bytes.now }
+{
+    let Some(len) = whole_frame(Awaited::Hello(side), bytes) else {
+        return NextHello::More;
+    };
+    let (frame, _) = bytes.split_at(len);
+    match hello_of(side, frame) {
+        Ok(hello) => NextHello::Whole { hello, len },
+        Err(reason) => NextHello::Bad { reason },
+    }
 }

@@ -7,6 +7,6 @@ mod segment;
 mod stream;
 mod words;
 
-pub use hello::{Hello, NextHello, Side};
-pub use segment::{NextSegment, Segment};
-pub use stream::Awaited;
+pub use hello::{Hello, NextHello, Side, read_hello};
+pub use segment::{NextSegment, Segment, next_segment};
+pub use stream::{Awaited, lacks, whole_frame};

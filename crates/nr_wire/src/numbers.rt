@@ -30,6 +30,11 @@ pub const BIT_TAGGED: u8 = 0x80;
 /// The bit of an ULPDU's first byte that says that the segment is the last of its message.
 pub const BIT_LAST: u8 = 0x40;
 
+/// The version of DDP that a segment names (RFC 5041 section 4.1).
+pub const DDP_VERSION: u8 = 1;
+/// The version of RDMAP that a segment names (RFC 5040 section 4.1).
+pub const RDMAP_VERSION: u8 = 1;
+
 /// RDMA Write (the opcodes are those of RFC 5040 section 4.3).
 pub const OPCODE_WRITE: u8 = 0;
 /// RDMA Read Request.

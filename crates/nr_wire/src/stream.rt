@@ -1,10 +1,70 @@
 //! The stream: a hello, and then FPDUs.
 
-use crate::hello::Side;
+ghost use Rattle.std.specs.Prelude.{◌≡◌, ◌<◌, ◌≤◌, ◌↔◌, length, take, if◌then◌else◌, IfSome, IsNone};
+ghost use Rattle.nr_wire.specs.Stream.{fields_len, frame_len, is_whole, lacking, IsFrame, IsPartial};
+
+use crate::hello::{Side, hello_len};
+use crate::numbers::{HELLO_LEN, LENGTH_LEN};
+use crate::segment::fpdu_len;
 
 /// What comes next in a stream: the hello of a side, and after it FPDUs.
 #[derive(Clone, Copy, Debug, PartialEq, Eq)]
 pub enum Awaited {
     Hello(Side),
     Fpdu,
+}
+
+fn fields_len(awaited: Awaited) -> usize
+    ensures { result ≡ fields_len awaited }
+{
+    match awaited {
+        Awaited::Hello(_) => HELLO_LEN,
+        Awaited::Fpdu => LENGTH_LEN,
+    }
+}
+
+fn frame_len(awaited: Awaited, bytes: &[u8]) -> usize
+    requires { fields_len awaited ≤ length bytes.now }
+    ensures { result ≡ frame_len awaited bytes.now }
+{
+    match awaited {
+        Awaited::Hello(side) => hello_len(side, bytes),
+        Awaited::Fpdu => fpdu_len(bytes),
+    }
+}
+
+/// How many of the bytes are the awaited frame, or `None` exactly where they are less than a whole one.
+pub fn whole_frame(awaited: Awaited, bytes: &[u8]) -> Option<usize>
+    ensures frame { IfSome result (λ len. IsFrame awaited (take len bytes.now) × (len ≤ length bytes.now)) }
+    ensures partial { IsNone result ↔ IsPartial awaited bytes.now }
+    ensures exact { result ≡ (if is_whole awaited bytes.now then Some (frame_len awaited bytes.now) else None) }
+{
+    first_frame(awaited, bytes)
+}
+
+#[tactic(auto, unfolding(crate::specs::Stream::is_whole))]
+fn first_frame(awaited: Awaited, bytes: &[u8]) -> Option<usize>
+    ensures { result ≡ (if is_whole awaited bytes.now then Some (frame_len awaited bytes.now) else None) }
+{
+    if bytes.len() < fields_len(awaited) {
+        return None;
+    }
+    let len = frame_len(awaited, bytes);
+    if bytes.len() < len {
+        return None;
+    }
+    Some(len)
+}
+
+/// How many bytes the awaited frame lacks of which these have come: first those that tell its length, then all of it.
+/// None is lacking exactly where it is whole.
+#[tactic(auto, unfolding(crate::specs::Stream::lacking))]
+pub fn lacks(awaited: Awaited, rest: &[u8]) -> usize
+    ensures { result ≡ lacking awaited rest.now }
+{
+    let fields = fields_len(awaited);
+    if rest.len() < fields {
+        return fields - rest.len();
+    }
+    frame_len(awaited, rest).saturating_sub(rest.len())
 }
