@@ -27,13 +27,13 @@ module _ {S : Type 0} (ended : S → Bool) (advanced : S → Awaited → List �
       let s = split f.awaited (f.rest ++ bytes) in
       fed_frames s.frames s.rest f.awaited f.state
 
-  -- A piece up to the end of the frame that it makes whole, or all of it where it makes none whole; and how many bytes that is.
+  -- a piece up to the end of the awaited frame, where it makes that whole, and else all of it
   unfoldable pub fed_one : Feeding S → List ℕ → Feeding S
   fed_one f piece =
       if is_whole f.awaited (f.rest ++ piece)
-      then settled Fpdu [] (advanced f.state f.awaited (take (frame_len f.awaited (f.rest ++ piece)) (f.rest ++ piece)))
+      then record { awaited = Fpdu; rest = []; state = advanced f.state f.awaited (take (frame_len f.awaited (f.rest ++ piece)) (f.rest ++ piece)) }
       else record { awaited = f.awaited; rest = f.rest ++ piece; state = f.state }
 
--- how many bytes of the piece belong to the awaited frame, of which rest has come
+-- how many bytes of the piece that is, where the awaited frame is a and rest has come of it
 unfoldable pub taken : Awaited → List ℕ → List ℕ → ℕ
 taken a rest piece = if is_whole a (rest ++ piece) then frame_len a (rest ++ piece) - length rest else length piece

@@ -1,7 +1,7 @@
 -- FPDUs (RFC 5044 section 4) and the DDP segments in them (RFC 5041 section 4, RFC 5040 section 4).
-use Rattle.std.specs.Prelude.{ℕ, ◌+◌, ◌-◌, ◌*◌, ◌/◌, ◌%◌, Bool, true, false, not, ◌||◌, ◌==◌, nat_lt, if◌then◌else◌, List, [], ◌∷◌, ◌++◌, length, replicate, take, drop, slice_index, Option, None, Some, Result}
+use Rattle.std.specs.Prelude.{ℕ, ◌+◌, ◌-◌, ◌*◌, ◌/◌, ◌%◌, Bool, true, false, not, ◌||◌, ◌==◌, nat_lt, if◌then◌else◌, List, [], ◌∷◌, ◌++◌, length, replicate, take, drop, slice_index, Option, None, Some, Result, ◌<◌, ◌≤◌}
 use Rattle.nr_xdr.specs.Item.{bit, word, hyper, pad_len}
-use Rattle.nr_wire.specs.declared.numbers.TheConstants.{LENGTH_LEN, CRC_LEN, TAGGED_LEN, UNTAGGED_LEN, BIT_TAGGED, BIT_LAST, DDP_VERSION, RDMAP_VERSION, OPCODE_WRITE, OPCODE_READ_REQUEST, OPCODE_READ_RESPONSE, OPCODE_SEND, OPCODE_TERMINATE, QUEUE_SEND, QUEUE_READ_REQUEST, QUEUE_TERMINATE, REASON_LENGTH, REASON_DDP_VERSION, REASON_RDMAP_VERSION, REASON_OPCODE, REASON_TAGGED, REASON_QUEUE}
+use Rattle.nr_wire.specs.declared.numbers.TheConstants.{LENGTH_LEN, CRC_LEN, TAGGED_LEN, UNTAGGED_LEN, BIT_TAGGED, BIT_LAST, DDP_VERSION, RDMAP_VERSION, OPCODE_WRITE, OPCODE_READ_REQUEST, OPCODE_READ_RESPONSE, OPCODE_SEND, OPCODE_TERMINATE, QUEUE_SEND, QUEUE_READ_REQUEST, QUEUE_TERMINATE, REASON_LENGTH, REASON_DDP_VERSION, REASON_RDMAP_VERSION, REASON_OPCODE, REASON_TAGGED, REASON_QUEUE, ULPDU_MAX}
 use Rattle.nr_wire.specs.Numbers.{half_word, half_word_at, word_at, hyper_at, has_bit}
 use Rattle.nr_wire.specs.Hello.{unless}
 
@@ -29,7 +29,7 @@ queue_for opcode =
 
 -- How many bytes an FPDU with an ULPDU of n bytes has: the length field, the ULPDU, the pad to a multiple of four, the CRC.
 unfoldable pub fpdu_size : ℕ → ℕ
-fpdu_size n = LENGTH_LEN + n + pad_len (LENGTH_LEN + n) + CRC_LEN
+fpdu_size n = LENGTH_LEN + n + (pad_len (LENGTH_LEN + n) + CRC_LEN)
 
 abbrev pub ulpdu_len : List ℕ → ℕ
 ulpdu_len bytes = half_word_at 0 bytes
@@ -37,25 +37,48 @@ ulpdu_len bytes = half_word_at 0 bytes
 unfoldable pub fpdu_len : List ℕ → ℕ
 fpdu_len bytes = fpdu_size (ulpdu_len bytes)
 
--- The two bytes that open an ULPDU: the tagged and last bits and the version of DDP; the version of RDMAP and the
--- opcode. The other bits are sent as zeros.
-abbrev pub control : Bool → Bool → ℕ → List ℕ
-control tagged last opcode = (BIT_TAGGED * bit tagged + BIT_LAST * bit last + DDP_VERSION) ∷ (64 * RDMAP_VERSION + opcode) ∷ []
+-- The two bytes that open an ULPDU: the tagged and last bits, four reserved bits and the version of DDP; the version of
+-- RDMAP, two reserved bits and the opcode.
+abbrev pub control : ℕ → ℕ → Bool → Bool → ℕ → List ℕ
+control reserved spare tagged last opcode =
+    (BIT_TAGGED * bit tagged + BIT_LAST * bit last + 4 * reserved + DDP_VERSION) ∷ (64 * RDMAP_VERSION + 16 * spare + opcode) ∷ []
 
--- the ULPDU of a segment
-unfoldable pub ulpdu : Segment → List ℕ
-ulpdu (Tagged last opcode stag to payload) = control true last opcode ++ (word stag ++ hyper to) ++ payload
-ulpdu (Untagged last opcode w queue msn offset payload) =
-    control false last opcode ++ (word w ++ word queue ++ word msn ++ word offset) ++ payload
+-- the header of a segment, with these reserved bits
+unfoldable pub header : ℕ → ℕ → Segment → List ℕ
+header reserved spare (Tagged last opcode stag to payload) =
+    control reserved spare true last opcode ++ word stag ++ hyper to
+header reserved spare (Untagged last opcode w queue msn offset payload) =
+    control reserved spare false last opcode ++ word w ++ word queue ++ word msn ++ word offset
 
--- the FPDU of an ULPDU, with these bytes behind it
-abbrev pub framed : List ℕ → List ℕ → List ℕ
-framed content behind = half_word (length content) ++ content ++ behind
+abbrev pub payload_in : Segment → List ℕ
+payload_in (Tagged last opcode stag to payload) = payload
+payload_in (Untagged last opcode w queue msn offset payload) = payload
 
--- the bytes of a segment: its FPDU, with zeros for pad and CRC
+abbrev pub opcode_in : Segment → ℕ
+opcode_in (Tagged last opcode stag to payload) = opcode
+opcode_in (Untagged last opcode w queue msn offset payload) = opcode
+
+-- how many bytes the ULPDU of a segment has
+abbrev pub ulpdu_size : Segment → ℕ
+ulpdu_size (Tagged last opcode stag to payload) = TAGGED_LEN + length payload
+ulpdu_size (Untagged last opcode w queue msn offset payload) = UNTAGGED_LEN + length payload
+
+-- how many bytes an FPDU has behind an ULPDU of n bytes
+abbrev pub tail_len : ℕ → ℕ
+tail_len n = pad_len (LENGTH_LEN + n) + CRC_LEN
+
+-- the FPDU of a segment, with these reserved bits, pad and CRC
+abbrev pub framed : ℕ → ℕ → List ℕ → Segment → List ℕ
+framed reserved spare tail segment =
+    half_word (ulpdu_size segment) ++ header reserved spare segment ++ payload_in segment ++ tail
+
+-- the bytes of a segment: reserved bits, pad and CRC are zeros
 unfoldable pub spelling : Segment → List ℕ
-spelling segment =
-    framed (ulpdu segment) (replicate (pad_len (LENGTH_LEN + length (ulpdu segment)) + CRC_LEN) 0)
+spelling segment = framed 0 0 (replicate (tail_len (ulpdu_size segment)) 0) segment
+
+-- what has a spelling, beside the ranges of the numbers
+abbrev pub IsWritable : Segment → Type 0
+IsWritable segment = (opcode_in segment < 16) × (ulpdu_size segment ≤ ULPDU_MAX)
 
 -- the fields of a whole FPDU
 abbrev pub is_tagged : List ℕ → Bool

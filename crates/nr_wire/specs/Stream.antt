@@ -62,7 +62,7 @@ abbrev pub behind : List ℕ → Split → Split
 behind frame s = record { frames = frame ∷ s.frames; rest = s.rest }
 
 -- at most n frames
-pub split_within : ℕ → Awaited → List ℕ → Split
+abbrev pub split_within : ℕ → Awaited → List ℕ → Split
 split_within zero a bytes = record { frames = []; rest = bytes }
 split_within (suc n) a bytes =
     if is_whole a bytes
@@ -71,3 +71,7 @@ split_within (suc n) a bytes =
 
 unfoldable pub split : Awaited → List ℕ → Split
 split a bytes = split_within (length bytes) a bytes
+
+-- a split behind some frames
+abbrev pub beyond : List (List ℕ) → Split → Split
+beyond frames s = record { frames = frames ++ s.frames; rest = s.rest }

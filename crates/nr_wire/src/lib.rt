@@ -2,11 +2,13 @@
 #![tactic(auto)]
 
 mod hello;
+mod laws;
 pub mod numbers;
 mod segment;
 mod stream;
 mod words;
 
 pub use hello::{Hello, NextHello, Side, read_hello};
+pub use laws::one_split;
 pub use segment::{NextSegment, Segment, next_segment};
 pub use stream::{Awaited, lacks, whole_frame};
