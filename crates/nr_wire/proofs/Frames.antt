@@ -85,8 +85,8 @@ whole-append a xs ys w =
 pub partial_not_whole : (a : Awaited) (bytes : List ℕ) → IsPartial a bytes → is_whole a bytes ≡ false
 partial_not_whole a bytes p =
     false_from_ne_true _ (λ e.
-      let w = whole_from a bytes e in
-      omega (arith, p.some, length-append bytes p.more, p.frame.len, frame_len-append a bytes p.more w.fields, w.frame))
+    let w = whole_from a bytes e in
+    omega (arith, p.some, length-append bytes p.more, p.frame.len, frame_len-append a bytes p.more w.fields, w.frame))
 
 -- what is less than its frame, brought to the length of its fields, and then to the frame's
 begun : (a : Awaited) (bytes more : List ℕ) → fields_len a ≤ length (bytes ++ more) → length (bytes ++ more) ≤ frame_len a (bytes ++ more) → length bytes < frame_len a (bytes ++ more) → IsPartial a bytes
@@ -116,14 +116,14 @@ pub partial_from : (a : Awaited) (bytes : List ℕ) → is_whole a bytes ≡ fal
 partial_from a bytes e =
     elim (cases_lt (length bytes) (fields_len a)) [
       | inl lt ↦
-        let zeros = replicate (fields_len a - length bytes) 0 in
-        let len : length (bytes ++ zeros) ≡ fields_len a = omega (arith, length-append bytes zeros, length-replicate {A = ℕ} (fields_len a - length bytes) 0) in
-        let within = fields_within a (bytes ++ zeros) in
-        begun a bytes zeros (omega arith) (omega arith) (omega arith)
+          let zeros = replicate (fields_len a - length bytes) 0 in
+          let len : length (bytes ++ zeros) ≡ fields_len a = omega (arith, length-append bytes zeros, length-replicate {A = ℕ} (fields_len a - length bytes) 0) in
+          let within = fields_within a (bytes ++ zeros) in
+          begun a bytes zeros (omega arith) (omega arith) (omega arith)
       | inr le ↦
-        let same : bytes ++ [] ≡ bytes = append-nil bytes in
-        let lt : length bytes < frame_len a (bytes ++ []) = rw same (not_whole a bytes e le) in
-        begun a bytes [] (rw same le) (rw same (omega (arith, not_whole a bytes e le))) lt
+          let same : bytes ++ [] ≡ bytes = append-nil bytes in
+          let lt : length bytes < frame_len a (bytes ++ []) = rw same (not_whole a bytes e le) in
+          begun a bytes [] (rw same le) (rw same (omega (arith, not_whole a bytes e le))) lt
     ]
 
 -- what a whole FPDU has room for
@@ -148,3 +148,15 @@ none_by a bytes false e = (λ h. partial_from a bytes e, λ p. refl)
 
 pub none_iff : (a : Awaited) (bytes : List ℕ) (r : Option ℕ) → r ≡ found a bytes → IsNone r ↔ IsPartial a bytes
 none_iff a bytes r e = rw e (none_by a bytes (is_whole a bytes) refl)
+
+-- nothing is less than any frame
+pub partial_nil : (a : Awaited) → IsPartial a []
+partial_nil a = partial_from a [] (false_from_ne_true _ (λ e. let w = whole_from a [] e in omega (arith, fields_some a, w.fields)))
+
+-- the frame is longer than what is less than it
+pub shorter_than_frame : (a : Awaited) (rest more : List ℕ) → IsPartial a rest → length rest ≤ frame_len a (rest ++ more)
+shorter_than_frame a rest more p =
+    elim (cases_lt (length rest) (fields_len a)) [
+      | inl lt ↦ omega (arith, fields_within a (rest ++ more))
+      | inr le ↦ omega (arith, not_whole a rest (partial_not_whole a rest p) le, frame_len-append a rest more le)
+    ]

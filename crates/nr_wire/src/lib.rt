@@ -9,6 +9,6 @@ mod stream;
 mod words;
 
 pub use hello::{Hello, NextHello, Side, read_hello};
-pub use laws::one_split;
+pub use laws::{however_cut, one_split};
 pub use segment::{NextSegment, Segment, next_segment};
 pub use stream::{Awaited, lacks, whole_frame};
