@@ -1,7 +1,7 @@
 -- The three facts of a frame on which all laws of streams stand: its fields are some, it is no shorter than its fields,
 -- and its length doesn't change as bytes are appended.
 use Rattle.std.proofs.Common.{◌≡◌, ◌≢◌, ℕ, ◌+◌, ◌-◌, ◌^◌, ◌<◌, ◌≤◌, Bool, true, false, List, [], ◌++◌, length, replicate, take, drop, Option, None, Some, refl, sym, ap, ◌∙◌, subst, inl, inr, arith, cond, IfSome, IsNone, ◌↔◌}
-use Rattle.std.proofs.lemmas.Bool.{leb-true, le-leb, and_parts, and_from, both_ways, false_from_ne_true, cases_lt}
+use Rattle.std.proofs.lemmas.Bool.{leb-true, le-leb, and_parts, and_from, both_ways, false_from_ne_true, cases_lt, lt-ltb, le-ltb}
 use Rattle.std.proofs.lemmas.List.{take-append-le, drop-append-le, length-drop, length-take-le, length-append, length-replicate, take-append-drop, append_assoc, append-nil}
 use Rattle.nr_xdr.specs.Item.{pad_len}
 use Rattle.nr_wire.specs.declared.numbers.TheConstants.{HELLO_LEN, LENGTH_LEN, CRC_LEN}
@@ -11,7 +11,7 @@ use Rattle.nr_wire.specs.declared.stream.Awaited.TheVariants.{Hello, Fpdu}
 use Rattle.nr_wire.specs.Numbers.{half_word_at, half_word_of}
 use Rattle.nr_wire.specs.Hello.{hello_flaw, hello_size, hello_len}
 use Rattle.nr_wire.specs.Segment.{fpdu_size, fpdu_len, ulpdu_len}
-use Rattle.nr_wire.specs.Stream.{fields_len, frame_len, is_whole, IsFrame, IsPartial}
+use Rattle.nr_wire.specs.Stream.{fields_len, frame_len, is_whole, IsFrame, IsPartial, lacking}
 
 pub half_word_at-append : (place : ℕ) (xs ys : List ℕ) → place + 2 ≤ length xs → half_word_at place (xs ++ ys) ≡ half_word_at place xs
 half_word_at-append place xs ys le =
@@ -160,3 +160,50 @@ shorter_than_frame a rest more p =
       | inl lt ↦ omega (arith, fields_within a (rest ++ more))
       | inr le ↦ omega (arith, not_whole a rest (partial_not_whole a rest p) le, frame_len-append a rest more le)
     ]
+
+-- fewer bytes than its fields, or than it has
+short_partial : (a : Awaited) (bytes : List ℕ) → length bytes < fields_len a → IsPartial a bytes
+short_partial a bytes lt = partial_from a bytes (false_from_ne_true _ (λ e. let w = whole_from a bytes e in omega (arith, w.fields)))
+
+long_partial : (a : Awaited) (bytes : List ℕ) → length bytes < frame_len a bytes → IsPartial a bytes
+long_partial a bytes lt = partial_from a bytes (false_from_ne_true _ (λ e. let w = whole_from a bytes e in omega (arith, w.frame)))
+
+lacking_fields : (a : Awaited) (rest : List ℕ) → length rest < fields_len a → lacking a rest ≡ fields_len a - length rest
+unfolding lacking
+lacking_fields a rest lt = rw (lt-ltb (length rest) (fields_len a) lt) refl
+
+lacking_frame : (a : Awaited) (rest : List ℕ) → fields_len a ≤ length rest → lacking a rest ≡ frame_len a rest - length rest
+unfolding lacking
+lacking_frame a rest le = rw (le-ltb (length rest) (fields_len a) le) refl
+
+-- some bytes are lacking exactly where the frame isn't whole
+pub lacking_some : (a : Awaited) (rest : List ℕ) → IsPartial a rest ↔ (0 < lacking a rest)
+lacking_some a rest =
+    elim (cases_lt (length rest) (fields_len a)) [
+      | inl lt ↦ (λ p. omega (arith, lacking_fields a rest lt), λ h. short_partial a rest lt)
+      | inr le ↦
+        (λ p. omega (arith, lacking_frame a rest le, not_whole a rest (partial_not_whole a rest p) le),
+          λ h. long_partial a rest (omega (arith, lacking_frame a rest le)))
+    ]
+
+-- fewer bytes than are lacking don't make it whole
+pub lacking_less : (a : Awaited) (rest more : List ℕ) → length more < lacking a rest → IsPartial a (rest ++ more)
+lacking_less a rest more lt =
+    elim (cases_lt (length rest) (fields_len a)) [
+      | inl short ↦ short_partial a (rest ++ more) (omega (arith, length-append rest more, lacking_fields a rest short))
+      | inr le ↦ long_partial a (rest ++ more) (omega (arith, length-append rest more, lacking_frame a rest le, frame_len-append a rest more le))
+    ]
+
+-- as many as are lacking make its fields whole, or else the frame
+pub lacking_just : (a : Awaited) (rest more : List ℕ) → IsPartial a rest → length more ≡ lacking a rest
+  → (length rest < fields_len a → length (rest ++ more) ≡ fields_len a) × (fields_len a ≤ length rest → IsFrame a (rest ++ more))
+lacking_just a rest more p e = (
+  λ lt. omega (arith, length-append rest more, lacking_fields a rest lt),
+  λ le.
+    let lt = not_whole a rest (partial_not_whole a rest p) le in
+    let same = frame_len-append a rest more le in
+    record {
+      fields = omega (arith, length-append rest more);
+      len = same ∙ omega (arith, length-append rest more, lacking_frame a rest le);
+    },
+)

@@ -41,7 +41,7 @@ pub enum NextHello<'a> {
 
 /// What opens a hello of this side.
 #[tactic(auto, unfolding(crate::specs::Hello::key))]
-fn key(side: Side) -> &'static [u8]
+pub fn key(side: Side) -> &'static [u8]
     ensures { result.now ≡ key side }
 {
     match side {

@@ -1,6 +1,6 @@
 //! The stream: a hello, and then FPDUs.
 
-ghost use Rattle.std.specs.Prelude.{◌≡◌, ◌<◌, ◌≤◌, ◌↔◌, length, take, if◌then◌else◌, IfSome, IsNone};
+ghost use Rattle.std.specs.Prelude.{◌≡◌, ◌<◌, ◌≤◌, ◌↔◌, length, take, if◌then◌else◌, IfSome, IsNone, ℕ, ◌+◌, List, ◌++◌};
 ghost use Rattle.nr_wire.specs.Stream.{fields_len, frame_len, is_whole, lacking, IsFrame, IsPartial};
 
 use crate::hello::{Side, hello_len};
@@ -57,10 +57,24 @@ fn first_frame(awaited: Awaited, bytes: &[u8]) -> Option<usize>
 }
 
 /// How many bytes the awaited frame lacks of which these have come: first those that tell its length, then all of it.
-/// None is lacking exactly where it is whole.
-#[tactic(auto, unfolding(crate::specs::Stream::lacking))]
 pub fn lacks(awaited: Awaited, rest: &[u8]) -> usize
-    ensures { result ≡ lacking awaited rest.now }
+    // Some are lacking exactly where the frame isn't whole.
+    ensures some { IsPartial awaited rest.now ↔ (0 < result) }
+    // Fewer don't make it whole.
+    ensures less { (more : List ℕ) → length more < result → IsPartial awaited (rest.now ++ more) }
+    // As many make its fields whole and then, these being there, the frame.
+    ensures fields { length rest.now < fields_len awaited → length rest.now + result ≡ fields_len awaited }
+    ensures just { fields_len awaited ≤ length rest.now → IsPartial awaited rest.now →
+        (more : List ℕ) → length more ≡ result → IsFrame awaited (rest.now ++ more) }
+    ensures exact { result ≡ lacking awaited rest.now }
+{
+    lacking_in(awaited, rest)
+}
+
+#[tactic(auto, unfolding(crate::specs::Stream::lacking))]
+fn lacking_in(awaited: Awaited, rest: &[u8]) -> usize
+    ensures exact { result ≡ lacking awaited rest.now }
+    ensures fields { length rest.now < fields_len awaited → length rest.now + result ≡ fields_len awaited }
 {
     let fields = fields_len(awaited);
     if rest.len() < fields {
