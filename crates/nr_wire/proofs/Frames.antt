@@ -181,9 +181,10 @@ pub lacking_some : (a : Awaited) (rest : List ℕ) → IsPartial a rest ↔ (0 <
 lacking_some a rest =
     elim (cases_lt (length rest) (fields_len a)) [
       | inl lt ↦ (λ p. omega (arith, lacking_fields a rest lt), λ h. short_partial a rest lt)
-      | inr le ↦
-        (λ p. omega (arith, lacking_frame a rest le, not_whole a rest (partial_not_whole a rest p) le),
-          λ h. long_partial a rest (omega (arith, lacking_frame a rest le)))
+      | inr le ↦ (
+        λ p. omega (arith, lacking_frame a rest le, not_whole a rest (partial_not_whole a rest p) le),
+        λ h. long_partial a rest (omega (arith, lacking_frame a rest le)),
+      )
     ]
 
 -- fewer bytes than are lacking don't make it whole
@@ -196,14 +197,14 @@ lacking_less a rest more lt =
 
 -- as many as are lacking make its fields whole, or else the frame
 pub lacking_just : (a : Awaited) (rest more : List ℕ) → IsPartial a rest → length more ≡ lacking a rest
-  → (length rest < fields_len a → length (rest ++ more) ≡ fields_len a) × (fields_len a ≤ length rest → IsFrame a (rest ++ more))
+    → (length rest < fields_len a → length (rest ++ more) ≡ fields_len a) × (fields_len a ≤ length rest → IsFrame a (rest ++ more))
 lacking_just a rest more p e = (
   λ lt. omega (arith, length-append rest more, lacking_fields a rest lt),
   λ le.
-    let lt = not_whole a rest (partial_not_whole a rest p) le in
-    let same = frame_len-append a rest more le in
-    record {
-      fields = omega (arith, length-append rest more);
-      len = same ∙ omega (arith, length-append rest more, lacking_frame a rest le);
-    },
+      let lt = not_whole a rest (partial_not_whole a rest p) le in
+      let same = frame_len-append a rest more le in
+      record {
+        fields = omega (arith, length-append rest more);
+        len = same ∙ omega (arith, length-append rest more, lacking_frame a rest le);
+      },
 )

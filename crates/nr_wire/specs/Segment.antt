@@ -27,9 +27,13 @@ queue_for opcode =
     else (if opcode == OPCODE_TERMINATE then QUEUE_TERMINATE
     else QUEUE_SEND)
 
--- How many bytes an FPDU with an ULPDU of n bytes has: the length field, the ULPDU, the pad to a multiple of four, the CRC.
+-- how many bytes an FPDU has behind an ULPDU of n bytes: the pad to a multiple of four, and the CRC
+abbrev pub tail_len : ℕ → ℕ
+tail_len n = pad_len (LENGTH_LEN + n) + CRC_LEN
+
+-- how many bytes an FPDU has: the length field, an ULPDU of n bytes, and what comes behind it
 unfoldable pub fpdu_size : ℕ → ℕ
-fpdu_size n = LENGTH_LEN + n + (pad_len (LENGTH_LEN + n) + CRC_LEN)
+fpdu_size n = LENGTH_LEN + n + tail_len n
 
 abbrev pub ulpdu_len : List ℕ → ℕ
 ulpdu_len bytes = half_word_at 0 bytes
@@ -62,10 +66,6 @@ opcode_in (Untagged last opcode w queue msn offset payload) = opcode
 abbrev pub ulpdu_size : Segment → ℕ
 ulpdu_size (Tagged last opcode stag to payload) = TAGGED_LEN + length payload
 ulpdu_size (Untagged last opcode w queue msn offset payload) = UNTAGGED_LEN + length payload
-
--- how many bytes an FPDU has behind an ULPDU of n bytes
-abbrev pub tail_len : ℕ → ℕ
-tail_len n = pad_len (LENGTH_LEN + n) + CRC_LEN
 
 -- the FPDU of a segment, with these reserved bits, pad and CRC
 abbrev pub framed : ℕ → ℕ → List ℕ → Segment → List ℕ

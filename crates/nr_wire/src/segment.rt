@@ -2,7 +2,7 @@
 
 ghost use Rattle.std.specs.Prelude.{◌≡◌, ◌+◌, ◌-◌, ◌<◌, ◌≤◌, length, IfNone};
 ghost use Rattle.nr_xdr.specs.Item.{pad_len};
-ghost use Rattle.nr_wire.specs.Segment.{fpdu_size, fpdu_len, ulpdu_len, header_len, is_tagged, is_tagged_opcode, is_let_through, queue_for, is_of_other_form, segment_flaw, segment_of, read_as};
+ghost use Rattle.nr_wire.specs.Segment.{fpdu_size, fpdu_len, tail_len, ulpdu_len, header_len, is_tagged, is_tagged_opcode, is_let_through, queue_for, is_of_other_form, segment_flaw, segment_of, read_as};
 ghost use Rattle.nr_wire.specs.Next.{segment_in};
 ghost use Rattle.nr_wire.specs.View.{segment as plain, next_segment, shown};
 
@@ -50,14 +50,23 @@ pub enum NextSegment<'a> {
     Bad { reason: u32 },
 }
 
+/// How many bytes an FPDU has behind an ULPDU of `len` bytes: the pad and the CRC.
+#[tactic(auto, unfolding(nr_xdr::specs::Item::pad_len))]
+pub fn tail_len(len: u16) -> usize
+    ensures is { result ≡ tail_len len }
+    ensures bound { result < 8 }
+    ensures filled { LENGTH_LEN + len + result ≤ FPDU_MAX }
+{
+    (4 - (LENGTH_LEN + usize::from(len)) % 4) % 4 + CRC_LEN
+}
+
 /// How many bytes an FPDU has whose ULPDU has `len` bytes.
-#[tactic(auto, unfolding(crate::specs::Segment::fpdu_size, nr_xdr::specs::Item::pad_len))]
+#[tactic(auto, unfolding(crate::specs::Segment::fpdu_size))]
 pub fn fpdu_size(len: u16) -> usize
     ensures is { result ≡ fpdu_size len }
     ensures bound { result ≤ FPDU_MAX }
 {
-    let unpadded = LENGTH_LEN + usize::from(len);
-    unpadded + (4 - unpadded % 4) % 4 + CRC_LEN
+    LENGTH_LEN + usize::from(len) + tail_len(len)
 }
 
 /// How many bytes the FPDU has that these begin.

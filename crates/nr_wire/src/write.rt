@@ -8,10 +8,10 @@ ghost use Rattle.nr_wire.specs.View.{hello as plain_hello, segment as plain};
 
 use crate::hello::{Hello, key};
 use crate::numbers::{
-    BIT_LAST, BIT_TAGGED, DDP_VERSION, HELLO_LEN, HELLO_REVISION, LENGTH_LEN, PRIVATE_MAX,
-    RDMAP_VERSION, TAGGED_LEN, ULPDU_MAX, UNTAGGED_LEN,
+    BIT_LAST, BIT_TAGGED, DDP_VERSION, HELLO_LEN, HELLO_REVISION, PRIVATE_MAX, RDMAP_VERSION,
+    TAGGED_LEN, ULPDU_MAX, UNTAGGED_LEN,
 };
-use crate::segment::{Segment, fpdu_size};
+use crate::segment::{Segment, fpdu_size, tail_len};
 use nr_xdr::{Memory, Octets};
 use std::alloc::Global;
 
@@ -116,12 +116,11 @@ fn payload_in<'a>(segment: &Segment<'a>) -> &'a [u8]
 }
 
 /// Puts the pad and the CRC behind an ULPDU of `len` bytes, both as zeros.
-#[tactic(auto, unfolding(nr_xdr::specs::Item::pad_len))]
 fn push_tail(out: &mut Vec<u8>, len: u16) -> Result<(), Memory>
     ensures { OnOk result (out.new.items ≡ out.old.items ++ replicate (tail_len len) 0) }
 {
     const ZEROS: [u8; 8] = [0; 8];
-    out.extend_from_slice(&ZEROS[..fpdu_size(len) - (LENGTH_LEN + usize::from(len))])?;
+    out.extend_from_slice(&ZEROS[..tail_len(len)])?;
     Ok(())
 }
 
