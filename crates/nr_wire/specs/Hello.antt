@@ -1,5 +1,5 @@
 -- The first frame of a connection in either direction: the MPA request and reply frames (RFC 5044 section 7.1).
-use Rattle.std.specs.Prelude.{ℕ, ◌+◌, Bool, not, ◌||◌, ◌==◌, nat_eq, nat_lt, if◌then◌else◌, List, ◌∷◌, ◌++◌, length, take, drop, slice_index, Option, None, Some, Result, Ok, Err}
+use Rattle.std.specs.Prelude.{ℕ, ◌+◌, Bool, not, ◌||◌, ◌==◌, nat_eq, nat_lt, if◌then◌else◌, List, ◌∷◌, ◌++◌, length, take, drop, slice_index, Option, None, Some, Result, Ok, Err, ◌≡◌, ◌≤◌, false}
 use Rattle.std.specs.List.{starts_with}
 use Rattle.std.specs.Prelude.{codes}
 use Rattle.nr_wire.specs.declared.numbers.TheConstants.{HELLO_LEN, HELLO_REVISION, PRIVATE_MAX, FLAG_MARKERS, FLAG_CRC, FLAG_REJECT, REASON_KEY, REASON_FLAGS, REASON_REVISION, REASON_PRIVATE}
@@ -36,6 +36,10 @@ private_len head = half_word_at 18 head
 abbrev pub is_refused_by : Side → ℕ → Bool
 is_refused_by Initiator flags = has_bit FLAG_MARKERS flags || has_bit FLAG_CRC flags
 is_refused_by Responder flags = has_bit FLAG_MARKERS flags || has_bit FLAG_CRC flags || has_bit FLAG_REJECT flags
+
+-- a hello that isn't refused
+abbrev pub IsAccepted : Hello → Type 0
+IsAccepted hello = (is_refused_by hello.side hello.flags ≡ false) × (length hello.private ≤ PRIVATE_MAX)
 
 -- why a hello of this side with these first 20 bytes is refused: the first reason of the table that stands
 unfoldable pub hello_flaw : Side → List ℕ → Option ℕ

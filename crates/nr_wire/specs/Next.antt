@@ -12,6 +12,12 @@ pub data Next (V : Type 0) : Type 0 where
   More : Next V
   Bad : (reason : ℕ) → Next V
 
+-- a fact of a whole frame's value and length
+abbrev pub IfWhole : {V : Type 0} → Next V → (V → ℕ → Type 0) → Type 0
+IfWhole (Whole value len) P = P value len
+IfWhole More P = Unit {0}
+IfWhole (Bad reason) P = Unit {0}
+
 abbrev pub judged : {V : Type 0} → Result V ℕ → ℕ → Next V
 judged (Ok value) len = Whole value len
 judged (Err reason) len = Bad reason

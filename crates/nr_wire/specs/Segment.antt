@@ -1,5 +1,5 @@
 -- FPDUs (RFC 5044 section 4) and the DDP segments in them (RFC 5041 section 4, RFC 5040 section 4).
-use Rattle.std.specs.Prelude.{ℕ, ◌+◌, ◌-◌, ◌*◌, ◌/◌, ◌%◌, Bool, true, false, not, ◌||◌, ◌==◌, nat_lt, if◌then◌else◌, List, [], ◌∷◌, ◌++◌, length, replicate, take, drop, slice_index, Option, None, Some, Result, ◌<◌, ◌≤◌}
+use Rattle.std.specs.Prelude.{ℕ, ◌+◌, ◌-◌, ◌*◌, ◌/◌, ◌%◌, Bool, true, false, not, ◌||◌, ◌==◌, nat_lt, if◌then◌else◌, List, [], ◌∷◌, ◌++◌, length, replicate, take, drop, slice_index, Option, None, Some, Result, ◌<◌, ◌≤◌, ◌≡◌, ◌^◌, IsTrue}
 use Rattle.nr_xdr.specs.Item.{bit, word, hyper, pad_len}
 use Rattle.nr_wire.specs.declared.numbers.TheConstants.{LENGTH_LEN, CRC_LEN, TAGGED_LEN, UNTAGGED_LEN, BIT_TAGGED, BIT_LAST, DDP_VERSION, RDMAP_VERSION, OPCODE_WRITE, OPCODE_READ_REQUEST, OPCODE_READ_RESPONSE, OPCODE_SEND, OPCODE_TERMINATE, QUEUE_SEND, QUEUE_READ_REQUEST, QUEUE_TERMINATE, REASON_LENGTH, REASON_DDP_VERSION, REASON_RDMAP_VERSION, REASON_OPCODE, REASON_TAGGED, REASON_QUEUE, ULPDU_MAX}
 use Rattle.nr_wire.specs.Numbers.{half_word, half_word_at, word_at, hyper_at, has_bit}
@@ -80,6 +80,29 @@ spelling segment = framed 0 0 (replicate (tail_len (ulpdu_size segment)) 0) segm
 abbrev pub IsWritable : Segment → Type 0
 IsWritable segment = (opcode_in segment < 16) × (ulpdu_size segment ≤ ULPDU_MAX)
 
+-- the ranges of a segment's numbers
+abbrev pub Fits : Segment → Type 0
+Fits (Tagged last opcode stag to payload) = (opcode < 16) × (stag < 2 ^ 32) × (to < 2 ^ 64)
+Fits (Untagged last opcode w queue msn offset payload) =
+    (opcode < 16) × (w < 2 ^ 32) × (queue < 2 ^ 32) × (msn < 2 ^ 32) × (offset < 2 ^ 32)
+
+-- a segment's opcode is one that is let through, in its own form and queue
+abbrev pub IsLetThrough : Segment → Type 0
+IsLetThrough (Tagged last opcode stag to payload) = IsTrue (is_tagged_opcode opcode)
+IsLetThrough (Untagged last opcode w queue msn offset payload) = IsTrue (is_untagged_opcode opcode) × (queue ≡ queue_for opcode)
+
+-- the FPDU reads as the segment: it spells it, whatever its reserved bits, pad and CRC hold
+pub record Reads (segment : Segment) (frame : List ℕ) : Type 0 where
+  pub fits : Fits segment
+  pub size : ulpdu_size segment ≤ ULPDU_MAX
+  pub reserved : ℕ
+  pub reserved_below : reserved < 16
+  pub spare : ℕ
+  pub spare_below : spare < 4
+  pub tail : List ℕ
+  pub tail_is : length tail ≡ tail_len (ulpdu_size segment)
+  pub frame_is : frame ≡ framed reserved spare tail segment
+
 -- the fields of a whole FPDU
 abbrev pub is_tagged : List ℕ → Bool
 is_tagged frame = has_bit BIT_TAGGED (slice_index frame 2)
@@ -122,16 +145,21 @@ abbrev pub is_of_other_queue : Bool → ℕ → ℕ → Bool
 is_of_other_queue true opcode queue = false
 is_of_other_queue false opcode queue = not (queue == queue_for opcode)
 
--- Why a whole FPDU is refused: the first reason of the table that stands. (An ULPDU below two bytes is below both headers.)
+-- Why an FPDU with these fields is refused: the first reason of the table that stands. (An ULPDU below two bytes is
+-- below both headers.)
+abbrev pub flaw_by : (size : ℕ) → (tagged : Bool) → (ddp rdmap opcode queue : ℕ) → Option ℕ
+flaw_by size tagged ddp rdmap opcode queue =
+    if nat_lt size (header_len tagged) then Some REASON_LENGTH
+    else (if not (ddp == DDP_VERSION) then Some REASON_DDP_VERSION
+    else (if not (rdmap == RDMAP_VERSION) then Some REASON_RDMAP_VERSION
+    else (if not (is_let_through opcode) then Some REASON_OPCODE
+    else (if is_of_other_form tagged opcode then Some REASON_TAGGED
+    else (if is_of_other_queue tagged opcode queue then Some REASON_QUEUE
+    else None)))))
+
 unfoldable pub segment_flaw : List ℕ → Option ℕ
 segment_flaw frame =
-    if nat_lt (ulpdu_len frame) (header_len (is_tagged frame)) then Some REASON_LENGTH
-    else (if not (ddp_version frame == DDP_VERSION) then Some REASON_DDP_VERSION
-    else (if not (rdmap_version frame == RDMAP_VERSION) then Some REASON_RDMAP_VERSION
-    else (if not (is_let_through (opcode_of frame)) then Some REASON_OPCODE
-    else (if is_of_other_form (is_tagged frame) (opcode_of frame) then Some REASON_TAGGED
-    else (if is_of_other_queue (is_tagged frame) (opcode_of frame) (queue_of frame) then Some REASON_QUEUE
-    else None)))))
+    flaw_by (ulpdu_len frame) (is_tagged frame) (ddp_version frame) (rdmap_version frame) (opcode_of frame) (queue_of frame)
 
 -- what a whole FPDU says, or why it is refused
 unfoldable pub segment_of : List ℕ → Result Segment ℕ

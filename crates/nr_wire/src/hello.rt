@@ -1,8 +1,10 @@
 //! The hello that each side sends first.
 
-ghost use Rattle.std.specs.Prelude.{◌≡◌, ℕ, ◌+◌, ◌<◌, ◌≤◌, length, take};
-ghost use Rattle.nr_wire.specs.Hello.{key, is_refused_by, hello_flaw, hello_of, hello_len};
-ghost use Rattle.nr_wire.specs.Next.{hello_in};
+ghost use Rattle.nr_wire.specs.Stream.{IsPartial};
+ghost use Rattle.nr_wire.specs.Next.Next.{Whole, More, Bad};
+ghost use Rattle.std.specs.Prelude.{◌≡◌, ℕ, ◌+◌, ◌<◌, ◌≤◌, length, take, ◌↔◌, List, ◌++◌};
+ghost use Rattle.nr_wire.specs.Hello.{key, is_refused_by, hello_flaw, hello_of, hello_len, Hello as PlainHello, IsAccepted, hello_spelling};
+ghost use Rattle.nr_wire.specs.Next.{hello_in, IfWhole};
 ghost use Rattle.nr_wire.specs.View.{hello as plain, next_hello, shown};
 
 use crate::numbers::{
@@ -111,11 +113,28 @@ fn hello_of(side: Side, frame: &[u8]) -> Result<Hello<'_>, u32>
     }
 }
 
-/// Reads the hello of `side` at the front of some bytes. It is `More` exactly where they are less than a whole hello by
-/// its private length; one that is refused is whole with its first 20 bytes.
-#[tactic(auto, unfolding(crate::specs::Next::hello_in))]
+/// Reads the hello of `side` at the front of some bytes (RFC 5044 section 7.1). It is `More` exactly where they are less
+/// than a whole hello by its private length, and `Bad` for the first of the reasons 1 to 4 that stands in its first 20
+/// bytes, once these are there.
 pub fn read_hello(side: Side, bytes: &[u8]) -> NextHello<'_>
+    // What is read is spelled so.
+    ensures found { IfWhole (next_hello result) (λ hello len. (hello.side ≡ side) × IsAccepted hello
+        × (take len bytes.now ≡ hello_spelling hello) × (len ≤ length bytes.now)) }
+    // What is spelled so is read, whatever follows.
+    ensures only { (hello : PlainHello) (more : List ℕ) → hello.side ≡ side → IsAccepted hello →
+        bytes.now ≡ hello_spelling hello ++ more → next_hello result ≡ Whole hello (length (hello_spelling hello)) }
+    ensures more { (next_hello result ≡ More) ↔ IsPartial (Awaited.Hello side) bytes.now }
+    // Which reason it is.
+    ensures bad { (reason : ℕ) → (next_hello result ≡ Bad reason)
+        ↔ ((HELLO_LEN ≤ length bytes.now) × (hello_flaw side (take HELLO_LEN bytes.now) ≡ Some reason)) }
     ensures exact { next_hello result ≡ hello_in side bytes.now }
+{
+    first_hello(side, bytes)
+}
+
+#[tactic(auto, unfolding(crate::specs::Next::hello_in))]
+fn first_hello(side: Side, bytes: &[u8]) -> NextHello<'_>
+    ensures { next_hello result ≡ hello_in side bytes.now }
 {
     let Some(len) = whole_frame(Awaited::Hello(side), bytes) else {
         return NextHello::More;

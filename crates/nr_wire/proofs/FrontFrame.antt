@@ -1,0 +1,21 @@
+-- A frame at the front of some bytes.
+use Rattle.std.proofs.Common.{◌≡◌, ℕ, ◌≤◌, Bool, true, List, ◌++◌, length, take, refl, sym, ap, ◌∙◌, arith}
+use Rattle.std.proofs.lemmas.List.{take_at}
+use Rattle.nr_wire.specs.declared.stream.Awaited.{Awaited}
+use Rattle.nr_wire.specs.Stream.{frame_len, is_whole, IsFrame}
+use Rattle.nr_wire.proofs.Frames.{frame_len-append, is_whole-from, whole-append, Whole}
+
+pub record Front (a : Awaited) (frame more : List ℕ) : Type 0 where
+  pub whole : is_whole a (frame ++ more) ≡ true
+  pub len : frame_len a (frame ++ more) ≡ length frame
+  pub front : take (frame_len a (frame ++ more)) (frame ++ more) ≡ frame
+
+pub front_frame : (a : Awaited) (frame more : List ℕ) → IsFrame a frame → Front a frame more
+front_frame a frame more f =
+    let w : Whole a frame = record { fields = f.fields; frame = omega (arith, f.len) } in
+    let len : frame_len a (frame ++ more) ≡ length frame = frame_len-append a frame more f.fields ∙ f.len in
+    record {
+      whole = is_whole-from a (frame ++ more) (whole-append a frame more w);
+      len = len;
+      front = ap (λ (n : ℕ). take n (frame ++ more)) len ∙ take_at frame more (length frame) refl;
+    }
