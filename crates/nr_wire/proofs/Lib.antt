@@ -5,3 +5,5 @@ pub mod Nexts
 pub mod FrontFrame
 pub mod HalfWords
 pub mod Hellos
+pub mod Controls
+pub mod Segments

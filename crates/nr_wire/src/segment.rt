@@ -1,9 +1,11 @@
 //! DDP segments (RFC 5041 section 4) in their FPDUs (RFC 5044 section 4).
 
-ghost use Rattle.std.specs.Prelude.{◌≡◌, ◌+◌, ◌-◌, ◌<◌, ◌≤◌, length, IfNone};
+ghost use Rattle.nr_wire.specs.Stream.{IsPartial, is_whole};
+ghost use Rattle.nr_wire.specs.Next.Next.{Whole, More, Bad};
+ghost use Rattle.std.specs.Prelude.{◌≡◌, ◌+◌, ◌-◌, ◌<◌, ◌≤◌, length, IfNone, ℕ, ◌↔◌, List, ◌++◌, take, IsTrue};
 ghost use Rattle.nr_xdr.specs.Item.{pad_len};
-ghost use Rattle.nr_wire.specs.Segment.{fpdu_size, fpdu_len, tail_len, ulpdu_len, header_len, is_tagged, is_tagged_opcode, is_let_through, queue_for, is_of_other_form, segment_flaw, segment_of, read_as};
-ghost use Rattle.nr_wire.specs.Next.{segment_in};
+ghost use Rattle.nr_wire.specs.Segment.{fpdu_size, fpdu_len, tail_len, ulpdu_len, header_len, is_tagged, is_tagged_opcode, is_let_through, queue_for, is_of_other_form, segment_flaw, segment_of, read_as, Segment as PlainSegment, IsLetThrough, Reads};
+ghost use Rattle.nr_wire.specs.Next.{segment_in, IfWhole};
 ghost use Rattle.nr_wire.specs.View.{segment as plain, next_segment, shown};
 
 use crate::numbers::{
@@ -197,11 +199,27 @@ fn segment_of(frame: &[u8]) -> Result<Segment<'_>, u32>
     }
 }
 
-/// Reads the FPDU at the front of some bytes. It is `More` exactly where they are less than a whole one by its length
-/// field. The payload is a part of the bytes.
-#[tactic(auto, unfolding(crate::specs::Next::segment_in))]
+/// Reads the FPDU at the front of some bytes (RFC 5044 section 4). It is `More` exactly where they are less than a whole
+/// one by its length field, and `Bad` for the first of the reasons 5 to 10 that stands. The payload is a part of the bytes.
 pub fn next_segment(bytes: &[u8]) -> NextSegment<'_>
+    // What is read is spelled so, up to its reserved bits, pad and CRC.
+    ensures found { IfWhole (next_segment result) (λ segment len. IsLetThrough segment
+        × Reads segment (take len bytes.now) × (len ≤ length bytes.now)) }
+    // What is spelled so is read, whatever follows.
+    ensures only { (segment : PlainSegment) (frame more : List ℕ) → IsLetThrough segment → Reads segment frame →
+        bytes.now ≡ frame ++ more → next_segment result ≡ Whole segment (length frame) }
+    ensures more { (next_segment result ≡ More) ↔ IsPartial Awaited.Fpdu bytes.now }
+    // Which reason it is.
+    ensures bad { (reason : ℕ) → (next_segment result ≡ Bad reason)
+        ↔ (IsTrue (is_whole Awaited.Fpdu bytes.now) × (segment_flaw (take (fpdu_len bytes.now) bytes.now) ≡ Some reason)) }
     ensures exact { next_segment result ≡ segment_in bytes.now }
+{
+    first_segment(bytes)
+}
+
+#[tactic(auto, unfolding(crate::specs::Next::segment_in))]
+fn first_segment(bytes: &[u8]) -> NextSegment<'_>
+    ensures { next_segment result ≡ segment_in bytes.now }
 {
     let Some(len) = whole_frame(Awaited::Fpdu, bytes) else {
         return NextSegment::More;
