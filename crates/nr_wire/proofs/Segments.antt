@@ -1,7 +1,7 @@
 -- A segment is read exactly where an FPDU spells it, whatever its reserved bits, pad and CRC hold.
-use Rattle.std.proofs.Common.{◌≡◌, ℕ, ◌+◌, ◌-◌, ◌*◌, ◌/◌, ◌%◌, ◌^◌, ◌<◌, ◌≤◌, Bool, true, false, not, cond, eqb, ltb, List, [], ◌∷◌, ◌++◌, length, get_or, take, drop, Option, None, Some, Result, Ok, refl, sym, ap, ◌∙◌, subst, ◌↔◌, append_assoc, arith, inl, inr}
+use Rattle.std.proofs.Common.{◌≡◌, ℕ, ◌+◌, ◌-◌, ◌*◌, ◌/◌, ◌%◌, ◌^◌, ◌<◌, ◌≤◌, Bool, true, false, not, cond, eqb, ltb, List, [], ◌∷◌, ◌++◌, length, replicate, get_or, take, drop, Option, None, Some, Result, Ok, Err, refl, sym, ap, ◌∙◌, subst, ◌↔◌, append_assoc, arith, inl, inr}
 use Rattle.std.proofs.lemmas.Bool.{ltb-false, le-ltb, eqb-true, eq-eqb, not-false, or_left, or_right}
-use Rattle.std.proofs.lemmas.List.{take_at, drop_at, take-append-drop, length-append, length-take-le, length-drop, drop_more, take_all, take-take, drop-drop}
+use Rattle.std.proofs.lemmas.List.{take_at, drop_at, take-append-drop, length-append, length-take-le, length-drop, drop_more, take_all, take-take, drop-drop, length-replicate}
 use Rattle.std.specs.Prelude.{slice_index, ◌||◌}
 use Rattle.std.proofs.lemmas.Bool.Decides.{nat_tests}
 use Rattle.nr_xdr.specs.Item.{IsBytes, word, word_of, hyper, hyper_of}
@@ -9,7 +9,7 @@ use Rattle.nr_xdr.proofs.Numbers.{IsBytes-take, IsBytes-drop, length-word, word-
 use Rattle.nr_wire.specs.declared.stream.Awaited.TheVariants.{Fpdu}
 use Rattle.nr_wire.specs.Numbers.{half_word, half_word_of, word_at, hyper_at}
 use Rattle.nr_wire.specs.Hello.{unless}
-use Rattle.nr_wire.specs.Segment.{Segment, Fits, IsLetThrough, Reads, flaw_by, segment_flaw, segment_of, read_as, is_tagged, is_last, ddp_version, rdmap_version, opcode_of, queue_of, queue_for, ulpdu_len, ulpdu_size, payload_of, payload_in, header, framed, tail_len, fpdu_size, fpdu_len, is_tagged_opcode, is_untagged_opcode, is_let_through, is_of_other_form, is_of_other_queue, header_len}
+use Rattle.nr_wire.specs.Segment.{Segment, Fits, IsLetThrough, Reads, flaw_by, segment_flaw, segment_of, read_as, is_tagged, is_last, ddp_version, rdmap_version, opcode_of, queue_of, queue_for, ulpdu_len, ulpdu_size, payload_of, payload_in, header, framed, tail_len, fpdu_size, fpdu_len, is_tagged_opcode, is_untagged_opcode, is_let_through, is_of_other_form, is_of_other_queue, header_len, spelling}
 use Rattle.nr_wire.specs.Segment.Segment.{Tagged, Untagged}
 use Rattle.nr_wire.specs.Stream.{is_whole, IsFrame, IsPartial}
 use Rattle.nr_wire.specs.Next.{Next, judged, segment_in}
@@ -332,3 +332,45 @@ pub segment_bad : (bytes : List ℕ) (reason : ℕ) → (segment_in bytes ≡ Ba
 segment_bad bytes reason =
     let frame = take (fpdu_len bytes) bytes in
     rw (segment_in-answer bytes) (bad_iff (is_whole Fpdu bytes) (segment_flaw frame) (read_as (is_tagged frame) frame) (fpdu_len bytes) reason)
+
+spelled_reads : (segment : Segment) → Fits segment → ulpdu_size segment ≤ 65535 → Reads segment (spelling segment)
+unfolding spelling
+spelled_reads segment fits size = record {
+  fits = fits;
+  size = size;
+  reserved = 0;
+  reserved_below = omega arith;
+  spare = 0;
+  spare_below = omega arith;
+  tail = replicate (tail_len (ulpdu_size segment)) 0;
+  tail_is = length-replicate (tail_len (ulpdu_size segment)) 0;
+  frame_is = refl;
+}
+
+-- what was spelled is read again
+pub spelling_again : (segment : Segment) (more : List ℕ) → IsLetThrough segment → Fits segment → ulpdu_size segment ≤ 65535 → segment_in (spelling segment ++ more) ≡ Whole segment (length (spelling segment))
+spelling_again segment more through fits size = segment_again segment (spelling segment) more through (spelled_reads segment fits size)
+
+abbrev done : Segment → Result Segment ℕ
+done segment = Ok segment
+
+abbrev failed : ℕ → Result Segment ℕ
+failed reason = Err reason
+
+ok_is : (a b : Segment) → done a ≡ done b → a ≡ b
+ok_is a b e = cc
+
+says_which : (frame : List ℕ) (segment : Segment) (flaw : Option ℕ) → unless flaw (read_as (is_tagged frame) frame) ≡ Ok segment → (flaw ≡ None) × (read_as (is_tagged frame) frame ≡ segment)
+says_which frame segment None e = (refl, ok_is (read_as (is_tagged frame) frame) segment e)
+says_which frame segment (Some reason) e = absurd (let wrong : failed reason ≡ done segment = e in cc)
+
+-- what a whole FPDU says is what it reads as
+pub segment_of-iff : (frame : List ℕ) (segment : Segment) → IsBytes frame → IsFrame Fpdu frame → (segment_of frame ≡ Ok segment) ↔ (IsLetThrough segment × Reads segment frame)
+unfolding segment_of
+segment_of-iff frame segment fits f = (
+  λ e.
+      let w = says_which frame segment (segment_flaw frame) e in
+      let there = there_by frame (is_tagged frame) fits f refl w.0 in
+      subst (λ (s : Segment). IsLetThrough s × Reads s frame) w.1 (there.through, there.reads),
+  λ p. segment_of-again segment frame p.0 p.1,
+)

@@ -2,14 +2,14 @@
 
 ghost use Rattle.nr_wire.specs.Stream.{IsPartial};
 ghost use Rattle.nr_wire.specs.Next.Next.{Whole, More, Bad};
-ghost use Rattle.std.specs.Prelude.{◌≡◌, ℕ, ◌+◌, ◌<◌, ◌≤◌, length, take, ◌↔◌, List, ◌++◌};
-ghost use Rattle.nr_wire.specs.Hello.{key, is_refused_by, hello_flaw, hello_of, hello_len, Hello as PlainHello, IsAccepted, hello_spelling};
+ghost use Rattle.std.specs.Prelude.{◌≡◌, ℕ, ◌+◌, ◌<◌, ◌≤◌, length, take, ◌↔◌, List, ◌++◌, IfNone};
+ghost use Rattle.nr_wire.specs.Hello.{key, is_refused_by, hello_flaw, hello_of, hello_len, Hello as PlainHello, IsAccepted, hello_spelling, private_len};
 ghost use Rattle.nr_wire.specs.Next.{hello_in, IfWhole};
 ghost use Rattle.nr_wire.specs.View.{hello as plain, next_hello, shown};
 
 use crate::numbers::{
-    FLAG_CRC, FLAG_MARKERS, FLAG_REJECT, HELLO_LEN, HELLO_REVISION, PRIVATE_MAX, REASON_FLAGS,
-    REASON_KEY, REASON_PRIVATE, REASON_REVISION,
+    FLAG_CRC, FLAG_MARKERS, FLAG_REJECT, FPDU_MAX, HELLO_LEN, HELLO_REVISION, PRIVATE_MAX,
+    REASON_FLAGS, REASON_KEY, REASON_PRIVATE, REASON_REVISION,
 };
 use crate::stream::{Awaited, whole_frame};
 use crate::words::{half_word_at, has_bit};
@@ -23,7 +23,7 @@ pub enum Side {
 
 /// The first frame that a side sends (RFC 5044 section 7.1): an initiator's request, a responder's reply. `flags` is the
 /// byte as it stands, `private` the data for the layer above, of at most 512 bytes.
-#[derive(Clone, Copy, Debug)]
+#[derive(Clone, Copy, Debug, PartialEq, Eq)]
 pub struct Hello<'a> {
     pub side: Side,
     pub flags: u8,
@@ -31,7 +31,7 @@ pub struct Hello<'a> {
 }
 
 /// What stands at the front of some bytes in a hello's place.
-#[derive(Clone, Copy, Debug)]
+#[derive(Clone, Copy, Debug, PartialEq, Eq)]
 pub enum NextHello<'a> {
     /// A hello, in the first `len` bytes.
     Whole { hello: Hello<'a>, len: usize },
@@ -66,7 +66,8 @@ fn is_refused_by(side: Side, flags: u8) -> bool
 #[tactic(auto, unfolding(crate::specs::Hello::hello_flaw))]
 fn flaw(side: Side, head: &[u8]) -> Option<u32>
     requires { length head.now ≡ HELLO_LEN }
-    ensures { result ≡ hello_flaw side head.now }
+    ensures exact { result ≡ hello_flaw side head.now }
+    ensures private { IfNone result (private_len head.now ≤ PRIVATE_MAX) }
 {
     if !head.starts_with(key(side)) {
         return Some(REASON_KEY);
@@ -87,7 +88,8 @@ fn flaw(side: Side, head: &[u8]) -> Option<u32>
 #[tactic(auto, unfolding(crate::specs::Hello::hello_len))]
 pub fn hello_len(side: Side, bytes: &[u8]) -> usize
     requires { HELLO_LEN ≤ length bytes.now }
-    ensures { result ≡ hello_len side bytes.now }
+    ensures is { result ≡ hello_len side bytes.now }
+    ensures bound { result ≤ FPDU_MAX }
 {
     let (head, _) = bytes.split_at(HELLO_LEN);
     match flaw(side, head) {

@@ -1,9 +1,30 @@
 //! Laws of streams.
 
-ghost use Rattle.std.specs.Prelude.{◌≡◌, ℕ, ◌<◌, Bool, false, List, ◌++◌, length, drop};
+ghost use Rattle.std.specs.Prelude.{◌≡◌, ℕ, ◌<◌, ◌≤◌, ◌↔◌, Bool, false, List, ◌++◌, length, drop};
 ghost use Rattle.nr_wire.specs.Feeding.{Feeding, fed, fed_one, taken};
-ghost use Rattle.nr_wire.specs.declared.stream.Awaited.{Awaited};
-ghost use Rattle.nr_wire.specs.Stream.{Splits, split, beyond, awaited_after, IsPartial};
+ghost use Rattle.nr_xdr.specs.Item.{IsBytes};
+ghost use Rattle.nr_wire.specs.Hello.{Hello, IsAccepted, hello_spelling};
+ghost use Rattle.nr_wire.specs.Segment.{Segment, Fits, IsLetThrough, Reads, segment_of, spelling, ulpdu_size};
+ghost use Rattle.nr_wire.specs.Next.{hello_in, segment_in};
+ghost use Rattle.nr_wire.specs.Next.Next.{Whole};
+ghost use Rattle.nr_wire.specs.Stream.{Splits, split, beyond, awaited_after, IsFrame, IsPartial};
+
+use crate::numbers::ULPDU_MAX;
+use crate::stream::Awaited;
+
+/// What is spelled is read again, whatever follows: a hello that isn't refused, and a segment that is let through.
+pub fn round_trip()
+    ensures hello { (hello : Hello) (more : List ℕ) → IsAccepted hello →
+        hello_in hello.side (hello_spelling hello ++ more) ≡ Whole hello (length (hello_spelling hello)) }
+    ensures segment { (segment : Segment) (more : List ℕ) → IsLetThrough segment → Fits segment → ulpdu_size segment ≤ ULPDU_MAX →
+        segment_in (spelling segment ++ more) ≡ Whole segment (length (spelling segment)) }
+{}
+
+/// A whole FPDU says a segment exactly where it reads as one that is let through.
+pub fn one_segment()
+    ensures { (frame : List ℕ) (segment : Segment) → IsBytes frame → IsFrame Awaited.Fpdu frame →
+        (segment_of frame ≡ Ok segment) ↔ (IsLetThrough segment × Reads segment frame) }
+{}
 
 /// A stream splits in one way, and as more of it comes its frames stay and its rest goes on.
 pub fn one_split()

@@ -21,7 +21,7 @@ use crate::words::{half_word_at, has_bit, hyper_at, word_at};
 /// segment's payload goes to memory of its receiver, which `stag` names, from the byte `to` on. An untagged one is
 /// number `msn` of its queue, and its payload stands in that message from the byte `offset` on; `word` has a meaning
 /// for few opcodes.
-#[derive(Clone, Copy, Debug)]
+#[derive(Clone, Copy, Debug, PartialEq, Eq)]
 pub enum Segment<'a> {
     Tagged {
         last: bool,
@@ -42,7 +42,7 @@ pub enum Segment<'a> {
 }
 
 /// What stands at the front of some bytes in an FPDU's place.
-#[derive(Clone, Copy, Debug)]
+#[derive(Clone, Copy, Debug, PartialEq, Eq)]
 pub enum NextSegment<'a> {
     /// A segment, in the first `len` bytes.
     Whole { segment: Segment<'a>, len: usize },

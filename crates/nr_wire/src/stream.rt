@@ -4,7 +4,7 @@ ghost use Rattle.std.specs.Prelude.{◌≡◌, ◌<◌, ◌≤◌, ◌↔◌, le
 ghost use Rattle.nr_wire.specs.Stream.{fields_len, frame_len, is_whole, lacking, IsFrame, IsPartial};
 
 use crate::hello::{Side, hello_len};
-use crate::numbers::{HELLO_LEN, LENGTH_LEN};
+use crate::numbers::{FPDU_MAX, HELLO_LEN, LENGTH_LEN};
 use crate::segment::fpdu_len;
 
 /// What comes next in a stream: the hello of a side, and after it FPDUs.
@@ -25,7 +25,8 @@ fn fields_len(awaited: Awaited) -> usize
 
 fn frame_len(awaited: Awaited, bytes: &[u8]) -> usize
     requires { fields_len awaited ≤ length bytes.now }
-    ensures { result ≡ frame_len awaited bytes.now }
+    ensures is { result ≡ frame_len awaited bytes.now }
+    ensures bound { result ≤ FPDU_MAX }
 {
     match awaited {
         Awaited::Hello(side) => hello_len(side, bytes),
@@ -37,6 +38,7 @@ fn frame_len(awaited: Awaited, bytes: &[u8]) -> usize
 pub fn whole_frame(awaited: Awaited, bytes: &[u8]) -> Option<usize>
     ensures frame { IfSome result (λ len. IsFrame awaited (take len bytes.now) × (len ≤ length bytes.now)) }
     ensures partial { IsNone result ↔ IsPartial awaited bytes.now }
+    ensures bound { IfSome result (λ len. len ≤ FPDU_MAX) }
     ensures exact { result ≡ (if is_whole awaited bytes.now then Some (frame_len awaited bytes.now) else None) }
 {
     first_frame(awaited, bytes)
@@ -44,7 +46,8 @@ pub fn whole_frame(awaited: Awaited, bytes: &[u8]) -> Option<usize>
 
 #[tactic(auto, unfolding(crate::specs::Stream::is_whole))]
 fn first_frame(awaited: Awaited, bytes: &[u8]) -> Option<usize>
-    ensures { result ≡ (if is_whole awaited bytes.now then Some (frame_len awaited bytes.now) else None) }
+    ensures exact { result ≡ (if is_whole awaited bytes.now then Some (frame_len awaited bytes.now) else None) }
+    ensures bound { IfSome result (λ len. len ≤ FPDU_MAX) }
 {
     if bytes.len() < fields_len(awaited) {
         return None;
@@ -66,6 +69,8 @@ pub fn lacks(awaited: Awaited, rest: &[u8]) -> usize
     ensures fields { length rest.now < fields_len awaited → length rest.now + result ≡ fields_len awaited }
     ensures just { fields_len awaited ≤ length rest.now → IsPartial awaited rest.now →
         (more : List ℕ) → length more ≡ result → IsFrame awaited (rest.now ++ more) }
+    // With them no frame is longer than the longest FPDU.
+    ensures room { IsPartial awaited rest.now → length rest.now + result ≤ FPDU_MAX }
     ensures exact { result ≡ lacking awaited rest.now }
 {
     lacking_in(awaited, rest)
@@ -75,6 +80,7 @@ pub fn lacks(awaited: Awaited, rest: &[u8]) -> usize
 fn lacking_in(awaited: Awaited, rest: &[u8]) -> usize
     ensures exact { result ≡ lacking awaited rest.now }
     ensures fields { length rest.now < fields_len awaited → length rest.now + result ≡ fields_len awaited }
+    ensures room { (0 < result) → length rest.now + result ≤ FPDU_MAX }
 {
     let fields = fields_len(awaited);
     if rest.len() < fields {

@@ -13,3 +13,7 @@ returns-clause-less c = λ more lt.
 pub returns-clause-just : goal.returns-clause-just
 returns-clause-just c = λ le p more e.
     (lacking_just c.args.awaited c.args.rest.now more p (e ∙ c.lacking_in.ensures.exact)).1 le
+
+pub returns-clause-room : goal.returns-clause-room
+returns-clause-room c = λ p.
+    c.lacking_in.ensures.room (rw c.lacking_in.ensures.exact ((lacking_some c.args.awaited c.args.rest.now).0 p))
