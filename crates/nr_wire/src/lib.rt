@@ -14,3 +14,6 @@ pub use laws::{however_cut, one_segment, one_split, round_trip};
 pub use segment::{NextSegment, Segment, next_segment};
 pub use stream::{Awaited, lacks, whole_frame};
 pub use write::{write_hello, write_segment};
+
+#[cfg(test)]
+mod tests;
