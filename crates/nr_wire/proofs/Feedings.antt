@@ -1,13 +1,12 @@
 -- Feeding is the same however the stream is cut.
-use Rattle.std.proofs.Common.{◌≡◌, ℕ, zero, suc, ◌+◌, ◌-◌, ◌<◌, ◌≤◌, Bool, true, false, cond, List, [], ◌∷◌, ◌++◌, length, take, drop, refl, sym, ap, ◌∙◌, subst, append_assoc, inl, inr, arith}
-use Rattle.std.proofs.lemmas.Bool.{cases_lt, both_ways}
-use Rattle.std.proofs.lemmas.List.{length-append, drop-append-le, take_all, drop_all, append-nil, length-drop, get_or-append_right}
+use Rattle.std.proofs.Common.{◌≡◌, ℕ, zero, suc, ◌-◌, ◌≤◌, Bool, true, false, cond, List, [], ◌∷◌, ◌++◌, length, take, drop, refl, sym, ap, ◌∙◌, subst, append_assoc, arith}
+use Rattle.std.proofs.lemmas.List.{length-append, drop_all, append-nil}
 use Rattle.nr_wire.specs.declared.stream.Awaited.{Awaited}
 use Rattle.nr_wire.specs.declared.stream.Awaited.TheVariants.{Fpdu}
-use Rattle.nr_wire.specs.Stream.{fields_len, frame_len, is_whole, IsPartial, IsFrame, awaited_after, Split, Splits, behind, beyond, split}
+use Rattle.nr_wire.specs.Stream.{frame_len, is_whole, IsPartial, awaited_after, Split, split}
 use Rattle.nr_wire.specs.Feeding.{Feeding, settled, fed_frames, fed, fed_one, taken}
-use Rattle.nr_wire.proofs.Frames.{fields_some, fields_within, frame_len-append, Whole, whole_from, is_whole-from, partial_not_whole, partial_from, shorter_than_frame, partial_nil}
-use Rattle.nr_wire.proofs.Splits.{split-whole, split-partial, split-append, split-Splits, awaited_after-Fpdu}
+use Rattle.nr_wire.proofs.Frames.{whole_from, partial_from, shorter_than_frame, partial_nil}
+use Rattle.nr_wire.proofs.Splits.{split-whole, split-append, split-Splits, awaited_after-Fpdu}
 
 -- what is dropped behind a front
 drop-past : (front back : List ℕ) (n : ℕ) → length front ≤ n → drop n (front ++ back) ≡ drop (n - length front) back

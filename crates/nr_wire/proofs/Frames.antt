@@ -1,10 +1,10 @@
 -- The three facts of a frame on which all laws of streams stand: its fields are some, it is no shorter than its fields,
 -- and its length doesn't change as bytes are appended.
-use Rattle.std.proofs.Common.{◌≡◌, ◌≢◌, ℕ, ◌+◌, ◌-◌, ◌^◌, ◌<◌, ◌≤◌, Bool, true, false, List, [], ◌++◌, length, replicate, take, drop, Option, None, Some, refl, sym, ap, ◌∙◌, subst, inl, inr, arith, cond, IfSome, IsNone, ◌↔◌}
+use Rattle.std.proofs.Common.{◌≡◌, ℕ, ◌+◌, ◌-◌, ◌<◌, ◌≤◌, Bool, true, false, List, [], ◌++◌, length, replicate, take, drop, Option, None, Some, refl, sym, ap, ◌∙◌, subst, inl, inr, arith, cond, IfSome, IsNone, ◌↔◌}
 use Rattle.std.proofs.lemmas.Bool.{leb-true, le-leb, and_parts, and_from, both_ways, false_from_ne_true, cases_lt, lt-ltb, le-ltb}
 use Rattle.std.proofs.lemmas.List.{take-append-le, drop-append-le, length-drop, length-take-le, length-append, length-replicate, take-append-drop, append_assoc, append-nil}
 use Rattle.nr_xdr.specs.Item.{pad_len}
-use Rattle.nr_wire.specs.declared.numbers.TheConstants.{HELLO_LEN, LENGTH_LEN, CRC_LEN}
+use Rattle.nr_wire.specs.declared.numbers.TheConstants.{HELLO_LEN, LENGTH_LEN}
 use Rattle.nr_wire.specs.declared.hello.Side.{Side}
 use Rattle.nr_wire.specs.declared.stream.Awaited.{Awaited}
 use Rattle.nr_wire.specs.declared.stream.Awaited.TheVariants.{Hello, Fpdu}

@@ -1,10 +1,10 @@
 -- A hello is read exactly where it is spelled.
-use Rattle.std.proofs.Common.{◌≡◌, ℕ, ◌+◌, ◌-◌, ◌^◌, ◌<◌, ◌≤◌, Bool, true, false, not, cond, eqb, ltb, List, [], ◌∷◌, ◌++◌, length, get_or, take, drop, Option, None, Some, refl, sym, ap, ◌∙◌, subst, ◌↔◌, append_assoc, arith, inl, inr}
+use Rattle.std.proofs.Common.{◌≡◌, ℕ, ◌+◌, ◌^◌, ◌<◌, ◌≤◌, Bool, true, false, not, cond, eqb, ltb, List, ◌∷◌, ◌++◌, length, get_or, take, drop, Option, None, Some, refl, sym, ap, ◌∙◌, subst, ◌↔◌, arith}
 use Rattle.std.specs.List.{starts_with}
-use Rattle.std.specs.Prelude.{nat_eq, slice_index}
-use Rattle.std.proofs.lemmas.Bool.{ltb-false, le-ltb, eqb-true, eq-eqb, not-false, both_ways}
+use Rattle.std.specs.Prelude.{nat_eq}
+use Rattle.std.proofs.lemmas.Bool.{ltb-false, le-ltb, eqb-true, eq-eqb}
 use Rattle.std.proofs.lemmas.Bool.Decides.{Decides-eqb}
-use Rattle.std.proofs.lemmas.List.{take_at, drop_at, take-append-drop, take-append-le, length-append, length-take-le, length-drop, drop_more, take_all, take-take, get_or-take, get_or_append_left}
+use Rattle.std.proofs.lemmas.List.{take_at, drop_at, take-append-drop, length-append, length-take-le, length-drop, drop_more, take_all, take-take, get_or-take, get_or_append_left}
 use Rattle.std.proofs.lemmas.Slice.Eq.{starts_is}
 use Rattle.nr_xdr.specs.Item.{IsBytes}
 use Rattle.nr_xdr.proofs.Numbers.{IsBytes-take, IsBytes-drop}
@@ -12,14 +12,14 @@ use Rattle.nr_wire.specs.declared.numbers.TheConstants.{HELLO_LEN, HELLO_REVISIO
 use Rattle.nr_wire.specs.declared.hello.Side.{Side}
 use Rattle.nr_wire.specs.declared.hello.Side.TheVariants.{Initiator, Responder}
 use Rattle.nr_wire.specs.declared.stream.Awaited.TheVariants.{Hello as HelloFrom}
-use Rattle.nr_wire.specs.Numbers.{half_word, half_word_of, half_word_at}
-use Rattle.nr_wire.specs.Hello.{Hello, key, hello_spelling, flags_of, revision_of, private_len, is_refused_by, IsAccepted, hello_flaw, hello_of, hello_size, hello_len, unless}
+use Rattle.nr_wire.specs.Numbers.{half_word, half_word_of}
+use Rattle.nr_wire.specs.Hello.{Hello, key, hello_spelling, flags_of, revision_of, private_len, is_refused_by, IsAccepted, hello_flaw, hello_of, hello_size, hello_len}
 use Rattle.nr_wire.specs.Next.{Next, hello_in}
 use Rattle.nr_wire.specs.Next.Next.{Whole, More, Bad}
 use Rattle.nr_wire.specs.Stream.{is_whole, IsFrame, IsPartial}
-use Rattle.nr_wire.proofs.HalfWords.{length-half_word, half_word-half_word_of, half_word_of-half_word}
-use Rattle.nr_wire.proofs.Nexts.{answer, Fine, fine_from, whole_by, more_iff, bad_iff}
-use Rattle.nr_wire.proofs.FrontFrame.{Front, front_frame}
+use Rattle.nr_wire.proofs.HalfWords.{half_word-half_word_of, half_word_of-half_word}
+use Rattle.nr_wire.proofs.Nexts.{answer, fine_from, whole_by, more_iff, bad_iff}
+use Rattle.nr_wire.proofs.FrontFrame.{front_frame}
 use Rattle.nr_wire.proofs.Frames.{Whole as IsWhole, whole_from, is_whole-from, partial_not_whole, partial_from, fields_within, half_word_at-append}
 
 pub length-key : (side : Side) → length (key side) ≡ 16

@@ -1,5 +1,5 @@
 -- What an answer says of the test, the reason and the value that it was made of.
-use Rattle.std.proofs.Common.{◌≡◌, ℕ, Bool, true, false, cond, Option, None, Some, refl, sym, ap, ◌∙◌, ◌↔◌}
+use Rattle.std.proofs.Common.{◌≡◌, ℕ, Bool, true, false, cond, Option, None, Some, refl, ◌↔◌}
 use Rattle.nr_wire.specs.Hello.{unless}
 use Rattle.nr_wire.specs.Next.{Next, IfWhole, judged}
 use Rattle.nr_wire.specs.Next.Next.{Whole, More, Bad}

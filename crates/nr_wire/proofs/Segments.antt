@@ -1,24 +1,24 @@
 -- A segment is read exactly where an FPDU spells it, whatever its reserved bits, pad and CRC hold.
-use Rattle.std.proofs.Common.{◌≡◌, ℕ, ◌+◌, ◌-◌, ◌*◌, ◌/◌, ◌%◌, ◌^◌, ◌<◌, ◌≤◌, Bool, true, false, not, cond, eqb, ltb, List, [], ◌∷◌, ◌++◌, length, replicate, get_or, take, drop, Option, None, Some, Result, Ok, Err, refl, sym, ap, ◌∙◌, subst, ◌↔◌, append_assoc, arith, inl, inr}
+use Rattle.std.proofs.Common.{◌≡◌, ℕ, ◌+◌, ◌-◌, ◌/◌, ◌%◌, ◌^◌, ◌<◌, ◌≤◌, Bool, true, false, not, cond, eqb, ltb, List, ◌∷◌, ◌++◌, length, replicate, take, drop, Option, None, Some, Result, Ok, Err, refl, sym, ap, ◌∙◌, subst, ◌↔◌, arith}
 use Rattle.std.proofs.lemmas.Bool.{ltb-false, le-ltb, eqb-true, eq-eqb, not-false, or_left, or_right}
-use Rattle.std.proofs.lemmas.List.{take_at, drop_at, take-append-drop, length-append, length-take-le, length-drop, drop_more, take_all, take-take, drop-drop, length-replicate}
+use Rattle.std.proofs.lemmas.List.{take_at, take-append-drop, length-append, length-take-le, length-drop, drop_more, drop-drop, length-replicate}
 use Rattle.std.specs.Prelude.{slice_index, ◌||◌}
 use Rattle.std.proofs.lemmas.Bool.Decides.{nat_tests}
-use Rattle.nr_xdr.specs.Item.{IsBytes, word, word_of, hyper, hyper_of}
-use Rattle.nr_xdr.proofs.Numbers.{IsBytes-take, IsBytes-drop, length-word, word-word_of, word_of-word, word_of-below, length-hyper, hyper-hyper_of, hyper_of-hyper, hyper_of-below}
+use Rattle.nr_xdr.specs.Item.{IsBytes, word, hyper}
+use Rattle.nr_xdr.proofs.Numbers.{IsBytes-take, IsBytes-drop, word-word_of, word_of-word, word_of-below, hyper-hyper_of, hyper_of-hyper, hyper_of-below}
 use Rattle.nr_wire.specs.declared.stream.Awaited.TheVariants.{Fpdu}
-use Rattle.nr_wire.specs.Numbers.{half_word, half_word_of, word_at, hyper_at}
+use Rattle.nr_wire.specs.Numbers.{half_word, word_at, hyper_at}
 use Rattle.nr_wire.specs.Hello.{unless}
-use Rattle.nr_wire.specs.Segment.{Segment, Fits, IsLetThrough, Reads, flaw_by, segment_flaw, segment_of, read_as, is_tagged, is_last, ddp_version, rdmap_version, opcode_of, queue_of, queue_for, ulpdu_len, ulpdu_size, payload_of, payload_in, header, framed, tail_len, fpdu_size, fpdu_len, is_tagged_opcode, is_untagged_opcode, is_let_through, is_of_other_form, is_of_other_queue, header_len, spelling}
+use Rattle.nr_wire.specs.Segment.{Segment, Fits, IsLetThrough, Reads, flaw_by, segment_flaw, segment_of, read_as, is_tagged, is_last, ddp_version, rdmap_version, opcode_of, queue_of, queue_for, ulpdu_len, ulpdu_size, payload_of, header, framed, tail_len, fpdu_size, fpdu_len, is_tagged_opcode, is_untagged_opcode, is_let_through, is_of_other_form, is_of_other_queue, header_len, spelling}
 use Rattle.nr_wire.specs.Segment.Segment.{Tagged, Untagged}
 use Rattle.nr_wire.specs.Stream.{is_whole, IsFrame, IsPartial}
 use Rattle.nr_wire.specs.Next.{Next, judged, segment_in}
 use Rattle.nr_wire.specs.Next.Next.{Whole, More, Bad}
-use Rattle.nr_wire.proofs.HalfWords.{length-half_word, half_word-half_word_of, half_word_of-half_word, half_word_of-below}
+use Rattle.nr_wire.proofs.HalfWords.{half_word-half_word_of, half_word_of-half_word, half_word_of-below}
 use Rattle.nr_wire.proofs.Controls.{first_control, second_control, first_tagged, first_last, first_version, second_version, second_opcode, first_is, second_is}
-use Rattle.nr_wire.proofs.Nexts.{answer, Fine, fine_from, whole_by, more_iff, bad_iff}
-use Rattle.nr_wire.proofs.FrontFrame.{Front, front_frame}
-use Rattle.nr_wire.proofs.Frames.{Whole as IsWhole, whole_from, is_whole-from, partial_not_whole, partial_from, fields_within, fpdu_holds, IsFrame-take}
+use Rattle.nr_wire.proofs.Nexts.{answer, fine_from, more_iff, bad_iff}
+use Rattle.nr_wire.proofs.FrontFrame.{front_frame}
+use Rattle.nr_wire.proofs.Frames.{whole_from, partial_not_whole, partial_from, fpdu_holds, IsFrame-take}
 
 -- the fields by which an FPDU is judged
 record Judged (frame : List ℕ) (size : ℕ) (tagged : Bool) (opcode queue : ℕ) : Type 0 where

@@ -1,11 +1,11 @@
 -- A stream splits in one way, and it goes on as its rest does.
-use Rattle.std.proofs.Common.{◌≡◌, ℕ, zero, suc, ◌+◌, ◌-◌, ◌<◌, ◌≤◌, Bool, true, false, cond, List, [], ◌∷◌, ◌++◌, length, take, drop, refl, sym, ap, ◌∙◌, subst, append_assoc, arith}
+use Rattle.std.proofs.Common.{◌≡◌, ℕ, zero, suc, ◌≤◌, Bool, true, false, cond, List, [], ◌∷◌, ◌++◌, length, take, drop, refl, sym, ap, ◌∙◌, subst, append_assoc, arith}
 use Rattle.std.specs.List.{concat}
 use Rattle.std.proofs.lemmas.Bool.{false_from_ne_true}
 use Rattle.std.proofs.lemmas.List.{length-drop, take_at, drop_at, take-append-drop, append-nil}
 use Rattle.nr_wire.specs.declared.stream.Awaited.{Awaited}
-use Rattle.nr_wire.specs.declared.stream.Awaited.TheVariants.{Hello, Fpdu}
-use Rattle.nr_wire.specs.Stream.{fields_len, frame_len, is_whole, IsFrame, IsPartial, awaited_after, AreFrames, Splits, Split, behind, beyond, split_within, split}
+use Rattle.nr_wire.specs.declared.stream.Awaited.TheVariants.{Fpdu}
+use Rattle.nr_wire.specs.Stream.{frame_len, is_whole, IsFrame, IsPartial, awaited_after, AreFrames, Splits, Split, behind, beyond, split_within, split}
 use Rattle.nr_wire.proofs.Frames.{fields_some, fields_within, frame_len-append, Whole, whole_from, is_whole-from, whole-append, IsFrame-take, partial_not_whole, partial_from}
 
 abbrev nothing : List ℕ → Split

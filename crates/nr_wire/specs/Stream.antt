@@ -1,6 +1,6 @@
 -- A stream (RFC 5044 section 3): a hello, FPDUs, and a rest that is less than a frame. Frames are cut by their length
 -- fields, whatever else they hold.
-use Rattle.std.specs.Prelude.{◌≡◌, ℕ, ◌-◌, ◌≤◌, zero, suc, Bool, false, ◌&&◌, nat_lt, nat_le, if◌then◌else◌, List, [], ◌∷◌, ◌++◌, length, take, drop, ◌<◌}
+use Rattle.std.specs.Prelude.{◌≡◌, ℕ, ◌-◌, ◌≤◌, zero, suc, Bool, ◌&&◌, nat_lt, nat_le, if◌then◌else◌, List, [], ◌∷◌, ◌++◌, length, take, drop, ◌<◌}
 use Rattle.std.specs.List.{concat}
 use Rattle.nr_wire.specs.declared.numbers.TheConstants.{HELLO_LEN, LENGTH_LEN}
 use Rattle.nr_wire.specs.declared.stream.Awaited.{Awaited}

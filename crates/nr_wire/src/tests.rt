@@ -1,19 +1,27 @@
 use super::*;
-use crate::numbers::{OPCODE_READ_REQUEST, OPCODE_READ_RESPONSE, OPCODE_SEND, OPCODE_TERMINATE, OPCODE_WRITE};
+use crate::numbers::{
+    OPCODE_READ_REQUEST, OPCODE_READ_RESPONSE, OPCODE_SEND, OPCODE_TERMINATE, OPCODE_WRITE,
+};
 use std::test::Fail;
 
 const NULL_CALL: &[u8] = b"\x00\x56\x41\x43\0\0\0\0\0\0\0\0\0\0\0\x01\0\0\0\0\
 \0\0\0\x01\0\0\0\x01\0\0\0\x10\0\0\0\0\0\0\0\0\0\0\0\0\0\0\0\0\
 \0\0\0\x01\0\0\0\0\0\0\0\x02\0\x01\x86\xa3\0\0\0\x03\0\0\0\0\0\0\0\0\0\0\0\0\0\0\0\0\0\0\0\0\0\0\0\0";
+
 const NULL_REPLY: &[u8] = b"\x00\x46\x41\x43\0\0\0\0\0\0\0\0\0\0\0\x01\0\0\0\0\
 \0\0\0\x01\0\0\0\x01\0\0\0\x10\0\0\0\0\0\0\0\0\0\0\0\0\0\0\0\0\
 \0\0\0\x01\0\0\0\x01\0\0\0\0\0\0\0\0\0\0\0\0\0\0\0\0\0\0\0\0";
+
 const ERR_CHUNK: &[u8] = b"\x00\x26\x41\x43\0\0\0\0\0\0\0\0\0\0\0\x01\0\0\0\0\
 \0\0\0\x01\0\0\0\x01\0\0\0\x10\0\0\0\x04\0\0\0\x02\0\0\0\0";
+
 const WRITE: &[u8] = b"\x00\x13\xc1\x40\0\0\0\x01\0\0\0\0\0\0\0\0hello\0\0\0\0\0\0\0";
+
 const READ_REQUEST: &[u8] = b"\x00\x2e\x41\x41\0\0\0\0\0\0\0\x01\0\0\0\x01\0\0\0\0\
 \0\0\0\x01\0\0\0\0\0\0\0\0\0\0\0\x05\0\0\0\x01\0\0\0\0\0\0\0\0\0\0\0\0";
+
 const READ_RESPONSE: &[u8] = b"\x00\x13\xc1\x42\0\0\0\x01\0\0\0\0\0\0\0\0HELLO\0\0\0\0\0\0\0";
+
 const TERMINATE: &[u8] = b"\x00\x16\x41\x47\0\0\0\0\0\0\0\x02\0\0\0\x01\0\0\0\0\0\0\0\x05\0\0\0\0";
 
 /// A tagged segment of STag 1 from byte 0 on, its message's last.
@@ -44,10 +52,18 @@ fn untagged(opcode: u8, queue: u32, payload: &[u8]) -> Segment<'_> {
 fn segments_both_ways(rt: HostRuntime) -> Result<(), Fail> {
     let table = [
         (NULL_CALL, 92, untagged(OPCODE_SEND, 0, &NULL_CALL[20..88])),
-        (NULL_REPLY, 76, untagged(OPCODE_SEND, 0, &NULL_REPLY[20..72])),
+        (
+            NULL_REPLY,
+            76,
+            untagged(OPCODE_SEND, 0, &NULL_REPLY[20..72]),
+        ),
         (ERR_CHUNK, 44, untagged(OPCODE_SEND, 0, &ERR_CHUNK[20..40])),
         (WRITE, 28, tagged(OPCODE_WRITE, b"hello")),
-        (READ_REQUEST, 52, untagged(OPCODE_READ_REQUEST, 1, &READ_REQUEST[20..48])),
+        (
+            READ_REQUEST,
+            52,
+            untagged(OPCODE_READ_REQUEST, 1, &READ_REQUEST[20..48]),
+        ),
         (READ_RESPONSE, 28, tagged(OPCODE_READ_RESPONSE, b"HELLO")),
         (TERMINATE, 28, untagged(OPCODE_TERMINATE, 2, b"\0\0\0\x05")),
     ];
@@ -88,7 +104,11 @@ fn refused_segments(rt: HostRuntime) {
         let frame = [
             0, len, first, second, 0, 0, 0, 0, 0, 0, 0, queue, 0, 0, 0, 1, 0, 0, 0, 0, 0, 0, 0, 0,
         ];
-        assert_eq!(rt; next_segment(&frame), NextSegment::Bad { reason }, "{len} {first} {second} {queue}");
+        assert_eq!(rt;
+            next_segment(&frame),
+            NextSegment::Bad { reason },
+            "{len} {first} {second} {queue}"
+        );
     }
 }
 
@@ -97,7 +117,10 @@ fn ignored_bits(rt: HostRuntime) {
     // Every reserved bit, the pad and the CRC are set.
     let frame = b"\x00\x0f\xfd\x70\0\0\0\x01\0\0\0\0\0\0\0\0A\xff\xff\xff\xff\xff\xff\xff";
     let segment = tagged(OPCODE_WRITE, b"A");
-    assert_eq!(rt; next_segment(frame), NextSegment::Whole { segment, len: 24 });
+    assert_eq!(rt;
+        next_segment(frame),
+        NextSegment::Whole { segment, len: 24 }
+    );
 }
 
 #[test]
@@ -133,7 +156,10 @@ fn hellos(rt: HostRuntime) -> Result<(), Fail> {
                 assert_eq!(rt; (hello.side, hello.flags), (side, flags));
                 assert_eq!(rt; hello.private.len(), usize::from(private));
                 assert_eq!(rt; write_hello(rt.alloc(), &hello)?.as_slice(), &bytes[..len]);
-                assert_eq!(rt; lacks(Awaited::Hello(side), &bytes[..20]), usize::from(private));
+                assert_eq!(rt;
+                    lacks(Awaited::Hello(side), &bytes[..20]),
+                    usize::from(private)
+                );
             }
             NextHello::Bad { reason } => {
                 assert_eq!(rt; Err(reason), want);

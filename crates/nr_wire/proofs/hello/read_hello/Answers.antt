@@ -1,7 +1,7 @@
-use Rattle.std.proofs.Common.{◌≡◌, ◌≤◌, ◌∙◌, ◌++◌, ap, sym, List, ℕ, length, take, arith}
+use Rattle.std.proofs.Common.{◌≡◌, ◌≤◌, ◌∙◌, ap, sym, length, take, arith}
 use Rattle.nr_xdr.specs.Item.{IsBytes}
 use Rattle.nr_wire.specs.declared.hello.Side.{Side}
-use Rattle.nr_wire.specs.Hello.{Hello, IsAccepted, hello_spelling}
+use Rattle.nr_wire.specs.Hello.{IsAccepted, hello_spelling}
 use Rattle.nr_wire.specs.Next.{hello_in}
 use Rattle.nr_wire.specs.View.{next_hello}
 use Rattle.nr_wire.proofs.Nexts.{if_whole}

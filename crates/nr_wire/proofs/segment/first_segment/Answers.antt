@@ -1,4 +1,3 @@
-use Rattle.std.proofs.Common.{ap, subst}
 use Rattle.nr_wire.proofs.Frames.{fpdu_holds}
 use Rattle.nr_wire.proofs.segment.first_segment.Goals as goal
 

@@ -1,5 +1,4 @@
-use Rattle.std.proofs.Common.{◌≡◌, ℕ, ◌<◌, ◌↔◌, ◌∙◌, List, length, subst, sym}
-use Rattle.nr_wire.specs.Stream.{IsPartial, lacking}
+use Rattle.std.proofs.Common.{ℕ, ◌<◌, ◌∙◌, length, subst}
 use Rattle.nr_wire.proofs.Frames.{lacking_some, lacking_less, lacking_just}
 use Rattle.nr_wire.proofs.stream.lacks.Goals as goal
 
