@@ -28,18 +28,18 @@ turned stag q = (eq_by_cmp_equiv nat_cmp_total).symm stag q
 pub table-put : (m n : BTreeMap ℕ Region) (stag : ℕ) (region : Region) → ChangedAt m n stag (Some region) → table n ≡ insert (table m) stag region
 table-put m n stag region c =
     same_map nat_cmp_total nat_cmp-IsAntisymmetric (table n) (insert (table m) stag region) (λ q.
-      get-table n q
-      ∙ c.each q
-      ∙ (λ i. cond (turned stag q i) (Some region) (sym (get-table m q) i))
-      ∙ sym (get-insert nat_cmp_total (table m) stag region q))
+    get-table n q
+    ∙ c.each q
+    ∙ (λ i. cond (turned stag q i) (Some region) (sym (get-table m q) i))
+    ∙ sym (get-insert nat_cmp_total (table m) stag region q))
 
 pub table-take_out : (m n : BTreeMap ℕ Region) (stag : ℕ) → ChangedAt m n stag None → table n ≡ remove (table m) stag
 table-take_out m n stag c =
     same_map nat_cmp_total nat_cmp-IsAntisymmetric (table n) (remove (table m) stag) (λ q.
-      get-table n q
-      ∙ c.each q
-      ∙ (λ i. cond (turned stag q i) None (sym (get-table m q) i))
-      ∙ sym (get-remove nat_cmp_total (table m) stag q))
+    get-table n q
+    ∙ c.each q
+    ∙ (λ i. cond (turned stag q i) None (sym (get-table m q) i))
+    ∙ sym (get-remove nat_cmp_total (table m) stag q))
 
 -- the fact of what is found
 pub fact_at : (o : Option Region) (region : Region) (P : Region → Type 0) → o ≡ Some region → IfSome o P → P region
@@ -47,8 +47,8 @@ fact_at o region P e h = subst (λ (found : Option Region). IfSome found P) e h
 
 -- some bytes over those of the region that is found
 pub table-write_over : (m n : BTreeMap ℕ Region) (stag at : ℕ) (bytes buf : List ℕ) (region : Region) → get (table m) stag ≡ Some region
-  → buf ≡ written region.buf at bytes → ChangedAt m n stag (Some (record { right = region.right; buf = buf }))
-  → IfSome (get (table m) stag) (λ r. table n ≡ insert (table m) stag (record { right = r.right; buf = written r.buf at bytes }))
+    → buf ≡ written region.buf at bytes → ChangedAt m n stag (Some (record { right = region.right; buf = buf }))
+    → IfSome (get (table m) stag) (λ r. table n ≡ insert (table m) stag (record { right = r.right; buf = written r.buf at bytes }))
 table-write_over m n stag at bytes buf region e is c =
     subst (λ (o : Option Region). IfSome o (λ r. table n ≡ insert (table m) stag (record { right = r.right; buf = written r.buf at bytes }))) (sym e)
     (table-put m n stag (record { right = region.right; buf = buf }) c

@@ -1,5 +1,5 @@
 -- What a peer is allowed, by a list of grants, and what its accesses leave in memory.
-use Rattle.std.specs.Prelude.{◌≡◌, ℕ, ◌+◌, ◌<◌, ◌≤◌, Bool, true, false, ◌&&◌, ◌==◌, nat_lt, nat_le, if◌then◌else◌, List, [], ◌∷◌, length, Option, None, Some, is_none, find, Contains}
+use Rattle.std.specs.Prelude.{◌≡◌, ◌≢◌, ℕ, ◌+◌, ◌<◌, ◌≤◌, Bool, true, false, ◌&&◌, ◌==◌, nat_lt, nat_le, if◌then◌else◌, List, [], ◌∷◌, length, Option, None, Some, is_none, find, Contains}
 use Rattle.nr_regions.specs.declared.right.Right.{Right}
 use Rattle.nr_regions.specs.declared.denied.Denied.{Denied}
 use Rattle.nr_regions.specs.Memory.{Access, lack_in, written}
@@ -37,6 +37,15 @@ pub record Allowed (grants : List Grant) (access : Access) (end : ℕ) : Type 0 
   pub before : end ≤ grant.until
   pub within : access.to + access.len ≤ grant.len
   pub right : grant.right ≡ access.right
+
+-- no two of the grants have one STag
+abbrev pub IsApart : Grant → List Grant → Type 0
+IsApart g [] = Unit {0}
+IsApart g (other ∷ grants) = (g.stag ≢ other.stag) × IsApart g grants
+
+abbrev pub HaveOwnStags : List Grant → Type 0
+HaveOwnStags [] = Unit {0}
+HaveOwnStags (g ∷ grants) = IsApart g grants × HaveOwnStags grants
 
 -- a tagged segment: the right that it needs, where its payload goes, and the end of its frame
 pub record Reach : Type 0 where

@@ -32,11 +32,21 @@ reaches (Register right buf ∷ events) = reaches events
 reaches (Release stag ∷ events) = reaches events
 reaches (Arrive r ∷ events) = r ∷ reaches events
 
--- A region stays open over these events: nobody releases it, and a grant with its right and length counts for each
--- tagged segment that names it.
-abbrev pub StaysOpen : List Grant → ℕ → Region → List Event → Type 0
-StaysOpen grants stag region [] = Unit {0}
-StaysOpen grants stag region (Register right buf ∷ events) = StaysOpen grants stag region events
-StaysOpen grants stag region (Release other ∷ events) = (other ≢ stag) × StaysOpen grants stag region events
-StaysOpen grants stag region (Arrive r ∷ events) =
-    (r.stag ≡ stag → offered (grant_at grants stag r.end) ≡ offer (Some region)) × StaysOpen grants stag region events
+-- the event isn't the release of this STag
+abbrev pub Spares : ℕ → Event → Type 0
+Spares stag (Register right buf) = Unit {0}
+Spares stag (Release other) = other ≢ stag
+Spares stag (Arrive reach) = Unit {0}
+
+-- a grant of this right and length counts for the event, if it is a tagged segment for the STag
+abbrev pub IsGranted : List Grant → ℕ → Right → ℕ → Event → Type 0
+IsGranted grants stag right len (Register other buf) = Unit {0}
+IsGranted grants stag right len (Release other) = Unit {0}
+IsGranted grants stag right len (Arrive reach) = reach.stag ≡ stag → offered (grant_at grants stag reach.end) ≡ Some (right, len)
+
+-- A region of this right and length stays open over the events: nobody releases it, and each tagged segment for it
+-- comes while it is granted.
+abbrev pub StaysOpen : List Grant → ℕ → Right → ℕ → List Event → Type 0
+StaysOpen grants stag right len [] = Unit {0}
+StaysOpen grants stag right len (event ∷ events) =
+    Spares stag event × IsGranted grants stag right len event × StaysOpen grants stag right len events

@@ -19,4 +19,3 @@ pub enum Why {
     /// Memory ran out.
     Memory,
 }
-
