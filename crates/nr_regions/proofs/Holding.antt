@@ -1,5 +1,5 @@
 -- What each event leaves of a region.
-use Rattle.std.proofs.Common.{◌≡◌, ◌≢◌, ℕ, ◌+◌, ◌-◌, ◌<◌, ◌≤◌, Bool, true, false, cond, ltb, eqb, List, [], ◌∷◌, ◌++◌, length, take, drop, Option, None, Some, refl, sym, ap, subst, ◌∙◌, inl, inr, arith}
+use Rattle.std.proofs.Common.{◌≡◌, ◌≢◌, ℕ, ◌+◌, ◌-◌, ◌<◌, ◌≤◌, Bool, true, false, cond, ltb, eqb, List, [], ◌∷◌, ◌++◌, length, take, drop, Option, None, Some, refl, sym, ap, subst, ◌∙◌, inl, inr, arith, Result, Ok, Err, OnOk, OnErr, IfOk}
 use Rattle.std.proofs.lemmas.Bool.{ltb-false, eq-eqb, ne_eqb, cases_eq}
 use Rattle.std.proofs.lemmas.List.{length-append, length-take-le, length-drop}
 use Rattle.std.specs.Ordering.{nat_cmp}
@@ -9,7 +9,7 @@ use Rattle.nr_regions.specs.declared.right.Right.{Right}
 use Rattle.nr_regions.specs.declared.region.Region.{Region}
 use Rattle.nr_regions.specs.declared.denied.Denied.{Denied}
 use Rattle.nr_regions.specs.declared.denied.Denied.TheVariants.{Bounds, Right as WrongRight}
-use Rattle.nr_regions.specs.Memory.{Memory, Claim, IsHeld, held_at, live_at, same_right, lack_in, offer, lack, written, placed, placed_in, registered, released, claim_of}
+use Rattle.nr_regions.specs.Memory.{Memory, Claim, IsHeld, held_at, live_at, same_right, lack_in, offer, lack, written, placed, placed_in, registered, released, claim_of, denial}
 use Rattle.nr_regions.specs.Access.{Reach, access_of}
 use Rattle.nr_regions.specs.Past.{Event, arrived_by, happened, run, Spares}
 use Rattle.nr_regions.specs.Past.Event.{Register, Release, Arrive}
@@ -138,13 +138,6 @@ pub held-registered : (m : Memory) (right : Right) (buf : List ℕ) → IsHeld (
 unfolding registered
 held-registered m right buf = record { region = record { right = right; buf = buf }; there = register_here m right buf; len = refl; given = omega arith }
 
-pub held-put : (next : ℕ) (old new : FinMap nat_cmp Region) (right : Right) (buf : List ℕ) → new ≡ insert old next (record { right = right; buf = buf })
-    → IsHeld (record { next = next + 1; held = new }) (record { stag = next; len = length buf })
-unfolding registered
-held-put next old new right buf e =
-    subst (λ (h : FinMap nat_cmp Region). IsHeld (record { next = next + 1; held = h }) (record { stag = next; len = length buf })) (sym e)
-    (held-registered (record { next = next; held = old }) right buf)
-
 -- a claim on what is held in m is one on what is held in n, where n has the region's length and gave its STag
 still : (m n : Memory) (claim : Claim) (h : IsHeld m claim) (region : Region) → held_at n claim.stag ≡ Some region → length region.buf ≡ claim.len → m.next ≤ n.next → IsHeld n claim
 still m n claim h region there len le = record { region = region; there = there; len = len; given = omega (arith, h.given) }
@@ -171,3 +164,32 @@ held-happened m claim (Arrive r) h s =
       | inl e ↦ arrive_still m claim r h e
       | inr ne ↦ still m (happened m (Arrive r)) claim h h.region (arrive_other m r claim.stag (λ e. ne (sym e)) ∙ h.there) h.len (omega (arith, next-arrive m r))
     ]
+
+-- what each call leaves of a claim
+pub held-placed : (m : Memory) (claim : Claim) (right : Right) (stag to : ℕ) (bytes : List ℕ) → lack m (record { right = right; stag = stag; to = to; len = length bytes }) ≡ None
+    → IsHeld m claim → IsHeld (placed m stag to bytes) claim
+unfolding happened
+held-placed m claim right stag to bytes e h =
+    let r : Reach = record { right = right; stag = stag; to = to; payload = bytes; end = 0 } in
+    let is : happened m (Arrive r) ≡ placed m stag to bytes = ap (λ (d : Option Denied). arrived_by d m r) e in
+    subst (λ (n : Memory). IsHeld n claim) is (held-happened m claim (Arrive r) h tt)
+
+pub keeps-place : (r : Result Unit Denied) (m n : Memory) (right : Right) (stag to : ℕ) (bytes : List ℕ) → denial r ≡ lack m (record { right = right; stag = stag; to = to; len = length bytes })
+    → OnOk r (n ≡ placed m stag to bytes) → OnErr r (n ≡ m) → (claim : Claim) → IsHeld m claim → IsHeld n claim
+keeps-place (Ok x) m n right stag to bytes e ok err claim h = subst (λ (k : Memory). IsHeld k claim) (sym ok) (held-placed m claim right stag to bytes (sym e) h)
+keeps-place (Err denied) m n right stag to bytes e ok err claim h = subst (λ (k : Memory). IsHeld k claim) (sym err) h
+
+pub held-register : {E : Type 0} (r : Result Claim E) (m n : Memory) (right : Right) (buf : List ℕ) → IfOk r (λ claim. (claim ≡ claim_of m buf) × (n ≡ registered m right buf)) → IfOk r (λ claim. IsHeld n claim)
+held-register (Ok claim) m n right buf ok =
+    subst (λ (k : Memory). IsHeld k claim) (sym ok.1) (subst (λ (c : Claim). IsHeld (registered m right buf) c) (sym ok.0) (held-registered m right buf))
+held-register (Err e) m n right buf ok = tt
+
+pub keeps-register : {E : Type 0} (r : Result Claim E) (m n : Memory) (right : Right) (buf : List ℕ) → IfOk r (λ claim. (claim ≡ claim_of m buf) × (n ≡ registered m right buf)) → OnErr r (n ≡ m)
+    → (claim : Claim) → IsHeld m claim → IsHeld n claim
+unfolding happened
+keeps-register (Ok _) m n right buf ok err claim h = subst (λ (k : Memory). IsHeld k claim) (sym ok.1) (held-happened m claim (Register right buf) h tt)
+keeps-register (Err _) m n right buf ok err claim h = subst (λ (k : Memory). IsHeld k claim) (sym err) h
+
+pub keeps-release : (m : Memory) (stag : ℕ) (claim : Claim) → claim.stag ≢ stag → IsHeld m claim → IsHeld (released m stag) claim
+unfolding happened
+keeps-release m stag claim ne h = held-happened m claim (Release stag) h (λ e. ne (sym e))

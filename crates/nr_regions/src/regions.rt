@@ -1,8 +1,8 @@
 //! All regions of a connection's end.
 
-ghost use Rattle.std.specs.Prelude.{◌≡◌, ◌+◌, ◌^◌, ◌<◌, ◌≤◌, ◌↔◌, Option, length, take, IfOk, IfErr, OnOk, OnErr, IsErrAnd, option_map};
+ghost use Rattle.std.specs.Prelude.{◌≡◌, ◌+◌, ◌^◌, ◌<◌, ◌≤◌, ◌↔◌, Option, length, take, IfOk, IfErr, OnOk, OnErr, IsErrAnd, option_map, ◌≢◌};
 ghost use Rattle.std.specs.FinMap.{get};
-ghost use Rattle.nr_regions.specs.Memory.{Memory, IsHeld, bytes_in, claim_of, denial, held_at, lack, lack_in, offer, opened, placed, reached, registered, released, right_for};
+ghost use Rattle.nr_regions.specs.Memory.{Memory, IsHeld, bytes_in, claim_of, denial, held_at, lack, lack_in, offer, opened, placed, reached, registered, released, right_for, Claim};
 ghost use Rattle.nr_regions.specs.Table.{table};
 
 use crate::denied::{Denied, Why};
@@ -88,10 +88,21 @@ impl Regions {
 
     /// Registers a buffer under the next STag. `Spent` exactly where STag 2^32 - 1 was given; the buffer comes back with
     /// an error, which changes nothing.
-    #[tactic(auto, unfolding(crate::specs::Memory::registered))]
     pub fn register(&mut self, buf: Octets, right: Right) -> Result<Registration, (Octets, Why)>
         ensures ok { IfOk result (λ claim. (claim ≡ claim_of self.old buf) × (self.new ≡ registered self.old right buf)) }
+        ensures spent { IsErrAnd result (λ e. e.1 ≡ Why.Spent) ↔ (self.old.next ≡ 2 ^ 32) }
+        ensures returned { IfErr result (λ e. e.0 ≡ buf) }
+        ensures err { OnErr result (self.new ≡ self.old) }
+        // The region is held from now on, and so is what was held before.
         ensures held { IfOk result (λ claim. IsHeld self.new claim) }
+        ensures keeps { (claim : Claim) → IsHeld self.old claim → IsHeld self.new claim }
+    {
+        self.enter(buf, right)
+    }
+
+    #[tactic(auto, unfolding(crate::specs::Memory::registered))]
+    fn enter(&mut self, buf: Octets, right: Right) -> Result<Registration, (Octets, Why)>
+        ensures ok { IfOk result (λ claim. (claim ≡ claim_of self.old buf) × (self.new ≡ registered self.old right buf)) }
         ensures spent { IsErrAnd result (λ e. e.1 ≡ Why.Spent) ↔ (self.old.next ≡ 2 ^ 32) }
         ensures returned { IfErr result (λ e. e.0 ≡ buf) }
         ensures err { OnErr result (self.new ≡ self.old) }
@@ -114,10 +125,22 @@ impl Regions {
     }
 
     /// Gives the buffer back as it stands. Its STag is dead from then on. Takes no memory.
-    #[tactic(auto, unfolding(crate::specs::Memory::released, crate::specs::Memory::held_at))]
     pub fn release(&mut self, registration: Registration) -> Octets
         requires { IsHeld self.old registration }
         ensures bytes { result ≡ bytes_in (held_at self.old registration.stag) }
+        ensures len { length result ≡ registration.len }
+        ensures dead { self.new ≡ released self.old registration.stag }
+        // What else was held is held.
+        ensures keeps { (claim : Claim) → claim.stag ≢ registration.stag → IsHeld self.old claim → IsHeld self.new claim }
+    {
+        self.leave(registration)
+    }
+
+    #[tactic(auto, unfolding(crate::specs::Memory::released, crate::specs::Memory::held_at))]
+    fn leave(&mut self, registration: Registration) -> Octets
+        requires { IsHeld self.old registration }
+        ensures bytes { result ≡ bytes_in (held_at self.old registration.stag) }
+        ensures len { length result ≡ registration.len }
         ensures dead { self.new ≡ released self.old registration.stag }
     {
         match take_out(&mut self.held, registration.stag()) {
@@ -128,8 +151,18 @@ impl Regions {
 
     /// Writes a tagged segment's payload into its region (RFC 5040 section 5). An `Err` says what the access lacks, the
     /// first that stands, and changes nothing. Takes no memory.
-    #[tactic(auto, unfolding(crate::specs::Memory::lack, crate::specs::Memory::live_at, crate::specs::Memory::held_at, crate::specs::Memory::placed))]
     pub fn place(&mut self, kind: Kind, stag: u32, to: u64, bytes: &[u8]) -> Result<(), Denied>
+        ensures exact { denial result
+            ≡ lack self.old (record { right = right_for kind; stag = stag; to = to; len = length bytes.now }) }
+        ensures ok { OnOk result (self.new ≡ placed self.old stag to bytes.now) }
+        ensures err { OnErr result (self.new ≡ self.old) }
+        ensures keeps { (claim : Claim) → IsHeld self.old claim → IsHeld self.new claim }
+    {
+        self.write_in(kind, stag, to, bytes)
+    }
+
+    #[tactic(auto, unfolding(crate::specs::Memory::lack, crate::specs::Memory::live_at, crate::specs::Memory::held_at, crate::specs::Memory::placed))]
+    fn write_in(&mut self, kind: Kind, stag: u32, to: u64, bytes: &[u8]) -> Result<(), Denied>
         ensures exact { denial result
             ≡ lack self.old (record { right = right_for kind; stag = stag; to = to; len = length bytes.now }) }
         ensures ok { OnOk result (self.new ≡ placed self.old stag to bytes.now) }
