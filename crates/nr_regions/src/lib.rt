@@ -15,3 +15,6 @@ pub use region::Region;
 pub use regions::Regions;
 pub use registration::Registration;
 pub use right::{Kind, Right};
+
+#[cfg(test)]
+mod tests;
