@@ -1,5 +1,5 @@
 -- What each event leaves of a region.
-use Rattle.std.proofs.Common.{◌≡◌, ◌≢◌, ℕ, ◌+◌, ◌-◌, ◌<◌, ◌≤◌, Bool, true, false, cond, ltb, eqb, List, [], ◌∷◌, ◌++◌, length, take, drop, Option, None, Some, refl, sym, ap, subst, ◌∙◌, inl, inr, arith, Result, Ok, Err, OnOk, OnErr, IfOk}
+use Rattle.std.proofs.Common.{◌≡◌, ◌≢◌, ℕ, ◌+◌, ◌≤◌, Bool, true, false, cond, ltb, List, ◌++◌, length, take, drop, Option, None, Some, refl, sym, ap, subst, ◌∙◌, inl, inr, arith, Result, Ok, Err, OnOk, OnErr, IfOk}
 use Rattle.std.proofs.lemmas.Bool.{ltb-false, eq-eqb, ne_eqb, cases_eq}
 use Rattle.std.proofs.lemmas.List.{length-append, length-take-le, length-drop}
 use Rattle.std.specs.Ordering.{nat_cmp}
@@ -11,7 +11,7 @@ use Rattle.nr_regions.specs.declared.denied.Denied.{Denied}
 use Rattle.nr_regions.specs.declared.denied.Denied.TheVariants.{Bounds, Right as WrongRight}
 use Rattle.nr_regions.specs.Memory.{Memory, Claim, IsHeld, held_at, live_at, same_right, lack_in, offer, lack, written, placed, placed_in, registered, released, claim_of, denial}
 use Rattle.nr_regions.specs.Access.{Reach, access_of}
-use Rattle.nr_regions.specs.Past.{Event, arrived_by, happened, run, Spares}
+use Rattle.nr_regions.specs.Past.{Event, arrived_by, happened, Spares}
 use Rattle.nr_regions.specs.Past.Event.{Register, Release, Arrive}
 
 -- a map at the key of a change, and at any other

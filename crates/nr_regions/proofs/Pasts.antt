@@ -1,17 +1,16 @@
 -- A region that stays open holds what was registered, with the payload of each allowed reach over it.
-use Rattle.std.proofs.Common.{◌≡◌, ◌≢◌, ℕ, zero, suc, ◌+◌, ◌<◌, ◌≤◌, Bool, true, false, cond, eqb, ltb, leb, List, [], ◌∷◌, length, Option, None, Some, refl, sym, ap, subst, ◌∙◌, ◌↔◌, inl, inr, arith}
+use Rattle.std.proofs.Common.{◌≡◌, ◌≢◌, ℕ, zero, suc, ◌+◌, ◌<◌, ◌≤◌, Bool, true, false, cond, eqb, ltb, leb, List, [], ◌∷◌, length, Option, None, Some, refl, sym, ap, ◌∙◌, ◌↔◌, inl, inr, arith}
 use Rattle.std.specs.Prelude.{Contains, find, is_none, ◌&&◌}
 use Rattle.std.proofs.lemmas.Bool.{ltb-true, leb-true, eqb-true, eq-eqb, ne_eqb, cases_eq, and_parts, and_from, lt-ltb, le-leb, le-ltb, ltb-false}
 use Rattle.nr_regions.specs.declared.right.Right.{Right}
 use Rattle.nr_regions.specs.declared.right.Right.TheVariants.{Fetch, Fill, Sink}
-use Rattle.nr_regions.specs.declared.region.Region.{Region}
 use Rattle.nr_regions.specs.declared.denied.Denied.{Denied}
 use Rattle.nr_regions.specs.declared.denied.Denied.TheVariants.{NoStag, Bounds, Right as WrongRight}
 use Rattle.nr_regions.specs.Memory.{Memory, Access, held_at, live_at, same_right, lack_in, offer, lack, registered, released, written}
 use Rattle.nr_regions.specs.Access.{Grant, stands, grant_at, offered, lacking, Allowed, IsApart, HaveOwnStags, Reach, access_of, after_reach, contents}
-use Rattle.nr_regions.specs.Past.{Event, happened, run, reaches, Spares, IsGranted, StaysOpen}
+use Rattle.nr_regions.specs.Past.{Event, happened, run, reaches, IsGranted, StaysOpen}
 use Rattle.nr_regions.specs.Past.Event.{Register, Release, Arrive}
-use Rattle.nr_regions.proofs.Holding.{live-held, register_other, release_other, arrive_other, arrive_here, next-arrive, buf_after, length-buf_after}
+use Rattle.nr_regions.proofs.Holding.{register_other, release_other, arrive_other, arrive_here, next-arrive, buf_after, length-buf_after}
 
 -- memory denies what the grants do, where both offer the same
 pub lack-lacking : (grants : List Grant) (m : Memory) (access : Access) (end : ℕ) → offer (live_at m access.stag) ≡ offered (grant_at grants access.stag end) → lack m access ≡ lacking grants access end

@@ -1,12 +1,12 @@
 -- The code's map changes as its finite map does.
 use Rattle.nr_regions.specs.Memory.{written}
-use Rattle.std.proofs.Common.{◌≡◌, ℕ, ◌+◌, ◌≤◌, Bool, cond, List, [], ◌∷◌, length, Option, None, Some, IfSome, refl, sym, ap, ◌∙◌, subst, ◌++◌}
+use Rattle.std.proofs.Common.{◌≡◌, ℕ, cond, List, [], ◌∷◌, Option, None, Some, IfSome, refl, sym, ap, ◌∙◌, subst}
 use Rattle.std.specs.Ordering.{nat_cmp, is_eq, eq_by_cmp}
 use Rattle.std.specs.Cmp.{nat_cmp_total, eq_by_cmp_equiv}
 use Rattle.std.specs.Map.{lookup}
-use Rattle.std.specs.BTreeMap.{BTreeMap, is_at, UpdatesBy}
+use Rattle.std.specs.BTreeMap.{BTreeMap, is_at}
 use Rattle.std.specs.BTreeMap as tree
-use Rattle.std.specs.FinMap.{FinMap, find, get, insert, remove, same_map, nat_cmp-IsAntisymmetric, get-from_entries, get-insert, get-remove}
+use Rattle.std.specs.FinMap.{find, get, insert, remove, same_map, nat_cmp-IsAntisymmetric, get-from_entries, get-insert, get-remove}
 use Rattle.nr_regions.specs.declared.region.Region.{Region}
 use Rattle.nr_regions.specs.Table.{table}
 

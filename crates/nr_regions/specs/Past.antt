@@ -1,9 +1,8 @@
 -- Memory over a list of what happens to it.
-use Rattle.std.specs.Prelude.{◌≡◌, ◌≢◌, ℕ, Bool, List, [], ◌∷◌, ◌++◌, Option, None, Some}
+use Rattle.std.specs.Prelude.{◌≡◌, ◌≢◌, ℕ, List, [], ◌∷◌, Option, None, Some}
 use Rattle.nr_regions.specs.declared.right.Right.{Right}
-use Rattle.nr_regions.specs.declared.region.Region.{Region}
 use Rattle.nr_regions.specs.declared.denied.Denied.{Denied}
-use Rattle.nr_regions.specs.Memory.{Memory, lack, placed, registered, released, offer}
+use Rattle.nr_regions.specs.Memory.{Memory, lack, placed, registered, released}
 use Rattle.nr_regions.specs.Access.{Grant, Reach, access_of, grant_at, offered}
 
 pub data Event : Type 0 where

@@ -25,7 +25,10 @@ fn one_fill_region(rt: HostRuntime) -> Result<(), Fail> {
         assert_eq!(rt; regions.place(kind, stag, to, b"wire"), want, "{stag} {to}");
     }
     assert!(rt; regions.fetch(1, 0, 8).is_err());
-    assert_eq!(rt; regions.release(registration).as_slice(), b"\0\0\0wiree".as_slice());
+    assert_eq!(rt;
+        regions.release(registration).as_slice(),
+        b"\0\0\0wiree".as_slice()
+    );
     assert_eq!(rt; regions.place(Kind::Write, 1, 0, b""), Err(Denied::NoStag));
     Ok(())
 }
@@ -59,8 +62,14 @@ fn rights_and_bounds(rt: HostRuntime) -> Result<(), Fail> {
             Err(denied) => assert_eq!(rt; want, Some(denied)),
         }
     }
-    assert_eq!(rt; regions.place(Kind::Write, u32::MAX - 1, 0, b"x"), Err(Denied::Right));
-    assert_eq!(rt; regions.place(Kind::Write, u32::MAX, 0, b"x"), Err(Denied::Right));
+    assert_eq!(rt;
+        regions.place(Kind::Write, u32::MAX - 1, 0, b"x"),
+        Err(Denied::Right)
+    );
+    assert_eq!(rt;
+        regions.place(Kind::Write, u32::MAX, 0, b"x"),
+        Err(Denied::Right)
+    );
     assert_eq!(rt; regions.place(Kind::Response, u32::MAX, 0, b"sunk"), Ok(()));
     Ok(())
 }
