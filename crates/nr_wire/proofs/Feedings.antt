@@ -1,11 +1,12 @@
 -- Feeding is the same however the stream is cut.
-use Rattle.std.proofs.Common.{◌≡◌, ℕ, zero, suc, ◌-◌, ◌≤◌, Bool, true, false, cond, List, [], ◌∷◌, ◌++◌, length, take, drop, refl, sym, ap, ◌∙◌, subst, append_assoc, arith}
+use Rattle.nr_wire.proofs.FrontFrame.{front_frame}
+use Rattle.std.proofs.Common.{◌≡◌, ℕ, zero, suc, ◌-◌, ◌≤◌, Bool, true, false, cond, List, [], ◌∷◌, ◌++◌, length, take, drop, refl, sym, ap, ◌∙◌, subst, append_assoc, arith, ◌<◌, ◌+◌}
 use Rattle.std.proofs.lemmas.List.{length-append, drop_all, append-nil}
 use Rattle.nr_wire.specs.declared.stream.Awaited.{Awaited}
 use Rattle.nr_wire.specs.declared.stream.Awaited.TheVariants.{Fpdu}
-use Rattle.nr_wire.specs.Stream.{frame_len, is_whole, IsPartial, awaited_after, Split, split}
+use Rattle.nr_wire.specs.Stream.{frame_len, is_whole, IsPartial, awaited_after, Split, split, lacking, fields_len, IsFrame}
 use Rattle.nr_wire.specs.Feeding.{Feeding, settled, fed_frames, fed, fed_one, taken}
-use Rattle.nr_wire.proofs.Frames.{whole_from, partial_from, shorter_than_frame, partial_nil}
+use Rattle.nr_wire.proofs.Frames.{whole_from, partial_from, shorter_than_frame, partial_nil, lacking_less, lacking_just, partial_not_whole}
 use Rattle.nr_wire.proofs.Splits.{split-whole, split-append, split-Splits, awaited_after-Fpdu}
 
 -- what is dropped behind a front
@@ -162,3 +163,44 @@ module _ {S : Type 0} (ended : S → Bool) (advanced : S → Awaited → List �
   -- what is kept after one step is less than a frame
   pub fed_one-partial_rest : (f : Feeding S) (piece : List ℕ) → IsPartial (fed_one ended advanced f piece).awaited (fed_one ended advanced f piece).rest
   fed_one-partial_rest f piece = kept_by f piece (is_whole f.awaited (f.rest ++ piece)) refl
+
+-- A piece in two parts: staging the first of them is feeding it.
+pub fed_one-staged : {S : Type 0} (ended : S → Bool) (advanced : S → Awaited → List ℕ → S) (f : Feeding S) (x y : List ℕ)
+    → fed_one ended advanced (record { awaited = f.awaited; rest = f.rest ++ x; state = f.state }) y ≡ fed_one ended advanced f (x ++ y)
+unfolding fed_one
+fed_one-staged ended advanced f x y =
+    ap (λ (bytes : List ℕ).
+    cond (is_whole f.awaited bytes) (record { awaited = Fpdu; rest = []; state = advanced f.state f.awaited (take (frame_len f.awaited bytes) bytes) })
+    (record { awaited = f.awaited; rest = bytes; state = f.state })) (append_assoc f.rest x y)
+
+taken_staged_by : (a : Awaited) (rest x y : List ℕ) (w : Bool) → is_whole a ((rest ++ x) ++ y) ≡ w → IsPartial a (rest ++ x) → taken a rest (x ++ y) ≡ length x + taken a (rest ++ x) y
+taken_staged_by a rest x y true e p =
+    let same : rest ++ (x ++ y) ≡ (rest ++ x) ++ y = sym (append_assoc rest x y) in
+    let whole : is_whole a (rest ++ (x ++ y)) ≡ true = ap (is_whole a) same ∙ e in
+    taken-whole a rest (x ++ y) whole
+    ∙ ap (λ (bytes : List ℕ). frame_len a bytes - length rest) same
+    ∙ omega (arith, length-append rest x, shorter_than_frame a (rest ++ x) y p, taken-whole a (rest ++ x) y e)
+taken_staged_by a rest x y false e p =
+    let whole : is_whole a (rest ++ (x ++ y)) ≡ false = ap (is_whole a) (sym (append_assoc rest x y)) ∙ e in
+    taken-partial a rest (x ++ y) whole ∙ omega (arith, length-append x y, taken-partial a (rest ++ x) y e)
+
+pub taken-staged : (a : Awaited) (rest x y : List ℕ) → IsPartial a (rest ++ x) → taken a rest (x ++ y) ≡ length x + taken a (rest ++ x) y
+taken-staged a rest x y p = taken_staged_by a rest x y (is_whole a ((rest ++ x) ++ y)) refl p
+
+-- fewer bytes than are lacking are taken, all of them
+pub taken-less : (a : Awaited) (rest piece : List ℕ) → length piece < lacking a rest → taken a rest piece ≡ length piece
+taken-less a rest piece lt = taken-partial a rest piece (partial_not_whole a (rest ++ piece) (lacking_less a rest piece lt))
+
+-- where the fields are there and as many bytes come as are lacking, those are taken, and the frame is whole
+pub taken-just : (a : Awaited) (rest front back : List ℕ) → IsPartial a rest → fields_len a ≤ length rest → length front ≡ lacking a rest
+    → (taken a rest (front ++ back) ≡ length front) × (is_whole a (rest ++ (front ++ back)) ≡ true)
+taken-just a rest front back p fields e =
+    let f : IsFrame a (rest ++ front) = (lacking_just a rest front p e).1 fields in
+    let at = front_frame a (rest ++ front) back f in
+    let same : rest ++ (front ++ back) ≡ (rest ++ front) ++ back = sym (append_assoc rest front back) in
+    let whole : is_whole a (rest ++ (front ++ back)) ≡ true = ap (is_whole a) same ∙ at.whole in (
+      taken-whole a rest (front ++ back) whole
+          ∙ ap (λ (bytes : List ℕ). frame_len a bytes - length rest) same
+          ∙ omega (arith, at.len, length-append rest front),
+      whole,
+    )

@@ -3,12 +3,13 @@
 ghost use Rattle.std.specs.Prelude.{◌≡◌, ℕ, ◌<◌, ◌≤◌, ◌↔◌, Bool, false, List, ◌++◌, length, drop};
 ghost use Rattle.nr_wire.specs.Feeding.{Feeding, fed, fed_one, taken};
 ghost use Rattle.nr_xdr.specs.Item.{IsBytes};
-ghost use Rattle.nr_wire.specs.Hello.{Hello, IsAccepted, hello_spelling};
+ghost use Rattle.nr_wire.specs.Hello.{Hello, IsAccepted, hello_spelling, hello_of};
 ghost use Rattle.nr_wire.specs.Segment.{Segment, Fits, IsLetThrough, Reads, segment_of, spelling, ulpdu_size};
-ghost use Rattle.nr_wire.specs.Next.{hello_in, segment_in};
+ghost use Rattle.nr_wire.specs.Next.{hello_in, segment_in, judged};
 ghost use Rattle.nr_wire.specs.Next.Next.{Whole};
 ghost use Rattle.nr_wire.specs.Stream.{Splits, split, beyond, awaited_after, IsFrame, IsPartial};
 
+use crate::hello::Side;
 use crate::numbers::ULPDU_MAX;
 use crate::stream::Awaited;
 
@@ -18,6 +19,14 @@ pub fn round_trip()
         hello_in hello.side (hello_spelling hello ++ more) ≡ Whole hello (length (hello_spelling hello)) }
     ensures segment { (segment : Segment) (more : List ℕ) → IsLetThrough segment → Fits segment → ulpdu_size segment ≤ ULPDU_MAX →
         segment_in (spelling segment ++ more) ≡ Whole segment (length (spelling segment)) }
+{}
+
+/// What stands at the front of some bytes is judged by its frame alone.
+pub fn judged_alone()
+    ensures hello { (side : Side) (frame more : List ℕ) → IsFrame (Awaited.Hello side) frame →
+        hello_in side (frame ++ more) ≡ judged (hello_of side frame) (length frame) }
+    ensures segment { (frame more : List ℕ) → IsFrame Awaited.Fpdu frame →
+        segment_in (frame ++ more) ≡ judged (segment_of frame) (length frame) }
 {}
 
 /// A whole FPDU says a segment exactly where it reads as one that is let through.
