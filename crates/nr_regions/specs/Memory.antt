@@ -1,4 +1,4 @@
--- Registered memory (RFC 5040 section 2.2): regions under STags, and what a peer may do with them.
+-- Registered memory (RFC 5040): regions under STags, and what a peer may do with them.
 use Rattle.std.specs.Prelude.{◌≡◌, ℕ, ◌+◌, ◌<◌, Bool, if◌then◌else◌, nat_lt, List, [], ◌++◌, length, take, drop, Option, None, Some, Result, Ok, Err, true, false}
 use Rattle.std.specs.Ordering.{nat_cmp}
 use Rattle.std.specs.FinMap.{FinMap, empty, get, insert, remove}

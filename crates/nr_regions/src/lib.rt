@@ -1,4 +1,4 @@
-//! Registered memory: the buffers that one end of a connection offers to its peer, under STags (RFC 5040 section 2.2).
+//! Registered memory: the buffers that one end of a connection offers to its peer, under STags (RFC 5040).
 //!
 //! It stands on nr_xdr, for the buffers; the endpoint above brings the peer's segments to it, and both ends register and
 //! release. A region has a right: the peer reads it ([`Right::Fetch`]), writes it ([`Right::Fill`]), or answers into it

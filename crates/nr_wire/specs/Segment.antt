@@ -20,7 +20,7 @@ is_untagged_opcode opcode = opcode == OPCODE_READ_REQUEST || opcode == OPCODE_SE
 abbrev pub is_let_through : ℕ → Bool
 is_let_through opcode = is_tagged_opcode opcode || is_untagged_opcode opcode
 
--- the queue of an untagged opcode (RFC 5040 section 4.1)
+-- the queue of an untagged opcode (RFC 5040 section 4)
 abbrev pub queue_for : ℕ → ℕ
 queue_for opcode =
     if opcode == OPCODE_READ_REQUEST then QUEUE_READ_REQUEST

@@ -1,4 +1,4 @@
--- A stream (RFC 5044 section 3): a hello, FPDUs, and a rest that is less than a frame. Frames are cut by their length
+-- A stream (RFC 5044 sections 4 and 7): a hello, FPDUs, and a rest that is less than a frame. Frames are cut by their length
 -- fields, whatever else they hold.
 use Rattle.std.specs.Prelude.{◌≡◌, ℕ, ◌-◌, ◌≤◌, zero, suc, Bool, ◌&&◌, nat_lt, nat_le, if◌then◌else◌, List, [], ◌∷◌, ◌++◌, length, take, drop, ◌<◌}
 use Rattle.std.specs.List.{concat}

@@ -35,7 +35,7 @@ pub const DDP_VERSION: u8 = 1;
 /// The version of RDMAP that a segment names (RFC 5040 section 4.1).
 pub const RDMAP_VERSION: u8 = 1;
 
-/// RDMA Write (the opcodes are those of RFC 5040 section 4.3).
+/// RDMA Write (the opcodes are those of RFC 5040 section 4).
 pub const OPCODE_WRITE: u8 = 0;
 /// RDMA Read Request.
 pub const OPCODE_READ_REQUEST: u8 = 1;
@@ -46,7 +46,7 @@ pub const OPCODE_SEND: u8 = 3;
 /// Terminate.
 pub const OPCODE_TERMINATE: u8 = 7;
 
-/// The queue of Sends (RFC 5040 section 4.1).
+/// The queue of Sends (RFC 5040 section 4).
 pub const QUEUE_SEND: u32 = 0;
 /// The queue of Read Requests.
 pub const QUEUE_READ_REQUEST: u32 = 1;

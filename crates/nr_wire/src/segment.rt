@@ -17,7 +17,7 @@ use crate::numbers::{
 use crate::stream::{Awaited, whole_frame};
 use crate::words::{half_word_at, has_bit, hyper_at, word_at};
 
-/// A segment. `last` says that it ends its message; `opcode` is the kind of message (RFC 5040 section 4.3). A tagged
+/// A segment. `last` says that it ends its message; `opcode` is the kind of message (RFC 5040 section 4). A tagged
 /// segment's payload goes to memory of its receiver, which `stag` names, from the byte `to` on. An untagged one is
 /// number `msn` of its queue, and its payload stands in that message from the byte `offset` on; `word` has a meaning
 /// for few opcodes.
