@@ -1,0 +1,195 @@
+-- What each event leaves of a region.
+use Rattle.std.proofs.Common.{◌≡◌, ◌≢◌, ℕ, ◌+◌, ◌≤◌, Bool, true, false, cond, ltb, List, ◌++◌, length, take, drop, Option, None, Some, refl, sym, ap, subst, ◌∙◌, inl, inr, arith, Result, Ok, Err, OnOk, OnErr, IfOk}
+use Rattle.std.proofs.lemmas.Bool.{ltb-false, eq-eqb, ne_eqb, cases_eq}
+use Rattle.std.proofs.lemmas.List.{length-append, length-take-le, length-drop}
+use Rattle.std.specs.Ordering.{nat_cmp}
+use Rattle.std.specs.Cmp.{nat_cmp_total, unsigned_tied}
+use Rattle.std.specs.FinMap.{FinMap, get, insert, remove, get-insert, get-remove}
+use Rattle.nr_regions.specs.declared.right.Right.{Right}
+use Rattle.nr_regions.specs.declared.region.Region.{Region}
+use Rattle.nr_regions.specs.declared.denied.Denied.{Denied}
+use Rattle.nr_regions.specs.declared.denied.Denied.TheVariants.{Bounds, Right as WrongRight}
+use Rattle.nr_regions.specs.Memory.{Memory, Claim, IsHeld, held_at, live_at, same_right, lack_in, offer, lack, written, placed, placed_in, registered, released, claim_of, denial}
+use Rattle.nr_regions.specs.Access.{Reach, access_of}
+use Rattle.nr_regions.specs.Past.{Event, arrived_by, happened, Spares}
+use Rattle.nr_regions.specs.Past.Event.{Register, Release, Arrive}
+
+-- a map at the key of a change, and at any other
+pub get-insert_here : (m : FinMap nat_cmp Region) (k : ℕ) (v : Region) → get (insert m k v) k ≡ Some v
+get-insert_here m k v =
+    get-insert nat_cmp_total m k v k ∙ ap (λ (b : Bool). cond b (Some v) (get m k)) (unsigned_tied k k ∙ eq-eqb k k refl)
+
+pub get-insert_other : (m : FinMap nat_cmp Region) (k : ℕ) (v : Region) (q : ℕ) → q ≢ k → get (insert m k v) q ≡ get m q
+get-insert_other m k v q ne =
+    get-insert nat_cmp_total m k v q ∙ ap (λ (b : Bool). cond b (Some v) (get m q)) (unsigned_tied q k ∙ ne_eqb q k ne)
+
+pub get-remove_here : (m : FinMap nat_cmp Region) (k : ℕ) → get (remove m k) k ≡ None
+get-remove_here m k =
+    get-remove nat_cmp_total m k k ∙ ap (λ (b : Bool). cond b None (get m k)) (unsigned_tied k k ∙ eq-eqb k k refl)
+
+pub get-remove_other : (m : FinMap nat_cmp Region) (k q : ℕ) → q ≢ k → get (remove m k) q ≡ get m q
+get-remove_other m k q ne =
+    get-remove nat_cmp_total m k q ∙ ap (λ (b : Bool). cond b None (get m q)) (unsigned_tied q k ∙ ne_eqb q k ne)
+
+pub length-written : (bytes : List ℕ) (at : ℕ) (over : List ℕ) → at + length over ≤ length bytes → length (written bytes at over) ≡ length bytes
+length-written bytes at over le =
+    omega (arith, length-append (take at bytes) (over ++ drop (at + length over) bytes), length-append over (drop (at + length over) bytes), length-take-le at bytes (omega arith), length-drop (at + length over) bytes)
+
+abbrev some : Denied → Option Denied
+some denied = Some denied
+
+-- an access that lacks nothing stays within the region
+within_by : (short same : Bool) → cond short (Some Bounds) (cond same None (Some WrongRight)) ≡ None → short ≡ false
+within_by true same e = absurd (let wrong : some Bounds ≡ None = e in cc)
+within_by false same e = refl
+
+pub within : (right : Right) (buf : List ℕ) (r : Reach) → lack_in (Some (right, length buf)) (access_of r) ≡ None → r.to + length r.payload ≤ length buf
+within right buf r e = ltb-false _ _ (within_by (ltb (length buf) (r.to + length r.payload)) (same_right right r.right) e)
+
+pub live-held : (m : Memory) (stag : ℕ) → live_at m stag ≡ held_at m stag
+unfolding live_at
+live-held m stag = refl
+
+pub register_here : (m : Memory) (right : Right) (buf : List ℕ) → held_at (registered m right buf) m.next ≡ Some (record { right = right; buf = buf })
+unfolding held_at registered
+register_here m right buf = get-insert_here m.held m.next (record { right = right; buf = buf })
+
+pub register_other : (m : Memory) (right : Right) (buf : List ℕ) (stag : ℕ) → stag ≢ m.next → held_at (registered m right buf) stag ≡ held_at m stag
+unfolding held_at registered
+register_other m right buf stag ne = get-insert_other m.held m.next (record { right = right; buf = buf }) stag ne
+
+pub release_here : (m : Memory) (stag : ℕ) → held_at (released m stag) stag ≡ None
+unfolding held_at released
+release_here m stag = get-remove_here m.held stag
+
+pub release_other : (m : Memory) (other stag : ℕ) → stag ≢ other → held_at (released m other) stag ≡ held_at m stag
+unfolding held_at released
+release_other m other stag ne = get-remove_other m.held other stag ne
+
+pub place_here : (m : Memory) (stag to : ℕ) (bytes : List ℕ) (region : Region) → held_at m stag ≡ Some region → held_at (placed m stag to bytes) stag ≡ Some (record { right = region.right; buf = written region.buf to bytes })
+unfolding placed live_at held_at
+place_here m stag to bytes region e =
+    ap (λ (o : Option Region). get (placed_in o m stag to bytes).held stag) e
+    ∙ get-insert_here m.held stag (record { right = region.right; buf = written region.buf to bytes })
+
+place_other_by : (m : Memory) (other to : ℕ) (bytes : List ℕ) (stag : ℕ) (o : Option Region) → stag ≢ other → get (placed_in o m other to bytes).held stag ≡ get m.held stag
+place_other_by m other to bytes stag None ne = refl
+place_other_by m other to bytes stag (Some region) ne =
+    get-insert_other m.held other (record { right = region.right; buf = written region.buf to bytes }) stag ne
+
+pub place_other : (m : Memory) (other to : ℕ) (bytes : List ℕ) (stag : ℕ) → stag ≢ other → held_at (placed m other to bytes) stag ≡ held_at m stag
+unfolding placed live_at held_at
+place_other m other to bytes stag ne = place_other_by m other to bytes stag (get m.held other) ne
+
+next_by : (m : Memory) (stag to : ℕ) (bytes : List ℕ) (o : Option Region) → (placed_in o m stag to bytes).next ≡ m.next
+next_by m stag to bytes None = refl
+next_by m stag to bytes (Some region) = refl
+
+pub next-placed : (m : Memory) (stag to : ℕ) (bytes : List ℕ) → (placed m stag to bytes).next ≡ m.next
+unfolding placed
+next-placed m stag to bytes = next_by m stag to bytes (live_at m stag)
+
+-- a tagged segment for another region
+arrive_other_by : (m : Memory) (r : Reach) (stag : ℕ) (d : Option Denied) → stag ≢ r.stag → held_at (arrived_by d m r) stag ≡ held_at m stag
+arrive_other_by m r stag None ne = place_other m r.stag r.to r.payload stag ne
+arrive_other_by m r stag (Some denied) ne = refl
+
+pub arrive_other : (m : Memory) (r : Reach) (stag : ℕ) → stag ≢ r.stag → held_at (happened m (Arrive r)) stag ≡ held_at m stag
+unfolding happened
+arrive_other m r stag ne = arrive_other_by m r stag (lack m (access_of r)) ne
+
+next_arrived : (m : Memory) (r : Reach) (d : Option Denied) → (arrived_by d m r).next ≡ m.next
+next_arrived m r None = next-placed m r.stag r.to r.payload
+next_arrived m r (Some denied) = refl
+
+pub next-arrive : (m : Memory) (r : Reach) → (happened m (Arrive r)).next ≡ m.next
+unfolding happened
+next-arrive m r = next_arrived m r (lack m (access_of r))
+
+-- a tagged segment for this region: its bytes after it
+abbrev pub buf_after : Option Denied → List ℕ → Reach → List ℕ
+buf_after None buf r = written buf r.to r.payload
+buf_after (Some denied) buf r = buf
+
+arrive_here_by : (m : Memory) (r : Reach) (right : Right) (buf : List ℕ) (d : Option Denied) → held_at m r.stag ≡ Some (record { right = right; buf = buf }) → held_at (arrived_by d m r) r.stag ≡ Some (record { right = right; buf = buf_after d buf r })
+arrive_here_by m r right buf None e = place_here m r.stag r.to r.payload (record { right = right; buf = buf }) e
+arrive_here_by m r right buf (Some denied) e = e
+
+lack-region : (m : Memory) (r : Reach) (right : Right) (buf : List ℕ) → held_at m r.stag ≡ Some (record { right = right; buf = buf }) → lack m (access_of r) ≡ lack_in (Some (right, length buf)) (access_of r)
+unfolding lack live_at
+lack-region m r right buf e = ap (λ (o : Option Region). lack_in (offer o) (access_of r)) e
+
+pub arrive_here : (m : Memory) (r : Reach) (right : Right) (buf : List ℕ) → held_at m r.stag ≡ Some (record { right = right; buf = buf })
+    → held_at (happened m (Arrive r)) r.stag ≡ Some (record { right = right; buf = buf_after (lack_in (Some (right, length buf)) (access_of r)) buf r })
+unfolding happened
+arrive_here m r right buf e =
+    ap (λ (d : Option Denied). held_at (arrived_by d m r) r.stag) (lack-region m r right buf e)
+    ∙ arrive_here_by m r right buf (lack_in (Some (right, length buf)) (access_of r)) e
+
+length_after_by : (d : Option Denied) (right : Right) (buf : List ℕ) (r : Reach) → lack_in (Some (right, length buf)) (access_of r) ≡ d → length (buf_after d buf r) ≡ length buf
+length_after_by None right buf r e = length-written buf r.to r.payload (within right buf r e)
+length_after_by (Some denied) right buf r e = refl
+
+pub length-buf_after : (right : Right) (buf : List ℕ) (r : Reach) → length (buf_after (lack_in (Some (right, length buf)) (access_of r)) buf r) ≡ length buf
+length-buf_after right buf r = length_after_by (lack_in (Some (right, length buf)) (access_of r)) right buf r refl
+
+-- a region is held from its registration on
+pub held-registered : (m : Memory) (right : Right) (buf : List ℕ) → IsHeld (registered m right buf) (claim_of m buf)
+unfolding registered
+held-registered m right buf = record { region = record { right = right; buf = buf }; there = register_here m right buf; len = refl; given = omega arith }
+
+-- a claim on what is held in m is one on what is held in n, where n has the region's length and gave its STag
+still : (m n : Memory) (claim : Claim) (h : IsHeld m claim) (region : Region) → held_at n claim.stag ≡ Some region → length region.buf ≡ claim.len → m.next ≤ n.next → IsHeld n claim
+still m n claim h region there len le = record { region = region; there = there; len = len; given = omega (arith, h.given) }
+
+arrive_still : (m : Memory) (claim : Claim) (r : Reach) → IsHeld m claim → r.stag ≡ claim.stag → IsHeld (happened m (Arrive r)) claim
+arrive_still m claim r h e =
+    let right = h.region.right in
+    let buf = h.region.buf in
+    let after = buf_after (lack_in (Some (right, length buf)) (access_of r)) buf r in
+    let there : held_at m r.stag ≡ Some (record { right = right; buf = buf }) = ap (held_at m) e ∙ h.there in
+    still m (happened m (Arrive r)) claim h (record { right = right; buf = after })
+    (ap (held_at (happened m (Arrive r))) (sym e) ∙ arrive_here m r right buf there)
+    (length-buf_after right buf r ∙ h.len) (omega (arith, next-arrive m r))
+
+-- and stays held until it is released
+pub held-happened : (m : Memory) (claim : Claim) (event : Event) → IsHeld m claim → Spares claim.stag event → IsHeld (happened m event) claim
+unfolding happened registered released
+held-happened m claim (Register right buf) h s =
+    still m (registered m right buf) claim h h.region (register_other m right buf claim.stag (λ e. omega (arith, h.given, e)) ∙ h.there) h.len (omega arith)
+held-happened m claim (Release other) h s =
+    still m (released m other) claim h h.region (release_other m other claim.stag (λ e. s (sym e)) ∙ h.there) h.len (omega arith)
+held-happened m claim (Arrive r) h s =
+    elim (cases_eq r.stag claim.stag) [
+      | inl e ↦ arrive_still m claim r h e
+      | inr ne ↦ still m (happened m (Arrive r)) claim h h.region (arrive_other m r claim.stag (λ e. ne (sym e)) ∙ h.there) h.len (omega (arith, next-arrive m r))
+    ]
+
+-- what each call leaves of a claim
+pub held-placed : (m : Memory) (claim : Claim) (right : Right) (stag to : ℕ) (bytes : List ℕ) → lack m (record { right = right; stag = stag; to = to; len = length bytes }) ≡ None
+    → IsHeld m claim → IsHeld (placed m stag to bytes) claim
+unfolding happened
+held-placed m claim right stag to bytes e h =
+    let r : Reach = record { right = right; stag = stag; to = to; payload = bytes; end = 0 } in
+    let is : happened m (Arrive r) ≡ placed m stag to bytes = ap (λ (d : Option Denied). arrived_by d m r) e in
+    subst (λ (n : Memory). IsHeld n claim) is (held-happened m claim (Arrive r) h tt)
+
+pub keeps-place : (r : Result Unit Denied) (m n : Memory) (right : Right) (stag to : ℕ) (bytes : List ℕ) → denial r ≡ lack m (record { right = right; stag = stag; to = to; len = length bytes })
+    → OnOk r (n ≡ placed m stag to bytes) → OnErr r (n ≡ m) → (claim : Claim) → IsHeld m claim → IsHeld n claim
+keeps-place (Ok x) m n right stag to bytes e ok err claim h = subst (λ (k : Memory). IsHeld k claim) (sym ok) (held-placed m claim right stag to bytes (sym e) h)
+keeps-place (Err denied) m n right stag to bytes e ok err claim h = subst (λ (k : Memory). IsHeld k claim) (sym err) h
+
+pub held-register : {E : Type 0} (r : Result Claim E) (m n : Memory) (right : Right) (buf : List ℕ) → IfOk r (λ claim. (claim ≡ claim_of m buf) × (n ≡ registered m right buf)) → IfOk r (λ claim. IsHeld n claim)
+held-register (Ok claim) m n right buf ok =
+    subst (λ (k : Memory). IsHeld k claim) (sym ok.1) (subst (λ (c : Claim). IsHeld (registered m right buf) c) (sym ok.0) (held-registered m right buf))
+held-register (Err e) m n right buf ok = tt
+
+pub keeps-register : {E : Type 0} (r : Result Claim E) (m n : Memory) (right : Right) (buf : List ℕ) → IfOk r (λ claim. (claim ≡ claim_of m buf) × (n ≡ registered m right buf)) → OnErr r (n ≡ m)
+    → (claim : Claim) → IsHeld m claim → IsHeld n claim
+unfolding happened
+keeps-register (Ok _) m n right buf ok err claim h = subst (λ (k : Memory). IsHeld k claim) (sym ok.1) (held-happened m claim (Register right buf) h tt)
+keeps-register (Err _) m n right buf ok err claim h = subst (λ (k : Memory). IsHeld k claim) (sym err) h
+
+pub keeps-release : (m : Memory) (stag : ℕ) (claim : Claim) → claim.stag ≢ stag → IsHeld m claim → IsHeld (released m stag) claim
+unfolding happened
+keeps-release m stag claim ne h = held-happened m claim (Release stag) h (λ e. ne (sym e))

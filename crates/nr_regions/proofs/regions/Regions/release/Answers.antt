@@ -1,0 +1,5 @@
+use Rattle.nr_regions.proofs.Holding.{keeps-release}
+use Rattle.nr_regions.proofs.regions.Regions.release.Goals as goal
+
+pub returns-clause-keeps : goal.returns-clause-keeps
+returns-clause-keeps c = λ claim ne h. rw c.leave.ensures.dead (keeps-release c.args.self.now c.args.registration.stag claim ne h)

@@ -1,0 +1,34 @@
+-- The codes of regions and memory, by which a proof tells their values apart.
+use Rattle.std.specs.Prelude.{◌≡◌, ℕ, ◌==◌, if◌then◌else◌, List, refl}
+use Rattle.std.specs.Ordering.{nat_cmp}
+use Rattle.std.specs.Coded.{Coded, code_by, coded×, coded_ℕ, coded_list}
+use Rattle.std.specs.FinMap.{FinMap, code}
+use Rattle.nr_regions.specs.declared.right.Right.{Right}
+use Rattle.nr_regions.specs.declared.right.Right.TheVariants.{Fetch, Fill, Sink}
+use Rattle.nr_regions.specs.declared.region.Region.{Region}
+use Rattle.nr_regions.specs.Memory.{Memory, Claim}
+
+abbrev pub number_of : Right → ℕ
+number_of Fetch = 0
+number_of Fill = 1
+number_of Sink = 2
+
+abbrev pub right_of : ℕ → Right
+right_of n = if n == 0 then Fetch else (if n == 1 then Fill else Sink)
+
+pub right_of-number_of : (right : Right) → right_of (number_of right) ≡ right
+right_of-number_of Fetch = refl
+right_of-number_of Fill = refl
+right_of-number_of Sink = refl
+
+abbrev pub right_code : Coded Right
+right_code = code_by ℕ coded_ℕ number_of right_of right_of-number_of
+
+abbrev pub region_code : Coded Region
+region_code = code_by (Right × List ℕ) (coded× right_code (coded_list coded_ℕ)) (λ r. (r.right, r.buf)) (λ p. record { right = p.0; buf = p.1 }) (λ _. refl)
+
+abbrev pub memory_code : Coded Memory
+memory_code = code_by (ℕ × FinMap nat_cmp Region) (coded× coded_ℕ (code coded_ℕ region_code)) (λ m. (m.next, m.held)) (λ p. record { next = p.0; held = p.1 }) (λ _. refl)
+
+abbrev pub claim_code : Coded Claim
+claim_code = code_by (ℕ × ℕ) (coded× coded_ℕ coded_ℕ) (λ c. (c.stag, c.len)) (λ p. record { stag = p.0; len = p.1 }) (λ _. refl)

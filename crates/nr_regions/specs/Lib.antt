@@ -1,0 +1,5 @@
+pub mod Code
+pub mod Memory
+pub mod Access
+pub mod Past
+pub mod Table

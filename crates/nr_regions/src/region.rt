@@ -1,0 +1,11 @@
+//! One region.
+
+use crate::right::Right;
+use nr_xdr::Octets;
+
+/// A registered buffer, and what it is offered for.
+#[derive(Debug, Drop)]
+pub struct Region {
+    pub right: Right,
+    pub buf: Octets,
+}

@@ -1,0 +1,206 @@
+-- Feeding is the same however the stream is cut.
+use Rattle.nr_wire.proofs.FrontFrame.{front_frame}
+use Rattle.std.proofs.Common.{◌≡◌, ℕ, zero, suc, ◌-◌, ◌≤◌, Bool, true, false, cond, List, [], ◌∷◌, ◌++◌, length, take, drop, refl, sym, ap, ◌∙◌, subst, append_assoc, arith, ◌<◌, ◌+◌}
+use Rattle.std.proofs.lemmas.List.{length-append, drop_all, append-nil}
+use Rattle.nr_wire.specs.declared.stream.Awaited.{Awaited}
+use Rattle.nr_wire.specs.declared.stream.Awaited.TheVariants.{Fpdu}
+use Rattle.nr_wire.specs.Stream.{frame_len, is_whole, IsPartial, awaited_after, Split, split, lacking, fields_len, IsFrame}
+use Rattle.nr_wire.specs.Feeding.{Feeding, settled, fed_frames, fed, fed_one, taken}
+use Rattle.nr_wire.proofs.Frames.{whole_from, partial_from, shorter_than_frame, partial_nil, lacking_less, lacking_just, partial_not_whole}
+use Rattle.nr_wire.proofs.Splits.{split-whole, split-append, split-Splits, awaited_after-Fpdu}
+
+-- what is dropped behind a front
+drop-past : (front back : List ℕ) (n : ℕ) → length front ≤ n → drop n (front ++ back) ≡ drop (n - length front) back
+drop-past [] back n le = ap (λ (k : ℕ). drop k back) (omega arith)
+drop-past (x ∷ front) back zero le = absurd (omega arith)
+drop-past (x ∷ front) back (suc n) le = drop-past front back n (omega arith) ∙ ap (λ (k : ℕ). drop k back) (omega arith)
+
+module _ {S : Type 0} (ended : S → Bool) (advanced : S → Awaited → List ℕ → S) where
+  abbrev kept : Awaited → S → Feeding S
+  kept a state = record { awaited = a; rest = []; state = state }
+
+  settled-ended : (a : Awaited) (rest : List ℕ) (state : S) → ended state ≡ true → settled ended advanced a rest state ≡ kept a state
+  settled-ended a rest state e = ap (λ (w : Bool). record { awaited = a; rest = cond w [] rest; state = state }) e
+
+  settled-going : (a : Awaited) (rest : List ℕ) (state : S) → ended state ≡ false → settled ended advanced a rest state ≡ record { awaited = a; rest = rest; state = state }
+  settled-going a rest state e = ap (λ (w : Bool). record { awaited = a; rest = cond w [] rest; state = state }) e
+
+  -- an ended state is left as it is
+  frames-ended : (frames : List (List ℕ)) (rest : List ℕ) (a : Awaited) (state : S) → ended state ≡ true → fed_frames ended advanced frames rest a state ≡ kept a state
+  frames-ended [] rest a state e = settled-ended a rest state e
+  frames-ended (frame ∷ frames) rest a state e =
+      ap (λ (w : Bool). cond w (settled ended advanced a [] state) (fed_frames ended advanced frames rest Fpdu (advanced state a frame))) e
+      ∙ settled-ended a [] state e
+
+  frames-going : (frame : List ℕ) (frames : List (List ℕ)) (rest : List ℕ) (a : Awaited) (state : S) → ended state ≡ false → fed_frames ended advanced (frame ∷ frames) rest a state ≡ fed_frames ended advanced frames rest Fpdu (advanced state a frame)
+  frames-going frame frames rest a state e =
+      ap (λ (w : Bool). cond w (settled ended advanced a [] state) (fed_frames ended advanced frames rest Fpdu (advanced state a frame))) e
+
+  pub fed-ended : (f : Feeding S) (bytes : List ℕ) → ended f.state ≡ true → fed ended advanced f bytes ≡ kept f.awaited f.state
+  unfolding fed
+  fed-ended f bytes e =
+      let s = split f.awaited (f.rest ++ bytes) in
+      frames-ended s.frames s.rest f.awaited f.state e
+
+  -- some more bytes behind frames
+  frames-fed : (frames : List (List ℕ)) (rest more : List ℕ) (a : Awaited) (state : S) (w : Bool) → ended state ≡ w → fed ended advanced (fed_frames ended advanced frames rest a state) more
+      ≡ fed_frames ended advanced (frames ++ (split (awaited_after a frames) (rest ++ more)).frames) (split (awaited_after a frames) (rest ++ more)).rest a state
+  unfolding fed
+  frames-fed [] rest more a state true e =
+      let s = split a (rest ++ more) in
+      ap (λ (f : Feeding S). fed ended advanced f more) (settled-ended a rest state e)
+      ∙ fed-ended (kept a state) more e
+      ∙ sym (frames-ended s.frames s.rest a state e)
+  frames-fed [] rest more a state false e = ap (λ (f : Feeding S). fed ended advanced f more) (settled-going a rest state e)
+  frames-fed (frame ∷ frames) rest more a state true e =
+      let s = split (awaited_after a (frame ∷ frames)) (rest ++ more) in
+      ap (λ (f : Feeding S). fed ended advanced f more) (frames-ended (frame ∷ frames) rest a state e)
+      ∙ fed-ended (kept a state) more e
+      ∙ sym (frames-ended ((frame ∷ frames) ++ s.frames) s.rest a state e)
+  frames-fed (frame ∷ frames) rest more a state false e =
+      let next = advanced state a frame in
+      let s = split Fpdu (rest ++ more) in
+      ap (λ (f : Feeding S). fed ended advanced f more) (frames-going frame frames rest a state e)
+      ∙ frames-fed frames rest more Fpdu next (ended next) refl
+      ∙ ap (λ (b : Awaited). fed_frames ended advanced (frames ++ (split b (rest ++ more)).frames) (split b (rest ++ more)).rest Fpdu next) (awaited_after-Fpdu frames)
+      ∙ sym (frames-going frame (frames ++ s.frames) s.rest a state e)
+
+  pub fed-append : (f : Feeding S) (x y : List ℕ) → fed ended advanced (fed ended advanced f x) y ≡ fed ended advanced f (x ++ y)
+  unfolding fed
+  fed-append f x y =
+      let s = split f.awaited (f.rest ++ x) in
+      frames-fed s.frames s.rest y f.awaited f.state (ended f.state) refl
+      ∙ ap (λ (t : Split). fed_frames ended advanced t.frames t.rest f.awaited f.state)
+      (sym (ap (split f.awaited) (sym (append_assoc f.rest x y)) ∙ split-append f.awaited (f.rest ++ x) y))
+
+  -- what is kept is less than a frame
+  frames-partial : (frames : List (List ℕ)) (rest : List ℕ) (a : Awaited) (state : S) (w : Bool) → ended state ≡ w → IsPartial (awaited_after a frames) rest
+      → IsPartial (fed_frames ended advanced frames rest a state).awaited (fed_frames ended advanced frames rest a state).rest
+  frames-partial frames rest a state true e p =
+      subst (λ (f : Feeding S). IsPartial f.awaited f.rest) (sym (frames-ended frames rest a state e)) (partial_nil a)
+  frames-partial [] rest a state false e p =
+      subst (λ (f : Feeding S). IsPartial f.awaited f.rest) (sym (settled-going a rest state e)) p
+  frames-partial (frame ∷ frames) rest a state false e p =
+      let next = advanced state a frame in
+      subst (λ (f : Feeding S). IsPartial f.awaited f.rest) (sym (frames-going frame frames rest a state e))
+      (frames-partial frames rest Fpdu next (ended next) refl (subst (λ (b : Awaited). IsPartial b rest) (sym (awaited_after-Fpdu frames)) p))
+
+  pub fed-partial : (f : Feeding S) (bytes : List ℕ) → IsPartial (fed ended advanced f bytes).awaited (fed ended advanced f bytes).rest
+  unfolding fed
+  fed-partial f bytes =
+      let s = split f.awaited (f.rest ++ bytes) in
+      frames-partial s.frames s.rest f.awaited f.state (ended f.state) refl (split-Splits f.awaited (f.rest ++ bytes)).partial
+
+  -- one step: the awaited frame is whole, or it isn't
+  pub fed_one-whole : (f : Feeding S) (piece : List ℕ) → is_whole f.awaited (f.rest ++ piece) ≡ true → fed_one ended advanced f piece
+      ≡ kept Fpdu (advanced f.state f.awaited (take (frame_len f.awaited (f.rest ++ piece)) (f.rest ++ piece)))
+  unfolding fed_one
+  fed_one-whole f piece e =
+      ap (λ (w : Bool). cond w (kept Fpdu (advanced f.state f.awaited (take (frame_len f.awaited (f.rest ++ piece)) (f.rest ++ piece)))) (record { awaited = f.awaited; rest = f.rest ++ piece; state = f.state })) e
+
+  pub fed_one-partial : (f : Feeding S) (piece : List ℕ) → is_whole f.awaited (f.rest ++ piece) ≡ false → fed_one ended advanced f piece
+      ≡ record { awaited = f.awaited; rest = f.rest ++ piece; state = f.state }
+  unfolding fed_one
+  fed_one-partial f piece e =
+      ap (λ (w : Bool). cond w (kept Fpdu (advanced f.state f.awaited (take (frame_len f.awaited (f.rest ++ piece)) (f.rest ++ piece)))) (record { awaited = f.awaited; rest = f.rest ++ piece; state = f.state })) e
+
+pub taken-whole : (a : Awaited) (rest piece : List ℕ) → is_whole a (rest ++ piece) ≡ true → taken a rest piece ≡ frame_len a (rest ++ piece) - length rest
+unfolding taken
+taken-whole a rest piece e = ap (λ (w : Bool). cond w (frame_len a (rest ++ piece) - length rest) (length piece)) e
+
+pub taken-partial : (a : Awaited) (rest piece : List ℕ) → is_whole a (rest ++ piece) ≡ false → taken a rest piece ≡ length piece
+unfolding taken
+taken-partial a rest piece e = ap (λ (w : Bool). cond w (frame_len a (rest ++ piece) - length rest) (length piece)) e
+
+-- the piece is taken as far as it goes
+pub taken_within : (a : Awaited) (rest piece : List ℕ) (w : Bool) → is_whole a (rest ++ piece) ≡ w → taken a rest piece ≤ length piece
+taken_within a rest piece true e = rw (taken-whole a rest piece e) (omega (arith, (whole_from a (rest ++ piece) e).frame, length-append rest piece))
+taken_within a rest piece false e = rw (taken-partial a rest piece e) (omega arith)
+
+module _ {S : Type 0} (ended : S → Bool) (advanced : S → Awaited → List ℕ → S) where
+  step-whole : (f : Feeding S) (piece : List ℕ) → IsPartial f.awaited f.rest → ended f.state ≡ false → is_whole f.awaited (f.rest ++ piece) ≡ true
+      → fed ended advanced (fed_one ended advanced f piece) (drop (taken f.awaited f.rest piece) piece) ≡ fed ended advanced f piece
+  unfolding fed
+  step-whole f piece p going e =
+      let bytes = f.rest ++ piece in
+      let n = frame_len f.awaited bytes in
+      let next = advanced f.state f.awaited (take n bytes) in
+      let left : drop (taken f.awaited f.rest piece) piece ≡ drop n bytes =
+      ap (λ (k : ℕ). drop k piece) (taken-whole f.awaited f.rest piece e)
+      ∙ sym (drop-past f.rest piece n (shorter_than_frame f.awaited f.rest piece p)) in
+      let s = split Fpdu (drop n bytes) in
+      ap (λ (g : Feeding S). fed ended advanced g (drop (taken f.awaited f.rest piece) piece)) (fed_one-whole ended advanced f piece e)
+      ∙ ap (fed ended advanced (record { awaited = Fpdu; rest = []; state = next })) left
+      ∙ sym (frames-going ended advanced (take n bytes) s.frames s.rest f.awaited f.state going)
+      ∙ ap (λ (t : Split). fed_frames ended advanced t.frames t.rest f.awaited f.state) (sym (split-whole f.awaited bytes e))
+
+  step-partial : (f : Feeding S) (piece : List ℕ) → is_whole f.awaited (f.rest ++ piece) ≡ false
+      → fed ended advanced (fed_one ended advanced f piece) (drop (taken f.awaited f.rest piece) piece) ≡ fed ended advanced f piece
+  unfolding fed
+  step-partial f piece e =
+      let left : drop (taken f.awaited f.rest piece) piece ≡ [] =
+      ap (λ (k : ℕ). drop k piece) (taken-partial f.awaited f.rest piece e) ∙ drop_all (length piece) piece (omega arith) in
+      ap (λ (g : Feeding S). fed ended advanced g (drop (taken f.awaited f.rest piece) piece)) (fed_one-partial ended advanced f piece e)
+      ∙ ap (fed ended advanced (record { awaited = f.awaited; rest = f.rest ++ piece; state = f.state })) left
+      ∙ ap (λ (bytes : List ℕ). fed_frames ended advanced (split f.awaited bytes).frames (split f.awaited bytes).rest f.awaited f.state) (append-nil (f.rest ++ piece))
+
+  step_by : (f : Feeding S) (piece : List ℕ) (w : Bool) → is_whole f.awaited (f.rest ++ piece) ≡ w → IsPartial f.awaited f.rest → ended f.state ≡ false
+      → fed ended advanced (fed_one ended advanced f piece) (drop (taken f.awaited f.rest piece) piece) ≡ fed ended advanced f piece
+  step_by f piece true e p going = step-whole f piece p going e
+  step_by f piece false e p going = step-partial f piece e
+
+  -- one step and then what is left of the piece are the piece
+  pub fed_one-rest : (f : Feeding S) (piece : List ℕ) → IsPartial f.awaited f.rest → ended f.state ≡ false
+      → fed ended advanced (fed_one ended advanced f piece) (drop (taken f.awaited f.rest piece) piece) ≡ fed ended advanced f piece
+  fed_one-rest f piece = step_by f piece (is_whole f.awaited (f.rest ++ piece)) refl
+
+  kept_by : (f : Feeding S) (piece : List ℕ) (w : Bool) → is_whole f.awaited (f.rest ++ piece) ≡ w → IsPartial (fed_one ended advanced f piece).awaited (fed_one ended advanced f piece).rest
+  kept_by f piece true e =
+      subst (λ (g : Feeding S). IsPartial g.awaited g.rest) (sym (fed_one-whole ended advanced f piece e)) (partial_nil Fpdu)
+  kept_by f piece false e =
+      subst (λ (g : Feeding S). IsPartial g.awaited g.rest) (sym (fed_one-partial ended advanced f piece e)) (partial_from f.awaited (f.rest ++ piece) e)
+
+  -- what is kept after one step is less than a frame
+  pub fed_one-partial_rest : (f : Feeding S) (piece : List ℕ) → IsPartial (fed_one ended advanced f piece).awaited (fed_one ended advanced f piece).rest
+  fed_one-partial_rest f piece = kept_by f piece (is_whole f.awaited (f.rest ++ piece)) refl
+
+-- A piece in two parts: staging the first of them is feeding it.
+pub fed_one-staged : {S : Type 0} (ended : S → Bool) (advanced : S → Awaited → List ℕ → S) (f : Feeding S) (x y : List ℕ)
+    → fed_one ended advanced (record { awaited = f.awaited; rest = f.rest ++ x; state = f.state }) y ≡ fed_one ended advanced f (x ++ y)
+unfolding fed_one
+fed_one-staged ended advanced f x y =
+    ap (λ (bytes : List ℕ).
+    cond (is_whole f.awaited bytes) (record { awaited = Fpdu; rest = []; state = advanced f.state f.awaited (take (frame_len f.awaited bytes) bytes) })
+    (record { awaited = f.awaited; rest = bytes; state = f.state })) (append_assoc f.rest x y)
+
+taken_staged_by : (a : Awaited) (rest x y : List ℕ) (w : Bool) → is_whole a ((rest ++ x) ++ y) ≡ w → IsPartial a (rest ++ x) → taken a rest (x ++ y) ≡ length x + taken a (rest ++ x) y
+taken_staged_by a rest x y true e p =
+    let same : rest ++ (x ++ y) ≡ (rest ++ x) ++ y = sym (append_assoc rest x y) in
+    let whole : is_whole a (rest ++ (x ++ y)) ≡ true = ap (is_whole a) same ∙ e in
+    taken-whole a rest (x ++ y) whole
+    ∙ ap (λ (bytes : List ℕ). frame_len a bytes - length rest) same
+    ∙ omega (arith, length-append rest x, shorter_than_frame a (rest ++ x) y p, taken-whole a (rest ++ x) y e)
+taken_staged_by a rest x y false e p =
+    let whole : is_whole a (rest ++ (x ++ y)) ≡ false = ap (is_whole a) (sym (append_assoc rest x y)) ∙ e in
+    taken-partial a rest (x ++ y) whole ∙ omega (arith, length-append x y, taken-partial a (rest ++ x) y e)
+
+pub taken-staged : (a : Awaited) (rest x y : List ℕ) → IsPartial a (rest ++ x) → taken a rest (x ++ y) ≡ length x + taken a (rest ++ x) y
+taken-staged a rest x y p = taken_staged_by a rest x y (is_whole a ((rest ++ x) ++ y)) refl p
+
+-- fewer bytes than are lacking are taken, all of them
+pub taken-less : (a : Awaited) (rest piece : List ℕ) → length piece < lacking a rest → taken a rest piece ≡ length piece
+taken-less a rest piece lt = taken-partial a rest piece (partial_not_whole a (rest ++ piece) (lacking_less a rest piece lt))
+
+-- where the fields are there and as many bytes come as are lacking, those are taken, and the frame is whole
+pub taken-just : (a : Awaited) (rest front back : List ℕ) → IsPartial a rest → fields_len a ≤ length rest → length front ≡ lacking a rest
+    → (taken a rest (front ++ back) ≡ length front) × (is_whole a (rest ++ (front ++ back)) ≡ true)
+taken-just a rest front back p fields e =
+    let f : IsFrame a (rest ++ front) = (lacking_just a rest front p e).1 fields in
+    let at = front_frame a (rest ++ front) back f in
+    let same : rest ++ (front ++ back) ≡ (rest ++ front) ++ back = sym (append_assoc rest front back) in
+    let whole : is_whole a (rest ++ (front ++ back)) ≡ true = ap (is_whole a) same ∙ at.whole in (
+      taken-whole a rest (front ++ back) whole
+          ∙ ap (λ (bytes : List ℕ). frame_len a bytes - length rest) same
+          ∙ omega (arith, at.len, length-append rest front),
+      whole,
+    )

@@ -1,0 +1,30 @@
+use Rattle.std.proofs.Common.{◌≡◌, ◌≤◌, ◌∙◌, ap, sym, length, take, arith}
+use Rattle.nr_xdr.specs.Item.{IsBytes}
+use Rattle.nr_wire.specs.declared.hello.Side.{Side}
+use Rattle.nr_wire.specs.Hello.{IsAccepted, hello_spelling}
+use Rattle.nr_wire.specs.Next.{hello_in}
+use Rattle.nr_wire.specs.View.{next_hello}
+use Rattle.nr_wire.proofs.Nexts.{if_whole}
+use Rattle.nr_wire.proofs.Hellos.{hello_found, hello_again, hello_more, hello_bad}
+use Rattle.nr_wire.proofs.hello.read_hello.Goals as goal
+
+pub returns-clause-found : goal.returns-clause-found
+returns-clause-found c =
+    let side = c.args.side in
+    let bytes = c.args.bytes.now in
+    let fits : IsBytes bytes = λ i. omega (arith, c.type_inv.bytes i) in
+    if_whole (next_hello c.first_hello.result)
+    (λ hello len. (hello.side ≡ side) × IsAccepted hello × (take len bytes ≡ hello_spelling hello) × (len ≤ length bytes))
+    (λ hello len e.
+    let f = hello_found side bytes hello len fits (sym c.first_hello.ensures ∙ e) in
+    (f.side_is, f.accepted, f.spelled_is, f.within))
+
+pub returns-clause-only : goal.returns-clause-only
+returns-clause-only c = λ hello more same accepted e.
+    c.first_hello.ensures ∙ ap (λ (s : Side). hello_in s c.args.bytes.now) (sym same) ∙ ap (hello_in hello.side) e ∙ hello_again hello more accepted
+
+pub returns-clause-more : goal.returns-clause-more
+returns-clause-more c = rw c.first_hello.ensures (hello_more c.args.side c.args.bytes.now)
+
+pub returns-clause-bad : goal.returns-clause-bad
+returns-clause-bad c = λ reason. rw c.first_hello.ensures (hello_bad c.args.side c.args.bytes.now reason)

@@ -1,0 +1,7 @@
+pub mod Numbers
+pub mod Hello
+pub mod Segment
+pub mod Stream
+pub mod Next
+pub mod Feeding
+pub mod View

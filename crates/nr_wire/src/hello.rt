@@ -1,0 +1,149 @@
+//! The hello that each side sends first.
+
+ghost use Rattle.nr_wire.specs.Stream.{IsPartial};
+ghost use Rattle.nr_wire.specs.Next.Next.{Whole, More, Bad};
+ghost use Rattle.std.specs.Prelude.{◌≡◌, ℕ, ◌+◌, ◌<◌, ◌≤◌, length, take, ◌↔◌, List, ◌++◌, IfNone};
+ghost use Rattle.nr_wire.specs.Hello.{key, is_refused_by, hello_flaw, hello_of, hello_len, Hello as PlainHello, IsAccepted, hello_spelling, private_len};
+ghost use Rattle.nr_wire.specs.Next.{hello_in, IfWhole};
+ghost use Rattle.nr_wire.specs.View.{hello as plain, next_hello, shown};
+
+use crate::numbers::{
+    FLAG_CRC, FLAG_MARKERS, FLAG_REJECT, FPDU_MAX, HELLO_LEN, HELLO_REVISION, PRIVATE_MAX,
+    REASON_FLAGS, REASON_KEY, REASON_PRIVATE, REASON_REVISION,
+};
+use crate::stream::{Awaited, whole_frame};
+use crate::words::{half_word_at, has_bit};
+
+/// An end of a connection: the initiator opened it, the responder accepted it.
+#[derive(Clone, Copy, Debug, PartialEq, Eq)]
+pub enum Side {
+    Initiator,
+    Responder,
+}
+
+/// The first frame that a side sends (RFC 5044 section 7.1): an initiator's request, a responder's reply. `flags` is the
+/// byte as it stands, `private` the data for the layer above, of at most 512 bytes.
+#[derive(Clone, Copy, Debug, PartialEq, Eq)]
+pub struct Hello<'a> {
+    pub side: Side,
+    pub flags: u8,
+    pub private: &'a [u8],
+}
+
+/// What stands at the front of some bytes in a hello's place.
+#[derive(Clone, Copy, Debug, PartialEq, Eq)]
+pub enum NextHello<'a> {
+    /// A hello, in the first `len` bytes.
+    Whole { hello: Hello<'a>, len: usize },
+    /// Less than a whole hello.
+    More,
+    /// A hello that is refused: the first of the reasons 1 to 4 that stands.
+    Bad { reason: u32 },
+}
+
+/// What opens a hello of this side.
+#[tactic(auto, unfolding(crate::specs::Hello::key))]
+pub fn key(side: Side) -> &'static [u8]
+    ensures { result.now ≡ key side }
+{
+    match side {
+        Side::Initiator => b"MPA ID Req Frame",
+        Side::Responder => b"MPA ID Rep Frame",
+    }
+}
+
+fn is_refused_by(side: Side, flags: u8) -> bool
+    ensures { result ≡ is_refused_by side flags }
+{
+    let asks = has_bit(FLAG_MARKERS, flags) || has_bit(FLAG_CRC, flags);
+    match side {
+        Side::Initiator => asks,
+        Side::Responder => asks || has_bit(FLAG_REJECT, flags),
+    }
+}
+
+/// Why a hello with these first 20 bytes is refused.
+#[tactic(auto, unfolding(crate::specs::Hello::hello_flaw))]
+fn flaw(side: Side, head: &[u8]) -> Option<u32>
+    requires { length head.now ≡ HELLO_LEN }
+    ensures exact { result ≡ hello_flaw side head.now }
+    ensures private { IfNone result (private_len head.now ≤ PRIVATE_MAX) }
+{
+    if !head.starts_with(key(side)) {
+        return Some(REASON_KEY);
+    }
+    if is_refused_by(side, head[16]) {
+        return Some(REASON_FLAGS);
+    }
+    if head[17] != HELLO_REVISION {
+        return Some(REASON_REVISION);
+    }
+    if half_word_at(head, 18) > PRIVATE_MAX {
+        return Some(REASON_PRIVATE);
+    }
+    None
+}
+
+/// How many bytes the hello has that these begin: 20 where it is refused.
+#[tactic(auto, unfolding(crate::specs::Hello::hello_len))]
+pub fn hello_len(side: Side, bytes: &[u8]) -> usize
+    requires { HELLO_LEN ≤ length bytes.now }
+    ensures is { result ≡ hello_len side bytes.now }
+    ensures bound { result ≤ FPDU_MAX }
+{
+    let (head, _) = bytes.split_at(HELLO_LEN);
+    match flaw(side, head) {
+        None => HELLO_LEN + usize::from(half_word_at(bytes, 18)),
+        Some(_) => HELLO_LEN,
+    }
+}
+
+/// What a whole hello says, or the reason for which it is refused.
+#[tactic(auto, unfolding(crate::specs::Hello::hello_of))]
+fn hello_of(side: Side, frame: &[u8]) -> Result<Hello<'_>, u32>
+    requires { HELLO_LEN ≤ length frame.now }
+    ensures { shown plain result ≡ hello_of side frame.now }
+{
+    let (head, private) = frame.split_at(HELLO_LEN);
+    match flaw(side, head) {
+        None => Ok(Hello {
+            side,
+            flags: frame[16],
+            private,
+        }),
+        Some(reason) => Err(reason),
+    }
+}
+
+/// Reads the hello of `side` at the front of some bytes (RFC 5044 section 7.1). It is `More` exactly where they are less
+/// than a whole hello by its private length, and `Bad` for the first of the reasons 1 to 4 that stands in its first 20
+/// bytes, once these are there.
+pub fn read_hello(side: Side, bytes: &[u8]) -> NextHello<'_>
+    // What is read is spelled so.
+    ensures found { IfWhole (next_hello result) (λ hello len. (hello.side ≡ side) × IsAccepted hello
+        × (take len bytes.now ≡ hello_spelling hello) × (len ≤ length bytes.now)) }
+    // What is spelled so is read, whatever follows.
+    ensures only { (hello : PlainHello) (more : List ℕ) → hello.side ≡ side → IsAccepted hello →
+        bytes.now ≡ hello_spelling hello ++ more → next_hello result ≡ Whole hello (length (hello_spelling hello)) }
+    ensures more { (next_hello result ≡ More) ↔ IsPartial (Awaited.Hello side) bytes.now }
+    // Which reason it is.
+    ensures bad { (reason : ℕ) → (next_hello result ≡ Bad reason)
+        ↔ ((HELLO_LEN ≤ length bytes.now) × (hello_flaw side (take HELLO_LEN bytes.now) ≡ Some reason)) }
+    ensures exact { next_hello result ≡ hello_in side bytes.now }
+{
+    first_hello(side, bytes)
+}
+
+#[tactic(auto, unfolding(crate::specs::Next::hello_in))]
+fn first_hello(side: Side, bytes: &[u8]) -> NextHello<'_>
+    ensures { next_hello result ≡ hello_in side bytes.now }
+{
+    let Some(len) = whole_frame(Awaited::Hello(side), bytes) else {
+        return NextHello::More;
+    };
+    let (frame, _) = bytes.split_at(len);
+    match hello_of(side, frame) {
+        Ok(hello) => NextHello::Whole { hello, len },
+        Err(reason) => NextHello::Bad { reason },
+    }
+}

@@ -1,0 +1,75 @@
+//! The numbers of the link's formats (RFC 5040, 5041, 5044), and the reasons for which its frames are refused.
+
+/// Bytes of a hello before its private data (RFC 5044 section 7.1).
+pub const HELLO_LEN: usize = 20;
+/// The revision of MPA that a hello names.
+pub const HELLO_REVISION: u8 = 1;
+/// The most private data that a hello may have, in bytes.
+pub const PRIVATE_MAX: u16 = 512;
+/// The flag by which a hello asks for markers.
+pub const FLAG_MARKERS: u8 = 0x80;
+/// The flag by which a hello asks for a CRC.
+pub const FLAG_CRC: u8 = 0x40;
+/// The flag by which a reply refuses the connection.
+pub const FLAG_REJECT: u8 = 0x20;
+
+/// Bytes of the length field that opens an FPDU (RFC 5044 section 4).
+pub const LENGTH_LEN: usize = 2;
+/// Bytes of the CRC field that ends an FPDU.
+pub const CRC_LEN: usize = 4;
+/// The most bytes that an ULPDU may have: its length has 16 bits.
+pub const ULPDU_MAX: usize = 65535;
+/// Bytes of the longest FPDU.
+pub const FPDU_MAX: usize = 65544;
+/// Bytes of the header of a tagged segment (RFC 5041 section 4.2).
+pub const TAGGED_LEN: usize = 14;
+/// Bytes of the header of an untagged segment (RFC 5041 section 4.3).
+pub const UNTAGGED_LEN: usize = 18;
+/// The bit of an ULPDU's first byte that says that the segment is tagged.
+pub const BIT_TAGGED: u8 = 0x80;
+/// The bit of an ULPDU's first byte that says that the segment is the last of its message.
+pub const BIT_LAST: u8 = 0x40;
+
+/// The version of DDP that a segment names (RFC 5041 section 4.1).
+pub const DDP_VERSION: u8 = 1;
+/// The version of RDMAP that a segment names (RFC 5040 section 4.1).
+pub const RDMAP_VERSION: u8 = 1;
+
+/// RDMA Write (the opcodes are those of RFC 5040 section 4).
+pub const OPCODE_WRITE: u8 = 0;
+/// RDMA Read Request.
+pub const OPCODE_READ_REQUEST: u8 = 1;
+/// RDMA Read Response.
+pub const OPCODE_READ_RESPONSE: u8 = 2;
+/// Send.
+pub const OPCODE_SEND: u8 = 3;
+/// Terminate.
+pub const OPCODE_TERMINATE: u8 = 7;
+
+/// The queue of Sends (RFC 5040 section 4).
+pub const QUEUE_SEND: u32 = 0;
+/// The queue of Read Requests.
+pub const QUEUE_READ_REQUEST: u32 = 1;
+/// The queue of Terminates.
+pub const QUEUE_TERMINATE: u32 = 2;
+
+/// A hello has another key.
+pub const REASON_KEY: u32 = 1;
+/// A hello asks for markers or a CRC, or a reply refuses the connection.
+pub const REASON_FLAGS: u32 = 2;
+/// A hello is of another revision.
+pub const REASON_REVISION: u32 = 3;
+/// A hello has more than 512 bytes of private data.
+pub const REASON_PRIVATE: u32 = 4;
+/// An ULPDU is shorter than its header.
+pub const REASON_LENGTH: u32 = 5;
+/// A segment is of another version of DDP.
+pub const REASON_DDP_VERSION: u32 = 6;
+/// A segment is of another version of RDMAP.
+pub const REASON_RDMAP_VERSION: u32 = 7;
+/// A segment's opcode isn't one that is let through.
+pub const REASON_OPCODE: u32 = 8;
+/// A segment is tagged and its opcode isn't, or the other way round.
+pub const REASON_TAGGED: u32 = 9;
+/// An untagged segment stands in a queue that isn't its opcode's.
+pub const REASON_QUEUE: u32 = 10;

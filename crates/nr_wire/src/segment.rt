@@ -1,0 +1,232 @@
+//! DDP segments (RFC 5041 section 4) in their FPDUs (RFC 5044 section 4).
+
+ghost use Rattle.nr_wire.specs.Stream.{IsPartial, is_whole};
+ghost use Rattle.nr_wire.specs.Next.Next.{Whole, More, Bad};
+ghost use Rattle.std.specs.Prelude.{◌≡◌, ◌+◌, ◌-◌, ◌<◌, ◌≤◌, length, IfNone, ℕ, ◌↔◌, List, ◌++◌, take, IsTrue};
+ghost use Rattle.nr_xdr.specs.Item.{pad_len};
+ghost use Rattle.nr_wire.specs.Segment.{fpdu_size, fpdu_len, tail_len, ulpdu_len, header_len, is_tagged, is_tagged_opcode, is_let_through, queue_for, is_of_other_form, segment_flaw, segment_of, read_as, Segment as PlainSegment, IsLetThrough, Reads};
+ghost use Rattle.nr_wire.specs.Next.{segment_in, IfWhole};
+ghost use Rattle.nr_wire.specs.View.{segment as plain, next_segment, shown};
+
+use crate::numbers::{
+    BIT_LAST, BIT_TAGGED, CRC_LEN, DDP_VERSION, FPDU_MAX, LENGTH_LEN, OPCODE_READ_REQUEST,
+    OPCODE_READ_RESPONSE, OPCODE_SEND, OPCODE_TERMINATE, OPCODE_WRITE, QUEUE_READ_REQUEST,
+    QUEUE_SEND, QUEUE_TERMINATE, RDMAP_VERSION, REASON_DDP_VERSION, REASON_LENGTH, REASON_OPCODE,
+    REASON_QUEUE, REASON_RDMAP_VERSION, REASON_TAGGED, TAGGED_LEN, UNTAGGED_LEN,
+};
+use crate::stream::{Awaited, whole_frame};
+use crate::words::{half_word_at, has_bit, hyper_at, word_at};
+
+/// A segment. `last` says that it ends its message; `opcode` is the kind of message (RFC 5040 section 4). A tagged
+/// segment's payload goes to memory of its receiver, which `stag` names, from the byte `to` on. An untagged one is
+/// number `msn` of its queue, and its payload stands in that message from the byte `offset` on; `word` has a meaning
+/// for few opcodes.
+#[derive(Clone, Copy, Debug, PartialEq, Eq)]
+pub enum Segment<'a> {
+    Tagged {
+        last: bool,
+        opcode: u8,
+        stag: u32,
+        to: u64,
+        payload: &'a [u8],
+    },
+    Untagged {
+        last: bool,
+        opcode: u8,
+        word: u32,
+        queue: u32,
+        msn: u32,
+        offset: u32,
+        payload: &'a [u8],
+    },
+}
+
+/// What stands at the front of some bytes in an FPDU's place.
+#[derive(Clone, Copy, Debug, PartialEq, Eq)]
+pub enum NextSegment<'a> {
+    /// A segment, in the first `len` bytes.
+    Whole { segment: Segment<'a>, len: usize },
+    /// Less than a whole FPDU.
+    More,
+    /// An FPDU that is refused: the first of the reasons 5 to 10 that stands.
+    Bad { reason: u32 },
+}
+
+/// How many bytes an FPDU has behind an ULPDU of `len` bytes: the pad and the CRC.
+#[tactic(auto, unfolding(nr_xdr::specs::Item::pad_len))]
+pub fn tail_len(len: u16) -> usize
+    ensures is { result ≡ tail_len len }
+    ensures bound { result < 8 }
+    ensures filled { LENGTH_LEN + len + result ≤ FPDU_MAX }
+{
+    (4 - (LENGTH_LEN + usize::from(len)) % 4) % 4 + CRC_LEN
+}
+
+/// How many bytes an FPDU has whose ULPDU has `len` bytes.
+#[tactic(auto, unfolding(crate::specs::Segment::fpdu_size))]
+pub fn fpdu_size(len: u16) -> usize
+    ensures is { result ≡ fpdu_size len }
+    ensures bound { result ≤ FPDU_MAX }
+{
+    LENGTH_LEN + usize::from(len) + tail_len(len)
+}
+
+/// How many bytes the FPDU has that these begin.
+#[tactic(auto, unfolding(crate::specs::Segment::fpdu_len))]
+pub fn fpdu_len(bytes: &[u8]) -> usize
+    requires { LENGTH_LEN ≤ length bytes.now }
+    ensures is { result ≡ fpdu_len bytes.now }
+    ensures bound { result ≤ FPDU_MAX }
+{
+    fpdu_size(half_word_at(bytes, 0))
+}
+
+fn is_tagged_opcode(opcode: u8) -> bool
+    ensures { result ≡ is_tagged_opcode opcode }
+{
+    opcode == OPCODE_WRITE || opcode == OPCODE_READ_RESPONSE
+}
+
+fn is_let_through(opcode: u8) -> bool
+    ensures { result ≡ is_let_through opcode }
+{
+    is_tagged_opcode(opcode)
+        || opcode == OPCODE_READ_REQUEST
+        || opcode == OPCODE_SEND
+        || opcode == OPCODE_TERMINATE
+}
+
+fn queue_for(opcode: u8) -> u32
+    ensures { result ≡ queue_for opcode }
+{
+    match opcode {
+        OPCODE_READ_REQUEST => QUEUE_READ_REQUEST,
+        OPCODE_TERMINATE => QUEUE_TERMINATE,
+        _ => QUEUE_SEND,
+    }
+}
+
+fn is_of_other_form(tagged: bool, opcode: u8) -> bool
+    ensures { result ≡ is_of_other_form tagged opcode }
+{
+    if tagged {
+        !is_tagged_opcode(opcode)
+    } else {
+        is_tagged_opcode(opcode)
+    }
+}
+
+fn header_len(tagged: bool) -> usize
+    ensures { result ≡ header_len tagged }
+{
+    if tagged { TAGGED_LEN } else { UNTAGGED_LEN }
+}
+
+/// Why a whole FPDU is refused.
+#[tactic(auto, unfolding(crate::specs::Segment::segment_flaw))]
+fn flaw(frame: &[u8]) -> Option<u32>
+    requires control { 4 ≤ length frame.now }
+    requires whole { LENGTH_LEN + ulpdu_len frame.now ≤ length frame.now }
+    ensures exact { result ≡ segment_flaw frame.now }
+    ensures header { IfNone result (header_len (is_tagged frame.now) ≤ ulpdu_len frame.now) }
+{
+    let tagged = has_bit(BIT_TAGGED, frame[2]);
+    let opcode = frame[3] % 16;
+    if usize::from(half_word_at(frame, 0)) < header_len(tagged) {
+        return Some(REASON_LENGTH);
+    }
+    if frame[2] % 4 != DDP_VERSION {
+        return Some(REASON_DDP_VERSION);
+    }
+    if frame[3] / 64 != RDMAP_VERSION {
+        return Some(REASON_RDMAP_VERSION);
+    }
+    if !is_let_through(opcode) {
+        return Some(REASON_OPCODE);
+    }
+    if is_of_other_form(tagged, opcode) {
+        return Some(REASON_TAGGED);
+    }
+    if !tagged && word_at(frame, 8) != queue_for(opcode) {
+        return Some(REASON_QUEUE);
+    }
+    None
+}
+
+/// The fields of a tagged or of an untagged segment.
+fn read_as(tagged: bool, frame: &[u8]) -> Segment<'_>
+    requires control { 4 ≤ length frame.now }
+    requires header { header_len tagged ≤ ulpdu_len frame.now }
+    requires whole { LENGTH_LEN + ulpdu_len frame.now ≤ length frame.now }
+    ensures { plain result ≡ read_as tagged frame.now }
+{
+    let len = usize::from(half_word_at(frame, 0)) - header_len(tagged);
+    let (_, behind) = frame.split_at(LENGTH_LEN + header_len(tagged));
+    let (payload, _) = behind.split_at(len);
+    let last = has_bit(BIT_LAST, frame[2]);
+    let opcode = frame[3] % 16;
+    if tagged {
+        Segment::Tagged {
+            last,
+            opcode,
+            stag: word_at(frame, 4),
+            to: hyper_at(frame, 8),
+            payload,
+        }
+    } else {
+        Segment::Untagged {
+            last,
+            opcode,
+            word: word_at(frame, 4),
+            queue: word_at(frame, 8),
+            msn: word_at(frame, 12),
+            offset: word_at(frame, 16),
+            payload,
+        }
+    }
+}
+
+/// What a whole FPDU says, or the reason for which it is refused.
+#[tactic(auto, unfolding(crate::specs::Segment::segment_of))]
+fn segment_of(frame: &[u8]) -> Result<Segment<'_>, u32>
+    requires control { 4 ≤ length frame.now }
+    requires whole { LENGTH_LEN + ulpdu_len frame.now ≤ length frame.now }
+    ensures { shown plain result ≡ segment_of frame.now }
+{
+    match flaw(frame) {
+        None => Ok(read_as(has_bit(BIT_TAGGED, frame[2]), frame)),
+        Some(reason) => Err(reason),
+    }
+}
+
+/// Reads the FPDU at the front of some bytes (RFC 5044 section 4). It is `More` exactly where they are less than a whole
+/// one by its length field, and `Bad` for the first of the reasons 5 to 10 that stands. The payload is a part of the bytes.
+pub fn next_segment(bytes: &[u8]) -> NextSegment<'_>
+    // What is read is spelled so, up to its reserved bits, pad and CRC.
+    ensures found { IfWhole (next_segment result) (λ segment len. IsLetThrough segment
+        × Reads segment (take len bytes.now) × (len ≤ length bytes.now)) }
+    // What is spelled so is read, whatever follows.
+    ensures only { (segment : PlainSegment) (frame more : List ℕ) → IsLetThrough segment → Reads segment frame →
+        bytes.now ≡ frame ++ more → next_segment result ≡ Whole segment (length frame) }
+    ensures more { (next_segment result ≡ More) ↔ IsPartial Awaited.Fpdu bytes.now }
+    // Which reason it is.
+    ensures bad { (reason : ℕ) → (next_segment result ≡ Bad reason)
+        ↔ (IsTrue (is_whole Awaited.Fpdu bytes.now) × (segment_flaw (take (fpdu_len bytes.now) bytes.now) ≡ Some reason)) }
+    ensures exact { next_segment result ≡ segment_in bytes.now }
+{
+    first_segment(bytes)
+}
+
+#[tactic(auto, unfolding(crate::specs::Next::segment_in))]
+fn first_segment(bytes: &[u8]) -> NextSegment<'_>
+    ensures { next_segment result ≡ segment_in bytes.now }
+{
+    let Some(len) = whole_frame(Awaited::Fpdu, bytes) else {
+        return NextSegment::More;
+    };
+    let (frame, _) = bytes.split_at(len);
+    match segment_of(frame) {
+        Ok(segment) => NextSegment::Whole { segment, len },
+        Err(reason) => NextSegment::Bad { reason },
+    }
+}
