@@ -11,6 +11,12 @@ use Rattle.nr_rpc.specs.declared.head.CallHead.{CallHead}
 use Rattle.nr_rpc.specs.declared.head.CallHead.TheVariants as calls
 use Rattle.nr_rpc.specs.declared.head.ReplyHead.{ReplyHead}
 use Rattle.nr_rpc.specs.declared.head.ReplyHead.TheVariants as replies
+use Rattle.nr_rpc.specs.declared.fault.Misfit.{Misfit}
+use Rattle.nr_rpc.specs.declared.item.RawAuth.{RawAuth}
+use Rattle.nr_rpc.specs.declared.sys.SysBody.{SysBody}
+use Rattle.nr_rpc.specs.declared.call.CallStart.{CallStart}
+use Rattle.nr_rpc.specs.declared.call.CallStart.TheVariants as starts
+use Rattle.nr_rpc.specs.declared.head.CallTarget.{CallTarget}
 use Rattle.nr_rpc.specs.Credential.{Auth}
 
 infixl 10 ◌>>=◌
@@ -148,3 +154,35 @@ GivesReply (Ok head) read = read ≡ Ok head
 GivesReply (Err (faults.NotCall at)) read = ⊥
 GivesReply (Err (faults.NotReply at)) read = read ≡ Err at
 GivesReply (Err faults.Memory) read = ⊥
+
+-- A reader answered so and stands at new: as read says, seen by view.
+abbrev pub Answers : {X Y : Type 0} → (X → Y) → Result X Misfit → Cursor → Result (Y × Cursor) ℕ → Type 0
+Answers view (Ok x) new read = read ≡ Ok (view x, new)
+Answers view (Err misfit) new read = read ≡ Err misfit.at
+
+-- the same of a step that gives no value
+abbrev pub Goes : Result Unit Misfit → Cursor → Result Cursor ℕ → Type 0
+Goes (Ok x) new read = read ≡ Ok new
+Goes (Err misfit) new read = read ≡ Err misfit.at
+
+-- the same without a cursor
+abbrev pub Finds : {X Y : Type 0} → (X → Y) → Result X Misfit → Result Y ℕ → Type 0
+Finds view (Ok x) read = read ≡ Ok (view x)
+Finds view (Err misfit) read = read ≡ Err misfit.at
+
+-- what a credential, the body of AUTH_SYS and a call head stand for before they own their bytes
+abbrev pub auth_view : RawAuth → Auth
+auth_view auth = record { flavor = auth.flavor; body = auth.body.now }
+
+abbrev pub sys_view : SysBody → Cred
+sys_view sys = creds.Sys sys.stamp sys.machine.now sys.uid sys.gid sys.gids
+
+abbrev pub start_view : CallStart → CallHead
+start_view (starts.Version2 xid prog vers proc cred args_at) = calls.Version2 xid prog vers proc (cred_of (auth_view cred)) args_at
+start_view (starts.Other xid rpcvers) = calls.Other xid rpcvers
+
+-- the program, the version and the procedure of a call, and where its arguments begin
+abbrev pub target_of : Result CallHead ℕ → Option CallTarget
+target_of (Ok (calls.Version2 xid prog vers proc cred args_at)) = Some (record { xid = xid; prog = prog; vers = vers; proc = proc; args_at = args_at })
+target_of (Ok (calls.Other xid rpcvers)) = None
+target_of (Err at) = None

@@ -22,6 +22,16 @@ pub enum CallHead {
     },
 }
 
+/// What a call of RPC version 2 asks for, without who asks. `args_at` is as in [`CallHead`].
+#[derive(Clone, Copy, Debug, PartialEq, Eq)]
+pub struct CallTarget {
+    pub xid: u32,
+    pub prog: u32,
+    pub vers: u32,
+    pub proc: u32,
+    pub args_at: usize,
+}
+
 /// The head of a reply (RFC 5531 section 9). Its verifier is dropped. A head that is written needs no `results_at`.
 #[derive(Clone, Copy, Debug, PartialEq, Eq)]
 pub enum ReplyHead {

@@ -1,4 +1,5 @@
 pub mod Numbers
 pub mod Cursors
 pub mod Items
+pub mod Chains
 pub mod OneReading
