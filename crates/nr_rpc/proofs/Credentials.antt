@@ -1,18 +1,19 @@
 -- A credential is read exactly where it is spelled.
-use Rattle.std.proofs.Common.{◌≡◌, ◌≢◌, ℕ, zero, suc, ◌+◌, ◌<◌, ◌≤◌, Bool, true, false, cond, eqb, ltb, List, [], ◌∷◌, ◌++◌, length, map, Option, Some, None, Result, Ok, Err, refl, sym, ap, subst, ◌∙◌, arith, inl, inr, ◌⊎◌}
+use Rattle.std.proofs.Common.{◌≡◌, ◌≢◌, ℕ, zero, suc, ◌+◌, ◌*◌, ◌^◌, ◌<◌, ◌≤◌, Bool, true, false, cond, eqb, ltb, List, [], ◌∷◌, ◌++◌, length, map, replicate, Option, Some, None, Result, Ok, Err, refl, sym, ap, subst, ◌∙◌, arith, inl, inr, ◌⊎◌}
 use Rattle.std.specs.Prelude.{unwrap_or}
 use Rattle.std.proofs.lemmas.Bool.{ltb-false, le-ltb, eqb-true, eqb-false, ne_eqb}
 use Rattle.std.proofs.lemmas.Bool.Decides.{eqb_tells}
-use Rattle.std.proofs.lemmas.List.{append-nil, nil_from_length}
-use Rattle.nr_xdr.specs.Item.{Item, IsBytes}
+use Rattle.std.proofs.lemmas.List.{append-nil, nil_from_length, length-append, length-replicate}
+use Rattle.nr_xdr.specs.Item.{Item, IsBytes, word, spelling, pad_len}
 use Rattle.nr_xdr.specs.Item.Item.{Unsigned, Opaque}
-use Rattle.nr_xdr.specs.Items.{ReadEach}
-use Rattle.nr_xdr.specs.Reading.{Cursor, Takes, opaque_at}
-use Rattle.nr_xdr.proofs.Chains.{TakesEach, standing, each_takes, each_between, IsBytes-behind}
-use Rattle.nr_rpc.specs.declared.limits.TheConstants.{MACHINE_MAX, GIDS_MAX, AUTH_NONE, AUTH_SYS}
+use Rattle.nr_xdr.specs.Items.{ReadEach, spellings, FitEach}
+use Rattle.nr_xdr.specs.Reading.{Cursor, Takes, unsigned_at, opaque_at}
+use Rattle.nr_xdr.proofs.Chains.{TakesEach, standing, each_takes, each_between, spellings_read}
+use Rattle.nr_xdr.proofs.Numbers.{length-word}
+use Rattle.nr_rpc.specs.declared.limits.TheConstants.{AUTH_BODY_MAX, MACHINE_MAX, GIDS_MAX, AUTH_NONE, AUTH_SYS}
 use Rattle.nr_rpc.specs.declared.cred.Cred.{Cred}
 use Rattle.nr_rpc.specs.declared.cred.Cred.TheVariants as creds
-use Rattle.nr_rpc.specs.Credential.{Auth, sys_items, ReadsSys, ReadsCred}
+use Rattle.nr_rpc.specs.Credential.{Auth, auth_of, sys_items, ReadsSys, ReadsCred, CanWriteCred, CredFits}
 use Rattle.nr_rpc.specs.Reading.{◌>>=◌, placed, number_at, numbers_at, gids_at, sys_at, whole, cred_of}
 use Rattle.nr_rpc.proofs.Steps.{bind_ok, chosen, done, ok_is, number_step, number_again, opaque_step, placed_again}
 use Rattle.nr_rpc.proofs.Loop.{numbers_take, numbers_again}
@@ -202,4 +203,57 @@ cred_again (creds.Other flavor) auth fits (is, apart, not_sys) =
           (λ x e. let s = body_takes auth.body x fits e in not_sys sys.1 s.stamp s.machine s.uid s.gid s.gids s.reads) in
           rw (is, named, sys.0, nothing) refl
       | inr other ↦ rw (is, named, other.0) refl
+    ]
+
+-- the length of numbers, and of the body of AUTH_SYS
+pub length-numbers : (ns : List ℕ) → length (spellings (map Unsigned ns)) ≡ 4 * length ns
+length-numbers [] = refl
+length-numbers (n ∷ ns) = omega (arith, length-append (word n) (spellings (map Unsigned ns)), length-word n, length-numbers ns)
+
+opaque_len : List ℕ → ℕ
+opaque_len bytes = 4 + (length bytes + pad_len (length bytes))
+
+length-opaque : (bytes : List ℕ) → length (spelling (Opaque bytes)) ≡ opaque_len bytes
+unfolding opaque_len
+length-opaque bytes =
+    let pad : List ℕ = replicate (pad_len (length bytes)) 0 in
+    omega (arith, length-append (word (length bytes)) (bytes ++ pad), length-append bytes pad, length-word (length bytes), length-replicate {A = ℕ} (pad_len (length bytes)) 0)
+
+pad_len-below : (n : ℕ) → pad_len n < 4
+unfolding pad_len
+pad_len-below n = omega arith
+
+pub length-sys : (stamp : ℕ) (machine : List ℕ) (uid gid : ℕ) (gids : List ℕ) → length machine ≤ MACHINE_MAX → length gids ≤ GIDS_MAX
+    → length (spellings (sys_items stamp machine uid gid gids)) ≤ AUTH_BODY_MAX
+unfolding opaque_len
+length-sys stamp machine uid gid gids machine_within gids_within =
+    let last = word (length gids) ++ spellings (map Unsigned gids) in
+    let group = word gid ++ last in
+    let user = word uid ++ group in
+    let name = spelling (Opaque machine) ++ user in
+    omega (arith, length-append (word stamp) name, length-word stamp, length-append (spelling (Opaque machine)) user, length-opaque machine, pad_len-below (length machine), length-append (word uid) group, length-word uid, length-append (word gid) last, length-word gid, length-append (word (length gids)) (spellings (map Unsigned gids)), length-word (length gids), length-numbers gids)
+
+-- the credential that is written fits its items, and its body's limit
+pub auth_of-fits : (cred : Cred) → CanWriteCred cred → CredFits cred → ((auth_of cred).flavor < 2 ^ 32) × (length (auth_of cred).body ≤ AUTH_BODY_MAX)
+auth_of-fits creds.None can fits = (omega arith, omega arith)
+auth_of-fits (creds.Sys stamp machine uid gid gids) can fits = (omega arith, length-sys stamp machine uid gid gids can.0 can.1)
+auth_of-fits (creds.Other flavor) can fits = (fits, omega arith)
+
+nothing_reads : whole (sys_at (standing 0 [])) ≡ None
+unfolding sys_at unsigned_at
+nothing_reads = refl
+
+-- the credential that is written is read again
+pub cred_written : (cred : Cred) → CanWriteCred cred → CredFits cred → cred_of (auth_of cred) ≡ cred
+unfolding cred_of
+cred_written creds.None can fits = refl
+cred_written (creds.Sys stamp machine uid gid gids) can fits =
+    let items = sys_items stamp machine uid gid gids in
+    let r : ReadsSys stamp machine uid gid gids (spellings items) = record { items = spellings_read items fits; machine_within = can.0; gids_within = can.1 } in
+    rw (body_again stamp machine uid gid gids (spellings items) r) refl
+cred_written (creds.Other flavor) can fits =
+    let named : eqb flavor AUTH_NONE ≡ false = ne_eqb flavor AUTH_NONE can in
+    elim (eqb_tells flavor AUTH_SYS) [
+      | inl sys ↦ rw (named, sys.0, nothing_reads) refl
+      | inr other ↦ rw (named, other.0) refl
     ]

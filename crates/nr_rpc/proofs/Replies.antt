@@ -4,18 +4,19 @@ use Rattle.std.specs.Prelude.{IfOk}
 use Rattle.std.proofs.lemmas.Bool.{eqb-true, eqb-false, ne_eqb}
 use Rattle.nr_xdr.specs.Item.{Item, IsBytes}
 use Rattle.nr_xdr.specs.Item.Item.{Unsigned, Opaque}
+use Rattle.nr_xdr.specs.Items.{ReadEach, FitEach}
 use Rattle.nr_xdr.specs.Reading.{Cursor, Takes}
-use Rattle.nr_xdr.proofs.Chains.{TakesEach, standing, each_takes, each_between}
+use Rattle.nr_xdr.proofs.Chains.{TakesEach, standing, each_takes, each_between, spellings_read}
 use Rattle.nr_rpc.specs.declared.limits.TheConstants.{AUTH_BODY_MAX, REPLY, MSG_ACCEPTED, MSG_DENIED, PROG_MISMATCH, RPC_MISMATCH, AUTH_ERROR}
 use Rattle.nr_rpc.specs.declared.fault.HeadFault.{HeadFault}
 use Rattle.nr_rpc.specs.declared.fault.HeadFault.TheVariants as faults
 use Rattle.nr_rpc.specs.declared.head.ReplyHead.{ReplyHead}
 use Rattle.nr_rpc.specs.declared.head.ReplyHead.TheVariants as replies
 use Rattle.nr_rpc.specs.Credential.{Auth, no_verifier}
-use Rattle.nr_rpc.specs.Reply.{reply_items, versions_items, IsAccepted, ReadsReply, BeginsReply}
+use Rattle.nr_rpc.specs.Reply.{reply_items, versions_items, IsAccepted, ReadsReply, BeginsReply, CanWriteReply, ReplyFits, reply_head, reply_spelling, reply_again}
 use Rattle.nr_rpc.specs.Reading.{◌>>=◌, number_at, this_at, auth_at, versions_at, accepted_at, denied_at, reply_at, head_of, reply_of, GivesReply}
 use Rattle.nr_rpc.proofs.Steps.{bind_ok, chosen, done, ok_is, number_step, number_again, this_step, this_again, auth_step, auth_again, TakesAuth}
-use Rattle.nr_rpc.proofs.Calls.{head_ok}
+use Rattle.nr_rpc.proofs.Calls.{head_ok, one_answer}
 
 -- a reply head that was read
 pub record TakesReply (head : ReplyHead) (c after : Cursor) : Type 0 where
@@ -163,15 +164,60 @@ reply_begins bytes head fits e =
     let place : h.0.place ≡ length b.bytes = omega (arith, b.place) in
     (b.bytes, h.0.rest, record { verifier = t.verifier; body = t.within; items = b.reads; accepted = subst (λ (n : ℕ). IsAccepted head n) place t.accepted }, b.rest)
 
+-- bytes that read as the head are taken as it
+reads_reply : (head : ReplyHead) (bytes front behind : List ℕ) → ReadsReply head front → bytes ≡ front ++ behind
+    → TakesReply head (standing 0 bytes) (standing (0 + length front) behind)
+reads_reply head bytes front behind reads parts =
+    let place : length front ≡ 0 + length front = omega arith in record {
+      verifier = reads.verifier;
+      within = reads.body;
+      each = each_takes (reply_items head reads.verifier) front behind (standing 0 bytes) reads.items parts;
+      accepted = subst (λ (n : ℕ). IsAccepted head n) place reads.accepted;
+    }
+
 -- the head that stands at the front is read
 pub begins_reply : (bytes : List ℕ) (head : ReplyHead) → BeginsReply head bytes → reply_of bytes ≡ Ok head
 unfolding reply_of
 begins_reply bytes head (front, behind, reads, parts) =
-    let each = each_takes (reply_items head reads.verifier) front behind (standing 0 bytes) reads.items parts in
-    let place : length front ≡ 0 + length front = omega arith in
-    let t : TakesReply head (standing 0 bytes) (standing (0 + length front) behind) =
-    record { verifier = reads.verifier; within = reads.body; each = each; accepted = subst (λ (n : ℕ). IsAccepted head n) place reads.accepted } in
-    ap head_of (reply_found head (standing 0 bytes) (standing (0 + length front) behind) t)
+    ap head_of (reply_found head (standing 0 bytes) (standing (0 + length front) behind) (reads_reply head bytes front behind reads parts))
+
+-- two heads at one place are one
+pub one_reply : (a b : ReplyHead) (x y more others : List ℕ) → ReadsReply a x → ReadsReply b y → x ++ more ≡ y ++ others → (a ≡ b) × (more ≡ others)
+one_reply a b x y more others reads_a reads_b e =
+    let c = standing 0 (x ++ more) in
+    let first = reply_found a c (standing (0 + length x) more) (reads_reply a (x ++ more) x more reads_a refl) in
+    let second = reply_found b c (standing (0 + length y) others) (reads_reply b (x ++ more) y others reads_b e) in
+    one_answer a b (standing (0 + length x) more) (standing (0 + length y) others) (reply_at c) first second
+
+reply_items-fit : (head : ReplyHead) → ReplyFits head → FitEach (reply_items head no_verifier)
+reply_items-fit (replies.Accepted xid stat results_at) fits = (fits.0, (omega arith, (omega arith, (omega arith, (omega arith, (fits.1, tt))))))
+reply_items-fit (replies.ProgMismatch xid low high) fits = (fits.0, (omega arith, (omega arith, (omega arith, (omega arith, (omega arith, (fits.1, (fits.2, tt))))))))
+reply_items-fit (replies.RpcMismatch xid low high) fits = (fits.0, (omega arith, (omega arith, (omega arith, (fits.1, (fits.2, tt))))))
+reply_items-fit (replies.AuthError xid stat) fits = (fits.0, (omega arith, (omega arith, (omega arith, (fits.1, tt)))))
+
+again_items : (head : ReplyHead) → reply_items (reply_again head) no_verifier ≡ reply_items head no_verifier
+again_items (replies.Accepted xid stat results_at) = refl
+again_items (replies.ProgMismatch xid low high) = refl
+again_items (replies.RpcMismatch xid low high) = refl
+again_items (replies.AuthError xid stat) = refl
+
+again_accepted : (head : ReplyHead) → CanWriteReply head → IsAccepted (reply_again head) (length (reply_head head))
+again_accepted (replies.Accepted xid stat results_at) can = (can, refl)
+again_accepted (replies.ProgMismatch xid low high) can = tt
+again_accepted (replies.RpcMismatch xid low high) can = tt
+again_accepted (replies.AuthError xid stat) can = tt
+
+-- what is written of a head is read again
+pub reply_written : (head : ReplyHead) (results : List ℕ) → CanWriteReply head → ReplyFits head → reply_of (reply_spelling head results) ≡ Ok (reply_again head)
+reply_written head results can fits =
+    let items = reply_items head no_verifier in
+    let reads : ReadsReply (reply_again head) (reply_head head) = record {
+      verifier = no_verifier;
+      body = omega arith;
+      items = subst (λ (is : List Item). ReadEach is (reply_head head)) (sym (again_items head)) (spellings_read items (reply_items-fit head fits));
+      accepted = again_accepted head can;
+    } in
+    begins_reply (reply_spelling head results) (reply_again head) (reply_head head, results, reads, refl)
 
 pub reply_is_found : (bytes : List ℕ) (r : Result ReplyHead HeadFault) → IsBytes bytes → GivesReply r (reply_of bytes) → IfOk r (λ head. BeginsReply head bytes)
 reply_is_found bytes (Ok head) fits given = reply_begins bytes head fits given

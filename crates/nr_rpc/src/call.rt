@@ -2,15 +2,16 @@
 
 ghost use Rattle.std.specs.Prelude.{◌≡◌, ℕ, List, ◌++◌, ◌^◌, ◌<◌, length, Ok, Err, IfOk, IfErr};
 ghost use Rattle.nr_xdr.specs.Item.{IsBytes};
-ghost use Rattle.nr_rpc.specs.Call.{ReadsCall, BeginsCall, CanWriteCall, call_spelling};
+ghost use Rattle.nr_rpc.specs.Call.{ReadsCall, BeginsCall, CanWriteCall, call_head, call_spelling};
 ghost use Rattle.nr_rpc.specs.Reading.{Answers, Finds, GivesCall, call_at, call_of, version2_at, start_view, target_of};
 
 use crate::fault::{HeadFault, Misfit};
 use crate::head::{CallHead, CallTarget};
 use crate::item::{RawAuth, auth, number, this};
 use crate::limits::{CALL, RPC_VERSION};
+use crate::put::{put_cred, put_no_verifier, put_numbers};
 use crate::sys::cred_from;
-use nr_xdr::Reader;
+use nr_xdr::{Memory, Octets, Reader, Writer};
 use std::alloc::Global;
 
 /// A call head whose credential isn't read yet.
@@ -136,4 +137,42 @@ pub fn call_target(bytes: &[u8]) -> Option<CallTarget>
         }),
         _ => None,
     }
+}
+
+/// A head alone.
+fn call_octets(alloc: Global, head: &CallHead) -> Result<Octets, Memory>
+    requires { CanWriteCall head.now }
+    ensures { IfOk result (λ o. o ≡ call_head head.now) }
+{
+    let mut writer = Writer::new(alloc);
+    match head {
+        CallHead::Version2 {
+            xid,
+            prog,
+            vers,
+            proc,
+            cred,
+            ..
+        } => {
+            put_numbers(&mut writer, &[*xid, CALL, RPC_VERSION, *prog, *vers, *proc])?;
+            put_cred(alloc, &mut writer, cred)?;
+            put_no_verifier(&mut writer)?;
+        }
+        CallHead::Other { xid, rpcvers } => {
+            put_numbers(&mut writer, &[*xid, CALL, *rpcvers])?;
+        }
+    }
+    Ok(writer.finish())
+}
+
+/// The one spelling of a call's head, and these arguments behind it: the verifier is AUTH_NONE, and so is the body of
+/// another credential than AUTH_SYS. `args_at` isn't looked at. Only `Memory` can be wanting.
+pub fn write_call(alloc: Global, head: &CallHead, args: &[u8]) -> Result<Octets, HeadFault>
+    requires { CanWriteCall head.now }
+    ensures ok { IfOk result (λ o. o ≡ call_spelling head.now args.now) }
+    ensures memory { IfErr result (λ e. e ≡ HeadFault.Memory) }
+{
+    let mut octets = call_octets(alloc, head)?;
+    octets.extend_from_slice(args)?;
+    Ok(octets)
 }

@@ -2,14 +2,16 @@
 
 ghost use Rattle.std.specs.Prelude.{◌≡◌, ℕ, List, ◌++◌, ◌^◌, ◌<◌, length, Ok, Err, IfOk, IfErr};
 ghost use Rattle.nr_xdr.specs.Item.{IsBytes};
-ghost use Rattle.nr_rpc.specs.Reply.{ReadsReply, BeginsReply, CanWriteReply, reply_spelling};
+ghost use Rattle.nr_rpc.specs.Reply.{ReadsReply, BeginsReply, CanWriteReply, reply_head, reply_spelling};
 ghost use Rattle.nr_rpc.specs.Reading.{Answers, Finds, GivesReply, reply_at, reply_of, accepted_at, denied_at};
 
 use crate::fault::{HeadFault, Misfit};
 use crate::head::ReplyHead;
 use crate::item::{auth, number, this};
 use crate::limits::{AUTH_ERROR, MSG_ACCEPTED, MSG_DENIED, PROG_MISMATCH, REPLY, RPC_MISMATCH};
-use nr_xdr::Reader;
+use crate::put::{put_no_verifier, put_numbers};
+use nr_xdr::{Memory, Octets, Reader, Writer};
+use std::alloc::Global;
 
 /// The reply to a call that was accepted, from the verifier on.
 #[tactic(auto, unfolding(crate::specs::Reading::accepted_at, crate::specs::Reading::versions_at))]
@@ -87,4 +89,43 @@ pub fn read_reply(bytes: &[u8]) -> Result<ReplyHead, HeadFault>
     ensures exact { GivesReply result (reply_of bytes.now) }
 {
     whole_reply(bytes)
+}
+
+/// A head alone.
+fn reply_octets(alloc: Global, head: &ReplyHead) -> Result<Octets, Memory>
+    ensures { IfOk result (λ o. o ≡ reply_head head.now) }
+{
+    let mut writer = Writer::new(alloc);
+    match head {
+        ReplyHead::Accepted { xid, stat, .. } => {
+            put_numbers(&mut writer, &[*xid, REPLY, MSG_ACCEPTED])?;
+            put_no_verifier(&mut writer)?;
+            put_numbers(&mut writer, &[*stat])?;
+        }
+        ReplyHead::ProgMismatch { xid, low, high } => {
+            put_numbers(&mut writer, &[*xid, REPLY, MSG_ACCEPTED])?;
+            put_no_verifier(&mut writer)?;
+            put_numbers(&mut writer, &[PROG_MISMATCH, *low, *high])?;
+        }
+        ReplyHead::RpcMismatch { xid, low, high } => {
+            let numbers = [*xid, REPLY, MSG_DENIED, RPC_MISMATCH, *low, *high];
+            put_numbers(&mut writer, &numbers)?;
+        }
+        ReplyHead::AuthError { xid, stat } => {
+            put_numbers(&mut writer, &[*xid, REPLY, MSG_DENIED, AUTH_ERROR, *stat])?;
+        }
+    }
+    Ok(writer.finish())
+}
+
+/// The one spelling of a reply's head, and these results behind it: the verifier is AUTH_NONE. `results_at` isn't looked
+/// at. Only `Memory` can be wanting.
+pub fn write_reply(alloc: Global, head: &ReplyHead, results: &[u8]) -> Result<Octets, HeadFault>
+    requires { CanWriteReply head.now }
+    ensures ok { IfOk result (λ o. o ≡ reply_spelling head.now results.now) }
+    ensures memory { IfErr result (λ e. e ≡ HeadFault.Memory) }
+{
+    let mut octets = reply_octets(alloc, head)?;
+    octets.extend_from_slice(results)?;
+    Ok(octets)
 }
