@@ -15,8 +15,10 @@ use Rattle.nr_rpc.specs.declared.head.CallHead.{CallHead}
 use Rattle.nr_rpc.specs.declared.head.CallHead.TheVariants as calls
 use Rattle.nr_rpc.specs.Credential.{Auth, auth_items, auth_of, no_verifier, ReadsCred, CanWriteCred, CredFits}
 use Rattle.nr_rpc.specs.Call.{version2_items, other_items, ReadsCall, BeginsCall, CanWriteCall, CallFits, call_head, call_spelling, call_again}
-use Rattle.nr_rpc.specs.Reading.{◌>>=◌, number_at, this_at, auth_at, cred_of, version2_at, call_at, head_of, call_of, GivesCall}
-use Rattle.nr_rpc.proofs.Steps.{bind_ok, chosen, done, ok_is, number_step, number_again, this_step, this_again, auth_step, auth_again, TakesAuth}
+use Rattle.nr_xdr.specs.Steps.{◌>>=◌, number_at}
+use Rattle.nr_rpc.specs.Reading.{this_at, auth_at, cred_of, version2_at, call_at, head_of, call_of, GivesCall}
+use Rattle.nr_xdr.proofs.Steps.{bind_ok, chosen, done, ok_is, number_step, number_again}
+use Rattle.nr_rpc.proofs.Steps.{this_step, this_again, auth_step, auth_again, TakesAuth}
 use Rattle.nr_rpc.proofs.Credentials.{cred_takes, cred_again, cred_written, auth_of-fits}
 
 -- a call head that was read

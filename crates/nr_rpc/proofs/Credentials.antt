@@ -14,8 +14,9 @@ use Rattle.nr_rpc.specs.declared.limits.TheConstants.{AUTH_BODY_MAX, MACHINE_MAX
 use Rattle.nr_rpc.specs.declared.cred.Cred.{Cred}
 use Rattle.nr_rpc.specs.declared.cred.Cred.TheVariants as creds
 use Rattle.nr_rpc.specs.Credential.{Auth, auth_of, sys_items, ReadsSys, ReadsCred, CanWriteCred, CredFits}
-use Rattle.nr_rpc.specs.Reading.{◌>>=◌, placed, number_at, numbers_at, gids_at, sys_at, whole, cred_of}
-use Rattle.nr_rpc.proofs.Steps.{bind_ok, chosen, done, ok_is, number_step, number_again, opaque_step, placed_again}
+use Rattle.nr_xdr.specs.Steps.{◌>>=◌, placed, number_at}
+use Rattle.nr_rpc.specs.Reading.{numbers_at, gids_at, sys_at, whole, cred_of}
+use Rattle.nr_xdr.proofs.Steps.{bind_ok, chosen, done, ok_is, number_step, number_again, opaque_step, opaque_placed}
 use Rattle.nr_rpc.proofs.Loop.{numbers_take, numbers_again}
 
 -- further groups that were read
@@ -90,7 +91,7 @@ unfolding sys_at
 sys_again stamp machine uid gid gids c after t =
     let (a, at_stamp, (b, at_machine, (d, at_uid, (f, at_gid, (g, at_count, at_gids))))) = t.each in
     let group : TakesGids gids f after = record { behind_count = g; count = at_count; each = at_gids; within = t.gids_within } in
-    rw (number_again c stamp a at_stamp, placed_again MACHINE_MAX a machine b t.machine_within at_machine, number_again b uid d at_uid, number_again d gid f at_gid, gids_again gids f after group) refl
+    rw (number_again c stamp a at_stamp, opaque_placed MACHINE_MAX a machine b t.machine_within at_machine, number_again b uid d at_uid, number_again d gid f at_gid, gids_again gids f after group) refl
 
 -- a body reads as AUTH_SYS exactly where it is taken so to its end
 taken_reads : (stamp : ℕ) (machine : List ℕ) (uid gid : ℕ) (gids body : List ℕ) (after : Cursor) → TakesSys stamp machine uid gid gids (standing 0 body) after → after.rest ≡ []

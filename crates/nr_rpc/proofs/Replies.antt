@@ -14,8 +14,10 @@ use Rattle.nr_rpc.specs.declared.head.ReplyHead.{ReplyHead}
 use Rattle.nr_rpc.specs.declared.head.ReplyHead.TheVariants as replies
 use Rattle.nr_rpc.specs.Credential.{Auth, no_verifier}
 use Rattle.nr_rpc.specs.Reply.{reply_items, versions_items, IsAccepted, ReadsReply, BeginsReply, CanWriteReply, ReplyFits, reply_head, reply_spelling, reply_again}
-use Rattle.nr_rpc.specs.Reading.{◌>>=◌, number_at, this_at, auth_at, versions_at, accepted_at, denied_at, reply_at, head_of, reply_of, GivesReply}
-use Rattle.nr_rpc.proofs.Steps.{bind_ok, chosen, done, ok_is, number_step, number_again, this_step, this_again, auth_step, auth_again, TakesAuth}
+use Rattle.nr_xdr.specs.Steps.{◌>>=◌, number_at}
+use Rattle.nr_rpc.specs.Reading.{this_at, auth_at, versions_at, accepted_at, denied_at, reply_at, head_of, reply_of, GivesReply}
+use Rattle.nr_xdr.proofs.Steps.{bind_ok, chosen, done, ok_is, number_step, number_again}
+use Rattle.nr_rpc.proofs.Steps.{this_step, this_again, auth_step, auth_again, TakesAuth}
 use Rattle.nr_rpc.proofs.Calls.{head_ok, one_answer}
 
 -- a reply head that was read

@@ -1,57 +1,15 @@
 -- The steps of a reading: what a step that didn't fail took.
 use Rattle.std.proofs.Common.{◌≡◌, ◌≢◌, ℕ, ◌+◌, ◌<◌, ◌≤◌, Bool, true, false, cond, eqb, List, [], ◌∷◌, ◌++◌, length, Result, Ok, Err, refl, sym, ap, subst, ◌∙◌, arith, inl, inr, ◌⊎◌}
 use Rattle.std.proofs.lemmas.Bool.{eqb-true}
-use Rattle.nr_xdr.specs.declared.fault.ItemFault.{ItemFault}
 use Rattle.nr_xdr.specs.Item.{Item, IsBytes}
 use Rattle.nr_xdr.specs.Item.Item.{Unsigned, Opaque}
-use Rattle.nr_xdr.specs.Reading.{Cursor, Takes, unsigned_at, opaque_at, place_of}
-use Rattle.nr_xdr.proofs.Items.{unsigned_takes, unsigned_again, opaque_takes, opaque_again}
+use Rattle.nr_xdr.specs.Reading.{Cursor, Takes, opaque_at}
 use Rattle.nr_xdr.proofs.Chains.{TakesEach, IsBytes-behind, IsBytes-opaque}
 use Rattle.nr_rpc.specs.declared.limits.TheConstants.{AUTH_BODY_MAX}
 use Rattle.nr_rpc.specs.Credential.{Auth, auth_items}
-use Rattle.nr_rpc.specs.Reading.{◌>>=◌, placed, number_at, this_at, auth_at}
-
--- the value of a step that did not fail
-pub bind_ok : {A B : Type 0} (r : Result A ℕ) (f : A → Result B ℕ) (y : B) → (r >>= f) ≡ Ok y → (x : A) × (r ≡ Ok x) × (f x ≡ Ok y)
-bind_ok (Ok x) f y e = (x, refl, e)
-bind_ok (Err at) f y e = absurd cc
-
-abbrev pub done : {A : Type 0} → A → Result A ℕ
-done x = Ok x
-
-pub ok_is : {A : Type 0} (x y : A) → done x ≡ done y → x ≡ y
-ok_is x y e = cc
-
-placed_ok : {A : Type 0} (r : Result A ItemFault) (x : A) → placed r ≡ Ok x → r ≡ Ok x
-placed_ok (Ok y) x e = ap Ok (ok_is y x e)
-placed_ok (Err fault) x e = absurd cc
-
--- which way a choice went
-pub chosen : {A : Type 0} (b : Bool) (x y z : A) → cond b x y ≡ z → ((b ≡ true) × (x ≡ z)) ⊎ ((b ≡ false) × (y ≡ z))
-chosen true x y z e = inl (refl, e)
-chosen false x y z e = inr (refl, e)
-
--- a number that was read, and what follows
-pub number_step : {B : Type 0} (c : Cursor) (f : ℕ × Cursor → Result B ℕ) (y : B) → IsBytes c.rest → (number_at c >>= f) ≡ Ok y
-    → (x : ℕ × Cursor) × Takes c x.1 (Unsigned x.0) × IsBytes x.1.rest × (f x ≡ Ok y)
-number_step c f y fits e =
-    let a = bind_ok (number_at c) f y e in
-    let taken = unsigned_takes c a.0.0 a.0.1 fits (placed_ok (unsigned_at c) a.0 a.1) in
-    (a.0, taken, IsBytes-behind c a.0.1 (Unsigned a.0.0) taken fits, a.2)
-
-pub number_again : (c : Cursor) (n : ℕ) (after : Cursor) → Takes c after (Unsigned n) → number_at c ≡ Ok (n, after)
-number_again c n after taken = ap placed (unsigned_again c n after taken)
-
--- opaque data that was read, and what follows
-pub opaque_step : {B : Type 0} (max : ℕ) (c : Cursor) (f : List ℕ × Cursor → Result B ℕ) (y : B) → IsBytes c.rest → (placed (opaque_at max c) >>= f) ≡ Ok y
-    → (x : List ℕ × Cursor) × Takes c x.1 (Opaque x.0) × (length x.0 ≤ max) × IsBytes x.1.rest × (f x ≡ Ok y)
-opaque_step max c f y fits e =
-    let a = bind_ok (placed (opaque_at max c)) f y e in
-    let taken = opaque_takes c max a.0.0 a.0.1 fits (placed_ok (opaque_at max c) a.0 a.1) in
-    (a.0, taken.0, taken.1, IsBytes-behind c a.0.1 (Opaque a.0.0) taken.0 fits, a.2)
-
-pub placed_again : (max : ℕ) (c : Cursor) (bytes : List ℕ) (after : Cursor) → length bytes ≤ max → Takes c after (Opaque bytes) → placed (opaque_at max c) ≡ Ok (bytes, after)
-placed_again max c bytes after le taken = ap placed (opaque_again c max bytes after le taken)
+use Rattle.nr_xdr.specs.Steps.{◌>>=◌, placed, number_at}
+use Rattle.nr_xdr.proofs.Steps.{bind_ok, chosen, done, ok_is, number_step, number_again, opaque_step, opaque_placed}
+use Rattle.nr_rpc.specs.Reading.{this_at, auth_at}
 
 this_ok : (wanted n : ℕ) (c d after : Cursor) → cond (eqb n wanted) (Ok d) (Err c.place) ≡ done after → (n ≡ wanted) × (d ≡ after)
 this_ok wanted n c d after e =
@@ -106,4 +64,4 @@ auth_step c f y fits e =
 
 pub auth_again : (auth : Auth) (c after : Cursor) → TakesAuth auth c after → auth_at c ≡ Ok (auth, after)
 unfolding auth_at
-auth_again auth c after t = rw (number_again c auth.flavor t.behind_flavor t.flavor, placed_again AUTH_BODY_MAX t.behind_flavor auth.body after t.within t.body) refl
+auth_again auth c after t = rw (number_again c auth.flavor t.behind_flavor t.flavor, opaque_placed AUTH_BODY_MAX t.behind_flavor auth.body after t.within t.body) refl

@@ -1,7 +1,7 @@
 -- What is read at a cursor, or the place of the first item that fails.
 use Rattle.std.specs.Prelude.{◌≡◌, ℕ, zero, suc, List, [], ◌∷◌, length, Option, Some, None, unwrap_or, Result, Ok, Err, nat_lt, ◌==◌, if◌then◌else◌}
-use Rattle.nr_xdr.specs.declared.fault.ItemFault.{ItemFault}
-use Rattle.nr_xdr.specs.Reading.{Cursor, unsigned_at, opaque_at, place_of}
+use Rattle.nr_xdr.specs.Reading.{Cursor, opaque_at}
+use Rattle.nr_xdr.specs.Steps.{◌>>=◌, placed, number_at}
 use Rattle.nr_rpc.specs.declared.limits.TheConstants.{AUTH_BODY_MAX, MACHINE_MAX, GIDS_MAX, RPC_VERSION, CALL, REPLY, MSG_ACCEPTED, MSG_DENIED, PROG_MISMATCH, RPC_MISMATCH, AUTH_ERROR, AUTH_NONE, AUTH_SYS}
 use Rattle.nr_rpc.specs.declared.fault.HeadFault.{HeadFault}
 use Rattle.nr_rpc.specs.declared.fault.HeadFault.TheVariants as faults
@@ -18,19 +18,6 @@ use Rattle.nr_rpc.specs.declared.call.CallStart.{CallStart}
 use Rattle.nr_rpc.specs.declared.call.CallStart.TheVariants as starts
 use Rattle.nr_rpc.specs.declared.head.CallTarget.{CallTarget}
 use Rattle.nr_rpc.specs.Credential.{Auth}
-
-infixl 10 ◌>>=◌
-abbrev pub ◌>>=◌ : {A B : Type 0} → Result A ℕ → (A → Result B ℕ) → Result B ℕ
-(Ok x) >>= f = f x
-(Err at) >>= f = Err at
-
--- an item, or the place at which it fails
-abbrev pub placed : {A : Type 0} → Result A ItemFault → Result A ℕ
-placed (Ok x) = Ok x
-placed (Err e) = Err (place_of e)
-
-abbrev pub number_at : Cursor → Result (ℕ × Cursor) ℕ
-number_at c = placed (unsigned_at c)
 
 -- this number and no other; a word of another value fails where it stands
 unfoldable pub this_at : ℕ → Cursor → Result Cursor ℕ

@@ -1,7 +1,8 @@
 //! The items of heads, each read or refused with its place.
 
 ghost use Rattle.std.specs.Prelude.{◌≡◌, ◌^◌, ◌<◌, length};
-ghost use Rattle.nr_rpc.specs.Reading.{Answers, Goes, number_at, this_at, auth_at, auth_view};
+ghost use Rattle.nr_xdr.specs.Steps.{number_at};
+ghost use Rattle.nr_rpc.specs.Reading.{Answers, Goes, this_at, auth_at, auth_view};
 
 use crate::fault::Misfit;
 use crate::limits::AUTH_BODY_MAX;
