@@ -1,0 +1,11 @@
+//! The transport header of RPC-over-RDMA version 1 (RFC 8166 section 4), read and written exactly.
+#![tactic(auto)]
+
+mod fault;
+mod few;
+mod header;
+mod limits;
+
+pub use fault::HeaderFault;
+pub use few::Few;
+pub use header::{Body, Chunk, ChunkLists, Header, ReadList, ReadSegment, Segment, WriteList};
