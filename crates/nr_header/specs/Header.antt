@@ -69,3 +69,7 @@ BodyFits (ErrChunk version) = Unit {0}
 
 abbrev pub CanWriteHeader : Header → Type 0
 CanWriteHeader h = BodyFits h.body
+
+-- the numbers of a header are words, its offsets hyper integers
+abbrev pub HeaderFits : Header → Type 0
+HeaderFits h = FitEach (body_items h.xid h.credit h.body)

@@ -34,20 +34,29 @@ can_stand zero_allowed seen position = if position == 0 then zero_allowed else (
 abbrev pub seen_with : ℕ → ℕ → ℕ
 seen_with seen position = if position == 0 then seen else position
 
+-- what follows the word 1 of a read list's entry; an entry at fault fails at the place of that word
+unfoldable pub entry_at : ℕ → Bool → ℕ → Cursor → Result (ReadSegment × Cursor) ℕ
+entry_at place zero_allowed seen c = do
+  position ← number_at c
+  if can_stand zero_allowed seen position.0 then (segment_at place position.1 >>= λ segment. Ok (record { position = position.0; handle = segment.0.handle; length = segment.0.length; offset = segment.0.offset }, segment.1)) else Err place
+
+-- the word 0 that ends a list; an entry more than the limit fails at its word
+unfoldable pub end_at : Cursor → Result Cursor ℕ
+end_at c = do
+  more ← more_at c
+  if more.0 then Err c.place else Ok more.1
+
 -- at most so many entries of a read list
 unfoldable pub read_list_at : ℕ → Bool → ℕ → Cursor → Result (List ReadSegment × Cursor) ℕ
 read_list_at zero zero_allowed seen c = do
-  more ← more_at c
-  if more.0 then Err c.place else Ok ([], more.1)
+  end ← end_at c
+  Ok ([], end)
 read_list_at (suc room) zero_allowed seen c = do
   more ← more_at c
   if more.0 then (do
-    position ← number_at more.1
-    if can_stand zero_allowed seen position.0 then (do
-      segment ← segment_at c.place position.1
-      others ← read_list_at room zero_allowed (seen_with seen position.0) segment.1
-      Ok (record { position = position.0; handle = segment.0.handle; length = segment.0.length; offset = segment.0.offset } ∷ others.0, others.1))
-        else Err c.place)
+    entry ← entry_at c.place zero_allowed seen more.1
+    others ← read_list_at room zero_allowed (seen_with seen entry.0.position) entry.1
+    Ok (entry.0 ∷ others.0, others.1))
       else Ok ([], more.1)
 
 -- so many segments; one that ends past 2 ^ 64 fails at its handle
@@ -67,8 +76,8 @@ chunk_at max c = do
 -- at most so many chunks of a write list
 unfoldable pub write_list_at : ℕ → Cursor → Result (List (List Segment) × Cursor) ℕ
 write_list_at zero c = do
-  more ← more_at c
-  if more.0 then Err c.place else Ok ([], more.1)
+  end ← end_at c
+  Ok ([], end)
 write_list_at (suc room) c = do
   more ← more_at c
   if more.0 then (do
@@ -145,3 +154,25 @@ unfoldable pub header_of : List ℕ → Result Header HeaderFault
 header_of bytes =
     if nat_lt (length bytes) FIXED_LEN then Err Short
     else headed (word_at 0 bytes) (word_at 8 bytes) (body_by (error_by (word_at 12 bytes) bytes) (word_at 4 bytes) (word_at 12 bytes) bytes)
+
+-- why the lists fail: at this place
+abbrev pub Fails : {Y : Type 0} → HeaderFault → Result Y ℕ → Type 0
+Fails Short read = ⊥
+Fails (Version version) read = ⊥
+Fails (Kind kind) read = ⊥
+Fails (BadChunks at) read = read ≡ Err at
+
+-- A reader answered so and stands at new: as read says, seen by view.
+abbrev pub Answers : {X Y : Type 0} → (X → Y) → Result X HeaderFault → Cursor → Result (Y × Cursor) ℕ → Type 0
+Answers view (Ok x) new read = read ≡ Ok (view x, new)
+Answers view (Err fault) new read = Fails fault read
+
+-- the same of a step that gives no value
+abbrev pub Goes : Result Unit HeaderFault → Cursor → Result Cursor ℕ → Type 0
+Goes (Ok x) new read = read ≡ Ok new
+Goes (Err fault) new read = Fails fault read
+
+-- the same without a cursor
+abbrev pub Finds : {X Y : Type 0} → (X → Y) → Result X HeaderFault → Result Y ℕ → Type 0
+Finds view (Ok x) read = read ≡ Ok (view x)
+Finds view (Err fault) read = Fails fault read

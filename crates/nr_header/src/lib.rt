@@ -4,8 +4,12 @@
 mod fault;
 mod few;
 mod header;
+mod item;
 mod limits;
+mod lists;
+mod reading;
 
 pub use fault::HeaderFault;
 pub use few::Few;
 pub use header::{Body, Chunk, ChunkLists, Header, ReadList, ReadSegment, Segment, WriteList};
+pub use reading::{credit_of, read_header, xid_of};
