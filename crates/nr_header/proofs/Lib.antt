@@ -1,2 +1,5 @@
 pub mod Loop
 pub mod Faults
+pub mod Segments
+pub mod ReadLists
+pub mod Messages

@@ -7,7 +7,7 @@ use Rattle.nr_header.specs.declared.header.ChunkLists.{ChunkLists}
 use Rattle.nr_header.specs.declared.header.Body.{Body}
 use Rattle.nr_header.specs.declared.header.Body.TheVariants.{Msg, Nomsg, ErrVers, ErrChunk}
 use Rattle.nr_header.specs.declared.header.Header.{Header}
-use Rattle.nr_header.specs.Header.{header_spelling}
+use Rattle.nr_header.specs.Header.{header_spelling, HeaderFits}
 
 -- a segment's bytes are within the 2 ^ 64 of its region
 abbrev pub Ends : ℕ → ℕ → Type 0
@@ -46,5 +46,6 @@ IsWithin (ErrVers version low high) spelling bytes = bytes ≡ spelling
 IsWithin (ErrChunk version) spelling bytes = bytes ≡ spelling
 
 -- the message is this header, within the limits, and its stream
-abbrev pub IsMessage : Header → List ℕ → Type 0
-IsMessage h bytes = IsWithin h.body (header_spelling h) bytes
+pub record IsMessage (h : Header) (bytes : List ℕ) : Type 0 where
+  pub fits : HeaderFits h
+  pub within : IsWithin h.body (header_spelling h) bytes

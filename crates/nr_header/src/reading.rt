@@ -2,7 +2,6 @@
 
 ghost use Rattle.std.specs.Prelude.{◌≡◌, ℕ, ◌+◌, ◌^◌, ◌<◌, ◌≤◌, nat_lt, sum_by, length, take, drop, true, false, Ok, Err, IfOk};
 ghost use Rattle.nr_header.specs.declared.header.Header.{Header};
-ghost use Rattle.nr_header.specs.Header.{HeaderFits};
 ghost use Rattle.nr_header.specs.Limits.{read_total, IsMessage};
 ghost use Rattle.nr_header.specs.Reading.{Finds, sums_pass, msg_at, nomsg_at, word_at, error_of, error_by, version1_of, body_by, in_lists, header_of};
 
@@ -165,7 +164,7 @@ pub fn read_header(bytes: &[u8]) -> Result<Header, HeaderFault>
     // What is read is spelled so, within the limits.
     ensures found { IfOk result (λ header. IsMessage header bytes.now) }
     // What is spelled so is read.
-    ensures only { (header : Header) → HeaderFits header → IsMessage header bytes.now → result ≡ Ok header }
+    ensures only { (header : Header) → IsMessage header bytes.now → result ≡ Ok header }
     // Which fault it is, and where.
     ensures exact { result ≡ header_of bytes.now }
 {
