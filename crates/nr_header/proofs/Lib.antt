@@ -3,3 +3,4 @@ pub mod Faults
 pub mod Segments
 pub mod ReadLists
 pub mod Messages
+pub mod Written

@@ -24,11 +24,11 @@ abbrev pub Stand : Bool → ℕ → List ReadSegment → Type 0
 Stand zero_allowed seen [] = Unit {0}
 Stand zero_allowed seen (r ∷ rs) = (can_stand zero_allowed seen r.position ≡ true) × Stand zero_allowed (seen_with seen r.position) rs
 
-abbrev pub entry_items : ReadSegment → List Item → List Item
-entry_items r more = Unsigned r.position ∷ (Unsigned r.handle ∷ (Unsigned r.length ∷ (Hyper r.offset ∷ more)))
+abbrev pub place_items : ReadSegment → List Item → List Item
+place_items r more = Unsigned r.position ∷ (Unsigned r.handle ∷ (Unsigned r.length ∷ (Hyper r.offset ∷ more)))
 
 record TookEntry (zero_allowed : Bool) (seen : ℕ) (r : ReadSegment) (c d : Cursor) : Type 0 where
-  before : Before (entry_items r) c d
+  before : Before (place_items r) c d
   stands : can_stand zero_allowed seen r.position ≡ true
   ends : EntryEnds r
   fits : IsBytes d.rest
@@ -56,7 +56,7 @@ abbrev target_of : ReadSegment → Segment
 target_of r = record { handle = r.handle; length = r.length; offset = r.offset }
 
 entry_again : (place : ℕ) (zero_allowed : Bool) (seen : ℕ) (r : ReadSegment) (more : List Item) (c after : Cursor) → can_stand zero_allowed seen r.position ≡ true → EntryEnds r
-    → TakesEach (entry_items r more) c after → Again (entry_at place zero_allowed seen c) r more after
+    → TakesEach (place_items r more) c after → Again (entry_at place zero_allowed seen c) r more after
 unfolding entry_at
 entry_again place zero_allowed seen r more c after stands ends (a, at_position, others) =
     let (d, read, last) = segment_again place (target_of r) more a after ends others in

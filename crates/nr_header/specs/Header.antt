@@ -15,11 +15,14 @@ use Rattle.nr_header.specs.declared.header.Header.{Header}
 abbrev pub segment_items : Segment → List Item → List Item
 segment_items s more = Unsigned s.handle ∷ (Unsigned s.length ∷ (Hyper s.offset ∷ more))
 
--- A read list (RFC 8166 section 4.3.1): each entry follows the word 1, and the word 0 ends the list.
+-- an entry of a read list (RFC 8166 section 4.3.1), which follows the word 1
+abbrev pub entry_items : ReadSegment → List Item → List Item
+entry_items r more = Boolean true ∷ (Unsigned r.position ∷ (Unsigned r.handle ∷ (Unsigned r.length ∷ (Hyper r.offset ∷ more))))
+
+-- A read list: its entries, and the word 0 that ends it.
 abbrev pub read_items : List ReadSegment → List Item → List Item
 read_items [] more = Boolean false ∷ more
-read_items (r ∷ rs) more =
-    Boolean true ∷ (Unsigned r.position ∷ (Unsigned r.handle ∷ (Unsigned r.length ∷ (Hyper r.offset ∷ read_items rs more))))
+read_items (r ∷ rs) more = entry_items r (read_items rs more)
 
 abbrev pub segments_items : List Segment → List Item → List Item
 segments_items [] more = more

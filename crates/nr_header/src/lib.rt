@@ -8,8 +8,10 @@ mod item;
 mod limits;
 mod lists;
 mod reading;
+mod writing;
 
 pub use fault::HeaderFault;
 pub use few::Few;
 pub use header::{Body, Chunk, ChunkLists, Header, ReadList, ReadSegment, Segment, WriteList};
 pub use reading::{credit_of, read_header, xid_of};
+pub use writing::write_header;
