@@ -27,7 +27,7 @@ use Rattle.nr_header.specs.declared.header.Body.{Body}
 use Rattle.nr_header.specs.declared.header.Body.TheVariants.{Msg, Nomsg, ErrVers, ErrChunk}
 use Rattle.nr_header.specs.declared.header.Header.{Header}
 use Rattle.nr_header.specs.Header.{read_items, segments_items, chunk_items, write_items, reply_items, lists_items, fixed_items, body_items, header_spelling, HeaderFits}
-use Rattle.nr_header.specs.Limits.{Ends, SegmentsEnd, OnePosition, ListsWithin, read_total, IsWithin, IsMessage}
+use Rattle.nr_header.specs.Limits.{Ends, SegmentsEnd, OnePosition, ListsWithin, read_total, CanRead, StreamAt, IsMessage, body_again, header_again}
 use Rattle.nr_header.specs.Reading.{lists_at, sums_pass, msg_at, nomsg_at, word_at, error_of, error_by, in_lists, version1_of, body_by, headed, header_of, read_list_at, write_list_at, reply_chunk_at}
 use Rattle.nr_header.proofs.Segments.{SegmentEnds, write_list_take, write_list_again, reply_chunk_take, reply_chunk_again}
 use Rattle.nr_header.proofs.ReadLists.{EntryEnds, Stand, ZeroAllowed, position_of, stand_one, stand_apart, one_stands, read_list_take, read_list_again}
@@ -253,9 +253,6 @@ spelled_by h bytes after taken =
     let p = plain_spelled is b.bytes (plain_body h.xid h.credit h.body) b.reads in
     (record { fits = p.1; parts = b.rest ∙ ap (λ (x : List ℕ). x ++ after.rest) p.0 }, omega (arith, b.place, ap length p.0))
 
-to_its_end : (h : Header) (bytes : List ℕ) (rest : List ℕ) → Spelled h bytes rest → rest ≡ [] → bytes ≡ header_spelling h
-to_its_end h bytes rest s none = s.parts ∙ ap (λ (r : List ℕ). header_spelling h ++ r) none ∙ append-nil (header_spelling h)
-
 ended : (rest : List ℕ) → ltb 0 (length rest) ≡ false → rest ≡ []
 ended rest e = nil_from_length rest (omega (arith, ltb-false 0 (length rest) e))
 
@@ -287,8 +284,11 @@ msg_take bytes body f e =
           let made = Msg l after.place in
           let s = spelled_by (in_message bytes made) bytes after (front_items bytes VERSION MSG (lists_items l) after f t.each) in
           subst (λ (b : Body). IsMessage (in_message bytes b) bytes) (ok_is made body within.1) (record {
+            stream = after.rest;
+            parts = s.0.parts;
             fits = s.0.fits;
-            within = (after.rest, s.0.parts, s.1, t.within sums.segments, All-from_recursion (λ (r : ReadSegment). r.position ≢ 0) l.read t.zeros, sums.payload);
+            can = (t.within sums.segments, All-from_recursion (λ (r : ReadSegment). r.position ≢ 0) l.read t.zeros, sums.payload);
+            place = s.1;
           })
     ]
 
@@ -307,8 +307,11 @@ nomsg_take bytes body f e =
           let made = Nomsg l in
           let s = spelled_by (in_message bytes made) bytes after (front_items bytes VERSION NOMSG (lists_items l) after f t.each) in
           subst (λ (b : Body). IsMessage (in_message bytes b) bytes) (ok_is made body within.1) (record {
+            stream = after.rest;
+            parts = s.0.parts;
             fits = s.0.fits;
-            within = (to_its_end (in_message bytes made) bytes after.rest s.0 (ended after.rest both.1), t.within sums.segments, omega (arith, sums.payload));
+            can = (ended after.rest both.1, t.within sums.segments, omega (arith, sums.payload));
+            place = tt;
           })
     ]
 
@@ -357,7 +360,7 @@ error_take bytes body fits kind e =
           (standing 20 (drop 20 bytes), coded, (standing 24 (drop 24 bytes), word_there bytes 20 (omega arith) fits, (after, word_there bytes 24 (omega arith) fits, refl))) in
           let s = spelled_by (in_message bytes vers) bytes after (front_items bytes (word_at 4 bytes) ERROR (Unsigned ERR_VERS ∷ (Unsigned (word_at 20 bytes) ∷ (Unsigned (word_at 24 bytes) ∷ []))) after (omega arith, fits, refl, kind) taken) in
           subst (λ (b : Body). IsMessage (in_message bytes b) bytes) (some_is vers body way.1)
-          (record { fits = s.0.fits; within = to_its_end (in_message bytes vers) bytes after.rest s.0 (drop_all 28 bytes (omega arith)) })
+          (record { stream = after.rest; parts = s.0.parts; fits = s.0.fits; can = drop_all 28 bytes (omega arith); place = tt })
       | inr way ↦
           elim (chosen is_chunk (Some chunk) None (Some body) way.1) [
             | inl yes_chunk ↦
@@ -369,7 +372,7 @@ error_take bytes body fits kind e =
                 let taken : TakesEach (Unsigned ERR_CHUNK ∷ []) (standing 16 (drop 16 bytes)) after = (after, coded, refl) in
                 let s = spelled_by (in_message bytes chunk) bytes after (front_items bytes (word_at 4 bytes) ERROR (Unsigned ERR_CHUNK ∷ []) after (omega arith, fits, refl, kind) taken) in
                 subst (λ (b : Body). IsMessage (in_message bytes b) bytes) (some_is chunk body yes_chunk.1)
-                (record { fits = s.0.fits; within = to_its_end (in_message bytes chunk) bytes after.rest s.0 (drop_all 20 bytes (omega arith)) })
+                (record { stream = after.rest; parts = s.0.parts; fits = s.0.fits; can = drop_all 20 bytes (omega arith); place = tt })
             | inr neither ↦ absurd (let wrong : None ≡ some body = neither.1 in cc)
           ]
     ]
@@ -435,13 +438,17 @@ chunk_length : (xid version credit : ℕ) → length (header_spelling (header xi
 unfolding word
 chunk_length xid version credit = refl
 
+whole_is : (spelled bytes stream : List ℕ) → bytes ≡ spelled ++ stream → stream ≡ [] → bytes ≡ spelled
+whole_is spelled bytes stream parts none = parts ∙ ap (λ (r : List ℕ). spelled ++ r) none ∙ append-nil spelled
+
 pub message_is_read : (h : Header) (bytes : List ℕ) → IsMessage h bytes → header_of bytes ≡ Ok h
 unfolding body_by version1_of msg_at nomsg_at
-message_is_read h bytes m = by_body h.xid h.credit h.body bytes m.fits m.within
+message_is_read h bytes m = by_body h.xid h.credit h.body bytes m.stream m.fits m.parts m.can m.place
   where
-    by_body : (xid credit : ℕ) (body : Body) (bytes : List ℕ) → HeaderFits (header xid credit body) → IsWithin body (header_spelling (header xid credit body)) bytes
+    by_body : (xid credit : ℕ) (body : Body) (bytes stream : List ℕ) → HeaderFits (header xid credit body) → bytes ≡ header_spelling (header xid credit body) ++ stream
+        → CanRead body stream → StreamAt body (length (header_spelling (header xid credit body)))
         → header_of bytes ≡ Ok (header xid credit body)
-    by_body xid credit (Msg lists stream_at) bytes fits (stream, parts, place, within, apart, payload) =
+    by_body xid credit (Msg lists stream_at) bytes stream fits parts (within, apart, payload) place =
         let h = header xid credit (Msg lists stream_at) in
         let after = standing (0 + length (header_spelling h)) stream in
         let f = fixed_taken bytes xid VERSION credit MSG (lists_items lists) after (spelling_taken h bytes stream fits parts) in
@@ -449,34 +456,69 @@ message_is_read h bytes m = by_body h.xid h.credit h.body bytes m.fits m.within
         let at : 0 + length (header_spelling h) ≡ stream_at = omega arith in
         answer bytes xid credit (Msg lists stream_at) f.long f.xid_is f.credit_is
         (rw (f.kind_is, f.version_is, read, within_sums lists (length stream) within.write_segments payload) (ap (λ (p : ℕ). Ok (Msg lists p)) at))
-    by_body xid credit (Nomsg lists) bytes fits (parts, within, payload) =
+    by_body xid credit (Nomsg lists) bytes stream fits parts (none, within, payload) place =
         let h = header xid credit (Nomsg lists) in
         let after = standing (0 + length (header_spelling h)) [] in
-        let f = fixed_taken bytes xid VERSION credit NOMSG (lists_items lists) after (spelling_taken h bytes [] fits (parts ∙ sym (append-nil (header_spelling h)))) in
+        let whole = whole_is (header_spelling h) bytes stream parts none in
+        let f = fixed_taken bytes xid VERSION credit NOMSG (lists_items lists) after (spelling_taken h bytes [] fits (whole ∙ sym (append-nil (header_spelling h)))) in
         let read = lists_again true lists (standing 16 (drop 16 bytes)) after within tt f.behind in
         answer bytes xid credit (Nomsg lists) f.long f.xid_is f.credit_is
         (rw (f.kind_is, f.version_is, read, within_sums lists 0 within.write_segments (omega (arith, payload))) refl)
-    by_body xid credit (ErrVers version low high) bytes fits parts =
+    by_body xid credit (ErrVers version low high) bytes stream fits parts none place =
         let h = header xid credit (ErrVers version low high) in
         let after = standing (0 + length (header_spelling h)) [] in
-        let f = fixed_taken bytes xid version credit ERROR (Unsigned ERR_VERS ∷ (Unsigned low ∷ (Unsigned high ∷ []))) after (spelling_taken h bytes [] fits (parts ∙ sym (append-nil (header_spelling h)))) in
+        let whole = whole_is (header_spelling h) bytes stream parts none in
+        let f = fixed_taken bytes xid version credit ERROR (Unsigned ERR_VERS ∷ (Unsigned low ∷ (Unsigned high ∷ []))) after (spelling_taken h bytes [] fits (whole ∙ sym (append-nil (header_spelling h)))) in
         let (a, ta, (b, tb, (d, td, last))) = f.behind in
         let wa = word_taken bytes 16 a ERR_VERS ta in
         let wb = word_taken bytes 20 b low (subst (λ (x : Cursor). Takes x b (Unsigned low)) wa.2 tb) in
         let wd = word_taken bytes 24 d high (subst (λ (x : Cursor). Takes x d (Unsigned high)) wb.2 td) in
-        let len : length bytes ≡ 28 = ap length parts ∙ error_length xid version credit low high in
+        let len : length bytes ≡ 28 = ap length whole ∙ error_length xid version credit low high in
         answer bytes xid credit (ErrVers version low high) f.long f.xid_is f.credit_is
         (rw (f.kind_is, len, wa.1, f.version_is, wb.1, wd.1) refl)
-    by_body xid credit (ErrChunk version) bytes fits parts =
+    by_body xid credit (ErrChunk version) bytes stream fits parts none place =
         let h = header xid credit (ErrChunk version) in
         let after = standing (0 + length (header_spelling h)) [] in
-        let f = fixed_taken bytes xid version credit ERROR (Unsigned ERR_CHUNK ∷ []) after (spelling_taken h bytes [] fits (parts ∙ sym (append-nil (header_spelling h)))) in
+        let whole = whole_is (header_spelling h) bytes stream parts none in
+        let f = fixed_taken bytes xid version credit ERROR (Unsigned ERR_CHUNK ∷ []) after (spelling_taken h bytes [] fits (whole ∙ sym (append-nil (header_spelling h)))) in
         let (a, ta, last) = f.behind in
         let wa = word_taken bytes 16 a ERR_CHUNK ta in
-        let len : length bytes ≡ 20 = ap length parts ∙ chunk_length xid version credit in
+        let len : length bytes ≡ 20 = ap length whole ∙ chunk_length xid version credit in
         answer bytes xid credit (ErrChunk version) f.long f.xid_is f.credit_is
         (rw (f.kind_is, len, wa.1, f.version_is) refl)
 
 pub header_is_found : (bytes : List ℕ) (r : Result Header HeaderFault) → IsBytes bytes → r ≡ header_of bytes → IfOk r (λ h. IsMessage h bytes)
 header_is_found bytes (Ok h) fits is = header_take bytes h fits (sym is)
 header_is_found bytes (Err fault) fits is = tt
+
+again_spelled : (xid credit : ℕ) (body : Body) (len : ℕ) → body_items xid credit (body_again body len) ≡ body_items xid credit body
+again_spelled xid credit (Msg lists stream_at) len = refl
+again_spelled xid credit (Nomsg lists) len = refl
+again_spelled xid credit (ErrVers version low high) len = refl
+again_spelled xid credit (ErrChunk version) len = refl
+
+again_can : (body : Body) (len : ℕ) (stream : List ℕ) → CanRead body stream → CanRead (body_again body len) stream
+again_can (Msg lists stream_at) len stream can = can
+again_can (Nomsg lists) len stream can = can
+again_can (ErrVers version low high) len stream can = can
+again_can (ErrChunk version) len stream can = can
+
+again_at : (body : Body) (len at : ℕ) → len ≡ at → StreamAt (body_again body len) at
+again_at (Msg lists stream_at) len at e = e
+again_at (Nomsg lists) len at e = tt
+again_at (ErrVers version low high) len at e = tt
+again_at (ErrChunk version) len at e = tt
+
+-- what is written is read again
+pub header_written : (h : Header) (stream : List ℕ) → HeaderFits h → CanRead h.body stream → header_of (header_spelling h ++ stream) ≡ Ok (header_again h)
+header_written h stream fits can =
+    let len = length (header_spelling h) in
+    let same : body_items h.xid h.credit (body_again h.body len) ≡ body_items h.xid h.credit h.body = again_spelled h.xid h.credit h.body len in
+    let spelled : header_spelling (header_again h) ≡ header_spelling h = ap spellings same in
+    message_is_read (header_again h) (header_spelling h ++ stream) (record {
+      stream = stream;
+      parts = ap (λ (b : List ℕ). b ++ stream) (sym spelled);
+      fits = subst FitEach (sym same) fits;
+      can = again_can h.body len stream can;
+      place = again_at h.body len (length (header_spelling (header_again h))) (ap length (sym spelled));
+    })

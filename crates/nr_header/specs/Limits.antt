@@ -35,17 +35,36 @@ pub record ListsWithin (lists : ChunkLists) : Type 0 where
 abbrev pub read_total : List ReadSegment → ℕ
 read_total read = sum_by (λ r. r.length) read
 
--- A header with this body and this spelling, and nothing but the stream of RDMA_MSG behind it. A stream in the message
--- has no chunk at position 0.
-abbrev pub IsWithin : Body → List ℕ → List ℕ → Type 0
-IsWithin (Msg lists stream_at) spelling bytes =
-    (stream : List ℕ) × (bytes ≡ spelling ++ stream) × (stream_at ≡ length spelling)
-    × ListsWithin lists × All (λ r. r.position ≢ 0) lists.read × (length stream + read_total lists.read ≤ PAYLOAD_MAX)
-IsWithin (Nomsg lists) spelling bytes = (bytes ≡ spelling) × ListsWithin lists × (read_total lists.read ≤ PAYLOAD_MAX)
-IsWithin (ErrVers version low high) spelling bytes = bytes ≡ spelling
-IsWithin (ErrChunk version) spelling bytes = bytes ≡ spelling
+-- Whether a header with this body can be read with this stream behind it: RDMA_MSG has its stream there, and no chunk
+-- at position 0; nothing follows another header.
+abbrev pub CanRead : Body → List ℕ → Type 0
+CanRead (Msg lists stream_at) stream =
+    ListsWithin lists × All (λ r. r.position ≢ 0) lists.read × (length stream + read_total lists.read ≤ PAYLOAD_MAX)
+CanRead (Nomsg lists) stream = (stream ≡ []) × ListsWithin lists × (read_total lists.read ≤ PAYLOAD_MAX)
+CanRead (ErrVers version low high) stream = stream ≡ []
+CanRead (ErrChunk version) stream = stream ≡ []
+
+-- the stream begins behind a header of so many bytes
+abbrev pub StreamAt : Body → ℕ → Type 0
+StreamAt (Msg lists stream_at) len = stream_at ≡ len
+StreamAt (Nomsg lists) len = Unit {0}
+StreamAt (ErrVers version low high) len = Unit {0}
+StreamAt (ErrChunk version) len = Unit {0}
 
 -- the message is this header, within the limits, and its stream
 pub record IsMessage (h : Header) (bytes : List ℕ) : Type 0 where
+  pub stream : List ℕ
+  pub parts : bytes ≡ header_spelling h ++ stream
   pub fits : HeaderFits h
-  pub within : IsWithin h.body (header_spelling h) bytes
+  pub can : CanRead h.body stream
+  pub place : StreamAt h.body (length (header_spelling h))
+
+-- the header as it is read behind its own spelling: the stream begins there
+abbrev pub body_again : Body → ℕ → Body
+body_again (Msg lists stream_at) len = Msg lists len
+body_again (Nomsg lists) len = Nomsg lists
+body_again (ErrVers version low high) len = ErrVers version low high
+body_again (ErrChunk version) len = ErrChunk version
+
+abbrev pub header_again : Header → Header
+header_again h = record { xid = h.xid; credit = h.credit; body = body_again h.body (length (header_spelling h)) }
