@@ -1,4 +1,5 @@
 use super::*;
+use std::alloc::Global;
 use std::test::Fail;
 
 /// RDMA_MSG with no lists, xid 1, 16 credits.
@@ -57,4 +58,88 @@ fn lists(rt: HostRuntime) -> Result<(), Fail> {
         return Ok(());
     }
     Err(Fail::from("RDMA_MSG"))
+}
+
+/// The bytes of some words, and why they have no header.
+fn fault_of(alloc: Global, words: &[u32]) -> Result<Option<HeaderFault>, Fail> {
+    let mut bytes = Vec::new(alloc);
+    for word in words {
+        bytes.extend_from_slice(&word.to_be_bytes())?;
+    }
+    Ok(read_header(&bytes).err())
+}
+
+#[test]
+fn refused(rt: HostRuntime) -> Result<(), Fail> {
+    let bad = |at| Some(HeaderFault::BadChunks { at });
+    let most = u32::MAX;
+    let rows: [(&[u32], Option<HeaderFault>); 26] = [
+        (&[1, 1, 16], Some(HeaderFault::Short)),
+        (&[1, 2, 16, 0, 0, 0, 0], Some(HeaderFault::Version { version: 2 })),
+        (&[1, 2, 16, 4, 3], Some(HeaderFault::Version { version: 2 })),
+        (&[1, 1, 16, 2, 0, 0, 0], Some(HeaderFault::Kind { kind: 2 })),
+        (&[1, 1, 16, 5], Some(HeaderFault::Kind { kind: 5 })),
+        (&[1, 1, 16, 4, 2, 0], Some(HeaderFault::Kind { kind: 4 })),
+        (&[1, 1, 16, 4, 1, 1], Some(HeaderFault::Kind { kind: 4 })),
+        // Lists that run past the message, and a list word that is neither 0 nor 1.
+        (&[1, 1, 16, 0, 0, 0], bad(24)),
+        (&[1, 1, 16, 0, 1, 4, 1, 1, 0], bad(32)),
+        (&[1, 1, 16, 0, 2, 0, 0], bad(16)),
+        (&[1, 1, 16, 0, 0, 0, 2], bad(24)),
+        // Positions.
+        (&[1, 1, 16, 0, 1, 0, 1, 1, 0, 0, 0, 0, 0], bad(16)),
+        (&[1, 1, 16, 1, 1, 0, 1, 1, 0, 0, 0, 0, 0], None),
+        (&[1, 1, 16, 0, 1, 4, 1, 1, 0, 0, 1, 4, 1, 1, 0, 0, 0, 0, 0], None),
+        (&[1, 1, 16, 0, 1, 4, 1, 1, 0, 0, 1, 8, 1, 1, 0, 0, 0, 0, 0], bad(40)),
+        (&[1, 1, 16, 1, 1, 4, 1, 1, 0, 0, 1, 0, 1, 1, 0, 0, 1, 8, 1, 1, 0, 0, 0, 0, 0], bad(64)),
+        // Segments at 2^64, and past it.
+        (&[1, 1, 16, 0, 1, 4, 1, 1, most, most, 0, 0, 0], None),
+        (&[1, 1, 16, 0, 1, 4, 1, 2, most, most, 0, 0, 0], bad(16)),
+        (&[1, 1, 16, 0, 0, 1, 1, 9, 2, most, most, 0, 0], bad(28)),
+        (&[1, 1, 16, 0, 0, 0, 1, 1, 9, 2, most, most], bad(32)),
+        // Counts.
+        (&[1, 1, 16, 0, 0, 1, 17], bad(24)),
+        (&[1, 1, 16, 0, 0, 0, 1, 17], bad(28)),
+        (&[1, 1, 16, 0, 0, 1, 0, 1, 0, 1, 0, 1, 0, 0, 0], None),
+        (&[1, 1, 16, 0, 0, 1, 0, 1, 0, 1, 0, 1, 0, 1, 0, 0, 0], bad(52)),
+        // Bytes behind the lists, and read lengths.
+        (&[1, 1, 16, 1, 0, 0, 0, 7], bad(28)),
+        (&[1, 1, 16, 0, 1, 4, 1, 40957, 0, 0, 0, 0, 0, 7], bad(52)),
+    ];
+    for (words, fault) in rows {
+        assert_eq!(rt; fault_of(rt.alloc(), words)?, fault);
+    }
+    Ok(())
+}
+
+/// A message with so many read entries, and then write chunks of so many segments.
+fn many(alloc: Global, entries: u32, chunks: u32, segments: u32) -> Result<Vec<u32>, Fail> {
+    let mut words = Vec::from_slice(alloc, &[1, 1, 16, 0])?;
+    for _ in 0..entries {
+        words.extend_from_slice(&[1, 4, 1, 1, 0, 0])?;
+    }
+    words.push(0)?;
+    for _ in 0..chunks {
+        words.extend_from_slice(&[1, segments])?;
+        for _ in 0..segments {
+            words.extend_from_slice(&[1, 1, 0, 0])?;
+        }
+    }
+    words.extend_from_slice(&[0, 0])?;
+    Ok(words)
+}
+
+#[test]
+fn limits(rt: HostRuntime) -> Result<(), Fail> {
+    let rows = [
+        (16, 0, 0, None),
+        (17, 0, 0, Some(HeaderFault::BadChunks { at: 400 })),
+        (0, 2, 8, None),
+        (0, 2, 9, Some(HeaderFault::BadChunks { at: 332 })),
+    ];
+    for (entries, chunks, segments, fault) in rows {
+        let words = many(rt.alloc(), entries, chunks, segments)?;
+        assert_eq!(rt; fault_of(rt.alloc(), &words)?, fault);
+    }
+    Ok(())
 }
