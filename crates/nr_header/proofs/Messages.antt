@@ -1,9 +1,9 @@
 -- A message is read exactly where it is spelled within the limits.
-use Rattle.std.proofs.Common.{◌≡◌, ◌≢◌, ℕ, zero, suc, ◌+◌, ◌-◌, ◌^◌, ◌<◌, ◌≤◌, Bool, true, false, cond, eqb, ltb, ◌||◌, ◌&&◌, List, [], ◌∷◌, ◌++◌, length, take, drop, sum_by, All, Option, Some, None, Result, Ok, Err, refl, sym, ap, subst, ◌∙◌, arith, inl, inr, ◌⊎◌}
+use Rattle.std.proofs.Common.{◌≡◌, ◌≢◌, ℕ, ◌+◌, ◌≤◌, Bool, true, false, cond, eqb, ltb, ◌||◌, ◌&&◌, List, [], ◌∷◌, ◌++◌, length, take, drop, sum_by, All, Option, Some, None, Result, Ok, Err, refl, sym, ap, subst, ◌∙◌, arith, inl, inr, ◌⊎◌}
 use Rattle.std.specs.Prelude.{IfSome, IfOk}
 use Rattle.std.specs.List.{AllByRecursion}
-use Rattle.std.proofs.lemmas.Bool.{ltb-false, le-ltb, eqb-true, eqb-false, ne_eqb}
-use Rattle.std.proofs.lemmas.List.{append-nil, nil_from_length, length-append, length-drop, drop-drop, drop_all}
+use Rattle.std.proofs.lemmas.Bool.{ltb-false, le-ltb, eqb-true}
+use Rattle.std.proofs.lemmas.List.{append-nil, nil_from_length, length-drop, drop-drop, drop_all}
 use Rattle.std.proofs.lemmas.List.Sums.{sum_by-cons}
 use Rattle.std.proofs.lemmas.List.Elements.{All-from_recursion, All-head, All-tail}
 use Rattle.nr_xdr.specs.declared.fault.ItemFault.TheVariants as items
@@ -11,13 +11,12 @@ use Rattle.nr_xdr.specs.Item.{Item, IsBytes, Fits, Reads, padding, spelling, wor
 use Rattle.nr_xdr.specs.Item.Item.{Unsigned, Hyper, Boolean}
 use Rattle.nr_xdr.specs.Items.{ReadEach, FitEach, spellings}
 use Rattle.nr_xdr.specs.Reading.{Cursor, Takes, past, unsigned_at}
-use Rattle.nr_xdr.specs.Steps.{◌>>=◌, placed, number_at}
 use Rattle.nr_xdr.proofs.Cursors.{cursor_is, guard_ok, ok_parts}
 use Rattle.nr_xdr.proofs.Items.{unsigned_takes, unsigned_again}
-use Rattle.nr_xdr.proofs.Numbers.{IsBytes-drop, length-word}
+use Rattle.nr_xdr.proofs.Numbers.{IsBytes-drop}
 use Rattle.nr_xdr.proofs.Chains.{TakesEach, standing, each_takes, each_between, spellings_read}
 use Rattle.nr_xdr.proofs.Steps.{bind_ok, chosen, done, ok_is}
-use Rattle.nr_header.specs.declared.limits.TheConstants.{VERSION, FIXED_LEN, MSG, NOMSG, ERROR, ERR_VERS, ERR_CHUNK, READ_SEGMENTS_MAX, WRITE_CHUNKS_MAX, WRITE_SEGMENTS_MAX, REPLY_SEGMENTS_MAX, PAYLOAD_MAX}
+use Rattle.nr_header.specs.declared.limits.TheConstants.{VERSION, FIXED_LEN, MSG, NOMSG, ERROR, ERR_VERS, ERR_CHUNK, READ_SEGMENTS_MAX, WRITE_CHUNKS_MAX, WRITE_SEGMENTS_MAX, PAYLOAD_MAX}
 use Rattle.nr_header.specs.declared.fault.HeaderFault.{HeaderFault}
 use Rattle.nr_header.specs.declared.fault.HeaderFault.TheVariants as faults
 use Rattle.nr_header.specs.declared.header.Segment.{Segment}
@@ -26,8 +25,8 @@ use Rattle.nr_header.specs.declared.header.ChunkLists.{ChunkLists}
 use Rattle.nr_header.specs.declared.header.Body.{Body}
 use Rattle.nr_header.specs.declared.header.Body.TheVariants.{Msg, Nomsg, ErrVers, ErrChunk}
 use Rattle.nr_header.specs.declared.header.Header.{Header}
-use Rattle.nr_header.specs.Header.{read_items, segments_items, chunk_items, write_items, reply_items, lists_items, fixed_items, body_items, header_spelling, HeaderFits}
-use Rattle.nr_header.specs.Limits.{Ends, SegmentsEnd, OnePosition, ListsWithin, read_total, CanRead, StreamAt, IsMessage, body_again, header_again}
+use Rattle.nr_header.specs.Header.{read_items, segments_items, write_items, reply_items, lists_items, fixed_items, body_items, header_spelling, HeaderFits}
+use Rattle.nr_header.specs.Limits.{SegmentsEnd, ListsWithin, read_total, CanRead, StreamAt, IsMessage, body_again, header_again}
 use Rattle.nr_header.specs.Reading.{lists_at, sums_pass, msg_at, nomsg_at, word_at, error_of, error_by, in_lists, version1_of, body_by, headed, header_of, read_list_at, write_list_at, reply_chunk_at}
 use Rattle.nr_header.proofs.Segments.{SegmentEnds, write_list_take, write_list_again, reply_chunk_take, reply_chunk_again}
 use Rattle.nr_header.proofs.ReadLists.{EntryEnds, Stand, ZeroAllowed, position_of, stand_one, stand_apart, one_stands, read_list_take, read_list_again}

@@ -1,19 +1,18 @@
 -- Read lists are read exactly where they are spelled and their positions may stand.
-use Rattle.std.proofs.Common.{◌≡◌, ◌≢◌, ℕ, zero, suc, ◌+◌, ◌^◌, ◌<◌, ◌≤◌, Bool, true, false, cond, eqb, ltb, List, [], ◌∷◌, ◌++◌, length, Result, Ok, Err, refl, sym, ap, subst, ◌∙◌, arith, inl, inr}
+use Rattle.std.proofs.Common.{◌≡◌, ◌≢◌, ℕ, zero, suc, ◌≤◌, Bool, true, false, List, [], ◌∷◌, length, Ok, Err, refl, sym, subst, ◌∙◌, arith, inl, inr}
 use Rattle.std.specs.List.{AllByRecursion}
-use Rattle.std.proofs.lemmas.Bool.{eqb-true, eqb-false, ne_eqb}
 use Rattle.std.proofs.lemmas.Bool.Decides.{eqb_tells, nat_tests}
 use Rattle.nr_xdr.specs.Item.{Item, IsBytes}
 use Rattle.nr_xdr.specs.Item.Item.{Unsigned, Hyper, Boolean}
 use Rattle.nr_xdr.specs.Reading.{Cursor, Takes}
-use Rattle.nr_xdr.specs.Steps.{◌>>=◌, placed, number_at}
+use Rattle.nr_xdr.specs.Steps.{◌>>=◌}
 use Rattle.nr_xdr.proofs.Chains.{TakesEach}
 use Rattle.nr_xdr.proofs.Steps.{bind_ok, chosen, done, ok_is, number_step, number_again, boolean_step, boolean_placed}
 use Rattle.nr_header.specs.declared.header.Segment.{Segment}
 use Rattle.nr_header.specs.declared.header.ReadSegment.{ReadSegment}
-use Rattle.nr_header.specs.Header.{segment_items, read_items}
+use Rattle.nr_header.specs.Header.{read_items}
 use Rattle.nr_header.specs.Limits.{Ends}
-use Rattle.nr_header.specs.Reading.{can_stand, seen_with, more_at, end_at, segment_at, entry_at, read_list_at}
+use Rattle.nr_header.specs.Reading.{can_stand, seen_with, end_at, segment_at, entry_at, read_list_at}
 use Rattle.nr_header.proofs.Segments.{Before, Again, segment_take, segment_again, end_take, end_again}
 
 abbrev pub EntryEnds : ReadSegment → Type 0

@@ -1,19 +1,19 @@
 -- Segments and chunks are read exactly where they are spelled.
-use Rattle.std.proofs.Common.{◌≡◌, ℕ, zero, suc, ◌+◌, ◌^◌, ◌<◌, ◌≤◌, Bool, true, false, cond, ltb, List, [], ◌∷◌, ◌++◌, length, sum_by, Option, Some, None, Result, Ok, Err, refl, sym, ap, subst, ◌∙◌, arith, inl, inr}
+use Rattle.std.proofs.Common.{◌≡◌, ℕ, zero, suc, ◌+◌, ◌^◌, ◌≤◌, Bool, true, false, ltb, List, [], ◌∷◌, length, Option, Some, None, Result, Ok, Err, refl, sym, ap, subst, ◌∙◌, arith, inl, inr}
 use Rattle.std.specs.Prelude.{IfSome}
 use Rattle.std.specs.List.{AllByRecursion}
 use Rattle.std.proofs.lemmas.Bool.{ltb-false, le-ltb}
 use Rattle.nr_xdr.specs.Item.{Item, IsBytes}
-use Rattle.nr_xdr.specs.Item.Item.{Unsigned, Hyper, Boolean}
-use Rattle.nr_xdr.specs.Reading.{Cursor, Takes, hyper_at, boolean_at}
-use Rattle.nr_xdr.specs.Steps.{◌>>=◌, placed, number_at}
+use Rattle.nr_xdr.specs.Item.Item.{Unsigned, Boolean}
+use Rattle.nr_xdr.specs.Reading.{Cursor, Takes}
+use Rattle.nr_xdr.specs.Steps.{◌>>=◌}
 use Rattle.nr_xdr.proofs.Chains.{TakesEach}
 use Rattle.nr_xdr.proofs.Steps.{bind_ok, chosen, done, ok_is, number_step, number_again, hyper_step, hyper_placed, boolean_step, boolean_placed}
 use Rattle.nr_header.specs.declared.limits.TheConstants.{WRITE_SEGMENTS_MAX, REPLY_SEGMENTS_MAX}
 use Rattle.nr_header.specs.declared.header.Segment.{Segment}
 use Rattle.nr_header.specs.Header.{segment_items, segments_items, chunk_items, write_items, reply_items}
 use Rattle.nr_header.specs.Limits.{Ends}
-use Rattle.nr_header.specs.Reading.{more_at, end_at, segment_at, segments_at, chunk_at, write_list_at, reply_chunk_at}
+use Rattle.nr_header.specs.Reading.{end_at, segment_at, segments_at, chunk_at, write_list_at, reply_chunk_at}
 
 -- from c to d these items were taken, whatever follows
 abbrev pub Before : (List Item → List Item) → Cursor → Cursor → Type 0

@@ -1,13 +1,13 @@
 -- Lists written one element after the other: what is written and what is still to be written make the whole.
-use Rattle.std.proofs.Common.{◌≡◌, ℕ, ◌+◌, ◌<◌, ◌≤◌, Bool, true, false, List, [], ◌∷◌, ◌++◌, length, get_or, take, drop, Option, Some, None, refl, sym, ap, ◌∙◌, append_assoc, arith}
-use Rattle.std.proofs.lemmas.List.{append-nil, drop_more, drop_all}
+use Rattle.std.proofs.Common.{◌≡◌, ℕ, ◌+◌, ◌<◌, true, List, [], ◌∷◌, ◌++◌, length, get_or, drop, refl, sym, ap, ◌∙◌, append_assoc}
+use Rattle.std.proofs.lemmas.List.{drop_more}
 use Rattle.nr_xdr.specs.Item.{Item, spelling}
-use Rattle.nr_xdr.specs.Item.Item.{Unsigned, Hyper, Boolean}
+use Rattle.nr_xdr.specs.Item.Item.{Unsigned, Boolean}
 use Rattle.nr_xdr.specs.Items.{spellings}
 use Rattle.nr_header.specs.declared.header.Segment.{Segment}
 use Rattle.nr_header.specs.declared.header.ReadSegment.{ReadSegment}
 use Rattle.nr_header.specs.declared.header.ChunkLists.{ChunkLists}
-use Rattle.nr_header.specs.Header.{segment_items, entry_items, read_items, segments_items, chunk_items, write_items, reply_items, lists_items, fixed_items}
+use Rattle.nr_header.specs.Header.{segment_items, entry_items, read_items, segments_items, chunk_items, write_items, reply_items, lists_items}
 
 spellings-append : (is js : List Item) → spellings (is ++ js) ≡ spellings is ++ spellings js
 spellings-append [] js = refl

@@ -1,5 +1,5 @@
 -- Which lists of chunks are within the limits, apart from how they are spelled.
-use Rattle.std.specs.Prelude.{◌≡◌, ◌≢◌, ℕ, ◌+◌, ◌^◌, ◌<◌, ◌≤◌, List, [], ◌∷◌, ◌++◌, length, sum_by, All, Option, Some, None, IfSome}
+use Rattle.std.specs.Prelude.{◌≡◌, ◌≢◌, ℕ, ◌+◌, ◌^◌, ◌≤◌, List, [], ◌++◌, length, sum_by, All, IfSome}
 use Rattle.nr_header.specs.declared.limits.TheConstants.{READ_SEGMENTS_MAX, WRITE_CHUNKS_MAX, WRITE_SEGMENTS_MAX, REPLY_SEGMENTS_MAX, PAYLOAD_MAX}
 use Rattle.nr_header.specs.declared.header.Segment.{Segment}
 use Rattle.nr_header.specs.declared.header.ReadSegment.{ReadSegment}

@@ -1,4 +1,9 @@
 //! The transport header of RPC-over-RDMA version 1 (RFC 8166 section 4), read and written exactly.
+//!
+//! It stands on `nr_xdr`. A header begins each message: the transaction's number, the credits, and either the lists of
+//! chunks, memory that the caller offers or that the answer filled, or an error. [`read_header`] judges a message whole:
+//! its lists are within fixed limits, or it says why not and where. [`write_header`] spells any header, within the limits
+//! or not. Which chunks a call offers and what they carry is said in the crates above.
 #![tactic(auto)]
 
 mod fault;

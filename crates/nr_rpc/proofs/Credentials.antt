@@ -1,20 +1,19 @@
 -- A credential is read exactly where it is spelled.
-use Rattle.std.proofs.Common.{◌≡◌, ◌≢◌, ℕ, zero, suc, ◌+◌, ◌*◌, ◌^◌, ◌<◌, ◌≤◌, Bool, true, false, cond, eqb, ltb, List, [], ◌∷◌, ◌++◌, length, map, replicate, Option, Some, None, Result, Ok, Err, refl, sym, ap, subst, ◌∙◌, arith, inl, inr, ◌⊎◌}
+use Rattle.std.proofs.Common.{◌≡◌, ◌≢◌, ℕ, ◌+◌, ◌*◌, ◌^◌, ◌<◌, ◌≤◌, false, cond, eqb, ltb, List, [], ◌∷◌, ◌++◌, length, map, replicate, Option, Some, None, Result, Ok, Err, refl, sym, ap, subst, ◌∙◌, arith, inl, inr, ◌⊎◌}
 use Rattle.std.specs.Prelude.{unwrap_or}
 use Rattle.std.proofs.lemmas.Bool.{ltb-false, le-ltb, eqb-true, eqb-false, ne_eqb}
 use Rattle.std.proofs.lemmas.Bool.Decides.{eqb_tells}
 use Rattle.std.proofs.lemmas.List.{append-nil, nil_from_length, length-append, length-replicate}
-use Rattle.nr_xdr.specs.Item.{Item, IsBytes, word, spelling, pad_len}
+use Rattle.nr_xdr.specs.Item.{IsBytes, word, spelling, pad_len}
 use Rattle.nr_xdr.specs.Item.Item.{Unsigned, Opaque}
-use Rattle.nr_xdr.specs.Items.{ReadEach, spellings, FitEach}
-use Rattle.nr_xdr.specs.Reading.{Cursor, Takes, unsigned_at, opaque_at}
+use Rattle.nr_xdr.specs.Items.{ReadEach, spellings}
+use Rattle.nr_xdr.specs.Reading.{Cursor, Takes, unsigned_at}
 use Rattle.nr_xdr.proofs.Chains.{TakesEach, standing, each_takes, each_between, spellings_read}
 use Rattle.nr_xdr.proofs.Numbers.{length-word}
 use Rattle.nr_rpc.specs.declared.limits.TheConstants.{AUTH_BODY_MAX, MACHINE_MAX, GIDS_MAX, AUTH_NONE, AUTH_SYS}
 use Rattle.nr_rpc.specs.declared.cred.Cred.{Cred}
 use Rattle.nr_rpc.specs.declared.cred.Cred.TheVariants as creds
 use Rattle.nr_rpc.specs.Credential.{Auth, auth_of, sys_items, ReadsSys, ReadsCred, CanWriteCred, CredFits}
-use Rattle.nr_xdr.specs.Steps.{◌>>=◌, placed, number_at}
 use Rattle.nr_rpc.specs.Reading.{numbers_at, gids_at, sys_at, whole, cred_of}
 use Rattle.nr_xdr.proofs.Steps.{bind_ok, chosen, done, ok_is, number_step, number_again, opaque_step, opaque_placed}
 use Rattle.nr_rpc.proofs.Loop.{numbers_take, numbers_again}

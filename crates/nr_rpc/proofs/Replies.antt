@@ -1,9 +1,9 @@
 -- A reply head is read exactly where it stands at the front.
-use Rattle.std.proofs.Common.{◌≡◌, ◌≢◌, ℕ, ◌+◌, ◌<◌, ◌≤◌, Bool, true, false, cond, eqb, List, [], ◌∷◌, ◌++◌, length, Result, Ok, Err, refl, sym, ap, subst, ◌∙◌, arith, inl, inr}
+use Rattle.std.proofs.Common.{◌≡◌, ℕ, ◌+◌, ◌≤◌, cond, eqb, List, ◌++◌, length, Result, Ok, Err, refl, sym, ap, subst, ◌∙◌, arith, inl, inr}
 use Rattle.std.specs.Prelude.{IfOk}
 use Rattle.std.proofs.lemmas.Bool.{eqb-true, eqb-false, ne_eqb}
 use Rattle.nr_xdr.specs.Item.{Item, IsBytes}
-use Rattle.nr_xdr.specs.Item.Item.{Unsigned, Opaque}
+use Rattle.nr_xdr.specs.Item.Item.{Unsigned}
 use Rattle.nr_xdr.specs.Items.{ReadEach, FitEach}
 use Rattle.nr_xdr.specs.Reading.{Cursor, Takes}
 use Rattle.nr_xdr.proofs.Chains.{TakesEach, standing, each_takes, each_between, spellings_read}
@@ -13,10 +13,10 @@ use Rattle.nr_rpc.specs.declared.fault.HeadFault.TheVariants as faults
 use Rattle.nr_rpc.specs.declared.head.ReplyHead.{ReplyHead}
 use Rattle.nr_rpc.specs.declared.head.ReplyHead.TheVariants as replies
 use Rattle.nr_rpc.specs.Credential.{Auth, no_verifier}
-use Rattle.nr_rpc.specs.Reply.{reply_items, versions_items, IsAccepted, ReadsReply, BeginsReply, CanWriteReply, ReplyFits, reply_head, reply_spelling, reply_again}
+use Rattle.nr_rpc.specs.Reply.{reply_items, IsAccepted, ReadsReply, BeginsReply, CanWriteReply, ReplyFits, reply_head, reply_spelling, reply_again}
 use Rattle.nr_xdr.specs.Steps.{◌>>=◌, number_at}
-use Rattle.nr_rpc.specs.Reading.{this_at, auth_at, versions_at, accepted_at, denied_at, reply_at, head_of, reply_of, GivesReply}
-use Rattle.nr_xdr.proofs.Steps.{bind_ok, chosen, done, ok_is, number_step, number_again}
+use Rattle.nr_rpc.specs.Reading.{versions_at, accepted_at, denied_at, reply_at, head_of, reply_of, GivesReply}
+use Rattle.nr_xdr.proofs.Steps.{chosen, done, ok_is, number_step, number_again}
 use Rattle.nr_rpc.proofs.Steps.{this_step, this_again, auth_step, auth_again, TakesAuth}
 use Rattle.nr_rpc.proofs.Calls.{head_ok, one_answer}
 

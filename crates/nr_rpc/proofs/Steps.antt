@@ -1,13 +1,13 @@
 -- The steps of a reading: what a step that didn't fail took.
-use Rattle.std.proofs.Common.{◌≡◌, ◌≢◌, ℕ, ◌+◌, ◌<◌, ◌≤◌, Bool, true, false, cond, eqb, List, [], ◌∷◌, ◌++◌, length, Result, Ok, Err, refl, sym, ap, subst, ◌∙◌, arith, inl, inr, ◌⊎◌}
+use Rattle.std.proofs.Common.{◌≡◌, ℕ, ◌≤◌, cond, eqb, length, Result, Ok, Err, refl, subst, arith, inl, inr}
 use Rattle.std.proofs.lemmas.Bool.{eqb-true}
-use Rattle.nr_xdr.specs.Item.{Item, IsBytes}
+use Rattle.nr_xdr.specs.Item.{IsBytes}
 use Rattle.nr_xdr.specs.Item.Item.{Unsigned, Opaque}
 use Rattle.nr_xdr.specs.Reading.{Cursor, Takes, opaque_at}
-use Rattle.nr_xdr.proofs.Chains.{TakesEach, IsBytes-behind, IsBytes-opaque}
+use Rattle.nr_xdr.proofs.Chains.{IsBytes-opaque}
 use Rattle.nr_rpc.specs.declared.limits.TheConstants.{AUTH_BODY_MAX}
-use Rattle.nr_rpc.specs.Credential.{Auth, auth_items}
-use Rattle.nr_xdr.specs.Steps.{◌>>=◌, placed, number_at}
+use Rattle.nr_rpc.specs.Credential.{Auth}
+use Rattle.nr_xdr.specs.Steps.{◌>>=◌, placed}
 use Rattle.nr_xdr.proofs.Steps.{bind_ok, chosen, done, ok_is, number_step, number_again, opaque_step, opaque_placed}
 use Rattle.nr_rpc.specs.Reading.{this_at, auth_at}
 

@@ -1,4 +1,10 @@
-//! Call and reply heads of RPC version 2 (RFC 5531), read and written exactly.
+//! Call and reply heads of RPC version 2 (RFC 5531 section 9), read and written exactly.
+//!
+//! It stands on `nr_xdr`. A head is what precedes a call's arguments or a reply's results: who calls which procedure, and
+//! how the call went. [`read_call`] and [`read_reply`] take the head at the front of some bytes and tell where the rest
+//! begins; [`write_call`] and [`write_reply`] put a head before it. Verifiers, and the bodies of other credentials than
+//! AUTH_SYS, are dropped on reading and written empty. What programs, procedures and results mean is said in the crates
+//! above, which also decide how a call is answered.
 #![tactic(auto)]
 
 mod call;

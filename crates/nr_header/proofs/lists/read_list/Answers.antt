@@ -1,6 +1,5 @@
-use Rattle.std.proofs.Common.{◌≡◌, ◌+◌, length, true, false, ap, sym, ◌∙◌, arith}
+use Rattle.std.proofs.Common.{arith}
 use Rattle.std.proofs.lemmas.Result.{err_from_is_err_and}
-use Rattle.std.proofs.lemmas.List.{length_push}
 use Rattle.nr_header.specs.declared.limits.TheConstants.{READ_SEGMENTS_MAX}
 use Rattle.nr_header.specs.Reading.{read_list_at}
 use Rattle.nr_header.proofs.Loop.{entry_goes, list_stops, more_fails, entry_fails, list_ends, end_fails}

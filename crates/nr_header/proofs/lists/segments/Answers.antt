@@ -1,7 +1,5 @@
-use Rattle.std.proofs.Common.{◌≡◌, ◌+◌, length, true, false, ap, sym, ◌∙◌, arith}
+use Rattle.std.proofs.Common.{arith}
 use Rattle.std.proofs.lemmas.Result.{err_from_is_err_and}
-use Rattle.std.proofs.lemmas.List.{length_push}
-use Rattle.nr_header.specs.declared.limits.TheConstants.{WRITE_SEGMENTS_MAX}
 use Rattle.nr_header.specs.Reading.{segments_at}
 use Rattle.nr_header.proofs.Loop.{segment_goes, segment_fails, segments_end}
 use Rattle.nr_header.proofs.lists.segments.Goals as goal

@@ -1,4 +1,4 @@
-use Rattle.std.proofs.Common.{◌≡◌, ◌∙◌, arith}
+use Rattle.std.proofs.Common.{◌∙◌, arith}
 use Rattle.nr_header.proofs.Messages.{header_is_found, message_is_read}
 use Rattle.nr_header.proofs.reading.read_header.Goals as goal
 

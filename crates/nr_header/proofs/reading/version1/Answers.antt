@@ -1,4 +1,4 @@
-use Rattle.std.proofs.Common.{◌≡◌, sym, ap, ◌∙◌}
+use Rattle.std.proofs.Common.{sym, ap, ◌∙◌}
 use Rattle.nr_header.specs.Reading.{msg_at, nomsg_at, in_lists, version1_of}
 use Rattle.nr_header.proofs.Faults.{found_is}
 use Rattle.nr_header.proofs.reading.version1.Goals as goal

@@ -1,5 +1,3 @@
-use Rattle.std.proofs.Common.{◌≡◌, ap, subst, ◌∙◌}
-use Rattle.nr_header.specs.Header.{read_items, write_items}
 use Rattle.nr_header.proofs.Written.{lists_put}
 use Rattle.nr_header.proofs.writing.put_lists.Goals as goal
 

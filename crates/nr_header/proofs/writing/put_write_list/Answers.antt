@@ -1,4 +1,4 @@
-use Rattle.std.proofs.Common.{◌≡◌, ◌++◌, []}
+use Rattle.std.proofs.Common.{◌++◌, []}
 use Rattle.nr_xdr.specs.Items.{spellings}
 use Rattle.nr_header.specs.Header.{write_items}
 use Rattle.nr_header.proofs.Written.{chunk_goes}

@@ -1,4 +1,4 @@
-use Rattle.std.proofs.Common.{◌≡◌, subst, arith}
+use Rattle.std.proofs.Common.{subst, arith}
 use Rattle.nr_rpc.specs.Reading.{GivesCall}
 use Rattle.nr_rpc.proofs.Calls.{call_is_found, begins_call}
 use Rattle.nr_rpc.proofs.call.read_call.Goals as goal

@@ -1,7 +1,6 @@
-use Rattle.std.proofs.Common.{◌≡◌, ◌≤◌, List, ℕ, length, subst, sym, ◌∙◌, rules}
-use Rattle.nr_xdr.specs.Items.{spellings}
-use Rattle.nr_rpc.specs.declared.limits.TheConstants.{AUTH_BODY_MAX, MACHINE_MAX, GIDS_MAX}
-use Rattle.nr_rpc.specs.Credential.{sys_items, CanWriteCred}
+use Rattle.std.proofs.Common.{◌≤◌, List, ℕ, length, subst, sym, ◌∙◌}
+use Rattle.nr_rpc.specs.declared.limits.TheConstants.{AUTH_BODY_MAX}
+use Rattle.nr_rpc.specs.Credential.{CanWriteCred}
 use Rattle.nr_rpc.proofs.Credentials.{length-sys}
 use Rattle.nr_rpc.proofs.put.put_cred.Goals as goal
 

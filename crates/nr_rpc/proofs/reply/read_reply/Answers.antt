@@ -1,4 +1,4 @@
-use Rattle.std.proofs.Common.{◌≡◌, arith}
+use Rattle.std.proofs.Common.{arith}
 use Rattle.nr_rpc.specs.Reading.{reply_of}
 use Rattle.nr_rpc.proofs.Replies.{reply_is_found, begins_reply, reply_answered}
 use Rattle.nr_rpc.proofs.reply.read_reply.Goals as goal
