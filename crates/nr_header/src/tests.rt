@@ -73,7 +73,7 @@ fn fault_of(alloc: Global, words: &[u32]) -> Result<Option<HeaderFault>, Fail> {
 fn refused(rt: HostRuntime) -> Result<(), Fail> {
     let bad = |at| Some(HeaderFault::BadChunks { at });
     let most = u32::MAX;
-    let rows: [(&[u32], Option<HeaderFault>); 26] = [
+    let rows: [(&[u32], Option<HeaderFault>); 27] = [
         (&[1, 1, 16], Some(HeaderFault::Short)),
         (
             &[1, 2, 16, 0, 0, 0, 0],
@@ -122,6 +122,7 @@ fn refused(rt: HostRuntime) -> Result<(), Fail> {
         // Bytes behind the lists, and read lengths.
         (&[1, 1, 16, 1, 0, 0, 0, 7], bad(28)),
         (&[1, 1, 16, 0, 1, 4, 1, 40957, 0, 0, 0, 0, 0, 7], bad(52)),
+        (&[1, 1, 16, 0, 1, 4, 1, 40956, 0, 0, 0, 0, 0, 7], None),
     ];
     for (words, fault) in rows {
         assert_eq!(rt; fault_of(rt.alloc(), words)?, fault);
@@ -129,8 +130,14 @@ fn refused(rt: HostRuntime) -> Result<(), Fail> {
     Ok(())
 }
 
-/// A message with so many read entries, and then write chunks of so many segments.
-fn many(alloc: Global, entries: u32, chunks: u32, segments: u32) -> Result<Vec<u32>, Fail> {
+/// A message with so many read entries, so many write chunks of so many segments, and a reply chunk of so many segments.
+fn many(
+    alloc: Global,
+    entries: u32,
+    chunks: u32,
+    segments: u32,
+    reply: u32,
+) -> Result<Vec<u32>, Fail> {
     let mut words = Vec::from_slice(alloc, &[1, 1, 16, 0])?;
     for _ in 0..entries {
         words.extend_from_slice(&[1, 4, 1, 1, 0, 0])?;
@@ -142,20 +149,23 @@ fn many(alloc: Global, entries: u32, chunks: u32, segments: u32) -> Result<Vec<u
             words.extend_from_slice(&[1, 1, 0, 0])?;
         }
     }
-    words.extend_from_slice(&[0, 0])?;
+    words.extend_from_slice(&[0, 1, reply])?;
+    for _ in 0..reply {
+        words.extend_from_slice(&[1, 1, 0, 0])?;
+    }
     Ok(words)
 }
 
 #[test]
 fn limits(rt: HostRuntime) -> Result<(), Fail> {
     let rows = [
-        (16, 0, 0, None),
-        (17, 0, 0, Some(HeaderFault::BadChunks { at: 400 })),
-        (0, 2, 8, None),
-        (0, 2, 9, Some(HeaderFault::BadChunks { at: 332 })),
+        (16, 0, 0, 16, None),
+        (17, 0, 0, 0, Some(HeaderFault::BadChunks { at: 400 })),
+        (0, 2, 8, 0, None),
+        (0, 2, 9, 0, Some(HeaderFault::BadChunks { at: 336 })),
     ];
-    for (entries, chunks, segments, fault) in rows {
-        let words = many(rt.alloc(), entries, chunks, segments)?;
+    for (entries, chunks, segments, reply, fault) in rows {
+        let words = many(rt.alloc(), entries, chunks, segments, reply)?;
         assert_eq!(rt; fault_of(rt.alloc(), &words)?, fault);
     }
     Ok(())

@@ -206,3 +206,42 @@ fn no_replies(rt: HostRuntime) -> Result<(), Fail> {
     }
     Ok(())
 }
+
+/// A call of AUTH_SYS with a body of so many bytes, whose machine's name has so many, in 64 words, and so many further
+/// groups.
+fn sys_words(alloc: Global, body: u32, machine: u32, groups: u32) -> Result<Vec<u32>, Fail> {
+    let mut words = Vec::from_slice(alloc, &[1, 0, 2, 100_003, 3, 0, 1])?;
+    words.extend_from_slice(&[body, 0, machine])?;
+    for _ in 0..64 {
+        words.push(0)?;
+    }
+    words.extend_from_slice(&[7, 8, groups])?;
+    for _ in 0..groups {
+        words.push(9)?;
+    }
+    words.extend_from_slice(&[0, 0])?;
+    Ok(words)
+}
+
+#[test]
+fn limits(rt: HostRuntime) -> Result<(), Fail> {
+    let rows = [
+        (340, 255, 16, true),
+        (340, 256, 16, false),
+        (344, 255, 17, false),
+    ];
+    for (body, machine, groups, spelled) in rows {
+        let words = sys_words(rt.alloc(), body, machine, groups)?;
+        let bytes = bytes_of(rt.alloc(), &words)?;
+        let head = read_call(rt.alloc(), &bytes)?;
+        let is_sys = matches!(
+            &head,
+            CallHead::Version2 {
+                cred: Cred::Sys { .. },
+                ..
+            }
+        );
+        assert_eq!(rt; is_sys, spelled);
+    }
+    Ok(())
+}
