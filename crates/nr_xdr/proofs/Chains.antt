@@ -1,9 +1,9 @@
 -- Items one behind another: cursors that take them in turn, and the bytes that read as them.
-use Rattle.std.proofs.Common.{◌≡◌, ℕ, ◌+◌, ◌<◌, List, [], ◌∷◌, ◌++◌, length, get_or, replicate, refl, sym, ap, subst, ◌∙◌, append_assoc, arith}
+use Rattle.std.proofs.Common.{◌≡◌, ℕ, ◌+◌, List, [], ◌∷◌, ◌++◌, length, replicate, refl, sym, ap, subst, ◌∙◌, append_assoc, arith}
 use Rattle.std.proofs.lemmas.List.{length-append, get_or-append-add, get_or_append_left, get_or_past, length-replicate}
 use Rattle.std.proofs.lemmas.Bool.{cases_lt}
 use Rattle.std.proofs.Common.{inl, inr}
-use Rattle.nr_xdr.specs.Item.{Item, Reads, IsBytes, Fits, padding, padded, spelling, word}
+use Rattle.nr_xdr.specs.Item.{Item, Reads, IsBytes, Fits, padding, spelling, word}
 use Rattle.nr_xdr.specs.Item.Item.{Opaque}
 use Rattle.nr_xdr.specs.Items.{ReadEach, spellings, FitEach}
 use Rattle.nr_xdr.specs.Reading.{Cursor, Takes}

@@ -1,7 +1,7 @@
 -- The steps of a reading: what a step that didn't fail took, and that what is taken is read.
-use Rattle.std.proofs.Common.{◌≡◌, ℕ, ◌+◌, ◌<◌, ◌≤◌, Bool, true, false, cond, List, [], ◌∷◌, ◌++◌, length, Result, Ok, Err, refl, sym, ap, subst, ◌∙◌, arith, inl, inr, ◌⊎◌}
+use Rattle.std.proofs.Common.{◌≡◌, ℕ, ◌≤◌, Bool, true, false, cond, List, length, Result, Ok, Err, refl, ap, inl, inr, ◌⊎◌}
 use Rattle.nr_xdr.specs.declared.fault.ItemFault.{ItemFault}
-use Rattle.nr_xdr.specs.Item.{Item, IsBytes}
+use Rattle.nr_xdr.specs.Item.{IsBytes}
 use Rattle.nr_xdr.specs.Item.Item.{Unsigned, Hyper, Boolean, Opaque}
 use Rattle.nr_xdr.specs.Reading.{Cursor, Takes, unsigned_at, hyper_at, boolean_at, opaque_at}
 use Rattle.nr_xdr.specs.Steps.{◌>>=◌, placed, number_at}
