@@ -20,6 +20,10 @@ pub use fault::HeaderFault;
 pub use few::Few;
 pub use header::{Body, Chunk, ChunkLists, Header, ReadList, ReadSegment, Segment, WriteList};
 pub use laws::header_round_trip;
+pub use limits::{
+    FIXED_LEN, PAYLOAD_MAX, READ_SEGMENTS_MAX, REPLY_SEGMENTS_MAX, WRITE_CHUNKS_MAX,
+    WRITE_SEGMENTS_MAX,
+};
 pub use reading::{credit_of, read_header, xid_of};
 pub use writing::write_header;
 
