@@ -1,2 +1,4 @@
 pub mod Item
+pub mod Items
 pub mod Reading
+pub mod Steps

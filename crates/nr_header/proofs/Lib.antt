@@ -1,0 +1,6 @@
+pub mod Loop
+pub mod Faults
+pub mod Segments
+pub mod ReadLists
+pub mod Messages
+pub mod Written

@@ -1,0 +1,7 @@
+use Rattle.std.proofs.Common.{◌≡◌, ◌+◌, take}
+use Rattle.nr_header.specs.declared.limits.TheConstants.{PAYLOAD_MAX}
+use Rattle.nr_header.specs.Limits.{read_total}
+use Rattle.nr_header.proofs.reading.passes_payload.Given as goal
+
+abbrev pub invariant-loop-entry : goal.invariant-loop-entry
+invariant-loop-entry l = l.room + (l.stream + read_total (take l.entry-index l.entry-items)) ≡ PAYLOAD_MAX

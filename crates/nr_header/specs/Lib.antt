@@ -1,0 +1,4 @@
+pub mod Held
+pub mod Header
+pub mod Limits
+pub mod Reading

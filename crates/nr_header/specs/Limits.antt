@@ -1,0 +1,70 @@
+-- Which lists of chunks are within the limits, apart from how they are spelled.
+use Rattle.std.specs.Prelude.{◌≡◌, ◌≢◌, ℕ, ◌+◌, ◌^◌, ◌≤◌, List, [], ◌++◌, length, sum_by, All, IfSome}
+use Rattle.nr_header.specs.declared.limits.TheConstants.{READ_SEGMENTS_MAX, WRITE_CHUNKS_MAX, WRITE_SEGMENTS_MAX, REPLY_SEGMENTS_MAX, PAYLOAD_MAX}
+use Rattle.nr_header.specs.declared.header.Segment.{Segment}
+use Rattle.nr_header.specs.declared.header.ReadSegment.{ReadSegment}
+use Rattle.nr_header.specs.declared.header.ChunkLists.{ChunkLists}
+use Rattle.nr_header.specs.declared.header.Body.{Body}
+use Rattle.nr_header.specs.declared.header.Body.TheVariants.{Msg, Nomsg, ErrVers, ErrChunk}
+use Rattle.nr_header.specs.declared.header.Header.{Header}
+use Rattle.nr_header.specs.Header.{header_spelling, HeaderFits}
+
+-- a segment's bytes are within the 2 ^ 64 of its region
+abbrev pub Ends : ℕ → ℕ → Type 0
+Ends offset len = offset + len ≤ 2 ^ 64
+
+abbrev pub SegmentsEnd : List Segment → Type 0
+SegmentsEnd segments = All (λ s. Ends s.offset s.length) segments
+
+-- at most one position other than 0
+abbrev pub OnePosition : List ReadSegment → Type 0
+OnePosition read = (position : ℕ) × All (λ r. r.position ≢ 0 → r.position ≡ position) read
+
+-- what a header's lists keep, of either kind
+pub record ListsWithin (lists : ChunkLists) : Type 0 where
+  pub read_segments : length lists.read ≤ READ_SEGMENTS_MAX
+  pub read_ends : All (λ r. Ends r.offset r.length) lists.read
+  pub one_position : OnePosition lists.read
+  pub write_chunks : length lists.write ≤ WRITE_CHUNKS_MAX
+  pub write_segments : sum_by (λ chunk. length chunk) lists.write ≤ WRITE_SEGMENTS_MAX
+  pub write_ends : All SegmentsEnd lists.write
+  pub reply_segments : IfSome lists.reply (λ chunk. length chunk ≤ REPLY_SEGMENTS_MAX)
+  pub reply_ends : IfSome lists.reply SegmentsEnd
+
+-- how many bytes the read list offers
+abbrev pub read_total : List ReadSegment → ℕ
+read_total read = sum_by (λ r. r.length) read
+
+-- Whether a header with this body can be read with this stream behind it: RDMA_MSG has its stream there, and no chunk
+-- at position 0; nothing follows another header.
+abbrev pub CanRead : Body → List ℕ → Type 0
+CanRead (Msg lists stream_at) stream =
+    ListsWithin lists × All (λ r. r.position ≢ 0) lists.read × (length stream + read_total lists.read ≤ PAYLOAD_MAX)
+CanRead (Nomsg lists) stream = (stream ≡ []) × ListsWithin lists × (read_total lists.read ≤ PAYLOAD_MAX)
+CanRead (ErrVers version low high) stream = stream ≡ []
+CanRead (ErrChunk version) stream = stream ≡ []
+
+-- the stream begins behind a header of so many bytes
+abbrev pub StreamAt : Body → ℕ → Type 0
+StreamAt (Msg lists stream_at) len = stream_at ≡ len
+StreamAt (Nomsg lists) len = Unit {0}
+StreamAt (ErrVers version low high) len = Unit {0}
+StreamAt (ErrChunk version) len = Unit {0}
+
+-- the message is this header, within the limits, and its stream
+pub record IsMessage (h : Header) (bytes : List ℕ) : Type 0 where
+  pub stream : List ℕ
+  pub parts : bytes ≡ header_spelling h ++ stream
+  pub fits : HeaderFits h
+  pub can : CanRead h.body stream
+  pub place : StreamAt h.body (length (header_spelling h))
+
+-- the header as it is read behind its own spelling: the stream begins there
+abbrev pub body_again : Body → ℕ → Body
+body_again (Msg lists stream_at) len = Msg lists len
+body_again (Nomsg lists) len = Nomsg lists
+body_again (ErrVers version low high) len = ErrVers version low high
+body_again (ErrChunk version) len = ErrChunk version
+
+abbrev pub header_again : Header → Header
+header_again h = record { xid = h.xid; credit = h.credit; body = body_again h.body (length (header_spelling h)) }

@@ -1,0 +1,85 @@
+//! Lists that are mostly short.
+
+ghost use Rattle.std.specs.Prelude.{◌≡◌, ◌+◌, ◌<◌, ◌≤◌, ◌^◌, [], ◌∷◌, ◌++◌, length, IsTrue, ◌↔◌};
+
+use arrayvec::ArrayVec;
+use std::marker::Model;
+
+/// A list of any length. Up to `N` elements it lies in the value itself, and takes no memory; a longer one is made from a
+/// `Vec`. Contracts see the list.
+#[derive(Debug, Drop)]
+pub struct Few<T, const N: usize> {
+    held: Held<T, N>,
+}
+
+#[derive(Debug, Drop)]
+enum Held<T, const N: usize> {
+    Inline(ArrayVec<T, N>),
+    Long(Vec<T>),
+}
+
+impl<T, const N: usize> Model for Few<T, N> {
+    ghost use Rattle.std.specs.Prelude.{List};
+    ghost use Rattle.std.specs.Coded.{coded_list};
+
+    ghost Value = { List T };
+
+    ghost coded = { coded_list T.code };
+
+    ghost use Rattle.nr_header.specs.Held.{items_of};
+
+    ghost view = { λ f. items_of f.held };
+}
+
+impl<T: Default, const N: usize> Few<T, N> {
+    /// The empty list. Takes no memory.
+    pub fn new() -> Self
+        ensures { result ≡ [] }
+    {
+        Few {
+            held: Held::Inline(ArrayVec::new()),
+        }
+    }
+}
+
+impl<T, const N: usize> Few<T, N> {
+    /// The elements of a short list. Takes no memory.
+    pub fn from_short(items: ArrayVec<T, N>) -> Self
+        ensures { result ≡ items.items }
+    {
+        Few {
+            held: Held::Inline(items),
+        }
+    }
+
+    /// The elements of a vector. Takes no memory.
+    pub fn from_vec(items: Vec<T>) -> Self
+        ensures { result ≡ items.items }
+    {
+        Few {
+            held: Held::Long(items),
+        }
+    }
+
+    pub fn as_slice(&self) -> &[T]
+        ensures { result.now ≡ self.now }
+    {
+        match &self.held {
+            Held::Inline(items) => items.as_slice(),
+            Held::Long(items) => items.as_slice(),
+        }
+    }
+
+    /// How many elements there are.
+    pub fn len(&self) -> usize
+        ensures { result ≡ length self.now }
+    {
+        self.as_slice().len()
+    }
+
+    pub fn is_empty(&self) -> bool
+        ensures { IsTrue result ↔ (self.now ≡ []) }
+    {
+        self.as_slice().is_empty()
+    }
+}

@@ -1,0 +1,71 @@
+//! The transport header as a value.
+
+use crate::few::Few;
+use crate::limits::{READ_SEGMENTS_MAX, WRITE_CHUNKS_MAX, WRITE_SEGMENTS_MAX};
+
+/// Memory that a peer offers (RFC 8166 section 3.4): `length` bytes from `offset` on in the region that `handle` names.
+#[derive(Clone, Copy, Debug, PartialEq, Eq, Default)]
+pub struct Segment {
+    pub handle: u32,
+    pub length: u32,
+    pub offset: u64,
+}
+
+/// An entry of a read list (RFC 8166 section 3.4.5): memory whose bytes belong at `position` of the payload.
+#[derive(Clone, Copy, Debug, PartialEq, Eq, Default)]
+pub struct ReadSegment {
+    pub position: u32,
+    pub handle: u32,
+    pub length: u32,
+    pub offset: u64,
+}
+
+/// A read list. Contracts see the list of its entries.
+pub type ReadList = Few<ReadSegment, READ_SEGMENTS_MAX>;
+
+/// A write chunk or a reply chunk (RFC 8166 section 3.4.6). Contracts see the list of its segments.
+pub type Chunk = Few<Segment, WRITE_SEGMENTS_MAX>;
+
+/// A write list. Contracts see the list of its chunks.
+pub type WriteList = Few<Chunk, WRITE_CHUNKS_MAX>;
+
+impl Default for Chunk {
+    ghost use Rattle.std.specs.Prelude.{◌≡◌, []};
+
+    ghost is_default = { λ chunk. chunk ≡ [] };
+
+    /// No segments.
+    fn default() -> Chunk {
+        Few::new()
+    }
+}
+
+/// The lists of chunks (RFC 8166 section 3.4).
+#[derive(Debug, Drop)]
+pub struct ChunkLists {
+    pub read: ReadList,
+    pub write: WriteList,
+    pub reply: Option<Chunk>,
+}
+
+/// What follows the fixed words of a header (RFC 8166 section 4.2).
+#[derive(Debug, Drop)]
+pub enum Body {
+    /// RDMA_MSG: the stream follows the header, from the place `stream_at` of the message on. A header that is written
+    /// needs no `stream_at`.
+    Msg { lists: ChunkLists, stream_at: usize },
+    /// RDMA_NOMSG: the stream is in a chunk.
+    Nomsg { lists: ChunkLists },
+    /// RDMA_ERROR with ERR_VERS: the versions from `low` to `high` are spoken. `version` is the version word.
+    ErrVers { version: u32, low: u32, high: u32 },
+    /// RDMA_ERROR with ERR_CHUNK: the chunks weren't usable. `version` is the version word.
+    ErrChunk { version: u32 },
+}
+
+/// A transport header (RFC 8166 section 4.2). `credit` is the number of calls that are granted or wished.
+#[derive(Debug, Drop)]
+pub struct Header {
+    pub xid: u32,
+    pub credit: u32,
+    pub body: Body,
+}

@@ -1,0 +1,37 @@
+//! The numbers of the transport header (RFC 8166), and the limits of this implementation.
+
+/// The version of RPC-over-RDMA (RFC 8166 section 4.2.2).
+pub const VERSION: u32 = 1;
+
+/// The fewest bytes that a message has: the fixed words (RFC 8166 section 4.2).
+pub const FIXED_LEN: usize = 16;
+
+/// The kind of a message whose stream follows its header, RDMA_MSG (RFC 8166 section 4.2.4).
+pub const MSG: u32 = 0;
+
+/// The kind of a message whose stream is in a chunk, RDMA_NOMSG (RFC 8166 section 4.2.4).
+pub const NOMSG: u32 = 1;
+
+/// The kind of an error message, RDMA_ERROR (RFC 8166 section 4.2.4).
+pub const ERROR: u32 = 4;
+
+/// The error code that tells the versions, ERR_VERS (RFC 8166 section 4.5.1).
+pub const ERR_VERS: u32 = 1;
+
+/// The error code for a chunk that isn't usable, ERR_CHUNK (RFC 8166 section 4.5.3).
+pub const ERR_CHUNK: u32 = 2;
+
+/// The most segments in a read list.
+pub const READ_SEGMENTS_MAX: usize = 16;
+
+/// The most chunks in a write list.
+pub const WRITE_CHUNKS_MAX: usize = 4;
+
+/// The most segments in all chunks of a write list.
+pub const WRITE_SEGMENTS_MAX: usize = 16;
+
+/// The most segments in a reply chunk.
+pub const REPLY_SEGMENTS_MAX: usize = 16;
+
+/// The most bytes of a stream behind its header and of the read list together.
+pub const PAYLOAD_MAX: usize = 40960;

@@ -1,0 +1,188 @@
+//! Reading of a header.
+
+ghost use Rattle.std.specs.Prelude.{◌≡◌, ℕ, ◌+◌, ◌^◌, ◌<◌, ◌≤◌, nat_lt, sum_by, length, take, drop, true, false, Ok, Err, IfOk};
+ghost use Rattle.nr_header.specs.declared.header.Header.{Header};
+ghost use Rattle.nr_header.specs.Limits.{read_total, IsMessage};
+ghost use Rattle.nr_header.specs.Reading.{Finds, sums_pass, msg_at, nomsg_at, word_at, error_of, error_by, version1_of, body_by, in_lists, header_of};
+
+use crate::fault::HeaderFault;
+use crate::header::{Body, ChunkLists, Header, ReadList, WriteList};
+use crate::limits::{
+    ERR_CHUNK, ERR_VERS, ERROR, FIXED_LEN, MSG, NOMSG, PAYLOAD_MAX, VERSION, WRITE_SEGMENTS_MAX,
+};
+use crate::lists::lists;
+use nr_xdr::Reader;
+
+/// Whether the chunks have more segments than are allowed in all.
+fn passes_segments(write: &WriteList) -> bool
+    ensures { result ≡ nat_lt WRITE_SEGMENTS_MAX (sum_by (λ chunk. length chunk) write.now) }
+{
+    let mut room = WRITE_SEGMENTS_MAX;
+    for chunk in write.as_slice() {
+        if chunk.len() > room {
+            return true;
+        }
+        room -= chunk.len();
+    }
+    false
+}
+
+/// Whether so many bytes of a stream and those of the read list are more than are allowed.
+fn passes_payload(read: &ReadList, stream: usize) -> bool
+    ensures { result ≡ nat_lt PAYLOAD_MAX (stream + read_total read.now) }
+{
+    if stream > PAYLOAD_MAX {
+        return true;
+    }
+    let mut room = PAYLOAD_MAX - stream;
+    for entry in read.as_slice() {
+        let length = entry.length as usize;
+        if length > room {
+            return true;
+        }
+        room -= length;
+    }
+    false
+}
+
+fn sums_pass(lists: &ChunkLists, stream: usize) -> bool
+    ensures { result ≡ sums_pass lists.now stream }
+{
+    passes_segments(&lists.write) || passes_payload(&lists.read, stream)
+}
+
+/// The word that begins at a place of the message.
+#[tactic(auto, unfolding(nr_xdr::specs::Item::word_of))]
+fn word_at(bytes: &[u8], place: usize) -> u32
+    requires { place + 4 ≤ length bytes.now }
+    ensures { result ≡ word_at place bytes.now }
+{
+    let rest = &bytes[place..];
+    u32::from_be_bytes([rest[0], rest[1], rest[2], rest[3]])
+}
+
+/// A whole error message: its code is one of two, and it has just the bytes of that code.
+fn whole_error(bytes: &[u8]) -> Option<Body>
+    ensures { result ≡ error_of bytes.now }
+{
+    match bytes.len() {
+        28 if word_at(bytes, 16) == ERR_VERS => Some(Body::ErrVers {
+            version: word_at(bytes, 4),
+            low: word_at(bytes, 20),
+            high: word_at(bytes, 24),
+        }),
+        20 if word_at(bytes, 16) == ERR_CHUNK => Some(Body::ErrChunk {
+            version: word_at(bytes, 4),
+        }),
+        _ => None,
+    }
+}
+
+/// Behind the fixed words of RDMA_MSG.
+#[tactic(auto, unfolding(crate::specs::Reading::msg_at))]
+fn msg(reader: &mut Reader<'_>) -> Result<Body, HeaderFault>
+    ensures { Finds (λ b. b) result (msg_at reader.old) }
+{
+    let lists = lists(reader, false)?;
+    let at = reader.at();
+    if sums_pass(&lists, reader.rest().len()) {
+        return Err(HeaderFault::BadChunks { at });
+    }
+    Ok(Body::Msg {
+        lists,
+        stream_at: at,
+    })
+}
+
+/// Behind the fixed words of RDMA_NOMSG.
+#[tactic(auto, unfolding(crate::specs::Reading::nomsg_at))]
+fn nomsg(reader: &mut Reader<'_>) -> Result<Body, HeaderFault>
+    ensures { Finds (λ b. b) result (nomsg_at reader.old) }
+{
+    let lists = lists(reader, true)?;
+    let at = reader.at();
+    if sums_pass(&lists, 0) || !reader.rest().is_empty() {
+        return Err(HeaderFault::BadChunks { at });
+    }
+    Ok(Body::Nomsg { lists })
+}
+
+/// Behind the fixed words of a message of version 1 that is no whole error message.
+#[tactic(auto, unfolding(crate::specs::Reading::version1_of))]
+fn version1(reader: &mut Reader<'_>, kind: u32, bytes: &[u8]) -> Result<Body, HeaderFault>
+    requires { reader.old ≡ record { place = FIXED_LEN; rest = drop FIXED_LEN bytes.now } }
+    ensures { result ≡ version1_of kind bytes.now }
+{
+    match kind {
+        MSG => msg(reader),
+        NOMSG => nomsg(reader),
+        _ => Err(HeaderFault::Kind { kind }),
+    }
+}
+
+/// What follows the fixed words.
+#[tactic(auto, unfolding(crate::specs::Reading::body_by))]
+fn body(reader: &mut Reader<'_>, bytes: &[u8]) -> Result<Body, HeaderFault>
+    requires fixed { FIXED_LEN ≤ length bytes.now }
+    requires behind { reader.old ≡ record { place = FIXED_LEN; rest = drop FIXED_LEN bytes.now } }
+    ensures { result ≡ body_by (error_by (word_at 12 bytes.now) bytes.now) (word_at 4 bytes.now) (word_at 12 bytes.now) bytes.now }
+{
+    let kind = word_at(bytes, 12);
+    if kind == ERROR {
+        if let Some(body) = whole_error(bytes) {
+            return Ok(body);
+        }
+    }
+    let version = word_at(bytes, 4);
+    if version != VERSION {
+        return Err(HeaderFault::Version { version });
+    }
+    version1(reader, kind, bytes)
+}
+
+#[tactic(auto, unfolding(crate::specs::Reading::header_of, nr_xdr::specs::Reading::fixed_at, nr_xdr::specs::Reading::past, nr_xdr::specs::Item::pad_len))]
+fn whole_header(bytes: &[u8]) -> Result<Header, HeaderFault>
+    ensures { result ≡ header_of bytes.now }
+{
+    let mut reader = Reader::new(bytes);
+    if reader.fixed(FIXED_LEN).is_err() {
+        return Err(HeaderFault::Short);
+    }
+    let body = body(&mut reader, bytes)?;
+    Ok(Header {
+        xid: word_at(bytes, 0),
+        credit: word_at(bytes, 8),
+        body,
+    })
+}
+
+/// The header of a message, within all limits. Takes no memory. Nothing but the stream of RDMA_MSG may follow a header.
+/// `Short`: the message has fewer than 16 bytes. `Version`: another version word than 1, unless it is a whole error message
+/// (28 bytes with ERR_VERS, 20 with ERR_CHUNK). `Kind`: version 1 and neither RDMA_MSG nor RDMA_NOMSG nor a whole error
+/// message. `BadChunks`: lists that don't parse or pass a limit, at the first fault in the order of the bytes.
+pub fn read_header(bytes: &[u8]) -> Result<Header, HeaderFault>
+    // What is read is spelled so, within the limits.
+    ensures found { IfOk result (λ header. IsMessage header bytes.now) }
+    // What is spelled so is read.
+    ensures only { (header : Header) → IsMessage header bytes.now → result ≡ Ok header }
+    // Which fault it is, and where.
+    ensures exact { result ≡ header_of bytes.now }
+{
+    whole_header(bytes)
+}
+
+/// The transaction's number, the first word of a message (RFC 8166 section 4.2.1).
+pub fn xid_of(bytes: &[u8]) -> u32
+    requires { FIXED_LEN ≤ length bytes.now }
+    ensures { result ≡ word_at 0 bytes.now }
+{
+    word_at(bytes, 0)
+}
+
+/// The number of credits, the third word of a message (RFC 8166 section 4.2.3).
+pub fn credit_of(bytes: &[u8]) -> u32
+    requires { FIXED_LEN ≤ length bytes.now }
+    ensures { result ≡ word_at 8 bytes.now }
+{
+    word_at(bytes, 8)
+}

@@ -1,0 +1,134 @@
+//! Writing of a header.
+
+ghost use Rattle.std.specs.Prelude.{◌≡◌, ◌^◌, ◌<◌, [], ◌∷◌, ◌++◌, length, All, true, OnOk, IfOk, IfSome};
+ghost use Rattle.nr_xdr.specs.Item.Item.{Unsigned, Boolean};
+ghost use Rattle.nr_xdr.specs.Items.{spellings};
+ghost use Rattle.nr_header.specs.Header.{segment_items, entry_items, fixed_items, read_items, segments_items, chunk_items, write_items, reply_items, lists_items, ChunksFit, CanWriteHeader, header_spelling};
+
+use crate::header::{Body, Chunk, ChunkLists, Header, ReadSegment, Segment};
+use crate::limits::{ERR_CHUNK, ERR_VERS, ERROR, MSG, NOMSG, VERSION};
+use nr_xdr::{Memory, Octets, Writer};
+use std::alloc::Global;
+
+fn put_segment(writer: &mut Writer, segment: &Segment) -> Result<(), Memory>
+    ensures { OnOk result (writer.new ≡ writer.old ++ spellings (segment_items segment.now [])) }
+{
+    writer.u32(segment.handle)?;
+    writer.u32(segment.length)?;
+    writer.u64(segment.offset)
+}
+
+/// An entry of a read list.
+fn put_entry(writer: &mut Writer, entry: &ReadSegment) -> Result<(), Memory>
+    ensures { OnOk result (writer.new ≡ writer.old ++ spellings (entry_items entry.now [])) }
+{
+    writer.boolean(true)?;
+    writer.u32(entry.position)?;
+    writer.u32(entry.handle)?;
+    writer.u32(entry.length)?;
+    writer.u64(entry.offset)
+}
+
+fn put_read_list(writer: &mut Writer, read: &[ReadSegment]) -> Result<(), Memory>
+    ensures { OnOk result (writer.new ≡ writer.old ++ spellings (read_items read.now [])) }
+{
+    for entry in read {
+        put_entry(writer, entry)?;
+    }
+    writer.boolean(false)
+}
+
+fn put_segments(writer: &mut Writer, segments: &[Segment]) -> Result<(), Memory>
+    ensures { OnOk result (writer.new ≡ writer.old ++ spellings (segments_items segments.now [])) }
+{
+    for segment in segments {
+        put_segment(writer, segment)?;
+    }
+    Ok(())
+}
+
+/// A chunk behind the word 1.
+fn put_chunk(writer: &mut Writer, chunk: &Chunk) -> Result<(), Memory>
+    requires { length chunk.now < 2 ^ 32 }
+    ensures { OnOk result (writer.new ≡ writer.old ++ spellings (Boolean true ∷ chunk_items chunk.now [])) }
+{
+    writer.boolean(true)?;
+    writer.u32(chunk.len() as u32)?;
+    put_segments(writer, chunk.as_slice())
+}
+
+fn put_write_list(writer: &mut Writer, write: &[Chunk]) -> Result<(), Memory>
+    requires { All (λ chunk. length chunk < 2 ^ 32) write.now }
+    ensures { OnOk result (writer.new ≡ writer.old ++ spellings (write_items write.now [])) }
+{
+    for chunk in write {
+        put_chunk(writer, chunk)?;
+    }
+    writer.boolean(false)
+}
+
+fn put_reply_chunk(writer: &mut Writer, reply: &Option<Chunk>) -> Result<(), Memory>
+    requires { IfSome reply.now (λ chunk. length chunk < 2 ^ 32) }
+    ensures { OnOk result (writer.new ≡ writer.old ++ spellings (reply_items reply.now [])) }
+{
+    match reply {
+        Some(chunk) => put_chunk(writer, chunk),
+        None => writer.boolean(false),
+    }
+}
+
+fn put_lists(writer: &mut Writer, lists: &ChunkLists) -> Result<(), Memory>
+    requires { ChunksFit lists.now }
+    ensures { OnOk result (writer.new ≡ writer.old ++ spellings (lists_items lists.now)) }
+{
+    put_read_list(writer, lists.read.as_slice())?;
+    put_write_list(writer, lists.write.as_slice())?;
+    put_reply_chunk(writer, &lists.reply)?;
+    Ok(())
+}
+
+/// The fixed words.
+fn put_fixed(
+    writer: &mut Writer,
+    xid: u32,
+    version: u32,
+    credit: u32,
+    kind: u32,
+) -> Result<(), Memory>
+    ensures { OnOk result (writer.new ≡ writer.old ++ spellings (fixed_items xid version credit kind [])) }
+{
+    writer.u32(xid)?;
+    writer.u32(version)?;
+    writer.u32(credit)?;
+    writer.u32(kind)
+}
+
+/// The one spelling of a header, whether its lists are within the limits or not. `stream_at` isn't looked at.
+pub fn write_header(alloc: Global, header: &Header) -> Result<Octets, Memory>
+    requires { CanWriteHeader header.now }
+    ensures { IfOk result (λ o. o ≡ header_spelling header.now) }
+{
+    let mut writer = Writer::new(alloc);
+    let out = &mut writer;
+    match &header.body {
+        Body::Msg { lists, .. } => {
+            put_fixed(out, header.xid, VERSION, header.credit, MSG)?;
+            put_lists(out, lists)?;
+        }
+        Body::Nomsg { lists } => {
+            put_fixed(out, header.xid, VERSION, header.credit, NOMSG)?;
+            put_lists(out, lists)?;
+        }
+        Body::ErrVers { version, low, high } => {
+            put_fixed(out, header.xid, *version, header.credit, ERROR)?;
+            out.u32(ERR_VERS)?;
+            out.u32(*low)?;
+            out.u32(*high)?;
+        }
+        Body::ErrChunk { version } => {
+            put_fixed(out, header.xid, *version, header.credit, ERROR)?;
+            out.u32(ERR_CHUNK)?;
+        }
+    }
+    Ok(writer.finish())
+}

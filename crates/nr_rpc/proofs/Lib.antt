@@ -1,0 +1,6 @@
+pub mod Steps
+pub mod Loop
+pub mod Written
+pub mod Credentials
+pub mod Calls
+pub mod Replies

@@ -1,0 +1,67 @@
+-- The steps of a reading: what a step that didn't fail took.
+use Rattle.std.proofs.Common.{◌≡◌, ℕ, ◌≤◌, cond, eqb, length, Result, Ok, Err, refl, subst, arith, inl, inr}
+use Rattle.std.proofs.lemmas.Bool.{eqb-true}
+use Rattle.nr_xdr.specs.Item.{IsBytes}
+use Rattle.nr_xdr.specs.Item.Item.{Unsigned, Opaque}
+use Rattle.nr_xdr.specs.Reading.{Cursor, Takes, opaque_at}
+use Rattle.nr_xdr.proofs.Chains.{IsBytes-opaque}
+use Rattle.nr_rpc.specs.declared.limits.TheConstants.{AUTH_BODY_MAX}
+use Rattle.nr_rpc.specs.Credential.{Auth}
+use Rattle.nr_xdr.specs.Steps.{◌>>=◌, placed}
+use Rattle.nr_xdr.proofs.Steps.{bind_ok, chosen, done, ok_is, number_step, number_again, opaque_step, opaque_placed}
+use Rattle.nr_rpc.specs.Reading.{this_at, auth_at}
+
+this_ok : (wanted n : ℕ) (c d after : Cursor) → cond (eqb n wanted) (Ok d) (Err c.place) ≡ done after → (n ≡ wanted) × (d ≡ after)
+this_ok wanted n c d after e =
+    elim (chosen (eqb n wanted) (Ok d) (Err c.place) (done after) e) [
+      | inl way ↦ (eqb-true n wanted way.0, ok_is d after way.1)
+      | inr way ↦ absurd (let wrong : Err c.place ≡ done after = way.1 in cc)
+    ]
+
+-- a number of a known value that was read, and what follows
+pub this_step : {B : Type 0} (wanted : ℕ) (c : Cursor) (f : Cursor → Result B ℕ) (y : B) → IsBytes c.rest → (this_at wanted c >>= f) ≡ Ok y
+    → (after : Cursor) × Takes c after (Unsigned wanted) × IsBytes after.rest × (f after ≡ Ok y)
+unfolding this_at
+this_step wanted c f y fits e =
+    let a = bind_ok (this_at wanted c) f y e in
+    let n = number_step c (λ n. cond (eqb n.0 wanted) (Ok n.1) (Err c.place)) a.0 fits a.1 in
+    let is = this_ok wanted n.0.0 c n.0.1 a.0 n.3 in (
+      a.0,
+      subst (λ (d : Cursor). Takes c d (Unsigned wanted)) is.1 (subst (λ (m : ℕ). Takes c n.0.1 (Unsigned m)) is.0 n.1),
+      subst (λ (d : Cursor). IsBytes d.rest) is.1 n.2,
+      a.2,
+    )
+
+pub this_again : (wanted : ℕ) (c after : Cursor) → Takes c after (Unsigned wanted) → this_at wanted c ≡ Ok after
+unfolding this_at
+this_again wanted c after taken = rw (number_again c wanted after taken) (grind (arith))
+
+-- a flavor and a body that were read
+pub record TakesAuth (auth : Auth) (c after : Cursor) : Type 0 where
+  pub behind_flavor : Cursor
+  pub flavor : Takes c behind_flavor (Unsigned auth.flavor)
+  pub body : Takes behind_flavor after (Opaque auth.body)
+  pub within : length auth.body ≤ AUTH_BODY_MAX
+
+-- a flavor and a body that were read, and what follows
+pub auth_step : {B : Type 0} (c : Cursor) (f : Auth × Cursor → Result B ℕ) (y : B) → IsBytes c.rest → (auth_at c >>= f) ≡ Ok y
+    → (x : Auth × Cursor) × TakesAuth x.0 c x.1 × IsBytes x.0.body × IsBytes x.1.rest × (f x ≡ Ok y)
+unfolding auth_at
+auth_step c f y fits e =
+    let a = bind_ok (auth_at c) f y e in
+    let flavor = number_step c (λ flavor. placed (opaque_at AUTH_BODY_MAX flavor.1) >>= λ body. Ok (record { flavor = flavor.0; body = body.0 }, body.1)) a.0 fits a.1 in
+    let body = opaque_step AUTH_BODY_MAX flavor.0.1 (λ body. Ok (record { flavor = flavor.0.0; body = body.0 }, body.1)) a.0 flavor.2 flavor.3 in
+    let made : Auth × Cursor = (record { flavor = flavor.0.0; body = body.0.0 }, body.0.1) in
+    let taken : TakesAuth made.0 c made.1 = record { behind_flavor = flavor.0.1; flavor = flavor.1; body = body.1; within = body.2 } in
+    let bytes : IsBytes body.0.0 = IsBytes-opaque flavor.0.1 body.0.1 body.0.0 body.1 flavor.2 in
+    let is = ok_is made a.0 body.4 in (
+      a.0,
+      subst (λ (x : Auth × Cursor). TakesAuth x.0 c x.1) is taken,
+      subst (λ (x : Auth × Cursor). IsBytes x.0.body) is bytes,
+      subst (λ (x : Auth × Cursor). IsBytes x.1.rest) is body.3,
+      a.2,
+    )
+
+pub auth_again : (auth : Auth) (c after : Cursor) → TakesAuth auth c after → auth_at c ≡ Ok (auth, after)
+unfolding auth_at
+auth_again auth c after t = rw (number_again c auth.flavor t.behind_flavor t.flavor, opaque_placed AUTH_BODY_MAX t.behind_flavor auth.body after t.within t.body) refl

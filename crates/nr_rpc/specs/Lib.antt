@@ -1,0 +1,4 @@
+pub mod Credential
+pub mod Call
+pub mod Reply
+pub mod Reading

@@ -1,0 +1,175 @@
+-- What is read at a cursor, or the place of the first item that fails.
+use Rattle.std.specs.Prelude.{◌≡◌, ℕ, zero, suc, List, [], ◌∷◌, length, Option, Some, None, unwrap_or, Result, Ok, Err, nat_lt, ◌==◌, if◌then◌else◌}
+use Rattle.nr_xdr.specs.Reading.{Cursor, opaque_at}
+use Rattle.nr_xdr.specs.Steps.{◌>>=◌, placed, number_at}
+use Rattle.nr_rpc.specs.declared.limits.TheConstants.{AUTH_BODY_MAX, MACHINE_MAX, GIDS_MAX, RPC_VERSION, CALL, REPLY, MSG_ACCEPTED, MSG_DENIED, PROG_MISMATCH, RPC_MISMATCH, AUTH_ERROR, AUTH_NONE, AUTH_SYS}
+use Rattle.nr_rpc.specs.declared.fault.HeadFault.{HeadFault}
+use Rattle.nr_rpc.specs.declared.fault.HeadFault.TheVariants as faults
+use Rattle.nr_rpc.specs.declared.cred.Cred.{Cred}
+use Rattle.nr_rpc.specs.declared.cred.Cred.TheVariants as creds
+use Rattle.nr_rpc.specs.declared.head.CallHead.{CallHead}
+use Rattle.nr_rpc.specs.declared.head.CallHead.TheVariants as calls
+use Rattle.nr_rpc.specs.declared.head.ReplyHead.{ReplyHead}
+use Rattle.nr_rpc.specs.declared.head.ReplyHead.TheVariants as replies
+use Rattle.nr_rpc.specs.declared.fault.Misfit.{Misfit}
+use Rattle.nr_rpc.specs.declared.item.RawAuth.{RawAuth}
+use Rattle.nr_rpc.specs.declared.sys.SysBody.{SysBody}
+use Rattle.nr_rpc.specs.declared.call.CallStart.{CallStart}
+use Rattle.nr_rpc.specs.declared.call.CallStart.TheVariants as starts
+use Rattle.nr_rpc.specs.declared.head.CallTarget.{CallTarget}
+use Rattle.nr_rpc.specs.Credential.{Auth}
+
+-- this number and no other; a word of another value fails where it stands
+unfoldable pub this_at : ℕ → Cursor → Result Cursor ℕ
+this_at wanted c = do
+  n ← number_at c
+  if n.0 == wanted then Ok n.1 else Err c.place
+
+-- a flavor and a body
+unfoldable pub auth_at : Cursor → Result (Auth × Cursor) ℕ
+auth_at c = do
+  flavor ← number_at c
+  body ← placed (opaque_at AUTH_BODY_MAX flavor.1)
+  Ok (record { flavor = flavor.0; body = body.0 }, body.1)
+
+-- so many numbers
+unfoldable pub numbers_at : ℕ → Cursor → Result (List ℕ × Cursor) ℕ
+numbers_at zero c = Ok ([], c)
+numbers_at (suc n) c = do
+  first ← number_at c
+  others ← numbers_at n first.1
+  Ok (first.0 ∷ others.0, others.1)
+
+-- further groups behind their count
+unfoldable pub gids_at : Cursor → Result (List ℕ × Cursor) ℕ
+gids_at c = do
+  count ← number_at c
+  if nat_lt GIDS_MAX count.0 then Err c.place else numbers_at count.0 count.1
+
+-- the body of AUTH_SYS (RFC 5531 appendix A)
+unfoldable pub sys_at : Cursor → Result (Cred × Cursor) ℕ
+sys_at c = do
+  stamp ← number_at c
+  machine ← placed (opaque_at MACHINE_MAX stamp.1)
+  uid ← number_at machine.1
+  gid ← number_at uid.1
+  gids ← gids_at gid.1
+  Ok (creds.Sys stamp.0 machine.0 uid.0 gid.0 gids.0, gids.1)
+
+-- what was read, where nothing stands behind it
+abbrev pub whole : {A : Type 0} → Result (A × Cursor) ℕ → Option A
+whole (Ok x) = if length x.1.rest == 0 then Some x.0 else None
+whole (Err at) = None
+
+-- the credential of a flavor and a body
+unfoldable pub cred_of : Auth → Cred
+cred_of auth =
+    if auth.flavor == AUTH_NONE then creds.None
+    else (if auth.flavor == AUTH_SYS then unwrap_or (whole (sys_at (record { place = 0; rest = auth.body }))) (creds.Other auth.flavor)
+    else creds.Other auth.flavor)
+
+-- a call of version 2, from the program on
+unfoldable pub version2_at : ℕ → Cursor → Result (CallHead × Cursor) ℕ
+version2_at xid c = do
+  prog ← number_at c
+  vers ← number_at prog.1
+  proc ← number_at vers.1
+  cred ← auth_at proc.1
+  verifier ← auth_at cred.1
+  Ok (calls.Version2 xid prog.0 vers.0 proc.0 (cred_of cred.0) verifier.1.place, verifier.1)
+
+unfoldable pub call_at : Cursor → Result (CallHead × Cursor) ℕ
+call_at c = do
+  xid ← number_at c
+  kind ← this_at CALL xid.1
+  rpcvers ← number_at kind
+  if rpcvers.0 == RPC_VERSION then version2_at xid.0 rpcvers.1 else Ok (calls.Other xid.0 rpcvers.0, rpcvers.1)
+
+-- the lowest and the highest version
+unfoldable pub versions_at : (ℕ → ℕ → ReplyHead) → Cursor → Result (ReplyHead × Cursor) ℕ
+versions_at head c = do
+  low ← number_at c
+  high ← number_at low.1
+  Ok (head low.0 high.0, high.1)
+
+-- the reply to a call that was accepted, from the verifier on
+unfoldable pub accepted_at : ℕ → Cursor → Result (ReplyHead × Cursor) ℕ
+accepted_at xid c = do
+  verifier ← auth_at c
+  stat ← number_at verifier.1
+  if stat.0 == PROG_MISMATCH then versions_at (replies.ProgMismatch xid) stat.1
+      else Ok (replies.Accepted xid stat.0 stat.1.place, stat.1)
+
+-- the reply to a call that was denied, from its status on: a status of another value fails where it stands
+unfoldable pub denied_at : ℕ → Cursor → Result (ReplyHead × Cursor) ℕ
+denied_at xid c = do
+  stat ← number_at c
+  if stat.0 == RPC_MISMATCH then versions_at (replies.RpcMismatch xid) stat.1
+      else (if stat.0 == AUTH_ERROR then (number_at stat.1 >>= λ why. Ok (replies.AuthError xid why.0, why.1)) else Err c.place)
+
+unfoldable pub reply_at : Cursor → Result (ReplyHead × Cursor) ℕ
+reply_at c = do
+  xid ← number_at c
+  kind ← this_at REPLY xid.1
+  status ← number_at kind
+  if status.0 == MSG_ACCEPTED then accepted_at xid.0 status.1
+      else (if status.0 == MSG_DENIED then denied_at xid.0 status.1 else Err kind.place)
+
+-- the head alone
+abbrev pub head_of : {A : Type 0} → Result (A × Cursor) ℕ → Result A ℕ
+head_of (Ok x) = Ok x.0
+head_of (Err at) = Err at
+
+-- The call head with which the bytes begin, or the place of the first item that fails.
+unfoldable pub call_of : List ℕ → Result CallHead ℕ
+call_of bytes = head_of (call_at (record { place = 0; rest = bytes }))
+
+-- The reply head with which the bytes begin, or the place of the first item that fails.
+unfoldable pub reply_of : List ℕ → Result ReplyHead ℕ
+reply_of bytes = head_of (reply_at (record { place = 0; rest = bytes }))
+
+-- What was answered is what reading gives, unless memory ran out.
+abbrev pub GivesCall : Result CallHead HeadFault → Result CallHead ℕ → Type 0
+GivesCall (Ok head) read = read ≡ Ok head
+GivesCall (Err (faults.NotCall at)) read = read ≡ Err at
+GivesCall (Err (faults.NotReply at)) read = ⊥
+GivesCall (Err faults.Memory) read = Unit {0}
+
+-- What was answered is what reading gives. Memory is never wanted.
+abbrev pub GivesReply : Result ReplyHead HeadFault → Result ReplyHead ℕ → Type 0
+GivesReply (Ok head) read = read ≡ Ok head
+GivesReply (Err (faults.NotCall at)) read = ⊥
+GivesReply (Err (faults.NotReply at)) read = read ≡ Err at
+GivesReply (Err faults.Memory) read = ⊥
+
+-- A reader answered so and stands at new: as read says, seen by view.
+abbrev pub Answers : {X Y : Type 0} → (X → Y) → Result X Misfit → Cursor → Result (Y × Cursor) ℕ → Type 0
+Answers view (Ok x) new read = read ≡ Ok (view x, new)
+Answers view (Err misfit) new read = read ≡ Err misfit.at
+
+-- the same of a step that gives no value
+abbrev pub Goes : Result Unit Misfit → Cursor → Result Cursor ℕ → Type 0
+Goes (Ok x) new read = read ≡ Ok new
+Goes (Err misfit) new read = read ≡ Err misfit.at
+
+-- the same without a cursor
+abbrev pub Finds : {X Y : Type 0} → (X → Y) → Result X Misfit → Result Y ℕ → Type 0
+Finds view (Ok x) read = read ≡ Ok (view x)
+Finds view (Err misfit) read = read ≡ Err misfit.at
+
+-- what a credential, the body of AUTH_SYS and a call head stand for before they own their bytes
+abbrev pub auth_view : RawAuth → Auth
+auth_view auth = record { flavor = auth.flavor; body = auth.body.now }
+
+abbrev pub sys_view : SysBody → Cred
+sys_view sys = creds.Sys sys.stamp sys.machine.now sys.uid sys.gid sys.gids
+
+abbrev pub start_view : CallStart → CallHead
+start_view (starts.Version2 xid prog vers proc cred args_at) = calls.Version2 xid prog vers proc (cred_of (auth_view cred)) args_at
+start_view (starts.Other xid rpcvers) = calls.Other xid rpcvers
+
+-- the program, the version and the procedure of a call, and where its arguments begin
+abbrev pub target_of : Result CallHead ℕ → Option CallTarget
+target_of (Ok (calls.Version2 xid prog vers proc cred args_at)) = Some (record { xid = xid; prog = prog; vers = vers; proc = proc; args_at = args_at })
+target_of (Ok (calls.Other xid rpcvers)) = None
+target_of (Err at) = None

@@ -1,0 +1,81 @@
+//! Credentials.
+
+ghost use Rattle.std.specs.Prelude.{◌≡◌, ◌+◌, ◌<◌, ◌≤◌, [], ◌∷◌, ◌++◌, length, IsTrue, ◌↔◌};
+
+use crate::limits::GIDS_MAX;
+use arrayvec::ArrayVec;
+use nr_xdr::Octets;
+use std::marker::Model;
+
+/// The further groups of an AUTH_SYS credential: at most [`GIDS_MAX`] numbers. Contracts see their list. Takes no memory.
+#[derive(Debug, Drop)]
+pub struct Gids {
+    gids: ArrayVec<u32, GIDS_MAX>,
+}
+
+impl Model for Gids {
+    ghost use Rattle.std.specs.Prelude.{List, ℕ};
+
+    ghost Value = { List ℕ };
+
+    ghost view = { λ g. g.gids.items };
+}
+
+impl Gids {
+    /// No groups.
+    pub fn new() -> Gids
+        ensures { result ≡ [] }
+    {
+        Gids {
+            gids: ArrayVec::new(),
+        }
+    }
+
+    pub fn as_slice(&self) -> &[u32]
+        ensures is { result.now ≡ self.now }
+        ensures within { length self.now ≤ GIDS_MAX }
+    {
+        self.gids.as_slice()
+    }
+
+    /// How many groups there are.
+    pub fn len(&self) -> usize
+        ensures is { result ≡ length self.now }
+        ensures within { result ≤ GIDS_MAX }
+    {
+        self.gids.len()
+    }
+
+    pub fn is_empty(&self) -> bool
+        ensures { IsTrue result ↔ (self.now ≡ []) }
+    {
+        self.gids.as_slice().is_empty()
+    }
+
+    /// Puts a group at the end.
+    pub fn push(&mut self, gid: u32)
+        requires { length self.old < GIDS_MAX }
+        ensures { self.new ≡ self.old ++ gid ∷ [] }
+    {
+        self.gids.push(gid);
+    }
+}
+
+/// Who calls (RFC 5531 section 8.2).
+#[derive(Debug, Drop)]
+pub enum Cred {
+    /// AUTH_NONE.
+    None,
+    /// AUTH_SYS (RFC 5531 appendix A): `machine` has at most 255 bytes.
+    Sys {
+        stamp: u32,
+        machine: Octets,
+        uid: u32,
+        gid: u32,
+        gids: Gids,
+    },
+    /// Another flavor, or AUTH_SYS whose body isn't spelled as AUTH_SYS is (then `flavor` is 1).
+    Other {
+        flavor: u32,
+    },
+}

@@ -1,0 +1,17 @@
+-- Readings one after the other: each gives a value and the cursor behind it, or the place of the first item that fails.
+use Rattle.std.specs.Prelude.{ℕ, Result, Ok, Err}
+use Rattle.nr_xdr.specs.declared.fault.ItemFault.{ItemFault}
+use Rattle.nr_xdr.specs.Reading.{Cursor, unsigned_at, place_of}
+
+infixl 10 ◌>>=◌
+abbrev pub ◌>>=◌ : {A B : Type 0} → Result A ℕ → (A → Result B ℕ) → Result B ℕ
+(Ok x) >>= f = f x
+(Err at) >>= f = Err at
+
+-- an item, or the place at which it fails
+abbrev pub placed : {A : Type 0} → Result A ItemFault → Result A ℕ
+placed (Ok x) = Ok x
+placed (Err e) = Err (place_of e)
+
+abbrev pub number_at : Cursor → Result (ℕ × Cursor) ℕ
+number_at c = placed (unsigned_at c)
