@@ -1,0 +1,94 @@
+-- The k-th call and reply of a drill on the link.
+use Rattle.std.proofs.Common.{◌≡◌, ℕ, zero, suc, ◌+◌, ◌^◌, ◌<◌, ◌≤◌, Bool, true, List, [], ◌∷◌, ◌++◌, length, Option, Some, Ok, option_and_then, refl, sym, ap, ◌∙◌, arith}
+use Rattle.std.specs.List.{filter_map}
+use Rattle.nr_rpc.specs.declared.head.ReplyHead.TheVariants.{Accepted}
+use Rattle.nr_rpc.proofs.Replies.{reply_written}
+use Rattle.nr_wire.specs.declared.hello.Side.TheVariants.{Initiator, Responder}
+use Rattle.nr_wire.specs.Next.{segment_in}
+use Rattle.nr_world.specs.declared.message.Conveyed.{Conveyed}
+use Rattle.nr_world.specs.declared.plain.TheConstants.{SUCCESS}
+use Rattle.nr_world.specs.Messages.{inline_message, messages, conveyed, call_in, reply_in}
+use Rattle.nr_world.specs.Ending.{ended_by}
+use Rattle.nr_world.specs.Plain.{null_reply}
+use Rattle.nr_world.specs.Steps.{asked_payload, ask, answer}
+use Rattle.nr_world.specs.Stands.{upward, downward, joined, each}
+use Rattle.nr_world.proofs.Nulls.{call_of-asked, length-asked_payload, length-null_reply}
+use Rattle.nr_world.proofs.Inline.{length-inline_message, call_in-message, reply_in-message}
+use Rattle.nr_world.proofs.Streams.{IsSend, send-is, AreSends, messages-each, send_segment}
+use Rattle.nr_world.proofs.Runs.{filter_map-each}
+
+-- the numbers of a drill are words
+pub record Small (credits n : ℕ) : Type 0 where
+  pub few : credits < 2 ^ 32
+  pub small : n < 2 ^ 32
+
+abbrev pub asked_message : ℕ → ℕ → List ℕ
+asked_message credits k = inline_message k credits (asked_payload k)
+
+abbrev pub answered_message : ℕ → ℕ → List ℕ
+answered_message credits k = inline_message k credits (null_reply k)
+
+pub length-asked_message : (credits k : ℕ) → length (asked_message credits k) ≡ 68
+length-asked_message credits k = omega (arith, length-inline_message k credits (asked_payload k), length-asked_payload k)
+
+pub length-answered_message : (credits k : ℕ) → length (answered_message credits k) ≡ 52
+length-answered_message credits k = omega (arith, length-inline_message k credits (null_reply k), length-null_reply k)
+
+pub ask-is : (credits k : ℕ) → k < 2 ^ 32 → IsSend (ask credits k) (send_segment k (asked_message credits k))
+unfolding ask
+ask-is credits k small = send-is k (asked_message credits k) small (omega (arith, length-asked_message credits k))
+
+pub answer-is : (credits k : ℕ) → k < 2 ^ 32 → IsSend (answer credits k) (send_segment k (answered_message credits k))
+unfolding answer
+answer-is credits k small = send-is k (answered_message credits k) small (omega (arith, length-answered_message credits k))
+
+pub call_in-asked : (credits k : ℕ) → k < 2 ^ 32 → credits < 2 ^ 32 → call_in (asked_message credits k) ≡ Some (record { xid = k; payload = asked_payload k })
+call_in-asked credits k small few = call_in-message k credits (asked_payload k) _ _ _ _ small few (call_of-asked k small)
+
+pub reply_in-answered : (credits k : ℕ) → k < 2 ^ 32 → credits < 2 ^ 32 → reply_in (answered_message credits k) ≡ Some (record { xid = k; payload = null_reply k })
+reply_in-answered credits k small few =
+    reply_in-message k credits (null_reply k) _ small few (reply_written (Accepted k SUCCESS 0) [] (λ e. cc) (small, omega arith)) refl
+
+-- what stands in the pieces that are fed
+pub ask-conveys : (credits k : ℕ) → k < 2 ^ 32 → credits < 2 ^ 32 → option_and_then call_in (ended_by (segment_in (ask credits k))) ≡ Some (record { xid = k; payload = asked_payload k })
+ask-conveys credits k small few = rw (ask-is credits k small).found (call_in-asked credits k small few)
+
+pub answer-conveys : (credits k : ℕ) → k < 2 ^ 32 → credits < 2 ^ 32 → option_and_then reply_in (ended_by (segment_in (answer credits k))) ≡ Some (record { xid = k; payload = null_reply k })
+answer-conveys credits k small few = rw (answer-is credits k small).found (reply_in-answered credits k small few)
+
+asks-are : (credits n : ℕ) → n < 2 ^ 32 → AreSends (ask credits) (asked_message credits) n
+asks-are credits n small = record {
+    frames = λ k le. (ask-is credits k (omega arith)).is_frame;
+    parts = λ k le. rw (ask-is credits k (omega arith)).says refl;
+  }
+
+answers-are : (credits n : ℕ) → n < 2 ^ 32 → AreSends (answer credits) (answered_message credits) n
+answers-are credits n small = record {
+    frames = λ k le. (answer-is credits k (omega arith)).is_frame;
+    parts = λ k le. rw (answer-is credits k (omega arith)).says refl;
+  }
+
+-- the streams, message by message
+pub messages-upward : (credits n : ℕ) → n < 2 ^ 32 → messages Initiator (upward credits n) ≡ each (asked_message credits) n
+unfolding upward
+messages-upward credits n small = messages-each Initiator (ask credits) (asked_message credits) n (asks-are credits n small)
+
+pub messages-downward : (credits n : ℕ) → n < 2 ^ 32 → messages Responder (downward credits n) ≡ each (answered_message credits) n
+unfolding downward
+messages-downward credits n small = messages-each Responder (answer credits) (answered_message credits) n (answers-are credits n small)
+
+abbrev pub conveyed_call : ℕ → Conveyed
+conveyed_call k = record { xid = k; payload = asked_payload k }
+
+abbrev pub conveyed_reply : ℕ → Conveyed
+conveyed_reply k = record { xid = k; payload = null_reply k }
+
+pub calls-upward : (credits n : ℕ) → n < 2 ^ 32 → credits < 2 ^ 32 → conveyed call_in (messages Initiator (upward credits n)) ≡ each conveyed_call n
+calls-upward credits n small few =
+    ap (conveyed call_in) (messages-upward credits n small)
+    ∙ filter_map-each call_in (asked_message credits) conveyed_call n (λ k le. call_in-asked credits k (omega arith) few)
+
+pub replies-downward : (credits n : ℕ) → n < 2 ^ 32 → credits < 2 ^ 32 → conveyed reply_in (messages Responder (downward credits n)) ≡ each conveyed_reply n
+replies-downward credits n small few =
+    ap (conveyed reply_in) (messages-downward credits n small)
+    ∙ filter_map-each reply_in (answered_message credits) conveyed_reply n (λ k le. reply_in-answered credits k (omega arith) few)

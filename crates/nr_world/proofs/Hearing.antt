@@ -1,0 +1,256 @@
+-- All down: the client is fed the reply, and hands it over.
+use Rattle.std.proofs.Common.{◌≡◌, ◌≢◌, ℕ, zero, suc, ◌+◌, ◌-◌, ◌^◌, ◌<◌, ◌≤◌, Bool, true, false, cond, not, ◌||◌, ltb, eqb, List, [], ◌∷◌, ◌++◌, length, take, drop, find, Option, Some, None, option_and_then, refl, sym, ap, subst, ◌∙◌, append_assoc, arith, add-one, add-zero, inl, inr}
+use Rattle.std.specs.List.{flat_map, list_any}
+use Rattle.std.proofs.lemmas.Bool.{cases_lt, lt-ltb, le-ltb, eq-eqb, ne_eqb}
+use Rattle.std.proofs.lemmas.List.{append-nil, drop_all, length_push}
+use Rattle.std.proofs.lemmas.List.Folds.{list_any-append}
+use Rattle.nr_outside.specs.Pipe.{PipeState, waiting_in}
+use Rattle.nr_wire.specs.declared.hello.Side.TheVariants.{Initiator, Responder}
+use Rattle.nr_wire.specs.Next.{segment_in}
+use Rattle.nr_world.specs.declared.call.Outcome.TheVariants as outcomes
+use Rattle.nr_world.specs.declared.mark.Mark.{Mark}
+use Rattle.nr_world.specs.declared.mark.Mark.TheVariants as marks
+use Rattle.nr_world.specs.declared.message.Conveyed.{Conveyed}
+use Rattle.nr_world.specs.declared.report.Fate.TheVariants as fates
+use Rattle.nr_world.specs.declared.report.Told.{Told}
+use Rattle.nr_world.specs.Observed.{Accepted, Completed, accepted, completed}
+use Rattle.nr_world.specs.Messages.{reply_in, conveyed, messages}
+use Rattle.nr_world.specs.Ending.{ended_by}
+use Rattle.nr_world.specs.Window.{heard}
+use Rattle.nr_world.specs.Plain.{null_reply, drill_server}
+use Rattle.nr_world.specs.Follows.{Drill, Way, drill_opened, settled, feeding, taken, done_with, done_for, down_by, all_down}
+use Rattle.nr_world.specs.Steps.{State, the_link, answer, all_read, fed_down, done_one, done_by, heard_by, heard as heard_state, waits, is_some_byte}
+use Rattle.nr_world.specs.Stands.{each, upward, downward, accepted_call, completed_call, told_call, Counts, counts_of, arrived_one, At, Laws, Stands, drill_of}
+use Rattle.nr_world.proofs.Runs.{flat_map-more, length-each}
+use Rattle.nr_world.proofs.Frames.{conveyed_reply, replies-downward, answer-conveys}
+use Rattle.nr_world.proofs.Marking.{downward-more}
+use Rattle.nr_world.proofs.OneMark.{feed_down, complete, At-feed_down, At-complete}
+use Rattle.nr_world.proofs.Lawful.{list_any-each, Laws-feed_down, Laws-complete}
+use Rattle.nr_world.proofs.Settling.{some_answer, settled-none, feeding-none, feeding-some}
+use Rattle.nr_world.proofs.Standing.{words_of, pipe_is, behind_part, take_length, drop_length, some_bytes}
+
+pub record Hears (s : State) (new : State) : Type 0 where
+  pub stands : Stands new
+  pub asked_is : new.asked ≡ s.asked
+  pub credits_are : new.credits ≡ s.credits
+  pub makes : drill_of new ≡ all_down (drill_opened s.credits) the_link (drill_of s)
+  pub all : length new.told ≡ s.served
+  pub moved : waits s.down ≡ ltb (length s.told) s.served
+  pub still : s.served ≡ length s.told → new ≡ s
+
+-- ---- which calls are handed over
+
+flat_map-each : {X A : Type 0} (f : X → List A) (g : ℕ → X) (n : ℕ) → ((k : ℕ) → 0 < k → k ≤ n → f (g k) ≡ []) → flat_map f (each g n) ≡ []
+flat_map-each f g zero h = refl
+flat_map-each f g (suc n) h =
+    flat_map-more f (each g n) (g (suc n)) ∙ ap (λ (xs : List _). xs ++ f (g (suc n))) (flat_map-each f g n (λ k lt le. h k lt (omega arith))) ∙ h (suc n) (omega arith) (omega arith)
+
+list_any-none : {X : Type 0} (p : X → Bool) (f : ℕ → X) (n : ℕ) → ((k : ℕ) → 0 < k → k ≤ n → p (f k) ≡ false) → list_any p (each f n) ≡ false
+list_any-none p f zero h = refl
+list_any-none p f (suc n) h =
+    list_any-append p (each f n) (f (suc n) ∷ [])
+    ∙ ap (λ (b : Bool). b || list_any p (f (suc n) ∷ [])) (list_any-none p f n (λ k lt le. h k lt (omega arith)))
+    ∙ ap (λ (b : Bool). b || false) (h (suc n) (omega arith) (omega arith))
+
+find-past : {X : Type 0} (p : X → Bool) (f : ℕ → X) (n : ℕ) (more : List X) → ((k : ℕ) → 0 < k → k ≤ n → p (f k) ≡ false) → find p (each f n ++ more) ≡ find p more
+find-past p f zero more h = refl
+find-past p f (suc n) more h =
+    ap (find p) (append_assoc (each f n) (f (suc n) ∷ []) more)
+    ∙ find-past p f n (f (suc n) ∷ more) (λ k lt le. h k lt (omega arith))
+    ∙ ap (λ (b : Bool). cond b (Some (f (suc n))) (find p more)) (h (suc n) (omega arith) (omega arith))
+
+replies-are : (credits : ℕ) (run : List Mark) (n : Counts) → At credits run n → n.heard < 2 ^ 32 → credits < 2 ^ 32 → conveyed reply_in (heard the_link run) ≡ each conveyed_reply n.heard
+replies-are credits run n at small few =
+    ap (λ (xs : List ℕ). conveyed reply_in (messages Responder xs)) at.down_got ∙ replies-downward credits n.heard small few
+
+-- a call that has its outcome is not handed over again
+done_for-done : (credits : ℕ) (run : List Mark) (n : Counts) (k : ℕ) → At credits run n → 0 < k → k ≤ n.done → done_for the_link run (accepted_call k) ≡ []
+done_for-done credits run n k at lt le =
+    let known : list_any (λ c. eqb c.xid k) (completed the_link run) ≡ true =
+      ap (list_any (λ (c : Completed). eqb c.xid k)) at.completed_are ∙ list_any-each (λ (c : Completed). eqb c.xid k) completed_call n.done k lt le (eq-eqb k k refl) in
+    rw known refl
+
+not_done : (credits : ℕ) (run : List Mark) (n : Counts) (k : ℕ) → At credits run n → n.done < k → list_any (λ c. eqb c.xid k) (completed the_link run) ≡ false
+not_done credits run n k at lt =
+    ap (list_any (λ (c : Completed). eqb c.xid k)) at.completed_are
+    ∙ list_any-none (λ (c : Completed). eqb c.xid k) completed_call n.done (λ j pos le. ne_eqb j k (λ e. omega (arith, e)))
+
+-- one whose reply hasn't come isn't handed over
+done_for-out : (credits : ℕ) (run : List Mark) (n : Counts) (k : ℕ) → At credits run n → n.done < k → n.heard < k → n.heard < 2 ^ 32 → credits < 2 ^ 32 → done_for the_link run (accepted_call k) ≡ []
+done_for-out credits run n k at lt later small few =
+    let none : find (λ reply. eqb reply.xid k) (conveyed reply_in (heard the_link run)) ≡ None =
+      ap (find (λ (reply : Conveyed). eqb reply.xid k)) (replies-are credits run n at small few ∙ sym (append-nil (each conveyed_reply n.heard)))
+      ∙ find-past (λ (reply : Conveyed). eqb reply.xid k) conveyed_reply n.heard [] (λ j pos le. ne_eqb j k (λ e. omega (arith, e))) in
+    rw (not_done credits run n k at lt, none) refl
+
+-- the last reply's call is handed over
+done_for-last : (credits : ℕ) (run : List Mark) (n : Counts) (k : ℕ) → At credits run n → n.done < suc k → n.heard ≡ suc k → n.heard < 2 ^ 32 → credits < 2 ^ 32 → done_for the_link run (accepted_call (suc k)) ≡ complete (suc k) ∷ []
+done_for-last credits run n k at lt last small few =
+    let p = λ (reply : Conveyed). eqb reply.xid (suc k) in
+    let found : find p (conveyed reply_in (heard the_link run)) ≡ Some (conveyed_reply (suc k)) =
+      ap (find p) (replies-are credits run n at small few ∙ ap (each conveyed_reply) last)
+      ∙ find-past p conveyed_reply k (conveyed_reply (suc k) ∷ []) (λ j pos le. ne_eqb j (suc k) (λ e. omega (arith, e)))
+      ∙ ap (λ (b : Bool). cond b (Some (conveyed_reply (suc k))) None) (eq-eqb (suc k) (suc k) refl) in
+    rw (not_done credits run n (suc k) at lt, found) refl
+
+-- what is handed over
+none_taken : (credits : ℕ) (run : List Mark) (n : Counts) → At credits run n → n.heard ≡ n.done → n.heard < 2 ^ 32 → credits < 2 ^ 32 → flat_map (done_for the_link run) (accepted the_link run) ≡ []
+none_taken credits run n at same small few =
+    ap (flat_map (done_for the_link run)) at.accepted_are
+    ∙ flat_map-each (done_for the_link run) accepted_call n.asked (λ k lt le.
+      elim (cases_lt n.done k) [
+        | inl out ↦ done_for-out credits run n k at out (omega arith) small few
+        | inr done ↦ done_for-done credits run n k at lt done
+      ])
+
+last_taken : (credits : ℕ) (run : List Mark) (n : Counts) (k : ℕ) → At credits run n → n.asked ≡ suc k → n.heard ≡ suc k → n.done ≡ k → n.heard < 2 ^ 32 → credits < 2 ^ 32 → flat_map (done_for the_link run) (accepted the_link run) ≡ complete (suc k) ∷ []
+last_taken credits run n k at all last before small few =
+    ap (flat_map (done_for the_link run)) (at.accepted_are ∙ ap (each accepted_call) all)
+    ∙ flat_map-more (done_for the_link run) (each accepted_call k) (accepted_call (suc k))
+    ∙ ap (λ (xs : List Mark). xs ++ done_for the_link run (accepted_call (suc k))) (flat_map-each (done_for the_link run) accepted_call k (λ j lt le. done_for-done credits run n j at lt (omega arith)))
+    ∙ done_for-last credits run n k at (omega arith) last small few
+
+-- ---- the step
+
+heard_by-none : (s : State) (bytes : List ℕ) → bytes ≡ [] → heard_by s bytes ≡ s
+heard_by-none s bytes e = rw e refl
+
+heard_by-some : (s : State) (bytes : List ℕ) → 0 < length bytes → heard_by s bytes ≡ done_by (fed_down s) (option_and_then reply_in (ended_by (segment_in bytes)))
+heard_by-some s [] lt = absurd (omega arith)
+heard_by-some s (b ∷ bytes) lt = refl
+
+down-none : (s : State) → Stands s → s.served ≡ length s.told → waiting_in s.down ≡ []
+down-none s st all =
+    let log : s.down.log ≡ downward s.credits s.served = ap (λ (p : PipeState). p.log) st.down_is in
+    let place : s.down.place ≡ length (downward s.credits (length s.told)) = ap (λ (p : PipeState). p.place) st.down_is in
+    drop_all s.down.place s.down.log (omega (arith, place, ap length log, ap (λ (k : ℕ). length (downward s.credits k)) all))
+
+down-one : (s : State) → Stands s → s.served ≡ suc (length s.told) → waiting_in s.down ≡ answer s.credits (suc (length s.told))
+down-one s st next =
+    let k = length s.told in
+    let log : s.down.log ≡ downward s.credits k ++ answer s.credits (suc k) = ap (λ (p : PipeState). p.log) st.down_is ∙ ap (downward s.credits) next ∙ downward-more s.credits k in
+    let place : s.down.place ≡ length (downward s.credits k) = ap (λ (p : PipeState). p.place) st.down_is in
+    ap (λ (j : ℕ). drop j s.down.log) place ∙ behind_part s.down.log (downward s.credits k) (answer s.credits (suc k)) log
+
+taken-none : (credits : ℕ) (d : Drill) (n : Counts) → At credits d.marks n → n.heard ≡ n.done → n.heard < 2 ^ 32 → credits < 2 ^ 32 → taken the_link d ≡ d
+unfolding taken
+taken-none credits d n at same small few =
+    ap (λ (xs : List Mark). record { marks = d.marks ++ xs; ways = d.ways; seconds = d.seconds }) (none_taken credits d.marks n at same small few)
+    ∙ ap (λ (xs : List Mark). record { marks = xs; ways = d.ways; seconds = d.seconds }) (append-nil d.marks)
+
+hears_none : (s : State) → Stands s → s.served ≡ length s.told → Hears s (heard_state s)
+unfolding heard_state down_by
+hears_none s st all =
+    let w = words_of s st in
+    let c = s.credits in
+    let none = down-none s st all in
+    let same : heard_state s ≡ s = heard_by-none s (waiting_in s.down) none in
+    let d = drill_of s in
+    let small : length s.told < 2 ^ 32 = omega (arith, w.small, st.heard_served, st.came_asked) in
+    let fed = feeding-none Initiator (take (length (waiting_in s.down)) (waiting_in s.down)) (record { up = waiting_in s.up; down = drop (length (waiting_in s.down)) (waiting_in s.down) }) d (take_length (waiting_in s.down) ∙ none) in
+    let makes : all_down (drill_opened c) the_link d ≡ d =
+      ap (λ (x : Drill). settled (drill_opened c) the_link (taken the_link x)) fed
+      ∙ ap (settled (drill_opened c) the_link) (taken-none c d (counts_of s) st.at refl small w.few)
+      ∙ settled-none c d (counts_of s) st.at refl refl in
+    subst (λ (t : State). Hears s t) (sym same) (record {
+      stands = st; asked_is = refl; credits_are = refl; makes = sym makes;
+      all = sym all;
+      moved = ap is_some_byte none ∙ sym (le-ltb (length s.told) s.served (omega (arith, all)));
+      still = λ e. refl;
+    })
+
+-- the state after the k-th reply was handed over, told of a place and under a number
+abbrev after_heard : State → ℕ → ℕ → ℕ → State
+after_heard s k place number = record {
+    credits = s.credits; marks = (s.marks ++ feed_down s.credits k ∷ []) ++ complete k ∷ []; up = s.up; down = all_read s.down;
+    asked = s.asked; arrived = s.arrived; served = s.served; entries = s.entries; place = s.place;
+    told = s.told ++ record { client = the_link; number = number; fate = fates.Answered (Some place) (outcomes.Reply (null_reply k)) } ∷ [];
+  }
+
+abbrev fed_with : State → List ℕ → State
+fed_with s bytes = record {
+    credits = s.credits; marks = s.marks ++ marks.Fed the_link Initiator bytes ∷ []; up = s.up; down = all_read s.down;
+    asked = s.asked; arrived = s.arrived; served = s.served; entries = s.entries; place = s.place; told = s.told;
+  }
+
+heard-is : (s : State) (k : ℕ) → waiting_in s.down ≡ answer s.credits k → k < 2 ^ 32 → s.credits < 2 ^ 32 → heard_state s ≡ after_heard s k s.place (length s.told + 1)
+unfolding heard_state
+heard-is s k waits small few =
+    let some : 0 < length (waiting_in s.down) = omega (arith, some_answer s.credits k small, ap length waits) in
+    let first : heard_by s (waiting_in s.down) ≡ done_by (fed_with s (waiting_in s.down)) (option_and_then reply_in (ended_by (segment_in (waiting_in s.down)))) = heard_by-some s (waiting_in s.down) some in
+    first
+    ∙ ap (λ (bytes : List ℕ). done_by (fed_with s bytes) (option_and_then reply_in (ended_by (segment_in bytes)))) waits
+    ∙ ap (done_by (fed_with s (answer s.credits k))) (answer-conveys s.credits k small few)
+
+hears_one : (s : State) → Stands s → s.served ≡ suc (length s.told) → s.arrived ≡ None → Hears s (heard_state s)
+unfolding down_by taken
+hears_one s st next none =
+    let w = words_of s st in
+    let c = s.credits in
+    let n = counts_of s in
+    let h = length s.told in
+    let k = suc h in
+    let small : k < 2 ^ 32 = omega (arith, w.small, next, st.came_asked) in
+    let all_asked : s.asked ≡ k = omega (arith, next, st.came_asked, st.one_out) in
+    let waits = down-one s st next in
+    let new = after_heard s k 0 k in
+    let same : heard_state s ≡ new =
+      heard-is s k waits small w.few ∙ ap (λ (p : ℕ). after_heard s k p (h + 1)) st.no_place ∙ ap (after_heard s k 0) (add-one h) in
+    let run = s.marks ++ feed_down c k ∷ [] in
+    let n1 : Counts = record n { heard = k } in
+    let at1 : At c run n1 = At-feed_down c s.marks n st.at in
+    let laws1 = Laws-feed_down c s.marks n st.at st.laws next in
+    let at2 : At c (run ++ complete k ∷ []) (record n1 { done = k }) = At-complete c run n1 at1 (omega (arith, next)) in
+    let laws2 = Laws-complete c run n1 at1 laws1 (omega arith) (omega (arith, all_asked)) (omega (arith, next)) small w.few in
+    let told_len : length new.told ≡ k = (length_push s.told (told_call k) ∙ add-one h) in
+    let told_now : new.told ≡ each told_call k = ap (λ (xs : List Told). xs ++ told_call k ∷ []) st.told_is in
+    let log : s.down.log ≡ downward c s.served = ap (λ (p : PipeState). p.log) st.down_is in
+    let d = drill_of s in
+    let up = waiting_in s.up in
+    let fed_drill : Drill = record { marks = run; ways = record { up = up; down = [] } ∷ []; seconds = 0 } in
+    let last : Drill = record { marks = run ++ complete k ∷ []; ways = record { up = up; down = [] } ∷ []; seconds = 0 } in
+    let some : 0 < length (waiting_in s.down) = omega (arith, some_answer c k small, ap length waits) in
+    let fed : feeding the_link Initiator (take (length (waiting_in s.down)) (waiting_in s.down)) (record { up = up; down = drop (length (waiting_in s.down)) (waiting_in s.down) }) d ≡ fed_drill =
+      ap (λ (xs : List ℕ). feeding the_link Initiator xs (record { up = up; down = drop (length (waiting_in s.down)) (waiting_in s.down) }) d) (take_length (waiting_in s.down))
+      ∙ ap (λ (xs : List ℕ). feeding the_link Initiator (waiting_in s.down) (record { up = up; down = xs }) d) (drop_length (waiting_in s.down))
+      ∙ feeding-some Initiator (waiting_in s.down) (record { up = up; down = [] }) d some
+      ∙ ap (λ (xs : List ℕ). record { marks = s.marks ++ marks.Fed the_link Initiator xs ∷ []; ways = record { up = up; down = [] } ∷ []; seconds = 0 }) waits in
+    let handed = last_taken c run n1 h at1 all_asked refl refl small w.few in
+    let makes : all_down (drill_opened c) the_link d ≡ last =
+      ap (λ (x : Drill). settled (drill_opened c) the_link (taken the_link x)) fed
+      ∙ ap (λ (xs : List Mark). settled (drill_opened c) the_link (record { marks = run ++ xs; ways = record { up = up; down = [] } ∷ []; seconds = 0 })) handed
+      ∙ settled-none c last (record n1 { done = k }) at2 refl refl in
+    let read : waiting_in (all_read s.down) ≡ [] = drop_all (length s.down.log) s.down.log (omega arith) in
+    let both : At c (run ++ complete k ∷ []) (record n1 { heard = length new.told; done = length new.told }) =
+      subst (λ (j : ℕ). At c (run ++ complete k ∷ []) (record n1 { heard = j; done = j })) (sym told_len) at2 in
+    subst (λ (t : State). Hears s t) (sym same) (record {
+      stands = record {
+        at = both;
+        laws = laws2;
+        arrived_is = st.arrived_is;
+        up_is = st.up_is;
+        down_is = pipe_is (all_read s.down) (downward c s.served) (length (downward c (length new.told))) log (ap length log ∙ ap (λ (j : ℕ). length (downward c j)) (next ∙ sym told_len)) (ap (λ (p : PipeState). p.faults) st.down_is);
+        told_is = told_now ∙ ap (each told_call) (sym told_len);
+        no_entries = st.no_entries;
+        no_place = st.no_place;
+        heard_served = omega (arith, told_len, next);
+        came_asked = st.came_asked;
+        one_out = omega (arith, told_len, st.one_out);
+        some_credits = st.some_credits;
+        few_credits = st.few_credits;
+        few_calls = st.few_calls;
+      };
+      asked_is = refl; credits_are = refl;
+      makes = ap (λ (down : List ℕ). record { marks = run ++ complete k ∷ []; ways = record { up = up; down = down } ∷ []; seconds = 0 }) read ∙ sym makes;
+      all = told_len ∙ sym next;
+      moved = some_bytes (waiting_in s.down) some ∙ sym (lt-ltb h s.served (omega (arith, next)));
+      still = λ e. absurd (omega (arith, e, next));
+    })
+
+pub hears : (s : State) → Stands s → s.arrived ≡ None → Hears s (heard_state s)
+hears s st none =
+    let out : arrived_one s.arrived ≡ 0 = ap arrived_one none in
+    elim (cases_lt (length s.told) s.served) [
+      | inl more ↦ hears_one s st (omega (arith, more, st.came_asked, st.one_out)) none
+      | inr all ↦ hears_none s st (omega (arith, all, st.heard_served))
+    ]

@@ -1,0 +1,221 @@
+-- Each mark of a drill keeps the laws of a run.
+use Rattle.std.proofs.Common.{◌≡◌, ◌≢◌, ℕ, zero, suc, ◌+◌, ◌-◌, ◌^◌, ◌<◌, ◌≤◌, Bool, true, false, not, cond, ◌||◌, eqb, inl, inr, List, [], ◌∷◌, ◌++◌, length, Option, Some, None, Contains, slice_get, count_by, refl, sym, ap, subst, ◌∙◌, append_assoc, arith, add-one, one-add}
+use Rattle.std.specs.List.{list_any}
+use Rattle.std.proofs.lemmas.Bool.{eq-eqb, cases_lt}
+use Rattle.std.proofs.lemmas.Bool.Decides.{nat_tests}
+use Rattle.std.proofs.lemmas.List.{append-nil}
+use Rattle.std.proofs.lemmas.List.Folds.{list_any-append}
+use Rattle.std.proofs.lemmas.List.Sums.{sum_by_push}
+use Rattle.nr_wire.specs.declared.hello.Side.TheVariants.{Initiator, Responder}
+use Rattle.nr_world.specs.declared.call.Outcome.TheVariants as outcomes
+use Rattle.nr_world.specs.declared.mark.Mark.{Mark}
+use Rattle.nr_world.specs.declared.message.Conveyed.{Conveyed}
+use Rattle.nr_world.specs.Observed.{Accepted, Executed, Completed, accepted, executed, completed, journal, got, sent}
+use Rattle.nr_world.specs.Messages.{conveyed, messages, call_in, reply_in, xid_in, credit_in}
+use Rattle.nr_world.specs.Window.{heard, is_heard, out_of, credits_by, granted_by, grant_of, most_credits}
+use Rattle.nr_world.specs.Asked.{Completes, IsHeard}
+use Rattle.nr_world.specs.Served.{came, next_call, Executes}
+use Rattle.nr_world.specs.Matched.{IsPrefixOf}
+use Rattle.nr_world.specs.Completion.{IsAnswered}
+use Rattle.nr_world.specs.Follows.{drill_opened}
+use Rattle.nr_world.specs.Plain.{null_reply, drill_server}
+use Rattle.nr_world.specs.Steps.{the_link, null, asked_payload, ask, answer}
+use Rattle.nr_world.specs.Stands.{joined, each, upward, downward, accepted_call, executed_call, completed_call, Counts, At, Laws}
+use Rattle.nr_world.proofs.Runs.{Along-more, length-each, Contains-each, each-within, slice_get-each}
+use Rattle.nr_world.proofs.Nulls.{plain_reply-asked}
+use Rattle.nr_world.proofs.Inline.{words_of}
+use Rattle.nr_world.proofs.Frames.{messages-downward, calls-upward, replies-downward, conveyed_call, conveyed_reply, answered_message}
+use Rattle.nr_world.proofs.Marking.{upward-more, downward-more}
+use Rattle.nr_world.proofs.OneMark.{submit, write_up, write_down, feed_up, feed_down, execute, complete}
+
+-- what the client heard
+heard-are : (credits : ℕ) (run : List Mark) (n : Counts) → At credits run n → n.heard < 2 ^ 32 → heard the_link run ≡ each (answered_message credits) n.heard
+heard-are credits run n at small = ap (messages Responder) at.down_got ∙ messages-downward credits n.heard small
+
+-- nothing is out once every call is heard
+or-true : (b : Bool) → (b || true) ≡ true
+or-true true = refl
+or-true false = refl
+
+pub list_any-each : {X : Type 0} (p : X → Bool) (f : ℕ → X) (n k : ℕ) → 0 < k → k ≤ n → p (f k) ≡ true → list_any p (each f n) ≡ true
+list_any-each p f zero k lt le e = absurd (omega arith)
+list_any-each p f (suc n) k lt le e =
+    let step = list_any-append p (each f n) (f (suc n) ∷ []) in
+    elim (cases_lt n k) [
+      | inl last ↦
+        let is : k ≡ suc n = omega arith in
+        let own : p (f (suc n)) ≡ true = subst (λ (j : ℕ). p (f j) ≡ true) is e in
+        step ∙ ap (λ (b : Bool). list_any p (each f n) || (b || false)) own ∙ or-true (list_any p (each f n))
+      | inr before ↦ step ∙ ap (λ (b : Bool). b || list_any p (f (suc n) ∷ [])) (list_any-each p f n k lt before e)
+    ]
+
+heard-one : (credits n k : ℕ) → 0 < k → k ≤ n → n < 2 ^ 32 → credits < 2 ^ 32 → is_heard (each (answered_message credits) n) (accepted_call k) ≡ true
+heard-one credits n k lt le small few =
+    list_any-each (λ message. eqb (xid_in message) k) (answered_message credits) n k lt le
+      (eq-eqb (xid_in (answered_message credits k)) k (words_of k credits (null_reply k) (omega arith) few).xid_is)
+
+none_out : (credits : ℕ) (n m : ℕ) → m ≤ n → n < 2 ^ 32 → credits < 2 ^ 32 → count_by (λ a. not (is_heard (each (answered_message credits) n) a)) (each accepted_call m) ≡ 0
+none_out credits n zero le small few = refl
+none_out credits n (suc m) le small few =
+    let p = λ (a : Accepted). not (is_heard (each (answered_message credits) n) a) in
+    let one : p (accepted_call (suc m)) ≡ false = ap not (heard-one credits n (suc m) (omega arith) le small few) in
+    sum_by_push (λ a. cond (p a) 1 0) (each accepted_call m) (accepted_call (suc m))
+    ∙ ap (λ (b : Bool). count_by p (each accepted_call m) + cond b 1 0) one
+    ∙ omega (arith, none_out credits n m (omega arith) small few)
+
+some_credit : (credit : ℕ) → 0 < credits_by credit
+some_credit credit = grind (arith, nat_tests)
+
+some_granted : (whole : List (List ℕ)) (n : ℕ) → 0 < n → 0 < granted_by whole n
+some_granted [] n lt = lt
+some_granted (m ∷ ms) n lt = some_granted ms (credits_by (credit_in m)) (some_credit (credit_in m))
+
+pub out_of-none : (credits : ℕ) (run : List Mark) (n : Counts) → At credits run n → n.asked ≡ n.heard → n.heard < 2 ^ 32 → credits < 2 ^ 32 → out_of the_link run ≡ 0
+unfolding out_of
+out_of-none credits run n at all small few =
+    ap (λ (whole : List (List ℕ)). count_by (λ a. not (is_heard whole a)) (accepted the_link run)) (heard-are credits run n at small)
+    ∙ ap (λ (as_ : List Accepted). count_by (λ a. not (is_heard (each (answered_message credits) n.heard) a)) as_) at.accepted_are
+    ∙ none_out credits n.heard n.asked (omega arith) small few
+
+pub grant_of-some : (run : List Mark) → 0 < grant_of the_link run
+unfolding grant_of
+grant_of-some run = some_granted (heard the_link run) 1 (omega arith)
+
+pub Laws-submit : (credits : ℕ) (run : List Mark) (n : Counts) → At credits run n → Laws credits run → n.asked ≡ n.heard → n.heard < 2 ^ 32 → credits < 2 ^ 32 → Laws credits (run ++ submit (suc n.asked) ∷ [])
+Laws-submit credits run n at laws all small few =
+    let m = submit (suc n.asked) in
+    let none = out_of-none credits run n at all small few in
+    let some = grant_of-some run in
+    let len = ap length at.accepted_are ∙ length-each accepted_call n.asked in
+    record {
+      asked = Along-more _ [] run m laws.asked (λ e. omega (arith, len));
+      served = Along-more _ [] run m laws.served tt;
+      matched = Along-more _ [] run m laws.matched tt;
+      grant = Along-more _ [] run m laws.grant (λ e. omega (arith, none, some));
+      faithful = Along-more _ [] run m laws.faithful tt;
+      unrefused = Along-more _ [] run m laws.unrefused tt;
+    }
+
+pub Laws-write_up : (credits : ℕ) (run : List Mark) (n : Counts) → At credits run n → Laws credits run → n.asked ≡ suc n.sent_up → Laws credits (run ++ write_up credits (suc n.sent_up) ∷ [])
+Laws-write_up credits run n at laws next =
+    let m = write_up credits (suc n.sent_up) in
+    let all : sent the_link Initiator run ++ ask credits (suc n.sent_up) ≡ upward credits (suc n.sent_up) =
+      ap (λ (xs : List ℕ). xs ++ ask credits (suc n.sent_up)) at.up_sent ∙ sym (upward-more credits n.sent_up) in
+    record {
+      asked = Along-more _ [] run m laws.asked (λ e. all ∙ ap (upward credits) (sym next) ∙ sym at.up_owed);
+      served = Along-more _ [] run m laws.served tt;
+      matched = Along-more _ [] run m laws.matched tt;
+      grant = Along-more _ [] run m laws.grant tt;
+      faithful = Along-more _ [] run m laws.faithful tt;
+      unrefused = Along-more _ [] run m laws.unrefused tt;
+    }
+
+pub Laws-write_down : (credits : ℕ) (run : List Mark) (n : Counts) → At credits run n → Laws credits run → n.served ≡ suc n.sent_down → Laws credits (run ++ write_down credits (suc n.sent_down) ∷ [])
+Laws-write_down credits run n at laws next =
+    let m = write_down credits (suc n.sent_down) in
+    let all : sent the_link Responder run ++ answer credits (suc n.sent_down) ≡ downward credits (suc n.sent_down) =
+      ap (λ (xs : List ℕ). xs ++ answer credits (suc n.sent_down)) at.down_sent ∙ sym (downward-more credits n.sent_down) in
+    record {
+      asked = Along-more _ [] run m laws.asked tt;
+      served = Along-more _ [] run m laws.served (λ e. all ∙ ap (downward credits) (sym next) ∙ sym at.down_owed);
+      matched = Along-more _ [] run m laws.matched tt;
+      grant = Along-more _ [] run m laws.grant tt;
+      faithful = Along-more _ [] run m laws.faithful tt;
+      unrefused = Along-more _ [] run m laws.unrefused tt;
+    }
+
+pub Laws-feed_up : (credits : ℕ) (run : List Mark) (n : Counts) → At credits run n → Laws credits run → n.sent_up ≡ suc n.came → Laws credits (run ++ feed_up credits (suc n.came) ∷ [])
+Laws-feed_up credits run n at laws next =
+    let m = feed_up credits (suc n.came) in
+    let all : got the_link Responder run ++ ask credits (suc n.came) ≡ sent the_link Initiator run =
+      ap (λ (xs : List ℕ). xs ++ ask credits (suc n.came)) at.up_got ∙ sym (upward-more credits n.came) ∙ ap (upward credits) (sym next) ∙ sym at.up_sent in
+    record {
+      asked = Along-more _ [] run m laws.asked tt;
+      served = Along-more _ [] run m laws.served tt;
+      matched = Along-more _ [] run m laws.matched (λ e. ([], append-nil (got the_link Responder run ++ ask credits (suc n.came)) ∙ all));
+      grant = Along-more _ [] run m laws.grant tt;
+      faithful = Along-more _ [] run m laws.faithful tt;
+      unrefused = Along-more _ [] run m laws.unrefused tt;
+    }
+
+pub Laws-feed_down : (credits : ℕ) (run : List Mark) (n : Counts) → At credits run n → Laws credits run → n.sent_down ≡ suc n.heard → Laws credits (run ++ feed_down credits (suc n.heard) ∷ [])
+Laws-feed_down credits run n at laws next =
+    let m = feed_down credits (suc n.heard) in
+    let all : got the_link Initiator run ++ answer credits (suc n.heard) ≡ sent the_link Responder run =
+      ap (λ (xs : List ℕ). xs ++ answer credits (suc n.heard)) at.down_got ∙ sym (downward-more credits n.heard) ∙ ap (downward credits) (sym next) ∙ sym at.down_sent in
+    record {
+      asked = Along-more _ [] run m laws.asked tt;
+      served = Along-more _ [] run m laws.served tt;
+      matched = Along-more _ [] run m laws.matched (λ e. ([], append-nil (got the_link Initiator run ++ answer credits (suc n.heard)) ∙ all));
+      grant = Along-more _ [] run m laws.grant tt;
+      faithful = Along-more _ [] run m laws.faithful tt;
+      unrefused = Along-more _ [] run m laws.unrefused tt;
+    }
+
+-- the call that came and isn't executed
+pub next_call-is : (credits : ℕ) (run : List Mark) (n : Counts) → At credits run n → n.served < n.came → n.came < 2 ^ 32 → credits < 2 ^ 32 → next_call the_link run ≡ Some (conveyed_call (suc n.served))
+unfolding next_call
+next_call-is credits run n at lt small few =
+    let calls : came the_link run ≡ each conveyed_call n.came =
+      ap (λ (xs : List ℕ). conveyed call_in (messages Initiator xs)) at.up_got ∙ calls-upward credits n.came small few in
+    let len : length (executed the_link run) ≡ n.served = ap length at.executed_are ∙ length-each executed_call n.served in
+    ap (λ (cs : List Conveyed). slice_get cs (length (executed the_link run))) calls
+    ∙ ap (slice_get (each conveyed_call n.came)) len ∙ slice_get-each conveyed_call n.served n.came lt
+
+pub executes-is : (credits : ℕ) (run : List Mark) (n : Counts) → At credits run n → n.served < n.came → n.came < 2 ^ 32 → credits < 2 ^ 32 → Executes drill_server the_link run (suc n.served) (record { seconds = 0; nanos = 0 }) (asked_payload (suc n.served)) 0 (null_reply (suc n.served))
+executes-is credits run n at lt small few = record {
+    is_next = next_call-is credits run n at lt small few;
+    placed = sym (ap length at.no_entries);
+    replied = plain_reply-asked (suc n.served) (omega arith);
+  }
+
+pub Laws-execute : (credits : ℕ) (run : List Mark) (n : Counts) → At credits run n → Laws credits run → n.served < n.came → n.came < 2 ^ 32 → credits < 2 ^ 32 → Laws credits (run ++ execute (suc n.served) ∷ [])
+Laws-execute credits run n at laws lt small few =
+    let m = execute (suc n.served) in
+    record {
+      asked = Along-more _ [] run m laws.asked tt;
+      served = Along-more _ [] run m laws.served (λ e. executes-is credits run n at lt small few);
+      matched = Along-more _ [] run m laws.matched tt;
+      grant = Along-more _ [] run m laws.grant tt;
+      faithful = Along-more _ [] run m laws.faithful tt;
+      unrefused = Along-more _ [] run m laws.unrefused tt;
+    }
+
+-- the next reply's call has no outcome so far, and gets its own
+pub completes-is : (credits : ℕ) (run : List Mark) (n : Counts) → At credits run n → n.done < n.heard → n.heard ≤ n.asked → n.heard < 2 ^ 32 → credits < 2 ^ 32 → Completes the_link run (suc n.done) (outcomes.Reply (null_reply (suc n.done)))
+completes-is credits run n at lt le small few =
+    let k = suc n.done in
+    let replies : conveyed reply_in (heard the_link run) ≡ each conveyed_reply n.heard =
+      ap (λ (xs : List ℕ). conveyed reply_in (messages Responder xs)) at.down_got ∙ replies-downward credits n.heard small few in
+    record {
+      asked = (accepted_call k, subst (λ (as_ : List Accepted). Contains as_ (accepted_call k)) (sym at.accepted_are) (Contains-each accepted_call n.asked k (omega arith) (omega arith)), refl);
+      first = λ c held e.
+        let of = each-within completed_call n.done c (subst (λ (cs : List Completed). Contains cs c) at.completed_are held) in
+        let same : of.0 ≡ c.xid = ap (λ (d : Completed). d.xid) of.3 in
+        absurd (omega (arith, of.2, same, e));
+      heard = subst (λ (rs : List Conveyed). Contains rs (conveyed_reply k)) (sym replies) (Contains-each conveyed_reply n.heard k (omega arith) (omega arith));
+    }
+
+pub answered-is : (credits : ℕ) (run : List Mark) (n : Counts) → At credits run n → n.done < n.served → n.done < n.asked → IsAnswered the_link run (suc n.done) (null_reply (suc n.done))
+answered-is credits run n at lt le =
+    let k = suc n.done in
+    record {
+      accepted = (accepted_call k,
+        subst (λ (as_ : List Accepted). Contains as_ (accepted_call k)) (sym at.accepted_are) (Contains-each accepted_call n.asked k (omega arith) (omega arith)),
+        refl,
+        (executed_call k,
+          subst (λ (es : List Executed). Contains es (executed_call k)) (sym at.executed_are) (Contains-each executed_call n.served k (omega arith) (omega arith)),
+          refl, refl, refl));
+    }
+
+pub Laws-complete : (credits : ℕ) (run : List Mark) (n : Counts) → At credits run n → Laws credits run → n.done < n.heard → n.heard ≤ n.asked → n.done < n.served → n.heard < 2 ^ 32 → credits < 2 ^ 32 → Laws credits (run ++ complete (suc n.done) ∷ [])
+Laws-complete credits run n at laws lt le later small few =
+    let m = complete (suc n.done) in
+    record {
+      asked = Along-more _ [] run m laws.asked (λ e. completes-is credits run n at lt le small few);
+      served = Along-more _ [] run m laws.served tt;
+      matched = Along-more _ [] run m laws.matched tt;
+      grant = Along-more _ [] run m laws.grant tt;
+      faithful = Along-more _ [] run m laws.faithful (λ e. answered-is credits run n at later (omega arith));
+      unrefused = Along-more _ [] run m laws.unrefused tt;
+    }

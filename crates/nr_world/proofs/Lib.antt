@@ -1,0 +1,17 @@
+pub mod Runs
+pub mod Nulls
+pub mod Inline
+pub mod Streams
+pub mod Frames
+pub mod Greetings
+pub mod Marking
+pub mod OneMark
+pub mod Lawful
+pub mod Settling
+pub mod Standing
+pub mod Serving
+pub mod Hearing
+pub mod Rounds
+pub mod Opening
+pub mod Reporting
+pub mod Parsing

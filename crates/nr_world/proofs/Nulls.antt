@@ -1,0 +1,46 @@
+-- The calls of these drills: their payloads, messages and Sends, written and read again.
+use Rattle.std.proofs.Common.{◌≡◌, ℕ, zero, suc, ◌+◌, ◌^◌, ◌<◌, ◌≤◌, Bool, true, false, cond, List, [], ◌∷◌, ◌++◌, length, take, drop, replicate, Option, Some, None, Ok, refl, sym, ap, ◌∙◌, append_assoc, arith, lit<}
+use Rattle.std.proofs.lemmas.List.{append-nil, length-append}
+use Rattle.nr_xdr.specs.Item.{word, word_of, pad_len}
+use Rattle.nr_xdr.proofs.Numbers.{length-word, word_of-word}
+use Rattle.nr_rpc.specs.declared.head.CallHead.{CallHead}
+use Rattle.nr_rpc.specs.declared.head.CallHead.TheVariants.{Version2}
+use Rattle.nr_rpc.specs.declared.head.ReplyHead.TheVariants as replies
+use Rattle.nr_rpc.specs.declared.cred.Cred.TheVariants as creds
+use Rattle.nr_rpc.specs.Reading.{call_of, reply_of}
+use Rattle.nr_rpc.specs.Call.{call_head, call_spelling}
+use Rattle.nr_rpc.specs.Reply.{reply_spelling}
+use Rattle.nr_rpc.proofs.Calls.{call_written}
+use Rattle.nr_rpc.proofs.Replies.{reply_written}
+use Rattle.nr_wire.specs.Numbers.{word_at}
+use Rattle.nr_world.specs.declared.plain.TheConstants.{NFS_PROGRAM, NFS_VERSION, NULL, SUCCESS}
+use Rattle.nr_world.specs.declared.message.Conveyed.{Conveyed}
+use Rattle.nr_world.specs.Messages.{fixed_part, no_lists, inline_header, inline_message, inline_header_len, is_inline, xid_in, credit_in, call_in, reply_in}
+use Rattle.nr_world.specs.Owed.{call_payload}
+use Rattle.nr_world.specs.Plain.{plain_reply, null_reply}
+use Rattle.nr_world.specs.Steps.{null, asked_payload}
+
+-- the head of the k-th call
+abbrev null_head : ℕ → CallHead
+null_head k = Version2 k NFS_PROGRAM NFS_VERSION NULL creds.None 0
+
+pub length-null_head : (k : ℕ) → length (call_head (null_head k)) ≡ 40
+unfolding pad_len
+length-null_head k = simp (length-append, length-word) refl
+
+pub length-asked_payload : (k : ℕ) → length (asked_payload k) ≡ 40
+unfolding call_payload
+length-asked_payload k = ap length (append-nil (call_head (null_head k))) ∙ length-null_head k
+
+pub length-null_reply : (k : ℕ) → length (null_reply k) ≡ 24
+unfolding pad_len
+length-null_reply k = simp (length-append, length-word) refl
+
+pub call_of-asked : (k : ℕ) → k < 2 ^ 32 → call_of (asked_payload k) ≡ Ok (Version2 k NFS_PROGRAM NFS_VERSION NULL creds.None 40)
+unfolding call_payload
+call_of-asked k lt =
+    call_written (null_head k) [] tt (lt, lit< tt, lit< tt, lit< tt, tt) ∙ ap (λ (n : ℕ). Ok (Version2 k NFS_PROGRAM NFS_VERSION NULL creds.None n)) (length-null_head k)
+
+pub plain_reply-asked : (k : ℕ) → k < 2 ^ 32 → plain_reply (asked_payload k) ≡ Some (null_reply k)
+unfolding plain_reply
+plain_reply-asked k lt = rw (call_of-asked k lt, length-asked_payload k) refl

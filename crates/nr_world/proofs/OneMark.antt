@@ -1,0 +1,271 @@
+-- Each mark of a drill raises one count.
+use Rattle.std.proofs.Common.{◌≡◌, ℕ, zero, suc, ◌+◌, ◌-◌, ◌^◌, ◌<◌, ◌≤◌, Bool, true, false, cond, not, eqb, List, [], ◌∷◌, ◌++◌, ◌&&◌, ◌||◌, length, Option, Some, None, refl, sym, ap, ◌∙◌, append_assoc, arith, add-one, add-zero}
+use Rattle.std.specs.List.{flat_map}
+use Rattle.std.proofs.lemmas.List.{append-nil, length-append}
+use Rattle.nr_wire.specs.declared.hello.Side.{Side}
+use Rattle.nr_wire.specs.declared.hello.Side.TheVariants.{Initiator, Responder}
+use Rattle.nr_world.specs.declared.call.Form.TheVariants.{Auto}
+use Rattle.nr_world.specs.declared.call.Outcome.TheVariants as outcomes
+use Rattle.nr_world.specs.declared.call.Submission.TheVariants as submissions
+use Rattle.nr_world.specs.declared.mark.Mark.{Mark}
+use Rattle.nr_world.specs.declared.mark.Mark.TheVariants as marks
+use Rattle.nr_world.specs.declared.report.Fate.{Fate}
+use Rattle.nr_world.specs.declared.report.Fate.TheVariants as fates
+use Rattle.std.proofs.lemmas.Bool.{false≢true, true≢false}
+use Rattle.std.proofs.lemmas.Bool.Decides.{nat_tests}
+use Rattle.std.proofs.lemmas.Bool.{eqb-true}
+use Rattle.nr_world.specs.Observed.{wrote, fed, sent, got, accepted_at, accepted, executed_at, executed, completed_at, completed, added, journal}
+use Rattle.nr_world.specs.Messages.{has_hello, send, inline_message}
+use Rattle.nr_world.specs.Owed.{own_hello, called_client, called_server, owed}
+use Rattle.nr_world.specs.Follows.{drill_opened}
+use Rattle.nr_world.specs.Plain.{null_reply, drill_server}
+use Rattle.nr_world.specs.Shown.{Seen, is_out, place_for, told_by, counted, seen_at, seen_of, asked_at, asked_by}
+use Rattle.nr_world.specs.Steps.{the_link, null, asked_payload, ask, answer}
+use Rattle.nr_world.specs.Stands.{joined, each, upward, downward, accepted_call, executed_call, completed_call, Counts, is_one_of, seen_by, told_in, At}
+use Rattle.nr_world.proofs.Runs.{flat_map-more, flat_map-none, length-each}
+use Rattle.nr_world.proofs.Marking.{keep, more, owed_up-more, owed_down-more, owed_up-kept, owed_down-kept, asked-more, seen-kept, seen-more, told-more, told-kept, upward-more, downward-more}
+use Rattle.nr_world.proofs.Streams.{has_hello-own}
+
+-- the client submits the next call
+abbrev pub submit : ℕ → Mark
+submit k = marks.Submit the_link null Auto (submissions.Accepted k)
+
+called_is : (credits : ℕ) (run : List Mark) (a : ℕ) → length (accepted the_link run) + 1 ≡ suc a → called_client (drill_opened credits) the_link run (submit (suc a)) ≡ ask credits (suc a)
+unfolding ask
+called_is credits run a len = ap (λ (k : ℕ). send k (inline_message (suc a) credits (asked_payload (suc a)))) len
+
+pub At-submit : (credits : ℕ) (run : List Mark) (n : Counts) → At credits run n → At credits (run ++ submit (suc n.asked) ∷ []) (record n { asked = suc n.asked })
+unfolding sent got accepted executed completed journal seen_by
+At-submit credits run n at =
+    let m = submit (suc n.asked) in
+    let len : length (accepted the_link run) + 1 ≡ suc n.asked = omega (arith, ap length at.accepted_are, length-each accepted_call n.asked) in
+    let call : called_client (drill_opened credits) the_link run m ≡ ask credits (suc n.asked) = called_is credits run n.asked len in
+    record {
+      up_sent = keep (wrote the_link Initiator) run m (upward credits n.sent_up) at.up_sent refl;
+      up_got = keep (fed the_link Responder) run m (upward credits n.came) at.up_got refl;
+      down_sent = keep (wrote the_link Responder) run m (downward credits n.sent_down) at.down_sent refl;
+      down_got = keep (fed the_link Initiator) run m (downward credits n.heard) at.down_got refl;
+      up_owed = owed_up-more (drill_opened credits) run m (upward credits n.asked) at.up_owed ∙ ap (λ (xs : List ℕ). upward credits n.asked ++ xs) call ∙ sym (upward-more credits n.asked);
+      down_owed = owed_down-kept (drill_opened credits) run m (downward credits n.served) at.down_owed refl;
+      accepted_are = more (accepted_at the_link) run m (each accepted_call n.asked) at.accepted_are;
+      executed_are = keep (executed_at the_link) run m (each executed_call n.served) at.executed_are refl;
+      completed_are = keep (completed_at the_link) run m (each completed_call n.done) at.completed_are refl;
+      asked_are = asked-more run m n.asked at.asked_are ∙ add-one n.asked;
+      no_entries = keep (added drill_server) run m [] at.no_entries refl;
+      told_are = λ last. told-more last run m (each (told_in last) n.asked) (at.told_are last) ∙ ap (λ (j : ℕ). each (told_in last) n.asked ++ record { client = the_link; number = j; fate = (seen_of drill_server the_link (suc n.asked) last).fate } ∷ []) (ap (λ (j : ℕ). j + 1) at.asked_are ∙ add-one n.asked);
+      seen_are = λ k. seen-kept k run m (seen_by n k) (at.seen_are k) refl refl;
+    }
+
+-- the client writes the next Send
+abbrev pub write_up : ℕ → ℕ → Mark
+write_up credits k = marks.Wrote the_link Initiator (ask credits k)
+
+pub At-write_up : (credits : ℕ) (run : List Mark) (n : Counts) → At credits run n → At credits (run ++ write_up credits (suc n.sent_up) ∷ []) (record n { sent_up = suc n.sent_up })
+unfolding sent got accepted executed completed journal seen_by
+At-write_up credits run n at =
+    let m = write_up credits (suc n.sent_up) in
+    record {
+      up_sent = more (wrote the_link Initiator) run m (upward credits n.sent_up) at.up_sent ∙ sym (upward-more credits n.sent_up);
+      up_got = keep (fed the_link Responder) run m (upward credits n.came) at.up_got refl;
+      down_sent = keep (wrote the_link Responder) run m (downward credits n.sent_down) at.down_sent refl;
+      down_got = keep (fed the_link Initiator) run m (downward credits n.heard) at.down_got refl;
+      up_owed = owed_up-kept (drill_opened credits) run m (upward credits n.asked) at.up_owed refl;
+      down_owed = owed_down-kept (drill_opened credits) run m (downward credits n.served) at.down_owed refl;
+      accepted_are = keep (accepted_at the_link) run m (each accepted_call n.asked) at.accepted_are refl;
+      executed_are = keep (executed_at the_link) run m (each executed_call n.served) at.executed_are refl;
+      completed_are = keep (completed_at the_link) run m (each completed_call n.done) at.completed_are refl;
+      asked_are = asked-more run m n.asked at.asked_are ∙ add-zero n.asked;
+      no_entries = keep (added drill_server) run m [] at.no_entries refl;
+      told_are = λ last. told-kept last run m (each (told_in last) n.asked) (at.told_are last) refl;
+      seen_are = λ k. seen-kept k run m (seen_by n k) (at.seen_are k) refl refl;
+    }
+
+-- the server writes the next reply's Send
+abbrev pub write_down : ℕ → ℕ → Mark
+write_down credits k = marks.Wrote the_link Responder (answer credits k)
+
+pub At-write_down : (credits : ℕ) (run : List Mark) (n : Counts) → At credits run n → At credits (run ++ write_down credits (suc n.sent_down) ∷ []) (record n { sent_down = suc n.sent_down })
+unfolding sent got accepted executed completed journal seen_by
+At-write_down credits run n at =
+    let m = write_down credits (suc n.sent_down) in
+    record {
+      up_sent = keep (wrote the_link Initiator) run m (upward credits n.sent_up) at.up_sent refl;
+      up_got = keep (fed the_link Responder) run m (upward credits n.came) at.up_got refl;
+      down_sent = more (wrote the_link Responder) run m (downward credits n.sent_down) at.down_sent ∙ sym (downward-more credits n.sent_down);
+      down_got = keep (fed the_link Initiator) run m (downward credits n.heard) at.down_got refl;
+      up_owed = owed_up-kept (drill_opened credits) run m (upward credits n.asked) at.up_owed refl;
+      down_owed = owed_down-kept (drill_opened credits) run m (downward credits n.served) at.down_owed refl;
+      accepted_are = keep (accepted_at the_link) run m (each accepted_call n.asked) at.accepted_are refl;
+      executed_are = keep (executed_at the_link) run m (each executed_call n.served) at.executed_are refl;
+      completed_are = keep (completed_at the_link) run m (each completed_call n.done) at.completed_are refl;
+      asked_are = asked-more run m n.asked at.asked_are ∙ add-zero n.asked;
+      no_entries = keep (added drill_server) run m [] at.no_entries refl;
+      told_are = λ last. told-kept last run m (each (told_in last) n.asked) (at.told_are last) refl;
+      seen_are = λ k. seen-kept k run m (seen_by n k) (at.seen_are k) refl refl;
+    }
+
+-- the server is fed the next call
+abbrev pub feed_up : ℕ → ℕ → Mark
+feed_up credits k = marks.Fed the_link Responder (ask credits k)
+
+-- its hello was whole before
+no_hello : (stream more : List ℕ) → has_hello Initiator stream ≡ true → cond (not (has_hello Initiator stream) && has_hello Initiator (stream ++ more)) (own_hello Responder) [] ≡ []
+no_hello stream more e = rw e refl
+
+hello_came : (credits n : ℕ) → has_hello Initiator (upward credits n) ≡ true
+unfolding upward
+hello_came credits n = has_hello-own Initiator (joined (ask credits) n)
+
+pub At-feed_up : (credits : ℕ) (run : List Mark) (n : Counts) → At credits run n → At credits (run ++ feed_up credits (suc n.came) ∷ []) (record n { came = suc n.came })
+unfolding sent got accepted executed completed journal seen_by
+At-feed_up credits run n at =
+    let m = feed_up credits (suc n.came) in
+    let quiet : called_server (drill_opened credits) the_link run m ≡ [] =
+      no_hello (got the_link Responder run) (ask credits (suc n.came)) (ap (has_hello Initiator) at.up_got ∙ hello_came credits n.came) in
+    record {
+      up_sent = keep (wrote the_link Initiator) run m (upward credits n.sent_up) at.up_sent refl;
+      up_got = more (fed the_link Responder) run m (upward credits n.came) at.up_got ∙ sym (upward-more credits n.came);
+      down_sent = keep (wrote the_link Responder) run m (downward credits n.sent_down) at.down_sent refl;
+      down_got = keep (fed the_link Initiator) run m (downward credits n.heard) at.down_got refl;
+      up_owed = owed_up-kept (drill_opened credits) run m (upward credits n.asked) at.up_owed refl;
+      down_owed = owed_down-kept (drill_opened credits) run m (downward credits n.served) at.down_owed quiet;
+      accepted_are = keep (accepted_at the_link) run m (each accepted_call n.asked) at.accepted_are refl;
+      executed_are = keep (executed_at the_link) run m (each executed_call n.served) at.executed_are refl;
+      completed_are = keep (completed_at the_link) run m (each completed_call n.done) at.completed_are refl;
+      asked_are = asked-more run m n.asked at.asked_are ∙ add-zero n.asked;
+      no_entries = keep (added drill_server) run m [] at.no_entries refl;
+      told_are = λ last. told-kept last run m (each (told_in last) n.asked) (at.told_are last) refl;
+      seen_are = λ k. seen-kept k run m (seen_by n k) (at.seen_are k) refl refl;
+    }
+
+-- the client is fed the next reply
+abbrev pub feed_down : ℕ → ℕ → Mark
+feed_down credits k = marks.Fed the_link Initiator (answer credits k)
+
+pub At-feed_down : (credits : ℕ) (run : List Mark) (n : Counts) → At credits run n → At credits (run ++ feed_down credits (suc n.heard) ∷ []) (record n { heard = suc n.heard })
+unfolding sent got accepted executed completed journal seen_by
+At-feed_down credits run n at =
+    let m = feed_down credits (suc n.heard) in
+    record {
+      up_sent = keep (wrote the_link Initiator) run m (upward credits n.sent_up) at.up_sent refl;
+      up_got = keep (fed the_link Responder) run m (upward credits n.came) at.up_got refl;
+      down_sent = keep (wrote the_link Responder) run m (downward credits n.sent_down) at.down_sent refl;
+      down_got = more (fed the_link Initiator) run m (downward credits n.heard) at.down_got ∙ sym (downward-more credits n.heard);
+      up_owed = owed_up-kept (drill_opened credits) run m (upward credits n.asked) at.up_owed refl;
+      down_owed = owed_down-kept (drill_opened credits) run m (downward credits n.served) at.down_owed refl;
+      accepted_are = keep (accepted_at the_link) run m (each accepted_call n.asked) at.accepted_are refl;
+      executed_are = keep (executed_at the_link) run m (each executed_call n.served) at.executed_are refl;
+      completed_are = keep (completed_at the_link) run m (each completed_call n.done) at.completed_are refl;
+      asked_are = asked-more run m n.asked at.asked_are ∙ add-zero n.asked;
+      no_entries = keep (added drill_server) run m [] at.no_entries refl;
+      told_are = λ last. told-kept last run m (each (told_in last) n.asked) (at.told_are last) refl;
+      seen_are = λ k. seen-kept k run m (seen_by n k) (at.seen_are k) refl refl;
+    }
+
+-- the numbers from 1 to n + 1 are those to n, and n + 1
+is_one-more : (n k : ℕ) → is_one_of (suc n) k ≡ (is_one_of n k || eqb (suc n) k)
+is_one-more n k = grind (arith, nat_tests)
+
+is_one-below : (n m k : ℕ) → n ≤ m → is_one_of n k ≡ true → eqb (suc m) k ≡ false
+is_one-below n m k le e = grind (arith, nat_tests)
+
+-- what a call's execution says of it, and leaves of the others
+abbrev pub seen_so : Bool → Bool → Fate → Seen
+seen_so placed ended fate = record { entries = 0; place = cond placed (Some 0) None; fate = cond ended fate fates.Out }
+
+executed_so : (placed ended own : Bool) (reply : List ℕ) → (ended ≡ true → own ≡ false) →
+  counted drill_server (marks.Lost 0 0)
+    (cond (is_out (cond ended (fates.Answered (Some 0) (outcomes.Reply reply)) fates.Out))
+      (cond own (record { entries = 0; place = Some 0; fate = cond ended (fates.Answered (Some 0) (outcomes.Reply reply)) fates.Out }) (seen_so placed ended (fates.Answered (Some 0) (outcomes.Reply reply))))
+      (seen_so placed ended (fates.Answered (Some 0) (outcomes.Reply reply))))
+    ≡ seen_so (placed || own) ended (fates.Answered (Some 0) (outcomes.Reply reply))
+executed_so true true true reply h = absurd (true≢false (h refl))
+executed_so false true true reply h = absurd (true≢false (h refl))
+executed_so true true false reply h = refl
+executed_so false true false reply h = refl
+executed_so true false true reply h = refl
+executed_so false false true reply h = refl
+executed_so true false false reply h = refl
+executed_so false false false reply h = refl
+
+seen-executed : (n : Counts) (k : ℕ) → n.done ≤ n.served → seen_at drill_server the_link k (seen_by n k) (marks.Execute the_link (suc n.served) (record { seconds = 0; nanos = 0 }) (asked_payload (suc n.served)) 0 (null_reply (suc n.served))) ≡ seen_by (record n { served = suc n.served }) k
+unfolding seen_by
+seen-executed n k later =
+    executed_so (is_one_of n.served k) (is_one_of n.done k) (eqb (suc n.served) k) (null_reply k) (is_one-below n.done n.served k later)
+    ∙ ap (λ (b : Bool). seen_so b (is_one_of n.done k) (fates.Answered (Some 0) (outcomes.Reply (null_reply k)))) (sym (is_one-more n.served k))
+
+-- what its outcome says of it
+completed_so : (placed ended own : Bool) (reply payload : List ℕ) → (ended ≡ true → own ≡ false) → (own ≡ true → placed ≡ true) → (own ≡ true → payload ≡ reply) →
+  counted drill_server (marks.Lost 0 0)
+    (cond (is_out (cond ended (fates.Answered (Some 0) (outcomes.Reply reply)) fates.Out))
+      (cond own (record { entries = 0; place = cond placed (Some 0) None; fate = fates.Answered (place_for (outcomes.Reply payload) 0 (cond placed (Some 0) None)) (outcomes.Reply payload) }) (seen_so placed ended (fates.Answered (Some 0) (outcomes.Reply reply))))
+      (seen_so placed ended (fates.Answered (Some 0) (outcomes.Reply reply))))
+    ≡ seen_so placed (ended || own) (fates.Answered (Some 0) (outcomes.Reply reply))
+completed_so placed true true reply payload h g e = absurd (true≢false (h refl))
+completed_so placed true false reply payload h g e = refl
+completed_so true false true reply payload h g e = ap (λ (p : List ℕ). seen_so true true (fates.Answered (Some 0) (outcomes.Reply p))) (e refl)
+completed_so false false true reply payload h g e = absurd (false≢true (g refl))
+completed_so placed false false reply payload h g e = refl
+
+one_served : (n m k : ℕ) → n < m → eqb (suc n) k ≡ true → is_one_of m k ≡ true
+one_served n m k lt e = grind (arith, nat_tests)
+
+seen-completed : (n : Counts) (k : ℕ) → n.done < n.served → seen_at drill_server the_link k (seen_by n k) (marks.Done the_link (suc n.done) (outcomes.Reply (null_reply (suc n.done)))) ≡ seen_by (record n { done = suc n.done }) k
+unfolding seen_by
+seen-completed n k later =
+    completed_so (is_one_of n.served k) (is_one_of n.done k) (eqb (suc n.done) k) (null_reply k) (null_reply (suc n.done))
+      (is_one-below n.done n.done k (omega arith)) (one_served n.done n.served k later) (λ e. ap null_reply (eqb-true (suc n.done) k e))
+    ∙ ap (λ (b : Bool). seen_so (is_one_of n.served k) b (fates.Answered (Some 0) (outcomes.Reply (null_reply k)))) (sym (is_one-more n.done k))
+
+-- the next call is executed
+abbrev pub execute : ℕ → Mark
+execute k = marks.Execute the_link k (record { seconds = 0; nanos = 0 }) (asked_payload k) 0 (null_reply k)
+
+answered_is : (credits : ℕ) (run : List Mark) (e : ℕ) → length (executed the_link run) + 1 ≡ suc e → called_server (drill_opened credits) the_link run (execute (suc e)) ≡ answer credits (suc e)
+unfolding answer
+answered_is credits run e len = ap (λ (k : ℕ). send k (inline_message (suc e) credits (null_reply (suc e)))) len
+
+pub At-execute : (credits : ℕ) (run : List Mark) (n : Counts) → At credits run n → n.done ≤ n.served → At credits (run ++ execute (suc n.served) ∷ []) (record n { served = suc n.served })
+unfolding sent got accepted executed completed journal
+At-execute credits run n at later =
+    let m = execute (suc n.served) in
+    let len : length (executed the_link run) + 1 ≡ suc n.served = omega (arith, ap length at.executed_are, length-each executed_call n.served) in
+    record {
+      up_sent = keep (wrote the_link Initiator) run m (upward credits n.sent_up) at.up_sent refl;
+      up_got = keep (fed the_link Responder) run m (upward credits n.came) at.up_got refl;
+      down_sent = keep (wrote the_link Responder) run m (downward credits n.sent_down) at.down_sent refl;
+      down_got = keep (fed the_link Initiator) run m (downward credits n.heard) at.down_got refl;
+      up_owed = owed_up-kept (drill_opened credits) run m (upward credits n.asked) at.up_owed refl;
+      down_owed = owed_down-more (drill_opened credits) run m (downward credits n.served) at.down_owed ∙ ap (λ (xs : List ℕ). downward credits n.served ++ xs) (answered_is credits run n.served len) ∙ sym (downward-more credits n.served);
+      accepted_are = keep (accepted_at the_link) run m (each accepted_call n.asked) at.accepted_are refl;
+      executed_are = more (executed_at the_link) run m (each executed_call n.served) at.executed_are;
+      completed_are = keep (completed_at the_link) run m (each completed_call n.done) at.completed_are refl;
+      asked_are = asked-more run m n.asked at.asked_are ∙ add-zero n.asked;
+      no_entries = keep (added drill_server) run m [] at.no_entries refl;
+      told_are = λ last. told-kept last run m (each (told_in last) n.asked) (at.told_are last) refl;
+      seen_are = λ k. seen-more k run m (seen_by n k) (at.seen_are k) ∙ seen-executed n k later;
+    }
+
+-- the next call is handed over
+abbrev pub complete : ℕ → Mark
+complete k = marks.Done the_link k (outcomes.Reply (null_reply k))
+
+pub At-complete : (credits : ℕ) (run : List Mark) (n : Counts) → At credits run n → n.done < n.served → At credits (run ++ complete (suc n.done) ∷ []) (record n { done = suc n.done })
+unfolding sent got accepted executed completed journal
+At-complete credits run n at later =
+    let m = complete (suc n.done) in
+    record {
+      up_sent = keep (wrote the_link Initiator) run m (upward credits n.sent_up) at.up_sent refl;
+      up_got = keep (fed the_link Responder) run m (upward credits n.came) at.up_got refl;
+      down_sent = keep (wrote the_link Responder) run m (downward credits n.sent_down) at.down_sent refl;
+      down_got = keep (fed the_link Initiator) run m (downward credits n.heard) at.down_got refl;
+      up_owed = owed_up-kept (drill_opened credits) run m (upward credits n.asked) at.up_owed refl;
+      down_owed = owed_down-kept (drill_opened credits) run m (downward credits n.served) at.down_owed refl;
+      accepted_are = keep (accepted_at the_link) run m (each accepted_call n.asked) at.accepted_are refl;
+      executed_are = keep (executed_at the_link) run m (each executed_call n.served) at.executed_are refl;
+      completed_are = more (completed_at the_link) run m (each completed_call n.done) at.completed_are;
+      asked_are = asked-more run m n.asked at.asked_are ∙ add-zero n.asked;
+      no_entries = keep (added drill_server) run m [] at.no_entries refl;
+      told_are = λ last. told-kept last run m (each (told_in last) n.asked) (at.told_are last) refl;
+      seen_are = λ k. seen-more k run m (seen_by n k) (at.seen_are k) ∙ seen-completed n k later;
+    }

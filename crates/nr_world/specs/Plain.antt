@@ -1,0 +1,35 @@
+-- The plain server: what a serial RPC server replies (RFC 5531 section 9, RFC 1813 section 3). The procedures come one by
+-- one; by now there is NULL of NFS version 3, called without a credential.
+use Rattle.std.specs.Prelude.{◌≡◌, ℕ, ◌==◌, ◌&&◌, Bool, if◌then◌else◌, List, [], length, Option, None, Some, Result, Ok, Err}
+use Rattle.nr_rpc.specs.declared.cred.Cred.TheVariants as creds
+use Rattle.nr_rpc.specs.declared.head.CallHead.{CallHead}
+use Rattle.nr_rpc.specs.declared.head.CallHead.TheVariants as calls
+use Rattle.nr_rpc.specs.declared.head.ReplyHead.TheVariants.{Accepted}
+use Rattle.nr_rpc.specs.Reading.{call_of}
+use Rattle.nr_rpc.specs.Reply.{reply_spelling}
+use Rattle.nr_world.specs.declared.plain.TheConstants.{NFS_PROGRAM, NFS_VERSION, NULL, SUCCESS}
+use Rattle.nr_world.specs.Observed.{PlainServer}
+
+-- NULL's reply: accepted, with empty results
+abbrev pub null_reply : ℕ → List ℕ
+null_reply xid = reply_spelling (Accepted xid SUCCESS 0) []
+
+-- a call of NULL without arguments: these begin at the payload's end
+abbrev pub is_null : ℕ → ℕ → ℕ → Bool
+is_null prog vers proc = prog == NFS_PROGRAM && vers == NFS_VERSION && proc == NULL
+
+abbrev pub reply_to : Result CallHead ℕ → ℕ → Option (List ℕ)
+reply_to (Ok (calls.Version2 xid prog vers proc creds.None args_at)) len =
+    if is_null prog vers proc && args_at == len then Some (null_reply xid) else None
+reply_to (Ok (calls.Version2 xid prog vers proc (creds.Sys stamp machine uid gid gids) args_at)) len = None
+reply_to (Ok (calls.Version2 xid prog vers proc (creds.Other flavor) args_at)) len = None
+reply_to (Ok (calls.Other xid rpcvers)) len = None
+reply_to (Err at) len = None
+
+-- the reply to a payload, where its procedure is there by now
+unfoldable pub plain_reply : List ℕ → Option (List ℕ)
+plain_reply payload = reply_to (call_of payload) (length payload)
+
+-- NULL changes nothing, so no journal and no moment matters to it, and it adds no entry
+abbrev pub drill_server : PlainServer
+drill_server = record { Replies = λ entries moment payload reply. plain_reply payload ≡ Some reply; adds = λ moment payload reply. [] }

@@ -1,0 +1,168 @@
+-- The state of a drill under way, and what each step of its driver makes of it.
+use Rattle.std.specs.Prelude.{ℕ, ◌+◌, ◌==◌, Bool, true, false, List, [], ◌∷◌, ◌++◌, length, Option, None, Some, option_and_then}
+use Rattle.nr_outside.specs.Pipe.{PipeState, waiting_in}
+use Rattle.nr_wire.specs.declared.hello.Side.TheVariants.{Initiator, Responder}
+use Rattle.nr_wire.specs.Next.{segment_in}
+use Rattle.nr_world.specs.declared.call.Call.{Call}
+use Rattle.nr_world.specs.declared.call.Form.TheVariants.{Auto}
+use Rattle.nr_world.specs.declared.call.Outcome.TheVariants as outcomes
+use Rattle.nr_world.specs.declared.call.Submission.TheVariants.{Accepted}
+use Rattle.nr_world.specs.declared.mark.Mark.{Mark}
+use Rattle.nr_world.specs.declared.mark.Mark.TheVariants as marks
+use Rattle.nr_world.specs.declared.message.Conveyed.{Conveyed}
+use Rattle.nr_world.specs.declared.plain.TheConstants.{NFS_PROGRAM, NFS_VERSION, NULL}
+use Rattle.nr_world.specs.declared.report.Fate.TheVariants as fates
+use Rattle.nr_world.specs.declared.report.Told.{Told}
+use Rattle.nr_world.specs.Messages.{send, inline_message, call_in, reply_in}
+use Rattle.nr_world.specs.Ending.{ended_by}
+use Rattle.nr_world.specs.Owed.{own_hello, call_payload}
+use Rattle.nr_world.specs.Plain.{plain_reply, null_reply}
+use Rattle.nr_world.specs.Follows.{line_call}
+
+-- what contracts see of the driver
+pub record State : Type 0 where
+  pub credits : ℕ
+  pub marks : List Mark
+  pub up : PipeState
+  pub down : PipeState
+  pub asked : ℕ
+  pub arrived : Option Conveyed
+  pub served : ℕ
+  pub entries : ℕ
+  pub place : ℕ
+  pub told : List Told
+
+-- the drill's link
+abbrev pub the_link : ℕ
+the_link = 1
+
+-- the one call of these drills
+abbrev pub null : Call
+null = line_call NFS_PROGRAM NFS_VERSION NULL []
+
+abbrev pub asked_payload : ℕ → List ℕ
+asked_payload k = call_payload k null
+
+-- the Send of the k-th call, and of its reply
+unfoldable pub ask : ℕ → ℕ → List ℕ
+ask credits k = send k (inline_message k credits (asked_payload k))
+
+unfoldable pub answer : ℕ → ℕ → List ℕ
+answer credits k = send k (inline_message k credits (null_reply k))
+
+abbrev pub written : PipeState → List ℕ → PipeState
+written p bytes = record { log = p.log ++ bytes; place = p.place; faults = p.faults }
+
+abbrev pub all_read : PipeState → PipeState
+all_read p = record { log = p.log; place = length p.log; faults = p.faults }
+
+-- a side writes
+abbrev pub wrote_up : State → List ℕ → State
+wrote_up s bytes = record {
+    credits = s.credits; marks = s.marks ++ marks.Wrote the_link Initiator bytes ∷ []; up = written s.up bytes; down = s.down;
+    asked = s.asked; arrived = s.arrived; served = s.served; entries = s.entries; place = s.place; told = s.told;
+  }
+
+abbrev pub wrote_down : State → List ℕ → State
+wrote_down s bytes = record {
+    credits = s.credits; marks = s.marks ++ marks.Wrote the_link Responder bytes ∷ []; up = s.up; down = written s.down bytes;
+    asked = s.asked; arrived = s.arrived; served = s.served; entries = s.entries; place = s.place; told = s.told;
+  }
+
+-- a side is fed all that waits for it
+abbrev pub fed_up : State → Option Conveyed → State
+fed_up s call = record {
+    credits = s.credits; marks = s.marks ++ marks.Fed the_link Responder (waiting_in s.up) ∷ []; up = all_read s.up; down = s.down;
+    asked = s.asked; arrived = call; served = s.served; entries = s.entries; place = s.place; told = s.told;
+  }
+
+abbrev pub fed_down : State → State
+fed_down s = record {
+    credits = s.credits; marks = s.marks ++ marks.Fed the_link Initiator (waiting_in s.down) ∷ []; up = s.up; down = all_read s.down;
+    asked = s.asked; arrived = s.arrived; served = s.served; entries = s.entries; place = s.place; told = s.told;
+  }
+
+-- a call goes out
+abbrev pub submitted : State → State
+submitted s = record {
+    credits = s.credits; marks = s.marks ++ marks.Submit the_link null Auto (Accepted (s.asked + 1)) ∷ []; up = s.up; down = s.down;
+    asked = s.asked + 1; arrived = s.arrived; served = s.served; entries = s.entries; place = s.place; told = s.told;
+  }
+
+unfoldable pub asked_one : State → State
+asked_one s = wrote_up (submitted s) (ask s.credits (s.asked + 1))
+
+-- a call is executed
+abbrev pub executed_one : State → ℕ → List ℕ → List ℕ → State
+executed_one s xid payload reply = record {
+    credits = s.credits; marks = s.marks ++ marks.Execute the_link xid (record { seconds = 0; nanos = 0 }) payload s.entries reply ∷ []; up = s.up; down = s.down;
+    asked = s.asked; arrived = None; served = s.served + 1; entries = s.entries; place = s.entries; told = s.told;
+  }
+
+abbrev pub answered_with : State → Conveyed → Option (List ℕ) → State
+answered_with s call None = s
+answered_with s call (Some reply) =
+    wrote_down (executed_one s call.xid call.payload reply) (send (s.served + 1) (inline_message call.xid s.credits reply))
+
+abbrev pub worked_on : State → Option Conveyed → State
+worked_on s None = s
+worked_on s (Some call) = answered_with s call (plain_reply call.payload)
+
+unfoldable pub worked : State → State
+worked s = worked_on s s.arrived
+
+-- something moves
+abbrev pub is_answered : Option (List ℕ) → Bool
+is_answered None = false
+is_answered (Some reply) = true
+
+abbrev pub works_on : Option Conveyed → Bool
+works_on None = false
+works_on (Some call) = is_answered (plain_reply call.payload)
+
+abbrev pub is_some_byte : List ℕ → Bool
+is_some_byte [] = false
+is_some_byte (b ∷ bytes) = true
+
+abbrev pub waits : PipeState → Bool
+waits p = is_some_byte (waiting_in p)
+
+-- the server is fed
+abbrev pub came_by : State → List ℕ → State
+came_by s [] = s
+came_by s (b ∷ bytes) = fed_up s (option_and_then call_in (ended_by (segment_in (b ∷ bytes))))
+
+unfoldable pub came : State → State
+came s = came_by s (waiting_in s.up)
+
+-- the client is fed, and hands over what is completed
+abbrev pub done_one : State → Conveyed → State
+done_one s reply = record {
+    credits = s.credits; marks = s.marks ++ marks.Done the_link reply.xid (outcomes.Reply reply.payload) ∷ []; up = s.up; down = s.down;
+    asked = s.asked; arrived = s.arrived; served = s.served; entries = s.entries; place = s.place;
+    told = s.told ++ record { client = the_link; number = length s.told + 1; fate = fates.Answered (Some s.place) (outcomes.Reply reply.payload) } ∷ [];
+  }
+
+abbrev pub done_by : State → Option Conveyed → State
+done_by s None = s
+done_by s (Some reply) = done_one s reply
+
+abbrev pub heard_by : State → List ℕ → State
+heard_by s [] = s
+heard_by s (b ∷ bytes) = done_by (fed_down s) (option_and_then reply_in (ended_by (segment_in (b ∷ bytes))))
+
+unfoldable pub heard : State → State
+heard s = heard_by s (waiting_in s.down)
+
+-- a link that is open
+unfoldable pub opened_state : ℕ → State
+opened_state credits =
+    let up = own_hello Initiator in
+    let down = own_hello Responder in
+    record {
+      credits = credits;
+      marks = marks.Wrote the_link Initiator up ∷ marks.Fed the_link Responder up ∷ marks.Wrote the_link Responder down ∷ marks.Fed the_link Initiator down ∷ [];
+      up = record { log = up; place = length up; faults = 0 };
+      down = record { log = down; place = length down; faults = 0 };
+      asked = 0; arrived = None; served = 0; entries = 0; place = 0; told = [];
+    }

@@ -1,0 +1,20 @@
+//! The drill: both ends of a link and a plain server, run step by step by a script, and what is printed of that.
+#![tactic(auto)]
+
+mod call;
+mod mark;
+mod message;
+mod plain;
+mod reading;
+mod report;
+mod script;
+mod printing;
+mod world;
+
+pub use call::{Call, End, Form, Lack, Lengths, Offer, Outcome, Refused, Submission};
+pub use mark::{Mark, Marks, Moment};
+pub use report::{Fate, Journal, Entry, Logs, Opened, Report, Told, Tolds, Ways};
+pub use script::{Script, ScriptFault};
+pub use printing::shown;
+pub use reading::read_script;
+pub use world::run_world;

@@ -1,0 +1,86 @@
+//! What happens on links, mark by mark.
+
+ghost use Rattle.std.specs.Prelude.{◌≡◌};
+
+use crate::call::{Call, Form, Outcome, Submission};
+use nr_wire::Side;
+use nr_xdr::Octets;
+use std::marker::Model;
+
+/// A moment of the clock: seconds, and nanoseconds below 10^9.
+#[derive(Clone, Copy, Debug, PartialEq, Eq)]
+pub struct Moment {
+    pub seconds: u32,
+    pub nanos: u32,
+}
+
+/// One thing that happened. `link` is the number of the link, from 1. The client is the initiator of a link, and the
+/// server its responder.
+#[derive(Debug, Drop)]
+pub enum Mark {
+    /// The client was given a call.
+    Submit {
+        link: u32,
+        call: Call,
+        form: Form,
+        answer: Submission,
+    },
+    /// A side wrote bytes.
+    Wrote {
+        link: u32,
+        side: Side,
+        bytes: Octets,
+    },
+    /// A side was fed bytes, in one piece.
+    Fed {
+        link: u32,
+        side: Side,
+        bytes: Octets,
+    },
+    /// The server executed a call at a place of the journal: the number of entries before it.
+    Execute {
+        link: u32,
+        xid: u32,
+        moment: Moment,
+        payload: Octets,
+        place: u64,
+        reply: Octets,
+    },
+    /// The client handed a call's outcome to its caller.
+    Done {
+        link: u32,
+        xid: u32,
+        outcome: Outcome,
+    },
+    /// The client told the caller that the link ended before the call was answered.
+    Lost { link: u32, xid: u32 },
+    /// The caller gave up the answer.
+    Forget { link: u32, xid: u32 },
+    /// The caller took back the call's memory.
+    Revoke { link: u32, xid: u32 },
+    /// The link was dropped.
+    Drop { link: u32 },
+}
+
+/// Marks in the order in which they happened. Contracts see it as the list.
+#[derive(Debug, Drop)]
+pub struct Marks {
+    pub(crate) marks: Vec<Mark>,
+}
+
+impl Model for Marks {
+    ghost use Rattle.std.specs.Prelude.{List};
+    ghost use Rattle.nr_world.specs.declared.mark.Mark.{Mark};
+
+    ghost Value = { List Mark };
+
+    ghost view = { λ m. m.marks.items };
+}
+
+impl Marks {
+    pub fn as_slice(&self) -> &[Mark]
+        ensures { result.now ≡ self.now }
+    {
+        self.marks.as_slice()
+    }
+}

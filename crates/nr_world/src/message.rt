@@ -1,0 +1,231 @@
+//! The messages of a link, as far as calls and replies go without lists: the transport header (RFC 8166 section 4.2)
+//! and the payload, in one Send.
+
+ghost use Rattle.std.specs.Prelude.{◌≡◌, ℕ, ◌+◌, ◌<◌, ◌≤◌, true, false, length, drop, IfOk, MatchOption, option_and_then, ◌++◌, OnOk};
+ghost use Rattle.std.specs.Option.{option_copied};
+ghost use Rattle.nr_wire.specs.Numbers.{word_at};
+ghost use Rattle.nr_wire.specs.Next.{segment_in};
+ghost use Rattle.nr_rpc.specs.Reading.{call_of, reply_of};
+ghost use Rattle.nr_world.specs.Messages.{send, fixed_part, no_lists, inline_message, inline_header_len, is_inline, xid_in, under_xid, call_xid, reply_xid, call_in, reply_in};
+ghost use Rattle.nr_world.specs.Ending.{ended_by};
+
+use nr_rpc::{CallHead, HeadFault, ReplyHead, read_call, read_reply};
+use nr_wire::numbers::{OPCODE_SEND, QUEUE_SEND};
+use nr_wire::{NextSegment, Segment, next_segment, write_segment};
+use nr_xdr::{Memory, Octets, Writer};
+use std::alloc::Global;
+
+/// The version of RPC-over-RDMA (RFC 8166 section 4.2.1).
+const VERSION: u32 = 1;
+
+/// The kind of a message whose payload stands behind its header (RFC 8166 section 4.2.4).
+const MSG: u32 = 0;
+
+/// The word of a list that is absent (RFC 8166 section 4.3).
+const ABSENT: u32 = 0;
+
+/// How many bytes a header without lists has.
+const INLINE_HEADER_LEN: usize = 28;
+
+/// The bytes that a Send may have.
+pub const MESSAGE_MAX: usize = 1024;
+
+/// A payload that a message conveys, with the xid of both.
+#[derive(Debug, Drop)]
+pub struct Conveyed {
+    pub xid: u32,
+    pub payload: Octets,
+}
+
+/// The words of a header that every message has: xid, version, credits and kind.
+#[tactic(auto, unfolding(crate::specs::Messages::fixed_part))]
+fn push_fixed_part(header: &mut Writer, xid: u32, credit: u32) -> Result<(), Memory>
+    ensures { OnOk result (header.new ≡ header.old ++ fixed_part xid credit) }
+{
+    header.u32(xid)?;
+    header.u32(VERSION)?;
+    header.u32(credit)?;
+    header.u32(MSG)?;
+    Ok(())
+}
+
+/// An absent read list, write list and reply chunk.
+#[tactic(auto, unfolding(crate::specs::Messages::no_lists))]
+fn push_no_lists(header: &mut Writer) -> Result<(), Memory>
+    ensures { OnOk result (header.new ≡ header.old ++ no_lists) }
+{
+    header.u32(ABSENT)?;
+    header.u32(ABSENT)?;
+    header.u32(ABSENT)?;
+    Ok(())
+}
+
+/// An RDMA_MSG message without lists: the header, and the payload behind it.
+#[tactic(auto, unfolding(crate::specs::Messages::inline_header))]
+pub fn inline_message(
+    alloc: Global,
+    xid: u32,
+    credit: u32,
+    payload: &[u8],
+) -> Result<Octets, Memory>
+    ensures { IfOk result (λ message. message ≡ inline_message xid credit payload.now) }
+{
+    let mut header = Writer::new(alloc);
+    push_fixed_part(&mut header, xid, credit)?;
+    push_no_lists(&mut header)?;
+    let mut message = header.finish();
+    message.extend_from_slice(payload)?;
+    Ok(message)
+}
+
+/// A Send of one segment that carries a message, the `msn`-th of its link in that direction.
+#[tactic(auto, unfolding(crate::specs::Messages::send))]
+pub fn send(alloc: Global, msn: u32, message: &[u8]) -> Result<Octets, Memory>
+    requires { length message.now ≤ MESSAGE_MAX }
+    ensures { IfOk result (λ frame. frame ≡ send msn message.now) }
+{
+    let segment = Segment::Untagged {
+        last: true,
+        opcode: OPCODE_SEND,
+        word: 0,
+        queue: QUEUE_SEND,
+        msn,
+        offset: 0,
+        payload: message,
+    };
+    write_segment(alloc, &segment)
+}
+
+/// The message that ends in the FPDU at the front of some bytes.
+fn message_in(bytes: &[u8]) -> Option<&[u8]>
+    ensures { option_copied result ≡ ended_by (segment_in bytes.now) }
+{
+    match next_segment(bytes) {
+        NextSegment::Whole {
+            segment:
+                Segment::Untagged {
+                    last: true,
+                    opcode: OPCODE_SEND,
+                    payload,
+                    ..
+                },
+            ..
+        } => Some(payload),
+        _ => None,
+    }
+}
+
+/// The four bytes at a place, as a number.
+#[tactic(auto, unfolding(nr_xdr::specs::Item::word_of))]
+fn word_at(bytes: &[u8], place: usize) -> u32
+    requires { place + 4 ≤ length bytes.now }
+    ensures { result ≡ word_at place bytes.now }
+{
+    let (_, rest) = bytes.split_at(place);
+    u32::from_be_bytes([rest[0], rest[1], rest[2], rest[3]])
+}
+
+/// The xid of a message without lists, and its payload.
+fn inline_in(message: &[u8]) -> Option<(u32, &[u8])>
+    ensures { MatchOption result (is_inline message.now ≡ false)
+        (λ found. (is_inline message.now ≡ true) × (found.0 ≡ xid_in message.now) × (found.1.now ≡ drop inline_header_len message.now)) }
+{
+    if message.len() < INLINE_HEADER_LEN
+        || word_at(message, 4) != VERSION
+        || word_at(message, 12) != MSG
+        || word_at(message, 16) != ABSENT
+        || word_at(message, 20) != ABSENT
+        || word_at(message, 24) != ABSENT
+    {
+        return None;
+    }
+    let (_, payload) = message.split_at(INLINE_HEADER_LEN);
+    Some((word_at(message, 0), payload))
+}
+
+/// The payload under its xid, where the head's xid is the header's.
+fn under_xid(
+    alloc: Global,
+    own: Option<u32>,
+    xid: u32,
+    payload: &[u8],
+) -> Result<Option<Conveyed>, Memory>
+    ensures { IfOk result (λ found. found ≡ under_xid own xid payload.now) }
+{
+    if own != Some(xid) {
+        return Ok(None);
+    }
+    Ok(Some(Conveyed {
+        xid,
+        payload: Octets::from_slice(alloc, payload)?,
+    }))
+}
+
+/// The xid of the call head with which some bytes begin.
+fn call_xid(alloc: Global, bytes: &[u8]) -> Result<Option<u32>, Memory>
+    ensures { IfOk result (λ xid. xid ≡ call_xid (call_of bytes.now)) }
+{
+    match read_call(alloc, bytes) {
+        Ok(CallHead::Version2 { xid, .. }) => Ok(Some(xid)),
+        Ok(CallHead::Other { xid, .. }) => Ok(Some(xid)),
+        Err(HeadFault::NotCall { .. }) => Ok(None),
+        Err(HeadFault::NotReply { .. }) => Ok(None),
+        Err(HeadFault::Memory) => Err(Memory),
+    }
+}
+
+/// The xid of the reply head with which some bytes begin.
+fn reply_xid(bytes: &[u8]) -> Option<u32>
+    ensures { result ≡ reply_xid (reply_of bytes.now) }
+{
+    match read_reply(bytes) {
+        Ok(ReplyHead::Accepted { xid, .. }) => Some(xid),
+        Ok(ReplyHead::ProgMismatch { xid, .. }) => Some(xid),
+        Ok(ReplyHead::RpcMismatch { xid, .. }) => Some(xid),
+        Ok(ReplyHead::AuthError { xid, .. }) => Some(xid),
+        Err(_) => None,
+    }
+}
+
+/// The call that a message conveys.
+#[tactic(auto, unfolding(crate::specs::Messages::call_in))]
+fn call_in(alloc: Global, message: &[u8]) -> Result<Option<Conveyed>, Memory>
+    ensures { IfOk result (λ found. found ≡ call_in message.now) }
+{
+    let Some((xid, payload)) = inline_in(message) else {
+        return Ok(None);
+    };
+    let own = call_xid(alloc, payload)?;
+    under_xid(alloc, own, xid, payload)
+}
+
+/// The reply that a message conveys.
+#[tactic(auto, unfolding(crate::specs::Messages::reply_in))]
+fn reply_in(alloc: Global, message: &[u8]) -> Result<Option<Conveyed>, Memory>
+    ensures { IfOk result (λ found. found ≡ reply_in message.now) }
+{
+    let Some((xid, payload)) = inline_in(message) else {
+        return Ok(None);
+    };
+    under_xid(alloc, reply_xid(payload), xid, payload)
+}
+
+/// The call that the message in the FPDU at the front of some bytes conveys.
+pub fn call_in_frame(alloc: Global, bytes: &[u8]) -> Result<Option<Conveyed>, Memory>
+    ensures { IfOk result (λ found. found ≡ option_and_then call_in (ended_by (segment_in bytes.now))) }
+{
+    match message_in(bytes) {
+        None => Ok(None),
+        Some(message) => call_in(alloc, message),
+    }
+}
+
+/// The reply that the message in the FPDU at the front of some bytes conveys.
+pub fn reply_in_frame(alloc: Global, bytes: &[u8]) -> Result<Option<Conveyed>, Memory>
+    ensures { IfOk result (λ found. found ≡ option_and_then reply_in (ended_by (segment_in bytes.now))) }
+{
+    match message_in(bytes) {
+        None => Ok(None),
+        Some(message) => reply_in(alloc, message),
+    }
+}

@@ -1,0 +1,91 @@
+//! Scripts: what a drill is to do.
+
+ghost use Rattle.std.specs.Prelude.{◌≡◌, ◌+◌, ◌*◌, ◌≤◌};
+ghost use Rattle.nr_world.specs.declared.script.ScriptFault.TheVariants as faults;
+ghost use Rattle.nr_world.specs.Script.{turns};
+
+use nr_xdr::Memory;
+use std::marker::Model;
+use thiserror::Error;
+
+/// The credits that a script may give each end.
+pub const MOST_CREDITS: u32 = 64;
+
+/// What the journal may cost, in bytes, where a script doesn't say.
+pub const DEFAULT_CAPACITY: u64 = 1 << 40;
+
+/// The lines that a script may have.
+pub const MOST_LINES: u32 = 16_777_216;
+
+/// The bytes that the text of a script may have.
+pub const SCRIPT_MAX: usize = 16_777_216;
+
+/// Why a text is no script.
+#[derive(Clone, Copy, Debug, PartialEq, Eq, Error)]
+pub enum ScriptFault {
+    /// The line of this number, from 1, is the first that isn't one of a script's.
+    #[error("bad line {line}")]
+    BadLine { line: u64 },
+    /// Memory ran out.
+    #[error("out of memory")]
+    Memory,
+}
+
+impl From<Memory> for ScriptFault {
+    ghost from_gives = { λ _ e. e ≡ faults.Memory };
+
+    fn from(_e: Memory) -> ScriptFault {
+        ScriptFault::Memory
+    }
+}
+
+/// A script that was read: how many clients there are, the credits that both ends of each link are opened with, the
+/// bytes that the journal may cost, and the lines behind that. By now a script has one client and calls NULL, each call
+/// drained before the next.
+#[derive(Debug, Drop)]
+pub struct Script {
+    credits: u32,
+    calls: u32,
+}
+
+impl Model for Script {
+    ghost use Rattle.std.specs.Prelude.{◌≤◌, ◌+◌, ◌*◌};
+    ghost use Rattle.nr_world.specs.declared.script.TheConstants.{MOST_CREDITS, DEFAULT_CAPACITY, MOST_LINES};
+    ghost use Rattle.nr_world.specs.Script.{ScriptLines, turns};
+
+    ghost Value = { ScriptLines };
+
+    ghost view = { λ s. record { clients = 1; credits = s.credits; capacity = DEFAULT_CAPACITY; lines = turns s.calls } };
+
+    ghost invariant = { λ s. (1 ≤ s.credits) × (s.credits ≤ MOST_CREDITS) × (2 * s.calls + 1 ≤ MOST_LINES) };
+}
+
+impl Script {
+    /// A script of so many calls, each drained before the next.
+    pub(crate) fn new(credits: u32, calls: u32) -> Script
+        requires some { 1 ≤ credits }
+        requires few { credits ≤ MOST_CREDITS }
+        requires lines { 2 * calls + 1 ≤ MOST_LINES }
+        ensures { result ≡ record { clients = 1; credits = credits; capacity = DEFAULT_CAPACITY; lines = turns calls } }
+    {
+        Script { credits, calls }
+    }
+
+    /// The credits that both ends of each link are opened with.
+    pub fn credits(&self) -> u32
+        ensures is { result ≡ self.now.credits }
+        ensures some { 1 ≤ result }
+        ensures few { result ≤ MOST_CREDITS }
+    {
+        self.credits
+    }
+
+    /// How many calls it makes, each drained before the next.
+    pub(crate) fn calls(&self) -> u32
+        ensures lines { self.now.lines ≡ turns result }
+        ensures few { 2 * result + 1 ≤ MOST_LINES }
+        ensures clients { self.now.clients ≡ 1 }
+    {
+        self.calls
+    }
+}
