@@ -1,0 +1,148 @@
+-- How a run of the program ends, and what its status tells.
+use Rattle.std.specs.Prelude.{◌≡◌, ◌≢◌, ℕ, ◌<◌, ◌≤◌, ◌⊎◌, Bool, true, false, List, ◌++◌, length, codes, Option, Some, IfSome, Result, Ok, Err}
+use Rattle.std.specs.Fmt.{decimal}
+use Rattle.std.specs.Io.KnownBytes.{Appends, Keeps, IsAtEnd}
+use Rattle.nr_outside.specs.Content.{HandsOut}
+use Rattle.nr_outside.specs.Faults.{Rose}
+use Rattle.nr_outside.specs.declared.whole.ReadEnd.{ReadEnd}
+use Rattle.nr_outside.specs.declared.whole.ReadEnd.TheVariants as ends
+use Rattle.nr_world.specs.declared.mark.Mark.{Mark}
+use Rattle.nr_world.specs.declared.script.ScriptFault.{ScriptFault}
+use Rattle.nr_world.specs.declared.script.ScriptFault.TheVariants as faults
+use Rattle.nr_world.specs.declared.script.TheConstants.{SCRIPT_MAX}
+use Rattle.nr_world.specs.Script.{ScriptLines, script_of}
+use Rattle.nr_world.specs.Headline.{IsDrill}
+use Rattle.nr_world.specs.Plain.{drill_server}
+use Rattle.nr_world.specs.Shown.{shown}
+use Rattle.nr_top.specs.declared.command.Stop.{Stop}
+use Rattle.nr_top.specs.declared.command.Stop.TheVariants as stops
+use Rattle.nr_top.specs.declared.status.TheConstants.{DONE, BAD_WORDS, NO_MEMORY, FAULT, BAD_SCRIPT, OVER_BUDGET}
+use Rattle.nr_top.specs.Words.{is_drill, due_status}
+
+-- a source as contracts see it: the bytes left and those given, where told, and its count of faults
+pub record InputAt : Type 0 where
+  pub left : Option (List ℕ)
+  pub given : Option (List ℕ)
+  pub faults : ℕ
+
+abbrev pub input_at : Option (List ℕ) → Option (List ℕ) → ℕ → InputAt
+input_at left given faults = record { left = left; given = given; faults = faults }
+
+-- a sink as contracts see it: the bytes taken, where told, and its count of faults
+pub record SinkAt : Type 0 where
+  pub taken : Option (List ℕ)
+  pub faults : ℕ
+
+abbrev pub sink_at : Option (List ℕ) → ℕ → SinkAt
+sink_at taken faults = record { taken = taken; faults = faults }
+
+-- the input was read to its end, and this is all of it
+pub record Whole (old new : InputAt) (text : List ℕ) : Type 0 where
+  pub handed : HandsOut old.left old.given new.left new.given text
+  pub all : IfSome old.left (λ left. text ≡ left)
+  pub end : IsAtEnd new.left
+  pub within : length text ≤ SCRIPT_MAX
+  pub unfailing : new.faults ≡ old.faults
+
+-- nothing was written
+pub record Silent (old new : SinkAt) : Type 0 where
+  pub keeps : Keeps old.taken new.taken
+  pub unfailing : new.faults ≡ old.faults
+
+-- this was written, and nothing else
+pub record Wrote (old new : SinkAt) (text : List ℕ) : Type 0 where
+  pub appends : Appends old.taken new.taken text
+  pub unfailing : new.faults ≡ old.faults
+
+-- a script was read and run, and what is shown of the run was written
+pub record Done (words : List (List ℕ)) (input input' : InputAt) (out out' : SinkAt) : Type 0 where
+  pub line : is_drill words ≡ true
+  pub text : List ℕ
+  pub script : ScriptLines
+  pub run : List Mark
+  pub whole : Whole input input' text
+  pub reads : script_of text ≡ Ok script
+  pub drill : IsDrill script run
+  pub prints : Wrote out out' (shown drill_server run)
+
+-- the input has a first bad line
+pub record BadLine (number : ℕ) (words : List (List ℕ)) (input input' : InputAt) : Type 0 where
+  pub line : is_drill words ≡ true
+  pub text : List ℕ
+  pub whole : Whole input input' text
+  pub bad : script_of text ≡ Err number
+
+-- the input is too long
+pub record TooLong (words : List (List ℕ)) (input : InputAt) : Type 0 where
+  pub line : is_drill words ≡ true
+  pub long : IfSome input.left (λ left. SCRIPT_MAX < length left)
+
+abbrev pub stop_of_read : ReadEnd → Stop
+stop_of_read ends.Failed = stops.Input
+stop_of_read ends.TooLong = stops.Budget
+stop_of_read ends.Memory = stops.Memory
+
+abbrev pub stop_of_script : ScriptFault → Stop
+stop_of_script (faults.BadLine line) = stops.Script line
+stop_of_script faults.Memory = stops.Memory
+
+-- why the command wasn't done
+abbrev pub Stopped : Stop → List (List ℕ) → InputAt → InputAt → SinkAt → SinkAt → Type 0
+Stopped stops.Words words input input' out out' = (is_drill words ≡ false) × (input' ≡ input) × (out' ≡ out)
+Stopped stops.Memory words input input' out out' = (is_drill words ≡ true) × (input'.faults ≡ input.faults) × Silent out out'
+Stopped stops.Input words input input' out out' = (is_drill words ≡ true) × Rose input.faults input'.faults × Silent out out'
+Stopped stops.Output words input input' out out' = (is_drill words ≡ true) × (input'.faults ≡ input.faults) × Rose out.faults out'.faults
+Stopped (stops.Script number) words input input' out out' = BadLine number words input input' × Silent out out'
+Stopped stops.Budget words input input' out out' = TooLong words input × (input'.faults ≡ input.faults) × Silent out out'
+
+-- what is said of it, and its status
+unfoldable pub bad_line_text : ℕ → List ℕ
+bad_line_text number = codes "bad line " ++ decimal number ++ codes "\n"
+
+abbrev pub text_of_stop : Stop → List ℕ
+text_of_stop stops.Words = codes "bad words\n"
+text_of_stop stops.Memory = codes "memory\n"
+text_of_stop stops.Input = codes "input fault\n"
+text_of_stop stops.Output = codes "output fault\n"
+text_of_stop (stops.Script number) = bad_line_text number
+text_of_stop stops.Budget = codes "budget 16777216\n"
+
+abbrev pub status_of_stop : Stop → ℕ
+status_of_stop stops.Words = BAD_WORDS
+status_of_stop stops.Memory = NO_MEMORY
+status_of_stop stops.Input = FAULT
+status_of_stop stops.Output = FAULT
+status_of_stop (stops.Script number) = BAD_SCRIPT
+status_of_stop stops.Budget = OVER_BUDGET
+
+-- this was said with this status, or the count of the sink rose
+abbrev pub Spoke : ℕ → List ℕ → ℕ → SinkAt → SinkAt → Type 0
+Spoke due text status err err' = ((status ≡ due) × Wrote err err' text) ⊎ ((status ≡ FAULT) × Rose err.faults err'.faults)
+
+abbrev pub Says : Stop → ℕ → SinkAt → SinkAt → Type 0
+Says stop status err err' =
+    Spoke (status_of_stop stop) (text_of_stop stop) status err err' ⊎ Spoke NO_MEMORY (codes "memory\n") status err err'
+
+-- What the status of a run tells.
+pub record Ends (words : List (List ℕ)) (status : ℕ) (input input' : InputAt) (out out' err err' : SinkAt) : Type 0 where
+  -- the script was run, the run keeps the promise, and its lines were printed
+  pub done : status ≡ DONE → Done words input input' out out' × Silent err err'
+  -- the words are no line, and nothing else happened
+  pub words_bad : status ≡ BAD_WORDS → (is_drill words ≡ false) × (input' ≡ input) × (out' ≡ out) × Wrote err err' (codes "bad words\n")
+  -- want of memory
+  pub memory : status ≡ NO_MEMORY → (is_drill words ≡ true) × (input'.faults ≡ input.faults) × Silent out out' × Wrote err err' (codes "memory\n")
+  -- the first bad line, by its number
+  pub script : status ≡ BAD_SCRIPT → (number : ℕ) × BadLine number words input input' × Silent out out' × Wrote err err' (bad_line_text number)
+  -- the input is longer than a script may be
+  pub budget : status ≡ OVER_BUDGET → TooLong words input × (input'.faults ≡ input.faults) × Silent out out' × Wrote err err' (codes "budget 16777216\n")
+  -- a count rose, and what is said of it where that could be written
+  pub fault : status ≡ FAULT →
+      (Rose input.faults input'.faults × Wrote err err' (codes "input fault\n"))
+      ⊎ (Rose out.faults out'.faults × Wrote err err' (codes "output fault\n"))
+      ⊎ Rose err.faults err'.faults
+  -- with any other status no count rose
+  pub unfailing : status ≢ FAULT → (input'.faults ≡ input.faults) × (out'.faults ≡ out.faults) × (err'.faults ≡ err.faults)
+  -- the status is the one that words and input ask for, but for memory and faults
+  pub due : (text : List ℕ) → input.left ≡ Some text → (status ≡ due_status words text) ⊎ (status ≡ NO_MEMORY) ⊎ (status ≡ FAULT)
+  -- words that are no line are told so, whatever the input
+  pub words_due : is_drill words ≡ false → (status ≡ BAD_WORDS) ⊎ (status ≡ FAULT)

@@ -1,0 +1,23 @@
+-- The words of a run, and what they ask for.
+use Rattle.std.specs.Prelude.{ℕ, Bool, true, false, if◌then◌else◌, List, [], ◌∷◌, length, codes, nat_lt, Result, Ok, Err}
+use Rattle.std.specs.Str.{bytes_eq}
+use Rattle.nr_world.specs.Script.{ScriptLines, script_of}
+use Rattle.nr_world.specs.declared.script.TheConstants.{SCRIPT_MAX}
+use Rattle.nr_top.specs.declared.status.TheConstants.{DONE, BAD_WORDS, BAD_SCRIPT, OVER_BUDGET}
+
+-- the words of a drill: the name under which the program was started, and the command
+abbrev pub is_drill : List (List ℕ) → Bool
+is_drill [] = false
+is_drill (name ∷ []) = false
+is_drill (name ∷ command ∷ []) = bytes_eq command (codes "drill")
+is_drill (name ∷ command ∷ other ∷ others) = false
+
+-- the status that a script has, or the first bad line of one
+abbrev pub status_of_script : Result ScriptLines ℕ → ℕ
+status_of_script (Ok script) = DONE
+status_of_script (Err line) = BAD_SCRIPT
+
+-- the status of these words over this input, where memory lasts and nothing outside fails
+abbrev pub due_status : List (List ℕ) → List ℕ → ℕ
+due_status words text =
+    if is_drill words then (if nat_lt SCRIPT_MAX (length text) then OVER_BUDGET else status_of_script (script_of text)) else BAD_WORDS

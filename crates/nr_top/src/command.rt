@@ -1,0 +1,157 @@
+//! A run: the words say what is to be done.
+
+ghost use Rattle.std.specs.Prelude.{◌≡◌, map, MatchResult};
+ghost use Rattle.std.specs.String.{string_bytes};
+ghost use Rattle.nr_top.specs.Words.{is_drill};
+ghost use Rattle.nr_top.specs.Ends.{Ends, Done, Stopped, Spoke, Says, input_at, sink_at};
+
+use crate::status::{BAD_SCRIPT, BAD_WORDS, DONE, FAULT, NO_MEMORY, OVER_BUDGET};
+use nr_outside::{Failed, ReadEnd, Sink, Source, read_whole, write_whole};
+use nr_world::{SCRIPT_MAX, ScriptFault, read_script, run_world, shown};
+use nr_xdr::Memory;
+use std::alloc::Global;
+
+/// Why a command wasn't done.
+#[derive(Clone, Copy)]
+enum Stop {
+    Words,
+    Memory,
+    Input,
+    Output,
+    Script { line: u64 },
+    Budget,
+}
+
+impl From<ReadEnd> for Stop {
+    ghost use Rattle.nr_top.specs.Ends.{stop_of_read};
+
+    ghost from_gives = { λ end stop. stop ≡ stop_of_read end };
+
+    fn from(end: ReadEnd) -> Stop {
+        match end {
+            ReadEnd::Failed => Stop::Input,
+            ReadEnd::TooLong => Stop::Budget,
+            ReadEnd::Memory => Stop::Memory,
+        }
+    }
+}
+
+impl From<ScriptFault> for Stop {
+    ghost use Rattle.nr_top.specs.Ends.{stop_of_script};
+
+    ghost from_gives = { λ fault stop. stop ≡ stop_of_script fault };
+
+    fn from(fault: ScriptFault) -> Stop {
+        match fault {
+            ScriptFault::BadLine { line } => Stop::Script { line },
+            ScriptFault::Memory => Stop::Memory,
+        }
+    }
+}
+
+impl From<Memory> for Stop {
+    ghost use Rattle.nr_top.specs.declared.command.Stop.TheVariants as stops;
+
+    ghost from_gives = { λ _ stop. stop ≡ stops.Memory };
+
+    fn from(_e: Memory) -> Stop {
+        Stop::Memory
+    }
+}
+
+impl From<Failed> for Stop {
+    ghost use Rattle.nr_top.specs.declared.command.Stop.TheVariants as stops;
+
+    ghost from_gives = { λ _ stop. stop ≡ stops.Output };
+
+    fn from(_e: Failed) -> Stop {
+        Stop::Output
+    }
+}
+
+/// Whether the words are those of a drill: the name under which the program was started, and `drill`.
+fn is_drill(words: &[String]) -> bool
+    ensures { result ≡ is_drill (map string_bytes words.now) }
+{
+    words.len() == 2 && words[1].as_str() == "drill"
+}
+
+/// Reads a script, runs it, and prints what happened.
+fn drill<I: Source, O: Sink>(
+    alloc: Global,
+    words: &[String],
+    input: &mut I,
+    out: &mut O,
+) -> Result<(), Stop>
+    ensures { MatchResult result
+        (λ _. Done (map string_bytes words.now) (input_at (I.left input.old) (I.given input.old) (I.faults input.old))
+            (input_at (I.left input.new) (I.given input.new) (I.faults input.new))
+            (sink_at (O.taken out.old) (O.faults out.old)) (sink_at (O.taken out.new) (O.faults out.new)))
+        (λ stop. Stopped stop (map string_bytes words.now) (input_at (I.left input.old) (I.given input.old) (I.faults input.old))
+            (input_at (I.left input.new) (I.given input.new) (I.faults input.new))
+            (sink_at (O.taken out.old) (O.faults out.old)) (sink_at (O.taken out.new) (O.faults out.new))) }
+{
+    if !is_drill(words) {
+        return Err(Stop::Words);
+    }
+    let text = read_whole(alloc, input, SCRIPT_MAX)?;
+    let script = read_script(alloc, text.as_slice())?;
+    let report = run_world(alloc, &script)?;
+    let printed = shown(alloc, &report)?;
+    write_whole(out, printed.as_slice())?;
+    Ok(())
+}
+
+/// Says on `err` why the command wasn't done, and gives the status of that.
+fn speak<E: Sink>(err: &mut E, text: &[u8], status: u8) -> u8
+    ensures { Spoke status text.now result (sink_at (E.taken err.old) (E.faults err.old)) (sink_at (E.taken err.new) (E.faults err.new)) }
+{
+    match write_whole(err, text) {
+        Ok(()) => status,
+        Err(_) => FAULT,
+    }
+}
+
+/// The words for a stop, with its status. Where there is no memory for them, that is what is said.
+#[tactic(auto, unfolding(crate::specs::Ends::bad_line_text))]
+fn say<E: Sink>(alloc: Global, stop: Stop, err: &mut E) -> u8
+    ensures { Says stop result (sink_at (E.taken err.old) (E.faults err.old)) (sink_at (E.taken err.new) (E.faults err.new)) }
+{
+    match stop {
+        Stop::Words => speak(err, b"bad words\n", BAD_WORDS),
+        Stop::Memory => speak(err, b"memory\n", NO_MEMORY),
+        Stop::Input => speak(err, b"input fault\n", FAULT),
+        Stop::Output => speak(err, b"output fault\n", FAULT),
+        Stop::Budget => speak(err, b"budget 16777216\n", OVER_BUDGET),
+        Stop::Script { line } => match format!(in alloc; "bad line {line}\n") {
+            Ok(text) => speak(err, text.as_bytes(), BAD_SCRIPT),
+            Err(_) => speak(err, b"memory\n", NO_MEMORY),
+        },
+    }
+}
+
+/// Does what the words say, and gives the status. The words are the name under which the program was started and the
+/// command, which is `drill` by now: it reads a script from `input`, runs it, and prints on `out` what happened. Where
+/// it can't, it says why on `err`.
+///
+/// [`Ends`] of the specs says what each status tells: 0 that the run is one of the script and keeps the promise, and
+/// that it was printed; 1 that the words are no line; 2 that memory ran out; 9 that a count of faults of `input`, `out`
+/// or `err` rose; 10 that the input's first bad line is the one that is named; 11 that the input is too long.
+pub fn run<I: Source, O: Sink, E: Sink>(
+    alloc: Global,
+    words: &[String],
+    input: &mut I,
+    out: &mut O,
+    err: &mut E,
+) -> u8
+    ensures { Ends (map string_bytes words.now) result
+        (input_at (I.left input.old) (I.given input.old) (I.faults input.old))
+        (input_at (I.left input.new) (I.given input.new) (I.faults input.new))
+        (sink_at (O.taken out.old) (O.faults out.old)) (sink_at (O.taken out.new) (O.faults out.new))
+        (sink_at (E.taken err.old) (E.faults err.old)) (sink_at (E.taken err.new) (E.faults err.new)) }
+{
+    match drill(alloc, words, input, out) {
+        Ok(()) => DONE,
+        Err(stop) => say(alloc, stop, err),
+    }
+}

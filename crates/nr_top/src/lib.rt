@@ -1,0 +1,14 @@
+//! The program above its handles: words and an input come in, bytes go out, and a status tells how it ended.
+//!
+//! The crate stands on nr_outside, through which all bytes pass, and on nr_world, which runs drills. The program itself
+//! only opens the handles of its process, and calls [`run`].
+#![tactic(auto)]
+
+pub mod status;
+
+mod command;
+
+pub use command::run;
+
+#[cfg(test)]
+mod tests;

@@ -1,0 +1,19 @@
+//! The statuses that a run ends with.
+
+/// The command was done.
+pub const DONE: u8 = 0;
+
+/// The words are no line of the program.
+pub const BAD_WORDS: u8 = 1;
+
+/// Memory ran out.
+pub const NO_MEMORY: u8 = 2;
+
+/// A read of the input failed, or a write of what is printed.
+pub const FAULT: u8 = 9;
+
+/// The input is no script.
+pub const BAD_SCRIPT: u8 = 10;
+
+/// The input is longer than a script may be.
+pub const OVER_BUDGET: u8 = 11;
