@@ -1,0 +1,158 @@
+-- How the values of a type are spelled as items, and how they are read.
+use Rattle.std.specs.Prelude.{◌≡◌, ℕ, ◌≤◌, Bool, true, false, List, [], ◌∷◌, ◌++◌, length, Option, Some, None, Result, Ok, Err, ◌==◌, if◌then◌else◌}
+use Rattle.std.specs.List.{flat_map, find}
+use Rattle.nr_xdr.specs.declared.fault.ItemFault.{ItemFault}
+use Rattle.nr_xdr.specs.Item.{Item, Reads, IsBytes, spelling}
+use Rattle.nr_xdr.specs.Item.Item.{Unsigned, Hyper, Boolean, Opaque}
+use Rattle.nr_xdr.specs.Reading.{Cursor, Takes, place_of, unsigned_at, hyper_at, boolean_at, opaque_at}
+use Rattle.nr_nfs_base.specs.declared.fault.ValueFault.{ValueFault}
+use Rattle.nr_nfs_base.specs.declared.fault.ValueFault.TheVariants as faults
+
+-- The codec of a type: the items that spell a value, which values are within their type's limits, and what is read at
+-- a cursor: a value and the cursor behind it, or the place of the first item that fails.
+pub record Codec (A : Type 0) : Type 1 where
+  pub items : A → List Item
+  pub fits : A → Type 0
+  pub read : Cursor → Result (A × Cursor) ℕ
+
+-- the items' one spelling, each pad byte a zero
+abbrev pub spelled : List Item → List ℕ
+spelled items = flat_map spelling items
+
+-- from old to new the items are taken, one behind the other
+abbrev pub TakesAll : Cursor → Cursor → List Item → Type 0
+TakesAll old new [] = old ≡ new
+TakesAll old new (item ∷ items) = (after : Cursor) × Takes old after item × TakesAll after new items
+
+-- the bytes are read as the items, one behind the other to the last byte, whatever the pad bytes are
+abbrev pub ReadsAll : List Item → List ℕ → Type 0
+ReadsAll [] bytes = bytes ≡ []
+ReadsAll (item ∷ items) bytes = (front : List ℕ) × (rest : List ℕ) × Reads item front × ReadsAll items rest × (bytes ≡ front ++ rest)
+
+-- the bytes are read as this value
+abbrev pub ReadsAs : {A : Type 0} → Codec A → A → List ℕ → Type 0
+ReadsAs c v bytes = c.fits v × ReadsAll (c.items v) bytes
+
+infixl 10 ◌>>=◌
+abbrev pub ◌>>=◌ : {A B : Type 0} → Result A ℕ → (A → Result B ℕ) → Result B ℕ
+(Ok x) >>= f = f x
+(Err at) >>= f = Err at
+
+-- what is read of all the bytes: a fault at the first item that fails, or at the first byte left over
+abbrev pub begin : List ℕ → Cursor
+begin bytes = record { place = 0; rest = bytes }
+
+abbrev pub ended : {A : Type 0} → A × Cursor → Result A ℕ
+ended x = if length (x.1).rest == 0 then Ok x.0 else Err (x.1).place
+
+abbrev pub read_all : {A : Type 0} → Codec A → List ℕ → Result A ℕ
+read_all c bytes = c.read (begin bytes) >>= ended
+
+-- Reading is the inverse of spelling: what is read fits and is so spelled, and what fits and is so spelled is read.
+pub record Lawful {A : Type 0} (c : Codec A) : Type 0 where
+  pub takes : (old : Cursor) (v : A) (new : Cursor) → IsBytes old.rest → c.read old ≡ Ok (v, new) → c.fits v × TakesAll old new (c.items v)
+  pub again : (old : Cursor) (v : A) (new : Cursor) → c.fits v → TakesAll old new (c.items v) → c.read old ≡ Ok (v, new)
+
+-- ---- The items
+
+abbrev pub placed : {X : Type 0} → Result X ItemFault → Result X ℕ
+placed (Ok x) = Ok x
+placed (Err fault) = Err (place_of fault)
+
+-- RFC 4506 sections 4.2, 4.5, 4.4
+unfoldable pub word : Codec ℕ
+word = record { items = λ n. Unsigned n ∷ []; fits = λ _. Unit {0}; read = λ at. placed (unsigned_at at) }
+
+unfoldable pub hyper : Codec ℕ
+hyper = record { items = λ n. Hyper n ∷ []; fits = λ _. Unit {0}; read = λ at. placed (hyper_at at) }
+
+unfoldable pub boolean : Codec Bool
+boolean = record { items = λ b. Boolean b ∷ []; fits = λ _. Unit {0}; read = λ at. placed (boolean_at at) }
+
+-- opaque data of at most max bytes (RFC 4506 section 4.10)
+unfoldable pub opaque : ℕ → Codec (List ℕ)
+opaque max = record { items = λ bytes. Opaque bytes ∷ []; fits = λ bytes. length bytes ≤ max; read = λ at. placed (opaque_at max at) }
+
+-- ---- Made of others
+
+-- no bytes
+abbrev pub nothing : Codec (Unit {0})
+nothing = record { items = λ _. []; fits = λ _. Unit {0}; read = λ at. Ok (tt, at) }
+
+-- one behind the other (RFC 4506 section 4.14)
+infixr 20 ◌⊗◌
+abbrev pub ◌⊗◌ : {A B : Type 0} → Codec A → Codec B → Codec (A × B)
+a ⊗ b = record {
+  items = λ v. a.items v.0 ++ b.items v.1;
+  fits = λ v. a.fits v.0 × b.fits v.1;
+  read = λ at. a.read at >>= λ x. b.read x.1 >>= λ y. Ok ((x.0, y.0), y.1);
+}
+
+-- a type with these parts
+abbrev pub via : {A B : Type 0} → (A → B) → (B → A) → Codec A → Codec B
+via make parts c = record {
+  items = λ v. c.items (parts v);
+  fits = λ v. c.fits (parts v);
+  read = λ at. c.read at >>= λ x. Ok (make x.0, x.1);
+}
+
+-- one of these values, by its number (RFC 4506 section 4.3)
+abbrev pub numbered : {A : Type 0} → (A → ℕ) → List A → ℕ → Option A
+numbered number all n = find (λ v. number v == n) all
+
+abbrev pub known : {A : Type 0} → Cursor → Option A → Cursor → Result (A × Cursor) ℕ
+known from None to = Err from.place
+known from (Some v) to = Ok (v, to)
+
+abbrev pub one_of : {A : Type 0} → (A → ℕ) → List A → Codec A
+one_of number all = record {
+  items = λ v. Unsigned (number v) ∷ [];
+  fits = λ _. Unit {0};
+  read = λ at. word.read at >>= λ n. known at (numbered number all n.0) n.1;
+}
+
+-- a tag, and what stands behind that tag (RFC 4506 section 4.15)
+abbrev pub union : {T : Type 0} {B : T → Type 0} → Codec T → ((t : T) → Codec (B t)) → Codec ((t : T) × B t)
+union tag arm = record {
+  items = λ v. tag.items v.0 ++ (arm v.0).items v.1;
+  fits = λ v. tag.fits v.0 × (arm v.0).fits v.1;
+  read = λ at. tag.read at >>= λ t. (arm t.0).read t.1 >>= λ x. Ok ((t.0, x.0), x.1);
+}
+
+-- a value that may be absent (RFC 4506 section 4.19)
+abbrev pub Behind : Type 0 → Bool → Type 0
+Behind A true = A
+Behind A false = Unit {0}
+
+abbrev pub behind : {A : Type 0} → Codec A → (flag : Bool) → Codec (Behind A flag)
+behind c true = c
+behind c false = nothing
+
+abbrev pub optional_of : {A : Type 0} → ((flag : Bool) × Behind A flag) → Option A
+optional_of (true, v) = Some v
+optional_of (false, v) = None
+
+abbrev pub flagged : {A : Type 0} → Option A → ((flag : Bool) × Behind A flag)
+flagged (Some v) = (true, v)
+flagged None = (false, tt)
+
+unfoldable pub optional : {A : Type 0} → Codec A → Codec (Option A)
+optional c = via optional_of flagged (union boolean (behind c))
+
+-- ---- What the code answers
+
+-- the new bytes are the old ones and the spelling of the items
+pub record Puts (old new : List ℕ) (items : List Item) : Type 0 where
+  pub is : new ≡ old ++ spelled items
+
+-- A reader that began at old answered so and stands at new: as read says, unless memory ran out.
+abbrev pub Gives : {A : Type 0} → Result A ValueFault → Cursor → Result (A × Cursor) ℕ → Type 0
+Gives (Ok v) new read = read ≡ Ok (v, new)
+Gives (Err faults.Memory) new read = Unit {0}
+Gives (Err (faults.Bad at)) new read = read ≡ Err at
+
+-- What was answered for all the bytes.
+abbrev pub Answers : {A : Type 0} → Result A ValueFault → Result A ℕ → Type 0
+Answers (Ok v) read = read ≡ Ok v
+Answers (Err faults.Memory) read = Unit {0}
+Answers (Err (faults.Bad at)) read = read ≡ Err at

@@ -1,0 +1,57 @@
+//! What every value can do: it is read and written.
+
+ghost use Rattle.std.specs.Prelude.{◌≡◌, IfOk, MatchResult};
+ghost use Rattle.nr_nfs_base.specs.Codec.{Codec, Lawful, Answers, Puts, ReadsAs, read_all, spelled};
+ghost use Rattle.nr_nfs_base.specs.declared.fault.ValueFault.TheVariants.{Memory as memory};
+
+use crate::fault::ValueFault;
+use nr_xdr::{Memory, Octets, Reader, Writer};
+use std::alloc::Global;
+
+/// A value of RFC 1813.
+pub trait Xdr: Drop {
+    ghost codec: { Codec Self };
+
+    /// Reads a value.
+    fn read_from<'a>(alloc: Global, reader: Reader<'a>) -> Result<(Self, Reader<'a>), ValueFault>
+        ensures exact { Answers result (codec.read reader.entry) };
+
+    /// Writes the value.
+    fn write_to(&self, writer: Writer) -> Result<Writer, Memory>
+        requires { codec.fits self.now }
+        ensures ok { IfOk result (λ bytes. Puts writer bytes (codec.items self.now)) };
+
+    ghost lawful: { Lawful codec };
+
+    /// Reads.
+    final fn read(alloc: Global, bytes: &[u8]) -> Result<Self, ValueFault>
+        // What is read is spelled so.
+        ensures found { IfOk result (λ v. ReadsAs codec v bytes.now) }
+        // What is spelled so is read.
+        ensures only { (v : Self) → ReadsAs codec v bytes.now → MatchResult result (λ w. w ≡ v) (λ e. e ≡ memory) }
+        // Which fault it is.
+        ensures exact { Answers result (read_all codec bytes.now) }
+    {
+        read_whole(alloc, bytes)
+    }
+
+    /// Writes.
+    final fn write(&self, alloc: Global) -> Result<Octets, Memory>
+        requires { codec.fits self.now }
+        ensures { IfOk result (λ bytes. bytes ≡ spelled (codec.items self.now)) }
+    {
+        Ok(self.write_to(Writer::new(alloc))?.finish())
+    }
+}
+
+/// The value that all the bytes spell.
+fn read_whole<T: Xdr>(alloc: Global, bytes: &[u8]) -> Result<T, ValueFault>
+    ensures { Answers result (read_all T.codec bytes.now) }
+{
+    let (value, reader) = T::read_from(alloc, Reader::new(bytes))?;
+    if reader.rest().is_empty() {
+        Ok(value)
+    } else {
+        Err(ValueFault::Bad { at: reader.at() })
+    }
+}
