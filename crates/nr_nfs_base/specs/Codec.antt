@@ -1,8 +1,8 @@
 -- How the values of a type are spelled as items, and how they are read.
-use Rattle.std.specs.Prelude.{◌≡◌, ℕ, ◌≤◌, Bool, true, false, List, [], ◌∷◌, ◌++◌, length, Option, Some, None, Result, Ok, Err, ◌==◌, if◌then◌else◌}
-use Rattle.std.specs.List.{flat_map, find}
+use Rattle.std.specs.Prelude.{◌≡◌, ℕ, zero, suc, ◌≤◌, Bool, true, false, List, [], ◌∷◌, ◌++◌, length, Option, Some, None, is_some, Result, Ok, Err, ◌==◌, if◌then◌else◌}
+use Rattle.std.specs.List.{flat_map, find, AllByRecursion}
 use Rattle.nr_xdr.specs.declared.fault.ItemFault.{ItemFault}
-use Rattle.nr_xdr.specs.Item.{Item, Reads, IsBytes, spelling}
+use Rattle.nr_xdr.specs.Item.{Item, Fits, Reads, IsBytes, spelling}
 use Rattle.nr_xdr.specs.Item.Item.{Unsigned, Hyper, Boolean, Opaque}
 use Rattle.nr_xdr.specs.Reading.{Cursor, Takes, place_of, unsigned_at, hyper_at, boolean_at, opaque_at}
 use Rattle.nr_nfs_base.specs.declared.fault.ValueFault.{ValueFault}
@@ -111,47 +111,90 @@ one_of number all = record {
   read = λ at. word.read at >>= λ n. known at (numbered number all n.0) n.1;
 }
 
+-- what stands behind a tag: the tag of a value, its other items, and what is read behind a tag
+pub record Arms (T A : Type 0) : Type 1 where
+  pub tag_of : A → T
+  pub items : A → List Item
+  pub fits : A → Type 0
+  pub read : T → Cursor → Result (A × Cursor) ℕ
+
 -- a tag, and what stands behind that tag (RFC 4506 section 4.15)
-abbrev pub union : {T : Type 0} {B : T → Type 0} → Codec T → ((t : T) → Codec (B t)) → Codec ((t : T) × B t)
-union tag arm = record {
-  items = λ v. tag.items v.0 ++ (arm v.0).items v.1;
-  fits = λ v. tag.fits v.0 × (arm v.0).fits v.1;
-  read = λ at. tag.read at >>= λ t. (arm t.0).read t.1 >>= λ x. Ok ((t.0, x.0), x.1);
+abbrev pub tagged : {T A : Type 0} → Codec T → Arms T A → Codec A
+tagged tag arms = record {
+  items = λ v. tag.items (arms.tag_of v) ++ arms.items v;
+  fits = λ v. tag.fits (arms.tag_of v) × arms.fits v;
+  read = λ at. tag.read at >>= λ t. arms.read t.0 t.1;
 }
 
+-- the value behind a tag, as a value of the whole type
+abbrev pub made_as : {A B : Type 0} → (A → B) → Result (A × Cursor) ℕ → Result (B × Cursor) ℕ
+made_as make read = read >>= λ x. Ok (make x.0, x.1)
+
 -- a value that may be absent (RFC 4506 section 4.19)
-abbrev pub Behind : Type 0 → Bool → Type 0
-Behind A true = A
-Behind A false = Unit {0}
+abbrev pub value_items : {A : Type 0} → Codec A → Option A → List Item
+value_items c (Some v) = c.items v
+value_items c None = []
 
-abbrev pub behind : {A : Type 0} → Codec A → (flag : Bool) → Codec (Behind A flag)
-behind c true = c
-behind c false = nothing
+abbrev pub value_fits : {A : Type 0} → Codec A → Option A → Type 0
+value_fits c (Some v) = c.fits v
+value_fits c None = Unit {0}
 
-abbrev pub optional_of : {A : Type 0} → ((flag : Bool) × Behind A flag) → Option A
-optional_of (true, v) = Some v
-optional_of (false, v) = None
-
-abbrev pub flagged : {A : Type 0} → Option A → ((flag : Bool) × Behind A flag)
-flagged (Some v) = (true, v)
-flagged None = (false, tt)
+abbrev pub value_read : {A : Type 0} → Codec A → Bool → Cursor → Result (Option A × Cursor) ℕ
+value_read c true at = made_as Some (c.read at)
+value_read c false at = Ok (None, at)
 
 unfoldable pub optional : {A : Type 0} → Codec A → Codec (Option A)
-optional c = via optional_of flagged (union boolean (behind c))
+optional c = tagged boolean (record { tag_of = is_some; items = value_items c; fits = value_fits c; read = value_read c })
+
+-- A list in which each value stands behind a 1, with a 0 at its end (RFC 4506 section 4.19).
+abbrev pub chain_items : {A : Type 0} → Codec A → List A → List Item
+chain_items c [] = (optional c).items None
+chain_items c (v ∷ vs) = (optional c).items (Some v) ++ chain_items c vs
+
+abbrev pub chain_fits : {A : Type 0} → Codec A → List A → Type 0
+chain_fits c [] = (optional c).fits None
+chain_fits c (v ∷ vs) = (optional c).fits (Some v) × chain_fits c vs
+
+abbrev pub before : {A : Type 0} → A → Result (List A × Cursor) ℕ → Result (List A × Cursor) ℕ
+before v others = others >>= λ vs. Ok (v ∷ vs.0, vs.1)
+
+abbrev pub chain_on : {A : Type 0} → Option A → Cursor → Result (List A × Cursor) ℕ → Result (List A × Cursor) ℕ
+chain_on None at others = Ok ([], at)
+chain_on (Some v) at others = before v others
+
+-- n bounds the values: each takes bytes, so a list at whose n bytes none is left lacks its end
+unfoldable pub chain_read : {A : Type 0} → Codec A → ℕ → Cursor → Result (List A × Cursor) ℕ
+chain_read c zero at = Err at.place
+chain_read c (suc n) at = (optional c).read at >>= λ x. chain_on x.0 x.1 (chain_read c n x.1)
+
+unfoldable pub chain : {A : Type 0} → Codec A → Codec (List A)
+chain c = record { items = chain_items c; fits = chain_fits c; read = λ at. chain_read c (length at.rest) at }
+
+-- a list behind the number of its values (RFC 4506 section 4.13)
+unfoldable pub times : {A : Type 0} → Codec A → ℕ → Cursor → Result (List A × Cursor) ℕ
+times c zero at = Ok ([], at)
+times c (suc n) at = c.read at >>= λ x. before x.0 (times c n x.1)
+
+unfoldable pub array : {A : Type 0} → Codec A → Codec (List A)
+array c = record {
+  items = λ vs. Unsigned (length vs) ∷ flat_map c.items vs;
+  fits = λ vs. AllByRecursion c.fits vs;
+  read = λ at. word.read at >>= λ n. times c n.0 n.1;
+}
 
 -- ---- What the code answers
 
--- the new bytes are the old ones and the spelling of the items
-pub record Puts (old new : List ℕ) (items : List Item) : Type 0 where
+-- the new bytes are the old ones and the spelling of items that fit, and so does the value
+pub record Puts (old new : List ℕ) (items : List Item) (P : Type 0) : Type 0 where
   pub is : new ≡ old ++ spelled items
+  pub items_fit : AllByRecursion Fits items
+  pub fits : P
 
--- A reader that began at old answered so and stands at new: as read says, unless memory ran out.
-abbrev pub Gives : {A : Type 0} → Result A ValueFault → Cursor → Result (A × Cursor) ℕ → Type 0
-Gives (Ok v) new read = read ≡ Ok (v, new)
-Gives (Err faults.Memory) new read = Unit {0}
-Gives (Err (faults.Bad at)) new read = read ≡ Err at
+-- a writer with the old bytes put the value and has the new ones
+abbrev pub Writes : {A : Type 0} → Codec A → List ℕ → A → List ℕ → Type 0
+Writes c old v new = Puts old new (c.items v) (c.fits v)
 
--- What was answered for all the bytes.
+-- The answer is what read says, unless memory ran out.
 abbrev pub Answers : {A : Type 0} → Result A ValueFault → Result A ℕ → Type 0
 Answers (Ok v) read = read ≡ Ok v
 Answers (Err faults.Memory) read = Unit {0}

@@ -14,7 +14,7 @@ pub struct Time {
     pub nanoseconds: u32,
 }
 
-#[tactic(auto, using(crate::proofs::Puts::puts_both))]
+#[tactic(auto, using(crate::proofs::Puts::puts_both), unfolding(crate::specs::Values::time))]
 impl Xdr for Time {
     ghost codec = { time };
 

@@ -1,7 +1,7 @@
 //! What every value can do: it is read and written.
 
 ghost use Rattle.std.specs.Prelude.{◌≡◌, IfOk, MatchResult};
-ghost use Rattle.nr_nfs_base.specs.Codec.{Codec, Lawful, Answers, Puts, ReadsAs, read_all, spelled};
+ghost use Rattle.nr_nfs_base.specs.Codec.{Codec, Lawful, Answers, Writes, ReadsAs, read_all, spelled};
 ghost use Rattle.nr_nfs_base.specs.declared.fault.ValueFault.TheVariants.{Memory as memory};
 
 use crate::fault::ValueFault;
@@ -18,8 +18,7 @@ pub trait Xdr: Drop {
 
     /// Writes the value.
     fn write_to(&self, writer: Writer) -> Result<Writer, Memory>
-        requires { codec.fits self.now }
-        ensures ok { IfOk result (λ bytes. Puts writer bytes (codec.items self.now)) };
+        ensures ok { IfOk result (Writes codec writer self.now) };
 
     ghost lawful: { Lawful codec };
 
@@ -37,8 +36,10 @@ pub trait Xdr: Drop {
 
     /// Writes.
     final fn write(&self, alloc: Global) -> Result<Octets, Memory>
-        requires { codec.fits self.now }
-        ensures { IfOk result (λ bytes. bytes ≡ spelled (codec.items self.now)) }
+        // The one spelling of the value.
+        ensures spelled { IfOk result (λ bytes. bytes ≡ spelled (codec.items self.now)) }
+        // The bytes are read as the value again.
+        ensures again { IfOk result (λ bytes. ReadsAs codec self.now bytes) }
     {
         Ok(self.write_to(Writer::new(alloc))?.finish())
     }
