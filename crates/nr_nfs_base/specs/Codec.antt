@@ -104,10 +104,10 @@ abbrev pub known : {A : Type 0} → Cursor → Option A → Cursor → Result (A
 known from None to = Err from.place
 known from (Some v) to = Ok (v, to)
 
-abbrev pub one_of : {A : Type 0} → (A → ℕ) → List A → Codec A
+unfoldable pub one_of : {A : Type 0} → (A → ℕ) → List A → Codec A
 one_of number all = record {
-  items = λ v. Unsigned (number v) ∷ [];
-  fits = λ _. Unit {0};
+  items = λ v. word.items (number v);
+  fits = λ v. word.fits (number v);
   read = λ at. word.read at >>= λ n. known at (numbered number all n.0) n.1;
 }
 
@@ -177,8 +177,8 @@ times c (suc n) at = c.read at >>= λ x. before x.0 (times c n x.1)
 
 unfoldable pub array : {A : Type 0} → Codec A → Codec (List A)
 array c = record {
-  items = λ vs. Unsigned (length vs) ∷ flat_map c.items vs;
-  fits = λ vs. AllByRecursion c.fits vs;
+  items = λ vs. word.items (length vs) ++ flat_map c.items vs;
+  fits = λ vs. word.fits (length vs) × AllByRecursion c.fits vs;
   read = λ at. word.read at >>= λ n. times c n.0 n.1;
 }
 

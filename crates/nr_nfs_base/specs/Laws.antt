@@ -95,8 +95,8 @@ nothing_lawful = record {
   again = λ old v new fits t. ap (λ (c : Cursor). Ok (tt, c)) t;
 }
 
-pub ⊗_lawful : {A B : Type 0} (a : Codec A) (b : Codec B) → Lawful a → Lawful b → Lawful (a ⊗ b)
-⊗_lawful {A} {B} a b la lb = record {
+pub both_lawful : {A B : Type 0} {a : Codec A} {b : Codec B} → Lawful a → Lawful b → Lawful (a ⊗ b)
+both_lawful {A} {B} {a} {b} la lb = record {
   takes = λ old v new fits e.
     let x = bind_ok (a.read old) (λ x. b.read x.1 >>= λ y. Ok ((x.0, y.0), y.1)) (v, new) e in
     let y = bind_ok (b.read (x.0).1) (λ y. Ok (((x.0).0, y.0), y.1)) (v, new) x.2 in
@@ -135,28 +135,17 @@ known_ok {A} old new (Some w) v to e =
     (ap (λ (q : A × Cursor). Some q.0) p, ap (λ (q : A × Cursor). q.1) p)
 known_ok old new None v to e = absurd cc
 
-t_word : (old : Cursor) (n : ℕ) (new : Cursor) → TakesAll old new (word.items n) → TakesAll old new (Unsigned n ∷ [])
-unfolding word
-t_word old n new t = t
-
-word_t : (old : Cursor) (n : ℕ) (new : Cursor) → TakesAll old new (Unsigned n ∷ []) → TakesAll old new (word.items n)
-unfolding word
-word_t old n new t = t
-
-word_fits : (n : ℕ) → word.fits n
-unfolding word
-word_fits n = tt
-
 -- each value is found by its number
 pub one_of_lawful : {A : Type 0} (number : A → ℕ) (all : List A) → ((v : A) → numbered number all (number v) ≡ Some v) → Lawful (one_of number all)
+unfolding one_of
 one_of_lawful {A} number all each = record {
   takes = λ old v new fits e.
     let n = bind_ok (word.read old) (λ n. known old (numbered number all n.0) n.1) (v, new) e in
     let is = known_ok old new (numbered number all (n.0).0) v (n.0).1 n.2 in
-    let t = word_lawful.takes old (n.0).0 (n.0).1 fits n.1 in
     let same : number v ≡ (n.0).0 = eqb-true (number v) (n.0).0 (find_holds (λ w. eqb (number w) (n.0).0) all v is.0) in
-    (tt, subst (λ (c : Cursor). TakesAll old c (Unsigned (number v) ∷ [])) is.1 (subst (λ (k : ℕ). TakesAll old (n.0).1 (Unsigned k ∷ [])) (sym same) (t_word old (n.0).0 (n.0).1 t.1)));
-  again = λ old v new fits t. rw (word_lawful.again old (number v) new (word_fits (number v)) (word_t old (number v) new t), each v) refl;
+    let read : word.read old ≡ Ok (number v, new) = n.1 ∙ ap (λ (d : Cursor). Ok ((n.0).0, d)) is.1 ∙ ap (λ (k : ℕ). Ok (k, new)) (sym same) in
+    word_lawful.takes old (number v) new fits read;
+  again = λ old v new fits t. rw (word_lawful.again old (number v) new fits t, each v) refl;
 }
 
 -- what is read behind a tag is a value of that tag
@@ -294,11 +283,11 @@ unfolding array
 array_lawful {A} c l = record {
   takes = λ old vs new fits e.
     let n = bind_ok (word.read old) (λ n. times c n.0 n.1) (vs, new) e in
-    let p = t_word old (n.0).0 (n.0).1 (word_lawful.takes old (n.0).0 (n.0).1 fits n.1).1 in
-    let q = times_takes c l (n.0).0 (n.0).1 new vs (IsBytes-behind old (n.0).1 (Unsigned (n.0).0 ∷ []) fits p) n.2 in
-    let count : TakesAll old (n.0).1 (Unsigned (length vs) ∷ []) = subst (λ (k : ℕ). TakesAll old (n.0).1 (Unsigned k ∷ [])) (sym q.1) p in
-    ((q.0).0, TakesAll-append old (n.0).1 new (Unsigned (length vs) ∷ []) (flat_map c.items vs) count (q.0).1);
+    let p = word_lawful.takes old (n.0).0 (n.0).1 fits n.1 in
+    let q = times_takes c l (n.0).0 (n.0).1 new vs (IsBytes-behind old (n.0).1 (word.items (n.0).0) fits p.1) n.2 in
+    let count = subst (λ (k : ℕ). word.fits k × TakesAll old (n.0).1 (word.items k)) (sym q.1) p in
+    ((count.0, (q.0).0), TakesAll-append old (n.0).1 new (word.items (length vs)) (flat_map c.items vs) count.1 (q.0).1);
   again = λ old vs new fits t.
-    let s = TakesAll-split old new (Unsigned (length vs) ∷ []) (flat_map c.items vs) t in
-    rw (word_lawful.again old (length vs) s.0 (word_fits (length vs)) (word_t old (length vs) s.0 s.1), times_again c l vs s.0 new fits s.2) refl;
+    let s = TakesAll-split old new (word.items (length vs)) (flat_map c.items vs) t in
+    rw (word_lawful.again old (length vs) s.0 fits.0 s.1, times_again c l vs s.0 new fits.1 s.2) refl;
 }

@@ -1,3 +1,4 @@
 pub mod Codec
 pub mod Laws
 pub mod Values
+pub mod Status
