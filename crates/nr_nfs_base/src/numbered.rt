@@ -1,6 +1,6 @@
 //! Values that are spelled as a number.
 
-ghost use Rattle.std.specs.Prelude.{◌≡◌, ℕ, List, Some, IfOk};
+ghost use Rattle.std.specs.Prelude.{◌≡◌, ◌==◌, false, ℕ, List, Some, IfOk};
 ghost use Rattle.nr_nfs_base.specs.Codec.{numbered, one_of, Answers, Writes};
 
 use crate::fault::ValueFault;
@@ -26,6 +26,12 @@ pub trait Numbered: Copy {
 
     /// Each value is the one with its number.
     ghost each: { (v : Self) → numbered number all (number v) ≡ Some v };
+}
+
+/// An enumeration of failures: each number but 0, which says that nothing failed.
+pub trait Failure: Numbered {
+    /// No failure has the number 0.
+    ghost not_ok: { (v : Self) → (0 == Self.number v) ≡ false };
 }
 
 /// Reads an enumeration: `Bad` at its word where the word is no value's number.

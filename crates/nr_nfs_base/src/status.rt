@@ -1,39 +1,67 @@
-//! Why a call failed.
+//! Why an NFS call failed.
 
-ghost use Rattle.nr_nfs_base.specs.Status.{status_number, statuses, each_status};
+ghost use Rattle.nr_nfs_base.specs.Status.{each_status, status_not_ok, status_number, statuses};
 
-use crate::numbered::Numbered;
+use crate::numbered::{Failure, Numbered};
 
-/// Why.
+/// Why an NFS call failed (RFC 1813 section 2.6, `nfsstat3` but for `NFS3_OK`).
 #[derive(Clone, Copy, Debug, PartialEq, Eq)]
 pub enum Status {
+    /// Not the owner.
     Perm = 1,
+    /// No such file or directory.
     Noent = 2,
+    /// A hard error on the disk.
     Io = 5,
+    /// No such device.
     Nxio = 6,
+    /// Permission denied.
     Acces = 13,
+    /// The name is taken.
     Exist = 17,
+    /// A link across file systems.
     Xdev = 18,
+    /// No such device.
     Nodev = 19,
+    /// Not a directory.
     Notdir = 20,
+    /// A directory.
     Isdir = 21,
+    /// An argument that does not hold for the call.
     Inval = 22,
+    /// The file would grow too large.
     Fbig = 27,
+    /// No space is left.
     Nospc = 28,
+    /// A file system that is only read.
     Rofs = 30,
+    /// Too many hard links.
     Mlink = 31,
-    NameTooLong = 63,
+    /// The name is too long.
+    Nametoolong = 63,
+    /// The directory has entries.
     Notempty = 66,
+    /// The quota is used up.
     Dquot = 69,
+    /// The file of the handle is gone.
     Stale = 70,
+    /// Too many levels of remote in a path.
     Remote = 71,
-    BadHandle = 10001,
+    /// The handle was never given.
+    Badhandle = 10001,
+    /// The guard is not the change time.
     NotSync = 10002,
+    /// The cookie is not of this directory.
     BadCookie = 10003,
+    /// Not supported.
     Notsupp = 10004,
-    TooSmall = 10005,
-    ServerFault = 10006,
-    BadType = 10007,
+    /// The count is too small for an entry.
+    Toosmall = 10005,
+    /// An error with no status of its own.
+    Serverfault = 10006,
+    /// No such type of file here.
+    Badtype = 10007,
+    /// Try again later.
     Jukebox = 10008,
 }
 
@@ -65,20 +93,24 @@ impl Numbered for Status {
             28 => Some(Status::Nospc),
             30 => Some(Status::Rofs),
             31 => Some(Status::Mlink),
-            63 => Some(Status::NameTooLong),
+            63 => Some(Status::Nametoolong),
             66 => Some(Status::Notempty),
             69 => Some(Status::Dquot),
             70 => Some(Status::Stale),
             71 => Some(Status::Remote),
-            10001 => Some(Status::BadHandle),
+            10001 => Some(Status::Badhandle),
             10002 => Some(Status::NotSync),
             10003 => Some(Status::BadCookie),
             10004 => Some(Status::Notsupp),
-            10005 => Some(Status::TooSmall),
-            10006 => Some(Status::ServerFault),
-            10007 => Some(Status::BadType),
+            10005 => Some(Status::Toosmall),
+            10006 => Some(Status::Serverfault),
+            10007 => Some(Status::Badtype),
             10008 => Some(Status::Jukebox),
             _ => None,
         }
     }
+}
+
+impl Failure for Status {
+    ghost not_ok = { status_not_ok };
 }
