@@ -4,7 +4,7 @@ use Rattle.std.proofs.lemmas.List.{append-nil}
 use Rattle.nr_xdr.specs.Reading.{Cursor}
 use Rattle.nr_nfs_base.specs.declared.fault.ValueFault.{ValueFault}
 use Rattle.nr_nfs_base.specs.declared.fault.ValueFault.TheVariants as faults
-use Rattle.nr_nfs_base.specs.Codec.{Codec, ◌>>=◌, before, chain_on, chain_read, optional, times, Answers}
+use Rattle.nr_nfs_base.specs.Codec.{Codec, ◌>>=◌, before, chain_read, optional, times, Answers}
 
 abbrev ValuesRead : Type 0 → Type 0
 ValuesRead A = Result (List A × Cursor) ℕ
@@ -78,4 +78,3 @@ times_done {A} c front n i at total le so_far =
     let k : n - i ≡ 0 = omega arith in
     let one : onto front (times c (n - i) at) ≡ Ok (front, at) = rw k (ap (λ (vs : List A). Ok (vs, at)) (append-nil front)) in
     sym so_far ∙ one
-

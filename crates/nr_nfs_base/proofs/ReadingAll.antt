@@ -6,10 +6,10 @@ use Rattle.std.specs.List.{AllByRecursion}
 use Rattle.std.proofs.lemmas.List.{nil_from_length, length-replicate}
 use Rattle.std.proofs.lemmas.List.Concat.{flat_map-cons}
 use Rattle.nr_xdr.specs.Item.{Item, Fits, IsBytes, padding, spelling}
-use Rattle.nr_xdr.specs.Reading.{Cursor, Takes}
+use Rattle.nr_xdr.specs.Reading.{Cursor}
 use Rattle.nr_nfs_base.specs.declared.fault.ValueFault.{ValueFault}
 use Rattle.nr_nfs_base.specs.declared.fault.ValueFault.TheVariants as faults
-use Rattle.nr_nfs_base.specs.Codec.{Codec, Lawful, TakesAll, ReadsAll, ReadsAs, ◌>>=◌, begin, ended, read_all, Answers, Writes, spelled}
+use Rattle.nr_nfs_base.specs.Codec.{Codec, Lawful, TakesAll, ReadsAll, ReadsAs, begin, ended, read_all, Answers, Writes, spelled}
 use Rattle.nr_nfs_base.specs.Laws.{ok_is, bind_ok}
 
 all_read : (old new : Cursor) (items : List Item) → TakesAll old new items → new.rest ≡ [] → ReadsAll items old.rest

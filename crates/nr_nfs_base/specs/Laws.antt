@@ -1,5 +1,5 @@
 -- The laws of the codecs: each that is made of lawful ones is lawful.
-use Rattle.std.proofs.Common.{◌≡◌, ℕ, zero, suc, ◌+◌, ◌≤◌, ◌<◌, Bool, true, false, cond, eqb, List, [], ◌∷◌, ◌++◌, length, get_or, Option, Some, None, is_some, Result, Ok, Err, refl, sym, ap, subst, ◌∙◌, arith}
+use Rattle.std.proofs.Common.{◌≡◌, ℕ, zero, suc, ◌+◌, ◌≤◌, ◌<◌, Bool, true, false, cond, eqb, List, [], ◌∷◌, ◌++◌, length, Option, Some, None, is_some, Result, Ok, Err, refl, sym, ap, subst, ◌∙◌, arith}
 use Rattle.std.specs.List.{find, flat_map, AllByRecursion}
 use Rattle.std.proofs.lemmas.Bool.{eqb-true}
 use Rattle.std.proofs.lemmas.List.{get_or-append-add, length-append}
@@ -82,8 +82,8 @@ pub opaque_lawful : (max : ℕ) → Lawful (opaque max)
 unfolding opaque
 opaque_lawful max = record {
   takes = λ old bytes new fits e.
-    let t = opaque_takes old max bytes new fits (placed_ok (opaque_at max old) (bytes, new) e) in
-    (t.1, takes_one old new (Opaque bytes) t.0);
+      let t = opaque_takes old max bytes new fits (placed_ok (opaque_at max old) (bytes, new) e) in
+      (t.1, takes_one old new (Opaque bytes) t.0);
   again = λ old bytes new fits t. ap placed (opaque_again old max bytes new fits (one_taken old new (Opaque bytes) t));
 }
 
@@ -98,25 +98,25 @@ nothing_lawful = record {
 pub both_lawful : {A B : Type 0} {a : Codec A} {b : Codec B} → Lawful a → Lawful b → Lawful (a ⊗ b)
 both_lawful {A} {B} {a} {b} la lb = record {
   takes = λ old v new fits e.
-    let x = bind_ok (a.read old) (λ x. b.read x.1 >>= λ y. Ok ((x.0, y.0), y.1)) (v, new) e in
-    let y = bind_ok (b.read (x.0).1) (λ y. Ok (((x.0).0, y.0), y.1)) (v, new) x.2 in
-    let p = la.takes old (x.0).0 (x.0).1 fits x.1 in
-    let q = lb.takes (x.0).1 (y.0).0 (y.0).1 (IsBytes-behind old (x.0).1 (a.items (x.0).0) fits p.1) y.1 in
-    let both = TakesAll-append old (x.0).1 (y.0).1 (a.items (x.0).0) (b.items (y.0).0) p.1 q.1 in
-    subst (λ (z : (A × B) × Cursor). (a ⊗ b).fits z.0 × TakesAll old z.1 ((a ⊗ b).items z.0))
-    (ok_is {A = (A × B) × Cursor} (((x.0).0, (y.0).0), (y.0).1) (v, new) y.2) ((p.0, q.0), both);
+      let x = bind_ok (a.read old) (λ x. b.read x.1 >>= λ y. Ok ((x.0, y.0), y.1)) (v, new) e in
+      let y = bind_ok (b.read (x.0).1) (λ y. Ok (((x.0).0, y.0), y.1)) (v, new) x.2 in
+      let p = la.takes old (x.0).0 (x.0).1 fits x.1 in
+      let q = lb.takes (x.0).1 (y.0).0 (y.0).1 (IsBytes-behind old (x.0).1 (a.items (x.0).0) fits p.1) y.1 in
+      let both = TakesAll-append old (x.0).1 (y.0).1 (a.items (x.0).0) (b.items (y.0).0) p.1 q.1 in
+      subst (λ (z : (A × B) × Cursor). (a ⊗ b).fits z.0 × TakesAll old z.1 ((a ⊗ b).items z.0))
+      (ok_is {A = (A × B) × Cursor} (((x.0).0, (y.0).0), (y.0).1) (v, new) y.2) ((p.0, q.0), both);
   again = λ old v new fits t.
-    let s = TakesAll-split old new (a.items v.0) (b.items v.1) t in
-    rw (la.again old v.0 s.0 fits.0 s.1, lb.again s.0 v.1 new fits.1 s.2) refl;
+      let s = TakesAll-split old new (a.items v.0) (b.items v.1) t in
+      rw (la.again old v.0 s.0 fits.0 s.1, lb.again s.0 v.1 new fits.1 s.2) refl;
 }
 
 pub via_lawful : {A B : Type 0} (make : A → B) (parts : B → A) (c : Codec A) → ((v : B) → make (parts v) ≡ v) → ((p : A) → parts (make p) ≡ p) → Lawful c → Lawful (via make parts c)
 via_lawful {A} {B} make parts c back forth l = record {
   takes = λ old v new fits e.
-    let x = bind_ok (c.read old) (λ x. Ok (make x.0, x.1)) (v, new) e in
-    let p = l.takes old (x.0).0 (x.0).1 fits x.1 in
-    subst (λ (z : B × Cursor). c.fits (parts z.0) × TakesAll old z.1 (c.items (parts z.0))) (ok_is {A = B × Cursor} (make (x.0).0, (x.0).1) (v, new) x.2)
-    (subst (λ (w : A). c.fits w × TakesAll old (x.0).1 (c.items w)) (sym (forth (x.0).0)) p);
+      let x = bind_ok (c.read old) (λ x. Ok (make x.0, x.1)) (v, new) e in
+      let p = l.takes old (x.0).0 (x.0).1 fits x.1 in
+      subst (λ (z : B × Cursor). c.fits (parts z.0) × TakesAll old z.1 (c.items (parts z.0))) (ok_is {A = B × Cursor} (make (x.0).0, (x.0).1) (v, new) x.2)
+      (subst (λ (w : A). c.fits w × TakesAll old (x.0).1 (c.items w)) (sym (forth (x.0).0)) p);
   again = λ old v new fits t. rw (l.again old (parts v) new fits t) (ap (λ (w : B). Ok (w, new)) (back v));
 }
 
@@ -140,11 +140,11 @@ pub one_of_lawful : {A : Type 0} (number : A → ℕ) (all : List A) → ((v : A
 unfolding one_of
 one_of_lawful {A} number all each = record {
   takes = λ old v new fits e.
-    let n = bind_ok (word.read old) (λ n. known old (numbered number all n.0) n.1) (v, new) e in
-    let is = known_ok old new (numbered number all (n.0).0) v (n.0).1 n.2 in
-    let same : number v ≡ (n.0).0 = eqb-true (number v) (n.0).0 (find_holds (λ w. eqb (number w) (n.0).0) all v is.0) in
-    let read : word.read old ≡ Ok (number v, new) = n.1 ∙ ap (λ (d : Cursor). Ok ((n.0).0, d)) is.1 ∙ ap (λ (k : ℕ). Ok (k, new)) (sym same) in
-    word_lawful.takes old (number v) new fits read;
+      let n = bind_ok (word.read old) (λ n. known old (numbered number all n.0) n.1) (v, new) e in
+      let is = known_ok old new (numbered number all (n.0).0) v (n.0).1 n.2 in
+      let same : number v ≡ (n.0).0 = eqb-true (number v) (n.0).0 (find_holds (λ w. eqb (number w) (n.0).0) all v is.0) in
+      let read : word.read old ≡ Ok (number v, new) = n.1 ∙ ap (λ (d : Cursor). Ok ((n.0).0, d)) is.1 ∙ ap (λ (k : ℕ). Ok (k, new)) (sym same) in
+      word_lawful.takes old (number v) new fits read;
   again = λ old v new fits t. rw (word_lawful.again old (number v) new fits t, each v) refl;
 }
 
@@ -156,14 +156,14 @@ pub record LawfulArms {T A : Type 0} (arms : Arms T A) : Type 0 where
 pub tagged_lawful : {T A : Type 0} (tag : Codec T) (arms : Arms T A) → Lawful tag → LawfulArms arms → Lawful (tagged tag arms)
 tagged_lawful {T} {A} tag arms lt la = record {
   takes = λ old v new fits e.
-    let t = bind_ok (tag.read old) (λ t. arms.read t.0 t.1) (v, new) e in
-    let p = lt.takes old (t.0).0 (t.0).1 fits t.1 in
-    let q = la.takes (t.0).0 (t.0).1 v new (IsBytes-behind old (t.0).1 (tag.items (t.0).0) fits p.1) t.2 in
-    let both = TakesAll-append old (t.0).1 new (tag.items (t.0).0) (arms.items v) p.1 (q.1).1 in
-    subst (λ (k : T). (tag.fits k × arms.fits v) × TakesAll old new (tag.items k ++ arms.items v)) (sym q.0) ((p.0, (q.1).0), both);
+      let t = bind_ok (tag.read old) (λ t. arms.read t.0 t.1) (v, new) e in
+      let p = lt.takes old (t.0).0 (t.0).1 fits t.1 in
+      let q = la.takes (t.0).0 (t.0).1 v new (IsBytes-behind old (t.0).1 (tag.items (t.0).0) fits p.1) t.2 in
+      let both = TakesAll-append old (t.0).1 new (tag.items (t.0).0) (arms.items v) p.1 (q.1).1 in
+      subst (λ (k : T). (tag.fits k × arms.fits v) × TakesAll old new (tag.items k ++ arms.items v)) (sym q.0) ((p.0, (q.1).0), both);
   again = λ old v new fits t.
-    let s = TakesAll-split old new (tag.items (arms.tag_of v)) (arms.items v) t in
-    rw (lt.again old (arms.tag_of v) s.0 fits.0 s.1) (la.again v s.0 new fits.1 s.2);
+      let s = TakesAll-split old new (tag.items (arms.tag_of v)) (arms.items v) t in
+      rw (lt.again old (arms.tag_of v) s.0 fits.0 s.1) (la.again v s.0 new fits.1 s.2);
 }
 
 -- a claim for the value made, from one for its part
@@ -282,12 +282,12 @@ pub array_lawful : {A : Type 0} (c : Codec A) → Lawful c → Lawful (array c)
 unfolding array
 array_lawful {A} c l = record {
   takes = λ old vs new fits e.
-    let n = bind_ok (word.read old) (λ n. times c n.0 n.1) (vs, new) e in
-    let p = word_lawful.takes old (n.0).0 (n.0).1 fits n.1 in
-    let q = times_takes c l (n.0).0 (n.0).1 new vs (IsBytes-behind old (n.0).1 (word.items (n.0).0) fits p.1) n.2 in
-    let count = subst (λ (k : ℕ). word.fits k × TakesAll old (n.0).1 (word.items k)) (sym q.1) p in
-    ((count.0, (q.0).0), TakesAll-append old (n.0).1 new (word.items (length vs)) (flat_map c.items vs) count.1 (q.0).1);
+      let n = bind_ok (word.read old) (λ n. times c n.0 n.1) (vs, new) e in
+      let p = word_lawful.takes old (n.0).0 (n.0).1 fits n.1 in
+      let q = times_takes c l (n.0).0 (n.0).1 new vs (IsBytes-behind old (n.0).1 (word.items (n.0).0) fits p.1) n.2 in
+      let count = subst (λ (k : ℕ). word.fits k × TakesAll old (n.0).1 (word.items k)) (sym q.1) p in
+      ((count.0, (q.0).0), TakesAll-append old (n.0).1 new (word.items (length vs)) (flat_map c.items vs) count.1 (q.0).1);
   again = λ old vs new fits t.
-    let s = TakesAll-split old new (word.items (length vs)) (flat_map c.items vs) t in
-    rw (word_lawful.again old (length vs) s.0 fits.0 s.1, times_again c l vs s.0 new fits.1 s.2) refl;
+      let s = TakesAll-split old new (word.items (length vs)) (flat_map c.items vs) t in
+      rw (word_lawful.again old (length vs) s.0 fits.0 s.1, times_again c l vs s.0 new fits.1 s.2) refl;
 }

@@ -1,25 +1,26 @@
--- Opaque data of RFC 1813.
-use Rattle.std.specs.Prelude.{ℕ, ◌-◌, ◌^◌, List}
+-- Handles, names, paths and data.
+use Rattle.std.specs.Prelude.{ℕ, List}
+use Rattle.nr_nfs_base.specs.declared.names.TheConstants.{HANDLE_MAX, MOUNT_PATH_MAX, UNLIMITED}
 use Rattle.nr_nfs_base.specs.Codec.{Codec, Lawful, opaque}
 use Rattle.nr_nfs_base.specs.Laws.{opaque_lawful}
 
--- a file handle has at most 64 bytes (RFC 1813 section 2.4, NFS3_FHSIZE and FHSIZE3)
+-- a file handle (RFC 1813 section 2.4, nfs_fh3)
 abbrev pub handle_codec : Codec (List ℕ)
-handle_codec = opaque 64
+handle_codec = opaque HANDLE_MAX
 
 pub handle_lawful : Lawful handle_codec
-handle_lawful = opaque_lawful 64
+handle_lawful = opaque_lawful HANDLE_MAX
 
--- names, paths and data have no limit but their count word (RFC 1813 sections 2.4 and 2.5, filename3 and nfspath3)
+-- a name, a path or the data of a file (RFC 1813 section 2.4, filename3 and nfspath3)
 abbrev pub text_codec : Codec (List ℕ)
-text_codec = opaque 4294967295
+text_codec = opaque UNLIMITED
 
 pub text_lawful : Lawful text_codec
-text_lawful = opaque_lawful 4294967295
+text_lawful = opaque_lawful UNLIMITED
 
--- a path to mount has at most 1024 bytes (RFC 1813 section 5.1.3, MNTPATHLEN)
+-- a path to mount (RFC 1813 section 5.1.4, dirpath)
 abbrev pub mount_path_codec : Codec (List ℕ)
-mount_path_codec = opaque 1024
+mount_path_codec = opaque MOUNT_PATH_MAX
 
 pub mount_path_lawful : Lawful mount_path_codec
-mount_path_lawful = opaque_lawful 1024
+mount_path_lawful = opaque_lawful MOUNT_PATH_MAX

@@ -1,11 +1,11 @@
 -- What a procedure answers: a status, then the part of OK or that of a failure (RFC 1813 sections 3.3 and 5.1.5).
-use Rattle.std.proofs.Common.{refl, ap, sym, ◌∙◌, cond}
-use Rattle.std.specs.Prelude.{◌≡◌, ℕ, Bool, true, false, List, [], ◌∷◌, ◌++◌, map, Some, None, Option, option_map, Result, Ok, ◌==◌}
+use Rattle.std.proofs.Common.{refl, cond}
+use Rattle.std.specs.Prelude.{◌≡◌, ℕ, true, false, List, [], ◌∷◌, map, Some, None, Option, option_map, Result, Ok, ◌==◌}
 use Rattle.std.specs.List.{find}
 use Rattle.nr_xdr.specs.Item.{Item, IsBytes}
 use Rattle.nr_xdr.specs.Reading.{Cursor}
 use Rattle.nr_nfs_base.specs.Codec.{Codec, Lawful, TakesAll, numbered, one_of, Arms, tagged, made_as}
-use Rattle.nr_nfs_base.specs.Laws.{LawfulArms, one_of_lawful, tagged_lawful, arm_takes}
+use Rattle.nr_nfs_base.specs.Laws.{one_of_lawful, tagged_lawful, arm_takes}
 use Rattle.nr_nfs_base.specs.declared.outcome.Outcome.{Outcome}
 use Rattle.nr_nfs_base.specs.declared.outcome.Outcome.TheVariants.{Done, Failed}
 

@@ -59,7 +59,10 @@ impl<T: Xdr> Xdr for Array<T> {
 
     ghost lawful = { array_lawful T.codec T.lawful };
 
-    fn read_from<'a>(alloc: Global, reader: Reader<'a>) -> Result<(Array<T>, Reader<'a>), ValueFault> {
+    fn read_from<'a>(
+        alloc: Global,
+        reader: Reader<'a>,
+    ) -> Result<(Array<T>, Reader<'a>), ValueFault> {
         let (count, reader) = u32::read_from(alloc, reader)?;
         read_values(alloc, count, reader)
     }
@@ -73,7 +76,11 @@ impl<T: Xdr> Xdr for Array<T> {
 }
 
 /// Reads so many values.
-fn read_values<'a, T: Xdr>(alloc: Global, count: u32, reader: Reader<'a>) -> Result<(Array<T>, Reader<'a>), ValueFault>
+fn read_values<'a, T: Xdr>(
+    alloc: Global,
+    count: u32,
+    reader: Reader<'a>,
+) -> Result<(Array<T>, Reader<'a>), ValueFault>
     ensures { Answers result (times T.codec count reader.entry) }
 {
     let mut values = Vec::new(alloc);

@@ -22,7 +22,10 @@ impl Xdr for SpecialData {
 
     ghost lawful = { special_data_lawful };
 
-    fn read_from<'a>(alloc: Global, reader: Reader<'a>) -> Result<(SpecialData, Reader<'a>), ValueFault> {
+    fn read_from<'a>(
+        alloc: Global,
+        reader: Reader<'a>,
+    ) -> Result<(SpecialData, Reader<'a>), ValueFault> {
         let (major, reader) = u32::read_from(alloc, reader)?;
         let (minor, reader) = u32::read_from(alloc, reader)?;
         Ok((SpecialData { major, minor }, reader))
@@ -63,7 +66,10 @@ impl Xdr for Attributes {
 
     ghost lawful = { attributes_lawful };
 
-    fn read_from<'a>(alloc: Global, reader: Reader<'a>) -> Result<(Attributes, Reader<'a>), ValueFault> {
+    fn read_from<'a>(
+        alloc: Global,
+        reader: Reader<'a>,
+    ) -> Result<(Attributes, Reader<'a>), ValueFault> {
         let (file_type, reader) = FileType::read_from(alloc, reader)?;
         let (mode, reader) = u32::read_from(alloc, reader)?;
         let (nlink, reader) = u32::read_from(alloc, reader)?;
@@ -77,7 +83,21 @@ impl Xdr for Attributes {
         let (atime, reader) = Time::read_from(alloc, reader)?;
         let (mtime, reader) = Time::read_from(alloc, reader)?;
         let (ctime, reader) = Time::read_from(alloc, reader)?;
-        let value = Attributes { file_type, mode, nlink, uid, gid, size, used, rdev, fsid, fileid, atime, mtime, ctime };
+        let value = Attributes {
+            file_type,
+            mode,
+            nlink,
+            uid,
+            gid,
+            size,
+            used,
+            rdev,
+            fsid,
+            fileid,
+            atime,
+            mtime,
+            ctime,
+        };
         Ok((value, reader))
     }
 

@@ -62,7 +62,10 @@ impl<T: Xdr> Xdr for Chain<T> {
 
     ghost lawful = { chain_lawful T.codec T.lawful };
 
-    fn read_from<'a>(alloc: Global, reader: Reader<'a>) -> Result<(Chain<T>, Reader<'a>), ValueFault> {
+    fn read_from<'a>(
+        alloc: Global,
+        reader: Reader<'a>,
+    ) -> Result<(Chain<T>, Reader<'a>), ValueFault> {
         let most = reader.rest().len();
         read_values(alloc, most, reader)
     }
@@ -73,7 +76,11 @@ impl<T: Xdr> Xdr for Chain<T> {
 }
 
 /// Reads the values up to the 0 behind them: `most` bounds them, the 0 counted.
-fn read_values<'a, T: Xdr>(alloc: Global, most: usize, reader: Reader<'a>) -> Result<(Chain<T>, Reader<'a>), ValueFault>
+fn read_values<'a, T: Xdr>(
+    alloc: Global,
+    most: usize,
+    reader: Reader<'a>,
+) -> Result<(Chain<T>, Reader<'a>), ValueFault>
     ensures { Answers result (chain_read T.codec most reader.entry) }
 {
     let mut values = Vec::new(alloc);

@@ -58,7 +58,10 @@ impl Xdr for FileType {
 
     ghost lawful = { file_type_lawful };
 
-    fn read_from<'a>(alloc: Global, reader: Reader<'a>) -> Result<(FileType, Reader<'a>), ValueFault> {
+    fn read_from<'a>(
+        alloc: Global,
+        reader: Reader<'a>,
+    ) -> Result<(FileType, Reader<'a>), ValueFault> {
         read_numbered(alloc, reader)
     }
 

@@ -15,7 +15,10 @@ impl Xdr for u32 {
 
     ghost lawful = { word_lawful };
 
-    fn read_from<'a>(_alloc: Global, mut reader: Reader<'a>) -> Result<(u32, Reader<'a>), ValueFault> {
+    fn read_from<'a>(
+        _alloc: Global,
+        mut reader: Reader<'a>,
+    ) -> Result<(u32, Reader<'a>), ValueFault> {
         let number = reader.u32()?;
         Ok((number, reader))
     }
@@ -33,7 +36,10 @@ impl Xdr for u64 {
 
     ghost lawful = { hyper_lawful };
 
-    fn read_from<'a>(_alloc: Global, mut reader: Reader<'a>) -> Result<(u64, Reader<'a>), ValueFault> {
+    fn read_from<'a>(
+        _alloc: Global,
+        mut reader: Reader<'a>,
+    ) -> Result<(u64, Reader<'a>), ValueFault> {
         let number = reader.u64()?;
         Ok((number, reader))
     }
@@ -51,7 +57,10 @@ impl Xdr for bool {
 
     ghost lawful = { boolean_lawful };
 
-    fn read_from<'a>(_alloc: Global, mut reader: Reader<'a>) -> Result<(bool, Reader<'a>), ValueFault> {
+    fn read_from<'a>(
+        _alloc: Global,
+        mut reader: Reader<'a>,
+    ) -> Result<(bool, Reader<'a>), ValueFault> {
         let flag = reader.boolean()?;
         Ok((flag, reader))
     }

@@ -36,7 +36,10 @@ pub trait Failure: Numbered {
 
 /// Reads an enumeration: `Bad` at its word where the word is no value's number.
 #[tactic(auto, unfolding(crate::specs::Codec::one_of))]
-pub fn read_numbered<'a, T: Numbered>(alloc: Global, reader: Reader<'a>) -> Result<(T, Reader<'a>), ValueFault>
+pub fn read_numbered<'a, T: Numbered>(
+    alloc: Global,
+    reader: Reader<'a>,
+) -> Result<(T, Reader<'a>), ValueFault>
     ensures { Answers result ((one_of T.number T.all).read reader.entry) }
 {
     let at = reader.at();

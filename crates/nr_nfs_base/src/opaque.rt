@@ -35,6 +35,16 @@ impl<const MAX: u32> Opaque<MAX> {
         Opaque { bytes }
     }
 
+    /// A copy of some bytes.
+    pub fn from_slice(alloc: Global, bytes: &[u8]) -> Result<Opaque<MAX>, Memory>
+        requires { length bytes.now ≤ MAX }
+        ensures { IfOk result (λ o. o ≡ bytes.now) }
+    {
+        Ok(Opaque {
+            bytes: Octets::from_slice(alloc, bytes)?,
+        })
+    }
+
     /// The bytes. Takes no memory.
     pub fn into_octets(self) -> Octets
         ensures value { result ≡ self.entry }
@@ -58,7 +68,10 @@ impl<const MAX: u32> Xdr for Opaque<MAX> {
 
     ghost lawful = { opaque_lawful MAX };
 
-    fn read_from<'a>(alloc: Global, mut reader: Reader<'a>) -> Result<(Opaque<MAX>, Reader<'a>), ValueFault> {
+    fn read_from<'a>(
+        alloc: Global,
+        mut reader: Reader<'a>,
+    ) -> Result<(Opaque<MAX>, Reader<'a>), ValueFault> {
         let bytes = reader.opaque(MAX)?;
         let bytes = Octets::from_slice(alloc, bytes)?;
         Ok((Opaque { bytes }, reader))

@@ -15,7 +15,10 @@ impl<T: Xdr> Xdr for Option<T> {
 
     ghost lawful = { optional_lawful T.codec T.lawful };
 
-    fn read_from<'a>(alloc: Global, reader: Reader<'a>) -> Result<(Option<T>, Reader<'a>), ValueFault> {
+    fn read_from<'a>(
+        alloc: Global,
+        reader: Reader<'a>,
+    ) -> Result<(Option<T>, Reader<'a>), ValueFault> {
         let (is_there, reader) = bool::read_from(alloc, reader)?;
         if is_there {
             let (value, reader) = T::read_from(alloc, reader)?;

@@ -51,7 +51,10 @@ impl<D: Xdr, F: Xdr, S: Failure> Xdr for Outcome<D, F, S> {
 
     ghost lawful = { outcome_lawful S.number S.all S.not_ok S.each D.codec F.codec D.lawful F.lawful };
 
-    fn read_from<'a>(alloc: Global, reader: Reader<'a>) -> Result<(Outcome<D, F, S>, Reader<'a>), ValueFault> {
+    fn read_from<'a>(
+        alloc: Global,
+        reader: Reader<'a>,
+    ) -> Result<(Outcome<D, F, S>, Reader<'a>), ValueFault> {
         let (tag, reader) = read_numbered::<Option<S>>(alloc, reader)?;
         match tag {
             None => {

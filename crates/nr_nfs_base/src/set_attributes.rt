@@ -44,7 +44,10 @@ impl Xdr for TimeHow {
 
     ghost lawful = { time_how_lawful };
 
-    fn read_from<'a>(alloc: Global, reader: Reader<'a>) -> Result<(TimeHow, Reader<'a>), ValueFault> {
+    fn read_from<'a>(
+        alloc: Global,
+        reader: Reader<'a>,
+    ) -> Result<(TimeHow, Reader<'a>), ValueFault> {
         read_numbered(alloc, reader)
     }
 
@@ -70,7 +73,10 @@ impl Xdr for SetTime {
 
     ghost lawful = { set_time_lawful };
 
-    fn read_from<'a>(alloc: Global, reader: Reader<'a>) -> Result<(SetTime, Reader<'a>), ValueFault> {
+    fn read_from<'a>(
+        alloc: Global,
+        reader: Reader<'a>,
+    ) -> Result<(SetTime, Reader<'a>), ValueFault> {
         let (tag, reader) = TimeHow::read_from(alloc, reader)?;
         match tag {
             TimeHow::DontChange => Ok((SetTime::Leave, reader)),
@@ -111,14 +117,24 @@ impl Xdr for SetAttributes {
 
     ghost lawful = { set_attributes_lawful };
 
-    fn read_from<'a>(alloc: Global, reader: Reader<'a>) -> Result<(SetAttributes, Reader<'a>), ValueFault> {
+    fn read_from<'a>(
+        alloc: Global,
+        reader: Reader<'a>,
+    ) -> Result<(SetAttributes, Reader<'a>), ValueFault> {
         let (mode, reader) = Option::<u32>::read_from(alloc, reader)?;
         let (uid, reader) = Option::<u32>::read_from(alloc, reader)?;
         let (gid, reader) = Option::<u32>::read_from(alloc, reader)?;
         let (size, reader) = Option::<u64>::read_from(alloc, reader)?;
         let (atime, reader) = SetTime::read_from(alloc, reader)?;
         let (mtime, reader) = SetTime::read_from(alloc, reader)?;
-        let value = SetAttributes { mode, uid, gid, size, atime, mtime };
+        let value = SetAttributes {
+            mode,
+            uid,
+            gid,
+            size,
+            atime,
+            mtime,
+        };
         Ok((value, reader))
     }
 

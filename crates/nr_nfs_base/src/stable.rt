@@ -46,7 +46,10 @@ impl Xdr for StableHow {
 
     ghost lawful = { stable_how_lawful };
 
-    fn read_from<'a>(alloc: Global, reader: Reader<'a>) -> Result<(StableHow, Reader<'a>), ValueFault> {
+    fn read_from<'a>(
+        alloc: Global,
+        reader: Reader<'a>,
+    ) -> Result<(StableHow, Reader<'a>), ValueFault> {
         read_numbered(alloc, reader)
     }
 

@@ -24,7 +24,13 @@ impl Xdr for Time {
     fn read_from<'a>(alloc: Global, reader: Reader<'a>) -> Result<(Time, Reader<'a>), ValueFault> {
         let (seconds, reader) = u32::read_from(alloc, reader)?;
         let (nanoseconds, reader) = u32::read_from(alloc, reader)?;
-        Ok((Time { seconds, nanoseconds }, reader))
+        Ok((
+            Time {
+                seconds,
+                nanoseconds,
+            },
+            reader,
+        ))
     }
 
     fn write_to(&self, writer: Writer) -> Result<Writer, Memory> {

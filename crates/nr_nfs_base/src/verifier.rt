@@ -20,7 +20,10 @@ impl Xdr for Verifier {
 
     ghost lawful = { verifier_lawful };
 
-    fn read_from<'a>(alloc: Global, reader: Reader<'a>) -> Result<(Verifier, Reader<'a>), ValueFault> {
+    fn read_from<'a>(
+        alloc: Global,
+        reader: Reader<'a>,
+    ) -> Result<(Verifier, Reader<'a>), ValueFault> {
         let (number, reader) = u64::read_from(alloc, reader)?;
         Ok((Verifier { number }, reader))
     }

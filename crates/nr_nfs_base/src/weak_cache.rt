@@ -2,8 +2,8 @@
 
 ghost use Rattle.nr_nfs_base.specs.WeakCache.{wcc_attributes_codec, wcc_attributes_lawful, wcc_data_codec, wcc_data_lawful};
 
-use crate::fault::ValueFault;
 use crate::attributes::Attributes;
+use crate::fault::ValueFault;
 use crate::time::Time;
 use crate::xdr::Xdr;
 use nr_xdr::{Memory, Reader, Writer};
@@ -24,7 +24,10 @@ impl Xdr for WccAttributes {
 
     ghost lawful = { wcc_attributes_lawful };
 
-    fn read_from<'a>(alloc: Global, reader: Reader<'a>) -> Result<(WccAttributes, Reader<'a>), ValueFault> {
+    fn read_from<'a>(
+        alloc: Global,
+        reader: Reader<'a>,
+    ) -> Result<(WccAttributes, Reader<'a>), ValueFault> {
         let (size, reader) = u64::read_from(alloc, reader)?;
         let (mtime, reader) = Time::read_from(alloc, reader)?;
         let (ctime, reader) = Time::read_from(alloc, reader)?;
@@ -52,7 +55,10 @@ impl Xdr for WccData {
 
     ghost lawful = { wcc_data_lawful };
 
-    fn read_from<'a>(alloc: Global, reader: Reader<'a>) -> Result<(WccData, Reader<'a>), ValueFault> {
+    fn read_from<'a>(
+        alloc: Global,
+        reader: Reader<'a>,
+    ) -> Result<(WccData, Reader<'a>), ValueFault> {
         let (before, reader) = Option::<WccAttributes>::read_from(alloc, reader)?;
         let (after, reader) = Option::<Attributes>::read_from(alloc, reader)?;
         Ok((WccData { before, after }, reader))
