@@ -18,7 +18,10 @@ impl Xdr for GetattrArgs {
 
     ghost lawful = { getattr_args_lawful };
 
-    fn read_from<'a>(alloc: Global, reader: Reader<'a>) -> Result<(GetattrArgs, Reader<'a>), ValueFault> {
+    fn read_from<'a>(
+        alloc: Global,
+        reader: Reader<'a>,
+    ) -> Result<(GetattrArgs, Reader<'a>), ValueFault> {
         let (object, reader) = Handle::read_from(alloc, reader)?;
         Ok((GetattrArgs { object }, reader))
     }
@@ -43,11 +46,21 @@ impl Xdr for SetattrArgs {
 
     ghost lawful = { setattr_args_lawful };
 
-    fn read_from<'a>(alloc: Global, reader: Reader<'a>) -> Result<(SetattrArgs, Reader<'a>), ValueFault> {
+    fn read_from<'a>(
+        alloc: Global,
+        reader: Reader<'a>,
+    ) -> Result<(SetattrArgs, Reader<'a>), ValueFault> {
         let (object, reader) = Handle::read_from(alloc, reader)?;
         let (attributes, reader) = SetAttributes::read_from(alloc, reader)?;
         let (guard, reader) = Option::<Time>::read_from(alloc, reader)?;
-        Ok((SetattrArgs { object, attributes, guard }, reader))
+        Ok((
+            SetattrArgs {
+                object,
+                attributes,
+                guard,
+            },
+            reader,
+        ))
     }
 
     fn write_to(&self, writer: Writer) -> Result<Writer, Memory> {
@@ -72,7 +85,10 @@ impl Xdr for AccessArgs {
 
     ghost lawful = { access_args_lawful };
 
-    fn read_from<'a>(alloc: Global, reader: Reader<'a>) -> Result<(AccessArgs, Reader<'a>), ValueFault> {
+    fn read_from<'a>(
+        alloc: Global,
+        reader: Reader<'a>,
+    ) -> Result<(AccessArgs, Reader<'a>), ValueFault> {
         let (object, reader) = Handle::read_from(alloc, reader)?;
         let (access, reader) = u32::read_from(alloc, reader)?;
         Ok((AccessArgs { object, access }, reader))

@@ -22,11 +22,21 @@ impl Xdr for ReadArgs {
 
     ghost lawful = { read_args_lawful };
 
-    fn read_from<'a>(alloc: Global, reader: Reader<'a>) -> Result<(ReadArgs, Reader<'a>), ValueFault> {
+    fn read_from<'a>(
+        alloc: Global,
+        reader: Reader<'a>,
+    ) -> Result<(ReadArgs, Reader<'a>), ValueFault> {
         let (file, reader) = Handle::read_from(alloc, reader)?;
         let (offset, reader) = u64::read_from(alloc, reader)?;
         let (count, reader) = u32::read_from(alloc, reader)?;
-        Ok((ReadArgs { file, offset, count }, reader))
+        Ok((
+            ReadArgs {
+                file,
+                offset,
+                count,
+            },
+            reader,
+        ))
     }
 
     fn write_to(&self, writer: Writer) -> Result<Writer, Memory> {
@@ -55,13 +65,22 @@ impl Xdr for WriteArgs {
 
     ghost lawful = { write_args_lawful };
 
-    fn read_from<'a>(alloc: Global, reader: Reader<'a>) -> Result<(WriteArgs, Reader<'a>), ValueFault> {
+    fn read_from<'a>(
+        alloc: Global,
+        reader: Reader<'a>,
+    ) -> Result<(WriteArgs, Reader<'a>), ValueFault> {
         let (file, reader) = Handle::read_from(alloc, reader)?;
         let (offset, reader) = u64::read_from(alloc, reader)?;
         let (count, reader) = u32::read_from(alloc, reader)?;
         let (stable, reader) = StableHow::read_from(alloc, reader)?;
         let (data, reader) = Data::read_from(alloc, reader)?;
-        let value = WriteArgs { file, offset, count, stable, data };
+        let value = WriteArgs {
+            file,
+            offset,
+            count,
+            stable,
+            data,
+        };
         Ok((value, reader))
     }
 
@@ -91,11 +110,21 @@ impl Xdr for CommitArgs {
 
     ghost lawful = { commit_args_lawful };
 
-    fn read_from<'a>(alloc: Global, reader: Reader<'a>) -> Result<(CommitArgs, Reader<'a>), ValueFault> {
+    fn read_from<'a>(
+        alloc: Global,
+        reader: Reader<'a>,
+    ) -> Result<(CommitArgs, Reader<'a>), ValueFault> {
         let (file, reader) = Handle::read_from(alloc, reader)?;
         let (offset, reader) = u64::read_from(alloc, reader)?;
         let (count, reader) = u32::read_from(alloc, reader)?;
-        Ok((CommitArgs { file, offset, count }, reader))
+        Ok((
+            CommitArgs {
+                file,
+                offset,
+                count,
+            },
+            reader,
+        ))
     }
 
     fn write_to(&self, writer: Writer) -> Result<Writer, Memory> {

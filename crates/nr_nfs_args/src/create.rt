@@ -24,7 +24,10 @@ impl Xdr for CreateHow {
 
     ghost lawful = { create_how_lawful };
 
-    fn read_from<'a>(alloc: Global, reader: Reader<'a>) -> Result<(CreateHow, Reader<'a>), ValueFault> {
+    fn read_from<'a>(
+        alloc: Global,
+        reader: Reader<'a>,
+    ) -> Result<(CreateHow, Reader<'a>), ValueFault> {
         let (tag, reader) = CreateMode::read_from(alloc, reader)?;
         match tag {
             CreateMode::Unchecked => {
@@ -74,7 +77,10 @@ impl Xdr for CreateArgs {
 
     ghost lawful = { create_args_lawful };
 
-    fn read_from<'a>(alloc: Global, reader: Reader<'a>) -> Result<(CreateArgs, Reader<'a>), ValueFault> {
+    fn read_from<'a>(
+        alloc: Global,
+        reader: Reader<'a>,
+    ) -> Result<(CreateArgs, Reader<'a>), ValueFault> {
         let (dir, reader) = Handle::read_from(alloc, reader)?;
         let (name, reader) = Name::read_from(alloc, reader)?;
         let (how, reader) = CreateHow::read_from(alloc, reader)?;
@@ -103,11 +109,21 @@ impl Xdr for MkdirArgs {
 
     ghost lawful = { mkdir_args_lawful };
 
-    fn read_from<'a>(alloc: Global, reader: Reader<'a>) -> Result<(MkdirArgs, Reader<'a>), ValueFault> {
+    fn read_from<'a>(
+        alloc: Global,
+        reader: Reader<'a>,
+    ) -> Result<(MkdirArgs, Reader<'a>), ValueFault> {
         let (dir, reader) = Handle::read_from(alloc, reader)?;
         let (name, reader) = Name::read_from(alloc, reader)?;
         let (attributes, reader) = SetAttributes::read_from(alloc, reader)?;
-        Ok((MkdirArgs { dir, name, attributes }, reader))
+        Ok((
+            MkdirArgs {
+                dir,
+                name,
+                attributes,
+            },
+            reader,
+        ))
     }
 
     fn write_to(&self, writer: Writer) -> Result<Writer, Memory> {

@@ -44,7 +44,10 @@ impl Xdr for CreateMode {
 
     ghost lawful = { create_mode_lawful };
 
-    fn read_from<'a>(alloc: Global, reader: Reader<'a>) -> Result<(CreateMode, Reader<'a>), ValueFault> {
+    fn read_from<'a>(
+        alloc: Global,
+        reader: Reader<'a>,
+    ) -> Result<(CreateMode, Reader<'a>), ValueFault> {
         read_numbered(alloc, reader)
     }
 

@@ -18,7 +18,10 @@ impl Xdr for FsstatArgs {
 
     ghost lawful = { fsstat_args_lawful };
 
-    fn read_from<'a>(alloc: Global, reader: Reader<'a>) -> Result<(FsstatArgs, Reader<'a>), ValueFault> {
+    fn read_from<'a>(
+        alloc: Global,
+        reader: Reader<'a>,
+    ) -> Result<(FsstatArgs, Reader<'a>), ValueFault> {
         let (fsroot, reader) = Handle::read_from(alloc, reader)?;
         Ok((FsstatArgs { fsroot }, reader))
     }
@@ -40,7 +43,10 @@ impl Xdr for FsinfoArgs {
 
     ghost lawful = { fsinfo_args_lawful };
 
-    fn read_from<'a>(alloc: Global, reader: Reader<'a>) -> Result<(FsinfoArgs, Reader<'a>), ValueFault> {
+    fn read_from<'a>(
+        alloc: Global,
+        reader: Reader<'a>,
+    ) -> Result<(FsinfoArgs, Reader<'a>), ValueFault> {
         let (fsroot, reader) = Handle::read_from(alloc, reader)?;
         Ok((FsinfoArgs { fsroot }, reader))
     }
@@ -62,7 +68,10 @@ impl Xdr for PathconfArgs {
 
     ghost lawful = { pathconf_args_lawful };
 
-    fn read_from<'a>(alloc: Global, reader: Reader<'a>) -> Result<(PathconfArgs, Reader<'a>), ValueFault> {
+    fn read_from<'a>(
+        alloc: Global,
+        reader: Reader<'a>,
+    ) -> Result<(PathconfArgs, Reader<'a>), ValueFault> {
         let (object, reader) = Handle::read_from(alloc, reader)?;
         Ok((PathconfArgs { object }, reader))
     }

@@ -19,7 +19,10 @@ impl Xdr for LookupArgs {
 
     ghost lawful = { lookup_args_lawful };
 
-    fn read_from<'a>(alloc: Global, reader: Reader<'a>) -> Result<(LookupArgs, Reader<'a>), ValueFault> {
+    fn read_from<'a>(
+        alloc: Global,
+        reader: Reader<'a>,
+    ) -> Result<(LookupArgs, Reader<'a>), ValueFault> {
         let (dir, reader) = Handle::read_from(alloc, reader)?;
         let (name, reader) = Name::read_from(alloc, reader)?;
         Ok((LookupArgs { dir, name }, reader))
@@ -44,7 +47,10 @@ impl Xdr for ReadlinkArgs {
 
     ghost lawful = { readlink_args_lawful };
 
-    fn read_from<'a>(alloc: Global, reader: Reader<'a>) -> Result<(ReadlinkArgs, Reader<'a>), ValueFault> {
+    fn read_from<'a>(
+        alloc: Global,
+        reader: Reader<'a>,
+    ) -> Result<(ReadlinkArgs, Reader<'a>), ValueFault> {
         let (symlink, reader) = Handle::read_from(alloc, reader)?;
         Ok((ReadlinkArgs { symlink }, reader))
     }

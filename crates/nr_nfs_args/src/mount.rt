@@ -18,7 +18,10 @@ impl Xdr for MntArgs {
 
     ghost lawful = { mnt_args_lawful };
 
-    fn read_from<'a>(alloc: Global, reader: Reader<'a>) -> Result<(MntArgs, Reader<'a>), ValueFault> {
+    fn read_from<'a>(
+        alloc: Global,
+        reader: Reader<'a>,
+    ) -> Result<(MntArgs, Reader<'a>), ValueFault> {
         let (dirpath, reader) = MountPath::read_from(alloc, reader)?;
         Ok((MntArgs { dirpath }, reader))
     }
@@ -40,7 +43,10 @@ impl Xdr for UmntArgs {
 
     ghost lawful = { umnt_args_lawful };
 
-    fn read_from<'a>(alloc: Global, reader: Reader<'a>) -> Result<(UmntArgs, Reader<'a>), ValueFault> {
+    fn read_from<'a>(
+        alloc: Global,
+        reader: Reader<'a>,
+    ) -> Result<(UmntArgs, Reader<'a>), ValueFault> {
         let (dirpath, reader) = MountPath::read_from(alloc, reader)?;
         Ok((UmntArgs { dirpath }, reader))
     }
@@ -60,7 +66,10 @@ impl Xdr for UmntallArgs {
 
     ghost lawful = { umntall_args_lawful };
 
-    fn read_from<'a>(_alloc: Global, reader: Reader<'a>) -> Result<(UmntallArgs, Reader<'a>), ValueFault> {
+    fn read_from<'a>(
+        _alloc: Global,
+        reader: Reader<'a>,
+    ) -> Result<(UmntallArgs, Reader<'a>), ValueFault> {
         Ok((UmntallArgs, reader))
     }
 

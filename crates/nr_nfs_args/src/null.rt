@@ -16,7 +16,10 @@ impl Xdr for NullArgs {
 
     ghost lawful = { null_args_lawful };
 
-    fn read_from<'a>(_alloc: Global, reader: Reader<'a>) -> Result<(NullArgs, Reader<'a>), ValueFault> {
+    fn read_from<'a>(
+        _alloc: Global,
+        reader: Reader<'a>,
+    ) -> Result<(NullArgs, Reader<'a>), ValueFault> {
         Ok((NullArgs, reader))
     }
 

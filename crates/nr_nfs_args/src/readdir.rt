@@ -23,12 +23,23 @@ impl Xdr for ReaddirArgs {
 
     ghost lawful = { readdir_args_lawful };
 
-    fn read_from<'a>(alloc: Global, reader: Reader<'a>) -> Result<(ReaddirArgs, Reader<'a>), ValueFault> {
+    fn read_from<'a>(
+        alloc: Global,
+        reader: Reader<'a>,
+    ) -> Result<(ReaddirArgs, Reader<'a>), ValueFault> {
         let (dir, reader) = Handle::read_from(alloc, reader)?;
         let (cookie, reader) = u64::read_from(alloc, reader)?;
         let (verifier, reader) = Verifier::read_from(alloc, reader)?;
         let (count, reader) = u32::read_from(alloc, reader)?;
-        Ok((ReaddirArgs { dir, cookie, verifier, count }, reader))
+        Ok((
+            ReaddirArgs {
+                dir,
+                cookie,
+                verifier,
+                count,
+            },
+            reader,
+        ))
     }
 
     fn write_to(&self, writer: Writer) -> Result<Writer, Memory> {
@@ -59,13 +70,22 @@ impl Xdr for ReaddirplusArgs {
 
     ghost lawful = { readdirplus_args_lawful };
 
-    fn read_from<'a>(alloc: Global, reader: Reader<'a>) -> Result<(ReaddirplusArgs, Reader<'a>), ValueFault> {
+    fn read_from<'a>(
+        alloc: Global,
+        reader: Reader<'a>,
+    ) -> Result<(ReaddirplusArgs, Reader<'a>), ValueFault> {
         let (dir, reader) = Handle::read_from(alloc, reader)?;
         let (cookie, reader) = u64::read_from(alloc, reader)?;
         let (verifier, reader) = Verifier::read_from(alloc, reader)?;
         let (dircount, reader) = u32::read_from(alloc, reader)?;
         let (maxcount, reader) = u32::read_from(alloc, reader)?;
-        let value = ReaddirplusArgs { dir, cookie, verifier, dircount, maxcount };
+        let value = ReaddirplusArgs {
+            dir,
+            cookie,
+            verifier,
+            dircount,
+            maxcount,
+        };
         Ok((value, reader))
     }
 

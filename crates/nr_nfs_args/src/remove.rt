@@ -19,7 +19,10 @@ impl Xdr for RemoveArgs {
 
     ghost lawful = { remove_args_lawful };
 
-    fn read_from<'a>(alloc: Global, reader: Reader<'a>) -> Result<(RemoveArgs, Reader<'a>), ValueFault> {
+    fn read_from<'a>(
+        alloc: Global,
+        reader: Reader<'a>,
+    ) -> Result<(RemoveArgs, Reader<'a>), ValueFault> {
         let (dir, reader) = Handle::read_from(alloc, reader)?;
         let (name, reader) = Name::read_from(alloc, reader)?;
         Ok((RemoveArgs { dir, name }, reader))
@@ -45,7 +48,10 @@ impl Xdr for RmdirArgs {
 
     ghost lawful = { rmdir_args_lawful };
 
-    fn read_from<'a>(alloc: Global, reader: Reader<'a>) -> Result<(RmdirArgs, Reader<'a>), ValueFault> {
+    fn read_from<'a>(
+        alloc: Global,
+        reader: Reader<'a>,
+    ) -> Result<(RmdirArgs, Reader<'a>), ValueFault> {
         let (dir, reader) = Handle::read_from(alloc, reader)?;
         let (name, reader) = Name::read_from(alloc, reader)?;
         Ok((RmdirArgs { dir, name }, reader))
@@ -73,12 +79,23 @@ impl Xdr for RenameArgs {
 
     ghost lawful = { rename_args_lawful };
 
-    fn read_from<'a>(alloc: Global, reader: Reader<'a>) -> Result<(RenameArgs, Reader<'a>), ValueFault> {
+    fn read_from<'a>(
+        alloc: Global,
+        reader: Reader<'a>,
+    ) -> Result<(RenameArgs, Reader<'a>), ValueFault> {
         let (from_dir, reader) = Handle::read_from(alloc, reader)?;
         let (from_name, reader) = Name::read_from(alloc, reader)?;
         let (to_dir, reader) = Handle::read_from(alloc, reader)?;
         let (to_name, reader) = Name::read_from(alloc, reader)?;
-        Ok((RenameArgs { from_dir, from_name, to_dir, to_name }, reader))
+        Ok((
+            RenameArgs {
+                from_dir,
+                from_name,
+                to_dir,
+                to_name,
+            },
+            reader,
+        ))
     }
 
     fn write_to(&self, writer: Writer) -> Result<Writer, Memory> {
@@ -104,7 +121,10 @@ impl Xdr for LinkArgs {
 
     ghost lawful = { link_args_lawful };
 
-    fn read_from<'a>(alloc: Global, reader: Reader<'a>) -> Result<(LinkArgs, Reader<'a>), ValueFault> {
+    fn read_from<'a>(
+        alloc: Global,
+        reader: Reader<'a>,
+    ) -> Result<(LinkArgs, Reader<'a>), ValueFault> {
         let (file, reader) = Handle::read_from(alloc, reader)?;
         let (dir, reader) = Handle::read_from(alloc, reader)?;
         let (name, reader) = Name::read_from(alloc, reader)?;

@@ -21,12 +21,23 @@ impl Xdr for SymlinkArgs {
 
     ghost lawful = { symlink_args_lawful };
 
-    fn read_from<'a>(alloc: Global, reader: Reader<'a>) -> Result<(SymlinkArgs, Reader<'a>), ValueFault> {
+    fn read_from<'a>(
+        alloc: Global,
+        reader: Reader<'a>,
+    ) -> Result<(SymlinkArgs, Reader<'a>), ValueFault> {
         let (dir, reader) = Handle::read_from(alloc, reader)?;
         let (name, reader) = Name::read_from(alloc, reader)?;
         let (attributes, reader) = SetAttributes::read_from(alloc, reader)?;
         let (path, reader) = Path::read_from(alloc, reader)?;
-        Ok((SymlinkArgs { dir, name, attributes, path }, reader))
+        Ok((
+            SymlinkArgs {
+                dir,
+                name,
+                attributes,
+                path,
+            },
+            reader,
+        ))
     }
 
     fn write_to(&self, writer: Writer) -> Result<Writer, Memory> {
@@ -51,7 +62,10 @@ impl Xdr for DeviceData {
 
     ghost lawful = { device_data_lawful };
 
-    fn read_from<'a>(alloc: Global, reader: Reader<'a>) -> Result<(DeviceData, Reader<'a>), ValueFault> {
+    fn read_from<'a>(
+        alloc: Global,
+        reader: Reader<'a>,
+    ) -> Result<(DeviceData, Reader<'a>), ValueFault> {
         let (attributes, reader) = SetAttributes::read_from(alloc, reader)?;
         let (device, reader) = SpecialData::read_from(alloc, reader)?;
         Ok((DeviceData { attributes, device }, reader))
@@ -90,7 +104,10 @@ impl Xdr for MknodData {
 
     ghost lawful = { mknod_data_lawful };
 
-    fn read_from<'a>(alloc: Global, reader: Reader<'a>) -> Result<(MknodData, Reader<'a>), ValueFault> {
+    fn read_from<'a>(
+        alloc: Global,
+        reader: Reader<'a>,
+    ) -> Result<(MknodData, Reader<'a>), ValueFault> {
         let (tag, reader) = FileType::read_from(alloc, reader)?;
         match tag {
             FileType::Reg => Ok((MknodData::Reg, reader)),
@@ -154,7 +171,10 @@ impl Xdr for MknodArgs {
 
     ghost lawful = { mknod_args_lawful };
 
-    fn read_from<'a>(alloc: Global, reader: Reader<'a>) -> Result<(MknodArgs, Reader<'a>), ValueFault> {
+    fn read_from<'a>(
+        alloc: Global,
+        reader: Reader<'a>,
+    ) -> Result<(MknodArgs, Reader<'a>), ValueFault> {
         let (dir, reader) = Handle::read_from(alloc, reader)?;
         let (name, reader) = Name::read_from(alloc, reader)?;
         let (what, reader) = MknodData::read_from(alloc, reader)?;

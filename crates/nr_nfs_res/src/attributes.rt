@@ -26,7 +26,10 @@ impl Xdr for AccessOk {
 
     ghost lawful = { access_ok_lawful };
 
-    fn read_from<'a>(alloc: Global, reader: Reader<'a>) -> Result<(AccessOk, Reader<'a>), ValueFault> {
+    fn read_from<'a>(
+        alloc: Global,
+        reader: Reader<'a>,
+    ) -> Result<(AccessOk, Reader<'a>), ValueFault> {
         let (attributes, reader) = Option::<Attributes>::read_from(alloc, reader)?;
         let (access, reader) = u32::read_from(alloc, reader)?;
         Ok((AccessOk { attributes, access }, reader))

@@ -23,12 +23,23 @@ impl Xdr for ReadOk {
 
     ghost lawful = { read_ok_lawful };
 
-    fn read_from<'a>(alloc: Global, reader: Reader<'a>) -> Result<(ReadOk, Reader<'a>), ValueFault> {
+    fn read_from<'a>(
+        alloc: Global,
+        reader: Reader<'a>,
+    ) -> Result<(ReadOk, Reader<'a>), ValueFault> {
         let (attributes, reader) = Option::<Attributes>::read_from(alloc, reader)?;
         let (count, reader) = u32::read_from(alloc, reader)?;
         let (eof, reader) = bool::read_from(alloc, reader)?;
         let (data, reader) = Data::read_from(alloc, reader)?;
-        Ok((ReadOk { attributes, count, eof, data }, reader))
+        Ok((
+            ReadOk {
+                attributes,
+                count,
+                eof,
+                data,
+            },
+            reader,
+        ))
     }
 
     fn write_to(&self, writer: Writer) -> Result<Writer, Memory> {
@@ -59,12 +70,23 @@ impl Xdr for WriteOk {
 
     ghost lawful = { write_ok_lawful };
 
-    fn read_from<'a>(alloc: Global, reader: Reader<'a>) -> Result<(WriteOk, Reader<'a>), ValueFault> {
+    fn read_from<'a>(
+        alloc: Global,
+        reader: Reader<'a>,
+    ) -> Result<(WriteOk, Reader<'a>), ValueFault> {
         let (wcc, reader) = WccData::read_from(alloc, reader)?;
         let (count, reader) = u32::read_from(alloc, reader)?;
         let (committed, reader) = StableHow::read_from(alloc, reader)?;
         let (verifier, reader) = Verifier::read_from(alloc, reader)?;
-        Ok((WriteOk { wcc, count, committed, verifier }, reader))
+        Ok((
+            WriteOk {
+                wcc,
+                count,
+                committed,
+                verifier,
+            },
+            reader,
+        ))
     }
 
     fn write_to(&self, writer: Writer) -> Result<Writer, Memory> {
@@ -92,7 +114,10 @@ impl Xdr for CommitOk {
 
     ghost lawful = { commit_ok_lawful };
 
-    fn read_from<'a>(alloc: Global, reader: Reader<'a>) -> Result<(CommitOk, Reader<'a>), ValueFault> {
+    fn read_from<'a>(
+        alloc: Global,
+        reader: Reader<'a>,
+    ) -> Result<(CommitOk, Reader<'a>), ValueFault> {
         let (wcc, reader) = WccData::read_from(alloc, reader)?;
         let (verifier, reader) = Verifier::read_from(alloc, reader)?;
         Ok((CommitOk { wcc, verifier }, reader))

@@ -21,11 +21,21 @@ impl Xdr for CreateOk {
 
     ghost lawful = { create_ok_lawful };
 
-    fn read_from<'a>(alloc: Global, reader: Reader<'a>) -> Result<(CreateOk, Reader<'a>), ValueFault> {
+    fn read_from<'a>(
+        alloc: Global,
+        reader: Reader<'a>,
+    ) -> Result<(CreateOk, Reader<'a>), ValueFault> {
         let (object, reader) = Option::<Handle>::read_from(alloc, reader)?;
         let (attributes, reader) = Option::<Attributes>::read_from(alloc, reader)?;
         let (dir_wcc, reader) = WccData::read_from(alloc, reader)?;
-        Ok((CreateOk { object, attributes, dir_wcc }, reader))
+        Ok((
+            CreateOk {
+                object,
+                attributes,
+                dir_wcc,
+            },
+            reader,
+        ))
     }
 
     fn write_to(&self, writer: Writer) -> Result<Writer, Memory> {

@@ -32,7 +32,10 @@ impl Xdr for FsstatOk {
 
     ghost lawful = { fsstat_ok_lawful };
 
-    fn read_from<'a>(alloc: Global, reader: Reader<'a>) -> Result<(FsstatOk, Reader<'a>), ValueFault> {
+    fn read_from<'a>(
+        alloc: Global,
+        reader: Reader<'a>,
+    ) -> Result<(FsstatOk, Reader<'a>), ValueFault> {
         let (attributes, reader) = Option::<Attributes>::read_from(alloc, reader)?;
         let (tbytes, reader) = u64::read_from(alloc, reader)?;
         let (fbytes, reader) = u64::read_from(alloc, reader)?;
@@ -41,7 +44,16 @@ impl Xdr for FsstatOk {
         let (ffiles, reader) = u64::read_from(alloc, reader)?;
         let (afiles, reader) = u64::read_from(alloc, reader)?;
         let (invarsec, reader) = u32::read_from(alloc, reader)?;
-        let value = FsstatOk { attributes, tbytes, fbytes, abytes, tfiles, ffiles, afiles, invarsec };
+        let value = FsstatOk {
+            attributes,
+            tbytes,
+            fbytes,
+            abytes,
+            tfiles,
+            ffiles,
+            afiles,
+            invarsec,
+        };
         Ok((value, reader))
     }
 
@@ -93,7 +105,10 @@ impl Xdr for FsinfoOk {
 
     ghost lawful = { fsinfo_ok_lawful };
 
-    fn read_from<'a>(alloc: Global, reader: Reader<'a>) -> Result<(FsinfoOk, Reader<'a>), ValueFault> {
+    fn read_from<'a>(
+        alloc: Global,
+        reader: Reader<'a>,
+    ) -> Result<(FsinfoOk, Reader<'a>), ValueFault> {
         let (attributes, reader) = Option::<Attributes>::read_from(alloc, reader)?;
         let (rtmax, reader) = u32::read_from(alloc, reader)?;
         let (rtpref, reader) = u32::read_from(alloc, reader)?;
@@ -105,7 +120,19 @@ impl Xdr for FsinfoOk {
         let (maxfilesize, reader) = u64::read_from(alloc, reader)?;
         let (time_delta, reader) = Time::read_from(alloc, reader)?;
         let (properties, reader) = u32::read_from(alloc, reader)?;
-        let value = FsinfoOk { attributes, rtmax, rtpref, rtmult, wtmax, wtpref, wtmult, dtpref, maxfilesize, time_delta, properties };
+        let value = FsinfoOk {
+            attributes,
+            rtmax,
+            rtpref,
+            rtmult,
+            wtmax,
+            wtpref,
+            wtmult,
+            dtpref,
+            maxfilesize,
+            time_delta,
+            properties,
+        };
         Ok((value, reader))
     }
 
@@ -150,7 +177,10 @@ impl Xdr for PathconfOk {
 
     ghost lawful = { pathconf_ok_lawful };
 
-    fn read_from<'a>(alloc: Global, reader: Reader<'a>) -> Result<(PathconfOk, Reader<'a>), ValueFault> {
+    fn read_from<'a>(
+        alloc: Global,
+        reader: Reader<'a>,
+    ) -> Result<(PathconfOk, Reader<'a>), ValueFault> {
         let (attributes, reader) = Option::<Attributes>::read_from(alloc, reader)?;
         let (linkmax, reader) = u32::read_from(alloc, reader)?;
         let (name_max, reader) = u32::read_from(alloc, reader)?;
@@ -158,7 +188,15 @@ impl Xdr for PathconfOk {
         let (chown_restricted, reader) = bool::read_from(alloc, reader)?;
         let (case_insensitive, reader) = bool::read_from(alloc, reader)?;
         let (case_preserving, reader) = bool::read_from(alloc, reader)?;
-        let value = PathconfOk { attributes, linkmax, name_max, no_trunc, chown_restricted, case_insensitive, case_preserving };
+        let value = PathconfOk {
+            attributes,
+            linkmax,
+            name_max,
+            no_trunc,
+            chown_restricted,
+            case_insensitive,
+            case_preserving,
+        };
         Ok((value, reader))
     }
 

@@ -25,3 +25,6 @@ pub use mount::{MntRes, MountOk, UmntRes, UmntallRes};
 pub use null::NullRes;
 pub use readdir::{Entry, EntryPlus, ReaddirOk, ReaddirRes, ReaddirplusOk, ReaddirplusRes};
 pub use remove::{LinkRes, LinkWcc, RemoveRes, RenameRes, RenameWcc, RmdirRes};
+
+#[cfg(test)]
+mod tests;

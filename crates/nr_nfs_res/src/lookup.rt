@@ -21,11 +21,21 @@ impl Xdr for LookupOk {
 
     ghost lawful = { lookup_ok_lawful };
 
-    fn read_from<'a>(alloc: Global, reader: Reader<'a>) -> Result<(LookupOk, Reader<'a>), ValueFault> {
+    fn read_from<'a>(
+        alloc: Global,
+        reader: Reader<'a>,
+    ) -> Result<(LookupOk, Reader<'a>), ValueFault> {
         let (object, reader) = Handle::read_from(alloc, reader)?;
         let (attributes, reader) = Option::<Attributes>::read_from(alloc, reader)?;
         let (dir_attributes, reader) = Option::<Attributes>::read_from(alloc, reader)?;
-        Ok((LookupOk { object, attributes, dir_attributes }, reader))
+        Ok((
+            LookupOk {
+                object,
+                attributes,
+                dir_attributes,
+            },
+            reader,
+        ))
     }
 
     fn write_to(&self, writer: Writer) -> Result<Writer, Memory> {
@@ -52,7 +62,10 @@ impl Xdr for ReadlinkOk {
 
     ghost lawful = { readlink_ok_lawful };
 
-    fn read_from<'a>(alloc: Global, reader: Reader<'a>) -> Result<(ReadlinkOk, Reader<'a>), ValueFault> {
+    fn read_from<'a>(
+        alloc: Global,
+        reader: Reader<'a>,
+    ) -> Result<(ReadlinkOk, Reader<'a>), ValueFault> {
         let (attributes, reader) = Option::<Attributes>::read_from(alloc, reader)?;
         let (path, reader) = Path::read_from(alloc, reader)?;
         Ok((ReadlinkOk { attributes, path }, reader))

@@ -20,7 +20,10 @@ impl Xdr for MountOk {
 
     ghost lawful = { mount_ok_lawful };
 
-    fn read_from<'a>(alloc: Global, reader: Reader<'a>) -> Result<(MountOk, Reader<'a>), ValueFault> {
+    fn read_from<'a>(
+        alloc: Global,
+        reader: Reader<'a>,
+    ) -> Result<(MountOk, Reader<'a>), ValueFault> {
         let (handle, reader) = Handle::read_from(alloc, reader)?;
         let (flavors, reader) = Array::<u32>::read_from(alloc, reader)?;
         Ok((MountOk { handle, flavors }, reader))
@@ -46,7 +49,10 @@ impl Xdr for UmntRes {
 
     ghost lawful = { umnt_res_lawful };
 
-    fn read_from<'a>(_alloc: Global, reader: Reader<'a>) -> Result<(UmntRes, Reader<'a>), ValueFault> {
+    fn read_from<'a>(
+        _alloc: Global,
+        reader: Reader<'a>,
+    ) -> Result<(UmntRes, Reader<'a>), ValueFault> {
         Ok((UmntRes, reader))
     }
 
@@ -65,7 +71,10 @@ impl Xdr for UmntallRes {
 
     ghost lawful = { umntall_res_lawful };
 
-    fn read_from<'a>(_alloc: Global, reader: Reader<'a>) -> Result<(UmntallRes, Reader<'a>), ValueFault> {
+    fn read_from<'a>(
+        _alloc: Global,
+        reader: Reader<'a>,
+    ) -> Result<(UmntallRes, Reader<'a>), ValueFault> {
         Ok((UmntallRes, reader))
     }
 

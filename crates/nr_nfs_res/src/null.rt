@@ -16,7 +16,10 @@ impl Xdr for NullRes {
 
     ghost lawful = { null_res_lawful };
 
-    fn read_from<'a>(_alloc: Global, reader: Reader<'a>) -> Result<(NullRes, Reader<'a>), ValueFault> {
+    fn read_from<'a>(
+        _alloc: Global,
+        reader: Reader<'a>,
+    ) -> Result<(NullRes, Reader<'a>), ValueFault> {
         Ok((NullRes, reader))
     }
 

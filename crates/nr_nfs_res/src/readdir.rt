@@ -24,7 +24,14 @@ impl Xdr for Entry {
         let (fileid, reader) = u64::read_from(alloc, reader)?;
         let (name, reader) = Name::read_from(alloc, reader)?;
         let (cookie, reader) = u64::read_from(alloc, reader)?;
-        Ok((Entry { fileid, name, cookie }, reader))
+        Ok((
+            Entry {
+                fileid,
+                name,
+                cookie,
+            },
+            reader,
+        ))
     }
 
     fn write_to(&self, writer: Writer) -> Result<Writer, Memory> {
@@ -51,12 +58,23 @@ impl Xdr for ReaddirOk {
 
     ghost lawful = { readdir_ok_lawful };
 
-    fn read_from<'a>(alloc: Global, reader: Reader<'a>) -> Result<(ReaddirOk, Reader<'a>), ValueFault> {
+    fn read_from<'a>(
+        alloc: Global,
+        reader: Reader<'a>,
+    ) -> Result<(ReaddirOk, Reader<'a>), ValueFault> {
         let (dir_attributes, reader) = Option::<Attributes>::read_from(alloc, reader)?;
         let (verifier, reader) = Verifier::read_from(alloc, reader)?;
         let (entries, reader) = Chain::<Entry>::read_from(alloc, reader)?;
         let (eof, reader) = bool::read_from(alloc, reader)?;
-        Ok((ReaddirOk { dir_attributes, verifier, entries, eof }, reader))
+        Ok((
+            ReaddirOk {
+                dir_attributes,
+                verifier,
+                entries,
+                eof,
+            },
+            reader,
+        ))
     }
 
     fn write_to(&self, writer: Writer) -> Result<Writer, Memory> {
@@ -87,13 +105,22 @@ impl Xdr for EntryPlus {
 
     ghost lawful = { entry_plus_lawful };
 
-    fn read_from<'a>(alloc: Global, reader: Reader<'a>) -> Result<(EntryPlus, Reader<'a>), ValueFault> {
+    fn read_from<'a>(
+        alloc: Global,
+        reader: Reader<'a>,
+    ) -> Result<(EntryPlus, Reader<'a>), ValueFault> {
         let (fileid, reader) = u64::read_from(alloc, reader)?;
         let (name, reader) = Name::read_from(alloc, reader)?;
         let (cookie, reader) = u64::read_from(alloc, reader)?;
         let (attributes, reader) = Option::<Attributes>::read_from(alloc, reader)?;
         let (handle, reader) = Option::<Handle>::read_from(alloc, reader)?;
-        let value = EntryPlus { fileid, name, cookie, attributes, handle };
+        let value = EntryPlus {
+            fileid,
+            name,
+            cookie,
+            attributes,
+            handle,
+        };
         Ok((value, reader))
     }
 
@@ -123,12 +150,23 @@ impl Xdr for ReaddirplusOk {
 
     ghost lawful = { readdirplus_ok_lawful };
 
-    fn read_from<'a>(alloc: Global, reader: Reader<'a>) -> Result<(ReaddirplusOk, Reader<'a>), ValueFault> {
+    fn read_from<'a>(
+        alloc: Global,
+        reader: Reader<'a>,
+    ) -> Result<(ReaddirplusOk, Reader<'a>), ValueFault> {
         let (dir_attributes, reader) = Option::<Attributes>::read_from(alloc, reader)?;
         let (verifier, reader) = Verifier::read_from(alloc, reader)?;
         let (entries, reader) = Chain::<EntryPlus>::read_from(alloc, reader)?;
         let (eof, reader) = bool::read_from(alloc, reader)?;
-        Ok((ReaddirplusOk { dir_attributes, verifier, entries, eof }, reader))
+        Ok((
+            ReaddirplusOk {
+                dir_attributes,
+                verifier,
+                entries,
+                eof,
+            },
+            reader,
+        ))
     }
 
     fn write_to(&self, writer: Writer) -> Result<Writer, Memory> {

@@ -25,7 +25,10 @@ impl Xdr for RenameWcc {
 
     ghost lawful = { rename_wcc_lawful };
 
-    fn read_from<'a>(alloc: Global, reader: Reader<'a>) -> Result<(RenameWcc, Reader<'a>), ValueFault> {
+    fn read_from<'a>(
+        alloc: Global,
+        reader: Reader<'a>,
+    ) -> Result<(RenameWcc, Reader<'a>), ValueFault> {
         let (from_dir, reader) = WccData::read_from(alloc, reader)?;
         let (to_dir, reader) = WccData::read_from(alloc, reader)?;
         Ok((RenameWcc { from_dir, to_dir }, reader))
@@ -55,10 +58,19 @@ impl Xdr for LinkWcc {
 
     ghost lawful = { link_wcc_lawful };
 
-    fn read_from<'a>(alloc: Global, reader: Reader<'a>) -> Result<(LinkWcc, Reader<'a>), ValueFault> {
+    fn read_from<'a>(
+        alloc: Global,
+        reader: Reader<'a>,
+    ) -> Result<(LinkWcc, Reader<'a>), ValueFault> {
         let (attributes, reader) = Option::<Attributes>::read_from(alloc, reader)?;
         let (dir_wcc, reader) = WccData::read_from(alloc, reader)?;
-        Ok((LinkWcc { attributes, dir_wcc }, reader))
+        Ok((
+            LinkWcc {
+                attributes,
+                dir_wcc,
+            },
+            reader,
+        ))
     }
 
     fn write_to(&self, writer: Writer) -> Result<Writer, Memory> {
