@@ -33,6 +33,7 @@ ReadsAll (item ∷ items) bytes = (front : List ℕ) × (rest : List ℕ) × Rea
 abbrev pub ReadsAs : {A : Type 0} → Codec A → A → List ℕ → Type 0
 ReadsAs c v bytes = c.fits v × ReadsAll (c.items v) bytes
 
+-- one step, and with its value the next
 infixl 10 ◌>>=◌
 abbrev pub ◌>>=◌ : {A B : Type 0} → Result A ℕ → (A → Result B ℕ) → Result B ℕ
 (Ok x) >>= f = f x
@@ -55,6 +56,7 @@ pub record Lawful {A : Type 0} (c : Codec A) : Type 0 where
 
 -- ---- The items
 
+-- an item, with the place of a fault in its stead
 abbrev pub placed : {X : Type 0} → Result X ItemFault → Result X ℕ
 placed (Ok x) = Ok x
 placed (Err fault) = Err (place_of fault)
@@ -100,6 +102,7 @@ via make parts c = record {
 abbrev pub numbered : {A : Type 0} → (A → ℕ) → List A → ℕ → Option A
 numbered number all n = find (λ v. number v == n) all
 
+-- the value that was found, or a fault at the word
 abbrev pub known : {A : Type 0} → Cursor → Option A → Cursor → Result (A × Cursor) ℕ
 known from None to = Err from.place
 known from (Some v) to = Ok (v, to)
@@ -155,14 +158,17 @@ abbrev pub chain_fits : {A : Type 0} → Codec A → List A → Type 0
 chain_fits c [] = (optional c).fits None
 chain_fits c (v ∷ vs) = (optional c).fits (Some v) × chain_fits c vs
 
+-- a value before the others
 abbrev pub before : {A : Type 0} → A → Result (List A × Cursor) ℕ → Result (List A × Cursor) ℕ
 before v others = others >>= λ vs. Ok (v ∷ vs.0, vs.1)
 
+-- what follows a flag and the value behind it
 abbrev pub chain_on : {A : Type 0} → Option A → Cursor → Result (List A × Cursor) ℕ → Result (List A × Cursor) ℕ
 chain_on None at others = Ok ([], at)
 chain_on (Some v) at others = before v others
 
--- n bounds the values: each takes bytes, so a list at whose n bytes none is left lacks its end
+-- n bounds the values and the 0 behind them, since each takes bytes: where n is used up no byte is left, and the end is
+-- missing
 unfoldable pub chain_read : {A : Type 0} → Codec A → ℕ → Cursor → Result (List A × Cursor) ℕ
 chain_read c zero at = Err at.place
 chain_read c (suc n) at = (optional c).read at >>= λ x. chain_on x.0 x.1 (chain_read c n x.1)

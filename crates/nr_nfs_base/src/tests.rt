@@ -1,6 +1,7 @@
 use super::*;
-use nr_xdr::Octets;
+use nr_xdr::{Octets, Reader, Writer};
 use std::alloc::{AllocError, Global};
+use std::test::Fail;
 
 #[derive(Clone, Copy, Debug)]
 enum Type {
@@ -207,5 +208,37 @@ fn each_row_is_read_and_written(rt: HostRuntime) -> Result<(), AllocError> {
         let got = again_as(*kind, rt.alloc(), &bytes).map(Octets::into_vec);
         assert_eq!(rt; got, wanted, "{kind:?} {words:?}");
     }
+    Ok(())
+}
+
+#[test]
+fn values_are_made_and_taken_apart(rt: HostRuntime) -> Result<(), Fail> {
+    let name = Name::from_slice(rt.alloc(), b"a.txt")?;
+    assert_eq!(rt; name.as_slice(), b"a.txt".as_slice());
+    let octets = name.into_octets();
+    assert_eq!(rt; octets.len(), 5);
+    let name = Name::new(octets);
+    assert_eq!(rt; name.as_slice().len(), 5);
+
+    let none = Chain::<u32>::new(rt.alloc());
+    assert!(rt; none.as_slice().is_empty());
+    let values = Chain::from_vec(vec![in rt.alloc(); 7u32, 8]?);
+    assert_eq!(rt; values.as_slice(), [7, 8].as_slice());
+    assert_eq!(rt; values.into_vec().len(), 2);
+
+    let values = Array::from_vec(vec![in rt.alloc(); 7u32, 8]?);
+    assert_eq!(rt; values.as_slice(), [7, 8].as_slice());
+    assert_eq!(rt; values.into_vec().len(), 2);
+    Ok(())
+}
+
+#[test]
+fn an_enumeration_stands_among_others(rt: HostRuntime) -> Result<(), Fail> {
+    let writer = write_numbered(FileType::Lnk, Writer::new(rt.alloc()))?;
+    let bytes = true.write_to(writer)?.finish();
+    assert_eq!(rt; bytes.as_slice(), [0, 0, 0, 5, 0, 0, 0, 1].as_slice());
+    let (kind, reader) = read_numbered::<FileType>(rt.alloc(), Reader::new(bytes.as_slice()))?;
+    assert_eq!(rt; kind, FileType::Lnk);
+    assert_eq!(rt; reader.at(), 4);
     Ok(())
 }

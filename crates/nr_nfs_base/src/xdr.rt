@@ -1,4 +1,4 @@
-//! What every value can do: it is read and written.
+//! The scheme by which every value is read and written.
 
 ghost use Rattle.std.specs.Prelude.{◌≡◌, IfOk, MatchResult};
 ghost use Rattle.nr_nfs_base.specs.Codec.{Codec, Lawful, Answers, Writes, ReadsAs, read_all, spelled};
@@ -8,21 +8,27 @@ use crate::fault::ValueFault;
 use nr_xdr::{Memory, Octets, Reader, Writer};
 use std::alloc::Global;
 
-/// A value of RFC 1813.
+/// A value that is spelled as items of XDR (RFC 4506).
+///
+/// A type gives its codec, the two steps for a value that stands among others, and the law. `read` and `write` are the
+/// calls for a value that stands alone. Pad bytes are read as any bytes and written as zeros.
 pub trait Xdr: Drop {
+    /// The items that spell a value, which values are within the limits of the type, and what is read at a place.
     ghost codec: { Codec Self };
 
-    /// Reads a value.
+    /// The value at the reader's place, and the reader behind it. `Bad` at the first item that fails, in bytes from
+    /// where the reader began.
     fn read_from<'a>(alloc: Global, reader: Reader<'a>) -> Result<(Self, Reader<'a>), ValueFault>
         ensures exact { Answers result (codec.read reader.entry) };
 
-    /// Writes the value.
+    /// The writer with the value behind what it has. Every value of the type has a spelling.
     fn write_to(&self, writer: Writer) -> Result<Writer, Memory>
         ensures ok { IfOk result (Writes codec writer self.now) };
 
+    /// What is read is so spelled, and what is so spelled is read.
     ghost lawful: { Lawful codec };
 
-    /// Reads.
+    /// The value that the bytes spell, all of them. `Bad` at the first item that fails, or at the first byte left over.
     final fn read(alloc: Global, bytes: &[u8]) -> Result<Self, ValueFault>
         // What is read is spelled so.
         ensures found { IfOk result (λ v. ReadsAs codec v bytes.now) }
@@ -34,7 +40,7 @@ pub trait Xdr: Drop {
         read_whole(alloc, bytes)
     }
 
-    /// Writes.
+    /// The bytes of the value.
     final fn write(&self, alloc: Global) -> Result<Octets, Memory>
         // The one spelling of the value.
         ensures spelled { IfOk result (λ bytes. bytes ≡ spelled (codec.items self.now)) }
@@ -45,7 +51,7 @@ pub trait Xdr: Drop {
     }
 }
 
-/// The value that all the bytes spell.
+/// The value that the bytes spell, all of them.
 fn read_whole<T: Xdr>(alloc: Global, bytes: &[u8]) -> Result<T, ValueFault>
     ensures { Answers result (read_all T.codec bytes.now) }
 {
