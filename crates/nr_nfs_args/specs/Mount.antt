@@ -10,29 +10,36 @@ use Rattle.nr_nfs_base.specs.Names.{mount_path_codec, mount_path_lawful}
 -- the arguments of MNT (RFC 1813 section 5.2.1)
 unfoldable pub mnt_args_codec : Codec MntArgs
 mnt_args_codec =
-    via (λ p. record { dirpath = p }) (λ v. v.dirpath)
+    via (λ p. record { dirpath = p })
+    (λ v. v.dirpath)
     mount_path_codec
 
 pub mnt_args_lawful : Lawful mnt_args_codec
 unfolding mnt_args_codec
-mnt_args_lawful = via_lawful _ _ _ (λ _. refl) (λ _. refl) mount_path_lawful
+mnt_args_lawful =
+    via_lawful _ _ _ (λ _. refl) (λ _. refl)
+    mount_path_lawful
 
 -- the arguments of UMNT (RFC 1813 section 5.2.3)
 unfoldable pub umnt_args_codec : Codec UmntArgs
 umnt_args_codec =
-    via (λ p. record { dirpath = p }) (λ v. v.dirpath)
+    via (λ p. record { dirpath = p })
+    (λ v. v.dirpath)
     mount_path_codec
 
 pub umnt_args_lawful : Lawful umnt_args_codec
 unfolding umnt_args_codec
-umnt_args_lawful = via_lawful _ _ _ (λ _. refl) (λ _. refl) mount_path_lawful
+umnt_args_lawful =
+    via_lawful _ _ _ (λ _. refl) (λ _. refl)
+    mount_path_lawful
 
 -- the arguments of UMNTALL (RFC 1813 section 5.2.4)
 unfoldable pub umntall_args_codec : Codec UmntallArgs
 umntall_args_codec =
-    via (λ _. record {}) (λ _. tt)
-    nothing
+    via (λ _. record {}) (λ _. tt) nothing
 
 pub umntall_args_lawful : Lawful umntall_args_codec
 unfolding umntall_args_codec
-umntall_args_lawful = via_lawful _ _ _ (λ _. refl) (λ _. refl) nothing_lawful
+umntall_args_lawful =
+    via_lawful _ _ _ (λ _. refl) (λ _. refl)
+    nothing_lawful

@@ -25,6 +25,10 @@ puts_both {a} {b} {c} {xs} {ys} p q = record {
   fits = (p.fits, q.fits);
 }
 
+infixr 20 ◌▸◌
+pub ◌▸◌ : {a b c : List ℕ} {xs ys : List Item} {P Q : Type 0} → Puts a b xs P → Puts b c ys Q → Puts a c (xs ++ ys) (P × Q)
+p ▸ q = puts_both p q
+
 pub puts_none : {A E : Type 0} (c : Codec A) (o : Option A) (old : List ℕ) (r : Result (List ℕ) E) → o ≡ None → IfOk r (Writes boolean old false) → IfOk r (Writes (optional c) old o)
 unfolding optional
 puts_none c o old (Ok new) is w =

@@ -90,6 +90,11 @@ a ⊗ b = record {
   read = λ at. a.read at >>= λ x. b.read x.1 >>= λ y. Ok ((x.0, y.0), y.1);
 }
 
+-- the parts of a value, in the shape of such a pair
+infixr 20 ◌&◌
+abbrev pub ◌&◌ : {A B : Type 0} → A → B → A × B
+a & b = (a, b)
+
 -- a type with these parts
 abbrev pub via : {A B : Type 0} → (A → B) → (B → A) → Codec A → Codec B
 via make parts c = record {

@@ -95,8 +95,9 @@ nothing_lawful = record {
   again = λ old v new fits t. ap (λ (c : Cursor). Ok (tt, c)) t;
 }
 
-pub both_lawful : {A B : Type 0} {a : Codec A} {b : Codec B} → Lawful a → Lawful b → Lawful (a ⊗ b)
-both_lawful {A} {B} {a} {b} la lb = record {
+infixr 20 ◌⊠◌
+pub ◌⊠◌ : {A B : Type 0} {a : Codec A} {b : Codec B} → Lawful a → Lawful b → Lawful (a ⊗ b)
+◌⊠◌ {A} {B} {a} {b} la lb = record {
   takes = λ old v new fits e.
       let x = bind_ok (a.read old) (λ x. b.read x.1 >>= λ y. Ok ((x.0, y.0), y.1)) (v, new) e in
       let y = bind_ok (b.read (x.0).1) (λ y. Ok (((x.0).0, y.0), y.1)) (v, new) x.2 in

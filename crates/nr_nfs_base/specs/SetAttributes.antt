@@ -1,8 +1,8 @@
 -- Attributes to set.
 use Rattle.std.proofs.Common.{refl, ap}
 use Rattle.std.specs.Prelude.{◌≡◌, ℕ, List, [], ◌∷◌, Some, Result, Ok}
-use Rattle.nr_nfs_base.specs.Codec.{Codec, Lawful, word, hyper, ◌⊗◌, via, numbered, one_of, Arms, tagged, made_as, optional, TakesAll}
-use Rattle.nr_nfs_base.specs.Laws.{word_lawful, hyper_lawful, both_lawful, via_lawful, one_of_lawful, tagged_lawful, arm_takes, bare_takes, optional_lawful}
+use Rattle.nr_nfs_base.specs.Codec.{Codec, Lawful, word, hyper, ◌⊗◌, ◌&◌, via, numbered, one_of, Arms, tagged, made_as, optional, TakesAll}
+use Rattle.nr_nfs_base.specs.Laws.{word_lawful, hyper_lawful, ◌⊠◌, via_lawful, one_of_lawful, tagged_lawful, arm_takes, bare_takes, optional_lawful}
 use Rattle.nr_nfs_base.specs.Time.{time_codec, time_lawful}
 use Rattle.nr_nfs_base.specs.declared.set_attributes.SetAttributes.{SetAttributes}
 use Rattle.nr_nfs_base.specs.declared.set_attributes.SetTime.{SetTime}
@@ -55,36 +55,58 @@ set_time_read SetToServerTime at = Ok (ServerTime, at)
 set_time_read SetToClientTime at = made_as ClientTime (time_codec.read at)
 
 abbrev pub set_time_arms : Arms TimeHow SetTime
-set_time_arms = record { tag_of = set_time_tag; items = set_time_items; fits = set_time_fits; read = set_time_read }
+set_time_arms = record {
+  tag_of = set_time_tag;
+  items = set_time_items;
+  fits = set_time_fits;
+  read = set_time_read;
+}
 
 unfoldable pub set_time_codec : Codec SetTime
 set_time_codec = tagged time_how_codec set_time_arms
 
--- what is read behind the tag
-set_time_claim : TimeHow → Cursor → SetTime → Cursor → Type 0
+-- what is read behind the tag is a value of that tag
+abbrev set_time_claim : TimeHow → Cursor → SetTime → Cursor → Type 0
 set_time_claim tag old v new = (set_time_tag v ≡ tag) × (set_time_fits v × TakesAll old new (set_time_items v))
 
-set_time_takes : (tag : TimeHow) (old : Cursor) (v : SetTime) (new : Cursor) → IsBytes old.rest → set_time_read tag old ≡ Ok (v, new) → (set_time_tag v ≡ tag) × (set_time_fits v × TakesAll old new (set_time_items v))
-unfolding set_time_claim
-set_time_takes DontChange old v new fits e = bare_takes Leave (set_time_claim DontChange old) old v new e (refl, (tt, refl))
-set_time_takes SetToServerTime old v new fits e = bare_takes ServerTime (set_time_claim SetToServerTime old) old v new e (refl, (tt, refl))
-set_time_takes SetToClientTime old v new fits e = arm_takes time_codec time_lawful ClientTime (set_time_claim SetToClientTime old) old v new fits e (λ w after t. (refl, t))
+set_time_takes : (tag : TimeHow) (old : Cursor) (v : SetTime) (new : Cursor) → IsBytes old.rest → set_time_read tag old ≡ Ok (v, new)
+    → set_time_claim tag old v new
+set_time_takes DontChange old v new fits e =
+    bare_takes Leave (set_time_claim DontChange old) old v new e (refl, (tt, refl))
+set_time_takes SetToServerTime old v new fits e =
+    bare_takes ServerTime (set_time_claim SetToServerTime old) old v new e (refl, (tt, refl))
+set_time_takes SetToClientTime old v new fits e =
+    arm_takes time_codec time_lawful ClientTime (set_time_claim SetToClientTime old) old v new fits e (λ w after t. (refl, t))
 
-set_time_again : (v : SetTime) (old new : Cursor) → set_time_fits v → TakesAll old new (set_time_items v) → set_time_read (set_time_tag v) old ≡ Ok (v, new)
+set_time_again : (v : SetTime) (old new : Cursor) → set_time_fits v → TakesAll old new (set_time_items v)
+    → set_time_read (set_time_tag v) old ≡ Ok (v, new)
 set_time_again Leave old new fits t = ap (λ (c : Cursor). Ok (Leave, c)) t
 set_time_again ServerTime old new fits t = ap (λ (c : Cursor). Ok (ServerTime, c)) t
 set_time_again (ClientTime v) old new fits t = rw ((time_lawful).again old v new fits t) refl
 
 pub set_time_lawful : Lawful set_time_codec
 unfolding set_time_codec
-set_time_lawful = tagged_lawful time_how_codec set_time_arms time_how_lawful (record { takes = set_time_takes; again = set_time_again })
+set_time_lawful =
+    tagged_lawful time_how_codec set_time_arms time_how_lawful (record { takes = set_time_takes; again = set_time_again })
 
 -- the attributes that a call sets (RFC 1813 section 2.6, sattr3)
 unfoldable pub set_attributes_codec : Codec SetAttributes
 set_attributes_codec =
-    via (λ p. record { mode = p.0; uid = p.1.0; gid = p.1.1.0; size = p.1.1.1.0; atime = p.1.1.1.1.0; mtime = p.1.1.1.1.1 }) (λ v. (v.mode, (v.uid, (v.gid, (v.size, (v.atime, v.mtime))))))
-    ((optional word) ⊗ (optional word) ⊗ (optional word) ⊗ (optional hyper) ⊗ set_time_codec ⊗ set_time_codec)
+    via (λ p. record {
+      mode = p.0;
+      uid = p.1.0;
+      gid = p.1.1.0;
+      size = p.1.1.1.0;
+      atime = p.1.1.1.1.0;
+      mtime = p.1.1.1.1.1;
+    })
+    (λ v. v.mode & v.uid & v.gid & v.size & v.atime & v.mtime)
+    ((optional word) ⊗ (optional word) ⊗ (optional word) ⊗ (optional hyper) ⊗ set_time_codec
+    ⊗ set_time_codec)
 
 pub set_attributes_lawful : Lawful set_attributes_codec
 unfolding set_attributes_codec
-set_attributes_lawful = via_lawful _ _ _ (λ _. refl) (λ _. refl) (both_lawful (optional_lawful _ word_lawful) (both_lawful (optional_lawful _ word_lawful) (both_lawful (optional_lawful _ word_lawful) (both_lawful (optional_lawful _ hyper_lawful) (both_lawful set_time_lawful set_time_lawful)))))
+set_attributes_lawful =
+    via_lawful _ _ _ (λ _. refl) (λ _. refl)
+    ((optional_lawful _ word_lawful) ⊠ (optional_lawful _ word_lawful) ⊠ (optional_lawful _ word_lawful)
+    ⊠ (optional_lawful _ hyper_lawful) ⊠ set_time_lawful ⊠ set_time_lawful)

@@ -7,9 +7,12 @@ use Rattle.nr_nfs_base.specs.declared.verifier.Verifier.{Verifier}
 -- eight opaque bytes (RFC 1813 section 2.4), as the number that they spell
 unfoldable pub verifier_codec : Codec Verifier
 verifier_codec =
-    via (λ p. record { number = p }) (λ v. v.number)
+    via (λ p. record { number = p })
+    (λ v. v.number)
     hyper
 
 pub verifier_lawful : Lawful verifier_codec
 unfolding verifier_codec
-verifier_lawful = via_lawful _ _ _ (λ _. refl) (λ _. refl) hyper_lawful
+verifier_lawful =
+    via_lawful _ _ _ (λ _. refl) (λ _. refl)
+    hyper_lawful
