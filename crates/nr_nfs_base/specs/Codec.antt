@@ -77,7 +77,7 @@ opaque max = record { items = λ bytes. Opaque bytes ∷ []; fits = λ bytes. le
 
 -- ---- Made of others
 
--- no bytes
+-- no bytes (RFC 4506 section 4.16)
 abbrev pub nothing : Codec (Unit {0})
 nothing = record { items = λ _. []; fits = λ _. Unit {0}; read = λ at. Ok (tt, at) }
 

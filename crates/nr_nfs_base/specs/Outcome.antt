@@ -1,4 +1,4 @@
--- What a procedure answers: a status, then the part of OK or that of a failure (RFC 1813 sections 3.3 and 5.1.5).
+-- What a procedure answers: a status, then the part of OK or that of a failure (RFC 1813 sections 3.3 and 5.2.1).
 use Rattle.std.proofs.Common.{refl, cond}
 use Rattle.std.specs.Prelude.{◌≡◌, ℕ, true, false, List, [], ◌∷◌, map, Some, None, Option, option_map, Result, Ok, ◌==◌}
 use Rattle.std.specs.List.{find}

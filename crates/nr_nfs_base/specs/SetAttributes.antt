@@ -12,7 +12,7 @@ use Rattle.nr_nfs_base.specs.declared.set_attributes.TimeHow.TheVariants.{DontCh
 use Rattle.nr_xdr.specs.Item.{Item, IsBytes}
 use Rattle.nr_xdr.specs.Reading.{Cursor}
 
--- how a time is to be set (RFC 1813 section 2.6, time_how)
+-- how a time is to be set (RFC 1813 section 2.5, time_how)
 abbrev pub time_how_number : TimeHow → ℕ
 time_how_number DontChange = 0
 time_how_number SetToServerTime = 1
@@ -33,7 +33,7 @@ pub time_how_lawful : Lawful time_how_codec
 unfolding time_how_codec
 time_how_lawful = one_of_lawful time_how_number time_hows each_time_how
 
--- what a time is to be set to (RFC 1813 section 2.6, set_atime and set_mtime)
+-- what a time is to be set to (RFC 1813 section 2.5, set_atime and set_mtime)
 abbrev pub set_time_tag : SetTime → TimeHow
 set_time_tag Leave = DontChange
 set_time_tag ServerTime = SetToServerTime
@@ -89,7 +89,7 @@ unfolding set_time_codec
 set_time_lawful =
     tagged_lawful time_how_codec set_time_arms time_how_lawful (record { takes = set_time_takes; again = set_time_again })
 
--- the attributes that a call sets (RFC 1813 section 2.6, sattr3)
+-- the attributes that a call sets (RFC 1813 section 2.5, sattr3)
 unfoldable pub set_attributes_codec : Codec SetAttributes
 set_attributes_codec =
     via (λ p. record {

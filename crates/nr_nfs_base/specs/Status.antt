@@ -5,7 +5,7 @@ use Rattle.nr_nfs_base.specs.Codec.{numbered}
 use Rattle.nr_nfs_base.specs.declared.status.Status.{Status}
 use Rattle.nr_nfs_base.specs.declared.status.Status.TheVariants.{Perm, Noent, Io, Nxio, Acces, Exist, Xdev, Nodev, Notdir, Isdir, Inval, Fbig, Nospc, Rofs, Mlink, Nametoolong, Notempty, Dquot, Stale, Remote, Badhandle, NotSync, BadCookie, Notsupp, Toosmall, Serverfault, Badtype, Jukebox}
 
--- why an NFS call failed, and the number that says so (RFC 1813 section 2.6, nfsstat3)
+-- why an NFS call failed, and the number that says so (RFC 1813 section 2.5, nfsstat3)
 abbrev pub status_number : Status → ℕ
 status_number Perm = 1
 status_number Noent = 2

@@ -7,7 +7,7 @@ use Rattle.nr_nfs_base.specs.Time.{time_codec, time_lawful}
 use Rattle.nr_nfs_base.specs.declared.weak_cache.WccAttributes.{WccAttributes}
 use Rattle.nr_nfs_base.specs.declared.weak_cache.WccData.{WccData}
 
--- what tells whether a file is still the same (RFC 1813 section 2.6, wcc_attr)
+-- what tells whether a file is still the same (RFC 1813 section 2.5, wcc_attr)
 unfoldable pub wcc_attributes_codec : Codec WccAttributes
 wcc_attributes_codec =
     via (λ p. record { size = p.0; mtime = p.1.0; ctime = p.1.1 })
@@ -20,7 +20,7 @@ wcc_attributes_lawful =
     via_lawful _ _ _ (λ _. refl) (λ _. refl)
     (hyper_lawful ⊠ time_lawful ⊠ time_lawful)
 
--- a file before and after a call (RFC 1813 section 2.6, wcc_data)
+-- a file before and after a call (RFC 1813 section 2.5, wcc_data)
 unfoldable pub wcc_data_codec : Codec WccData
 wcc_data_codec =
     via (λ p. record { before = p.0; after = p.1 })

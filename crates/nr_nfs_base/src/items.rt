@@ -71,7 +71,7 @@ impl Xdr for bool {
     }
 }
 
-/// No bytes.
+/// No bytes (RFC 4506 section 4.16).
 impl Xdr for () {
     ghost codec = { nothing };
 

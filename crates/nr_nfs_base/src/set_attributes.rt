@@ -9,7 +9,7 @@ use crate::xdr::Xdr;
 use nr_xdr::{Memory, Reader, Writer};
 use std::alloc::Global;
 
-/// How a time is to be set (RFC 1813 section 2.6, `time_how`).
+/// How a time is to be set (RFC 1813 section 2.5, `time_how`).
 #[derive(Clone, Copy, Debug, PartialEq, Eq)]
 pub enum TimeHow {
     DontChange = 0,
@@ -56,7 +56,7 @@ impl Xdr for TimeHow {
     }
 }
 
-/// What a time is to be set to (RFC 1813 section 2.6, `set_atime` and `set_mtime`).
+/// What a time is to be set to (RFC 1813 section 2.5, `set_atime` and `set_mtime`).
 #[derive(Clone, Copy, Debug, PartialEq, Eq)]
 pub enum SetTime {
     /// It stays.
@@ -100,7 +100,7 @@ impl Xdr for SetTime {
     }
 }
 
-/// The attributes that a call sets; one that is absent stays (RFC 1813 section 2.6, `sattr3`).
+/// The attributes that a call sets; one that is absent stays (RFC 1813 section 2.5, `sattr3`).
 #[derive(Clone, Copy, Debug, PartialEq, Eq)]
 pub struct SetAttributes {
     pub mode: Option<u32>,

@@ -106,7 +106,7 @@ static TABLE: [Row; 71] = [
     Row(Type::Time, &[1, 2], Same),
     Row(Type::Time, &[1], Bad(4)),
     Row(Type::Time, &[1, 2, 3], Bad(8)),
-    // RFC 1813 section 2.4, writeverf3
+    // RFC 1813 section 2.5, writeverf3
     Row(Type::Verifier, &[0x0102_0304, 5], Same),
     // RFC 1813 section 2.5, ftype3
     Row(Type::FileType, &[1], Same),
@@ -117,11 +117,11 @@ static TABLE: [Row; 71] = [
     Row(Type::StableHow, &[0], Same),
     Row(Type::StableHow, &[2], Same),
     Row(Type::StableHow, &[3], Bad(0)),
-    // RFC 1813 section 2.6, time_how
+    // RFC 1813 section 2.5, time_how
     Row(Type::TimeHow, &[0], Same),
     Row(Type::TimeHow, &[2], Same),
     Row(Type::TimeHow, &[3], Bad(0)),
-    // RFC 1813 section 2.6, nfsstat3
+    // RFC 1813 section 2.5, nfsstat3
     Row(Type::Answer, &[0, 7], Same),
     Row(Type::Answer, &[1], Same),
     Row(Type::Answer, &[10008], Same),
@@ -146,12 +146,12 @@ static TABLE: [Row; 71] = [
     ),
     Row(Type::PostOpAttributes, &[2], Bad(0)),
     Row(Type::PostOpAttributes, &[1, 8], Bad(4)),
-    // RFC 1813 section 2.6, wcc_attr and wcc_data
+    // RFC 1813 section 2.5, wcc_attr and wcc_data
     Row(Type::WccAttributes, &[0, 1, 2, 3, 4, 5], Same),
     Row(Type::WccData, &[0, 0], Same),
     Row(Type::WccData, &[1, 0, 1, 2, 3, 4, 5, 0], Same),
     Row(Type::WccData, &[1, 0, 1, 2, 3, 4, 5, 2], Bad(28)),
-    // RFC 1813 section 2.6, set_mtime and sattr3
+    // RFC 1813 section 2.5, set_mtime and sattr3
     Row(Type::SetTime, &[0], Same),
     Row(Type::SetTime, &[1], Same),
     Row(Type::SetTime, &[2, 8, 9], Same),
@@ -164,7 +164,7 @@ static TABLE: [Row; 71] = [
         Same,
     ),
     Row(Type::SetAttributes, &[0, 0, 0, 0, 0, 3], Bad(20)),
-    // RFC 1813 section 2.4, nfs_fh3
+    // RFC 1813 section 2.5, nfs_fh3
     Row(Type::Handle, &[0], Same),
     Row(Type::Handle, &[8, 0, 1], Same),
     // the count 64, and 64 bytes
@@ -172,14 +172,14 @@ static TABLE: [Row; 71] = [
     Row(Type::Handle, &[65], Bad(0)),
     Row(Type::PostOpHandle, &[0], Same),
     Row(Type::PostOpHandle, &[1, 8, 0, 1], Same),
-    // RFC 1813 section 2.4, filename3; RFC 4506 section 4.11: `a.txt`
+    // RFC 1813 section 2.5, filename3; RFC 4506 section 4.11: `a.txt`
     Row(
         Type::Name,
         &[5, 0x612e_7478, 0x7400_00ff],
         Words(&[5, 0x612e_7478, 0x7400_0000]),
     ),
     Row(Type::Name, &[5, 0x612e_7478], Bad(0)),
-    // RFC 1813 section 5.1.4, dirpath
+    // RFC 1813 section 5.1.5, dirpath
     Row(Type::MountPath, &[1, 0x2f00_0000], Same),
     // the count 1024, and 1024 bytes
     Row(Type::MountPath, &[1024; 257], Same),

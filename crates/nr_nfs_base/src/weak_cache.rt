@@ -9,7 +9,7 @@ use crate::xdr::Xdr;
 use nr_xdr::{Memory, Reader, Writer};
 use std::alloc::Global;
 
-/// What tells whether a cached file is still the same (RFC 1813 section 2.6, `wcc_attr`).
+/// What tells whether a cached file is still the same (RFC 1813 section 2.5, `wcc_attr`).
 #[derive(Clone, Copy, Debug, PartialEq, Eq)]
 pub struct WccAttributes {
     /// In bytes.
@@ -42,7 +42,7 @@ impl Xdr for WccAttributes {
     }
 }
 
-/// A file before and after a call that may change it (RFC 1813 section 2.6, `wcc_data`).
+/// A file before and after a call that may change it (RFC 1813 section 2.5, `wcc_data`).
 #[derive(Clone, Copy, Debug, PartialEq, Eq)]
 pub struct WccData {
     pub before: Option<WccAttributes>,
