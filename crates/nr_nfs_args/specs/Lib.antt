@@ -1,0 +1,11 @@
+pub mod Null
+pub mod Attributes
+pub mod Lookup
+pub mod Bytes
+pub mod CreateMode
+pub mod Create
+pub mod Special
+pub mod Remove
+pub mod Readdir
+pub mod FileSystem
+pub mod Mount

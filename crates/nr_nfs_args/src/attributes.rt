@@ -1,0 +1,102 @@
+//! GETATTR, SETATTR and ACCESS.
+
+ghost use Rattle.nr_nfs_args.specs.Attributes.{access_args_codec, access_args_lawful, getattr_args_codec, getattr_args_lawful, setattr_args_codec, setattr_args_lawful};
+
+use nr_nfs_base::{Attributes, Handle, SetAttributes, Time, ValueFault, Xdr};
+use nr_xdr::{Memory, Reader, Writer};
+use std::alloc::Global;
+
+/// The arguments of GETATTR (RFC 1813 section 3.3.1).
+#[derive(Debug, Drop)]
+pub struct GetattrArgs {
+    pub object: Handle,
+}
+
+#[tactic(auto, unfolding(crate::specs::Attributes::getattr_args_codec))]
+impl Xdr for GetattrArgs {
+    ghost codec = { getattr_args_codec };
+
+    ghost lawful = { getattr_args_lawful };
+
+    fn read_from<'a>(
+        alloc: Global,
+        reader: Reader<'a>,
+    ) -> Result<(GetattrArgs, Reader<'a>), ValueFault> {
+        let (object, reader) = Handle::read_from(alloc, reader)?;
+        Ok((GetattrArgs { object }, reader))
+    }
+
+    fn write_to(&self, writer: Writer) -> Result<Writer, Memory> {
+        self.object.write_to(writer)
+    }
+}
+
+/// The arguments of SETATTR (RFC 1813 section 3.3.2).
+#[derive(Debug, Drop)]
+pub struct SetattrArgs {
+    pub object: Handle,
+    pub attributes: SetAttributes,
+    /// The change time that the object must have, if it is given.
+    pub guard: Option<Time>,
+}
+
+#[tactic(auto, using(nr_nfs_base::proofs::Puts::puts_both), unfolding(crate::specs::Attributes::setattr_args_codec))]
+impl Xdr for SetattrArgs {
+    ghost codec = { setattr_args_codec };
+
+    ghost lawful = { setattr_args_lawful };
+
+    fn read_from<'a>(
+        alloc: Global,
+        reader: Reader<'a>,
+    ) -> Result<(SetattrArgs, Reader<'a>), ValueFault> {
+        let (object, reader) = Handle::read_from(alloc, reader)?;
+        let (attributes, reader) = SetAttributes::read_from(alloc, reader)?;
+        let (guard, reader) = Option::<Time>::read_from(alloc, reader)?;
+        Ok((
+            SetattrArgs {
+                object,
+                attributes,
+                guard,
+            },
+            reader,
+        ))
+    }
+
+    fn write_to(&self, writer: Writer) -> Result<Writer, Memory> {
+        let writer = self.object.write_to(writer)?;
+        let writer = self.attributes.write_to(writer)?;
+        let writer = self.guard.write_to(writer)?;
+        Ok(writer)
+    }
+}
+
+/// The arguments of ACCESS (RFC 1813 section 3.3.4).
+#[derive(Debug, Drop)]
+pub struct AccessArgs {
+    pub object: Handle,
+    /// A bit for each right that is asked about.
+    pub access: u32,
+}
+
+#[tactic(auto, using(nr_nfs_base::proofs::Puts::puts_both), unfolding(crate::specs::Attributes::access_args_codec))]
+impl Xdr for AccessArgs {
+    ghost codec = { access_args_codec };
+
+    ghost lawful = { access_args_lawful };
+
+    fn read_from<'a>(
+        alloc: Global,
+        reader: Reader<'a>,
+    ) -> Result<(AccessArgs, Reader<'a>), ValueFault> {
+        let (object, reader) = Handle::read_from(alloc, reader)?;
+        let (access, reader) = u32::read_from(alloc, reader)?;
+        Ok((AccessArgs { object, access }, reader))
+    }
+
+    fn write_to(&self, writer: Writer) -> Result<Writer, Memory> {
+        let writer = self.object.write_to(writer)?;
+        let writer = self.access.write_to(writer)?;
+        Ok(writer)
+    }
+}

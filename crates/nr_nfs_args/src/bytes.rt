@@ -1,0 +1,136 @@
+//! READ, WRITE and COMMIT.
+
+ghost use Rattle.nr_nfs_args.specs.Bytes.{commit_args_codec, commit_args_lawful, read_args_codec, read_args_lawful, write_args_codec, write_args_lawful};
+
+use nr_nfs_base::{Data, Handle, StableHow, ValueFault, Xdr};
+use nr_xdr::{Memory, Reader, Writer};
+use std::alloc::Global;
+
+/// The arguments of READ (RFC 1813 section 3.3.6).
+#[derive(Debug, Drop)]
+pub struct ReadArgs {
+    pub file: Handle,
+    /// In bytes.
+    pub offset: u64,
+    /// In bytes.
+    pub count: u32,
+}
+
+#[tactic(auto, using(nr_nfs_base::proofs::Puts::puts_both), unfolding(crate::specs::Bytes::read_args_codec))]
+impl Xdr for ReadArgs {
+    ghost codec = { read_args_codec };
+
+    ghost lawful = { read_args_lawful };
+
+    fn read_from<'a>(
+        alloc: Global,
+        reader: Reader<'a>,
+    ) -> Result<(ReadArgs, Reader<'a>), ValueFault> {
+        let (file, reader) = Handle::read_from(alloc, reader)?;
+        let (offset, reader) = u64::read_from(alloc, reader)?;
+        let (count, reader) = u32::read_from(alloc, reader)?;
+        Ok((
+            ReadArgs {
+                file,
+                offset,
+                count,
+            },
+            reader,
+        ))
+    }
+
+    fn write_to(&self, writer: Writer) -> Result<Writer, Memory> {
+        let writer = self.file.write_to(writer)?;
+        let writer = self.offset.write_to(writer)?;
+        let writer = self.count.write_to(writer)?;
+        Ok(writer)
+    }
+}
+
+/// The arguments of WRITE (RFC 1813 section 3.3.7).
+#[derive(Debug, Drop)]
+pub struct WriteArgs {
+    pub file: Handle,
+    /// In bytes.
+    pub offset: u64,
+    /// In bytes; it need not be the length of the data.
+    pub count: u32,
+    pub stable: StableHow,
+    pub data: Data,
+}
+
+#[tactic(auto, using(nr_nfs_base::proofs::Puts::puts_both), unfolding(crate::specs::Bytes::write_args_codec))]
+impl Xdr for WriteArgs {
+    ghost codec = { write_args_codec };
+
+    ghost lawful = { write_args_lawful };
+
+    fn read_from<'a>(
+        alloc: Global,
+        reader: Reader<'a>,
+    ) -> Result<(WriteArgs, Reader<'a>), ValueFault> {
+        let (file, reader) = Handle::read_from(alloc, reader)?;
+        let (offset, reader) = u64::read_from(alloc, reader)?;
+        let (count, reader) = u32::read_from(alloc, reader)?;
+        let (stable, reader) = StableHow::read_from(alloc, reader)?;
+        let (data, reader) = Data::read_from(alloc, reader)?;
+        let value = WriteArgs {
+            file,
+            offset,
+            count,
+            stable,
+            data,
+        };
+        Ok((value, reader))
+    }
+
+    fn write_to(&self, writer: Writer) -> Result<Writer, Memory> {
+        let writer = self.file.write_to(writer)?;
+        let writer = self.offset.write_to(writer)?;
+        let writer = self.count.write_to(writer)?;
+        let writer = self.stable.write_to(writer)?;
+        let writer = self.data.write_to(writer)?;
+        Ok(writer)
+    }
+}
+
+/// The arguments of COMMIT (RFC 1813 section 3.3.21).
+#[derive(Debug, Drop)]
+pub struct CommitArgs {
+    pub file: Handle,
+    /// In bytes.
+    pub offset: u64,
+    /// In bytes.
+    pub count: u32,
+}
+
+#[tactic(auto, using(nr_nfs_base::proofs::Puts::puts_both), unfolding(crate::specs::Bytes::commit_args_codec))]
+impl Xdr for CommitArgs {
+    ghost codec = { commit_args_codec };
+
+    ghost lawful = { commit_args_lawful };
+
+    fn read_from<'a>(
+        alloc: Global,
+        reader: Reader<'a>,
+    ) -> Result<(CommitArgs, Reader<'a>), ValueFault> {
+        let (file, reader) = Handle::read_from(alloc, reader)?;
+        let (offset, reader) = u64::read_from(alloc, reader)?;
+        let (count, reader) = u32::read_from(alloc, reader)?;
+        Ok((
+            CommitArgs {
+                file,
+                offset,
+                count,
+            },
+            reader,
+        ))
+    }
+
+    fn write_to(&self, writer: Writer) -> Result<Writer, Memory> {
+        let writer = self.file.write_to(writer)?;
+        let writer = self.offset.write_to(writer)?;
+        let writer = self.count.write_to(writer)?;
+        Ok(writer)
+    }
+}

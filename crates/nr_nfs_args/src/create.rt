@@ -1,0 +1,135 @@
+//! CREATE and MKDIR.
+
+ghost use Rattle.nr_nfs_args.specs.Create.{create_args_codec, create_args_lawful, create_how_codec, create_how_lawful, mkdir_args_codec, mkdir_args_lawful};
+
+use crate::create_mode::CreateMode;
+use nr_nfs_base::{Handle, Name, SetAttributes, ValueFault, Verifier, Xdr};
+use nr_xdr::{Memory, Reader, Writer};
+use std::alloc::Global;
+
+/// How a file is made, and with what (RFC 1813 section 3.3.8, `createhow3`).
+#[derive(Clone, Copy, Debug, PartialEq, Eq)]
+pub enum CreateHow {
+    /// A file of the name may be there already.
+    Unchecked(SetAttributes),
+    /// No file of the name may be there.
+    Guarded(SetAttributes),
+    /// A file of the name may be there if it was made with the same verifier.
+    Exclusive(Verifier),
+}
+
+#[tactic(auto, unfolding(crate::specs::Create::create_how_codec))]
+impl Xdr for CreateHow {
+    ghost codec = { create_how_codec };
+
+    ghost lawful = { create_how_lawful };
+
+    fn read_from<'a>(
+        alloc: Global,
+        reader: Reader<'a>,
+    ) -> Result<(CreateHow, Reader<'a>), ValueFault> {
+        let (tag, reader) = CreateMode::read_from(alloc, reader)?;
+        match tag {
+            CreateMode::Unchecked => {
+                let (value, reader) = SetAttributes::read_from(alloc, reader)?;
+                Ok((CreateHow::Unchecked(value), reader))
+            }
+            CreateMode::Guarded => {
+                let (value, reader) = SetAttributes::read_from(alloc, reader)?;
+                Ok((CreateHow::Guarded(value), reader))
+            }
+            CreateMode::Exclusive => {
+                let (value, reader) = Verifier::read_from(alloc, reader)?;
+                Ok((CreateHow::Exclusive(value), reader))
+            }
+        }
+    }
+
+    fn write_to(&self, writer: Writer) -> Result<Writer, Memory> {
+        match self {
+            CreateHow::Unchecked(value) => {
+                let writer = CreateMode::Unchecked.write_to(writer)?;
+                value.write_to(writer)
+            }
+            CreateHow::Guarded(value) => {
+                let writer = CreateMode::Guarded.write_to(writer)?;
+                value.write_to(writer)
+            }
+            CreateHow::Exclusive(value) => {
+                let writer = CreateMode::Exclusive.write_to(writer)?;
+                value.write_to(writer)
+            }
+        }
+    }
+}
+
+/// The arguments of CREATE (RFC 1813 section 3.3.8).
+#[derive(Debug, Drop)]
+pub struct CreateArgs {
+    pub dir: Handle,
+    pub name: Name,
+    pub how: CreateHow,
+}
+
+#[tactic(auto, using(nr_nfs_base::proofs::Puts::puts_both), unfolding(crate::specs::Create::create_args_codec))]
+impl Xdr for CreateArgs {
+    ghost codec = { create_args_codec };
+
+    ghost lawful = { create_args_lawful };
+
+    fn read_from<'a>(
+        alloc: Global,
+        reader: Reader<'a>,
+    ) -> Result<(CreateArgs, Reader<'a>), ValueFault> {
+        let (dir, reader) = Handle::read_from(alloc, reader)?;
+        let (name, reader) = Name::read_from(alloc, reader)?;
+        let (how, reader) = CreateHow::read_from(alloc, reader)?;
+        Ok((CreateArgs { dir, name, how }, reader))
+    }
+
+    fn write_to(&self, writer: Writer) -> Result<Writer, Memory> {
+        let writer = self.dir.write_to(writer)?;
+        let writer = self.name.write_to(writer)?;
+        let writer = self.how.write_to(writer)?;
+        Ok(writer)
+    }
+}
+
+/// The arguments of MKDIR (RFC 1813 section 3.3.9).
+#[derive(Debug, Drop)]
+pub struct MkdirArgs {
+    pub dir: Handle,
+    pub name: Name,
+    pub attributes: SetAttributes,
+}
+
+#[tactic(auto, using(nr_nfs_base::proofs::Puts::puts_both), unfolding(crate::specs::Create::mkdir_args_codec))]
+impl Xdr for MkdirArgs {
+    ghost codec = { mkdir_args_codec };
+
+    ghost lawful = { mkdir_args_lawful };
+
+    fn read_from<'a>(
+        alloc: Global,
+        reader: Reader<'a>,
+    ) -> Result<(MkdirArgs, Reader<'a>), ValueFault> {
+        let (dir, reader) = Handle::read_from(alloc, reader)?;
+        let (name, reader) = Name::read_from(alloc, reader)?;
+        let (attributes, reader) = SetAttributes::read_from(alloc, reader)?;
+        Ok((
+            MkdirArgs {
+                dir,
+                name,
+                attributes,
+            },
+            reader,
+        ))
+    }
+
+    fn write_to(&self, writer: Writer) -> Result<Writer, Memory> {
+        let writer = self.dir.write_to(writer)?;
+        let writer = self.name.write_to(writer)?;
+        let writer = self.attributes.write_to(writer)?;
+        Ok(writer)
+    }
+}

@@ -1,0 +1,61 @@
+//! LOOKUP and READLINK.
+
+ghost use Rattle.nr_nfs_args.specs.Lookup.{lookup_args_codec, lookup_args_lawful, readlink_args_codec, readlink_args_lawful};
+
+use nr_nfs_base::{Handle, Name, ValueFault, Xdr};
+use nr_xdr::{Memory, Reader, Writer};
+use std::alloc::Global;
+
+/// The arguments of LOOKUP (RFC 1813 section 3.3.3).
+#[derive(Debug, Drop)]
+pub struct LookupArgs {
+    pub dir: Handle,
+    pub name: Name,
+}
+
+#[tactic(auto, using(nr_nfs_base::proofs::Puts::puts_both), unfolding(crate::specs::Lookup::lookup_args_codec))]
+impl Xdr for LookupArgs {
+    ghost codec = { lookup_args_codec };
+
+    ghost lawful = { lookup_args_lawful };
+
+    fn read_from<'a>(
+        alloc: Global,
+        reader: Reader<'a>,
+    ) -> Result<(LookupArgs, Reader<'a>), ValueFault> {
+        let (dir, reader) = Handle::read_from(alloc, reader)?;
+        let (name, reader) = Name::read_from(alloc, reader)?;
+        Ok((LookupArgs { dir, name }, reader))
+    }
+
+    fn write_to(&self, writer: Writer) -> Result<Writer, Memory> {
+        let writer = self.dir.write_to(writer)?;
+        let writer = self.name.write_to(writer)?;
+        Ok(writer)
+    }
+}
+
+/// The arguments of READLINK (RFC 1813 section 3.3.5).
+#[derive(Debug, Drop)]
+pub struct ReadlinkArgs {
+    pub symlink: Handle,
+}
+
+#[tactic(auto, unfolding(crate::specs::Lookup::readlink_args_codec))]
+impl Xdr for ReadlinkArgs {
+    ghost codec = { readlink_args_codec };
+
+    ghost lawful = { readlink_args_lawful };
+
+    fn read_from<'a>(
+        alloc: Global,
+        reader: Reader<'a>,
+    ) -> Result<(ReadlinkArgs, Reader<'a>), ValueFault> {
+        let (symlink, reader) = Handle::read_from(alloc, reader)?;
+        Ok((ReadlinkArgs { symlink }, reader))
+    }
+
+    fn write_to(&self, writer: Writer) -> Result<Writer, Memory> {
+        self.symlink.write_to(writer)
+    }
+}

@@ -1,0 +1,29 @@
+//! The calls that take nothing.
+
+ghost use Rattle.nr_nfs_args.specs.Null.{null_args_codec, null_args_lawful};
+
+use nr_nfs_base::{ValueFault, Xdr};
+use nr_xdr::{Memory, Reader, Writer};
+use std::alloc::Global;
+
+/// Nothing: NULL of NFS and of MOUNT (RFC 1813 sections 3.3.0 and 5.2.0).
+#[derive(Clone, Copy, Debug, PartialEq, Eq)]
+pub struct NullArgs;
+
+#[tactic(auto, unfolding(crate::specs::Null::null_args_codec))]
+impl Xdr for NullArgs {
+    ghost codec = { null_args_codec };
+
+    ghost lawful = { null_args_lawful };
+
+    fn read_from<'a>(
+        _alloc: Global,
+        reader: Reader<'a>,
+    ) -> Result<(NullArgs, Reader<'a>), ValueFault> {
+        Ok((NullArgs, reader))
+    }
+
+    fn write_to(&self, writer: Writer) -> Result<Writer, Memory> {
+        Ok(writer)
+    }
+}

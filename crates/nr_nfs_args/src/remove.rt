@@ -1,0 +1,140 @@
+//! REMOVE, RMDIR, RENAME and LINK.
+
+ghost use Rattle.nr_nfs_args.specs.Remove.{link_args_codec, link_args_lawful, remove_args_codec, remove_args_lawful, rename_args_codec, rename_args_lawful, rmdir_args_codec, rmdir_args_lawful};
+
+use nr_nfs_base::{Handle, Name, ValueFault, Xdr};
+use nr_xdr::{Memory, Reader, Writer};
+use std::alloc::Global;
+
+/// The arguments of REMOVE (RFC 1813 section 3.3.12).
+#[derive(Debug, Drop)]
+pub struct RemoveArgs {
+    pub dir: Handle,
+    pub name: Name,
+}
+
+#[tactic(auto, using(nr_nfs_base::proofs::Puts::puts_both), unfolding(crate::specs::Remove::remove_args_codec))]
+impl Xdr for RemoveArgs {
+    ghost codec = { remove_args_codec };
+
+    ghost lawful = { remove_args_lawful };
+
+    fn read_from<'a>(
+        alloc: Global,
+        reader: Reader<'a>,
+    ) -> Result<(RemoveArgs, Reader<'a>), ValueFault> {
+        let (dir, reader) = Handle::read_from(alloc, reader)?;
+        let (name, reader) = Name::read_from(alloc, reader)?;
+        Ok((RemoveArgs { dir, name }, reader))
+    }
+
+    fn write_to(&self, writer: Writer) -> Result<Writer, Memory> {
+        let writer = self.dir.write_to(writer)?;
+        let writer = self.name.write_to(writer)?;
+        Ok(writer)
+    }
+}
+
+/// The arguments of RMDIR (RFC 1813 section 3.3.13).
+#[derive(Debug, Drop)]
+pub struct RmdirArgs {
+    pub dir: Handle,
+    pub name: Name,
+}
+
+#[tactic(auto, using(nr_nfs_base::proofs::Puts::puts_both), unfolding(crate::specs::Remove::rmdir_args_codec))]
+impl Xdr for RmdirArgs {
+    ghost codec = { rmdir_args_codec };
+
+    ghost lawful = { rmdir_args_lawful };
+
+    fn read_from<'a>(
+        alloc: Global,
+        reader: Reader<'a>,
+    ) -> Result<(RmdirArgs, Reader<'a>), ValueFault> {
+        let (dir, reader) = Handle::read_from(alloc, reader)?;
+        let (name, reader) = Name::read_from(alloc, reader)?;
+        Ok((RmdirArgs { dir, name }, reader))
+    }
+
+    fn write_to(&self, writer: Writer) -> Result<Writer, Memory> {
+        let writer = self.dir.write_to(writer)?;
+        let writer = self.name.write_to(writer)?;
+        Ok(writer)
+    }
+}
+
+/// The arguments of RENAME (RFC 1813 section 3.3.14).
+#[derive(Debug, Drop)]
+pub struct RenameArgs {
+    pub from_dir: Handle,
+    pub from_name: Name,
+    pub to_dir: Handle,
+    pub to_name: Name,
+}
+
+#[tactic(auto, using(nr_nfs_base::proofs::Puts::puts_both), unfolding(crate::specs::Remove::rename_args_codec))]
+impl Xdr for RenameArgs {
+    ghost codec = { rename_args_codec };
+
+    ghost lawful = { rename_args_lawful };
+
+    fn read_from<'a>(
+        alloc: Global,
+        reader: Reader<'a>,
+    ) -> Result<(RenameArgs, Reader<'a>), ValueFault> {
+        let (from_dir, reader) = Handle::read_from(alloc, reader)?;
+        let (from_name, reader) = Name::read_from(alloc, reader)?;
+        let (to_dir, reader) = Handle::read_from(alloc, reader)?;
+        let (to_name, reader) = Name::read_from(alloc, reader)?;
+        Ok((
+            RenameArgs {
+                from_dir,
+                from_name,
+                to_dir,
+                to_name,
+            },
+            reader,
+        ))
+    }
+
+    fn write_to(&self, writer: Writer) -> Result<Writer, Memory> {
+        let writer = self.from_dir.write_to(writer)?;
+        let writer = self.from_name.write_to(writer)?;
+        let writer = self.to_dir.write_to(writer)?;
+        let writer = self.to_name.write_to(writer)?;
+        Ok(writer)
+    }
+}
+
+/// The arguments of LINK (RFC 1813 section 3.3.15).
+#[derive(Debug, Drop)]
+pub struct LinkArgs {
+    pub file: Handle,
+    pub dir: Handle,
+    pub name: Name,
+}
+
+#[tactic(auto, using(nr_nfs_base::proofs::Puts::puts_both), unfolding(crate::specs::Remove::link_args_codec))]
+impl Xdr for LinkArgs {
+    ghost codec = { link_args_codec };
+
+    ghost lawful = { link_args_lawful };
+
+    fn read_from<'a>(
+        alloc: Global,
+        reader: Reader<'a>,
+    ) -> Result<(LinkArgs, Reader<'a>), ValueFault> {
+        let (file, reader) = Handle::read_from(alloc, reader)?;
+        let (dir, reader) = Handle::read_from(alloc, reader)?;
+        let (name, reader) = Name::read_from(alloc, reader)?;
+        Ok((LinkArgs { file, dir, name }, reader))
+    }
+
+    fn write_to(&self, writer: Writer) -> Result<Writer, Memory> {
+        let writer = self.file.write_to(writer)?;
+        let writer = self.dir.write_to(writer)?;
+        let writer = self.name.write_to(writer)?;
+        Ok(writer)
+    }
+}

@@ -1,0 +1,190 @@
+//! SYMLINK and MKNOD.
+
+ghost use Rattle.nr_nfs_args.specs.Special.{device_data_codec, device_data_lawful, mknod_args_codec, mknod_args_lawful, mknod_data_codec, mknod_data_lawful, symlink_args_codec, symlink_args_lawful};
+
+use nr_nfs_base::{FileType, Handle, Name, Path, SetAttributes, SpecialData, ValueFault, Xdr};
+use nr_xdr::{Memory, Reader, Writer};
+use std::alloc::Global;
+
+/// The arguments of SYMLINK (RFC 1813 section 3.3.10).
+#[derive(Debug, Drop)]
+pub struct SymlinkArgs {
+    pub dir: Handle,
+    pub name: Name,
+    pub attributes: SetAttributes,
+    pub path: Path,
+}
+
+#[tactic(auto, using(nr_nfs_base::proofs::Puts::puts_both), unfolding(crate::specs::Special::symlink_args_codec))]
+impl Xdr for SymlinkArgs {
+    ghost codec = { symlink_args_codec };
+
+    ghost lawful = { symlink_args_lawful };
+
+    fn read_from<'a>(
+        alloc: Global,
+        reader: Reader<'a>,
+    ) -> Result<(SymlinkArgs, Reader<'a>), ValueFault> {
+        let (dir, reader) = Handle::read_from(alloc, reader)?;
+        let (name, reader) = Name::read_from(alloc, reader)?;
+        let (attributes, reader) = SetAttributes::read_from(alloc, reader)?;
+        let (path, reader) = Path::read_from(alloc, reader)?;
+        Ok((
+            SymlinkArgs {
+                dir,
+                name,
+                attributes,
+                path,
+            },
+            reader,
+        ))
+    }
+
+    fn write_to(&self, writer: Writer) -> Result<Writer, Memory> {
+        let writer = self.dir.write_to(writer)?;
+        let writer = self.name.write_to(writer)?;
+        let writer = self.attributes.write_to(writer)?;
+        let writer = self.path.write_to(writer)?;
+        Ok(writer)
+    }
+}
+
+/// What a device is made with (RFC 1813 section 3.3.11, `devicedata3`).
+#[derive(Clone, Copy, Debug, PartialEq, Eq)]
+pub struct DeviceData {
+    pub attributes: SetAttributes,
+    pub device: SpecialData,
+}
+
+#[tactic(auto, using(nr_nfs_base::proofs::Puts::puts_both), unfolding(crate::specs::Special::device_data_codec))]
+impl Xdr for DeviceData {
+    ghost codec = { device_data_codec };
+
+    ghost lawful = { device_data_lawful };
+
+    fn read_from<'a>(
+        alloc: Global,
+        reader: Reader<'a>,
+    ) -> Result<(DeviceData, Reader<'a>), ValueFault> {
+        let (attributes, reader) = SetAttributes::read_from(alloc, reader)?;
+        let (device, reader) = SpecialData::read_from(alloc, reader)?;
+        Ok((DeviceData { attributes, device }, reader))
+    }
+
+    fn write_to(&self, writer: Writer) -> Result<Writer, Memory> {
+        let writer = self.attributes.write_to(writer)?;
+        let writer = self.device.write_to(writer)?;
+        Ok(writer)
+    }
+}
+
+/// What MKNOD makes, and with what (RFC 1813 section 3.3.11, `mknoddata3`). The types that MKNOD cannot make are spelled
+/// too, with nothing behind them.
+#[derive(Clone, Copy, Debug, PartialEq, Eq)]
+pub enum MknodData {
+    /// A regular file.
+    Reg,
+    /// A directory.
+    Dir,
+    /// A block device.
+    Blk(DeviceData),
+    /// A character device.
+    Chr(DeviceData),
+    /// A symbolic link.
+    Lnk,
+    /// A socket.
+    Sock(SetAttributes),
+    /// A named pipe.
+    Fifo(SetAttributes),
+}
+
+#[tactic(auto, unfolding(crate::specs::Special::mknod_data_codec))]
+impl Xdr for MknodData {
+    ghost codec = { mknod_data_codec };
+
+    ghost lawful = { mknod_data_lawful };
+
+    fn read_from<'a>(
+        alloc: Global,
+        reader: Reader<'a>,
+    ) -> Result<(MknodData, Reader<'a>), ValueFault> {
+        let (tag, reader) = FileType::read_from(alloc, reader)?;
+        match tag {
+            FileType::Reg => Ok((MknodData::Reg, reader)),
+            FileType::Dir => Ok((MknodData::Dir, reader)),
+            FileType::Blk => {
+                let (value, reader) = DeviceData::read_from(alloc, reader)?;
+                Ok((MknodData::Blk(value), reader))
+            }
+            FileType::Chr => {
+                let (value, reader) = DeviceData::read_from(alloc, reader)?;
+                Ok((MknodData::Chr(value), reader))
+            }
+            FileType::Lnk => Ok((MknodData::Lnk, reader)),
+            FileType::Sock => {
+                let (value, reader) = SetAttributes::read_from(alloc, reader)?;
+                Ok((MknodData::Sock(value), reader))
+            }
+            FileType::Fifo => {
+                let (value, reader) = SetAttributes::read_from(alloc, reader)?;
+                Ok((MknodData::Fifo(value), reader))
+            }
+        }
+    }
+
+    fn write_to(&self, writer: Writer) -> Result<Writer, Memory> {
+        match self {
+            MknodData::Reg => FileType::Reg.write_to(writer),
+            MknodData::Dir => FileType::Dir.write_to(writer),
+            MknodData::Blk(value) => {
+                let writer = FileType::Blk.write_to(writer)?;
+                value.write_to(writer)
+            }
+            MknodData::Chr(value) => {
+                let writer = FileType::Chr.write_to(writer)?;
+                value.write_to(writer)
+            }
+            MknodData::Lnk => FileType::Lnk.write_to(writer),
+            MknodData::Sock(value) => {
+                let writer = FileType::Sock.write_to(writer)?;
+                value.write_to(writer)
+            }
+            MknodData::Fifo(value) => {
+                let writer = FileType::Fifo.write_to(writer)?;
+                value.write_to(writer)
+            }
+        }
+    }
+}
+
+/// The arguments of MKNOD (RFC 1813 section 3.3.11).
+#[derive(Debug, Drop)]
+pub struct MknodArgs {
+    pub dir: Handle,
+    pub name: Name,
+    pub what: MknodData,
+}
+
+#[tactic(auto, using(nr_nfs_base::proofs::Puts::puts_both), unfolding(crate::specs::Special::mknod_args_codec))]
+impl Xdr for MknodArgs {
+    ghost codec = { mknod_args_codec };
+
+    ghost lawful = { mknod_args_lawful };
+
+    fn read_from<'a>(
+        alloc: Global,
+        reader: Reader<'a>,
+    ) -> Result<(MknodArgs, Reader<'a>), ValueFault> {
+        let (dir, reader) = Handle::read_from(alloc, reader)?;
+        let (name, reader) = Name::read_from(alloc, reader)?;
+        let (what, reader) = MknodData::read_from(alloc, reader)?;
+        Ok((MknodArgs { dir, name, what }, reader))
+    }
+
+    fn write_to(&self, writer: Writer) -> Result<Writer, Memory> {
+        let writer = self.dir.write_to(writer)?;
+        let writer = self.name.write_to(writer)?;
+        let writer = self.what.write_to(writer)?;
+        Ok(writer)
+    }
+}

@@ -1,0 +1,260 @@
+use super::*;
+use nr_nfs_base::{ValueFault, Xdr};
+use nr_xdr::Octets;
+use std::alloc::{AllocError, Global};
+
+#[derive(Clone, Copy, Debug)]
+enum Type {
+    Null,
+    Getattr,
+    Setattr,
+    Lookup,
+    Access,
+    Readlink,
+    Read,
+    Write,
+    CreateMode,
+    CreateHow,
+    Create,
+    Mkdir,
+    Symlink,
+    DeviceData,
+    MknodData,
+    Mknod,
+    Remove,
+    Rmdir,
+    Rename,
+    Link,
+    Readdir,
+    Readdirplus,
+    Fsstat,
+    Fsinfo,
+    Pathconf,
+    Commit,
+    Mnt,
+    Umnt,
+    Umntall,
+}
+
+fn again<T: Xdr>(alloc: Global, bytes: &[u8]) -> Result<Octets, ValueFault> {
+    let value = T::read(alloc, bytes)?;
+    Ok(value.write(alloc)?)
+}
+
+/// Reads the bytes as a value of the type, and writes that.
+fn again_as(kind: Type, alloc: Global, bytes: &[u8]) -> Result<Octets, ValueFault> {
+    match kind {
+        Type::Null => again::<NullArgs>(alloc, bytes),
+        Type::Getattr => again::<GetattrArgs>(alloc, bytes),
+        Type::Setattr => again::<SetattrArgs>(alloc, bytes),
+        Type::Lookup => again::<LookupArgs>(alloc, bytes),
+        Type::Access => again::<AccessArgs>(alloc, bytes),
+        Type::Readlink => again::<ReadlinkArgs>(alloc, bytes),
+        Type::Read => again::<ReadArgs>(alloc, bytes),
+        Type::Write => again::<WriteArgs>(alloc, bytes),
+        Type::CreateMode => again::<CreateMode>(alloc, bytes),
+        Type::CreateHow => again::<CreateHow>(alloc, bytes),
+        Type::Create => again::<CreateArgs>(alloc, bytes),
+        Type::Mkdir => again::<MkdirArgs>(alloc, bytes),
+        Type::Symlink => again::<SymlinkArgs>(alloc, bytes),
+        Type::DeviceData => again::<DeviceData>(alloc, bytes),
+        Type::MknodData => again::<MknodData>(alloc, bytes),
+        Type::Mknod => again::<MknodArgs>(alloc, bytes),
+        Type::Remove => again::<RemoveArgs>(alloc, bytes),
+        Type::Rmdir => again::<RmdirArgs>(alloc, bytes),
+        Type::Rename => again::<RenameArgs>(alloc, bytes),
+        Type::Link => again::<LinkArgs>(alloc, bytes),
+        Type::Readdir => again::<ReaddirArgs>(alloc, bytes),
+        Type::Readdirplus => again::<ReaddirplusArgs>(alloc, bytes),
+        Type::Fsstat => again::<FsstatArgs>(alloc, bytes),
+        Type::Fsinfo => again::<FsinfoArgs>(alloc, bytes),
+        Type::Pathconf => again::<PathconfArgs>(alloc, bytes),
+        Type::Commit => again::<CommitArgs>(alloc, bytes),
+        Type::Mnt => again::<MntArgs>(alloc, bytes),
+        Type::Umnt => again::<UmntArgs>(alloc, bytes),
+        Type::Umntall => again::<UmntallArgs>(alloc, bytes),
+    }
+}
+
+fn bytes_of(alloc: Global, words: &[u32]) -> Result<Vec<u8>, AllocError> {
+    let mut bytes = Vec::new(alloc);
+    for word in words {
+        bytes.extend_from_slice(&word.to_be_bytes())?;
+    }
+    Ok(bytes)
+}
+
+/// What the words are read as is written so.
+#[derive(Clone, Copy)]
+enum Want {
+    Same,
+    Words(&'static [u32]),
+    Bad(usize),
+}
+
+use Want::{Bad, Same, Words};
+
+struct Row(Type, &'static [u32], Want);
+
+// In each row `8, 0, 1` is the handle of eight bytes of the file number 1, and `1, 0x6100_0000` the name `a`.
+static TABLE: [Row; 66] = [
+    // RFC 1813 section 3.3.0
+    Row(Type::Null, &[], Same),
+    Row(Type::Null, &[0], Bad(0)),
+    // section 3.3.1
+    Row(Type::Getattr, &[8, 0, 1], Same),
+    Row(Type::Getattr, &[64; 17], Same),
+    Row(Type::Getattr, &[65], Bad(0)),
+    // section 3.3.2: no guard, a guard
+    Row(Type::Setattr, &[8, 0, 1, 0, 0, 0, 0, 0, 0, 0], Same),
+    Row(
+        Type::Setattr,
+        &[8, 0, 1, 1, 0o644, 0, 0, 1, 0, 5, 1, 2, 8, 9, 1, 10, 11],
+        Same,
+    ),
+    Row(
+        Type::Setattr,
+        &[8, 0, 1, 0, 0, 0, 0, 0, 0, 2, 10, 11],
+        Bad(36),
+    ),
+    // section 3.3.3: the name `a.txt`, its pad bytes read as any bytes and written as zeros
+    Row(
+        Type::Lookup,
+        &[8, 0, 1, 5, 0x612e_7478, 0x7400_00ff],
+        Words(&[8, 0, 1, 5, 0x612e_7478, 0x7400_0000]),
+    ),
+    Row(Type::Lookup, &[8, 0, 1, 0], Same),
+    Row(Type::Lookup, &[8, 0, 1, 5, 0x612e_7478], Bad(12)),
+    // section 3.3.4
+    Row(Type::Access, &[8, 0, 1, 63], Same),
+    // section 3.3.5
+    Row(Type::Readlink, &[8, 0, 1], Same),
+    // section 3.3.6
+    Row(Type::Read, &[8, 0, 1, 0, 4096, 100], Same),
+    Row(Type::Read, &[8, 0, 1, 0, 4096, 100, 0], Bad(24)),
+    Row(Type::Read, &[8, 0, 1, 0, 4096], Bad(20)),
+    // section 3.3.7: `hello`
+    Row(
+        Type::Write,
+        &[8, 0, 1, 0, 0, 5, 0, 5, 0x6865_6c6c, 0x6f00_0000],
+        Same,
+    ),
+    Row(
+        Type::Write,
+        &[8, 0, 1, 0, 0, 5, 2, 5, 0x6865_6c6c, 0x6fff_ffff],
+        Words(&[8, 0, 1, 0, 0, 5, 2, 5, 0x6865_6c6c, 0x6f00_0000]),
+    ),
+    Row(Type::Write, &[8, 0, 1, 0, 0, 0, 1, 0], Same),
+    Row(
+        Type::Write,
+        &[8, 0, 1, 0, 0, 5, 3, 5, 0x6865_6c6c, 0x6f00_0000],
+        Bad(24),
+    ),
+    // section 3.3.8
+    Row(Type::CreateMode, &[0], Same),
+    Row(Type::CreateMode, &[2], Same),
+    Row(Type::CreateMode, &[3], Bad(0)),
+    Row(Type::CreateHow, &[0, 0, 0, 0, 0, 0, 0], Same),
+    Row(Type::CreateHow, &[1, 1, 0o600, 0, 0, 0, 0, 0], Same),
+    Row(Type::CreateHow, &[2, 1, 2], Same),
+    Row(Type::CreateHow, &[2, 1], Bad(4)),
+    Row(Type::CreateHow, &[3], Bad(0)),
+    Row(
+        Type::Create,
+        &[8, 0, 1, 1, 0x6100_0000, 0, 0, 0, 0, 0, 0, 0],
+        Same,
+    ),
+    Row(Type::Create, &[8, 0, 1, 1, 0x6100_0000, 2, 3, 4], Same),
+    Row(Type::Create, &[8, 0, 1, 1, 0x6100_0000, 3, 3, 4], Bad(20)),
+    // section 3.3.9
+    Row(
+        Type::Mkdir,
+        &[8, 0, 1, 1, 0x6100_0000, 0, 0, 0, 0, 0, 0],
+        Same,
+    ),
+    // section 3.3.10: the path `b`
+    Row(
+        Type::Symlink,
+        &[8, 0, 1, 1, 0x6100_0000, 0, 0, 0, 0, 0, 0, 1, 0x6200_0000],
+        Same,
+    ),
+    Row(
+        Type::Symlink,
+        &[8, 0, 1, 1, 0x6100_0000, 0, 0, 0, 0, 0, 0],
+        Bad(44),
+    ),
+    // section 3.3.11
+    Row(Type::DeviceData, &[0, 0, 0, 0, 0, 0, 5, 6], Same),
+    Row(Type::MknodData, &[1], Same),
+    Row(Type::MknodData, &[2], Same),
+    Row(Type::MknodData, &[3, 0, 0, 0, 0, 0, 0, 5, 6], Same),
+    Row(Type::MknodData, &[4, 0, 0, 0, 0, 0, 0, 5, 6], Same),
+    Row(Type::MknodData, &[5], Same),
+    Row(Type::MknodData, &[6, 0, 0, 0, 0, 0, 0], Same),
+    Row(Type::MknodData, &[7, 0, 0, 0, 0, 0, 0], Same),
+    Row(Type::MknodData, &[8], Bad(0)),
+    Row(Type::MknodData, &[0], Bad(0)),
+    Row(Type::MknodData, &[5, 0], Bad(4)),
+    Row(
+        Type::Mknod,
+        &[8, 0, 1, 1, 0x6100_0000, 7, 0, 0, 0, 0, 0, 0],
+        Same,
+    ),
+    // sections 3.3.12 to 3.3.15
+    Row(Type::Remove, &[8, 0, 1, 1, 0x6100_0000], Same),
+    Row(Type::Rmdir, &[8, 0, 1, 1, 0x6100_0000], Same),
+    // `hello` becomes `bye`: 44 bytes
+    Row(
+        Type::Rename,
+        &[
+            8,
+            0,
+            1,
+            5,
+            0x6865_6c6c,
+            0x6f00_0000,
+            8,
+            0,
+            1,
+            3,
+            0x6279_6500,
+        ],
+        Same,
+    ),
+    Row(Type::Link, &[8, 0, 2, 8, 0, 1, 1, 0x6100_0000], Same),
+    // sections 3.3.16 and 3.3.17
+    Row(Type::Readdir, &[8, 0, 1, 0, 3, 0, 0, 4096], Same),
+    Row(Type::Readdir, &[8, 0, 1, 0, 3, 0, 0], Bad(28)),
+    Row(Type::Readdirplus, &[8, 0, 1, 0, 3, 0, 0, 512, 4096], Same),
+    Row(Type::Readdirplus, &[8, 0, 1, 0, 3, 0, 0, 512], Bad(32)),
+    // sections 3.3.18 to 3.3.21
+    Row(Type::Fsstat, &[8, 0, 1], Same),
+    Row(Type::Fsinfo, &[8, 0, 1], Same),
+    Row(Type::Pathconf, &[8, 0, 1], Same),
+    Row(Type::Commit, &[8, 0, 1, 0, 0, 0], Same),
+    // section 5.2.1: the path `/`; a path of 1024 bytes, one of 1025
+    Row(Type::Mnt, &[1, 0x2f00_0000], Same),
+    Row(Type::Mnt, &[1024; 257], Same),
+    Row(Type::Mnt, &[1025], Bad(0)),
+    // sections 5.2.3 and 5.2.4
+    Row(Type::Umnt, &[1, 0x2f00_0000], Same),
+    Row(Type::Umnt, &[0], Same),
+    Row(Type::Umnt, &[1025], Bad(0)),
+    Row(Type::Umntall, &[], Same),
+    Row(Type::Umntall, &[0], Bad(0)),
+];
+
+#[test]
+fn each_row_is_read_and_written(rt: HostRuntime) -> Result<(), AllocError> {
+    for Row(kind, words, want) in &TABLE {
+        let bytes = bytes_of(rt.alloc(), words)?;
+        let wanted = match want {
+            Same => Ok(bytes_of(rt.alloc(), words)?),
+            Words(others) => Ok(bytes_of(rt.alloc(), others)?),
+            Bad(at) => Err(ValueFault::Bad { at: *at }),
+        };
+        let got = again_as(*kind, rt.alloc(), &bytes).map(Octets::into_vec);
+        assert_eq!(rt; got, wanted, "{kind:?} {words:?}");
+    }
+    Ok(())
+}

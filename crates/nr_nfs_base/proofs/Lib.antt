@@ -1,0 +1,4 @@
+pub mod Loops
+pub mod Puts
+pub mod ReadingAll
+pub mod Tags

@@ -1,0 +1,80 @@
+-- Values read one after the other, as a loop does.
+use Rattle.std.proofs.Common.{◌≡◌, ℕ, suc, ◌-◌, ◌+◌, ◌≤◌, ◌<◌, List, [], ◌∷◌, ◌++◌, Option, Some, None, Result, Ok, Err, refl, sym, ap, ◌∙◌, append_assoc, arith}
+use Rattle.std.proofs.lemmas.List.{append-nil}
+use Rattle.nr_xdr.specs.Reading.{Cursor}
+use Rattle.nr_nfs_base.specs.declared.fault.ValueFault.{ValueFault}
+use Rattle.nr_nfs_base.specs.declared.fault.ValueFault.TheVariants as faults
+use Rattle.nr_nfs_base.specs.Codec.{Codec, ◌>>=◌, before, chain_read, optional, times, Answers}
+
+abbrev ValuesRead : Type 0 → Type 0
+ValuesRead A = Result (List A × Cursor) ℕ
+
+-- what was read before, and what is still read
+abbrev pub onto : {A : Type 0} → List A → Result (List A × Cursor) ℕ → Result (List A × Cursor) ℕ
+onto front read = read >>= λ x. Ok (front ++ x.0, x.1)
+
+regroup : {A : Type 0} (front : List A) (v : A) (read : Result (List A × Cursor) ℕ) → onto front (before v read) ≡ onto (front ++ v ∷ []) read
+regroup {A} front v (Ok x) = ap (λ (vs : List A). Ok (vs, x.1)) (simp append_assoc)
+regroup front v (Err at) = refl
+
+-- ---- Chains
+
+pub chain_goes_on : {A : Type 0} (c : Codec A) (front : List A) (n i : ℕ) (at : Cursor) (o : Option A) (v : A) (to : Cursor) (total : Result (List A × Cursor) ℕ) → i < n → o ≡ Some v → (optional c).read at ≡ Ok (o, to)
+    → onto front (chain_read c (n - i) at) ≡ total → onto (front ++ v ∷ []) (chain_read c (n - (i + 1)) to) ≡ total
+unfolding chain_read
+chain_goes_on c front n i at o v to total lt is h so_far =
+    let k : n - i ≡ suc (n - (i + 1)) = omega arith in
+    let there : (optional c).read at ≡ Ok (Some v, to) = rw is at h in
+    let one : onto front (chain_read c (n - i) at) ≡ onto (front ++ v ∷ []) (chain_read c (n - (i + 1)) to) = rw (k, there) (regroup front v (chain_read c (n - (i + 1)) to)) in
+    sym one ∙ so_far
+
+pub chain_ends : {A : Type 0} (c : Codec A) (front : List A) (n i : ℕ) (at : Cursor) (o : Option A) (to : Cursor) (total : Result (List A × Cursor) ℕ) → i < n → o ≡ None → (optional c).read at ≡ Ok (o, to)
+    → onto front (chain_read c (n - i) at) ≡ total → total ≡ Ok (front, to)
+unfolding chain_read
+chain_ends {A} c front n i at o to total lt is h so_far =
+    let k : n - i ≡ suc (n - (i + 1)) = omega arith in
+    let there : (optional c).read at ≡ Ok (None, to) = rw is at h in
+    let one : onto front (chain_read c (n - i) at) ≡ Ok (front, to) = rw (k, there) (ap (λ (vs : List A). Ok (vs, to)) (append-nil front)) in
+    sym so_far ∙ one
+
+pub chain_fails : {A : Type 0} (c : Codec A) (e : ValueFault) (front : List A) (n i : ℕ) (at : Cursor) (total : Result (List A × Cursor) ℕ) → i < n → Answers {A = Option A × Cursor} (Err e) ((optional c).read at)
+    → onto front (chain_read c (n - i) at) ≡ total → Answers {A = List A × Cursor} (Err e) total
+unfolding chain_read
+chain_fails c faults.Memory front n i at total lt h so_far = tt
+chain_fails c (faults.Bad place) front n i at total lt h so_far =
+    let k : n - i ≡ suc (n - (i + 1)) = omega arith in
+    let one : onto front (chain_read c (n - i) at) ≡ Err place = rw (k, h) refl in
+    sym so_far ∙ one
+
+pub chain_runs_out : {A : Type 0} (c : Codec A) (front : List A) (n i : ℕ) (at : Cursor) (total : Result (List A × Cursor) ℕ) → n ≤ i → onto front (chain_read c (n - i) at) ≡ total → total ≡ Err at.place
+unfolding chain_read
+chain_runs_out c front n i at total le so_far =
+    let k : n - i ≡ 0 = omega arith in
+    let one : onto front (chain_read c (n - i) at) ≡ Err at.place = rw k refl in
+    sym so_far ∙ one
+
+-- ---- Arrays
+
+pub times_goes_on : {A : Type 0} (c : Codec A) (front : List A) (n i : ℕ) (at : Cursor) (v : A) (to : Cursor) (total : Result (List A × Cursor) ℕ) → i < n → c.read at ≡ Ok (v, to)
+    → onto front (times c (n - i) at) ≡ total → onto (front ++ v ∷ []) (times c (n - (i + 1)) to) ≡ total
+unfolding times
+times_goes_on c front n i at v to total lt h so_far =
+    let k : n - i ≡ suc (n - (i + 1)) = omega arith in
+    let one : onto front (times c (n - i) at) ≡ onto (front ++ v ∷ []) (times c (n - (i + 1)) to) = rw (k, h) (regroup front v (times c (n - (i + 1)) to)) in
+    sym one ∙ so_far
+
+pub times_fails : {A : Type 0} (c : Codec A) (e : ValueFault) (front : List A) (n i : ℕ) (at : Cursor) (total : Result (List A × Cursor) ℕ) → i < n → Answers {A = A × Cursor} (Err e) (c.read at)
+    → onto front (times c (n - i) at) ≡ total → Answers {A = List A × Cursor} (Err e) total
+unfolding times
+times_fails c faults.Memory front n i at total lt h so_far = tt
+times_fails c (faults.Bad place) front n i at total lt h so_far =
+    let k : n - i ≡ suc (n - (i + 1)) = omega arith in
+    let one : onto front (times c (n - i) at) ≡ Err place = rw (k, h) refl in
+    sym so_far ∙ one
+
+pub times_done : {A : Type 0} (c : Codec A) (front : List A) (n i : ℕ) (at : Cursor) (total : Result (List A × Cursor) ℕ) → n ≤ i → onto front (times c (n - i) at) ≡ total → total ≡ Ok (front, at)
+unfolding times
+times_done {A} c front n i at total le so_far =
+    let k : n - i ≡ 0 = omega arith in
+    let one : onto front (times c (n - i) at) ≡ Ok (front, at) = rw k (ap (λ (vs : List A). Ok (vs, at)) (append-nil front)) in
+    sym so_far ∙ one

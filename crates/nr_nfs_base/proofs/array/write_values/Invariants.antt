@@ -1,0 +1,6 @@
+use Rattle.std.proofs.Common.{take}
+use Rattle.nr_nfs_base.proofs.Puts.{ArrayGoesOn}
+use Rattle.nr_nfs_base.proofs.array.write_values.Given as goal
+
+abbrev pub invariant-loop-value : goal.invariant-loop-value
+invariant-loop-value g l = ArrayGoesOn g.T.Xdr.codec l.fn.writer (take l.value-index l.values) l.writer

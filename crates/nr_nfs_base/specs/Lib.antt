@@ -1,0 +1,13 @@
+pub mod Codec
+pub mod Laws
+pub mod Names
+pub mod Time
+pub mod Verifier
+pub mod FileType
+pub mod Stable
+pub mod Attributes
+pub mod WeakCache
+pub mod SetAttributes
+pub mod Status
+pub mod MountStatus
+pub mod Outcome

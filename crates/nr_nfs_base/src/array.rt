@@ -1,0 +1,105 @@
+//! Lists behind the number of their values.
+
+ghost use Rattle.std.specs.Prelude.{◌≡◌, ◌∷◌, [], ◌++◌, ◌^◌, ◌<◌, length, IfOk};
+ghost use Rattle.std.specs.List.{flat_map, AllByRecursion};
+ghost use Rattle.nr_nfs_base.specs.Codec.{array, times, Answers, Puts};
+ghost use Rattle.nr_nfs_base.specs.Laws.{array_lawful};
+
+use crate::fault::ValueFault;
+use crate::xdr::Xdr;
+use nr_xdr::{Memory, Reader, Writer};
+use std::alloc::Global;
+use std::marker::Model;
+
+/// A list of fewer than 2^32 values behind their number (RFC 4506 section 4.13). Contracts see the list.
+#[derive(Debug, Drop)]
+pub struct Array<T> {
+    values: Vec<T>,
+}
+
+impl<T> Model for Array<T> {
+    ghost use Rattle.std.specs.Prelude.{List, ◌^◌, ◌<◌, length};
+
+    ghost Value = { List T };
+
+    ghost view = { λ a. a.values.items };
+
+    ghost invariant = { λ a. length a.values.items < 2 ^ 32 };
+}
+
+impl<T> Array<T> {
+    /// The values of a vector. Takes no memory.
+    pub fn from_vec(values: Vec<T>) -> Array<T>
+        requires { length values.items < 2 ^ 32 }
+        ensures { result ≡ values.items }
+    {
+        Array { values }
+    }
+
+    /// The vector of the values. Takes no memory.
+    pub fn into_vec(self) -> Vec<T>
+        ensures value { result.items ≡ self }
+        ensures bounded { length self < 2 ^ 32 }
+    {
+        self.values
+    }
+
+    /// The values, in order.
+    pub fn as_slice(&self) -> &[T]
+        ensures value { result.now ≡ self.now }
+        ensures bounded { length self.now < 2 ^ 32 }
+    {
+        self.values.as_slice()
+    }
+}
+
+#[tactic(auto, unfolding(crate::specs::Codec::array))]
+impl<T: Xdr> Xdr for Array<T> {
+    ghost codec = { array T.codec };
+
+    ghost lawful = { array_lawful T.codec T.lawful };
+
+    fn read_from<'a>(
+        alloc: Global,
+        reader: Reader<'a>,
+    ) -> Result<(Array<T>, Reader<'a>), ValueFault> {
+        let (count, reader) = u32::read_from(alloc, reader)?;
+        read_values(alloc, count, reader)
+    }
+
+    fn write_to(&self, writer: Writer) -> Result<Writer, Memory> {
+        let values = self.as_slice();
+        let count = values.len() as u32;
+        let writer = count.write_to(writer)?;
+        write_values(values, writer)
+    }
+}
+
+/// Reads so many values.
+fn read_values<'a, T: Xdr>(
+    alloc: Global,
+    count: u32,
+    reader: Reader<'a>,
+) -> Result<(Array<T>, Reader<'a>), ValueFault>
+    ensures { Answers result (times T.codec count reader.entry) }
+{
+    let mut values = Vec::new(alloc);
+    let mut reader = reader;
+    for _ in 0..count {
+        let (value, behind) = T::read_from(alloc, reader)?;
+        reader = behind;
+        values.push(value)?;
+    }
+    Ok((Array { values }, reader))
+}
+
+/// Writes the values behind one another.
+fn write_values<T: Xdr>(values: &[T], writer: Writer) -> Result<Writer, Memory>
+    ensures { IfOk result (λ bytes. Puts writer bytes (flat_map T.codec.items values.now) (AllByRecursion T.codec.fits values.now)) }
+{
+    let mut writer = writer;
+    for value in values {
+        writer = value.write_to(writer)?;
+    }
+    Ok(writer)
+}

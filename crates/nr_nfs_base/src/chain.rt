@@ -1,0 +1,109 @@
+//! Lists whose values stand behind flags.
+
+ghost use Rattle.std.specs.Prelude.{◌≡◌, [], ◌∷◌, ◌++◌, IfOk};
+ghost use Rattle.nr_nfs_base.specs.Codec.{chain, chain_read, Answers, Writes};
+ghost use Rattle.nr_nfs_base.specs.Laws.{chain_lawful};
+
+use crate::fault::ValueFault;
+use crate::xdr::Xdr;
+use nr_xdr::{Memory, Reader, Writer};
+use std::alloc::Global;
+use std::marker::Model;
+
+/// A list of values, each behind a 1 and with a 0 at the end (RFC 4506 section 4.19). Contracts see the list.
+#[derive(Debug, Drop)]
+pub struct Chain<T> {
+    values: Vec<T>,
+}
+
+impl<T> Model for Chain<T> {
+    ghost use Rattle.std.specs.Prelude.{List};
+
+    ghost Value = { List T };
+
+    ghost view = { λ c. c.values.items };
+}
+
+impl<T> Chain<T> {
+    /// No values.
+    pub fn new(alloc: Global) -> Chain<T>
+        ensures { result ≡ [] }
+    {
+        Chain {
+            values: Vec::new(alloc),
+        }
+    }
+
+    /// The values of a vector. Takes no memory.
+    pub fn from_vec(values: Vec<T>) -> Chain<T>
+        ensures { result ≡ values.items }
+    {
+        Chain { values }
+    }
+
+    /// The vector of the values. Takes no memory.
+    pub fn into_vec(self) -> Vec<T>
+        ensures { result.items ≡ self }
+    {
+        self.values
+    }
+
+    /// The values, in order.
+    pub fn as_slice(&self) -> &[T]
+        ensures { result.now ≡ self.now }
+    {
+        self.values.as_slice()
+    }
+}
+
+#[tactic(auto, unfolding(crate::specs::Codec::chain))]
+impl<T: Xdr> Xdr for Chain<T> {
+    ghost codec = { chain T.codec };
+
+    ghost lawful = { chain_lawful T.codec T.lawful };
+
+    fn read_from<'a>(
+        alloc: Global,
+        reader: Reader<'a>,
+    ) -> Result<(Chain<T>, Reader<'a>), ValueFault> {
+        let most = reader.rest().len();
+        read_values(alloc, most, reader)
+    }
+
+    fn write_to(&self, writer: Writer) -> Result<Writer, Memory> {
+        write_values(self.as_slice(), writer)
+    }
+}
+
+/// Reads the values up to the 0 behind them: `most` bounds them, the 0 counted.
+fn read_values<'a, T: Xdr>(
+    alloc: Global,
+    most: usize,
+    reader: Reader<'a>,
+) -> Result<(Chain<T>, Reader<'a>), ValueFault>
+    ensures { Answers result (chain_read T.codec most reader.entry) }
+{
+    let mut values = Vec::new(alloc);
+    let mut reader = reader;
+    for _ in 0..most {
+        let (value, behind) = Option::<T>::read_from(alloc, reader)?;
+        reader = behind;
+        match value {
+            None => return Ok((Chain { values }, reader)),
+            Some(value) => values.push(value)?,
+        }
+    }
+    Err(ValueFault::Bad { at: reader.at() })
+}
+
+/// Writes the values, and the 0 behind them.
+fn write_values<T: Xdr>(values: &[T], writer: Writer) -> Result<Writer, Memory>
+    ensures { IfOk result (Writes (chain T.codec) writer values.now) }
+{
+    let mut writer = writer;
+    for value in values {
+        writer = true.write_to(writer)?;
+        writer = value.write_to(writer)?;
+    }
+    false.write_to(writer)
+}

@@ -1,0 +1,28 @@
+//! Handles, names, paths and data: opaque data, each with its limit.
+
+use crate::opaque::Opaque;
+
+/// The most bytes that a file handle has (RFC 1813 section 2.4, `NFS3_FHSIZE`; section 5.1.4, `FHSIZE3`).
+pub const HANDLE_MAX: u32 = 64;
+
+/// The most bytes that a path to mount has (RFC 1813 section 5.1.4, `MNTPATHLEN`).
+pub const MOUNT_PATH_MAX: u32 = 1024;
+
+/// The most bytes that fit behind a count word: names, paths and data have no other limit (RFC 4506 section 4.10).
+pub const UNLIMITED: u32 = u32::MAX;
+
+/// What a server calls a file by, and a client does not look into (RFC 1813 section 2.5, `nfs_fh3`; section 5.1.5,
+/// `fhandle3`).
+pub type Handle = Opaque<HANDLE_MAX>;
+
+/// The name of an entry of a directory (RFC 1813 section 2.5, `filename3`).
+pub type Name = Opaque<UNLIMITED>;
+
+/// What a symbolic link holds (RFC 1813 section 2.5, `nfspath3`).
+pub type Path = Opaque<UNLIMITED>;
+
+/// Bytes of a file (RFC 1813 sections 3.3.6 and 3.3.7).
+pub type Data = Opaque<UNLIMITED>;
+
+/// The path of an export (RFC 1813 section 5.1.5, `dirpath`).
+pub type MountPath = Opaque<MOUNT_PATH_MAX>;

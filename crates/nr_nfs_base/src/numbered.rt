@@ -1,0 +1,59 @@
+//! Values that are spelled as a number.
+
+ghost use Rattle.std.specs.Prelude.{◌≡◌, ◌==◌, false, ℕ, List, Some, IfOk};
+ghost use Rattle.nr_nfs_base.specs.Codec.{numbered, one_of, Answers, Writes};
+
+use crate::fault::ValueFault;
+use crate::xdr::Xdr;
+use nr_xdr::{Memory, Reader, Writer};
+use std::alloc::Global;
+
+/// An enumeration (RFC 4506 section 4.3): each value has a number, and no other number is a value.
+pub trait Numbered: Copy {
+    /// The number of a value.
+    ghost number: { Self → ℕ };
+
+    /// Every value, in the order of the numbers.
+    ghost all: { List Self };
+
+    /// The number of the value.
+    fn number(self) -> u32
+        ensures { result ≡ number self };
+
+    /// The value with this number, if there is one.
+    fn from_number(word: u32) -> Option<Self>
+        ensures { result ≡ numbered number all word };
+
+    /// Each value is the one with its number.
+    ghost each: { (v : Self) → numbered number all (number v) ≡ Some v };
+}
+
+/// An enumeration of failures: each number but 0, which says that nothing failed.
+pub trait Failure: Numbered {
+    /// No failure has the number 0.
+    ghost not_ok: { (v : Self) → (0 == Self.number v) ≡ false };
+}
+
+/// Reads an enumeration: `Bad` at its word where the word is no value's number.
+#[tactic(auto, unfolding(crate::specs::Codec::one_of))]
+pub fn read_numbered<'a, T: Numbered>(
+    alloc: Global,
+    reader: Reader<'a>,
+) -> Result<(T, Reader<'a>), ValueFault>
+    ensures { Answers result ((one_of T.number T.all).read reader.entry) }
+{
+    let at = reader.at();
+    let (word, reader) = u32::read_from(alloc, reader)?;
+    match T::from_number(word) {
+        Some(value) => Ok((value, reader)),
+        None => Err(ValueFault::Bad { at }),
+    }
+}
+
+/// Writes the number of a value.
+#[tactic(auto, unfolding(crate::specs::Codec::one_of))]
+pub fn write_numbered<T: Numbered>(value: T, writer: Writer) -> Result<Writer, Memory>
+    ensures { IfOk result (Writes (one_of T.number T.all) writer value) }
+{
+    value.number().write_to(writer)
+}

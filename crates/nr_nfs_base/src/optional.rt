@@ -1,0 +1,40 @@
+//! A value that may be absent.
+
+ghost use Rattle.nr_nfs_base.specs.Codec.{optional};
+ghost use Rattle.nr_nfs_base.specs.Laws.{optional_lawful};
+
+use crate::fault::ValueFault;
+use crate::xdr::Xdr;
+use nr_xdr::{Memory, Reader, Writer};
+use std::alloc::Global;
+
+/// A value behind a flag, or only the flag (RFC 4506 section 4.19).
+#[tactic(auto, using(crate::proofs::Puts::puts_both), unfolding(crate::specs::Codec::optional))]
+impl<T: Xdr> Xdr for Option<T> {
+    ghost codec = { optional T.codec };
+
+    ghost lawful = { optional_lawful T.codec T.lawful };
+
+    fn read_from<'a>(
+        alloc: Global,
+        reader: Reader<'a>,
+    ) -> Result<(Option<T>, Reader<'a>), ValueFault> {
+        let (is_there, reader) = bool::read_from(alloc, reader)?;
+        if is_there {
+            let (value, reader) = T::read_from(alloc, reader)?;
+            Ok((Some(value), reader))
+        } else {
+            Ok((None, reader))
+        }
+    }
+
+    fn write_to(&self, writer: Writer) -> Result<Writer, Memory> {
+        match self {
+            None => false.write_to(writer),
+            Some(value) => {
+                let writer = true.write_to(writer)?;
+                value.write_to(writer)
+            }
+        }
+    }
+}

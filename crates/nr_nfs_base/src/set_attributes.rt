@@ -1,0 +1,150 @@
+//! The attributes that a call sets.
+
+ghost use Rattle.nr_nfs_base.specs.SetAttributes.{each_time_how, set_attributes_codec, set_attributes_lawful, set_time_codec, set_time_lawful, time_how_codec, time_how_lawful, time_how_number, time_hows};
+
+use crate::fault::ValueFault;
+use crate::numbered::{Numbered, read_numbered, write_numbered};
+use crate::time::Time;
+use crate::xdr::Xdr;
+use nr_xdr::{Memory, Reader, Writer};
+use std::alloc::Global;
+
+/// How a time is to be set (RFC 1813 section 2.5, `time_how`).
+#[derive(Clone, Copy, Debug, PartialEq, Eq)]
+pub enum TimeHow {
+    DontChange = 0,
+    SetToServerTime = 1,
+    SetToClientTime = 2,
+}
+
+impl Numbered for TimeHow {
+    ghost number = { time_how_number };
+
+    ghost all = { time_hows };
+
+    ghost each = { each_time_how };
+
+    fn number(self) -> u32 {
+        self as u32
+    }
+
+    fn from_number(word: u32) -> Option<TimeHow> {
+        match word {
+            0 => Some(TimeHow::DontChange),
+            1 => Some(TimeHow::SetToServerTime),
+            2 => Some(TimeHow::SetToClientTime),
+            _ => None,
+        }
+    }
+}
+
+#[tactic(auto, unfolding(crate::specs::SetAttributes::time_how_codec))]
+impl Xdr for TimeHow {
+    ghost codec = { time_how_codec };
+
+    ghost lawful = { time_how_lawful };
+
+    fn read_from<'a>(
+        alloc: Global,
+        reader: Reader<'a>,
+    ) -> Result<(TimeHow, Reader<'a>), ValueFault> {
+        read_numbered(alloc, reader)
+    }
+
+    fn write_to(&self, writer: Writer) -> Result<Writer, Memory> {
+        write_numbered(*self, writer)
+    }
+}
+
+/// What a time is to be set to (RFC 1813 section 2.5, `set_atime` and `set_mtime`).
+#[derive(Clone, Copy, Debug, PartialEq, Eq)]
+pub enum SetTime {
+    /// It stays.
+    Leave,
+    /// The time at the server.
+    ServerTime,
+    /// This time.
+    ClientTime(Time),
+}
+
+#[tactic(auto, unfolding(crate::specs::SetAttributes::set_time_codec))]
+impl Xdr for SetTime {
+    ghost codec = { set_time_codec };
+
+    ghost lawful = { set_time_lawful };
+
+    fn read_from<'a>(
+        alloc: Global,
+        reader: Reader<'a>,
+    ) -> Result<(SetTime, Reader<'a>), ValueFault> {
+        let (tag, reader) = TimeHow::read_from(alloc, reader)?;
+        match tag {
+            TimeHow::DontChange => Ok((SetTime::Leave, reader)),
+            TimeHow::SetToServerTime => Ok((SetTime::ServerTime, reader)),
+            TimeHow::SetToClientTime => {
+                let (value, reader) = Time::read_from(alloc, reader)?;
+                Ok((SetTime::ClientTime(value), reader))
+            }
+        }
+    }
+
+    fn write_to(&self, writer: Writer) -> Result<Writer, Memory> {
+        match self {
+            SetTime::Leave => TimeHow::DontChange.write_to(writer),
+            SetTime::ServerTime => TimeHow::SetToServerTime.write_to(writer),
+            SetTime::ClientTime(value) => {
+                let writer = TimeHow::SetToClientTime.write_to(writer)?;
+                value.write_to(writer)
+            }
+        }
+    }
+}
+
+/// The attributes that a call sets; one that is absent stays (RFC 1813 section 2.5, `sattr3`).
+#[derive(Clone, Copy, Debug, PartialEq, Eq)]
+pub struct SetAttributes {
+    pub mode: Option<u32>,
+    pub uid: Option<u32>,
+    pub gid: Option<u32>,
+    pub size: Option<u64>,
+    pub atime: SetTime,
+    pub mtime: SetTime,
+}
+
+#[tactic(auto, using(crate::proofs::Puts::puts_both), unfolding(crate::specs::SetAttributes::set_attributes_codec))]
+impl Xdr for SetAttributes {
+    ghost codec = { set_attributes_codec };
+
+    ghost lawful = { set_attributes_lawful };
+
+    fn read_from<'a>(
+        alloc: Global,
+        reader: Reader<'a>,
+    ) -> Result<(SetAttributes, Reader<'a>), ValueFault> {
+        let (mode, reader) = Option::<u32>::read_from(alloc, reader)?;
+        let (uid, reader) = Option::<u32>::read_from(alloc, reader)?;
+        let (gid, reader) = Option::<u32>::read_from(alloc, reader)?;
+        let (size, reader) = Option::<u64>::read_from(alloc, reader)?;
+        let (atime, reader) = SetTime::read_from(alloc, reader)?;
+        let (mtime, reader) = SetTime::read_from(alloc, reader)?;
+        let value = SetAttributes {
+            mode,
+            uid,
+            gid,
+            size,
+            atime,
+            mtime,
+        };
+        Ok((value, reader))
+    }
+
+    fn write_to(&self, writer: Writer) -> Result<Writer, Memory> {
+        let writer = self.mode.write_to(writer)?;
+        let writer = self.uid.write_to(writer)?;
+        let writer = self.gid.write_to(writer)?;
+        let writer = self.size.write_to(writer)?;
+        let writer = self.atime.write_to(writer)?;
+        let writer = self.mtime.write_to(writer)?;
+        Ok(writer)
+    }
+}

@@ -1,0 +1,72 @@
+//! What a client needs to know of a file before and after a call.
+
+ghost use Rattle.nr_nfs_base.specs.WeakCache.{wcc_attributes_codec, wcc_attributes_lawful, wcc_data_codec, wcc_data_lawful};
+
+use crate::attributes::Attributes;
+use crate::fault::ValueFault;
+use crate::time::Time;
+use crate::xdr::Xdr;
+use nr_xdr::{Memory, Reader, Writer};
+use std::alloc::Global;
+
+/// What tells whether a cached file is still the same (RFC 1813 section 2.5, `wcc_attr`).
+#[derive(Clone, Copy, Debug, PartialEq, Eq)]
+pub struct WccAttributes {
+    /// In bytes.
+    pub size: u64,
+    pub mtime: Time,
+    pub ctime: Time,
+}
+
+#[tactic(auto, using(crate::proofs::Puts::puts_both), unfolding(crate::specs::WeakCache::wcc_attributes_codec))]
+impl Xdr for WccAttributes {
+    ghost codec = { wcc_attributes_codec };
+
+    ghost lawful = { wcc_attributes_lawful };
+
+    fn read_from<'a>(
+        alloc: Global,
+        reader: Reader<'a>,
+    ) -> Result<(WccAttributes, Reader<'a>), ValueFault> {
+        let (size, reader) = u64::read_from(alloc, reader)?;
+        let (mtime, reader) = Time::read_from(alloc, reader)?;
+        let (ctime, reader) = Time::read_from(alloc, reader)?;
+        Ok((WccAttributes { size, mtime, ctime }, reader))
+    }
+
+    fn write_to(&self, writer: Writer) -> Result<Writer, Memory> {
+        let writer = self.size.write_to(writer)?;
+        let writer = self.mtime.write_to(writer)?;
+        let writer = self.ctime.write_to(writer)?;
+        Ok(writer)
+    }
+}
+
+/// A file before and after a call that may change it (RFC 1813 section 2.5, `wcc_data`).
+#[derive(Clone, Copy, Debug, PartialEq, Eq)]
+pub struct WccData {
+    pub before: Option<WccAttributes>,
+    pub after: Option<Attributes>,
+}
+
+#[tactic(auto, using(crate::proofs::Puts::puts_both), unfolding(crate::specs::WeakCache::wcc_data_codec))]
+impl Xdr for WccData {
+    ghost codec = { wcc_data_codec };
+
+    ghost lawful = { wcc_data_lawful };
+
+    fn read_from<'a>(
+        alloc: Global,
+        reader: Reader<'a>,
+    ) -> Result<(WccData, Reader<'a>), ValueFault> {
+        let (before, reader) = Option::<WccAttributes>::read_from(alloc, reader)?;
+        let (after, reader) = Option::<Attributes>::read_from(alloc, reader)?;
+        Ok((WccData { before, after }, reader))
+    }
+
+    fn write_to(&self, writer: Writer) -> Result<Writer, Memory> {
+        let writer = self.before.write_to(writer)?;
+        let writer = self.after.write_to(writer)?;
+        Ok(writer)
+    }
+}

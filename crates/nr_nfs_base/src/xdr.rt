@@ -1,0 +1,64 @@
+//! The scheme by which every value is read and written.
+
+ghost use Rattle.std.specs.Prelude.{◌≡◌, IfOk, MatchResult};
+ghost use Rattle.nr_nfs_base.specs.Codec.{Codec, Lawful, Answers, Writes, ReadsAs, read_all, spelled};
+ghost use Rattle.nr_nfs_base.specs.declared.fault.ValueFault.TheVariants.{Memory as memory};
+
+use crate::fault::ValueFault;
+use nr_xdr::{Memory, Octets, Reader, Writer};
+use std::alloc::Global;
+
+/// A value that is spelled as items of XDR (RFC 4506).
+///
+/// A type gives its codec, the two steps for a value that stands among others, and the law. `read` and `write` are the
+/// calls for a value that stands alone. Pad bytes are read as any bytes and written as zeros.
+pub trait Xdr: Drop {
+    /// The items that spell a value, which values are within the limits of the type, and what is read at a place.
+    ghost codec: { Codec Self };
+
+    /// The value at the reader's place, and the reader behind it. `Bad` at the first item that fails, in bytes from
+    /// where the reader began.
+    fn read_from<'a>(alloc: Global, reader: Reader<'a>) -> Result<(Self, Reader<'a>), ValueFault>
+        ensures exact { Answers result (codec.read reader.entry) };
+
+    /// The writer with the value behind what it has. Every value of the type has a spelling.
+    fn write_to(&self, writer: Writer) -> Result<Writer, Memory>
+        ensures ok { IfOk result (Writes codec writer self.now) };
+
+    /// What is read is so spelled, and what is so spelled is read.
+    ghost lawful: { Lawful codec };
+
+    /// The value that the bytes spell, all of them. `Bad` at the first item that fails, or at the first byte left over.
+    final fn read(alloc: Global, bytes: &[u8]) -> Result<Self, ValueFault>
+        // What is read is spelled so.
+        ensures found { IfOk result (λ v. ReadsAs codec v bytes.now) }
+        // What is spelled so is read.
+        ensures only { (v : Self) → ReadsAs codec v bytes.now → MatchResult result (λ w. w ≡ v) (λ e. e ≡ memory) }
+        // Which fault it is.
+        ensures exact { Answers result (read_all codec bytes.now) }
+    {
+        read_whole(alloc, bytes)
+    }
+
+    /// The bytes of the value.
+    final fn write(&self, alloc: Global) -> Result<Octets, Memory>
+        // The one spelling of the value.
+        ensures spelled { IfOk result (λ bytes. bytes ≡ spelled (codec.items self.now)) }
+        // The bytes are read as the value again.
+        ensures again { IfOk result (λ bytes. ReadsAs codec self.now bytes) }
+    {
+        Ok(self.write_to(Writer::new(alloc))?.finish())
+    }
+}
+
+/// The value that the bytes spell, all of them.
+fn read_whole<T: Xdr>(alloc: Global, bytes: &[u8]) -> Result<T, ValueFault>
+    ensures { Answers result (read_all T.codec bytes.now) }
+{
+    let (value, reader) = T::read_from(alloc, Reader::new(bytes))?;
+    if reader.rest().is_empty() {
+        Ok(value)
+    } else {
+        Err(ValueFault::Bad { at: reader.at() })
+    }
+}

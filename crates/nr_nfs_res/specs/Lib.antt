@@ -1,0 +1,9 @@
+pub mod Null
+pub mod Attributes
+pub mod Lookup
+pub mod Bytes
+pub mod Create
+pub mod Remove
+pub mod Readdir
+pub mod FileSystem
+pub mod Mount

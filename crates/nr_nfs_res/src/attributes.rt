@@ -1,0 +1,46 @@
+//! GETATTR, SETATTR and ACCESS.
+
+ghost use Rattle.nr_nfs_res.specs.Attributes.{access_ok_codec, access_ok_lawful};
+
+use nr_nfs_base::{Attributes, Outcome, ValueFault, WccData, Xdr};
+use nr_xdr::{Memory, Reader, Writer};
+use std::alloc::Global;
+
+/// The results of SETATTR (RFC 1813 section 3.3.2).
+pub type SetattrRes = Outcome<WccData, WccData>;
+
+/// The results of GETATTR (RFC 1813 section 3.3.1).
+pub type GetattrRes = Outcome<Attributes, ()>;
+
+/// What ACCESS gives (RFC 1813 section 3.3.4).
+#[derive(Clone, Copy, Debug, PartialEq, Eq)]
+pub struct AccessOk {
+    pub attributes: Option<Attributes>,
+    /// A bit for each right that is granted.
+    pub access: u32,
+}
+
+#[tactic(auto, using(nr_nfs_base::proofs::Puts::puts_both), unfolding(crate::specs::Attributes::access_ok_codec))]
+impl Xdr for AccessOk {
+    ghost codec = { access_ok_codec };
+
+    ghost lawful = { access_ok_lawful };
+
+    fn read_from<'a>(
+        alloc: Global,
+        reader: Reader<'a>,
+    ) -> Result<(AccessOk, Reader<'a>), ValueFault> {
+        let (attributes, reader) = Option::<Attributes>::read_from(alloc, reader)?;
+        let (access, reader) = u32::read_from(alloc, reader)?;
+        Ok((AccessOk { attributes, access }, reader))
+    }
+
+    fn write_to(&self, writer: Writer) -> Result<Writer, Memory> {
+        let writer = self.attributes.write_to(writer)?;
+        let writer = self.access.write_to(writer)?;
+        Ok(writer)
+    }
+}
+
+/// The results of ACCESS (RFC 1813 section 3.3.4).
+pub type AccessRes = Outcome<AccessOk, Option<Attributes>>;

@@ -1,0 +1,59 @@
+//! CREATE, MKDIR, SYMLINK and MKNOD.
+
+ghost use Rattle.nr_nfs_res.specs.Create.{create_ok_codec, create_ok_lawful};
+
+use nr_nfs_base::{Attributes, Handle, Outcome, ValueFault, WccData, Xdr};
+use nr_xdr::{Memory, Reader, Writer};
+use std::alloc::Global;
+
+/// What a call gives that makes a file (RFC 1813 sections 3.3.8 to 3.3.11).
+#[derive(Debug, Drop)]
+pub struct CreateOk {
+    pub object: Option<Handle>,
+    /// Those of the object.
+    pub attributes: Option<Attributes>,
+    pub dir_wcc: WccData,
+}
+
+#[tactic(auto, using(nr_nfs_base::proofs::Puts::puts_both), unfolding(crate::specs::Create::create_ok_codec))]
+impl Xdr for CreateOk {
+    ghost codec = { create_ok_codec };
+
+    ghost lawful = { create_ok_lawful };
+
+    fn read_from<'a>(
+        alloc: Global,
+        reader: Reader<'a>,
+    ) -> Result<(CreateOk, Reader<'a>), ValueFault> {
+        let (object, reader) = Option::<Handle>::read_from(alloc, reader)?;
+        let (attributes, reader) = Option::<Attributes>::read_from(alloc, reader)?;
+        let (dir_wcc, reader) = WccData::read_from(alloc, reader)?;
+        Ok((
+            CreateOk {
+                object,
+                attributes,
+                dir_wcc,
+            },
+            reader,
+        ))
+    }
+
+    fn write_to(&self, writer: Writer) -> Result<Writer, Memory> {
+        let writer = self.object.write_to(writer)?;
+        let writer = self.attributes.write_to(writer)?;
+        let writer = self.dir_wcc.write_to(writer)?;
+        Ok(writer)
+    }
+}
+
+/// The results of CREATE (RFC 1813 section 3.3.8).
+pub type CreateRes = Outcome<CreateOk, WccData>;
+
+/// The results of MKDIR (RFC 1813 section 3.3.9).
+pub type MkdirRes = Outcome<CreateOk, WccData>;
+
+/// The results of SYMLINK (RFC 1813 section 3.3.10).
+pub type SymlinkRes = Outcome<CreateOk, WccData>;
+
+/// The results of MKNOD (RFC 1813 section 3.3.11).
+pub type MknodRes = Outcome<CreateOk, WccData>;

@@ -1,0 +1,82 @@
+//! LOOKUP and READLINK.
+
+ghost use Rattle.nr_nfs_res.specs.Lookup.{lookup_ok_codec, lookup_ok_lawful, readlink_ok_codec, readlink_ok_lawful};
+
+use nr_nfs_base::{Attributes, Handle, Outcome, Path, ValueFault, Xdr};
+use nr_xdr::{Memory, Reader, Writer};
+use std::alloc::Global;
+
+/// What LOOKUP gives (RFC 1813 section 3.3.3).
+#[derive(Debug, Drop)]
+pub struct LookupOk {
+    pub object: Handle,
+    /// Those of the object.
+    pub attributes: Option<Attributes>,
+    pub dir_attributes: Option<Attributes>,
+}
+
+#[tactic(auto, using(nr_nfs_base::proofs::Puts::puts_both), unfolding(crate::specs::Lookup::lookup_ok_codec))]
+impl Xdr for LookupOk {
+    ghost codec = { lookup_ok_codec };
+
+    ghost lawful = { lookup_ok_lawful };
+
+    fn read_from<'a>(
+        alloc: Global,
+        reader: Reader<'a>,
+    ) -> Result<(LookupOk, Reader<'a>), ValueFault> {
+        let (object, reader) = Handle::read_from(alloc, reader)?;
+        let (attributes, reader) = Option::<Attributes>::read_from(alloc, reader)?;
+        let (dir_attributes, reader) = Option::<Attributes>::read_from(alloc, reader)?;
+        Ok((
+            LookupOk {
+                object,
+                attributes,
+                dir_attributes,
+            },
+            reader,
+        ))
+    }
+
+    fn write_to(&self, writer: Writer) -> Result<Writer, Memory> {
+        let writer = self.object.write_to(writer)?;
+        let writer = self.attributes.write_to(writer)?;
+        let writer = self.dir_attributes.write_to(writer)?;
+        Ok(writer)
+    }
+}
+
+/// The results of LOOKUP, the attributes of the directory behind a failure (RFC 1813 section 3.3.3).
+pub type LookupRes = Outcome<LookupOk, Option<Attributes>>;
+
+/// What READLINK gives (RFC 1813 section 3.3.5).
+#[derive(Debug, Drop)]
+pub struct ReadlinkOk {
+    pub attributes: Option<Attributes>,
+    pub path: Path,
+}
+
+#[tactic(auto, using(nr_nfs_base::proofs::Puts::puts_both), unfolding(crate::specs::Lookup::readlink_ok_codec))]
+impl Xdr for ReadlinkOk {
+    ghost codec = { readlink_ok_codec };
+
+    ghost lawful = { readlink_ok_lawful };
+
+    fn read_from<'a>(
+        alloc: Global,
+        reader: Reader<'a>,
+    ) -> Result<(ReadlinkOk, Reader<'a>), ValueFault> {
+        let (attributes, reader) = Option::<Attributes>::read_from(alloc, reader)?;
+        let (path, reader) = Path::read_from(alloc, reader)?;
+        Ok((ReadlinkOk { attributes, path }, reader))
+    }
+
+    fn write_to(&self, writer: Writer) -> Result<Writer, Memory> {
+        let writer = self.attributes.write_to(writer)?;
+        let writer = self.path.write_to(writer)?;
+        Ok(writer)
+    }
+}
+
+/// The results of READLINK (RFC 1813 section 3.3.5).
+pub type ReadlinkRes = Outcome<ReadlinkOk, Option<Attributes>>;

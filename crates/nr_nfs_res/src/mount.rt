@@ -1,0 +1,84 @@
+//! MNT, UMNT and UMNTALL.
+
+ghost use Rattle.nr_nfs_res.specs.Mount.{mount_ok_codec, mount_ok_lawful, umnt_res_codec, umnt_res_lawful, umntall_res_codec, umntall_res_lawful};
+
+use nr_nfs_base::{Array, Handle, MountStatus, Outcome, ValueFault, Xdr};
+use nr_xdr::{Memory, Reader, Writer};
+use std::alloc::Global;
+
+/// What MNT gives (RFC 1813 section 5.2.1, `mountres3_ok`).
+#[derive(Debug, Drop)]
+pub struct MountOk {
+    pub handle: Handle,
+    /// The flavors of credentials that the server takes.
+    pub flavors: Array<u32>,
+}
+
+#[tactic(auto, using(nr_nfs_base::proofs::Puts::puts_both), unfolding(crate::specs::Mount::mount_ok_codec))]
+impl Xdr for MountOk {
+    ghost codec = { mount_ok_codec };
+
+    ghost lawful = { mount_ok_lawful };
+
+    fn read_from<'a>(
+        alloc: Global,
+        reader: Reader<'a>,
+    ) -> Result<(MountOk, Reader<'a>), ValueFault> {
+        let (handle, reader) = Handle::read_from(alloc, reader)?;
+        let (flavors, reader) = Array::<u32>::read_from(alloc, reader)?;
+        Ok((MountOk { handle, flavors }, reader))
+    }
+
+    fn write_to(&self, writer: Writer) -> Result<Writer, Memory> {
+        let writer = self.handle.write_to(writer)?;
+        let writer = self.flavors.write_to(writer)?;
+        Ok(writer)
+    }
+}
+
+/// The results of MNT (RFC 1813 section 5.2.1).
+pub type MntRes = Outcome<MountOk, (), MountStatus>;
+
+/// Nothing: UMNT (RFC 1813 section 5.2.3).
+#[derive(Clone, Copy, Debug, PartialEq, Eq)]
+pub struct UmntRes;
+
+#[tactic(auto, unfolding(crate::specs::Mount::umnt_res_codec))]
+impl Xdr for UmntRes {
+    ghost codec = { umnt_res_codec };
+
+    ghost lawful = { umnt_res_lawful };
+
+    fn read_from<'a>(
+        _alloc: Global,
+        reader: Reader<'a>,
+    ) -> Result<(UmntRes, Reader<'a>), ValueFault> {
+        Ok((UmntRes, reader))
+    }
+
+    fn write_to(&self, writer: Writer) -> Result<Writer, Memory> {
+        Ok(writer)
+    }
+}
+
+/// Nothing: UMNTALL (RFC 1813 section 5.2.4).
+#[derive(Clone, Copy, Debug, PartialEq, Eq)]
+pub struct UmntallRes;
+
+#[tactic(auto, unfolding(crate::specs::Mount::umntall_res_codec))]
+impl Xdr for UmntallRes {
+    ghost codec = { umntall_res_codec };
+
+    ghost lawful = { umntall_res_lawful };
+
+    fn read_from<'a>(
+        _alloc: Global,
+        reader: Reader<'a>,
+    ) -> Result<(UmntallRes, Reader<'a>), ValueFault> {
+        Ok((UmntallRes, reader))
+    }
+
+    fn write_to(&self, writer: Writer) -> Result<Writer, Memory> {
+        Ok(writer)
+    }
+}

@@ -1,0 +1,182 @@
+//! READDIR and READDIRPLUS.
+
+ghost use Rattle.nr_nfs_res.specs.Readdir.{entry_codec, entry_lawful, entry_plus_codec, entry_plus_lawful, readdir_ok_codec, readdir_ok_lawful, readdirplus_ok_codec, readdirplus_ok_lawful};
+
+use nr_nfs_base::{Attributes, Chain, Handle, Name, Outcome, ValueFault, Verifier, Xdr};
+use nr_xdr::{Memory, Reader, Writer};
+use std::alloc::Global;
+
+/// An entry of a directory (RFC 1813 section 3.3.16, `entry3`).
+#[derive(Debug, Drop)]
+pub struct Entry {
+    pub fileid: u64,
+    pub name: Name,
+    pub cookie: u64,
+}
+
+#[tactic(auto, using(nr_nfs_base::proofs::Puts::puts_both), unfolding(crate::specs::Readdir::entry_codec))]
+impl Xdr for Entry {
+    ghost codec = { entry_codec };
+
+    ghost lawful = { entry_lawful };
+
+    fn read_from<'a>(alloc: Global, reader: Reader<'a>) -> Result<(Entry, Reader<'a>), ValueFault> {
+        let (fileid, reader) = u64::read_from(alloc, reader)?;
+        let (name, reader) = Name::read_from(alloc, reader)?;
+        let (cookie, reader) = u64::read_from(alloc, reader)?;
+        Ok((
+            Entry {
+                fileid,
+                name,
+                cookie,
+            },
+            reader,
+        ))
+    }
+
+    fn write_to(&self, writer: Writer) -> Result<Writer, Memory> {
+        let writer = self.fileid.write_to(writer)?;
+        let writer = self.name.write_to(writer)?;
+        let writer = self.cookie.write_to(writer)?;
+        Ok(writer)
+    }
+}
+
+/// What READDIR gives (RFC 1813 section 3.3.16).
+#[derive(Debug, Drop)]
+pub struct ReaddirOk {
+    pub dir_attributes: Option<Attributes>,
+    pub verifier: Verifier,
+    pub entries: Chain<Entry>,
+    /// The last entry is among these, or none was left.
+    pub eof: bool,
+}
+
+#[tactic(auto, using(nr_nfs_base::proofs::Puts::puts_both), unfolding(crate::specs::Readdir::readdir_ok_codec))]
+impl Xdr for ReaddirOk {
+    ghost codec = { readdir_ok_codec };
+
+    ghost lawful = { readdir_ok_lawful };
+
+    fn read_from<'a>(
+        alloc: Global,
+        reader: Reader<'a>,
+    ) -> Result<(ReaddirOk, Reader<'a>), ValueFault> {
+        let (dir_attributes, reader) = Option::<Attributes>::read_from(alloc, reader)?;
+        let (verifier, reader) = Verifier::read_from(alloc, reader)?;
+        let (entries, reader) = Chain::<Entry>::read_from(alloc, reader)?;
+        let (eof, reader) = bool::read_from(alloc, reader)?;
+        Ok((
+            ReaddirOk {
+                dir_attributes,
+                verifier,
+                entries,
+                eof,
+            },
+            reader,
+        ))
+    }
+
+    fn write_to(&self, writer: Writer) -> Result<Writer, Memory> {
+        let writer = self.dir_attributes.write_to(writer)?;
+        let writer = self.verifier.write_to(writer)?;
+        let writer = self.entries.write_to(writer)?;
+        let writer = self.eof.write_to(writer)?;
+        Ok(writer)
+    }
+}
+
+/// The results of READDIR (RFC 1813 section 3.3.16).
+pub type ReaddirRes = Outcome<ReaddirOk, Option<Attributes>>;
+
+/// An entry of a directory and what it names (RFC 1813 section 3.3.17, `entryplus3`).
+#[derive(Debug, Drop)]
+pub struct EntryPlus {
+    pub fileid: u64,
+    pub name: Name,
+    pub cookie: u64,
+    pub attributes: Option<Attributes>,
+    pub handle: Option<Handle>,
+}
+
+#[tactic(auto, using(nr_nfs_base::proofs::Puts::puts_both), unfolding(crate::specs::Readdir::entry_plus_codec))]
+impl Xdr for EntryPlus {
+    ghost codec = { entry_plus_codec };
+
+    ghost lawful = { entry_plus_lawful };
+
+    fn read_from<'a>(
+        alloc: Global,
+        reader: Reader<'a>,
+    ) -> Result<(EntryPlus, Reader<'a>), ValueFault> {
+        let (fileid, reader) = u64::read_from(alloc, reader)?;
+        let (name, reader) = Name::read_from(alloc, reader)?;
+        let (cookie, reader) = u64::read_from(alloc, reader)?;
+        let (attributes, reader) = Option::<Attributes>::read_from(alloc, reader)?;
+        let (handle, reader) = Option::<Handle>::read_from(alloc, reader)?;
+        let value = EntryPlus {
+            fileid,
+            name,
+            cookie,
+            attributes,
+            handle,
+        };
+        Ok((value, reader))
+    }
+
+    fn write_to(&self, writer: Writer) -> Result<Writer, Memory> {
+        let writer = self.fileid.write_to(writer)?;
+        let writer = self.name.write_to(writer)?;
+        let writer = self.cookie.write_to(writer)?;
+        let writer = self.attributes.write_to(writer)?;
+        let writer = self.handle.write_to(writer)?;
+        Ok(writer)
+    }
+}
+
+/// What READDIRPLUS gives (RFC 1813 section 3.3.17).
+#[derive(Debug, Drop)]
+pub struct ReaddirplusOk {
+    pub dir_attributes: Option<Attributes>,
+    pub verifier: Verifier,
+    pub entries: Chain<EntryPlus>,
+    /// The last entry is among these, or none was left.
+    pub eof: bool,
+}
+
+#[tactic(auto, using(nr_nfs_base::proofs::Puts::puts_both), unfolding(crate::specs::Readdir::readdirplus_ok_codec))]
+impl Xdr for ReaddirplusOk {
+    ghost codec = { readdirplus_ok_codec };
+
+    ghost lawful = { readdirplus_ok_lawful };
+
+    fn read_from<'a>(
+        alloc: Global,
+        reader: Reader<'a>,
+    ) -> Result<(ReaddirplusOk, Reader<'a>), ValueFault> {
+        let (dir_attributes, reader) = Option::<Attributes>::read_from(alloc, reader)?;
+        let (verifier, reader) = Verifier::read_from(alloc, reader)?;
+        let (entries, reader) = Chain::<EntryPlus>::read_from(alloc, reader)?;
+        let (eof, reader) = bool::read_from(alloc, reader)?;
+        Ok((
+            ReaddirplusOk {
+                dir_attributes,
+                verifier,
+                entries,
+                eof,
+            },
+            reader,
+        ))
+    }
+
+    fn write_to(&self, writer: Writer) -> Result<Writer, Memory> {
+        let writer = self.dir_attributes.write_to(writer)?;
+        let writer = self.verifier.write_to(writer)?;
+        let writer = self.entries.write_to(writer)?;
+        let writer = self.eof.write_to(writer)?;
+        Ok(writer)
+    }
+}
+
+/// The results of READDIRPLUS (RFC 1813 section 3.3.17).
+pub type ReaddirplusRes = Outcome<ReaddirplusOk, Option<Attributes>>;

@@ -1,0 +1,84 @@
+//! REMOVE, RMDIR, RENAME and LINK.
+
+ghost use Rattle.nr_nfs_res.specs.Remove.{link_wcc_codec, link_wcc_lawful, rename_wcc_codec, rename_wcc_lawful};
+
+use nr_nfs_base::{Attributes, Outcome, ValueFault, WccData, Xdr};
+use nr_xdr::{Memory, Reader, Writer};
+use std::alloc::Global;
+
+/// The results of RMDIR (RFC 1813 section 3.3.13).
+pub type RmdirRes = Outcome<WccData, WccData>;
+
+/// The results of REMOVE (RFC 1813 section 3.3.12).
+pub type RemoveRes = Outcome<WccData, WccData>;
+
+/// The directories of RENAME before and after it (RFC 1813 section 3.3.14).
+#[derive(Clone, Copy, Debug, PartialEq, Eq)]
+pub struct RenameWcc {
+    pub from_dir: WccData,
+    pub to_dir: WccData,
+}
+
+#[tactic(auto, using(nr_nfs_base::proofs::Puts::puts_both), unfolding(crate::specs::Remove::rename_wcc_codec))]
+impl Xdr for RenameWcc {
+    ghost codec = { rename_wcc_codec };
+
+    ghost lawful = { rename_wcc_lawful };
+
+    fn read_from<'a>(
+        alloc: Global,
+        reader: Reader<'a>,
+    ) -> Result<(RenameWcc, Reader<'a>), ValueFault> {
+        let (from_dir, reader) = WccData::read_from(alloc, reader)?;
+        let (to_dir, reader) = WccData::read_from(alloc, reader)?;
+        Ok((RenameWcc { from_dir, to_dir }, reader))
+    }
+
+    fn write_to(&self, writer: Writer) -> Result<Writer, Memory> {
+        let writer = self.from_dir.write_to(writer)?;
+        let writer = self.to_dir.write_to(writer)?;
+        Ok(writer)
+    }
+}
+
+/// The results of RENAME (RFC 1813 section 3.3.14).
+pub type RenameRes = Outcome<RenameWcc, RenameWcc>;
+
+/// The file and the directory of LINK (RFC 1813 section 3.3.15).
+#[derive(Clone, Copy, Debug, PartialEq, Eq)]
+pub struct LinkWcc {
+    /// Those of the file.
+    pub attributes: Option<Attributes>,
+    pub dir_wcc: WccData,
+}
+
+#[tactic(auto, using(nr_nfs_base::proofs::Puts::puts_both), unfolding(crate::specs::Remove::link_wcc_codec))]
+impl Xdr for LinkWcc {
+    ghost codec = { link_wcc_codec };
+
+    ghost lawful = { link_wcc_lawful };
+
+    fn read_from<'a>(
+        alloc: Global,
+        reader: Reader<'a>,
+    ) -> Result<(LinkWcc, Reader<'a>), ValueFault> {
+        let (attributes, reader) = Option::<Attributes>::read_from(alloc, reader)?;
+        let (dir_wcc, reader) = WccData::read_from(alloc, reader)?;
+        Ok((
+            LinkWcc {
+                attributes,
+                dir_wcc,
+            },
+            reader,
+        ))
+    }
+
+    fn write_to(&self, writer: Writer) -> Result<Writer, Memory> {
+        let writer = self.attributes.write_to(writer)?;
+        let writer = self.dir_wcc.write_to(writer)?;
+        Ok(writer)
+    }
+}
+
+/// The results of LINK (RFC 1813 section 3.3.15).
+pub type LinkRes = Outcome<LinkWcc, LinkWcc>;
