@@ -95,33 +95,28 @@ Stopped stops.Output words input input' out out' = (is_drill words ≡ true) × 
 Stopped (stops.Script number) words input input' out out' = BadLine number words input input' × Silent out out'
 Stopped stops.Budget words input input' out out' = TooLong words input × (input'.faults ≡ input.faults) × Silent out out'
 
--- what is said of it, and its status
+-- the words for a bad line
 unfoldable pub bad_line_text : ℕ → List ℕ
 bad_line_text number = codes "bad line " ++ decimal number ++ codes "\n"
-
-abbrev pub text_of_stop : Stop → List ℕ
-text_of_stop stops.Words = codes "bad words\n"
-text_of_stop stops.Memory = codes "memory\n"
-text_of_stop stops.Input = codes "input fault\n"
-text_of_stop stops.Output = codes "output fault\n"
-text_of_stop (stops.Script number) = bad_line_text number
-text_of_stop stops.Budget = codes "budget 16777216\n"
-
-abbrev pub status_of_stop : Stop → ℕ
-status_of_stop stops.Words = BAD_WORDS
-status_of_stop stops.Memory = NO_MEMORY
-status_of_stop stops.Input = FAULT
-status_of_stop stops.Output = FAULT
-status_of_stop (stops.Script number) = BAD_SCRIPT
-status_of_stop stops.Budget = OVER_BUDGET
 
 -- this was said with this status, or the count of the sink rose
 abbrev pub Spoke : ℕ → List ℕ → ℕ → SinkAt → SinkAt → Type 0
 Spoke due text status err err' = ((status ≡ due) × Wrote err err' text) ⊎ ((status ≡ FAULT) × Rose err.faults err'.faults)
 
+-- the words of a bad line need memory, and where there is none, that is said
 abbrev pub Says : Stop → ℕ → SinkAt → SinkAt → Type 0
-Says stop status err err' =
-    Spoke (status_of_stop stop) (text_of_stop stop) status err err' ⊎ Spoke NO_MEMORY (codes "memory\n") status err err'
+Says stops.Words status err err' = Spoke BAD_WORDS (codes "bad words\n") status err err'
+Says stops.Memory status err err' = Spoke NO_MEMORY (codes "memory\n") status err err'
+Says stops.Input status err err' = Spoke FAULT (codes "input fault\n") status err err'
+Says stops.Output status err err' = Spoke FAULT (codes "output fault\n") status err err'
+Says (stops.Script number) status err err' = Spoke BAD_SCRIPT (bad_line_text number) status err err' ⊎ Spoke NO_MEMORY (codes "memory\n") status err err'
+Says stops.Budget status err err' = Spoke OVER_BUDGET (codes "budget 16777216\n") status err err'
+
+-- whose count rose, and what is said of it where that could be written
+abbrev pub FaultTold : InputAt → InputAt → SinkAt → SinkAt → SinkAt → SinkAt → Type 0
+FaultTold input input' out out' err err' =
+    (Rose input.faults input'.faults × Wrote err err' (codes "input fault\n"))
+    ⊎ ((Rose out.faults out'.faults × Wrote err err' (codes "output fault\n")) ⊎ Rose err.faults err'.faults)
 
 -- What the status of a run tells.
 pub record Ends (words : List (List ℕ)) (status : ℕ) (input input' : InputAt) (out out' err err' : SinkAt) : Type 0 where
@@ -135,14 +130,11 @@ pub record Ends (words : List (List ℕ)) (status : ℕ) (input input' : InputAt
   pub script : status ≡ BAD_SCRIPT → (number : ℕ) × BadLine number words input input' × Silent out out' × Wrote err err' (bad_line_text number)
   -- the input is longer than a script may be
   pub budget : status ≡ OVER_BUDGET → TooLong words input × (input'.faults ≡ input.faults) × Silent out out' × Wrote err err' (codes "budget 16777216\n")
-  -- a count rose, and what is said of it where that could be written
-  pub fault : status ≡ FAULT →
-      (Rose input.faults input'.faults × Wrote err err' (codes "input fault\n"))
-      ⊎ (Rose out.faults out'.faults × Wrote err err' (codes "output fault\n"))
-      ⊎ Rose err.faults err'.faults
+  -- a count rose
+  pub fault : status ≡ FAULT → FaultTold input input' out out' err err'
   -- with any other status no count rose
   pub unfailing : status ≢ FAULT → (input'.faults ≡ input.faults) × (out'.faults ≡ out.faults) × (err'.faults ≡ err.faults)
   -- the status is the one that words and input ask for, but for memory and faults
-  pub due : (text : List ℕ) → input.left ≡ Some text → (status ≡ due_status words text) ⊎ (status ≡ NO_MEMORY) ⊎ (status ≡ FAULT)
+  pub due : (text : List ℕ) → input.left ≡ Some text → (status ≡ due_status words text) ⊎ ((status ≡ NO_MEMORY) ⊎ (status ≡ FAULT))
   -- words that are no line are told so, whatever the input
   pub words_due : is_drill words ≡ false → (status ≡ BAD_WORDS) ⊎ (status ≡ FAULT)
