@@ -5,7 +5,8 @@ ghost use Rattle.nr_outside.specs.Content.{HandsOut};
 
 use thiserror::Error;
 
-/// A call of a source or a sink failed. The count of its faults rose in that call, and its bytes are as before.
+/// A call of a source or a sink failed. The count of its faults rose in that call, and its bytes, where they are told, are
+/// as before.
 #[derive(Clone, Copy, Debug, PartialEq, Eq, Error)]
 #[error("a read or a write failed")]
 pub struct Failed;
