@@ -196,8 +196,8 @@ completes-is credits run n at lt le small few =
       heard = subst (λ (rs : List Conveyed). Contains rs (conveyed_reply k)) (sym replies) (Contains-each conveyed_reply n.heard k (omega arith) (omega arith));
     }
 
-pub answered-is : (credits : ℕ) (run : List Mark) (n : Counts) → At credits run n → n.done < n.served → n.done < n.asked → IsAnswered the_link run (suc n.done) (null_reply (suc n.done))
-answered-is credits run n at lt le =
+pub answered-is : (credits : ℕ) (run : List Mark) (n : Counts) → At credits run n → n.done < n.served → n.done < n.asked → suc n.done < 2 ^ 32 → IsAnswered drill_server the_link run (suc n.done) (null_reply (suc n.done))
+answered-is credits run n at lt le small =
     let k = suc n.done in
     record {
       accepted = (accepted_call k,
@@ -205,7 +205,7 @@ answered-is credits run n at lt le =
         refl,
         (executed_call k,
           subst (λ (es : List Executed). Contains es (executed_call k)) (sym at.executed_are) (Contains-each executed_call n.served k (omega arith) (omega arith)),
-          refl, refl, refl));
+          refl, refl, refl, omega arith, plain_reply-asked k small));
     }
 
 pub Laws-complete : (credits : ℕ) (run : List Mark) (n : Counts) → At credits run n → Laws credits run → n.done < n.heard → n.heard ≤ n.asked → n.done < n.served → n.heard < 2 ^ 32 → credits < 2 ^ 32 → Laws credits (run ++ complete (suc n.done) ∷ [])
@@ -216,6 +216,6 @@ Laws-complete credits run n at laws lt le later small few =
       served = Along-more _ [] run m laws.served tt;
       matched = Along-more _ [] run m laws.matched tt;
       grant = Along-more _ [] run m laws.grant tt;
-      faithful = Along-more _ [] run m laws.faithful (λ e. answered-is credits run n at later (omega arith));
+      faithful = Along-more _ [] run m laws.faithful (λ e. answered-is credits run n at later (omega arith) (omega arith));
       unrefused = Along-more _ [] run m laws.unrefused tt;
     }

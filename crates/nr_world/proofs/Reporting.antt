@@ -13,15 +13,16 @@ use Rattle.nr_world.specs.declared.report.Fate.TheVariants as fates
 use Rattle.nr_world.specs.declared.report.Report.{Report}
 use Rattle.nr_world.specs.declared.report.Told.{Told}
 use Rattle.nr_world.specs.declared.report.Ways.{Ways}
-use Rattle.nr_world.specs.Observed.{Accepted, Completed, accepted, completed, journal, sent}
+use Rattle.nr_world.specs.Observed.{Accepted, Executed, Completed, accepted, executed, completed, journal, sent}
 use Rattle.nr_world.specs.Completion.{IsComplete}
+use Rattle.nr_world.specs.Places.{PlacesRise}
 use Rattle.nr_world.specs.Plain.{null_reply, drill_server}
 use Rattle.nr_world.specs.Script.{ScriptLines, Line, turns}
 use Rattle.nr_world.specs.Follows.{drill_opened, links_of, openings, start, MakeAll}
 use Rattle.nr_world.specs.Shown.{Seen, seen_of, calls_told}
 use Rattle.nr_world.specs.Headline.{HoldsOn, IsDrill, Reports, log_of}
 use Rattle.nr_world.specs.Steps.{State, the_link}
-use Rattle.nr_world.specs.Stands.{each, upward, downward, accepted_call, completed_call, told_call, told_in, Counts, counts_of, is_one_of, seen_by, At, Stands, IsQuiet, drill_of, Played, Tells}
+use Rattle.nr_world.specs.Stands.{each, upward, downward, accepted_call, executed_call, completed_call, told_call, told_in, Counts, counts_of, is_one_of, seen_by, At, Stands, IsQuiet, drill_of, Played, Tells}
 use Rattle.nr_world.proofs.Runs.{Contains-each, each-within}
 
 -- every accepted call has its outcome
@@ -44,6 +45,15 @@ holds-is s st quiet = record {
     unrefused = st.laws.unrefused;
   }
 
+-- every call stands at place 0, since NULL adds no entry
+placed-is : (s : State) → Stands s → (e : Executed) → Contains (executed the_link s.marks) e → e.place ≡ 0
+placed-is s st e held =
+    let of = each-within executed_call s.served e (subst (λ (xs : List Executed). Contains xs e) st.at.executed_are held) in
+    sym (ap (λ (x : Executed). x.place) of.3)
+
+places-are : (s : State) → Stands s → PlacesRise the_link the_link s.marks
+places-are s st e f first second later = omega (arith, placed-is s st e first)
+
 pub drill-is : (script : ScriptLines) (calls : ℕ) (s : State) → script.clients ≡ 1 → script.lines ≡ turns calls → Played script.credits calls s → IsDrill script s.marks
 drill-is script calls s one lines p =
     let o = drill_opened script.credits in
@@ -59,6 +69,10 @@ drill-is script calls s one lines p =
       links = λ link low high.
         let is : the_link ≡ link = omega (arith, low, high, one) in
         subst (λ (l : ℕ). HoldsOn drill_server o l s.marks) is holds;
+      places = λ l m low high least most.
+        let first : the_link ≡ l = omega (arith, low, high, one) in
+        let second : the_link ≡ m = omega (arith, least, most, one) in
+        subst (λ (n : ℕ). PlacesRise n m s.marks) first (subst (λ (n : ℕ). PlacesRise the_link n s.marks) second (places-are s p.stands));
     }
 
 -- what became of each call line

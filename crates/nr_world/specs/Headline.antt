@@ -14,6 +14,7 @@ use Rattle.nr_world.specs.Asked.{Asked}
 use Rattle.nr_world.specs.Served.{Served}
 use Rattle.nr_world.specs.Matched.{Matched}
 use Rattle.nr_world.specs.Completion.{IsFaithful, IsComplete}
+use Rattle.nr_world.specs.Places.{PlacesRise}
 use Rattle.nr_world.specs.Script.{ScriptLines}
 use Rattle.nr_world.specs.Follows.{Follows, drill_opened, links_of}
 use Rattle.nr_world.specs.Shown.{calls_told}
@@ -31,14 +32,15 @@ pub record HoldsOn (plain : PlainServer) (opened : Opened) (link : ℕ) (run : L
   pub served : Served plain opened link run
   pub matched : Matched link run
   pub grant : KeepsGrant link run
-  pub faithful : IsFaithful link run
+  pub faithful : IsFaithful plain link run
   pub complete : IsComplete link run
   pub unrefused : Along (IsAccepted link) [] run
 
--- the run is one of the script, and each link of it keeps the promise
+-- the run is one of the script, each link of it keeps the promise, and places don't fall, whatever the links
 pub record IsDrill (script : ScriptLines) (run : List Mark) : Type 0 where
   pub follows : Follows drill_server script run
   pub links : (link : ℕ) → 1 ≤ link → link ≤ script.clients → HoldsOn drill_server (drill_opened script.credits) link run
+  pub places : (l m : ℕ) → 1 ≤ l → l ≤ script.clients → 1 ≤ m → m ≤ script.clients → PlacesRise l m run
 
 -- what the report says beside the marks is what the marks say
 abbrev pub log_of : List Mark → ℕ → Ways

@@ -7,6 +7,7 @@ pub mod Asked
 pub mod Served
 pub mod Matched
 pub mod Completion
+pub mod Places
 pub mod Script
 pub mod Follows
 pub mod Plain

@@ -29,12 +29,13 @@ is_out fates.Lost = false
 is_out fates.Forgotten = false
 is_out (fates.Refused why) = false
 
--- a reply has a place: that of its execution, or else the journal's length
+-- a reply has a place: that of its execution, or else the journal's length; an error of chunks has that of its execution,
+-- where there was one, and one of versions has none
 abbrev pub place_for : Outcome → ℕ → Option ℕ → Option ℕ
 place_for (outcomes.Reply payload) entries None = Some entries
 place_for (outcomes.Reply payload) entries (Some place) = Some place
 place_for outcomes.Chunk entries place = place
-place_for (outcomes.Version low high) entries place = place
+place_for (outcomes.Version low high) entries place = None
 
 -- a mark that says something of the call; of a call that is no longer out, nothing more is told
 abbrev pub told_by : ℕ → ℕ → Seen → Mark → Seen

@@ -102,7 +102,7 @@ pub record Laws (credits : ℕ) (run : List Mark) : Type 0 where
   pub served : Along (ServedMark drill_server (drill_opened credits) the_link) [] run
   pub matched : Matched the_link run
   pub grant : KeepsGrant the_link run
-  pub faithful : IsFaithful the_link run
+  pub faithful : IsFaithful drill_server the_link run
   pub unrefused : Along (IsAccepted the_link) [] run
 
 -- the call that came whole and isn't executed
