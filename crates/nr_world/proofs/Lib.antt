@@ -11,6 +11,7 @@ pub mod Settling
 pub mod Standing
 pub mod Serving
 pub mod Hearing
+pub mod Falling
 pub mod Rounds
 pub mod Opening
 pub mod Reporting

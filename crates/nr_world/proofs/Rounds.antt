@@ -1,6 +1,8 @@
 -- Rounds of a drain, and scripts line by line.
 use Rattle.std.proofs.Common.{◌≡◌, ◌≢◌, ℕ, zero, suc, ◌+◌, ◌^◌, ◌<◌, ◌≤◌, Bool, true, false, ltb, ◌||◌, ◌⊎◌, List, [], ◌∷◌, ◌++◌, length, refl, sym, ap, subst, ◌∙◌, append_assoc, arith, add-one, add-zero, inl, inr}
 use Rattle.std.proofs.lemmas.Bool.{cases_lt, lt-ltb, le-ltb, ltb-true, ltb-false}
+use Rattle.std.specs.List.{flat_map}
+use Rattle.std.proofs.lemmas.List.{append-nil}
 use Rattle.nr_world.specs.declared.mark.Mark.{Mark}
 use Rattle.nr_world.specs.declared.report.Told.{Told}
 use Rattle.nr_world.specs.declared.script.TheConstants.{MOST_LINES}
@@ -8,12 +10,13 @@ use Rattle.nr_world.specs.Observed.{Completed, completed}
 use Rattle.nr_world.specs.Plain.{drill_server}
 use Rattle.nr_world.specs.Script.{Line, null_call, turns}
 use Rattle.nr_world.specs.Script.Line.{Drain}
-use Rattle.nr_world.specs.Follows.{Drill, drill_opened, links_of, start, openings, all_up, all_down, MovesLink, Moves, Drains, Makes, MakeAll, WorksAll}
+use Rattle.nr_world.specs.Follows.{Drill, drill_opened, links_of, start, openings, all_up, all_down, MovesLink, Moves, todo, Fell, Drains, Makes, MakeAll, WorksAll}
 use Rattle.nr_world.specs.Steps.{State, the_link, came, worked, heard, waits, works_on, asked_one}
 use Rattle.nr_world.specs.Stands.{each, completed_call, Counts, counts_of, arrived_one, At, Stands, IsQuiet, drill_of, Round, Drained, Called, Played}
 use Rattle.nr_world.proofs.Runs.{length-each}
 use Rattle.nr_world.proofs.Standing.{Asks, asks, Comes, comes}
 use Rattle.nr_world.proofs.Serving.{Worked, works}
+use Rattle.nr_world.proofs.Falling.{fell-is}
 use Rattle.nr_world.proofs.Hearing.{Hears, hears}
 
 or_true : (b : Bool) → (b || true) ≡ true
@@ -83,12 +86,16 @@ moved-marks s v moved st r e same =
     let before : length (completed the_link s.marks) ≡ length s.told = ap length st.at.completed_are ∙ length-each completed_call (length s.told) in
     absurd (omega (arith, more, now, before, ap (λ (run : List Mark). length (completed the_link run)) same, r.quiet, r.asked_is))
 
+-- on the one link
+fell-links : (s v : State) → Fell (todo (drill_opened s.credits) v.marks the_link) (todo (drill_opened s.credits) s.marks the_link) → Fell (flat_map (todo (drill_opened s.credits) v.marks) (links_of 1)) (flat_map (todo (drill_opened s.credits) s.marks) (links_of 1))
+fell-links s v fell = rw (append-nil (todo (drill_opened s.credits) v.marks the_link), append-nil (todo (drill_opened s.credits) s.marks the_link)) fell
+
 -- how far a drain has come: nothing moved yet, or one round did
 pub record Draining (start now : State) : Type 0 where
   pub stands : Stands now
   pub asked_is : now.asked ≡ start.asked
   pub credits_are : now.credits ≡ start.credits
-  pub so_far : (now ≡ start) ⊎ (IsQuiet now × Moves drill_server (drill_opened start.credits) (links_of 1) (drill_of start) (drill_of now) × (now.marks ≢ start.marks))
+  pub so_far : (now ≡ start) ⊎ (IsQuiet now × Moves drill_server (drill_opened start.credits) (links_of 1) (drill_of start) (drill_of now) × (now.marks ≢ start.marks) × Fell (flat_map (todo (drill_opened start.credits) now.marks) (links_of 1)) (flat_map (todo (drill_opened start.credits) start.marks) (links_of 1)))
 
 pub draining_none : (s : State) → Stands s → Draining s s
 draining_none s st = record { stands = st; asked_is = refl; credits_are = refl; so_far = inl refl }
@@ -104,14 +111,16 @@ draining_more start now new d r =
       credits_are = r.credits_are ∙ d.credits_are;
       so_far = inr (r.quiet,
         subst (λ (s : State). Moves drill_server (drill_opened s.credits) (links_of 1) (drill_of s) (drill_of new)) first r.makes,
-        λ same. moved-marks now new true d.stands r refl (same ∙ ap (λ (s : State). s.marks) (sym first)));
+        (λ same. moved-marks now new true d.stands r refl (same ∙ ap (λ (s : State). s.marks) (sym first))),
+        subst (λ (s : State). Fell (flat_map (todo (drill_opened s.credits) new.marks) (links_of 1)) (flat_map (todo (drill_opened s.credits) s.marks) (links_of 1))) first
+          (fell-links now new (fell-is now new d.stands r.stands r.credits_are r.asked_is r.quiet out)));
     }
 
 drains_from : (start now new : State) → Draining start now → Moves drill_server (drill_opened start.credits) (links_of 1) (drill_of now) (drill_of new) → new.marks ≡ now.marks → (n : ℕ) × Drains drill_server (drill_opened start.credits) (links_of 1) n (drill_of start) (drill_of new)
 drains_from start now new d last same =
     elim d.so_far [
       | inl first ↦ (0, (subst (λ (s : State). Moves drill_server (drill_opened start.credits) (links_of 1) (drill_of s) (drill_of new)) first last, same ∙ ap (λ (s : State). s.marks) first))
-      | inr moved ↦ (1, (drill_of now, moved.1, moved.2, (last, same)))
+      | inr moved ↦ (1, (drill_of now, moved.1, moved.2, moved.3, (last, same)))
     ]
 
 -- one in which nothing moved is the last

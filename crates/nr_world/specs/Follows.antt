@@ -1,5 +1,5 @@
 -- Which marks a script makes, in order.
-use Rattle.std.specs.Prelude.{◌≡◌, ◌≢◌, ℕ, zero, suc, ◌+◌, ◌-◌, Bool, ◌==◌, nat_lt, if◌then◌else◌, List, [], ◌∷◌, ◌++◌, length, take, drop, replicate, find, Option, None, Some, slice_index_or, slice_set}
+use Rattle.std.specs.Prelude.{◌≡◌, ◌≢◌, ℕ, zero, suc, ◌+◌, ◌-◌, ◌<◌, ◌⊎◌, Bool, ◌==◌, nat_lt, if◌then◌else◌, List, [], ◌∷◌, ◌++◌, length, take, drop, replicate, find, Option, None, Some, slice_index_or, slice_set}
 use Rattle.std.specs.List.{flat_map, list_any, range_with_len}
 use Rattle.nr_wire.specs.declared.hello.Side.{Side}
 use Rattle.nr_wire.specs.declared.hello.Side.TheVariants.{Initiator, Responder}
@@ -16,12 +16,12 @@ use Rattle.nr_world.specs.declared.mark.Mark.TheVariants as marks
 use Rattle.nr_world.specs.Script.{Line, ScriptLines}
 use Rattle.nr_world.specs.Script.Line.{Call as CallLine, Drain as DrainLine}
 use Rattle.nr_world.specs.declared.report.Opened.{Opened}
-use Rattle.nr_world.specs.Observed.{PlainServer, Accepted, Completed, accepted, executed, completed, journal, sent}
+use Rattle.nr_world.specs.Observed.{PlainServer, Accepted, Completed, accepted, executed, completed, journal, sent, got}
 use Rattle.nr_world.specs.declared.message.Conveyed.{Conveyed}
 use Rattle.nr_world.specs.Messages.{conveyed, reply_in}
 use Rattle.nr_world.specs.Owed.{owed}
 use Rattle.nr_world.specs.Window.{heard, out_of, grant_of}
-use Rattle.nr_world.specs.Served.{next_call, Executes}
+use Rattle.nr_world.specs.Served.{came, next_call, Executes}
 
 -- the bytes on their way on a link: written by one side, and to be fed to the other
 pub record Way : Type 0 where
@@ -130,11 +130,29 @@ abbrev pub Moves : PlainServer → Opened → List ℕ → Drill → Drill → T
 Moves plain opened [] old new = new ≡ old
 Moves plain opened (link ∷ links) old new = (mid : Drill) × MovesLink plain opened link old mid × Moves plain opened links mid new
 
--- so many rounds in which something moves, and then one in which nothing does
+-- What is left to do on a link, what goes before first: bytes that the client owes and the server hasn't got, calls that
+-- came whole and aren't executed, bytes that wait to go down, bytes that wait to go up.
+unfoldable pub todo : Opened → List Mark → ℕ → List ℕ
+todo opened run link =
+    (length (owed opened link Initiator run) - length (got link Responder run))
+    ∷ (length (came link run) - length (executed link run))
+    ∷ (length (sent link Responder run) - length (got link Initiator run))
+    ∷ (length (sent link Initiator run) - length (got link Responder run))
+    ∷ []
+
+-- the first of these numbers that changed fell
+abbrev pub Fell : List ℕ → List ℕ → Type 0
+Fell [] old = ⊥
+Fell (n ∷ new) [] = ⊥
+Fell (n ∷ new) (m ∷ old) = (n < m) ⊎ ((n ≡ m) × Fell new old)
+
+-- So many rounds in which something moves, and then one in which nothing does. It ends, since what is left to do falls in
+-- each round that moves something.
 abbrev pub Drains : PlainServer → Opened → List ℕ → ℕ → Drill → Drill → Type 0
 Drains plain opened links zero old new = Moves plain opened links old new × (new.marks ≡ old.marks)
 Drains plain opened links (suc n) old new =
-    (mid : Drill) × Moves plain opened links old mid × (mid.marks ≢ old.marks) × Drains plain opened links n mid new
+    (mid : Drill) × Moves plain opened links old mid × (mid.marks ≢ old.marks)
+    × Fell (flat_map (todo opened mid.marks) links) (flat_map (todo opened old.marks) links) × Drains plain opened links n mid new
 
 -- what a client answers to a call: it goes out under the next xid while credits are left
 unfoldable pub answer_of : Opened → ℕ → List Mark → Submission
