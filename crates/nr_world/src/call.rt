@@ -1,5 +1,7 @@
 //! Calls, how they are sent, and what becomes of them: plain data.
 
+ghost use Rattle.std.specs.Prelude.{◌≡◌};
+
 use nr_rpc::Cred;
 use nr_xdr::Octets;
 use std::marker::Model;
@@ -46,6 +48,29 @@ impl Model for Lengths {
     ghost Value = { List ℕ };
 
     ghost view = { λ l. l.lengths.items };
+}
+
+impl Lengths {
+    /// The lengths of a vector.
+    pub fn from_vec(lengths: Vec<u32>) -> Lengths
+        ensures { result ≡ lengths.items }
+    {
+        Lengths { lengths }
+    }
+
+    /// The vector, given back.
+    pub fn into_vec(self) -> Vec<u32>
+        ensures { result.items ≡ self }
+    {
+        let Lengths { lengths } = self;
+        lengths
+    }
+
+    pub fn as_slice(&self) -> &[u32]
+        ensures { result.now ≡ self.now }
+    {
+        self.lengths.as_slice()
+    }
 }
 
 /// What a call was answered by: the reply's payload, an ERR_CHUNK or an ERR_VERS message (RFC 8166 section 4.5).

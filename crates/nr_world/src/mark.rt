@@ -7,7 +7,7 @@ use nr_wire::Side;
 use nr_xdr::Octets;
 use std::marker::Model;
 
-/// A moment of the clock: seconds, and nanoseconds below 10^9.
+/// A moment of a clock: seconds, and nanoseconds. An Execute's nanoseconds are 0 in a drill.
 #[derive(Clone, Copy, Debug, PartialEq, Eq)]
 pub struct Moment {
     pub seconds: u32,
@@ -78,6 +78,21 @@ impl Model for Marks {
 }
 
 impl Marks {
+    /// The marks of a vector.
+    pub fn from_vec(marks: Vec<Mark>) -> Marks
+        ensures { result ≡ marks.items }
+    {
+        Marks { marks }
+    }
+
+    /// The vector, given back.
+    pub fn into_vec(self) -> Vec<Mark>
+        ensures { result.items ≡ self }
+    {
+        let Marks { marks } = self;
+        marks
+    }
+
     pub fn as_slice(&self) -> &[Mark]
         ensures { result.now ≡ self.now }
     {

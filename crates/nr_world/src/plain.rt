@@ -7,7 +7,7 @@ use nr_rpc::{CallHead, Cred, HeadFault, ReplyHead, read_call, write_reply};
 use nr_xdr::{Memory, Octets};
 use std::alloc::Global;
 
-/// The program number and the version of NFS (RFC 1813 section 1).
+/// The program number and the version of NFS (RFC 1813 section 3).
 pub const NFS_PROGRAM: u32 = 100_003;
 pub const NFS_VERSION: u32 = 3;
 

@@ -95,7 +95,8 @@ fn turns_in(text: &[u8]) -> Result<u32, u64>
 
 /// Reads the text of a script: what it says, or the number of its first bad line.
 ///
-/// A text that ends inside a line, or where a drain line is due, is bad behind its last newline.
+/// A text that ends inside a line, or where a drain line is due, is bad behind its last newline. It asks for a text of at
+/// most [`SCRIPT_MAX`] bytes.
 ///
 /// # Errors
 ///

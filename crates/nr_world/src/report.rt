@@ -43,6 +43,27 @@ impl Model for Journal {
 }
 
 impl Journal {
+    /// The entries of a vector.
+    pub fn from_vec(entries: Vec<Entry>) -> Journal
+        ensures { result ≡ entries.items }
+    {
+        Journal { entries }
+    }
+
+    /// The vector, given back.
+    pub fn into_vec(self) -> Vec<Entry>
+        ensures { result.items ≡ self }
+    {
+        let Journal { entries } = self;
+        entries
+    }
+
+    pub fn as_slice(&self) -> &[Entry]
+        ensures { result.now ≡ self.now }
+    {
+        self.entries.as_slice()
+    }
+
     /// How many entries there are.
     pub fn len(&self) -> usize
         ensures { result ≡ length self.now }
@@ -67,7 +88,7 @@ pub enum Fate {
         place: Option<u64>,
         outcome: Outcome,
     },
-    /// Its link was dropped or ended before.
+    /// Its link was dropped before.
     Lost,
     /// Its caller gave up the answer before.
     Forgotten,
@@ -99,6 +120,21 @@ impl Model for Tolds {
 }
 
 impl Tolds {
+    /// The call lines of a vector.
+    pub fn from_vec(tolds: Vec<Told>) -> Tolds
+        ensures { result ≡ tolds.items }
+    {
+        Tolds { tolds }
+    }
+
+    /// The vector, given back.
+    pub fn into_vec(self) -> Vec<Told>
+        ensures { result.items ≡ self }
+    {
+        let Tolds { tolds } = self;
+        tolds
+    }
+
     pub fn as_slice(&self) -> &[Told]
         ensures { result.now ≡ self.now }
     {
@@ -129,6 +165,21 @@ impl Model for Logs {
 }
 
 impl Logs {
+    /// The logs of a vector.
+    pub fn from_vec(ways: Vec<Ways>) -> Logs
+        ensures { result ≡ ways.items }
+    {
+        Logs { ways }
+    }
+
+    /// The vector, given back.
+    pub fn into_vec(self) -> Vec<Ways>
+        ensures { result.items ≡ self }
+    {
+        let Logs { ways } = self;
+        ways
+    }
+
     pub fn as_slice(&self) -> &[Ways]
         ensures { result.now ≡ self.now }
     {
@@ -136,8 +187,8 @@ impl Logs {
     }
 }
 
-/// What a drill reports: what happened, mark by mark, the journal, what became of each call line, and the bytes that each
-/// link carried.
+/// What a drill reports: what happened, mark by mark, the journal, what became of each call line, and the bytes that both
+/// sides of each link wrote.
 #[derive(Debug, Drop)]
 pub struct Report {
     pub marks: Marks,

@@ -452,7 +452,7 @@ impl World {
 }
 
 /// Runs a script. The report has what happened, mark by mark, and what the marks tell: the journal, what became of each
-/// call line, and the bytes that each link carried. Want of memory is its only other answer.
+/// call line, and the bytes that both sides of each link wrote. Want of memory is its only other answer.
 pub fn run_world(alloc: Global, script: &Script) -> Result<Report, Memory>
     ensures { IfOk result (λ report. Reports script.now report) }
 {
