@@ -1,6 +1,5 @@
 -- What a stop and what is said of it tell of the status.
-use Rattle.std.proofs.Common.{◌≡◌, ◌≢◌, ℕ, ◌<◌, ◌≤◌, Bool, true, false, List, length, codes, Option, Some, IfSome, Result, Ok, Err, refl, sym, ap, subst, ◌∙◌, arith, inl, inr, le-ltb, lt-ltb}
-use Rattle.std.specs.Prelude.{◌⊎◌, nat_lt}
+use Rattle.std.proofs.Common.{◌≡◌, ℕ, ◌<◌, ◌≤◌, true, false, List, length, codes, Option, Some, IfSome, Err, refl, sym, ap, subst, ◌∙◌, arith, inl, inr, le-ltb, lt-ltb}
 use Rattle.nr_world.specs.declared.report.Report.{Report}
 use Rattle.nr_world.specs.declared.script.TheConstants.{SCRIPT_MAX}
 use Rattle.nr_world.specs.Script.{ScriptLines, script_of}
@@ -9,7 +8,7 @@ use Rattle.nr_world.specs.Plain.{drill_server}
 use Rattle.nr_world.specs.Shown.{shown, text_of}
 use Rattle.nr_top.specs.declared.command.Stop.{Stop}
 use Rattle.nr_top.specs.declared.command.Stop.TheVariants as stops
-use Rattle.nr_top.specs.declared.status.TheConstants.{DONE, BAD_WORDS, NO_MEMORY, FAULT, BAD_SCRIPT, OVER_BUDGET}
+use Rattle.nr_top.specs.declared.status.TheConstants.{BAD_WORDS, NO_MEMORY, FAULT, BAD_SCRIPT, OVER_BUDGET}
 use Rattle.nr_top.specs.Words.{is_drill, due_status}
 use Rattle.nr_top.specs.Ends.{InputAt, SinkAt, Wrote, Silent, BadLine, TooLong, FaultTold, bad_line_text, Ends, Stopped, Spoke, Says}
 
@@ -21,15 +20,16 @@ printed_is script report text reports e = e ∙ (λ i. text_of (reports.calls i)
 -- the count of err rose
 told_fault : (words : List (List ℕ)) (status : ℕ) (input input' : InputAt) (out out' err err' : SinkAt) → status ≡ FAULT → FaultTold input input' out out' err err' → Ends words status input input' out out' err err'
 told_fault words status input input' out out' err err' is told = record {
-    done = λ e. absurd (omega (arith, e, is));
-    words_bad = λ e. absurd (omega (arith, e, is));
-    memory = λ e. absurd (omega (arith, e, is));
-    script = λ e. absurd (omega (arith, e, is));
-    budget = λ e. absurd (omega (arith, e, is));
-    fault = λ _. told;
-    unfailing = λ other. absurd (other is);
-    due = λ text left. inr (inr is);
-    words_due = λ _. inr is }
+  done = λ e. absurd (omega (arith, e, is));
+  words_bad = λ e. absurd (omega (arith, e, is));
+  memory = λ e. absurd (omega (arith, e, is));
+  script = λ e. absurd (omega (arith, e, is));
+  budget = λ e. absurd (omega (arith, e, is));
+  fault = λ _. told;
+  unfailing = λ other. absurd (other is);
+  due = λ text left. inr (inr is);
+  words_due = λ _. inr is;
+}
 
 -- what is said of a stop, where it was said or the count of err rose
 said_or : {due : ℕ} {text : List ℕ} (words : List (List ℕ)) (status : ℕ) (input input' : InputAt) (out out' err err' : SinkAt) → Spoke due text status err err' → (status ≡ due → Wrote err err' text → Ends words status input input' out out' err err') → Ends words status input input' out out' err err'
@@ -38,27 +38,29 @@ said_or words status input input' out out' err err' (inr failed) make = told_fau
 
 bad_words : (words : List (List ℕ)) (status : ℕ) (input input' : InputAt) (out out' err err' : SinkAt) → is_drill words ≡ false → input' ≡ input → out' ≡ out → status ≡ BAD_WORDS → Wrote err err' (codes "bad words\n") → Ends words status input input' out out' err err'
 bad_words words status input input' out out' err err' other same quiet is said = record {
-    done = λ e. absurd (omega (arith, e, is));
-    words_bad = λ _. (other, same, quiet, said);
-    memory = λ e. absurd (omega (arith, e, is));
-    script = λ e. absurd (omega (arith, e, is));
-    budget = λ e. absurd (omega (arith, e, is));
-    fault = λ e. absurd (omega (arith, e, is));
-    unfailing = λ _. (ap (λ (i : InputAt). i.faults) same, ap (λ (o : SinkAt). o.faults) quiet, said.unfailing);
-    due = λ text left. inl (rw (other) is);
-    words_due = λ _. inl is }
+  done = λ e. absurd (omega (arith, e, is));
+  words_bad = λ _. (other, same, quiet, said);
+  memory = λ e. absurd (omega (arith, e, is));
+  script = λ e. absurd (omega (arith, e, is));
+  budget = λ e. absurd (omega (arith, e, is));
+  fault = λ e. absurd (omega (arith, e, is));
+  unfailing = λ _. (ap (λ (i : InputAt). i.faults) same, ap (λ (o : SinkAt). o.faults) quiet, said.unfailing);
+  due = λ text left. inl (rw (other) is);
+  words_due = λ _. inl is;
+}
 
 no_memory : (words : List (List ℕ)) (status : ℕ) (input input' : InputAt) (out out' err err' : SinkAt) → is_drill words ≡ true → input'.faults ≡ input.faults → Silent out out' → status ≡ NO_MEMORY → Wrote err err' (codes "memory\n") → Ends words status input input' out out' err err'
 no_memory words status input input' out out' err err' line same quiet is said = record {
-    done = λ e. absurd (omega (arith, e, is));
-    words_bad = λ e. absurd (omega (arith, e, is));
-    memory = λ _. (line, same, quiet, said);
-    script = λ e. absurd (omega (arith, e, is));
-    budget = λ e. absurd (omega (arith, e, is));
-    fault = λ e. absurd (omega (arith, e, is));
-    unfailing = λ _. (same, quiet.unfailing, said.unfailing);
-    due = λ text left. inr (inl is);
-    words_due = λ other. absurd (cc (line, other)) }
+  done = λ e. absurd (omega (arith, e, is));
+  words_bad = λ e. absurd (omega (arith, e, is));
+  memory = λ _. (line, same, quiet, said);
+  script = λ e. absurd (omega (arith, e, is));
+  budget = λ e. absurd (omega (arith, e, is));
+  fault = λ e. absurd (omega (arith, e, is));
+  unfailing = λ _. (same, quiet.unfailing, said.unfailing);
+  due = λ text left. inr (inl is);
+  words_due = λ other. absurd (cc (line, other));
+}
 
 -- a text that was told
 told_same : (left : Option (List ℕ)) (text read : List ℕ) → IfSome left (λ l. read ≡ l) → left ≡ Some text → read ≡ text
@@ -70,17 +72,18 @@ due_of_bad words text number line within bad = rw (line, le-ltb SCRIPT_MAX (leng
 
 bad_script : (number : ℕ) (words : List (List ℕ)) (status : ℕ) (input input' : InputAt) (out out' err err' : SinkAt) → BadLine number words input input' → Silent out out' → status ≡ BAD_SCRIPT → Wrote err err' (bad_line_text number) → Ends words status input input' out out' err err'
 bad_script number words status input input' out out' err err' bad quiet is said = record {
-    done = λ e. absurd (omega (arith, e, is));
-    words_bad = λ e. absurd (omega (arith, e, is));
-    memory = λ e. absurd (omega (arith, e, is));
-    script = λ _. (number, bad, quiet, said);
-    budget = λ e. absurd (omega (arith, e, is));
-    fault = λ e. absurd (omega (arith, e, is));
-    unfailing = λ _. (bad.whole.unfailing, quiet.unfailing, said.unfailing);
-    due = λ text left.
-        let same : bad.text ≡ text = told_same input.left text bad.text bad.whole.all left in
-        inl (is ∙ sym (due_of_bad words text number bad.line (subst (λ (l : List ℕ). length l ≤ SCRIPT_MAX) same bad.whole.within) (subst (λ (l : List ℕ). script_of l ≡ Err number) same bad.bad)));
-    words_due = λ other. absurd (cc (bad.line, other)) }
+  done = λ e. absurd (omega (arith, e, is));
+  words_bad = λ e. absurd (omega (arith, e, is));
+  memory = λ e. absurd (omega (arith, e, is));
+  script = λ _. (number, bad, quiet, said);
+  budget = λ e. absurd (omega (arith, e, is));
+  fault = λ e. absurd (omega (arith, e, is));
+  unfailing = λ _. (bad.whole.unfailing, quiet.unfailing, said.unfailing);
+  due = λ text left.
+      let same : bad.text ≡ text = told_same input.left text bad.text bad.whole.all left in
+      inl (is ∙ sym (due_of_bad words text number bad.line (subst (λ (l : List ℕ). length l ≤ SCRIPT_MAX) same bad.whole.within) (subst (λ (l : List ℕ). script_of l ≡ Err number) same bad.bad)));
+  words_due = λ other. absurd (cc (bad.line, other));
+}
 
 -- the status of an input that is too long
 due_of_long : (words : List (List ℕ)) (text : List ℕ) → is_drill words ≡ true → SCRIPT_MAX < length text → due_status words text ≡ OVER_BUDGET
@@ -88,15 +91,16 @@ due_of_long words text line long = rw (line, lt-ltb SCRIPT_MAX (length text) lon
 
 over_budget : (words : List (List ℕ)) (status : ℕ) (input input' : InputAt) (out out' err err' : SinkAt) → TooLong words input → input'.faults ≡ input.faults → Silent out out' → status ≡ OVER_BUDGET → Wrote err err' (codes "budget 16777216\n") → Ends words status input input' out out' err err'
 over_budget words status input input' out out' err err' long same quiet is said = record {
-    done = λ e. absurd (omega (arith, e, is));
-    words_bad = λ e. absurd (omega (arith, e, is));
-    memory = λ e. absurd (omega (arith, e, is));
-    script = λ e. absurd (omega (arith, e, is));
-    budget = λ _. (long, same, quiet, said);
-    fault = λ e. absurd (omega (arith, e, is));
-    unfailing = λ _. (same, quiet.unfailing, said.unfailing);
-    due = λ text left. inl (is ∙ sym (due_of_long words text long.line (subst (λ (l : Option (List ℕ)). IfSome l (λ given. SCRIPT_MAX < length given)) left long.long)));
-    words_due = λ other. absurd (cc (long.line, other)) }
+  done = λ e. absurd (omega (arith, e, is));
+  words_bad = λ e. absurd (omega (arith, e, is));
+  memory = λ e. absurd (omega (arith, e, is));
+  script = λ e. absurd (omega (arith, e, is));
+  budget = λ _. (long, same, quiet, said);
+  fault = λ e. absurd (omega (arith, e, is));
+  unfailing = λ _. (same, quiet.unfailing, said.unfailing);
+  due = λ text left. inl (is ∙ sym (due_of_long words text long.line (subst (λ (l : Option (List ℕ)). IfSome l (λ given. SCRIPT_MAX < length given)) left long.long)));
+  words_due = λ other. absurd (cc (long.line, other));
+}
 
 -- a stop that was told makes an end
 pub ends_of : (stop : Stop) (words : List (List ℕ)) (status : ℕ) (input input' : InputAt) (out out' err err' : SinkAt) → Stopped stop words input input' out out' → Says stop status err err' → Ends words status input input' out out' err err'

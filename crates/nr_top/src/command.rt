@@ -85,11 +85,11 @@ fn drill<I: Source, O: Sink>(
 ) -> Result<(), Stop>
     ensures { MatchResult result
         (λ _. Done (map string_bytes words.now) (input_at (I.left input.old) (I.given input.old) (I.faults input.old))
-            (input_at (I.left input.new) (I.given input.new) (I.faults input.new))
-            (sink_at (O.taken out.old) (O.faults out.old)) (sink_at (O.taken out.new) (O.faults out.new)))
+        (input_at (I.left input.new) (I.given input.new) (I.faults input.new))
+        (sink_at (O.taken out.old) (O.faults out.old)) (sink_at (O.taken out.new) (O.faults out.new)))
         (λ stop. Stopped stop (map string_bytes words.now) (input_at (I.left input.old) (I.given input.old) (I.faults input.old))
-            (input_at (I.left input.new) (I.given input.new) (I.faults input.new))
-            (sink_at (O.taken out.old) (O.faults out.old)) (sink_at (O.taken out.new) (O.faults out.new))) }
+        (input_at (I.left input.new) (I.given input.new) (I.faults input.new))
+        (sink_at (O.taken out.old) (O.faults out.old)) (sink_at (O.taken out.new) (O.faults out.new))) }
 {
     if !is_drill(words) {
         return Err(Stop::Words);

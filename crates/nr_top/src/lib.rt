@@ -4,9 +4,8 @@
 //! only opens the handles of its process, and calls [`run`].
 #![tactic(auto)]
 
-pub mod status;
-
 mod command;
+pub mod status;
 
 pub use command::run;
 

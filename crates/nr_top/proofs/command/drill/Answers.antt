@@ -1,4 +1,4 @@
-use Rattle.std.proofs.Common.{◌≡◌, ◌≤◌, List, length, map, true, refl, sym, ap, subst, ◌∙◌, arith}
+use Rattle.std.proofs.Common.{◌≡◌, ◌≤◌, length, map, true, sym, ap, subst, ◌∙◌, arith}
 use Rattle.std.specs.Io.KnownBytes.{Appends}
 use Rattle.std.specs.String.{string_bytes}
 use Rattle.nr_world.specs.declared.script.TheConstants.{SCRIPT_MAX}
@@ -14,15 +14,17 @@ returns g c =
     let within : length c.in_ok-text.text.items ≤ SCRIPT_MAX = omega (arith, c.in_ok-text.ensures.within, c.as_slice.ensures.len) in
     let line : is_drill (map string_bytes c.args.words.now) ≡ true = sym c.is_drill.ensures ∙ c.if-not-is_drill.false in
     let printed : c.as_slice-2.result.now ≡ shown drill_server c.in_ok-report.report.marks =
-        printed_is c.in_ok-script.script c.in_ok-report.report c.as_slice-2.result.now c.in_ok-report.ensures (c.as_slice-2.ensures ∙ c.in_ok-printed.ensures) in
+    printed_is c.in_ok-script.script c.in_ok-report.report c.as_slice-2.result.now c.in_ok-report.ensures (c.as_slice-2.ensures ∙ c.in_ok-printed.ensures) in
     record {
-        line = line;
-        text = c.in_ok-text.text.items;
-        script = c.in_ok-script.script;
-        run = c.in_ok-report.report.marks;
-        whole = record { handed = c.in_ok-text.ensures.whole; all = c.in_ok-text.ensures.all; end = c.in_ok-text.ensures.end; within = within; unfailing = c.in_ok-text.ensures.counted };
-        reads = ap script_of (sym c.as_slice.ensures.value) ∙ c.in_ok-script.ensures;
-        drill = c.in_ok-report.ensures.drill;
-        prints = record {
-            appends = subst (Appends (g.O.Sink.taken c.args.out.now) (g.O.Sink.taken c.write_whole.new.sink)) printed c.in_ok-write_whole.ensures.ok;
-            unfailing = c.in_ok-write_whole.ensures.counted } }
+      line = line;
+      text = c.in_ok-text.text.items;
+      script = c.in_ok-script.script;
+      run = c.in_ok-report.report.marks;
+      whole = record { handed = c.in_ok-text.ensures.whole; all = c.in_ok-text.ensures.all; end = c.in_ok-text.ensures.end; within = within; unfailing = c.in_ok-text.ensures.counted };
+      reads = ap script_of (sym c.as_slice.ensures.value) ∙ c.in_ok-script.ensures;
+      drill = c.in_ok-report.ensures.drill;
+      prints = record {
+        appends = subst (Appends (g.O.Sink.taken c.args.out.now) (g.O.Sink.taken c.write_whole.new.sink)) printed c.in_ok-write_whole.ensures.ok;
+        unfailing = c.in_ok-write_whole.ensures.counted;
+      };
+    }
