@@ -43,11 +43,11 @@ unfolding answer
 answer-is credits k small = send-is k (answered_message credits k) small (omega (arith, length-answered_message credits k))
 
 pub call_in-asked : (credits k : ℕ) → k < 2 ^ 32 → credits < 2 ^ 32 → call_in (asked_message credits k) ≡ Some (record { xid = k; payload = asked_payload k })
-call_in-asked credits k small few = call_in-message k credits (asked_payload k) _ _ _ _ small few (call_of-asked k small)
+call_in-asked credits k small few = call_in-message k credits (asked_payload k) _ _ _ _ small few (omega (arith, length-asked_payload k)) (call_of-asked k small)
 
 pub reply_in-answered : (credits k : ℕ) → k < 2 ^ 32 → credits < 2 ^ 32 → reply_in (answered_message credits k) ≡ Some (record { xid = k; payload = null_reply k })
 reply_in-answered credits k small few =
-    reply_in-message k credits (null_reply k) _ small few (reply_written (Accepted k SUCCESS 0) [] (λ e. cc) (small, omega arith)) refl
+    reply_in-message k credits (null_reply k) _ small few (omega (arith, length-null_reply k)) (reply_written (Accepted k SUCCESS 0) [] (λ e. cc) (small, omega arith)) refl
 
 -- what stands in the pieces that are fed
 pub ask-conveys : (credits k : ℕ) → k < 2 ^ 32 → credits < 2 ^ 32 → option_and_then call_in (ended_by (segment_in (ask credits k))) ≡ Some (record { xid = k; payload = asked_payload k })
@@ -87,8 +87,3 @@ pub calls-upward : (credits n : ℕ) → n < 2 ^ 32 → credits < 2 ^ 32 → con
 calls-upward credits n small few =
     ap (conveyed call_in) (messages-upward credits n small)
     ∙ filter_map-each call_in (asked_message credits) conveyed_call n (λ k le. call_in-asked credits k (omega arith) few)
-
-pub replies-downward : (credits n : ℕ) → n < 2 ^ 32 → credits < 2 ^ 32 → conveyed reply_in (messages Responder (downward credits n)) ≡ each conveyed_reply n
-replies-downward credits n small few =
-    ap (conveyed reply_in) (messages-downward credits n small)
-    ∙ filter_map-each reply_in (answered_message credits) conveyed_reply n (λ k le. reply_in-answered credits k (omega arith) few)

@@ -14,7 +14,7 @@ use Rattle.nr_world.specs.declared.message.Conveyed.{Conveyed}
 use Rattle.nr_world.specs.declared.report.Fate.TheVariants as fates
 use Rattle.nr_world.specs.declared.report.Told.{Told}
 use Rattle.nr_world.specs.Observed.{Accepted, Completed, accepted, completed}
-use Rattle.nr_world.specs.Messages.{reply_in, conveyed, messages}
+use Rattle.nr_world.specs.Messages.{reply_in, conveyed}
 use Rattle.nr_world.specs.Ending.{ended_by}
 use Rattle.nr_world.specs.Window.{heard}
 use Rattle.nr_world.specs.Plain.{null_reply, drill_server}
@@ -22,10 +22,10 @@ use Rattle.nr_world.specs.Follows.{Drill, Way, drill_opened, settled, feeding, t
 use Rattle.nr_world.specs.Steps.{State, the_link, answer, all_read, fed_down, done_one, done_by, heard_by, heard as heard_state, waits, is_some_byte}
 use Rattle.nr_world.specs.Stands.{each, upward, downward, accepted_call, completed_call, told_call, Counts, counts_of, arrived_one, At, Laws, Stands, drill_of}
 use Rattle.nr_world.proofs.Runs.{flat_map-more, length-each}
-use Rattle.nr_world.proofs.Frames.{conveyed_reply, replies-downward, answer-conveys}
+use Rattle.nr_world.proofs.Frames.{conveyed_reply, answer-conveys}
 use Rattle.nr_world.proofs.Marking.{downward-more}
 use Rattle.nr_world.proofs.OneMark.{feed_down, complete, At-feed_down, At-complete}
-use Rattle.nr_world.proofs.Lawful.{list_any-each, Laws-feed_down, Laws-complete}
+use Rattle.nr_world.proofs.Lawful.{list_any-each, replies-are, Laws-feed_down, Laws-complete}
 use Rattle.nr_world.proofs.Settling.{some_answer, settled-none, feeding-none, feeding-some}
 use Rattle.nr_world.proofs.Standing.{words_of, pipe_is, behind_part, take_length, drop_length, some_bytes}
 
@@ -58,10 +58,6 @@ find-past p f (suc n) more h =
     ap (find p) (append_assoc (each f n) (f (suc n) ∷ []) more)
     ∙ find-past p f n (f (suc n) ∷ more) (λ k lt le. h k lt (omega arith))
     ∙ ap (λ (b : Bool). cond b (Some (f (suc n))) (find p more)) (h (suc n) (omega arith) (omega arith))
-
-replies-are : (credits : ℕ) (run : List Mark) (n : Counts) → At credits run n → n.heard < 2 ^ 32 → credits < 2 ^ 32 → conveyed reply_in (heard the_link run) ≡ each conveyed_reply n.heard
-replies-are credits run n at small few =
-    ap (λ (xs : List ℕ). conveyed reply_in (messages Responder xs)) at.down_got ∙ replies-downward credits n.heard small few
 
 -- a call that has its outcome is not handed over again
 done_for-done : (credits : ℕ) (run : List Mark) (n : Counts) (k : ℕ) → At credits run n → 0 < k → k ≤ n.done → done_for the_link run (accepted_call k) ≡ []

@@ -1,6 +1,6 @@
 -- Each mark of a drill keeps the laws of a run.
 use Rattle.std.proofs.Common.{◌≡◌, ◌≢◌, ℕ, zero, suc, ◌+◌, ◌-◌, ◌^◌, ◌<◌, ◌≤◌, Bool, true, false, not, cond, ◌||◌, eqb, inl, inr, List, [], ◌∷◌, ◌++◌, length, Option, Some, None, Contains, slice_get, count_by, refl, sym, ap, subst, ◌∙◌, append_assoc, arith, add-one, one-add}
-use Rattle.std.specs.List.{list_any}
+use Rattle.std.specs.List.{filter, list_any}
 use Rattle.std.proofs.lemmas.Bool.{eq-eqb, cases_lt}
 use Rattle.std.proofs.lemmas.Bool.Decides.{nat_tests}
 use Rattle.std.proofs.lemmas.List.{append-nil}
@@ -12,7 +12,7 @@ use Rattle.nr_world.specs.declared.mark.Mark.{Mark}
 use Rattle.nr_world.specs.declared.message.Conveyed.{Conveyed}
 use Rattle.nr_world.specs.Observed.{Accepted, Executed, Completed, accepted, executed, completed, journal, got, sent}
 use Rattle.nr_world.specs.Messages.{conveyed, messages, call_in, reply_in, xid_in, credit_in}
-use Rattle.nr_world.specs.Window.{heard, is_heard, out_of, credits_by, granted_by, grant_of, most_credits}
+use Rattle.nr_world.specs.Window.{heard, is_heard, out_of, credits_by, granted_by, grant_of, has_words}
 use Rattle.nr_world.specs.Asked.{Completes, IsHeard}
 use Rattle.nr_world.specs.Served.{came, next_call, Executes}
 use Rattle.nr_world.specs.Matched.{IsPrefixOf}
@@ -21,16 +21,24 @@ use Rattle.nr_world.specs.Follows.{drill_opened}
 use Rattle.nr_world.specs.Plain.{null_reply, drill_server}
 use Rattle.nr_world.specs.Steps.{the_link, null, asked_payload, ask, answer}
 use Rattle.nr_world.specs.Stands.{joined, each, upward, downward, accepted_call, executed_call, completed_call, Counts, At, Laws}
-use Rattle.nr_world.proofs.Runs.{Along-more, length-each, Contains-each, each-within, slice_get-each}
+use Rattle.nr_world.proofs.Runs.{Along-more, filter-each, filter_map-each, length-each, Contains-each, each-within, slice_get-each}
 use Rattle.nr_world.proofs.Nulls.{plain_reply-asked}
-use Rattle.nr_world.proofs.Inline.{words_of}
-use Rattle.nr_world.proofs.Frames.{messages-downward, calls-upward, replies-downward, conveyed_call, conveyed_reply, answered_message}
+use Rattle.nr_world.proofs.Inline.{has_words-message, xid_in-message}
+use Rattle.nr_world.proofs.Frames.{messages-downward, calls-upward, reply_in-answered, conveyed_call, conveyed_reply, answered_message}
 use Rattle.nr_world.proofs.Marking.{upward-more, downward-more}
 use Rattle.nr_world.proofs.OneMark.{submit, write_up, write_down, feed_up, feed_down, execute, complete}
 
 -- what the client heard
 heard-are : (credits : ℕ) (run : List Mark) (n : Counts) → At credits run n → n.heard < 2 ^ 32 → heard the_link run ≡ each (answered_message credits) n.heard
-heard-are credits run n at small = ap (messages Responder) at.down_got ∙ messages-downward credits n.heard small
+heard-are credits run n at small =
+    ap (λ (xs : List ℕ). filter has_words (messages Responder xs)) at.down_got
+    ∙ ap (filter has_words) (messages-downward credits n.heard small)
+    ∙ filter-each has_words (answered_message credits) n.heard (λ k le. has_words-message k credits (null_reply k))
+
+pub replies-are : (credits : ℕ) (run : List Mark) (n : Counts) → At credits run n → n.heard < 2 ^ 32 → credits < 2 ^ 32 → conveyed reply_in (heard the_link run) ≡ each conveyed_reply n.heard
+replies-are credits run n at small few =
+    ap (conveyed reply_in) (heard-are credits run n at small)
+    ∙ filter_map-each reply_in (answered_message credits) conveyed_reply n.heard (λ k le. reply_in-answered credits k (omega arith) few)
 
 -- nothing is out once every call is heard
 or-true : (b : Bool) → (b || true) ≡ true
@@ -52,7 +60,7 @@ list_any-each p f (suc n) k lt le e =
 heard-one : (credits n k : ℕ) → 0 < k → k ≤ n → n < 2 ^ 32 → credits < 2 ^ 32 → is_heard (each (answered_message credits) n) (accepted_call k) ≡ true
 heard-one credits n k lt le small few =
     list_any-each (λ message. eqb (xid_in message) k) (answered_message credits) n k lt le
-      (eq-eqb (xid_in (answered_message credits k)) k (words_of k credits (null_reply k) (omega arith) few).xid_is)
+      (eq-eqb (xid_in (answered_message credits k)) k (xid_in-message k credits (null_reply k) (omega arith)))
 
 none_out : (credits : ℕ) (n m : ℕ) → m ≤ n → n < 2 ^ 32 → credits < 2 ^ 32 → count_by (λ a. not (is_heard (each (answered_message credits) n) a)) (each accepted_call m) ≡ 0
 none_out credits n zero le small few = refl
@@ -185,8 +193,7 @@ Laws-execute credits run n at laws lt small few =
 pub completes-is : (credits : ℕ) (run : List Mark) (n : Counts) → At credits run n → n.done < n.heard → n.heard ≤ n.asked → n.heard < 2 ^ 32 → credits < 2 ^ 32 → Completes the_link run (suc n.done) (outcomes.Reply (null_reply (suc n.done)))
 completes-is credits run n at lt le small few =
     let k = suc n.done in
-    let replies : conveyed reply_in (heard the_link run) ≡ each conveyed_reply n.heard =
-      ap (λ (xs : List ℕ). conveyed reply_in (messages Responder xs)) at.down_got ∙ replies-downward credits n.heard small few in
+    let replies : conveyed reply_in (heard the_link run) ≡ each conveyed_reply n.heard = replies-are credits run n at small few in
     record {
       asked = (accepted_call k, subst (λ (as_ : List Accepted). Contains as_ (accepted_call k)) (sym at.accepted_are) (Contains-each accepted_call n.asked k (omega arith) (omega arith)), refl);
       first = λ c held e.

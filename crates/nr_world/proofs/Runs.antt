@@ -1,7 +1,7 @@
 -- One more mark at the end of a run.
-use Rattle.std.proofs.Common.{◌≡◌, ℕ, zero, suc, ◌+◌, ◌<◌, ◌≤◌, Option, Some, get_or, subst, inl, inr, List, [], ◌∷◌, ◌++◌, length, fold, Contains, slice_get, refl, sym, ap, ◌∙◌, append_assoc, arith}
-use Rattle.std.specs.List.{flat_map, filter_map, cons_option}
-use Rattle.std.proofs.lemmas.List.Elements.{filter_map-append, Contains-append_left, Contains-push, Contains-push_cases}
+use Rattle.std.proofs.Common.{◌≡◌, ℕ, zero, suc, ◌+◌, ◌<◌, ◌≤◌, Bool, true, cond, Option, Some, get_or, subst, inl, inr, List, [], ◌∷◌, ◌++◌, length, fold, Contains, slice_get, refl, sym, ap, ◌∙◌, append_assoc, arith}
+use Rattle.std.specs.List.{flat_map, filter, filter_map, cons_option}
+use Rattle.std.proofs.lemmas.List.Elements.{filter-append, filter_map-append, Contains-append_left, Contains-push, Contains-push_cases}
 use Rattle.std.proofs.lemmas.Bool.{cases_lt}
 use Rattle.std.proofs.lemmas.Option.{slice_get-get_or}
 use Rattle.std.proofs.lemmas.List.{append-nil, length-append, get_or_append_left, get_or_at}
@@ -53,6 +53,14 @@ filter_map-each read f g (suc n) h =
     filter_map-append read (each f n) (f (suc n) ∷ [])
     ∙ ap (λ (ys : List _). ys ++ filter_map read (f (suc n) ∷ [])) (filter_map-each read f g n (λ k le. h k (omega arith)))
     ∙ ap (λ (y : Option _). each g n ++ cons_option y []) (h (suc n) (omega arith))
+
+-- what passes the test, where each of a list does
+pub filter-each : {X : Type 0} (p : X → Bool) (f : ℕ → X) (n : ℕ) → ((k : ℕ) → k ≤ n → p (f k) ≡ true) → filter p (each f n) ≡ each f n
+filter-each p f zero h = refl
+filter-each p f (suc n) h =
+    filter-append p (each f n) (f (suc n) ∷ [])
+    ∙ ap (λ (ys : List _). ys ++ filter p (f (suc n) ∷ [])) (filter-each p f n (λ k le. h k (omega arith)))
+    ∙ ap (λ (b : Bool). each f n ++ cond b (f (suc n) ∷ []) []) (h (suc n) (omega arith))
 
 -- the k-th of a list
 pub Contains-each : {X : Type 0} (f : ℕ → X) (n k : ℕ) → 0 < k → k ≤ n → Contains (each f n) (f k)

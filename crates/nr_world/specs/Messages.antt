@@ -1,12 +1,19 @@
 -- The messages of a stream (RFC 5040 section 5): the Sends whole in it, each the payloads of its segments joined. Streams
 -- are read by their frames, whatever else stands in them.
-use Rattle.std.specs.Prelude.{ℕ, ◌+◌, Bool, true, false, not, ◌==◌, ◌&&◌, nat_lt, if◌then◌else◌, List, [], ◌∷◌, ◌++◌, length, take, drop, Option, None, Some, Result, Ok, Err}
+use Rattle.std.specs.Prelude.{ℕ, Bool, true, ◌==◌, if◌then◌else◌, List, [], ◌∷◌, ◌++◌, drop, Option, None, Some, option_and_then, Result, Ok, Err}
 use Rattle.std.specs.List.{filter_map}
-use Rattle.nr_xdr.specs.Item.{word}
+use Rattle.nr_header.specs.declared.fault.HeaderFault.{HeaderFault}
+use Rattle.nr_header.specs.declared.header.Segment.{Segment as HeaderSegment}
+use Rattle.nr_header.specs.declared.header.ReadSegment.{ReadSegment}
+use Rattle.nr_header.specs.declared.header.ChunkLists.{ChunkLists}
+use Rattle.nr_header.specs.declared.header.Body.{Body}
+use Rattle.nr_header.specs.declared.header.Body.TheVariants.{Msg, Nomsg, ErrVers, ErrChunk}
+use Rattle.nr_header.specs.declared.header.Header.{Header}
+use Rattle.nr_header.specs.Header.{header_spelling}
+use Rattle.nr_header.specs.Reading.{word_at, header_of}
 use Rattle.nr_wire.specs.declared.hello.Side.{Side}
 use Rattle.nr_wire.specs.declared.numbers.TheConstants.{OPCODE_SEND, QUEUE_SEND}
 use Rattle.nr_wire.specs.declared.stream.Awaited.TheVariants.{Hello as HelloFrom}
-use Rattle.nr_wire.specs.Numbers.{word_at}
 use Rattle.nr_wire.specs.Segment.{Segment, segment_of, spelling}
 use Rattle.nr_wire.specs.Segment.Segment.{Tagged, Untagged}
 use Rattle.nr_wire.specs.Stream.{split, is_whole}
@@ -58,36 +65,49 @@ has_hello side stream = is_whole (HelloFrom side) stream
 unfoldable pub send : ℕ → List ℕ → List ℕ
 send msn message = spelling (Untagged true OPCODE_SEND 0 QUEUE_SEND msn 0 message)
 
--- An RDMA_MSG message without lists (RFC 8166 sections 4.2 and 4.3): xid, version 1, credits, kind 0, then no read list,
--- no write list, no reply chunk, and the payload.
-unfoldable pub fixed_part : ℕ → ℕ → List ℕ
-fixed_part xid credit = word xid ++ word 1 ++ word credit ++ word 0
+-- The header of an RDMA_MSG message without lists: no read list, no write list, no reply chunk. (RFC 8166 section 4.3)
+abbrev pub no_lists : ChunkLists
+no_lists = record { read = []; write = []; reply = None }
 
-unfoldable pub no_lists : List ℕ
-no_lists = word 0 ++ word 0 ++ word 0
+abbrev pub header_without_lists : ℕ → ℕ → Header
+header_without_lists xid credit = record { xid = xid; credit = credit; body = Msg no_lists 0 }
 
 unfoldable pub inline_header : ℕ → ℕ → List ℕ
-inline_header xid credit = fixed_part xid credit ++ no_lists
+inline_header xid credit = header_spelling (header_without_lists xid credit)
 
+-- such a message: the payload is behind its header
 abbrev pub inline_message : ℕ → ℕ → List ℕ → List ℕ
 inline_message xid credit payload = inline_header xid credit ++ payload
 
--- how many bytes that header has
-abbrev pub inline_header_len : ℕ
-inline_header_len = 28
-
--- the xid and the credit word of a message of any kind (RFC 8166 section 4.2)
+-- the xid and the credit word of a message that has them (RFC 8166 section 4.2)
 abbrev pub xid_in : List ℕ → ℕ
 xid_in message = word_at 0 message
 
 abbrev pub credit_in : List ℕ → ℕ
 credit_in message = word_at 8 message
 
--- the message has such a header: version 1, kind 0, three empty lists
-abbrev pub is_inline : List ℕ → Bool
-is_inline message =
-    not (nat_lt (length message) inline_header_len) && word_at 4 message == 1 && word_at 12 message == 0
-    && word_at 16 message == 0 && word_at 20 message == 0 && word_at 24 message == 0
+-- where the payload begins, in a message of RDMA_MSG with three empty lists
+abbrev pub behind_lists : List ReadSegment → List (List HeaderSegment) → Option (List HeaderSegment) → ℕ → Option ℕ
+behind_lists [] [] None at = Some at
+behind_lists read write reply at = None
+
+abbrev pub payload_at : Body → Option ℕ
+payload_at (Msg lists stream_at) = behind_lists lists.read lists.write lists.reply stream_at
+payload_at (Nomsg lists) = None
+payload_at (ErrVers version low high) = None
+payload_at (ErrChunk version) = None
+
+abbrev pub from_place : ℕ → List ℕ → Option ℕ → Option Conveyed
+from_place xid message None = None
+from_place xid message (Some place) = Some (record { xid = xid; payload = drop place message })
+
+abbrev pub by_header : List ℕ → Result Header HeaderFault → Option Conveyed
+by_header message (Ok header) = from_place header.xid message (payload_at header.body)
+by_header message (Err fault) = None
+
+-- the payload of a message without lists, under its header's xid
+unfoldable pub inline_in : List ℕ → Option Conveyed
+inline_in message = by_header message (header_of message)
 
 abbrev pub call_xid : Result CallHead ℕ → Option ℕ
 call_xid (Ok (calls.Version2 xid prog vers proc cred at)) = Some xid
@@ -102,22 +122,16 @@ reply_xid (Ok (replies.AuthError xid stat)) = Some xid
 reply_xid (Err at) = None
 
 -- where the head's xid is the header's
-abbrev pub under_xid : Option ℕ → ℕ → List ℕ → Option Conveyed
-under_xid None xid payload = None
-under_xid (Some own) xid payload = if own == xid then Some (record { xid = xid; payload = payload }) else None
+abbrev pub under_xid : Option ℕ → Conveyed → Option Conveyed
+under_xid None carried = None
+under_xid (Some own) carried = if own == carried.xid then Some carried else None
 
 -- The call and the reply that a message conveys. Messages with lists come with the calls that need them.
 unfoldable pub call_in : List ℕ → Option Conveyed
-call_in message =
-    if is_inline message
-    then under_xid (call_xid (call_of (drop inline_header_len message))) (xid_in message) (drop inline_header_len message)
-    else None
+call_in message = option_and_then (λ carried. under_xid (call_xid (call_of carried.payload)) carried) (inline_in message)
 
 unfoldable pub reply_in : List ℕ → Option Conveyed
-reply_in message =
-    if is_inline message
-    then under_xid (reply_xid (reply_of (drop inline_header_len message))) (xid_in message) (drop inline_header_len message)
-    else None
+reply_in message = option_and_then (λ carried. under_xid (reply_xid (reply_of carried.payload)) carried) (inline_in message)
 
 -- all calls that an initiator's stream conveys, and all replies that a responder's does, in order
 abbrev pub conveyed : (List ℕ → Option Conveyed) → List (List ℕ) → List Conveyed

@@ -1,21 +1,23 @@
 -- Credits (RFC 8166 section 3.3.1): how many calls of a link are out, and how many its server grants.
 use Rattle.std.specs.Prelude.{◌≡◌, ℕ, ◌<◌, Bool, not, ◌==◌, nat_lt, if◌then◌else◌, List, [], ◌∷◌, length, count_by}
-use Rattle.std.specs.List.{list_any}
+use Rattle.std.specs.List.{filter, list_any}
+use Rattle.nr_header.specs.declared.limits.TheConstants.{FIXED_LEN}
 use Rattle.nr_wire.specs.declared.hello.Side.TheVariants.{Initiator, Responder}
 use Rattle.nr_world.specs.declared.call.Submission.TheVariants as submissions
 use Rattle.nr_world.specs.declared.mark.Mark.{Mark}
 use Rattle.nr_world.specs.declared.mark.Mark.TheVariants as marks
+use Rattle.nr_world.specs.declared.script.TheConstants.{MOST_CREDITS}
 use Rattle.nr_world.specs.Observed.{Accepted, accepted, got}
 use Rattle.nr_world.specs.Messages.{messages, xid_in, credit_in}
 use Rattle.nr_world.specs.Along.{Along}
 
--- the most credits that are counted
-abbrev pub most_credits : ℕ
-most_credits = 64
+-- a message with the fixed words of a header: a shorter one has no xid and no credit word (RFC 8166 section 4.2)
+abbrev pub has_words : List ℕ → Bool
+has_words message = not (nat_lt (length message) FIXED_LEN)
 
--- the messages that the client of a link got whole
+-- the messages that the client of a link got whole, those without these words apart
 abbrev pub heard : ℕ → List Mark → List (List ℕ)
-heard link run = messages Responder (got link Initiator run)
+heard link run = filter has_words (messages Responder (got link Initiator run))
 
 abbrev pub is_heard : List (List ℕ) → Accepted → Bool
 is_heard whole a = list_any (λ message. xid_in message == a.xid) whole
@@ -24,9 +26,9 @@ is_heard whole a = list_any (λ message. xid_in message == a.xid) whole
 unfoldable pub out_of : ℕ → List Mark → ℕ
 out_of link run = count_by (λ a. not (is_heard (heard link run) a)) (accepted link run)
 
--- a credit word as it counts: 0 as 1, and more than 64 as 64
+-- a credit word as it counts: 0 as 1, and one above the most as the most
 abbrev pub credits_by : ℕ → ℕ
-credits_by credit = if credit == 0 then 1 else (if nat_lt most_credits credit then most_credits else credit)
+credits_by credit = if credit == 0 then 1 else (if nat_lt MOST_CREDITS credit then MOST_CREDITS else credit)
 
 -- what the last of the messages grants; before the first, 1
 abbrev pub granted_by : List (List ℕ) → ℕ → ℕ

@@ -1,31 +1,19 @@
 //! The messages of a link, as far as calls and replies go without lists: the transport header (RFC 8166 section 4.2)
 //! and the payload, in one Send.
 
-ghost use Rattle.std.specs.Prelude.{◌≡◌, ℕ, ◌+◌, ◌<◌, ◌≤◌, true, false, length, drop, IfOk, MatchOption, option_and_then, ◌++◌, OnOk};
+ghost use Rattle.std.specs.Prelude.{◌≡◌, ◌≤◌, length, None, Some, IfOk, MatchOption, option_and_then};
 ghost use Rattle.std.specs.Option.{option_copied};
-ghost use Rattle.nr_wire.specs.Numbers.{word_at};
 ghost use Rattle.nr_wire.specs.Next.{segment_in};
 ghost use Rattle.nr_rpc.specs.Reading.{call_of, reply_of};
-ghost use Rattle.nr_world.specs.Messages.{send, fixed_part, no_lists, inline_message, inline_header_len, is_inline, xid_in, under_xid, call_xid, reply_xid, call_in, reply_in};
+ghost use Rattle.nr_world.specs.Messages.{send, inline_message, payload_at, inline_in, under_xid, call_xid, reply_xid, call_in, reply_in};
 ghost use Rattle.nr_world.specs.Ending.{ended_by};
 
+use nr_header::{Body, ChunkLists, Few, Header, read_header, write_header};
 use nr_rpc::{CallHead, HeadFault, ReplyHead, read_call, read_reply};
 use nr_wire::numbers::{OPCODE_SEND, QUEUE_SEND};
 use nr_wire::{NextSegment, Segment, next_segment, write_segment};
-use nr_xdr::{Memory, Octets, Writer};
+use nr_xdr::{Memory, Octets};
 use std::alloc::Global;
-
-/// The version of RPC-over-RDMA (RFC 8166 section 4.2.1).
-const VERSION: u32 = 1;
-
-/// The kind of a message whose payload stands behind its header (RFC 8166 section 4.2.4).
-const MSG: u32 = 0;
-
-/// The word of a list that is absent (RFC 8166 section 4.3).
-const ABSENT: u32 = 0;
-
-/// How many bytes a header without lists has.
-const INLINE_HEADER_LEN: usize = 28;
 
 /// The bytes that a Send may have.
 pub const MESSAGE_MAX: usize = 1024;
@@ -35,29 +23,6 @@ pub const MESSAGE_MAX: usize = 1024;
 pub struct Conveyed {
     pub xid: u32,
     pub payload: Octets,
-}
-
-/// The words of a header that every message has: xid, version, credits and kind.
-#[tactic(auto, unfolding(crate::specs::Messages::fixed_part))]
-fn push_fixed_part(header: &mut Writer, xid: u32, credit: u32) -> Result<(), Memory>
-    ensures { OnOk result (header.new ≡ header.old ++ fixed_part xid credit) }
-{
-    header.u32(xid)?;
-    header.u32(VERSION)?;
-    header.u32(credit)?;
-    header.u32(MSG)?;
-    Ok(())
-}
-
-/// An absent read list, write list and reply chunk.
-#[tactic(auto, unfolding(crate::specs::Messages::no_lists))]
-fn push_no_lists(header: &mut Writer) -> Result<(), Memory>
-    ensures { OnOk result (header.new ≡ header.old ++ no_lists) }
-{
-    header.u32(ABSENT)?;
-    header.u32(ABSENT)?;
-    header.u32(ABSENT)?;
-    Ok(())
 }
 
 /// An RDMA_MSG message without lists: the header, and the payload behind it.
@@ -70,10 +35,20 @@ pub fn inline_message(
 ) -> Result<Octets, Memory>
     ensures { IfOk result (λ message. message ≡ inline_message xid credit payload.now) }
 {
-    let mut header = Writer::new(alloc);
-    push_fixed_part(&mut header, xid, credit)?;
-    push_no_lists(&mut header)?;
-    let mut message = header.finish();
+    let lists = ChunkLists {
+        read: Few::new(),
+        write: Few::new(),
+        reply: None,
+    };
+    let header = Header {
+        xid,
+        credit,
+        body: Body::Msg {
+            lists,
+            stream_at: 0,
+        },
+    };
+    let mut message = write_header(alloc, &header)?;
     message.extend_from_slice(payload)?;
     Ok(message)
 }
@@ -102,45 +77,42 @@ fn message_in(bytes: &[u8]) -> Option<&[u8]>
 {
     match next_segment(bytes) {
         NextSegment::Whole {
-            segment:
-                Segment::Untagged {
-                    last: true,
-                    opcode: OPCODE_SEND,
-                    payload,
-                    ..
-                },
+            segment: Segment::Untagged {
+                last: true,
+                opcode: OPCODE_SEND,
+                payload,
+                ..
+            },
             ..
         } => Some(payload),
         _ => None,
     }
 }
 
-/// The four bytes at a place, as a number.
-#[tactic(auto, unfolding(nr_xdr::specs::Item::word_of))]
-fn word_at(bytes: &[u8], place: usize) -> u32
-    requires { place + 4 ≤ length bytes.now }
-    ensures { result ≡ word_at place bytes.now }
+/// Where the payload begins, in a message of RDMA_MSG with three empty lists.
+fn payload_at(body: &Body) -> Option<usize>
+    ensures { result ≡ payload_at body.now }
 {
-    let (_, rest) = bytes.split_at(place);
-    u32::from_be_bytes([rest[0], rest[1], rest[2], rest[3]])
+    let Body::Msg { lists, stream_at } = body else {
+        return None;
+    };
+    match (lists.read.as_slice(), lists.write.as_slice(), &lists.reply) {
+        ([], [], None) => Some(*stream_at),
+        _ => None,
+    }
 }
 
 /// The xid of a message without lists, and its payload.
+#[tactic(auto, unfolding(crate::specs::Messages::inline_in))]
 fn inline_in(message: &[u8]) -> Option<(u32, &[u8])>
-    ensures { MatchOption result (is_inline message.now ≡ false)
-        (λ found. (is_inline message.now ≡ true) × (found.0 ≡ xid_in message.now) × (found.1.now ≡ drop inline_header_len message.now)) }
+    ensures { MatchOption result (inline_in message.now ≡ None)
+        (λ found. inline_in message.now ≡ Some (record { xid = found.0; payload = found.1.now })) }
 {
-    if message.len() < INLINE_HEADER_LEN
-        || word_at(message, 4) != VERSION
-        || word_at(message, 12) != MSG
-        || word_at(message, 16) != ABSENT
-        || word_at(message, 20) != ABSENT
-        || word_at(message, 24) != ABSENT
-    {
+    let Ok(header) = read_header(message) else {
         return None;
-    }
-    let (_, payload) = message.split_at(INLINE_HEADER_LEN);
-    Some((word_at(message, 0), payload))
+    };
+    let place = payload_at(&header.body)?;
+    Some((header.xid, &message[place..]))
 }
 
 /// The payload under its xid, where the head's xid is the header's.
@@ -150,7 +122,7 @@ fn under_xid(
     xid: u32,
     payload: &[u8],
 ) -> Result<Option<Conveyed>, Memory>
-    ensures { IfOk result (λ found. found ≡ under_xid own xid payload.now) }
+    ensures { IfOk result (λ found. found ≡ under_xid own (record { xid = xid; payload = payload.now })) }
 {
     if own != Some(xid) {
         return Ok(None);
