@@ -3,7 +3,7 @@ use Rattle.std.proofs.Common.{◌≡◌, ℕ, zero, suc, ◌+◌, ◌-◌, ◌^�
 use Rattle.std.proofs.lemmas.Bool.{cases_lt}
 use Rattle.std.proofs.lemmas.List.{length-append}
 use Rattle.nr_wire.specs.declared.hello.Side.TheVariants.{Initiator, Responder}
-use Rattle.nr_world.specs.declared.message.Conveyed.{Conveyed}
+use Rattle.nr_world.specs.declared.mark.Conveyed.{Conveyed}
 use Rattle.nr_world.specs.declared.script.TheConstants.{MOST_LINES, MOST_CREDITS}
 use Rattle.nr_world.specs.Observed.{Executed, executed, got, sent}
 use Rattle.nr_world.specs.Messages.{conveyed, messages, call_in}

@@ -5,7 +5,7 @@ use Rattle.nr_rpc.specs.declared.head.ReplyHead.TheVariants.{Accepted}
 use Rattle.nr_rpc.proofs.Replies.{reply_written}
 use Rattle.nr_wire.specs.declared.hello.Side.TheVariants.{Initiator, Responder}
 use Rattle.nr_wire.specs.Next.{segment_in}
-use Rattle.nr_world.specs.declared.message.Conveyed.{Conveyed}
+use Rattle.nr_world.specs.declared.mark.Conveyed.{Conveyed}
 use Rattle.nr_world.specs.declared.plain.TheConstants.{SUCCESS}
 use Rattle.nr_world.specs.Messages.{inline_message, messages, conveyed, call_in, reply_in}
 use Rattle.nr_world.specs.Ending.{ended_by}

@@ -10,7 +10,7 @@ use Rattle.nr_wire.specs.Next.{segment_in}
 use Rattle.nr_world.specs.declared.call.Outcome.TheVariants as outcomes
 use Rattle.nr_world.specs.declared.mark.Mark.{Mark}
 use Rattle.nr_world.specs.declared.mark.Mark.TheVariants as marks
-use Rattle.nr_world.specs.declared.message.Conveyed.{Conveyed}
+use Rattle.nr_world.specs.declared.mark.Conveyed.{Conveyed}
 use Rattle.nr_world.specs.declared.report.Fate.TheVariants as fates
 use Rattle.nr_world.specs.declared.report.Told.{Told}
 use Rattle.nr_world.specs.Observed.{Accepted, Completed, accepted, completed}

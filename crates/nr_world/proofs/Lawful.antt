@@ -9,7 +9,7 @@ use Rattle.std.proofs.lemmas.List.Sums.{sum_by_push}
 use Rattle.nr_wire.specs.declared.hello.Side.TheVariants.{Initiator, Responder}
 use Rattle.nr_world.specs.declared.call.Outcome.TheVariants as outcomes
 use Rattle.nr_world.specs.declared.mark.Mark.{Mark}
-use Rattle.nr_world.specs.declared.message.Conveyed.{Conveyed}
+use Rattle.nr_world.specs.declared.mark.Conveyed.{Conveyed}
 use Rattle.nr_world.specs.Observed.{Accepted, Executed, Completed, accepted, executed, completed, journal, got, sent}
 use Rattle.nr_world.specs.Messages.{conveyed, messages, call_in, reply_in, xid_in, credit_in}
 use Rattle.nr_world.specs.Window.{heard, is_heard, out_of, credits_by, granted_by, grant_of, has_words}

@@ -10,7 +10,7 @@ use Rattle.nr_world.specs.declared.call.Submission.TheVariants as submissions
 use Rattle.nr_world.specs.declared.mark.Mark.{Mark}
 use Rattle.nr_world.specs.declared.mark.Mark.TheVariants as marks
 use Rattle.nr_world.specs.declared.report.Fate.TheVariants as fates
-use Rattle.nr_world.specs.declared.report.Opened.{Opened}
+use Rattle.nr_world.specs.declared.mark.Opened.{Opened}
 use Rattle.nr_world.specs.declared.report.Told.{Told}
 use Rattle.nr_world.specs.Observed.{PlainServer, wrote, fed, sent, got, accepted_at, accepted, executed_at, executed, completed_at, completed, added, journal}
 use Rattle.nr_world.specs.Messages.{has_hello, send, inline_message}

@@ -14,7 +14,7 @@ use Rattle.nr_rpc.proofs.Calls.{call_written}
 use Rattle.nr_rpc.proofs.Replies.{reply_written}
 use Rattle.nr_wire.specs.Numbers.{word_at}
 use Rattle.nr_world.specs.declared.plain.TheConstants.{NFS_PROGRAM, NFS_VERSION, NULL, SUCCESS}
-use Rattle.nr_world.specs.declared.message.Conveyed.{Conveyed}
+use Rattle.nr_world.specs.declared.mark.Conveyed.{Conveyed}
 use Rattle.nr_world.specs.Owed.{call_payload}
 use Rattle.nr_world.specs.Plain.{plain_reply, null_reply}
 use Rattle.nr_world.specs.Steps.{null, asked_payload}

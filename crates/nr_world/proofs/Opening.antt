@@ -11,7 +11,7 @@ use Rattle.nr_world.specs.declared.mark.Mark.TheVariants as marks
 use Rattle.std.proofs.lemmas.Bool.Decides.{nat_tests}
 use Rattle.nr_world.specs.declared.call.Outcome.TheVariants as outcomes
 use Rattle.nr_world.specs.declared.report.Fate.TheVariants as fates
-use Rattle.nr_world.specs.declared.report.Opened.{Opened}
+use Rattle.nr_world.specs.declared.mark.Opened.{Opened}
 use Rattle.nr_world.specs.declared.script.TheConstants.{MOST_CREDITS}
 use Rattle.nr_world.specs.Observed.{sent, got, accepted, executed, completed, journal}
 use Rattle.nr_world.specs.Messages.{has_hello}

@@ -6,7 +6,7 @@ use Rattle.nr_outside.specs.Pipe.{PipeState, waiting_in}
 use Rattle.nr_wire.specs.declared.hello.Side.TheVariants.{Initiator, Responder}
 use Rattle.nr_world.specs.declared.mark.Mark.{Mark}
 use Rattle.nr_world.specs.declared.mark.Mark.TheVariants as marks
-use Rattle.nr_world.specs.declared.message.Conveyed.{Conveyed}
+use Rattle.nr_world.specs.declared.mark.Conveyed.{Conveyed}
 use Rattle.nr_world.specs.Observed.{executed}
 use Rattle.nr_world.specs.Messages.{call_in, conveyed, messages, send, inline_message}
 use Rattle.nr_world.specs.Served.{came, next_call}

@@ -5,7 +5,7 @@ use Rattle.nr_wire.specs.declared.hello.Side.TheVariants.{Initiator, Responder}
 use Rattle.nr_wire.proofs.Frames.{fpdu_holds}
 use Rattle.nr_world.specs.declared.mark.Mark.{Mark}
 use Rattle.nr_world.specs.declared.mark.Mark.TheVariants as marks
-use Rattle.nr_world.specs.declared.report.Opened.{Opened}
+use Rattle.nr_world.specs.declared.mark.Opened.{Opened}
 use Rattle.nr_world.specs.Observed.{sent}
 use Rattle.nr_world.specs.Owed.{owed}
 use Rattle.nr_world.specs.Follows.{Drill, Way, drill_opened, way_of, with_mark, with_way, behind, writing, unwritten, settled, feeding}

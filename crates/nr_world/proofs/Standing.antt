@@ -11,7 +11,7 @@ use Rattle.nr_world.specs.declared.call.Submission.{Submission}
 use Rattle.nr_world.specs.declared.call.Submission.TheVariants as submissions
 use Rattle.nr_world.specs.declared.mark.Mark.{Mark}
 use Rattle.nr_world.specs.declared.mark.Mark.TheVariants as marks
-use Rattle.nr_world.specs.declared.message.Conveyed.{Conveyed}
+use Rattle.nr_world.specs.declared.mark.Conveyed.{Conveyed}
 use Rattle.nr_world.specs.declared.report.Told.{Told}
 use Rattle.nr_world.specs.declared.script.TheConstants.{MOST_CREDITS, MOST_LINES}
 use Rattle.nr_world.specs.Observed.{Accepted, accepted, completed}

@@ -6,9 +6,9 @@ use Rattle.nr_world.specs.declared.call.Outcome.{Outcome}
 use Rattle.nr_world.specs.declared.call.Outcome.TheVariants as outcomes
 use Rattle.nr_world.specs.declared.mark.Mark.{Mark}
 use Rattle.nr_world.specs.declared.mark.Mark.TheVariants as marks
-use Rattle.nr_world.specs.declared.report.Opened.{Opened}
+use Rattle.nr_world.specs.declared.mark.Opened.{Opened}
 use Rattle.nr_world.specs.Observed.{Accepted, Completed, accepted, completed, sent}
-use Rattle.nr_world.specs.declared.message.Conveyed.{Conveyed}
+use Rattle.nr_world.specs.declared.mark.Conveyed.{Conveyed}
 use Rattle.nr_world.specs.Messages.{conveyed, reply_in}
 use Rattle.nr_world.specs.Owed.{owed, HasWritten}
 use Rattle.nr_world.specs.Window.{heard}

@@ -15,9 +15,9 @@ use Rattle.nr_world.specs.declared.mark.Mark.{Mark}
 use Rattle.nr_world.specs.declared.mark.Mark.TheVariants as marks
 use Rattle.nr_world.specs.Script.{Line, ScriptLines}
 use Rattle.nr_world.specs.Script.Line.{Call as CallLine, Drain as DrainLine}
-use Rattle.nr_world.specs.declared.report.Opened.{Opened}
+use Rattle.nr_world.specs.declared.mark.Opened.{Opened}
 use Rattle.nr_world.specs.Observed.{PlainServer, Accepted, Completed, accepted, executed, completed, journal, sent, got}
-use Rattle.nr_world.specs.declared.message.Conveyed.{Conveyed}
+use Rattle.nr_world.specs.declared.mark.Conveyed.{Conveyed}
 use Rattle.nr_world.specs.Messages.{conveyed, reply_in}
 use Rattle.nr_world.specs.Owed.{owed}
 use Rattle.nr_world.specs.Window.{heard, out_of, grant_of}

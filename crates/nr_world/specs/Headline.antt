@@ -4,7 +4,7 @@ use Rattle.nr_wire.specs.declared.hello.Side.TheVariants.{Initiator, Responder}
 use Rattle.nr_world.specs.declared.call.Submission.TheVariants as submissions
 use Rattle.nr_world.specs.declared.mark.Mark.{Mark}
 use Rattle.nr_world.specs.declared.mark.Mark.TheVariants as marks
-use Rattle.nr_world.specs.declared.report.Opened.{Opened}
+use Rattle.nr_world.specs.declared.mark.Opened.{Opened}
 use Rattle.nr_world.specs.declared.report.Report.{Report}
 use Rattle.nr_world.specs.declared.report.Ways.{Ways}
 use Rattle.nr_world.specs.Observed.{PlainServer, journal, sent}

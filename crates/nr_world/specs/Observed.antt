@@ -11,7 +11,7 @@ use Rattle.nr_world.specs.declared.call.Submission.{Submission}
 use Rattle.nr_world.specs.declared.call.Submission.TheVariants as submissions
 use Rattle.nr_world.specs.declared.mark.Moment.{Moment}
 use Rattle.nr_world.specs.declared.mark.Mark.{Mark}
-use Rattle.nr_world.specs.declared.report.Entry.{Entry}
+use Rattle.nr_world.specs.declared.mark.Entry.{Entry}
 use Rattle.nr_world.specs.declared.mark.Mark.TheVariants as marks
 
 abbrev pub other : Side → Side

@@ -9,7 +9,7 @@ use Rattle.nr_world.specs.declared.call.Call.{Call}
 use Rattle.nr_world.specs.declared.call.Submission.TheVariants as submissions
 use Rattle.nr_world.specs.declared.mark.Mark.{Mark}
 use Rattle.nr_world.specs.declared.mark.Mark.TheVariants as marks
-use Rattle.nr_world.specs.declared.report.Opened.{Opened}
+use Rattle.nr_world.specs.declared.mark.Opened.{Opened}
 use Rattle.nr_world.specs.Observed.{sent, got, accepted, executed}
 use Rattle.nr_world.specs.Messages.{has_hello, send, inline_message}
 

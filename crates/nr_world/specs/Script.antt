@@ -108,11 +108,3 @@ abbrev pub GivesScript : Result ScriptLines ScriptFault → Result ScriptLines �
 GivesScript (Ok script) read = read ≡ Ok script
 GivesScript (Err (faults.BadLine line)) read = read ≡ Err line
 GivesScript (Err faults.Memory) read = Unit {0}
-
--- the text of a script of so many calls
-abbrev pub turns_text : ℕ → List ℕ
-turns_text zero = []
-turns_text (suc n) = call_line ++ newline ∷ (drain_line ++ newline ∷ turns_text n)
-
-abbrev pub script_text : ℕ → ℕ → List ℕ
-script_text credits calls = clients_line credits ++ newline ∷ turns_text calls

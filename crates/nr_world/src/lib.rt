@@ -12,9 +12,12 @@ mod printing;
 mod world;
 
 pub use call::{Call, End, Form, Lack, Lengths, Offer, Outcome, Refused, Submission};
-pub use mark::{Mark, Marks, Moment};
-pub use report::{Fate, Journal, Entry, Logs, Opened, Report, Told, Tolds, Ways};
+pub use mark::{Entry, Mark, Marks, Moment, Opened};
+pub use report::{Fate, Journal, Logs, Report, Told, Tolds, Ways};
 pub use script::{SCRIPT_MAX, Script, ScriptFault};
 pub use printing::shown;
 pub use reading::read_script;
 pub use world::run_world;
+
+#[cfg(test)]
+mod tests;

@@ -1,8 +1,9 @@
-//! What happens on links, mark by mark.
+//! What happens on links, mark by mark, and what marks speak of.
 
 ghost use Rattle.std.specs.Prelude.{◌≡◌};
 
 use crate::call::{Call, Form, Outcome, Submission};
+use nr_rpc::Cred;
 use nr_wire::Side;
 use nr_xdr::Octets;
 use std::marker::Model;
@@ -12,6 +13,32 @@ use std::marker::Model;
 pub struct Moment {
     pub seconds: u32,
     pub nanos: u32,
+}
+
+/// What the two ends of a link were opened with: the first xid and the first STag of the client, the credits that it
+/// wishes for, and the credits that the server grants.
+#[derive(Clone, Copy, Debug, PartialEq, Eq)]
+pub struct Opened {
+    pub first_xid: u32,
+    pub first_stag: u32,
+    pub wished: u32,
+    pub granted: u32,
+}
+
+/// An entry of the journal: a change that took effect, with its moment, credential, procedure and arguments.
+#[derive(Debug, Drop)]
+pub struct Entry {
+    pub moment: Moment,
+    pub cred: Cred,
+    pub proc: u32,
+    pub args: Octets,
+}
+
+/// A payload that a message conveys, with the xid of both.
+#[derive(Debug, Drop)]
+pub struct Conveyed {
+    pub xid: u32,
+    pub payload: Octets,
 }
 
 /// One thing that happened. `link` is the number of the link, from 1. The client is the initiator of a link, and the

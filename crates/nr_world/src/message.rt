@@ -8,6 +8,7 @@ ghost use Rattle.nr_rpc.specs.Reading.{call_of, reply_of};
 ghost use Rattle.nr_world.specs.Messages.{send, inline_message, payload_at, inline_in, under_xid, call_xid, reply_xid, call_in, reply_in};
 ghost use Rattle.nr_world.specs.Ending.{ended_by};
 
+use crate::mark::Conveyed;
 use nr_header::{Body, ChunkLists, Few, Header, read_header, write_header};
 use nr_rpc::{CallHead, HeadFault, ReplyHead, read_call, read_reply};
 use nr_wire::numbers::{OPCODE_SEND, QUEUE_SEND};
@@ -17,13 +18,6 @@ use std::alloc::Global;
 
 /// The bytes that a Send may have.
 pub const MESSAGE_MAX: usize = 1024;
-
-/// A payload that a message conveys, with the xid of both.
-#[derive(Debug, Drop)]
-pub struct Conveyed {
-    pub xid: u32,
-    pub payload: Octets,
-}
 
 /// An RDMA_MSG message without lists: the header, and the payload behind it.
 #[tactic(auto, unfolding(crate::specs::Messages::inline_header))]

@@ -3,29 +3,9 @@
 ghost use Rattle.std.specs.Prelude.{◌≡◌, ◌↔◌, [], length, IsTrue};
 
 use crate::call::{Outcome, Refused};
-use crate::mark::{Marks, Moment};
-use nr_rpc::Cred;
+use crate::mark::{Entry, Marks};
 use nr_xdr::Octets;
 use std::marker::Model;
-
-/// What the two ends of a link were opened with: the first xid and the first STag of the client, the credits that it
-/// wishes for, and the credits that the server grants.
-#[derive(Clone, Copy, Debug, PartialEq, Eq)]
-pub struct Opened {
-    pub first_xid: u32,
-    pub first_stag: u32,
-    pub wished: u32,
-    pub granted: u32,
-}
-
-/// An entry of the journal: a change that took effect, with its moment, credential, procedure and arguments.
-#[derive(Debug, Drop)]
-pub struct Entry {
-    pub moment: Moment,
-    pub cred: Cred,
-    pub proc: u32,
-    pub args: Octets,
-}
 
 /// The entries of the journal in order. Contracts see the list.
 #[derive(Debug, Drop)]
@@ -35,7 +15,7 @@ pub struct Journal {
 
 impl Model for Journal {
     ghost use Rattle.std.specs.Prelude.{List};
-    ghost use Rattle.nr_world.specs.declared.report.Entry.{Entry};
+    ghost use Rattle.nr_world.specs.declared.mark.Entry.{Entry};
 
     ghost Value = { List Entry };
 

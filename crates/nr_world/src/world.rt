@@ -16,10 +16,10 @@ ghost use Rattle.nr_world.specs.Stands.{Stands, IsQuiet, Round, Drained, Called,
 ghost use Rattle.nr_world.specs.Steps.{null, ask, wrote_up, wrote_down, fed_up, fed_down, opened_state, asked_one, waits, came, works_on, worked, done_one, heard};
 
 use crate::call::{Call, Form, Outcome, Submission};
-use crate::mark::{Mark, Marks, Moment};
-use crate::message::{Conveyed, call_in_frame, inline_message, reply_in_frame, send};
+use crate::mark::{Conveyed, Entry, Mark, Marks, Moment};
+use crate::message::{call_in_frame, inline_message, reply_in_frame, send};
 use crate::plain::{NFS_PROGRAM, NFS_VERSION, NULL, REPLY_MAX, execute};
-use crate::report::{Entry, Fate, Journal, Logs, Report, Told, Tolds, Ways};
+use crate::report::{Fate, Journal, Logs, Report, Told, Tolds, Ways};
 use crate::script::Script;
 use nr_outside::{Pipe, Sink};
 use nr_rpc::{CallHead, Cred, write_call};

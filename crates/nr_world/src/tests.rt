@@ -1,0 +1,292 @@
+use super::*;
+use crate::script::SCRIPT_MAX;
+use nr_wire::Side;
+use std::test::Fail;
+
+/// One call of NULL, drained.
+const ONE_CALL: &[u8] = b"clients 1 credits 16\ncall 1 auto nfs 0 -\ndrain\n";
+
+const TWO_CALLS: &[u8] =
+    b"clients 1 credits 16\ncall 1 auto nfs 0 -\ndrain\ncall 1 auto nfs 0 -\ndrain\n";
+
+/// The client's hello, and the FPDU of the first call: its frame and segment header, its transport header, its payload and
+/// the CRC field.
+const UP: &[u8] = b"MPA ID Req Frame\0\x01\0\0\
+\x00\x56\x41\x43\0\0\0\0\0\0\0\0\0\0\0\x01\0\0\0\0\
+\0\0\0\x01\0\0\0\x01\0\0\0\x10\0\0\0\0\0\0\0\0\0\0\0\0\0\0\0\0\
+\0\0\0\x01\0\0\0\0\0\0\0\x02\0\x01\x86\xa3\0\0\0\x03\0\0\0\0\0\0\0\0\0\0\0\0\0\0\0\0\0\0\0\0\0\0\0\0";
+
+/// The FPDU of the second call: message, transport header and payload have number 2.
+const SECOND_UP: &[u8] = b"\x00\x56\x41\x43\0\0\0\0\0\0\0\0\0\0\0\x02\0\0\0\0\
+\0\0\0\x02\0\0\0\x01\0\0\0\x10\0\0\0\0\0\0\0\0\0\0\0\0\0\0\0\0\
+\0\0\0\x02\0\0\0\0\0\0\0\x02\0\x01\x86\xa3\0\0\0\x03\0\0\0\0\0\0\0\0\0\0\0\0\0\0\0\0\0\0\0\0\0\0\0\0";
+
+const DOWN: &[u8] = b"MPA ID Rep Frame\0\x01\0\0\
+\x00\x46\x41\x43\0\0\0\0\0\0\0\0\0\0\0\x01\0\0\0\0\
+\0\0\0\x01\0\0\0\x01\0\0\0\x10\0\0\0\0\0\0\0\0\0\0\0\0\0\0\0\0\
+\0\0\0\x01\0\0\0\x01\0\0\0\0\0\0\0\0\0\0\0\0\0\0\0\0\0\0\0\0";
+
+const SECOND_DOWN: &[u8] = b"\x00\x46\x41\x43\0\0\0\0\0\0\0\0\0\0\0\x02\0\0\0\0\
+\0\0\0\x02\0\0\0\x01\0\0\0\x10\0\0\0\0\0\0\0\0\0\0\0\0\0\0\0\0\
+\0\0\0\x02\0\0\0\x01\0\0\0\0\0\0\0\0\0\0\0\0\0\0\0\0\0\0\0\0";
+
+const ONE_SHOWN: &[u8] =
+    b"1 1 place 0 reply 000000010000000100000000000000000000000000000000\njournal 0\n";
+
+const TWO_SHOWN: &[u8] = b"1 1 place 0 reply 000000010000000100000000000000000000000000000000\n\
+1 2 place 0 reply 000000020000000100000000000000000000000000000000\njournal 0\n";
+
+#[test]
+fn scripts(rt: HostRuntime) -> Result<(), Fail> {
+    let rows: [(&[u8], u32); 5] = [
+        (ONE_CALL, 16),
+        (TWO_CALLS, 16),
+        (b"clients 1 credits 16\n", 16),
+        (b"clients 1 credits 1\n", 1),
+        (b"clients 1 credits 64\n", 64),
+    ];
+    for (text, credits) in rows {
+        assert!(rt; text.len() <= SCRIPT_MAX);
+        assert_eq!(rt; read_script(rt.alloc(), text)?.credits(), credits);
+    }
+    Ok(())
+}
+
+#[test]
+fn bad_lines(rt: HostRuntime) {
+    let rows: [(&[u8], u64); 17] = [
+        (b"", 1),
+        (b"clients 0 credits 1\n", 1),
+        (b"clients 1 credits 0\n", 1),
+        (b"clients 1 credits 65\n", 1),
+        (b"clients 1 credits 016\n", 1),
+        (b"clients 1 credits 16", 1),
+        (b"clients 1 credits 16 \n", 1),
+        (b"clients 1 credits \xff\n", 1),
+        (b"clients 1 credits 16\ndrain\n", 2),
+        (b"clients 1 credits 16\ncall 1 auto nfs 0 - -\ndrain\n", 2),
+        (b"clients 1 credits 16\ncall 1 auto nfs 0 -", 2),
+        (b"clients 1 credits 16\n\xc3\xa4\n", 2),
+        (b"clients 1 credits 16\ncall 1 auto nfs 0 -\n", 3),
+        (b"clients 1 credits 16\ncall 1 auto nfs 0 -\ndrain", 3),
+        (b"clients 1 credits 16\ncall 1 auto nfs 0 -\n\xffdrain\n", 3),
+        (
+            b"clients 1 credits 16\ncall 1 auto nfs 0 -\ndrain\ndrain\n",
+            4,
+        ),
+        (
+            b"clients 1 credits 16\ncall 1 auto nfs 0 -\ndrain\ncall 1 auto nfs 0 -\n",
+            5,
+        ),
+    ];
+    for (text, line) in rows {
+        assert!(rt; text.len() <= SCRIPT_MAX);
+        assert_eq!(rt;
+            read_script(rt.alloc(), text).err(),
+            Some(ScriptFault::BadLine { line })
+        );
+    }
+}
+
+#[test]
+fn runs(rt: HostRuntime) -> Result<(), Fail> {
+    let rows: [(&[u8], &[u8], &[u8], &[u8], usize); 2] = [
+        (ONE_CALL, ONE_SHOWN, b"", b"", 11),
+        (TWO_CALLS, TWO_SHOWN, SECOND_UP, SECOND_DOWN, 18),
+    ];
+    for (text, wanted, up, down, marks) in rows {
+        assert!(rt; text.len() <= SCRIPT_MAX);
+        let script = read_script(rt.alloc(), text)?;
+        let report = run_world(rt.alloc(), &script)?;
+        assert_eq!(rt; shown(rt.alloc(), &report)?.as_slice(), wanted);
+        let logs = report.logs.as_slice();
+        assert_eq!(rt; logs.len(), 1);
+        let mut sent_up = Vec::from_slice(rt.alloc(), UP)?;
+        sent_up.extend_from_slice(up)?;
+        assert_eq!(rt; logs[0].up.as_slice(), sent_up.as_slice());
+        let mut sent_down = Vec::from_slice(rt.alloc(), DOWN)?;
+        sent_down.extend_from_slice(down)?;
+        assert_eq!(rt; logs[0].down.as_slice(), sent_down.as_slice());
+        assert_eq!(rt; report.marks.as_slice().len(), marks);
+    }
+    Ok(())
+}
+
+/// A link opens, and a call goes up, is executed, comes down and is done.
+#[test]
+fn marks(rt: HostRuntime) -> Result<(), Fail> {
+    let script = read_script(rt.alloc(), ONE_CALL)?;
+    let report = run_world(rt.alloc(), &script)?;
+    let marks = report.marks.as_slice();
+    assert_eq!(rt; marks.len(), 11);
+    assert!(rt;
+        matches!(
+            &marks[0],
+            Mark::Wrote {
+                link: 1,
+                side: Side::Initiator,
+                ..
+            }
+        )
+    );
+    assert!(rt;
+        matches!(
+            &marks[1],
+            Mark::Fed {
+                link: 1,
+                side: Side::Responder,
+                ..
+            }
+        )
+    );
+    assert!(rt;
+        matches!(
+            &marks[2],
+            Mark::Wrote {
+                link: 1,
+                side: Side::Responder,
+                ..
+            }
+        )
+    );
+    assert!(rt;
+        matches!(
+            &marks[3],
+            Mark::Fed {
+                link: 1,
+                side: Side::Initiator,
+                ..
+            }
+        )
+    );
+    assert!(rt;
+        matches!(
+            &marks[4],
+            Mark::Submit {
+                link: 1,
+                answer: Submission::Accepted { xid: 1 },
+                ..
+            }
+        )
+    );
+    assert!(rt;
+        matches!(
+            &marks[5],
+            Mark::Wrote {
+                link: 1,
+                side: Side::Initiator,
+                ..
+            }
+        )
+    );
+    assert!(rt;
+        matches!(
+            &marks[6],
+            Mark::Fed {
+                link: 1,
+                side: Side::Responder,
+                ..
+            }
+        )
+    );
+    assert!(rt;
+        matches!(
+            &marks[7],
+            Mark::Execute {
+                link: 1,
+                xid: 1,
+                place: 0,
+                ..
+            }
+        )
+    );
+    assert!(rt;
+        matches!(
+            &marks[8],
+            Mark::Wrote {
+                link: 1,
+                side: Side::Responder,
+                ..
+            }
+        )
+    );
+    assert!(rt;
+        matches!(
+            &marks[9],
+            Mark::Fed {
+                link: 1,
+                side: Side::Initiator,
+                ..
+            }
+        )
+    );
+    assert!(rt;
+        matches!(
+            &marks[10],
+            Mark::Done {
+                link: 1,
+                xid: 1,
+                outcome: Outcome::Reply(_)
+            }
+        )
+    );
+    assert_eq!(rt; report.journal.len(), 0);
+    assert!(rt; report.journal.is_empty());
+    let calls = report.calls.as_slice();
+    assert_eq!(rt; calls.len(), 1);
+    assert_eq!(rt; (calls[0].client, calls[0].number), (1, 1));
+    Ok(())
+}
+
+/// A line of each form but that of a reply.
+#[test]
+fn forms(rt: HostRuntime) -> Result<(), Fail> {
+    let mut tolds = Vec::new(rt.alloc());
+    let fates = [
+        Fate::Out,
+        Fate::Lost,
+        Fate::Forgotten,
+        Fate::Answered {
+            place: Some(0),
+            outcome: Outcome::Chunk,
+        },
+        Fate::Answered {
+            place: None,
+            outcome: Outcome::Chunk,
+        },
+        Fate::Answered {
+            place: None,
+            outcome: Outcome::Version { low: 1, high: 1 },
+        },
+        Fate::Refused(Refused::NoCredit { out: 4, grant: 4 }),
+        Fate::Refused(Refused::TooLarge {
+            need: 1028,
+            room: 1024,
+        }),
+        Fate::Refused(Refused::Ended(End::Terminated { reason: 5 })),
+    ];
+    for fate in fates {
+        tolds.push(Told {
+            client: 2,
+            number: 7,
+            fate,
+        })?;
+    }
+    let report = Report {
+        marks: Marks {
+            marks: Vec::new(rt.alloc()),
+        },
+        journal: Journal {
+            entries: Vec::new(rt.alloc()),
+        },
+        calls: Tolds { tolds },
+        logs: Logs {
+            ways: Vec::new(rt.alloc()),
+        },
+    };
+    let wanted =
+        b"2 7 open\n2 7 lost\n2 7 forgotten\n2 7 place 0 chunk\n2 7 chunk\n2 7 version 1 1\n\
+2 7 refused credit 4 4\n2 7 refused large 1028 1024\n2 7 refused ended\njournal 0\n";
+    assert_eq!(rt; shown(rt.alloc(), &report)?.as_slice(), wanted.as_slice());
+    Ok(())
+}
