@@ -3,9 +3,8 @@
 
 use nr_outside::{StdSink, StdSource, write_whole};
 use nr_top::{run, status};
-use std::env;
-use std::io;
 use std::process::ExitCode;
+use std::{env, io};
 
 /// The words that the program was started with, its name first.
 fn words(rt: &HostRuntime) -> io::Result<Vec<String>> {

@@ -1,6 +1,5 @@
 -- The k-th call and reply of a drill on the link.
-use Rattle.std.proofs.Common.{◌≡◌, ℕ, zero, suc, ◌+◌, ◌^◌, ◌<◌, ◌≤◌, Bool, true, List, [], ◌∷◌, ◌++◌, length, Option, Some, Ok, option_and_then, refl, sym, ap, ◌∙◌, arith}
-use Rattle.std.specs.List.{filter_map}
+use Rattle.std.proofs.Common.{◌≡◌, ℕ, ◌^◌, ◌<◌, List, [], length, Some, option_and_then, refl, ap, ◌∙◌, arith}
 use Rattle.nr_rpc.specs.declared.head.ReplyHead.TheVariants.{Accepted}
 use Rattle.nr_rpc.proofs.Replies.{reply_written}
 use Rattle.nr_wire.specs.declared.hello.Side.TheVariants.{Initiator, Responder}
@@ -11,7 +10,7 @@ use Rattle.nr_world.specs.Messages.{inline_message, messages, conveyed, call_in,
 use Rattle.nr_world.specs.Ending.{ended_by}
 use Rattle.nr_world.specs.Plain.{null_reply}
 use Rattle.nr_world.specs.Steps.{asked_payload, ask, answer}
-use Rattle.nr_world.specs.Stands.{upward, downward, joined, each}
+use Rattle.nr_world.specs.Stands.{upward, downward, each}
 use Rattle.nr_world.proofs.Nulls.{call_of-asked, length-asked_payload, length-null_reply}
 use Rattle.nr_world.proofs.Inline.{length-inline_message, call_in-message, reply_in-message}
 use Rattle.nr_world.proofs.Streams.{IsSend, send-is, AreSends, messages-each, send_segment}
@@ -58,15 +57,15 @@ answer-conveys credits k small few = rw (answer-is credits k small).found (reply
 
 asks-are : (credits n : ℕ) → n < 2 ^ 32 → AreSends (ask credits) (asked_message credits) n
 asks-are credits n small = record {
-    frames = λ k le. (ask-is credits k (omega arith)).is_frame;
-    parts = λ k le. rw (ask-is credits k (omega arith)).says refl;
-  }
+  frames = λ k le. (ask-is credits k (omega arith)).is_frame;
+  parts = λ k le. rw (ask-is credits k (omega arith)).says refl;
+}
 
 answers-are : (credits n : ℕ) → n < 2 ^ 32 → AreSends (answer credits) (answered_message credits) n
 answers-are credits n small = record {
-    frames = λ k le. (answer-is credits k (omega arith)).is_frame;
-    parts = λ k le. rw (answer-is credits k (omega arith)).says refl;
-  }
+  frames = λ k le. (answer-is credits k (omega arith)).is_frame;
+  parts = λ k le. rw (answer-is credits k (omega arith)).says refl;
+}
 
 -- the streams, message by message
 pub messages-upward : (credits n : ℕ) → n < 2 ^ 32 → messages Initiator (upward credits n) ≡ each (asked_message credits) n

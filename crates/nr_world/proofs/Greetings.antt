@@ -1,5 +1,5 @@
 -- A side's own hello is accepted, and what waits in a pipe is peeked whole.
-use Rattle.std.proofs.Common.{◌≡◌, ℕ, ◌+◌, ◌-◌, List, [], length, take, drop, sym, ap, ◌∙◌, refl, arith}
+use Rattle.std.proofs.Common.{◌≡◌, ℕ, ◌+◌, List, [], length, ap, ◌∙◌, refl, arith}
 use Rattle.std.proofs.lemmas.List.{take_all, length-drop}
 use Rattle.nr_outside.specs.Pipe.{PipeState, waiting_in, next_in}
 use Rattle.nr_wire.specs.declared.hello.Hello.{Hello as HelloFrame}

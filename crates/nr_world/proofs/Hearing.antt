@@ -1,11 +1,11 @@
 -- All down: the client is fed the reply, and hands it over.
-use Rattle.std.proofs.Common.{◌≡◌, ◌≢◌, ℕ, zero, suc, ◌+◌, ◌-◌, ◌^◌, ◌<◌, ◌≤◌, Bool, true, false, cond, not, ◌||◌, ltb, eqb, List, [], ◌∷◌, ◌++◌, length, take, drop, find, Option, Some, None, option_and_then, refl, sym, ap, subst, ◌∙◌, append_assoc, arith, add-one, add-zero, inl, inr}
+use Rattle.std.proofs.Common.{◌≡◌, ℕ, zero, suc, ◌+◌, ◌^◌, ◌<◌, ◌≤◌, Bool, true, false, cond, ◌||◌, ltb, eqb, List, [], ◌∷◌, ◌++◌, length, take, drop, find, Some, None, option_and_then, refl, sym, ap, subst, ◌∙◌, append_assoc, arith, add-one, inl, inr}
 use Rattle.std.specs.List.{flat_map, list_any}
 use Rattle.std.proofs.lemmas.Bool.{cases_lt, lt-ltb, le-ltb, eq-eqb, ne_eqb}
 use Rattle.std.proofs.lemmas.List.{append-nil, drop_all, length_push}
 use Rattle.std.proofs.lemmas.List.Folds.{list_any-append}
 use Rattle.nr_outside.specs.Pipe.{PipeState, waiting_in}
-use Rattle.nr_wire.specs.declared.hello.Side.TheVariants.{Initiator, Responder}
+use Rattle.nr_wire.specs.declared.hello.Side.TheVariants.{Initiator}
 use Rattle.nr_wire.specs.Next.{segment_in}
 use Rattle.nr_world.specs.declared.call.Outcome.TheVariants as outcomes
 use Rattle.nr_world.specs.declared.mark.Mark.{Mark}
@@ -13,15 +13,15 @@ use Rattle.nr_world.specs.declared.mark.Mark.TheVariants as marks
 use Rattle.nr_world.specs.declared.mark.Conveyed.{Conveyed}
 use Rattle.nr_world.specs.declared.report.Fate.TheVariants as fates
 use Rattle.nr_world.specs.declared.report.Told.{Told}
-use Rattle.nr_world.specs.Observed.{Accepted, Completed, accepted, completed}
+use Rattle.nr_world.specs.Observed.{Completed, accepted, completed}
 use Rattle.nr_world.specs.Messages.{reply_in, conveyed}
 use Rattle.nr_world.specs.Ending.{ended_by}
 use Rattle.nr_world.specs.Window.{heard}
-use Rattle.nr_world.specs.Plain.{null_reply, drill_server}
-use Rattle.nr_world.specs.Follows.{Drill, Way, drill_opened, settled, feeding, taken, done_with, done_for, down_by, all_down}
-use Rattle.nr_world.specs.Steps.{State, the_link, answer, all_read, fed_down, done_one, done_by, heard_by, heard as heard_state, waits, is_some_byte}
-use Rattle.nr_world.specs.Stands.{each, upward, downward, accepted_call, completed_call, told_call, Counts, counts_of, arrived_one, At, Laws, Stands, drill_of}
-use Rattle.nr_world.proofs.Runs.{flat_map-more, length-each}
+use Rattle.nr_world.specs.Plain.{null_reply}
+use Rattle.nr_world.specs.Follows.{Drill, drill_opened, settled, feeding, taken, done_for, down_by, all_down}
+use Rattle.nr_world.specs.Steps.{State, the_link, answer, all_read, fed_down, done_by, heard_by, heard as heard_state, waits, is_some_byte}
+use Rattle.nr_world.specs.Stands.{each, downward, accepted_call, completed_call, told_call, Counts, counts_of, arrived_one, At, Stands, drill_of}
+use Rattle.nr_world.proofs.Runs.{flat_map-more}
 use Rattle.nr_world.proofs.Frames.{conveyed_reply, answer-conveys}
 use Rattle.nr_world.proofs.Marking.{downward-more}
 use Rattle.nr_world.proofs.OneMark.{feed_down, complete, At-feed_down, At-complete}
@@ -63,7 +63,7 @@ find-past p f (suc n) more h =
 done_for-done : (credits : ℕ) (run : List Mark) (n : Counts) (k : ℕ) → At credits run n → 0 < k → k ≤ n.done → done_for the_link run (accepted_call k) ≡ []
 done_for-done credits run n k at lt le =
     let known : list_any (λ c. eqb c.xid k) (completed the_link run) ≡ true =
-      ap (list_any (λ (c : Completed). eqb c.xid k)) at.completed_are ∙ list_any-each (λ (c : Completed). eqb c.xid k) completed_call n.done k lt le (eq-eqb k k refl) in
+    ap (list_any (λ (c : Completed). eqb c.xid k)) at.completed_are ∙ list_any-each (λ (c : Completed). eqb c.xid k) completed_call n.done k lt le (eq-eqb k k refl) in
     rw known refl
 
 not_done : (credits : ℕ) (run : List Mark) (n : Counts) (k : ℕ) → At credits run n → n.done < k → list_any (λ c. eqb c.xid k) (completed the_link run) ≡ false
@@ -75,8 +75,8 @@ not_done credits run n k at lt =
 done_for-out : (credits : ℕ) (run : List Mark) (n : Counts) (k : ℕ) → At credits run n → n.done < k → n.heard < k → n.heard < 2 ^ 32 → credits < 2 ^ 32 → done_for the_link run (accepted_call k) ≡ []
 done_for-out credits run n k at lt later small few =
     let none : find (λ reply. eqb reply.xid k) (conveyed reply_in (heard the_link run)) ≡ None =
-      ap (find (λ (reply : Conveyed). eqb reply.xid k)) (replies-are credits run n at small few ∙ sym (append-nil (each conveyed_reply n.heard)))
-      ∙ find-past (λ (reply : Conveyed). eqb reply.xid k) conveyed_reply n.heard [] (λ j pos le. ne_eqb j k (λ e. omega (arith, e))) in
+    ap (find (λ (reply : Conveyed). eqb reply.xid k)) (replies-are credits run n at small few ∙ sym (append-nil (each conveyed_reply n.heard)))
+    ∙ find-past (λ (reply : Conveyed). eqb reply.xid k) conveyed_reply n.heard [] (λ j pos le. ne_eqb j k (λ e. omega (arith, e))) in
     rw (not_done credits run n k at lt, none) refl
 
 -- the last reply's call is handed over
@@ -84,9 +84,9 @@ done_for-last : (credits : ℕ) (run : List Mark) (n : Counts) (k : ℕ) → At 
 done_for-last credits run n k at lt last small few =
     let p = λ (reply : Conveyed). eqb reply.xid (suc k) in
     let found : find p (conveyed reply_in (heard the_link run)) ≡ Some (conveyed_reply (suc k)) =
-      ap (find p) (replies-are credits run n at small few ∙ ap (each conveyed_reply) last)
-      ∙ find-past p conveyed_reply k (conveyed_reply (suc k) ∷ []) (λ j pos le. ne_eqb j (suc k) (λ e. omega (arith, e)))
-      ∙ ap (λ (b : Bool). cond b (Some (conveyed_reply (suc k))) None) (eq-eqb (suc k) (suc k) refl) in
+    ap (find p) (replies-are credits run n at small few ∙ ap (each conveyed_reply) last)
+    ∙ find-past p conveyed_reply k (conveyed_reply (suc k) ∷ []) (λ j pos le. ne_eqb j (suc k) (λ e. omega (arith, e)))
+    ∙ ap (λ (b : Bool). cond b (Some (conveyed_reply (suc k))) None) (eq-eqb (suc k) (suc k) refl) in
     rw (not_done credits run n (suc k) at lt, found) refl
 
 -- what is handed over
@@ -94,10 +94,10 @@ none_taken : (credits : ℕ) (run : List Mark) (n : Counts) → At credits run n
 none_taken credits run n at same small few =
     ap (flat_map (done_for the_link run)) at.accepted_are
     ∙ flat_map-each (done_for the_link run) accepted_call n.asked (λ k lt le.
-      elim (cases_lt n.done k) [
-        | inl out ↦ done_for-out credits run n k at out (omega arith) small few
-        | inr done ↦ done_for-done credits run n k at lt done
-      ])
+    elim (cases_lt n.done k) [
+      | inl out ↦ done_for-out credits run n k at out (omega arith) small few
+      | inr done ↦ done_for-done credits run n k at lt done
+    ])
 
 last_taken : (credits : ℕ) (run : List Mark) (n : Counts) (k : ℕ) → At credits run n → n.asked ≡ suc k → n.heard ≡ suc k → n.done ≡ k → n.heard < 2 ^ 32 → credits < 2 ^ 32 → flat_map (done_for the_link run) (accepted the_link run) ≡ complete (suc k) ∷ []
 last_taken credits run n k at all last before small few =
@@ -145,11 +145,14 @@ hears_none s st all =
     let small : length s.told < 2 ^ 32 = omega (arith, w.small, st.heard_served, st.came_asked) in
     let fed = feeding-none Initiator (take (length (waiting_in s.down)) (waiting_in s.down)) (record { up = waiting_in s.up; down = drop (length (waiting_in s.down)) (waiting_in s.down) }) d (take_length (waiting_in s.down) ∙ none) in
     let makes : all_down (drill_opened c) the_link d ≡ d =
-      ap (λ (x : Drill). settled (drill_opened c) the_link (taken the_link x)) fed
-      ∙ ap (settled (drill_opened c) the_link) (taken-none c d (counts_of s) st.at refl small w.few)
-      ∙ settled-none c d (counts_of s) st.at refl refl in
+    ap (λ (x : Drill). settled (drill_opened c) the_link (taken the_link x)) fed
+    ∙ ap (settled (drill_opened c) the_link) (taken-none c d (counts_of s) st.at refl small w.few)
+    ∙ settled-none c d (counts_of s) st.at refl refl in
     subst (λ (t : State). Hears s t) (sym same) (record {
-      stands = st; asked_is = refl; credits_are = refl; makes = sym makes;
+      stands = st;
+      asked_is = refl;
+      credits_are = refl;
+      makes = sym makes;
       all = sym all;
       moved = ap is_some_byte none ∙ sym (le-ltb (length s.told) s.served (omega (arith, all)));
       still = λ e. refl;
@@ -158,16 +161,31 @@ hears_none s st all =
 -- the state after the k-th reply was handed over, told of a place and under a number
 abbrev after_heard : State → ℕ → ℕ → ℕ → State
 after_heard s k place number = record {
-    credits = s.credits; marks = (s.marks ++ feed_down s.credits k ∷ []) ++ complete k ∷ []; up = s.up; down = all_read s.down;
-    asked = s.asked; arrived = s.arrived; served = s.served; entries = s.entries; place = s.place;
-    told = s.told ++ record { client = the_link; number = number; fate = fates.Answered (Some place) (outcomes.Reply (null_reply k)) } ∷ [];
-  }
+  credits = s.credits;
+  marks = (s.marks ++ feed_down s.credits k ∷ []) ++ complete k ∷ [];
+  up = s.up;
+  down = all_read s.down;
+  asked = s.asked;
+  arrived = s.arrived;
+  served = s.served;
+  entries = s.entries;
+  place = s.place;
+  told = s.told ++ record { client = the_link; number = number; fate = fates.Answered (Some place) (outcomes.Reply (null_reply k)) } ∷ [];
+}
 
 abbrev fed_with : State → List ℕ → State
 fed_with s bytes = record {
-    credits = s.credits; marks = s.marks ++ marks.Fed the_link Initiator bytes ∷ []; up = s.up; down = all_read s.down;
-    asked = s.asked; arrived = s.arrived; served = s.served; entries = s.entries; place = s.place; told = s.told;
-  }
+  credits = s.credits;
+  marks = s.marks ++ marks.Fed the_link Initiator bytes ∷ [];
+  up = s.up;
+  down = all_read s.down;
+  asked = s.asked;
+  arrived = s.arrived;
+  served = s.served;
+  entries = s.entries;
+  place = s.place;
+  told = s.told;
+}
 
 heard-is : (s : State) (k : ℕ) → waiting_in s.down ≡ answer s.credits k → k < 2 ^ 32 → s.credits < 2 ^ 32 → heard_state s ≡ after_heard s k s.place (length s.told + 1)
 unfolding heard_state
@@ -191,7 +209,7 @@ hears_one s st next none =
     let waits = down-one s st next in
     let new = after_heard s k 0 k in
     let same : heard_state s ≡ new =
-      heard-is s k waits small w.few ∙ ap (λ (p : ℕ). after_heard s k p (h + 1)) st.no_place ∙ ap (after_heard s k 0) (add-one h) in
+    heard-is s k waits small w.few ∙ ap (λ (p : ℕ). after_heard s k p (h + 1)) st.no_place ∙ ap (after_heard s k 0) (add-one h) in
     let run = s.marks ++ feed_down c k ∷ [] in
     let n1 : Counts = record n { heard = k } in
     let at1 : At c run n1 = At-feed_down c s.marks n st.at in
@@ -207,18 +225,18 @@ hears_one s st next none =
     let last : Drill = record { marks = run ++ complete k ∷ []; ways = record { up = up; down = [] } ∷ []; seconds = 0 } in
     let some : 0 < length (waiting_in s.down) = omega (arith, some_answer c k small, ap length waits) in
     let fed : feeding the_link Initiator (take (length (waiting_in s.down)) (waiting_in s.down)) (record { up = up; down = drop (length (waiting_in s.down)) (waiting_in s.down) }) d ≡ fed_drill =
-      ap (λ (xs : List ℕ). feeding the_link Initiator xs (record { up = up; down = drop (length (waiting_in s.down)) (waiting_in s.down) }) d) (take_length (waiting_in s.down))
-      ∙ ap (λ (xs : List ℕ). feeding the_link Initiator (waiting_in s.down) (record { up = up; down = xs }) d) (drop_length (waiting_in s.down))
-      ∙ feeding-some Initiator (waiting_in s.down) (record { up = up; down = [] }) d some
-      ∙ ap (λ (xs : List ℕ). record { marks = s.marks ++ marks.Fed the_link Initiator xs ∷ []; ways = record { up = up; down = [] } ∷ []; seconds = 0 }) waits in
+    ap (λ (xs : List ℕ). feeding the_link Initiator xs (record { up = up; down = drop (length (waiting_in s.down)) (waiting_in s.down) }) d) (take_length (waiting_in s.down))
+    ∙ ap (λ (xs : List ℕ). feeding the_link Initiator (waiting_in s.down) (record { up = up; down = xs }) d) (drop_length (waiting_in s.down))
+    ∙ feeding-some Initiator (waiting_in s.down) (record { up = up; down = [] }) d some
+    ∙ ap (λ (xs : List ℕ). record { marks = s.marks ++ marks.Fed the_link Initiator xs ∷ []; ways = record { up = up; down = [] } ∷ []; seconds = 0 }) waits in
     let handed = last_taken c run n1 h at1 all_asked refl refl small w.few in
     let makes : all_down (drill_opened c) the_link d ≡ last =
-      ap (λ (x : Drill). settled (drill_opened c) the_link (taken the_link x)) fed
-      ∙ ap (λ (xs : List Mark). settled (drill_opened c) the_link (record { marks = run ++ xs; ways = record { up = up; down = [] } ∷ []; seconds = 0 })) handed
-      ∙ settled-none c last (record n1 { done = k }) at2 refl refl in
+    ap (λ (x : Drill). settled (drill_opened c) the_link (taken the_link x)) fed
+    ∙ ap (λ (xs : List Mark). settled (drill_opened c) the_link (record { marks = run ++ xs; ways = record { up = up; down = [] } ∷ []; seconds = 0 })) handed
+    ∙ settled-none c last (record n1 { done = k }) at2 refl refl in
     let read : waiting_in (all_read s.down) ≡ [] = drop_all (length s.down.log) s.down.log (omega arith) in
     let both : At c (run ++ complete k ∷ []) (record n1 { heard = length new.told; done = length new.told }) =
-      subst (λ (j : ℕ). At c (run ++ complete k ∷ []) (record n1 { heard = j; done = j })) (sym told_len) at2 in
+    subst (λ (j : ℕ). At c (run ++ complete k ∷ []) (record n1 { heard = j; done = j })) (sym told_len) at2 in
     subst (λ (t : State). Hears s t) (sym same) (record {
       stands = record {
         at = both;
@@ -236,7 +254,8 @@ hears_one s st next none =
         few_credits = st.few_credits;
         few_calls = st.few_calls;
       };
-      asked_is = refl; credits_are = refl;
+      asked_is = refl;
+      credits_are = refl;
       makes = ap (λ (down : List ℕ). record { marks = run ++ complete k ∷ []; ways = record { up = up; down = down } ∷ []; seconds = 0 }) read ∙ sym makes;
       all = told_len ∙ sym next;
       moved = some_bytes (waiting_in s.down) some ∙ sym (lt-ltb h s.served (omega (arith, next)));

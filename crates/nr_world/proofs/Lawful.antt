@@ -1,5 +1,5 @@
 -- Each mark of a drill keeps the laws of a run.
-use Rattle.std.proofs.Common.{◌≡◌, ◌≢◌, ℕ, zero, suc, ◌+◌, ◌-◌, ◌^◌, ◌<◌, ◌≤◌, Bool, true, false, not, cond, ◌||◌, eqb, inl, inr, List, [], ◌∷◌, ◌++◌, length, Option, Some, None, Contains, slice_get, count_by, refl, sym, ap, subst, ◌∙◌, append_assoc, arith, add-one, one-add}
+use Rattle.std.proofs.Common.{◌≡◌, ℕ, zero, suc, ◌+◌, ◌^◌, ◌<◌, ◌≤◌, Bool, true, false, not, cond, ◌||◌, eqb, inl, inr, List, [], ◌∷◌, ◌++◌, length, Some, Contains, slice_get, count_by, refl, sym, ap, subst, ◌∙◌, arith}
 use Rattle.std.specs.List.{filter, list_any}
 use Rattle.std.proofs.lemmas.Bool.{eq-eqb, cases_lt}
 use Rattle.std.proofs.lemmas.Bool.Decides.{nat_tests}
@@ -10,17 +10,15 @@ use Rattle.nr_wire.specs.declared.hello.Side.TheVariants.{Initiator, Responder}
 use Rattle.nr_world.specs.declared.call.Outcome.TheVariants as outcomes
 use Rattle.nr_world.specs.declared.mark.Mark.{Mark}
 use Rattle.nr_world.specs.declared.mark.Conveyed.{Conveyed}
-use Rattle.nr_world.specs.Observed.{Accepted, Executed, Completed, accepted, executed, completed, journal, got, sent}
+use Rattle.nr_world.specs.Observed.{Accepted, Executed, Completed, accepted, executed, got, sent}
 use Rattle.nr_world.specs.Messages.{conveyed, messages, call_in, reply_in, xid_in, credit_in}
 use Rattle.nr_world.specs.Window.{heard, is_heard, out_of, credits_by, granted_by, grant_of, has_words}
-use Rattle.nr_world.specs.Asked.{Completes, IsHeard}
+use Rattle.nr_world.specs.Asked.{Completes}
 use Rattle.nr_world.specs.Served.{came, next_call, Executes}
-use Rattle.nr_world.specs.Matched.{IsPrefixOf}
 use Rattle.nr_world.specs.Completion.{IsAnswered}
-use Rattle.nr_world.specs.Follows.{drill_opened}
 use Rattle.nr_world.specs.Plain.{null_reply, drill_server}
-use Rattle.nr_world.specs.Steps.{the_link, null, asked_payload, ask, answer}
-use Rattle.nr_world.specs.Stands.{joined, each, upward, downward, accepted_call, executed_call, completed_call, Counts, At, Laws}
+use Rattle.nr_world.specs.Steps.{the_link, asked_payload, ask, answer}
+use Rattle.nr_world.specs.Stands.{each, upward, downward, accepted_call, executed_call, completed_call, Counts, At, Laws}
 use Rattle.nr_world.proofs.Runs.{Along-more, filter-each, filter_map-each, length-each, Contains-each, each-within, slice_get-each}
 use Rattle.nr_world.proofs.Nulls.{plain_reply-asked}
 use Rattle.nr_world.proofs.Inline.{has_words-message, xid_in-message}
@@ -51,16 +49,16 @@ list_any-each p f (suc n) k lt le e =
     let step = list_any-append p (each f n) (f (suc n) ∷ []) in
     elim (cases_lt n k) [
       | inl last ↦
-        let is : k ≡ suc n = omega arith in
-        let own : p (f (suc n)) ≡ true = subst (λ (j : ℕ). p (f j) ≡ true) is e in
-        step ∙ ap (λ (b : Bool). list_any p (each f n) || (b || false)) own ∙ or-true (list_any p (each f n))
+          let is : k ≡ suc n = omega arith in
+          let own : p (f (suc n)) ≡ true = subst (λ (j : ℕ). p (f j) ≡ true) is e in
+          step ∙ ap (λ (b : Bool). list_any p (each f n) || (b || false)) own ∙ or-true (list_any p (each f n))
       | inr before ↦ step ∙ ap (λ (b : Bool). b || list_any p (f (suc n) ∷ [])) (list_any-each p f n k lt before e)
     ]
 
 heard-one : (credits n k : ℕ) → 0 < k → k ≤ n → n < 2 ^ 32 → credits < 2 ^ 32 → is_heard (each (answered_message credits) n) (accepted_call k) ≡ true
 heard-one credits n k lt le small few =
     list_any-each (λ message. eqb (xid_in message) k) (answered_message credits) n k lt le
-      (eq-eqb (xid_in (answered_message credits k)) k (xid_in-message k credits (null_reply k) (omega arith)))
+    (eq-eqb (xid_in (answered_message credits k)) k (xid_in-message k credits (null_reply k) (omega arith)))
 
 none_out : (credits : ℕ) (n m : ℕ) → m ≤ n → n < 2 ^ 32 → credits < 2 ^ 32 → count_by (λ a. not (is_heard (each (answered_message credits) n) a)) (each accepted_call m) ≡ 0
 none_out credits n zero le small few = refl
@@ -108,7 +106,7 @@ pub Laws-write_up : (credits : ℕ) (run : List Mark) (n : Counts) → At credit
 Laws-write_up credits run n at laws next =
     let m = write_up credits (suc n.sent_up) in
     let all : sent the_link Initiator run ++ ask credits (suc n.sent_up) ≡ upward credits (suc n.sent_up) =
-      ap (λ (xs : List ℕ). xs ++ ask credits (suc n.sent_up)) at.up_sent ∙ sym (upward-more credits n.sent_up) in
+    ap (λ (xs : List ℕ). xs ++ ask credits (suc n.sent_up)) at.up_sent ∙ sym (upward-more credits n.sent_up) in
     record {
       asked = Along-more _ [] run m laws.asked (λ e. all ∙ ap (upward credits) (sym next) ∙ sym at.up_owed);
       served = Along-more _ [] run m laws.served tt;
@@ -122,7 +120,7 @@ pub Laws-write_down : (credits : ℕ) (run : List Mark) (n : Counts) → At cred
 Laws-write_down credits run n at laws next =
     let m = write_down credits (suc n.sent_down) in
     let all : sent the_link Responder run ++ answer credits (suc n.sent_down) ≡ downward credits (suc n.sent_down) =
-      ap (λ (xs : List ℕ). xs ++ answer credits (suc n.sent_down)) at.down_sent ∙ sym (downward-more credits n.sent_down) in
+    ap (λ (xs : List ℕ). xs ++ answer credits (suc n.sent_down)) at.down_sent ∙ sym (downward-more credits n.sent_down) in
     record {
       asked = Along-more _ [] run m laws.asked tt;
       served = Along-more _ [] run m laws.served (λ e. all ∙ ap (downward credits) (sym next) ∙ sym at.down_owed);
@@ -136,7 +134,7 @@ pub Laws-feed_up : (credits : ℕ) (run : List Mark) (n : Counts) → At credits
 Laws-feed_up credits run n at laws next =
     let m = feed_up credits (suc n.came) in
     let all : got the_link Responder run ++ ask credits (suc n.came) ≡ sent the_link Initiator run =
-      ap (λ (xs : List ℕ). xs ++ ask credits (suc n.came)) at.up_got ∙ sym (upward-more credits n.came) ∙ ap (upward credits) (sym next) ∙ sym at.up_sent in
+    ap (λ (xs : List ℕ). xs ++ ask credits (suc n.came)) at.up_got ∙ sym (upward-more credits n.came) ∙ ap (upward credits) (sym next) ∙ sym at.up_sent in
     record {
       asked = Along-more _ [] run m laws.asked tt;
       served = Along-more _ [] run m laws.served tt;
@@ -150,7 +148,7 @@ pub Laws-feed_down : (credits : ℕ) (run : List Mark) (n : Counts) → At credi
 Laws-feed_down credits run n at laws next =
     let m = feed_down credits (suc n.heard) in
     let all : got the_link Initiator run ++ answer credits (suc n.heard) ≡ sent the_link Responder run =
-      ap (λ (xs : List ℕ). xs ++ answer credits (suc n.heard)) at.down_got ∙ sym (downward-more credits n.heard) ∙ ap (downward credits) (sym next) ∙ sym at.down_sent in
+    ap (λ (xs : List ℕ). xs ++ answer credits (suc n.heard)) at.down_got ∙ sym (downward-more credits n.heard) ∙ ap (downward credits) (sym next) ∙ sym at.down_sent in
     record {
       asked = Along-more _ [] run m laws.asked tt;
       served = Along-more _ [] run m laws.served tt;
@@ -165,17 +163,17 @@ pub next_call-is : (credits : ℕ) (run : List Mark) (n : Counts) → At credits
 unfolding next_call
 next_call-is credits run n at lt small few =
     let calls : came the_link run ≡ each conveyed_call n.came =
-      ap (λ (xs : List ℕ). conveyed call_in (messages Initiator xs)) at.up_got ∙ calls-upward credits n.came small few in
+    ap (λ (xs : List ℕ). conveyed call_in (messages Initiator xs)) at.up_got ∙ calls-upward credits n.came small few in
     let len : length (executed the_link run) ≡ n.served = ap length at.executed_are ∙ length-each executed_call n.served in
     ap (λ (cs : List Conveyed). slice_get cs (length (executed the_link run))) calls
     ∙ ap (slice_get (each conveyed_call n.came)) len ∙ slice_get-each conveyed_call n.served n.came lt
 
 pub executes-is : (credits : ℕ) (run : List Mark) (n : Counts) → At credits run n → n.served < n.came → n.came < 2 ^ 32 → credits < 2 ^ 32 → Executes drill_server the_link run (suc n.served) (record { seconds = 0; nanos = 0 }) (asked_payload (suc n.served)) 0 (null_reply (suc n.served))
 executes-is credits run n at lt small few = record {
-    is_next = next_call-is credits run n at lt small few;
-    placed = sym (ap length at.no_entries);
-    replied = plain_reply-asked (suc n.served) (omega arith);
-  }
+  is_next = next_call-is credits run n at lt small few;
+  placed = sym (ap length at.no_entries);
+  replied = plain_reply-asked (suc n.served) (omega arith);
+}
 
 pub Laws-execute : (credits : ℕ) (run : List Mark) (n : Counts) → At credits run n → Laws credits run → n.served < n.came → n.came < 2 ^ 32 → credits < 2 ^ 32 → Laws credits (run ++ execute (suc n.served) ∷ [])
 Laws-execute credits run n at laws lt small few =
@@ -197,9 +195,9 @@ completes-is credits run n at lt le small few =
     record {
       asked = (accepted_call k, subst (λ (as_ : List Accepted). Contains as_ (accepted_call k)) (sym at.accepted_are) (Contains-each accepted_call n.asked k (omega arith) (omega arith)), refl);
       first = λ c held e.
-        let of = each-within completed_call n.done c (subst (λ (cs : List Completed). Contains cs c) at.completed_are held) in
-        let same : of.0 ≡ c.xid = ap (λ (d : Completed). d.xid) of.3 in
-        absurd (omega (arith, of.2, same, e));
+          let of = each-within completed_call n.done c (subst (λ (cs : List Completed). Contains cs c) at.completed_are held) in
+          let same : of.0 ≡ c.xid = ap (λ (d : Completed). d.xid) of.3 in
+          absurd (omega (arith, of.2, same, e));
       heard = subst (λ (rs : List Conveyed). Contains rs (conveyed_reply k)) (sym replies) (Contains-each conveyed_reply n.heard k (omega arith) (omega arith));
     }
 
@@ -207,12 +205,20 @@ pub answered-is : (credits : ℕ) (run : List Mark) (n : Counts) → At credits 
 answered-is credits run n at lt le small =
     let k = suc n.done in
     record {
-      accepted = (accepted_call k,
+      accepted = (
+        accepted_call k,
         subst (λ (as_ : List Accepted). Contains as_ (accepted_call k)) (sym at.accepted_are) (Contains-each accepted_call n.asked k (omega arith) (omega arith)),
         refl,
-        (executed_call k,
+        (
+          executed_call k,
           subst (λ (es : List Executed). Contains es (executed_call k)) (sym at.executed_are) (Contains-each executed_call n.served k (omega arith) (omega arith)),
-          refl, refl, refl, omega arith, plain_reply-asked k small));
+          refl,
+          refl,
+          refl,
+          omega arith,
+          plain_reply-asked k small,
+        ),
+      );
     }
 
 pub Laws-complete : (credits : ℕ) (run : List Mark) (n : Counts) → At credits run n → Laws credits run → n.done < n.heard → n.heard ≤ n.asked → n.done < n.served → n.heard < 2 ^ 32 → credits < 2 ^ 32 → Laws credits (run ++ complete (suc n.done) ∷ [])

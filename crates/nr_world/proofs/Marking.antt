@@ -1,27 +1,19 @@
 -- One more mark of a drill: what it changes of what the marks say.
-use Rattle.std.proofs.Common.{◌≡◌, ℕ, zero, suc, ◌+◌, ◌-◌, ◌^◌, ◌<◌, ◌≤◌, Bool, true, false, cond, not, List, [], ◌∷◌, ◌++◌, length, Option, Some, None, fold, refl, sym, ap, ◌∙◌, append_assoc, arith, add-one, add-zero}
+use Rattle.std.proofs.Common.{◌≡◌, ℕ, suc, ◌+◌, Bool, true, false, cond, List, [], ◌∷◌, ◌++◌, length, None, refl, sym, ap, ◌∙◌, append_assoc, add-zero}
 use Rattle.std.specs.List.{flat_map}
-use Rattle.std.proofs.lemmas.List.{append-nil, length-append}
-use Rattle.nr_wire.specs.declared.hello.Side.{Side}
+use Rattle.std.proofs.lemmas.List.{append-nil}
 use Rattle.nr_wire.specs.declared.hello.Side.TheVariants.{Initiator, Responder}
-use Rattle.nr_world.specs.declared.call.Form.TheVariants.{Auto}
-use Rattle.nr_world.specs.declared.call.Outcome.TheVariants as outcomes
-use Rattle.nr_world.specs.declared.call.Submission.TheVariants as submissions
 use Rattle.nr_world.specs.declared.mark.Mark.{Mark}
-use Rattle.nr_world.specs.declared.mark.Mark.TheVariants as marks
 use Rattle.nr_world.specs.declared.report.Fate.TheVariants as fates
 use Rattle.nr_world.specs.declared.mark.Opened.{Opened}
 use Rattle.nr_world.specs.declared.report.Told.{Told}
-use Rattle.nr_world.specs.Observed.{PlainServer, wrote, fed, sent, got, accepted_at, accepted, executed_at, executed, completed_at, completed, added, journal}
-use Rattle.nr_world.specs.Messages.{has_hello, send, inline_message}
+use Rattle.nr_world.specs.Observed.{added}
 use Rattle.nr_world.specs.Owed.{own_hello, called_from, called_client, called_server, owed}
-use Rattle.nr_world.specs.Follows.{drill_opened}
-use Rattle.nr_world.specs.Plain.{null_reply, drill_server}
+use Rattle.nr_world.specs.Plain.{drill_server}
 use Rattle.nr_world.specs.Shown.{Seen, is_out, told_by, counted, seen_at, seen_of, asked_at, asked_by, told_at, told_from}
-use Rattle.nr_world.specs.Steps.{the_link, null, asked_payload, ask, answer}
-use Rattle.nr_world.specs.Stands.{joined, each, upward, downward, accepted_call, executed_call, completed_call, Counts, is_one_of, seen_by, At}
-use Rattle.nr_world.proofs.Runs.{flat_map-more, flat_map-none, called_from-more, fold-one, length-each}
-use Rattle.nr_world.proofs.Streams.{has_hello-own}
+use Rattle.nr_world.specs.Steps.{the_link, ask, answer}
+use Rattle.nr_world.specs.Stands.{joined, upward, downward}
+use Rattle.nr_world.proofs.Runs.{flat_map-more, flat_map-none, called_from-more, fold-one}
 
 pub upward-more : (credits n : ℕ) → upward credits (suc n) ≡ upward credits n ++ ask credits (suc n)
 unfolding upward

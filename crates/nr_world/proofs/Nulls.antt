@@ -1,23 +1,18 @@
 -- The calls of these drills: their payloads, messages and Sends, written and read again.
-use Rattle.std.proofs.Common.{◌≡◌, ℕ, zero, suc, ◌+◌, ◌^◌, ◌<◌, ◌≤◌, Bool, true, false, cond, List, [], ◌∷◌, ◌++◌, length, take, drop, replicate, Option, Some, None, Ok, refl, sym, ap, ◌∙◌, append_assoc, arith, lit<}
+use Rattle.std.proofs.Common.{◌≡◌, ℕ, ◌^◌, ◌<◌, [], length, Some, Ok, refl, ap, ◌∙◌, lit<}
 use Rattle.std.proofs.lemmas.List.{append-nil, length-append}
-use Rattle.nr_xdr.specs.Item.{word, word_of, pad_len}
-use Rattle.nr_xdr.proofs.Numbers.{length-word, word_of-word}
+use Rattle.nr_xdr.specs.Item.{pad_len}
+use Rattle.nr_xdr.proofs.Numbers.{length-word}
 use Rattle.nr_rpc.specs.declared.head.CallHead.{CallHead}
 use Rattle.nr_rpc.specs.declared.head.CallHead.TheVariants.{Version2}
-use Rattle.nr_rpc.specs.declared.head.ReplyHead.TheVariants as replies
 use Rattle.nr_rpc.specs.declared.cred.Cred.TheVariants as creds
-use Rattle.nr_rpc.specs.Reading.{call_of, reply_of}
-use Rattle.nr_rpc.specs.Call.{call_head, call_spelling}
-use Rattle.nr_rpc.specs.Reply.{reply_spelling}
+use Rattle.nr_rpc.specs.Reading.{call_of}
+use Rattle.nr_rpc.specs.Call.{call_head}
 use Rattle.nr_rpc.proofs.Calls.{call_written}
-use Rattle.nr_rpc.proofs.Replies.{reply_written}
-use Rattle.nr_wire.specs.Numbers.{word_at}
-use Rattle.nr_world.specs.declared.plain.TheConstants.{NFS_PROGRAM, NFS_VERSION, NULL, SUCCESS}
-use Rattle.nr_world.specs.declared.mark.Conveyed.{Conveyed}
+use Rattle.nr_world.specs.declared.plain.TheConstants.{NFS_PROGRAM, NFS_VERSION, NULL}
 use Rattle.nr_world.specs.Owed.{call_payload}
 use Rattle.nr_world.specs.Plain.{plain_reply, null_reply}
-use Rattle.nr_world.specs.Steps.{null, asked_payload}
+use Rattle.nr_world.specs.Steps.{asked_payload}
 
 -- the head of the k-th call
 abbrev null_head : ℕ → CallHead

@@ -1,8 +1,5 @@
 -- Each mark of a drill raises one count.
-use Rattle.std.proofs.Common.{◌≡◌, ℕ, zero, suc, ◌+◌, ◌-◌, ◌^◌, ◌<◌, ◌≤◌, Bool, true, false, cond, not, eqb, List, [], ◌∷◌, ◌++◌, ◌&&◌, ◌||◌, length, Option, Some, None, refl, sym, ap, ◌∙◌, append_assoc, arith, add-one, add-zero}
-use Rattle.std.specs.List.{flat_map}
-use Rattle.std.proofs.lemmas.List.{append-nil, length-append}
-use Rattle.nr_wire.specs.declared.hello.Side.{Side}
+use Rattle.std.proofs.Common.{◌≡◌, ℕ, suc, ◌+◌, ◌<◌, ◌≤◌, Bool, true, false, cond, not, eqb, List, [], ◌∷◌, ◌++◌, ◌&&◌, ◌||◌, length, Some, None, refl, sym, ap, ◌∙◌, arith, add-one, add-zero}
 use Rattle.nr_wire.specs.declared.hello.Side.TheVariants.{Initiator, Responder}
 use Rattle.nr_world.specs.declared.call.Form.TheVariants.{Auto}
 use Rattle.nr_world.specs.declared.call.Outcome.TheVariants as outcomes
@@ -16,13 +13,13 @@ use Rattle.std.proofs.lemmas.Bool.Decides.{nat_tests}
 use Rattle.std.proofs.lemmas.Bool.{eqb-true}
 use Rattle.nr_world.specs.Observed.{wrote, fed, sent, got, accepted_at, accepted, executed_at, executed, completed_at, completed, added, journal}
 use Rattle.nr_world.specs.Messages.{has_hello, send, inline_message}
-use Rattle.nr_world.specs.Owed.{own_hello, called_client, called_server, owed}
+use Rattle.nr_world.specs.Owed.{own_hello, called_client, called_server}
 use Rattle.nr_world.specs.Follows.{drill_opened}
 use Rattle.nr_world.specs.Plain.{null_reply, drill_server}
-use Rattle.nr_world.specs.Shown.{Seen, is_out, place_for, told_by, counted, seen_at, seen_of, asked_at, asked_by}
+use Rattle.nr_world.specs.Shown.{Seen, is_out, place_for, counted, seen_at, seen_of}
 use Rattle.nr_world.specs.Steps.{the_link, null, asked_payload, ask, answer}
 use Rattle.nr_world.specs.Stands.{joined, each, upward, downward, accepted_call, executed_call, completed_call, Counts, is_one_of, seen_by, told_in, At}
-use Rattle.nr_world.proofs.Runs.{flat_map-more, flat_map-none, length-each}
+use Rattle.nr_world.proofs.Runs.{length-each}
 use Rattle.nr_world.proofs.Marking.{keep, more, owed_up-more, owed_down-more, owed_up-kept, owed_down-kept, asked-more, seen-kept, seen-more, told-more, told-kept, upward-more, downward-more}
 use Rattle.nr_world.proofs.Streams.{has_hello-own}
 
@@ -121,7 +118,7 @@ unfolding sent got accepted executed completed journal seen_by
 At-feed_up credits run n at =
     let m = feed_up credits (suc n.came) in
     let quiet : called_server (drill_opened credits) the_link run m ≡ [] =
-      no_hello (got the_link Responder run) (ask credits (suc n.came)) (ap (has_hello Initiator) at.up_got ∙ hello_came credits n.came) in
+    no_hello (got the_link Responder run) (ask credits (suc n.came)) (ap (has_hello Initiator) at.up_got ∙ hello_came credits n.came) in
     record {
       up_sent = keep (wrote the_link Initiator) run m (upward credits n.sent_up) at.up_sent refl;
       up_got = more (fed the_link Responder) run m (upward credits n.came) at.up_got ∙ sym (upward-more credits n.came);
@@ -174,10 +171,10 @@ abbrev pub seen_so : Bool → Bool → Fate → Seen
 seen_so placed ended fate = record { entries = 0; place = cond placed (Some 0) None; fate = cond ended fate fates.Out }
 
 executed_so : (placed ended own : Bool) (reply : List ℕ) → (ended ≡ true → own ≡ false) →
-  counted drill_server (marks.Lost 0 0)
+    counted drill_server (marks.Lost 0 0)
     (cond (is_out (cond ended (fates.Answered (Some 0) (outcomes.Reply reply)) fates.Out))
-      (cond own (record { entries = 0; place = Some 0; fate = cond ended (fates.Answered (Some 0) (outcomes.Reply reply)) fates.Out }) (seen_so placed ended (fates.Answered (Some 0) (outcomes.Reply reply))))
-      (seen_so placed ended (fates.Answered (Some 0) (outcomes.Reply reply))))
+    (cond own (record { entries = 0; place = Some 0; fate = cond ended (fates.Answered (Some 0) (outcomes.Reply reply)) fates.Out }) (seen_so placed ended (fates.Answered (Some 0) (outcomes.Reply reply))))
+    (seen_so placed ended (fates.Answered (Some 0) (outcomes.Reply reply))))
     ≡ seen_so (placed || own) ended (fates.Answered (Some 0) (outcomes.Reply reply))
 executed_so true true true reply h = absurd (true≢false (h refl))
 executed_so false true true reply h = absurd (true≢false (h refl))
@@ -196,10 +193,10 @@ seen-executed n k later =
 
 -- what its outcome says of it
 completed_so : (placed ended own : Bool) (reply payload : List ℕ) → (ended ≡ true → own ≡ false) → (own ≡ true → placed ≡ true) → (own ≡ true → payload ≡ reply) →
-  counted drill_server (marks.Lost 0 0)
+    counted drill_server (marks.Lost 0 0)
     (cond (is_out (cond ended (fates.Answered (Some 0) (outcomes.Reply reply)) fates.Out))
-      (cond own (record { entries = 0; place = cond placed (Some 0) None; fate = fates.Answered (place_for (outcomes.Reply payload) 0 (cond placed (Some 0) None)) (outcomes.Reply payload) }) (seen_so placed ended (fates.Answered (Some 0) (outcomes.Reply reply))))
-      (seen_so placed ended (fates.Answered (Some 0) (outcomes.Reply reply))))
+    (cond own (record { entries = 0; place = cond placed (Some 0) None; fate = fates.Answered (place_for (outcomes.Reply payload) 0 (cond placed (Some 0) None)) (outcomes.Reply payload) }) (seen_so placed ended (fates.Answered (Some 0) (outcomes.Reply reply))))
+    (seen_so placed ended (fates.Answered (Some 0) (outcomes.Reply reply))))
     ≡ seen_so placed (ended || own) (fates.Answered (Some 0) (outcomes.Reply reply))
 completed_so placed true true reply payload h g e = absurd (true≢false (h refl))
 completed_so placed true false reply payload h g e = refl
@@ -214,7 +211,7 @@ seen-completed : (n : Counts) (k : ℕ) → n.done < n.served → seen_at drill_
 unfolding seen_by
 seen-completed n k later =
     completed_so (is_one_of n.served k) (is_one_of n.done k) (eqb (suc n.done) k) (null_reply k) (null_reply (suc n.done))
-      (is_one-below n.done n.done k (omega arith)) (one_served n.done n.served k later) (λ e. ap null_reply (eqb-true (suc n.done) k e))
+    (is_one-below n.done n.done k (omega arith)) (one_served n.done n.served k later) (λ e. ap null_reply (eqb-true (suc n.done) k e))
     ∙ ap (λ (b : Bool). seen_so (is_one_of n.served k) b (fates.Answered (Some 0) (outcomes.Reply (null_reply k)))) (sym (is_one-more n.done k))
 
 -- the next call is executed

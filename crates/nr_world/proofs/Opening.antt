@@ -1,7 +1,6 @@
 -- A link that is open.
-use Rattle.std.proofs.Common.{◌≡◌, ℕ, zero, suc, ◌+◌, ◌^◌, ◌<◌, ◌≤◌, Bool, true, false, cond, not, ◌&&◌, List, [], ◌∷◌, ◌++◌, length, take, drop, Option, Some, None, lit≤, refl, sym, ap, subst, ◌∙◌, append_assoc, arith}
-use Rattle.std.proofs.lemmas.List.{append-nil, drop_all, drop_at, take_all}
-use Rattle.nr_outside.specs.Pipe.{PipeState, waiting_in}
+use Rattle.std.proofs.Common.{◌≡◌, ℕ, ◌<◌, ◌≤◌, Bool, true, false, cond, not, ◌&&◌, List, [], ◌∷◌, ◌++◌, length, take, drop, Some, lit≤, refl, sym, ap, ◌∙◌, arith}
+use Rattle.std.proofs.lemmas.List.{append-nil}
 use Rattle.nr_wire.specs.declared.hello.Side.{Side}
 use Rattle.nr_wire.specs.declared.hello.Side.TheVariants.{Initiator, Responder}
 use Rattle.nr_wire.specs.declared.stream.Awaited.TheVariants.{Hello as HelloFrom}
@@ -11,17 +10,15 @@ use Rattle.nr_world.specs.declared.mark.Mark.TheVariants as marks
 use Rattle.std.proofs.lemmas.Bool.Decides.{nat_tests}
 use Rattle.nr_world.specs.declared.call.Outcome.TheVariants as outcomes
 use Rattle.nr_world.specs.declared.report.Fate.TheVariants as fates
-use Rattle.nr_world.specs.declared.mark.Opened.{Opened}
 use Rattle.nr_world.specs.declared.script.TheConstants.{MOST_CREDITS}
 use Rattle.nr_world.specs.Observed.{sent, got, accepted, executed, completed, journal}
 use Rattle.nr_world.specs.Messages.{has_hello}
 use Rattle.nr_world.specs.Owed.{own_hello, owed}
-use Rattle.nr_world.specs.Plain.{null_reply, drill_server}
-use Rattle.nr_world.specs.Follows.{Drill, drill_opened, links_of, start, opening, openings, settled, writing, unwritten, feeding, taken, up_by, down_by, all_up, all_down}
+use Rattle.nr_world.specs.Plain.{null_reply}
+use Rattle.nr_world.specs.Follows.{Drill, drill_opened, links_of, start, openings, settled, writing, unwritten, feeding, taken, up_by, down_by, all_up, all_down}
 use Rattle.nr_world.specs.Shown.{seen_of, asked_by}
-use Rattle.nr_world.specs.Steps.{State, the_link, opened_state}
-use Rattle.nr_world.specs.Stands.{upward, downward, Counts, counts_of, is_one_of, seen_by, At, Laws, Stands, IsQuiet, drill_of, Played}
-use Rattle.nr_world.proofs.Runs.{Along-more}
+use Rattle.nr_world.specs.Steps.{the_link, opened_state}
+use Rattle.nr_world.specs.Stands.{upward, downward, Counts, is_one_of, seen_by, At, Laws, Stands, drill_of, Played}
 use Rattle.nr_world.proofs.Streams.{has_hello-own, own_hello-frame}
 use Rattle.nr_world.proofs.OneMark.{seen_so}
 use Rattle.nr_world.proofs.Settling.{writing-none, writing-some, feeding-some, settled-none}
@@ -55,31 +52,31 @@ hello_called = called (has_hello Initiator []) (has_hello Initiator (own_hello I
 At-open : (credits : ℕ) → At credits open_marks no_counts
 unfolding sent got accepted executed completed journal owed upward downward seen_of seen_by asked_by
 At-open credits = record {
-    up_sent = refl;
-    up_got = refl;
-    down_sent = refl;
-    down_got = refl;
-    up_owed = refl;
-    down_owed = ap (λ (xs : List ℕ). xs ++ []) hello_called;
-    accepted_are = refl;
-    executed_are = refl;
-    completed_are = refl;
-    asked_are = refl;
-    no_entries = refl;
-    told_are = λ last. refl;
-    seen_are = λ k. sym (ap (λ (b : Bool). seen_so b b (fates.Answered (Some 0) (outcomes.Reply (null_reply k)))) (none_one k));
-  }
+  up_sent = refl;
+  up_got = refl;
+  down_sent = refl;
+  down_got = refl;
+  up_owed = refl;
+  down_owed = ap (λ (xs : List ℕ). xs ++ []) hello_called;
+  accepted_are = refl;
+  executed_are = refl;
+  completed_are = refl;
+  asked_are = refl;
+  no_entries = refl;
+  told_are = λ last. refl;
+  seen_are = λ k. sym (ap (λ (b : Bool). seen_so b b (fates.Answered (Some 0) (outcomes.Reply (null_reply k)))) (none_one k));
+}
 
 Laws-open : (credits : ℕ) → Laws credits open_marks
 unfolding sent got owed
 Laws-open credits = record {
-    asked = (λ e. sym (append-nil (own_hello Initiator)), (tt, (tt, (tt, tt))));
-    served = (tt, (tt, (λ e. sym (append-nil (own_hello Responder)) ∙ sym (ap (λ (xs : List ℕ). xs ++ []) hello_called), (tt, tt))));
-    matched = (tt, (λ e. ([], refl), (tt, (λ e. ([], refl), tt))));
-    grant = (tt, (tt, (tt, (tt, tt))));
-    faithful = (tt, (tt, (tt, (tt, tt))));
-    unrefused = (tt, (tt, (tt, (tt, tt))));
-  }
+  asked = (λ e. sym (append-nil (own_hello Initiator)), (tt, (tt, (tt, tt))));
+  served = (tt, (tt, (λ e. sym (append-nil (own_hello Responder)) ∙ sym (ap (λ (xs : List ℕ). xs ++ []) hello_called), (tt, tt))));
+  matched = (tt, (λ e. ([], refl), (tt, (λ e. ([], refl), tt))));
+  grant = (tt, (tt, (tt, (tt, tt))));
+  faithful = (tt, (tt, (tt, (tt, tt))));
+  unrefused = (tt, (tt, (tt, (tt, tt))));
+}
 
 -- a hello has bytes
 some_hello : (side : Side) → 0 < length (own_hello side)
@@ -90,9 +87,10 @@ opened_up = record { marks = marks.Wrote the_link Initiator (own_hello Initiator
 
 abbrev opened_down : Drill
 opened_down = record {
-    marks = marks.Wrote the_link Initiator (own_hello Initiator) ∷ marks.Fed the_link Responder (own_hello Initiator) ∷ marks.Wrote the_link Responder (own_hello Responder) ∷ [];
-    ways = record { up = []; down = own_hello Responder } ∷ []; seconds = 0;
-  }
+  marks = marks.Wrote the_link Initiator (own_hello Initiator) ∷ marks.Fed the_link Responder (own_hello Initiator) ∷ marks.Wrote the_link Responder (own_hello Responder) ∷ [];
+  ways = record { up = []; down = own_hello Responder } ∷ [];
+  seconds = 0;
+}
 
 abbrev opened_all : Drill
 opened_all = record { marks = open_marks; ways = record { up = []; down = [] } ∷ []; seconds = 0 }
@@ -103,7 +101,7 @@ first_settled credits =
     let o = drill_opened credits in
     let bytes : unwritten o the_link Initiator (start 1) ≡ own_hello Initiator = append-nil (own_hello Initiator) in
     let first : writing the_link Initiator (unwritten o the_link Initiator (start 1)) (start 1) ≡ opened_up =
-      ap (λ (b : List ℕ). writing the_link Initiator b (start 1)) bytes ∙ writing-some Initiator (own_hello Initiator) (start 1) (some_hello Initiator) in
+    ap (λ (b : List ℕ). writing the_link Initiator b (start 1)) bytes ∙ writing-some Initiator (own_hello Initiator) (start 1) (some_hello Initiator) in
     ap (λ (x : Drill). writing the_link Responder (unwritten o the_link Responder x) x) first
 
 then_up : (credits : ℕ) → all_up (drill_opened credits) the_link opened_up ≡ opened_down
@@ -113,9 +111,9 @@ then_up credits =
     let hello = own_hello Initiator in
     let fed_drill : Drill = record { marks = marks.Wrote the_link Initiator hello ∷ marks.Fed the_link Responder hello ∷ []; ways = record { up = []; down = [] } ∷ []; seconds = 0 } in
     let fed : feeding the_link Responder (take (length hello) hello) (record { up = drop (length hello) hello; down = [] }) opened_up ≡ fed_drill =
-      ap (λ (xs : List ℕ). feeding the_link Responder xs (record { up = drop (length hello) hello; down = [] }) opened_up) (take_length hello)
-      ∙ ap (λ (xs : List ℕ). feeding the_link Responder hello (record { up = xs; down = [] }) opened_up) (drop_length hello)
-      ∙ feeding-some Responder hello (record { up = []; down = [] }) opened_up (some_hello Initiator) in
+    ap (λ (xs : List ℕ). feeding the_link Responder xs (record { up = drop (length hello) hello; down = [] }) opened_up) (take_length hello)
+    ∙ ap (λ (xs : List ℕ). feeding the_link Responder hello (record { up = xs; down = [] }) opened_up) (drop_length hello)
+    ∙ feeding-some Responder hello (record { up = []; down = [] }) opened_up (some_hello Initiator) in
     let none : unwritten o the_link Initiator fed_drill ≡ [] = drop_length (hello ++ []) in
     let some : unwritten o the_link Responder fed_drill ≡ own_hello Responder = ap (λ (xs : List ℕ). xs ++ []) hello_called ∙ append-nil (own_hello Responder) in
     ap (λ (x : Drill). settled o the_link x) fed
@@ -129,9 +127,9 @@ then_down credits =
     let o = drill_opened credits in
     let hello = own_hello Responder in
     let fed : feeding the_link Initiator (take (length hello) hello) (record { up = []; down = drop (length hello) hello }) opened_down ≡ opened_all =
-      ap (λ (xs : List ℕ). feeding the_link Initiator xs (record { up = []; down = drop (length hello) hello }) opened_down) (take_length hello)
-      ∙ ap (λ (xs : List ℕ). feeding the_link Initiator hello (record { up = []; down = xs }) opened_down) (drop_length hello)
-      ∙ feeding-some Initiator hello (record { up = []; down = [] }) opened_down (some_hello Responder) in
+    ap (λ (xs : List ℕ). feeding the_link Initiator xs (record { up = []; down = drop (length hello) hello }) opened_down) (take_length hello)
+    ∙ ap (λ (xs : List ℕ). feeding the_link Initiator hello (record { up = []; down = xs }) opened_down) (drop_length hello)
+    ∙ feeding-some Initiator hello (record { up = []; down = [] }) opened_down (some_hello Responder) in
     ap (λ (x : Drill). settled o the_link (taken the_link x)) fed
     ∙ settled-none credits opened_all no_counts (At-open credits) refl refl
 
@@ -162,10 +160,10 @@ unfolding opened_state
 played_none credits some few =
     let o = drill_opened credits in
     let opens : openings o (links_of 1) (start 1) ≡ opened_all =
-      ap (λ (d : Drill). all_down o the_link (all_up o the_link d)) (first_settled credits) ∙ ap (all_down o the_link) (then_up credits) ∙ then_down credits in
+    ap (λ (d : Drill). all_down o the_link (all_up o the_link d)) (first_settled credits) ∙ ap (all_down o the_link) (then_up credits) ∙ then_down credits in
     let ways : drill_of (opened_state credits) ≡ opened_all =
-      ap (λ (xs : List ℕ). record { marks = open_marks; ways = record { up = xs; down = drop (length (own_hello Responder)) (own_hello Responder) } ∷ []; seconds = 0 }) (drop_length (own_hello Initiator))
-      ∙ ap (λ (xs : List ℕ). record { marks = open_marks; ways = record { up = []; down = xs } ∷ []; seconds = 0 }) (drop_length (own_hello Responder)) in
+    ap (λ (xs : List ℕ). record { marks = open_marks; ways = record { up = xs; down = drop (length (own_hello Responder)) (own_hello Responder) } ∷ []; seconds = 0 }) (drop_length (own_hello Initiator))
+    ∙ ap (λ (xs : List ℕ). record { marks = open_marks; ways = record { up = []; down = xs } ∷ []; seconds = 0 }) (drop_length (own_hello Responder)) in
     record {
       stands = opened-stands credits some few;
       quiet = refl;

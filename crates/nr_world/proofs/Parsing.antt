@@ -1,13 +1,13 @@
 -- Reading of scripts: lines of a text, and what turns of calls and drains say.
-use Rattle.std.proofs.Common.{◌≡◌, ℕ, zero, suc, ◌+◌, ◌*◌, ◌-◌, ◌<◌, ◌≤◌, Bool, true, false, not, cond, ◌==◌, List, [], ◌∷◌, length, take, drop, drop-drop, Option, Some, None, Result, Ok, Err, refl, sym, ap, ◌∙◌, arith}
+use Rattle.std.proofs.Common.{◌≡◌, ℕ, zero, suc, ◌+◌, ◌-◌, ◌<◌, ◌≤◌, Bool, true, false, not, cond, ◌==◌, List, [], ◌∷◌, length, take, drop, drop-drop, Some, None, Result, Ok, Err, refl, sym, ap, ◌∙◌, arith}
 use Rattle.std.proofs.lemmas.List.{length-drop}
-use Rattle.std.specs.Prelude.{find, if◌then◌else◌}
-use Rattle.std.specs.List.{position_or_len, position, range_with_len}
+use Rattle.std.specs.Prelude.{if◌then◌else◌}
+use Rattle.std.specs.List.{position_or_len, position}
 use Rattle.std.specs.Str.{bytes_eq}
-use Rattle.nr_world.specs.Script.{Line, Cut, null_call, turn, turn_text, turn_onto, turns, turns_in, ends_at, clients_line, credits_in, cut, line_onto, byte_onto, newline}
+use Rattle.nr_world.specs.Script.{Line, Cut, null_call, turn_onto, turns, ends_at, clients_line, credits_in, cut, line_onto, byte_onto, newline}
 use Rattle.nr_world.specs.Script.Line.{Drain}
 use Rattle.nr_world.specs.declared.script.TheConstants.{MOST_CREDITS}
-use Rattle.nr_world.specs.Parsing.{credits_from, lines_from, turns_onto}
+use Rattle.nr_world.specs.Parsing.{credits_from, turns_onto}
 
 abbrev pub is_newline : ℕ → Bool
 is_newline b = b == newline

@@ -1,5 +1,5 @@
 -- What a drill that ended reports.
-use Rattle.std.proofs.Common.{◌≡◌, ℕ, zero, suc, ◌+◌, ◌^◌, ◌<◌, ◌≤◌, Bool, true, false, cond, Result, Ok, Err, List, [], ◌∷◌, ◌++◌, length, map, Some, Contains, refl, sym, ap, subst, ◌∙◌, arith}
+use Rattle.std.proofs.Common.{◌≡◌, ℕ, zero, suc, ◌<◌, ◌≤◌, Bool, true, cond, Result, Ok, Err, List, [], ◌∷◌, ◌++◌, length, map, Some, Contains, refl, sym, ap, subst, ◌∙◌, arith}
 use Rattle.std.specs.Prelude.{IfOk}
 use Rattle.std.proofs.lemmas.Bool.Decides.{nat_tests}
 use Rattle.std.proofs.lemmas.List.{nil_from_length}
@@ -7,13 +7,10 @@ use Rattle.nr_outside.specs.Pipe.{PipeState}
 use Rattle.nr_wire.specs.declared.hello.Side.TheVariants.{Initiator, Responder}
 use Rattle.nr_world.specs.declared.call.Outcome.TheVariants as outcomes
 use Rattle.nr_world.specs.declared.mark.Mark.{Mark}
-use Rattle.nr_world.specs.declared.mark.Entry.{Entry}
 use Rattle.nr_world.specs.declared.report.Fate.{Fate}
 use Rattle.nr_world.specs.declared.report.Fate.TheVariants as fates
 use Rattle.nr_world.specs.declared.report.Report.{Report}
-use Rattle.nr_world.specs.declared.report.Told.{Told}
-use Rattle.nr_world.specs.declared.report.Ways.{Ways}
-use Rattle.nr_world.specs.Observed.{Accepted, Executed, Completed, accepted, executed, completed, journal, sent}
+use Rattle.nr_world.specs.Observed.{Accepted, Executed, Completed, executed, journal, sent}
 use Rattle.nr_world.specs.Completion.{IsComplete}
 use Rattle.nr_world.specs.Places.{PlacesRise}
 use Rattle.nr_world.specs.Plain.{null_reply, drill_server}
@@ -22,7 +19,7 @@ use Rattle.nr_world.specs.Follows.{drill_opened, links_of, openings, start, Make
 use Rattle.nr_world.specs.Shown.{Seen, seen_of, calls_told}
 use Rattle.nr_world.specs.Headline.{HoldsOn, IsDrill, Reports, log_of}
 use Rattle.nr_world.specs.Steps.{State, the_link}
-use Rattle.nr_world.specs.Stands.{each, upward, downward, accepted_call, executed_call, completed_call, told_call, told_in, Counts, counts_of, is_one_of, seen_by, At, Stands, IsQuiet, drill_of, Played, Tells}
+use Rattle.nr_world.specs.Stands.{each, accepted_call, executed_call, completed_call, told_call, told_in, is_one_of, seen_by, Stands, IsQuiet, drill_of, Played, Tells}
 use Rattle.nr_world.proofs.Runs.{Contains-each, each-within}
 
 -- every accepted call has its outcome
@@ -36,14 +33,14 @@ complete-is s st quiet a held =
 -- the promise holds of the link of a drill that ended
 holds-is : (s : State) → Stands s → IsQuiet s → HoldsOn drill_server (drill_opened s.credits) the_link s.marks
 holds-is s st quiet = record {
-    asked = record { each = st.laws.asked; written = st.at.up_sent ∙ sym st.at.up_owed };
-    served = record { each = st.laws.served; written = st.at.down_sent ∙ sym st.at.down_owed };
-    matched = st.laws.matched;
-    grant = st.laws.grant;
-    faithful = st.laws.faithful;
-    complete = complete-is s st quiet;
-    unrefused = st.laws.unrefused;
-  }
+  asked = record { each = st.laws.asked; written = st.at.up_sent ∙ sym st.at.up_owed };
+  served = record { each = st.laws.served; written = st.at.down_sent ∙ sym st.at.down_owed };
+  matched = st.laws.matched;
+  grant = st.laws.grant;
+  faithful = st.laws.faithful;
+  complete = complete-is s st quiet;
+  unrefused = st.laws.unrefused;
+}
 
 -- every call stands at place 0, since NULL adds no entry
 placed-is : (s : State) → Stands s → (e : Executed) → Contains (executed the_link s.marks) e → e.place ≡ 0
@@ -58,7 +55,7 @@ pub drill-is : (script : ScriptLines) (calls : ℕ) (s : State) → script.clien
 drill-is script calls s one lines p =
     let o = drill_opened script.credits in
     let makes : MakeAll drill_server o script.clients (turns calls) (openings o (links_of script.clients) (start script.clients)) (drill_of s) =
-      subst (λ (n : ℕ). MakeAll drill_server o n (turns calls) (openings o (links_of n) (start n)) (drill_of s)) (sym one) p.makes in
+    subst (λ (n : ℕ). MakeAll drill_server o n (turns calls) (openings o (links_of n) (start n)) (drill_of s)) (sym one) p.makes in
     let holds : HoldsOn drill_server o the_link s.marks = subst (λ (c : ℕ). HoldsOn drill_server (drill_opened c) the_link s.marks) p.credits_are (holds-is s p.stands p.quiet) in
     record {
       follows = record {
@@ -67,12 +64,12 @@ drill-is script calls s one lines p =
         marks_are = refl;
       };
       links = λ link low high.
-        let is : the_link ≡ link = omega (arith, low, high, one) in
-        subst (λ (l : ℕ). HoldsOn drill_server o l s.marks) is holds;
+          let is : the_link ≡ link = omega (arith, low, high, one) in
+          subst (λ (l : ℕ). HoldsOn drill_server o l s.marks) is holds;
       places = λ l m low high least most.
-        let first : the_link ≡ l = omega (arith, low, high, one) in
-        let second : the_link ≡ m = omega (arith, least, most, one) in
-        subst (λ (n : ℕ). PlacesRise n m s.marks) first (subst (λ (n : ℕ). PlacesRise the_link n s.marks) second (places-are s p.stands));
+          let first : the_link ≡ l = omega (arith, low, high, one) in
+          let second : the_link ≡ m = omega (arith, least, most, one) in
+          subst (λ (n : ℕ). PlacesRise n m s.marks) first (subst (λ (n : ℕ). PlacesRise the_link n s.marks) second (places-are s p.stands));
     }
 
 -- what became of each call line
@@ -90,10 +87,10 @@ unfolding calls_told seen_by
 told-is s st quiet =
     let n = length s.told in
     let same = each-same told_call (told_in s.marks) n (λ k lt le.
-      let fate : (seen_of drill_server the_link k s.marks).fate ≡ fates.Answered (Some 0) (outcomes.Reply (null_reply k)) =
-        ap (λ (x : Seen). x.fate) (st.at.seen_are k)
-        ∙ ap (λ (b : Bool). cond b (fates.Answered (Some 0) (outcomes.Reply (null_reply k))) fates.Out) (one_of n k lt le) in
-      ap (λ (f : Fate). record { client = the_link; number = k; fate = f }) (sym fate)) in
+    let fate : (seen_of drill_server the_link k s.marks).fate ≡ fates.Answered (Some 0) (outcomes.Reply (null_reply k)) =
+    ap (λ (x : Seen). x.fate) (st.at.seen_are k)
+    ∙ ap (λ (b : Bool). cond b (fates.Answered (Some 0) (outcomes.Reply (null_reply k))) fates.Out) (one_of n k lt le) in
+    ap (λ (f : Fate). record { client = the_link; number = k; fate = f }) (sym fate)) in
     st.told_is ∙ same ∙ ap (each (told_in s.marks)) (sym quiet) ∙ sym (st.at.told_are s.marks)
 
 pub logs-are : (s : State) → Stands s → record { up = s.up.log; down = s.down.log } ∷ [] ≡ map (log_of s.marks) (links_of 1)
@@ -110,7 +107,7 @@ reports-is script calls s report one lines p t =
       journal = none ∙ sym p.stands.at.no_entries ∙ ap (journal drill_server) (sym t.marks_are);
       calls = t.calls_are ∙ told-is s p.stands p.quiet ∙ ap (calls_told drill_server) (sym t.marks_are);
       logs = t.logs_are ∙ logs-are s p.stands ∙ ap (λ (run : List Mark). map (log_of run) (links_of 1)) (sym t.marks_are)
-        ∙ ap (λ (n : ℕ). map (log_of report.marks) (links_of n)) (sym one);
+          ∙ ap (λ (n : ℕ). map (log_of report.marks) (links_of n)) (sym one);
     }
 
 pub reported : {E : Type 0} (script : ScriptLines) (calls : ℕ) (s : State) (r : Result Report E) → script.clients ≡ 1 → script.lines ≡ turns calls → Played script.credits calls s → IfOk r (λ report. Tells s report) → IfOk r (λ report. Reports script report)

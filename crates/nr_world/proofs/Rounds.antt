@@ -1,23 +1,23 @@
 -- Rounds of a drain, and scripts line by line.
-use Rattle.std.proofs.Common.{◌≡◌, ◌≢◌, ℕ, zero, suc, ◌+◌, ◌^◌, ◌<◌, ◌≤◌, Bool, true, false, ltb, ◌||◌, ◌⊎◌, List, [], ◌∷◌, ◌++◌, length, refl, sym, ap, subst, ◌∙◌, append_assoc, arith, add-one, add-zero, inl, inr}
+use Rattle.std.proofs.Common.{◌≡◌, ◌≢◌, ℕ, zero, suc, ◌+◌, ◌<◌, ◌≤◌, Bool, true, false, ltb, ◌||◌, ◌⊎◌, List, [], ◌∷◌, ◌++◌, length, refl, sym, ap, subst, ◌∙◌, arith, add-one, inl, inr}
 use Rattle.std.proofs.lemmas.Bool.{cases_lt, lt-ltb, le-ltb, ltb-true, ltb-false}
 use Rattle.std.specs.List.{flat_map}
 use Rattle.std.proofs.lemmas.List.{append-nil}
 use Rattle.nr_world.specs.declared.mark.Mark.{Mark}
 use Rattle.nr_world.specs.declared.report.Told.{Told}
 use Rattle.nr_world.specs.declared.script.TheConstants.{MOST_LINES}
-use Rattle.nr_world.specs.Observed.{Completed, completed}
+use Rattle.nr_world.specs.Observed.{completed}
 use Rattle.nr_world.specs.Plain.{drill_server}
 use Rattle.nr_world.specs.Script.{Line, null_call, turns}
 use Rattle.nr_world.specs.Script.Line.{Drain}
 use Rattle.nr_world.specs.Follows.{Drill, drill_opened, links_of, start, openings, all_up, all_down, MovesLink, Moves, todo, Fell, Drains, Makes, MakeAll, WorksAll}
 use Rattle.nr_world.specs.Steps.{State, the_link, came, worked, heard, waits, works_on, asked_one}
-use Rattle.nr_world.specs.Stands.{each, completed_call, Counts, counts_of, arrived_one, At, Stands, IsQuiet, drill_of, Round, Drained, Called, Played}
+use Rattle.nr_world.specs.Stands.{completed_call, counts_of, Stands, IsQuiet, drill_of, Round, Drained, Called, Played}
 use Rattle.nr_world.proofs.Runs.{length-each}
-use Rattle.nr_world.proofs.Standing.{Asks, asks, Comes, comes}
-use Rattle.nr_world.proofs.Serving.{Worked, works}
+use Rattle.nr_world.proofs.Standing.{asks, comes}
+use Rattle.nr_world.proofs.Serving.{works}
 use Rattle.nr_world.proofs.Falling.{fell-is}
-use Rattle.nr_world.proofs.Hearing.{Hears, hears}
+use Rattle.nr_world.proofs.Hearing.{hears}
 
 or_true : (b : Bool) → (b || true) ≡ true
 or_true true = refl
@@ -29,8 +29,8 @@ either-moves a u e h he eu =
     elim (cases_lt h a) [
       | inl lt ↦ ap (λ (b : Bool). ltb u a || ltb e a || b) (lt-ltb h a lt) ∙ or_true (ltb u a || ltb e a) ∙ sym (lt-ltb h a lt)
       | inr le ↦
-        ap (λ (b : Bool). b || ltb e a || ltb h a) (le-ltb u a (omega arith))
-        ∙ ap (λ (b : Bool). false || b || ltb h a) (le-ltb e a (omega arith))
+          ap (λ (b : Bool). b || ltb e a || ltb h a) (le-ltb u a (omega arith))
+          ∙ ap (λ (b : Bool). false || b || ltb h a) (le-ltb e a (omega arith))
     ]
 
 pub round_of : (s : State) → Stands s → Round s (heard (worked (came s))) (waits s.up || works_on (came s).arrived || waits (worked (came s)).down)
@@ -50,8 +50,8 @@ round_of s st =
     let v_told : length v.told ≡ s.asked = down.all ∙ u_served in
     let works_from : WorksAll drill_server (drill_opened t.credits) the_link work.count (drill_of t) (drill_of u) = work.works in
     let works_here : WorksAll drill_server o the_link work.count (all_up o the_link (drill_of s)) (drill_of u) =
-      subst (λ (d : Drill). WorksAll drill_server o the_link work.count d (drill_of u)) up.makes
-        (subst (λ (c : ℕ). WorksAll drill_server (drill_opened c) the_link work.count (drill_of t) (drill_of u)) up.credits_are works_from) in
+    subst (λ (d : Drill). WorksAll drill_server o the_link work.count d (drill_of u)) up.makes
+    (subst (λ (c : ℕ). WorksAll drill_server (drill_opened c) the_link work.count (drill_of t) (drill_of u)) up.credits_are works_from) in
     let one : MovesLink drill_server o the_link (drill_of s) (drill_of v) = record {
       count = work.count;
       worked = drill_of u;
@@ -67,15 +67,15 @@ round_of s st =
       quiet = v_asked ∙ sym v_told;
       makes = (drill_of v, one, refl);
       moved_is =
-        ap (λ (b : Bool). b || works_on t.arrived || waits u.down) up.moved
-        ∙ ap (λ (b : Bool). ltb (counts_of s).came s.asked || b || waits u.down) moved_work
-        ∙ ap (λ (b : Bool). ltb (counts_of s).came s.asked || ltb s.served s.asked || b) moved_down
-        ∙ either-moves s.asked (counts_of s).came s.served (length s.told) st.heard_served (omega arith);
+          ap (λ (b : Bool). b || works_on t.arrived || waits u.down) up.moved
+          ∙ ap (λ (b : Bool). ltb (counts_of s).came s.asked || b || waits u.down) moved_work
+          ∙ ap (λ (b : Bool). ltb (counts_of s).came s.asked || ltb s.served s.asked || b) moved_down
+          ∙ either-moves s.asked (counts_of s).came s.served (length s.told) st.heard_served (omega arith);
       still = λ quiet.
-        let first : t ≡ s = up.still (omega (arith, quiet, st.heard_served, st.came_asked)) in
-        let second : u ≡ t = work.still (omega (arith, up.served_is, came_all, quiet, st.heard_served, st.came_asked)) in
-        let third : v ≡ u = down.still (omega (arith, u_served, ap length u_told, quiet)) in
-        third ∙ second ∙ first;
+          let first : t ≡ s = up.still (omega (arith, quiet, st.heard_served, st.came_asked)) in
+          let second : u ≡ t = work.still (omega (arith, up.served_is, came_all, quiet, st.heard_served, st.came_asked)) in
+          let third : v ≡ u = down.still (omega (arith, u_served, ap length u_told, quiet)) in
+          third ∙ second ∙ first;
     }
 
 -- a round that moved something made other marks
@@ -109,11 +109,13 @@ draining_more start now new d r =
       stands = r.stands;
       asked_is = r.asked_is ∙ d.asked_is;
       credits_are = r.credits_are ∙ d.credits_are;
-      so_far = inr (r.quiet,
+      so_far = inr (
+        r.quiet,
         subst (λ (s : State). Moves drill_server (drill_opened s.credits) (links_of 1) (drill_of s) (drill_of new)) first r.makes,
         (λ same. moved-marks now new true d.stands r refl (same ∙ ap (λ (s : State). s.marks) (sym first))),
         subst (λ (s : State). Fell (flat_map (todo (drill_opened s.credits) new.marks) (links_of 1)) (flat_map (todo (drill_opened s.credits) s.marks) (links_of 1))) first
-          (fell-links now new (fell-is now new d.stands r.stands r.credits_are r.asked_is r.quiet out)));
+            (fell-links now new (fell-is now new d.stands r.stands r.credits_are r.asked_is r.quiet out)),
+      );
     }
 
 drains_from : (start now new : State) → Draining start now → Moves drill_server (drill_opened start.credits) (links_of 1) (drill_of now) (drill_of new) → new.marks ≡ now.marks → (n : ℕ) × Drains drill_server (drill_opened start.credits) (links_of 1) n (drill_of start) (drill_of new)
@@ -130,7 +132,7 @@ drained_by start now new d r =
     let quiet : now.asked ≡ length now.told = omega (arith, none_out, d.stands.heard_served, d.stands.came_asked) in
     let still : new ≡ now = r.still quiet in
     let last : Moves drill_server (drill_opened start.credits) (links_of 1) (drill_of now) (drill_of new) =
-      subst (λ (c : ℕ). Moves drill_server (drill_opened c) (links_of 1) (drill_of now) (drill_of new)) d.credits_are r.makes in
+    subst (λ (c : ℕ). Moves drill_server (drill_opened c) (links_of 1) (drill_of now) (drill_of new)) d.credits_are r.makes in
     let same : new.marks ≡ now.marks = ap (λ (s : State). s.marks) still in
     let rest = drains_from start now new d last same in
     record {
@@ -162,7 +164,7 @@ played_more credits n s t u p c d =
     let o = drill_opened credits in
     let call : Makes drill_server o 1 null_call (drill_of s) (drill_of t) = subst (λ (k : ℕ). Makes drill_server (drill_opened k) 1 null_call (drill_of s) (drill_of t)) p.credits_are c.makes in
     let drain : Drains drill_server o (links_of 1) d.rounds (drill_of t) (drill_of u) =
-      subst (λ (k : ℕ). Drains drill_server (drill_opened k) (links_of 1) d.rounds (drill_of t) (drill_of u)) (c.credits_are ∙ p.credits_are) d.drains in
+    subst (λ (k : ℕ). Drains drill_server (drill_opened k) (links_of 1) d.rounds (drill_of t) (drill_of u)) (c.credits_are ∙ p.credits_are) d.drains in
     let both : MakeAll drill_server o 1 (null_call ∷ Drain ∷ []) (drill_of s) (drill_of u) = (drill_of t, call, (drill_of u, (d.rounds, drain), refl)) in
     let all = MakeAll-append credits (turns n) (null_call ∷ Drain ∷ []) (openings o (links_of 1) (start 1)) (drill_of s) (drill_of u) p.makes both in
     record {

@@ -1,19 +1,19 @@
 -- All work: the call that came whole is executed and answered.
-use Rattle.std.proofs.Common.{◌≡◌, ◌≢◌, ℕ, zero, suc, ◌+◌, ◌-◌, ◌^◌, ◌<◌, ◌≤◌, Bool, true, false, cond, ltb, List, [], ◌∷◌, ◌++◌, length, take, drop, Option, Some, None, slice_get, refl, sym, ap, subst, ◌∙◌, append_assoc, arith, add-one, add-zero, inl, inr}
-use Rattle.std.proofs.lemmas.Bool.{cases_lt, lt-ltb, le-ltb}
+use Rattle.std.proofs.Common.{◌≡◌, ℕ, suc, ◌+◌, ◌^◌, ◌<◌, ◌≤◌, ltb, List, [], ◌∷◌, ◌++◌, length, Option, Some, None, refl, sym, ap, subst, ◌∙◌, arith, add-one, add-zero}
+use Rattle.std.proofs.lemmas.Bool.{lt-ltb, le-ltb}
 use Rattle.std.proofs.lemmas.Option.{slice_get_past}
 use Rattle.nr_outside.specs.Pipe.{PipeState, waiting_in}
-use Rattle.nr_wire.specs.declared.hello.Side.TheVariants.{Initiator, Responder}
+use Rattle.nr_wire.specs.declared.hello.Side.TheVariants.{Initiator}
 use Rattle.nr_world.specs.declared.mark.Mark.{Mark}
 use Rattle.nr_world.specs.declared.mark.Mark.TheVariants as marks
 use Rattle.nr_world.specs.declared.mark.Conveyed.{Conveyed}
 use Rattle.nr_world.specs.Observed.{executed}
 use Rattle.nr_world.specs.Messages.{call_in, conveyed, messages, send, inline_message}
 use Rattle.nr_world.specs.Served.{came, next_call}
-use Rattle.nr_world.specs.Plain.{null_reply, plain_reply, drill_server}
-use Rattle.nr_world.specs.Follows.{Drill, Way, drill_opened, with_mark, settled, Works, WorksAll}
-use Rattle.nr_world.specs.Steps.{State, the_link, null, asked_payload, ask, answer, written, answered_with, worked_on, worked, works_on, is_answered, wrote_down, executed_one}
-use Rattle.nr_world.specs.Stands.{each, upward, downward, executed_call, Counts, counts_of, arrived_one, arrived_after, At, Laws, Stands, drill_of}
+use Rattle.nr_world.specs.Plain.{null_reply, drill_server}
+use Rattle.nr_world.specs.Follows.{Drill, drill_opened, with_mark, settled, Works, WorksAll}
+use Rattle.nr_world.specs.Steps.{State, the_link, asked_payload, answer, written, answered_with, worked_on, worked, works_on, is_answered, wrote_down, executed_one}
+use Rattle.nr_world.specs.Stands.{each, upward, downward, executed_call, Counts, counts_of, arrived_one, arrived_after, At, Stands, drill_of}
 use Rattle.nr_world.proofs.Runs.{length-each}
 use Rattle.nr_world.proofs.Nulls.{plain_reply-asked}
 use Rattle.nr_world.proofs.Frames.{conveyed_call, calls-upward}
@@ -40,9 +40,9 @@ no_call : (credits : ℕ) (run : List Mark) (n : Counts) → At credits run n �
 unfolding next_call
 no_call credits run n at all small few =
     let calls : came the_link run ≡ each conveyed_call n.came =
-      ap (λ (xs : List ℕ). conveyed call_in (messages Initiator xs)) at.up_got ∙ calls-upward credits n.came small few in
+    ap (λ (xs : List ℕ). conveyed call_in (messages Initiator xs)) at.up_got ∙ calls-upward credits n.came small few in
     slice_get_past (came the_link run) (length (executed the_link run))
-      (omega (arith, ap length calls, length-each conveyed_call n.came, ap length at.executed_are, length-each executed_call n.served))
+    (omega (arith, ap length calls, length-each conveyed_call n.came, ap length at.executed_are, length-each executed_call n.served))
 
 worked_none : (s : State) → s.arrived ≡ None → Stands s → Worked s (worked s)
 unfolding worked
@@ -52,7 +52,10 @@ worked_none s none st =
     let same : worked_on s s.arrived ≡ s = ap (worked_on s) none in
     let small : (counts_of s).came < 2 ^ 32 = omega (arith, w.small, st.came_asked) in
     subst (λ (t : State). Worked s t) (sym same) (record {
-      stands = st; asked_is = refl; told_is = refl; credits_are = refl;
+      stands = st;
+      asked_is = refl;
+      told_is = refl;
+      credits_are = refl;
       count = 0;
       works = (no_call s.credits s.marks (counts_of s) st.at all small w.few, refl);
       all = sym all;
@@ -64,11 +67,17 @@ worked_none s none st =
 -- the state after the k-th call was executed at a place
 abbrev after_work : State → ℕ → ℕ → State
 after_work s k place = record {
-    credits = s.credits;
-    marks = (s.marks ++ marks.Execute the_link k (record { seconds = 0; nanos = 0 }) (asked_payload k) place (null_reply k) ∷ []) ++ write_down s.credits k ∷ [];
-    up = s.up; down = written s.down (answer s.credits k);
-    asked = s.asked; arrived = None; served = k; entries = s.entries; place = place; told = s.told;
-  }
+  credits = s.credits;
+  marks = (s.marks ++ marks.Execute the_link k (record { seconds = 0; nanos = 0 }) (asked_payload k) place (null_reply k) ∷ []) ++ write_down s.credits k ∷ [];
+  up = s.up;
+  down = written s.down (answer s.credits k);
+  asked = s.asked;
+  arrived = None;
+  served = k;
+  entries = s.entries;
+  place = place;
+  told = s.told;
+}
 
 worked-is : (s : State) (call : Conveyed) → s.arrived ≡ Some call → call ≡ conveyed_call (suc s.served) → suc s.served < 2 ^ 32 → worked s ≡ after_work s (suc s.served) s.entries
 unfolding worked answer
@@ -107,10 +116,13 @@ worked_one s call arrived is st =
     let way = waiting-written s.down (answer c k) within in
     let d : Drill = with_mark (execute k) (drill_of s) in
     let makes : drill_of new ≡ settled (drill_opened c) the_link d =
-      ap (λ (down : List ℕ). record { marks = run ++ write_down c k ∷ []; ways = record { up = waiting_in s.up; down = down } ∷ []; seconds = 0 }) way
-      ∙ sym (settled-down c d n1 at1 refl refl small_k) in
+    ap (λ (down : List ℕ). record { marks = run ++ write_down c k ∷ []; ways = record { up = waiting_in s.up; down = down } ∷ []; seconds = 0 }) way
+    ∙ sym (settled-down c d n1 at1 refl refl small_k) in
     let one : Works drill_server (drill_opened c) the_link (drill_of s) (drill_of new) = record {
-      xid = k; payload = asked_payload k; place = 0; reply = null_reply k;
+      xid = k;
+      payload = asked_payload k;
+      place = 0;
+      reply = null_reply k;
       executes = executes-is c s.marks n st.at later small w.few;
       new_is = makes;
     } in
@@ -131,7 +143,9 @@ worked_one s call arrived is st =
         few_credits = st.few_credits;
         few_calls = st.few_calls;
       };
-      asked_is = refl; told_is = refl; credits_are = refl;
+      asked_is = refl;
+      told_is = refl;
+      credits_are = refl;
       count = 1;
       works = (drill_of new, one, (no_call c (run ++ write_down c k ∷ []) (record n2 { came = k + 0 }) at3 (add-zero k) (omega (arith, small_k)) w.few, refl));
       all = sym came_is;

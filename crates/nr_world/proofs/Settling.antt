@@ -1,11 +1,9 @@
 -- What a drill's link writes after a step.
-use Rattle.std.proofs.Common.{◌≡◌, ℕ, zero, suc, ◌+◌, ◌-◌, ◌^◌, ◌<◌, ◌≤◌, List, [], ◌∷◌, ◌++◌, length, take, drop, refl, sym, ap, subst, ◌∙◌, append_assoc, arith}
-use Rattle.std.proofs.lemmas.List.{append-nil, drop_all, drop_at, take_all, length-append, length-drop, drop-append-le}
+use Rattle.std.proofs.Common.{◌≡◌, ℕ, suc, ◌^◌, ◌<◌, List, [], ◌∷◌, ◌++◌, length, drop, refl, sym, ap, ◌∙◌, arith}
+use Rattle.std.proofs.lemmas.List.{append-nil, drop_at}
 use Rattle.nr_wire.specs.declared.hello.Side.TheVariants.{Initiator, Responder}
 use Rattle.nr_wire.proofs.Frames.{fpdu_holds}
-use Rattle.nr_world.specs.declared.mark.Mark.{Mark}
 use Rattle.nr_world.specs.declared.mark.Mark.TheVariants as marks
-use Rattle.nr_world.specs.declared.mark.Opened.{Opened}
 use Rattle.nr_world.specs.Observed.{sent}
 use Rattle.nr_world.specs.Owed.{owed}
 use Rattle.nr_world.specs.Follows.{Drill, Way, drill_opened, way_of, with_mark, with_way, behind, writing, unwritten, settled, feeding}
@@ -13,7 +11,7 @@ use Rattle.nr_world.specs.Steps.{the_link, ask, answer}
 use Rattle.nr_world.specs.Stands.{upward, downward, Counts, At}
 use Rattle.nr_world.proofs.Frames.{ask-is, answer-is}
 use Rattle.nr_world.proofs.Marking.{upward-more, downward-more}
-use Rattle.nr_world.proofs.OneMark.{write_up, write_down, At-write_up, At-write_down}
+use Rattle.nr_world.proofs.OneMark.{write_up, write_down, At-write_up}
 
 pub some_ask : (credits k : ℕ) → k < 2 ^ 32 → 0 < length (ask credits k)
 some_ask credits k small = omega (arith, fpdu_holds (ask credits k) (ask-is credits k small).is_frame)
@@ -39,12 +37,12 @@ unwritten_down-none credits d n at same =
 unwritten_up-one : (credits : ℕ) (d : Drill) (n : Counts) → At credits d.marks n → n.asked ≡ suc n.sent_up → unwritten (drill_opened credits) the_link Initiator d ≡ ask credits (suc n.sent_up)
 unwritten_up-one credits d n at next =
     beyond (sent the_link Initiator d.marks) (owed (drill_opened credits) the_link Initiator d.marks) (upward credits n.sent_up) (ask credits (suc n.sent_up)) at.up_sent
-      (at.up_owed ∙ ap (upward credits) next ∙ upward-more credits n.sent_up)
+    (at.up_owed ∙ ap (upward credits) next ∙ upward-more credits n.sent_up)
 
 unwritten_down-one : (credits : ℕ) (d : Drill) (n : Counts) → At credits d.marks n → n.served ≡ suc n.sent_down → unwritten (drill_opened credits) the_link Responder d ≡ answer credits (suc n.sent_down)
 unwritten_down-one credits d n at next =
     beyond (sent the_link Responder d.marks) (owed (drill_opened credits) the_link Responder d.marks) (downward credits n.sent_down) (answer credits (suc n.sent_down)) at.down_sent
-      (at.down_owed ∙ ap (downward credits) next ∙ downward-more credits n.sent_down)
+    (at.down_owed ∙ ap (downward credits) next ∙ downward-more credits n.sent_down)
 
 pub writing-none : (side : _) (bytes : List ℕ) (d : Drill) → bytes ≡ [] → writing the_link side bytes d ≡ d
 writing-none side bytes d e = rw e refl
@@ -73,10 +71,10 @@ settled-up credits d n at up down small =
     let k = suc n.sent_up in
     let bytes = unwritten_up-one credits d n at up in
     let first : writing the_link Initiator (unwritten o the_link Initiator d) d ≡ wrote_ask credits k d =
-      ap (λ (b : List ℕ). writing the_link Initiator b d) bytes ∙ writing-some Initiator (ask credits k) d (some_ask credits k small) in
+    ap (λ (b : List ℕ). writing the_link Initiator b d) bytes ∙ writing-some Initiator (ask credits k) d (some_ask credits k small) in
     ap (λ (x : Drill). writing the_link Responder (unwritten o the_link Responder x) x) first
     ∙ writing-none Responder (unwritten o the_link Responder (wrote_ask credits k d)) (wrote_ask credits k d)
-      (unwritten_down-none credits (wrote_ask credits k d) (record n { sent_up = k }) (At-write_up credits d.marks n at) down)
+    (unwritten_down-none credits (wrote_ask credits k d) (record n { sent_up = k }) (At-write_up credits d.marks n at) down)
 
 -- the server's next reply is to be written
 abbrev pub wrote_answer : ℕ → ℕ → Drill → Drill

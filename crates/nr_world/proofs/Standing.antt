@@ -1,10 +1,9 @@
 -- Each step of the driver keeps what it stands on, and is the step that the script makes.
-use Rattle.std.proofs.Common.{◌≡◌, ◌≢◌, ℕ, zero, suc, ◌+◌, ◌-◌, ◌^◌, ◌<◌, ◌≤◌, Bool, true, false, cond, ltb, List, [], ◌∷◌, ◌++◌, length, take, drop, find, Option, Some, None, option_and_then, refl, sym, ap, subst, ◌∙◌, append_assoc, arith, add-one, add-zero, inl, inr}
-use Rattle.std.specs.List.{flat_map, list_any}
+use Rattle.std.proofs.Common.{◌≡◌, ℕ, suc, ◌+◌, ◌^◌, ◌<◌, ◌≤◌, true, ltb, List, [], ◌∷◌, ◌++◌, length, take, drop, Option, Some, None, option_and_then, refl, sym, ap, subst, ◌∙◌, arith, add-one, add-zero, inl, inr}
 use Rattle.std.proofs.lemmas.Bool.{cases_lt, lt-ltb, le-ltb}
-use Rattle.std.proofs.lemmas.List.{append-nil, drop_all, drop_at, take_all, length-append, length-drop, drop-append-le}
+use Rattle.std.proofs.lemmas.List.{drop_all, drop_at, take_all, drop-append-le}
 use Rattle.nr_outside.specs.Pipe.{PipeState, waiting_in}
-use Rattle.nr_wire.specs.declared.hello.Side.TheVariants.{Initiator, Responder}
+use Rattle.nr_wire.specs.declared.hello.Side.TheVariants.{Responder}
 use Rattle.nr_wire.specs.Next.{segment_in}
 use Rattle.nr_world.specs.declared.call.Form.TheVariants.{Auto}
 use Rattle.nr_world.specs.declared.call.Submission.{Submission}
@@ -12,22 +11,20 @@ use Rattle.nr_world.specs.declared.call.Submission.TheVariants as submissions
 use Rattle.nr_world.specs.declared.mark.Mark.{Mark}
 use Rattle.nr_world.specs.declared.mark.Mark.TheVariants as marks
 use Rattle.nr_world.specs.declared.mark.Conveyed.{Conveyed}
-use Rattle.nr_world.specs.declared.report.Told.{Told}
-use Rattle.nr_world.specs.declared.script.TheConstants.{MOST_CREDITS, MOST_LINES}
-use Rattle.nr_world.specs.Observed.{Accepted, accepted, completed}
-use Rattle.nr_world.specs.Messages.{call_in, reply_in, send, inline_message}
+use Rattle.nr_world.specs.declared.script.TheConstants.{MOST_LINES}
+use Rattle.nr_world.specs.Observed.{accepted}
+use Rattle.nr_world.specs.Messages.{call_in}
 use Rattle.nr_world.specs.Ending.{ended_by}
 use Rattle.nr_world.specs.Window.{out_of, grant_of}
-use Rattle.nr_world.specs.Plain.{null_reply, drill_server}
-use Rattle.nr_world.specs.Follows.{Drill, Way, drill_opened, way_of, with_mark, with_way, behind, settled, feeding, up_by, all_up, answer_of}
-use Rattle.nr_world.specs.Steps.{State, the_link, null, asked_payload, ask, answer, written, all_read, wrote_up, submitted, asked_one, came_by, came, fed_up, is_some_byte, waits}
-use Rattle.nr_world.specs.Stands.{each, upward, downward, accepted_call, told_call, Counts, counts_of, arrived_one, arrived_after, At, Laws, Stands, IsQuiet, drill_of}
+use Rattle.nr_world.specs.Follows.{Drill, drill_opened, with_mark, settled, feeding, up_by, all_up, answer_of}
+use Rattle.nr_world.specs.Steps.{State, the_link, null, ask, written, all_read, asked_one, came_by, came, fed_up, is_some_byte, waits}
+use Rattle.nr_world.specs.Stands.{upward, accepted_call, Counts, counts_of, arrived_one, At, Laws, Stands, IsQuiet, drill_of}
 use Rattle.nr_world.proofs.Runs.{length-each}
 use Rattle.nr_world.proofs.Frames.{conveyed_call, ask-conveys}
-use Rattle.nr_world.proofs.Marking.{upward-more, downward-more}
+use Rattle.nr_world.proofs.Marking.{upward-more}
 use Rattle.nr_world.proofs.OneMark.{submit, write_up, feed_up, At-submit, At-write_up, At-feed_up}
 use Rattle.nr_world.proofs.Lawful.{out_of-none, grant_of-some, Laws-submit, Laws-write_up, Laws-feed_up}
-use Rattle.nr_world.proofs.Settling.{some_ask, settled-none, settled-up, wrote_ask, feeding-none, feeding-some}
+use Rattle.nr_world.proofs.Settling.{some_ask, settled-none, settled-up, feeding-none, feeding-some}
 
 -- the sizes of a drill are words
 pub record Words (s : State) : Type 0 where
@@ -64,9 +61,17 @@ waiting-written p bytes le = drop-append-le p.place p.log bytes le
 -- the state after the k-th call went out
 abbrev after_ask : State → ℕ → State
 after_ask s k = record {
-    credits = s.credits; marks = (s.marks ++ submit k ∷ []) ++ write_up s.credits k ∷ []; up = written s.up (ask s.credits k); down = s.down;
-    asked = k; arrived = s.arrived; served = s.served; entries = s.entries; place = s.place; told = s.told;
-  }
+  credits = s.credits;
+  marks = (s.marks ++ submit k ∷ []) ++ write_up s.credits k ∷ [];
+  up = written s.up (ask s.credits k);
+  down = s.down;
+  asked = k;
+  arrived = s.arrived;
+  served = s.served;
+  entries = s.entries;
+  place = s.place;
+  told = s.told;
+}
 
 pub record Asks (s : State) (new : State) : Type 0 where
   pub stands : Stands new
@@ -112,9 +117,9 @@ asks_next s st quiet room =
       asked_is = sym (add-one s.asked);
       told_is = refl;
       makes =
-        ap (λ (up : List ℕ). record { marks = (s.marks ++ submit k ∷ []) ++ write_up c k ∷ []; ways = record { up = up; down = waiting_in s.down } ∷ []; seconds = 0 }) way
-        ∙ sym (settled-up c d n1 at1 refl refl (omega (arith, w.small)))
-        ∙ ap (λ (a : Submission). settled (drill_opened c) the_link (with_mark (marks.Submit the_link null Auto a) (drill_of s))) (sym (answer_of-is c s.marks n st.at quiet small w.few));
+          ap (λ (up : List ℕ). record { marks = (s.marks ++ submit k ∷ []) ++ write_up c k ∷ []; ways = record { up = up; down = waiting_in s.down } ∷ []; seconds = 0 }) way
+          ∙ sym (settled-up c d n1 at1 refl refl (omega (arith, w.small)))
+          ∙ ap (λ (a : Submission). settled (drill_opened c) the_link (with_mark (marks.Submit the_link null Auto a) (drill_of s))) (sym (answer_of-is c s.marks n st.at quiet small w.few));
       credits_are = refl;
     }
 
@@ -177,7 +182,12 @@ comes_none s st all =
     let fed = feeding-none Responder (take (length (waiting_in s.up)) (waiting_in s.up)) (record { up = drop (length (waiting_in s.up)) (waiting_in s.up); down = waiting_in s.down }) d (take_length (waiting_in s.up) ∙ none) in
     let makes : all_up (drill_opened c) the_link d ≡ d = ap (settled (drill_opened c) the_link) fed ∙ settled-none c d (counts_of s) st.at refl refl in
     subst (λ (t : State). Comes s t) (sym same) (record {
-      stands = st; asked_is = refl; told_is = refl; makes = sym makes; credits_are = refl; served_is = refl;
+      stands = st;
+      asked_is = refl;
+      told_is = refl;
+      makes = sym makes;
+      credits_are = refl;
+      served_is = refl;
       all = sym all;
       moved = ap is_some_byte none ∙ sym (le-ltb (counts_of s).came s.asked (omega arith));
       still = λ e. refl;
@@ -186,15 +196,31 @@ comes_none s st all =
 -- the state after the k-th call came
 abbrev after_came : State → ℕ → State
 after_came s k = record {
-    credits = s.credits; marks = s.marks ++ feed_up s.credits k ∷ []; up = all_read s.up; down = s.down;
-    asked = s.asked; arrived = Some (conveyed_call k); served = s.served; entries = s.entries; place = s.place; told = s.told;
-  }
+  credits = s.credits;
+  marks = s.marks ++ feed_up s.credits k ∷ [];
+  up = all_read s.up;
+  down = s.down;
+  asked = s.asked;
+  arrived = Some (conveyed_call k);
+  served = s.served;
+  entries = s.entries;
+  place = s.place;
+  told = s.told;
+}
 
 abbrev fed_with : State → List ℕ → Option Conveyed → State
 fed_with s bytes call = record {
-    credits = s.credits; marks = s.marks ++ marks.Fed the_link Responder bytes ∷ []; up = all_read s.up; down = s.down;
-    asked = s.asked; arrived = call; served = s.served; entries = s.entries; place = s.place; told = s.told;
-  }
+  credits = s.credits;
+  marks = s.marks ++ marks.Fed the_link Responder bytes ∷ [];
+  up = all_read s.up;
+  down = s.down;
+  asked = s.asked;
+  arrived = call;
+  served = s.served;
+  entries = s.entries;
+  place = s.place;
+  told = s.told;
+}
 
 came-is : (s : State) (k : ℕ) → Stands s → waiting_in s.up ≡ ask s.credits k → k < 2 ^ 32 → s.credits < 2 ^ 32 → came s ≡ after_came s k
 unfolding came
@@ -218,19 +244,19 @@ comes_one s st none next =
     let new = after_came s k in
     let same : came s ≡ new = came-is s k st waits small w.few in
     let at1 : At c (s.marks ++ feed_up c k ∷ []) (record n { came = k }) =
-      subst (λ (j : ℕ). At c (s.marks ++ feed_up c (suc j) ∷ []) (record n { came = suc j })) came_is (At-feed_up c s.marks n st.at) in
+    subst (λ (j : ℕ). At c (s.marks ++ feed_up c (suc j) ∷ []) (record n { came = suc j })) came_is (At-feed_up c s.marks n st.at) in
     let laws1 : Laws c (s.marks ++ feed_up c k ∷ []) =
-      subst (λ (j : ℕ). Laws c (s.marks ++ feed_up c (suc j) ∷ [])) came_is (Laws-feed_up c s.marks n st.at st.laws (omega (arith, next, came_is))) in
+    subst (λ (j : ℕ). Laws c (s.marks ++ feed_up c (suc j) ∷ [])) came_is (Laws-feed_up c s.marks n st.at st.laws (omega (arith, next, came_is))) in
     let log : s.up.log ≡ upward c s.asked = ap (λ (p : PipeState). p.log) st.up_is in
     let d = drill_of s in
     let down = waiting_in s.down in
     let fed_drill : Drill = record { marks = s.marks ++ feed_up c k ∷ []; ways = record { up = []; down = down } ∷ []; seconds = 0 } in
     let some : 0 < length (waiting_in s.up) = omega (arith, some_ask c k small, ap length waits) in
     let fed : feeding the_link Responder (take (length (waiting_in s.up)) (waiting_in s.up)) (record { up = drop (length (waiting_in s.up)) (waiting_in s.up); down = down }) d ≡ fed_drill =
-      ap (λ (xs : List ℕ). feeding the_link Responder xs (record { up = drop (length (waiting_in s.up)) (waiting_in s.up); down = down }) d) (take_length (waiting_in s.up))
-      ∙ ap (λ (xs : List ℕ). feeding the_link Responder (waiting_in s.up) (record { up = xs; down = down }) d) (drop_length (waiting_in s.up))
-      ∙ feeding-some Responder (waiting_in s.up) (record { up = []; down = down }) d some
-      ∙ ap (λ (xs : List ℕ). record { marks = s.marks ++ marks.Fed the_link Responder xs ∷ []; ways = record { up = []; down = down } ∷ []; seconds = 0 }) waits in
+    ap (λ (xs : List ℕ). feeding the_link Responder xs (record { up = drop (length (waiting_in s.up)) (waiting_in s.up); down = down }) d) (take_length (waiting_in s.up))
+    ∙ ap (λ (xs : List ℕ). feeding the_link Responder (waiting_in s.up) (record { up = xs; down = down }) d) (drop_length (waiting_in s.up))
+    ∙ feeding-some Responder (waiting_in s.up) (record { up = []; down = down }) d some
+    ∙ ap (λ (xs : List ℕ). record { marks = s.marks ++ marks.Fed the_link Responder xs ∷ []; ways = record { up = []; down = down } ∷ []; seconds = 0 }) waits in
     let makes : all_up (drill_opened c) the_link d ≡ fed_drill = ap (settled (drill_opened c) the_link) fed ∙ settled-none c fed_drill (record n { came = k }) at1 refl refl in
     let read : waiting_in (all_read s.up) ≡ [] = drop_all (length s.up.log) s.up.log (omega arith) in
     let came_now : k ≡ s.served + 1 = sym (add-one s.served) in

@@ -1,7 +1,7 @@
 -- The streams of a drill: a hello and then Sends of one segment each.
-use Rattle.std.proofs.Common.{◌≡◌, ℕ, zero, suc, ◌+◌, ◌^◌, ◌<◌, ◌≤◌, Bool, true, false, cond, List, [], ◌∷◌, ◌++◌, length, take, drop, Option, Some, Result, Ok, Err, IsTrue, refl, sym, ap, subst, ◌∙◌, append_assoc, arith, lit<, lit≤}
+use Rattle.std.proofs.Common.{◌≡◌, ℕ, zero, suc, ◌^◌, ◌<◌, ◌≤◌, Bool, true, false, cond, List, [], ◌∷◌, ◌++◌, length, take, drop, Option, Some, Result, Ok, Err, refl, sym, ap, ◌∙◌, append_assoc, arith, lit<, lit≤}
 use Rattle.std.specs.List.{concat}
-use Rattle.std.proofs.lemmas.List.{append-nil, take_all, length-append}
+use Rattle.std.proofs.lemmas.List.{append-nil, take_all}
 use Rattle.std.proofs.lemmas.List.Folds.{concat-append}
 use Rattle.nr_wire.specs.declared.hello.Side.{Side}
 use Rattle.nr_wire.specs.declared.hello.Side.TheVariants.{Initiator, Responder}
@@ -11,9 +11,9 @@ use Rattle.nr_wire.specs.declared.stream.Awaited.TheVariants.{Hello as HelloFrom
 use Rattle.nr_wire.specs.Hello.{Hello, hello_spelling, hello_of, hello_len, is_refused_by}
 use Rattle.nr_wire.specs.Segment.{Segment, segment_of, spelling, fpdu_len}
 use Rattle.nr_wire.specs.Segment.Segment.{Untagged}
-use Rattle.nr_wire.specs.Next.{Next, judged, hello_in, segment_in}
+use Rattle.nr_wire.specs.Next.{judged, hello_in, segment_in}
 use Rattle.nr_wire.specs.Next.Next.{Whole, More}
-use Rattle.nr_wire.specs.Stream.{Split, split, is_whole, frame_len, fields_len, IsFrame, AreFrames, Splits}
+use Rattle.nr_wire.specs.Stream.{Split, is_whole, frame_len, IsFrame, AreFrames, Splits}
 use Rattle.nr_wire.proofs.Frames.{whole_from, partial_nil}
 use Rattle.nr_wire.proofs.FrontFrame.{front_frame}
 use Rattle.nr_wire.proofs.Splits.{split-only}
@@ -53,7 +53,7 @@ send-is msn message small short =
     let segment = send_segment msn message in
     let frame = spelling segment in
     let read : segment_in (frame ++ []) ≡ Whole segment (length frame) =
-      spelling_again segment [] (refl, refl) (lit< tt, lit< tt, lit< tt, small, lit< tt) (omega arith) in
+    spelling_again segment [] (refl, refl) (lit< tt, lit< tt, lit< tt, small, lit< tt) (omega arith) in
     let found : segment_in frame ≡ Whole segment (length frame) = rw append-nil at read in
     let j = judged_whole (is_whole Fpdu frame) (segment_of (take (fpdu_len frame) frame)) segment (fpdu_len frame) (length frame) found in
     let all : take (fpdu_len frame) frame ≡ frame = take_all (fpdu_len frame) frame (omega (arith, j.len_is)) in
@@ -106,13 +106,13 @@ AreFrames-each : (f g : ℕ → List ℕ) (n : ℕ) (more : List (List ℕ)) →
 AreFrames-each f g zero more s h = h
 AreFrames-each f g (suc n) more s h =
     rw (append_assoc (each f n) (f (suc n) ∷ []) more)
-      (AreFrames-each f g n (f (suc n) ∷ more) (fewer f g n s) (s.frames (suc n) (omega arith), h))
+    (AreFrames-each f g n (f (suc n) ∷ more) (fewer f g n s) (s.frames (suc n) (omega arith), h))
 
 messages_from-each : (f g : ℕ → List ℕ) (n : ℕ) (more : List (List ℕ)) → AreSends f g n → messages_from (each f n ++ more) [] ≡ each g n ++ messages_from more []
 messages_from-each f g zero more s = refl
 messages_from-each f g (suc n) more s =
     let one : joined_to (part_in (segment_of (f (suc n)))) (messages_from more) [] ≡ g (suc n) ∷ messages_from more [] =
-      ap (λ (p : Option Part). joined_to p (messages_from more) []) (s.parts (suc n) (omega arith)) in
+    ap (λ (p : Option Part). joined_to p (messages_from more) []) (s.parts (suc n) (omega arith)) in
     ap (λ (xs : List (List ℕ)). messages_from xs []) (append_assoc (each f n) (f (suc n) ∷ []) more)
     ∙ messages_from-each f g n (f (suc n) ∷ more) (fewer f g n s)
     ∙ ap (λ (xs : List (List ℕ)). each g n ++ xs) one

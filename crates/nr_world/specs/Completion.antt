@@ -12,7 +12,7 @@ use Rattle.nr_world.specs.Along.{Along}
 -- server gives it there
 pub record IsAnswered (plain : PlainServer) (link : ℕ) (before : List Mark) (xid : ℕ) (reply : List ℕ) : Type 0 where
   pub accepted : (a : Accepted) × Contains (accepted link before) a × (a.xid ≡ xid)
-    × ((e : Executed) × Contains (executed link before) e × (e.xid ≡ xid) × (e.payload ≡ call_payload xid a.call) × (e.reply ≡ reply)
+      × ((e : Executed) × Contains (executed link before) e × (e.xid ≡ xid) × (e.payload ≡ call_payload xid a.call) × (e.reply ≡ reply)
       × (e.place ≤ length (journal plain before)) × plain.Replies (take e.place (journal plain before)) e.moment e.payload e.reply)
 
 abbrev pub HasPlainReply : PlainServer → ℕ → List Mark → ℕ → Outcome → Type 0

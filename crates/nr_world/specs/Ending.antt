@@ -1,5 +1,5 @@
 -- The message that ends in what stands at the front of a stream.
-use Rattle.std.specs.Prelude.{ℕ, List, Option, None, Some}
+use Rattle.std.specs.Prelude.{ℕ, List, Option, None}
 use Rattle.nr_wire.specs.Segment.{Segment}
 use Rattle.nr_wire.specs.Next.{Next}
 use Rattle.nr_wire.specs.Next.Next.{Whole, More, Bad}

@@ -1,22 +1,20 @@
 -- Which marks a script makes, in order.
-use Rattle.std.specs.Prelude.{◌≡◌, ◌≢◌, ℕ, zero, suc, ◌+◌, ◌-◌, ◌<◌, ◌⊎◌, Bool, ◌==◌, nat_lt, if◌then◌else◌, List, [], ◌∷◌, ◌++◌, length, take, drop, replicate, find, Option, None, Some, slice_index_or, slice_set}
+use Rattle.std.specs.Prelude.{◌≡◌, ◌≢◌, ℕ, zero, suc, ◌+◌, ◌-◌, ◌<◌, ◌⊎◌, ◌==◌, nat_lt, if◌then◌else◌, List, [], ◌∷◌, ◌++◌, length, take, drop, replicate, find, Option, None, Some, slice_index_or, slice_set}
 use Rattle.std.specs.List.{flat_map, list_any, range_with_len}
 use Rattle.nr_wire.specs.declared.hello.Side.{Side}
 use Rattle.nr_wire.specs.declared.hello.Side.TheVariants.{Initiator, Responder}
 use Rattle.nr_rpc.specs.declared.cred.Cred.TheVariants as creds
 use Rattle.nr_world.specs.declared.call.Call.{Call}
-use Rattle.nr_world.specs.declared.call.Form.{Form}
 use Rattle.nr_world.specs.declared.call.Submission.{Submission}
 use Rattle.nr_world.specs.declared.call.Submission.TheVariants as submissions
 use Rattle.nr_world.specs.declared.call.Refused.TheVariants as refusals
 use Rattle.nr_world.specs.declared.call.Outcome.TheVariants as outcomes
-use Rattle.nr_world.specs.declared.mark.Moment.{Moment}
 use Rattle.nr_world.specs.declared.mark.Mark.{Mark}
 use Rattle.nr_world.specs.declared.mark.Mark.TheVariants as marks
 use Rattle.nr_world.specs.Script.{Line, ScriptLines}
 use Rattle.nr_world.specs.Script.Line.{Call as CallLine, Drain as DrainLine}
 use Rattle.nr_world.specs.declared.mark.Opened.{Opened}
-use Rattle.nr_world.specs.Observed.{PlainServer, Accepted, Completed, accepted, executed, completed, journal, sent, got}
+use Rattle.nr_world.specs.Observed.{PlainServer, Accepted, accepted, executed, completed, sent, got}
 use Rattle.nr_world.specs.declared.mark.Conveyed.{Conveyed}
 use Rattle.nr_world.specs.Messages.{conveyed, reply_in}
 use Rattle.nr_world.specs.Owed.{owed}

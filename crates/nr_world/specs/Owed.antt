@@ -2,7 +2,7 @@
 use Rattle.std.specs.Prelude.{◌≡◌, ℕ, ◌+◌, not, ◌==◌, ◌&&◌, if◌then◌else◌, List, [], ◌∷◌, ◌++◌, length}
 use Rattle.nr_wire.specs.declared.hello.Side.{Side}
 use Rattle.nr_wire.specs.declared.hello.Side.TheVariants.{Initiator, Responder}
-use Rattle.nr_wire.specs.Hello.{Hello, hello_spelling}
+use Rattle.nr_wire.specs.Hello.{hello_spelling}
 use Rattle.nr_rpc.specs.declared.head.CallHead.TheVariants.{Version2}
 use Rattle.nr_rpc.specs.Call.{call_spelling}
 use Rattle.nr_world.specs.declared.call.Call.{Call}

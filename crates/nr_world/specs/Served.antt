@@ -1,5 +1,5 @@
 -- All that the server of a link executes and writes.
-use Rattle.std.specs.Prelude.{◌≡◌, ℕ, List, [], ◌∷◌, ◌++◌, length, Option, Some, slice_get}
+use Rattle.std.specs.Prelude.{◌≡◌, ℕ, List, [], ◌++◌, length, Option, Some, slice_get}
 use Rattle.nr_wire.specs.declared.hello.Side.TheVariants.{Initiator, Responder}
 use Rattle.nr_world.specs.declared.mark.Moment.{Moment}
 use Rattle.nr_world.specs.declared.mark.Mark.{Mark}

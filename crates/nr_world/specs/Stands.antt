@@ -71,10 +71,10 @@ is_one_of n k = nat_lt 0 k && nat_le k n
 
 unfoldable pub seen_by : Counts → ℕ → Seen
 seen_by n k = record {
-    entries = 0;
-    place = if is_one_of n.served k then Some 0 else None;
-    fate = if is_one_of n.done k then fates.Answered (Some 0) (outcomes.Reply (null_reply k)) else fates.Out;
-  }
+  entries = 0;
+  place = if is_one_of n.served k then Some 0 else None;
+  fate = if is_one_of n.done k then fates.Answered (Some 0) (outcomes.Reply (null_reply k)) else fates.Out;
+}
 
 -- the k-th call line, and what becomes of its call in a run
 abbrev pub told_in : List Mark → ℕ → Told
@@ -112,9 +112,14 @@ arrived_one (Some call) = 1
 
 abbrev pub counts_of : State → Counts
 counts_of s = record {
-    asked = s.asked; sent_up = s.asked; came = s.served + arrived_one s.arrived; served = s.served; sent_down = s.served;
-    heard = length s.told; done = length s.told;
-  }
+  asked = s.asked;
+  sent_up = s.asked;
+  came = s.served + arrived_one s.arrived;
+  served = s.served;
+  sent_down = s.served;
+  heard = length s.told;
+  done = length s.told;
+}
 
 abbrev pub arrived_after : ℕ → Option Conveyed → Type 0
 arrived_after n None = Unit {0}

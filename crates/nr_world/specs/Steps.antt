@@ -1,5 +1,5 @@
 -- The state of a drill under way, and what each step of its driver makes of it.
-use Rattle.std.specs.Prelude.{ℕ, ◌+◌, ◌==◌, Bool, true, false, List, [], ◌∷◌, ◌++◌, length, Option, None, Some, option_and_then}
+use Rattle.std.specs.Prelude.{ℕ, ◌+◌, Bool, true, false, List, [], ◌∷◌, ◌++◌, length, Option, None, Some, option_and_then}
 use Rattle.nr_outside.specs.Pipe.{PipeState, waiting_in}
 use Rattle.nr_wire.specs.declared.hello.Side.TheVariants.{Initiator, Responder}
 use Rattle.nr_wire.specs.Next.{segment_in}
@@ -59,35 +59,75 @@ all_read p = record { log = p.log; place = length p.log; faults = p.faults }
 -- a side writes
 abbrev pub wrote_up : State → List ℕ → State
 wrote_up s bytes = record {
-    credits = s.credits; marks = s.marks ++ marks.Wrote the_link Initiator bytes ∷ []; up = written s.up bytes; down = s.down;
-    asked = s.asked; arrived = s.arrived; served = s.served; entries = s.entries; place = s.place; told = s.told;
-  }
+  credits = s.credits;
+  marks = s.marks ++ marks.Wrote the_link Initiator bytes ∷ [];
+  up = written s.up bytes;
+  down = s.down;
+  asked = s.asked;
+  arrived = s.arrived;
+  served = s.served;
+  entries = s.entries;
+  place = s.place;
+  told = s.told;
+}
 
 abbrev pub wrote_down : State → List ℕ → State
 wrote_down s bytes = record {
-    credits = s.credits; marks = s.marks ++ marks.Wrote the_link Responder bytes ∷ []; up = s.up; down = written s.down bytes;
-    asked = s.asked; arrived = s.arrived; served = s.served; entries = s.entries; place = s.place; told = s.told;
-  }
+  credits = s.credits;
+  marks = s.marks ++ marks.Wrote the_link Responder bytes ∷ [];
+  up = s.up;
+  down = written s.down bytes;
+  asked = s.asked;
+  arrived = s.arrived;
+  served = s.served;
+  entries = s.entries;
+  place = s.place;
+  told = s.told;
+}
 
 -- a side is fed all that waits for it
 abbrev pub fed_up : State → Option Conveyed → State
 fed_up s call = record {
-    credits = s.credits; marks = s.marks ++ marks.Fed the_link Responder (waiting_in s.up) ∷ []; up = all_read s.up; down = s.down;
-    asked = s.asked; arrived = call; served = s.served; entries = s.entries; place = s.place; told = s.told;
-  }
+  credits = s.credits;
+  marks = s.marks ++ marks.Fed the_link Responder (waiting_in s.up) ∷ [];
+  up = all_read s.up;
+  down = s.down;
+  asked = s.asked;
+  arrived = call;
+  served = s.served;
+  entries = s.entries;
+  place = s.place;
+  told = s.told;
+}
 
 abbrev pub fed_down : State → State
 fed_down s = record {
-    credits = s.credits; marks = s.marks ++ marks.Fed the_link Initiator (waiting_in s.down) ∷ []; up = s.up; down = all_read s.down;
-    asked = s.asked; arrived = s.arrived; served = s.served; entries = s.entries; place = s.place; told = s.told;
-  }
+  credits = s.credits;
+  marks = s.marks ++ marks.Fed the_link Initiator (waiting_in s.down) ∷ [];
+  up = s.up;
+  down = all_read s.down;
+  asked = s.asked;
+  arrived = s.arrived;
+  served = s.served;
+  entries = s.entries;
+  place = s.place;
+  told = s.told;
+}
 
 -- a call goes out
 abbrev pub submitted : State → State
 submitted s = record {
-    credits = s.credits; marks = s.marks ++ marks.Submit the_link null Auto (Accepted (s.asked + 1)) ∷ []; up = s.up; down = s.down;
-    asked = s.asked + 1; arrived = s.arrived; served = s.served; entries = s.entries; place = s.place; told = s.told;
-  }
+  credits = s.credits;
+  marks = s.marks ++ marks.Submit the_link null Auto (Accepted (s.asked + 1)) ∷ [];
+  up = s.up;
+  down = s.down;
+  asked = s.asked + 1;
+  arrived = s.arrived;
+  served = s.served;
+  entries = s.entries;
+  place = s.place;
+  told = s.told;
+}
 
 unfoldable pub asked_one : State → State
 asked_one s = wrote_up (submitted s) (ask s.credits (s.asked + 1))
@@ -95,9 +135,17 @@ asked_one s = wrote_up (submitted s) (ask s.credits (s.asked + 1))
 -- a call is executed
 abbrev pub executed_one : State → ℕ → List ℕ → List ℕ → State
 executed_one s xid payload reply = record {
-    credits = s.credits; marks = s.marks ++ marks.Execute the_link xid (record { seconds = 0; nanos = 0 }) payload s.entries reply ∷ []; up = s.up; down = s.down;
-    asked = s.asked; arrived = None; served = s.served + 1; entries = s.entries; place = s.entries; told = s.told;
-  }
+  credits = s.credits;
+  marks = s.marks ++ marks.Execute the_link xid (record { seconds = 0; nanos = 0 }) payload s.entries reply ∷ [];
+  up = s.up;
+  down = s.down;
+  asked = s.asked;
+  arrived = None;
+  served = s.served + 1;
+  entries = s.entries;
+  place = s.entries;
+  told = s.told;
+}
 
 abbrev pub answered_with : State → Conveyed → Option (List ℕ) → State
 answered_with s call None = s
@@ -138,10 +186,17 @@ came s = came_by s (waiting_in s.up)
 -- the client is fed, and hands over what is completed
 abbrev pub done_one : State → Conveyed → State
 done_one s reply = record {
-    credits = s.credits; marks = s.marks ++ marks.Done the_link reply.xid (outcomes.Reply reply.payload) ∷ []; up = s.up; down = s.down;
-    asked = s.asked; arrived = s.arrived; served = s.served; entries = s.entries; place = s.place;
-    told = s.told ++ record { client = the_link; number = length s.told + 1; fate = fates.Answered (Some s.place) (outcomes.Reply reply.payload) } ∷ [];
-  }
+  credits = s.credits;
+  marks = s.marks ++ marks.Done the_link reply.xid (outcomes.Reply reply.payload) ∷ [];
+  up = s.up;
+  down = s.down;
+  asked = s.asked;
+  arrived = s.arrived;
+  served = s.served;
+  entries = s.entries;
+  place = s.place;
+  told = s.told ++ record { client = the_link; number = length s.told + 1; fate = fates.Answered (Some s.place) (outcomes.Reply reply.payload) } ∷ [];
+}
 
 abbrev pub done_by : State → Option Conveyed → State
 done_by s None = s
@@ -164,5 +219,10 @@ opened_state credits =
       marks = marks.Wrote the_link Initiator up ∷ marks.Fed the_link Responder up ∷ marks.Wrote the_link Responder down ∷ marks.Fed the_link Initiator down ∷ [];
       up = record { log = up; place = length up; faults = 0 };
       down = record { log = down; place = length down; faults = 0 };
-      asked = 0; arrived = None; served = 0; entries = 0; place = 0; told = [];
+      asked = 0;
+      arrived = None;
+      served = 0;
+      entries = 0;
+      place = 0;
+      told = [];
     }

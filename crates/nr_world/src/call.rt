@@ -78,10 +78,7 @@ impl Lengths {
 pub enum Outcome {
     Reply(Octets),
     Chunk,
-    Version {
-        low: u32,
-        high: u32,
-    },
+    Version { low: u32, high: u32 },
 }
 
 /// Why a side of a link takes no more input.

@@ -5,18 +5,18 @@ mod call;
 mod mark;
 mod message;
 mod plain;
+mod printing;
 mod reading;
 mod report;
 mod script;
-mod printing;
 mod world;
 
 pub use call::{Call, End, Form, Lack, Lengths, Offer, Outcome, Refused, Submission};
 pub use mark::{Entry, Mark, Marks, Moment, Opened};
-pub use report::{Fate, Journal, Logs, Report, Told, Tolds, Ways};
-pub use script::{SCRIPT_MAX, Script, ScriptFault};
 pub use printing::shown;
 pub use reading::read_script;
+pub use report::{Fate, Journal, Logs, Report, Told, Tolds, Ways};
+pub use script::{SCRIPT_MAX, Script, ScriptFault};
 pub use world::run_world;
 
 #[cfg(test)]

@@ -80,13 +80,24 @@ pub enum Mark {
         outcome: Outcome,
     },
     /// The client told the caller that the link ended before the call was answered.
-    Lost { link: u32, xid: u32 },
+    Lost {
+        link: u32,
+        xid: u32,
+    },
     /// The caller gave up the answer.
-    Forget { link: u32, xid: u32 },
+    Forget {
+        link: u32,
+        xid: u32,
+    },
     /// The caller took back the call's memory.
-    Revoke { link: u32, xid: u32 },
+    Revoke {
+        link: u32,
+        xid: u32,
+    },
     /// The link was dropped.
-    Drop { link: u32 },
+    Drop {
+        link: u32,
+    },
 }
 
 /// Marks in the order in which they happened. Contracts see it as the list.

@@ -9,6 +9,7 @@ use std::alloc::Global;
 
 /// The program number and the version of NFS (RFC 1813 section 3).
 pub const NFS_PROGRAM: u32 = 100_003;
+
 pub const NFS_VERSION: u32 = 3;
 
 /// The procedure that does nothing (RFC 1813 section 3.3.0).
@@ -43,14 +44,16 @@ pub fn execute(alloc: Global, payload: &[u8]) -> Result<Option<Octets>, Memory>
     ensures short { IfOk result (λ reply. IfSome reply (λ bytes. length bytes ≤ REPLY_MAX)) }
 {
     match read_call(alloc, payload) {
-        Ok(CallHead::Version2 {
-            xid,
-            prog,
-            vers,
-            proc,
-            cred: Cred::None,
-            args_at,
-        }) => {
+        Ok(
+            CallHead::Version2 {
+                xid,
+                prog,
+                vers,
+                proc,
+                cred: Cred::None,
+                args_at,
+            },
+        ) => {
             if prog == NFS_PROGRAM
                 && vers == NFS_VERSION
                 && proc == NULL

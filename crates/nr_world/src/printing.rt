@@ -77,9 +77,7 @@ fn push_refused(text: &mut String, refused: &Refused) -> Result<(), Memory>
         Refused::NoCredit { out, grant } => {
             push_words(text, " refused credit ", u64::from(out), u64::from(grant))
         }
-        Refused::Spent { left, need } => {
-            push_words(text, " refused spent ", left, need)
-        }
+        Refused::Spent { left, need } => { push_words(text, " refused spent ", left, need) }
         Refused::Memory => {
             text.push_str(" refused memory")?;
             Ok(())

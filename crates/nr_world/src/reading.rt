@@ -40,7 +40,11 @@ fn credits_in(alloc: Global, line: &[u8]) -> Result<Option<u32>, Memory>
 fn is_due(due: bool, line: &[u8]) -> bool
     ensures { result ≡ bytes_eq line.now (turn_text due) }
 {
-    let wanted: &[u8] = if due { b"drain" } else { b"call 1 auto nfs 0 -" };
+    let wanted: &[u8] = if due {
+        b"drain"
+    } else {
+        b"call 1 auto nfs 0 -"
+    };
     line == wanted
 }
 
@@ -66,10 +70,14 @@ fn next_line(text: &[u8]) -> Option<(&[u8], &[u8])>
 fn behind_due(due: bool, text: &[u8]) -> Option<&[u8]>
     ensures { MatchOption result ((number : ℕ) → lines_from text.now number due ≡ ends_at number due text.now)
         (λ behind. ((number : ℕ) → lines_from text.now number due ≡ turn_onto (turn due) (lines_from behind.now (number + 1) (not due)))
-            × (length behind.now < length text.now)) }
+        × (length behind.now < length text.now)) }
 {
     let (line, behind) = next_line(text)?;
-    if is_due(due, line) { Some(behind) } else { None }
+    if is_due(due, line) {
+        Some(behind)
+    } else {
+        None
+    }
 }
 
 /// How many turns of a call and a drain a text is, or the number of its first bad line, where its first line is line 2.
@@ -83,7 +91,11 @@ fn turns_in(text: &[u8]) -> Result<u32, u64>
     loop {
         let line = 2 * u64::from(calls) + 2;
         let Some(after) = behind_due(false, rest) else {
-            return if rest.is_empty() { Ok(calls) } else { Err(line) };
+            return if rest.is_empty() {
+                Ok(calls)
+            } else {
+                Err(line)
+            };
         };
         let Some(behind) = behind_due(true, after) else {
             return Err(line + 1);

@@ -66,8 +66,16 @@ impl Model for World {
     ghost Value = { State };
 
     ghost view = { λ w. record {
-        credits = w.credits; marks = w.marks.items; up = w.up; down = w.down; asked = w.asked; arrived = w.arrived;
-        served = w.served; entries = vec_len w.journal; place = w.place; told = w.told.items;
+      credits = w.credits;
+      marks = w.marks.items;
+      up = w.up;
+      down = w.down;
+      asked = w.asked;
+      arrived = w.arrived;
+      served = w.served;
+      entries = vec_len w.journal;
+      place = w.place;
+      told = w.told.items;
     } };
 }
 

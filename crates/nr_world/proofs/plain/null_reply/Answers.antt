@@ -1,4 +1,4 @@
-use Rattle.std.proofs.Common.{◌≡◌, ap, length, arith}
+use Rattle.std.proofs.Common.{ap, length, arith}
 use Rattle.nr_world.proofs.Nulls.{length-null_reply}
 use Rattle.nr_world.proofs.plain.null_reply.Goals as goal
 

@@ -1,4 +1,4 @@
-use Rattle.std.proofs.Common.{◌≡◌, ℕ, ◌+◌, ◌-◌, ◌≤◌, true, false, arith, sym, ap, ◌∙◌, cond, Some}
+use Rattle.std.proofs.Common.{◌≡◌, ℕ, ◌+◌, ◌-◌, arith, sym, ap, ◌∙◌, cond, Some}
 use Rattle.nr_world.specs.declared.script.TheConstants.{MOST_CREDITS}
 use Rattle.nr_world.specs.Parsing.{credits_from}
 use Rattle.nr_world.proofs.Parsing.{credits_first, credits_last, credits_next}
@@ -11,14 +11,16 @@ pub returns-then-branch-clause-read : goal.returns-then-branch-clause-read
 returns-then-branch-clause-read c =
     let n : ℕ = MOST_CREDITS - c.loop-credits.credits in
     sym (c.loop-credits.invariant.2 ∙ credits_next c.args.line.now c.loop-credits.credits n (omega arith)
-        ∙ ap (λ b. cond b (Some c.loop-credits.credits) (credits_from c.args.line.now (c.loop-credits.credits + 1))) (sym c.in_ok-is_clients_line.ensures ∙ c.if-branch.true))
+    ∙ ap (λ b. cond b (Some c.loop-credits.credits) (credits_from c.args.line.now (c.loop-credits.credits + 1))) (sym c.in_ok-is_clients_line.ensures ∙ c.if-branch.true))
 
 pub loop-credits-preserved : goal.loop-credits-preserved
 loop-credits-preserved c =
-    let n : ℕ = MOST_CREDITS - c.loop-credits.credits in
-    (omega arith, omega arith,
-        c.loop-credits.invariant.2 ∙ credits_next c.args.line.now c.loop-credits.credits n (omega arith)
-            ∙ ap (λ b. cond b (Some c.loop-credits.credits) (credits_from c.args.line.now (c.loop-credits.credits + 1))) (sym c.in_ok-is_clients_line.ensures ∙ c.if-branch.false))
+    let n : ℕ = MOST_CREDITS - c.loop-credits.credits in (
+      omega arith,
+      omega arith,
+      c.loop-credits.invariant.2 ∙ credits_next c.args.line.now c.loop-credits.credits n (omega arith)
+          ∙ ap (λ b. cond b (Some c.loop-credits.credits) (credits_from c.args.line.now (c.loop-credits.credits + 1))) (sym c.in_ok-is_clients_line.ensures ∙ c.if-branch.false),
+    )
 
 pub returns-clause-read : goal.returns-clause-read
 returns-clause-read c =

@@ -1,7 +1,5 @@
-use Rattle.std.proofs.Common.{◌≡◌, ℕ, ◌+◌, ◌<◌, List, length, drop, arith, sym, ◌∙◌}
-use Rattle.std.proofs.lemmas.List.{length-drop}
-use Rattle.nr_world.specs.Script.{cut, line_onto}
-use Rattle.nr_world.proofs.Parsing.{not_found, found_at, cut_by}
+use Rattle.std.proofs.Common.{sym}
+use Rattle.nr_world.proofs.Parsing.{not_found, cut_by}
 use Rattle.nr_world.proofs.reading.next_line.Goals as goal
 
 pub returns-in_err-at : goal.returns-in_err-at

@@ -1,4 +1,4 @@
-use Rattle.std.proofs.Common.{◌≡◌, ap, ◌∙◌, length, arith}
+use Rattle.std.proofs.Common.{ap, ◌∙◌, length, arith}
 use Rattle.nr_world.proofs.Inline.{length-inline_message}
 use Rattle.nr_world.proofs.world.answer_frame.Goals as goal
 

@@ -1,4 +1,4 @@
-use Rattle.std.proofs.Common.{◌≡◌, ap, ◌∙◌, length, List, ℕ, arith, rules}
+use Rattle.std.proofs.Common.{◌≡◌, ap, ◌∙◌, length, List, ℕ, arith}
 use Rattle.nr_world.specs.Messages.{inline_message}
 use Rattle.nr_world.specs.Owed.{call_payload}
 use Rattle.nr_world.specs.Steps.{ask}

@@ -1,4 +1,4 @@
-use Rattle.std.proofs.Common.{◌≡◌, sym, subst}
+use Rattle.std.proofs.Common.{sym, subst}
 use Rattle.nr_world.specs.Steps.{State}
 use Rattle.nr_world.specs.Stands.{Called}
 use Rattle.nr_world.proofs.Rounds.{called_by}

@@ -1,4 +1,4 @@
-use Rattle.std.proofs.Common.{true, subst}
+use Rattle.std.proofs.Common.{subst}
 use Rattle.nr_world.specs.Stands.{Round}
 use Rattle.nr_world.proofs.Rounds.{draining_more}
 use Rattle.nr_world.proofs.world.World.drain.Goals as goal

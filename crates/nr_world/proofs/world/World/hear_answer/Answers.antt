@@ -10,4 +10,4 @@ unreachable-requires c =
     let waits = all_waiting c.self.inside.down c.waiting-waiting.result c.waiting-waiting.ensures in
     let held : waiting_in c.self.inside.down ≡ own_hello Responder = rw (← c.self.view_is) at c.requires in
     is_accepted Responder c.read_hello.result c.as_slice.result.now
-      (c.as_slice.ensures ∙ c.in_ok-answer.ensures ∙ c.peek.ensures ∙ waits ∙ held) c.read_hello.ensures.exact c.in_default.not-Whole
+    (c.as_slice.ensures ∙ c.in_ok-answer.ensures ∙ c.peek.ensures ∙ waits ∙ held) c.read_hello.ensures.exact c.in_default.not-Whole

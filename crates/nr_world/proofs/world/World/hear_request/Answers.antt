@@ -10,4 +10,4 @@ unreachable-requires c =
     let waits = all_waiting c.self.inside.up c.waiting-waiting.result c.waiting-waiting.ensures in
     let held : waiting_in c.self.inside.up ≡ own_hello Initiator = rw (← c.self.view_is) at c.requires in
     is_accepted Initiator c.read_hello.result c.as_slice.result.now
-      (c.as_slice.ensures ∙ c.in_ok-request.ensures ∙ c.peek.ensures ∙ waits ∙ held) c.read_hello.ensures.exact c.in_default.not-Whole
+    (c.as_slice.ensures ∙ c.in_ok-request.ensures ∙ c.peek.ensures ∙ waits ∙ held) c.read_hello.ensures.exact c.in_default.not-Whole

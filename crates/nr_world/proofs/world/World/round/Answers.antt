@@ -1,6 +1,4 @@
-use Rattle.std.proofs.Common.{◌≡◌, ◌≤◌, ◌||◌, Bool, length, ap, sym, subst, ◌∙◌, arith}
-use Rattle.std.specs.Prelude.{OnOk}
-use Rattle.nr_world.specs.declared.report.Told.{Told}
+use Rattle.std.proofs.Common.{◌≡◌, ◌||◌, Bool, length, ap, sym, subst, ◌∙◌, arith}
 use Rattle.nr_world.specs.Steps.{State, came, worked, heard, waits, works_on}
 use Rattle.nr_world.specs.Stands.{Round}
 use Rattle.nr_world.proofs.Rounds.{round_of}
@@ -31,9 +29,9 @@ returns c =
     let work : c.in_ok-work.work ≡ works_on (came old).arrived = c.in_ok-work.ensures.moves ∙ ap (λ (s : State). works_on s.arrived) first in
     let down : c.in_ok-down.down ≡ waits (worked (came old)).down = c.in_ok-down.ensures.moves ∙ ap (λ (s : State). waits s.down) second in
     let moved : c.any_of.result ≡ (waits old.up || works_on (came old).arrived || waits (worked (came old)).down) =
-      c.any_of.ensures
-      ∙ ap (λ (b : Bool). b || c.in_ok-work.work || c.in_ok-down.down) c.in_ok-up.ensures.moves
-      ∙ ap (λ (b : Bool). waits old.up || b || c.in_ok-down.down) work
-      ∙ ap (λ (b : Bool). waits old.up || works_on (came old).arrived || b) down in
+    c.any_of.ensures
+    ∙ ap (λ (b : Bool). b || c.in_ok-work.work || c.in_ok-down.down) c.in_ok-up.ensures.moves
+    ∙ ap (λ (b : Bool). waits old.up || b || c.in_ok-down.down) work
+    ∙ ap (λ (b : Bool). waits old.up || works_on (came old).arrived || b) down in
     subst (λ (b : Bool). Round old c.feed_down.new.self b) (sym moved)
-      (subst (λ (s : State). Round old s (waits old.up || works_on (came old).arrived || waits (worked (came old)).down)) (sym third) (round_of old c.requires))
+    (subst (λ (s : State). Round old s (waits old.up || works_on (came old).arrived || waits (worked (came old)).down)) (sym third) (round_of old c.requires))
