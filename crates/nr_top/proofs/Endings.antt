@@ -8,9 +8,9 @@ use Rattle.nr_world.specs.Plain.{drill_server}
 use Rattle.nr_world.specs.Shown.{shown, text_of}
 use Rattle.nr_top.specs.declared.command.Stop.{Stop}
 use Rattle.nr_top.specs.declared.command.Stop.TheVariants as stops
-use Rattle.nr_top.specs.declared.status.TheConstants.{BAD_WORDS, NO_MEMORY, FAULT, BAD_SCRIPT, OVER_BUDGET}
+use Rattle.nr_top.specs.Statuses as statuses
 use Rattle.nr_top.specs.Words.{is_drill, due_status}
-use Rattle.nr_top.specs.Ends.{InputAt, SinkAt, Wrote, Silent, BadLine, TooLong, FaultTold, bad_line_text, Ends, Stopped, Spoke, Says}
+use Rattle.nr_top.specs.Ends.{InputAt, SinkAt, Wrote, Silent, BadLine, TooLong, FaultTold, bad_line_text, budget_text, Ends, Stopped, Spoke, Says}
 
 -- what is printed of a report is what is shown of its marks
 pub printed_is : (script : ScriptLines) (report : Report) (text : List ℕ) → Reports script report → text ≡ text_of report.calls (length report.journal) → text ≡ shown drill_server report.marks
@@ -18,7 +18,7 @@ unfolding shown
 printed_is script report text reports e = e ∙ (λ i. text_of (reports.calls i) (length (reports.journal i)))
 
 -- the count of err rose
-told_fault : (words : List (List ℕ)) (status : ℕ) (input input' : InputAt) (out out' err err' : SinkAt) → status ≡ FAULT → FaultTold input input' out out' err err' → Ends words status input input' out out' err err'
+told_fault : (words : List (List ℕ)) (status : ℕ) (input input' : InputAt) (out out' err err' : SinkAt) → status ≡ statuses.fault → FaultTold words input input' out out' err err' → Ends words status input input' out out' err err'
 told_fault words status input input' out out' err err' is told = record {
   done = λ e. absurd (omega (arith, e, is));
   words_bad = λ e. absurd (omega (arith, e, is));
@@ -32,11 +32,11 @@ told_fault words status input input' out out' err err' is told = record {
 }
 
 -- what is said of a stop, where it was said or the count of err rose
-said_or : {due : ℕ} {text : List ℕ} (words : List (List ℕ)) (status : ℕ) (input input' : InputAt) (out out' err err' : SinkAt) → Spoke due text status err err' → (status ≡ due → Wrote err err' text → Ends words status input input' out out' err err') → Ends words status input input' out out' err err'
-said_or words status input input' out out' err err' (inl said) make = make said.0 said.1
-said_or words status input input' out out' err err' (inr failed) make = told_fault words status input input' out out' err err' failed.0 (inr (inr failed.1))
+said_or : {due : ℕ} {text : List ℕ} (stop : Stop) (words : List (List ℕ)) (status : ℕ) (input input' : InputAt) (out out' err err' : SinkAt) → Stopped stop words input input' out out' → Spoke due text status err err' → (status ≡ due → Wrote err err' text → Ends words status input input' out out' err err') → Ends words status input input' out out' err err'
+said_or stop words status input input' out out' err err' stopped (inl said) make = make said.0 said.1
+said_or stop words status input input' out out' err err' stopped (inr failed) make = told_fault words status input input' out out' err err' failed.0 (inr (inr (stop, stopped, failed.1)))
 
-bad_words : (words : List (List ℕ)) (status : ℕ) (input input' : InputAt) (out out' err err' : SinkAt) → is_drill words ≡ false → input' ≡ input → out' ≡ out → status ≡ BAD_WORDS → Wrote err err' (codes "bad words\n") → Ends words status input input' out out' err err'
+bad_words : (words : List (List ℕ)) (status : ℕ) (input input' : InputAt) (out out' err err' : SinkAt) → is_drill words ≡ false → input' ≡ input → out' ≡ out → status ≡ statuses.bad_words → Wrote err err' (codes "bad words\n") → Ends words status input input' out out' err err'
 bad_words words status input input' out out' err err' other same quiet is said = record {
   done = λ e. absurd (omega (arith, e, is));
   words_bad = λ _. (other, same, quiet, said);
@@ -49,7 +49,7 @@ bad_words words status input input' out out' err err' other same quiet is said =
   words_due = λ _. inl is;
 }
 
-no_memory : (words : List (List ℕ)) (status : ℕ) (input input' : InputAt) (out out' err err' : SinkAt) → is_drill words ≡ true → input'.faults ≡ input.faults → Silent out out' → status ≡ NO_MEMORY → Wrote err err' (codes "memory\n") → Ends words status input input' out out' err err'
+no_memory : (words : List (List ℕ)) (status : ℕ) (input input' : InputAt) (out out' err err' : SinkAt) → is_drill words ≡ true → input'.faults ≡ input.faults → Silent out out' → status ≡ statuses.no_memory → Wrote err err' (codes "memory\n") → Ends words status input input' out out' err err'
 no_memory words status input input' out out' err err' line same quiet is said = record {
   done = λ e. absurd (omega (arith, e, is));
   words_bad = λ e. absurd (omega (arith, e, is));
@@ -67,10 +67,10 @@ told_same : (left : Option (List ℕ)) (text read : List ℕ) → IfSome left (�
 told_same left text read all told = subst (λ (l : Option (List ℕ)). IfSome l (λ given. read ≡ given)) told all
 
 -- the status of a script with a bad line
-due_of_bad : (words : List (List ℕ)) (text : List ℕ) (number : ℕ) → is_drill words ≡ true → length text ≤ SCRIPT_MAX → script_of text ≡ Err number → due_status words text ≡ BAD_SCRIPT
+due_of_bad : (words : List (List ℕ)) (text : List ℕ) (number : ℕ) → is_drill words ≡ true → length text ≤ SCRIPT_MAX → script_of text ≡ Err number → due_status words text ≡ statuses.bad_script
 due_of_bad words text number line within bad = rw (line, le-ltb SCRIPT_MAX (length text) within, bad) refl
 
-bad_script : (number : ℕ) (words : List (List ℕ)) (status : ℕ) (input input' : InputAt) (out out' err err' : SinkAt) → BadLine number words input input' → Silent out out' → status ≡ BAD_SCRIPT → Wrote err err' (bad_line_text number) → Ends words status input input' out out' err err'
+bad_script : (number : ℕ) (words : List (List ℕ)) (status : ℕ) (input input' : InputAt) (out out' err err' : SinkAt) → BadLine number words input input' → Silent out out' → status ≡ statuses.bad_script → Wrote err err' (bad_line_text number) → Ends words status input input' out out' err err'
 bad_script number words status input input' out out' err err' bad quiet is said = record {
   done = λ e. absurd (omega (arith, e, is));
   words_bad = λ e. absurd (omega (arith, e, is));
@@ -86,10 +86,10 @@ bad_script number words status input input' out out' err err' bad quiet is said 
 }
 
 -- the status of an input that is too long
-due_of_long : (words : List (List ℕ)) (text : List ℕ) → is_drill words ≡ true → SCRIPT_MAX < length text → due_status words text ≡ OVER_BUDGET
+due_of_long : (words : List (List ℕ)) (text : List ℕ) → is_drill words ≡ true → SCRIPT_MAX < length text → due_status words text ≡ statuses.over_budget
 due_of_long words text line long = rw (line, lt-ltb SCRIPT_MAX (length text) long) refl
 
-over_budget : (words : List (List ℕ)) (status : ℕ) (input input' : InputAt) (out out' err err' : SinkAt) → TooLong words input → input'.faults ≡ input.faults → Silent out out' → status ≡ OVER_BUDGET → Wrote err err' (codes "budget 16777216\n") → Ends words status input input' out out' err err'
+over_budget : (words : List (List ℕ)) (status : ℕ) (input input' : InputAt) (out out' err err' : SinkAt) → TooLong words input → input'.faults ≡ input.faults → Silent out out' → status ≡ statuses.over_budget → Wrote err err' budget_text → Ends words status input input' out out' err err'
 over_budget words status input input' out out' err err' long same quiet is said = record {
   done = λ e. absurd (omega (arith, e, is));
   words_bad = λ e. absurd (omega (arith, e, is));
@@ -105,16 +105,18 @@ over_budget words status input input' out out' err err' long same quiet is said 
 -- a stop that was told makes an end
 pub ends_of : (stop : Stop) (words : List (List ℕ)) (status : ℕ) (input input' : InputAt) (out out' err err' : SinkAt) → Stopped stop words input input' out out' → Says stop status err err' → Ends words status input input' out out' err err'
 ends_of stops.Words words status input input' out out' err err' stopped said =
-    said_or words status input input' out out' err err' said (bad_words words status input input' out out' err err' stopped.0 stopped.1 stopped.2)
+    said_or stops.Words words status input input' out out' err err' stopped said (bad_words words status input input' out out' err err' stopped.0 stopped.1 stopped.2)
 ends_of stops.Memory words status input input' out out' err err' stopped said =
-    said_or words status input input' out out' err err' said (no_memory words status input input' out out' err err' stopped.0 stopped.1 stopped.2)
+    said_or stops.Memory words status input input' out out' err err' stopped said (no_memory words status input input' out out' err err' stopped.0 stopped.1 stopped.2)
 ends_of stops.Input words status input input' out out' err err' stopped said =
-    said_or words status input input' out out' err err' said (λ is wrote. told_fault words status input input' out out' err err' is (inl (stopped.1, wrote)))
+    said_or stops.Input words status input input' out out' err err' stopped said (λ is wrote. told_fault words status input input' out out' err err' is (inl (stopped.0, stopped.1, stopped.2, wrote)))
 ends_of stops.Output words status input input' out out' err err' stopped said =
-    said_or words status input input' out out' err err' said (λ is wrote. told_fault words status input input' out out' err err' is (inr (inl (stopped.2, wrote))))
+    said_or stops.Output words status input input' out out' err err' stopped said (λ is wrote. told_fault words status input input' out out' err err' is (inr (inl (stopped, wrote))))
 ends_of (stops.Script number) words status input input' out out' err err' stopped (inl said) =
-    said_or words status input input' out out' err err' said (bad_script number words status input input' out out' err err' stopped.0 stopped.1)
+    said_or (stops.Script number) words status input input' out out' err err' stopped said (bad_script number words status input input' out out' err err' stopped.0 stopped.1)
 ends_of (stops.Script number) words status input input' out out' err err' stopped (inr said) =
-    said_or words status input input' out out' err err' said (no_memory words status input input' out out' err err' stopped.0.line stopped.0.whole.unfailing stopped.1)
-ends_of stops.Budget words status input input' out out' err err' stopped said =
-    said_or words status input input' out out' err err' said (over_budget words status input input' out out' err err' stopped.0 stopped.1 stopped.2)
+    said_or (stops.Script number) words status input input' out out' err err' stopped said (no_memory words status input input' out out' err err' stopped.0.line stopped.0.whole.unfailing stopped.1)
+ends_of stops.Budget words status input input' out out' err err' stopped (inl said) =
+    said_or stops.Budget words status input input' out out' err err' stopped said (over_budget words status input input' out out' err err' stopped.0 stopped.1 stopped.2)
+ends_of stops.Budget words status input input' out out' err err' stopped (inr said) =
+    said_or stops.Budget words status input input' out out' err err' stopped said (no_memory words status input input' out out' err err' stopped.0.line stopped.1 stopped.2)

@@ -3,7 +3,7 @@ use Rattle.std.specs.Prelude.{ℕ, Bool, false, if◌then◌else◌, List, [], �
 use Rattle.std.specs.Str.{bytes_eq}
 use Rattle.nr_world.specs.Script.{ScriptLines, script_of}
 use Rattle.nr_world.specs.declared.script.TheConstants.{SCRIPT_MAX}
-use Rattle.nr_top.specs.declared.status.TheConstants.{DONE, BAD_WORDS, BAD_SCRIPT, OVER_BUDGET}
+use Rattle.nr_top.specs.Statuses.{done, bad_words, bad_script, over_budget}
 
 -- the words of a drill: the name under which the program was started, and the command
 abbrev pub is_drill : List (List ℕ) → Bool
@@ -14,10 +14,10 @@ is_drill (name ∷ command ∷ other ∷ others) = false
 
 -- the status that a script has, or the first bad line of one
 abbrev pub status_of_script : Result ScriptLines ℕ → ℕ
-status_of_script (Ok script) = DONE
-status_of_script (Err line) = BAD_SCRIPT
+status_of_script (Ok script) = done
+status_of_script (Err line) = bad_script
 
 -- the status of these words over this input, where memory lasts and nothing outside fails
 abbrev pub due_status : List (List ℕ) → List ℕ → ℕ
 due_status words text =
-    if is_drill words then (if nat_lt SCRIPT_MAX (length text) then OVER_BUDGET else status_of_script (script_of text)) else BAD_WORDS
+    if is_drill words then (if nat_lt SCRIPT_MAX (length text) then over_budget else status_of_script (script_of text)) else bad_words

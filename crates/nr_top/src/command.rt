@@ -6,7 +6,7 @@ ghost use Rattle.nr_top.specs.Words.{is_drill};
 ghost use Rattle.nr_top.specs.Ends.{Ends, Done, Stopped, Spoke, Says, input_at, sink_at};
 
 use crate::status::{BAD_SCRIPT, BAD_WORDS, DONE, FAULT, NO_MEMORY, OVER_BUDGET};
-use nr_outside::{Failed, ReadEnd, Sink, Source, read_whole, write_whole};
+use nr_outside::{ReadEnd, Sink, Source, read_whole, write_whole};
 use nr_world::{SCRIPT_MAX, ScriptFault, read_script, run_world, shown};
 use nr_xdr::Memory;
 use std::alloc::Global;
@@ -59,16 +59,6 @@ impl From<Memory> for Stop {
     }
 }
 
-impl From<Failed> for Stop {
-    ghost use Rattle.nr_top.specs.declared.command.Stop.TheVariants as stops;
-
-    ghost from_gives = { λ _ stop. stop ≡ stops.Output };
-
-    fn from(_e: Failed) -> Stop {
-        Stop::Output
-    }
-}
-
 /// Whether the words are those of a drill: the name under which the program was started, and `drill`.
 fn is_drill(words: &[String]) -> bool
     ensures { result ≡ is_drill (map string_bytes words.now) }
@@ -98,8 +88,10 @@ fn drill<I: Source, O: Sink>(
     let script = read_script(alloc, text.as_slice())?;
     let report = run_world(alloc, &script)?;
     let printed = shown(alloc, &report)?;
-    write_whole(out, printed.as_slice())?;
-    Ok(())
+    match write_whole(out, printed.as_slice()) {
+        Ok(()) => Ok(()),
+        Err(_) => Err(Stop::Output),
+    }
 }
 
 /// Says on `err` why the command wasn't done, and gives the status of that.
@@ -113,7 +105,7 @@ fn speak<E: Sink>(err: &mut E, text: &[u8], status: u8) -> u8
 }
 
 /// The words for a stop, with its status. Where there is no memory for them, that is what is said.
-#[tactic(auto, unfolding(crate::specs::Ends::bad_line_text))]
+#[tactic(auto, unfolding(crate::specs::Ends::bad_line_text, crate::specs::Ends::budget_text))]
 fn say<E: Sink>(alloc: Global, stop: Stop, err: &mut E) -> u8
     ensures { Says stop result (sink_at (E.taken err.old) (E.faults err.old)) (sink_at (E.taken err.new) (E.faults err.new)) }
 {
@@ -122,7 +114,10 @@ fn say<E: Sink>(alloc: Global, stop: Stop, err: &mut E) -> u8
         Stop::Memory => speak(err, b"memory\n", NO_MEMORY),
         Stop::Input => speak(err, b"input fault\n", FAULT),
         Stop::Output => speak(err, b"output fault\n", FAULT),
-        Stop::Budget => speak(err, b"budget 16777216\n", OVER_BUDGET),
+        Stop::Budget => match format!(in alloc; "budget {SCRIPT_MAX}\n") {
+            Ok(text) => speak(err, text.as_bytes(), OVER_BUDGET),
+            Err(_) => speak(err, b"memory\n", NO_MEMORY),
+        },
         Stop::Script { line } => match format!(in alloc; "bad line {line}\n") {
             Ok(text) => speak(err, text.as_bytes(), BAD_SCRIPT),
             Err(_) => speak(err, b"memory\n", NO_MEMORY),

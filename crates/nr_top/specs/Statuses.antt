@@ -1,0 +1,26 @@
+-- The statuses that a run ends with.
+use Rattle.std.specs.Prelude.{ℕ}
+
+-- the command was done
+abbrev pub done : ℕ
+done = 0
+
+-- the words are no line of the program
+abbrev pub bad_words : ℕ
+bad_words = 1
+
+-- memory ran out
+abbrev pub no_memory : ℕ
+no_memory = 2
+
+-- a read or a write failed
+abbrev pub fault : ℕ
+fault = 9
+
+-- the input is no script
+abbrev pub bad_script : ℕ
+bad_script = 10
+
+-- the input is longer than a script may be
+abbrev pub over_budget : ℕ
+over_budget = 11
