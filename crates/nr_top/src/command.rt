@@ -129,9 +129,10 @@ fn say<E: Sink>(alloc: Global, stop: Stop, err: &mut E) -> u8
 /// command, which is `drill` by now: it reads a script from `input`, runs it, and prints on `out` what happened. Where
 /// it can't, it says why on `err`.
 ///
-/// The record `Ends` of the specs says what each status tells: 0 that the run is one of the script and keeps the promise, and
-/// that it was printed; 1 that the words are no line; 2 that no memory was found, and nothing was printed; 9 that a count of faults of `input`, `out`
-/// or `err` rose; 10 that the input's first bad line is the one that is named; 11 that the input is too long.
+/// The record `Ends` of the specs says what each status tells: 0 that the run is one of the script and keeps the promise,
+/// and that it was printed; 1 that the words are no line; 2 that no memory was found, and nothing was printed; 9 that a
+/// count of faults of `input`, `out` or `err` rose; 10 that the input's first bad line is the one that is named; 11 that
+/// the input is too long.
 pub fn run<I: Source, O: Sink, E: Sink>(
     alloc: Global,
     words: &[String],
