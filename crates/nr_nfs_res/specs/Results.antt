@@ -35,7 +35,7 @@ use Rattle.nr_nfs_res.specs.declared.readdir.ReaddirplusOk.{ReaddirplusOk}
 use Rattle.nr_nfs_res.specs.declared.remove.LinkWcc.{LinkWcc}
 use Rattle.nr_nfs_res.specs.declared.remove.RenameWcc.{RenameWcc}
 
--- a status of NFS, 0 before the first and another before the second (RFC 1813 section 2.6)
+-- behind a status of NFS: the first behind 0, the second behind any other (RFC 1813 section 3.3, the unions over nfsstat3)
 abbrev pub nfs_result : {D F : Type 0} → Codec D → Codec F → Codec (Outcome D F Status)
 nfs_result = outcome_codec status_number statuses
 
