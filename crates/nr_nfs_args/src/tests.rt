@@ -97,14 +97,15 @@ use Want::{Bad, Same, Words};
 struct Row(Type, &'static [u32], Want);
 
 // In each row `8, 0, 1` is the handle of eight bytes of the file number 1, and `1, 0x6100_0000` the name `a`.
-static TABLE: [Row; 66] = [
+static TABLE: [Row; 70] = [
     // RFC 1813 section 3.3.0
     Row(Type::Null, &[], Same),
     Row(Type::Null, &[0], Bad(0)),
-    // section 3.3.1
+    // section 3.3.1; the handle's limit, section 2.4: 64 bytes, and 65, alone and with all bytes and pads
     Row(Type::Getattr, &[8, 0, 1], Same),
     Row(Type::Getattr, &[64; 17], Same),
     Row(Type::Getattr, &[65], Bad(0)),
+    Row(Type::Getattr, &[65; 18], Bad(0)),
     // section 3.3.2: no guard, a guard
     Row(Type::Setattr, &[8, 0, 1, 0, 0, 0, 0, 0, 0, 0], Same),
     Row(
@@ -232,14 +233,17 @@ static TABLE: [Row; 66] = [
     Row(Type::Fsinfo, &[8, 0, 1], Same),
     Row(Type::Pathconf, &[8, 0, 1], Same),
     Row(Type::Commit, &[8, 0, 1, 0, 0, 0], Same),
-    // section 5.2.1: the path `/`; a path of 1024 bytes, one of 1025
+    // section 5.2.1: the path `/`; its limit, section 5.1.4: 1024 bytes, and 1025, alone and with all bytes and pads
     Row(Type::Mnt, &[1, 0x2f00_0000], Same),
     Row(Type::Mnt, &[1024; 257], Same),
     Row(Type::Mnt, &[1025], Bad(0)),
+    Row(Type::Mnt, &[1025; 258], Bad(0)),
     // sections 5.2.3 and 5.2.4
     Row(Type::Umnt, &[1, 0x2f00_0000], Same),
     Row(Type::Umnt, &[0], Same),
+    Row(Type::Umnt, &[1024; 257], Same),
     Row(Type::Umnt, &[1025], Bad(0)),
+    Row(Type::Umnt, &[1025; 258], Bad(0)),
     Row(Type::Umntall, &[], Same),
     Row(Type::Umntall, &[0], Bad(0)),
 ];
@@ -255,6 +259,40 @@ fn each_row_is_read_and_written(rt: HostRuntime) -> Result<(), AllocError> {
         };
         let got = again_as(*kind, rt.alloc(), &bytes).map(Octets::into_vec);
         assert_eq!(rt; got, wanted, "{kind:?} {words:?}");
+    }
+    Ok(())
+}
+
+/// Parts of a value, each in words, one behind the other.
+struct Long(Type, &'static [&'static [u32]]);
+
+// Names, link paths and data have no limit but that of a count word.
+static LONG: [Long; 4] = [
+    // RFC 1813 section 3.3.3: a name of 256 bytes
+    Long(Type::Lookup, &[&[8, 0, 1], &[256; 65]]),
+    // section 3.3.7: data of 1028 bytes
+    Long(Type::Write, &[&[8, 0, 1, 0, 0, 1028, 0], &[1028; 258]]),
+    // section 3.3.10: a path of 1028 bytes
+    Long(
+        Type::Symlink,
+        &[&[8, 0, 1, 1, 0x6100_0000, 0, 0, 0, 0, 0, 0], &[1028; 258]],
+    ),
+    // section 3.3.14: handles of 64 bytes and names of 256
+    Long(
+        Type::Rename,
+        &[&[64; 17], &[256; 65], &[64; 17], &[256; 65]],
+    ),
+];
+
+#[test]
+fn long_values_are_read_and_written(rt: HostRuntime) -> Result<(), AllocError> {
+    for Long(kind, parts) in &LONG {
+        let mut bytes = Vec::new(rt.alloc());
+        for part in *parts {
+            bytes.extend_from_slice(&bytes_of(rt.alloc(), part)?)?;
+        }
+        let got = again_as(*kind, rt.alloc(), &bytes).map(Octets::into_vec);
+        assert_eq!(rt; got, Ok(bytes), "{kind:?}");
     }
     Ok(())
 }

@@ -11,3 +11,4 @@ pub mod SetAttributes
 pub mod Status
 pub mod MountStatus
 pub mod Outcome
+pub mod Same

@@ -1,26 +1,27 @@
--- Handles, names, paths and data.
+-- Handles, names, paths and data. The limits are written as numbers here, and the prover compares the constants of the
+-- code with them.
 use Rattle.std.specs.Prelude.{ℕ, List}
-use Rattle.nr_nfs_base.specs.declared.names.TheConstants.{HANDLE_MAX, MOUNT_PATH_MAX, UNLIMITED}
 use Rattle.nr_nfs_base.specs.Codec.{Codec, Lawful, opaque}
 use Rattle.nr_nfs_base.specs.Laws.{opaque_lawful}
 
--- a file handle (RFC 1813 section 2.5, nfs_fh3)
+-- a file handle, of at most 64 bytes (RFC 1813 section 2.4, NFS3_FHSIZE; section 2.5, nfs_fh3)
 abbrev pub handle_codec : Codec (List ℕ)
-handle_codec = opaque HANDLE_MAX
+handle_codec = opaque 64
 
 pub handle_lawful : Lawful handle_codec
-handle_lawful = opaque_lawful HANDLE_MAX
+handle_lawful = opaque_lawful 64
 
--- a name, a path or the data of a file (RFC 1813 section 2.5, filename3 and nfspath3)
+-- a name, a path or the data of a file, as long as a count word can say (RFC 1813 section 2.5, filename3 and nfspath3;
+-- RFC 4506 section 4.10)
 abbrev pub text_codec : Codec (List ℕ)
-text_codec = opaque UNLIMITED
+text_codec = opaque 4294967295
 
 pub text_lawful : Lawful text_codec
-text_lawful = opaque_lawful UNLIMITED
+text_lawful = opaque_lawful 4294967295
 
--- a path to mount (RFC 1813 section 5.1.5, dirpath)
+-- a path to mount, of at most 1024 bytes (RFC 1813 section 5.1.4, MNTPATHLEN; section 5.1.5, dirpath)
 abbrev pub mount_path_codec : Codec (List ℕ)
-mount_path_codec = opaque MOUNT_PATH_MAX
+mount_path_codec = opaque 1024
 
 pub mount_path_lawful : Lawful mount_path_codec
-mount_path_lawful = opaque_lawful MOUNT_PATH_MAX
+mount_path_lawful = opaque_lawful 1024

@@ -2,7 +2,7 @@
 
 use crate::array::Array;
 
-/// Who makes a call, as its credential says (RFC 5531 section 8.2).
+/// Who makes a call, as its credential says (RFC 5531 appendix A, `authsys_parms`).
 #[derive(Debug, Drop)]
 pub struct Caller {
     pub uid: u32,

@@ -11,7 +11,7 @@ use thiserror::Error;
 /// Why some bytes were not read as a value.
 #[derive(Clone, Copy, Debug, PartialEq, Eq, Error)]
 pub enum ValueFault {
-    /// The bytes do not spell a value of the type. `at` is the place of the first item that fails, in bytes from the
+    /// The bytes are not read as a value of the type. `at` is the place of the first item that fails, in bytes from the
     /// first, or that of the first byte left over.
     #[error("the item at byte {at} fails")]
     Bad { at: usize },

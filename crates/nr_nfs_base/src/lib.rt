@@ -3,11 +3,12 @@
 //!
 //! [`Xdr`] is that scheme. Its ghost member `codec` says how a type is spelled: which items of XDR spell a value, in
 //! which order, which values are within the limits of the type, and what is read at a place. Its law ties the two
-//! directions: what is read is so spelled, and what is so spelled is read. A struct's codec is that of its fields behind
-//! one another, a union's that of its tag and of what stands behind it, so a type is as long as its description in the
-//! RFC. `T::read` answers a value only where all of the bytes spell it, else the place of the first item that fails or of
-//! the first byte left over. `write` gives the one spelling, each pad byte a zero, and it never asks for anything: a
-//! value that has no spelling cannot be made.
+//! directions: what is read as a value are the items that spell it, whatever their pad bytes are, and what are those
+//! items is read as the value. A struct's codec is that of its fields behind one another, a union's that of its tag and
+//! of what stands behind it, so a type is as long as its description in the RFC. `T::read` answers a value only where all
+//! of the bytes are read as it, whatever their pad bytes are, else the place of the first item that fails or of the first
+//! byte left over. `write` gives the one spelling, each pad byte a zero, and asks nothing of the value. `opaque_limits`
+//! says how long handles, names, paths and data are.
 //!
 //! Items are those of `nr_xdr`, the crate below. Above stand `nr_nfs_args` and `nr_nfs_res`, the arguments and results of
 //! each procedure. What a server does with a value is not said here.
@@ -20,6 +21,7 @@ mod chain;
 mod fault;
 mod file_type;
 mod items;
+mod laws;
 mod mount_status;
 mod names;
 mod numbered;
@@ -40,6 +42,7 @@ pub use caller::Caller;
 pub use chain::Chain;
 pub use fault::ValueFault;
 pub use file_type::FileType;
+pub use laws::opaque_limits;
 pub use mount_status::MountStatus;
 pub use names::{Data, HANDLE_MAX, Handle, MOUNT_PATH_MAX, MountPath, Name, Path, UNLIMITED};
 pub use numbered::{Failure, Numbered, read_numbered, write_numbered};

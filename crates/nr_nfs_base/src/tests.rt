@@ -26,6 +26,8 @@ enum Type {
     Handle,
     PostOpHandle,
     Name,
+    Path,
+    Data,
     MountPath,
     Chain,
     Array,
@@ -60,6 +62,8 @@ fn again_as(kind: Type, alloc: Global, bytes: &[u8]) -> Result<Octets, ValueFaul
         Type::Handle => again::<Handle>(alloc, bytes),
         Type::PostOpHandle => again::<Option<Handle>>(alloc, bytes),
         Type::Name => again::<Name>(alloc, bytes),
+        Type::Path => again::<Path>(alloc, bytes),
+        Type::Data => again::<Data>(alloc, bytes),
         Type::MountPath => again::<MountPath>(alloc, bytes),
         Type::Chain => again::<Chain<u32>>(alloc, bytes),
         Type::Array => again::<Array<u32>>(alloc, bytes),
@@ -90,7 +94,7 @@ const FATTR: [u32; 21] = [
     2, 0o755, 3, 1, 2, 0, 4096, 0, 8192, 5, 6, 0, 1, 0, 9, 10, 11, 12, 13, 14, 15,
 ];
 
-static TABLE: [Row; 71] = [
+static TABLE: [Row; 76] = [
     // RFC 4506 sections 4.2, 4.5, 4.4
     Row(Type::Word, &[0xffff_ffff], Same),
     Row(Type::Word, &[], Bad(0)),
@@ -167,9 +171,10 @@ static TABLE: [Row; 71] = [
     // RFC 1813 section 2.5, nfs_fh3
     Row(Type::Handle, &[0], Same),
     Row(Type::Handle, &[8, 0, 1], Same),
-    // the count 64, and 64 bytes
+    // section 2.4, NFS3_FHSIZE: the count 64 and 64 bytes; the count 65, alone and with all bytes and pads
     Row(Type::Handle, &[64; 17], Same),
     Row(Type::Handle, &[65], Bad(0)),
+    Row(Type::Handle, &[65; 18], Bad(0)),
     Row(Type::PostOpHandle, &[0], Same),
     Row(Type::PostOpHandle, &[1, 8, 0, 1], Same),
     // RFC 1813 section 2.5, filename3; RFC 4506 section 4.11: `a.txt`
@@ -179,11 +184,16 @@ static TABLE: [Row; 71] = [
         Words(&[5, 0x612e_7478, 0x7400_0000]),
     ),
     Row(Type::Name, &[5, 0x612e_7478], Bad(0)),
+    // names, link paths and data have no limit: 256 bytes and 1028
+    Row(Type::Name, &[256; 65], Same),
+    Row(Type::Path, &[1028; 258], Same),
+    Row(Type::Data, &[1028; 258], Same),
     // RFC 1813 section 5.1.5, dirpath
     Row(Type::MountPath, &[1, 0x2f00_0000], Same),
-    // the count 1024, and 1024 bytes
+    // section 5.1.4, MNTPATHLEN: the count 1024 and 1024 bytes; the count 1025, alone and with all bytes and pads
     Row(Type::MountPath, &[1024; 257], Same),
     Row(Type::MountPath, &[1025], Bad(0)),
+    Row(Type::MountPath, &[1025; 258], Bad(0)),
     // RFC 4506 section 4.19
     Row(Type::Chain, &[0], Same),
     Row(Type::Chain, &[1, 7, 0], Same),

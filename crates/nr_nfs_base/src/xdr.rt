@@ -21,18 +21,20 @@ pub trait Xdr: Drop {
     fn read_from<'a>(alloc: Global, reader: Reader<'a>) -> Result<(Self, Reader<'a>), ValueFault>
         ensures exact { Answers result (codec.read reader.entry) };
 
-    /// The writer with the value behind what it has. Every value of the type has a spelling.
+    /// The writer with the value behind what it has: the items that spell it, each within its limits.
     fn write_to(&self, writer: Writer) -> Result<Writer, Memory>
         ensures ok { IfOk result (Writes codec writer self.now) };
 
-    /// What is read is so spelled, and what is so spelled is read.
+    /// What is read as a value are the items that spell it, whatever their pad bytes are, and what are those items is
+    /// read as the value.
     ghost lawful: { Lawful codec };
 
-    /// The value that the bytes spell, all of them. `Bad` at the first item that fails, or at the first byte left over.
+    /// The value that all of the bytes are read as, whatever their pad bytes are. `Bad` at the first item that fails, or
+    /// at the first byte left over.
     final fn read(alloc: Global, bytes: &[u8]) -> Result<Self, ValueFault>
-        // What is read is spelled so.
+        // The bytes are read as the value that is given.
         ensures found { IfOk result (λ v. ReadsAs codec v bytes.now) }
-        // What is spelled so is read.
+        // Where they are read as a value, it is given.
         ensures only { (v : Self) → ReadsAs codec v bytes.now → MatchResult result (λ w. w ≡ v) (λ e. e ≡ memory) }
         // Which fault it is.
         ensures exact { Answers result (read_all codec bytes.now) }
@@ -51,7 +53,7 @@ pub trait Xdr: Drop {
     }
 }
 
-/// The value that the bytes spell, all of them.
+/// The value that all of the bytes are read as.
 fn read_whole<T: Xdr>(alloc: Global, bytes: &[u8]) -> Result<T, ValueFault>
     ensures { Answers result (read_all T.codec bytes.now) }
 {

@@ -7,3 +7,4 @@ pub mod Remove
 pub mod Readdir
 pub mod FileSystem
 pub mod Mount
+pub mod Results

@@ -294,3 +294,194 @@ fn each_row_is_read_and_written(rt: HostRuntime) -> Result<(), AllocError> {
     }
     Ok(())
 }
+
+/// A value with every optional part there: its parts in words, one behind the other.
+struct Full(Type, &'static [&'static [u32]]);
+
+// RFC 1813 section 2.5, fattr3: a word for each of its fields of 4 bytes, two for each of 8
+const ATTRIBUTES_ALONE: [u32; 21] = [
+    2, 0o755, 3, 1, 2, 0, 4096, 0, 8192, 5, 6, 0, 1, 0, 9, 10, 11, 12, 13, 14, 15,
+];
+
+// section 2.5, post_op_attr: a 1 and the attributes
+const ATTRIBUTES: [u32; 22] = [
+    1, 2, 0o755, 3, 1, 2, 0, 4096, 0, 8192, 5, 6, 0, 1, 0, 9, 10, 11, 12, 13, 14, 15,
+];
+
+// section 2.5, pre_op_attr: a 1, a size and two times. With post_op_attr behind it, a wcc_data
+const BEFORE: [u32; 7] = [1, 0, 1, 2, 3, 4, 5];
+
+// section 2.5, post_op_fh3: a 1 and a handle of eight bytes
+const HANDLE: [u32; 4] = [1, 8, 0, 1];
+
+// What each procedure gives, and what goes with its failure.
+static FULL: [Full; 50] = [
+    // RFC 1813 section 3.3.1
+    Full(Type::Getattr, &[&[0], &ATTRIBUTES_ALONE]),
+    Full(Type::Getattr, &[&[70]]),
+    // section 3.3.2
+    Full(Type::Setattr, &[&[0], &BEFORE, &ATTRIBUTES]),
+    Full(Type::Setattr, &[&[10002], &BEFORE, &ATTRIBUTES]),
+    // section 3.3.3, and a handle of 64 bytes (section 2.4, NFS3_FHSIZE)
+    Full(Type::Lookup, &[&[0, 8, 0, 1], &ATTRIBUTES, &ATTRIBUTES]),
+    Full(Type::Lookup, &[&[0], &[64; 17], &ATTRIBUTES, &ATTRIBUTES]),
+    Full(Type::Lookup, &[&[2], &ATTRIBUTES]),
+    // section 3.3.4
+    Full(Type::Access, &[&[0], &ATTRIBUTES, &[63]]),
+    Full(Type::Access, &[&[70], &ATTRIBUTES]),
+    // section 3.3.5, and a path of 1028 bytes, which has no limit
+    Full(
+        Type::Readlink,
+        &[&[0], &ATTRIBUTES, &[5, 0x6865_6c6c, 0x6f00_0000]],
+    ),
+    Full(Type::Readlink, &[&[0], &ATTRIBUTES, &[1028; 258]]),
+    Full(Type::Readlink, &[&[22], &ATTRIBUTES]),
+    // section 3.3.6, and data of 1028 bytes, which have no limit
+    Full(
+        Type::Read,
+        &[&[0], &ATTRIBUTES, &[5, 1, 5, 0x6865_6c6c, 0x6f00_0000]],
+    ),
+    Full(Type::Read, &[&[0], &ATTRIBUTES, &[1028, 0], &[1028; 258]]),
+    Full(Type::Read, &[&[21], &ATTRIBUTES]),
+    // section 3.3.7
+    Full(Type::Write, &[&[0], &BEFORE, &ATTRIBUTES, &[5, 2, 3, 4]]),
+    Full(Type::Write, &[&[27], &BEFORE, &ATTRIBUTES]),
+    // section 3.3.8
+    Full(
+        Type::Create,
+        &[&[0], &HANDLE, &ATTRIBUTES, &BEFORE, &ATTRIBUTES],
+    ),
+    Full(Type::Create, &[&[17], &BEFORE, &ATTRIBUTES]),
+    Full(
+        Type::Create,
+        &[&[0, 1], &[64; 17], &ATTRIBUTES, &BEFORE, &ATTRIBUTES],
+    ),
+    // section 3.3.9
+    Full(
+        Type::Mkdir,
+        &[&[0], &HANDLE, &ATTRIBUTES, &BEFORE, &ATTRIBUTES],
+    ),
+    Full(Type::Mkdir, &[&[17], &BEFORE, &ATTRIBUTES]),
+    // section 3.3.10
+    Full(
+        Type::Symlink,
+        &[&[0], &HANDLE, &ATTRIBUTES, &BEFORE, &ATTRIBUTES],
+    ),
+    Full(Type::Symlink, &[&[17], &BEFORE, &ATTRIBUTES]),
+    // section 3.3.11
+    Full(
+        Type::Mknod,
+        &[&[0], &HANDLE, &ATTRIBUTES, &BEFORE, &ATTRIBUTES],
+    ),
+    Full(Type::Mknod, &[&[17], &BEFORE, &ATTRIBUTES]),
+    // section 3.3.12
+    Full(Type::Remove, &[&[0], &BEFORE, &ATTRIBUTES]),
+    Full(Type::Remove, &[&[2], &BEFORE, &ATTRIBUTES]),
+    // section 3.3.13
+    Full(Type::Rmdir, &[&[0], &BEFORE, &ATTRIBUTES]),
+    Full(Type::Rmdir, &[&[66], &BEFORE, &ATTRIBUTES]),
+    // section 3.3.14
+    Full(
+        Type::Rename,
+        &[&[0], &BEFORE, &ATTRIBUTES, &BEFORE, &ATTRIBUTES],
+    ),
+    Full(
+        Type::Rename,
+        &[&[2], &BEFORE, &ATTRIBUTES, &BEFORE, &ATTRIBUTES],
+    ),
+    // section 3.3.15
+    Full(Type::Link, &[&[0], &ATTRIBUTES, &BEFORE, &ATTRIBUTES]),
+    Full(Type::Link, &[&[31], &ATTRIBUTES, &BEFORE, &ATTRIBUTES]),
+    // section 3.3.16, and a name of 256 bytes, which has no limit
+    Full(
+        Type::Readdir,
+        &[
+            &[0],
+            &ATTRIBUTES,
+            &[0, 7],
+            &[1, 0, 2, 1, 0x6100_0000, 0, 1],
+            &[0, 1],
+        ],
+    ),
+    Full(
+        Type::Readdir,
+        &[
+            &[0],
+            &ATTRIBUTES,
+            &[0, 7],
+            &[1, 0, 2],
+            &[256; 65],
+            &[0, 1],
+            &[0, 1],
+        ],
+    ),
+    Full(Type::Readdir, &[&[10003], &ATTRIBUTES]),
+    // section 3.3.17
+    Full(
+        Type::Readdirplus,
+        &[
+            &[0],
+            &ATTRIBUTES,
+            &[0, 7],
+            &[1, 0, 2, 1, 0x6100_0000, 0, 1],
+            &ATTRIBUTES,
+            &HANDLE,
+            &[0, 1],
+        ],
+    ),
+    Full(Type::Readdirplus, &[&[20], &ATTRIBUTES]),
+    // section 3.3.18
+    Full(
+        Type::Fsstat,
+        &[&[0], &ATTRIBUTES, &[0, 1, 0, 2, 0, 3, 0, 4, 0, 5, 0, 6, 7]],
+    ),
+    Full(Type::Fsstat, &[&[10001], &ATTRIBUTES]),
+    // section 3.3.19
+    Full(
+        Type::Fsinfo,
+        &[&[0], &ATTRIBUTES, &[1, 2, 3, 4, 5, 6, 7, 0, 8, 0, 1, 27]],
+    ),
+    Full(Type::Fsinfo, &[&[70], &ATTRIBUTES]),
+    // section 3.3.20
+    Full(
+        Type::Pathconf,
+        &[&[0], &ATTRIBUTES, &[65535, 255, 1, 1, 0, 1]],
+    ),
+    Full(Type::Pathconf, &[&[70], &ATTRIBUTES]),
+    // section 3.3.21
+    Full(Type::Commit, &[&[0], &BEFORE, &ATTRIBUTES, &[3, 4]]),
+    Full(Type::Commit, &[&[5], &BEFORE, &ATTRIBUTES]),
+    // section 5.2.1: a handle of 64 bytes (section 5.1.4, FHSIZE3) and one flavor
+    Full(Type::Mnt, &[&[0, 8, 0, 1], &[1, 1]]),
+    Full(Type::Mnt, &[&[0], &[64; 17], &[1, 1]]),
+    Full(Type::Mnt, &[&[13]]),
+];
+
+fn joined(alloc: Global, parts: &[&[u32]]) -> Result<Vec<u8>, AllocError> {
+    let mut bytes = Vec::new(alloc);
+    for part in parts {
+        bytes.extend_from_slice(&bytes_of(alloc, part)?)?;
+    }
+    Ok(bytes)
+}
+
+#[test]
+fn full_values_are_read_and_written(rt: HostRuntime) -> Result<(), AllocError> {
+    for Full(kind, parts) in &FULL {
+        let bytes = joined(rt.alloc(), parts)?;
+        let got = again_as(*kind, rt.alloc(), &bytes).map(Octets::into_vec);
+        assert_eq!(rt; got, Ok(bytes), "{kind:?} {parts:?}");
+    }
+    Ok(())
+}
+
+// All bytes and pads of the handle are there.
+#[test]
+fn a_handle_of_65_bytes_is_refused(rt: HostRuntime) -> Result<(), AllocError> {
+    for kind in [Type::Lookup, Type::Mnt] {
+        let bytes = joined(rt.alloc(), &[&[0], &[65; 18], &[0, 0]])?;
+        let got = again_as(kind, rt.alloc(), &bytes).map(Octets::into_vec);
+        assert_eq!(rt; got, Err(ValueFault::Bad { at: 4 }), "{kind:?}");
+    }
+    Ok(())
+}
