@@ -1,5 +1,5 @@
 -- A message is read exactly where it is spelled within the limits.
-use Rattle.std.proofs.Common.{◌≡◌, ◌≢◌, ℕ, ◌+◌, ◌≤◌, Bool, true, false, cond, eqb, ltb, ◌||◌, ◌&&◌, List, [], ◌∷◌, ◌++◌, length, take, drop, sum_by, All, Option, Some, None, Result, Ok, Err, refl, sym, ap, subst, ◌∙◌, arith, inl, inr, ◌⊎◌}
+use Rattle.std.proofs.Common.{◌≡◌, ◌≢◌, ℕ, ◌+◌, ◌≤◌, Bool, true, false, cond, eqb, ltb, ◌||◌, ◌&&◌, List, [], ◌∷◌, ◌++◌, length, take, drop, sum_by, All, Option, Some, None, Result, Ok, Err, refl, sym, ap, subst, ◌∙◌, arith, inl, inr, ◌⊎◌, ◌↔◌}
 use Rattle.std.specs.Prelude.{IfSome, IfOk}
 use Rattle.std.specs.List.{AllByRecursion}
 use Rattle.std.proofs.lemmas.Bool.{ltb-false, le-ltb, eqb-true}
@@ -27,7 +27,7 @@ use Rattle.nr_header.specs.declared.header.Body.TheVariants.{Msg, Nomsg, ErrVers
 use Rattle.nr_header.specs.declared.header.Header.{Header}
 use Rattle.nr_header.specs.Header.{read_items, segments_items, write_items, reply_items, lists_items, fixed_items, body_items, header_spelling, HeaderFits}
 use Rattle.nr_header.specs.Limits.{SegmentsEnd, ListsWithin, read_total, CanRead, StreamAt, IsMessage, body_again, header_again}
-use Rattle.nr_header.specs.Reading.{lists_at, sums_pass, msg_at, nomsg_at, word_at, error_of, error_by, in_lists, version1_of, body_by, headed, header_of, read_list_at, write_list_at, reply_chunk_at}
+use Rattle.nr_header.specs.Reading.{LacksStream, IsBad, HeaderBad, lists_at, sums_pass, msg_at, nomsg_at, word_at, error_of, error_by, in_lists, version1_of, body_by, headed, header_of, read_list_at, write_list_at, reply_chunk_at}
 use Rattle.nr_header.proofs.Segments.{SegmentEnds, write_list_take, write_list_again, reply_chunk_take, reply_chunk_again}
 use Rattle.nr_header.proofs.ReadLists.{EntryEnds, Stand, ZeroAllowed, position_of, stand_one, stand_apart, one_stands, read_list_take, read_list_again}
 
@@ -485,6 +485,11 @@ message_is_read h bytes m = by_body h.xid h.credit h.body bytes m.stream m.fits 
         let len : length bytes ≡ 20 = ap length whole ∙ chunk_length xid version credit in
         answer bytes xid credit (ErrChunk version) f.long f.xid_is f.credit_is
         (rw (f.kind_is, len, wa.1, f.version_is) refl)
+
+-- a message that is read is bad exactly where it is RDMA_NOMSG and has no stream
+pub message_is_bad : (h : Header) (bytes : List ℕ) → IsMessage h bytes → HeaderBad bytes ↔ LacksStream h.body
+message_is_bad h bytes m =
+    subst (λ (r : Result Header HeaderFault). IsBad r ↔ LacksStream h.body) (sym (message_is_read h bytes m)) (λ bad. bad, λ lacks. lacks)
 
 pub header_is_found : (bytes : List ℕ) (r : Result Header HeaderFault) → IsBytes bytes → r ≡ header_of bytes → IfOk r (λ h. IsMessage h bytes)
 header_is_found bytes (Ok h) fits is = header_take bytes h fits (sym is)

@@ -1,5 +1,5 @@
 -- What is read of a message, or why it isn't: the places are those of the first word or entry at fault.
-use Rattle.std.specs.Prelude.{◌≡◌, ℕ, zero, suc, ◌+◌, ◌^◌, Bool, true, false, ◌||◌, ◌&&◌, List, [], ◌∷◌, length, take, drop, sum_by, Option, Some, None, Result, Ok, Err, nat_lt, ◌==◌, if◌then◌else◌}
+use Rattle.std.specs.Prelude.{◌≡◌, ◌≢◌, ℕ, zero, suc, ◌+◌, ◌^◌, Bool, true, false, ◌||◌, ◌&&◌, List, [], ◌∷◌, length, take, drop, sum_by, All, Option, Some, None, Result, Ok, Err, nat_lt, ◌==◌, if◌then◌else◌}
 use Rattle.nr_xdr.specs.Item.{word_of}
 use Rattle.nr_xdr.specs.Reading.{Cursor, hyper_at, boolean_at}
 use Rattle.nr_xdr.specs.Steps.{◌>>=◌, placed, number_at}
@@ -154,6 +154,29 @@ unfoldable pub header_of : List ℕ → Result Header HeaderFault
 header_of bytes =
     if nat_lt (length bytes) FIXED_LEN then Err Short
     else headed (word_at 0 bytes) (word_at 8 bytes) (body_by (error_by (word_at 12 bytes) bytes) (word_at 4 bytes) (word_at 12 bytes) bytes)
+
+-- the kind RDMA_DONE (RFC 8166 section 4.2.4)
+abbrev pub DONE : ℕ
+DONE = 3
+
+-- RDMA_NOMSG whose read list has no entry at position 0, where its stream has to begin (RFC 8166 section 3.5)
+abbrev pub LacksStream : Body → Type 0
+LacksStream (Msg lists stream_at) = ⊥
+LacksStream (Nomsg lists) = All (λ r. r.position ≢ 0) lists.read
+LacksStream (ErrVers version low high) = ⊥
+LacksStream (ErrChunk version) = ⊥
+
+abbrev pub IsBad : Result Header HeaderFault → Type 0
+IsBad (Ok h) = LacksStream h.body
+IsBad (Err Short) = ⊥
+IsBad (Err (Version version)) = ⊥
+IsBad (Err (Kind kind)) = (kind ≢ DONE) × (kind ≢ ERROR)
+IsBad (Err (BadChunks at)) = Unit {0}
+
+-- A call's message of at least FIXED_LEN bytes, of version 1, neither RDMA_DONE nor RDMA_ERROR, that is refused: its lists
+-- fail or pass a limit, its kind isn't one that is read, or it is RDMA_NOMSG and has no stream.
+abbrev pub HeaderBad : List ℕ → Type 0
+HeaderBad bytes = IsBad (header_of bytes)
 
 -- why the lists fail: at this place
 abbrev pub Fails : {Y : Type 0} → HeaderFault → Result Y ℕ → Type 0

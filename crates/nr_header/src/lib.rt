@@ -19,7 +19,7 @@ mod writing;
 pub use fault::HeaderFault;
 pub use few::Few;
 pub use header::{Body, Chunk, ChunkLists, Header, ReadList, ReadSegment, Segment, WriteList};
-pub use laws::header_round_trip;
+pub use laws::{bad_messages, header_round_trip};
 pub use limits::{
     FIXED_LEN, PAYLOAD_MAX, READ_SEGMENTS_MAX, REPLY_SEGMENTS_MAX, WRITE_CHUNKS_MAX,
     WRITE_SEGMENTS_MAX,

@@ -60,12 +60,18 @@ fn lists(rt: HostRuntime) -> Result<(), Fail> {
     Err(Fail::from("RDMA_MSG"))
 }
 
-/// The bytes of some words, and why they have no header.
-fn fault_of(alloc: Global, words: &[u32]) -> Result<Option<HeaderFault>, Fail> {
+/// The bytes of some words.
+fn bytes_of(alloc: Global, words: &[u32]) -> Result<Vec<u8>, Fail> {
     let mut bytes = Vec::new(alloc);
     for word in words {
         bytes.extend_from_slice(&word.to_be_bytes())?;
     }
+    Ok(bytes)
+}
+
+/// Why these words have no header.
+fn fault_of(alloc: Global, words: &[u32]) -> Result<Option<HeaderFault>, Fail> {
+    let bytes = bytes_of(alloc, words)?;
     Ok(read_header(&bytes).err())
 }
 
@@ -168,5 +174,45 @@ fn limits(rt: HostRuntime) -> Result<(), Fail> {
         let words = many(rt.alloc(), entries, chunks, segments, reply)?;
         assert_eq!(rt; fault_of(rt.alloc(), &words)?, fault);
     }
+    Ok(())
+}
+
+/// A read list of 17 entries is written whole, and refused at its last one when it is read.
+#[test]
+fn written_above_the_limit(rt: HostRuntime) -> Result<(), Fail> {
+    let mut entries = Vec::new(rt.alloc());
+    let mut words = Vec::from_slice(rt.alloc(), &[1, 1, 16, 0])?;
+    for handle in 0..17 {
+        entries.push(ReadSegment {
+            position: 4,
+            handle,
+            length: 3,
+            offset: 5,
+        })?;
+        words.extend_from_slice(&[1, 4, handle, 3, 0, 5])?;
+    }
+    words.extend_from_slice(&[0, 0, 0])?;
+    let lists = ChunkLists {
+        read: Few::from_vec(entries),
+        write: Few::new(),
+        reply: None,
+    };
+    let header = Header {
+        xid: 1,
+        credit: 16,
+        body: Body::Msg {
+            lists,
+            stream_at: 0,
+        },
+    };
+    let written = write_header(rt.alloc(), &header).ok().ok_or("memory")?;
+    assert_eq!(rt;
+        written.as_slice(),
+        bytes_of(rt.alloc(), &words)?.as_slice()
+    );
+    assert_eq!(rt;
+        read_header(written.as_slice()).err(),
+        Some(HeaderFault::BadChunks { at: 400 })
+    );
     Ok(())
 }

@@ -6,10 +6,11 @@ use Rattle.std.specs.Ordering.{nat_cmp}
 use Rattle.std.specs.Cmp.{nat_cmp_total, unsigned_tied}
 use Rattle.std.specs.FinMap.{FinMap, get, insert, remove, get-insert, get-remove}
 use Rattle.nr_regions.specs.declared.right.Right.{Right}
+use Rattle.nr_regions.specs.declared.right.Kind.{Kind}
 use Rattle.nr_regions.specs.declared.region.Region.{Region}
 use Rattle.nr_regions.specs.declared.denied.Denied.{Denied}
 use Rattle.nr_regions.specs.declared.denied.Denied.TheVariants.{Bounds, Right as WrongRight}
-use Rattle.nr_regions.specs.Memory.{Memory, Claim, IsHeld, held_at, live_at, same_right, lack_in, offer, lack, written, placed, placed_in, registered, released, claim_of, denial}
+use Rattle.nr_regions.specs.Memory.{Memory, Claim, IsHeld, held_at, live_at, right_for, same_right, lack_in, offer, lack, written, placed, placed_in, registered, released, claim_of, denial}
 use Rattle.nr_regions.specs.Access.{Reach, access_of}
 use Rattle.nr_regions.specs.Past.{Event, arrived_by, happened, Spares}
 use Rattle.nr_regions.specs.Past.Event.{Register, Release, Arrive}
@@ -44,7 +45,7 @@ within_by true same e = absurd (let wrong : some Bounds ≡ None = e in cc)
 within_by false same e = refl
 
 pub within : (right : Right) (buf : List ℕ) (r : Reach) → lack_in (Some (right, length buf)) (access_of r) ≡ None → r.to + length r.payload ≤ length buf
-within right buf r e = ltb-false _ _ (within_by (ltb (length buf) (r.to + length r.payload)) (same_right right r.right) e)
+within right buf r e = ltb-false _ _ (within_by (ltb (length buf) (r.to + length r.payload)) (same_right right (right_for r.kind)) e)
 
 pub live-held : (m : Memory) (stag : ℕ) → live_at m stag ≡ held_at m stag
 unfolding live_at
@@ -166,18 +167,18 @@ held-happened m claim (Arrive r) h s =
     ]
 
 -- what each call leaves of a claim
-pub held-placed : (m : Memory) (claim : Claim) (right : Right) (stag to : ℕ) (bytes : List ℕ) → lack m (record { right = right; stag = stag; to = to; len = length bytes }) ≡ None
+pub held-placed : (m : Memory) (claim : Claim) (kind : Kind) (stag to : ℕ) (bytes : List ℕ) → lack m (record { right = right_for kind; stag = stag; to = to; len = length bytes }) ≡ None
     → IsHeld m claim → IsHeld (placed m stag to bytes) claim
 unfolding happened
-held-placed m claim right stag to bytes e h =
-    let r : Reach = record { right = right; stag = stag; to = to; payload = bytes; end = 0 } in
+held-placed m claim kind stag to bytes e h =
+    let r : Reach = record { kind = kind; stag = stag; to = to; payload = bytes; end = 0 } in
     let is : happened m (Arrive r) ≡ placed m stag to bytes = ap (λ (d : Option Denied). arrived_by d m r) e in
     subst (λ (n : Memory). IsHeld n claim) is (held-happened m claim (Arrive r) h tt)
 
-pub keeps-place : (r : Result Unit Denied) (m n : Memory) (right : Right) (stag to : ℕ) (bytes : List ℕ) → denial r ≡ lack m (record { right = right; stag = stag; to = to; len = length bytes })
+pub keeps-place : (r : Result Unit Denied) (m n : Memory) (kind : Kind) (stag to : ℕ) (bytes : List ℕ) → denial r ≡ lack m (record { right = right_for kind; stag = stag; to = to; len = length bytes })
     → OnOk r (n ≡ placed m stag to bytes) → OnErr r (n ≡ m) → (claim : Claim) → IsHeld m claim → IsHeld n claim
-keeps-place (Ok x) m n right stag to bytes e ok err claim h = subst (λ (k : Memory). IsHeld k claim) (sym ok) (held-placed m claim right stag to bytes (sym e) h)
-keeps-place (Err denied) m n right stag to bytes e ok err claim h = subst (λ (k : Memory). IsHeld k claim) (sym err) h
+keeps-place (Ok x) m n kind stag to bytes e ok err claim h = subst (λ (k : Memory). IsHeld k claim) (sym ok) (held-placed m claim kind stag to bytes (sym e) h)
+keeps-place (Err denied) m n kind stag to bytes e ok err claim h = subst (λ (k : Memory). IsHeld k claim) (sym err) h
 
 pub held-register : {E : Type 0} (r : Result Claim E) (m n : Memory) (right : Right) (buf : List ℕ) → IfOk r (λ claim. (claim ≡ claim_of m buf) × (n ≡ registered m right buf)) → IfOk r (λ claim. IsHeld n claim)
 held-register (Ok claim) m n right buf ok =

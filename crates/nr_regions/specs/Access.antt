@@ -1,8 +1,9 @@
 -- What a peer is allowed, by a list of grants, and what its accesses leave in memory.
 use Rattle.std.specs.Prelude.{◌≡◌, ◌≢◌, ℕ, ◌+◌, ◌<◌, ◌≤◌, Bool, ◌&&◌, ◌==◌, nat_lt, nat_le, if◌then◌else◌, List, [], ◌∷◌, length, Option, None, Some, is_none, find, Contains}
 use Rattle.nr_regions.specs.declared.right.Right.{Right}
+use Rattle.nr_regions.specs.declared.right.Kind.{Kind}
 use Rattle.nr_regions.specs.declared.denied.Denied.{Denied}
-use Rattle.nr_regions.specs.Memory.{Access, lack_in, written}
+use Rattle.nr_regions.specs.Memory.{Access, right_for, lack_in, written}
 
 -- A region offered to a peer under an STag, with a right and a length. It counts for the frames of the peer's stream that
 -- end behind `from` and not behind `until`.
@@ -47,16 +48,16 @@ abbrev pub HaveOwnStags : List Grant → Type 0
 HaveOwnStags [] = Unit {0}
 HaveOwnStags (g ∷ grants) = IsApart g grants × HaveOwnStags grants
 
--- a tagged segment: the right that it needs, where its payload goes, and the end of its frame
+-- a tagged segment: its kind, where its payload goes, and the end of its frame
 pub record Reach : Type 0 where
-  pub right : Right
+  pub kind : Kind
   pub stag : ℕ
   pub to : ℕ
   pub payload : List ℕ
   pub end : ℕ
 
 abbrev pub access_of : Reach → Access
-access_of r = record { right = r.right; stag = r.stag; to = r.to; len = length r.payload }
+access_of r = record { right = right_for r.kind; stag = r.stag; to = r.to; len = length r.payload }
 
 -- an allowed reach of the region under this STag writes its payload over the region's bytes, any other writes nothing
 abbrev pub after_reach : List Grant → ℕ → List ℕ → Reach → List ℕ

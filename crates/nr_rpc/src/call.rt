@@ -165,8 +165,8 @@ fn call_octets(alloc: Global, head: &CallHead) -> Result<Octets, Memory>
     Ok(writer.finish())
 }
 
-/// The one spelling of a call's head, and these arguments behind it: the verifier is AUTH_NONE, and so is the body of
-/// another credential than AUTH_SYS. `args_at` isn't looked at. Only `Memory` can be wanting.
+/// The one spelling of a call's head, and these arguments behind it: the verifier is AUTH_NONE, and the body of another
+/// credential than AUTH_SYS is empty. `args_at` isn't looked at. Only `Memory` can be wanting.
 pub fn write_call(alloc: Global, head: &CallHead, args: &[u8]) -> Result<Octets, HeadFault>
     requires { CanWriteCall head.now }
     ensures ok { IfOk result (λ o. o ≡ call_spelling head.now args.now) }

@@ -117,6 +117,44 @@ fn no_calls(rt: HostRuntime) -> Result<(), Fail> {
     Ok(())
 }
 
+/// These words, the count of a body, and 101 words of zeros: room for a body of up to 404 bytes.
+fn counted(alloc: Global, before: &[u32], count: u32) -> Result<Vec<u8>, Fail> {
+    let mut words = Vec::from_slice(alloc, before)?;
+    words.push(count)?;
+    for _ in 0..101 {
+        words.push(0)?;
+    }
+    words.extend_from_slice(&[0, 0])?;
+    bytes_of(alloc, &words)
+}
+
+/// Bodies whose bytes all stand there: 400 are read, 401 are refused at their count.
+#[test]
+fn longest_bodies(rt: HostRuntime) -> Result<(), Fail> {
+    let calls: [(&[u32], usize, usize); 2] = [
+        (&[1, 0, 2, 100_003, 3, 0, 5], 28, 440),
+        (&[1, 0, 2, 100_003, 3, 0, 0, 0, 0], 36, 440),
+    ];
+    for (before, at, end) in calls {
+        let bytes = counted(rt.alloc(), before, 400)?;
+        let head = read_call(rt.alloc(), &bytes)?;
+        assert!(rt; matches!(&head, CallHead::Version2 { args_at, .. } if *args_at == end));
+        let bytes = counted(rt.alloc(), before, 401)?;
+        assert!(rt; read_call(rt.alloc(), &bytes).err() == Some(HeadFault::NotCall { at }));
+        assert!(rt; call_target(&bytes).is_none());
+    }
+    let accepted = ReplyHead::Accepted {
+        xid: 1,
+        stat: 0,
+        results_at: 424,
+    };
+    let bytes = counted(rt.alloc(), &[1, 1, 0, 0], 400)?;
+    assert_eq!(rt; read_reply(&bytes)?, accepted);
+    let bytes = counted(rt.alloc(), &[1, 1, 0, 0], 401)?;
+    assert!(rt; read_reply(&bytes) == Err(HeadFault::NotReply { at: 16 }));
+    Ok(())
+}
+
 /// Credentials that aren't AUTH_NONE: the flavor that is read of them, 1 too where the body isn't spelled.
 #[test]
 fn other_credentials(rt: HostRuntime) -> Result<(), Fail> {

@@ -41,7 +41,7 @@ is_refused_by Responder flags = has_bit FLAG_MARKERS flags || has_bit FLAG_CRC f
 abbrev pub IsAccepted : Hello → Type 0
 IsAccepted hello = (is_refused_by hello.side hello.flags ≡ false) × (length hello.private ≤ PRIVATE_MAX)
 
--- why a hello of this side with these first 20 bytes is refused: the first reason of the table that stands
+-- why a hello of this side with these first 20 bytes is refused: the first that stands in this order
 unfoldable pub hello_flaw : Side → List ℕ → Option ℕ
 hello_flaw side head =
     if not (starts_with nat_eq head (key side)) then Some REASON_KEY

@@ -145,8 +145,8 @@ abbrev pub is_of_other_queue : Bool → ℕ → ℕ → Bool
 is_of_other_queue true opcode queue = false
 is_of_other_queue false opcode queue = not (queue == queue_for opcode)
 
--- Why an FPDU with these fields is refused: the first reason of the table that stands. (An ULPDU below two bytes is
--- below both headers.)
+-- Why an FPDU with these fields is refused: the first that stands in this order. (An ULPDU below two bytes is below both
+-- headers.)
 abbrev pub flaw_by : (size : ℕ) → (tagged : Bool) → (ddp rdmap opcode queue : ℕ) → Option ℕ
 flaw_by size tagged ddp rdmap opcode queue =
     if nat_lt size (header_len tagged) then Some REASON_LENGTH

@@ -1,6 +1,7 @@
 use super::*;
 use crate::numbers::{
-    OPCODE_READ_REQUEST, OPCODE_READ_RESPONSE, OPCODE_SEND, OPCODE_TERMINATE, OPCODE_WRITE,
+    FPDU_MAX, OPCODE_READ_REQUEST, OPCODE_READ_RESPONSE, OPCODE_SEND, OPCODE_TERMINATE,
+    OPCODE_WRITE,
 };
 use std::test::Fail;
 
@@ -80,6 +81,24 @@ fn segments_both_ways(rt: HostRuntime) -> Result<(), Fail> {
     Ok(())
 }
 
+/// An ULPDU of 65535 bytes makes the longest FPDU.
+#[test]
+fn longest_segment(rt: HostRuntime) -> Result<(), Fail> {
+    let mut frame = [0; 65544];
+    frame[..4].copy_from_slice(b"\xff\xff\x41\x43");
+    frame[15] = 1;
+    let segment = untagged(OPCODE_SEND, 0, &frame[20..65537]);
+    let len = FPDU_MAX;
+    assert_eq!(rt; next_segment(&frame), NextSegment::Whole { segment, len });
+    if let NextSegment::Whole { segment, .. } = next_segment(&frame) {
+        assert_eq!(rt;
+            write_segment(rt.alloc(), &segment)?.as_slice(),
+            frame.as_slice()
+        );
+    }
+    Ok(())
+}
+
 #[test]
 fn refused_segments(rt: HostRuntime) {
     // Bytes of the ULPDU, the two control bytes, the queue, and the reason.
@@ -135,6 +154,8 @@ fn hellos(rt: HostRuntime) -> Result<(), Fail> {
         (Initiator, b'q', 0x80, 0, 0, Err(2)),
         (Initiator, b'q', 0x40, 1, 0, Err(2)),
         (Initiator, b'q', 0x3f, 1, 0, Ok(20)),
+        (Responder, b'p', 0x80, 1, 0, Err(2)),
+        (Responder, b'p', 0x40, 1, 0, Err(2)),
         (Responder, b'p', 0x20, 1, 0, Err(2)),
         (Responder, b'p', 0x1f, 1, 0, Ok(20)),
         (Initiator, b'q', 0x00, 0, 513, Err(3)),
@@ -150,6 +171,9 @@ fn hellos(rt: HostRuntime) -> Result<(), Fail> {
         bytes[17] = revision;
         bytes[18..20].copy_from_slice(&u16::to_be_bytes(private));
         assert_eq!(rt; read_hello(side, &bytes[..19]), NextHello::More);
+        if want == Ok(532) {
+            assert_eq!(rt; read_hello(side, &bytes[..531]), NextHello::More);
+        }
         match read_hello(side, &bytes) {
             NextHello::Whole { hello, len } => {
                 assert_eq!(rt; Ok(len), want);
