@@ -1,6 +1,6 @@
 #!/bin/sh
 # Reading of FPDUs: the time for each, of a short and of a long stream and by the length of the payload. Run by hand, at the
-# top of the repository, once `rt run frames_bench -- 2 68 2` has built the program; or with the program's path as $1.
+# top of the repository, once `(cd crates/frames_bench && rt run -- 2 68 2)` has built the program; or with the program's path as $1.
 exec python3 - "${1:-crates/frames_bench/out/frames_bench}" <<'END'
 import resource, subprocess, sys
 

@@ -3,7 +3,7 @@
 #
 #     bench/null_calls.sh [PROGRAM]
 #
-# PROGRAM is the built program, by default the one that `rt run nfsrdma` leaves. Of three runs the fastest counts. Status 1
+# PROGRAM is the built program, by default the one that `rt run` in crates/nfsrdma leaves. Of three runs the fastest counts. Status 1
 # where the program fails or a target is missed. Not part of the gate.
 set -euo pipefail
 shopt -s inherit_errexit
@@ -18,7 +18,7 @@ time_target=1.5
 memory_target=1.2
 
 if [[ ! -x $program ]]; then
-    echo "no program at $program: rt run nfsrdma -- drill < drills/null.drill builds it" >&2
+    echo "no program at $program: (cd crates/nfsrdma && rt run -- drill) < drills/null.drill builds it" >&2
     exit 1
 fi
 
