@@ -1,21 +1,20 @@
 -- What a stop and what is said of it tell of the status.
 use Rattle.std.proofs.Common.{◌≡◌, ℕ, ◌<◌, ◌≤◌, true, false, List, length, codes, Option, Some, IfSome, Err, refl, sym, ap, subst, ◌∙◌, arith, inl, inr, le-ltb, lt-ltb}
 use Rattle.nr_world.specs.declared.report.Report.{Report}
-use Rattle.nr_world.specs.declared.script.TheConstants.{SCRIPT_MAX}
+use Rattle.nr_world.specs.Limits.{script_max}
 use Rattle.nr_world.specs.Script.{ScriptLines, script_of}
 use Rattle.nr_world.specs.Headline.{Reports}
 use Rattle.nr_world.specs.Plain.{drill_server}
 use Rattle.nr_world.specs.Shown.{shown, text_of}
-use Rattle.nr_top.specs.declared.command.Stop.{Stop}
-use Rattle.nr_top.specs.declared.command.Stop.TheVariants as stops
+use Rattle.nr_top.specs.Ends.Cause as causes
 use Rattle.nr_top.specs.Statuses as statuses
 use Rattle.nr_top.specs.Words.{is_drill, due_status}
-use Rattle.nr_top.specs.Ends.{InputAt, SinkAt, Wrote, Silent, BadLine, TooLong, FaultTold, bad_line_text, budget_text, Ends, Stopped, Spoke, Says}
+use Rattle.nr_top.specs.Ends.{InputAt, SinkAt, Wrote, CutOff, Silent, BadLine, TooLong, Cause, FaultTold, IsSaid, printed, memory_text, bad_line_text, budget_text, Ends, Stopped, Spoke, Says}
 
 -- what is printed of a report is what is shown of its marks
-pub printed_is : (script : ScriptLines) (report : Report) (text : List ℕ) → Reports script report → text ≡ text_of report.calls (length report.journal) → text ≡ shown drill_server report.marks
+pub printed_is : (script : ScriptLines) (report : Report) (text : List ℕ) → Reports script report → text ≡ text_of report.calls report.links (length report.journal) → text ≡ printed script report.marks
 unfolding shown
-printed_is script report text reports e = e ∙ (λ i. text_of (reports.calls i) (length (reports.journal i)))
+printed_is script report text reports e = e ∙ (λ i. text_of (reports.calls i) (reports.links i) (length (reports.journal i)))
 
 -- the count of err rose
 told_fault : (words : List (List ℕ)) (status : ℕ) (input input' : InputAt) (out out' err err' : SinkAt) → status ≡ statuses.fault → FaultTold words input input' out out' err err' → Ends words status input input' out out' err err'
@@ -32,9 +31,10 @@ told_fault words status input input' out out' err err' is told = record {
 }
 
 -- what is said of a stop, where it was said or the count of err rose
-said_or : {due : ℕ} {text : List ℕ} (stop : Stop) (words : List (List ℕ)) (status : ℕ) (input input' : InputAt) (out out' err err' : SinkAt) → Stopped stop words input input' out out' → Spoke due text status err err' → (status ≡ due → Wrote err err' text → Ends words status input input' out out' err err') → Ends words status input input' out out' err err'
-said_or stop words status input input' out out' err err' stopped (inl said) make = make said.0 said.1
-said_or stop words status input input' out out' err err' stopped (inr failed) make = told_fault words status input input' out out' err err' failed.0 (inr (inr (stop, stopped, failed.1)))
+said_or : {due : ℕ} {text : List ℕ} (cause : Cause) (words : List (List ℕ)) (status : ℕ) (input input' : InputAt) (out out' err err' : SinkAt) → Stopped cause words input input' out out' → IsSaid cause text → Spoke due text status err err' → (status ≡ due → Wrote err err' text → Ends words status input input' out out' err err') → Ends words status input input' out out' err err'
+said_or cause words status input input' out out' err err' stopped due_text (inl said) make = make said.0 said.1
+said_or cause words status input input' out out' err err' stopped due_text (inr failed) make =
+    told_fault words status input input' out out' err err' failed.0 (inr (inr (record { cause = cause; stopped = stopped; text = _; said = due_text; cut = failed.1 })))
 
 bad_words : (words : List (List ℕ)) (status : ℕ) (input input' : InputAt) (out out' err err' : SinkAt) → is_drill words ≡ false → input' ≡ input → out' ≡ out → status ≡ statuses.bad_words → Wrote err err' (codes "bad words\n") → Ends words status input input' out out' err err'
 bad_words words status input input' out out' err err' other same quiet is said = record {
@@ -49,7 +49,7 @@ bad_words words status input input' out out' err err' other same quiet is said =
   words_due = λ _. inl is;
 }
 
-no_memory : (words : List (List ℕ)) (status : ℕ) (input input' : InputAt) (out out' err err' : SinkAt) → is_drill words ≡ true → input'.faults ≡ input.faults → Silent out out' → status ≡ statuses.no_memory → Wrote err err' (codes "memory\n") → Ends words status input input' out out' err err'
+no_memory : (words : List (List ℕ)) (status : ℕ) (input input' : InputAt) (out out' err err' : SinkAt) → is_drill words ≡ true → input'.faults ≡ input.faults → Silent out out' → status ≡ statuses.no_memory → Wrote err err' memory_text → Ends words status input input' out out' err err'
 no_memory words status input input' out out' err err' line same quiet is said = record {
   done = λ e. absurd (omega (arith, e, is));
   words_bad = λ e. absurd (omega (arith, e, is));
@@ -67,8 +67,8 @@ told_same : (left : Option (List ℕ)) (text read : List ℕ) → IfSome left (�
 told_same left text read all told = subst (λ (l : Option (List ℕ)). IfSome l (λ given. read ≡ given)) told all
 
 -- the status of a script with a bad line
-due_of_bad : (words : List (List ℕ)) (text : List ℕ) (number : ℕ) → is_drill words ≡ true → length text ≤ SCRIPT_MAX → script_of text ≡ Err number → due_status words text ≡ statuses.bad_script
-due_of_bad words text number line within bad = rw (line, le-ltb SCRIPT_MAX (length text) within, bad) refl
+due_of_bad : (words : List (List ℕ)) (text : List ℕ) (number : ℕ) → is_drill words ≡ true → length text ≤ script_max → script_of text ≡ Err number → due_status words text ≡ statuses.bad_script
+due_of_bad words text number line within bad = rw (line, le-ltb script_max (length text) within, bad) refl
 
 bad_script : (number : ℕ) (words : List (List ℕ)) (status : ℕ) (input input' : InputAt) (out out' err err' : SinkAt) → BadLine number words input input' → Silent out out' → status ≡ statuses.bad_script → Wrote err err' (bad_line_text number) → Ends words status input input' out out' err err'
 bad_script number words status input input' out out' err err' bad quiet is said = record {
@@ -81,13 +81,13 @@ bad_script number words status input input' out out' err err' bad quiet is said 
   unfailing = λ _. (bad.whole.unfailing, quiet.unfailing, said.unfailing);
   due = λ text left.
       let same : bad.text ≡ text = told_same input.left text bad.text bad.whole.all left in
-      inl (is ∙ sym (due_of_bad words text number bad.line (subst (λ (l : List ℕ). length l ≤ SCRIPT_MAX) same bad.whole.within) (subst (λ (l : List ℕ). script_of l ≡ Err number) same bad.bad)));
+      inl (is ∙ sym (due_of_bad words text number bad.line (subst (λ (l : List ℕ). length l ≤ script_max) same bad.whole.within) (subst (λ (l : List ℕ). script_of l ≡ Err number) same bad.bad)));
   words_due = λ other. absurd (cc (bad.line, other));
 }
 
 -- the status of an input that is too long
-due_of_long : (words : List (List ℕ)) (text : List ℕ) → is_drill words ≡ true → SCRIPT_MAX < length text → due_status words text ≡ statuses.over_budget
-due_of_long words text line long = rw (line, lt-ltb SCRIPT_MAX (length text) long) refl
+due_of_long : (words : List (List ℕ)) (text : List ℕ) → is_drill words ≡ true → script_max < length text → due_status words text ≡ statuses.over_budget
+due_of_long words text line long = rw (line, lt-ltb script_max (length text) long) refl
 
 over_budget : (words : List (List ℕ)) (status : ℕ) (input input' : InputAt) (out out' err err' : SinkAt) → TooLong words input → input'.faults ≡ input.faults → Silent out out' → status ≡ statuses.over_budget → Wrote err err' budget_text → Ends words status input input' out out' err err'
 over_budget words status input input' out out' err err' long same quiet is said = record {
@@ -98,25 +98,25 @@ over_budget words status input input' out out' err err' long same quiet is said 
   budget = λ _. (long, same, quiet, said);
   fault = λ e. absurd (omega (arith, e, is));
   unfailing = λ _. (same, quiet.unfailing, said.unfailing);
-  due = λ text left. inl (is ∙ sym (due_of_long words text long.line (subst (λ (l : Option (List ℕ)). IfSome l (λ given. SCRIPT_MAX < length given)) left long.long)));
+  due = λ text left. inl (is ∙ sym (due_of_long words text long.line (subst (λ (l : Option (List ℕ)). IfSome l (λ given. script_max < length given)) left long.long)));
   words_due = λ other. absurd (cc (long.line, other));
 }
 
 -- a stop that was told makes an end
-pub ends_of : (stop : Stop) (words : List (List ℕ)) (status : ℕ) (input input' : InputAt) (out out' err err' : SinkAt) → Stopped stop words input input' out out' → Says stop status err err' → Ends words status input input' out out' err err'
-ends_of stops.Words words status input input' out out' err err' stopped said =
-    said_or stops.Words words status input input' out out' err err' stopped said (bad_words words status input input' out out' err err' stopped.0 stopped.1 stopped.2)
-ends_of stops.Memory words status input input' out out' err err' stopped said =
-    said_or stops.Memory words status input input' out out' err err' stopped said (no_memory words status input input' out out' err err' stopped.0 stopped.1 stopped.2)
-ends_of stops.Input words status input input' out out' err err' stopped said =
-    said_or stops.Input words status input input' out out' err err' stopped said (λ is wrote. told_fault words status input input' out out' err err' is (inl (stopped.0, stopped.1, stopped.2, wrote)))
-ends_of stops.Output words status input input' out out' err err' stopped said =
-    said_or stops.Output words status input input' out out' err err' stopped said (λ is wrote. told_fault words status input input' out out' err err' is (inr (inl (stopped, wrote))))
-ends_of (stops.Script number) words status input input' out out' err err' stopped (inl said) =
-    said_or (stops.Script number) words status input input' out out' err err' stopped said (bad_script number words status input input' out out' err err' stopped.0 stopped.1)
-ends_of (stops.Script number) words status input input' out out' err err' stopped (inr said) =
-    said_or (stops.Script number) words status input input' out out' err err' stopped said (no_memory words status input input' out out' err err' stopped.0.line stopped.0.whole.unfailing stopped.1)
-ends_of stops.Budget words status input input' out out' err err' stopped (inl said) =
-    said_or stops.Budget words status input input' out out' err err' stopped said (over_budget words status input input' out out' err err' stopped.0 stopped.1 stopped.2)
-ends_of stops.Budget words status input input' out out' err err' stopped (inr said) =
-    said_or stops.Budget words status input input' out out' err err' stopped said (no_memory words status input input' out out' err err' stopped.0.line stopped.1 stopped.2)
+pub ends_of : (cause : Cause) (words : List (List ℕ)) (status : ℕ) (input input' : InputAt) (out out' err err' : SinkAt) → Stopped cause words input input' out out' → Says cause status err err' → Ends words status input input' out out' err err'
+ends_of causes.Words words status input input' out out' err err' stopped said =
+    said_or causes.Words words status input input' out out' err err' stopped refl said (bad_words words status input input' out out' err err' stopped.0 stopped.1 stopped.2)
+ends_of causes.Memory words status input input' out out' err err' stopped said =
+    said_or causes.Memory words status input input' out out' err err' stopped refl said (no_memory words status input input' out out' err err' stopped.0 stopped.1 stopped.2)
+ends_of causes.Input words status input input' out out' err err' stopped said =
+    said_or causes.Input words status input input' out out' err err' stopped refl said (λ is wrote. told_fault words status input input' out out' err err' is (inl (stopped.0, stopped.1, stopped.2, wrote)))
+ends_of causes.Output words status input input' out out' err err' stopped said =
+    said_or causes.Output words status input input' out out' err err' stopped refl said (λ is wrote. told_fault words status input input' out out' err err' is (inr (inl (stopped, wrote))))
+ends_of (causes.Script number) words status input input' out out' err err' stopped (inl said) =
+    said_or (causes.Script number) words status input input' out out' err err' stopped (inl refl) said (bad_script number words status input input' out out' err err' stopped.0 stopped.1)
+ends_of (causes.Script number) words status input input' out out' err err' stopped (inr said) =
+    said_or (causes.Script number) words status input input' out out' err err' stopped (inr refl) said (no_memory words status input input' out out' err err' stopped.0.line stopped.0.whole.unfailing stopped.1)
+ends_of causes.Budget words status input input' out out' err err' stopped (inl said) =
+    said_or causes.Budget words status input input' out out' err err' stopped (inl refl) said (over_budget words status input input' out out' err err' stopped.0 stopped.1 stopped.2)
+ends_of causes.Budget words status input input' out out' err err' stopped (inr said) =
+    said_or causes.Budget words status input input' out out' err err' stopped (inr refl) said (no_memory words status input input' out out' err err' stopped.0.line stopped.1 stopped.2)

@@ -4,18 +4,13 @@ use Rattle.std.specs.Fmt.{decimal}
 use Rattle.std.specs.Io.KnownBytes.{Appends, Keeps, IsAtEnd}
 use Rattle.nr_outside.specs.Content.{HandsOut}
 use Rattle.nr_outside.specs.Faults.{Rose}
-use Rattle.nr_outside.specs.declared.whole.ReadEnd.{ReadEnd}
-use Rattle.nr_outside.specs.declared.whole.ReadEnd.TheVariants as ends
 use Rattle.nr_world.specs.declared.mark.Mark.{Mark}
-use Rattle.nr_world.specs.declared.script.ScriptFault.{ScriptFault}
-use Rattle.nr_world.specs.declared.script.ScriptFault.TheVariants as faults
-use Rattle.nr_world.specs.declared.script.TheConstants.{SCRIPT_MAX}
+use Rattle.nr_world.specs.Limits.{script_max}
 use Rattle.nr_world.specs.Script.{ScriptLines, script_of}
 use Rattle.nr_world.specs.Headline.{IsDrill}
 use Rattle.nr_world.specs.Plain.{drill_server}
+use Rattle.nr_world.specs.Stops.{no_stops}
 use Rattle.nr_world.specs.Shown.{shown}
-use Rattle.nr_top.specs.declared.command.Stop.{Stop}
-use Rattle.nr_top.specs.declared.command.Stop.TheVariants as stops
 use Rattle.nr_top.specs.Statuses as statuses
 use Rattle.nr_top.specs.Words.{is_drill, due_status}
 
@@ -41,7 +36,7 @@ pub record Whole (old new : InputAt) (text : List ℕ) : Type 0 where
   pub handed : HandsOut old.left old.given new.left new.given text
   pub all : IfSome old.left (λ left. text ≡ left)
   pub end : IsAtEnd new.left
-  pub within : length text ≤ SCRIPT_MAX
+  pub within : length text ≤ script_max
   pub unfailing : new.faults ≡ old.faults
 
 -- nothing was written
@@ -54,19 +49,19 @@ pub record Wrote (old new : SinkAt) (text : List ℕ) : Type 0 where
   pub appends : Appends old.taken new.taken text
   pub unfailing : new.faults ≡ old.faults
 
--- a script was read and run, and what is shown of the run was written
-pub record Done (words : List (List ℕ)) (input input' : InputAt) (out out' : SinkAt) : Type 0 where
-  pub line : is_drill words ≡ true
-  pub text : List ℕ
-  pub script : ScriptLines
-  pub run : List Mark
-  pub whole : Whole input input' text
-  pub reads : script_of text ≡ Ok script
-  pub drill : IsDrill script run
-  pub prints : Wrote out out' (shown drill_server run)
+-- a first part of this was written, and then the count rose
+pub record CutOff (old new : SinkAt) (text : List ℕ) : Type 0 where
+  pub len : ℕ
+  pub short : len < length text
+  pub appends : Appends old.taken new.taken (take len text)
+  pub rose : Rose old.faults new.faults
 
--- a script was read and run, and but a first part of what is shown of the run could be written
-pub record Halfway (words : List (List ℕ)) (input input' : InputAt) (out out' : SinkAt) : Type 0 where
+-- what a drill prints of a run of a script
+abbrev pub printed : ScriptLines → List Mark → List ℕ
+printed script run = shown drill_server no_stops script.clients run
+
+-- a script was read and run
+pub record Ran (words : List (List ℕ)) (input input' : InputAt) : Type 0 where
   pub line : is_drill words ≡ true
   pub text : List ℕ
   pub script : ScriptLines
@@ -74,8 +69,16 @@ pub record Halfway (words : List (List ℕ)) (input input' : InputAt) (out out' 
   pub whole : Whole input input' text
   pub reads : script_of text ≡ Ok script
   pub drill : IsDrill script run
-  pub part : (n : ℕ) × (n < length (shown drill_server run)) × Appends out.taken out'.taken (take n (shown drill_server run))
-  pub rose : Rose out.faults out'.faults
+
+-- and what is shown of the run was written
+pub record Done (words : List (List ℕ)) (input input' : InputAt) (out out' : SinkAt) : Type 0 where
+  pub ran : Ran words input input'
+  pub prints : Wrote out out' (printed ran.script ran.run)
+
+-- and but a first part of that could be written
+pub record Halfway (words : List (List ℕ)) (input input' : InputAt) (out out' : SinkAt) : Type 0 where
+  pub ran : Ran words input input'
+  pub cut : CutOff out out' (printed ran.script ran.run)
 
 -- the input has a first bad line
 pub record BadLine (number : ℕ) (words : List (List ℕ)) (input input' : InputAt) : Type 0 where
@@ -87,54 +90,73 @@ pub record BadLine (number : ℕ) (words : List (List ℕ)) (input input' : Inpu
 -- the input is too long
 pub record TooLong (words : List (List ℕ)) (input : InputAt) : Type 0 where
   pub line : is_drill words ≡ true
-  pub long : IfSome input.left (λ left. SCRIPT_MAX < length left)
+  pub long : IfSome input.left (λ left. script_max < length left)
 
-abbrev pub stop_of_read : ReadEnd → Stop
-stop_of_read ends.Failed = stops.Input
-stop_of_read ends.TooLong = stops.Budget
-stop_of_read ends.Memory = stops.Memory
+-- why a command isn't done: its words are no line, memory ran out, the input or the output failed, a line of the script is
+-- bad, or the input is too long
+pub data Cause : Type 0 where
+  Words : Cause
+  Memory : Cause
+  Input : Cause
+  Output : Cause
+  Script : (line : ℕ) → Cause
+  Budget : Cause
 
-abbrev pub stop_of_script : ScriptFault → Stop
-stop_of_script (faults.BadLine line) = stops.Script line
-stop_of_script faults.Memory = stops.Memory
+-- what is so where a command wasn't done
+abbrev pub Stopped : Cause → List (List ℕ) → InputAt → InputAt → SinkAt → SinkAt → Type 0
+Stopped Words words input input' out out' = (is_drill words ≡ false) × (input' ≡ input) × (out' ≡ out)
+Stopped Memory words input input' out out' = (is_drill words ≡ true) × (input'.faults ≡ input.faults) × Silent out out'
+Stopped Input words input input' out out' = (is_drill words ≡ true) × Rose input.faults input'.faults × Silent out out'
+Stopped Output words input input' out out' = Halfway words input input' out out'
+Stopped (Script number) words input input' out out' = BadLine number words input input' × Silent out out'
+Stopped Budget words input input' out out' = TooLong words input × (input'.faults ≡ input.faults) × Silent out out'
 
--- why the command wasn't done
-abbrev pub Stopped : Stop → List (List ℕ) → InputAt → InputAt → SinkAt → SinkAt → Type 0
-Stopped stops.Words words input input' out out' = (is_drill words ≡ false) × (input' ≡ input) × (out' ≡ out)
-Stopped stops.Memory words input input' out out' = (is_drill words ≡ true) × (input'.faults ≡ input.faults) × Silent out out'
-Stopped stops.Input words input input' out out' = (is_drill words ≡ true) × Rose input.faults input'.faults × Silent out out'
-Stopped stops.Output words input input' out out' = Halfway words input input' out out'
-Stopped (stops.Script number) words input input' out out' = BadLine number words input input' × Silent out out'
-Stopped stops.Budget words input input' out out' = TooLong words input × (input'.faults ≡ input.faults) × Silent out out'
+-- the words for want of memory, for an input that is too long, and for a bad line
+abbrev pub memory_text : List ℕ
+memory_text = codes "memory\n"
 
--- the words for an input that is too long
 unfoldable pub budget_text : List ℕ
-budget_text = codes "budget " ++ decimal SCRIPT_MAX ++ codes "\n"
+budget_text = codes "budget " ++ decimal script_max ++ codes "\n"
 
--- the words for a bad line
 unfoldable pub bad_line_text : ℕ → List ℕ
 bad_line_text number = codes "bad line " ++ decimal number ++ codes "\n"
 
--- this was said with this status, or the count of the sink rose
+-- this was said with this status; or not all of it could be said, which has a status of its own
 abbrev pub Spoke : ℕ → List ℕ → ℕ → SinkAt → SinkAt → Type 0
-Spoke due text status err err' = ((status ≡ due) × Wrote err err' text) ⊎ ((status ≡ statuses.fault) × Rose err.faults err'.faults)
+Spoke due text status err err' = ((status ≡ due) × Wrote err err' text) ⊎ ((status ≡ statuses.fault) × CutOff err err' text)
 
--- words with a number need memory, and where there is none, that is said
-abbrev pub Says : Stop → ℕ → SinkAt → SinkAt → Type 0
-Says stops.Words status err err' = Spoke statuses.bad_words (codes "bad words\n") status err err'
-Says stops.Memory status err err' = Spoke statuses.no_memory (codes "memory\n") status err err'
-Says stops.Input status err err' = Spoke statuses.fault (codes "input fault\n") status err err'
-Says stops.Output status err err' = Spoke statuses.fault (codes "output fault\n") status err err'
-Says (stops.Script number) status err err' = Spoke statuses.bad_script (bad_line_text number) status err err' ⊎ Spoke statuses.no_memory (codes "memory\n") status err err'
-Says stops.Budget status err err' = Spoke statuses.over_budget budget_text status err err' ⊎ Spoke statuses.no_memory (codes "memory\n") status err err'
+-- what is said of a cause; words with a number need memory, and where there is none, that is said
+abbrev pub Says : Cause → ℕ → SinkAt → SinkAt → Type 0
+Says Words status err err' = Spoke statuses.bad_words (codes "bad words\n") status err err'
+Says Memory status err err' = Spoke statuses.no_memory memory_text status err err'
+Says Input status err err' = Spoke statuses.fault (codes "input fault\n") status err err'
+Says Output status err err' = Spoke statuses.fault (codes "output fault\n") status err err'
+Says (Script number) status err err' = Spoke statuses.bad_script (bad_line_text number) status err err' ⊎ Spoke statuses.no_memory memory_text status err err'
+Says Budget status err err' = Spoke statuses.over_budget budget_text status err err' ⊎ Spoke statuses.no_memory memory_text status err err'
 
--- Whose count rose, what was read and written by then, and what is said of it. Where it couldn't be said, a stop was to be
--- told, and the rest is as that stop leaves it.
+-- the words that are to be said of a cause
+abbrev pub IsSaid : Cause → List ℕ → Type 0
+IsSaid Words text = text ≡ codes "bad words\n"
+IsSaid Memory text = text ≡ memory_text
+IsSaid Input text = text ≡ codes "input fault\n"
+IsSaid Output text = text ≡ codes "output fault\n"
+IsSaid (Script number) text = (text ≡ bad_line_text number) ⊎ (text ≡ memory_text)
+IsSaid Budget text = (text ≡ budget_text) ⊎ (text ≡ memory_text)
+
+-- a cause was to be told, and a first part of its words was
+pub record Untold (words : List (List ℕ)) (input input' : InputAt) (out out' err err' : SinkAt) : Type 0 where
+  pub cause : Cause
+  pub stopped : Stopped cause words input input' out out'
+  pub text : List ℕ
+  pub said : IsSaid cause text
+  pub cut : CutOff err err' text
+
+-- Whose count rose, what was written by then, and what is said of it. Where it couldn't be said, another cause was to be
+-- told, and the rest is as that leaves it.
 abbrev pub FaultTold : List (List ℕ) → InputAt → InputAt → SinkAt → SinkAt → SinkAt → SinkAt → Type 0
 FaultTold words input input' out out' err err' =
     ((is_drill words ≡ true) × Rose input.faults input'.faults × Silent out out' × Wrote err err' (codes "input fault\n"))
-    ⊎ ((Halfway words input input' out out' × Wrote err err' (codes "output fault\n"))
-    ⊎ ((stop : Stop) × Stopped stop words input input' out out' × Rose err.faults err'.faults))
+    ⊎ ((Halfway words input input' out out' × Wrote err err' (codes "output fault\n")) ⊎ Untold words input input' out out' err err')
 
 -- What the status of a run tells.
 pub record Ends (words : List (List ℕ)) (status : ℕ) (input input' : InputAt) (out out' err err' : SinkAt) : Type 0 where
@@ -143,7 +165,7 @@ pub record Ends (words : List (List ℕ)) (status : ℕ) (input input' : InputAt
   -- the words are no line, and nothing else happened
   pub words_bad : status ≡ statuses.bad_words → (is_drill words ≡ false) × (input' ≡ input) × (out' ≡ out) × Wrote err err' (codes "bad words\n")
   -- want of memory
-  pub memory : status ≡ statuses.no_memory → (is_drill words ≡ true) × (input'.faults ≡ input.faults) × Silent out out' × Wrote err err' (codes "memory\n")
+  pub memory : status ≡ statuses.no_memory → (is_drill words ≡ true) × (input'.faults ≡ input.faults) × Silent out out' × Wrote err err' memory_text
   -- the first bad line, by its number
   pub script : status ≡ statuses.bad_script → (number : ℕ) × BadLine number words input input' × Silent out out' × Wrote err err' (bad_line_text number)
   -- the input is longer than a script may be

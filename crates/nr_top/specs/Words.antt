@@ -2,7 +2,7 @@
 use Rattle.std.specs.Prelude.{ℕ, Bool, false, if◌then◌else◌, List, [], ◌∷◌, length, codes, nat_lt, Result, Ok, Err}
 use Rattle.std.specs.Str.{bytes_eq}
 use Rattle.nr_world.specs.Script.{ScriptLines, script_of}
-use Rattle.nr_world.specs.declared.script.TheConstants.{SCRIPT_MAX}
+use Rattle.nr_world.specs.Limits.{script_max}
 use Rattle.nr_top.specs.Statuses.{done, bad_words, bad_script, over_budget}
 
 -- the words of a drill: the name under which the program was started, and the command
@@ -20,4 +20,4 @@ status_of_script (Err line) = bad_script
 -- the status of these words over this input, where memory lasts and nothing outside fails
 abbrev pub due_status : List (List ℕ) → List ℕ → ℕ
 due_status words text =
-    if is_drill words then (if nat_lt SCRIPT_MAX (length text) then over_budget else status_of_script (script_of text)) else bad_words
+    if is_drill words then (if nat_lt script_max (length text) then over_budget else status_of_script (script_of text)) else bad_words

@@ -3,6 +3,7 @@
 ghost use Rattle.std.specs.Prelude.{◌≡◌, map, MatchResult};
 ghost use Rattle.std.specs.String.{string_bytes};
 ghost use Rattle.nr_top.specs.Words.{is_drill};
+ghost use Rattle.nr_top.specs.Causes.{cause_of};
 ghost use Rattle.nr_top.specs.Ends.{Ends, Done, Stopped, Spoke, Says, input_at, sink_at};
 
 use crate::status::{BAD_SCRIPT, BAD_WORDS, DONE, FAULT, NO_MEMORY, OVER_BUDGET};
@@ -23,7 +24,7 @@ enum Stop {
 }
 
 impl From<ReadEnd> for Stop {
-    ghost use Rattle.nr_top.specs.Ends.{stop_of_read};
+    ghost use Rattle.nr_top.specs.Causes.{stop_of_read};
 
     ghost from_gives = { λ end stop. stop ≡ stop_of_read end };
 
@@ -37,7 +38,7 @@ impl From<ReadEnd> for Stop {
 }
 
 impl From<ScriptFault> for Stop {
-    ghost use Rattle.nr_top.specs.Ends.{stop_of_script};
+    ghost use Rattle.nr_top.specs.Causes.{stop_of_script};
 
     ghost from_gives = { λ fault stop. stop ≡ stop_of_script fault };
 
@@ -77,7 +78,7 @@ fn drill<I: Source, O: Sink>(
         (λ _. Done (map string_bytes words.now) (input_at (I.left input.old) (I.given input.old) (I.faults input.old))
         (input_at (I.left input.new) (I.given input.new) (I.faults input.new))
         (sink_at (O.taken out.old) (O.faults out.old)) (sink_at (O.taken out.new) (O.faults out.new)))
-        (λ stop. Stopped stop (map string_bytes words.now) (input_at (I.left input.old) (I.given input.old) (I.faults input.old))
+        (λ stop. Stopped (cause_of stop) (map string_bytes words.now) (input_at (I.left input.old) (I.given input.old) (I.faults input.old))
         (input_at (I.left input.new) (I.given input.new) (I.faults input.new))
         (sink_at (O.taken out.old) (O.faults out.old)) (sink_at (O.taken out.new) (O.faults out.new))) }
 {
@@ -107,7 +108,7 @@ fn speak<E: Sink>(err: &mut E, text: &[u8], status: u8) -> u8
 /// The words for a stop, with its status. Where there is no memory for them, that is what is said.
 #[tactic(auto, unfolding(crate::specs::Ends::bad_line_text, crate::specs::Ends::budget_text))]
 fn say<E: Sink>(alloc: Global, stop: Stop, err: &mut E) -> u8
-    ensures { Says stop result (sink_at (E.taken err.old) (E.faults err.old)) (sink_at (E.taken err.new) (E.faults err.new)) }
+    ensures { Says (cause_of stop) result (sink_at (E.taken err.old) (E.faults err.old)) (sink_at (E.taken err.new) (E.faults err.new)) }
 {
     match stop {
         Stop::Words => speak(err, b"bad words\n", BAD_WORDS),
@@ -130,7 +131,7 @@ fn say<E: Sink>(alloc: Global, stop: Stop, err: &mut E) -> u8
 /// it can't, it says why on `err`.
 ///
 /// The record `Ends` of the specs says what each status tells: 0 that the run is one of the script and keeps the promise,
-/// and that it was printed; 1 that the words are no line; 2 that no memory was found, and nothing was printed; 9 that a
+/// and that it was printed; 1 that the words are no line; 2 that want of memory is told, and nothing was printed; 9 that a
 /// count of faults of `input`, `out` or `err` rose; 10 that the input's first bad line is the one that is named; 11 that
 /// the input is too long.
 pub fn run<I: Source, O: Sink, E: Sink>(

@@ -5,10 +5,9 @@ use Rattle.nr_rpc.proofs.Replies.{reply_written}
 use Rattle.nr_wire.specs.declared.hello.Side.TheVariants.{Initiator, Responder}
 use Rattle.nr_wire.specs.Next.{segment_in}
 use Rattle.nr_world.specs.declared.mark.Conveyed.{Conveyed}
-use Rattle.nr_world.specs.declared.plain.TheConstants.{SUCCESS}
 use Rattle.nr_world.specs.Messages.{inline_message, messages, conveyed, call_in, reply_in}
 use Rattle.nr_world.specs.Ending.{ended_by}
-use Rattle.nr_world.specs.Plain.{null_reply}
+use Rattle.nr_world.specs.Plain.{success, null_reply}
 use Rattle.nr_world.specs.Steps.{asked_payload, ask, answer}
 use Rattle.nr_world.specs.Stands.{upward, downward, each}
 use Rattle.nr_world.proofs.Nulls.{call_of-asked, length-asked_payload, length-null_reply}
@@ -46,7 +45,7 @@ call_in-asked credits k small few = call_in-message k credits (asked_payload k) 
 
 pub reply_in-answered : (credits k : ℕ) → k < 2 ^ 32 → credits < 2 ^ 32 → reply_in (answered_message credits k) ≡ Some (record { xid = k; payload = null_reply k })
 reply_in-answered credits k small few =
-    reply_in-message k credits (null_reply k) _ small few (omega (arith, length-null_reply k)) (reply_written (Accepted k SUCCESS 0) [] (λ e. cc) (small, omega arith)) refl
+    reply_in-message k credits (null_reply k) _ small few (omega (arith, length-null_reply k)) (reply_written (Accepted k success 0) [] (λ e. cc) (small, omega arith)) refl
 
 -- what stands in the pieces that are fed
 pub ask-conveys : (credits k : ℕ) → k < 2 ^ 32 → credits < 2 ^ 32 → option_and_then call_in (ended_by (segment_in (ask credits k))) ≡ Some (record { xid = k; payload = asked_payload k })

@@ -18,7 +18,8 @@ use Rattle.nr_world.specs.Messages.{reply_in, conveyed}
 use Rattle.nr_world.specs.Ending.{ended_by}
 use Rattle.nr_world.specs.Window.{heard}
 use Rattle.nr_world.specs.Plain.{null_reply}
-use Rattle.nr_world.specs.Follows.{Drill, drill_opened, settled, feeding, taken, done_for, down_by, all_down}
+use Rattle.nr_world.specs.Follows.{Drill, drill_opened, settled, feeding, taken, down_by, all_down}
+use Rattle.nr_world.specs.Asked.{done_for}
 use Rattle.nr_world.specs.Steps.{State, the_link, answer, all_read, fed_down, done_by, heard_by, heard as heard_state, waits, is_some_byte}
 use Rattle.nr_world.specs.Stands.{each, downward, accepted_call, completed_call, told_call, Counts, counts_of, arrived_one, At, Stands, drill_of}
 use Rattle.nr_world.proofs.Runs.{flat_map-more}

@@ -10,7 +10,7 @@ use Rattle.nr_wire.specs.declared.hello.Side.TheVariants.{Initiator, Responder}
 use Rattle.nr_world.specs.declared.call.Outcome.TheVariants as outcomes
 use Rattle.nr_world.specs.declared.mark.Mark.{Mark}
 use Rattle.nr_world.specs.declared.mark.Conveyed.{Conveyed}
-use Rattle.nr_world.specs.Observed.{Accepted, Executed, Completed, accepted, executed, got, sent}
+use Rattle.nr_world.specs.Observed.{Accepted, Executed, Completed, accepted, executed, got, journal, sent}
 use Rattle.nr_world.specs.Messages.{conveyed, messages, call_in, reply_in, xid_in, credit_in}
 use Rattle.nr_world.specs.Window.{heard, is_heard, out_of, credits_by, granted_by, grant_of, has_words}
 use Rattle.nr_world.specs.Asked.{Completes}
@@ -22,7 +22,7 @@ use Rattle.nr_world.specs.Stands.{each, upward, downward, accepted_call, execute
 use Rattle.nr_world.proofs.Runs.{Along-more, filter-each, filter_map-each, length-each, Contains-each, each-within, slice_get-each}
 use Rattle.nr_world.proofs.Nulls.{plain_reply-asked}
 use Rattle.nr_world.proofs.Inline.{has_words-message, xid_in-message}
-use Rattle.nr_world.proofs.Frames.{messages-downward, calls-upward, reply_in-answered, conveyed_call, conveyed_reply, answered_message}
+use Rattle.nr_world.proofs.Frames.{length-asked_message, messages-downward, calls-upward, reply_in-answered, conveyed_call, conveyed_reply, answered_message}
 use Rattle.nr_world.proofs.Marking.{upward-more, downward-more}
 use Rattle.nr_world.proofs.OneMark.{submit, write_up, write_down, feed_up, feed_down, execute, complete}
 
@@ -94,7 +94,7 @@ Laws-submit credits run n at laws all small few =
     let some = grant_of-some run in
     let len = ap length at.accepted_are ∙ length-each accepted_call n.asked in
     record {
-      asked = Along-more _ [] run m laws.asked (λ e. omega (arith, len));
+      asked = Along-more _ [] run m laws.asked (λ e. (omega (arith, len), omega (arith, length-asked_message credits (suc n.asked))));
       served = Along-more _ [] run m laws.served tt;
       matched = Along-more _ [] run m laws.matched tt;
       grant = Along-more _ [] run m laws.grant (λ e. omega (arith, none, some));
@@ -205,20 +205,17 @@ pub answered-is : (credits : ℕ) (run : List Mark) (n : Counts) → At credits 
 answered-is credits run n at lt le small =
     let k = suc n.done in
     record {
-      accepted = (
-        accepted_call k,
-        subst (λ (as_ : List Accepted). Contains as_ (accepted_call k)) (sym at.accepted_are) (Contains-each accepted_call n.asked k (omega arith) (omega arith)),
-        refl,
-        (
-          executed_call k,
-          subst (λ (es : List Executed). Contains es (executed_call k)) (sym at.executed_are) (Contains-each executed_call n.served k (omega arith) (omega arith)),
-          refl,
-          refl,
-          refl,
-          omega arith,
-          plain_reply-asked k small,
-        ),
-      );
+      asked = accepted_call k;
+      is_asked = subst (λ (as_ : List Accepted). Contains as_ (accepted_call k)) (sym at.accepted_are) (Contains-each accepted_call n.asked k (omega arith) (omega arith));
+      own = refl;
+      served = executed_call k;
+      is_served = subst (λ (es : List Executed). Contains es (executed_call k)) (sym at.executed_are) (Contains-each executed_call n.served k (omega arith) (omega arith));
+      under = refl;
+      payload = refl;
+      answer = refl;
+      place = omega arith;
+      plain_reply = plain_reply-asked k small;
+      entered = (journal drill_server run, refl);
     }
 
 pub Laws-complete : (credits : ℕ) (run : List Mark) (n : Counts) → At credits run n → Laws credits run → n.done < n.heard → n.heard ≤ n.asked → n.done < n.served → n.heard < 2 ^ 32 → credits < 2 ^ 32 → Laws credits (run ++ complete (suc n.done) ∷ [])

@@ -9,14 +9,13 @@ use Rattle.nr_rpc.specs.declared.cred.Cred.TheVariants as creds
 use Rattle.nr_rpc.specs.Reading.{call_of}
 use Rattle.nr_rpc.specs.Call.{call_head}
 use Rattle.nr_rpc.proofs.Calls.{call_written}
-use Rattle.nr_world.specs.declared.plain.TheConstants.{NFS_PROGRAM, NFS_VERSION, NULL}
 use Rattle.nr_world.specs.Owed.{call_payload}
-use Rattle.nr_world.specs.Plain.{plain_reply, null_reply}
+use Rattle.nr_world.specs.Plain.{nfs_program, nfs_version, null_procedure, plain_reply, null_reply}
 use Rattle.nr_world.specs.Steps.{asked_payload}
 
 -- the head of the k-th call
 abbrev null_head : ℕ → CallHead
-null_head k = Version2 k NFS_PROGRAM NFS_VERSION NULL creds.None 0
+null_head k = Version2 k nfs_program nfs_version null_procedure creds.None 0
 
 pub length-null_head : (k : ℕ) → length (call_head (null_head k)) ≡ 40
 unfolding pad_len
@@ -30,10 +29,10 @@ pub length-null_reply : (k : ℕ) → length (null_reply k) ≡ 24
 unfolding pad_len
 length-null_reply k = simp (length-append, length-word) refl
 
-pub call_of-asked : (k : ℕ) → k < 2 ^ 32 → call_of (asked_payload k) ≡ Ok (Version2 k NFS_PROGRAM NFS_VERSION NULL creds.None 40)
+pub call_of-asked : (k : ℕ) → k < 2 ^ 32 → call_of (asked_payload k) ≡ Ok (Version2 k nfs_program nfs_version null_procedure creds.None 40)
 unfolding call_payload
 call_of-asked k lt =
-    call_written (null_head k) [] tt (lt, lit< tt, lit< tt, lit< tt, tt) ∙ ap (λ (n : ℕ). Ok (Version2 k NFS_PROGRAM NFS_VERSION NULL creds.None n)) (length-null_head k)
+    call_written (null_head k) [] tt (lt, lit< tt, lit< tt, lit< tt, tt) ∙ ap (λ (n : ℕ). Ok (Version2 k nfs_program nfs_version null_procedure creds.None n)) (length-null_head k)
 
 pub plain_reply-asked : (k : ℕ) → k < 2 ^ 32 → plain_reply (asked_payload k) ≡ Some (null_reply k)
 unfolding plain_reply

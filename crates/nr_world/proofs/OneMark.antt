@@ -1,6 +1,7 @@
 -- Each mark of a drill raises one count.
-use Rattle.std.proofs.Common.{◌≡◌, ℕ, suc, ◌+◌, ◌<◌, ◌≤◌, Bool, true, false, cond, not, eqb, List, [], ◌∷◌, ◌++◌, ◌&&◌, ◌||◌, length, Some, None, refl, sym, ap, ◌∙◌, arith, add-one, add-zero}
+use Rattle.std.proofs.Common.{◌≡◌, ℕ, suc, ◌+◌, ◌<◌, ◌≤◌, Bool, true, false, cond, not, eqb, List, [], ◌∷◌, ◌++◌, ◌&&◌, ◌||◌, length, fold, Some, None, refl, sym, ap, ◌∙◌, arith, add-one, add-zero}
 use Rattle.nr_wire.specs.declared.hello.Side.TheVariants.{Initiator, Responder}
+use Rattle.nr_wire.specs.Next.{hello_in}
 use Rattle.nr_world.specs.declared.call.Form.TheVariants.{Auto}
 use Rattle.nr_world.specs.declared.call.Outcome.TheVariants as outcomes
 use Rattle.nr_world.specs.declared.call.Submission.TheVariants as submissions
@@ -8,49 +9,88 @@ use Rattle.nr_world.specs.declared.mark.Mark.{Mark}
 use Rattle.nr_world.specs.declared.mark.Mark.TheVariants as marks
 use Rattle.nr_world.specs.declared.report.Fate.{Fate}
 use Rattle.nr_world.specs.declared.report.Fate.TheVariants as fates
+use Rattle.nr_world.specs.declared.report.Told.{Told}
 use Rattle.std.proofs.lemmas.Bool.{false≢true, true≢false}
 use Rattle.std.proofs.lemmas.Bool.Decides.{nat_tests}
 use Rattle.std.proofs.lemmas.Bool.{eqb-true}
 use Rattle.nr_world.specs.Observed.{wrote, fed, sent, got, accepted_at, accepted, executed_at, executed, completed_at, completed, added, journal}
-use Rattle.nr_world.specs.Messages.{has_hello, send, inline_message}
-use Rattle.nr_world.specs.Owed.{own_hello, called_client, called_server}
+use Rattle.nr_world.specs.Messages.{has_hello, is_greeted, send, inline_message}
+use Rattle.nr_world.specs.Owed.{answer_to, asking, asking_each, called_client, called_server}
 use Rattle.nr_world.specs.Follows.{drill_opened}
 use Rattle.nr_world.specs.Plain.{null_reply, drill_server}
-use Rattle.nr_world.specs.Shown.{Seen, is_out, place_for, counted, seen_at, seen_of}
+use Rattle.nr_world.specs.Shown.{Seen, is_out, place_for, counted, seen_at, seen_of, told_at, asked_by}
 use Rattle.nr_world.specs.Steps.{the_link, null, asked_payload, ask, answer}
-use Rattle.nr_world.specs.Stands.{joined, each, upward, downward, accepted_call, executed_call, completed_call, Counts, is_one_of, seen_by, told_in, At}
+use Rattle.nr_world.specs.Stands.{joined, each, upward, downward, accepted_call, executed_call, completed_call, Counts, is_one_of, seen_by, no_stop, told_in, At}
 use Rattle.nr_world.proofs.Runs.{length-each}
-use Rattle.nr_world.proofs.Marking.{keep, more, owed_up-more, owed_down-more, owed_up-kept, owed_down-kept, asked-more, seen-kept, seen-more, told-more, told-kept, upward-more, downward-more}
-use Rattle.nr_world.proofs.Streams.{has_hello-own}
+use Rattle.nr_world.proofs.Marking.{keep, more, owed_up-more, owed_down-more, owed_up-kept, owed_down-kept, asked-more, seen-kept, seen-more, seen-split, seen-from, stays, told-more, told-kept, upward-more, downward-more}
+use Rattle.nr_world.proofs.Streams.{has_hello-own, is_greeted-own}
 
 -- the client submits the next call
 abbrev pub submit : ℕ → Mark
 submit k = marks.Submit the_link null Auto (submissions.Accepted k)
 
-called_is : (credits : ℕ) (run : List Mark) (a : ℕ) → length (accepted the_link run) + 1 ≡ suc a → called_client (drill_opened credits) the_link run (submit (suc a)) ≡ ask credits (suc a)
-unfolding ask
-called_is credits run a len = ap (λ (k : ℕ). send k (inline_message (suc a) credits (asked_payload (suc a)))) len
+-- what marks say of a call that may have been executed and answered
+abbrev pub seen_so : Bool → Bool → Fate → Seen
+seen_so placed ended fate = record { entries = 0; place = cond placed (Some 0) None; fate = cond ended fate fates.Out }
 
-pub At-submit : (credits : ℕ) (run : List Mark) (n : Counts) → At credits run n → At credits (run ++ submit (suc n.asked) ∷ []) (record n { asked = suc n.asked })
-unfolding sent got accepted executed completed journal seen_by
-At-submit credits run n at =
-    let m = submit (suc n.asked) in
+-- the server's hello was there before
+greeting_came : (credits n : ℕ) → is_greeted Responder (downward credits n) ≡ true
+unfolding downward
+greeting_came credits n = is_greeted-own Responder (joined (answer credits) n)
+
+called_is : (credits : ℕ) (run : List Mark) (n : Counts) → At credits run n → called_client (drill_opened credits) the_link run (submit (suc n.asked)) ≡ ask credits (suc n.asked)
+unfolding ask
+called_is credits run n at =
     let len : length (accepted the_link run) + 1 ≡ suc n.asked = omega (arith, ap length at.accepted_are, length-each accepted_call n.asked) in
-    let call : called_client (drill_opened credits) the_link run m ≡ ask credits (suc n.asked) = called_is credits run n.asked len in
+    let greeted : is_greeted Responder (got the_link Initiator run) ≡ true = ap (is_greeted Responder) at.down_got ∙ greeting_came credits n.heard in
+    let k = suc n.asked in
+    ap (λ (b : Bool). cond b (asking (drill_opened credits) (length (accepted the_link run) + 1) (accepted_call k)) []) greeted
+    ∙ ap (λ (j : ℕ). send j (inline_message k credits (asked_payload k))) len
+
+-- nothing is known of a call that isn't asked
+none-yet : (n k : ℕ) → n < k → is_one_of n k ≡ false
+none-yet n k lt = grind (arith, nat_tests)
+
+abbrev seen_nothing : Seen
+seen_nothing = record { entries = 0; place = None; fate = fates.Out }
+
+seen-new : (n : Counts) (k : ℕ) → n.served < k → n.done < k → seen_by n k ≡ seen_nothing
+unfolding seen_by
+seen-new n k served done =
+    (λ i. seen_so (none-yet n.served k served i) (none-yet n.done k done i) (fates.Answered (Some 0) (outcomes.Reply (null_reply k))))
+
+told-new : (run : List Mark) (n : Counts) (rest : List Mark) → asked_by the_link run ≡ n.asked → journal drill_server run ≡ []
+    → seen_of drill_server the_link (suc n.asked) 0 (run ++ submit (suc n.asked) ∷ []) ≡ seen_nothing
+    → told_at drill_server no_stop run (submit (suc n.asked)) rest ≡ told_in ((run ++ submit (suc n.asked) ∷ []) ++ rest) (suc n.asked) ∷ []
+told-new run n rest asked none seen =
+    let k = suc n.asked in
+    let own : seen_of drill_server the_link k (length (journal drill_server run)) rest ≡ seen_of drill_server the_link k 0 ((run ++ submit k ∷ []) ++ rest) =
+    ap (λ (j : ℕ). seen_of drill_server the_link k j rest) (ap length none) ∙ seen-from k rest
+    ∙ ap (λ (s : Seen). fold (seen_at drill_server the_link k) s rest) (sym seen) ∙ sym (seen-split k (run ++ submit k ∷ []) rest) in
+    (λ i. record { client = the_link; number = (ap (λ (j : ℕ). j + 1) asked ∙ add-one n.asked) i; fate = (own i).fate } ∷ [])
+
+pub At-submit : (credits : ℕ) (run : List Mark) (n : Counts) → At credits run n → n.served ≤ n.asked → n.done ≤ n.asked → At credits (run ++ submit (suc n.asked) ∷ []) (record n { asked = suc n.asked })
+unfolding sent got accepted executed completed journal seen_by
+At-submit credits run n at fewer_served fewer_done =
+    let k = suc n.asked in
+    let m = submit k in
+    let seen : (j : ℕ) → seen_of drill_server the_link j 0 (run ++ m ∷ []) ≡ seen_by n j = λ j. seen-kept j run m (seen_by n j) (at.seen_are j) refl refl in
+    let none : seen_of drill_server the_link k 0 (run ++ m ∷ []) ≡ seen_nothing = seen k ∙ seen-new n k (omega arith) (omega arith) in
     record {
       up_sent = keep (wrote the_link Initiator) run m (upward credits n.sent_up) at.up_sent refl;
       up_got = keep (fed the_link Responder) run m (upward credits n.came) at.up_got refl;
       down_sent = keep (wrote the_link Responder) run m (downward credits n.sent_down) at.down_sent refl;
       down_got = keep (fed the_link Initiator) run m (downward credits n.heard) at.down_got refl;
-      up_owed = owed_up-more (drill_opened credits) run m (upward credits n.asked) at.up_owed ∙ ap (λ (xs : List ℕ). upward credits n.asked ++ xs) call ∙ sym (upward-more credits n.asked);
+      up_owed = owed_up-more (drill_opened credits) run m (upward credits n.asked) at.up_owed ∙ ap (λ (xs : List ℕ). upward credits n.asked ++ xs) (called_is credits run n at) ∙ sym (upward-more credits n.asked);
       down_owed = owed_down-kept (drill_opened credits) run m (downward credits n.served) at.down_owed refl;
       accepted_are = more (accepted_at the_link) run m (each accepted_call n.asked) at.accepted_are;
       executed_are = keep (executed_at the_link) run m (each executed_call n.served) at.executed_are refl;
       completed_are = keep (completed_at the_link) run m (each completed_call n.done) at.completed_are refl;
       asked_are = asked-more run m n.asked at.asked_are ∙ add-one n.asked;
       no_entries = keep (added drill_server) run m [] at.no_entries refl;
-      told_are = λ last. told-more last run m (each (told_in last) n.asked) (at.told_are last) ∙ ap (λ (j : ℕ). each (told_in last) n.asked ++ record { client = the_link; number = j; fate = (seen_of drill_server the_link (suc n.asked) last).fate } ∷ []) (ap (λ (j : ℕ). j + 1) at.asked_are ∙ add-one n.asked);
-      seen_are = λ k. seen-kept k run m (seen_by n k) (at.seen_are k) refl refl;
+      not_dropped = stays run m at.not_dropped refl;
+      told_are = λ rest. told-more run rest m n.asked (at.told_are (m ∷ rest)) ∙ ap (λ (ts : List Told). each (told_in ((run ++ m ∷ []) ++ rest)) n.asked ++ ts) (told-new run n rest at.asked_are at.no_entries none);
+      seen_are = seen;
     }
 
 -- the client writes the next Send
@@ -73,7 +113,8 @@ At-write_up credits run n at =
       completed_are = keep (completed_at the_link) run m (each completed_call n.done) at.completed_are refl;
       asked_are = asked-more run m n.asked at.asked_are ∙ add-zero n.asked;
       no_entries = keep (added drill_server) run m [] at.no_entries refl;
-      told_are = λ last. told-kept last run m (each (told_in last) n.asked) (at.told_are last) refl;
+      not_dropped = stays run m at.not_dropped refl;
+      told_are = λ rest. told-kept run rest m n.asked (at.told_are (m ∷ rest)) refl;
       seen_are = λ k. seen-kept k run m (seen_by n k) (at.seen_are k) refl refl;
     }
 
@@ -97,7 +138,8 @@ At-write_down credits run n at =
       completed_are = keep (completed_at the_link) run m (each completed_call n.done) at.completed_are refl;
       asked_are = asked-more run m n.asked at.asked_are ∙ add-zero n.asked;
       no_entries = keep (added drill_server) run m [] at.no_entries refl;
-      told_are = λ last. told-kept last run m (each (told_in last) n.asked) (at.told_are last) refl;
+      not_dropped = stays run m at.not_dropped refl;
+      told_are = λ rest. told-kept run rest m n.asked (at.told_are (m ∷ rest)) refl;
       seen_are = λ k. seen-kept k run m (seen_by n k) (at.seen_are k) refl refl;
     }
 
@@ -105,9 +147,9 @@ At-write_down credits run n at =
 abbrev pub feed_up : ℕ → ℕ → Mark
 feed_up credits k = marks.Fed the_link Responder (ask credits k)
 
--- its hello was whole before
-no_hello : (stream more : List ℕ) → has_hello Initiator stream ≡ true → cond (not (has_hello Initiator stream) && has_hello Initiator (stream ++ more)) (own_hello Responder) [] ≡ []
-no_hello stream more e = rw e refl
+-- a hello that was there before calls for nothing
+no_hello : (there now : Bool) (called : List ℕ) → there ≡ true → cond (not there && now) called [] ≡ []
+no_hello there now called e = rw e refl
 
 hello_came : (credits n : ℕ) → has_hello Initiator (upward credits n) ≡ true
 unfolding upward
@@ -118,7 +160,8 @@ unfolding sent got accepted executed completed journal seen_by
 At-feed_up credits run n at =
     let m = feed_up credits (suc n.came) in
     let quiet : called_server (drill_opened credits) the_link run m ≡ [] =
-    no_hello (got the_link Responder run) (ask credits (suc n.came)) (ap (has_hello Initiator) at.up_got ∙ hello_came credits n.came) in
+    no_hello (has_hello Initiator (got the_link Responder run)) (has_hello Initiator (got the_link Responder run ++ ask credits (suc n.came)))
+    (answer_to (hello_in Initiator (got the_link Responder run ++ ask credits (suc n.came)))) (ap (has_hello Initiator) at.up_got ∙ hello_came credits n.came) in
     record {
       up_sent = keep (wrote the_link Initiator) run m (upward credits n.sent_up) at.up_sent refl;
       up_got = more (fed the_link Responder) run m (upward credits n.came) at.up_got ∙ sym (upward-more credits n.came);
@@ -131,7 +174,8 @@ At-feed_up credits run n at =
       completed_are = keep (completed_at the_link) run m (each completed_call n.done) at.completed_are refl;
       asked_are = asked-more run m n.asked at.asked_are ∙ add-zero n.asked;
       no_entries = keep (added drill_server) run m [] at.no_entries refl;
-      told_are = λ last. told-kept last run m (each (told_in last) n.asked) (at.told_are last) refl;
+      not_dropped = stays run m at.not_dropped refl;
+      told_are = λ rest. told-kept run rest m n.asked (at.told_are (m ∷ rest)) refl;
       seen_are = λ k. seen-kept k run m (seen_by n k) (at.seen_are k) refl refl;
     }
 
@@ -143,19 +187,23 @@ pub At-feed_down : (credits : ℕ) (run : List Mark) (n : Counts) → At credits
 unfolding sent got accepted executed completed journal seen_by
 At-feed_down credits run n at =
     let m = feed_down credits (suc n.heard) in
+    let quiet : called_client (drill_opened credits) the_link run m ≡ [] =
+    no_hello (is_greeted Responder (got the_link Initiator run)) (is_greeted Responder (got the_link Initiator run ++ answer credits (suc n.heard)))
+    (asking_each (drill_opened credits) 1 (accepted the_link run)) (ap (is_greeted Responder) at.down_got ∙ greeting_came credits n.heard) in
     record {
       up_sent = keep (wrote the_link Initiator) run m (upward credits n.sent_up) at.up_sent refl;
       up_got = keep (fed the_link Responder) run m (upward credits n.came) at.up_got refl;
       down_sent = keep (wrote the_link Responder) run m (downward credits n.sent_down) at.down_sent refl;
       down_got = more (fed the_link Initiator) run m (downward credits n.heard) at.down_got ∙ sym (downward-more credits n.heard);
-      up_owed = owed_up-kept (drill_opened credits) run m (upward credits n.asked) at.up_owed refl;
+      up_owed = owed_up-kept (drill_opened credits) run m (upward credits n.asked) at.up_owed quiet;
       down_owed = owed_down-kept (drill_opened credits) run m (downward credits n.served) at.down_owed refl;
       accepted_are = keep (accepted_at the_link) run m (each accepted_call n.asked) at.accepted_are refl;
       executed_are = keep (executed_at the_link) run m (each executed_call n.served) at.executed_are refl;
       completed_are = keep (completed_at the_link) run m (each completed_call n.done) at.completed_are refl;
       asked_are = asked-more run m n.asked at.asked_are ∙ add-zero n.asked;
       no_entries = keep (added drill_server) run m [] at.no_entries refl;
-      told_are = λ last. told-kept last run m (each (told_in last) n.asked) (at.told_are last) refl;
+      not_dropped = stays run m at.not_dropped refl;
+      told_are = λ rest. told-kept run rest m n.asked (at.told_are (m ∷ rest)) refl;
       seen_are = λ k. seen-kept k run m (seen_by n k) (at.seen_are k) refl refl;
     }
 
@@ -167,9 +215,6 @@ is_one-below : (n m k : ℕ) → n ≤ m → is_one_of n k ≡ true → eqb (suc
 is_one-below n m k le e = grind (arith, nat_tests)
 
 -- what a call's execution says of it, and leaves of the others
-abbrev pub seen_so : Bool → Bool → Fate → Seen
-seen_so placed ended fate = record { entries = 0; place = cond placed (Some 0) None; fate = cond ended fate fates.Out }
-
 executed_so : (placed ended own : Bool) (reply : List ℕ) → (ended ≡ true → own ≡ false) →
     counted drill_server (marks.Lost 0 0)
     (cond (is_out (cond ended (fates.Answered (Some 0) (outcomes.Reply reply)) fates.Out))
@@ -239,7 +284,8 @@ At-execute credits run n at later =
       completed_are = keep (completed_at the_link) run m (each completed_call n.done) at.completed_are refl;
       asked_are = asked-more run m n.asked at.asked_are ∙ add-zero n.asked;
       no_entries = keep (added drill_server) run m [] at.no_entries refl;
-      told_are = λ last. told-kept last run m (each (told_in last) n.asked) (at.told_are last) refl;
+      not_dropped = stays run m at.not_dropped refl;
+      told_are = λ rest. told-kept run rest m n.asked (at.told_are (m ∷ rest)) refl;
       seen_are = λ k. seen-more k run m (seen_by n k) (at.seen_are k) ∙ seen-executed n k later;
     }
 
@@ -263,6 +309,7 @@ At-complete credits run n at later =
       completed_are = more (completed_at the_link) run m (each completed_call n.done) at.completed_are;
       asked_are = asked-more run m n.asked at.asked_are ∙ add-zero n.asked;
       no_entries = keep (added drill_server) run m [] at.no_entries refl;
-      told_are = λ last. told-kept last run m (each (told_in last) n.asked) (at.told_are last) refl;
+      not_dropped = stays run m at.not_dropped refl;
+      told_are = λ rest. told-kept run rest m n.asked (at.told_are (m ∷ rest)) refl;
       seen_are = λ k. seen-more k run m (seen_by n k) (at.seen_are k) ∙ seen-completed n k later;
     }

@@ -3,6 +3,7 @@ use Rattle.std.proofs.Common.{◌≡◌, ℕ, ◌<◌, ◌≤◌, Bool, true, fa
 use Rattle.std.proofs.lemmas.List.{append-nil}
 use Rattle.nr_wire.specs.declared.hello.Side.{Side}
 use Rattle.nr_wire.specs.declared.hello.Side.TheVariants.{Initiator, Responder}
+use Rattle.nr_wire.specs.Next.{hello_in}
 use Rattle.nr_wire.specs.declared.stream.Awaited.TheVariants.{Hello as HelloFrom}
 use Rattle.nr_wire.proofs.Frames.{fields_some, partial_nil, partial_not_whole}
 use Rattle.nr_world.specs.declared.mark.Mark.{Mark}
@@ -10,16 +11,16 @@ use Rattle.nr_world.specs.declared.mark.Mark.TheVariants as marks
 use Rattle.std.proofs.lemmas.Bool.Decides.{nat_tests}
 use Rattle.nr_world.specs.declared.call.Outcome.TheVariants as outcomes
 use Rattle.nr_world.specs.declared.report.Fate.TheVariants as fates
-use Rattle.nr_world.specs.declared.script.TheConstants.{MOST_CREDITS}
-use Rattle.nr_world.specs.Observed.{sent, got, accepted, executed, completed, journal}
-use Rattle.nr_world.specs.Messages.{has_hello}
-use Rattle.nr_world.specs.Owed.{own_hello, owed}
+use Rattle.nr_world.specs.Limits.{most_credits}
+use Rattle.nr_world.specs.Observed.{links_of, sent, got, accepted, executed, completed, journal}
+use Rattle.nr_world.specs.Messages.{has_hello, is_greeted}
+use Rattle.nr_world.specs.Owed.{own_hello, answer_to, asking_each, owed}
 use Rattle.nr_world.specs.Plain.{null_reply}
-use Rattle.nr_world.specs.Follows.{Drill, drill_opened, links_of, start, openings, settled, writing, unwritten, feeding, taken, up_by, down_by, all_up, all_down}
+use Rattle.nr_world.specs.Follows.{Drill, drill_opened, start, openings, settled, writing, unwritten, feeding, taken, up_by, down_by, all_up, all_down}
 use Rattle.nr_world.specs.Shown.{seen_of, asked_by}
 use Rattle.nr_world.specs.Steps.{the_link, opened_state}
 use Rattle.nr_world.specs.Stands.{upward, downward, Counts, is_one_of, seen_by, At, Laws, Stands, drill_of, Played}
-use Rattle.nr_world.proofs.Streams.{has_hello-own, own_hello-frame}
+use Rattle.nr_world.proofs.Streams.{has_hello-own, hello_in-own, own_hello-frame}
 use Rattle.nr_world.proofs.OneMark.{seen_so}
 use Rattle.nr_world.proofs.Settling.{writing-none, writing-some, feeding-some, settled-none}
 use Rattle.nr_world.proofs.Standing.{take_length, drop_length}
@@ -40,14 +41,22 @@ abbrev no_counts : Counts
 no_counts = record { asked = 0; sent_up = 0; came = 0; served = 0; sent_down = 0; heard = 0; done = 0 }
 
 -- the server's hello is called for by the client's
-called : (b c : Bool) → b ≡ false → c ≡ true → cond (not b && c) (own_hello Responder) [] ≡ own_hello Responder
-called b c e f = rw (e, f) refl
+called : (b c : Bool) (bytes : List ℕ) → b ≡ false → c ≡ true → cond (not b && c) bytes [] ≡ bytes
+called b c bytes e f = rw (e, f) refl
 
 none_one : (k : ℕ) → is_one_of 0 k ≡ false
 none_one k = grind (arith, nat_tests)
 
-hello_called : cond (not (has_hello Initiator []) && has_hello Initiator (own_hello Initiator)) (own_hello Responder) [] ≡ own_hello Responder
-hello_called = called (has_hello Initiator []) (has_hello Initiator (own_hello Initiator)) no_hello_yet hello_now
+abbrev answered : List ℕ
+answered = answer_to (hello_in Initiator (own_hello Initiator))
+
+hello_called : cond (not (has_hello Initiator []) && has_hello Initiator (own_hello Initiator)) answered [] ≡ own_hello Responder
+hello_called = called (has_hello Initiator []) (has_hello Initiator (own_hello Initiator)) answered no_hello_yet hello_now ∙ ap answer_to (hello_in-own Initiator)
+
+-- no call was accepted before, so none is asked now
+none_asked : (b : Bool) → cond b (asking_each (drill_opened 0) 1 []) [] ≡ []
+none_asked true = refl
+none_asked false = refl
 
 At-open : (credits : ℕ) → At credits open_marks no_counts
 unfolding sent got accepted executed completed journal owed upward downward seen_of seen_by asked_by
@@ -56,14 +65,15 @@ At-open credits = record {
   up_got = refl;
   down_sent = refl;
   down_got = refl;
-  up_owed = refl;
+  up_owed = ap (λ (xs : List ℕ). own_hello Initiator ++ (xs ++ [])) (none_asked (not (is_greeted Responder []) && is_greeted Responder (own_hello Responder)));
   down_owed = ap (λ (xs : List ℕ). xs ++ []) hello_called;
   accepted_are = refl;
   executed_are = refl;
   completed_are = refl;
   asked_are = refl;
   no_entries = refl;
-  told_are = λ last. refl;
+  not_dropped = refl;
+  told_are = λ rest. refl;
   seen_are = λ k. sym (ap (λ (b : Bool). seen_so b b (fates.Answered (Some 0) (outcomes.Reply (null_reply k)))) (none_one k));
 }
 
@@ -133,7 +143,7 @@ then_down credits =
     ap (λ (x : Drill). settled o the_link (taken the_link x)) fed
     ∙ settled-none credits opened_all no_counts (At-open credits) refl refl
 
-pub opened-stands : (credits : ℕ) → 1 ≤ credits → credits ≤ MOST_CREDITS → Stands (opened_state credits)
+pub opened-stands : (credits : ℕ) → 1 ≤ credits → credits ≤ most_credits → Stands (opened_state credits)
 unfolding opened_state upward downward
 opened-stands credits some few =
     let up = own_hello Initiator in
@@ -155,7 +165,7 @@ opened-stands credits some few =
       few_calls = lit≤ tt;
     }
 
-pub played_none : (credits : ℕ) → 1 ≤ credits → credits ≤ MOST_CREDITS → Played credits 0 (opened_state credits)
+pub played_none : (credits : ℕ) → 1 ≤ credits → credits ≤ most_credits → Played credits 0 (opened_state credits)
 unfolding opened_state
 played_none credits some few =
     let o = drill_opened credits in

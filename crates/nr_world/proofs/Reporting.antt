@@ -2,25 +2,29 @@
 use Rattle.std.proofs.Common.{◌≡◌, ℕ, zero, suc, ◌<◌, ◌≤◌, Bool, true, cond, Result, Ok, Err, List, [], ◌∷◌, ◌++◌, length, map, Some, Contains, refl, sym, ap, subst, ◌∙◌, arith}
 use Rattle.std.specs.Prelude.{IfOk}
 use Rattle.std.proofs.lemmas.Bool.Decides.{nat_tests}
-use Rattle.std.proofs.lemmas.List.{nil_from_length}
+use Rattle.std.proofs.lemmas.List.{append-nil, nil_from_length}
 use Rattle.nr_outside.specs.Pipe.{PipeState}
 use Rattle.nr_wire.specs.declared.hello.Side.TheVariants.{Initiator, Responder}
 use Rattle.nr_world.specs.declared.call.Outcome.TheVariants as outcomes
 use Rattle.nr_world.specs.declared.mark.Mark.{Mark}
 use Rattle.nr_world.specs.declared.report.Fate.{Fate}
 use Rattle.nr_world.specs.declared.report.Fate.TheVariants as fates
+use Rattle.nr_world.specs.declared.report.LinkFate.TheVariants as links
 use Rattle.nr_world.specs.declared.report.Report.{Report}
-use Rattle.nr_world.specs.Observed.{Accepted, Executed, Completed, executed, journal, sent}
+use Rattle.nr_world.specs.Observed.{Accepted, Executed, Completed, links_of, executed, journal, sent}
 use Rattle.nr_world.specs.Completion.{IsComplete}
 use Rattle.nr_world.specs.Places.{PlacesRise}
 use Rattle.nr_world.specs.Plain.{null_reply, drill_server}
 use Rattle.nr_world.specs.Script.{ScriptLines, Line, turns}
-use Rattle.nr_world.specs.Follows.{drill_opened, links_of, openings, start, MakeAll}
-use Rattle.nr_world.specs.Shown.{Seen, seen_of, calls_told}
-use Rattle.nr_world.specs.Headline.{HoldsOn, IsDrill, Reports, log_of}
+use Rattle.nr_world.specs.Follows.{drill_opened, openings, start, MakeAll}
+use Rattle.nr_world.specs.Shown.{Seen, seen_of, calls_told, links_told}
+use Rattle.nr_world.specs.Stops.{no_stops}
+use Rattle.nr_world.specs.Promise.{HoldsOn}
+use Rattle.nr_world.specs.Headline.{IsDrill, Reports, log_of}
 use Rattle.nr_world.specs.Steps.{State, the_link}
 use Rattle.nr_world.specs.Stands.{each, accepted_call, executed_call, completed_call, told_call, told_in, is_one_of, seen_by, Stands, IsQuiet, drill_of, Played, Tells}
 use Rattle.nr_world.proofs.Runs.{Contains-each, each-within}
+use Rattle.nr_world.proofs.Marking.{told-all}
 
 -- every accepted call has its outcome
 complete-is : (s : State) → Stands s → IsQuiet s → IsComplete the_link s.marks
@@ -82,16 +86,22 @@ each-same f g (suc n) h =
 one_of : (n k : ℕ) → 0 < k → k ≤ n → is_one_of n k ≡ true
 one_of n k lt le = grind (arith, nat_tests)
 
-pub told-is : (s : State) → Stands s → IsQuiet s → s.told ≡ calls_told drill_server s.marks
+pub told-is : (s : State) → Stands s → IsQuiet s → s.told ≡ calls_told drill_server no_stops s.marks
 unfolding calls_told seen_by
 told-is s st quiet =
     let n = length s.told in
     let same = each-same told_call (told_in s.marks) n (λ k lt le.
-    let fate : (seen_of drill_server the_link k s.marks).fate ≡ fates.Answered (Some 0) (outcomes.Reply (null_reply k)) =
+    let fate : (seen_of drill_server the_link k 0 s.marks).fate ≡ fates.Answered (Some 0) (outcomes.Reply (null_reply k)) =
     ap (λ (x : Seen). x.fate) (st.at.seen_are k)
     ∙ ap (λ (b : Bool). cond b (fates.Answered (Some 0) (outcomes.Reply (null_reply k))) fates.Out) (one_of n k lt le) in
     ap (λ (f : Fate). record { client = the_link; number = k; fate = f }) (sym fate)) in
-    st.told_is ∙ same ∙ ap (each (told_in s.marks)) (sym quiet) ∙ sym (st.at.told_are s.marks)
+    st.told_is ∙ same ∙ ap (each (told_in s.marks)) (sym quiet) ∙ ap (λ (last : List Mark). each (told_in last) s.asked) (sym (append-nil s.marks))
+    ∙ sym (st.at.told_are []) ∙ sym (told-all [] s.marks)
+
+-- the link is neither dropped nor ended
+pub links-are : (s : State) → Stands s → [] ≡ links_told no_stops 1 s.marks
+unfolding links_told
+links-are s st = sym (ap (λ (b : Bool). cond b (record { client = the_link; fate = links.Dropped } ∷ []) [] ++ []) st.at.not_dropped)
 
 pub logs-are : (s : State) → Stands s → record { up = s.up.log; down = s.down.log } ∷ [] ≡ map (log_of s.marks) (links_of 1)
 logs-are s st =
@@ -105,7 +115,9 @@ reports-is script calls s report one lines p t =
     record {
       drill = subst (λ (run : List Mark). IsDrill script run) (sym t.marks_are) (drill-is script calls s one lines p);
       journal = none ∙ sym p.stands.at.no_entries ∙ ap (journal drill_server) (sym t.marks_are);
-      calls = t.calls_are ∙ told-is s p.stands p.quiet ∙ ap (calls_told drill_server) (sym t.marks_are);
+      calls = t.calls_are ∙ told-is s p.stands p.quiet ∙ ap (calls_told drill_server no_stops) (sym t.marks_are);
+      links = t.links_are ∙ links-are s p.stands ∙ ap (λ (run : List Mark). links_told no_stops 1 run) (sym t.marks_are)
+          ∙ ap (λ (n : ℕ). links_told no_stops n report.marks) (sym one);
       logs = t.logs_are ∙ logs-are s p.stands ∙ ap (λ (run : List Mark). map (log_of run) (links_of 1)) (sym t.marks_are)
           ∙ ap (λ (n : ℕ). map (log_of report.marks) (links_of n)) (sym one);
     }

@@ -6,11 +6,11 @@ use Rattle.std.proofs.lemmas.List.{append-nil}
 use Rattle.nr_world.specs.declared.mark.Mark.{Mark}
 use Rattle.nr_world.specs.declared.report.Told.{Told}
 use Rattle.nr_world.specs.declared.script.TheConstants.{MOST_LINES}
-use Rattle.nr_world.specs.Observed.{completed}
+use Rattle.nr_world.specs.Observed.{completed, links_of}
 use Rattle.nr_world.specs.Plain.{drill_server}
 use Rattle.nr_world.specs.Script.{Line, null_call, turns}
 use Rattle.nr_world.specs.Script.Line.{Drain}
-use Rattle.nr_world.specs.Follows.{Drill, drill_opened, links_of, start, openings, all_up, all_down, MovesLink, Moves, todo, Fell, Drains, Makes, MakeAll, WorksAll}
+use Rattle.nr_world.specs.Follows.{Drill, drill_opened, start, openings, all_up, all_down, MovesLink, Moves, todo, Fell, Drains, Makes, MakeAll, WorksAll}
 use Rattle.nr_world.specs.Steps.{State, the_link, came, worked, heard, waits, works_on, asked_one}
 use Rattle.nr_world.specs.Stands.{completed_call, counts_of, Stands, IsQuiet, drill_of, Round, Drained, Called, Played}
 use Rattle.nr_world.proofs.Runs.{length-each}

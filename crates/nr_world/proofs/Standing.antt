@@ -88,7 +88,7 @@ asks_next s st quiet room =
     let n = counts_of s in
     let small : n.heard < 2 ^ 32 = omega (arith, w.small, quiet) in
     let all : n.came ≡ s.asked = omega (arith, st.came_asked, st.heard_served, quiet) in
-    let at1 = At-submit c s.marks n st.at in
+    let at1 = At-submit c s.marks n st.at (omega (arith, st.came_asked)) (omega (arith, st.heard_served, st.came_asked)) in
     let n1 : Counts = record n { asked = k } in
     let laws1 = Laws-submit c s.marks n st.at st.laws quiet small w.few in
     let d : Drill = with_mark (submit k) (drill_of s) in

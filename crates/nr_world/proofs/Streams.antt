@@ -19,7 +19,7 @@ use Rattle.nr_wire.proofs.FrontFrame.{front_frame}
 use Rattle.nr_wire.proofs.Splits.{split-only}
 use Rattle.nr_wire.proofs.Segments.{spelling_again}
 use Rattle.nr_wire.proofs.Hellos.{hello_again}
-use Rattle.nr_world.specs.Messages.{Part, part_in, joined_to, messages_from, messages, has_hello, send}
+use Rattle.nr_world.specs.Messages.{Part, part_in, joined_to, messages_from, messages, has_hello, is_hello, is_greeted, send}
 use Rattle.nr_world.specs.Owed.{own_hello}
 use Rattle.nr_world.specs.Stands.{joined, each}
 
@@ -85,7 +85,11 @@ hello_in-own side =
     let read : hello_in side (hello_spelling hello ++ []) ≡ Whole hello (length (hello_spelling hello)) = hello_again hello [] (unrefused side, lit≤ tt) in
     rw append-nil at read
 
--- the hello is there, whatever follows it
+-- the hello is there, and none that is refused, whatever follows it
+pub is_greeted-own : (side : Side) (more : List ℕ) → is_greeted side (own_hello side ++ more) ≡ true
+unfolding is_greeted own_hello
+is_greeted-own side more = ap is_hello (hello_again (record { side = side; flags = 0; private = [] }) more (unrefused side, lit≤ tt))
+
 pub has_hello-own : (side : Side) (more : List ℕ) → has_hello side (own_hello side ++ more) ≡ true
 unfolding has_hello
 has_hello-own side more = (front_frame (HelloFrom side) (own_hello side) more (own_hello-frame side)).whole

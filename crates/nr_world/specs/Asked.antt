@@ -1,17 +1,21 @@
 -- All that the client of a link writes and completes.
-use Rattle.std.specs.Prelude.{◌≡◌, ◌≢◌, ℕ, ◌+◌, List, [], ◌++◌, length, Contains}
+use Rattle.std.specs.Prelude.{◌≡◌, ◌≢◌, ℕ, ◌+◌, ◌≤◌, ◌==◌, if◌then◌else◌, List, [], ◌∷◌, ◌++◌, length, find, Option, None, Some, Contains}
+use Rattle.std.specs.List.{list_any}
 use Rattle.nr_wire.specs.declared.hello.Side.TheVariants.{Initiator}
+use Rattle.nr_world.specs.declared.call.Call.{Call}
 use Rattle.nr_world.specs.declared.call.Submission.TheVariants as submissions
 use Rattle.nr_world.specs.declared.call.Outcome.{Outcome}
 use Rattle.nr_world.specs.declared.call.Outcome.TheVariants as outcomes
 use Rattle.nr_world.specs.declared.mark.Mark.{Mark}
 use Rattle.nr_world.specs.declared.mark.Mark.TheVariants as marks
 use Rattle.nr_world.specs.declared.mark.Opened.{Opened}
+use Rattle.nr_world.specs.declared.mark.Conveyed.{Conveyed}
 use Rattle.nr_world.specs.Observed.{Accepted, Completed, accepted, completed, sent}
-use Rattle.nr_world.specs.Messages.{conveyed, reply_in}
-use Rattle.nr_world.specs.Owed.{owed, HasWritten}
+use Rattle.nr_world.specs.Messages.{conveyed, reply_in, inline_message}
+use Rattle.nr_world.specs.Owed.{call_payload, owed, HasWritten}
 use Rattle.nr_world.specs.Window.{heard}
 use Rattle.nr_world.specs.Along.{Along}
+use Rattle.nr_world.specs.Limits.{send_max}
 
 -- a message that the client got conveys this outcome of the xid's call; error messages come with the calls that get them
 abbrev pub IsHeard : ℕ → List Mark → ℕ → Outcome → Type 0
@@ -25,10 +29,25 @@ pub record Completes (link : ℕ) (before : List Mark) (xid : ℕ) (outcome : Ou
   pub first : (c : Completed) → Contains (completed link before) c → c.xid ≢ xid
   pub heard : IsHeard link before xid outcome
 
--- xids rise by one from the first on; a Wrote writes all that is owed by then; a call is completed once
+-- the outcome of an accepted call that has none yet, where its message came
+abbrev pub done_with : ℕ → ℕ → Option Conveyed → List Mark
+done_with link xid None = []
+done_with link xid (Some reply) = marks.Done link xid (outcomes.Reply reply.payload) ∷ []
+
+abbrev pub done_for : ℕ → List Mark → Accepted → List Mark
+done_for link before a =
+    if list_any (λ c. c.xid == a.xid) (completed link before) then []
+    else done_with link a.xid (find (λ reply. reply.xid == a.xid) (conveyed reply_in (heard link before)))
+
+-- the Send of a call is no longer than a Send may be
+abbrev pub Fits : Opened → ℕ → Call → Type 0
+Fits opened xid call = length (inline_message xid opened.wished (call_payload xid call)) ≤ send_max
+
+-- xids rise by one from the first on, and a call that goes out fits; a Wrote writes all that is owed by then; a call is
+-- completed once
 abbrev pub AskedMark : Opened → ℕ → List Mark → Mark → Type 0
 AskedMark opened link before (marks.Submit l call form (submissions.Accepted xid)) =
-    l ≡ link → xid ≡ opened.first_xid + length (accepted link before)
+    l ≡ link → (xid ≡ opened.first_xid + length (accepted link before)) × Fits opened xid call
 AskedMark opened link before (marks.Wrote l Initiator bytes) =
     l ≡ link → sent link Initiator before ++ bytes ≡ owed opened link Initiator before
 AskedMark opened link before (marks.Done l xid outcome) = l ≡ link → Completes link before xid outcome

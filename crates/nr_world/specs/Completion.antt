@@ -1,19 +1,28 @@
 -- What completion means to a caller.
-use Rattle.std.specs.Prelude.{◌≡◌, ℕ, ◌≤◌, List, [], length, take, Contains}
+use Rattle.std.specs.Prelude.{◌≡◌, ℕ, ◌≤◌, List, [], ◌++◌, length, take, drop, Contains}
 use Rattle.nr_world.specs.declared.call.Outcome.{Outcome}
 use Rattle.nr_world.specs.declared.call.Outcome.TheVariants as outcomes
+use Rattle.nr_world.specs.declared.mark.Entry.{Entry}
 use Rattle.nr_world.specs.declared.mark.Mark.{Mark}
 use Rattle.nr_world.specs.declared.mark.Mark.TheVariants as marks
 use Rattle.nr_world.specs.Observed.{PlainServer, Accepted, Executed, Completed, accepted, executed, completed, journal}
 use Rattle.nr_world.specs.Owed.{call_payload}
 use Rattle.nr_world.specs.Along.{Along}
 
--- the call of an xid was executed with its own payload at a place of the one journal, and this is the reply that the plain
--- server gives it there
+-- the call of an xid was executed with its own payload at a place of the one journal, this is the reply that the plain
+-- server gives it there, and what it changed is the journal's entry at its place
 pub record IsAnswered (plain : PlainServer) (link : ℕ) (before : List Mark) (xid : ℕ) (reply : List ℕ) : Type 0 where
-  pub accepted : (a : Accepted) × Contains (accepted link before) a × (a.xid ≡ xid)
-      × ((e : Executed) × Contains (executed link before) e × (e.xid ≡ xid) × (e.payload ≡ call_payload xid a.call) × (e.reply ≡ reply)
-      × (e.place ≤ length (journal plain before)) × plain.Replies (take e.place (journal plain before)) e.moment e.payload e.reply)
+  pub asked : Accepted
+  pub is_asked : Contains (accepted link before) asked
+  pub own : asked.xid ≡ xid
+  pub served : Executed
+  pub is_served : Contains (executed link before) served
+  pub under : served.xid ≡ xid
+  pub payload : served.payload ≡ call_payload xid asked.call
+  pub answer : served.reply ≡ reply
+  pub place : served.place ≤ length (journal plain before)
+  pub plain_reply : plain.Replies (take served.place (journal plain before)) served.moment served.payload served.reply
+  pub entered : (others : List Entry) × (drop served.place (journal plain before) ≡ plain.adds served.moment served.payload served.reply ++ others)
 
 abbrev pub HasPlainReply : PlainServer → ℕ → List Mark → ℕ → Outcome → Type 0
 HasPlainReply plain link before xid (outcomes.Reply reply) = IsAnswered plain link before xid reply

@@ -8,17 +8,15 @@ use Rattle.nr_world.specs.declared.call.Call.{Call}
 use Rattle.nr_world.specs.declared.call.Submission.{Submission}
 use Rattle.nr_world.specs.declared.call.Submission.TheVariants as submissions
 use Rattle.nr_world.specs.declared.call.Refused.TheVariants as refusals
-use Rattle.nr_world.specs.declared.call.Outcome.TheVariants as outcomes
 use Rattle.nr_world.specs.declared.mark.Mark.{Mark}
 use Rattle.nr_world.specs.declared.mark.Mark.TheVariants as marks
 use Rattle.nr_world.specs.Script.{Line, ScriptLines}
 use Rattle.nr_world.specs.Script.Line.{Call as CallLine, Drain as DrainLine}
 use Rattle.nr_world.specs.declared.mark.Opened.{Opened}
-use Rattle.nr_world.specs.Observed.{PlainServer, Accepted, accepted, executed, completed, sent, got}
-use Rattle.nr_world.specs.declared.mark.Conveyed.{Conveyed}
-use Rattle.nr_world.specs.Messages.{conveyed, reply_in}
+use Rattle.nr_world.specs.Observed.{PlainServer, links_of, accepted, executed, sent, got}
+use Rattle.nr_world.specs.Asked.{done_for}
 use Rattle.nr_world.specs.Owed.{owed}
-use Rattle.nr_world.specs.Window.{heard, out_of, grant_of}
+use Rattle.nr_world.specs.Window.{out_of, grant_of}
 use Rattle.nr_world.specs.Served.{came, next_call, Executes}
 
 -- the bytes on their way on a link: written by one side, and to be fed to the other
@@ -75,16 +73,6 @@ unfoldable pub up_by : Opened → ℕ → ℕ → Drill → Drill
 up_by opened link n d =
     let way = way_of link d in
     settled opened link (feeding link Responder (take n way.up) (record { up = drop n way.up; down = way.down }) d)
-
--- the outcome of an accepted call that has none yet, where its message came
-abbrev pub done_with : ℕ → ℕ → Option Conveyed → List Mark
-done_with link xid None = []
-done_with link xid (Some reply) = marks.Done link xid (outcomes.Reply reply.payload) ∷ []
-
-abbrev pub done_for : ℕ → List Mark → Accepted → List Mark
-done_for link before a =
-    if list_any (λ c. c.xid == a.xid) (completed link before) then []
-    else done_with link a.xid (find (λ reply. reply.xid == a.xid) (conveyed reply_in (heard link before)))
 
 -- completed calls are taken in the order in which they were submitted
 unfoldable pub taken : ℕ → Drill → Drill
@@ -162,10 +150,6 @@ answer_of opened link before =
 -- a call line's call, without a credential
 abbrev pub line_call : ℕ → ℕ → ℕ → List ℕ → Call
 line_call prog vers proc args = record { prog = prog; vers = vers; proc = proc; cred = creds.None; args = args }
-
--- the links of so many clients
-abbrev pub links_of : ℕ → List ℕ
-links_of clients = range_with_len 1 clients
 
 -- what a line makes
 abbrev pub Makes : PlainServer → Opened → ℕ → Line → Drill → Drill → Type 0

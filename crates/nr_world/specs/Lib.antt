@@ -1,4 +1,6 @@
+pub mod Limits
 pub mod Observed
+pub mod Stops
 pub mod Messages
 pub mod Owed
 pub mod Window
@@ -12,6 +14,7 @@ pub mod Script
 pub mod Follows
 pub mod Plain
 pub mod Shown
+pub mod Promise
 pub mod Headline
 pub mod Ending
 pub mod Steps

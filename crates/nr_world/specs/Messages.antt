@@ -1,6 +1,6 @@
 -- The messages of a stream (RFC 5040 section 5): the Sends whole in it, each the payloads of its segments joined. Streams
 -- are read by their frames, whatever else stands in them.
-use Rattle.std.specs.Prelude.{ℕ, Bool, true, ◌==◌, if◌then◌else◌, List, [], ◌∷◌, ◌++◌, drop, Option, None, Some, option_and_then, Result, Ok, Err}
+use Rattle.std.specs.Prelude.{ℕ, Bool, true, false, ◌==◌, if◌then◌else◌, List, [], ◌∷◌, ◌++◌, drop, Option, None, Some, option_and_then, Result, Ok, Err}
 use Rattle.std.specs.List.{filter_map}
 use Rattle.nr_header.specs.declared.fault.HeaderFault.{HeaderFault}
 use Rattle.nr_header.specs.declared.header.Segment.{Segment as HeaderSegment}
@@ -14,6 +14,9 @@ use Rattle.nr_header.specs.Reading.{word_at, header_of}
 use Rattle.nr_wire.specs.declared.hello.Side.{Side}
 use Rattle.nr_wire.specs.declared.numbers.TheConstants.{OPCODE_SEND, QUEUE_SEND}
 use Rattle.nr_wire.specs.declared.stream.Awaited.TheVariants.{Hello as HelloFrom}
+use Rattle.nr_wire.specs.Hello.{Hello}
+use Rattle.nr_wire.specs.Next.{Next, hello_in}
+use Rattle.nr_wire.specs.Next.Next.{Whole, More, Bad}
 use Rattle.nr_wire.specs.Segment.{Segment, segment_of, spelling}
 use Rattle.nr_wire.specs.Segment.Segment.{Tagged, Untagged}
 use Rattle.nr_wire.specs.Stream.{split, is_whole}
@@ -60,6 +63,15 @@ messages side stream = messages_from (drop 1 (split (HelloFrom side) stream).fra
 -- its hello is whole
 unfoldable pub has_hello : Side → List ℕ → Bool
 has_hello side stream = is_whole (HelloFrom side) stream
+
+-- its hello is whole, and none that is refused
+abbrev pub is_hello : Next Hello → Bool
+is_hello (Whole hello len) = true
+is_hello More = false
+is_hello (Bad reason) = false
+
+unfoldable pub is_greeted : Side → List ℕ → Bool
+is_greeted side stream = is_hello (hello_in side stream)
 
 -- A Send of one segment that carries a message, the msn-th of its link in that direction. (RFC 5041 section 4.3)
 unfoldable pub send : ℕ → List ℕ → List ℕ

@@ -1,7 +1,7 @@
 -- What the marks of a run tell: what each side of a link sent and got, which calls were accepted, executed and
 -- completed on it, in order, and the one journal of all links.
 use Rattle.std.specs.Prelude.{ℕ, Bool, true, false, ◌==◌, ◌&&◌, if◌then◌else◌, List, [], ◌∷◌}
-use Rattle.std.specs.List.{flat_map}
+use Rattle.std.specs.List.{flat_map, list_any, range_with_len}
 use Rattle.nr_wire.specs.declared.hello.Side.{Side}
 use Rattle.nr_wire.specs.declared.hello.Side.TheVariants.{Initiator, Responder}
 use Rattle.nr_world.specs.declared.call.Call.{Call}
@@ -13,6 +13,10 @@ use Rattle.nr_world.specs.declared.mark.Moment.{Moment}
 use Rattle.nr_world.specs.declared.mark.Mark.{Mark}
 use Rattle.nr_world.specs.declared.mark.Entry.{Entry}
 use Rattle.nr_world.specs.declared.mark.Mark.TheVariants as marks
+
+-- the links of so many clients, by number
+abbrev pub links_of : ℕ → List ℕ
+links_of clients = range_with_len 1 clients
 
 abbrev pub other : Side → Side
 other Initiator = Responder
@@ -84,6 +88,14 @@ completed_at link mark = []
 
 unfoldable pub completed : ℕ → List Mark → List Completed
 completed link run = flat_map (completed_at link) run
+
+-- the link was dropped
+abbrev pub drops : ℕ → Mark → Bool
+drops link (marks.Drop l) = l == link
+drops link mark = false
+
+abbrev pub is_dropped : ℕ → List Mark → Bool
+is_dropped link run = list_any (drops link) run
 
 -- A plain RPC server, one call after another: which reply it may give to a payload at a moment, over a journal, and what
 -- the journal gets by that.

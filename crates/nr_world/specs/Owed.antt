@@ -2,7 +2,9 @@
 use Rattle.std.specs.Prelude.{◌≡◌, ℕ, ◌+◌, not, ◌==◌, ◌&&◌, if◌then◌else◌, List, [], ◌∷◌, ◌++◌, length}
 use Rattle.nr_wire.specs.declared.hello.Side.{Side}
 use Rattle.nr_wire.specs.declared.hello.Side.TheVariants.{Initiator, Responder}
-use Rattle.nr_wire.specs.Hello.{hello_spelling}
+use Rattle.nr_wire.specs.Hello.{Hello, hello_spelling}
+use Rattle.nr_wire.specs.Next.{Next, hello_in}
+use Rattle.nr_wire.specs.Next.Next.{Whole, More, Bad}
 use Rattle.nr_rpc.specs.declared.head.CallHead.TheVariants.{Version2}
 use Rattle.nr_rpc.specs.Call.{call_spelling}
 use Rattle.nr_world.specs.declared.call.Call.{Call}
@@ -10,29 +12,61 @@ use Rattle.nr_world.specs.declared.call.Submission.TheVariants as submissions
 use Rattle.nr_world.specs.declared.mark.Mark.{Mark}
 use Rattle.nr_world.specs.declared.mark.Mark.TheVariants as marks
 use Rattle.nr_world.specs.declared.mark.Opened.{Opened}
-use Rattle.nr_world.specs.Observed.{sent, got, accepted, executed}
-use Rattle.nr_world.specs.Messages.{has_hello, send, inline_message}
+use Rattle.nr_world.specs.Observed.{Accepted, sent, got, accepted, executed}
+use Rattle.nr_world.specs.Messages.{has_hello, is_greeted, send, inline_message}
+
+-- the bit of a reply by which the connection is refused, and the reason that a hello with markers or a CRC is refused for
+-- (RFC 5044 section 7.1)
+abbrev pub flag_reject : ℕ
+flag_reject = 32
+
+abbrev pub asks_too_much : ℕ
+asks_too_much = 2
 
 -- a side's hello on a link of this profile: no flags, no private data
 unfoldable pub own_hello : Side → List ℕ
 own_hello side = hello_spelling (record { side = side; flags = 0; private = [] })
 
+-- the hello of a server that takes none of the link: the connection is refused
+unfoldable pub refusing_hello : List ℕ
+refusing_hello = hello_spelling (record { side = Responder; flags = flag_reject; private = [] })
+
+-- What a server answers to a hello: its own; its refusal, where the client asks for markers or a CRC; and nothing to what is
+-- no hello of this kind. (RFC 5044 section 7.1; when a refusal is answered is own)
+abbrev pub answer_to : Next Hello → List ℕ
+answer_to (Whole hello len) = own_hello Responder
+answer_to More = []
+answer_to (Bad reason) = if reason == asks_too_much then refusing_hello else []
+
 -- a call's payload under an xid (RFC 5531 section 9)
 unfoldable pub call_payload : ℕ → Call → List ℕ
 call_payload xid call = call_spelling (Version2 xid call.prog call.vers call.proc call.cred 0) call.args
 
--- What a mark calls for at the client, after the marks before: a Send of each accepted call. Calls that go without lists
--- are those that there are by now; the others come with their plans.
+-- the Sends of some accepted calls, the first of which is the msn-th of its link. Calls that go without lists are those
+-- that there are by now; the others come with their plans.
+abbrev pub asking : Opened → ℕ → Accepted → List ℕ
+asking opened msn a = send msn (inline_message a.xid opened.wished (call_payload a.xid a.call))
+
+abbrev pub asking_each : Opened → ℕ → List Accepted → List ℕ
+asking_each opened msn [] = []
+asking_each opened msn (a ∷ others) = asking opened msn a ++ asking_each opened (msn + 1) others
+
+-- What a mark calls for at the client: a Send of each call that it accepts, once the server's hello is there. (RFC 5044
+-- section 7.1)
 abbrev pub called_client : Opened → ℕ → List Mark → Mark → List ℕ
 called_client opened link before (marks.Submit l call form (submissions.Accepted xid)) =
-    if l == link then send (length (accepted link before) + 1) (inline_message xid opened.wished (call_payload xid call)) else []
+    if l == link && is_greeted Responder (got link Initiator before)
+    then asking opened (length (accepted link before) + 1) (record { xid = xid; call = call; form = form }) else []
+called_client opened link before (marks.Fed l Initiator bytes) =
+    if l == link && (not (is_greeted Responder (got link Initiator before)) && is_greeted Responder (got link Initiator before ++ bytes))
+    then asking_each opened 1 (accepted link before) else []
 called_client opened link before mark = []
 
--- What a mark calls for at the server: its hello once the client's is whole, and a Send of each reply.
+-- What a mark calls for at the server: its answer to the client's hello once that is whole, and a Send of each reply.
 abbrev pub called_server : Opened → ℕ → List Mark → Mark → List ℕ
 called_server opened link before (marks.Fed l Responder bytes) =
-    if l == link && not (has_hello Initiator (got link Responder before)) && has_hello Initiator (got link Responder before ++ bytes)
-    then own_hello Responder else []
+    if l == link && (not (has_hello Initiator (got link Responder before)) && has_hello Initiator (got link Responder before ++ bytes))
+    then answer_to (hello_in Initiator (got link Responder before ++ bytes)) else []
 called_server opened link before (marks.Execute l xid moment payload place reply) =
     if l == link then send (length (executed link before) + 1) (inline_message xid opened.granted reply) else []
 called_server opened link before mark = []

@@ -7,16 +7,29 @@ use Rattle.nr_rpc.specs.declared.head.CallHead.TheVariants as calls
 use Rattle.nr_rpc.specs.declared.head.ReplyHead.TheVariants.{Accepted}
 use Rattle.nr_rpc.specs.Reading.{call_of}
 use Rattle.nr_rpc.specs.Reply.{reply_spelling}
-use Rattle.nr_world.specs.declared.plain.TheConstants.{NFS_PROGRAM, NFS_VERSION, NULL, SUCCESS}
 use Rattle.nr_world.specs.Observed.{PlainServer}
+
+-- the program number and the version of NFS, and its procedure that does nothing (RFC 1813 sections 3 and 3.3.0)
+abbrev pub nfs_program : ℕ
+nfs_program = 100003
+
+abbrev pub nfs_version : ℕ
+nfs_version = 3
+
+abbrev pub null_procedure : ℕ
+null_procedure = 0
+
+-- the accept status of a call that was executed (RFC 5531 section 9)
+abbrev pub success : ℕ
+success = 0
 
 -- NULL's reply: accepted, with empty results
 abbrev pub null_reply : ℕ → List ℕ
-null_reply xid = reply_spelling (Accepted xid SUCCESS 0) []
+null_reply xid = reply_spelling (Accepted xid success 0) []
 
 -- a call of NULL without arguments: these begin at the payload's end
 abbrev pub is_null : ℕ → ℕ → ℕ → Bool
-is_null prog vers proc = prog == NFS_PROGRAM && vers == NFS_VERSION && proc == NULL
+is_null prog vers proc = prog == nfs_program && vers == nfs_version && proc == null_procedure
 
 abbrev pub reply_to : Result CallHead ℕ → ℕ → Option (List ℕ)
 reply_to (Ok (calls.Version2 xid prog vers proc creds.None args_at)) len =

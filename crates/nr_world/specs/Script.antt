@@ -5,10 +5,10 @@ use Rattle.std.specs.Str.{bytes_eq}
 use Rattle.std.specs.List.{range_with_len}
 use Rattle.nr_world.specs.declared.call.Form.{Form}
 use Rattle.nr_world.specs.declared.call.Form.TheVariants.{Auto}
-use Rattle.nr_world.specs.declared.plain.TheConstants.{NFS_PROGRAM, NFS_VERSION, NULL}
+use Rattle.nr_world.specs.Plain.{nfs_program, nfs_version, null_procedure}
 use Rattle.nr_world.specs.declared.script.ScriptFault.{ScriptFault}
 use Rattle.nr_world.specs.declared.script.ScriptFault.TheVariants as faults
-use Rattle.nr_world.specs.declared.script.TheConstants.{DEFAULT_CAPACITY, MOST_CREDITS}
+use Rattle.nr_world.specs.Limits.{default_capacity, most_credits}
 
 -- a line of a script: a client submits a call, or everything moves until nothing moves
 pub data Line : Type 0 where
@@ -54,7 +54,7 @@ drain_line = codes "drain"
 
 -- what the lines say
 abbrev pub null_call : Line
-null_call = Call 1 Auto NFS_PROGRAM NFS_VERSION NULL []
+null_call = Call 1 Auto nfs_program nfs_version null_procedure []
 
 -- so many calls, each drained before the next
 abbrev pub turns : ℕ → List Line
@@ -88,11 +88,11 @@ turns_in (text ∷ others) rest number due =
 
 -- the credits of a first line: from 1 to the most
 unfoldable pub credits_in : List ℕ → Option ℕ
-credits_in text = find (λ credits. bytes_eq text (clients_line credits)) (range_with_len 1 MOST_CREDITS)
+credits_in text = find (λ credits. bytes_eq text (clients_line credits)) (range_with_len 1 most_credits)
 
 abbrev pub script_with : Option ℕ → Result (List Line) ℕ → Result ScriptLines ℕ
 script_with None turns = Err 1
-script_with (Some credits) (Ok turns) = Ok (record { clients = 1; credits = credits; capacity = DEFAULT_CAPACITY; lines = turns })
+script_with (Some credits) (Ok turns) = Ok (record { clients = 1; credits = credits; capacity = default_capacity; lines = turns })
 script_with (Some credits) (Err number) = Err number
 
 abbrev pub script_by : List (List ℕ) → List ℕ → Result ScriptLines ℕ

@@ -1,8 +1,15 @@
--- What is printed of a run: a line for each call line, and the journal's length.
+-- What is printed of a run: a line for each call line, one for each link that was dropped and each side that ended, and the
+-- journal's length.
 use Rattle.std.specs.Prelude.{ℕ, ◌+◌, Bool, true, false, ◌==◌, ◌&&◌, if◌then◌else◌, List, [], ◌∷◌, ◌++◌, length, codes, fold, Option, None, Some}
 use Rattle.std.specs.Fmt.{decimal}
 use Rattle.std.specs.List.{flat_map}
 use Rattle.hex.specs.Hex.{encode_lower}
+use Rattle.nr_wire.specs.declared.hello.Side.{Side}
+use Rattle.nr_wire.specs.declared.hello.Side.TheVariants.{Initiator, Responder}
+use Rattle.nr_world.specs.declared.call.End.{End}
+use Rattle.nr_world.specs.declared.call.End.TheVariants as ends
+use Rattle.nr_world.specs.declared.call.Lack.{Lack}
+use Rattle.nr_world.specs.declared.call.Lack.TheVariants as lacks
 use Rattle.nr_world.specs.declared.call.Outcome.{Outcome}
 use Rattle.nr_world.specs.declared.call.Outcome.TheVariants as outcomes
 use Rattle.nr_world.specs.declared.call.Refused.{Refused}
@@ -13,8 +20,12 @@ use Rattle.nr_world.specs.declared.mark.Mark.{Mark}
 use Rattle.nr_world.specs.declared.mark.Mark.TheVariants as marks
 use Rattle.nr_world.specs.declared.report.Fate.{Fate}
 use Rattle.nr_world.specs.declared.report.Fate.TheVariants as fates
+use Rattle.nr_world.specs.declared.report.LinkFate.{LinkFate}
+use Rattle.nr_world.specs.declared.report.LinkFate.TheVariants as links
+use Rattle.nr_world.specs.declared.report.LinkTold.{LinkTold}
 use Rattle.nr_world.specs.declared.report.Told.{Told}
-use Rattle.nr_world.specs.Observed.{PlainServer, added, journal}
+use Rattle.nr_world.specs.Observed.{PlainServer, added, journal, is_dropped, links_of}
+use Rattle.nr_world.specs.Stops.{Stops}
 
 -- what the marks so far say of one call: the journal's length, the place of its last execution, and what became of it
 pub record Seen : Type 0 where
@@ -27,6 +38,7 @@ is_out fates.Out = true
 is_out (fates.Answered place outcome) = false
 is_out fates.Lost = false
 is_out fates.Forgotten = false
+is_out (fates.Revoked bytes) = false
 is_out (fates.Refused why) = false
 
 -- a reply has a place: that of its execution, or else the journal's length; an error of chunks has that of its execution,
@@ -39,17 +51,13 @@ place_for (outcomes.Version low high) entries place = None
 
 -- a mark that says something of the call; of a call that is no longer out, nothing more is told
 abbrev pub told_by : ℕ → ℕ → Seen → Mark → Seen
-told_by link xid seen (marks.Execute l x moment payload place reply) =
-    if l == link && x == xid then record { entries = seen.entries; place = Some place; fate = seen.fate } else seen
+told_by link xid seen (marks.Execute l x moment payload place reply) = if l == link && x == xid then record seen { place = Some place } else seen
 told_by link xid seen (marks.Done l x outcome) =
-    if l == link && x == xid
-    then record { entries = seen.entries; place = seen.place; fate = fates.Answered (place_for outcome seen.entries seen.place) outcome } else seen
-told_by link xid seen (marks.Lost l x) =
-    if l == link && x == xid then record { entries = seen.entries; place = seen.place; fate = fates.Lost } else seen
-told_by link xid seen (marks.Forget l x) =
-    if l == link && x == xid then record { entries = seen.entries; place = seen.place; fate = fates.Forgotten } else seen
-told_by link xid seen (marks.Drop l) =
-    if l == link then record { entries = seen.entries; place = seen.place; fate = fates.Lost } else seen
+    if l == link && x == xid then record seen { fate = fates.Answered (place_for outcome seen.entries seen.place) outcome } else seen
+told_by link xid seen (marks.Lost l x) = if l == link && x == xid then record seen { fate = fates.Lost } else seen
+told_by link xid seen (marks.Forget l x) = if l == link && x == xid then record seen { fate = fates.Forgotten } else seen
+told_by link xid seen (marks.Revoke l x bytes) = if l == link && x == xid then record seen { fate = fates.Revoked bytes } else seen
+told_by link xid seen (marks.Drop l) = if l == link then record seen { fate = fates.Lost } else seen
 told_by link xid seen mark = seen
 
 abbrev pub counted : PlainServer → Mark → Seen → Seen
@@ -59,13 +67,19 @@ abbrev pub seen_at : PlainServer → ℕ → ℕ → Seen → Mark → Seen
 seen_at plain link xid seen mark =
     counted plain mark (if is_out seen.fate then told_by link xid seen mark else seen)
 
-unfoldable pub seen_of : PlainServer → ℕ → ℕ → List Mark → Seen
-seen_of plain link xid run = fold (seen_at plain link xid) (record { entries = 0; place = None; fate = fates.Out }) run
+-- the call of a Submit, before which the journal had so many entries, by the marks after that
+unfoldable pub seen_of : PlainServer → ℕ → ℕ → ℕ → List Mark → Seen
+seen_of plain link xid entries after = fold (seen_at plain link xid) (record { entries = entries; place = None; fate = fates.Out }) after
+
+-- to a call that is out no answer comes once its client has ended
+abbrev pub at_last : Option End → Fate → Fate
+at_last None fate = fate
+at_last (Some end) fate = if is_out fate then fates.Lost else fate
 
 -- what became of a call line
-abbrev pub fate_of : PlainServer → ℕ → List Mark → Submission → Fate
-fate_of plain link run (submissions.Accepted xid) = (seen_of plain link xid run).fate
-fate_of plain link run (submissions.Refused why) = fates.Refused why
+abbrev pub fate_of : PlainServer → Option End → ℕ → Submission → ℕ → List Mark → Fate
+fate_of plain stop link (submissions.Accepted xid) entries after = at_last stop (seen_of plain link xid entries after).fate
+fate_of plain stop link (submissions.Refused why) entries after = fates.Refused why
 
 -- how many call lines of a client are among the marks
 abbrev pub asked_at : ℕ → Mark → ℕ
@@ -75,18 +89,35 @@ asked_at link mark = 0
 unfoldable pub asked_by : ℕ → List Mark → ℕ
 asked_by link run = fold (λ n mark. n + asked_at link mark) 0 run
 
--- each call line of a run with what became of it in the whole run, in order
-abbrev pub told_at : PlainServer → List Mark → List Mark → Mark → List Told
-told_at plain run before (marks.Submit l call form answer) =
-    record { client = l; number = asked_by l before + 1; fate = fate_of plain l run answer } ∷ []
-told_at plain run before mark = []
+-- each call line of a run with what became of it, in order: what was before it, and what came after
+abbrev pub told_at : PlainServer → (ℕ → Option End) → List Mark → Mark → List Mark → List Told
+told_at plain stop before (marks.Submit l call form answer) after =
+    record { client = l; number = asked_by l before + 1; fate = fate_of plain (stop l) l answer (length (journal plain before)) after } ∷ []
+told_at plain stop before mark after = []
 
-abbrev pub told_from : PlainServer → List Mark → List Mark → List Mark → List Told
-told_from plain run before [] = []
-told_from plain run before (mark ∷ others) = told_at plain run before mark ++ told_from plain run (before ++ mark ∷ []) others
+abbrev pub told_from : PlainServer → (ℕ → Option End) → List Mark → List Mark → List Told
+told_from plain stop before [] = []
+told_from plain stop before (mark ∷ after) = told_at plain stop before mark after ++ told_from plain stop (before ++ mark ∷ []) after
 
-unfoldable pub calls_told : PlainServer → List Mark → List Told
-calls_told plain run = told_from plain run [] run
+-- why the client of a link ended
+abbrev pub client_stop : Stops → List Mark → ℕ → Option End
+client_stop stops run link = stops link Initiator run
+
+unfoldable pub calls_told : PlainServer → Stops → List Mark → List Told
+calls_told plain stops run = told_from plain (client_stop stops run) [] run
+
+-- each link that was dropped or that ended, in order
+abbrev pub side_told : ℕ → Side → Option End → List LinkTold
+side_told link side None = []
+side_told link side (Some end) = record { client = link; fate = links.Ended side end } ∷ []
+
+abbrev pub link_told : Stops → List Mark → ℕ → List LinkTold
+link_told stops run link =
+    if is_dropped link run then record { client = link; fate = links.Dropped } ∷ []
+    else side_told link Initiator (stops link Initiator run) ++ side_told link Responder (stops link Responder run)
+
+unfoldable pub links_told : Stops → ℕ → List Mark → List LinkTold
+links_told stops clients run = flat_map (link_told stops run) (links_of clients)
 
 -- the words behind a call line's client and number
 abbrev pub placed_text : Option ℕ → List ℕ
@@ -102,6 +133,11 @@ outcome_text (outcomes.Reply payload) = codes " reply " ++ encode_lower payload
 outcome_text outcomes.Chunk = codes " chunk"
 outcome_text (outcomes.Version low high) = codes " version " ++ two_numbers low high
 
+-- the bytes of a revoked call's memory, which may be none
+abbrev pub bytes_text : List ℕ → List ℕ
+bytes_text [] = codes "-"
+bytes_text (b ∷ bytes) = encode_lower (b ∷ bytes)
+
 abbrev pub refused_text : Refused → List ℕ
 refused_text (refusals.Ended end) = codes " refused ended"
 refused_text (refusals.TooLarge need room) = codes " refused large " ++ two_numbers need room
@@ -114,17 +150,42 @@ fate_text fates.Out = codes " open"
 fate_text (fates.Answered place outcome) = placed_text place ++ outcome_text outcome
 fate_text fates.Lost = codes " lost"
 fate_text fates.Forgotten = codes " forgotten"
+fate_text (fates.Revoked bytes) = codes " revoked " ++ bytes_text bytes
 fate_text (fates.Refused why) = refused_text why
 
 unfoldable pub told_text : Told → List ℕ
 told_text t = two_numbers t.client t.number ++ fate_text t.fate ++ codes "\n"
 
+-- the line of a link that was dropped, or of a side that ended
+abbrev pub side_text : Side → List ℕ
+side_text Initiator = codes " client"
+side_text Responder = codes " server"
+
+abbrev pub lack_text : Lack → List ℕ
+lack_text lacks.NoStag = codes " nostag"
+lack_text lacks.Bounds = codes " bounds"
+lack_text lacks.Right = codes " right"
+
+unfoldable pub end_text : End → List ℕ
+end_text (ends.Bad at reason) = codes " bad " ++ two_numbers at reason
+end_text (ends.Denied stag offset why) = codes " denied " ++ two_numbers stag offset ++ lack_text why
+end_text (ends.NoBuffer msn) = codes " nobuffer " ++ decimal msn
+end_text (ends.Terminated reason) = codes " terminated " ++ decimal reason
+end_text ends.Memory = codes " memory"
+
+abbrev pub link_fate_text : LinkFate → List ℕ
+link_fate_text links.Dropped = codes " dropped"
+link_fate_text (links.Ended side end) = side_text side ++ end_text end
+
+unfoldable pub link_text : LinkTold → List ℕ
+link_text t = codes "link " ++ decimal t.client ++ link_fate_text t.fate ++ codes "\n"
+
 unfoldable pub journal_text : ℕ → List ℕ
 journal_text len = codes "journal " ++ decimal len ++ codes "\n"
 
--- the printed bytes: of call lines and a journal's length, and of a run
-unfoldable pub text_of : List Told → ℕ → List ℕ
-text_of tolds len = flat_map told_text tolds ++ journal_text len
+-- the printed bytes: of call lines, links and a journal's length, and of a run of so many clients
+unfoldable pub text_of : List Told → List LinkTold → ℕ → List ℕ
+text_of calls links len = flat_map told_text calls ++ (flat_map link_text links ++ journal_text len)
 
-unfoldable pub shown : PlainServer → List Mark → List ℕ
-shown plain run = text_of (calls_told plain run) (length (journal plain run))
+unfoldable pub shown : PlainServer → Stops → ℕ → List Mark → List ℕ
+shown plain stops clients run = text_of (calls_told plain stops run) (links_told stops clients run) (length (journal plain run))

@@ -1,8 +1,9 @@
 -- What the driver of a drill keeps: how far its one link is. The calls go out one by one under the xids from 1 on, and at
 -- most one of them is out.
-use Rattle.std.specs.Prelude.{◌≡◌, ℕ, zero, suc, ◌+◌, ◌≤◌, nat_lt, nat_le, ◌&&◌, Bool, if◌then◌else◌, List, [], ◌∷◌, ◌++◌, length, Option, None, Some}
+use Rattle.std.specs.Prelude.{◌≡◌, ℕ, zero, suc, ◌+◌, ◌≤◌, nat_lt, nat_le, ◌&&◌, Bool, false, if◌then◌else◌, List, [], ◌∷◌, ◌++◌, length, Option, None, Some}
 use Rattle.nr_outside.specs.Pipe.{waiting_in}
 use Rattle.nr_wire.specs.declared.hello.Side.TheVariants.{Initiator, Responder}
+use Rattle.nr_world.specs.declared.call.End.{End}
 use Rattle.nr_world.specs.declared.call.Form.TheVariants.{Auto}
 use Rattle.nr_world.specs.declared.call.Outcome.TheVariants as outcomes
 use Rattle.nr_world.specs.declared.mark.Mark.{Mark}
@@ -10,9 +11,10 @@ use Rattle.nr_world.specs.declared.mark.Conveyed.{Conveyed}
 use Rattle.nr_world.specs.declared.report.Fate.TheVariants as fates
 use Rattle.nr_world.specs.declared.report.Report.{Report}
 use Rattle.nr_world.specs.declared.report.Told.{Told}
-use Rattle.nr_world.specs.declared.script.TheConstants.{MOST_CREDITS, MOST_LINES}
+use Rattle.nr_world.specs.declared.script.TheConstants.{MOST_LINES}
+use Rattle.nr_world.specs.Limits.{most_credits}
 use Rattle.nr_world.specs.Steps.{State, the_link, null, asked_payload, ask, answer}
-use Rattle.nr_world.specs.Observed.{Accepted, Executed, Completed, sent, got, accepted, executed, completed, journal}
+use Rattle.nr_world.specs.Observed.{Accepted, Executed, Completed, links_of, sent, got, accepted, executed, completed, journal, is_dropped}
 use Rattle.nr_world.specs.Owed.{own_hello, owed}
 use Rattle.nr_world.specs.Along.{Along}
 use Rattle.nr_world.specs.Window.{KeepsGrant}
@@ -21,9 +23,9 @@ use Rattle.nr_world.specs.Served.{ServedMark}
 use Rattle.nr_world.specs.Matched.{Matched}
 use Rattle.nr_world.specs.Completion.{IsFaithful}
 use Rattle.nr_world.specs.Plain.{null_reply, drill_server}
-use Rattle.nr_world.specs.Follows.{Drill, drill_opened, links_of, start, openings, Moves, Drains, Makes, MakeAll}
-use Rattle.nr_world.specs.Shown.{Seen, seen_of, told_from, asked_by}
-use Rattle.nr_world.specs.Headline.{IsAccepted}
+use Rattle.nr_world.specs.Follows.{Drill, drill_opened, start, openings, Moves, Drains, Makes, MakeAll}
+use Rattle.nr_world.specs.Shown.{Seen, seen_of, told_at, asked_by}
+use Rattle.nr_world.specs.Promise.{IsAccepted}
 use Rattle.nr_world.specs.Script.{null_call, turns}
 
 -- f of 1 to n, joined and as a list
@@ -78,7 +80,16 @@ seen_by n k = record {
 
 -- the k-th call line, and what becomes of its call in a run
 abbrev pub told_in : List Mark → ℕ → Told
-told_in last k = record { client = the_link; number = k; fate = (seen_of drill_server the_link k last).fate }
+told_in last k = record { client = the_link; number = k; fate = (seen_of drill_server the_link k 0 last).fate }
+
+-- why the client of a link ended: none does
+abbrev pub no_stop : ℕ → Option End
+no_stop link = None
+
+-- the call lines of the first part of a run
+abbrev pub told_over : List Mark → List Mark → List Mark → List Told
+told_over before [] rest = []
+told_over before (mark ∷ run) rest = told_at drill_server no_stop before mark (run ++ rest) ++ told_over (before ++ mark ∷ []) run rest
 
 -- what the marks of a drill say by these counts
 pub record At (credits : ℕ) (run : List Mark) (n : Counts) : Type 0 where
@@ -93,8 +104,9 @@ pub record At (credits : ℕ) (run : List Mark) (n : Counts) : Type 0 where
   pub completed_are : completed the_link run ≡ each completed_call n.done
   pub asked_are : asked_by the_link run ≡ n.asked
   pub no_entries : journal drill_server run ≡ []
-  pub told_are : (last : List Mark) → told_from drill_server last [] run ≡ each (told_in last) n.asked
-  pub seen_are : (k : ℕ) → seen_of drill_server the_link k run ≡ seen_by n k
+  pub not_dropped : is_dropped the_link run ≡ false
+  pub told_are : (rest : List Mark) → told_over [] run rest ≡ each (told_in (run ++ rest)) n.asked
+  pub seen_are : (k : ℕ) → seen_of drill_server the_link k 0 run ≡ seen_by n k
 
 -- the laws of a run hold of the marks so far
 pub record Laws (credits : ℕ) (run : List Mark) : Type 0 where
@@ -138,7 +150,7 @@ pub record Stands (s : State) : Type 0 where
   pub came_asked : s.served + arrived_one s.arrived ≤ s.asked
   pub one_out : s.asked ≤ length s.told + 1
   pub some_credits : 1 ≤ s.credits
-  pub few_credits : s.credits ≤ MOST_CREDITS
+  pub few_credits : s.credits ≤ most_credits
   pub few_calls : s.asked ≤ MOST_LINES
 
 -- nothing is out
@@ -189,4 +201,5 @@ pub record Tells (s : State) (report : Report) : Type 0 where
   pub marks_are : report.marks ≡ s.marks
   pub entries_are : length report.journal ≡ s.entries
   pub calls_are : report.calls ≡ s.told
+  pub links_are : report.links ≡ []
   pub logs_are : report.logs ≡ record { up = s.up.log; down = s.down.log } ∷ []

@@ -10,13 +10,12 @@ use Rattle.nr_world.specs.declared.call.Submission.TheVariants.{Accepted}
 use Rattle.nr_world.specs.declared.mark.Mark.{Mark}
 use Rattle.nr_world.specs.declared.mark.Mark.TheVariants as marks
 use Rattle.nr_world.specs.declared.mark.Conveyed.{Conveyed}
-use Rattle.nr_world.specs.declared.plain.TheConstants.{NFS_PROGRAM, NFS_VERSION, NULL}
 use Rattle.nr_world.specs.declared.report.Fate.TheVariants as fates
 use Rattle.nr_world.specs.declared.report.Told.{Told}
 use Rattle.nr_world.specs.Messages.{send, inline_message, call_in, reply_in}
 use Rattle.nr_world.specs.Ending.{ended_by}
 use Rattle.nr_world.specs.Owed.{own_hello, call_payload}
-use Rattle.nr_world.specs.Plain.{plain_reply, null_reply}
+use Rattle.nr_world.specs.Plain.{nfs_program, nfs_version, null_procedure, plain_reply, null_reply}
 use Rattle.nr_world.specs.Follows.{line_call}
 
 -- what contracts see of the driver
@@ -38,7 +37,7 @@ the_link = 1
 
 -- the one call of these drills
 abbrev pub null : Call
-null = line_call NFS_PROGRAM NFS_VERSION NULL []
+null = line_call nfs_program nfs_version null_procedure []
 
 abbrev pub asked_payload : ℕ → List ℕ
 asked_payload k = call_payload k null

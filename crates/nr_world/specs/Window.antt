@@ -6,7 +6,7 @@ use Rattle.nr_wire.specs.declared.hello.Side.TheVariants.{Initiator, Responder}
 use Rattle.nr_world.specs.declared.call.Submission.TheVariants as submissions
 use Rattle.nr_world.specs.declared.mark.Mark.{Mark}
 use Rattle.nr_world.specs.declared.mark.Mark.TheVariants as marks
-use Rattle.nr_world.specs.declared.script.TheConstants.{MOST_CREDITS}
+use Rattle.nr_world.specs.Limits.{most_credits}
 use Rattle.nr_world.specs.Observed.{Accepted, accepted, got}
 use Rattle.nr_world.specs.Messages.{messages, xid_in, credit_in}
 use Rattle.nr_world.specs.Along.{Along}
@@ -28,7 +28,7 @@ out_of link run = count_by (λ a. not (is_heard (heard link run) a)) (accepted l
 
 -- a credit word as it counts: 0 as 1, and one above the most as the most
 abbrev pub credits_by : ℕ → ℕ
-credits_by credit = if credit == 0 then 1 else (if nat_lt MOST_CREDITS credit then MOST_CREDITS else credit)
+credits_by credit = if credit == 0 then 1 else (if nat_lt most_credits credit then most_credits else credit)
 
 -- what the last of the messages grants; before the first, 1
 abbrev pub granted_by : List (List ℕ) → ℕ → ℕ

@@ -1,10 +1,8 @@
 //! Calls, how they are sent, and what becomes of them: plain data.
 
-ghost use Rattle.std.specs.Prelude.{◌≡◌};
-
+use crate::listed::Listed;
 use nr_rpc::Cred;
 use nr_xdr::Octets;
-use std::marker::Model;
 
 /// A call of a program (RFC 5531 section 9), with its arguments as they are spelled.
 #[derive(Debug, Drop)]
@@ -36,42 +34,8 @@ pub struct Offer {
     pub reply: Option<Lengths>,
 }
 
-/// A list of lengths in bytes. Contracts see it as the list.
-#[derive(Debug, Drop)]
-pub struct Lengths {
-    lengths: Vec<u32>,
-}
-
-impl Model for Lengths {
-    ghost use Rattle.std.specs.Prelude.{List, ℕ};
-
-    ghost Value = { List ℕ };
-
-    ghost view = { λ l. l.lengths.items };
-}
-
-impl Lengths {
-    /// The lengths of a vector.
-    pub fn from_vec(lengths: Vec<u32>) -> Lengths
-        ensures { result ≡ lengths.items }
-    {
-        Lengths { lengths }
-    }
-
-    /// The vector, given back.
-    pub fn into_vec(self) -> Vec<u32>
-        ensures { result.items ≡ self }
-    {
-        let Lengths { lengths } = self;
-        lengths
-    }
-
-    pub fn as_slice(&self) -> &[u32]
-        ensures { result.now ≡ self.now }
-    {
-        self.lengths.as_slice()
-    }
-}
+/// A list of lengths in bytes.
+pub type Lengths = Listed<u32>;
 
 /// What a call was answered by: the reply's payload, an ERR_CHUNK or an ERR_VERS message (RFC 8166 section 4.5).
 #[derive(Debug, Drop)]

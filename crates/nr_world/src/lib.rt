@@ -2,6 +2,7 @@
 #![tactic(auto)]
 
 mod call;
+mod listed;
 mod mark;
 mod message;
 mod plain;
@@ -12,10 +13,11 @@ mod script;
 mod world;
 
 pub use call::{Call, End, Form, Lack, Lengths, Offer, Outcome, Refused, Submission};
+pub use listed::Listed;
 pub use mark::{Entry, Mark, Marks, Moment, Opened};
 pub use printing::shown;
 pub use reading::read_script;
-pub use report::{Fate, Journal, Logs, Report, Told, Tolds, Ways};
+pub use report::{Fate, Journal, LinkFate, LinkTold, LinkTolds, Logs, Report, Told, Tolds, Ways};
 pub use script::{SCRIPT_MAX, Script, ScriptFault};
 pub use world::run_world;
 

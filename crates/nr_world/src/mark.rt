@@ -1,12 +1,10 @@
 //! What happens on links, mark by mark, and what marks speak of.
 
-ghost use Rattle.std.specs.Prelude.{◌≡◌};
-
 use crate::call::{Call, Form, Outcome, Submission};
+use crate::listed::Listed;
 use nr_rpc::Cred;
 use nr_wire::Side;
 use nr_xdr::Octets;
-use std::marker::Model;
 
 /// A moment of a clock: seconds, and nanoseconds. An Execute's nanoseconds are 0 in a drill.
 #[derive(Clone, Copy, Debug, PartialEq, Eq)]
@@ -89,10 +87,11 @@ pub enum Mark {
         link: u32,
         xid: u32,
     },
-    /// The caller took back the call's memory.
+    /// The caller took back the call's memory, which held these bytes.
     Revoke {
         link: u32,
         xid: u32,
+        bytes: Octets,
     },
     /// The link was dropped.
     Drop {
@@ -100,40 +99,5 @@ pub enum Mark {
     },
 }
 
-/// Marks in the order in which they happened. Contracts see it as the list.
-#[derive(Debug, Drop)]
-pub struct Marks {
-    pub(crate) marks: Vec<Mark>,
-}
-
-impl Model for Marks {
-    ghost use Rattle.std.specs.Prelude.{List};
-    ghost use Rattle.nr_world.specs.declared.mark.Mark.{Mark};
-
-    ghost Value = { List Mark };
-
-    ghost view = { λ m. m.marks.items };
-}
-
-impl Marks {
-    /// The marks of a vector.
-    pub fn from_vec(marks: Vec<Mark>) -> Marks
-        ensures { result ≡ marks.items }
-    {
-        Marks { marks }
-    }
-
-    /// The vector, given back.
-    pub fn into_vec(self) -> Vec<Mark>
-        ensures { result.items ≡ self }
-    {
-        let Marks { marks } = self;
-        marks
-    }
-
-    pub fn as_slice(&self) -> &[Mark]
-        ensures { result.now ≡ self.now }
-    {
-        self.marks.as_slice()
-    }
-}
+/// Marks in the order in which they happened.
+pub type Marks = Listed<Mark>;

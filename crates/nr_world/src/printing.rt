@@ -1,11 +1,14 @@
-//! What a drill prints: a line for each call line, and the journal's length.
+//! What a drill prints: a line for each call line, one for each link that was dropped and each side that ended, and the
+//! journal's length.
 
 ghost use Rattle.std.specs.Prelude.{◌≡◌, ◌++◌, length, IfOk, OnOk};
+ghost use Rattle.std.specs.List.{flat_map};
 ghost use Rattle.std.specs.String.{string_bytes};
-ghost use Rattle.nr_world.specs.Shown.{placed_text, two_numbers, outcome_text, refused_text, fate_text, told_text, journal_text, text_of};
+ghost use Rattle.nr_world.specs.Shown.{placed_text, two_numbers, outcome_text, bytes_text, refused_text, fate_text, told_text, side_text, lack_text, end_text, link_fate_text, link_text, journal_text, text_of};
 
-use crate::call::{Outcome, Refused};
-use crate::report::{Fate, Report, Told};
+use crate::call::{End, Lack, Outcome, Refused};
+use crate::report::{Fate, LinkFate, LinkTold, Report, Told};
+use nr_wire::Side;
 use nr_xdr::{Memory, Octets};
 use std::alloc::Global;
 use std::fmt::Write;
@@ -62,6 +65,19 @@ fn push_outcome(alloc: Global, text: &mut String, outcome: &Outcome) -> Result<(
     }
 }
 
+/// The bytes of a revoked call's memory, which may be none.
+fn push_bytes(alloc: Global, text: &mut String, bytes: &[u8]) -> Result<(), Memory>
+    ensures { OnOk result (string_bytes text.new ≡ string_bytes text.old ++ bytes_text bytes.now) }
+{
+    if bytes.is_empty() {
+        text.push_str("-")?;
+        return Ok(());
+    }
+    let digits = hex::encode(alloc, bytes)?;
+    text.push_str(digits.as_str())?;
+    Ok(())
+}
+
 /// Why a call wasn't sent.
 fn push_refused(text: &mut String, refused: &Refused) -> Result<(), Memory>
     ensures { OnOk result (string_bytes text.new ≡ string_bytes text.old ++ refused_text refused.now) }
@@ -106,6 +122,10 @@ fn push_fate(alloc: Global, text: &mut String, fate: &Fate) -> Result<(), Memory
             text.push_str(" forgotten")?;
             Ok(())
         }
+        Fate::Revoked(bytes) => {
+            text.push_str(" revoked ")?;
+            push_bytes(alloc, text, bytes.as_slice())
+        }
         Fate::Refused(refused) => push_refused(text, refused),
     }
 }
@@ -121,6 +141,82 @@ fn push_told(alloc: Global, text: &mut String, told: &Told) -> Result<(), Memory
     Ok(())
 }
 
+/// What an access lacked.
+fn lack_words(why: Lack) -> &'static str
+    ensures { result.now ≡ lack_text why }
+{
+    match why {
+        Lack::NoStag => " nostag",
+        Lack::Bounds => " bounds",
+        Lack::Right => " right",
+    }
+}
+
+/// Why a side of a link ended.
+#[tactic(auto, unfolding(crate::specs::Shown::end_text))]
+fn push_end(text: &mut String, end: End) -> Result<(), Memory>
+    ensures { OnOk result (string_bytes text.new ≡ string_bytes text.old ++ end_text end) }
+{
+    match end {
+        End::Bad { at, reason } => push_words(text, " bad ", at, u64::from(reason)),
+        End::Denied { stag, offset, why } => {
+            push_words(text, " denied ", u64::from(stag), offset)?;
+            text.push_str(lack_words(why))?;
+            Ok(())
+        }
+        End::NoBuffer { msn } => {
+            write!(text, " nobuffer {msn}")?;
+            Ok(())
+        }
+        End::Terminated { reason } => {
+            write!(text, " terminated {reason}")?;
+            Ok(())
+        }
+        End::Memory => {
+            text.push_str(" memory")?;
+            Ok(())
+        }
+    }
+}
+
+/// A side of a link.
+fn side_words(side: Side) -> &'static str
+    ensures { result.now ≡ side_text side }
+{
+    match side {
+        Side::Initiator => " client",
+        Side::Responder => " server",
+    }
+}
+
+/// How a link, or a side of it, ended.
+fn push_link_fate(text: &mut String, fate: LinkFate) -> Result<(), Memory>
+    ensures { OnOk result (string_bytes text.new ≡ string_bytes text.old ++ link_fate_text fate) }
+{
+    match fate {
+        LinkFate::Dropped => {
+            text.push_str(" dropped")?;
+            Ok(())
+        }
+        LinkFate::Ended { side, end } => {
+            text.push_str(side_words(side))?;
+            push_end(text, end)
+        }
+    }
+}
+
+/// The line of a link that was dropped, or of a side that ended.
+#[tactic(auto, unfolding(crate::specs::Shown::link_text))]
+fn push_link(text: &mut String, told: &LinkTold) -> Result<(), Memory>
+    ensures { OnOk result (string_bytes text.new ≡ string_bytes text.old ++ link_text told.now) }
+{
+    let client = told.client;
+    write!(text, "link {client}")?;
+    push_link_fate(text, told.fate)?;
+    text.push_str("\n")?;
+    Ok(())
+}
+
 /// The journal's length.
 #[tactic(auto, unfolding(crate::specs::Shown::journal_text))]
 fn push_journal(text: &mut String, len: usize) -> Result<(), Memory>
@@ -131,15 +227,34 @@ fn push_journal(text: &mut String, len: usize) -> Result<(), Memory>
     Ok(())
 }
 
+/// The lines of call lines.
+fn push_calls(alloc: Global, text: &mut String, calls: &[Told]) -> Result<(), Memory>
+    ensures { OnOk result (string_bytes text.new ≡ string_bytes text.old ++ flat_map told_text calls.now) }
+{
+    for told in calls {
+        push_told(alloc, text, told)?;
+    }
+    Ok(())
+}
+
+/// The lines of links.
+fn push_links(text: &mut String, links: &[LinkTold]) -> Result<(), Memory>
+    ensures { OnOk result (string_bytes text.new ≡ string_bytes text.old ++ flat_map link_text links.now) }
+{
+    for link in links {
+        push_link(text, link)?;
+    }
+    Ok(())
+}
+
 /// The printed bytes of a report.
 #[tactic(auto, unfolding(crate::specs::Shown::text_of))]
 pub fn shown(alloc: Global, report: &Report) -> Result<Octets, Memory>
-    ensures { IfOk result (λ text. text ≡ text_of report.now.calls (length report.now.journal)) }
+    ensures { IfOk result (λ text. text ≡ text_of report.now.calls report.now.links (length report.now.journal)) }
 {
     let mut text = String::new(alloc);
-    for told in report.calls.as_slice() {
-        push_told(alloc, &mut text, told)?;
-    }
+    push_calls(alloc, &mut text, report.calls.as_slice())?;
+    push_links(&mut text, report.links.as_slice())?;
     push_journal(&mut text, report.journal.len())?;
     Ok(Octets::from_vec(text.into_bytes()))
 }

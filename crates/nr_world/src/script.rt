@@ -2,6 +2,7 @@
 
 ghost use Rattle.std.specs.Prelude.{◌≡◌, ◌+◌, ◌*◌, ◌≤◌};
 ghost use Rattle.nr_world.specs.declared.script.ScriptFault.TheVariants as faults;
+ghost use Rattle.nr_world.specs.Limits.{default_capacity, most_credits};
 ghost use Rattle.nr_world.specs.Script.{turns};
 
 use nr_xdr::Memory;
@@ -10,9 +11,6 @@ use thiserror::Error;
 
 /// The credits that a script may give each end.
 pub const MOST_CREDITS: u32 = 64;
-
-/// What the journal may cost, in bytes, where a script doesn't say.
-pub const DEFAULT_CAPACITY: u64 = 1 << 40;
 
 /// The lines that a script may have.
 pub const MOST_LINES: u32 = 16_777_216;
@@ -50,23 +48,24 @@ pub struct Script {
 
 impl Model for Script {
     ghost use Rattle.std.specs.Prelude.{◌≤◌, ◌+◌, ◌*◌};
-    ghost use Rattle.nr_world.specs.declared.script.TheConstants.{MOST_CREDITS, DEFAULT_CAPACITY, MOST_LINES};
+    ghost use Rattle.nr_world.specs.declared.script.TheConstants.{MOST_LINES};
+    ghost use Rattle.nr_world.specs.Limits.{default_capacity, most_credits};
     ghost use Rattle.nr_world.specs.Script.{ScriptLines, turns};
 
     ghost Value = { ScriptLines };
 
-    ghost view = { λ s. record { clients = 1; credits = s.credits; capacity = DEFAULT_CAPACITY; lines = turns s.calls } };
+    ghost view = { λ s. record { clients = 1; credits = s.credits; capacity = default_capacity; lines = turns s.calls } };
 
-    ghost invariant = { λ s. (1 ≤ s.credits) × (s.credits ≤ MOST_CREDITS) × (2 * s.calls + 1 ≤ MOST_LINES) };
+    ghost invariant = { λ s. (1 ≤ s.credits) × (s.credits ≤ most_credits) × (2 * s.calls + 1 ≤ MOST_LINES) };
 }
 
 impl Script {
     /// A script of so many calls, each drained before the next.
     pub(crate) fn new(credits: u32, calls: u32) -> Script
         requires some { 1 ≤ credits }
-        requires few { credits ≤ MOST_CREDITS }
+        requires few { credits ≤ most_credits }
         requires lines { 2 * calls + 1 ≤ MOST_LINES }
-        ensures { result ≡ record { clients = 1; credits = credits; capacity = DEFAULT_CAPACITY; lines = turns calls } }
+        ensures { result ≡ record { clients = 1; credits = credits; capacity = default_capacity; lines = turns calls } }
     {
         Script { credits, calls }
     }
@@ -75,7 +74,7 @@ impl Script {
     pub fn credits(&self) -> u32
         ensures is { result ≡ self.now.credits }
         ensures some { 1 ≤ result }
-        ensures few { result ≤ MOST_CREDITS }
+        ensures few { result ≤ most_credits }
     {
         self.credits
     }

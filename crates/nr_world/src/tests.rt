@@ -1,6 +1,7 @@
 use super::*;
 use crate::script::SCRIPT_MAX;
 use nr_wire::Side;
+use nr_xdr::Octets;
 use std::test::Fail;
 
 /// One call of NULL, drained.
@@ -241,11 +242,13 @@ fn marks(rt: HostRuntime) -> Result<(), Fail> {
 /// A line of each form but that of a reply.
 #[test]
 fn forms(rt: HostRuntime) -> Result<(), Fail> {
-    let mut tolds = Vec::new(rt.alloc());
+    let mut calls = Vec::new(rt.alloc());
     let fates = [
         Fate::Out,
         Fate::Lost,
         Fate::Forgotten,
+        Fate::Revoked(Octets::new(rt.alloc())),
+        Fate::Revoked(Octets::from_slice(rt.alloc(), b"hel\0\0")?),
         Fate::Answered {
             place: Some(0),
             outcome: Outcome::Chunk,
@@ -266,27 +269,65 @@ fn forms(rt: HostRuntime) -> Result<(), Fail> {
         Fate::Refused(Refused::Ended(End::Terminated { reason: 5 })),
     ];
     for fate in fates {
-        tolds.push(Told {
+        calls.push(Told {
             client: 2,
             number: 7,
             fate,
         })?;
     }
+    let mut links = Vec::new(rt.alloc());
+    let ends = [
+        (Side::Initiator, End::Bad { at: 20, reason: 5 }),
+        (
+            Side::Initiator,
+            End::Denied {
+                stag: 1,
+                offset: 3,
+                why: Lack::NoStag,
+            },
+        ),
+        (
+            Side::Responder,
+            End::Denied {
+                stag: 1,
+                offset: 4,
+                why: Lack::Bounds,
+            },
+        ),
+        (
+            Side::Responder,
+            End::Denied {
+                stag: 1,
+                offset: 0,
+                why: Lack::Right,
+            },
+        ),
+        (Side::Responder, End::NoBuffer { msn: 2 }),
+        (Side::Responder, End::Terminated { reason: 101 }),
+    ];
+    for (side, end) in ends {
+        links.push(LinkTold {
+            client: 1,
+            fate: LinkFate::Ended { side, end },
+        })?;
+    }
+    links.push(LinkTold {
+        client: 2,
+        fate: LinkFate::Dropped,
+    })?;
     let report = Report {
-        marks: Marks {
-            marks: Vec::new(rt.alloc()),
-        },
-        journal: Journal {
-            entries: Vec::new(rt.alloc()),
-        },
-        calls: Tolds { tolds },
-        logs: Logs {
-            ways: Vec::new(rt.alloc()),
-        },
+        marks: Listed::from_vec(Vec::new(rt.alloc())),
+        journal: Listed::from_vec(Vec::new(rt.alloc())),
+        calls: Listed::from_vec(calls),
+        links: Listed::from_vec(links),
+        logs: Listed::from_vec(Vec::new(rt.alloc())),
     };
     let wanted =
-        b"2 7 open\n2 7 lost\n2 7 forgotten\n2 7 place 0 chunk\n2 7 chunk\n2 7 version 1 1\n\
-2 7 refused credit 4 4\n2 7 refused large 1028 1024\n2 7 refused ended\njournal 0\n";
+        b"2 7 open\n2 7 lost\n2 7 forgotten\n2 7 revoked -\n2 7 revoked 68656c0000\n2 7 place 0 chunk\n\
+2 7 chunk\n2 7 version 1 1\n2 7 refused credit 4 4\n2 7 refused large 1028 1024\n2 7 refused ended\n\
+link 1 client bad 20 5\nlink 1 client denied 1 3 nostag\nlink 1 server denied 1 4 bounds\n\
+link 1 server denied 1 0 right\nlink 1 server nobuffer 2\nlink 1 server terminated 101\nlink 2 dropped\n\
+journal 0\n";
     assert_eq!(rt; shown(rt.alloc(), &report)?.as_slice(), wanted.as_slice());
     Ok(())
 }

@@ -16,10 +16,11 @@ ghost use Rattle.nr_world.specs.Stands.{Stands, IsQuiet, Round, Drained, Called,
 ghost use Rattle.nr_world.specs.Steps.{null, ask, wrote_up, wrote_down, fed_up, fed_down, opened_state, asked_one, waits, came, works_on, worked, done_one, heard};
 
 use crate::call::{Call, Form, Outcome, Submission};
-use crate::mark::{Conveyed, Entry, Mark, Marks, Moment};
+use crate::listed::Listed;
+use crate::mark::{Conveyed, Entry, Mark, Moment};
 use crate::message::{call_in_frame, inline_message, reply_in_frame, send};
 use crate::plain::{NFS_PROGRAM, NFS_VERSION, NULL, REPLY_MAX, execute};
-use crate::report::{Fate, Journal, Logs, Report, Told, Tolds, Ways};
+use crate::report::{Fate, Logs, Report, Told, Ways};
 use crate::script::Script;
 use nr_outside::{Pipe, Sink};
 use nr_rpc::{CallHead, Cred, write_call};
@@ -432,7 +433,7 @@ fn logs(alloc: Global, up: Pipe, down: Pipe) -> Result<Logs, Memory>
         up: Octets::from_vec(up.into_log()),
         down: Octets::from_vec(down.into_log()),
     })?;
-    Ok(Logs { ways })
+    Ok(Listed::from_vec(ways))
 }
 
 impl World {
@@ -451,9 +452,10 @@ impl World {
         } = self;
         let logs = logs(alloc, up, down)?;
         Ok(Report {
-            marks: Marks { marks },
-            journal: Journal { entries: journal },
-            calls: Tolds { tolds: told },
+            marks: Listed::from_vec(marks),
+            journal: Listed::from_vec(journal),
+            calls: Listed::from_vec(told),
+            links: Listed::from_vec(Vec::new(alloc)),
             logs,
         })
     }

@@ -1,0 +1,26 @@
+-- The cause that each fault of a command below is told as.
+use Rattle.nr_outside.specs.declared.whole.ReadEnd.{ReadEnd}
+use Rattle.nr_outside.specs.declared.whole.ReadEnd.TheVariants as ends
+use Rattle.nr_world.specs.declared.script.ScriptFault.{ScriptFault}
+use Rattle.nr_world.specs.declared.script.ScriptFault.TheVariants as faults
+use Rattle.nr_top.specs.declared.command.Stop.{Stop}
+use Rattle.nr_top.specs.declared.command.Stop.TheVariants as stops
+use Rattle.nr_top.specs.Ends.{Cause}
+use Rattle.nr_top.specs.Ends.Cause as causes
+
+abbrev pub cause_of : Stop → Cause
+cause_of stops.Words = causes.Words
+cause_of stops.Memory = causes.Memory
+cause_of stops.Input = causes.Input
+cause_of stops.Output = causes.Output
+cause_of (stops.Script line) = causes.Script line
+cause_of stops.Budget = causes.Budget
+
+abbrev pub stop_of_read : ReadEnd → Stop
+stop_of_read ends.Failed = stops.Input
+stop_of_read ends.TooLong = stops.Budget
+stop_of_read ends.Memory = stops.Memory
+
+abbrev pub stop_of_script : ScriptFault → Stop
+stop_of_script (faults.BadLine line) = stops.Script line
+stop_of_script faults.Memory = stops.Memory
