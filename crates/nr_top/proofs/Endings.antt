@@ -6,7 +6,7 @@ use Rattle.nr_world.specs.Script.{ScriptLines, script_of}
 use Rattle.nr_world.specs.Headline.{Reports}
 use Rattle.nr_world.specs.Plain.{drill_server}
 use Rattle.nr_world.specs.Shown.{shown, text_of}
-use Rattle.nr_top.specs.Ends.Cause as causes
+use Rattle.nr_top.specs.Ends.Cause.{WrongWords, NoMemory, InputFault, OutputFault, BadScript, OverBudget}
 use Rattle.nr_top.specs.Statuses as statuses
 use Rattle.nr_top.specs.Words.{is_drill, due_status}
 use Rattle.nr_top.specs.Ends.{InputAt, SinkAt, Wrote, CutOff, Silent, BadLine, TooLong, Cause, FaultTold, IsSaid, printed, memory_text, bad_line_text, budget_text, Ends, Stopped, Spoke, Says}
@@ -104,19 +104,19 @@ over_budget words status input input' out out' err err' long same quiet is said 
 
 -- a stop that was told makes an end
 pub ends_of : (cause : Cause) (words : List (List ℕ)) (status : ℕ) (input input' : InputAt) (out out' err err' : SinkAt) → Stopped cause words input input' out out' → Says cause status err err' → Ends words status input input' out out' err err'
-ends_of causes.Words words status input input' out out' err err' stopped said =
-    said_or causes.Words words status input input' out out' err err' stopped refl said (bad_words words status input input' out out' err err' stopped.0 stopped.1 stopped.2)
-ends_of causes.Memory words status input input' out out' err err' stopped said =
-    said_or causes.Memory words status input input' out out' err err' stopped refl said (no_memory words status input input' out out' err err' stopped.0 stopped.1 stopped.2)
-ends_of causes.Input words status input input' out out' err err' stopped said =
-    said_or causes.Input words status input input' out out' err err' stopped refl said (λ is wrote. told_fault words status input input' out out' err err' is (inl (stopped.0, stopped.1, stopped.2, wrote)))
-ends_of causes.Output words status input input' out out' err err' stopped said =
-    said_or causes.Output words status input input' out out' err err' stopped refl said (λ is wrote. told_fault words status input input' out out' err err' is (inr (inl (stopped, wrote))))
-ends_of (causes.Script number) words status input input' out out' err err' stopped (inl said) =
-    said_or (causes.Script number) words status input input' out out' err err' stopped (inl refl) said (bad_script number words status input input' out out' err err' stopped.0 stopped.1)
-ends_of (causes.Script number) words status input input' out out' err err' stopped (inr said) =
-    said_or (causes.Script number) words status input input' out out' err err' stopped (inr refl) said (no_memory words status input input' out out' err err' stopped.0.line stopped.0.whole.unfailing stopped.1)
-ends_of causes.Budget words status input input' out out' err err' stopped (inl said) =
-    said_or causes.Budget words status input input' out out' err err' stopped (inl refl) said (over_budget words status input input' out out' err err' stopped.0 stopped.1 stopped.2)
-ends_of causes.Budget words status input input' out out' err err' stopped (inr said) =
-    said_or causes.Budget words status input input' out out' err err' stopped (inr refl) said (no_memory words status input input' out out' err err' stopped.0.line stopped.1 stopped.2)
+ends_of WrongWords words status input input' out out' err err' stopped said =
+    said_or WrongWords words status input input' out out' err err' stopped refl said (bad_words words status input input' out out' err err' stopped.0 stopped.1 stopped.2)
+ends_of NoMemory words status input input' out out' err err' stopped said =
+    said_or NoMemory words status input input' out out' err err' stopped refl said (no_memory words status input input' out out' err err' stopped.0 stopped.1 stopped.2)
+ends_of InputFault words status input input' out out' err err' stopped said =
+    said_or InputFault words status input input' out out' err err' stopped refl said (λ is wrote. told_fault words status input input' out out' err err' is (inl (stopped.0, stopped.1, stopped.2, wrote)))
+ends_of OutputFault words status input input' out out' err err' stopped said =
+    said_or OutputFault words status input input' out out' err err' stopped refl said (λ is wrote. told_fault words status input input' out out' err err' is (inr (inl (stopped, wrote))))
+ends_of (BadScript number) words status input input' out out' err err' stopped (inl said) =
+    said_or (BadScript number) words status input input' out out' err err' stopped (inl refl) said (bad_script number words status input input' out out' err err' stopped.0 stopped.1)
+ends_of (BadScript number) words status input input' out out' err err' stopped (inr said) =
+    said_or (BadScript number) words status input input' out out' err err' stopped (inr refl) said (no_memory words status input input' out out' err err' stopped.0.line stopped.0.whole.unfailing stopped.1)
+ends_of OverBudget words status input input' out out' err err' stopped (inl said) =
+    said_or OverBudget words status input input' out out' err err' stopped (inl refl) said (over_budget words status input input' out out' err err' stopped.0 stopped.1 stopped.2)
+ends_of OverBudget words status input input' out out' err err' stopped (inr said) =
+    said_or OverBudget words status input input' out out' err err' stopped (inr refl) said (no_memory words status input input' out out' err err' stopped.0.line stopped.1 stopped.2)

@@ -6,15 +6,15 @@ use Rattle.nr_world.specs.declared.script.ScriptFault.TheVariants as faults
 use Rattle.nr_top.specs.declared.command.Stop.{Stop}
 use Rattle.nr_top.specs.declared.command.Stop.TheVariants as stops
 use Rattle.nr_top.specs.Ends.{Cause}
-use Rattle.nr_top.specs.Ends.Cause as causes
+use Rattle.nr_top.specs.Ends.Cause.{WrongWords, NoMemory, InputFault, OutputFault, BadScript, OverBudget}
 
 abbrev pub cause_of : Stop → Cause
-cause_of stops.Words = causes.Words
-cause_of stops.Memory = causes.Memory
-cause_of stops.Input = causes.Input
-cause_of stops.Output = causes.Output
-cause_of (stops.Script line) = causes.Script line
-cause_of stops.Budget = causes.Budget
+cause_of stops.Words = WrongWords
+cause_of stops.Memory = NoMemory
+cause_of stops.Input = InputFault
+cause_of stops.Output = OutputFault
+cause_of (stops.Script line) = BadScript line
+cause_of stops.Budget = OverBudget
 
 abbrev pub stop_of_read : ReadEnd → Stop
 stop_of_read ends.Failed = stops.Input

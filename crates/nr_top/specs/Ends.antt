@@ -95,21 +95,21 @@ pub record TooLong (words : List (List ℕ)) (input : InputAt) : Type 0 where
 -- why a command isn't done: its words are no line, memory ran out, the input or the output failed, a line of the script is
 -- bad, or the input is too long
 pub data Cause : Type 0 where
-  Words : Cause
-  Memory : Cause
-  Input : Cause
-  Output : Cause
-  Script : (line : ℕ) → Cause
-  Budget : Cause
+  WrongWords : Cause
+  NoMemory : Cause
+  InputFault : Cause
+  OutputFault : Cause
+  BadScript : (line : ℕ) → Cause
+  OverBudget : Cause
 
 -- what is so where a command wasn't done
 abbrev pub Stopped : Cause → List (List ℕ) → InputAt → InputAt → SinkAt → SinkAt → Type 0
-Stopped Words words input input' out out' = (is_drill words ≡ false) × (input' ≡ input) × (out' ≡ out)
-Stopped Memory words input input' out out' = (is_drill words ≡ true) × (input'.faults ≡ input.faults) × Silent out out'
-Stopped Input words input input' out out' = (is_drill words ≡ true) × Rose input.faults input'.faults × Silent out out'
-Stopped Output words input input' out out' = Halfway words input input' out out'
-Stopped (Script number) words input input' out out' = BadLine number words input input' × Silent out out'
-Stopped Budget words input input' out out' = TooLong words input × (input'.faults ≡ input.faults) × Silent out out'
+Stopped WrongWords words input input' out out' = (is_drill words ≡ false) × (input' ≡ input) × (out' ≡ out)
+Stopped NoMemory words input input' out out' = (is_drill words ≡ true) × (input'.faults ≡ input.faults) × Silent out out'
+Stopped InputFault words input input' out out' = (is_drill words ≡ true) × Rose input.faults input'.faults × Silent out out'
+Stopped OutputFault words input input' out out' = Halfway words input input' out out'
+Stopped (BadScript number) words input input' out out' = BadLine number words input input' × Silent out out'
+Stopped OverBudget words input input' out out' = TooLong words input × (input'.faults ≡ input.faults) × Silent out out'
 
 -- the words for want of memory, for an input that is too long, and for a bad line
 abbrev pub memory_text : List ℕ
@@ -127,21 +127,21 @@ Spoke due text status err err' = ((status ≡ due) × Wrote err err' text) ⊎ (
 
 -- what is said of a cause; words with a number need memory, and where there is none, that is said
 abbrev pub Says : Cause → ℕ → SinkAt → SinkAt → Type 0
-Says Words status err err' = Spoke statuses.bad_words (codes "bad words\n") status err err'
-Says Memory status err err' = Spoke statuses.no_memory memory_text status err err'
-Says Input status err err' = Spoke statuses.fault (codes "input fault\n") status err err'
-Says Output status err err' = Spoke statuses.fault (codes "output fault\n") status err err'
-Says (Script number) status err err' = Spoke statuses.bad_script (bad_line_text number) status err err' ⊎ Spoke statuses.no_memory memory_text status err err'
-Says Budget status err err' = Spoke statuses.over_budget budget_text status err err' ⊎ Spoke statuses.no_memory memory_text status err err'
+Says WrongWords status err err' = Spoke statuses.bad_words (codes "bad words\n") status err err'
+Says NoMemory status err err' = Spoke statuses.no_memory memory_text status err err'
+Says InputFault status err err' = Spoke statuses.fault (codes "input fault\n") status err err'
+Says OutputFault status err err' = Spoke statuses.fault (codes "output fault\n") status err err'
+Says (BadScript number) status err err' = Spoke statuses.bad_script (bad_line_text number) status err err' ⊎ Spoke statuses.no_memory memory_text status err err'
+Says OverBudget status err err' = Spoke statuses.over_budget budget_text status err err' ⊎ Spoke statuses.no_memory memory_text status err err'
 
 -- the words that are to be said of a cause
 abbrev pub IsSaid : Cause → List ℕ → Type 0
-IsSaid Words text = text ≡ codes "bad words\n"
-IsSaid Memory text = text ≡ memory_text
-IsSaid Input text = text ≡ codes "input fault\n"
-IsSaid Output text = text ≡ codes "output fault\n"
-IsSaid (Script number) text = (text ≡ bad_line_text number) ⊎ (text ≡ memory_text)
-IsSaid Budget text = (text ≡ budget_text) ⊎ (text ≡ memory_text)
+IsSaid WrongWords text = text ≡ codes "bad words\n"
+IsSaid NoMemory text = text ≡ memory_text
+IsSaid InputFault text = text ≡ codes "input fault\n"
+IsSaid OutputFault text = text ≡ codes "output fault\n"
+IsSaid (BadScript number) text = (text ≡ bad_line_text number) ⊎ (text ≡ memory_text)
+IsSaid OverBudget text = (text ≡ budget_text) ⊎ (text ≡ memory_text)
 
 -- a cause was to be told, and a first part of its words was
 pub record Untold (words : List (List ℕ)) (input input' : InputAt) (out out' err err' : SinkAt) : Type 0 where
