@@ -113,126 +113,75 @@ fn runs(rt: HostRuntime) -> Result<(), Fail> {
     Ok(())
 }
 
+/// What a mark of the first link is, in words.
+fn told(mark: &Mark) -> &'static str {
+    match mark {
+        Mark::Wrote {
+            link: 1,
+            side: Side::Initiator,
+            ..
+        } => "client wrote",
+        Mark::Wrote {
+            link: 1,
+            side: Side::Responder,
+            ..
+        } => "server wrote",
+        Mark::Fed {
+            link: 1,
+            side: Side::Initiator,
+            ..
+        } => "client fed",
+        Mark::Fed {
+            link: 1,
+            side: Side::Responder,
+            ..
+        } => "server fed",
+        Mark::Submit {
+            link: 1,
+            answer: Submission::Accepted { xid: 1 },
+            ..
+        } => "submit",
+        Mark::Execute {
+            link: 1,
+            xid: 1,
+            place: 0,
+            ..
+        } => "execute",
+        Mark::Done {
+            link: 1,
+            xid: 1,
+            outcome: Outcome::Reply(_),
+        } => "done",
+        _ => "other",
+    }
+}
+
 /// A link opens, and a call goes up, is executed, comes down and is done.
 #[test]
 fn marks(rt: HostRuntime) -> Result<(), Fail> {
     let script = read_script(rt.alloc(), ONE_CALL)?;
     let report = run_world(rt.alloc(), &script)?;
+    let wanted = [
+        "client wrote",
+        "server fed",
+        "server wrote",
+        "client fed",
+        "submit",
+        "client wrote",
+        "server fed",
+        "execute",
+        "server wrote",
+        "client fed",
+        "done",
+    ];
     let marks = report.marks.as_slice();
-    assert_eq!(rt; marks.len(), 11);
-    assert!(rt;
-        matches!(
-            &marks[0],
-            Mark::Wrote {
-                link: 1,
-                side: Side::Initiator,
-                ..
-            }
-        )
-    );
-    assert!(rt;
-        matches!(
-            &marks[1],
-            Mark::Fed {
-                link: 1,
-                side: Side::Responder,
-                ..
-            }
-        )
-    );
-    assert!(rt;
-        matches!(
-            &marks[2],
-            Mark::Wrote {
-                link: 1,
-                side: Side::Responder,
-                ..
-            }
-        )
-    );
-    assert!(rt;
-        matches!(
-            &marks[3],
-            Mark::Fed {
-                link: 1,
-                side: Side::Initiator,
-                ..
-            }
-        )
-    );
-    assert!(rt;
-        matches!(
-            &marks[4],
-            Mark::Submit {
-                link: 1,
-                answer: Submission::Accepted { xid: 1 },
-                ..
-            }
-        )
-    );
-    assert!(rt;
-        matches!(
-            &marks[5],
-            Mark::Wrote {
-                link: 1,
-                side: Side::Initiator,
-                ..
-            }
-        )
-    );
-    assert!(rt;
-        matches!(
-            &marks[6],
-            Mark::Fed {
-                link: 1,
-                side: Side::Responder,
-                ..
-            }
-        )
-    );
-    assert!(rt;
-        matches!(
-            &marks[7],
-            Mark::Execute {
-                link: 1,
-                xid: 1,
-                place: 0,
-                ..
-            }
-        )
-    );
-    assert!(rt;
-        matches!(
-            &marks[8],
-            Mark::Wrote {
-                link: 1,
-                side: Side::Responder,
-                ..
-            }
-        )
-    );
-    assert!(rt;
-        matches!(
-            &marks[9],
-            Mark::Fed {
-                link: 1,
-                side: Side::Initiator,
-                ..
-            }
-        )
-    );
-    assert!(rt;
-        matches!(
-            &marks[10],
-            Mark::Done {
-                link: 1,
-                xid: 1,
-                outcome: Outcome::Reply(_)
-            }
-        )
-    );
+    assert_eq!(rt; marks.len(), wanted.len());
+    for (mark, wanted) in marks.iter().zip(wanted) {
+        assert_eq!(rt; told(mark), wanted);
+    }
     assert_eq!(rt; report.journal.len(), 0);
     assert!(rt; report.journal.is_empty());
+    assert!(rt; report.links.is_empty());
     let calls = report.calls.as_slice();
     assert_eq!(rt; calls.len(), 1);
     assert_eq!(rt; (calls[0].client, calls[0].number), (1, 1));
