@@ -2,7 +2,7 @@
 use Rattle.std.specs.Prelude.{◌≡◌, ◌≢◌, ℕ, zero, suc, ◌+◌, ◌^◌, Bool, true, false, ◌||◌, ◌&&◌, List, [], ◌∷◌, length, take, drop, sum_by, All, Option, Some, None, Result, Ok, Err, nat_lt, ◌==◌, if◌then◌else◌}
 use Rattle.nr_xdr.specs.Item.{word_of}
 use Rattle.nr_xdr.specs.Reading.{Cursor, hyper_at, boolean_at}
-use Rattle.nr_xdr.specs.Steps.{◌>>=◌, placed, number_at}
+use Rattle.nr_xdr.specs.Steps.{◌>>=◌, or_place, number_at}
 use Rattle.nr_header.specs.Numbers.{VERSION, FIXED_LEN, MSG, NOMSG, DONE, ERROR, ERR_VERS, ERR_CHUNK, READ_SEGMENTS_MAX, WRITE_CHUNKS_MAX, CHUNK_SEGMENTS_MAX, WRITE_SEGMENTS_MAX, REPLY_SEGMENTS_MAX, PAYLOAD_MAX}
 use Rattle.nr_header.specs.declared.fault.HeaderFault.{HeaderFault}
 use Rattle.nr_header.specs.declared.fault.HeaderFault.TheVariants.{Short, Version, Kind, BadChunks}
@@ -16,14 +16,14 @@ use Rattle.nr_header.specs.Limits.{read_total}
 
 -- a word 0 or 1: whether an entry follows
 abbrev pub more_at : Cursor → Result (Bool × Cursor) ℕ
-more_at c = placed (boolean_at c)
+more_at c = or_place (boolean_at c)
 
 -- a segment; one that ends past 2 ^ 64 fails at the place that is given
 unfoldable pub segment_at : ℕ → Cursor → Result (Segment × Cursor) ℕ
 segment_at place c = do
   handle ← number_at c
   len ← number_at handle.1
-  offset ← placed (hyper_at len.1)
+  offset ← or_place (hyper_at len.1)
   if nat_lt (2 ^ 64) (offset.0 + len.0) then Err place else Ok (record { handle = handle.0; length = len.0; offset = offset.0 }, offset.1)
 
 -- Whether an entry's position may stand behind those before it: 0 where that is allowed, and one other position.
