@@ -3,7 +3,7 @@ use Rattle.std.proofs.Common.{◌≡◌, ℕ, suc, ◌-◌, ◌+◌, ◌≤◌, 
 use Rattle.std.proofs.lemmas.List.{append-nil}
 use Rattle.nr_xdr.specs.Reading.{Cursor}
 use Rattle.nr_xdr.specs.Steps.{◌>>=◌}
-use Rattle.nr_header.specs.declared.limits.TheConstants.{WRITE_SEGMENTS_MAX}
+use Rattle.nr_header.specs.Numbers.{CHUNK_SEGMENTS_MAX}
 use Rattle.nr_header.specs.declared.fault.HeaderFault.{HeaderFault}
 use Rattle.nr_header.specs.declared.fault.HeaderFault.TheVariants.{Short, Version, Kind, BadChunks}
 use Rattle.nr_header.specs.declared.header.Segment.{Segment}
@@ -122,7 +122,7 @@ module _ (front : List (List Segment)) (count i : ℕ) (c : Cursor) (total : Res
   abbrev pub WriteSoFar : Type 0
   WriteSoFar = with_front front (write_list_at (count - i) c) ≡ total
 
-  pub chunk_goes : (d : Cursor) (chunk : List Segment) (after : Cursor) → i < count → more_at c ≡ Ok (true, d) → chunk_at WRITE_SEGMENTS_MAX d ≡ Ok (chunk, after)
+  pub chunk_goes : (d : Cursor) (chunk : List Segment) (after : Cursor) → i < count → more_at c ≡ Ok (true, d) → chunk_at CHUNK_SEGMENTS_MAX d ≡ Ok (chunk, after)
       → WriteSoFar → with_front (front ++ chunk ∷ []) (write_list_at (count - (i + 1)) after) ≡ total
   unfolding write_list_at
   chunk_goes d chunk after lt more read so_far =
@@ -142,10 +142,10 @@ module _ (front : List (List Segment)) (count i : ℕ) (c : Cursor) (total : Res
       fails_by fault (more_at c) total
       (λ at e. let one : with_front front (write_list_at (count - i) c) ≡ Err at = rw (left_is count i lt, e) refl in sym so_far ∙ one) h
 
-  pub chunk_fails : (d : Cursor) (fault : HeaderFault) → i < count → more_at c ≡ Ok (true, d) → Fails fault (chunk_at WRITE_SEGMENTS_MAX d) → WriteSoFar → Fails fault total
+  pub chunk_fails : (d : Cursor) (fault : HeaderFault) → i < count → more_at c ≡ Ok (true, d) → Fails fault (chunk_at CHUNK_SEGMENTS_MAX d) → WriteSoFar → Fails fault total
   unfolding write_list_at
   chunk_fails d fault lt more h so_far =
-      fails_by fault (chunk_at WRITE_SEGMENTS_MAX d) total
+      fails_by fault (chunk_at CHUNK_SEGMENTS_MAX d) total
       (λ at e. let one : with_front front (write_list_at (count - i) c) ≡ Err at = rw (left_is count i lt, more, e) refl in sym so_far ∙ one) h
 
   pub chunks_end : (d : Cursor) → count ≤ i → end_at c ≡ Ok d → WriteSoFar → total ≡ Ok (front, d)

@@ -4,7 +4,6 @@ use Rattle.std.specs.Prelude.{IfSome, IfOk}
 use Rattle.std.specs.List.{AllByRecursion}
 use Rattle.std.proofs.lemmas.Bool.{ltb-false, le-ltb, eqb-true}
 use Rattle.std.proofs.lemmas.List.{append-nil, nil_from_length, length-drop, drop-drop, drop_all}
-use Rattle.std.proofs.lemmas.List.Sums.{sum_by-cons}
 use Rattle.std.proofs.lemmas.List.Elements.{All-from_recursion, All-head, All-tail}
 use Rattle.nr_xdr.specs.declared.fault.ItemFault.TheVariants as items
 use Rattle.nr_xdr.specs.Item.{Item, IsBytes, Fits, Reads, padding, spelling, word, word_of}
@@ -16,7 +15,7 @@ use Rattle.nr_xdr.proofs.Items.{unsigned_takes, unsigned_again}
 use Rattle.nr_xdr.proofs.Numbers.{IsBytes-drop}
 use Rattle.nr_xdr.proofs.Chains.{TakesEach, standing, each_takes, each_between, spellings_read}
 use Rattle.nr_xdr.proofs.Steps.{bind_ok, chosen, done, ok_is}
-use Rattle.nr_header.specs.declared.limits.TheConstants.{VERSION, FIXED_LEN, MSG, NOMSG, ERROR, ERR_VERS, ERR_CHUNK, READ_SEGMENTS_MAX, WRITE_CHUNKS_MAX, WRITE_SEGMENTS_MAX, PAYLOAD_MAX}
+use Rattle.nr_header.specs.Numbers.{VERSION, FIXED_LEN, MSG, NOMSG, ERROR, ERR_VERS, ERR_CHUNK, READ_SEGMENTS_MAX, WRITE_CHUNKS_MAX, CHUNK_SEGMENTS_MAX, WRITE_SEGMENTS_MAX, PAYLOAD_MAX}
 use Rattle.nr_header.specs.declared.fault.HeaderFault.{HeaderFault}
 use Rattle.nr_header.specs.declared.fault.HeaderFault.TheVariants as faults
 use Rattle.nr_header.specs.declared.header.Segment.{Segment}
@@ -147,12 +146,6 @@ some_map : {X : Type 0} (P Q : X → Type 0) (o : Option X) → ((x : X) → P x
 some_map P Q (Some x) f h = f x h
 some_map P Q None f h = tt
 
-each_small : (chunks : List (List Segment)) (max : ℕ) → sum_by (λ chunk. length chunk) chunks ≤ max → AllByRecursion (λ chunk. length chunk ≤ max) chunks
-each_small [] max le = tt
-each_small (chunk ∷ chunks) max le =
-    let all : length chunk + sum_by (λ c. length c) chunks ≤ max = subst (λ (n : ℕ). n ≤ max) (sum_by-cons (λ (c : List Segment). length c) chunk chunks) le in
-    (omega arith, each_small chunks max (omega arith))
-
 -- ---- the lists
 
 or_false : (a b : Bool) → (a || b) ≡ false → (a ≡ false) × (b ≡ false)
@@ -200,6 +193,7 @@ lists_take zero_allowed c x fits e =
         read_ends = All-from_recursion EntryEnds read.0.0 r.ends;
         one_position = (position_of 0 read.0.0, All-from_recursion (λ (s : ReadSegment). s.position ≢ 0 → s.position ≡ position_of 0 read.0.0) read.0.0 (stand_one zero_allowed 0 read.0.0 r.stand));
         write_chunks = w.within;
+        chunk_segments = All-from_recursion (λ (chunk : List Segment). length chunk ≤ CHUNK_SEGMENTS_MAX) write.0.0 w.small;
         write_segments = segments;
         write_ends = All-from_recursion SegmentsEnd write.0.0 (recursion_map (AllByRecursion SegmentEnds) SegmentsEnd write.0.0 (λ ss ends. All-from_recursion SegmentEnds ss ends) w.ends);
         reply_segments = p.within;
@@ -216,7 +210,7 @@ lists_again zero_allowed lists c after within zeros taken =
     let (d, read, behind) = read_list_again lists.read READ_SEGMENTS_MAX zero_allowed 0 (write_items lists.write (reply_items lists.reply [])) c after within.read_segments stand
     (recursion_from_All EntryEnds lists.read within.read_ends) taken in
     let ends = recursion_map SegmentsEnd (AllByRecursion SegmentEnds) lists.write (λ ss all. recursion_from_All SegmentEnds ss all) (recursion_from_All SegmentsEnd lists.write within.write_ends) in
-    let (f, write, others) = write_list_again lists.write WRITE_CHUNKS_MAX (reply_items lists.reply []) d after within.write_chunks (each_small lists.write WRITE_SEGMENTS_MAX within.write_segments) ends behind in
+    let (f, write, others) = write_list_again lists.write WRITE_CHUNKS_MAX (reply_items lists.reply []) d after within.write_chunks (recursion_from_All (λ (chunk : List Segment). length chunk ≤ CHUNK_SEGMENTS_MAX) lists.write within.chunk_segments) ends behind in
     let (g, reply, last) = reply_chunk_again lists.reply [] f after within.reply_segments
     (some_map SegmentsEnd (AllByRecursion SegmentEnds) lists.reply (λ ss all. recursion_from_All SegmentEnds ss all) within.reply_ends) others in
     rw (read, write, reply) (ap (λ (m : Cursor). Ok (lists, m)) last)

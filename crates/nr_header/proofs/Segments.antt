@@ -9,7 +9,7 @@ use Rattle.nr_xdr.specs.Reading.{Cursor, Takes}
 use Rattle.nr_xdr.specs.Steps.{◌>>=◌}
 use Rattle.nr_xdr.proofs.Chains.{TakesEach}
 use Rattle.nr_xdr.proofs.Steps.{bind_ok, chosen, done, ok_is, number_step, number_again, hyper_step, hyper_placed, boolean_step, boolean_placed}
-use Rattle.nr_header.specs.declared.limits.TheConstants.{WRITE_SEGMENTS_MAX, REPLY_SEGMENTS_MAX}
+use Rattle.nr_header.specs.Numbers.{CHUNK_SEGMENTS_MAX, REPLY_SEGMENTS_MAX}
 use Rattle.nr_header.specs.declared.header.Segment.{Segment}
 use Rattle.nr_header.specs.Header.{segment_items, segments_items, chunk_items, write_items, reply_items}
 use Rattle.nr_header.specs.Limits.{Ends}
@@ -144,6 +144,7 @@ end_again c d taken = rw (boolean_placed c false d taken) refl
 
 pub record TookWrite (room : ℕ) (chunks : List (List Segment)) (c d : Cursor) : Type 0 where
   pub before : Before (write_items chunks) c d
+  pub small : AllByRecursion (λ chunk. length chunk ≤ CHUNK_SEGMENTS_MAX) chunks
   pub ends : AllByRecursion (AllByRecursion SegmentEnds) chunks
   pub within : length chunks ≤ room
   pub fits : IsBytes d.rest
@@ -154,18 +155,20 @@ write_none room c d x taken fits e =
     let made : List (List Segment) × Cursor = ([], d) in
     subst (λ (y : List (List Segment) × Cursor). TookWrite room y.0 c y.1) (ok_is made x e) (record {
       before = λ more after behind. (d, taken, behind);
+      small = tt;
       ends = tt;
       within = omega arith;
       fits = fits;
     })
 
 write_more : (room : ℕ) (chunk : List Segment) (chunks : List (List Segment)) (c d f after : Cursor) (x : List (List Segment) × Cursor)
-    → Takes c d (Boolean true) → TookChunk WRITE_SEGMENTS_MAX chunk d f → TookWrite room chunks f after
+    → Takes c d (Boolean true) → TookChunk CHUNK_SEGMENTS_MAX chunk d f → TookWrite room chunks f after
     → done {A = List (List Segment) × Cursor} (chunk ∷ chunks, after) ≡ done x → TookWrite (suc room) x.0 c x.1
 write_more room chunk chunks c d f after x taken first others e =
     let made : List (List Segment) × Cursor = (chunk ∷ chunks, after) in
     subst (λ (y : List (List Segment) × Cursor). TookWrite (suc room) y.0 c y.1) (ok_is made x e) (record {
       before = λ more end behind. (d, taken, first.before (write_items chunks more) end (others.before more end behind));
+      small = (first.within, others.small);
       ends = (first.ends, others.ends);
       within = omega (arith, others.within);
       fits = others.fits;
@@ -179,10 +182,10 @@ write_list_take zero c x fits e =
     write_none 0 c end.0 x t.0 t.1 end.2
 write_list_take (suc room) c x fits e =
     let more = boolean_step c _ x fits e in
-    elim (chosen more.0.0 (chunk_at WRITE_SEGMENTS_MAX more.0.1 >>= λ chunk. write_list_at room chunk.1 >>= λ others. Ok (chunk.0 ∷ others.0, others.1)) (Ok ([], more.0.1)) (Ok x) more.3) [
+    elim (chosen more.0.0 (chunk_at CHUNK_SEGMENTS_MAX more.0.1 >>= λ chunk. write_list_at room chunk.1 >>= λ others. Ok (chunk.0 ∷ others.0, others.1)) (Ok ([], more.0.1)) (Ok x) more.3) [
       | inl goes ↦
-          let chunk = bind_ok (chunk_at WRITE_SEGMENTS_MAX more.0.1) _ x goes.1 in
-          let k = chunk_take WRITE_SEGMENTS_MAX more.0.1 chunk.0 more.2 chunk.1 in
+          let chunk = bind_ok (chunk_at CHUNK_SEGMENTS_MAX more.0.1) _ x goes.1 in
+          let k = chunk_take CHUNK_SEGMENTS_MAX more.0.1 chunk.0 more.2 chunk.1 in
           let others = bind_ok (write_list_at room chunk.0.1) _ x chunk.2 in
           let ks = write_list_take room chunk.0.1 others.0 k.fits others.1 in
           write_more room chunk.0.0 others.0.0 c more.0.1 chunk.0.1 others.0.1 x (subst (λ (b : Bool). Takes c more.0.1 (Boolean b)) goes.0 more.1) k ks others.2
@@ -190,14 +193,14 @@ write_list_take (suc room) c x fits e =
     ]
 
 pub write_list_again : (chunks : List (List Segment)) (room : ℕ) (more : List Item) (c after : Cursor) → length chunks ≤ room
-    → AllByRecursion (λ chunk. length chunk ≤ WRITE_SEGMENTS_MAX) chunks → AllByRecursion (AllByRecursion SegmentEnds) chunks
+    → AllByRecursion (λ chunk. length chunk ≤ CHUNK_SEGMENTS_MAX) chunks → AllByRecursion (AllByRecursion SegmentEnds) chunks
     → TakesEach (write_items chunks more) c after → Again (write_list_at room c) chunks more after
 unfolding write_list_at
 write_list_again [] zero more c after within small ends (d, taken, behind) = (d, rw (end_again c d taken) refl, behind)
 write_list_again [] (suc room) more c after within small ends (d, taken, behind) = (d, rw (boolean_placed c false d taken) refl, behind)
 write_list_again (chunk ∷ chunks) zero more c after within small ends taken = absurd (omega (arith, within))
 write_list_again (chunk ∷ chunks) (suc room) more c after within small ends (d, taken, behind) =
-    let (f, first, others) = chunk_again WRITE_SEGMENTS_MAX chunk (write_items chunks more) d after small.0 ends.0 behind in
+    let (f, first, others) = chunk_again CHUNK_SEGMENTS_MAX chunk (write_items chunks more) d after small.0 ends.0 behind in
     let (g, read, last) = write_list_again chunks room more f after (omega (arith, within)) small.1 ends.1 others in
     (g, rw (boolean_placed c true d taken, first, read) refl, last)
 

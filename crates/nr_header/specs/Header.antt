@@ -3,7 +3,7 @@ use Rattle.std.specs.Prelude.{ℕ, ◌^◌, ◌<◌, true, false, List, [], ◌�
 use Rattle.nr_xdr.specs.Item.{Item}
 use Rattle.nr_xdr.specs.Item.Item.{Unsigned, Hyper, Boolean}
 use Rattle.nr_xdr.specs.Items.{FitEach, spellings}
-use Rattle.nr_header.specs.declared.limits.TheConstants.{VERSION, MSG, NOMSG, ERROR, ERR_VERS, ERR_CHUNK}
+use Rattle.nr_header.specs.Numbers.{VERSION, MSG, NOMSG, ERROR, ERR_VERS, ERR_CHUNK}
 use Rattle.nr_header.specs.declared.header.Segment.{Segment}
 use Rattle.nr_header.specs.declared.header.ReadSegment.{ReadSegment}
 use Rattle.nr_header.specs.declared.header.ChunkLists.{ChunkLists}

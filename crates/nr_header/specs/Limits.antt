@@ -1,6 +1,6 @@
 -- Which lists of chunks are within the limits, apart from how they are spelled.
 use Rattle.std.specs.Prelude.{◌≡◌, ◌≢◌, ℕ, ◌+◌, ◌^◌, ◌≤◌, List, [], ◌++◌, length, sum_by, All, IfSome}
-use Rattle.nr_header.specs.declared.limits.TheConstants.{READ_SEGMENTS_MAX, WRITE_CHUNKS_MAX, WRITE_SEGMENTS_MAX, REPLY_SEGMENTS_MAX, PAYLOAD_MAX}
+use Rattle.nr_header.specs.Numbers.{READ_SEGMENTS_MAX, WRITE_CHUNKS_MAX, CHUNK_SEGMENTS_MAX, WRITE_SEGMENTS_MAX, REPLY_SEGMENTS_MAX, PAYLOAD_MAX}
 use Rattle.nr_header.specs.declared.header.Segment.{Segment}
 use Rattle.nr_header.specs.declared.header.ReadSegment.{ReadSegment}
 use Rattle.nr_header.specs.declared.header.ChunkLists.{ChunkLists}
@@ -26,6 +26,7 @@ pub record ListsWithin (lists : ChunkLists) : Type 0 where
   pub read_ends : All (λ r. Ends r.offset r.length) lists.read
   pub one_position : OnePosition lists.read
   pub write_chunks : length lists.write ≤ WRITE_CHUNKS_MAX
+  pub chunk_segments : All (λ chunk. length chunk ≤ CHUNK_SEGMENTS_MAX) lists.write
   pub write_segments : sum_by (λ chunk. length chunk) lists.write ≤ WRITE_SEGMENTS_MAX
   pub write_ends : All SegmentsEnd lists.write
   pub reply_segments : IfSome lists.reply (λ chunk. length chunk ≤ REPLY_SEGMENTS_MAX)

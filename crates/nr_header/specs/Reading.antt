@@ -2,8 +2,8 @@
 use Rattle.std.specs.Prelude.{◌≡◌, ◌≢◌, ℕ, zero, suc, ◌+◌, ◌^◌, Bool, true, false, ◌||◌, ◌&&◌, List, [], ◌∷◌, length, take, drop, sum_by, All, Option, Some, None, Result, Ok, Err, nat_lt, ◌==◌, if◌then◌else◌}
 use Rattle.nr_xdr.specs.Item.{word_of}
 use Rattle.nr_xdr.specs.Reading.{Cursor, hyper_at, boolean_at}
-use Rattle.nr_xdr.specs.Steps.{◌>>=◌, placed, number_at}
-use Rattle.nr_header.specs.declared.limits.TheConstants.{VERSION, FIXED_LEN, MSG, NOMSG, ERROR, ERR_VERS, ERR_CHUNK, READ_SEGMENTS_MAX, WRITE_CHUNKS_MAX, WRITE_SEGMENTS_MAX, REPLY_SEGMENTS_MAX, PAYLOAD_MAX}
+use Rattle.nr_xdr.specs.Steps.{◌>>=◌, or_place, number_at}
+use Rattle.nr_header.specs.Numbers.{VERSION, FIXED_LEN, MSG, NOMSG, DONE, ERROR, ERR_VERS, ERR_CHUNK, READ_SEGMENTS_MAX, WRITE_CHUNKS_MAX, CHUNK_SEGMENTS_MAX, WRITE_SEGMENTS_MAX, REPLY_SEGMENTS_MAX, PAYLOAD_MAX}
 use Rattle.nr_header.specs.declared.fault.HeaderFault.{HeaderFault}
 use Rattle.nr_header.specs.declared.fault.HeaderFault.TheVariants.{Short, Version, Kind, BadChunks}
 use Rattle.nr_header.specs.declared.header.Segment.{Segment}
@@ -16,14 +16,14 @@ use Rattle.nr_header.specs.Limits.{read_total}
 
 -- a word 0 or 1: whether an entry follows
 abbrev pub more_at : Cursor → Result (Bool × Cursor) ℕ
-more_at c = placed (boolean_at c)
+more_at c = or_place (boolean_at c)
 
 -- a segment; one that ends past 2 ^ 64 fails at the place that is given
 unfoldable pub segment_at : ℕ → Cursor → Result (Segment × Cursor) ℕ
 segment_at place c = do
   handle ← number_at c
   len ← number_at handle.1
-  offset ← placed (hyper_at len.1)
+  offset ← or_place (hyper_at len.1)
   if nat_lt (2 ^ 64) (offset.0 + len.0) then Err place else Ok (record { handle = handle.0; length = len.0; offset = offset.0 }, offset.1)
 
 -- Whether an entry's position may stand behind those before it: 0 where that is allowed, and one other position.
@@ -81,7 +81,7 @@ write_list_at zero c = do
 write_list_at (suc room) c = do
   more ← more_at c
   if more.0 then (do
-    chunk ← chunk_at WRITE_SEGMENTS_MAX more.1
+    chunk ← chunk_at CHUNK_SEGMENTS_MAX more.1
     others ← write_list_at room chunk.1
     Ok (chunk.0 ∷ others.0, others.1))
       else Ok ([], more.1)
@@ -154,10 +154,6 @@ unfoldable pub header_of : List ℕ → Result Header HeaderFault
 header_of bytes =
     if nat_lt (length bytes) FIXED_LEN then Err Short
     else headed (word_at 0 bytes) (word_at 8 bytes) (body_by (error_by (word_at 12 bytes) bytes) (word_at 4 bytes) (word_at 12 bytes) bytes)
-
--- the kind RDMA_DONE (RFC 8166 section 4.2.4)
-abbrev pub DONE : ℕ
-DONE = 3
 
 -- RDMA_NOMSG whose read list has no entry at position 0, where its stream has to begin (RFC 8166 section 3.5)
 abbrev pub LacksStream : Body → Type 0

@@ -1,7 +1,7 @@
 //! The transport header as a value.
 
 use crate::few::Few;
-use crate::limits::{READ_SEGMENTS_MAX, WRITE_CHUNKS_MAX, WRITE_SEGMENTS_MAX};
+use crate::limits::{CHUNK_ROOM, READ_SEGMENTS_MAX, WRITE_CHUNKS_MAX};
 
 /// Memory that a peer offers (RFC 8166 section 3.4): `length` bytes from `offset` on in the region that `handle` names.
 #[derive(Clone, Copy, Debug, PartialEq, Eq, Default)]
@@ -24,7 +24,7 @@ pub struct ReadSegment {
 pub type ReadList = Few<ReadSegment, READ_SEGMENTS_MAX>;
 
 /// A write chunk or a reply chunk (RFC 8166 section 3.4.6). Contracts see the list of its segments.
-pub type Chunk = Few<Segment, WRITE_SEGMENTS_MAX>;
+pub type Chunk = Few<Segment, CHUNK_ROOM>;
 
 /// A write list. Contracts see the list of its chunks.
 pub type WriteList = Few<Chunk, WRITE_CHUNKS_MAX>;

@@ -21,8 +21,8 @@ pub use few::Few;
 pub use header::{Body, Chunk, ChunkLists, Header, ReadList, ReadSegment, Segment, WriteList};
 pub use laws::{bad_messages, header_round_trip};
 pub use limits::{
-    FIXED_LEN, PAYLOAD_MAX, READ_SEGMENTS_MAX, REPLY_SEGMENTS_MAX, WRITE_CHUNKS_MAX,
-    WRITE_SEGMENTS_MAX,
+    CHUNK_ROOM, CHUNK_SEGMENTS_MAX, FIXED_LEN, PAYLOAD_MAX, READ_SEGMENTS_MAX, REPLY_SEGMENTS_MAX,
+    WRITE_CHUNKS_MAX, WRITE_SEGMENTS_MAX,
 };
 pub use reading::{credit_of, read_header, xid_of};
 pub use writing::write_header;

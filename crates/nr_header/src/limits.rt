@@ -27,11 +27,21 @@ pub const READ_SEGMENTS_MAX: usize = 16;
 /// The most chunks in a write list.
 pub const WRITE_CHUNKS_MAX: usize = 4;
 
+/// The most segments in one chunk of a write list.
+pub const CHUNK_SEGMENTS_MAX: usize = 16;
+
 /// The most segments in all chunks of a write list.
 pub const WRITE_SEGMENTS_MAX: usize = 16;
 
 /// The most segments in a reply chunk.
 pub const REPLY_SEGMENTS_MAX: usize = 16;
+
+/// How many segments a chunk holds inline: as many as one of a write list or a reply chunk may have.
+pub const CHUNK_ROOM: usize = if CHUNK_SEGMENTS_MAX < REPLY_SEGMENTS_MAX {
+    REPLY_SEGMENTS_MAX
+} else {
+    CHUNK_SEGMENTS_MAX
+};
 
 /// The most bytes of a stream behind its header and of the read list together.
 pub const PAYLOAD_MAX: usize = 40960;

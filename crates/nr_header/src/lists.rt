@@ -8,7 +8,9 @@ use crate::fault::HeaderFault;
 use crate::few::Few;
 use crate::header::{Chunk, ChunkLists, ReadList, ReadSegment, WriteList};
 use crate::item::{end, more, number, segment};
-use crate::limits::{READ_SEGMENTS_MAX, REPLY_SEGMENTS_MAX, WRITE_CHUNKS_MAX, WRITE_SEGMENTS_MAX};
+use crate::limits::{
+    CHUNK_ROOM, CHUNK_SEGMENTS_MAX, READ_SEGMENTS_MAX, REPLY_SEGMENTS_MAX, WRITE_CHUNKS_MAX,
+};
 use arrayvec::ArrayVec;
 use nr_xdr::Reader;
 
@@ -73,7 +75,7 @@ fn read_list(reader: &mut Reader<'_>, zero_allowed: bool) -> Result<ReadList, He
 
 /// So many segments.
 fn segments(reader: &mut Reader<'_>, count: u32) -> Result<Chunk, HeaderFault>
-    requires { count ≤ WRITE_SEGMENTS_MAX }
+    requires { count ≤ CHUNK_ROOM }
     ensures { Answers (λ c. c) result reader.new (segments_at count reader.old) }
 {
     let mut segments = ArrayVec::new();
@@ -87,7 +89,7 @@ fn segments(reader: &mut Reader<'_>, count: u32) -> Result<Chunk, HeaderFault>
 /// A chunk of at most `max` segments.
 #[tactic(auto, unfolding(crate::specs::Reading::chunk_at))]
 fn chunk(reader: &mut Reader<'_>, max: usize) -> Result<Chunk, HeaderFault>
-    requires { max ≤ WRITE_SEGMENTS_MAX }
+    requires { max ≤ CHUNK_ROOM }
     ensures { Answers (λ c. c) result reader.new (chunk_at max reader.old) }
 {
     let at = reader.at();
@@ -106,7 +108,7 @@ fn write_list(reader: &mut Reader<'_>) -> Result<WriteList, HeaderFault>
         if !more(reader)? {
             return Ok(Few::from_short(chunks));
         }
-        chunks.push(chunk(reader, WRITE_SEGMENTS_MAX)?);
+        chunks.push(chunk(reader, CHUNK_SEGMENTS_MAX)?);
     }
     end(reader)?;
     Ok(Few::from_short(chunks))

@@ -79,14 +79,20 @@ fn fault_of(alloc: Global, words: &[u32]) -> Result<Option<HeaderFault>, Fail> {
 fn refused(rt: HostRuntime) -> Result<(), Fail> {
     let bad = |at| Some(HeaderFault::BadChunks { at });
     let most = u32::MAX;
-    let rows: [(&[u32], Option<HeaderFault>); 27] = [
+    assert_eq!(rt;
+        read_header(&NO_LISTS[..15]).err(),
+        Some(HeaderFault::Short)
+    );
+    let rows: [(&[u32], Option<HeaderFault>); 33] = [
         (&[1, 1, 16], Some(HeaderFault::Short)),
+        (&[1, 2, 16, 0], Some(HeaderFault::Version { version: 2 })),
         (
             &[1, 2, 16, 0, 0, 0, 0],
             Some(HeaderFault::Version { version: 2 }),
         ),
         (&[1, 2, 16, 4, 3], Some(HeaderFault::Version { version: 2 })),
         (&[1, 1, 16, 2, 0, 0, 0], Some(HeaderFault::Kind { kind: 2 })),
+        (&[1, 1, 16, 3, 0, 0, 0], Some(HeaderFault::Kind { kind: 3 })),
         (&[1, 1, 16, 5], Some(HeaderFault::Kind { kind: 5 })),
         (&[1, 1, 16, 4, 2, 0], Some(HeaderFault::Kind { kind: 4 })),
         (&[1, 1, 16, 4, 1, 1], Some(HeaderFault::Kind { kind: 4 })),
@@ -115,7 +121,9 @@ fn refused(rt: HostRuntime) -> Result<(), Fail> {
         // Segments at 2^64, and past it.
         (&[1, 1, 16, 0, 1, 4, 1, 1, most, most, 0, 0, 0], None),
         (&[1, 1, 16, 0, 1, 4, 1, 2, most, most, 0, 0, 0], bad(16)),
+        (&[1, 1, 16, 0, 0, 1, 1, 9, 1, most, most, 0, 0], None),
         (&[1, 1, 16, 0, 0, 1, 1, 9, 2, most, most, 0, 0], bad(28)),
+        (&[1, 1, 16, 0, 0, 0, 1, 1, 9, 1, most, most], None),
         (&[1, 1, 16, 0, 0, 0, 1, 1, 9, 2, most, most], bad(32)),
         // Counts.
         (&[1, 1, 16, 0, 0, 1, 17], bad(24)),
@@ -129,6 +137,8 @@ fn refused(rt: HostRuntime) -> Result<(), Fail> {
         (&[1, 1, 16, 1, 0, 0, 0, 7], bad(28)),
         (&[1, 1, 16, 0, 1, 4, 1, 40957, 0, 0, 0, 0, 0, 7], bad(52)),
         (&[1, 1, 16, 0, 1, 4, 1, 40956, 0, 0, 0, 0, 0, 7], None),
+        (&[1, 1, 16, 1, 1, 0, 1, 40961, 0, 0, 0, 0, 0], bad(52)),
+        (&[1, 1, 16, 1, 1, 0, 1, 40960, 0, 0, 0, 0, 0], None),
     ];
     for (words, fault) in rows {
         assert_eq!(rt; fault_of(rt.alloc(), words)?, fault);
@@ -136,22 +146,23 @@ fn refused(rt: HostRuntime) -> Result<(), Fail> {
     Ok(())
 }
 
-/// A message with so many read entries, so many write chunks of so many segments, and a reply chunk of so many segments.
+/// A message with so many read entries, write chunks of so many segments each, a reply chunk of so many segments, and so
+/// many words of a stream.
 fn many(
     alloc: Global,
     entries: u32,
-    chunks: u32,
-    segments: u32,
+    chunks: &[u32],
     reply: u32,
+    stream: u32,
 ) -> Result<Vec<u32>, Fail> {
     let mut words = Vec::from_slice(alloc, &[1, 1, 16, 0])?;
     for _ in 0..entries {
         words.extend_from_slice(&[1, 4, 1, 1, 0, 0])?;
     }
     words.push(0)?;
-    for _ in 0..chunks {
-        words.extend_from_slice(&[1, segments])?;
-        for _ in 0..segments {
+    for segments in chunks {
+        words.extend_from_slice(&[1, *segments])?;
+        for _ in 0..*segments {
             words.extend_from_slice(&[1, 1, 0, 0])?;
         }
     }
@@ -159,19 +170,30 @@ fn many(
     for _ in 0..reply {
         words.extend_from_slice(&[1, 1, 0, 0])?;
     }
+    for _ in 0..stream {
+        words.push(7)?;
+    }
     Ok(words)
 }
 
 #[test]
 fn limits(rt: HostRuntime) -> Result<(), Fail> {
-    let rows = [
-        (16, 0, 0, 16, None),
-        (17, 0, 0, 0, Some(HeaderFault::BadChunks { at: 400 })),
-        (0, 2, 8, 0, None),
-        (0, 2, 9, 0, Some(HeaderFault::BadChunks { at: 336 })),
+    let bad = |at| Some(HeaderFault::BadChunks { at });
+    let rows: [(u32, &[u32], u32, u32, Option<HeaderFault>); 11] = [
+        (16, &[], 16, 0, None),
+        (17, &[], 0, 0, bad(400)),
+        (0, &[], 17, 0, bad(28)),
+        (0, &[16], 0, 0, None),
+        (0, &[17], 0, 0, bad(24)),
+        (0, &[8, 8], 0, 0, None),
+        (0, &[8, 9], 0, 0, bad(320)),
+        (0, &[4, 4, 4, 4], 0, 0, None),
+        (0, &[1, 1, 1, 1, 1], 0, 0, bad(116)),
+        (0, &[], 0, 10240, None),
+        (0, &[], 0, 10241, bad(32)),
     ];
-    for (entries, chunks, segments, reply, fault) in rows {
-        let words = many(rt.alloc(), entries, chunks, segments, reply)?;
+    for (entries, chunks, reply, stream, fault) in rows {
+        let words = many(rt.alloc(), entries, chunks, reply, stream)?;
         assert_eq!(rt; fault_of(rt.alloc(), &words)?, fault);
     }
     Ok(())

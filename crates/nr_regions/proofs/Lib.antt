@@ -1,3 +1,4 @@
 pub mod Tables
 pub mod Holding
 pub mod Pasts
+pub mod Endings

@@ -31,7 +31,7 @@ after_here grants stag right buf r e granted =
     after_by (lack_in (Some (right, length buf)) (access_of r)) buf r stag e
     ∙ ap (λ (d : Option Denied). cond (eqb r.stag stag && is_none d) (written buf r.to r.payload) buf) (sym same)
 
-after_other : (grants : List Grant) (stag : ℕ) (buf : List ℕ) (r : Reach) → (r.stag ≡ stag → ⊥) → after_reach grants stag buf r ≡ buf
+pub after_other : (grants : List Grant) (stag : ℕ) (buf : List ℕ) (r : Reach) → (r.stag ≡ stag → ⊥) → after_reach grants stag buf r ≡ buf
 after_other grants stag buf r ne = ap (λ (b : Bool). cond (b && is_none (lacking grants (access_of r) r.end)) (written buf r.to r.payload) buf) (ne_eqb r.stag stag ne)
 
 arrived : (grants : List Grant) (stag : ℕ) (right : Right) (len : ℕ) (r : Reach) (m : Memory) (buf : List ℕ) → length buf ≡ len
@@ -144,12 +144,12 @@ found : (grants : List Grant) (stag end : ℕ) (g : Grant) → find (stands stag
 found [] stag end g e = absurd (let wrong : None ≡ one g = e in cc)
 found (h ∷ grants) stag end g e = found_first h grants stag end g (stands stag end h) refl e (found grants stag end g)
 
-record Counts (stag end : ℕ) (g : Grant) : Type 0 where
-  stag_is : g.stag ≡ stag
-  behind : g.from < end
-  before : end ≤ g.until
+pub record Counts (stag end : ℕ) (g : Grant) : Type 0 where
+  pub stag_is : g.stag ≡ stag
+  pub behind : g.from < end
+  pub before : end ≤ g.until
 
-counts : (stag end : ℕ) (g : Grant) → stands stag end g ≡ true → Counts stag end g
+pub counts : (stag end : ℕ) (g : Grant) → stands stag end g ≡ true → Counts stag end g
 counts stag end g e =
     let p = and_parts (eqb g.stag stag) (ltb g.from end && leb end g.until) e in
     let q = and_parts (ltb g.from end) (leb end g.until) p.1 in

@@ -1,5 +1,5 @@
 -- Memory over a list of what happens to it.
-use Rattle.std.specs.Prelude.{◌≡◌, ◌≢◌, ℕ, List, [], ◌∷◌, Option, None, Some}
+use Rattle.std.specs.Prelude.{◌≡◌, ◌≢◌, ℕ, ◌<◌, ◌≤◌, List, [], ◌∷◌, Option, None, Some, All}
 use Rattle.nr_regions.specs.declared.right.Right.{Right}
 use Rattle.nr_regions.specs.declared.denied.Denied.{Denied}
 use Rattle.nr_regions.specs.Memory.{Memory, lack, placed, registered, released}
@@ -49,3 +49,10 @@ abbrev pub StaysOpen : List Grant → ℕ → Right → ℕ → List Event → T
 StaysOpen grants stag right len [] = Unit {0}
 StaysOpen grants stag right len (event ∷ events) =
     Spares stag event × IsGranted grants stag right len event × StaysOpen grants stag right len events
+
+-- The region of an STag stays open over the events before its release, its grant ends at `until`, and each tagged segment
+-- for it among the events after the release ends behind that.
+pub record IsReleasedAt (grants : List Grant) (stag : ℕ) (right : Right) (len until : ℕ) (before after : List Event) : Type 0 where
+  pub stays_open : StaysOpen grants stag right len before
+  pub grant_ends : All (λ g. g.stag ≡ stag → g.until ≤ until) grants
+  pub later : All (λ r. r.stag ≡ stag → until < r.end) (reaches after)

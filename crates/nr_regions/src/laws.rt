@@ -1,9 +1,10 @@
 //! Laws of registered memory. Each call's contract speaks in the same words.
 
-ghost use Rattle.std.specs.Prelude.{◌≡◌, ◌≢◌, ℕ, ◌+◌, ◌<◌, ◌≤◌, ◌↔◌, List, None, Some, length};
+ghost use Rattle.std.specs.Prelude.{◌≡◌, ◌≢◌, ℕ, ◌+◌, ◌<◌, ◌≤◌, ◌↔◌, List, ◌∷◌, ◌++◌, None, Some, length};
 ghost use Rattle.nr_regions.specs.Access.{Allowed, Grant, HaveOwnStags, contents, grant_at, lacking, offered};
-ghost use Rattle.nr_regions.specs.Memory.{Access, Claim, IsHeld, Memory, claim_of, lack, live_at, offer, registered, released};
-ghost use Rattle.nr_regions.specs.Past.{Event, Spares, StaysOpen, happened, reaches, run};
+ghost use Rattle.nr_regions.specs.Memory.{Access, Claim, IsHeld, Memory, bytes_in, claim_of, held_at, lack, live_at, offer, registered, released};
+ghost use Rattle.nr_regions.specs.Past.{Event, IsReleasedAt, Spares, StaysOpen, happened, reaches, run};
+ghost use Rattle.nr_regions.specs.Past.Event.{Release};
 
 use crate::region::Region;
 use crate::right::Right;
@@ -34,4 +35,18 @@ pub fn memory_is_its_past()
         stag < m.next → live_at m stag ≡ Some (record { right = right; buf = buf }) →
         StaysOpen grants stag right (length buf) events →
         live_at (run m events) stag ≡ Some (record { right = right; buf = contents grants stag buf (reaches events) }) }
+{}
+
+/// A buffer that is handed back at the end of its grant holds what was registered with the payload of each allowed tagged
+/// segment of the whole stream over it, also of what comes after its release.
+pub fn given_back_at_its_end()
+    ensures stands { (grants : List Grant) (m : Memory) (stag until : ℕ) (right : Right) (buf : List ℕ) (before after : List Event) →
+        stag < m.next → live_at m stag ≡ Some (record { right = right; buf = buf }) →
+        IsReleasedAt grants stag right (length buf) until before after →
+        live_at (run m before) stag ≡ Some (record { right = right; buf = contents grants stag buf (reaches (before ++ Release stag ∷ after)) }) }
+    // What `Regions::release` gives of the memory that it is called on.
+    ensures given_back { (grants : List Grant) (m : Memory) (stag until : ℕ) (right : Right) (buf : List ℕ) (before after : List Event) →
+        stag < m.next → live_at m stag ≡ Some (record { right = right; buf = buf }) →
+        IsReleasedAt grants stag right (length buf) until before after →
+        bytes_in (held_at (run m before) stag) ≡ contents grants stag buf (reaches (before ++ Release stag ∷ after)) }
 {}

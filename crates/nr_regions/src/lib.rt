@@ -9,7 +9,8 @@
 //!
 //! The laws speak of lists of grants and of what a stream brought: an access is allowed where a grant covers it
 //! ([`allowed_accesses`]), and a region that stays open holds what was registered with each allowed payload over it, the
-//! later over the earlier ([`memory_is_its_past`]).
+//! later over the earlier ([`memory_is_its_past`]). Released at the end of its grant, it gives that back for the whole
+//! stream ([`given_back_at_its_end`]).
 #![tactic(auto)]
 
 mod denied;
@@ -21,7 +22,7 @@ mod right;
 mod table;
 
 pub use denied::{Denied, Why};
-pub use laws::{allowed_accesses, held_until_released, memory_is_its_past};
+pub use laws::{allowed_accesses, given_back_at_its_end, held_until_released, memory_is_its_past};
 pub use region::Region;
 pub use regions::Regions;
 pub use registration::Registration;

@@ -24,12 +24,16 @@ fn one_fill_region(rt: HostRuntime) -> Result<(), Fail> {
     for (kind, stag, to, want) in table {
         assert_eq!(rt; regions.place(kind, stag, to, b"wire"), want, "{stag} {to}");
     }
-    assert!(rt; regions.fetch(1, 0, 8).is_err());
+    assert_eq!(rt; regions.fetch(1, 0, 8).err(), Some(Denied::Right));
+    assert_eq!(rt; regions.fetch(2, 0, 8).err(), Some(Denied::NoStag));
     assert_eq!(rt;
         regions.release(registration).as_slice(),
         b"\0\0\0wiree".as_slice()
     );
-    assert_eq!(rt; regions.place(Kind::Write, 1, 0, b""), Err(Denied::NoStag));
+    assert_eq!(rt;
+        regions.place(Kind::Write, 1, 4, b"wire"),
+        Err(Denied::NoStag)
+    );
     Ok(())
 }
 

@@ -4,7 +4,7 @@ use Rattle.std.proofs.Common.{◌≡◌, ℕ, ◌+◌, ◌-◌, ◌<◌, ◌≤�
 use Rattle.std.proofs.lemmas.Bool.{leb-true, le-leb, and_parts, and_from, both_ways, false_from_ne_true, cases_lt, lt-ltb, le-ltb}
 use Rattle.std.proofs.lemmas.List.{take-append-le, drop-append-le, length-drop, length-take-le, length-append, length-replicate, take-append-drop, append_assoc, append-nil}
 use Rattle.nr_xdr.specs.Item.{pad_len}
-use Rattle.nr_wire.specs.declared.numbers.TheConstants.{HELLO_LEN, LENGTH_LEN}
+use Rattle.nr_wire.specs.Constants.{HELLO_LEN, LENGTH_LEN}
 use Rattle.nr_wire.specs.declared.hello.Side.{Side}
 use Rattle.nr_wire.specs.declared.stream.Awaited.{Awaited}
 use Rattle.nr_wire.specs.declared.stream.Awaited.TheVariants.{Hello, Fpdu}

@@ -2,7 +2,7 @@
 use Rattle.std.specs.Prelude.{ℕ, ◌+◌, Bool, not, ◌||◌, ◌==◌, nat_eq, nat_lt, if◌then◌else◌, List, ◌∷◌, ◌++◌, length, take, drop, slice_index, Option, None, Some, Result, Ok, Err, ◌≡◌, ◌≤◌, false}
 use Rattle.std.specs.List.{starts_with}
 use Rattle.std.specs.Prelude.{codes}
-use Rattle.nr_wire.specs.declared.numbers.TheConstants.{HELLO_LEN, HELLO_REVISION, PRIVATE_MAX, FLAG_MARKERS, FLAG_CRC, FLAG_REJECT, REASON_KEY, REASON_FLAGS, REASON_REVISION, REASON_PRIVATE}
+use Rattle.nr_wire.specs.Constants.{HELLO_LEN, HELLO_REVISION, PRIVATE_MAX, FLAG_MARKERS, FLAG_CRC, FLAG_REJECT, REASON_KEY, REASON_FLAGS, REASON_REVISION, REASON_PRIVATE}
 use Rattle.nr_wire.specs.declared.hello.Side.{Side}
 use Rattle.nr_wire.specs.declared.hello.Side.TheVariants.{Initiator, Responder}
 use Rattle.nr_wire.specs.Numbers.{half_word, half_word_at, has_bit}

@@ -1,7 +1,7 @@
 -- FPDUs (RFC 5044 section 4) and the DDP segments in them (RFC 5041 section 4, RFC 5040 section 4).
 use Rattle.std.specs.Prelude.{ℕ, ◌+◌, ◌-◌, ◌*◌, ◌/◌, ◌%◌, Bool, true, false, not, ◌||◌, ◌==◌, nat_lt, if◌then◌else◌, List, [], ◌∷◌, ◌++◌, length, replicate, take, drop, slice_index, Option, None, Some, Result, ◌<◌, ◌≤◌, ◌≡◌, ◌^◌, IsTrue}
 use Rattle.nr_xdr.specs.Item.{bit, word, hyper, pad_len}
-use Rattle.nr_wire.specs.declared.numbers.TheConstants.{LENGTH_LEN, CRC_LEN, TAGGED_LEN, UNTAGGED_LEN, BIT_TAGGED, BIT_LAST, DDP_VERSION, RDMAP_VERSION, OPCODE_WRITE, OPCODE_READ_REQUEST, OPCODE_READ_RESPONSE, OPCODE_SEND, OPCODE_TERMINATE, QUEUE_SEND, QUEUE_READ_REQUEST, QUEUE_TERMINATE, REASON_LENGTH, REASON_DDP_VERSION, REASON_RDMAP_VERSION, REASON_OPCODE, REASON_TAGGED, REASON_QUEUE, ULPDU_MAX}
+use Rattle.nr_wire.specs.Constants.{LENGTH_LEN, CRC_LEN, TAGGED_LEN, UNTAGGED_LEN, BIT_TAGGED, BIT_LAST, DDP_VERSION, RDMAP_VERSION, OPCODE_WRITE, OPCODE_READ_REQUEST, OPCODE_READ_RESPONSE, OPCODE_SEND, OPCODE_TERMINATE, QUEUE_SEND, QUEUE_READ_REQUEST, QUEUE_TERMINATE, REASON_LENGTH, REASON_DDP_VERSION, REASON_RDMAP_VERSION, REASON_OPCODE, REASON_TAGGED, REASON_QUEUE, ULPDU_MAX}
 use Rattle.nr_wire.specs.Numbers.{half_word, half_word_at, word_at, hyper_at, has_bit}
 use Rattle.nr_wire.specs.Hello.{unless}
 

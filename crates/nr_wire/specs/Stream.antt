@@ -2,7 +2,7 @@
 -- fields, whatever else they hold.
 use Rattle.std.specs.Prelude.{◌≡◌, ℕ, ◌-◌, ◌≤◌, zero, suc, Bool, ◌&&◌, nat_lt, nat_le, if◌then◌else◌, List, [], ◌∷◌, ◌++◌, length, take, drop, ◌<◌}
 use Rattle.std.specs.List.{concat}
-use Rattle.nr_wire.specs.declared.numbers.TheConstants.{HELLO_LEN, LENGTH_LEN}
+use Rattle.nr_wire.specs.Constants.{HELLO_LEN, LENGTH_LEN}
 use Rattle.nr_wire.specs.declared.stream.Awaited.{Awaited}
 use Rattle.nr_wire.specs.declared.stream.Awaited.TheVariants.{Hello, Fpdu}
 use Rattle.nr_wire.specs.Hello.{hello_len}

@@ -1,5 +1,6 @@
 //! The hello that each side sends first.
 
+ghost use Rattle.nr_wire.specs.Constants.{FPDU_MAX};
 ghost use Rattle.nr_wire.specs.Stream.{IsPartial};
 ghost use Rattle.nr_wire.specs.Next.Next.{Whole, More, Bad};
 ghost use Rattle.std.specs.Prelude.{◌≡◌, ℕ, ◌+◌, ◌<◌, ◌≤◌, length, take, ◌↔◌, List, ◌++◌, IfNone};
@@ -8,8 +9,8 @@ ghost use Rattle.nr_wire.specs.Next.{hello_in, IfWhole};
 ghost use Rattle.nr_wire.specs.View.{hello as plain, next_hello, shown};
 
 use crate::numbers::{
-    FLAG_CRC, FLAG_MARKERS, FLAG_REJECT, FPDU_MAX, HELLO_LEN, HELLO_REVISION, PRIVATE_MAX,
-    REASON_FLAGS, REASON_KEY, REASON_PRIVATE, REASON_REVISION,
+    FLAG_CRC, FLAG_MARKERS, FLAG_REJECT, HELLO_LEN, HELLO_REVISION, PRIVATE_MAX, REASON_FLAGS,
+    REASON_KEY, REASON_PRIVATE, REASON_REVISION,
 };
 use crate::stream::{Awaited, whole_frame};
 use crate::words::{half_word_at, has_bit};

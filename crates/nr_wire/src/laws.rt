@@ -1,6 +1,7 @@
 //! Laws of streams.
 
 ghost use Rattle.std.specs.Prelude.{◌≡◌, ℕ, ◌<◌, ◌≤◌, ◌↔◌, Bool, false, List, ◌++◌, length, drop};
+ghost use Rattle.nr_wire.specs.Constants.{ULPDU_MAX};
 ghost use Rattle.nr_wire.specs.Feeding.{Feeding, fed, fed_one, taken};
 ghost use Rattle.nr_xdr.specs.Item.{IsBytes};
 ghost use Rattle.nr_wire.specs.Hello.{Hello, IsAccepted, hello_spelling, hello_of};
@@ -10,7 +11,6 @@ ghost use Rattle.nr_wire.specs.Next.Next.{Whole};
 ghost use Rattle.nr_wire.specs.Stream.{Splits, split, beyond, awaited_after, IsFrame, IsPartial};
 
 use crate::hello::Side;
-use crate::numbers::ULPDU_MAX;
 use crate::stream::Awaited;
 
 /// What is spelled is read again, whatever follows: a hello that isn't refused, and a segment that is let through.

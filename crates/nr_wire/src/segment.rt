@@ -1,5 +1,6 @@
 //! DDP segments (RFC 5041 section 4) in their FPDUs (RFC 5044 section 4).
 
+ghost use Rattle.nr_wire.specs.Constants.{FPDU_MAX};
 ghost use Rattle.nr_wire.specs.Stream.{IsPartial, is_whole};
 ghost use Rattle.nr_wire.specs.Next.Next.{Whole, More, Bad};
 ghost use Rattle.std.specs.Prelude.{◌≡◌, ◌+◌, ◌-◌, ◌<◌, ◌≤◌, length, IfNone, ℕ, ◌↔◌, List, ◌++◌, take, IsTrue};
@@ -9,7 +10,7 @@ ghost use Rattle.nr_wire.specs.Next.{segment_in, IfWhole};
 ghost use Rattle.nr_wire.specs.View.{segment as plain, next_segment, shown};
 
 use crate::numbers::{
-    BIT_LAST, BIT_TAGGED, CRC_LEN, DDP_VERSION, FPDU_MAX, LENGTH_LEN, OPCODE_READ_REQUEST,
+    BIT_LAST, BIT_TAGGED, CRC_LEN, DDP_VERSION, LENGTH_LEN, OPCODE_READ_REQUEST,
     OPCODE_READ_RESPONSE, OPCODE_SEND, OPCODE_TERMINATE, OPCODE_WRITE, QUEUE_READ_REQUEST,
     QUEUE_SEND, QUEUE_TERMINATE, RDMAP_VERSION, REASON_DDP_VERSION, REASON_LENGTH, REASON_OPCODE,
     REASON_QUEUE, REASON_RDMAP_VERSION, REASON_TAGGED, TAGGED_LEN, UNTAGGED_LEN,

@@ -1,10 +1,11 @@
 //! The stream: a hello, and then FPDUs.
 
 ghost use Rattle.std.specs.Prelude.{◌≡◌, ◌<◌, ◌≤◌, ◌↔◌, length, take, if◌then◌else◌, IfSome, IsNone, ℕ, ◌+◌, List, ◌++◌};
+ghost use Rattle.nr_wire.specs.Constants.{FPDU_MAX};
 ghost use Rattle.nr_wire.specs.Stream.{fields_len, frame_len, is_whole, lacking, IsFrame, IsPartial};
 
 use crate::hello::{Side, hello_len};
-use crate::numbers::{FPDU_MAX, HELLO_LEN, LENGTH_LEN};
+use crate::numbers::{HELLO_LEN, LENGTH_LEN};
 use crate::segment::fpdu_len;
 
 /// What comes next in a stream: the hello of a side, and after it FPDUs.

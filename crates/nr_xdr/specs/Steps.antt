@@ -9,9 +9,9 @@ abbrev pub ◌>>=◌ : {A B : Type 0} → Result A ℕ → (A → Result B ℕ) 
 (Err at) >>= f = Err at
 
 -- an item, or the place at which it fails
-abbrev pub placed : {A : Type 0} → Result A ItemFault → Result A ℕ
-placed (Ok x) = Ok x
-placed (Err e) = Err (place_of e)
+abbrev pub or_place : {A : Type 0} → Result A ItemFault → Result A ℕ
+or_place (Ok x) = Ok x
+or_place (Err e) = Err (place_of e)
 
 abbrev pub number_at : Cursor → Result (ℕ × Cursor) ℕ
-number_at c = placed (unsigned_at c)
+number_at c = or_place (unsigned_at c)

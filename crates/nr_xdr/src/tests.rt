@@ -57,6 +57,17 @@ fn refusals(rt: HostRuntime) {
     assert_eq!(rt; reader.u64().is_ok(), true);
     assert_eq!(rt; reader.u32(), Err(ItemFault::Short { at: 12 }));
     assert_eq!(rt; reader.u64(), Err(ItemFault::Short { at: 12 }));
+    // A count above the maximum is judged before the bytes that are lacking.
+    let mut cut = Reader::new(&NAME_WITH_OTHER_PAD[..5]);
+    assert_eq!(rt;
+        cut.opaque(4).err(),
+        Some(ItemFault::Long {
+            at: 0,
+            len: 5,
+            max: 4
+        })
+    );
+    assert_eq!(rt; cut.opaque(5).err(), Some(ItemFault::Short { at: 0 }));
     let mut short = Reader::new(&NAME_WITH_OTHER_PAD[..11]);
     assert_eq!(rt; short.opaque(255).err(), Some(ItemFault::Short { at: 0 }));
     assert_eq!(rt; short.at(), 0);

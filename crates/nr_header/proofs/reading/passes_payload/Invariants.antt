@@ -1,5 +1,5 @@
 use Rattle.std.proofs.Common.{◌≡◌, ◌+◌, take}
-use Rattle.nr_header.specs.declared.limits.TheConstants.{PAYLOAD_MAX}
+use Rattle.nr_header.specs.Numbers.{PAYLOAD_MAX}
 use Rattle.nr_header.specs.Limits.{read_total}
 use Rattle.nr_header.proofs.reading.passes_payload.Given as goal
 

@@ -1,0 +1,52 @@
+-- The numbers of the transport header (RFC 8166), and the limits of this implementation.
+use Rattle.std.specs.Prelude.{ℕ}
+
+-- the version of RPC-over-RDMA (RFC 8166 section 4.2.2)
+abbrev pub VERSION : ℕ
+VERSION = 1
+
+-- how many bytes the fixed words have (RFC 8166 section 4.2)
+abbrev pub FIXED_LEN : ℕ
+FIXED_LEN = 16
+
+-- the kinds of messages (RFC 8166 section 4.2.4): RDMA_MSG, RDMA_NOMSG, RDMA_DONE, RDMA_ERROR
+abbrev pub MSG : ℕ
+MSG = 0
+
+abbrev pub NOMSG : ℕ
+NOMSG = 1
+
+abbrev pub DONE : ℕ
+DONE = 3
+
+abbrev pub ERROR : ℕ
+ERROR = 4
+
+-- the codes of errors (RFC 8166 section 4.5)
+abbrev pub ERR_VERS : ℕ
+ERR_VERS = 1
+
+abbrev pub ERR_CHUNK : ℕ
+ERR_CHUNK = 2
+
+-- the most entries of a read list
+abbrev pub READ_SEGMENTS_MAX : ℕ
+READ_SEGMENTS_MAX = 16
+
+-- the most chunks of a write list
+abbrev pub WRITE_CHUNKS_MAX : ℕ
+WRITE_CHUNKS_MAX = 4
+
+-- the most segments of one chunk of a write list, of all of them, and of a reply chunk
+abbrev pub CHUNK_SEGMENTS_MAX : ℕ
+CHUNK_SEGMENTS_MAX = 16
+
+abbrev pub WRITE_SEGMENTS_MAX : ℕ
+WRITE_SEGMENTS_MAX = 16
+
+abbrev pub REPLY_SEGMENTS_MAX : ℕ
+REPLY_SEGMENTS_MAX = 16
+
+-- the most bytes of a stream behind its header and of the read list together
+abbrev pub PAYLOAD_MAX : ℕ
+PAYLOAD_MAX = 40960
