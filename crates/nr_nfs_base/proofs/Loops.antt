@@ -4,7 +4,8 @@ use Rattle.std.proofs.lemmas.List.{append-nil}
 use Rattle.nr_xdr.specs.Reading.{Cursor}
 use Rattle.nr_nfs_base.specs.declared.fault.ValueFault.{ValueFault}
 use Rattle.nr_nfs_base.specs.declared.fault.ValueFault.TheVariants as faults
-use Rattle.nr_nfs_base.specs.Codec.{Codec, ◌>>=◌, before, chain_read, optional, times, Answers}
+use Rattle.nr_xdr.specs.Steps.{◌>>=◌}
+use Rattle.nr_nfs_base.specs.Codec.{Codec, before, chain_read, optional, times, Answers}
 
 abbrev ValuesRead : Type 0 → Type 0
 ValuesRead A = Result (List A × Cursor) ℕ

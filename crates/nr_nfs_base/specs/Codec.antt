@@ -5,6 +5,7 @@ use Rattle.nr_xdr.specs.declared.fault.ItemFault.{ItemFault}
 use Rattle.nr_xdr.specs.Item.{Item, Fits, Reads, IsBytes, spelling}
 use Rattle.nr_xdr.specs.Item.Item.{Unsigned, Hyper, Boolean, Opaque}
 use Rattle.nr_xdr.specs.Reading.{Cursor, Takes, place_of, unsigned_at, hyper_at, boolean_at, opaque_at}
+use Rattle.nr_xdr.specs.Steps.{◌>>=◌, or_place}
 use Rattle.nr_nfs_base.specs.declared.fault.ValueFault.{ValueFault}
 use Rattle.nr_nfs_base.specs.declared.fault.ValueFault.TheVariants as faults
 
@@ -33,12 +34,6 @@ ReadsAll (item ∷ items) bytes = (front : List ℕ) × (rest : List ℕ) × Rea
 abbrev pub ReadsAs : {A : Type 0} → Codec A → A → List ℕ → Type 0
 ReadsAs c v bytes = c.fits v × ReadsAll (c.items v) bytes
 
--- one step, and with its value the next
-infixl 10 ◌>>=◌
-abbrev pub ◌>>=◌ : {A B : Type 0} → Result A ℕ → (A → Result B ℕ) → Result B ℕ
-(Ok x) >>= f = f x
-(Err at) >>= f = Err at
-
 -- what is read of all the bytes: a fault at the first item that fails, or at the first byte left over
 abbrev pub begin : List ℕ → Cursor
 begin bytes = record { place = 0; rest = bytes }
@@ -56,24 +51,19 @@ pub record Lawful {A : Type 0} (c : Codec A) : Type 0 where
 
 -- ---- The items
 
--- an item, with the place of a fault in its stead
-abbrev pub placed : {X : Type 0} → Result X ItemFault → Result X ℕ
-placed (Ok x) = Ok x
-placed (Err fault) = Err (place_of fault)
-
 -- RFC 4506 sections 4.2, 4.5, 4.4
 unfoldable pub word : Codec ℕ
-word = record { items = λ n. Unsigned n ∷ []; fits = λ _. Unit {0}; read = λ at. placed (unsigned_at at) }
+word = record { items = λ n. Unsigned n ∷ []; fits = λ _. Unit {0}; read = λ at. or_place (unsigned_at at) }
 
 unfoldable pub hyper : Codec ℕ
-hyper = record { items = λ n. Hyper n ∷ []; fits = λ _. Unit {0}; read = λ at. placed (hyper_at at) }
+hyper = record { items = λ n. Hyper n ∷ []; fits = λ _. Unit {0}; read = λ at. or_place (hyper_at at) }
 
 unfoldable pub boolean : Codec Bool
-boolean = record { items = λ b. Boolean b ∷ []; fits = λ _. Unit {0}; read = λ at. placed (boolean_at at) }
+boolean = record { items = λ b. Boolean b ∷ []; fits = λ _. Unit {0}; read = λ at. or_place (boolean_at at) }
 
 -- opaque data of at most max bytes (RFC 4506 section 4.10)
 unfoldable pub opaque : ℕ → Codec (List ℕ)
-opaque max = record { items = λ bytes. Opaque bytes ∷ []; fits = λ bytes. length bytes ≤ max; read = λ at. placed (opaque_at max at) }
+opaque max = record { items = λ bytes. Opaque bytes ∷ []; fits = λ bytes. length bytes ≤ max; read = λ at. or_place (opaque_at max at) }
 
 -- ---- Made of others
 

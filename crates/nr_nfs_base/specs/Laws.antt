@@ -10,7 +10,8 @@ use Rattle.nr_xdr.specs.Item.Item.{Unsigned, Hyper, Boolean, Opaque}
 use Rattle.nr_xdr.specs.Reading.{Cursor, Takes, unsigned_at, hyper_at, boolean_at, opaque_at}
 use Rattle.nr_xdr.proofs.Numbers.{length-word}
 use Rattle.nr_xdr.proofs.Items.{unsigned_takes, unsigned_again, hyper_takes, hyper_again, boolean_takes, boolean_again, opaque_takes, opaque_again}
-use Rattle.nr_nfs_base.specs.Codec.{Codec, Lawful, TakesAll, ◌>>=◌, placed, word, hyper, boolean, opaque, nothing, ◌⊗◌, via, numbered, known, one_of, Arms, tagged, made_as, value_items, value_fits, value_read, optional, chain_items, chain_fits, before, chain_on, chain_read, chain, times, array}
+use Rattle.nr_xdr.specs.Steps.{◌>>=◌, or_place}
+use Rattle.nr_nfs_base.specs.Codec.{Codec, Lawful, TakesAll, word, hyper, boolean, opaque, nothing, ◌⊗◌, via, numbered, known, one_of, Arms, tagged, made_as, value_items, value_fits, value_read, optional, chain_items, chain_fits, before, chain_on, chain_read, chain, times, array}
 
 -- ---- Results
 
@@ -25,7 +26,7 @@ pub bind_ok : {A B : Type 0} (r : Result A ℕ) (f : A → Result B ℕ) (y : B)
 bind_ok (Ok x) f y e = (x, refl, e)
 bind_ok (Err at) f y e = absurd cc
 
-placed_ok : {X : Type 0} (r : Result X ItemFault) (x : X) → placed r ≡ Ok x → r ≡ Ok x
+placed_ok : {X : Type 0} (r : Result X ItemFault) (x : X) → or_place r ≡ Ok x → r ≡ Ok x
 placed_ok (Ok y) x e = ap Ok (ok_is y x e)
 placed_ok (Err fault) x e = absurd cc
 
@@ -61,21 +62,21 @@ pub word_lawful : Lawful word
 unfolding word
 word_lawful = record {
   takes = λ old n new fits e. (tt, takes_one old new (Unsigned n) (unsigned_takes old n new fits (placed_ok (unsigned_at old) (n, new) e)));
-  again = λ old n new fits t. ap placed (unsigned_again old n new (one_taken old new (Unsigned n) t));
+  again = λ old n new fits t. ap or_place (unsigned_again old n new (one_taken old new (Unsigned n) t));
 }
 
 pub hyper_lawful : Lawful hyper
 unfolding hyper
 hyper_lawful = record {
   takes = λ old n new fits e. (tt, takes_one old new (Hyper n) (hyper_takes old n new fits (placed_ok (hyper_at old) (n, new) e)));
-  again = λ old n new fits t. ap placed (hyper_again old n new (one_taken old new (Hyper n) t));
+  again = λ old n new fits t. ap or_place (hyper_again old n new (one_taken old new (Hyper n) t));
 }
 
 pub boolean_lawful : Lawful boolean
 unfolding boolean
 boolean_lawful = record {
   takes = λ old b new fits e. (tt, takes_one old new (Boolean b) (boolean_takes old b new fits (placed_ok (boolean_at old) (b, new) e)));
-  again = λ old b new fits t. ap placed (boolean_again old b new (one_taken old new (Boolean b) t));
+  again = λ old b new fits t. ap or_place (boolean_again old b new (one_taken old new (Boolean b) t));
 }
 
 pub opaque_lawful : (max : ℕ) → Lawful (opaque max)
@@ -84,7 +85,7 @@ opaque_lawful max = record {
   takes = λ old bytes new fits e.
       let t = opaque_takes old max bytes new fits (placed_ok (opaque_at max old) (bytes, new) e) in
       (t.1, takes_one old new (Opaque bytes) t.0);
-  again = λ old bytes new fits t. ap placed (opaque_again old max bytes new fits (one_taken old new (Opaque bytes) t));
+  again = λ old bytes new fits t. ap or_place (opaque_again old max bytes new fits (one_taken old new (Opaque bytes) t));
 }
 
 -- ---- Made of others

@@ -7,7 +7,7 @@ use Rattle.nr_xdr.specs.Reading.{Cursor, Takes, opaque_at}
 use Rattle.nr_xdr.proofs.Chains.{IsBytes-opaque}
 use Rattle.nr_rpc.specs.declared.limits.TheConstants.{AUTH_BODY_MAX}
 use Rattle.nr_rpc.specs.Credential.{Auth}
-use Rattle.nr_xdr.specs.Steps.{◌>>=◌, placed}
+use Rattle.nr_xdr.specs.Steps.{◌>>=◌, or_place}
 use Rattle.nr_xdr.proofs.Steps.{bind_ok, chosen, done, ok_is, number_step, number_again, opaque_step, opaque_placed}
 use Rattle.nr_rpc.specs.Reading.{this_at, auth_at}
 
@@ -49,7 +49,7 @@ pub auth_step : {B : Type 0} (c : Cursor) (f : Auth × Cursor → Result B ℕ) 
 unfolding auth_at
 auth_step c f y fits e =
     let a = bind_ok (auth_at c) f y e in
-    let flavor = number_step c (λ flavor. placed (opaque_at AUTH_BODY_MAX flavor.1) >>= λ body. Ok (record { flavor = flavor.0; body = body.0 }, body.1)) a.0 fits a.1 in
+    let flavor = number_step c (λ flavor. or_place (opaque_at AUTH_BODY_MAX flavor.1) >>= λ body. Ok (record { flavor = flavor.0; body = body.0 }, body.1)) a.0 fits a.1 in
     let body = opaque_step AUTH_BODY_MAX flavor.0.1 (λ body. Ok (record { flavor = flavor.0.0; body = body.0 }, body.1)) a.0 flavor.2 flavor.3 in
     let made : Auth × Cursor = (record { flavor = flavor.0.0; body = body.0.0 }, body.0.1) in
     let taken : TakesAuth made.0 c made.1 = record { behind_flavor = flavor.0.1; flavor = flavor.1; body = body.1; within = body.2 } in

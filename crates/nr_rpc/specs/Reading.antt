@@ -1,7 +1,7 @@
 -- What is read at a cursor, or the place of the first item that fails.
 use Rattle.std.specs.Prelude.{◌≡◌, ℕ, zero, suc, List, [], ◌∷◌, length, Option, Some, None, unwrap_or, Result, Ok, Err, nat_lt, ◌==◌, if◌then◌else◌}
 use Rattle.nr_xdr.specs.Reading.{Cursor, opaque_at}
-use Rattle.nr_xdr.specs.Steps.{◌>>=◌, placed, number_at}
+use Rattle.nr_xdr.specs.Steps.{◌>>=◌, or_place, number_at}
 use Rattle.nr_rpc.specs.declared.limits.TheConstants.{AUTH_BODY_MAX, MACHINE_MAX, GIDS_MAX, RPC_VERSION, CALL, REPLY, MSG_ACCEPTED, MSG_DENIED, PROG_MISMATCH, RPC_MISMATCH, AUTH_ERROR, AUTH_NONE, AUTH_SYS}
 use Rattle.nr_rpc.specs.declared.fault.HeadFault.{HeadFault}
 use Rattle.nr_rpc.specs.declared.fault.HeadFault.TheVariants as faults
@@ -29,7 +29,7 @@ this_at wanted c = do
 unfoldable pub auth_at : Cursor → Result (Auth × Cursor) ℕ
 auth_at c = do
   flavor ← number_at c
-  body ← placed (opaque_at AUTH_BODY_MAX flavor.1)
+  body ← or_place (opaque_at AUTH_BODY_MAX flavor.1)
   Ok (record { flavor = flavor.0; body = body.0 }, body.1)
 
 -- so many numbers
@@ -50,7 +50,7 @@ gids_at c = do
 unfoldable pub sys_at : Cursor → Result (Cred × Cursor) ℕ
 sys_at c = do
   stamp ← number_at c
-  machine ← placed (opaque_at MACHINE_MAX stamp.1)
+  machine ← or_place (opaque_at MACHINE_MAX stamp.1)
   uid ← number_at machine.1
   gid ← number_at uid.1
   gids ← gids_at gid.1
