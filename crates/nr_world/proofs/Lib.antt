@@ -16,3 +16,10 @@ pub mod Rounds
 pub mod Opening
 pub mod Reporting
 pub mod Parsing
+pub mod StayingLists
+pub mod StayingStreams
+pub mod StayingRuns
+pub mod StayingOwed
+pub mod StayingAnswers
+pub mod StayingCalls
+pub mod Staying

@@ -20,3 +20,4 @@ pub mod Ending
 pub mod Steps
 pub mod Stands
 pub mod Parsing
+pub mod Staying

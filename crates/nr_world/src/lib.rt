@@ -2,6 +2,7 @@
 #![tactic(auto)]
 
 mod call;
+mod laws;
 mod listed;
 mod mark;
 mod message;
@@ -13,6 +14,7 @@ mod script;
 mod world;
 
 pub use call::{Call, End, Form, Lack, Lengths, Offer, Outcome, Refused, Submission};
+pub use laws::link_that_stays;
 pub use listed::Listed;
 pub use mark::{Entry, Mark, Marks, Moment, Opened};
 pub use printing::shown;

@@ -1,0 +1,47 @@
+-- A link that stays: nothing is left to do on it, and what it takes that every call of it completes.
+use Rattle.std.specs.Prelude.{◌≡◌, ℕ, ◌^◌, ◌<◌, ◌≤◌, List, [], length, None, Some, Contains}
+use Rattle.std.specs.List.{flat_map}
+use Rattle.nr_wire.specs.declared.hello.Side.TheVariants.{Initiator, Responder}
+use Rattle.nr_rpc.specs.declared.head.CallHead.{CallHead}
+use Rattle.nr_rpc.specs.declared.head.CallHead.TheVariants.{Version2}
+use Rattle.nr_rpc.specs.Call.{CanWriteCall, CallFits}
+use Rattle.nr_rpc.specs.Reading.{call_of, reply_of}
+use Rattle.nr_world.specs.declared.mark.Entry.{Entry}
+use Rattle.nr_world.specs.declared.mark.Mark.{Mark}
+use Rattle.nr_world.specs.declared.mark.Moment.{Moment}
+use Rattle.nr_world.specs.declared.mark.Opened.{Opened}
+use Rattle.nr_world.specs.Observed.{PlainServer, Accepted, sent, got, accepted}
+use Rattle.nr_world.specs.Messages.{inline_message, call_xid, reply_xid}
+use Rattle.nr_world.specs.Asked.{done_for}
+use Rattle.nr_world.specs.Served.{next_call}
+use Rattle.nr_world.specs.Limits.{send_max}
+
+-- Nothing is left to do on a link: each side got all that the other sent, every call that came whole is executed, and every
+-- outcome that came is handed over.
+pub record IsSettled (link : ℕ) (run : List Mark) : Type 0 where
+  pub up : got link Responder run ≡ sent link Initiator run
+  pub down : got link Initiator run ≡ sent link Responder run
+  pub executed : next_call link run ≡ None
+  pub handed : flat_map (done_for link run) (accepted link run) ≡ []
+
+-- the head of an accepted call (RFC 5531 section 9)
+abbrev pub head_of : Accepted → CallHead
+head_of a = Version2 a.xid a.call.prog a.call.vers a.call.proc a.call.cred 0
+
+-- The credits that the ends of a link were opened with are words, its xids don't begin at 0, and each call that it accepted
+-- has a spelling under its xid.
+pub record AreWords (opened : Opened) (link : ℕ) (run : List Mark) : Type 0 where
+  pub wished : opened.wished < 2 ^ 32
+  pub granted : opened.granted < 2 ^ 32
+  pub first : 1 ≤ opened.first_xid
+  pub spelled : (a : Accepted) → Contains (accepted link run) a → CanWriteCall (head_of a) × CallFits (head_of a)
+
+-- A reply that goes without lists: it is under the xid of its call, and the message that carries it is no longer than a Send
+-- may be.
+pub record IsInline (payload reply : List ℕ) : Type 0 where
+  pub own : (xid : ℕ) → xid < 2 ^ 32 → call_xid (call_of payload) ≡ Some xid → reply_xid (reply_of reply) ≡ Some xid
+  pub short : (xid credit : ℕ) → length (inline_message xid credit reply) ≤ send_max
+
+-- a server of which no more is known than that its replies are such, and what its journal gets
+abbrev pub inline_server : (Moment → List ℕ → List ℕ → List Entry) → PlainServer
+inline_server adds = record { Replies = λ entries moment payload reply. IsInline payload reply; adds = adds }

@@ -1,0 +1,23 @@
+//! Laws of runs, whatever made their marks.
+
+ghost use Rattle.std.specs.Prelude.{ℕ, List};
+ghost use Rattle.nr_world.specs.declared.mark.Entry.{Entry};
+ghost use Rattle.nr_world.specs.declared.mark.Mark.{Mark};
+ghost use Rattle.nr_world.specs.declared.mark.Moment.{Moment};
+ghost use Rattle.nr_world.specs.declared.mark.Opened.{Opened};
+ghost use Rattle.nr_world.specs.Asked.{Asked};
+ghost use Rattle.nr_world.specs.Completion.{IsComplete};
+ghost use Rattle.nr_world.specs.Plain.{drill_server};
+ghost use Rattle.nr_world.specs.Served.{Served};
+ghost use Rattle.nr_world.specs.Staying.{AreWords, IsSettled, inline_server};
+
+/// On a link that stays every call completes: where each side wrote all that it has to write and nothing is left to do,
+/// every accepted call has its outcome.
+pub fn link_that_stays()
+    ensures inline { (adds : Moment → List ℕ → List ℕ → List Entry) (opened : Opened) (link : ℕ) (run : List Mark) →
+        AreWords opened link run → Asked opened link run → Served (inline_server adds) opened link run →
+        IsSettled link run → IsComplete link run }
+    // The server of these drills is one of those.
+    ensures drill { (opened : Opened) (link : ℕ) (run : List Mark) → AreWords opened link run → Asked opened link run →
+        Served drill_server opened link run → IsSettled link run → IsComplete link run }
+{}
