@@ -9,6 +9,7 @@ pub mod Asked
 pub mod Served
 pub mod Matched
 pub mod Completion
+pub mod Staying
 pub mod Places
 pub mod Script
 pub mod Follows
@@ -20,4 +21,3 @@ pub mod Ending
 pub mod Steps
 pub mod Stands
 pub mod Parsing
-pub mod Staying
