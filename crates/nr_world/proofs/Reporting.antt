@@ -1,5 +1,5 @@
 -- What a drill that ended reports.
-use Rattle.std.proofs.Common.{◌≡◌, ℕ, zero, suc, ◌<◌, ◌≤◌, Bool, true, cond, Result, Ok, Err, List, [], ◌∷◌, ◌++◌, length, map, Some, Contains, refl, sym, ap, subst, ◌∙◌, arith}
+use Rattle.std.proofs.Common.{◌≡◌, ℕ, zero, suc, ◌<◌, ◌≤◌, Bool, true, cond, Result, Ok, Err, List, [], ◌∷◌, ◌++◌, length, map, Some, None, Contains, refl, sym, ap, subst, ◌∙◌, arith}
 use Rattle.std.specs.Prelude.{IfOk}
 use Rattle.std.proofs.lemmas.Bool.Decides.{nat_tests}
 use Rattle.std.proofs.lemmas.List.{append-nil, nil_from_length}
@@ -7,24 +7,29 @@ use Rattle.nr_outside.specs.Pipe.{PipeState}
 use Rattle.nr_wire.specs.declared.hello.Side.TheVariants.{Initiator, Responder}
 use Rattle.nr_world.specs.declared.call.Outcome.TheVariants as outcomes
 use Rattle.nr_world.specs.declared.mark.Mark.{Mark}
+use Rattle.nr_world.specs.declared.mark.Opened.{Opened}
 use Rattle.nr_world.specs.declared.report.Fate.{Fate}
 use Rattle.nr_world.specs.declared.report.Fate.TheVariants as fates
 use Rattle.nr_world.specs.declared.report.LinkFate.TheVariants as links
 use Rattle.nr_world.specs.declared.report.Report.{Report}
 use Rattle.nr_world.specs.Observed.{Accepted, Executed, Completed, links_of, executed, journal, sent}
+use Rattle.nr_world.specs.Served.{next_call}
 use Rattle.nr_world.specs.Completion.{IsComplete}
+use Rattle.nr_world.specs.Staying.{IsSettled}
 use Rattle.nr_world.specs.Places.{PlacesRise}
 use Rattle.nr_world.specs.Plain.{null_reply, drill_server}
 use Rattle.nr_world.specs.Script.{ScriptLines, Line, turns}
-use Rattle.nr_world.specs.Follows.{drill_opened, openings, start, MakeAll}
+use Rattle.nr_world.specs.Follows.{Drill, drill_opened, openings, start, WorksAll, MakeAll}
 use Rattle.nr_world.specs.Shown.{Seen, seen_of, calls_told, links_told}
 use Rattle.nr_world.specs.Stops.{no_stops}
 use Rattle.nr_world.specs.Promise.{HoldsOn}
 use Rattle.nr_world.specs.Headline.{IsDrill, Reports, log_of}
-use Rattle.nr_world.specs.Steps.{State, the_link}
-use Rattle.nr_world.specs.Stands.{each, accepted_call, executed_call, completed_call, told_call, told_in, is_one_of, seen_by, Stands, IsQuiet, drill_of, Played, Tells}
+use Rattle.nr_world.specs.Steps.{State, the_link, worked}
+use Rattle.nr_world.specs.Stands.{each, upward, downward, counts_of, accepted_call, executed_call, completed_call, told_call, told_in, is_one_of, seen_by, Stands, IsQuiet, drill_of, Played, Tells}
 use Rattle.nr_world.proofs.Runs.{Contains-each, each-within}
 use Rattle.nr_world.proofs.Marking.{told-all}
+use Rattle.nr_world.proofs.Serving.{works}
+use Rattle.nr_world.proofs.Staying.{handed_over}
 
 -- every accepted call has its outcome
 complete-is : (s : State) → Stands s → IsQuiet s → IsComplete the_link s.marks
@@ -34,6 +39,26 @@ complete-is s st quiet a held =
     let there : Contains (each completed_call (length s.told)) (completed_call k) = Contains-each completed_call (length s.told) k of.1 (omega (arith, of.2, quiet)) in
     (completed_call k, subst (λ (xs : List Completed). Contains xs (completed_call k)) (sym st.at.completed_are) there, ap (λ (x : Accepted). x.xid) of.3)
 
+-- work goes on until no call is left
+none_left : (opened : Opened) (count : ℕ) (old new : Drill) → WorksAll drill_server opened the_link count old new → next_call the_link new.marks ≡ None
+none_left opened zero old new w = ap (λ (d : Drill). next_call the_link d.marks) w.1 ∙ w.0
+none_left opened (suc count) old new w = none_left opened count w.0 new w.2
+
+-- and once nothing is out, nothing is left to do
+settled-is : (s : State) → Stands s → IsQuiet s → IsSettled the_link s.marks
+settled-is s st quiet =
+    let c = s.credits in
+    let came : (counts_of s).came ≡ s.asked = omega (arith, st.came_asked, st.heard_served, quiet) in
+    let told : length s.told ≡ s.served = omega (arith, st.came_asked, st.heard_served, quiet) in
+    let w = works s st in
+    let none = none_left (drill_opened c) w.count (drill_of s) (drill_of (worked s)) w.works in
+    record {
+      up = st.at.up_got ∙ ap (upward c) came ∙ sym st.at.up_sent;
+      down = st.at.down_got ∙ ap (downward c) told ∙ sym st.at.down_sent;
+      executed = ap (λ (t : State). next_call the_link t.marks) (sym (w.still (omega (arith, came, told, quiet)))) ∙ none;
+      handed = handed_over the_link s.marks (complete-is s st quiet);
+    }
+
 -- the promise holds of the link of a drill that ended
 holds-is : (s : State) → Stands s → IsQuiet s → HoldsOn drill_server (drill_opened s.credits) the_link s.marks
 holds-is s st quiet = record {
@@ -42,6 +67,7 @@ holds-is s st quiet = record {
   matched = st.laws.matched;
   grant = st.laws.grant;
   faithful = st.laws.faithful;
+  settled = settled-is s st quiet;
   complete = complete-is s st quiet;
   unrefused = st.laws.unrefused;
 }

@@ -1,10 +1,11 @@
 -- On a link that stays every call completes.
 use Rattle.std.proofs.Common.{◌≡◌, ℕ, ◌^◌, ◌<◌, Bool, true, cond, eqb, Option, None, Some, Result, Ok, Err, List, [], ◌++◌, ◌&&◌, length, map, Contains, slice_get, refl, sym, ap, subst, ◌∙◌, arith, lit<, ◌≤◌, inl, inr}
 use Rattle.std.specs.Prelude.{find}
-use Rattle.std.specs.List.{filter, list_any, AllByRecursion}
+use Rattle.std.specs.List.{flat_map, filter, list_any, AllByRecursion}
 use Rattle.std.proofs.lemmas.Bool.{eq-eqb, eqb-true, cases_Bool}
 use Rattle.std.proofs.lemmas.List.{append-nil, length-map}
-use Rattle.std.proofs.lemmas.List.Folds.{list_any_at, Any-from_list_any}
+use Rattle.std.proofs.lemmas.List.Folds.{list_any_at, Any-from_list_any, list_any-from_Any}
+use Rattle.std.proofs.lemmas.List.Elements.{All-weaker, All-contains_itself, recursion_from_All}
 use Rattle.std.proofs.lemmas.Option.{cond_some, same_Some}
 use Rattle.nr_wire.specs.declared.hello.Side.TheVariants.{Initiator, Responder}
 use Rattle.nr_rpc.specs.declared.cred.Cred.TheVariants as creds
@@ -28,7 +29,7 @@ use Rattle.nr_world.specs.Staying.{AreWords, IsSettled}
 use Rattle.nr_world.proofs.Nulls.{length-null_reply}
 use Rattle.nr_world.proofs.Inline.{has_words-message, length-inline_message}
 use Rattle.nr_world.proofs.Streams.{is_greeted-own}
-use Rattle.nr_world.proofs.StayingLists.{none_behind, all_each, all_both, all_map, all_mapped, filter_map-map, filter-map, list_any-map, found, nothing_of}
+use Rattle.nr_world.proofs.StayingLists.{none_behind, all_each, all_both, all_map, all_mapped, filter_map-map, filter-map, list_any-map, found, nothing_of, nothing_from}
 use Rattle.nr_world.proofs.StayingStreams.{sends, AreShort, messages-sends}
 use Rattle.nr_world.proofs.StayingOwed.{ask_message, owed_client}
 use Rattle.nr_world.proofs.StayingAnswers.{reply_message, Client, owed_server, call_of_executed, IsReplied, executed_first}
@@ -140,6 +141,19 @@ module _ (plain : PlainServer) (opened : Opened) (link : ℕ) (run : List Mark) 
             let left : done_with link a.xid replied ≡ [] = sym (ap (λ (b : Bool). cond b [] (done_with link a.xid replied)) missing) ∙ none in
             absurd (no_done link a.xid replied came_back.0 came_back.1 left)
       ]
+
+-- and where every call is complete, nothing is left to hand over
+pub handed_over : (link : ℕ) (run : List Mark) → IsComplete link run → flat_map (done_for link run) (accepted link run) ≡ []
+handed_over link run complete =
+    let asks = accepted link run in
+    nothing_from (done_for link run) asks
+    (recursion_from_All (λ a. done_for link run a ≡ []) asks
+    (All-weaker (Contains asks) (λ a. done_for link run a ≡ []) (λ a held.
+    let c = complete a held in
+    let known : list_any (λ c. eqb c.xid a.xid) (completed link run) ≡ true =
+    list_any-from_Any (λ (d : Completed). eqb d.xid a.xid) (completed link run) (c.1.0, c.0, c.1.1, c.1.2, eq-eqb c.0.xid a.xid c.2) in
+    rw known refl)
+    asks (All-contains_itself asks)))
 
 -- ---- the drill's server
 

@@ -9,6 +9,7 @@ pub mod Asked
 pub mod Served
 pub mod Matched
 pub mod Completion
+pub mod Staying
 pub mod Places
 pub mod Script
 pub mod Follows

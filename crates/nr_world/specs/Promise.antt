@@ -11,6 +11,7 @@ use Rattle.nr_world.specs.Asked.{Asked}
 use Rattle.nr_world.specs.Served.{Served}
 use Rattle.nr_world.specs.Matched.{Matched}
 use Rattle.nr_world.specs.Completion.{IsFaithful, IsComplete}
+use Rattle.nr_world.specs.Staying.{IsSettled}
 
 -- no submission of the run is refused
 abbrev pub IsAccepted : ℕ → List Mark → Mark → Type 0
@@ -18,12 +19,13 @@ IsAccepted link before (marks.Submit l call form (submissions.Accepted xid)) = U
 IsAccepted link before (marks.Submit l call form (submissions.Refused why)) = l ≡ link → ⊥
 IsAccepted link before mark = Unit {0}
 
--- What holds of one link. The link stays, so every accepted call completes.
+-- What holds of one link. After the last drain nothing is left to do on it. The link stays, so every accepted call completes.
 pub record HoldsOn (plain : PlainServer) (opened : Opened) (link : ℕ) (run : List Mark) : Type 0 where
   pub asked : Asked opened link run
   pub served : Served plain opened link run
   pub matched : Matched link run
   pub grant : KeepsGrant link run
   pub faithful : IsFaithful plain link run
+  pub settled : IsSettled link run
   pub complete : IsComplete link run
   pub unrefused : Along (IsAccepted link) [] run

@@ -36,12 +36,13 @@ pub record AreWords (opened : Opened) (link : ℕ) (run : List Mark) : Type 0 wh
   pub first : 1 ≤ opened.first_xid
   pub spelled : (a : Accepted) → Contains (accepted link run) a → CanWriteCall (head_of a) × CallFits (head_of a)
 
--- A reply that goes without lists: it is under the xid of its call, and the message that carries it is no longer than a Send
--- may be.
+-- A reply that goes without lists (RFC 8166 section 4.3): it is under the xid of its call, and the message that carries it is
+-- no longer than a Send may be.
 pub record IsInline (payload reply : List ℕ) : Type 0 where
   pub own : (xid : ℕ) → xid < 2 ^ 32 → call_xid (call_of payload) ≡ Some xid → reply_xid (reply_of reply) ≡ Some xid
   pub short : (xid credit : ℕ) → length (inline_message xid credit reply) ≤ send_max
 
--- a server of which no more is known than that its replies are such, and what its journal gets
+-- A server of which no more is known than that its replies are such, and what its journal gets: whatever another one serves,
+-- this one may serve too, if its replies are such.
 abbrev pub inline_server : (Moment → List ℕ → List ℕ → List Entry) → PlainServer
 inline_server adds = record { Replies = λ entries moment payload reply. IsInline payload reply; adds = adds }

@@ -14,6 +14,7 @@ ghost use Rattle.nr_world.specs.Staying.{AreWords, IsSettled, inline_server};
 /// On a link that stays every call completes: where each side wrote all that it has to write and nothing is left to do,
 /// every accepted call has its outcome.
 pub fn link_that_stays()
+    // Whatever the server, as long as its replies go without lists.
     ensures inline { (adds : Moment → List ℕ → List ℕ → List Entry) (opened : Opened) (link : ℕ) (run : List Mark) →
         AreWords opened link run → Asked opened link run → Served (inline_server adds) opened link run →
         IsSettled link run → IsComplete link run }
