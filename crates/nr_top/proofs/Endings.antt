@@ -9,7 +9,7 @@ use Rattle.nr_world.specs.Shown.{shown, text_of}
 use Rattle.nr_top.specs.Ends.Cause.{WrongWords, NoMemory, InputFault, OutputFault, BadScript, OverBudget}
 use Rattle.nr_top.specs.Statuses as statuses
 use Rattle.nr_top.specs.Words.{is_drill, due_status}
-use Rattle.nr_top.specs.Ends.{InputAt, SinkAt, Wrote, CutOff, Silent, BadLine, TooLong, Cause, FaultTold, IsSaid, printed, memory_text, bad_line_text, budget_text, Ends, Stopped, Spoke, Says}
+use Rattle.nr_top.specs.Ends.{InputAt, SinkAt, Wrote, CutOff, Silent, BadLine, TooLong, Cause, FaultTold, printed, memory_text, bad_line_text, budget_text, Ends, Stopped, Spoke, Says}
 
 -- what is printed of a report is what is shown of its marks
 pub printed_is : (script : ScriptLines) (report : Report) (text : List ℕ) → Reports script report → text ≡ text_of report.calls report.links (length report.journal) → text ≡ printed script report.marks
@@ -19,6 +19,7 @@ printed_is script report text reports e = e ∙ (λ i. text_of (reports.calls i)
 -- the count of err rose
 told_fault : (words : List (List ℕ)) (status : ℕ) (input input' : InputAt) (out out' err err' : SinkAt) → status ≡ statuses.fault → FaultTold words input input' out out' err err' → Ends words status input input' out out' err err'
 told_fault words status input input' out out' err err' is told = record {
+  known = inr (inr (inr (inl is)));
   done = λ e. absurd (omega (arith, e, is));
   words_bad = λ e. absurd (omega (arith, e, is));
   memory = λ e. absurd (omega (arith, e, is));
@@ -30,36 +31,43 @@ told_fault words status input input' out out' err err' is told = record {
   words_due = λ _. inr is;
 }
 
--- what is said of a stop, where it was said or the count of err rose
-said_or : {due : ℕ} {text : List ℕ} (cause : Cause) (words : List (List ℕ)) (status : ℕ) (input input' : InputAt) (out out' err err' : SinkAt) → Stopped cause words input input' out out' → IsSaid cause text → Spoke due text status err err' → (status ≡ due → Wrote err err' text → Ends words status input input' out out' err err') → Ends words status input input' out out' err err'
-said_or cause words status input input' out out' err err' stopped due_text (inl said) make = make said.0 said.1
-said_or cause words status input input' out out' err err' stopped due_text (inr failed) make =
-    told_fault words status input input' out out' err err' failed.0 (inr (inr (record { cause = cause; stopped = stopped; text = _; said = due_text; cut = failed.1 })))
+-- what is said of a cause with this status
+with_status : (cause : Cause) (status : ℕ) (err err' : SinkAt) → status ≡ statuses.fault → Says cause status err err' → Says cause statuses.fault err err'
+with_status cause status err err' is said = subst (λ (s : ℕ). Says cause s err err') is said
 
-bad_words : (words : List (List ℕ)) (status : ℕ) (input input' : InputAt) (out out' err err' : SinkAt) → is_drill words ≡ false → input' ≡ input → out' ≡ out → status ≡ statuses.bad_words → Wrote err err' (codes "bad words\n") → Ends words status input input' out out' err err'
-bad_words words status input input' out out' err err' other same quiet is said = record {
+-- what is said of a cause was said, or the count of err rose
+said_or : {due : ℕ} {text : List ℕ} (cause : Cause) (words : List (List ℕ)) (status : ℕ) (input input' : InputAt) (out out' err err' : SinkAt) → Stopped cause words input input' out out' → Says cause status err err'
+    → Spoke due text status err err' → (status ≡ due → Wrote err err' text → Ends words status input input' out out' err err') → Ends words status input input' out out' err err'
+said_or cause words status input input' out out' err err' stopped said (inl spoke) make = make spoke.0 spoke.1
+said_or cause words status input input' out out' err err' stopped said (inr failed) make =
+    told_fault words status input input' out out' err err' failed.0 (cause, stopped, with_status cause status err err' failed.0 said)
+
+bad_words : (words : List (List ℕ)) (status : ℕ) (input input' : InputAt) (out out' err err' : SinkAt) → Stopped WrongWords words input input' out out' → status ≡ statuses.bad_words → Wrote err err' (codes "bad words\n") → Ends words status input input' out out' err err'
+bad_words words status input input' out out' err err' stopped is said = record {
+  known = inr (inl is);
   done = λ e. absurd (omega (arith, e, is));
-  words_bad = λ _. (other, same, quiet, said);
+  words_bad = λ _. (stopped, said);
   memory = λ e. absurd (omega (arith, e, is));
   script = λ e. absurd (omega (arith, e, is));
   budget = λ e. absurd (omega (arith, e, is));
   fault = λ e. absurd (omega (arith, e, is));
-  unfailing = λ _. (ap (λ (i : InputAt). i.faults) same, ap (λ (o : SinkAt). o.faults) quiet, said.unfailing);
-  due = λ text left. inl (rw (other) is);
+  unfailing = λ _. (ap (λ (i : InputAt). i.faults) stopped.1, ap (λ (o : SinkAt). o.faults) stopped.2, said.unfailing);
+  due = λ text left. inl (rw (stopped.0) is);
   words_due = λ _. inl is;
 }
 
-no_memory : (words : List (List ℕ)) (status : ℕ) (input input' : InputAt) (out out' err err' : SinkAt) → is_drill words ≡ true → input'.faults ≡ input.faults → Silent out out' → status ≡ statuses.no_memory → Wrote err err' memory_text → Ends words status input input' out out' err err'
-no_memory words status input input' out out' err err' line same quiet is said = record {
+no_memory : (words : List (List ℕ)) (status : ℕ) (input input' : InputAt) (out out' err err' : SinkAt) → Stopped NoMemory words input input' out out' → status ≡ statuses.no_memory → Wrote err err' memory_text → Ends words status input input' out out' err err'
+no_memory words status input input' out out' err err' stopped is said = record {
+  known = inr (inr (inl is));
   done = λ e. absurd (omega (arith, e, is));
   words_bad = λ e. absurd (omega (arith, e, is));
-  memory = λ _. (line, same, quiet, said);
+  memory = λ _. (stopped, said);
   script = λ e. absurd (omega (arith, e, is));
   budget = λ e. absurd (omega (arith, e, is));
   fault = λ e. absurd (omega (arith, e, is));
-  unfailing = λ _. (same, quiet.unfailing, said.unfailing);
+  unfailing = λ _. (stopped.1, stopped.2.unfailing, said.unfailing);
   due = λ text left. inr (inl is);
-  words_due = λ other. absurd (cc (line, other));
+  words_due = λ other. absurd (cc (stopped.0, other));
 }
 
 -- a text that was told
@@ -70,53 +78,65 @@ told_same left text read all told = subst (λ (l : Option (List ℕ)). IfSome l 
 due_of_bad : (words : List (List ℕ)) (text : List ℕ) (number : ℕ) → is_drill words ≡ true → length text ≤ script_max → script_of text ≡ Err number → due_status words text ≡ statuses.bad_script
 due_of_bad words text number line within bad = rw (line, le-ltb script_max (length text) within, bad) refl
 
-bad_script : (number : ℕ) (words : List (List ℕ)) (status : ℕ) (input input' : InputAt) (out out' err err' : SinkAt) → BadLine number words input input' → Silent out out' → status ≡ statuses.bad_script → Wrote err err' (bad_line_text number) → Ends words status input input' out out' err err'
-bad_script number words status input input' out out' err err' bad quiet is said = record {
-  done = λ e. absurd (omega (arith, e, is));
-  words_bad = λ e. absurd (omega (arith, e, is));
-  memory = λ e. absurd (omega (arith, e, is));
-  script = λ _. (number, bad, quiet, said);
-  budget = λ e. absurd (omega (arith, e, is));
-  fault = λ e. absurd (omega (arith, e, is));
-  unfailing = λ _. (bad.whole.unfailing, quiet.unfailing, said.unfailing);
-  due = λ text left.
-      let same : bad.text ≡ text = told_same input.left text bad.text bad.whole.all left in
-      inl (is ∙ sym (due_of_bad words text number bad.line (subst (λ (l : List ℕ). length l ≤ script_max) same bad.whole.within) (subst (λ (l : List ℕ). script_of l ≡ Err number) same bad.bad)));
-  words_due = λ other. absurd (cc (bad.line, other));
-}
+bad_script : (number : ℕ) (words : List (List ℕ)) (status : ℕ) (input input' : InputAt) (out out' err err' : SinkAt) → Stopped (BadScript number) words input input' out out' → status ≡ statuses.bad_script → Wrote err err' (bad_line_text number) → Ends words status input input' out out' err err'
+bad_script number words status input input' out out' err err' stopped is said =
+    let bad : BadLine number words input input' = stopped.0 in
+    record {
+      known = inr (inr (inr (inr (inl is))));
+      done = λ e. absurd (omega (arith, e, is));
+      words_bad = λ e. absurd (omega (arith, e, is));
+      memory = λ e. absurd (omega (arith, e, is));
+      script = λ _. (number, stopped, said);
+      budget = λ e. absurd (omega (arith, e, is));
+      fault = λ e. absurd (omega (arith, e, is));
+      unfailing = λ _. (bad.whole.unfailing, stopped.1.unfailing, said.unfailing);
+      due = λ text left.
+          let same : bad.text ≡ text = told_same input.left text bad.text bad.whole.all left in
+          inl (is ∙ sym (due_of_bad words text number bad.line (subst (λ (l : List ℕ). length l ≤ script_max) same bad.whole.within) (subst (λ (l : List ℕ). script_of l ≡ Err number) same bad.bad)));
+      words_due = λ other. absurd (cc (bad.line, other));
+    }
 
 -- the status of an input that is too long
 due_of_long : (words : List (List ℕ)) (text : List ℕ) → is_drill words ≡ true → script_max < length text → due_status words text ≡ statuses.over_budget
 due_of_long words text line long = rw (line, lt-ltb script_max (length text) long) refl
 
-over_budget : (words : List (List ℕ)) (status : ℕ) (input input' : InputAt) (out out' err err' : SinkAt) → TooLong words input → input'.faults ≡ input.faults → Silent out out' → status ≡ statuses.over_budget → Wrote err err' budget_text → Ends words status input input' out out' err err'
-over_budget words status input input' out out' err err' long same quiet is said = record {
-  done = λ e. absurd (omega (arith, e, is));
-  words_bad = λ e. absurd (omega (arith, e, is));
-  memory = λ e. absurd (omega (arith, e, is));
-  script = λ e. absurd (omega (arith, e, is));
-  budget = λ _. (long, same, quiet, said);
-  fault = λ e. absurd (omega (arith, e, is));
-  unfailing = λ _. (same, quiet.unfailing, said.unfailing);
-  due = λ text left. inl (is ∙ sym (due_of_long words text long.line (subst (λ (l : Option (List ℕ)). IfSome l (λ given. script_max < length given)) left long.long)));
-  words_due = λ other. absurd (cc (long.line, other));
-}
+over_budget : (words : List (List ℕ)) (status : ℕ) (input input' : InputAt) (out out' err err' : SinkAt) → Stopped OverBudget words input input' out out' → status ≡ statuses.over_budget → Wrote err err' budget_text → Ends words status input input' out out' err err'
+over_budget words status input input' out out' err err' stopped is said =
+    let long : TooLong words input = stopped.0 in
+    record {
+      known = inr (inr (inr (inr (inr is))));
+      done = λ e. absurd (omega (arith, e, is));
+      words_bad = λ e. absurd (omega (arith, e, is));
+      memory = λ e. absurd (omega (arith, e, is));
+      script = λ e. absurd (omega (arith, e, is));
+      budget = λ _. (stopped, said);
+      fault = λ e. absurd (omega (arith, e, is));
+      unfailing = λ _. (stopped.1, stopped.2.unfailing, said.unfailing);
+      due = λ text left. inl (is ∙ sym (due_of_long words text long.line (subst (λ (l : Option (List ℕ)). IfSome l (λ given. script_max < length given)) left long.long)));
+      words_due = λ other. absurd (cc (long.line, other));
+    }
 
--- a stop that was told makes an end
+-- where there is no memory for the words of a bad line, or of an input that is too long
+without_words : (number : ℕ) (words : List (List ℕ)) (input input' : InputAt) (out out' : SinkAt) → Stopped (BadScript number) words input input' out out' → Stopped NoMemory words input input' out out'
+without_words number words input input' out out' stopped = (stopped.0.line, stopped.0.whole.unfailing, stopped.1)
+
+-- a cause that was told makes an end
 pub ends_of : (cause : Cause) (words : List (List ℕ)) (status : ℕ) (input input' : InputAt) (out out' err err' : SinkAt) → Stopped cause words input input' out out' → Says cause status err err' → Ends words status input input' out out' err err'
 ends_of WrongWords words status input input' out out' err err' stopped said =
-    said_or WrongWords words status input input' out out' err err' stopped refl said (bad_words words status input input' out out' err err' stopped.0 stopped.1 stopped.2)
+    said_or WrongWords words status input input' out out' err err' stopped said said (bad_words words status input input' out out' err err' stopped)
 ends_of NoMemory words status input input' out out' err err' stopped said =
-    said_or NoMemory words status input input' out out' err err' stopped refl said (no_memory words status input input' out out' err err' stopped.0 stopped.1 stopped.2)
+    said_or NoMemory words status input input' out out' err err' stopped said said (no_memory words status input input' out out' err err' stopped)
 ends_of InputFault words status input input' out out' err err' stopped said =
-    said_or InputFault words status input input' out out' err err' stopped refl said (λ is wrote. told_fault words status input input' out out' err err' is (inl (stopped.0, stopped.1, stopped.2, wrote)))
+    said_or InputFault words status input input' out out' err err' stopped said said
+    (λ is wrote. told_fault words status input input' out out' err err' is (InputFault, stopped, with_status InputFault status err err' is said))
 ends_of OutputFault words status input input' out out' err err' stopped said =
-    said_or OutputFault words status input input' out out' err err' stopped refl said (λ is wrote. told_fault words status input input' out out' err err' is (inr (inl (stopped, wrote))))
+    said_or OutputFault words status input input' out out' err err' stopped said said
+    (λ is wrote. told_fault words status input input' out out' err err' is (OutputFault, stopped, with_status OutputFault status err err' is said))
 ends_of (BadScript number) words status input input' out out' err err' stopped (inl said) =
-    said_or (BadScript number) words status input input' out out' err err' stopped (inl refl) said (bad_script number words status input input' out out' err err' stopped.0 stopped.1)
+    said_or (BadScript number) words status input input' out out' err err' stopped (inl said) said (bad_script number words status input input' out out' err err' stopped)
 ends_of (BadScript number) words status input input' out out' err err' stopped (inr said) =
-    said_or (BadScript number) words status input input' out out' err err' stopped (inr refl) said (no_memory words status input input' out out' err err' stopped.0.line stopped.0.whole.unfailing stopped.1)
+    said_or (BadScript number) words status input input' out out' err err' stopped (inr said) said (no_memory words status input input' out out' err err' (without_words number words input input' out out' stopped))
 ends_of OverBudget words status input input' out out' err err' stopped (inl said) =
-    said_or OverBudget words status input input' out out' err err' stopped (inl refl) said (over_budget words status input input' out out' err err' stopped.0 stopped.1 stopped.2)
+    said_or OverBudget words status input input' out out' err err' stopped (inl said) said (over_budget words status input input' out out' err err' stopped)
 ends_of OverBudget words status input input' out out' err err' stopped (inr said) =
-    said_or OverBudget words status input input' out out' err err' stopped (inr refl) said (no_memory words status input input' out out' err err' stopped.0.line stopped.1 stopped.2)
+    said_or OverBudget words status input input' out out' err err' stopped (inr said) said (no_memory words status input input' out out' err err' (stopped.0.line, stopped.1, stopped.2))

@@ -134,42 +134,25 @@ Says OutputFault status err err' = Spoke statuses.fault (codes "output fault\n")
 Says (BadScript number) status err err' = Spoke statuses.bad_script (bad_line_text number) status err err' ⊎ Spoke statuses.no_memory memory_text status err err'
 Says OverBudget status err err' = Spoke statuses.over_budget budget_text status err err' ⊎ Spoke statuses.no_memory memory_text status err err'
 
--- the words that are to be said of a cause
-abbrev pub IsSaid : Cause → List ℕ → Type 0
-IsSaid WrongWords text = text ≡ codes "bad words\n"
-IsSaid NoMemory text = text ≡ memory_text
-IsSaid InputFault text = text ≡ codes "input fault\n"
-IsSaid OutputFault text = text ≡ codes "output fault\n"
-IsSaid (BadScript number) text = (text ≡ bad_line_text number) ⊎ (text ≡ memory_text)
-IsSaid OverBudget text = (text ≡ budget_text) ⊎ (text ≡ memory_text)
-
--- a cause was to be told, and a first part of its words was
-pub record Untold (words : List (List ℕ)) (input input' : InputAt) (out out' err err' : SinkAt) : Type 0 where
-  pub cause : Cause
-  pub stopped : Stopped cause words input input' out out'
-  pub text : List ℕ
-  pub said : IsSaid cause text
-  pub cut : CutOff err err' text
-
--- Whose count rose, what was written by then, and what is said of it. Where it couldn't be said, another cause was to be
--- told, and the rest is as that leaves it.
+-- Why the command wasn't done, where a count of faults rose, and what was said of that: of a fault of the input or of the
+-- output all of its words, or a first part, where then err failed; of another cause a first part.
 abbrev pub FaultTold : List (List ℕ) → InputAt → InputAt → SinkAt → SinkAt → SinkAt → SinkAt → Type 0
-FaultTold words input input' out out' err err' =
-    ((is_drill words ≡ true) × Rose input.faults input'.faults × Silent out out' × Wrote err err' (codes "input fault\n"))
-    ⊎ ((Halfway words input input' out out' × Wrote err err' (codes "output fault\n")) ⊎ Untold words input input' out out' err err')
+FaultTold words input input' out out' err err' = (cause : Cause) × Stopped cause words input input' out out' × Says cause statuses.fault err err'
 
 -- What the status of a run tells.
 pub record Ends (words : List (List ℕ)) (status : ℕ) (input input' : InputAt) (out out' err err' : SinkAt) : Type 0 where
+  -- it is one of these
+  pub known : statuses.IsStatus status
   -- the script was run, the run keeps the promise, and its lines were printed
   pub done : status ≡ statuses.done → Done words input input' out out' × Silent err err'
   -- the words are no line, and nothing else happened
-  pub words_bad : status ≡ statuses.bad_words → (is_drill words ≡ false) × (input' ≡ input) × (out' ≡ out) × Wrote err err' (codes "bad words\n")
+  pub words_bad : status ≡ statuses.bad_words → Stopped WrongWords words input input' out out' × Wrote err err' (codes "bad words\n")
   -- want of memory
-  pub memory : status ≡ statuses.no_memory → (is_drill words ≡ true) × (input'.faults ≡ input.faults) × Silent out out' × Wrote err err' memory_text
+  pub memory : status ≡ statuses.no_memory → Stopped NoMemory words input input' out out' × Wrote err err' memory_text
   -- the first bad line, by its number
-  pub script : status ≡ statuses.bad_script → (number : ℕ) × BadLine number words input input' × Silent out out' × Wrote err err' (bad_line_text number)
+  pub script : status ≡ statuses.bad_script → (number : ℕ) × Stopped (BadScript number) words input input' out out' × Wrote err err' (bad_line_text number)
   -- the input is longer than a script may be
-  pub budget : status ≡ statuses.over_budget → TooLong words input × (input'.faults ≡ input.faults) × Silent out out' × Wrote err err' budget_text
+  pub budget : status ≡ statuses.over_budget → Stopped OverBudget words input input' out out' × Wrote err err' budget_text
   -- a count rose
   pub fault : status ≡ statuses.fault → FaultTold words input input' out out' err err'
   -- with any other status no count rose

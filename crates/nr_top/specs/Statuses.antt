@@ -1,5 +1,5 @@
 -- The statuses that a run ends with.
-use Rattle.std.specs.Prelude.{ℕ}
+use Rattle.std.specs.Prelude.{◌≡◌, ℕ, ◌⊎◌}
 
 -- the command was done
 abbrev pub done : ℕ
@@ -24,3 +24,7 @@ bad_script = 10
 -- the input is longer than a script may be
 abbrev pub over_budget : ℕ
 over_budget = 11
+
+-- there is no other
+abbrev pub IsStatus : ℕ → Type 0
+IsStatus status = (status ≡ done) ⊎ ((status ≡ bad_words) ⊎ ((status ≡ no_memory) ⊎ ((status ≡ fault) ⊎ ((status ≡ bad_script) ⊎ (status ≡ over_budget)))))

@@ -1,10 +1,11 @@
 //! A run: the words say what is to be done.
 
-ghost use Rattle.std.specs.Prelude.{◌≡◌, map, MatchResult};
+ghost use Rattle.std.specs.Prelude.{◌≡◌, true, false, map, MatchResult};
 ghost use Rattle.std.specs.String.{string_bytes};
 ghost use Rattle.nr_top.specs.Words.{is_drill};
 ghost use Rattle.nr_top.specs.Causes.{cause_of};
 ghost use Rattle.nr_top.specs.Ends.{Ends, Done, Stopped, Spoke, Says, input_at, sink_at};
+ghost use Rattle.nr_top.specs.Ends.Cause.{NoMemory, WrongWords};
 
 use crate::status::{BAD_SCRIPT, BAD_WORDS, DONE, FAULT, NO_MEMORY, OVER_BUDGET};
 use nr_outside::{ReadEnd, Sink, Source, read_whole, write_whole};
@@ -123,6 +124,19 @@ fn say<E: Sink>(alloc: Global, stop: Stop, err: &mut E) -> u8
             Ok(text) => speak(err, text.as_bytes(), BAD_SCRIPT),
             Err(_) => speak(err, b"memory\n", NO_MEMORY),
         },
+    }
+}
+
+/// Says on `err` why the words can't be had, and gives the status of that: memory ran out for them, or one of them isn't
+/// UTF-8.
+pub fn refuse<E: Sink>(err: &mut E, memory: bool) -> u8
+    ensures memory { memory ≡ true → Says NoMemory result (sink_at (E.taken err.old) (E.faults err.old)) (sink_at (E.taken err.new) (E.faults err.new)) }
+    ensures words { memory ≡ false → Says WrongWords result (sink_at (E.taken err.old) (E.faults err.old)) (sink_at (E.taken err.new) (E.faults err.new)) }
+{
+    if memory {
+        speak(err, b"memory\n", NO_MEMORY)
+    } else {
+        speak(err, b"bad words\n", BAD_WORDS)
     }
 }
 

@@ -7,7 +7,7 @@
 mod command;
 pub mod status;
 
-pub use command::run;
+pub use command::{refuse, run};
 
 #[cfg(test)]
 mod tests;

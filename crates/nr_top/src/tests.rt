@@ -1,5 +1,5 @@
-use crate::run;
-use crate::status::{BAD_SCRIPT, BAD_WORDS, DONE, FAULT, OVER_BUDGET};
+use crate::status::{BAD_SCRIPT, BAD_WORDS, DONE, FAULT, NO_MEMORY, OVER_BUDGET};
+use crate::{refuse, run};
 use nr_outside::{MemSink, MemSource};
 use std::alloc::{AllocError, Global};
 use std::test::Fail;
@@ -124,6 +124,21 @@ fn each_status_with_what_is_said(rt: HostRuntime) -> Result<(), Fail> {
         assert_eq!(rt; status, row.status, "row {number}");
         assert_eq!(rt; out.bytes(), row.out, "row {number}");
         assert_eq!(rt; err.bytes(), row.err, "row {number}");
+    }
+    Ok(())
+}
+
+#[test]
+fn words_that_cannot_be_had(rt: HostRuntime) -> Result<(), Fail> {
+    let rows: [(bool, &'static [usize], u8, &'static [u8]); 3] = [
+        (true, &[], NO_MEMORY, b"memory\n"),
+        (false, &[], BAD_WORDS, b"bad words\n"),
+        (true, &[0], FAULT, b""),
+    ];
+    for (memory, failing, status, said) in rows {
+        let mut err = MemSink::new(rt.alloc(), failing.to_vec(rt.alloc())?);
+        assert_eq!(rt; refuse(&mut err, memory), status);
+        assert_eq!(rt; err.bytes(), said);
     }
     Ok(())
 }

@@ -41,6 +41,7 @@ lists_within = record {
   read_ends = none_of _;
   one_position = (0, none_of _);
   write_chunks = omega arith;
+  chunk_segments = none_of _;
   write_segments = omega arith;
   write_ends = none_of _;
   reply_segments = tt;

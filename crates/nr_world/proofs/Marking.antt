@@ -14,7 +14,7 @@ use Rattle.nr_world.specs.Owed.{own_hello, called_from, called_client, called_se
 use Rattle.nr_world.specs.Plain.{drill_server}
 use Rattle.nr_world.specs.Shown.{Seen, is_out, told_by, counted, seen_at, seen_of, asked_at, asked_by, told_at, told_from}
 use Rattle.nr_world.specs.Steps.{the_link, ask, answer}
-use Rattle.nr_world.specs.Stands.{joined, each, upward, downward, no_stop, told_in, told_over}
+use Rattle.nr_world.specs.Stands.{joined, each, upward, downward, nothing_seen, stays_up, told_in, told_over}
 use Rattle.nr_world.proofs.Runs.{flat_map-more, flat_map-none, called_from-more, fold-one}
 
 pub upward-more : (credits n : ℕ) → upward credits (suc n) ≡ upward credits n ++ ask credits (suc n)
@@ -56,10 +56,10 @@ pub asked-more : (run : List Mark) (mark : Mark) (n : ℕ) → asked_by the_link
 unfolding asked_by
 asked-more run mark n is = fold-one (λ (k : ℕ) (m : Mark). k + asked_at the_link m) 0 run mark ∙ ap (λ (k : ℕ). k + asked_at the_link mark) is
 
-pub seen-more : (k : ℕ) (run : List Mark) (mark : Mark) (seen : Seen) → seen_of drill_server the_link k 0 run ≡ seen → seen_of drill_server the_link k 0 (run ++ mark ∷ []) ≡ seen_at drill_server the_link k seen mark
+pub seen-more : (k : ℕ) (run : List Mark) (mark : Mark) (seen : Seen) → seen_of drill_server the_link k nothing_seen run ≡ seen → seen_of drill_server the_link k nothing_seen (run ++ mark ∷ []) ≡ seen_at drill_server the_link k seen mark
 unfolding seen_of
 seen-more k run mark seen is =
-    fold-one (seen_at drill_server the_link k) (record { entries = 0; place = None; fate = fates.Out }) run mark
+    fold-one (seen_at drill_server the_link k) nothing_seen run mark
     ∙ ap (λ (s : Seen). seen_at drill_server the_link k s mark) is
 
 -- a mark that says nothing of any call
@@ -67,7 +67,7 @@ cond-same : {A : Type 0} (b : Bool) (x : A) → cond b x x ≡ x
 cond-same true x = refl
 cond-same false x = refl
 
-pub seen-kept : (k : ℕ) (run : List Mark) (mark : Mark) (seen : Seen) → seen_of drill_server the_link k 0 run ≡ seen → told_by the_link k seen mark ≡ seen → added drill_server mark ≡ [] → seen_of drill_server the_link k 0 (run ++ mark ∷ []) ≡ seen
+pub seen-kept : (k : ℕ) (run : List Mark) (mark : Mark) (seen : Seen) → seen_of drill_server the_link k nothing_seen run ≡ seen → told_by the_link k seen mark ≡ seen → added drill_server mark ≡ [] → seen_of drill_server the_link k nothing_seen (run ++ mark ∷ []) ≡ seen
 seen-kept k run mark seen is told none =
     seen-more k run mark seen is
     ∙ ap (λ (s : Seen). counted drill_server mark (cond (is_out seen.fate) s seen)) told
@@ -76,46 +76,46 @@ seen-kept k run mark seen is told none =
     ∙ ap (λ (n : ℕ). record seen { entries = n }) (add-zero seen.entries)
 
 -- the call lines of the first part of a run, one mark longer
-told_over-more : (before run rest : List Mark) (mark : Mark) → told_over before (run ++ mark ∷ []) rest ≡ told_over before run (mark ∷ rest) ++ told_at drill_server no_stop (before ++ run) mark rest
-told_over-more before [] rest mark = append-nil (told_at drill_server no_stop before mark rest) ∙ ap (λ (b : List Mark). told_at drill_server no_stop b mark rest) (sym (append-nil before))
+told_over-more : (before run rest : List Mark) (mark : Mark) → told_over before (run ++ mark ∷ []) rest ≡ told_over before run (mark ∷ rest) ++ told_at drill_server stays_up (before ++ run) mark rest
+told_over-more before [] rest mark = append-nil (told_at drill_server stays_up before mark rest) ∙ ap (λ (b : List Mark). told_at drill_server stays_up b mark rest) (sym (append-nil before))
 told_over-more before (m ∷ run) rest mark =
     let all : (run ++ mark ∷ []) ++ rest ≡ run ++ mark ∷ rest = append_assoc run (mark ∷ []) rest in
-    let one = told_at drill_server no_stop before m (run ++ mark ∷ rest) in
-    ap (λ (after : List Mark). told_at drill_server no_stop before m after ++ told_over (before ++ m ∷ []) (run ++ mark ∷ []) rest) all
+    let one = told_at drill_server stays_up before m (run ++ mark ∷ rest) in
+    ap (λ (after : List Mark). told_at drill_server stays_up before m after ++ told_over (before ++ m ∷ []) (run ++ mark ∷ []) rest) all
     ∙ ap (λ (ys : List Told). one ++ ys) (told_over-more (before ++ m ∷ []) run rest mark)
-    ∙ sym (append_assoc one (told_over (before ++ m ∷ []) run (mark ∷ rest)) (told_at drill_server no_stop ((before ++ m ∷ []) ++ run) mark rest))
-    ∙ ap (λ (b : List Mark). (one ++ told_over (before ++ m ∷ []) run (mark ∷ rest)) ++ told_at drill_server no_stop b mark rest) (append_assoc before (m ∷ []) run)
+    ∙ sym (append_assoc one (told_over (before ++ m ∷ []) run (mark ∷ rest)) (told_at drill_server stays_up ((before ++ m ∷ []) ++ run) mark rest))
+    ∙ ap (λ (b : List Mark). (one ++ told_over (before ++ m ∷ []) run (mark ∷ rest)) ++ told_at drill_server stays_up b mark rest) (append_assoc before (m ∷ []) run)
 
 pub told-more : (run rest : List Mark) (mark : Mark) (n : ℕ) → told_over [] run (mark ∷ rest) ≡ each (told_in (run ++ mark ∷ rest)) n
-    → told_over [] (run ++ mark ∷ []) rest ≡ each (told_in ((run ++ mark ∷ []) ++ rest)) n ++ told_at drill_server no_stop run mark rest
+    → told_over [] (run ++ mark ∷ []) rest ≡ each (told_in ((run ++ mark ∷ []) ++ rest)) n ++ told_at drill_server stays_up run mark rest
 told-more run rest mark n is =
     told_over-more [] run rest mark
-    ∙ ap (λ (xs : List Told). xs ++ told_at drill_server no_stop run mark rest) (is ∙ ap (λ (last : List Mark). each (told_in last) n) (sym (append_assoc run (mark ∷ []) rest)))
+    ∙ ap (λ (xs : List Told). xs ++ told_at drill_server stays_up run mark rest) (is ∙ ap (λ (last : List Mark). each (told_in last) n) (sym (append_assoc run (mark ∷ []) rest)))
 
-pub told-kept : (run rest : List Mark) (mark : Mark) (n : ℕ) → told_over [] run (mark ∷ rest) ≡ each (told_in (run ++ mark ∷ rest)) n → told_at drill_server no_stop run mark rest ≡ []
+pub told-kept : (run rest : List Mark) (mark : Mark) (n : ℕ) → told_over [] run (mark ∷ rest) ≡ each (told_in (run ++ mark ∷ rest)) n → told_at drill_server stays_up run mark rest ≡ []
     → told_over [] (run ++ mark ∷ []) rest ≡ each (told_in ((run ++ mark ∷ []) ++ rest)) n
 told-kept run rest mark n is none =
     let ys = each (told_in ((run ++ mark ∷ []) ++ rest)) n in
     told-more run rest mark n is ∙ ap (λ (xs : List Told). ys ++ xs) none ∙ append-nil ys
 
 -- all the call lines of a run
-pub told-all : (before run : List Mark) → told_from drill_server no_stop before run ≡ told_over before run []
+pub told-all : (before run : List Mark) → told_from drill_server stays_up before run ≡ told_over before run []
 told-all before [] = refl
 told-all before (m ∷ run) =
-    ap (λ (after : List Mark). told_at drill_server no_stop before m after ++ told_from drill_server no_stop (before ++ m ∷ []) run) (sym (append-nil run))
-    ∙ ap (λ (ys : List Told). told_at drill_server no_stop before m (run ++ []) ++ ys) (told-all (before ++ m ∷ []) run)
+    ap (λ (after : List Mark). told_at drill_server stays_up before m after ++ told_from drill_server stays_up (before ++ m ∷ []) run) (sym (append-nil run))
+    ∙ ap (λ (ys : List Told). told_at drill_server stays_up before m (run ++ []) ++ ys) (told-all (before ++ m ∷ []) run)
 
 -- what is seen of a call of a longer run
-pub seen-split : (k : ℕ) (run rest : List Mark) → seen_of drill_server the_link k 0 (run ++ rest) ≡ fold (seen_at drill_server the_link k) (seen_of drill_server the_link k 0 run) rest
+pub seen-split : (k : ℕ) (run rest : List Mark) → seen_of drill_server the_link k nothing_seen (run ++ rest) ≡ fold (seen_at drill_server the_link k) (seen_of drill_server the_link k nothing_seen run) rest
 unfolding seen_of
-seen-split k run rest = fold-append (seen_at drill_server the_link k) (record { entries = 0; place = None; fate = fates.Out }) run rest
+seen-split k run rest = fold-append (seen_at drill_server the_link k) nothing_seen run rest
 
 -- of a call of which nothing is known so far
-pub seen-from : (k : ℕ) (rest : List Mark) → seen_of drill_server the_link k 0 rest ≡ fold (seen_at drill_server the_link k) (record { entries = 0; place = None; fate = fates.Out }) rest
+pub seen-from : (k : ℕ) (rest : List Mark) → seen_of drill_server the_link k nothing_seen rest ≡ fold (seen_at drill_server the_link k) nothing_seen rest
 unfolding seen_of
 seen-from k rest = refl
 
 -- a link that isn't dropped stays so by any other mark
-pub stays : (run : List Mark) (mark : Mark) → is_dropped the_link run ≡ false → drops the_link mark ≡ false → is_dropped the_link (run ++ mark ∷ []) ≡ false
-stays run mark e f =
-    list_any-append (drops the_link) run (mark ∷ []) ∙ ap (λ (b : Bool). b || (drops the_link mark || false)) e ∙ ap (λ (b : Bool). b || false) f
+pub stays : (link : ℕ) (run : List Mark) (mark : Mark) → is_dropped link run ≡ false → drops link mark ≡ false → is_dropped link (run ++ mark ∷ []) ≡ false
+stays link run mark e f =
+    list_any-append (drops link) run (mark ∷ []) ∙ ap (λ (b : Bool). b || (drops link mark || false)) e ∙ ap (λ (b : Bool). b || false) f

@@ -1,5 +1,5 @@
 -- Each mark of a drill raises one count.
-use Rattle.std.proofs.Common.{◌≡◌, ℕ, suc, ◌+◌, ◌<◌, ◌≤◌, Bool, true, false, cond, not, eqb, List, [], ◌∷◌, ◌++◌, ◌&&◌, ◌||◌, length, fold, Some, None, refl, sym, ap, ◌∙◌, arith, add-one, add-zero}
+use Rattle.std.proofs.Common.{◌≡◌, ℕ, zero, suc, ◌+◌, ◌<◌, ◌≤◌, Bool, true, false, cond, not, eqb, List, [], ◌∷◌, ◌++◌, ◌&&◌, ◌||◌, length, fold, Option, Some, None, refl, sym, ap, ◌∙◌, arith, add-one, add-zero}
 use Rattle.nr_wire.specs.declared.hello.Side.TheVariants.{Initiator, Responder}
 use Rattle.nr_wire.specs.Next.{hello_in}
 use Rattle.nr_world.specs.declared.call.Form.TheVariants.{Auto}
@@ -13,15 +13,15 @@ use Rattle.nr_world.specs.declared.report.Told.{Told}
 use Rattle.std.proofs.lemmas.Bool.{false≢true, true≢false}
 use Rattle.std.proofs.lemmas.Bool.Decides.{nat_tests}
 use Rattle.std.proofs.lemmas.Bool.{eqb-true}
-use Rattle.nr_world.specs.Observed.{wrote, fed, sent, got, accepted_at, accepted, executed_at, executed, completed_at, completed, added, journal}
+use Rattle.nr_world.specs.Observed.{Executed, wrote, fed, sent, got, accepted_at, accepted, executed_at, executed, completed_at, completed, added, journal}
 use Rattle.nr_world.specs.Messages.{has_hello, is_greeted, send, inline_message}
 use Rattle.nr_world.specs.Owed.{answer_to, asking, asking_each, called_client, called_server}
 use Rattle.nr_world.specs.Follows.{drill_opened}
 use Rattle.nr_world.specs.Plain.{null_reply, drill_server}
-use Rattle.nr_world.specs.Shown.{Seen, is_out, place_for, counted, seen_at, seen_of, told_at, asked_by}
+use Rattle.nr_world.specs.Shown.{Seen, is_out, place_for, counted, seen_at, seen_of, seen_first, last_place, told_at, asked_by}
 use Rattle.nr_world.specs.Steps.{the_link, null, asked_payload, ask, answer}
-use Rattle.nr_world.specs.Stands.{joined, each, upward, downward, accepted_call, executed_call, completed_call, Counts, is_one_of, seen_by, no_stop, told_in, At}
-use Rattle.nr_world.proofs.Runs.{length-each}
+use Rattle.nr_world.specs.Stands.{joined, each, upward, downward, accepted_call, executed_call, completed_call, Counts, is_one_of, seen_by, nothing_seen, stays_up, told_in, At}
+use Rattle.nr_world.proofs.Runs.{length-each, fold-one}
 use Rattle.nr_world.proofs.Marking.{keep, more, owed_up-more, owed_down-more, owed_up-kept, owed_down-kept, asked-more, seen-kept, seen-more, seen-split, seen-from, stays, told-more, told-kept, upward-more, downward-more}
 use Rattle.nr_world.proofs.Streams.{has_hello-own, is_greeted-own}
 
@@ -51,21 +51,33 @@ called_is credits run n at =
 none-yet : (n k : ℕ) → n < k → is_one_of n k ≡ false
 none-yet n k lt = grind (arith, nat_tests)
 
-abbrev seen_nothing : Seen
-seen_nothing = record { entries = 0; place = None; fate = fates.Out }
+other : (n k : ℕ) → suc n < k → eqb (suc n) k ≡ false
+other n k lt = grind (arith, nat_tests)
 
-seen-new : (n : Counts) (k : ℕ) → n.served < k → n.done < k → seen_by n k ≡ seen_nothing
+seen-new : (n : Counts) (k : ℕ) → n.served < k → n.done < k → seen_by n k ≡ nothing_seen
 unfolding seen_by
 seen-new n k served done =
     (λ i. seen_so (none-yet n.served k served i) (none-yet n.done k done i) (fates.Answered (Some 0) (outcomes.Reply (null_reply k))))
 
-told-new : (run : List Mark) (n : Counts) (rest : List Mark) → asked_by the_link run ≡ n.asked → journal drill_server run ≡ []
-    → seen_of drill_server the_link (suc n.asked) 0 (run ++ submit (suc n.asked) ∷ []) ≡ seen_nothing
-    → told_at drill_server no_stop run (submit (suc n.asked)) rest ≡ told_in ((run ++ submit (suc n.asked) ∷ []) ++ rest) (suc n.asked) ∷ []
-told-new run n rest asked none seen =
+-- and it wasn't executed
+no-place : (n k : ℕ) → n < k → last_place k (each executed_call n) ≡ None
+unfolding last_place
+no-place zero k lt = refl
+no-place (suc n) k lt =
+    let h = λ (place : Option ℕ) (e : Executed). cond (eqb e.xid k) (Some e.place) place in
+    fold-one h None (each executed_call n) (executed_call (suc n))
+    ∙ ap (λ (b : Bool). cond b (Some 0) (fold h None (each executed_call n))) (other n k lt)
+    ∙ no-place n k (omega arith)
+
+told-new : (run : List Mark) (n : Counts) (rest : List Mark) → n.served < suc n.asked → asked_by the_link run ≡ n.asked → journal drill_server run ≡ [] → executed the_link run ≡ each executed_call n.served
+    → seen_of drill_server the_link (suc n.asked) nothing_seen (run ++ submit (suc n.asked) ∷ []) ≡ nothing_seen
+    → told_at drill_server stays_up run (submit (suc n.asked)) rest ≡ told_in ((run ++ submit (suc n.asked) ∷ []) ++ rest) (suc n.asked) ∷ []
+told-new run n rest fewer asked none done seen =
     let k = suc n.asked in
-    let own : seen_of drill_server the_link k (length (journal drill_server run)) rest ≡ seen_of drill_server the_link k 0 ((run ++ submit k ∷ []) ++ rest) =
-    ap (λ (j : ℕ). seen_of drill_server the_link k j rest) (ap length none) ∙ seen-from k rest
+    let place : last_place k (executed the_link run) ≡ None = ap (last_place k) done ∙ no-place n.served k fewer in
+    let first : seen_first drill_server the_link k run ≡ nothing_seen = (λ i. record { entries = length (none i); place = place i; fate = fates.Out }) in
+    let own : seen_of drill_server the_link k (seen_first drill_server the_link k run) rest ≡ seen_of drill_server the_link k nothing_seen ((run ++ submit k ∷ []) ++ rest) =
+    ap (λ (s : Seen). seen_of drill_server the_link k s rest) first ∙ seen-from k rest
     ∙ ap (λ (s : Seen). fold (seen_at drill_server the_link k) s rest) (sym seen) ∙ sym (seen-split k (run ++ submit k ∷ []) rest) in
     (λ i. record { client = the_link; number = (ap (λ (j : ℕ). j + 1) asked ∙ add-one n.asked) i; fate = (own i).fate } ∷ [])
 
@@ -74,8 +86,8 @@ unfolding sent got accepted executed completed journal seen_by
 At-submit credits run n at fewer_served fewer_done =
     let k = suc n.asked in
     let m = submit k in
-    let seen : (j : ℕ) → seen_of drill_server the_link j 0 (run ++ m ∷ []) ≡ seen_by n j = λ j. seen-kept j run m (seen_by n j) (at.seen_are j) refl refl in
-    let none : seen_of drill_server the_link k 0 (run ++ m ∷ []) ≡ seen_nothing = seen k ∙ seen-new n k (omega arith) (omega arith) in
+    let seen : (j : ℕ) → seen_of drill_server the_link j nothing_seen (run ++ m ∷ []) ≡ seen_by n j = λ j. seen-kept j run m (seen_by n j) (at.seen_are j) refl refl in
+    let none : seen_of drill_server the_link k nothing_seen (run ++ m ∷ []) ≡ nothing_seen = seen k ∙ seen-new n k (omega arith) (omega arith) in
     record {
       up_sent = keep (wrote the_link Initiator) run m (upward credits n.sent_up) at.up_sent refl;
       up_got = keep (fed the_link Responder) run m (upward credits n.came) at.up_got refl;
@@ -88,8 +100,8 @@ At-submit credits run n at fewer_served fewer_done =
       completed_are = keep (completed_at the_link) run m (each completed_call n.done) at.completed_are refl;
       asked_are = asked-more run m n.asked at.asked_are ∙ add-one n.asked;
       no_entries = keep (added drill_server) run m [] at.no_entries refl;
-      not_dropped = stays run m at.not_dropped refl;
-      told_are = λ rest. told-more run rest m n.asked (at.told_are (m ∷ rest)) ∙ ap (λ (ts : List Told). each (told_in ((run ++ m ∷ []) ++ rest)) n.asked ++ ts) (told-new run n rest at.asked_are at.no_entries none);
+      not_dropped = λ link. stays link run m (at.not_dropped link) refl;
+      told_are = λ rest. told-more run rest m n.asked (at.told_are (m ∷ rest)) ∙ ap (λ (ts : List Told). each (told_in ((run ++ m ∷ []) ++ rest)) n.asked ++ ts) (told-new run n rest (omega arith) at.asked_are at.no_entries at.executed_are none);
       seen_are = seen;
     }
 
@@ -113,7 +125,7 @@ At-write_up credits run n at =
       completed_are = keep (completed_at the_link) run m (each completed_call n.done) at.completed_are refl;
       asked_are = asked-more run m n.asked at.asked_are ∙ add-zero n.asked;
       no_entries = keep (added drill_server) run m [] at.no_entries refl;
-      not_dropped = stays run m at.not_dropped refl;
+      not_dropped = λ link. stays link run m (at.not_dropped link) refl;
       told_are = λ rest. told-kept run rest m n.asked (at.told_are (m ∷ rest)) refl;
       seen_are = λ k. seen-kept k run m (seen_by n k) (at.seen_are k) refl refl;
     }
@@ -138,7 +150,7 @@ At-write_down credits run n at =
       completed_are = keep (completed_at the_link) run m (each completed_call n.done) at.completed_are refl;
       asked_are = asked-more run m n.asked at.asked_are ∙ add-zero n.asked;
       no_entries = keep (added drill_server) run m [] at.no_entries refl;
-      not_dropped = stays run m at.not_dropped refl;
+      not_dropped = λ link. stays link run m (at.not_dropped link) refl;
       told_are = λ rest. told-kept run rest m n.asked (at.told_are (m ∷ rest)) refl;
       seen_are = λ k. seen-kept k run m (seen_by n k) (at.seen_are k) refl refl;
     }
@@ -174,7 +186,7 @@ At-feed_up credits run n at =
       completed_are = keep (completed_at the_link) run m (each completed_call n.done) at.completed_are refl;
       asked_are = asked-more run m n.asked at.asked_are ∙ add-zero n.asked;
       no_entries = keep (added drill_server) run m [] at.no_entries refl;
-      not_dropped = stays run m at.not_dropped refl;
+      not_dropped = λ link. stays link run m (at.not_dropped link) refl;
       told_are = λ rest. told-kept run rest m n.asked (at.told_are (m ∷ rest)) refl;
       seen_are = λ k. seen-kept k run m (seen_by n k) (at.seen_are k) refl refl;
     }
@@ -202,7 +214,7 @@ At-feed_down credits run n at =
       completed_are = keep (completed_at the_link) run m (each completed_call n.done) at.completed_are refl;
       asked_are = asked-more run m n.asked at.asked_are ∙ add-zero n.asked;
       no_entries = keep (added drill_server) run m [] at.no_entries refl;
-      not_dropped = stays run m at.not_dropped refl;
+      not_dropped = λ link. stays link run m (at.not_dropped link) refl;
       told_are = λ rest. told-kept run rest m n.asked (at.told_are (m ∷ rest)) refl;
       seen_are = λ k. seen-kept k run m (seen_by n k) (at.seen_are k) refl refl;
     }
@@ -284,7 +296,7 @@ At-execute credits run n at later =
       completed_are = keep (completed_at the_link) run m (each completed_call n.done) at.completed_are refl;
       asked_are = asked-more run m n.asked at.asked_are ∙ add-zero n.asked;
       no_entries = keep (added drill_server) run m [] at.no_entries refl;
-      not_dropped = stays run m at.not_dropped refl;
+      not_dropped = λ link. stays link run m (at.not_dropped link) refl;
       told_are = λ rest. told-kept run rest m n.asked (at.told_are (m ∷ rest)) refl;
       seen_are = λ k. seen-more k run m (seen_by n k) (at.seen_are k) ∙ seen-executed n k later;
     }
@@ -309,7 +321,7 @@ At-complete credits run n at later =
       completed_are = more (completed_at the_link) run m (each completed_call n.done) at.completed_are;
       asked_are = asked-more run m n.asked at.asked_are ∙ add-zero n.asked;
       no_entries = keep (added drill_server) run m [] at.no_entries refl;
-      not_dropped = stays run m at.not_dropped refl;
+      not_dropped = λ link. stays link run m (at.not_dropped link) refl;
       told_are = λ rest. told-kept run rest m n.asked (at.told_are (m ∷ rest)) refl;
       seen_are = λ k. seen-more k run m (seen_by n k) (at.seen_are k) ∙ seen-completed n k later;
     }

@@ -72,7 +72,7 @@ At-open credits = record {
   completed_are = refl;
   asked_are = refl;
   no_entries = refl;
-  not_dropped = refl;
+  not_dropped = λ link. refl;
   told_are = λ rest. refl;
   seen_are = λ k. sym (ap (λ (b : Bool). seen_so b b (fates.Answered (Some 0) (outcomes.Reply (null_reply k)))) (none_one k));
 }

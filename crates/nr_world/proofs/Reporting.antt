@@ -1,5 +1,5 @@
 -- What a drill that ended reports.
-use Rattle.std.proofs.Common.{◌≡◌, ℕ, zero, suc, ◌<◌, ◌≤◌, Bool, true, cond, Result, Ok, Err, List, [], ◌∷◌, ◌++◌, length, map, Some, None, Contains, refl, sym, ap, subst, ◌∙◌, arith}
+use Rattle.std.proofs.Common.{◌≡◌, ℕ, zero, suc, ◌<◌, ◌≤◌, Bool, true, false, ◌||◌, cond, Result, Ok, Err, List, [], ◌∷◌, ◌++◌, length, map, Some, None, Contains, refl, sym, ap, subst, ◌∙◌, arith}
 use Rattle.std.specs.Prelude.{IfOk}
 use Rattle.std.proofs.lemmas.Bool.Decides.{nat_tests}
 use Rattle.std.proofs.lemmas.List.{append-nil, nil_from_length}
@@ -20,12 +20,12 @@ use Rattle.nr_world.specs.Places.{PlacesRise}
 use Rattle.nr_world.specs.Plain.{null_reply, drill_server}
 use Rattle.nr_world.specs.Script.{ScriptLines, Line, turns}
 use Rattle.nr_world.specs.Follows.{Drill, drill_opened, openings, start, WorksAll, MakeAll}
-use Rattle.nr_world.specs.Shown.{Seen, seen_of, calls_told, links_told}
+use Rattle.nr_world.specs.Shown.{Seen, seen_of, told_from, calls_told, links_told}
 use Rattle.nr_world.specs.Stops.{no_stops}
 use Rattle.nr_world.specs.Promise.{HoldsOn}
-use Rattle.nr_world.specs.Headline.{IsDrill, Reports, log_of}
+use Rattle.nr_world.specs.Headline.{EndsDrained, IsDrill, Reports, log_of}
 use Rattle.nr_world.specs.Steps.{State, the_link, worked}
-use Rattle.nr_world.specs.Stands.{each, upward, downward, counts_of, accepted_call, executed_call, completed_call, told_call, told_in, is_one_of, seen_by, Stands, IsQuiet, drill_of, Played, Tells}
+use Rattle.nr_world.specs.Stands.{each, upward, downward, counts_of, accepted_call, executed_call, completed_call, told_call, told_in, nothing_seen, is_one_of, seen_by, Stands, IsQuiet, drill_of, Played, Tells}
 use Rattle.nr_world.proofs.Runs.{Contains-each, each-within}
 use Rattle.nr_world.proofs.Marking.{told-all}
 use Rattle.nr_world.proofs.Serving.{works}
@@ -64,12 +64,17 @@ holds-is : (s : State) → Stands s → IsQuiet s → HoldsOn drill_server (dril
 holds-is s st quiet = record {
   asked = record { each = st.laws.asked; written = st.at.up_sent ∙ sym st.at.up_owed };
   served = record { each = st.laws.served; written = st.at.down_sent ∙ sym st.at.down_owed };
-  matched = st.laws.matched;
   grant = st.laws.grant;
-  faithful = st.laws.faithful;
+  faithful = λ _. st.laws.faithful;
+  complete = λ _ _. complete-is s st quiet;
+}
+
+drained-is : (s : State) → Stands s → IsQuiet s → EndsDrained the_link s.marks
+drained-is s st quiet = record {
+  matched = st.laws.matched;
+  unrefused = st.laws.unrefused;
   settled = settled-is s st quiet;
   complete = complete-is s st quiet;
-  unrefused = st.laws.unrefused;
 }
 
 -- every call stands at place 0, since NULL adds no entry
@@ -96,7 +101,10 @@ drill-is script calls s one lines p =
       links = λ link low high.
           let is : the_link ≡ link = omega (arith, low, high, one) in
           subst (λ (l : ℕ). HoldsOn drill_server o l s.marks) is holds;
-      places = λ l m low high least most.
+      drained = λ link low high.
+          let is : the_link ≡ link = omega (arith, low, high, one) in
+          subst (λ (l : ℕ). EndsDrained l s.marks) is (drained-is s p.stands p.quiet);
+      places = λ l m low high least most _ _.
           let first : the_link ≡ l = omega (arith, low, high, one) in
           let second : the_link ≡ m = omega (arith, least, most, one) in
           subst (λ (n : ℕ). PlacesRise n m s.marks) first (subst (λ (n : ℕ). PlacesRise the_link n s.marks) second (places-are s p.stands));
@@ -117,17 +125,18 @@ unfolding calls_told seen_by
 told-is s st quiet =
     let n = length s.told in
     let same = each-same told_call (told_in s.marks) n (λ k lt le.
-    let fate : (seen_of drill_server the_link k 0 s.marks).fate ≡ fates.Answered (Some 0) (outcomes.Reply (null_reply k)) =
+    let fate : (seen_of drill_server the_link k nothing_seen s.marks).fate ≡ fates.Answered (Some 0) (outcomes.Reply (null_reply k)) =
     ap (λ (x : Seen). x.fate) (st.at.seen_are k)
     ∙ ap (λ (b : Bool). cond b (fates.Answered (Some 0) (outcomes.Reply (null_reply k))) fates.Out) (one_of n k lt le) in
     ap (λ (f : Fate). record { client = the_link; number = k; fate = f }) (sym fate)) in
     st.told_is ∙ same ∙ ap (each (told_in s.marks)) (sym quiet) ∙ ap (λ (last : List Mark). each (told_in last) s.asked) (sym (append-nil s.marks))
     ∙ sym (st.at.told_are []) ∙ sym (told-all [] s.marks)
+    ∙ sym (λ i. told_from drill_server (λ link. ap (λ (b : Bool). b || false) (st.at.not_dropped link) i) [] s.marks)
 
 -- the link is neither dropped nor ended
 pub links-are : (s : State) → Stands s → [] ≡ links_told no_stops 1 s.marks
 unfolding links_told
-links-are s st = sym (ap (λ (b : Bool). cond b (record { client = the_link; fate = links.Dropped } ∷ []) [] ++ []) st.at.not_dropped)
+links-are s st = sym (ap (λ (b : Bool). cond b (record { client = the_link; fate = links.Dropped } ∷ []) [] ++ []) (st.at.not_dropped the_link))
 
 pub logs-are : (s : State) → Stands s → record { up = s.up.log; down = s.down.log } ∷ [] ≡ map (log_of s.marks) (links_of 1)
 logs-are s st =

@@ -5,7 +5,7 @@ use Rattle.std.specs.List.{flat_map}
 use Rattle.std.proofs.lemmas.List.{append-nil}
 use Rattle.nr_world.specs.declared.mark.Mark.{Mark}
 use Rattle.nr_world.specs.declared.report.Told.{Told}
-use Rattle.nr_world.specs.declared.script.TheConstants.{MOST_LINES}
+use Rattle.nr_world.specs.Limits.{most_lines}
 use Rattle.nr_world.specs.Observed.{completed, links_of}
 use Rattle.nr_world.specs.Plain.{drill_server}
 use Rattle.nr_world.specs.Script.{Line, null_call, turns}
@@ -87,15 +87,15 @@ moved-marks s v moved st r e same =
     absurd (omega (arith, more, now, before, ap (λ (run : List Mark). length (completed the_link run)) same, r.quiet, r.asked_is))
 
 -- on the one link
-fell-links : (s v : State) → Fell (todo (drill_opened s.credits) v.marks the_link) (todo (drill_opened s.credits) s.marks the_link) → Fell (flat_map (todo (drill_opened s.credits) v.marks) (links_of 1)) (flat_map (todo (drill_opened s.credits) s.marks) (links_of 1))
-fell-links s v fell = rw (append-nil (todo (drill_opened s.credits) v.marks the_link), append-nil (todo (drill_opened s.credits) s.marks the_link)) fell
+fell-links : (s v : State) → Fell (todo (drill_opened s.credits) (drill_of v) the_link) (todo (drill_opened s.credits) (drill_of s) the_link) → Fell (flat_map (todo (drill_opened s.credits) (drill_of v)) (links_of 1)) (flat_map (todo (drill_opened s.credits) (drill_of s)) (links_of 1))
+fell-links s v fell = rw (append-nil (todo (drill_opened s.credits) (drill_of v) the_link), append-nil (todo (drill_opened s.credits) (drill_of s) the_link)) fell
 
 -- how far a drain has come: nothing moved yet, or one round did
 pub record Draining (start now : State) : Type 0 where
   pub stands : Stands now
   pub asked_is : now.asked ≡ start.asked
   pub credits_are : now.credits ≡ start.credits
-  pub so_far : (now ≡ start) ⊎ (IsQuiet now × Moves drill_server (drill_opened start.credits) (links_of 1) (drill_of start) (drill_of now) × (now.marks ≢ start.marks) × Fell (flat_map (todo (drill_opened start.credits) now.marks) (links_of 1)) (flat_map (todo (drill_opened start.credits) start.marks) (links_of 1)))
+  pub so_far : (now ≡ start) ⊎ (IsQuiet now × Moves drill_server (drill_opened start.credits) (links_of 1) (drill_of start) (drill_of now) × (now.marks ≢ start.marks) × Fell (flat_map (todo (drill_opened start.credits) (drill_of now)) (links_of 1)) (flat_map (todo (drill_opened start.credits) (drill_of start)) (links_of 1)))
 
 pub draining_none : (s : State) → Stands s → Draining s s
 draining_none s st = record { stands = st; asked_is = refl; credits_are = refl; so_far = inl refl }
@@ -113,7 +113,7 @@ draining_more start now new d r =
         r.quiet,
         subst (λ (s : State). Moves drill_server (drill_opened s.credits) (links_of 1) (drill_of s) (drill_of new)) first r.makes,
         (λ same. moved-marks now new true d.stands r refl (same ∙ ap (λ (s : State). s.marks) (sym first))),
-        subst (λ (s : State). Fell (flat_map (todo (drill_opened s.credits) new.marks) (links_of 1)) (flat_map (todo (drill_opened s.credits) s.marks) (links_of 1))) first
+        subst (λ (s : State). Fell (flat_map (todo (drill_opened s.credits) (drill_of new)) (links_of 1)) (flat_map (todo (drill_opened s.credits) (drill_of s)) (links_of 1))) first
             (fell-links now new (fell-is now new d.stands r.stands r.credits_are r.asked_is r.quiet out)),
       );
     }
@@ -154,7 +154,7 @@ turns-more : (n : ℕ) → turns n ++ null_call ∷ Drain ∷ [] ≡ turns (suc 
 turns-more zero = refl
 turns-more (suc n) = ap (λ (xs : List Line). null_call ∷ Drain ∷ xs) (turns-more n)
 
-pub called_by : (s : State) → Stands s → IsQuiet s → s.asked < MOST_LINES → Called s (asked_one s)
+pub called_by : (s : State) → Stands s → IsQuiet s → s.asked < most_lines → Called s (asked_one s)
 called_by s st quiet room =
     let a = asks s st quiet room in
     record { stands = a.stands; asked_is = a.asked_is; credits_are = a.credits_are; makes = a.makes }

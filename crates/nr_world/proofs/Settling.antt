@@ -26,7 +26,7 @@ beyond s o written rest a b = ap (λ (x : List ℕ). drop (length x) o) a ∙ ap
 pub nothing_beyond : (s o written : List ℕ) → s ≡ written → o ≡ written → drop (length s) o ≡ []
 nothing_beyond s o written a b = beyond s o written [] a (b ∙ sym (append-nil written))
 
-unwritten_up-none : (credits : ℕ) (d : Drill) (n : Counts) → At credits d.marks n → n.sent_up ≡ n.asked → unwritten (drill_opened credits) the_link Initiator d ≡ []
+pub unwritten_up-none : (credits : ℕ) (d : Drill) (n : Counts) → At credits d.marks n → n.sent_up ≡ n.asked → unwritten (drill_opened credits) the_link Initiator d ≡ []
 unwritten_up-none credits d n at same =
     nothing_beyond (sent the_link Initiator d.marks) (owed (drill_opened credits) the_link Initiator d.marks) (upward credits n.asked) (at.up_sent ∙ ap (upward credits) same) at.up_owed
 

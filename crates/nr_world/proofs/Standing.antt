@@ -11,7 +11,7 @@ use Rattle.nr_world.specs.declared.call.Submission.TheVariants as submissions
 use Rattle.nr_world.specs.declared.mark.Mark.{Mark}
 use Rattle.nr_world.specs.declared.mark.Mark.TheVariants as marks
 use Rattle.nr_world.specs.declared.mark.Conveyed.{Conveyed}
-use Rattle.nr_world.specs.declared.script.TheConstants.{MOST_LINES}
+use Rattle.nr_world.specs.Limits.{most_lines}
 use Rattle.nr_world.specs.Observed.{accepted}
 use Rattle.nr_world.specs.Messages.{call_in}
 use Rattle.nr_world.specs.Ending.{ended_by}
@@ -80,7 +80,7 @@ pub record Asks (s : State) (new : State) : Type 0 where
   pub makes : drill_of new ≡ settled (drill_opened s.credits) the_link (with_mark (marks.Submit the_link null Auto (answer_of (drill_opened s.credits) the_link s.marks)) (drill_of s))
   pub credits_are : new.credits ≡ s.credits
 
-asks_next : (s : State) → Stands s → IsQuiet s → s.asked < MOST_LINES → Asks s (after_ask s (suc s.asked))
+asks_next : (s : State) → Stands s → IsQuiet s → s.asked < most_lines → Asks s (after_ask s (suc s.asked))
 asks_next s st quiet room =
     let w = words_of s st in
     let c = s.credits in
@@ -123,7 +123,7 @@ asks_next s st quiet room =
       credits_are = refl;
     }
 
-pub asks : (s : State) → Stands s → IsQuiet s → s.asked < MOST_LINES → Asks s (asked_one s)
+pub asks : (s : State) → Stands s → IsQuiet s → s.asked < most_lines → Asks s (asked_one s)
 unfolding asked_one
 asks s st quiet room = subst (λ (k : ℕ). Asks s (after_ask s k)) (sym (add-one s.asked)) (asks_next s st quiet room)
 

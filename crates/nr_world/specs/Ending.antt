@@ -1,9 +1,14 @@
 -- The message that ends in what stands at the front of a stream.
-use Rattle.std.specs.Prelude.{ℕ, List, Option, None}
+use Rattle.std.specs.Prelude.{ℕ, if◌then◌else◌, List, Option, None, Some}
 use Rattle.nr_wire.specs.Segment.{Segment}
 use Rattle.nr_wire.specs.Next.{Next}
 use Rattle.nr_wire.specs.Next.Next.{Whole, More, Bad}
-use Rattle.nr_world.specs.Messages.{part_by, ended_in}
+use Rattle.nr_world.specs.Messages.{Part, part_by}
+
+-- the message of a frame that is the last of its Send
+abbrev pub ended_in : Option Part → Option (List ℕ)
+ended_in None = None
+ended_in (Some part) = if part.last then Some part.payload else None
 
 abbrev pub ended_by : Next Segment → Option (List ℕ)
 ended_by (Whole segment len) = ended_in (part_by segment)

@@ -116,14 +116,14 @@ abbrev pub Moves : PlainServer → Opened → List ℕ → Drill → Drill → T
 Moves plain opened [] old new = new ≡ old
 Moves plain opened (link ∷ links) old new = (mid : Drill) × MovesLink plain opened link old mid × Moves plain opened links mid new
 
--- What is left to do on a link, what goes before first: bytes that the client owes and the server hasn't got, calls that
--- came whole and aren't executed, bytes that wait to go down, bytes that wait to go up.
-unfoldable pub todo : Opened → List Mark → ℕ → List ℕ
-todo opened run link =
-    (length (owed opened link Initiator run) - length (got link Responder run))
-    ∷ (length (came link run) - length (executed link run))
-    ∷ (length (sent link Responder run) - length (got link Initiator run))
-    ∷ (length (sent link Initiator run) - length (got link Responder run))
+-- What is left to do on a link, what goes before first: bytes that the client has still to bring up, calls that came whole
+-- and aren't executed, bytes that wait to go down, bytes that wait to go up.
+unfoldable pub todo : Opened → Drill → ℕ → List ℕ
+todo opened d link =
+    (length (unwritten opened link Initiator d) + length (way_of link d).up)
+    ∷ (length (came link d.marks) - length (executed link d.marks))
+    ∷ length (way_of link d).down
+    ∷ length (way_of link d).up
     ∷ []
 
 -- the first of these numbers that changed fell
@@ -138,7 +138,7 @@ abbrev pub Drains : PlainServer → Opened → List ℕ → ℕ → Drill → Dr
 Drains plain opened links zero old new = Moves plain opened links old new × (new.marks ≡ old.marks)
 Drains plain opened links (suc n) old new =
     (mid : Drill) × Moves plain opened links old mid × (mid.marks ≢ old.marks)
-    × Fell (flat_map (todo opened mid.marks) links) (flat_map (todo opened old.marks) links) × Drains plain opened links n mid new
+    × Fell (flat_map (todo opened mid) links) (flat_map (todo opened old) links) × Drains plain opened links n mid new
 
 -- what a client answers to a call: it goes out under the next xid while credits are left
 unfoldable pub answer_of : Opened → ℕ → List Mark → Submission

@@ -21,4 +21,3 @@ pub mod Ending
 pub mod Steps
 pub mod Stands
 pub mod Parsing
-pub mod Staying

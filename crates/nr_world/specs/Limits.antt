@@ -13,6 +13,10 @@ send_max = 1024
 abbrev pub default_capacity : ℕ
 default_capacity = 2 ^ 40
 
+-- the lines that a script may have (own)
+abbrev pub most_lines : ℕ
+most_lines = 16777216
+
 -- the bytes that the text of a script may have (own)
 abbrev pub script_max : ℕ
 script_max = 16777216

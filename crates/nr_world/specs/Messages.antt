@@ -41,11 +41,6 @@ abbrev pub part_in : Result Segment ℕ → Option Part
 part_in (Ok segment) = part_by segment
 part_in (Err reason) = None
 
--- the message of a frame that is the last of its Send
-abbrev pub ended_in : Option Part → Option (List ℕ)
-ended_in None = None
-ended_in (Some part) = if part.last then Some part.payload else None
-
 -- The messages of some FPDUs: what begins with these bytes ends with the last segment of its Send.
 abbrev pub joined_to : Option Part → (List ℕ → List (List ℕ)) → List ℕ → List (List ℕ)
 joined_to None others begun = others begun

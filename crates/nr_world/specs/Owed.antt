@@ -62,13 +62,17 @@ called_client opened link before (marks.Fed l Initiator bytes) =
     then asking_each opened 1 (accepted link before) else []
 called_client opened link before mark = []
 
+-- how many messages a server answered by so far: a reply to each call that it executed
+abbrev pub answered : ℕ → List Mark → ℕ
+answered link run = length (executed link run)
+
 -- What a mark calls for at the server: its answer to the client's hello once that is whole, and a Send of each reply.
 abbrev pub called_server : Opened → ℕ → List Mark → Mark → List ℕ
 called_server opened link before (marks.Fed l Responder bytes) =
     if l == link && (not (has_hello Initiator (got link Responder before)) && has_hello Initiator (got link Responder before ++ bytes))
     then answer_to (hello_in Initiator (got link Responder before ++ bytes)) else []
 called_server opened link before (marks.Execute l xid moment payload place reply) =
-    if l == link then send (length (executed link before) + 1) (inline_message xid opened.granted reply) else []
+    if l == link then send (answered link before + 1) (inline_message xid opened.granted reply) else []
 called_server opened link before mark = []
 
 -- all that the marks call for, one after another

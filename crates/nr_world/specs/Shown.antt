@@ -1,6 +1,6 @@
 -- What is printed of a run: a line for each call line, one for each link that was dropped and each side that ended, and the
 -- journal's length.
-use Rattle.std.specs.Prelude.{ℕ, ◌+◌, Bool, true, false, ◌==◌, ◌&&◌, if◌then◌else◌, List, [], ◌∷◌, ◌++◌, length, codes, fold, Option, None, Some}
+use Rattle.std.specs.Prelude.{ℕ, ◌+◌, Bool, true, false, ◌==◌, ◌&&◌, ◌||◌, if◌then◌else◌, List, [], ◌∷◌, ◌++◌, length, codes, fold, Option, None, Some, is_some}
 use Rattle.std.specs.Fmt.{decimal}
 use Rattle.std.specs.List.{flat_map}
 use Rattle.hex.specs.Hex.{encode_lower}
@@ -24,7 +24,7 @@ use Rattle.nr_world.specs.declared.report.LinkFate.{LinkFate}
 use Rattle.nr_world.specs.declared.report.LinkFate.TheVariants as links
 use Rattle.nr_world.specs.declared.report.LinkTold.{LinkTold}
 use Rattle.nr_world.specs.declared.report.Told.{Told}
-use Rattle.nr_world.specs.Observed.{PlainServer, added, journal, is_dropped, links_of}
+use Rattle.nr_world.specs.Observed.{PlainServer, Executed, added, executed, journal, is_dropped, links_of}
 use Rattle.nr_world.specs.Stops.{Stops}
 
 -- what the marks so far say of one call: the journal's length, the place of its last execution, and what became of it
@@ -57,7 +57,6 @@ told_by link xid seen (marks.Done l x outcome) =
 told_by link xid seen (marks.Lost l x) = if l == link && x == xid then record seen { fate = fates.Lost } else seen
 told_by link xid seen (marks.Forget l x) = if l == link && x == xid then record seen { fate = fates.Forgotten } else seen
 told_by link xid seen (marks.Revoke l x bytes) = if l == link && x == xid then record seen { fate = fates.Revoked bytes } else seen
-told_by link xid seen (marks.Drop l) = if l == link then record seen { fate = fates.Lost } else seen
 told_by link xid seen mark = seen
 
 abbrev pub counted : PlainServer → Mark → Seen → Seen
@@ -67,19 +66,25 @@ abbrev pub seen_at : PlainServer → ℕ → ℕ → Seen → Mark → Seen
 seen_at plain link xid seen mark =
     counted plain mark (if is_out seen.fate then told_by link xid seen mark else seen)
 
--- the call of a Submit, before which the journal had so many entries, by the marks after that
-unfoldable pub seen_of : PlainServer → ℕ → ℕ → ℕ → List Mark → Seen
-seen_of plain link xid entries after = fold (seen_at plain link xid) (record { entries = entries; place = None; fate = fates.Out }) after
+unfoldable pub seen_of : PlainServer → ℕ → ℕ → Seen → List Mark → Seen
+seen_of plain link xid seen after = fold (seen_at plain link xid) seen after
 
--- to a call that is out no answer comes once its client has ended
-abbrev pub at_last : Option End → Fate → Fate
-at_last None fate = fate
-at_last (Some end) fate = if is_out fate then fates.Lost else fate
+-- the place of the last execution of an xid
+unfoldable pub last_place : ℕ → List Executed → Option ℕ
+last_place xid calls = fold (λ place e. if e.xid == xid then Some e.place else place) None calls
 
--- what became of a call line
-abbrev pub fate_of : PlainServer → Option End → ℕ → Submission → ℕ → List Mark → Fate
-fate_of plain stop link (submissions.Accepted xid) entries after = at_last stop (seen_of plain link xid entries after).fate
-fate_of plain stop link (submissions.Refused why) entries after = fates.Refused why
+-- a call at its Submit
+abbrev pub seen_first : PlainServer → ℕ → ℕ → List Mark → Seen
+seen_first plain link xid before = record { entries = length (journal plain before); place = last_place xid (executed link before); fate = fates.Out }
+
+-- to a call that is out no answer comes on a link that is gone
+abbrev pub at_last : Bool → Fate → Fate
+at_last gone fate = if gone && is_out fate then fates.Lost else fate
+
+-- what became of a call line, by the marks before it and after it
+abbrev pub fate_of : PlainServer → Bool → ℕ → Submission → List Mark → List Mark → Fate
+fate_of plain gone link (submissions.Accepted xid) before after = at_last gone (seen_of plain link xid (seen_first plain link xid before) after).fate
+fate_of plain gone link (submissions.Refused why) before after = fates.Refused why
 
 -- how many call lines of a client are among the marks
 abbrev pub asked_at : ℕ → Mark → ℕ
@@ -89,22 +94,22 @@ asked_at link mark = 0
 unfoldable pub asked_by : ℕ → List Mark → ℕ
 asked_by link run = fold (λ n mark. n + asked_at link mark) 0 run
 
--- each call line of a run with what became of it, in order: what was before it, and what came after
-abbrev pub told_at : PlainServer → (ℕ → Option End) → List Mark → Mark → List Mark → List Told
-told_at plain stop before (marks.Submit l call form answer) after =
-    record { client = l; number = asked_by l before + 1; fate = fate_of plain (stop l) l answer (length (journal plain before)) after } ∷ []
-told_at plain stop before mark after = []
+-- each call line of a run with what became of it, in order
+abbrev pub told_at : PlainServer → (ℕ → Bool) → List Mark → Mark → List Mark → List Told
+told_at plain gone before (marks.Submit l call form answer) after =
+    record { client = l; number = asked_by l before + 1; fate = fate_of plain (gone l) l answer before after } ∷ []
+told_at plain gone before mark after = []
 
-abbrev pub told_from : PlainServer → (ℕ → Option End) → List Mark → List Mark → List Told
-told_from plain stop before [] = []
-told_from plain stop before (mark ∷ after) = told_at plain stop before mark after ++ told_from plain stop (before ++ mark ∷ []) after
+abbrev pub told_from : PlainServer → (ℕ → Bool) → List Mark → List Mark → List Told
+told_from plain gone before [] = []
+told_from plain gone before (mark ∷ after) = told_at plain gone before mark after ++ told_from plain gone (before ++ mark ∷ []) after
 
--- why the client of a link ended
-abbrev pub client_stop : Stops → List Mark → ℕ → Option End
-client_stop stops run link = stops link Initiator run
+-- the link was dropped, or its client ended
+abbrev pub is_gone : Stops → List Mark → ℕ → Bool
+is_gone stops run link = is_dropped link run || is_some (stops link Initiator run)
 
 unfoldable pub calls_told : PlainServer → Stops → List Mark → List Told
-calls_told plain stops run = told_from plain (client_stop stops run) [] run
+calls_told plain stops run = told_from plain (is_gone stops run) [] run
 
 -- each link that was dropped or that ended, in order
 abbrev pub side_told : ℕ → Side → Option End → List LinkTold

@@ -3,7 +3,6 @@
 use Rattle.std.specs.Prelude.{◌≡◌, ℕ, zero, suc, ◌+◌, ◌≤◌, nat_lt, nat_le, ◌&&◌, Bool, false, if◌then◌else◌, List, [], ◌∷◌, ◌++◌, length, Option, None, Some}
 use Rattle.nr_outside.specs.Pipe.{waiting_in}
 use Rattle.nr_wire.specs.declared.hello.Side.TheVariants.{Initiator, Responder}
-use Rattle.nr_world.specs.declared.call.End.{End}
 use Rattle.nr_world.specs.declared.call.Form.TheVariants.{Auto}
 use Rattle.nr_world.specs.declared.call.Outcome.TheVariants as outcomes
 use Rattle.nr_world.specs.declared.mark.Mark.{Mark}
@@ -11,8 +10,7 @@ use Rattle.nr_world.specs.declared.mark.Conveyed.{Conveyed}
 use Rattle.nr_world.specs.declared.report.Fate.TheVariants as fates
 use Rattle.nr_world.specs.declared.report.Report.{Report}
 use Rattle.nr_world.specs.declared.report.Told.{Told}
-use Rattle.nr_world.specs.declared.script.TheConstants.{MOST_LINES}
-use Rattle.nr_world.specs.Limits.{most_credits}
+use Rattle.nr_world.specs.Limits.{most_credits, most_lines}
 use Rattle.nr_world.specs.Steps.{State, the_link, null, asked_payload, ask, answer}
 use Rattle.nr_world.specs.Observed.{Accepted, Executed, Completed, links_of, sent, got, accepted, executed, completed, journal, is_dropped}
 use Rattle.nr_world.specs.Owed.{own_hello, owed}
@@ -25,7 +23,7 @@ use Rattle.nr_world.specs.Completion.{IsFaithful}
 use Rattle.nr_world.specs.Plain.{null_reply, drill_server}
 use Rattle.nr_world.specs.Follows.{Drill, drill_opened, start, openings, Moves, Drains, Makes, MakeAll}
 use Rattle.nr_world.specs.Shown.{Seen, seen_of, told_at, asked_by}
-use Rattle.nr_world.specs.Promise.{IsAccepted}
+use Rattle.nr_world.specs.Headline.{IsAccepted}
 use Rattle.nr_world.specs.Script.{null_call, turns}
 
 -- f of 1 to n, joined and as a list
@@ -78,18 +76,22 @@ seen_by n k = record {
   fate = if is_one_of n.done k then fates.Answered (Some 0) (outcomes.Reply (null_reply k)) else fates.Out;
 }
 
+-- nothing is known of a call
+abbrev pub nothing_seen : Seen
+nothing_seen = record { entries = 0; place = None; fate = fates.Out }
+
 -- the k-th call line, and what becomes of its call in a run
 abbrev pub told_in : List Mark → ℕ → Told
-told_in last k = record { client = the_link; number = k; fate = (seen_of drill_server the_link k 0 last).fate }
+told_in last k = record { client = the_link; number = k; fate = (seen_of drill_server the_link k nothing_seen last).fate }
 
--- why the client of a link ended: none does
-abbrev pub no_stop : ℕ → Option End
-no_stop link = None
+-- no link is gone
+abbrev pub stays_up : ℕ → Bool
+stays_up link = false
 
 -- the call lines of the first part of a run
 abbrev pub told_over : List Mark → List Mark → List Mark → List Told
 told_over before [] rest = []
-told_over before (mark ∷ run) rest = told_at drill_server no_stop before mark (run ++ rest) ++ told_over (before ++ mark ∷ []) run rest
+told_over before (mark ∷ run) rest = told_at drill_server stays_up before mark (run ++ rest) ++ told_over (before ++ mark ∷ []) run rest
 
 -- what the marks of a drill say by these counts
 pub record At (credits : ℕ) (run : List Mark) (n : Counts) : Type 0 where
@@ -104,9 +106,9 @@ pub record At (credits : ℕ) (run : List Mark) (n : Counts) : Type 0 where
   pub completed_are : completed the_link run ≡ each completed_call n.done
   pub asked_are : asked_by the_link run ≡ n.asked
   pub no_entries : journal drill_server run ≡ []
-  pub not_dropped : is_dropped the_link run ≡ false
+  pub not_dropped : (link : ℕ) → is_dropped link run ≡ false
   pub told_are : (rest : List Mark) → told_over [] run rest ≡ each (told_in (run ++ rest)) n.asked
-  pub seen_are : (k : ℕ) → seen_of drill_server the_link k 0 run ≡ seen_by n k
+  pub seen_are : (k : ℕ) → seen_of drill_server the_link k nothing_seen run ≡ seen_by n k
 
 -- the laws of a run hold of the marks so far
 pub record Laws (credits : ℕ) (run : List Mark) : Type 0 where
@@ -151,7 +153,7 @@ pub record Stands (s : State) : Type 0 where
   pub one_out : s.asked ≤ length s.told + 1
   pub some_credits : 1 ≤ s.credits
   pub few_credits : s.credits ≤ most_credits
-  pub few_calls : s.asked ≤ MOST_LINES
+  pub few_calls : s.asked ≤ most_lines
 
 -- nothing is out
 abbrev pub IsQuiet : State → Type 0

@@ -7,6 +7,7 @@ ghost use Rattle.nr_wire.specs.Next.{segment_in};
 ghost use Rattle.nr_rpc.specs.Reading.{call_of, reply_of};
 ghost use Rattle.nr_world.specs.Messages.{send, inline_message, payload_at, inline_in, under_xid, call_xid, reply_xid, call_in, reply_in};
 ghost use Rattle.nr_world.specs.Ending.{ended_by};
+ghost use Rattle.nr_world.specs.Limits.{send_max};
 
 use crate::mark::Conveyed;
 use nr_header::{Body, ChunkLists, Few, Header, read_header, write_header};
@@ -15,9 +16,6 @@ use nr_wire::numbers::{OPCODE_SEND, QUEUE_SEND};
 use nr_wire::{NextSegment, Segment, next_segment, write_segment};
 use nr_xdr::{Memory, Octets};
 use std::alloc::Global;
-
-/// The bytes that a Send may have.
-pub const MESSAGE_MAX: usize = 1024;
 
 /// An RDMA_MSG message without lists: the header, and the payload behind it.
 #[tactic(auto, unfolding(crate::specs::Messages::inline_header))]
@@ -50,7 +48,7 @@ pub fn inline_message(
 /// A Send of one segment that carries a message, the `msn`-th of its link in that direction.
 #[tactic(auto, unfolding(crate::specs::Messages::send))]
 pub fn send(alloc: Global, msn: u32, message: &[u8]) -> Result<Octets, Memory>
-    requires { length message.now ≤ MESSAGE_MAX }
+    requires { length message.now ≤ send_max }
     ensures { IfOk result (λ frame. frame ≡ send msn message.now) }
 {
     let segment = Segment::Untagged {

@@ -4,10 +4,11 @@ ghost use Rattle.std.specs.Prelude.{◌≡◌, ℕ, ◌+◌, ◌*◌, ◌<◌, �
 ghost use Rattle.std.specs.List.{position};
 ghost use Rattle.std.specs.Str.{bytes_eq};
 ghost use Rattle.nr_world.specs.declared.script.ScriptFault.TheVariants as faults;
+ghost use Rattle.nr_world.specs.Limits.{most_credits, script_max};
 ghost use Rattle.nr_world.specs.Script.{GivesScript, clients_line, credits_in, cut, ends_at, line_onto, newline, script_of, turn, turn_onto, turn_text, turns};
 ghost use Rattle.nr_world.specs.Parsing.{credits_from, lines_from, turns_onto};
 
-use crate::script::{MOST_CREDITS, SCRIPT_MAX, Script, ScriptFault};
+use crate::script::{MOST_CREDITS, Script, ScriptFault};
 use nr_xdr::Memory;
 use std::alloc::Global;
 
@@ -23,7 +24,7 @@ fn is_clients_line(alloc: Global, credits: u32, line: &[u8]) -> Result<bool, Mem
 /// The credits of a first line.
 fn credits_in(alloc: Global, line: &[u8]) -> Result<Option<u32>, Memory>
     ensures read { IfOk result (λ credits. credits ≡ credits_in line.now) }
-    ensures few { IfOk result (λ found. IfSome found (λ credits. (1 ≤ credits) × (credits ≤ MOST_CREDITS))) }
+    ensures few { IfOk result (λ found. IfSome found (λ credits. (1 ≤ credits) × (credits ≤ most_credits))) }
 {
     let mut credits: u32 = 1;
     while credits <= MOST_CREDITS {
@@ -82,7 +83,7 @@ fn behind_due(due: bool, text: &[u8]) -> Option<&[u8]>
 
 /// How many turns of a call and a drain a text is, or the number of its first bad line, where its first line is line 2.
 fn turns_in(text: &[u8]) -> Result<u32, u64>
-    requires { length text.now ≤ SCRIPT_MAX }
+    requires { length text.now ≤ script_max }
     ensures read { MatchResult result (λ calls. lines_from text.now 2 false ≡ Ok (turns calls)) (λ line. lines_from text.now 2 false ≡ Err line) }
     ensures few { IfOk result (λ calls. 2 * calls ≤ length text.now) }
 {
@@ -108,14 +109,14 @@ fn turns_in(text: &[u8]) -> Result<u32, u64>
 /// Reads the text of a script: what it says, or the number of its first bad line.
 ///
 /// A text that ends inside a line, or where a drain line is due, is bad behind its last newline. It asks for a text of at
-/// most [`SCRIPT_MAX`] bytes.
+/// most [`SCRIPT_MAX`](crate::SCRIPT_MAX) bytes.
 ///
 /// # Errors
 ///
 /// [`ScriptFault::BadLine`] with the number of the first bad line, from 1; [`ScriptFault::Memory`] where memory ran out.
 #[tactic(auto, unfolding(crate::specs::Script::script_of))]
 pub fn read_script(alloc: Global, text: &[u8]) -> Result<Script, ScriptFault>
-    requires { length text.now ≤ SCRIPT_MAX }
+    requires { length text.now ≤ script_max }
     ensures { GivesScript result (script_of text.now) }
 {
     let Some((first, behind)) = next_line(text) else {

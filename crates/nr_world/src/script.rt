@@ -2,7 +2,7 @@
 
 ghost use Rattle.std.specs.Prelude.{◌≡◌, ◌+◌, ◌*◌, ◌≤◌};
 ghost use Rattle.nr_world.specs.declared.script.ScriptFault.TheVariants as faults;
-ghost use Rattle.nr_world.specs.Limits.{default_capacity, most_credits};
+ghost use Rattle.nr_world.specs.Limits.{default_capacity, most_credits, most_lines};
 ghost use Rattle.nr_world.specs.Script.{turns};
 
 use nr_xdr::Memory;
@@ -11,9 +11,6 @@ use thiserror::Error;
 
 /// The credits that a script may give each end.
 pub const MOST_CREDITS: u32 = 64;
-
-/// The lines that a script may have.
-pub const MOST_LINES: u32 = 16_777_216;
 
 /// The bytes that the text of a script may have.
 pub const SCRIPT_MAX: usize = 16_777_216;
@@ -48,15 +45,14 @@ pub struct Script {
 
 impl Model for Script {
     ghost use Rattle.std.specs.Prelude.{◌≤◌, ◌+◌, ◌*◌};
-    ghost use Rattle.nr_world.specs.declared.script.TheConstants.{MOST_LINES};
-    ghost use Rattle.nr_world.specs.Limits.{default_capacity, most_credits};
+    ghost use Rattle.nr_world.specs.Limits.{default_capacity, most_credits, most_lines};
     ghost use Rattle.nr_world.specs.Script.{ScriptLines, turns};
 
     ghost Value = { ScriptLines };
 
     ghost view = { λ s. record { clients = 1; credits = s.credits; capacity = default_capacity; lines = turns s.calls } };
 
-    ghost invariant = { λ s. (1 ≤ s.credits) × (s.credits ≤ most_credits) × (2 * s.calls + 1 ≤ MOST_LINES) };
+    ghost invariant = { λ s. (1 ≤ s.credits) × (s.credits ≤ most_credits) × (2 * s.calls + 1 ≤ most_lines) };
 }
 
 impl Script {
@@ -64,7 +60,7 @@ impl Script {
     pub(crate) fn new(credits: u32, calls: u32) -> Script
         requires some { 1 ≤ credits }
         requires few { credits ≤ most_credits }
-        requires lines { 2 * calls + 1 ≤ MOST_LINES }
+        requires lines { 2 * calls + 1 ≤ most_lines }
         ensures { result ≡ record { clients = 1; credits = credits; capacity = default_capacity; lines = turns calls } }
     {
         Script { credits, calls }
@@ -82,7 +78,7 @@ impl Script {
     /// How many calls it makes, each drained before the next.
     pub(crate) fn calls(&self) -> u32
         ensures lines { self.now.lines ≡ turns result }
-        ensures few { 2 * result + 1 ≤ MOST_LINES }
+        ensures few { 2 * result + 1 ≤ most_lines }
         ensures clients { self.now.clients ≡ 1 }
     {
         self.calls

@@ -7,7 +7,7 @@
 ghost use Rattle.std.specs.Prelude.{◌≡◌, [], ◌∷◌, ◌+◌, ◌*◌, ◌<◌, ◌≤◌, length, IfOk, OnOk, ◌||◌, IfSome, option_and_then};
 ghost use Rattle.nr_outside.specs.Pipe.{waiting_in};
 ghost use Rattle.nr_wire.specs.declared.hello.Side.TheVariants.{Initiator, Responder};
-ghost use Rattle.nr_world.specs.declared.script.TheConstants.{MOST_LINES};
+ghost use Rattle.nr_world.specs.Limits.{most_lines};
 ghost use Rattle.nr_world.specs.Messages.{send, inline_message};
 ghost use Rattle.nr_world.specs.Owed.{own_hello};
 ghost use Rattle.nr_world.specs.Plain.{plain_reply};
@@ -245,7 +245,7 @@ impl World {
     /// The client submits a call of NULL and writes its Send.
     #[tactic(auto, unfolding(crate::specs::Steps::asked_one))]
     fn ask(&mut self) -> Result<(), Memory>
-        requires { self.old.asked < MOST_LINES }
+        requires { self.old.asked < most_lines }
         ensures { OnOk result (self.new ≡ asked_one self.old) }
     {
         let xid = self.asked + 1;
@@ -296,7 +296,7 @@ impl World {
     /// The call that came whole is executed and answered, and says whether there was one.
     #[tactic(auto, unfolding(crate::specs::Steps::worked))]
     fn work_one(&mut self) -> Result<bool, Memory>
-        requires { self.old.served ≤ MOST_LINES }
+        requires { self.old.served ≤ most_lines }
         ensures moves { IfOk result (λ moved. moved ≡ works_on self.old.arrived) }
         ensures state { OnOk result (self.new ≡ worked self.old) }
     {
@@ -330,7 +330,7 @@ impl World {
 
     /// The client hands a reply to its caller.
     fn take(&mut self, reply: Conveyed) -> Result<(), Memory>
-        requires { length self.old.told ≤ MOST_LINES }
+        requires { length self.old.told ≤ most_lines }
         ensures { OnOk result (self.new ≡ done_one self.old reply) }
     {
         let payload = Octets::from_slice(self.alloc, reply.payload.as_slice())?;
@@ -354,7 +354,7 @@ impl World {
     /// The client is fed all that waits for it and hands over what is completed. Says whether anything waited.
     #[tactic(auto, unfolding(crate::specs::Steps::heard))]
     fn feed_down(&mut self) -> Result<bool, Memory>
-        requires { length self.old.told ≤ MOST_LINES }
+        requires { length self.old.told ≤ most_lines }
         ensures moves { IfOk result (λ moved. moved ≡ waits self.old.down) }
         ensures state { OnOk result (self.new ≡ heard self.old) }
     {
@@ -403,7 +403,7 @@ impl World {
     fn call(&mut self) -> Result<(), Memory>
         requires stands { Stands self.old }
         requires quiet { IsQuiet self.old }
-        requires room { self.old.asked < MOST_LINES }
+        requires room { self.old.asked < most_lines }
         ensures { OnOk result (Called self.old self.new) }
     {
         self.ask()?;
@@ -413,7 +413,7 @@ impl World {
     /// The lines of a script: so many calls, each drained before the next.
     pub(crate) fn play(&mut self, calls: u32) -> Result<(), Memory>
         requires opened { Played self.old.credits 0 self.old }
-        requires few { 2 * calls + 1 ≤ MOST_LINES }
+        requires few { 2 * calls + 1 ≤ most_lines }
         ensures { OnOk result (Played self.old.credits calls self.new) }
     {
         for _call in 0..calls {

@@ -1,6 +1,6 @@
 use Rattle.std.proofs.Common.{◌≡◌, ℕ, ◌+◌, ◌*◌, ◌≤◌, length, true, false, arith, refl, ap, ◌∙◌}
 use Rattle.nr_world.specs.Script.{turn_onto, null_call}
-use Rattle.nr_world.specs.declared.script.TheConstants.{SCRIPT_MAX}
+use Rattle.nr_world.specs.Limits.{script_max}
 use Rattle.nr_world.specs.Parsing.{lines_from}
 use Rattle.nr_world.proofs.Parsing.{ends_empty, ends_inside, read_whole, read_bad, read_turn}
 use Rattle.nr_world.proofs.reading.turns_in.Goals as goal
@@ -36,7 +36,7 @@ returns-in_default-behind_due-clause-read c =
 
 pub overflow_add-calls : goal.overflow_add-calls
 overflow_add-calls c =
-    let whole : length c.args.text.now ≤ SCRIPT_MAX = c.requires in
+    let whole : length c.args.text.now ≤ script_max = c.requires in
     omega (arith, c.loop-after.invariant.0, whole)
 
 pub loop-after-smaller : goal.loop-after-smaller
