@@ -1,33 +1,45 @@
 #!/bin/sh
 # Reading of FPDUs: the time for each, of a short and of a long stream and by the length of the payload. Run by hand, at the
-# top of the repository, once `(cd crates/frames_bench && rt run -- 2 68 2)` has built the program; or with the program's path as $1.
+# top of the repository, once `(cd crates/frames_bench && rt run -- 5 68 2 2)` has built the program; or with the program's path
+# as $1. The stream comes in pieces of at most 1000 FPDUs, each written into one buffer and read there.
 exec python3 - "${1:-crates/frames_bench/out/frames_bench}" <<'END'
 import resource, subprocess, sys
 
-def seconds(program, count, payload, passes):
-    """The least processor time of twenty runs."""
-    best = None
-    for _ in range(20):
-        before = resource.getrusage(resource.RUSAGE_CHILDREN)
-        subprocess.run([program, str(count), str(payload), str(passes)], stdout=subprocess.DEVNULL, check=True)
-        after = resource.getrusage(resource.RUSAGE_CHILDREN)
-        used = after.ru_utime + after.ru_stime - before.ru_utime - before.ru_stime
-        best = used if best is None else min(best, used)
+PIECE = 1000
+
+def seconds(*runs, times=40):
+    """The least processor time of each run (FPDUs, payload bytes, FPDUs of a piece, readings), of so many taken in turn."""
+    best = [None] * len(runs)
+    for _ in range(times):
+        for i, run in enumerate(runs):
+            for _ in range(5 if run[0] <= 10_000 and run[3] == 1 else 1):
+                before = resource.getrusage(resource.RUSAGE_CHILDREN)
+                subprocess.run([sys.argv[1], *map(str, run)], stdout=subprocess.DEVNULL, check=True)
+                after = resource.getrusage(resource.RUSAGE_CHILDREN)
+                used = after.ru_utime + after.ru_stime - before.ru_utime - before.ru_stime
+                best[i] = used if best[i] is None else min(best[i], used)
     return best
 
-def nanoseconds(count, payload, passes):
-    """What reading takes for each FPDU: the passes beyond the first, so that writing the stream doesn't count."""
-    beyond = seconds(sys.argv[1], count, payload, passes + 1) - seconds(sys.argv[1], count, payload, 1)
-    return beyond / (count * passes) * 1e9
+def once(piece):
+    """What writing and reading once takes for each of 10000 and of 1000000 FPDUs, beyond the start of the program."""
+    start, few, many = seconds((0, 68, PIECE, 1), (10_000, 68, piece, 1), (1_000_000, 68, piece, 1), times=120)
+    return (few - start) / 10_000 * 1e9, (many - start) / 1_000_000 * 1e9
 
-def whole(count):
-    """What writing and reading of a stream takes for each FPDU, beyond the start of the program."""
-    return (seconds(sys.argv[1], count, 68, 1) - seconds(sys.argv[1], 0, 68, 1)) / count * 1e9
+def read(count, payload, times):
+    """What reading takes for each FPDU: the readings beyond the first, so that writing doesn't count. Every other one is
+    without the first FPDU of its piece."""
+    return (count, payload, PIECE, 1), (count, payload, PIECE, times + 1), times * count - times / 2 * -(-count // PIECE)
 
-few, many = whole(10_000), whole(1_000_000)
+def nanoseconds(one, other):
+    a, b, c, d = seconds(one[0], one[1], other[0], other[1])
+    return (b - a) / one[2] * 1e9, (d - c) / other[2] * 1e9
+
+few, many = nanoseconds(read(10_000, 68, 1000), read(1_000_000, 68, 10))
+print(f"NULL calls, read: {few:.2f} ns each of 10000, {many:.2f} ns each of 1000000, ratio {many / few:.2f} (target 1.2)")
+few, many = once(PIECE)
 print(f"NULL calls, written and read once: {few:.1f} ns each of 10000, {many:.1f} ns each of 1000000, ratio {many / few:.2f} (target 1.2)")
-few, many = nanoseconds(10_000, 68, 100), nanoseconds(10_000, 68, 1000)
-print(f"NULL calls read from a buffer of 10000: {few:.1f} ns each of 1000000, {many:.1f} ns each of 10000000, ratio {many / few:.2f} (target 1.2)")
-small, large = nanoseconds(10, 68, 1_000_000), nanoseconds(10, 64_000, 1_000_000)
-print(f"payloads, read again and again: {small:.1f} ns with 68 bytes, {large:.1f} ns with 64000 bytes, ratio {large / small:.2f} (target 1.2)")
+small, large = nanoseconds(read(10, 68, 200_000), read(10, 64_000, 200_000))
+print(f"payloads, read: {small:.2f} ns with 68 bytes, {large:.2f} ns with 64000 bytes, ratio {large / small:.2f} (target 1.2)")
+few, many = once(1_000_000)
+print(f"NULL calls, written into one buffer and read once: {few:.1f} ns each of 10000, {many:.1f} ns each of 1000000 (92 MB), ratio {many / few:.2f} (no target)")
 END

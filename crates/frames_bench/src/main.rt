@@ -1,21 +1,38 @@
-//! A benchmark, run by hand: writes a stream of FPDUs, reads it segment by segment, and says how many segments were read.
-//! The words are how many FPDUs there are, how many payload bytes each has, and how often the stream is read.
+//! A benchmark, run by hand: writes and reads a stream of FPDUs piece by piece, and says how many segments were read. Each
+//! FPDU has its own message number, and each piece stands in the same buffer.
+//! The words are how many FPDUs there are, how many payload bytes each has, how many FPDUs a piece has at most, and how often
+//! each piece is read.
 #![tactic(auto)]
+
+ghost use Rattle.std.specs.Prelude.{◌≤◌, length};
 
 use nr_wire::numbers::{OPCODE_SEND, QUEUE_SEND};
 use nr_wire::{NextSegment, Segment, next_segment, write_segment};
-use std::alloc::{AllocError, Global};
+use nr_xdr::Memory;
+use std::alloc::Global;
 use std::env;
 use std::process::ExitCode;
 
 /// The most payload bytes, so that the FPDU can be written.
 const PAYLOAD_MAX: usize = 65_000;
 
-/// Reads a stream of FPDUs to its end, or to the first that isn't whole: how many there are.
-fn count(stream: &[u8]) -> u64 {
-    let mut rest = stream;
+/// What is written and how often it is read.
+#[derive(Clone, Copy)]
+struct Work<'a> {
+    /// How many FPDUs there are.
+    frames: u32,
+    /// How many of them a piece has at most.
+    piece: u32,
+    payload: &'a [u8],
+    /// How often each piece is read.
+    readings: u64,
+}
+
+/// Reads a piece to its end, or to the first FPDU that isn't whole: how many there are.
+fn count(piece: &[u8]) -> u64 {
+    let mut rest = piece;
     let mut count: u64 = 0;
-    for _ in 0..stream.len() {
+    for _ in 0..piece.len() {
         match next_segment(rest) {
             NextSegment::Whole { len, .. } => {
                 rest = &rest[len..];
@@ -27,30 +44,83 @@ fn count(stream: &[u8]) -> u64 {
     count
 }
 
-/// Reads a stream so often, every other time without its first `skip` bytes: how many segments there were in all.
-fn count_often(stream: &[u8], skip: usize, passes: u64) -> u64 {
-    let shorter = match stream.get(skip..) {
+/// How many bytes the first FPDU has.
+fn first_len(piece: &[u8]) -> usize {
+    match next_segment(piece) {
+        NextSegment::Whole { len, .. } => len,
+        NextSegment::More | NextSegment::Bad { .. } => 0,
+    }
+}
+
+/// Reads a piece so often, every other time without its first FPDU: how many segments there were in all.
+fn count_often(piece: &[u8], readings: u64) -> u64 {
+    let shorter = match piece.get(first_len(piece)..) {
         Some(shorter) => shorter,
-        None => stream,
+        None => piece,
     };
     let mut total: u64 = 0;
-    for pass in 0..passes {
-        total = total.saturating_add(count(if pass % 2 == 0 { stream } else { shorter }));
+    for reading in 0..readings {
+        total = total.saturating_add(count(if reading % 2 == 0 { piece } else { shorter }));
     }
     total
 }
 
-/// A stream of an FPDU so many times.
-fn repeated(alloc: Global, frame: &[u8], times: u64) -> Result<Vec<u8>, AllocError> {
-    let mut stream = Vec::new(alloc);
-    for _ in 0..times {
-        stream.extend_from_slice(frame)?;
+/// Writes a piece of so many FPDUs, whose message numbers begin behind `before`.
+fn fill(
+    alloc: Global,
+    piece: &mut Vec<u8>,
+    before: u32,
+    frames: u32,
+    payload: &[u8],
+) -> Result<(), Memory>
+    requires { length payload.now ≤ PAYLOAD_MAX }
+{
+    piece.clear();
+    let mut msn = before;
+    for _ in 0..frames {
+        msn = msn.wrapping_add(1);
+        let segment = Segment::Untagged {
+            last: true,
+            opcode: OPCODE_SEND,
+            word: 0,
+            queue: QUEUE_SEND,
+            msn,
+            offset: 0,
+            payload,
+        };
+        let frame = write_segment(alloc, &segment)?;
+        piece.extend_from_slice(frame.as_slice())?;
     }
-    Ok(stream)
+    Ok(())
+}
+
+/// Writes and reads all pieces: how many segments there were in all.
+fn run(alloc: Global, work: &Work<'_>) -> Result<u64, Memory>
+    requires { length work.now.payload.now ≤ PAYLOAD_MAX }
+{
+    let mut piece = Vec::new(alloc);
+    let mut total: u64 = 0;
+    let mut before: u32 = 0;
+    let mut left = work.frames;
+    for _ in 0..work.frames {
+        if left == 0 {
+            break;
+        }
+        let frames = if work.piece < left { work.piece } else { left };
+        fill(alloc, &mut piece, before, frames, work.payload)?;
+        total = total.saturating_add(count_often(piece.as_slice(), work.readings));
+        before = before.wrapping_add(frames);
+        left -= frames;
+    }
+    Ok(total)
 }
 
 fn number(word: Option<String>) -> Option<u64> {
     word?.as_str().parse::<u64>().ok()
+}
+
+fn small(word: Option<String>) -> Option<u32> {
+    word?.as_str().parse::<u32>().ok()
 }
 
 fn main(rt: HostRuntime) -> ExitCode {
@@ -58,10 +128,10 @@ fn main(rt: HostRuntime) -> ExitCode {
         return ExitCode::FAILURE;
     };
     let _ = words.next();
-    let (Some(times), Some(len)) = (number(words.next()), number(words.next())) else {
+    let (Some(frames), Some(len)) = (small(words.next()), number(words.next())) else {
         return ExitCode::FAILURE;
     };
-    let Some(passes) = number(words.next()) else {
+    let (Some(piece), Some(readings)) = (small(words.next()), number(words.next())) else {
         return ExitCode::FAILURE;
     };
     let len = if len < PAYLOAD_MAX as u64 {
@@ -72,22 +142,15 @@ fn main(rt: HostRuntime) -> ExitCode {
     let Ok(payload) = vec![in rt.alloc(); 0u8; len] else {
         return ExitCode::FAILURE;
     };
-    let segment = Segment::Untagged {
-        last: true,
-        opcode: OPCODE_SEND,
-        word: 0,
-        queue: QUEUE_SEND,
-        msn: 1,
-        offset: 0,
+    let work = Work {
+        frames,
+        piece,
         payload: payload.as_slice(),
+        readings,
     };
-    let Ok(frame) = write_segment(rt.alloc(), &segment) else {
+    let Ok(total) = run(rt.alloc(), &work) else {
         return ExitCode::FAILURE;
     };
-    let Ok(stream) = repeated(rt.alloc(), frame.as_slice(), times) else {
-        return ExitCode::FAILURE;
-    };
-    let total = count_often(stream.as_slice(), frame.len(), passes);
     match println!(rt; "{total}") {
         Ok(()) => ExitCode::SUCCESS,
         Err(_) => ExitCode::FAILURE,
