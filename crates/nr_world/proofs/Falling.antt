@@ -39,7 +39,8 @@ todo-is s st =
     let calls : length (came the_link s.marks) ≡ n =
     ap (λ (xs : List ℕ). length (conveyed call_in (messages Initiator xs))) st.at.up_got ∙ ap length (calls-upward s.credits n few credits) ∙ length-each conveyed_call n in
     let done : length (executed the_link s.marks) ≡ s.served = ap length st.at.executed_are ∙ length-each executed_call s.served in
-    λ i. (behind i + up i) ∷ (calls i - done i) ∷ down i ∷ up i ∷ []
+    let first : length (unwritten (drill_opened s.credits) the_link Initiator (drill_of s)) + length (waiting_in s.up) ≡ length (upward s.credits s.asked) - length (upward s.credits n) = omega (arith, behind, up) in
+    λ i. first i ∷ (calls i - done i) ∷ down i ∷ up i ∷ []
 
 longer_up : (credits n : ℕ) → suc n < 2 ^ 32 → length (upward credits n) < length (upward credits (suc n))
 longer_up credits n small =
