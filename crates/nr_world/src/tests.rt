@@ -185,6 +185,7 @@ fn marks(rt: HostRuntime) -> Result<(), Fail> {
     let calls = report.calls.as_slice();
     assert_eq!(rt; calls.len(), 1);
     assert_eq!(rt; (calls[0].client, calls[0].number), (1, 1));
+    assert_eq!(rt; report.calls.into_vec().len(), 1);
     Ok(())
 }
 
@@ -216,6 +217,8 @@ fn forms(rt: HostRuntime) -> Result<(), Fail> {
             room: 1024,
         }),
         Fate::Refused(Refused::Ended(End::Terminated { reason: 5 })),
+        Fate::Refused(Refused::Spent { left: 0, need: 1 }),
+        Fate::Refused(Refused::Memory),
     ];
     for fate in fates {
         calls.push(Told {
@@ -253,6 +256,7 @@ fn forms(rt: HostRuntime) -> Result<(), Fail> {
         ),
         (Side::Responder, End::NoBuffer { msn: 2 }),
         (Side::Responder, End::Terminated { reason: 101 }),
+        (Side::Responder, End::Memory),
     ];
     for (side, end) in ends {
         links.push(LinkTold {
@@ -274,8 +278,9 @@ fn forms(rt: HostRuntime) -> Result<(), Fail> {
     let wanted =
         b"2 7 open\n2 7 lost\n2 7 forgotten\n2 7 revoked -\n2 7 revoked 68656c0000\n2 7 place 0 chunk\n\
 2 7 chunk\n2 7 version 1 1\n2 7 refused credit 4 4\n2 7 refused large 1028 1024\n2 7 refused ended\n\
-link 1 client bad 20 5\nlink 1 client denied 1 3 nostag\nlink 1 server denied 1 4 bounds\n\
-link 1 server denied 1 0 right\nlink 1 server nobuffer 2\nlink 1 server terminated 101\nlink 2 dropped\n\
+2 7 refused spent 0 1\n2 7 refused memory\nlink 1 client bad 20 5\nlink 1 client denied 1 3 nostag\nlink 1 server denied 1 4 bounds\n\
+link 1 server denied 1 0 right\nlink 1 server nobuffer 2\nlink 1 server terminated 101\n\
+link 1 server memory\nlink 2 dropped\n\
 journal 0\n";
     assert_eq!(rt; shown(rt.alloc(), &report)?.as_slice(), wanted.as_slice());
     Ok(())
