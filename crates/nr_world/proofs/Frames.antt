@@ -5,7 +5,7 @@ use Rattle.nr_rpc.proofs.Replies.{reply_written}
 use Rattle.nr_wire.specs.declared.hello.Side.TheVariants.{Initiator, Responder}
 use Rattle.nr_wire.specs.Next.{segment_in}
 use Rattle.nr_world.specs.declared.mark.Conveyed.{Conveyed}
-use Rattle.nr_world.specs.Messages.{inline_message, messages, conveyed, call_in, reply_in}
+use Rattle.nr_world.specs.Messages.{inline_message, messages, conveyed, call_xid, reply_xid, call_in, reply_in}
 use Rattle.nr_world.specs.Ending.{ended_by}
 use Rattle.nr_world.specs.Plain.{success, null_reply}
 use Rattle.nr_world.specs.Steps.{asked_payload, ask, answer}
@@ -41,11 +41,11 @@ unfolding answer
 answer-is credits k small = send-is k (answered_message credits k) small (omega (arith, length-answered_message credits k))
 
 pub call_in-asked : (credits k : ℕ) → k < 2 ^ 32 → credits < 2 ^ 32 → call_in (asked_message credits k) ≡ Some (record { xid = k; payload = asked_payload k })
-call_in-asked credits k small few = call_in-message k credits (asked_payload k) _ _ _ _ small few (omega (arith, length-asked_payload k)) (call_of-asked k small)
+call_in-asked credits k small few = call_in-message k credits (asked_payload k) small few (omega (arith, length-asked_payload k)) (ap call_xid (call_of-asked k small))
 
 pub reply_in-answered : (credits k : ℕ) → k < 2 ^ 32 → credits < 2 ^ 32 → reply_in (answered_message credits k) ≡ Some (record { xid = k; payload = null_reply k })
 reply_in-answered credits k small few =
-    reply_in-message k credits (null_reply k) _ small few (omega (arith, length-null_reply k)) (reply_written (Accepted k success 0) [] (λ e. cc) (small, omega arith)) refl
+    reply_in-message k credits (null_reply k) small few (omega (arith, length-null_reply k)) (ap reply_xid (reply_written (Accepted k success 0) [] (λ e. cc) (small, omega arith)))
 
 -- what stands in the pieces that are fed
 pub ask-conveys : (credits k : ℕ) → k < 2 ^ 32 → credits < 2 ^ 32 → option_and_then call_in (ended_by (segment_in (ask credits k))) ≡ Some (record { xid = k; payload = asked_payload k })

@@ -1,17 +1,16 @@
 -- A message without lists is read as it was written.
-use Rattle.std.proofs.Common.{◌≡◌, ℕ, ◌+◌, ◌^◌, ◌<◌, ◌≤◌, true, not, List, [], ◌++◌, length, take, All, Some, Ok, refl, ap, ◌∙◌, append_assoc, arith, lit<, eq-eqb}
+use Rattle.std.proofs.Common.{◌≡◌, ℕ, ◌+◌, ◌^◌, ◌<◌, ◌≤◌, true, not, List, [], ◌++◌, length, take, All, Option, Some, refl, ap, ◌∙◌, append_assoc, arith, lit<, eq-eqb}
+use Rattle.std.specs.Prelude.{option_and_then}
 use Rattle.std.proofs.lemmas.Bool.{le-ltb}
 use Rattle.std.proofs.lemmas.List.{take_at, drop_at, length-append}
 use Rattle.nr_xdr.specs.Item.{word, word_of}
 use Rattle.nr_xdr.proofs.Numbers.{length-word, word_of-word}
-use Rattle.nr_header.specs.declared.limits.TheConstants.{FIXED_LEN, PAYLOAD_MAX}
+use Rattle.nr_header.specs.Numbers.{FIXED_LEN, PAYLOAD_MAX}
 use Rattle.nr_header.specs.Limits.{ListsWithin}
 use Rattle.nr_header.proofs.Messages.{header_written}
-use Rattle.nr_rpc.specs.declared.head.CallHead.TheVariants.{Version2}
-use Rattle.nr_rpc.specs.declared.head.ReplyHead.{ReplyHead}
-use Rattle.nr_rpc.specs.declared.cred.Cred.TheVariants as creds
 use Rattle.nr_rpc.specs.Reading.{call_of, reply_of}
-use Rattle.nr_world.specs.Messages.{no_lists, header_without_lists, inline_header, inline_message, xid_in, inline_in, by_header, call_in, reply_in, reply_xid, under_xid}
+use Rattle.nr_world.specs.declared.mark.Conveyed.{Conveyed}
+use Rattle.nr_world.specs.Messages.{no_lists, header_without_lists, inline_header, inline_message, xid_in, inline_in, by_header, call_in, reply_in, call_xid, reply_xid, under_xid}
 use Rattle.nr_world.specs.Window.{has_words}
 
 pub length-inline_header : (xid credit : ℕ) → length (inline_header xid credit) ≡ 28
@@ -57,17 +56,19 @@ inline_in-message xid credit payload small few short =
     ap (by_header m) read
     ∙ ap (λ (p : List ℕ). Some (record { xid = xid; payload = p })) (drop_at (inline_header xid credit) payload (length (inline_header xid credit)) refl)
 
-under_own : (xid : ℕ) (payload : List ℕ) → under_xid (Some xid) (record { xid = xid; payload = payload }) ≡ Some (record { xid = xid; payload = payload })
-under_own xid payload = rw (eq-eqb xid xid refl) refl
+under_own : (xid : ℕ) (payload : List ℕ) (own : Option ℕ) → own ≡ Some xid → under_xid own (record { xid = xid; payload = payload }) ≡ Some (record { xid = xid; payload = payload })
+under_own xid payload own is = rw (is, eq-eqb xid xid refl) refl
 
-pub call_in-message : (xid credit : ℕ) (payload : List ℕ) (prog vers proc at : ℕ) → xid < 2 ^ 32 → credit < 2 ^ 32 → length payload ≤ PAYLOAD_MAX → call_of payload ≡ Ok (Version2 xid prog vers proc creds.None at)
+pub call_in-message : (xid credit : ℕ) (payload : List ℕ) → xid < 2 ^ 32 → credit < 2 ^ 32 → length payload ≤ PAYLOAD_MAX → call_xid (call_of payload) ≡ Some xid
     → call_in (inline_message xid credit payload) ≡ Some (record { xid = xid; payload = payload })
 unfolding call_in
-call_in-message xid credit payload prog vers proc at small few short head =
-    rw (inline_in-message xid credit payload small few short, head) (under_own xid payload)
+call_in-message xid credit payload small few short is =
+    ap (option_and_then (λ (carried : Conveyed). under_xid (call_xid (call_of carried.payload)) carried)) (inline_in-message xid credit payload small few short)
+    ∙ under_own xid payload (call_xid (call_of payload)) is
 
-pub reply_in-message : (xid credit : ℕ) (payload : List ℕ) (head : ReplyHead) → xid < 2 ^ 32 → credit < 2 ^ 32 → length payload ≤ PAYLOAD_MAX → reply_of payload ≡ Ok head → reply_xid (Ok head) ≡ Some xid
+pub reply_in-message : (xid credit : ℕ) (payload : List ℕ) → xid < 2 ^ 32 → credit < 2 ^ 32 → length payload ≤ PAYLOAD_MAX → reply_xid (reply_of payload) ≡ Some xid
     → reply_in (inline_message xid credit payload) ≡ Some (record { xid = xid; payload = payload })
 unfolding reply_in
-reply_in-message xid credit payload head small few short is own =
-    rw (inline_in-message xid credit payload small few short, is, own) (under_own xid payload)
+reply_in-message xid credit payload small few short is =
+    ap (option_and_then (λ (carried : Conveyed). under_xid (reply_xid (reply_of carried.payload)) carried)) (inline_in-message xid credit payload small few short)
+    ∙ under_own xid payload (reply_xid (reply_of payload)) is

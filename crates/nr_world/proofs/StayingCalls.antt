@@ -1,12 +1,11 @@
 -- The calls that a client accepted are few and short, and each is read from its message as it was asked; so is each reply to
 -- such a call.
 use Rattle.std.proofs.Common.{◌≡◌, ℕ, ◌^◌, ◌<◌, ◌≤◌, Option, Some, List, [], ◌∷◌, ◌++◌, length, Contains, refl, sym, ap, subst, ◌∙◌, arith, lit<}
-use Rattle.std.specs.Prelude.{option_and_then}
 use Rattle.std.specs.List.{AllByRecursion}
 use Rattle.std.proofs.lemmas.Bool.{eq-eqb}
 use Rattle.std.proofs.lemmas.List.{append-nil, length_push}
 use Rattle.std.proofs.lemmas.List.Elements.{All-weaker, All-contains_itself, recursion_from_All, Contains-append_left, Contains-push}
-use Rattle.nr_header.specs.declared.limits.TheConstants.{PAYLOAD_MAX}
+use Rattle.nr_header.specs.Numbers.{PAYLOAD_MAX}
 use Rattle.nr_rpc.specs.Call.{CanWriteCall, CallFits}
 use Rattle.nr_rpc.specs.Reading.{call_of, reply_of}
 use Rattle.nr_rpc.proofs.Calls.{call_written}
@@ -21,7 +20,7 @@ use Rattle.nr_world.specs.Owed.{call_payload}
 use Rattle.nr_world.specs.Along.{Along}
 use Rattle.nr_world.specs.Asked.{AskedMark, Fits}
 use Rattle.nr_world.specs.Staying.{head_of, AreWords, IsInline}
-use Rattle.nr_world.proofs.Inline.{length-inline_message, inline_in-message}
+use Rattle.nr_world.proofs.Inline.{length-inline_message, call_in-message, reply_in-message}
 use Rattle.nr_world.proofs.StayingLists.{all_push, all_both}
 use Rattle.nr_world.proofs.StayingRuns.{each_keeps, accepted-more, accepted-around, Accepting, accepting}
 use Rattle.nr_world.proofs.StayingRuns.Accepting.{NoneNew, OneNew}
@@ -70,25 +69,6 @@ accepted_few opened link run words along =
     (accepting opened link before mark h) f))
     [] run refl along (few_none opened link)
 
--- ---- what is read of a message without lists
-
-under_own : (xid : ℕ) (payload : List ℕ) (own : Option ℕ) → own ≡ Some xid → under_xid own (record { xid = xid; payload = payload }) ≡ Some (record { xid = xid; payload = payload })
-under_own xid payload own is = rw (is, eq-eqb xid xid refl) refl
-
-pub call_in-own : (xid credit : ℕ) (payload : List ℕ) → xid < 2 ^ 32 → credit < 2 ^ 32 → length payload ≤ PAYLOAD_MAX → call_xid (call_of payload) ≡ Some xid
-    → call_in (inline_message xid credit payload) ≡ Some (record { xid = xid; payload = payload })
-unfolding call_in
-call_in-own xid credit payload small few short is =
-    ap (option_and_then (λ (carried : Conveyed). under_xid (call_xid (call_of carried.payload)) carried)) (inline_in-message xid credit payload small few short)
-    ∙ under_own xid payload (call_xid (call_of payload)) is
-
-pub reply_in-own : (xid credit : ℕ) (payload : List ℕ) → xid < 2 ^ 32 → credit < 2 ^ 32 → length payload ≤ PAYLOAD_MAX → reply_xid (reply_of payload) ≡ Some xid
-    → reply_in (inline_message xid credit payload) ≡ Some (record { xid = xid; payload = payload })
-unfolding reply_in
-reply_in-own xid credit payload small few short is =
-    ap (option_and_then (λ (carried : Conveyed). under_xid (reply_xid (reply_of carried.payload)) carried)) (inline_in-message xid credit payload small few short)
-    ∙ under_own xid payload (reply_xid (reply_of payload)) is
-
 -- ---- the calls
 
 -- the xid and the payload of an accepted call
@@ -117,7 +97,7 @@ is_read opened a few short spelled =
     record {
       call = record { small = spelled.1.0; own = own };
       short = short;
-      read = call_in-own a.xid opened.wished payload spelled.1.0 few (omega (arith, len, short)) own;
+      read = call_in-message a.xid opened.wished payload spelled.1.0 few (omega (arith, len, short)) own;
     }
 
 pub record AreRead (opened : Opened) (calls : List Accepted) : Type 0 where
@@ -157,5 +137,5 @@ is_answered plain opened e inline few replied call =
     let short = goes.short e.xid opened.granted in
     record {
       short = short;
-      read = reply_in-own e.xid opened.granted e.reply call.small few (omega (arith, len, short)) (goes.own e.xid call.small call.own);
+      read = reply_in-message e.xid opened.granted e.reply call.small few (omega (arith, len, short)) (goes.own e.xid call.small call.own);
     }

@@ -12,7 +12,7 @@ use Rattle.nr_header.specs.declared.header.Header.{Header}
 use Rattle.nr_header.specs.Header.{header_spelling}
 use Rattle.nr_header.specs.Reading.{word_at, header_of}
 use Rattle.nr_wire.specs.declared.hello.Side.{Side}
-use Rattle.nr_wire.specs.declared.numbers.TheConstants.{OPCODE_SEND, QUEUE_SEND}
+use Rattle.nr_wire.specs.Constants.{OPCODE_SEND, QUEUE_SEND}
 use Rattle.nr_wire.specs.declared.stream.Awaited.TheVariants.{Hello as HelloFrom}
 use Rattle.nr_wire.specs.Hello.{Hello}
 use Rattle.nr_wire.specs.Next.{Next, hello_in}
