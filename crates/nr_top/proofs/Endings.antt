@@ -65,7 +65,7 @@ no_memory words status input input' out out' err err' stopped is said = record {
   script = λ e. absurd (omega (arith, e, is));
   budget = λ e. absurd (omega (arith, e, is));
   fault = λ e. absurd (omega (arith, e, is));
-  unfailing = λ _. (stopped.1, stopped.2.unfailing, said.unfailing);
+  unfailing = λ _. (stopped.2, stopped.3.unfailing, said.unfailing);
   due = λ text left. inr (inl is);
   words_due = λ other. absurd (cc (stopped.0, other));
 }
@@ -111,14 +111,15 @@ over_budget words status input input' out out' err err' stopped is said =
       script = λ e. absurd (omega (arith, e, is));
       budget = λ _. (stopped, said);
       fault = λ e. absurd (omega (arith, e, is));
-      unfailing = λ _. (stopped.1, stopped.2.unfailing, said.unfailing);
+      unfailing = λ _. (stopped.2, stopped.3.unfailing, said.unfailing);
       due = λ text left. inl (is ∙ sym (due_of_long words text long.line (subst (λ (l : Option (List ℕ)). IfSome l (λ given. script_max < length given)) left long.long)));
       words_due = λ other. absurd (cc (long.line, other));
     }
 
 -- where there is no memory for the words of a bad line, or of an input that is too long
 without_words : (number : ℕ) (words : List (List ℕ)) (input input' : InputAt) (out out' : SinkAt) → Stopped (BadScript number) words input input' out out' → Stopped NoMemory words input input' out out'
-without_words number words input input' out out' stopped = (stopped.0.line, stopped.0.whole.unfailing, stopped.1)
+without_words number words input input' out out' stopped =
+    (stopped.0.line, (stopped.0.text, stopped.0.whole.handed), stopped.0.whole.unfailing, stopped.1)
 
 -- a cause that was told makes an end
 pub ends_of : (cause : Cause) (words : List (List ℕ)) (status : ℕ) (input input' : InputAt) (out out' err err' : SinkAt) → Stopped cause words input input' out out' → Says cause status err err' → Ends words status input input' out out' err err'
@@ -139,4 +140,4 @@ ends_of (BadScript number) words status input input' out out' err err' stopped (
 ends_of OverBudget words status input input' out out' err err' stopped (inl said) =
     said_or OverBudget words status input input' out out' err err' stopped (inl said) said (over_budget words status input input' out out' err err' stopped)
 ends_of OverBudget words status input input' out out' err err' stopped (inr said) =
-    said_or OverBudget words status input input' out out' err err' stopped (inr said) said (no_memory words status input input' out out' err err' (stopped.0.line, stopped.1, stopped.2))
+    said_or OverBudget words status input input' out out' err err' stopped (inr said) said (no_memory words status input input' out out' err err' (stopped.0.line, stopped.1, stopped.2, stopped.3))

@@ -39,6 +39,10 @@ pub record Whole (old new : InputAt) (text : List ℕ) : Type 0 where
   pub within : length text ≤ script_max
   pub unfailing : new.faults ≡ old.faults
 
+-- what was read of the input stood first in it
+abbrev pub Took : InputAt → InputAt → Type 0
+Took old new = (bytes : List ℕ) × HandsOut old.left old.given new.left new.given bytes
+
 -- nothing was written
 pub record Silent (old new : SinkAt) : Type 0 where
   pub keeps : Keeps old.taken new.taken
@@ -105,11 +109,11 @@ pub data Cause : Type 0 where
 -- what is so where a command wasn't done
 abbrev pub Stopped : Cause → List (List ℕ) → InputAt → InputAt → SinkAt → SinkAt → Type 0
 Stopped WrongWords words input input' out out' = (is_drill words ≡ false) × (input' ≡ input) × (out' ≡ out)
-Stopped NoMemory words input input' out out' = (is_drill words ≡ true) × (input'.faults ≡ input.faults) × Silent out out'
-Stopped InputFault words input input' out out' = (is_drill words ≡ true) × Rose input.faults input'.faults × Silent out out'
+Stopped NoMemory words input input' out out' = (is_drill words ≡ true) × Took input input' × (input'.faults ≡ input.faults) × Silent out out'
+Stopped InputFault words input input' out out' = (is_drill words ≡ true) × Took input input' × Rose input.faults input'.faults × Silent out out'
 Stopped OutputFault words input input' out out' = Halfway words input input' out out'
 Stopped (BadScript number) words input input' out out' = BadLine number words input input' × Silent out out'
-Stopped OverBudget words input input' out out' = TooLong words input × (input'.faults ≡ input.faults) × Silent out out'
+Stopped OverBudget words input input' out out' = TooLong words input × Took input input' × (input'.faults ≡ input.faults) × Silent out out'
 
 -- the words for want of memory, for an input that is too long, and for a bad line
 abbrev pub memory_text : List ℕ
