@@ -21,6 +21,8 @@ const ERR_VERS_MESSAGE: [u8; 28] = [
 
 #[test]
 fn read_and_written(rt: HostRuntime) -> Result<(), Fail> {
+    header_round_trip();
+    bad_messages();
     let messages = [
         NO_LISTS.as_slice(),
         WRITTEN.as_slice(),

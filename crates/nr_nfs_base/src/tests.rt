@@ -223,6 +223,7 @@ fn each_row_is_read_and_written(rt: HostRuntime) -> Result<(), AllocError> {
 
 #[test]
 fn values_are_made_and_taken_apart(rt: HostRuntime) -> Result<(), Fail> {
+    crate::opaque_limits();
     let name = Name::from_slice(rt.alloc(), b"a.txt")?;
     assert_eq!(rt; name.as_slice(), b"a.txt".as_slice());
     let octets = name.into_octets();

@@ -467,6 +467,7 @@ fn joined(alloc: Global, parts: &[&[u32]]) -> Result<Vec<u8>, AllocError> {
 
 #[test]
 fn full_values_are_read_and_written(rt: HostRuntime) -> Result<(), AllocError> {
+    crate::results();
     for Full(kind, parts) in &FULL {
         let bytes = joined(rt.alloc(), parts)?;
         let got = again_as(*kind, rt.alloc(), &bytes).map(Octets::into_vec);

@@ -4,6 +4,10 @@ use std::test::Fail;
 
 #[test]
 fn one_fill_region(rt: HostRuntime) -> Result<(), Fail> {
+    held_until_released();
+    allowed_accesses();
+    memory_is_its_past();
+    given_back_at_its_end();
     let mut regions = Regions::new(rt.alloc(), 1);
     let buf = Octets::from_slice(rt.alloc(), &[0; 8])?;
     let Ok(registration) = regions.register(buf, Right::Fill) else {

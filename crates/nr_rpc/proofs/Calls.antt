@@ -7,7 +7,7 @@ use Rattle.nr_xdr.specs.Item.Item.{Unsigned}
 use Rattle.nr_xdr.specs.Items.{spellings}
 use Rattle.nr_xdr.specs.Reading.{Cursor, Takes}
 use Rattle.nr_xdr.proofs.Chains.{TakesEach, standing, each_takes, each_between, spellings_read, IsBytes-behind, IsBytes-opaque}
-use Rattle.nr_rpc.specs.declared.limits.TheConstants.{AUTH_BODY_MAX, RPC_VERSION, CALL}
+use Rattle.nr_rpc.specs.Numbers.{AUTH_BODY_MAX, RPC_VERSION, CALL}
 use Rattle.nr_rpc.specs.declared.fault.HeadFault.{HeadFault}
 use Rattle.nr_rpc.specs.declared.cred.Cred.{Cred}
 use Rattle.nr_rpc.specs.declared.head.CallHead.{CallHead}

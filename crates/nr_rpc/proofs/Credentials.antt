@@ -10,7 +10,7 @@ use Rattle.nr_xdr.specs.Items.{ReadEach, spellings}
 use Rattle.nr_xdr.specs.Reading.{Cursor, Takes, unsigned_at}
 use Rattle.nr_xdr.proofs.Chains.{TakesEach, standing, each_takes, each_between, spellings_read}
 use Rattle.nr_xdr.proofs.Numbers.{length-word}
-use Rattle.nr_rpc.specs.declared.limits.TheConstants.{AUTH_BODY_MAX, MACHINE_MAX, GIDS_MAX, AUTH_NONE, AUTH_SYS}
+use Rattle.nr_rpc.specs.Numbers.{AUTH_BODY_MAX, MACHINE_MAX, GIDS_MAX, AUTH_NONE, AUTH_SYS}
 use Rattle.nr_rpc.specs.declared.cred.Cred.{Cred}
 use Rattle.nr_rpc.specs.declared.cred.Cred.TheVariants as creds
 use Rattle.nr_rpc.specs.Credential.{Auth, auth_of, sys_items, ReadsSys, ReadsCred, CanWriteCred, CredFits}

@@ -5,7 +5,7 @@ use Rattle.nr_xdr.specs.Item.{IsBytes}
 use Rattle.nr_xdr.specs.Item.Item.{Unsigned, Opaque}
 use Rattle.nr_xdr.specs.Reading.{Cursor, Takes, opaque_at}
 use Rattle.nr_xdr.proofs.Chains.{IsBytes-opaque}
-use Rattle.nr_rpc.specs.declared.limits.TheConstants.{AUTH_BODY_MAX}
+use Rattle.nr_rpc.specs.Numbers.{AUTH_BODY_MAX}
 use Rattle.nr_rpc.specs.Credential.{Auth}
 use Rattle.nr_xdr.specs.Steps.{◌>>=◌, or_place}
 use Rattle.nr_xdr.proofs.Steps.{bind_ok, chosen, done, ok_is, number_step, number_again, opaque_step, opaque_placed}

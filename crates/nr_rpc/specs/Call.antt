@@ -3,7 +3,7 @@ use Rattle.std.specs.Prelude.{◌≡◌, ◌≢◌, ℕ, ◌^◌, ◌<◌, ◌�
 use Rattle.nr_xdr.specs.Item.{Item}
 use Rattle.nr_xdr.specs.Item.Item.{Unsigned}
 use Rattle.nr_xdr.specs.Items.{ReadEach, spellings}
-use Rattle.nr_rpc.specs.declared.limits.TheConstants.{AUTH_BODY_MAX, RPC_VERSION, CALL}
+use Rattle.nr_rpc.specs.Numbers.{AUTH_BODY_MAX, RPC_VERSION, CALL}
 use Rattle.nr_rpc.specs.declared.head.CallHead.{CallHead}
 use Rattle.nr_rpc.specs.declared.head.CallHead.TheVariants as calls
 use Rattle.nr_rpc.specs.Credential.{Auth, auth_items, auth_of, no_verifier, ReadsCred, CanWriteCred, CredFits}

@@ -1,3 +1,4 @@
+pub mod Numbers
 pub mod Credential
 pub mod Call
 pub mod Reply

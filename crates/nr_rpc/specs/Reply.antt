@@ -3,7 +3,7 @@ use Rattle.std.specs.Prelude.{◌≡◌, ◌≢◌, ℕ, ◌^◌, ◌<◌, ◌�
 use Rattle.nr_xdr.specs.Item.{Item}
 use Rattle.nr_xdr.specs.Item.Item.{Unsigned}
 use Rattle.nr_xdr.specs.Items.{ReadEach, spellings}
-use Rattle.nr_rpc.specs.declared.limits.TheConstants.{AUTH_BODY_MAX, REPLY, MSG_ACCEPTED, MSG_DENIED, PROG_MISMATCH, RPC_MISMATCH, AUTH_ERROR}
+use Rattle.nr_rpc.specs.Numbers.{AUTH_BODY_MAX, REPLY, MSG_ACCEPTED, MSG_DENIED, PROG_MISMATCH, RPC_MISMATCH, AUTH_ERROR}
 use Rattle.nr_rpc.specs.declared.head.ReplyHead.{ReplyHead}
 use Rattle.nr_rpc.specs.declared.head.ReplyHead.TheVariants as replies
 use Rattle.nr_rpc.specs.Credential.{Auth, auth_items, no_verifier}

@@ -22,6 +22,10 @@ const SYS_CALL: [u8; 74] = [
 
 #[test]
 fn null_call(rt: HostRuntime) -> Result<(), Fail> {
+    call_round_trip();
+    reply_round_trip();
+    one_call_head();
+    one_reply_head();
     let head = read_call(rt.alloc(), &NULL_CALL)?;
     assert!(rt;
         matches!(

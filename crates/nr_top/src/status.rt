@@ -9,7 +9,7 @@ pub const BAD_WORDS: u8 = 1;
 /// Memory ran out.
 pub const NO_MEMORY: u8 = 2;
 
-/// A read of the input failed, or a write of what is printed.
+/// A read of the input failed, or a write of what is printed or said.
 pub const FAULT: u8 = 9;
 
 /// The input is no script.

@@ -20,7 +20,7 @@ pub const CRC_LEN: usize = 4;
 /// The most bytes that an ULPDU may have: its length has 16 bits.
 pub const ULPDU_MAX: usize = 65535;
 /// Bytes of the longest FPDU.
-pub const FPDU_MAX: usize = 65544;
+pub const FPDU_MAX: usize = LENGTH_LEN + ULPDU_MAX + 3 + CRC_LEN;
 /// Bytes of the header of a tagged segment (RFC 5041 section 4.2).
 pub const TAGGED_LEN: usize = 14;
 /// Bytes of the header of an untagged segment (RFC 5041 section 4.3).

@@ -18,6 +18,9 @@ const ERR_CHUNK: &[u8] = b"\x00\x26\x41\x43\0\0\0\0\0\0\0\0\0\0\0\x01\0\0\0\0\
 
 const WRITE: &[u8] = b"\x00\x13\xc1\x40\0\0\0\x01\0\0\0\0\0\0\0\0hello\0\0\0\0\0\0\0";
 
+/// A Write of no bytes: the shortest ULPDU of a tagged segment.
+const EMPTY_WRITE: &[u8] = b"\x00\x0e\xc1\x40\0\0\0\x01\0\0\0\0\0\0\0\0\0\0\0\0";
+
 const READ_REQUEST: &[u8] = b"\x00\x2e\x41\x41\0\0\0\0\0\0\0\x01\0\0\0\x01\0\0\0\0\
 \0\0\0\x01\0\0\0\0\0\0\0\0\0\0\0\x05\0\0\0\x01\0\0\0\0\0\0\0\0\0\0\0\0";
 
@@ -60,6 +63,7 @@ fn segments_both_ways(rt: HostRuntime) -> Result<(), Fail> {
         ),
         (ERR_CHUNK, 44, untagged(OPCODE_SEND, 0, &ERR_CHUNK[20..40])),
         (WRITE, 28, tagged(OPCODE_WRITE, b"hello")),
+        (EMPTY_WRITE, 20, tagged(OPCODE_WRITE, b"")),
         (
             READ_REQUEST,
             52,
@@ -144,6 +148,11 @@ fn ignored_bits(rt: HostRuntime) {
 
 #[test]
 fn hellos(rt: HostRuntime) -> Result<(), Fail> {
+    round_trip();
+    judged_alone();
+    one_segment();
+    one_split();
+    however_cut::<u64>();
     use Side::{Initiator, Responder};
     // A byte of the key, flags, revision, private length, and what comes of the 20 bytes.
     let table = [

@@ -33,7 +33,7 @@ use Rattle.nr_world.proofs.Staying.{handed_over}
 
 -- every accepted call has its outcome
 complete-is : (s : State) → Stands s → IsQuiet s → IsComplete the_link s.marks
-complete-is s st quiet a held =
+complete-is s st quiet a held kept =
     let of = each-within accepted_call s.asked a (subst (λ (xs : List Accepted). Contains xs a) st.at.accepted_are held) in
     let k = of.0 in
     let there : Contains (each completed_call (length s.told)) (completed_call k) = Contains-each completed_call (length s.told) k of.1 (omega (arith, of.2, quiet)) in
@@ -56,7 +56,6 @@ settled-is s st quiet =
       up = st.at.up_got ∙ ap (upward c) came ∙ sym st.at.up_sent;
       down = st.at.down_got ∙ ap (downward c) told ∙ sym st.at.down_sent;
       executed = ap (λ (t : State). next_call the_link t.marks) (sym (w.still (omega (arith, came, told, quiet)))) ∙ none;
-      handed = handed_over the_link s.marks (complete-is s st quiet);
     }
 
 -- the promise holds of the link of a drill that ended
@@ -74,6 +73,7 @@ drained-is s st quiet = record {
   matched = st.laws.matched;
   unrefused = st.laws.unrefused;
   settled = settled-is s st quiet;
+  handed = handed_over the_link s.marks (complete-is s st quiet);
   complete = complete-is s st quiet;
 }
 

@@ -1,11 +1,10 @@
 -- On a link that stays every call completes.
 use Rattle.std.proofs.Common.{◌≡◌, ℕ, ◌^◌, ◌<◌, Bool, true, cond, eqb, Option, None, Some, Result, Ok, Err, List, [], ◌++◌, ◌&&◌, length, map, Contains, slice_get, refl, sym, ap, subst, ◌∙◌, arith, lit<, ◌≤◌, inl, inr}
 use Rattle.std.specs.Prelude.{find}
-use Rattle.std.specs.List.{flat_map, filter, list_any, AllByRecursion}
+use Rattle.std.specs.List.{filter, list_any, AllByRecursion}
 use Rattle.std.proofs.lemmas.Bool.{eq-eqb, eqb-true, cases_Bool}
 use Rattle.std.proofs.lemmas.List.{append-nil, length-map}
 use Rattle.std.proofs.lemmas.List.Folds.{list_any_at, Any-from_list_any, list_any-from_Any}
-use Rattle.std.proofs.lemmas.List.Elements.{All-weaker, All-contains_itself, recursion_from_All}
 use Rattle.std.proofs.lemmas.Option.{cond_some, same_Some}
 use Rattle.nr_wire.specs.declared.hello.Side.TheVariants.{Initiator, Responder}
 use Rattle.nr_rpc.specs.declared.cred.Cred.TheVariants as creds
@@ -19,17 +18,18 @@ use Rattle.nr_world.specs.declared.mark.Mark.{Mark}
 use Rattle.nr_world.specs.declared.mark.Opened.{Opened}
 use Rattle.nr_world.specs.Observed.{PlainServer, Accepted, Executed, Completed, got, accepted, executed, completed}
 use Rattle.nr_world.specs.Messages.{is_greeted, conveyed, messages, call_in, reply_in, call_xid, reply_xid}
+use Rattle.nr_world.specs.Limits.{send_max}
 use Rattle.nr_world.specs.Owed.{own_hello}
 use Rattle.nr_world.specs.Window.{heard, has_words}
 use Rattle.nr_world.specs.Asked.{Asked, AskedMark, done_with, done_for}
 use Rattle.nr_world.specs.Served.{Served, came, next_call}
 use Rattle.nr_world.specs.Completion.{IsComplete}
 use Rattle.nr_world.specs.Plain.{success, null_reply, is_null, reply_to, plain_reply, drill_server}
-use Rattle.nr_world.specs.Staying.{AreWords, IsSettled}
+use Rattle.nr_world.specs.Staying.{AreWords, IsSettled, IsHandedOver, AllReplied}
 use Rattle.nr_world.proofs.Nulls.{length-null_reply}
 use Rattle.nr_world.proofs.Inline.{has_words-message, length-inline_message}
 use Rattle.nr_world.proofs.Streams.{is_greeted-own}
-use Rattle.nr_world.proofs.StayingLists.{none_behind, all_each, all_both, all_map, all_mapped, filter_map-map, filter-map, list_any-map, found, nothing_of, nothing_from}
+use Rattle.nr_world.proofs.StayingLists.{none_behind, all_each, all_both, all_map, all_mapped, filter_map-map, filter-map, list_any-map, found}
 use Rattle.nr_world.proofs.StayingStreams.{sends, AreShort, messages-sends}
 use Rattle.nr_world.proofs.StayingOwed.{ask_message, owed_client}
 use Rattle.nr_world.proofs.StayingAnswers.{reply_message, Client, owed_server, call_of_executed, IsReplied, executed_first}
@@ -74,7 +74,7 @@ module _ (plain : PlainServer) (opened : Opened) (link : ℕ) (run : List Mark) 
   all_came =
       let few : length (map (ask_message opened) asks) < 2 ^ 32 = omega (arith, length-map asks (ask_message opened), asks_read.few) in
       let short : AreShort (map (ask_message opened) asks) =
-      all_map (λ message. length message ≤ 1024) (ask_message opened) asks (all_each (IsRead opened) (λ a. length (ask_message opened a) ≤ 1024) (λ a r. r.short) asks asks_read.each) in
+      all_map (λ message. length message ≤ send_max) (ask_message opened) asks (all_each (IsRead opened) (λ a. length (ask_message opened a) ≤ send_max) (λ a r. r.short) asks asks_read.each) in
       ap (λ (xs : List ℕ). conveyed call_in (messages Initiator xs)) got_all
       ∙ ap (conveyed call_in) (messages-sends Initiator (map (ask_message opened) asks) few short)
       ∙ filter_map-map call_in (ask_message opened) call_of_accepted asks (all_each (IsRead opened) (λ a. call_in (ask_message opened a) ≡ Some (call_of_accepted a)) (λ a r. r.read) asks asks_read.each)
@@ -108,14 +108,14 @@ module _ (plain : PlainServer) (opened : Opened) (link : ℕ) (run : List Mark) 
       let few : length (map (reply_message opened) done) < 2 ^ 32 =
       omega (arith, length-map done (reply_message opened), length-map done call_of_executed, ap length all_executed, length-map asks call_of_accepted, asks_read.few) in
       let short : AreShort (map (reply_message opened) done) =
-      all_map (λ message. length message ≤ 1024) (reply_message opened) done (all_each (IsAnswered opened) (λ e. length (reply_message opened e) ≤ 1024) (λ e r. r.short) done answered) in
+      all_map (λ message. length message ≤ send_max) (reply_message opened) done (all_each (IsAnswered opened) (λ e. length (reply_message opened e) ≤ send_max) (λ e r. r.short) done answered) in
       ap (λ (xs : List ℕ). conveyed reply_in (filter has_words (messages Responder xs))) got_down
       ∙ ap (λ (ms : List (List ℕ)). conveyed reply_in (filter has_words ms)) (messages-sends Responder (map (reply_message opened) done) few short)
       ∙ ap (conveyed reply_in) (filter-map has_words (reply_message opened) done (λ e. has_words-message e.xid opened.granted e.reply))
       ∙ filter_map-map reply_in (reply_message opened) reply_of_executed done (all_each (IsAnswered opened) (λ e. reply_in (reply_message opened e) ≡ Some (reply_of_executed e)) (λ e r. r.read) done answered)
 
   -- so each accepted call's reply came
-  reply_came : (a : Accepted) → Contains asks a → (reply : Conveyed) × (find (λ reply. eqb reply.xid a.xid) (conveyed reply_in (heard link run)) ≡ Some reply)
+  pub reply_came : AllReplied link run
   reply_came a held =
       let own = λ (c : Conveyed). eqb c.xid a.xid in
       let there : list_any own (conveyed reply_in (heard link run)) ≡ true =
@@ -127,33 +127,27 @@ module _ (plain : PlainServer) (opened : Opened) (link : ℕ) (run : List Mark) 
       ∙ list_any_at (λ (b : Accepted). eqb b.xid a.xid) asks held.0 a held.1 (eq-eqb _ a.xid (ap (λ (b : Accepted). b.xid) held.2)) in
       found own (conveyed reply_in (heard link run)) there
 
-  pub completes : IsComplete link run
-  completes a held =
+  pub completes : IsHandedOver link run → IsComplete link run
+  completes handed a held kept =
       let of = λ (c : Completed). eqb c.xid a.xid in
       let replied = find (λ reply. eqb reply.xid a.xid) (conveyed reply_in (heard link run)) in
-      let none : done_for link run a ≡ [] = nothing_of (done_for link run) asks a settled.handed held in
       let came_back = reply_came a held in
       elim (cases_Bool (list_any of (completed link run))) [
         | inl there ↦
             let c = Any-from_list_any of (completed link run) there in
             (c.1, (c.0, c.2, c.3), eqb-true c.1.xid a.xid c.4)
         | inr missing ↦
-            let left : done_with link a.xid replied ≡ [] = sym (ap (λ (b : Bool). cond b [] (done_with link a.xid replied)) missing) ∙ none in
+            let left : done_with link a.xid replied ≡ [] = sym (ap (λ (b : Bool). cond b [] (done_with link a.xid replied)) missing) ∙ handed a held kept in
             absurd (no_done link a.xid replied came_back.0 came_back.1 left)
       ]
 
 -- and where every call is complete, nothing is left to hand over
-pub handed_over : (link : ℕ) (run : List Mark) → IsComplete link run → flat_map (done_for link run) (accepted link run) ≡ []
-handed_over link run complete =
-    let asks = accepted link run in
-    nothing_from (done_for link run) asks
-    (recursion_from_All (λ a. done_for link run a ≡ []) asks
-    (All-weaker (Contains asks) (λ a. done_for link run a ≡ []) (λ a held.
-    let c = complete a held in
+pub handed_over : (link : ℕ) (run : List Mark) → IsComplete link run → IsHandedOver link run
+handed_over link run complete a held kept =
+    let c = complete a held kept in
     let known : list_any (λ c. eqb c.xid a.xid) (completed link run) ≡ true =
     list_any-from_Any (λ (d : Completed). eqb d.xid a.xid) (completed link run) (c.1.0, c.0, c.1.1, c.1.2, eq-eqb c.0.xid a.xid c.2) in
-    rw known refl)
-    asks (All-contains_itself asks)))
+    rw known refl
 
 -- ---- the drill's server
 

@@ -9,6 +9,7 @@ use Rattle.nr_header.specs.Numbers.{PAYLOAD_MAX}
 use Rattle.nr_rpc.specs.Call.{CanWriteCall, CallFits}
 use Rattle.nr_rpc.specs.Reading.{call_of, reply_of}
 use Rattle.nr_rpc.proofs.Calls.{call_written}
+use Rattle.nr_world.specs.Limits.{send_max}
 use Rattle.nr_world.specs.declared.mark.Conveyed.{Conveyed}
 use Rattle.nr_world.specs.declared.mark.Entry.{Entry}
 use Rattle.nr_world.specs.declared.mark.Mark.{Mark}
@@ -82,7 +83,7 @@ pub record IsCall (call : Conveyed) : Type 0 where
 
 pub record IsRead (opened : Opened) (a : Accepted) : Type 0 where
   pub call : IsCall (call_of_accepted a)
-  pub short : length (ask_message opened a) ≤ 1024
+  pub short : length (ask_message opened a) ≤ send_max
   pub read : call_in (ask_message opened a) ≡ Some (call_of_accepted a)
 
 own_xid : (a : Accepted) → CanWriteCall (head_of a) → CallFits (head_of a) → call_xid (call_of (call_payload a.xid a.call)) ≡ Some a.xid
@@ -127,7 +128,7 @@ abbrev pub AnswersInline : PlainServer → Type 0
 AnswersInline plain = (entries : List Entry) (moment : Moment) (payload reply : List ℕ) → plain.Replies entries moment payload reply → IsInline payload reply
 
 pub record IsAnswered (opened : Opened) (e : Executed) : Type 0 where
-  pub short : length (reply_message opened e) ≤ 1024
+  pub short : length (reply_message opened e) ≤ send_max
   pub read : reply_in (reply_message opened e) ≡ Some (reply_of_executed e)
 
 pub is_answered : (plain : PlainServer) (opened : Opened) (e : Executed) → AnswersInline plain → opened.granted < 2 ^ 32 → IsReplied plain e → IsCall (call_of_executed e) → IsAnswered opened e

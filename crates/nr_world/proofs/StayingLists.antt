@@ -86,16 +86,3 @@ found p (x ∷ xs) e =
 no_parts : {A : Type 0} (xs ys : List A) → xs ++ ys ≡ [] → (xs ≡ []) × (ys ≡ [])
 no_parts [] ys e = (refl, e)
 no_parts (x ∷ xs) ys e = absurd cc
-
-nothing_each : {X A : Type 0} (f : X → List A) (xs : List X) → flat_map f xs ≡ [] → AllByRecursion (λ x. f x ≡ []) xs
-nothing_each f [] e = tt
-nothing_each f (x ∷ xs) e =
-    let parts = no_parts (f x) (flat_map f xs) e in
-    (parts.0, nothing_each f xs parts.1)
-
-pub nothing_of : {X A : Type 0} (f : X → List A) (xs : List X) (x : X) → flat_map f xs ≡ [] → Contains xs x → f x ≡ []
-nothing_of f xs x e held = All-contains (λ y. f y ≡ []) xs x (All-from_recursion (λ y. f y ≡ []) xs (nothing_each f xs e)) held
-
-pub nothing_from : {X A : Type 0} (f : X → List A) (xs : List X) → AllByRecursion (λ x. f x ≡ []) xs → flat_map f xs ≡ []
-nothing_from f [] h = refl
-nothing_from f (x ∷ xs) h = ap (λ (ys : List _). ys ++ flat_map f xs) h.0 ∙ nothing_from f xs h.1

@@ -19,6 +19,7 @@ use Rattle.nr_wire.proofs.FrontFrame.{front_frame}
 use Rattle.nr_wire.proofs.Splits.{split-only}
 use Rattle.nr_wire.proofs.Segments.{spelling_again}
 use Rattle.nr_wire.proofs.Hellos.{hello_again}
+use Rattle.nr_world.specs.Limits.{send_max}
 use Rattle.nr_world.specs.Messages.{Part, part_in, joined_to, messages_from, messages, has_hello, is_hello, is_greeted, send}
 use Rattle.nr_world.specs.Owed.{own_hello}
 use Rattle.nr_world.specs.Stands.{joined, each}
@@ -47,7 +48,7 @@ pub record IsSend (frame : List ℕ) (segment : Segment) : Type 0 where
   pub says : segment_of frame ≡ Ok segment
   pub found : segment_in frame ≡ Whole segment (length frame)
 
-pub send-is : (msn : ℕ) (message : List ℕ) → msn < 2 ^ 32 → length message ≤ 1024 → IsSend (send msn message) (send_segment msn message)
+pub send-is : (msn : ℕ) (message : List ℕ) → msn < 2 ^ 32 → length message ≤ send_max → IsSend (send msn message) (send_segment msn message)
 unfolding send segment_in
 send-is msn message small short =
     let segment = send_segment msn message in

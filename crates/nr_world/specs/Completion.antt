@@ -1,11 +1,11 @@
 -- What completion means to a caller.
-use Rattle.std.specs.Prelude.{◌≡◌, ℕ, ◌≤◌, List, [], ◌++◌, length, take, drop, Contains}
+use Rattle.std.specs.Prelude.{◌≡◌, ℕ, false, ◌≤◌, List, [], ◌++◌, length, take, drop, Contains}
 use Rattle.nr_world.specs.declared.call.Outcome.{Outcome}
 use Rattle.nr_world.specs.declared.call.Outcome.TheVariants as outcomes
 use Rattle.nr_world.specs.declared.mark.Entry.{Entry}
 use Rattle.nr_world.specs.declared.mark.Mark.{Mark}
 use Rattle.nr_world.specs.declared.mark.Mark.TheVariants as marks
-use Rattle.nr_world.specs.Observed.{PlainServer, Accepted, Executed, Completed, accepted, executed, completed, journal}
+use Rattle.nr_world.specs.Observed.{PlainServer, Accepted, Executed, Completed, accepted, executed, completed, is_given_up, journal}
 use Rattle.nr_world.specs.Owed.{call_payload}
 use Rattle.nr_world.specs.Along.{Along}
 
@@ -37,6 +37,6 @@ CompletedMark plain link before mark = Unit {0}
 abbrev pub IsFaithful : PlainServer → ℕ → List Mark → Type 0
 IsFaithful plain link run = Along (CompletedMark plain link) [] run
 
--- every accepted call has its outcome
+-- every accepted call that wasn't given up has its outcome
 abbrev pub IsComplete : ℕ → List Mark → Type 0
-IsComplete link run = (a : Accepted) → Contains (accepted link run) a → (c : Completed) × Contains (completed link run) c × (c.xid ≡ a.xid)
+IsComplete link run = (a : Accepted) → Contains (accepted link run) a → is_given_up link a.xid run ≡ false → (c : Completed) × Contains (completed link run) c × (c.xid ≡ a.xid)

@@ -11,7 +11,7 @@ use Rattle.nr_world.specs.Places.{PlacesRise}
 use Rattle.nr_world.specs.Along.{Along}
 use Rattle.nr_world.specs.Matched.{Matched}
 use Rattle.nr_world.specs.Completion.{IsComplete}
-use Rattle.nr_world.specs.Staying.{IsSettled}
+use Rattle.nr_world.specs.Staying.{IsSettled, IsHandedOver}
 use Rattle.nr_world.specs.Promise.{HoldsOn}
 use Rattle.nr_world.specs.Script.{ScriptLines}
 use Rattle.nr_world.specs.Follows.{Follows, drill_opened}
@@ -31,6 +31,7 @@ pub record EndsDrained (link : ℕ) (run : List Mark) : Type 0 where
   pub matched : Matched link run
   pub unrefused : Along (IsAccepted link) [] run
   pub settled : IsSettled link run
+  pub handed : IsHandedOver link run
   pub complete : IsComplete link run
 
 -- the plain server of a script's drill, by its setup

@@ -97,6 +97,15 @@ drops link mark = false
 abbrev pub is_dropped : ℕ → List Mark → Bool
 is_dropped link run = list_any (drops link) run
 
+-- the caller gave a call's answer up, or took its memory back
+abbrev pub gives_up : ℕ → ℕ → Mark → Bool
+gives_up link xid (marks.Forget l x) = l == link && x == xid
+gives_up link xid (marks.Revoke l x bytes) = l == link && x == xid
+gives_up link xid mark = false
+
+abbrev pub is_given_up : ℕ → ℕ → List Mark → Bool
+is_given_up link xid run = list_any (gives_up link xid) run
+
 -- A plain RPC server, one call after another: which reply it may give to a payload at a moment, over a journal, and what
 -- the journal gets by that.
 pub record PlainServer : Type 1 where

@@ -2,6 +2,7 @@
 use Rattle.std.specs.Prelude.{◌≡◌, ℕ, ◌+◌, not, ◌==◌, ◌&&◌, if◌then◌else◌, List, [], ◌∷◌, ◌++◌, length}
 use Rattle.nr_wire.specs.declared.hello.Side.{Side}
 use Rattle.nr_wire.specs.declared.hello.Side.TheVariants.{Initiator, Responder}
+use Rattle.nr_wire.specs.Constants.{FLAG_REJECT, REASON_FLAGS}
 use Rattle.nr_wire.specs.Hello.{Hello, hello_spelling}
 use Rattle.nr_wire.specs.Next.{Next, hello_in}
 use Rattle.nr_wire.specs.Next.Next.{Whole, More, Bad}
@@ -15,28 +16,20 @@ use Rattle.nr_world.specs.declared.mark.Opened.{Opened}
 use Rattle.nr_world.specs.Observed.{Accepted, sent, got, accepted, executed}
 use Rattle.nr_world.specs.Messages.{has_hello, is_greeted, send, inline_message}
 
--- the bit of a reply by which the connection is refused, and the reason that a hello with markers or a CRC is refused for
--- (RFC 5044 section 7.1)
-abbrev pub flag_reject : ℕ
-flag_reject = 32
-
-abbrev pub asks_too_much : ℕ
-asks_too_much = 2
-
 -- a side's hello on a link of this profile: no flags, no private data
 unfoldable pub own_hello : Side → List ℕ
 own_hello side = hello_spelling (record { side = side; flags = 0; private = [] })
 
 -- the hello of a server that takes none of the link: the connection is refused
 unfoldable pub refusing_hello : List ℕ
-refusing_hello = hello_spelling (record { side = Responder; flags = flag_reject; private = [] })
+refusing_hello = hello_spelling (record { side = Responder; flags = FLAG_REJECT; private = [] })
 
 -- What a server answers to a hello: its own; its refusal, where the client asks for markers or a CRC; and nothing to what is
 -- no hello of this kind. (RFC 5044 section 7.1; when a refusal is answered is own)
 abbrev pub answer_to : Next Hello → List ℕ
 answer_to (Whole hello len) = own_hello Responder
 answer_to More = []
-answer_to (Bad reason) = if reason == asks_too_much then refusing_hello else []
+answer_to (Bad reason) = if reason == REASON_FLAGS then refusing_hello else []
 
 -- a call's payload under an xid (RFC 5531 section 9)
 unfoldable pub call_payload : ℕ → Call → List ℕ

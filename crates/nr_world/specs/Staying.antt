@@ -1,28 +1,36 @@
--- A link that stays: nothing is left to do on it, and what it takes that every call of it completes.
-use Rattle.std.specs.Prelude.{◌≡◌, ℕ, ◌^◌, ◌<◌, ◌≤◌, List, [], length, None, Some, Contains}
-use Rattle.std.specs.List.{flat_map}
+-- A link that stays: nothing is under way on it, and what it takes that every call of it completes.
+use Rattle.std.specs.Prelude.{◌≡◌, ℕ, ◌^◌, ◌<◌, ◌≤◌, ◌==◌, false, List, [], length, find, None, Some, Contains}
 use Rattle.nr_wire.specs.declared.hello.Side.TheVariants.{Initiator, Responder}
 use Rattle.nr_rpc.specs.declared.head.CallHead.{CallHead}
 use Rattle.nr_rpc.specs.declared.head.CallHead.TheVariants.{Version2}
 use Rattle.nr_rpc.specs.Call.{CanWriteCall, CallFits}
 use Rattle.nr_rpc.specs.Reading.{call_of, reply_of}
+use Rattle.nr_world.specs.declared.mark.Conveyed.{Conveyed}
 use Rattle.nr_world.specs.declared.mark.Entry.{Entry}
 use Rattle.nr_world.specs.declared.mark.Mark.{Mark}
 use Rattle.nr_world.specs.declared.mark.Moment.{Moment}
 use Rattle.nr_world.specs.declared.mark.Opened.{Opened}
-use Rattle.nr_world.specs.Observed.{PlainServer, Accepted, sent, got, accepted}
-use Rattle.nr_world.specs.Messages.{inline_message, call_xid, reply_xid}
+use Rattle.nr_world.specs.Observed.{PlainServer, Accepted, sent, got, accepted, is_given_up}
+use Rattle.nr_world.specs.Messages.{inline_message, conveyed, reply_in, call_xid, reply_xid}
 use Rattle.nr_world.specs.Asked.{done_for}
 use Rattle.nr_world.specs.Served.{next_call}
+use Rattle.nr_world.specs.Window.{heard}
 use Rattle.nr_world.specs.Limits.{send_max}
 
--- Nothing is left to do on a link: each side got all that the other sent, every call that came whole is executed, and every
--- outcome that came is handed over.
+-- Nothing is under way on a link: each side got all that the other sent, and every call that came whole is executed.
 pub record IsSettled (link : ℕ) (run : List Mark) : Type 0 where
   pub up : got link Responder run ≡ sent link Initiator run
   pub down : got link Initiator run ≡ sent link Responder run
   pub executed : next_call link run ≡ None
-  pub handed : flat_map (done_for link run) (accepted link run) ≡ []
+
+-- every outcome that came was handed over, to each caller that still wants it
+abbrev pub IsHandedOver : ℕ → List Mark → Type 0
+IsHandedOver link run = (a : Accepted) → Contains (accepted link run) a → is_given_up link a.xid run ≡ false → done_for link run a ≡ []
+
+-- every accepted call's reply came to its client
+abbrev pub AllReplied : ℕ → List Mark → Type 0
+AllReplied link run = (a : Accepted) → Contains (accepted link run) a →
+    (reply : Conveyed) × (find (λ reply. reply.xid == a.xid) (conveyed reply_in (heard link run)) ≡ Some reply)
 
 -- the head of an accepted call (RFC 5531 section 9)
 abbrev pub head_of : Accepted → CallHead

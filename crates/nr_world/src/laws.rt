@@ -9,16 +9,19 @@ ghost use Rattle.nr_world.specs.Asked.{Asked};
 ghost use Rattle.nr_world.specs.Completion.{IsComplete};
 ghost use Rattle.nr_world.specs.Plain.{drill_server};
 ghost use Rattle.nr_world.specs.Served.{Served};
-ghost use Rattle.nr_world.specs.Staying.{AreWords, IsSettled, inline_server};
+ghost use Rattle.nr_world.specs.Staying.{AllReplied, AreWords, IsHandedOver, IsSettled, inline_server};
 
-/// On a link that stays every call completes: where each side wrote all that it has to write and nothing is left to do,
-/// every accepted call has its outcome.
+/// On a link that stays every call completes: where each side wrote all that it has to write and nothing is under way, every
+/// accepted call's reply came to its client, and each call completes once what came is handed over.
 pub fn link_that_stays()
     // Whatever the server, as long as its replies go without lists.
-    ensures inline { (adds : Moment → List ℕ → List ℕ → List Entry) (opened : Opened) (link : ℕ) (run : List Mark) →
+    ensures replied { (adds : Moment → List ℕ → List ℕ → List Entry) (opened : Opened) (link : ℕ) (run : List Mark) →
         AreWords opened link run → Asked opened link run → Served (inline_server adds) opened link run →
-        IsSettled link run → IsComplete link run }
+        IsSettled link run → AllReplied link run }
+    ensures completes { (adds : Moment → List ℕ → List ℕ → List Entry) (opened : Opened) (link : ℕ) (run : List Mark) →
+        AreWords opened link run → Asked opened link run → Served (inline_server adds) opened link run →
+        IsSettled link run → IsHandedOver link run → IsComplete link run }
     // The server of these drills is one of those.
     ensures drill { (opened : Opened) (link : ℕ) (run : List Mark) → AreWords opened link run → Asked opened link run →
-        Served drill_server opened link run → IsSettled link run → IsComplete link run }
+        Served drill_server opened link run → IsSettled link run → IsHandedOver link run → IsComplete link run }
 {}

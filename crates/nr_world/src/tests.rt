@@ -39,6 +39,7 @@ const TWO_SHOWN: &[u8] = b"1 1 place 0 reply 00000001000000010000000000000000000
 
 #[test]
 fn scripts(rt: HostRuntime) -> Result<(), Fail> {
+    link_that_stays();
     let rows: [(&[u8], u32); 5] = [
         (ONE_CALL, 16),
         (TWO_CALLS, 16),
