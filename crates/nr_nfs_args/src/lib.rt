@@ -29,6 +29,3 @@ pub use null::NullArgs;
 pub use readdir::{ReaddirArgs, ReaddirplusArgs};
 pub use remove::{LinkArgs, RemoveArgs, RenameArgs, RmdirArgs};
 pub use special::{DeviceData, MknodArgs, MknodData, SymlinkArgs};
-
-#[cfg(test)]
-mod tests;

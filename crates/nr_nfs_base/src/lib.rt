@@ -55,6 +55,3 @@ pub use time::Time;
 pub use verifier::Verifier;
 pub use weak_cache::{WccAttributes, WccData};
 pub use xdr::Xdr;
-
-#[cfg(test)]
-mod tests;

@@ -27,6 +27,3 @@ pub use mount::{MntRes, MountOk, UmntRes, UmntallRes};
 pub use null::NullRes;
 pub use readdir::{Entry, EntryPlus, ReaddirOk, ReaddirRes, ReaddirplusOk, ReaddirplusRes};
 pub use remove::{LinkRes, LinkWcc, RemoveRes, RenameRes, RenameWcc, RmdirRes};
-
-#[cfg(test)]
-mod tests;

@@ -1,5 +1,8 @@
-use super::*;
-use nr_nfs_base::{ValueFault, Xdr};
+//! Tests of nr_nfs_args.
+
+use crate::{Want, again, bytes_of, joined, wanted};
+use nr_nfs_args::*;
+use nr_nfs_base::ValueFault;
 use nr_xdr::Octets;
 use std::alloc::{AllocError, Global};
 
@@ -36,11 +39,6 @@ enum Type {
     Umntall,
 }
 
-fn again<T: Xdr>(alloc: Global, bytes: &[u8]) -> Result<Octets, ValueFault> {
-    let value = T::read(alloc, bytes)?;
-    Ok(value.write(alloc)?)
-}
-
 /// Reads the bytes as a value of the type, and writes that.
 fn again_as(kind: Type, alloc: Global, bytes: &[u8]) -> Result<Octets, ValueFault> {
     match kind {
@@ -74,22 +72,6 @@ fn again_as(kind: Type, alloc: Global, bytes: &[u8]) -> Result<Octets, ValueFaul
         Type::Umnt => again::<UmntArgs>(alloc, bytes),
         Type::Umntall => again::<UmntallArgs>(alloc, bytes),
     }
-}
-
-fn bytes_of(alloc: Global, words: &[u32]) -> Result<Vec<u8>, AllocError> {
-    let mut bytes = Vec::new(alloc);
-    for word in words {
-        bytes.extend_from_slice(&word.to_be_bytes())?;
-    }
-    Ok(bytes)
-}
-
-/// What the words are read as is written so.
-#[derive(Clone, Copy)]
-enum Want {
-    Same,
-    Words(&'static [u32]),
-    Bad(usize),
 }
 
 use Want::{Bad, Same, Words};
@@ -252,11 +234,7 @@ static TABLE: [Row; 70] = [
 fn each_row_is_read_and_written(rt: HostRuntime) -> Result<(), AllocError> {
     for Row(kind, words, want) in &TABLE {
         let bytes = bytes_of(rt.alloc(), words)?;
-        let wanted = match want {
-            Same => Ok(bytes_of(rt.alloc(), words)?),
-            Words(others) => Ok(bytes_of(rt.alloc(), others)?),
-            Bad(at) => Err(ValueFault::Bad { at: *at }),
-        };
+        let wanted = wanted(rt.alloc(), words, *want)?;
         let got = again_as(*kind, rt.alloc(), &bytes).map(Octets::into_vec);
         assert_eq!(rt; got, wanted, "{kind:?} {words:?}");
     }
@@ -287,10 +265,7 @@ static LONG: [Long; 4] = [
 #[test]
 fn long_values_are_read_and_written(rt: HostRuntime) -> Result<(), AllocError> {
     for Long(kind, parts) in &LONG {
-        let mut bytes = Vec::new(rt.alloc());
-        for part in *parts {
-            bytes.extend_from_slice(&bytes_of(rt.alloc(), part)?)?;
-        }
+        let bytes = joined(rt.alloc(), parts)?;
         let got = again_as(*kind, rt.alloc(), &bytes).map(Octets::into_vec);
         assert_eq!(rt; got, Ok(bytes), "{kind:?}");
     }

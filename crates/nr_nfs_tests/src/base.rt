@@ -1,4 +1,7 @@
-use super::*;
+//! Tests of nr_nfs_base.
+
+use crate::{Want, again, bytes_of, wanted};
+use nr_nfs_base::*;
 use nr_xdr::{Octets, Reader, Writer};
 use std::alloc::{AllocError, Global};
 use std::test::Fail;
@@ -33,11 +36,6 @@ enum Type {
     Array,
 }
 
-fn again<T: Xdr>(alloc: Global, bytes: &[u8]) -> Result<Octets, ValueFault> {
-    let value = T::read(alloc, bytes)?;
-    Ok(value.write(alloc)?)
-}
-
 /// Reads the bytes as a value of the type, and writes that.
 fn again_as(kind: Type, alloc: Global, bytes: &[u8]) -> Result<Octets, ValueFault> {
     match kind {
@@ -68,22 +66,6 @@ fn again_as(kind: Type, alloc: Global, bytes: &[u8]) -> Result<Octets, ValueFaul
         Type::Chain => again::<Chain<u32>>(alloc, bytes),
         Type::Array => again::<Array<u32>>(alloc, bytes),
     }
-}
-
-fn bytes_of(alloc: Global, words: &[u32]) -> Result<Vec<u8>, AllocError> {
-    let mut bytes = Vec::new(alloc);
-    for word in words {
-        bytes.extend_from_slice(&word.to_be_bytes())?;
-    }
-    Ok(bytes)
-}
-
-/// What the words are read as is written so.
-#[derive(Clone, Copy)]
-enum Want {
-    Same,
-    Words(&'static [u32]),
-    Bad(usize),
 }
 
 use Want::{Bad, Same, Words};
@@ -210,11 +192,7 @@ static TABLE: [Row; 76] = [
 fn each_row_is_read_and_written(rt: HostRuntime) -> Result<(), AllocError> {
     for Row(kind, words, want) in &TABLE {
         let bytes = bytes_of(rt.alloc(), words)?;
-        let wanted = match want {
-            Same => Ok(bytes_of(rt.alloc(), words)?),
-            Words(others) => Ok(bytes_of(rt.alloc(), others)?),
-            Bad(at) => Err(ValueFault::Bad { at: *at }),
-        };
+        let wanted = wanted(rt.alloc(), words, *want)?;
         let got = again_as(*kind, rt.alloc(), &bytes).map(Octets::into_vec);
         assert_eq!(rt; got, wanted, "{kind:?} {words:?}");
     }
@@ -223,7 +201,7 @@ fn each_row_is_read_and_written(rt: HostRuntime) -> Result<(), AllocError> {
 
 #[test]
 fn values_are_made_and_taken_apart(rt: HostRuntime) -> Result<(), Fail> {
-    crate::opaque_limits();
+    opaque_limits();
     let name = Name::from_slice(rt.alloc(), b"a.txt")?;
     assert_eq!(rt; name.as_slice(), b"a.txt".as_slice());
     let octets = name.into_octets();

@@ -1,5 +1,8 @@
-use super::*;
-use nr_nfs_base::{ValueFault, Xdr};
+//! Tests of nr_nfs_res.
+
+use crate::{Want, again, bytes_of, joined, wanted};
+use nr_nfs_base::ValueFault;
+use nr_nfs_res::*;
 use nr_xdr::Octets;
 use std::alloc::{AllocError, Global};
 
@@ -34,11 +37,6 @@ enum Type {
     Umntall,
 }
 
-fn again<T: Xdr>(alloc: Global, bytes: &[u8]) -> Result<Octets, ValueFault> {
-    let value = T::read(alloc, bytes)?;
-    Ok(value.write(alloc)?)
-}
-
 /// Reads the bytes as a value of the type, and writes that.
 fn again_as(kind: Type, alloc: Global, bytes: &[u8]) -> Result<Octets, ValueFault> {
     match kind {
@@ -70,22 +68,6 @@ fn again_as(kind: Type, alloc: Global, bytes: &[u8]) -> Result<Octets, ValueFaul
         Type::Umnt => again::<UmntRes>(alloc, bytes),
         Type::Umntall => again::<UmntallRes>(alloc, bytes),
     }
-}
-
-fn bytes_of(alloc: Global, words: &[u32]) -> Result<Vec<u8>, AllocError> {
-    let mut bytes = Vec::new(alloc);
-    for word in words {
-        bytes.extend_from_slice(&word.to_be_bytes())?;
-    }
-    Ok(bytes)
-}
-
-/// What the words are read as is written so.
-#[derive(Clone, Copy)]
-enum Want {
-    Same,
-    Words(&'static [u32]),
-    Bad(usize),
 }
 
 use Want::{Bad, Same, Words};
@@ -284,11 +266,7 @@ static TABLE: [Row; 76] = [
 fn each_row_is_read_and_written(rt: HostRuntime) -> Result<(), AllocError> {
     for Row(kind, words, want) in &TABLE {
         let bytes = bytes_of(rt.alloc(), words)?;
-        let wanted = match want {
-            Same => Ok(bytes_of(rt.alloc(), words)?),
-            Words(others) => Ok(bytes_of(rt.alloc(), others)?),
-            Bad(at) => Err(ValueFault::Bad { at: *at }),
-        };
+        let wanted = wanted(rt.alloc(), words, *want)?;
         let got = again_as(*kind, rt.alloc(), &bytes).map(Octets::into_vec);
         assert_eq!(rt; got, wanted, "{kind:?} {words:?}");
     }
@@ -457,17 +435,9 @@ static FULL: [Full; 50] = [
     Full(Type::Mnt, &[&[13]]),
 ];
 
-fn joined(alloc: Global, parts: &[&[u32]]) -> Result<Vec<u8>, AllocError> {
-    let mut bytes = Vec::new(alloc);
-    for part in parts {
-        bytes.extend_from_slice(&bytes_of(alloc, part)?)?;
-    }
-    Ok(bytes)
-}
-
 #[test]
 fn full_values_are_read_and_written(rt: HostRuntime) -> Result<(), AllocError> {
-    crate::results();
+    results();
     for Full(kind, parts) in &FULL {
         let bytes = joined(rt.alloc(), parts)?;
         let got = again_as(*kind, rt.alloc(), &bytes).map(Octets::into_vec);
