@@ -6,7 +6,7 @@
 
 ghost use Rattle.std.specs.Prelude.{◌≤◌, length};
 
-use nr_wire::numbers::{OPCODE_SEND, QUEUE_SEND};
+use nr_wire::constants::{OPCODE_SEND, QUEUE_SEND};
 use nr_wire::{NextSegment, Segment, next_segment, write_segment};
 use nr_xdr::Memory;
 use std::alloc::Global;

@@ -8,21 +8,21 @@ use std::process::ExitCode;
 use std::{env, io};
 
 /// The words that the program was started with, its name first.
-fn words(rt: &HostRuntime) -> io::Result<Vec<String>> {
-    let mut words = Vec::new(rt.alloc());
+fn arguments(rt: &HostRuntime) -> io::Result<Vec<String>> {
+    let mut arguments = Vec::new(rt.alloc());
     for word in env::args(rt)? {
-        words.push(word)?;
+        arguments.push(word)?;
     }
-    Ok(words)
+    Ok(arguments)
 }
 
 fn main(rt: HostRuntime) -> ExitCode {
     let mut err = StdSink::new(rt.stderr());
-    match words(&rt) {
-        Ok(words) => {
+    match arguments(&rt) {
+        Ok(arguments) => {
             let mut input = StdSource::new(rt.stdin());
             let mut out = StdSink::new(rt.stdout());
-            ExitCode::from(run(rt.alloc(), words.as_slice(), &mut input, &mut out, &mut err))
+            ExitCode::from(run(rt.alloc(), arguments.as_slice(), &mut input, &mut out, &mut err))
         }
         Err(error) => {
             ExitCode::from(refuse(&mut err, error.kind() == io::ErrorKind::OutOfMemory))

@@ -2,11 +2,11 @@
 use Rattle.std.proofs.Common.{◌≡◌, ℕ, suc, ◌-◌, ◌+◌, ◌≤◌, ◌<◌, Bool, true, false, List, [], ◌∷◌, ◌++◌, Result, Ok, Err, refl, sym, ap, ◌∙◌, append_assoc, arith}
 use Rattle.std.proofs.lemmas.List.{append-nil}
 use Rattle.nr_xdr.specs.Reading.{Cursor}
-use Rattle.nr_xdr.specs.Steps.{◌>>=◌}
-use Rattle.nr_header.specs.Numbers.{CHUNK_SEGMENTS_MAX}
+use Rattle.nr_xdr.specs.Sequencing.{◌>>=◌}
+use Rattle.nr_header.specs.Constants.{CHUNK_SEGMENTS_MAX}
 use Rattle.nr_header.specs.declared.fault.HeaderFault.{HeaderFault}
 use Rattle.nr_header.specs.declared.fault.HeaderFault.TheVariants.{Short, Version, Kind, BadChunks}
-use Rattle.nr_header.specs.declared.header.Segment.{Segment}
+use Rattle.nr_header.specs.declared.header.RdmaSegment.{RdmaSegment}
 use Rattle.nr_header.specs.declared.header.ReadSegment.{ReadSegment}
 use Rattle.nr_header.specs.Reading.{Fails, more_at, end_at, entry_at, segment_at, chunk_at, seen_with, read_list_at, segments_at, write_list_at}
 
@@ -88,11 +88,11 @@ list_begins count zero_allowed c =
     rw all (nothing_before (read_list_at count zero_allowed 0 c))
 
 -- segments of which the first are read
-module _ (front : List Segment) (count i : ℕ) (c : Cursor) (total : Result (List Segment × Cursor) ℕ) where
+module _ (front : List RdmaSegment) (count i : ℕ) (c : Cursor) (total : Result (List RdmaSegment × Cursor) ℕ) where
   abbrev pub SegmentsSoFar : Type 0
   SegmentsSoFar = with_front front (segments_at (count - i) c) ≡ total
 
-  pub segment_goes : (s : Segment) (after : Cursor) → i < count → segment_at c.place c ≡ Ok (s, after)
+  pub segment_goes : (s : RdmaSegment) (after : Cursor) → i < count → segment_at c.place c ≡ Ok (s, after)
       → SegmentsSoFar → with_front (front ++ s ∷ []) (segments_at (count - (i + 1)) after) ≡ total
   unfolding segments_at
   segment_goes s after lt read so_far =
@@ -118,11 +118,11 @@ segments_begin count c =
     rw all (nothing_before (segments_at count c))
 
 -- a write list whose first chunks are read
-module _ (front : List (List Segment)) (count i : ℕ) (c : Cursor) (total : Result (List (List Segment) × Cursor) ℕ) where
+module _ (front : List (List RdmaSegment)) (count i : ℕ) (c : Cursor) (total : Result (List (List RdmaSegment) × Cursor) ℕ) where
   abbrev pub WriteSoFar : Type 0
   WriteSoFar = with_front front (write_list_at (count - i) c) ≡ total
 
-  pub chunk_goes : (d : Cursor) (chunk : List Segment) (after : Cursor) → i < count → more_at c ≡ Ok (true, d) → chunk_at CHUNK_SEGMENTS_MAX d ≡ Ok (chunk, after)
+  pub chunk_goes : (d : Cursor) (chunk : List RdmaSegment) (after : Cursor) → i < count → more_at c ≡ Ok (true, d) → chunk_at CHUNK_SEGMENTS_MAX d ≡ Ok (chunk, after)
       → WriteSoFar → with_front (front ++ chunk ∷ []) (write_list_at (count - (i + 1)) after) ≡ total
   unfolding write_list_at
   chunk_goes d chunk after lt more read so_far =

@@ -1,4 +1,4 @@
--- A message is read exactly where it is spelled within the limits.
+-- A message is read exactly where it is encoded within the limits.
 use Rattle.std.proofs.Common.{◌≡◌, ◌≢◌, ℕ, ◌+◌, ◌≤◌, Bool, true, false, cond, eqb, ltb, ◌||◌, ◌&&◌, List, [], ◌∷◌, ◌++◌, length, take, drop, sum_by, All, Option, Some, None, Result, Ok, Err, refl, sym, ap, subst, ◌∙◌, arith, inl, inr, ◌⊎◌, ◌↔◌}
 use Rattle.std.specs.Prelude.{IfSome, IfOk}
 use Rattle.std.specs.List.{AllByRecursion}
@@ -6,26 +6,26 @@ use Rattle.std.proofs.lemmas.Bool.{ltb-false, le-ltb, eqb-true}
 use Rattle.std.proofs.lemmas.List.{append-nil, nil_from_length, length-drop, drop-drop, drop_all}
 use Rattle.std.proofs.lemmas.List.Elements.{All-from_recursion, All-head, All-tail}
 use Rattle.nr_xdr.specs.declared.fault.ItemFault.TheVariants as items
-use Rattle.nr_xdr.specs.Item.{Item, IsBytes, Fits, Reads, padding, spelling, word, word_of}
+use Rattle.nr_xdr.specs.Item.{Item, IsBytes, Fits, Reads, padding, encoding, word, word_of}
 use Rattle.nr_xdr.specs.Item.Item.{Unsigned, Hyper, Boolean}
-use Rattle.nr_xdr.specs.Items.{ReadEach, FitEach, spellings}
+use Rattle.nr_xdr.specs.Items.{ReadEach, FitEach, encodings}
 use Rattle.nr_xdr.specs.Reading.{Cursor, Takes, past, unsigned_at}
 use Rattle.nr_xdr.proofs.Cursors.{cursor_is, guard_ok, ok_parts}
 use Rattle.nr_xdr.proofs.Items.{unsigned_takes, unsigned_again}
-use Rattle.nr_xdr.proofs.Numbers.{IsBytes-drop}
-use Rattle.nr_xdr.proofs.Chains.{TakesEach, standing, each_takes, each_between, spellings_read}
-use Rattle.nr_xdr.proofs.Steps.{bind_ok, chosen, done, ok_is}
-use Rattle.nr_header.specs.Numbers.{VERSION, FIXED_LEN, MSG, NOMSG, ERROR, ERR_VERS, ERR_CHUNK, READ_SEGMENTS_MAX, WRITE_CHUNKS_MAX, CHUNK_SEGMENTS_MAX, WRITE_SEGMENTS_MAX, PAYLOAD_MAX}
+use Rattle.nr_xdr.proofs.WordBytes.{IsBytes-drop}
+use Rattle.nr_xdr.proofs.Chains.{TakesEach, standing, each_takes, each_between, encodings_read}
+use Rattle.nr_xdr.proofs.SequencingSteps.{bind_ok, chosen, done, ok_is}
+use Rattle.nr_header.specs.Constants.{VERSION, FIXED_LEN, MSG, NOMSG, ERROR, ERR_VERS, ERR_CHUNK, READ_SEGMENTS_MAX, WRITE_CHUNKS_MAX, CHUNK_SEGMENTS_MAX, WRITE_SEGMENTS_MAX, PAYLOAD_MAX}
 use Rattle.nr_header.specs.declared.fault.HeaderFault.{HeaderFault}
 use Rattle.nr_header.specs.declared.fault.HeaderFault.TheVariants as faults
-use Rattle.nr_header.specs.declared.header.Segment.{Segment}
+use Rattle.nr_header.specs.declared.header.RdmaSegment.{RdmaSegment}
 use Rattle.nr_header.specs.declared.header.ReadSegment.{ReadSegment}
 use Rattle.nr_header.specs.declared.header.ChunkLists.{ChunkLists}
 use Rattle.nr_header.specs.declared.header.Body.{Body}
 use Rattle.nr_header.specs.declared.header.Body.TheVariants.{Msg, Nomsg, ErrVers, ErrChunk}
 use Rattle.nr_header.specs.declared.header.Header.{Header}
-use Rattle.nr_header.specs.Header.{read_items, segments_items, write_items, reply_items, lists_items, fixed_items, body_items, header_spelling, HeaderFits}
-use Rattle.nr_header.specs.Limits.{SegmentsEnd, ListsWithin, read_total, CanRead, StreamAt, IsMessage, body_again, header_again}
+use Rattle.nr_header.specs.Header.{read_items, segments_items, write_items, reply_items, lists_items, fixed_items, body_items, header_encoding, HeaderFits}
+use Rattle.nr_header.specs.WithinLimits.{SegmentsEnd, ListsWithin, read_total, CanRead, StreamAt, IsMessage, body_again, header_again}
 use Rattle.nr_header.specs.Reading.{LacksStream, IsBad, HeaderBad, lists_at, sums_pass, msg_at, nomsg_at, word_at, error_of, error_by, in_lists, version1_of, body_by, headed, header_of, read_list_at, write_list_at, reply_chunk_at}
 use Rattle.nr_header.proofs.Segments.{SegmentEnds, write_list_take, write_list_again, reply_chunk_take, reply_chunk_again}
 use Rattle.nr_header.proofs.ReadLists.{EntryEnds, Stand, ZeroAllowed, position_of, stand_one, stand_apart, one_stands, read_list_take, read_list_again}
@@ -94,32 +94,32 @@ abbrev PlainEach : List Item → Type 0
 PlainEach [] = Unit {0}
 PlainEach (item ∷ is) = (padding item ≡ 0) × PlainEach is
 
-no_pad : (item : Item) (bytes : List ℕ) → padding item ≡ 0 → Reads item bytes → bytes ≡ spelling item
+no_pad : (item : Item) (bytes : List ℕ) → padding item ≡ 0 → Reads item bytes → bytes ≡ encoding item
 no_pad item bytes plain reads =
     let none : reads.pad ≡ [] = nil_from_length reads.pad (reads.pad_is ∙ plain) in
     let zeros : Rattle.std.specs.Prelude.replicate (padding item) 0 ≡ [] = rw plain refl in
     reads.bytes_are ∙ ap (λ (p : List ℕ). Rattle.nr_xdr.specs.Item.padded item p) (none ∙ sym zeros)
 
-plain_spelled : (is : List Item) (bytes : List ℕ) → PlainEach is → ReadEach is bytes → (bytes ≡ spellings is) × FitEach is
-plain_spelled [] bytes plain reads = (reads, tt)
-plain_spelled (item ∷ is) bytes plain (front, behind, first, others, parts) =
-    let more = plain_spelled is behind plain.1 others in
+plain_encoded : (is : List Item) (bytes : List ℕ) → PlainEach is → ReadEach is bytes → (bytes ≡ encodings is) × FitEach is
+plain_encoded [] bytes plain reads = (reads, tt)
+plain_encoded (item ∷ is) bytes plain (front, behind, first, others, parts) =
+    let more = plain_encoded is behind plain.1 others in
     let one = no_pad item front plain.0 first in
-    (parts ∙ ap (λ (b : List ℕ). b ++ behind) one ∙ ap (λ (b : List ℕ). spelling item ++ b) more.0, (first.fits, more.1))
+    (parts ∙ ap (λ (b : List ℕ). b ++ behind) one ∙ ap (λ (b : List ℕ). encoding item ++ b) more.0, (first.fits, more.1))
 
 plain_read : (rs : List ReadSegment) (more : List Item) → PlainEach more → PlainEach (read_items rs more)
 plain_read [] more p = (refl, p)
 plain_read (r ∷ rs) more p = (refl, (refl, (refl, (refl, (refl, plain_read rs more p)))))
 
-plain_segments : (ss : List Segment) (more : List Item) → PlainEach more → PlainEach (segments_items ss more)
+plain_segments : (ss : List RdmaSegment) (more : List Item) → PlainEach more → PlainEach (segments_items ss more)
 plain_segments [] more p = p
 plain_segments (s ∷ ss) more p = (refl, (refl, (refl, plain_segments ss more p)))
 
-plain_write : (chunks : List (List Segment)) (more : List Item) → PlainEach more → PlainEach (write_items chunks more)
+plain_write : (chunks : List (List RdmaSegment)) (more : List Item) → PlainEach more → PlainEach (write_items chunks more)
 plain_write [] more p = (refl, p)
 plain_write (chunk ∷ chunks) more p = (refl, (refl, plain_segments chunk (write_items chunks more) (plain_write chunks more p)))
 
-plain_reply : (reply : Option (List Segment)) (more : List Item) → PlainEach more → PlainEach (reply_items reply more)
+plain_reply : (reply : Option (List RdmaSegment)) (more : List Item) → PlainEach more → PlainEach (reply_items reply more)
 plain_reply None more p = (refl, p)
 plain_reply (Some chunk) more p = (refl, (refl, plain_segments chunk more p))
 
@@ -193,7 +193,7 @@ lists_take zero_allowed c x fits e =
         read_ends = All-from_recursion EntryEnds read.0.0 r.ends;
         one_position = (position_of 0 read.0.0, All-from_recursion (λ (s : ReadSegment). s.position ≢ 0 → s.position ≡ position_of 0 read.0.0) read.0.0 (stand_one zero_allowed 0 read.0.0 r.stand));
         write_chunks = w.within;
-        chunk_segments = All-from_recursion (λ (chunk : List Segment). length chunk ≤ CHUNK_SEGMENTS_MAX) write.0.0 w.small;
+        chunk_segments = All-from_recursion (λ (chunk : List RdmaSegment). length chunk ≤ CHUNK_SEGMENTS_MAX) write.0.0 w.small;
         write_segments = segments;
         write_ends = All-from_recursion SegmentsEnd write.0.0 (recursion_map (AllByRecursion SegmentEnds) SegmentsEnd write.0.0 (λ ss ends. All-from_recursion SegmentEnds ss ends) w.ends);
         reply_segments = p.within;
@@ -210,7 +210,7 @@ lists_again zero_allowed lists c after within zeros taken =
     let (d, read, behind) = read_list_again lists.read READ_SEGMENTS_MAX zero_allowed 0 (write_items lists.write (reply_items lists.reply [])) c after within.read_segments stand
     (recursion_from_All EntryEnds lists.read within.read_ends) taken in
     let ends = recursion_map SegmentsEnd (AllByRecursion SegmentEnds) lists.write (λ ss all. recursion_from_All SegmentEnds ss all) (recursion_from_All SegmentsEnd lists.write within.write_ends) in
-    let (f, write, others) = write_list_again lists.write WRITE_CHUNKS_MAX (reply_items lists.reply []) d after within.write_chunks (recursion_from_All (λ (chunk : List Segment). length chunk ≤ CHUNK_SEGMENTS_MAX) lists.write within.chunk_segments) ends behind in
+    let (f, write, others) = write_list_again lists.write WRITE_CHUNKS_MAX (reply_items lists.reply []) d after within.write_chunks (recursion_from_All (λ (chunk : List RdmaSegment). length chunk ≤ CHUNK_SEGMENTS_MAX) lists.write within.chunk_segments) ends behind in
     let (g, reply, last) = reply_chunk_again lists.reply [] f after within.reply_segments
     (some_map SegmentsEnd (AllByRecursion SegmentEnds) lists.reply (λ ss all. recursion_from_All SegmentEnds ss all) within.reply_ends) others in
     rw (read, write, reply) (ap (λ (m : Cursor). Ok (lists, m)) last)
@@ -233,17 +233,17 @@ some_is x y e = cc
 abbrev header : ℕ → ℕ → Body → Header
 header xid credit body = record { xid = xid; credit = credit; body = body }
 
--- what was taken as the items of a body from the front on spells the header
-record Spelled (h : Header) (bytes stream : List ℕ) : Type 0 where
+-- what was taken as the items of a body from the front on encodes the header
+record Encoded (h : Header) (bytes stream : List ℕ) : Type 0 where
   fits : HeaderFits h
-  parts : bytes ≡ header_spelling h ++ stream
+  parts : bytes ≡ header_encoding h ++ stream
 
-spelled_by : (h : Header) (bytes : List ℕ) (after : Cursor) → TakesEach (body_items h.xid h.credit h.body) (standing 0 bytes) after
-    → Spelled h bytes after.rest × (after.place ≡ length (header_spelling h))
-spelled_by h bytes after taken =
+encoded_by : (h : Header) (bytes : List ℕ) (after : Cursor) → TakesEach (body_items h.xid h.credit h.body) (standing 0 bytes) after
+    → Encoded h bytes after.rest × (after.place ≡ length (header_encoding h))
+encoded_by h bytes after taken =
     let is = body_items h.xid h.credit h.body in
     let b = each_between is (standing 0 bytes) after taken in
-    let p = plain_spelled is b.bytes (plain_body h.xid h.credit h.body) b.reads in
+    let p = plain_encoded is b.bytes (plain_body h.xid h.credit h.body) b.reads in
     (record { fits = p.1; parts = b.rest ∙ ap (λ (x : List ℕ). x ++ after.rest) p.0 }, omega (arith, b.place, ap length p.0))
 
 ended : (rest : List ℕ) → ltb 0 (length rest) ≡ false → rest ≡ []
@@ -275,7 +275,7 @@ msg_take bytes body f e =
       | inr within ↦
           let sums = sums_within l (length after.rest) within.0 in
           let made = Msg l after.place in
-          let s = spelled_by (in_message bytes made) bytes after (front_items bytes VERSION MSG (lists_items l) after f t.each) in
+          let s = encoded_by (in_message bytes made) bytes after (front_items bytes VERSION MSG (lists_items l) after f t.each) in
           subst (λ (b : Body). IsMessage (in_message bytes b) bytes) (ok_is made body within.1) (record {
             stream = after.rest;
             parts = s.0.parts;
@@ -298,7 +298,7 @@ nomsg_take bytes body f e =
           let both = or_false (sums_pass l 0) (ltb 0 (length after.rest)) within.0 in
           let sums = sums_within l 0 both.0 in
           let made = Nomsg l in
-          let s = spelled_by (in_message bytes made) bytes after (front_items bytes VERSION NOMSG (lists_items l) after f t.each) in
+          let s = encoded_by (in_message bytes made) bytes after (front_items bytes VERSION NOMSG (lists_items l) after f t.each) in
           subst (λ (b : Body). IsMessage (in_message bytes b) bytes) (ok_is made body within.1) (record {
             stream = after.rest;
             parts = s.0.parts;
@@ -351,7 +351,7 @@ error_take bytes body fits kind e =
           let after = standing 28 (drop 28 bytes) in
           let taken : TakesEach (Unsigned ERR_VERS ∷ (Unsigned (word_at 20 bytes) ∷ (Unsigned (word_at 24 bytes) ∷ []))) (standing 16 (drop 16 bytes)) after =
           (standing 20 (drop 20 bytes), coded, (standing 24 (drop 24 bytes), word_there bytes 20 (omega arith) fits, (after, word_there bytes 24 (omega arith) fits, refl))) in
-          let s = spelled_by (in_message bytes vers) bytes after (front_items bytes (word_at 4 bytes) ERROR (Unsigned ERR_VERS ∷ (Unsigned (word_at 20 bytes) ∷ (Unsigned (word_at 24 bytes) ∷ []))) after (omega arith, fits, refl, kind) taken) in
+          let s = encoded_by (in_message bytes vers) bytes after (front_items bytes (word_at 4 bytes) ERROR (Unsigned ERR_VERS ∷ (Unsigned (word_at 20 bytes) ∷ (Unsigned (word_at 24 bytes) ∷ []))) after (omega arith, fits, refl, kind) taken) in
           subst (λ (b : Body). IsMessage (in_message bytes b) bytes) (some_is vers body way.1)
           (record { stream = after.rest; parts = s.0.parts; fits = s.0.fits; can = drop_all 28 bytes (omega arith); place = tt })
       | inr way ↦
@@ -363,7 +363,7 @@ error_take bytes body fits kind e =
                 let after = standing 20 (drop 20 bytes) in
                 let coded = subst (λ (n : ℕ). Takes (standing 16 (drop 16 bytes)) after (Unsigned n)) code (word_there bytes 16 (omega arith) fits) in
                 let taken : TakesEach (Unsigned ERR_CHUNK ∷ []) (standing 16 (drop 16 bytes)) after = (after, coded, refl) in
-                let s = spelled_by (in_message bytes chunk) bytes after (front_items bytes (word_at 4 bytes) ERROR (Unsigned ERR_CHUNK ∷ []) after (omega arith, fits, refl, kind) taken) in
+                let s = encoded_by (in_message bytes chunk) bytes after (front_items bytes (word_at 4 bytes) ERROR (Unsigned ERR_CHUNK ∷ []) after (omega arith, fits, refl, kind) taken) in
                 subst (λ (b : Body). IsMessage (in_message bytes b) bytes) (some_is chunk body yes_chunk.1)
                 (record { stream = after.rest; parts = s.0.parts; fits = s.0.fits; can = drop_all 20 bytes (omega arith); place = tt })
             | inr neither ↦ absurd (let wrong : None ≡ some body = neither.1 in cc)
@@ -409,13 +409,13 @@ header_take bytes h fits e =
           subst (λ (x : Header). IsMessage x bytes) b.2 (body_take bytes b.0 fits le (body_cases by version kind bytes b.0 b.1))
     ]
 
--- ---- what is spelled is read
+-- ---- what is encoded is read
 
--- a spelled header's items are taken from the front on
-spelling_taken : (h : Header) (bytes stream : List ℕ) → HeaderFits h → bytes ≡ header_spelling h ++ stream
-    → TakesEach (body_items h.xid h.credit h.body) (standing 0 bytes) (standing (0 + length (header_spelling h)) stream)
-spelling_taken h bytes stream fits parts =
-    each_takes (body_items h.xid h.credit h.body) (header_spelling h) stream (standing 0 bytes) (spellings_read (body_items h.xid h.credit h.body) fits) parts
+-- an encoded header's items are taken from the front on
+encoding_taken : (h : Header) (bytes stream : List ℕ) → HeaderFits h → bytes ≡ header_encoding h ++ stream
+    → TakesEach (body_items h.xid h.credit h.body) (standing 0 bytes) (standing (0 + length (header_encoding h)) stream)
+encoding_taken h bytes stream fits parts =
+    each_takes (body_items h.xid h.credit h.body) (header_encoding h) stream (standing 0 bytes) (encodings_read (body_items h.xid h.credit h.body) fits) parts
 
 -- the answer for a message whose fixed words are these
 answer : (bytes : List ℕ) (xid credit : ℕ) (body : Body) → 16 ≤ length bytes → word_at 0 bytes ≡ xid → word_at 8 bytes ≡ credit
@@ -423,45 +423,45 @@ answer : (bytes : List ℕ) (xid credit : ℕ) (body : Body) → 16 ≤ length b
 unfolding header_of
 answer bytes xid credit body long x c is = rw (le-ltb (length bytes) FIXED_LEN long, is, x, c) refl
 
-error_length : (xid version credit low high : ℕ) → length (header_spelling (header xid credit (ErrVers version low high))) ≡ 28
+error_length : (xid version credit low high : ℕ) → length (header_encoding (header xid credit (ErrVers version low high))) ≡ 28
 unfolding word
 error_length xid version credit low high = refl
 
-chunk_length : (xid version credit : ℕ) → length (header_spelling (header xid credit (ErrChunk version))) ≡ 20
+chunk_length : (xid version credit : ℕ) → length (header_encoding (header xid credit (ErrChunk version))) ≡ 20
 unfolding word
 chunk_length xid version credit = refl
 
-whole_is : (spelled bytes stream : List ℕ) → bytes ≡ spelled ++ stream → stream ≡ [] → bytes ≡ spelled
-whole_is spelled bytes stream parts none = parts ∙ ap (λ (r : List ℕ). spelled ++ r) none ∙ append-nil spelled
+whole_is : (encoded bytes stream : List ℕ) → bytes ≡ encoded ++ stream → stream ≡ [] → bytes ≡ encoded
+whole_is encoded bytes stream parts none = parts ∙ ap (λ (r : List ℕ). encoded ++ r) none ∙ append-nil encoded
 
 pub message_is_read : (h : Header) (bytes : List ℕ) → IsMessage h bytes → header_of bytes ≡ Ok h
 unfolding body_by version1_of msg_at nomsg_at
 message_is_read h bytes m = by_body h.xid h.credit h.body bytes m.stream m.fits m.parts m.can m.place
   where
-    by_body : (xid credit : ℕ) (body : Body) (bytes stream : List ℕ) → HeaderFits (header xid credit body) → bytes ≡ header_spelling (header xid credit body) ++ stream
-        → CanRead body stream → StreamAt body (length (header_spelling (header xid credit body)))
+    by_body : (xid credit : ℕ) (body : Body) (bytes stream : List ℕ) → HeaderFits (header xid credit body) → bytes ≡ header_encoding (header xid credit body) ++ stream
+        → CanRead body stream → StreamAt body (length (header_encoding (header xid credit body)))
         → header_of bytes ≡ Ok (header xid credit body)
     by_body xid credit (Msg lists stream_at) bytes stream fits parts (within, apart, payload) place =
         let h = header xid credit (Msg lists stream_at) in
-        let after = standing (0 + length (header_spelling h)) stream in
-        let f = fixed_taken bytes xid VERSION credit MSG (lists_items lists) after (spelling_taken h bytes stream fits parts) in
+        let after = standing (0 + length (header_encoding h)) stream in
+        let f = fixed_taken bytes xid VERSION credit MSG (lists_items lists) after (encoding_taken h bytes stream fits parts) in
         let read = lists_again false lists (standing 16 (drop 16 bytes)) after within (recursion_from_All (λ (r : ReadSegment). r.position ≢ 0) lists.read apart) f.behind in
-        let at : 0 + length (header_spelling h) ≡ stream_at = omega arith in
+        let at : 0 + length (header_encoding h) ≡ stream_at = omega arith in
         answer bytes xid credit (Msg lists stream_at) f.long f.xid_is f.credit_is
         (rw (f.kind_is, f.version_is, read, within_sums lists (length stream) within.write_segments payload) (ap (λ (p : ℕ). Ok (Msg lists p)) at))
     by_body xid credit (Nomsg lists) bytes stream fits parts (none, within, payload) place =
         let h = header xid credit (Nomsg lists) in
-        let after = standing (0 + length (header_spelling h)) [] in
-        let whole = whole_is (header_spelling h) bytes stream parts none in
-        let f = fixed_taken bytes xid VERSION credit NOMSG (lists_items lists) after (spelling_taken h bytes [] fits (whole ∙ sym (append-nil (header_spelling h)))) in
+        let after = standing (0 + length (header_encoding h)) [] in
+        let whole = whole_is (header_encoding h) bytes stream parts none in
+        let f = fixed_taken bytes xid VERSION credit NOMSG (lists_items lists) after (encoding_taken h bytes [] fits (whole ∙ sym (append-nil (header_encoding h)))) in
         let read = lists_again true lists (standing 16 (drop 16 bytes)) after within tt f.behind in
         answer bytes xid credit (Nomsg lists) f.long f.xid_is f.credit_is
         (rw (f.kind_is, f.version_is, read, within_sums lists 0 within.write_segments (omega (arith, payload))) refl)
     by_body xid credit (ErrVers version low high) bytes stream fits parts none place =
         let h = header xid credit (ErrVers version low high) in
-        let after = standing (0 + length (header_spelling h)) [] in
-        let whole = whole_is (header_spelling h) bytes stream parts none in
-        let f = fixed_taken bytes xid version credit ERROR (Unsigned ERR_VERS ∷ (Unsigned low ∷ (Unsigned high ∷ []))) after (spelling_taken h bytes [] fits (whole ∙ sym (append-nil (header_spelling h)))) in
+        let after = standing (0 + length (header_encoding h)) [] in
+        let whole = whole_is (header_encoding h) bytes stream parts none in
+        let f = fixed_taken bytes xid version credit ERROR (Unsigned ERR_VERS ∷ (Unsigned low ∷ (Unsigned high ∷ []))) after (encoding_taken h bytes [] fits (whole ∙ sym (append-nil (header_encoding h)))) in
         let (a, ta, (b, tb, (d, td, last))) = f.behind in
         let wa = word_taken bytes 16 a ERR_VERS ta in
         let wb = word_taken bytes 20 b low (subst (λ (x : Cursor). Takes x b (Unsigned low)) wa.2 tb) in
@@ -471,9 +471,9 @@ message_is_read h bytes m = by_body h.xid h.credit h.body bytes m.stream m.fits 
         (rw (f.kind_is, len, wa.1, f.version_is, wb.1, wd.1) refl)
     by_body xid credit (ErrChunk version) bytes stream fits parts none place =
         let h = header xid credit (ErrChunk version) in
-        let after = standing (0 + length (header_spelling h)) [] in
-        let whole = whole_is (header_spelling h) bytes stream parts none in
-        let f = fixed_taken bytes xid version credit ERROR (Unsigned ERR_CHUNK ∷ []) after (spelling_taken h bytes [] fits (whole ∙ sym (append-nil (header_spelling h)))) in
+        let after = standing (0 + length (header_encoding h)) [] in
+        let whole = whole_is (header_encoding h) bytes stream parts none in
+        let f = fixed_taken bytes xid version credit ERROR (Unsigned ERR_CHUNK ∷ []) after (encoding_taken h bytes [] fits (whole ∙ sym (append-nil (header_encoding h)))) in
         let (a, ta, last) = f.behind in
         let wa = word_taken bytes 16 a ERR_CHUNK ta in
         let len : length bytes ≡ 20 = ap length whole ∙ chunk_length xid version credit in
@@ -489,11 +489,11 @@ pub header_is_found : (bytes : List ℕ) (r : Result Header HeaderFault) → IsB
 header_is_found bytes (Ok h) fits is = header_take bytes h fits (sym is)
 header_is_found bytes (Err fault) fits is = tt
 
-again_spelled : (xid credit : ℕ) (body : Body) (len : ℕ) → body_items xid credit (body_again body len) ≡ body_items xid credit body
-again_spelled xid credit (Msg lists stream_at) len = refl
-again_spelled xid credit (Nomsg lists) len = refl
-again_spelled xid credit (ErrVers version low high) len = refl
-again_spelled xid credit (ErrChunk version) len = refl
+again_encoded : (xid credit : ℕ) (body : Body) (len : ℕ) → body_items xid credit (body_again body len) ≡ body_items xid credit body
+again_encoded xid credit (Msg lists stream_at) len = refl
+again_encoded xid credit (Nomsg lists) len = refl
+again_encoded xid credit (ErrVers version low high) len = refl
+again_encoded xid credit (ErrChunk version) len = refl
 
 again_can : (body : Body) (len : ℕ) (stream : List ℕ) → CanRead body stream → CanRead (body_again body len) stream
 again_can (Msg lists stream_at) len stream can = can
@@ -508,15 +508,15 @@ again_at (ErrVers version low high) len at e = tt
 again_at (ErrChunk version) len at e = tt
 
 -- what is written is read again
-pub header_written : (h : Header) (stream : List ℕ) → HeaderFits h → CanRead h.body stream → header_of (header_spelling h ++ stream) ≡ Ok (header_again h)
+pub header_written : (h : Header) (stream : List ℕ) → HeaderFits h → CanRead h.body stream → header_of (header_encoding h ++ stream) ≡ Ok (header_again h)
 header_written h stream fits can =
-    let len = length (header_spelling h) in
-    let same : body_items h.xid h.credit (body_again h.body len) ≡ body_items h.xid h.credit h.body = again_spelled h.xid h.credit h.body len in
-    let spelled : header_spelling (header_again h) ≡ header_spelling h = ap spellings same in
-    message_is_read (header_again h) (header_spelling h ++ stream) (record {
+    let len = length (header_encoding h) in
+    let same : body_items h.xid h.credit (body_again h.body len) ≡ body_items h.xid h.credit h.body = again_encoded h.xid h.credit h.body len in
+    let encoded : header_encoding (header_again h) ≡ header_encoding h = ap encodings same in
+    message_is_read (header_again h) (header_encoding h ++ stream) (record {
       stream = stream;
-      parts = ap (λ (b : List ℕ). b ++ stream) (sym spelled);
+      parts = ap (λ (b : List ℕ). b ++ stream) (sym encoded);
       fits = subst FitEach (sym same) fits;
       can = again_can h.body len stream can;
-      place = again_at h.body len (length (header_spelling (header_again h))) (ap length (sym spelled));
+      place = again_at h.body len (length (header_encoding (header_again h))) (ap length (sym encoded));
     })

@@ -1,17 +1,17 @@
--- Read lists are read exactly where they are spelled and their positions may stand.
+-- Read lists are read exactly where they are encoded and their positions may stand.
 use Rattle.std.proofs.Common.{◌≡◌, ◌≢◌, ℕ, zero, suc, ◌≤◌, Bool, true, false, List, [], ◌∷◌, length, Ok, Err, refl, sym, subst, ◌∙◌, arith, inl, inr}
 use Rattle.std.specs.List.{AllByRecursion}
 use Rattle.std.proofs.lemmas.Bool.Decides.{eqb_tells, nat_tests}
 use Rattle.nr_xdr.specs.Item.{Item, IsBytes}
 use Rattle.nr_xdr.specs.Item.Item.{Unsigned, Hyper, Boolean}
 use Rattle.nr_xdr.specs.Reading.{Cursor, Takes}
-use Rattle.nr_xdr.specs.Steps.{◌>>=◌}
+use Rattle.nr_xdr.specs.Sequencing.{◌>>=◌}
 use Rattle.nr_xdr.proofs.Chains.{TakesEach}
-use Rattle.nr_xdr.proofs.Steps.{bind_ok, chosen, done, ok_is, number_step, number_again, boolean_step, boolean_placed}
-use Rattle.nr_header.specs.declared.header.Segment.{Segment}
+use Rattle.nr_xdr.proofs.SequencingSteps.{bind_ok, chosen, done, ok_is, number_step, number_again, boolean_step, boolean_placed}
+use Rattle.nr_header.specs.declared.header.RdmaSegment.{RdmaSegment}
 use Rattle.nr_header.specs.declared.header.ReadSegment.{ReadSegment}
 use Rattle.nr_header.specs.Header.{read_items}
-use Rattle.nr_header.specs.Limits.{Ends}
+use Rattle.nr_header.specs.WithinLimits.{Ends}
 use Rattle.nr_header.specs.Reading.{can_stand, seen_with, end_at, segment_at, entry_at, read_list_at}
 use Rattle.nr_header.proofs.Segments.{Before, Again, segment_take, segment_again, end_take, end_again}
 
@@ -51,7 +51,7 @@ entry_take place zero_allowed seen c x fits e =
       | inr falls ↦ absurd (let wrong : Err place ≡ done x = falls.1 in cc)
     ]
 
-abbrev target_of : ReadSegment → Segment
+abbrev target_of : ReadSegment → RdmaSegment
 target_of r = record { handle = r.handle; length = r.length; offset = r.offset }
 
 entry_again : (place : ℕ) (zero_allowed : Bool) (seen : ℕ) (r : ReadSegment) (more : List Item) (c after : Cursor) → can_stand zero_allowed seen r.position ≡ true → EntryEnds r

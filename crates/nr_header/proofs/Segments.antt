@@ -1,4 +1,4 @@
--- Segments and chunks are read exactly where they are spelled.
+-- Segments and chunks are read exactly where they are encoded.
 use Rattle.std.proofs.Common.{◌≡◌, ℕ, zero, suc, ◌+◌, ◌^◌, ◌≤◌, Bool, true, false, ltb, List, [], ◌∷◌, length, Option, Some, None, Result, Ok, Err, refl, sym, ap, subst, ◌∙◌, arith, inl, inr}
 use Rattle.std.specs.Prelude.{IfSome}
 use Rattle.std.specs.List.{AllByRecursion}
@@ -6,13 +6,13 @@ use Rattle.std.proofs.lemmas.Bool.{ltb-false, le-ltb}
 use Rattle.nr_xdr.specs.Item.{Item, IsBytes}
 use Rattle.nr_xdr.specs.Item.Item.{Unsigned, Boolean}
 use Rattle.nr_xdr.specs.Reading.{Cursor, Takes}
-use Rattle.nr_xdr.specs.Steps.{◌>>=◌}
+use Rattle.nr_xdr.specs.Sequencing.{◌>>=◌}
 use Rattle.nr_xdr.proofs.Chains.{TakesEach}
-use Rattle.nr_xdr.proofs.Steps.{bind_ok, chosen, done, ok_is, number_step, number_again, hyper_step, hyper_placed, boolean_step, boolean_placed}
-use Rattle.nr_header.specs.Numbers.{CHUNK_SEGMENTS_MAX, REPLY_SEGMENTS_MAX}
-use Rattle.nr_header.specs.declared.header.Segment.{Segment}
+use Rattle.nr_xdr.proofs.SequencingSteps.{bind_ok, chosen, done, ok_is, number_step, number_again, hyper_step, hyper_placed, boolean_step, boolean_placed}
+use Rattle.nr_header.specs.Constants.{CHUNK_SEGMENTS_MAX, REPLY_SEGMENTS_MAX}
+use Rattle.nr_header.specs.declared.header.RdmaSegment.{RdmaSegment}
 use Rattle.nr_header.specs.Header.{segment_items, segments_items, chunk_items, write_items, reply_items}
-use Rattle.nr_header.specs.Limits.{Ends}
+use Rattle.nr_header.specs.WithinLimits.{Ends}
 use Rattle.nr_header.specs.Reading.{end_at, segment_at, segments_at, chunk_at, write_list_at, reply_chunk_at}
 
 -- from c to d these items were taken, whatever follows
@@ -23,46 +23,46 @@ Before items c d = (more : List Item) (after : Cursor) → TakesEach more d afte
 abbrev pub Again : {A : Type 0} → Result (A × Cursor) ℕ → A → List Item → Cursor → Type 0
 Again read value more after = (d : Cursor) × (read ≡ Ok (value, d)) × TakesEach more d after
 
-abbrev pub SegmentEnds : Segment → Type 0
+abbrev pub SegmentEnds : RdmaSegment → Type 0
 SegmentEnds s = Ends s.offset s.length
 
-pub record TookSegment (s : Segment) (c d : Cursor) : Type 0 where
+pub record TookSegment (s : RdmaSegment) (c d : Cursor) : Type 0 where
   pub before : Before (segment_items s) c d
   pub ends : SegmentEnds s
   pub fits : IsBytes d.rest
 
-pub segment_take : (place : ℕ) (c : Cursor) (x : Segment × Cursor) → IsBytes c.rest → segment_at place c ≡ Ok x → TookSegment x.0 c x.1
+pub segment_take : (place : ℕ) (c : Cursor) (x : RdmaSegment × Cursor) → IsBytes c.rest → segment_at place c ≡ Ok x → TookSegment x.0 c x.1
 unfolding segment_at
 segment_take place c x fits e =
     let handle = number_step c _ x fits e in
     let len = number_step handle.0.1 _ x handle.2 handle.3 in
     let offset = hyper_step len.0.1 _ x len.2 len.3 in
-    let made : Segment × Cursor = (record { handle = handle.0.0; length = len.0.0; offset = offset.0.0 }, offset.0.1) in
+    let made : RdmaSegment × Cursor = (record { handle = handle.0.0; length = len.0.0; offset = offset.0.0 }, offset.0.1) in
     elim (chosen (ltb (2 ^ 64) (offset.0.0 + len.0.0)) (Err place) (Ok made) (Ok x) offset.3) [
       | inl past ↦ absurd (let wrong : Err place ≡ done x = past.1 in cc)
-      | inr within ↦ subst (λ (y : Segment × Cursor). TookSegment y.0 c y.1) (ok_is made x within.1) (record {
+      | inr within ↦ subst (λ (y : RdmaSegment × Cursor). TookSegment y.0 c y.1) (ok_is made x within.1) (record {
         before = λ more after others. (handle.0.1, handle.1, (len.0.1, len.1, (offset.0.1, offset.1, others)));
         ends = ltb-false (2 ^ 64) (offset.0.0 + len.0.0) within.0;
         fits = offset.2;
       })
     ]
 
-pub segment_again : (place : ℕ) (s : Segment) (more : List Item) (c after : Cursor) → SegmentEnds s → TakesEach (segment_items s more) c after → Again (segment_at place c) s more after
+pub segment_again : (place : ℕ) (s : RdmaSegment) (more : List Item) (c after : Cursor) → SegmentEnds s → TakesEach (segment_items s more) c after → Again (segment_at place c) s more after
 unfolding segment_at
 segment_again place s more c after ends (a, at_handle, (b, at_len, (d, at_offset, others))) =
     (d, rw (number_again c s.handle a at_handle, number_again a s.length b at_len, hyper_placed b s.offset d at_offset, le-ltb (2 ^ 64) (s.offset + s.length) ends) refl, others)
 
-pub record TookSegments (ss : List Segment) (c d : Cursor) : Type 0 where
+pub record TookSegments (ss : List RdmaSegment) (c d : Cursor) : Type 0 where
   pub before : Before (segments_items ss) c d
   pub ends : AllByRecursion SegmentEnds ss
   pub fits : IsBytes d.rest
 
 -- the first of some segments, and the others
-segments_more : (s : Segment) (ss : List Segment) (c d after : Cursor) (x : List Segment × Cursor) → TookSegment s c d → TookSegments ss d after
-    → done {A = List Segment × Cursor} (s ∷ ss, after) ≡ done x → TookSegments x.0 c x.1 × (length x.0 ≡ suc (length ss))
+segments_more : (s : RdmaSegment) (ss : List RdmaSegment) (c d after : Cursor) (x : List RdmaSegment × Cursor) → TookSegment s c d → TookSegments ss d after
+    → done {A = List RdmaSegment × Cursor} (s ∷ ss, after) ≡ done x → TookSegments x.0 c x.1 × (length x.0 ≡ suc (length ss))
 segments_more s ss c d after x first others e =
-    let made : List Segment × Cursor = (s ∷ ss, after) in
-    subst (λ (y : List Segment × Cursor). TookSegments y.0 c y.1 × (length y.0 ≡ suc (length ss))) (ok_is made x e) (
+    let made : List RdmaSegment × Cursor = (s ∷ ss, after) in
+    subst (λ (y : List RdmaSegment × Cursor). TookSegments y.0 c y.1 × (length y.0 ≡ suc (length ss))) (ok_is made x e) (
       record {
         before = λ more end behind. first.before (segments_items ss more) end (others.before more end behind);
         ends = (first.ends, others.ends);
@@ -71,10 +71,10 @@ segments_more s ss c d after x first others e =
       refl,
     )
 
-pub segments_take : (n : ℕ) (c : Cursor) (x : List Segment × Cursor) → IsBytes c.rest → segments_at n c ≡ Ok x → TookSegments x.0 c x.1 × (length x.0 ≡ n)
+pub segments_take : (n : ℕ) (c : Cursor) (x : List RdmaSegment × Cursor) → IsBytes c.rest → segments_at n c ≡ Ok x → TookSegments x.0 c x.1 × (length x.0 ≡ n)
 unfolding segments_at
 segments_take zero c x fits e =
-    subst (λ (y : List Segment × Cursor). TookSegments y.0 c y.1 × (length y.0 ≡ 0)) (ok_is ([], c) x e)
+    subst (λ (y : List RdmaSegment × Cursor). TookSegments y.0 c y.1 × (length y.0 ≡ 0)) (ok_is ([], c) x e)
     (record { before = λ more after behind. behind; ends = tt; fits = fits }, refl)
 segments_take (suc n) c x fits e =
     let first = bind_ok (segment_at c.place c) _ x e in
@@ -84,7 +84,7 @@ segments_take (suc n) c x fits e =
     let both = segments_more first.0.0 others.0.0 c first.0.1 others.0.1 x s ss.0 others.2 in
     (both.0, both.1 ∙ ap suc ss.1)
 
-pub segments_again : (ss : List Segment) (more : List Item) (c after : Cursor) → AllByRecursion SegmentEnds ss → TakesEach (segments_items ss more) c after
+pub segments_again : (ss : List RdmaSegment) (more : List Item) (c after : Cursor) → AllByRecursion SegmentEnds ss → TakesEach (segments_items ss more) c after
     → Again (segments_at (length ss) c) ss more after
 unfolding segments_at
 segments_again [] more c after ends taken = (c, refl, taken)
@@ -93,13 +93,13 @@ segments_again (s ∷ ss) more c after ends taken =
     let (f, others, last) = segments_again ss more d after ends.1 behind in
     (f, rw (first, others) refl, last)
 
-pub record TookChunk (max : ℕ) (chunk : List Segment) (c d : Cursor) : Type 0 where
+pub record TookChunk (max : ℕ) (chunk : List RdmaSegment) (c d : Cursor) : Type 0 where
   pub before : Before (chunk_items chunk) c d
   pub ends : AllByRecursion SegmentEnds chunk
   pub within : length chunk ≤ max
   pub fits : IsBytes d.rest
 
-pub chunk_take : (max : ℕ) (c : Cursor) (x : List Segment × Cursor) → IsBytes c.rest → chunk_at max c ≡ Ok x → TookChunk max x.0 c x.1
+pub chunk_take : (max : ℕ) (c : Cursor) (x : List RdmaSegment × Cursor) → IsBytes c.rest → chunk_at max c ≡ Ok x → TookChunk max x.0 c x.1
 unfolding chunk_at
 chunk_take max c x fits e =
     let count = number_step c _ x fits e in
@@ -116,7 +116,7 @@ chunk_take max c x fits e =
           }
     ]
 
-pub chunk_again : (max : ℕ) (chunk : List Segment) (more : List Item) (c after : Cursor) → length chunk ≤ max → AllByRecursion SegmentEnds chunk → TakesEach (chunk_items chunk more) c after
+pub chunk_again : (max : ℕ) (chunk : List RdmaSegment) (more : List Item) (c after : Cursor) → length chunk ≤ max → AllByRecursion SegmentEnds chunk → TakesEach (chunk_items chunk more) c after
     → Again (chunk_at max c) chunk more after
 unfolding chunk_at
 chunk_again max chunk more c after within ends (a, at_count, others) =
@@ -142,18 +142,18 @@ pub end_again : (c d : Cursor) → Takes c d (Boolean false) → end_at c ≡ Ok
 unfolding end_at
 end_again c d taken = rw (boolean_placed c false d taken) refl
 
-pub record TookWrite (room : ℕ) (chunks : List (List Segment)) (c d : Cursor) : Type 0 where
+pub record TookWrite (room : ℕ) (chunks : List (List RdmaSegment)) (c d : Cursor) : Type 0 where
   pub before : Before (write_items chunks) c d
   pub small : AllByRecursion (λ chunk. length chunk ≤ CHUNK_SEGMENTS_MAX) chunks
   pub ends : AllByRecursion (AllByRecursion SegmentEnds) chunks
   pub within : length chunks ≤ room
   pub fits : IsBytes d.rest
 
-write_none : (room : ℕ) (c d : Cursor) (x : List (List Segment) × Cursor) → Takes c d (Boolean false) → IsBytes d.rest
-    → done {A = List (List Segment) × Cursor} ([], d) ≡ done x → TookWrite room x.0 c x.1
+write_none : (room : ℕ) (c d : Cursor) (x : List (List RdmaSegment) × Cursor) → Takes c d (Boolean false) → IsBytes d.rest
+    → done {A = List (List RdmaSegment) × Cursor} ([], d) ≡ done x → TookWrite room x.0 c x.1
 write_none room c d x taken fits e =
-    let made : List (List Segment) × Cursor = ([], d) in
-    subst (λ (y : List (List Segment) × Cursor). TookWrite room y.0 c y.1) (ok_is made x e) (record {
+    let made : List (List RdmaSegment) × Cursor = ([], d) in
+    subst (λ (y : List (List RdmaSegment) × Cursor). TookWrite room y.0 c y.1) (ok_is made x e) (record {
       before = λ more after behind. (d, taken, behind);
       small = tt;
       ends = tt;
@@ -161,12 +161,12 @@ write_none room c d x taken fits e =
       fits = fits;
     })
 
-write_more : (room : ℕ) (chunk : List Segment) (chunks : List (List Segment)) (c d f after : Cursor) (x : List (List Segment) × Cursor)
+write_more : (room : ℕ) (chunk : List RdmaSegment) (chunks : List (List RdmaSegment)) (c d f after : Cursor) (x : List (List RdmaSegment) × Cursor)
     → Takes c d (Boolean true) → TookChunk CHUNK_SEGMENTS_MAX chunk d f → TookWrite room chunks f after
-    → done {A = List (List Segment) × Cursor} (chunk ∷ chunks, after) ≡ done x → TookWrite (suc room) x.0 c x.1
+    → done {A = List (List RdmaSegment) × Cursor} (chunk ∷ chunks, after) ≡ done x → TookWrite (suc room) x.0 c x.1
 write_more room chunk chunks c d f after x taken first others e =
-    let made : List (List Segment) × Cursor = (chunk ∷ chunks, after) in
-    subst (λ (y : List (List Segment) × Cursor). TookWrite (suc room) y.0 c y.1) (ok_is made x e) (record {
+    let made : List (List RdmaSegment) × Cursor = (chunk ∷ chunks, after) in
+    subst (λ (y : List (List RdmaSegment) × Cursor). TookWrite (suc room) y.0 c y.1) (ok_is made x e) (record {
       before = λ more end behind. (d, taken, first.before (write_items chunks more) end (others.before more end behind));
       small = (first.within, others.small);
       ends = (first.ends, others.ends);
@@ -174,7 +174,7 @@ write_more room chunk chunks c d f after x taken first others e =
       fits = others.fits;
     })
 
-pub write_list_take : (room : ℕ) (c : Cursor) (x : List (List Segment) × Cursor) → IsBytes c.rest → write_list_at room c ≡ Ok x → TookWrite room x.0 c x.1
+pub write_list_take : (room : ℕ) (c : Cursor) (x : List (List RdmaSegment) × Cursor) → IsBytes c.rest → write_list_at room c ≡ Ok x → TookWrite room x.0 c x.1
 unfolding write_list_at
 write_list_take zero c x fits e =
     let end = bind_ok (end_at c) _ x e in
@@ -192,7 +192,7 @@ write_list_take (suc room) c x fits e =
       | inr stops ↦ write_none (suc room) c more.0.1 x (subst (λ (b : Bool). Takes c more.0.1 (Boolean b)) stops.0 more.1) more.2 stops.1
     ]
 
-pub write_list_again : (chunks : List (List Segment)) (room : ℕ) (more : List Item) (c after : Cursor) → length chunks ≤ room
+pub write_list_again : (chunks : List (List RdmaSegment)) (room : ℕ) (more : List Item) (c after : Cursor) → length chunks ≤ room
     → AllByRecursion (λ chunk. length chunk ≤ CHUNK_SEGMENTS_MAX) chunks → AllByRecursion (AllByRecursion SegmentEnds) chunks
     → TakesEach (write_items chunks more) c after → Again (write_list_at room c) chunks more after
 unfolding write_list_at
@@ -206,13 +206,13 @@ write_list_again (chunk ∷ chunks) (suc room) more c after within small ends (d
 
 -- ---- reply chunks
 
-pub record TookReply (reply : Option (List Segment)) (c d : Cursor) : Type 0 where
+pub record TookReply (reply : Option (List RdmaSegment)) (c d : Cursor) : Type 0 where
   pub before : Before (reply_items reply) c d
   pub ends : IfSome reply (AllByRecursion SegmentEnds)
   pub within : IfSome reply (λ chunk. length chunk ≤ REPLY_SEGMENTS_MAX)
   pub fits : IsBytes d.rest
 
-pub reply_chunk_take : (c : Cursor) (x : Option (List Segment) × Cursor) → IsBytes c.rest → reply_chunk_at c ≡ Ok x → TookReply x.0 c x.1
+pub reply_chunk_take : (c : Cursor) (x : Option (List RdmaSegment) × Cursor) → IsBytes c.rest → reply_chunk_at c ≡ Ok x → TookReply x.0 c x.1
 unfolding reply_chunk_at
 reply_chunk_take c x fits e =
     let more = boolean_step c _ x fits e in
@@ -221,8 +221,8 @@ reply_chunk_take c x fits e =
           let chunk = bind_ok (chunk_at REPLY_SEGMENTS_MAX more.0.1) _ x goes.1 in
           let k = chunk_take REPLY_SEGMENTS_MAX more.0.1 chunk.0 more.2 chunk.1 in
           let taken : Takes c more.0.1 (Boolean true) = subst (λ (b : Bool). Takes c more.0.1 (Boolean b)) goes.0 more.1 in
-          let made : Option (List Segment) × Cursor = (Some chunk.0.0, chunk.0.1) in
-          subst (λ (y : Option (List Segment) × Cursor). TookReply y.0 c y.1) (ok_is made x chunk.2) (record {
+          let made : Option (List RdmaSegment) × Cursor = (Some chunk.0.0, chunk.0.1) in
+          subst (λ (y : Option (List RdmaSegment) × Cursor). TookReply y.0 c y.1) (ok_is made x chunk.2) (record {
             before = λ others after behind. (more.0.1, taken, k.before others after behind);
             ends = k.ends;
             within = k.within;
@@ -230,8 +230,8 @@ reply_chunk_take c x fits e =
           })
       | inr stops ↦
           let taken : Takes c more.0.1 (Boolean false) = subst (λ (b : Bool). Takes c more.0.1 (Boolean b)) stops.0 more.1 in
-          let made : Option (List Segment) × Cursor = (None, more.0.1) in
-          subst (λ (y : Option (List Segment) × Cursor). TookReply y.0 c y.1) (ok_is made x stops.1) (record {
+          let made : Option (List RdmaSegment) × Cursor = (None, more.0.1) in
+          subst (λ (y : Option (List RdmaSegment) × Cursor). TookReply y.0 c y.1) (ok_is made x stops.1) (record {
             before = λ others after behind. (more.0.1, taken, behind);
             ends = tt;
             within = tt;
@@ -239,7 +239,7 @@ reply_chunk_take c x fits e =
           })
     ]
 
-pub reply_chunk_again : (reply : Option (List Segment)) (more : List Item) (c after : Cursor) → IfSome reply (λ chunk. length chunk ≤ REPLY_SEGMENTS_MAX)
+pub reply_chunk_again : (reply : Option (List RdmaSegment)) (more : List Item) (c after : Cursor) → IfSome reply (λ chunk. length chunk ≤ REPLY_SEGMENTS_MAX)
     → IfSome reply (AllByRecursion SegmentEnds) → TakesEach (reply_items reply more) c after → Again (reply_chunk_at c) reply more after
 unfolding reply_chunk_at
 reply_chunk_again None more c after within ends (d, taken, behind) = (d, rw (boolean_placed c false d taken) refl, behind)

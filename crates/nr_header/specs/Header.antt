@@ -1,10 +1,10 @@
--- The transport header (RFC 8166 section 4.2), and the bytes that spell it.
+-- The transport header (RFC 8166 section 4.2), and the bytes that encode it.
 use Rattle.std.specs.Prelude.{ℕ, ◌^◌, ◌<◌, true, false, List, [], ◌∷◌, length, All, Option, Some, None, IfSome}
 use Rattle.nr_xdr.specs.Item.{Item}
 use Rattle.nr_xdr.specs.Item.Item.{Unsigned, Hyper, Boolean}
-use Rattle.nr_xdr.specs.Items.{FitEach, spellings}
-use Rattle.nr_header.specs.Numbers.{VERSION, MSG, NOMSG, ERROR, ERR_VERS, ERR_CHUNK}
-use Rattle.nr_header.specs.declared.header.Segment.{Segment}
+use Rattle.nr_xdr.specs.Items.{FitEach, encodings}
+use Rattle.nr_header.specs.Constants.{VERSION, MSG, NOMSG, ERROR, ERR_VERS, ERR_CHUNK}
+use Rattle.nr_header.specs.declared.header.RdmaSegment.{RdmaSegment}
 use Rattle.nr_header.specs.declared.header.ReadSegment.{ReadSegment}
 use Rattle.nr_header.specs.declared.header.ChunkLists.{ChunkLists}
 use Rattle.nr_header.specs.declared.header.Body.{Body}
@@ -12,7 +12,7 @@ use Rattle.nr_header.specs.declared.header.Body.TheVariants.{Msg, Nomsg, ErrVers
 use Rattle.nr_header.specs.declared.header.Header.{Header}
 
 -- A segment's items, and those behind it (RFC 8166 section 3.4).
-abbrev pub segment_items : Segment → List Item → List Item
+abbrev pub segment_items : RdmaSegment → List Item → List Item
 segment_items s more = Unsigned s.handle ∷ (Unsigned s.length ∷ (Hyper s.offset ∷ more))
 
 -- an entry of a read list (RFC 8166 section 4.3.1), which follows the word 1
@@ -24,21 +24,21 @@ abbrev pub read_items : List ReadSegment → List Item → List Item
 read_items [] more = Boolean false ∷ more
 read_items (r ∷ rs) more = entry_items r (read_items rs more)
 
-abbrev pub segments_items : List Segment → List Item → List Item
+abbrev pub segments_items : List RdmaSegment → List Item → List Item
 segments_items [] more = more
 segments_items (s ∷ ss) more = segment_items s (segments_items ss more)
 
 -- a chunk: how many segments, and the segments
-abbrev pub chunk_items : List Segment → List Item → List Item
+abbrev pub chunk_items : List RdmaSegment → List Item → List Item
 chunk_items segments more = Unsigned (length segments) ∷ segments_items segments more
 
 -- A write list (RFC 8166 section 4.3.2): each chunk follows the word 1, and the word 0 ends the list.
-abbrev pub write_items : List (List Segment) → List Item → List Item
+abbrev pub write_items : List (List RdmaSegment) → List Item → List Item
 write_items [] more = Boolean false ∷ more
 write_items (chunk ∷ chunks) more = Boolean true ∷ chunk_items chunk (write_items chunks more)
 
 -- A reply chunk behind the word 1, or the word 0 (RFC 8166 section 4.3.3).
-abbrev pub reply_items : Option (List Segment) → List Item → List Item
+abbrev pub reply_items : Option (List RdmaSegment) → List Item → List Item
 reply_items None more = Boolean false ∷ more
 reply_items (Some chunk) more = Boolean true ∷ chunk_items chunk more
 
@@ -56,11 +56,11 @@ body_items xid credit (ErrVers version low high) =
     fixed_items xid version credit ERROR (Unsigned ERR_VERS ∷ (Unsigned low ∷ (Unsigned high ∷ [])))
 body_items xid credit (ErrChunk version) = fixed_items xid version credit ERROR (Unsigned ERR_CHUNK ∷ [])
 
--- the one spelling, within the limits or not
-abbrev pub header_spelling : Header → List ℕ
-header_spelling h = spellings (body_items h.xid h.credit h.body)
+-- the one encoding, within the limits or not
+abbrev pub header_encoding : Header → List ℕ
+header_encoding h = encodings (body_items h.xid h.credit h.body)
 
--- what has a spelling: each number of segments is a word
+-- what has an encoding: each number of segments is a word
 abbrev pub ChunksFit : ChunkLists → Type 0
 ChunksFit lists = All (λ chunk. length chunk < 2 ^ 32) lists.write × IfSome lists.reply (λ chunk. length chunk < 2 ^ 32)
 

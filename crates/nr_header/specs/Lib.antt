@@ -1,5 +1,5 @@
 pub mod Held
 pub mod Header
-pub mod Limits
-pub mod Numbers
+pub mod WithinLimits
+pub mod Constants
 pub mod Reading

@@ -2,24 +2,24 @@
 use Rattle.std.specs.Prelude.{◌≡◌, ◌≢◌, ℕ, zero, suc, ◌+◌, ◌^◌, Bool, true, false, ◌||◌, ◌&&◌, List, [], ◌∷◌, length, take, drop, sum_by, All, Option, Some, None, Result, Ok, Err, nat_lt, ◌==◌, if◌then◌else◌}
 use Rattle.nr_xdr.specs.Item.{word_of}
 use Rattle.nr_xdr.specs.Reading.{Cursor, hyper_at, boolean_at}
-use Rattle.nr_xdr.specs.Steps.{◌>>=◌, or_place, number_at}
-use Rattle.nr_header.specs.Numbers.{VERSION, FIXED_LEN, MSG, NOMSG, DONE, ERROR, ERR_VERS, ERR_CHUNK, READ_SEGMENTS_MAX, WRITE_CHUNKS_MAX, CHUNK_SEGMENTS_MAX, WRITE_SEGMENTS_MAX, REPLY_SEGMENTS_MAX, PAYLOAD_MAX}
+use Rattle.nr_xdr.specs.Sequencing.{◌>>=◌, or_place, number_at}
+use Rattle.nr_header.specs.Constants.{VERSION, FIXED_LEN, MSG, NOMSG, DONE, ERROR, ERR_VERS, ERR_CHUNK, READ_SEGMENTS_MAX, WRITE_CHUNKS_MAX, CHUNK_SEGMENTS_MAX, WRITE_SEGMENTS_MAX, REPLY_SEGMENTS_MAX, PAYLOAD_MAX}
 use Rattle.nr_header.specs.declared.fault.HeaderFault.{HeaderFault}
 use Rattle.nr_header.specs.declared.fault.HeaderFault.TheVariants.{Short, Version, Kind, BadChunks}
-use Rattle.nr_header.specs.declared.header.Segment.{Segment}
+use Rattle.nr_header.specs.declared.header.RdmaSegment.{RdmaSegment}
 use Rattle.nr_header.specs.declared.header.ReadSegment.{ReadSegment}
 use Rattle.nr_header.specs.declared.header.ChunkLists.{ChunkLists}
 use Rattle.nr_header.specs.declared.header.Body.{Body}
 use Rattle.nr_header.specs.declared.header.Body.TheVariants.{Msg, Nomsg, ErrVers, ErrChunk}
 use Rattle.nr_header.specs.declared.header.Header.{Header}
-use Rattle.nr_header.specs.Limits.{read_total}
+use Rattle.nr_header.specs.WithinLimits.{read_total}
 
 -- a word 0 or 1: whether an entry follows
 abbrev pub more_at : Cursor → Result (Bool × Cursor) ℕ
 more_at c = or_place (boolean_at c)
 
 -- a segment; one that ends past 2 ^ 64 fails at the place that is given
-unfoldable pub segment_at : ℕ → Cursor → Result (Segment × Cursor) ℕ
+unfoldable pub segment_at : ℕ → Cursor → Result (RdmaSegment × Cursor) ℕ
 segment_at place c = do
   handle ← number_at c
   len ← number_at handle.1
@@ -60,7 +60,7 @@ read_list_at (suc room) zero_allowed seen c = do
       else Ok ([], more.1)
 
 -- so many segments; one that ends past 2 ^ 64 fails at its handle
-unfoldable pub segments_at : ℕ → Cursor → Result (List Segment × Cursor) ℕ
+unfoldable pub segments_at : ℕ → Cursor → Result (List RdmaSegment × Cursor) ℕ
 segments_at zero c = Ok ([], c)
 segments_at (suc n) c = do
   first ← segment_at c.place c
@@ -68,13 +68,13 @@ segments_at (suc n) c = do
   Ok (first.0 ∷ others.0, others.1)
 
 -- a chunk of at most so many segments
-unfoldable pub chunk_at : ℕ → Cursor → Result (List Segment × Cursor) ℕ
+unfoldable pub chunk_at : ℕ → Cursor → Result (List RdmaSegment × Cursor) ℕ
 chunk_at max c = do
   count ← number_at c
   if nat_lt max count.0 then Err c.place else segments_at count.0 count.1
 
 -- at most so many chunks of a write list
-unfoldable pub write_list_at : ℕ → Cursor → Result (List (List Segment) × Cursor) ℕ
+unfoldable pub write_list_at : ℕ → Cursor → Result (List (List RdmaSegment) × Cursor) ℕ
 write_list_at zero c = do
   end ← end_at c
   Ok ([], end)
@@ -86,7 +86,7 @@ write_list_at (suc room) c = do
     Ok (chunk.0 ∷ others.0, others.1))
       else Ok ([], more.1)
 
-unfoldable pub reply_chunk_at : Cursor → Result (Option (List Segment) × Cursor) ℕ
+unfoldable pub reply_chunk_at : Cursor → Result (Option (List RdmaSegment) × Cursor) ℕ
 reply_chunk_at c = do
   more ← more_at c
   if more.0 then (chunk_at REPLY_SEGMENTS_MAX more.1 >>= λ chunk. Ok (Some chunk.0, chunk.1)) else Ok (None, more.1)

@@ -1,11 +1,11 @@
 //! The transport header as a value.
 
-use crate::few::Few;
-use crate::limits::{CHUNK_ROOM, READ_SEGMENTS_MAX, WRITE_CHUNKS_MAX};
+use crate::constants::{CHUNK_ROOM, READ_SEGMENTS_MAX, WRITE_CHUNKS_MAX};
+use crate::inline_vec::InlineVec;
 
 /// Memory that a peer offers (RFC 8166 section 3.4): `length` bytes from `offset` on in the region that `handle` names.
 #[derive(Clone, Copy, Debug, PartialEq, Eq, Default)]
-pub struct Segment {
+pub struct RdmaSegment {
     pub handle: u32,
     pub length: u32,
     pub offset: u64,
@@ -21,13 +21,13 @@ pub struct ReadSegment {
 }
 
 /// A read list. Contracts see the list of its entries.
-pub type ReadList = Few<ReadSegment, READ_SEGMENTS_MAX>;
+pub type ReadList = InlineVec<ReadSegment, READ_SEGMENTS_MAX>;
 
 /// A write chunk or a reply chunk (RFC 8166 section 3.4.6). Contracts see the list of its segments.
-pub type Chunk = Few<Segment, CHUNK_ROOM>;
+pub type Chunk = InlineVec<RdmaSegment, CHUNK_ROOM>;
 
 /// A write list. Contracts see the list of its chunks.
-pub type WriteList = Few<Chunk, WRITE_CHUNKS_MAX>;
+pub type WriteList = InlineVec<Chunk, WRITE_CHUNKS_MAX>;
 
 impl Default for Chunk {
     ghost use Rattle.std.specs.Prelude.{◌≡◌, []};
@@ -36,7 +36,7 @@ impl Default for Chunk {
 
     /// No segments.
     fn default() -> Chunk {
-        Few::new()
+        InlineVec::new()
     }
 }
 

@@ -1,11 +1,11 @@
 //! The items of a header, each read or refused with its place.
 
 ghost use Rattle.std.specs.Prelude.{◌≡◌, ◌+◌, ◌^◌, ◌<◌, ◌≤◌, nat_lt, length};
-ghost use Rattle.nr_xdr.specs.Steps.{number_at};
+ghost use Rattle.nr_xdr.specs.Sequencing.{number_at};
 ghost use Rattle.nr_header.specs.Reading.{Answers, Goes, more_at, segment_at, end_at, word_at};
 
 use crate::fault::HeaderFault;
-use crate::header::Segment;
+use crate::header::RdmaSegment;
 use nr_xdr::Reader;
 
 /// An unsigned integer.
@@ -44,7 +44,7 @@ fn passes_end(length: u32, offset: u64) -> bool
 
 /// A segment. One whose bytes pass 2^64 fails at `place`.
 #[tactic(auto, unfolding(crate::specs::Reading::segment_at))]
-pub(crate) fn segment(reader: &mut Reader<'_>, place: usize) -> Result<Segment, HeaderFault>
+pub(crate) fn segment(reader: &mut Reader<'_>, place: usize) -> Result<RdmaSegment, HeaderFault>
     ensures { Answers (λ s. s) result reader.new (segment_at place reader.old) }
 {
     let handle = number(reader)?;
@@ -53,7 +53,7 @@ pub(crate) fn segment(reader: &mut Reader<'_>, place: usize) -> Result<Segment, 
     if passes_end(length, offset) {
         return Err(HeaderFault::BadChunks { at: place });
     }
-    Ok(Segment {
+    Ok(RdmaSegment {
         handle,
         length,
         offset,

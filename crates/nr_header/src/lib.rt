@@ -2,28 +2,28 @@
 //!
 //! It stands on `nr_xdr`. A header begins each message: the transaction's number, the credits, and either the lists of
 //! chunks, memory that the caller offers or that the answer filled, or an error. [`read_header`] judges a message whole:
-//! its lists are within fixed limits, or it says why not and where. [`write_header`] spells any header, within the limits
+//! its lists are within fixed limits, or it says why not and where. [`write_header`] encodes any header, within the limits
 //! or not. Which chunks a call offers and what they carry is said in the crates above.
 #![tactic(auto)]
 
+mod constants;
 mod fault;
-mod few;
 mod header;
+mod inline_vec;
 mod item;
 mod laws;
-mod limits;
 mod lists;
 mod reading;
 mod writing;
 
-pub use fault::HeaderFault;
-pub use few::Few;
-pub use header::{Body, Chunk, ChunkLists, Header, ReadList, ReadSegment, Segment, WriteList};
-pub use laws::{bad_messages, header_round_trip};
-pub use limits::{
+pub use constants::{
     CHUNK_ROOM, CHUNK_SEGMENTS_MAX, FIXED_LEN, PAYLOAD_MAX, READ_SEGMENTS_MAX, REPLY_SEGMENTS_MAX,
     WRITE_CHUNKS_MAX, WRITE_SEGMENTS_MAX,
 };
+pub use fault::HeaderFault;
+pub use header::{Body, Chunk, ChunkLists, Header, RdmaSegment, ReadList, ReadSegment, WriteList};
+pub use inline_vec::InlineVec;
+pub use laws::{bad_messages, header_round_trip};
 pub use reading::{credit_of, read_header, xid_of};
 pub use writing::write_header;
 

@@ -1,16 +1,16 @@
 //! The lists of chunks, read (RFC 8166 section 4.3).
 
 ghost use Rattle.std.specs.Prelude.{◌≡◌, ◌+◌, ◌^◌, ◌<◌, ◌≤◌, nat_lt, length, false};
-ghost use Rattle.nr_header.specs.Limits.{read_total};
+ghost use Rattle.nr_header.specs.WithinLimits.{read_total};
 ghost use Rattle.nr_header.specs.Reading.{Answers, can_stand, seen_with, entry_at, read_list_at, segments_at, chunk_at, write_list_at, reply_chunk_at, lists_at};
 
-use crate::fault::HeaderFault;
-use crate::few::Few;
-use crate::header::{Chunk, ChunkLists, ReadList, ReadSegment, WriteList};
-use crate::item::{end, more, number, segment};
-use crate::limits::{
+use crate::constants::{
     CHUNK_ROOM, CHUNK_SEGMENTS_MAX, READ_SEGMENTS_MAX, REPLY_SEGMENTS_MAX, WRITE_CHUNKS_MAX,
 };
+use crate::fault::HeaderFault;
+use crate::header::{Chunk, ChunkLists, ReadList, ReadSegment, WriteList};
+use crate::inline_vec::InlineVec;
+use crate::item::{end, more, number, segment};
 use arrayvec::ArrayVec;
 use nr_xdr::Reader;
 
@@ -63,14 +63,14 @@ fn read_list(reader: &mut Reader<'_>, zero_allowed: bool) -> Result<ReadList, He
     for _ in 0..READ_SEGMENTS_MAX {
         let place = reader.at();
         if !more(reader)? {
-            return Ok(Few::from_short(entries));
+            return Ok(InlineVec::from_short(entries));
         }
         let entry = entry(reader, place, zero_allowed, seen)?;
         seen = seen_with(seen, entry.position);
         entries.push(entry);
     }
     end(reader)?;
-    Ok(Few::from_short(entries))
+    Ok(InlineVec::from_short(entries))
 }
 
 /// So many segments.
@@ -83,7 +83,7 @@ fn segments(reader: &mut Reader<'_>, count: u32) -> Result<Chunk, HeaderFault>
         let place = reader.at();
         segments.push(segment(reader, place)?);
     }
-    Ok(Few::from_short(segments))
+    Ok(InlineVec::from_short(segments))
 }
 
 /// A chunk of at most `max` segments.
@@ -106,12 +106,12 @@ fn write_list(reader: &mut Reader<'_>) -> Result<WriteList, HeaderFault>
     let mut chunks = ArrayVec::new();
     for _ in 0..WRITE_CHUNKS_MAX {
         if !more(reader)? {
-            return Ok(Few::from_short(chunks));
+            return Ok(InlineVec::from_short(chunks));
         }
         chunks.push(chunk(reader, CHUNK_SEGMENTS_MAX)?);
     }
     end(reader)?;
-    Ok(Few::from_short(chunks))
+    Ok(InlineVec::from_short(chunks))
 }
 
 #[tactic(auto, unfolding(crate::specs::Reading::reply_chunk_at))]

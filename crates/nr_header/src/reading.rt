@@ -2,14 +2,14 @@
 
 ghost use Rattle.std.specs.Prelude.{◌≡◌, ℕ, ◌+◌, ◌^◌, ◌<◌, ◌≤◌, nat_lt, sum_by, length, take, drop, true, false, Ok, Err, IfOk};
 ghost use Rattle.nr_header.specs.declared.header.Header.{Header};
-ghost use Rattle.nr_header.specs.Limits.{read_total, IsMessage};
+ghost use Rattle.nr_header.specs.WithinLimits.{read_total, IsMessage};
 ghost use Rattle.nr_header.specs.Reading.{Finds, sums_pass, msg_at, nomsg_at, word_at, error_of, error_by, version1_of, body_by, in_lists, header_of};
 
-use crate::fault::HeaderFault;
-use crate::header::{Body, ChunkLists, Header, ReadList, WriteList};
-use crate::limits::{
+use crate::constants::{
     ERR_CHUNK, ERR_VERS, ERROR, FIXED_LEN, MSG, NOMSG, PAYLOAD_MAX, VERSION, WRITE_SEGMENTS_MAX,
 };
+use crate::fault::HeaderFault;
+use crate::header::{Body, ChunkLists, Header, ReadList, WriteList};
 use crate::lists::lists;
 use nr_xdr::Reader;
 
@@ -161,9 +161,9 @@ fn whole_header(bytes: &[u8]) -> Result<Header, HeaderFault>
 /// (28 bytes with ERR_VERS, 20 with ERR_CHUNK). `Kind`: version 1 and neither RDMA_MSG nor RDMA_NOMSG nor a whole error
 /// message. `BadChunks`: lists that don't parse or pass a limit, at the first fault in the order of the bytes.
 pub fn read_header(bytes: &[u8]) -> Result<Header, HeaderFault>
-    // What is read is spelled so, within the limits.
+    // What is read is encoded so, within the limits.
     ensures found { IfOk result (λ header. IsMessage header bytes.now) }
-    // What is spelled so is read.
+    // What is encoded so is read.
     ensures only { (header : Header) → IsMessage header bytes.now → result ≡ Ok header }
     // Which fault it is, and where.
     ensures exact { result ≡ header_of bytes.now }

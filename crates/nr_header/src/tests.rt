@@ -50,7 +50,7 @@ fn lists(rt: HostRuntime) -> Result<(), Fail> {
         assert!(rt; lists.reply.is_none());
         assert_eq!(rt; lists.write.len(), 1);
         for chunk in lists.write.as_slice() {
-            let segment = Segment {
+            let segment = RdmaSegment {
                 handle: 1,
                 length: 5,
                 offset: 0,
@@ -217,8 +217,8 @@ fn written_above_the_limit(rt: HostRuntime) -> Result<(), Fail> {
     }
     words.extend_from_slice(&[0, 0, 0])?;
     let lists = ChunkLists {
-        read: Few::from_vec(entries),
-        write: Few::new(),
+        read: InlineVec::from_vec(entries),
+        write: InlineVec::new(),
         reply: None,
     };
     let header = Header {

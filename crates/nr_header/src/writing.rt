@@ -2,16 +2,16 @@
 
 ghost use Rattle.std.specs.Prelude.{◌≡◌, ◌^◌, ◌<◌, [], ◌∷◌, ◌++◌, length, All, true, OnOk, IfOk, IfSome};
 ghost use Rattle.nr_xdr.specs.Item.Item.{Unsigned, Boolean};
-ghost use Rattle.nr_xdr.specs.Items.{spellings};
-ghost use Rattle.nr_header.specs.Header.{segment_items, entry_items, fixed_items, read_items, segments_items, chunk_items, write_items, reply_items, lists_items, ChunksFit, CanWriteHeader, header_spelling};
+ghost use Rattle.nr_xdr.specs.Items.{encodings};
+ghost use Rattle.nr_header.specs.Header.{segment_items, entry_items, fixed_items, read_items, segments_items, chunk_items, write_items, reply_items, lists_items, ChunksFit, CanWriteHeader, header_encoding};
 
-use crate::header::{Body, Chunk, ChunkLists, Header, ReadSegment, Segment};
-use crate::limits::{ERR_CHUNK, ERR_VERS, ERROR, MSG, NOMSG, VERSION};
+use crate::constants::{ERR_CHUNK, ERR_VERS, ERROR, MSG, NOMSG, VERSION};
+use crate::header::{Body, Chunk, ChunkLists, Header, RdmaSegment, ReadSegment};
 use nr_xdr::{Memory, Octets, Writer};
 use std::alloc::Global;
 
-fn put_segment(writer: &mut Writer, segment: &Segment) -> Result<(), Memory>
-    ensures { OnOk result (writer.new ≡ writer.old ++ spellings (segment_items segment.now [])) }
+fn put_segment(writer: &mut Writer, segment: &RdmaSegment) -> Result<(), Memory>
+    ensures { OnOk result (writer.new ≡ writer.old ++ encodings (segment_items segment.now [])) }
 {
     writer.u32(segment.handle)?;
     writer.u32(segment.length)?;
@@ -20,7 +20,7 @@ fn put_segment(writer: &mut Writer, segment: &Segment) -> Result<(), Memory>
 
 /// An entry of a read list.
 fn put_entry(writer: &mut Writer, entry: &ReadSegment) -> Result<(), Memory>
-    ensures { OnOk result (writer.new ≡ writer.old ++ spellings (entry_items entry.now [])) }
+    ensures { OnOk result (writer.new ≡ writer.old ++ encodings (entry_items entry.now [])) }
 {
     writer.boolean(true)?;
     writer.u32(entry.position)?;
@@ -30,7 +30,7 @@ fn put_entry(writer: &mut Writer, entry: &ReadSegment) -> Result<(), Memory>
 }
 
 fn put_read_list(writer: &mut Writer, read: &[ReadSegment]) -> Result<(), Memory>
-    ensures { OnOk result (writer.new ≡ writer.old ++ spellings (read_items read.now [])) }
+    ensures { OnOk result (writer.new ≡ writer.old ++ encodings (read_items read.now [])) }
 {
     for entry in read {
         put_entry(writer, entry)?;
@@ -38,8 +38,8 @@ fn put_read_list(writer: &mut Writer, read: &[ReadSegment]) -> Result<(), Memory
     writer.boolean(false)
 }
 
-fn put_segments(writer: &mut Writer, segments: &[Segment]) -> Result<(), Memory>
-    ensures { OnOk result (writer.new ≡ writer.old ++ spellings (segments_items segments.now [])) }
+fn put_segments(writer: &mut Writer, segments: &[RdmaSegment]) -> Result<(), Memory>
+    ensures { OnOk result (writer.new ≡ writer.old ++ encodings (segments_items segments.now [])) }
 {
     for segment in segments {
         put_segment(writer, segment)?;
@@ -50,7 +50,7 @@ fn put_segments(writer: &mut Writer, segments: &[Segment]) -> Result<(), Memory>
 /// A chunk behind the word 1.
 fn put_chunk(writer: &mut Writer, chunk: &Chunk) -> Result<(), Memory>
     requires { length chunk.now < 2 ^ 32 }
-    ensures { OnOk result (writer.new ≡ writer.old ++ spellings (Boolean true ∷ chunk_items chunk.now [])) }
+    ensures { OnOk result (writer.new ≡ writer.old ++ encodings (Boolean true ∷ chunk_items chunk.now [])) }
 {
     writer.boolean(true)?;
     writer.u32(chunk.len() as u32)?;
@@ -59,7 +59,7 @@ fn put_chunk(writer: &mut Writer, chunk: &Chunk) -> Result<(), Memory>
 
 fn put_write_list(writer: &mut Writer, write: &[Chunk]) -> Result<(), Memory>
     requires { All (λ chunk. length chunk < 2 ^ 32) write.now }
-    ensures { OnOk result (writer.new ≡ writer.old ++ spellings (write_items write.now [])) }
+    ensures { OnOk result (writer.new ≡ writer.old ++ encodings (write_items write.now [])) }
 {
     for chunk in write {
         put_chunk(writer, chunk)?;
@@ -69,7 +69,7 @@ fn put_write_list(writer: &mut Writer, write: &[Chunk]) -> Result<(), Memory>
 
 fn put_reply_chunk(writer: &mut Writer, reply: &Option<Chunk>) -> Result<(), Memory>
     requires { IfSome reply.now (λ chunk. length chunk < 2 ^ 32) }
-    ensures { OnOk result (writer.new ≡ writer.old ++ spellings (reply_items reply.now [])) }
+    ensures { OnOk result (writer.new ≡ writer.old ++ encodings (reply_items reply.now [])) }
 {
     match reply {
         Some(chunk) => put_chunk(writer, chunk),
@@ -79,7 +79,7 @@ fn put_reply_chunk(writer: &mut Writer, reply: &Option<Chunk>) -> Result<(), Mem
 
 fn put_lists(writer: &mut Writer, lists: &ChunkLists) -> Result<(), Memory>
     requires { ChunksFit lists.now }
-    ensures { OnOk result (writer.new ≡ writer.old ++ spellings (lists_items lists.now)) }
+    ensures { OnOk result (writer.new ≡ writer.old ++ encodings (lists_items lists.now)) }
 {
     put_read_list(writer, lists.read.as_slice())?;
     put_write_list(writer, lists.write.as_slice())?;
@@ -95,7 +95,7 @@ fn put_fixed(
     credit: u32,
     kind: u32,
 ) -> Result<(), Memory>
-    ensures { OnOk result (writer.new ≡ writer.old ++ spellings (fixed_items xid version credit kind [])) }
+    ensures { OnOk result (writer.new ≡ writer.old ++ encodings (fixed_items xid version credit kind [])) }
 {
     writer.u32(xid)?;
     writer.u32(version)?;
@@ -103,10 +103,10 @@ fn put_fixed(
     writer.u32(kind)
 }
 
-/// The one spelling of a header, whether its lists are within the limits or not. `stream_at` isn't looked at.
+/// The one encoding of a header, whether its lists are within the limits or not. `stream_at` isn't looked at.
 pub fn write_header(alloc: Global, header: &Header) -> Result<Octets, Memory>
     requires { CanWriteHeader header.now }
-    ensures { IfOk result (λ o. o ≡ header_spelling header.now) }
+    ensures { IfOk result (λ o. o ≡ header_encoding header.now) }
 {
     let mut writer = Writer::new(alloc);
     let out = &mut writer;

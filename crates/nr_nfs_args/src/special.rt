@@ -78,7 +78,7 @@ impl Xdr for DeviceData {
     }
 }
 
-/// What MKNOD makes, and with what (RFC 1813 section 3.3.11, `mknoddata3`). The types that MKNOD cannot make are spelled
+/// What MKNOD makes, and with what (RFC 1813 section 3.3.11, `mknoddata3`). The types that MKNOD cannot make are encoded
 /// too, with nothing behind them.
 #[derive(Clone, Copy, Debug, PartialEq, Eq)]
 pub enum MknodData {

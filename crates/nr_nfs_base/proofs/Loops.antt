@@ -4,8 +4,8 @@ use Rattle.std.proofs.lemmas.List.{append-nil}
 use Rattle.nr_xdr.specs.Reading.{Cursor}
 use Rattle.nr_nfs_base.specs.declared.fault.ValueFault.{ValueFault}
 use Rattle.nr_nfs_base.specs.declared.fault.ValueFault.TheVariants as faults
-use Rattle.nr_xdr.specs.Steps.{◌>>=◌}
-use Rattle.nr_nfs_base.specs.Codec.{Codec, before, chain_read, optional, times, Answers}
+use Rattle.nr_xdr.specs.Sequencing.{◌>>=◌}
+use Rattle.nr_nfs_base.specs.Codec.{Codec, before, linked_list_read, optional, times, Answers}
 
 abbrev ValuesRead : Type 0 → Type 0
 ValuesRead A = Result (List A × Cursor) ℕ
@@ -20,38 +20,38 @@ regroup front v (Err at) = refl
 
 -- ---- Chains
 
-pub chain_goes_on : {A : Type 0} (c : Codec A) (front : List A) (n i : ℕ) (at : Cursor) (o : Option A) (v : A) (to : Cursor) (total : Result (List A × Cursor) ℕ) → i < n → o ≡ Some v → (optional c).read at ≡ Ok (o, to)
-    → onto front (chain_read c (n - i) at) ≡ total → onto (front ++ v ∷ []) (chain_read c (n - (i + 1)) to) ≡ total
-unfolding chain_read
-chain_goes_on c front n i at o v to total lt is h so_far =
+pub linked_list_goes_on : {A : Type 0} (c : Codec A) (front : List A) (n i : ℕ) (at : Cursor) (o : Option A) (v : A) (to : Cursor) (total : Result (List A × Cursor) ℕ) → i < n → o ≡ Some v → (optional c).read at ≡ Ok (o, to)
+    → onto front (linked_list_read c (n - i) at) ≡ total → onto (front ++ v ∷ []) (linked_list_read c (n - (i + 1)) to) ≡ total
+unfolding linked_list_read
+linked_list_goes_on c front n i at o v to total lt is h so_far =
     let k : n - i ≡ suc (n - (i + 1)) = omega arith in
     let there : (optional c).read at ≡ Ok (Some v, to) = rw is at h in
-    let one : onto front (chain_read c (n - i) at) ≡ onto (front ++ v ∷ []) (chain_read c (n - (i + 1)) to) = rw (k, there) (regroup front v (chain_read c (n - (i + 1)) to)) in
+    let one : onto front (linked_list_read c (n - i) at) ≡ onto (front ++ v ∷ []) (linked_list_read c (n - (i + 1)) to) = rw (k, there) (regroup front v (linked_list_read c (n - (i + 1)) to)) in
     sym one ∙ so_far
 
-pub chain_ends : {A : Type 0} (c : Codec A) (front : List A) (n i : ℕ) (at : Cursor) (o : Option A) (to : Cursor) (total : Result (List A × Cursor) ℕ) → i < n → o ≡ None → (optional c).read at ≡ Ok (o, to)
-    → onto front (chain_read c (n - i) at) ≡ total → total ≡ Ok (front, to)
-unfolding chain_read
-chain_ends {A} c front n i at o to total lt is h so_far =
+pub linked_list_ends : {A : Type 0} (c : Codec A) (front : List A) (n i : ℕ) (at : Cursor) (o : Option A) (to : Cursor) (total : Result (List A × Cursor) ℕ) → i < n → o ≡ None → (optional c).read at ≡ Ok (o, to)
+    → onto front (linked_list_read c (n - i) at) ≡ total → total ≡ Ok (front, to)
+unfolding linked_list_read
+linked_list_ends {A} c front n i at o to total lt is h so_far =
     let k : n - i ≡ suc (n - (i + 1)) = omega arith in
     let there : (optional c).read at ≡ Ok (None, to) = rw is at h in
-    let one : onto front (chain_read c (n - i) at) ≡ Ok (front, to) = rw (k, there) (ap (λ (vs : List A). Ok (vs, to)) (append-nil front)) in
+    let one : onto front (linked_list_read c (n - i) at) ≡ Ok (front, to) = rw (k, there) (ap (λ (vs : List A). Ok (vs, to)) (append-nil front)) in
     sym so_far ∙ one
 
-pub chain_fails : {A : Type 0} (c : Codec A) (e : ValueFault) (front : List A) (n i : ℕ) (at : Cursor) (total : Result (List A × Cursor) ℕ) → i < n → Answers {A = Option A × Cursor} (Err e) ((optional c).read at)
-    → onto front (chain_read c (n - i) at) ≡ total → Answers {A = List A × Cursor} (Err e) total
-unfolding chain_read
-chain_fails c faults.Memory front n i at total lt h so_far = tt
-chain_fails c (faults.Bad place) front n i at total lt h so_far =
+pub linked_list_fails : {A : Type 0} (c : Codec A) (e : ValueFault) (front : List A) (n i : ℕ) (at : Cursor) (total : Result (List A × Cursor) ℕ) → i < n → Answers {A = Option A × Cursor} (Err e) ((optional c).read at)
+    → onto front (linked_list_read c (n - i) at) ≡ total → Answers {A = List A × Cursor} (Err e) total
+unfolding linked_list_read
+linked_list_fails c faults.Memory front n i at total lt h so_far = tt
+linked_list_fails c (faults.Bad place) front n i at total lt h so_far =
     let k : n - i ≡ suc (n - (i + 1)) = omega arith in
-    let one : onto front (chain_read c (n - i) at) ≡ Err place = rw (k, h) refl in
+    let one : onto front (linked_list_read c (n - i) at) ≡ Err place = rw (k, h) refl in
     sym so_far ∙ one
 
-pub chain_runs_out : {A : Type 0} (c : Codec A) (front : List A) (n i : ℕ) (at : Cursor) (total : Result (List A × Cursor) ℕ) → n ≤ i → onto front (chain_read c (n - i) at) ≡ total → total ≡ Err at.place
-unfolding chain_read
-chain_runs_out c front n i at total le so_far =
+pub linked_list_runs_out : {A : Type 0} (c : Codec A) (front : List A) (n i : ℕ) (at : Cursor) (total : Result (List A × Cursor) ℕ) → n ≤ i → onto front (linked_list_read c (n - i) at) ≡ total → total ≡ Err at.place
+unfolding linked_list_read
+linked_list_runs_out c front n i at total le so_far =
     let k : n - i ≡ 0 = omega arith in
-    let one : onto front (chain_read c (n - i) at) ≡ Err at.place = rw k refl in
+    let one : onto front (linked_list_read c (n - i) at) ≡ Err at.place = rw k refl in
     sym so_far ∙ one
 
 -- ---- Arrays

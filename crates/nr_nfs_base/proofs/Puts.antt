@@ -5,11 +5,11 @@ use Rattle.std.specs.List.{flat_map, AllByRecursion}
 use Rattle.std.proofs.lemmas.List.{append-nil, take_all, take_more}
 use Rattle.std.proofs.lemmas.List.Concat.{flat_map-cons}
 use Rattle.std.proofs.lemmas.Grind.{flat_map-append}
-use Rattle.nr_xdr.specs.Item.{Item, Fits, spelling}
-use Rattle.nr_nfs_base.specs.Codec.{Codec, Puts, Writes, spelled, word, boolean, optional, chain, array}
+use Rattle.nr_xdr.specs.Item.{Item, Fits, encoding}
+use Rattle.nr_nfs_base.specs.Codec.{Codec, Puts, Writes, encoded, word, boolean, optional, linked_list, array}
 
-pub puts_one : (old new : List ℕ) (item : Item) (P : Type 0) → Fits item → P → new ≡ old ++ spelling item → Puts old new (item ∷ []) P
-puts_one old new item P fits p e = record { is = e ∙ ap (λ (x : List ℕ). old ++ x) (sym (append-nil (spelling item))); items_fit = (fits, tt); fits = p }
+pub puts_one : (old new : List ℕ) (item : Item) (P : Type 0) → Fits item → P → new ≡ old ++ encoding item → Puts old new (item ∷ []) P
+puts_one old new item P fits p e = record { is = e ∙ ap (λ (x : List ℕ). old ++ x) (sym (append-nil (encoding item))); items_fit = (fits, tt); fits = p }
 
 pub puts_nothing : (old : List ℕ) → Puts old old [] (Unit {0})
 puts_nothing old = record { is = sym (append-nil old); items_fit = tt; fits = tt }
@@ -20,7 +20,7 @@ all_fit (x ∷ xs) ys p q = (p.0, all_fit xs ys p.1 q)
 
 pub puts_both : {a b c : List ℕ} {xs ys : List Item} {P Q : Type 0} → Puts a b xs P → Puts b c ys Q → Puts a c (xs ++ ys) (P × Q)
 puts_both {a} {b} {c} {xs} {ys} p q = record {
-  is = q.is ∙ ap (λ (x : List ℕ). x ++ spelled ys) p.is ∙ append_assoc a (spelled xs) (spelled ys) ∙ ap (λ (x : List ℕ). a ++ x) (sym (flat_map-append spelling xs ys));
+  is = q.is ∙ ap (λ (x : List ℕ). x ++ encoded ys) p.is ∙ append_assoc a (encoded xs) (encoded ys) ∙ ap (λ (x : List ℕ). a ++ x) (sym (flat_map-append encoding xs ys));
   items_fit = all_fit xs ys p.items_fit q.items_fit;
   fits = (p.fits, q.fits);
 }
@@ -46,26 +46,26 @@ puts_some c o v old mid (Err e) is flag w = tt
 -- ---- Lists
 
 -- whatever list completes what was written, it was begun by this front
-abbrev pub ChainGoesOn : {A : Type 0} → Codec A → List ℕ → List A → List ℕ → Type 0
-ChainGoesOn {A} c old front mid = (tail : List A) (new : List ℕ) → Writes (chain c) mid tail new → Writes (chain c) old (front ++ tail) new
+abbrev pub LinkedListGoesOn : {A : Type 0} → Codec A → List ℕ → List A → List ℕ → Type 0
+LinkedListGoesOn {A} c old front mid = (tail : List A) (new : List ℕ) → Writes (linked_list c) mid tail new → Writes (linked_list c) old (front ++ tail) new
 
-chain_front : {A : Type 0} (c : Codec A) (v : A) (tail : List A) (mid flag after new : List ℕ) → Writes boolean mid true flag → Writes c flag v after → Writes (chain c) after tail new → Writes (chain c) mid (v ∷ tail) new
-unfolding chain optional
-chain_front c v tail mid flag after new is value others = puts_both (puts_both is value) others
+linked_list_front : {A : Type 0} (c : Codec A) (v : A) (tail : List A) (mid flag after new : List ℕ) → Writes boolean mid true flag → Writes c flag v after → Writes (linked_list c) after tail new → Writes (linked_list c) mid (v ∷ tail) new
+unfolding linked_list optional
+linked_list_front c v tail mid flag after new is value others = puts_both (puts_both is value) others
 
-pub chain_more : {A : Type 0} (c : Codec A) (vs : List A) (i : ℕ) (v : A) (old mid flag after : List ℕ) → i < length vs → v ≡ get_or vs i v → Writes boolean mid true flag → Writes c flag v after → ChainGoesOn c old (take i vs) mid → ChainGoesOn c old (take (i + 1) vs) after
-chain_more {A} c vs i v old mid flag after lt is there value so_far tail new more =
-    let longer = so_far (v ∷ tail) new (chain_front c v tail mid flag after new there value more) in
+pub linked_list_more : {A : Type 0} (c : Codec A) (vs : List A) (i : ℕ) (v : A) (old mid flag after : List ℕ) → i < length vs → v ≡ get_or vs i v → Writes boolean mid true flag → Writes c flag v after → LinkedListGoesOn c old (take i vs) mid → LinkedListGoesOn c old (take (i + 1) vs) after
+linked_list_more {A} c vs i v old mid flag after lt is there value so_far tail new more =
+    let longer = so_far (v ∷ tail) new (linked_list_front c v tail mid flag after new there value more) in
     let same : take i vs ++ v ∷ tail ≡ take (i + 1) vs ++ tail =
     sym (append_assoc (take i vs) (v ∷ []) tail) ∙ ap (λ (front : List A). front ++ tail) (ap (λ (w : A). take i vs ++ w ∷ []) is ∙ sym (take_more vs i v lt)) in
-    subst (λ (all : List A). Writes (chain c) old all new) same longer
+    subst (λ (all : List A). Writes (linked_list c) old all new) same longer
 
-pub chain_done : {A E : Type 0} (c : Codec A) (vs : List A) (i : ℕ) (old mid : List ℕ) (r : Result (List ℕ) E) → length vs ≤ i → ChainGoesOn c old (take i vs) mid → IfOk r (Writes boolean mid false) → IfOk r (Writes (chain c) old vs)
-unfolding chain optional
-chain_done {A} c vs i old mid (Ok new) le so_far end =
+pub linked_list_done : {A E : Type 0} (c : Codec A) (vs : List A) (i : ℕ) (old mid : List ℕ) (r : Result (List ℕ) E) → length vs ≤ i → LinkedListGoesOn c old (take i vs) mid → IfOk r (Writes boolean mid false) → IfOk r (Writes (linked_list c) old vs)
+unfolding linked_list optional
+linked_list_done {A} c vs i old mid (Ok new) le so_far end =
     let all : take i vs ++ [] ≡ vs = append-nil (take i vs) ∙ take_all i vs le in
-    subst (λ (ws : List A). Writes (chain c) old ws new) all (so_far [] new (puts_both end (puts_nothing new)))
-chain_done c vs i old mid (Err e) le so_far end = tt
+    subst (λ (ws : List A). Writes (linked_list c) old ws new) all (so_far [] new (puts_both end (puts_nothing new)))
+linked_list_done c vs i old mid (Err e) le so_far end = tt
 
 abbrev pub PutsEach : {A : Type 0} → Codec A → List ℕ → List A → List ℕ → Type 0
 PutsEach c old vs new = Puts old new (flat_map c.items vs) (AllByRecursion c.fits vs)

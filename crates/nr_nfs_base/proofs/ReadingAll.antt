@@ -1,15 +1,15 @@
--- What is read of all the bytes is spelled by all the bytes.
+-- What is read of all the bytes is encoded by all the bytes.
 use Rattle.std.proofs.Common.{◌≡◌, ℕ, ◌+◌, Bool, true, false, cond, eqb, List, [], ◌∷◌, ◌++◌, length, replicate, Result, Ok, Err, refl, sym, ap, subst, ◌∙◌}
 use Rattle.std.specs.Prelude.{IfOk, MatchResult}
 use Rattle.std.proofs.lemmas.Bool.{eqb-true}
 use Rattle.std.specs.List.{AllByRecursion}
 use Rattle.std.proofs.lemmas.List.{nil_from_length, length-replicate}
 use Rattle.std.proofs.lemmas.List.Concat.{flat_map-cons}
-use Rattle.nr_xdr.specs.Item.{Item, Fits, IsBytes, padding, spelling}
+use Rattle.nr_xdr.specs.Item.{Item, Fits, IsBytes, padding, encoding}
 use Rattle.nr_xdr.specs.Reading.{Cursor}
 use Rattle.nr_nfs_base.specs.declared.fault.ValueFault.{ValueFault}
 use Rattle.nr_nfs_base.specs.declared.fault.ValueFault.TheVariants as faults
-use Rattle.nr_nfs_base.specs.Codec.{Codec, Lawful, TakesAll, ReadsAll, ReadsAs, begin, ended, read_all, Answers, Writes, spelled}
+use Rattle.nr_nfs_base.specs.Codec.{Codec, Lawful, TakesAll, ReadsAll, ReadsAs, begin, ended, read_all, Answers, Writes, encoded}
 use Rattle.nr_nfs_base.specs.Laws.{ok_is, bind_ok}
 
 all_read : (old new : Cursor) (items : List Item) → TakesAll old new items → new.rest ≡ [] → ReadsAll items old.rest
@@ -59,13 +59,13 @@ is_only c l bytes (Ok w) v e s = ok_is w v (sym e ∙ only_all c l bytes v s)
 is_only c l bytes (Err faults.Memory) v e s = refl
 is_only c l bytes (Err (faults.Bad at)) v e s = absurd (let wrong = sym e ∙ only_all c l bytes v s in cc)
 
-each_reads : (items : List Item) → AllByRecursion Fits items → ReadsAll items (spelled items)
+each_reads : (items : List Item) → AllByRecursion Fits items → ReadsAll items (encoded items)
 each_reads [] h = refl
 each_reads (x ∷ xs) h =
-    (spelling x, spelled xs, record { fits = h.0; pad = replicate (padding x) 0; pad_is = length-replicate (padding x) 0; bytes_are = refl }, each_reads xs h.1, flat_map-cons spelling x xs)
+    (encoding x, encoded xs, record { fits = h.0; pad = replicate (padding x) 0; pad_is = length-replicate (padding x) 0; bytes_are = refl }, each_reads xs h.1, flat_map-cons encoding x xs)
 
 -- what was written is read again
 pub reads_again : {A : Type 0} (c : Codec A) (v : A) (old new bytes : List ℕ) → old ≡ [] → bytes ≡ new → Writes c old v new → ReadsAs c v bytes
 reads_again c v old new bytes nothing same w =
-    let is : bytes ≡ spelled (c.items v) = same ∙ w.is ∙ ap (λ (b : List ℕ). b ++ spelled (c.items v)) nothing in
+    let is : bytes ≡ encoded (c.items v) = same ∙ w.is ∙ ap (λ (b : List ℕ). b ++ encoded (c.items v)) nothing in
     (w.fits, subst (λ (b : List ℕ). ReadsAll (c.items v) b) (sym is) (each_reads (c.items v) w.items_fit))

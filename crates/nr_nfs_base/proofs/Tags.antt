@@ -3,7 +3,7 @@ use Rattle.std.proofs.Common.{◌≡◌, ◌≢◌, ℕ, true, false, List, Opti
 use Rattle.std.specs.Prelude.{option_map}
 use Rattle.std.proofs.lemmas.Bool.{eqb-true}
 use Rattle.nr_nfs_base.specs.Codec.{numbered}
-use Rattle.nr_nfs_base.specs.Outcome.{status_tag_number, status_tags, find-tags}
+use Rattle.nr_nfs_base.specs.StatusUnion.{status_tag_number, status_tags, find-tags}
 
 apart : (n : ℕ) → n ≢ 0 → eqb 0 n ≡ false
 apart n ne = elim (eqb 0 n) as (λ b. eqb 0 n ≡ b → b ≡ false) [

@@ -1,24 +1,24 @@
--- How the values of a type are spelled as items, and how they are read.
+-- How the values of a type are encoded as items, and how they are read.
 use Rattle.std.specs.Prelude.{◌≡◌, ℕ, zero, suc, ◌≤◌, Bool, true, false, List, [], ◌∷◌, ◌++◌, length, Option, Some, None, is_some, Result, Ok, Err, ◌==◌, if◌then◌else◌}
 use Rattle.std.specs.List.{flat_map, find, AllByRecursion}
 use Rattle.nr_xdr.specs.declared.fault.ItemFault.{ItemFault}
-use Rattle.nr_xdr.specs.Item.{Item, Fits, Reads, IsBytes, spelling}
+use Rattle.nr_xdr.specs.Item.{Item, Fits, Reads, IsBytes, encoding}
 use Rattle.nr_xdr.specs.Item.Item.{Unsigned, Hyper, Boolean, Opaque}
 use Rattle.nr_xdr.specs.Reading.{Cursor, Takes, place_of, unsigned_at, hyper_at, boolean_at, opaque_at}
-use Rattle.nr_xdr.specs.Steps.{◌>>=◌, or_place}
+use Rattle.nr_xdr.specs.Sequencing.{◌>>=◌, or_place}
 use Rattle.nr_nfs_base.specs.declared.fault.ValueFault.{ValueFault}
 use Rattle.nr_nfs_base.specs.declared.fault.ValueFault.TheVariants as faults
 
--- The codec of a type: the items that spell a value, which values are within their type's limits, and what is read at
+-- The codec of a type: the items that encode a value, which values are within their type's limits, and what is read at
 -- a cursor: a value and the cursor behind it, or the place of the first item that fails.
 pub record Codec (A : Type 0) : Type 1 where
   pub items : A → List Item
   pub fits : A → Type 0
   pub read : Cursor → Result (A × Cursor) ℕ
 
--- the items' one spelling, each pad byte a zero
-abbrev pub spelled : List Item → List ℕ
-spelled items = flat_map spelling items
+-- the items' one encoding, each pad byte a zero
+abbrev pub encoded : List Item → List ℕ
+encoded items = flat_map encoding items
 
 -- from old to new the items are taken, one behind the other
 abbrev pub TakesAll : Cursor → Cursor → List Item → Type 0
@@ -44,7 +44,7 @@ ended x = if length (x.1).rest == 0 then Ok x.0 else Err (x.1).place
 abbrev pub read_all : {A : Type 0} → Codec A → List ℕ → Result A ℕ
 read_all c bytes = c.read (begin bytes) >>= ended
 
--- Reading is the inverse of spelling: what is read fits and is so spelled, and what fits and is so spelled is read.
+-- Reading is the inverse of encoding: what is read fits and is so encoded, and what fits and is so encoded is read.
 pub record Lawful {A : Type 0} (c : Codec A) : Type 0 where
   pub takes : (old : Cursor) (v : A) (new : Cursor) → IsBytes old.rest → c.read old ≡ Ok (v, new) → c.fits v × TakesAll old new (c.items v)
   pub again : (old : Cursor) (v : A) (new : Cursor) → c.fits v → TakesAll old new (c.items v) → c.read old ≡ Ok (v, new)
@@ -145,31 +145,31 @@ unfoldable pub optional : {A : Type 0} → Codec A → Codec (Option A)
 optional c = tagged boolean (record { tag_of = is_some; items = value_items c; fits = value_fits c; read = value_read c })
 
 -- A list in which each value stands behind a 1, with a 0 at its end (RFC 4506 section 4.19).
-abbrev pub chain_items : {A : Type 0} → Codec A → List A → List Item
-chain_items c [] = (optional c).items None
-chain_items c (v ∷ vs) = (optional c).items (Some v) ++ chain_items c vs
+abbrev pub linked_list_items : {A : Type 0} → Codec A → List A → List Item
+linked_list_items c [] = (optional c).items None
+linked_list_items c (v ∷ vs) = (optional c).items (Some v) ++ linked_list_items c vs
 
-abbrev pub chain_fits : {A : Type 0} → Codec A → List A → Type 0
-chain_fits c [] = (optional c).fits None
-chain_fits c (v ∷ vs) = (optional c).fits (Some v) × chain_fits c vs
+abbrev pub linked_list_fits : {A : Type 0} → Codec A → List A → Type 0
+linked_list_fits c [] = (optional c).fits None
+linked_list_fits c (v ∷ vs) = (optional c).fits (Some v) × linked_list_fits c vs
 
 -- a value before the others
 abbrev pub before : {A : Type 0} → A → Result (List A × Cursor) ℕ → Result (List A × Cursor) ℕ
 before v others = others >>= λ vs. Ok (v ∷ vs.0, vs.1)
 
 -- what follows a flag and the value behind it
-abbrev pub chain_on : {A : Type 0} → Option A → Cursor → Result (List A × Cursor) ℕ → Result (List A × Cursor) ℕ
-chain_on None at others = Ok ([], at)
-chain_on (Some v) at others = before v others
+abbrev pub linked_list_on : {A : Type 0} → Option A → Cursor → Result (List A × Cursor) ℕ → Result (List A × Cursor) ℕ
+linked_list_on None at others = Ok ([], at)
+linked_list_on (Some v) at others = before v others
 
 -- n bounds the values and the 0 behind them, since each takes bytes: where n is used up no byte is left, and the end is
 -- missing
-unfoldable pub chain_read : {A : Type 0} → Codec A → ℕ → Cursor → Result (List A × Cursor) ℕ
-chain_read c zero at = Err at.place
-chain_read c (suc n) at = (optional c).read at >>= λ x. chain_on x.0 x.1 (chain_read c n x.1)
+unfoldable pub linked_list_read : {A : Type 0} → Codec A → ℕ → Cursor → Result (List A × Cursor) ℕ
+linked_list_read c zero at = Err at.place
+linked_list_read c (suc n) at = (optional c).read at >>= λ x. linked_list_on x.0 x.1 (linked_list_read c n x.1)
 
-unfoldable pub chain : {A : Type 0} → Codec A → Codec (List A)
-chain c = record { items = chain_items c; fits = chain_fits c; read = λ at. chain_read c (length at.rest) at }
+unfoldable pub linked_list : {A : Type 0} → Codec A → Codec (List A)
+linked_list c = record { items = linked_list_items c; fits = linked_list_fits c; read = λ at. linked_list_read c (length at.rest) at }
 
 -- a list behind the number of its values (RFC 4506 section 4.13)
 unfoldable pub times : {A : Type 0} → Codec A → ℕ → Cursor → Result (List A × Cursor) ℕ
@@ -185,9 +185,9 @@ array c = record {
 
 -- ---- What the code answers
 
--- the new bytes are the old ones and the spelling of items that fit, and so does the value
+-- the new bytes are the old ones and the encoding of items that fit, and so does the value
 pub record Puts (old new : List ℕ) (items : List Item) (P : Type 0) : Type 0 where
-  pub is : new ≡ old ++ spelled items
+  pub is : new ≡ old ++ encoded items
   pub items_fit : AllByRecursion Fits items
   pub fits : P
 

@@ -8,10 +8,10 @@ use Rattle.nr_xdr.specs.declared.fault.ItemFault.{ItemFault}
 use Rattle.nr_xdr.specs.Item.{Item, IsBytes, bit}
 use Rattle.nr_xdr.specs.Item.Item.{Unsigned, Hyper, Boolean, Opaque}
 use Rattle.nr_xdr.specs.Reading.{Cursor, Takes, unsigned_at, hyper_at, boolean_at, opaque_at}
-use Rattle.nr_xdr.proofs.Numbers.{length-word}
+use Rattle.nr_xdr.proofs.WordBytes.{length-word}
 use Rattle.nr_xdr.proofs.Items.{unsigned_takes, unsigned_again, hyper_takes, hyper_again, boolean_takes, boolean_again, opaque_takes, opaque_again}
-use Rattle.nr_xdr.specs.Steps.{◌>>=◌, or_place}
-use Rattle.nr_nfs_base.specs.Codec.{Codec, Lawful, TakesAll, word, hyper, boolean, opaque, nothing, ◌⊗◌, via, numbered, known, one_of, Arms, tagged, made_as, value_items, value_fits, value_read, optional, chain_items, chain_fits, before, chain_on, chain_read, chain, times, array}
+use Rattle.nr_xdr.specs.Sequencing.{◌>>=◌, or_place}
+use Rattle.nr_nfs_base.specs.Codec.{Codec, Lawful, TakesAll, word, hyper, boolean, opaque, nothing, ◌⊗◌, via, numbered, known, one_of, Arms, tagged, made_as, value_items, value_fits, value_read, optional, linked_list_items, linked_list_fits, before, linked_list_on, linked_list_read, linked_list, times, array}
 
 -- ---- Results
 
@@ -217,43 +217,43 @@ before_ok {A} v r vs new e =
     (x.0, x.1, ap (λ (q : List A × Cursor). q.0) p, ap (λ (q : List A × Cursor). q.1) p)
 
 abbrev Chains : {A : Type 0} → Codec A → Cursor → List A → Cursor → Type 0
-Chains c old vs new = chain_fits c vs × TakesAll old new (chain_items c vs)
+Chains c old vs new = linked_list_fits c vs × TakesAll old new (linked_list_items c vs)
 
-chain_step : {A : Type 0} (c : Codec A) (l : Lawful (optional c)) (n : ℕ) (old new : Cursor) (o : Option A) (after : Cursor) (vs : List A) → IsBytes old.rest → (optional c).fits o × TakesAll old after ((optional c).items o)
-    → chain_on o after (chain_read c n after) ≡ Ok (vs, new) → ((others : List A) → IsBytes after.rest → chain_read c n after ≡ Ok (others, new) → Chains c after others new) → Chains c old vs new
-chain_step {A} c l n old new None after vs fits p e more =
+linked_list_step : {A : Type 0} (c : Codec A) (l : Lawful (optional c)) (n : ℕ) (old new : Cursor) (o : Option A) (after : Cursor) (vs : List A) → IsBytes old.rest → (optional c).fits o × TakesAll old after ((optional c).items o)
+    → linked_list_on o after (linked_list_read c n after) ≡ Ok (vs, new) → ((others : List A) → IsBytes after.rest → linked_list_read c n after ≡ Ok (others, new) → Chains c after others new) → Chains c old vs new
+linked_list_step {A} c l n old new None after vs fits p e more =
     subst (λ (z : List A × Cursor). Chains c old z.0 z.1) (ok_is {A = List A × Cursor} ([], after) (vs, new) e) p
-chain_step {A} c l n old new (Some v) after vs fits p e more =
-    let b = before_ok v (chain_read c n after) vs new e in
-    let read : chain_read c n after ≡ Ok ((b.0).0, new) = b.1 ∙ ap (λ (d : Cursor). Ok ((b.0).0, d)) b.3 in
+linked_list_step {A} c l n old new (Some v) after vs fits p e more =
+    let b = before_ok v (linked_list_read c n after) vs new e in
+    let read : linked_list_read c n after ≡ Ok ((b.0).0, new) = b.1 ∙ ap (λ (d : Cursor). Ok ((b.0).0, d)) b.3 in
     let q = more (b.0).0 (IsBytes-behind old after ((optional c).items (Some v)) fits p.1) read in
-    subst (λ (ws : List A). Chains c old ws new) b.2 ((p.0, q.0), TakesAll-append old after new ((optional c).items (Some v)) (chain_items c (b.0).0) p.1 q.1)
+    subst (λ (ws : List A). Chains c old ws new) b.2 ((p.0, q.0), TakesAll-append old after new ((optional c).items (Some v)) (linked_list_items c (b.0).0) p.1 q.1)
 
-chain_takes : {A : Type 0} (c : Codec A) (l : Lawful (optional c)) (n : ℕ) (old new : Cursor) (vs : List A) → IsBytes old.rest → chain_read c n old ≡ Ok (vs, new) → Chains c old vs new
-unfolding chain_read
-chain_takes c l zero old new vs fits e = absurd cc
-chain_takes {A} c l (suc n) old new vs fits e =
-    let x = bind_ok ((optional c).read old) (λ x. chain_on x.0 x.1 (chain_read c n x.1)) (vs, new) e in
+linked_list_takes : {A : Type 0} (c : Codec A) (l : Lawful (optional c)) (n : ℕ) (old new : Cursor) (vs : List A) → IsBytes old.rest → linked_list_read c n old ≡ Ok (vs, new) → Chains c old vs new
+unfolding linked_list_read
+linked_list_takes c l zero old new vs fits e = absurd cc
+linked_list_takes {A} c l (suc n) old new vs fits e =
+    let x = bind_ok ((optional c).read old) (λ x. linked_list_on x.0 x.1 (linked_list_read c n x.1)) (vs, new) e in
     let p = l.takes old (x.0).0 (x.0).1 fits x.1 in
-    chain_step c l n old new (x.0).0 (x.0).1 vs fits p x.2 (chain_takes c l n (x.0).1 new)
+    linked_list_step c l n old new (x.0).0 (x.0).1 vs fits p x.2 (linked_list_takes c l n (x.0).1 new)
 
-chain_again : {A : Type 0} (c : Codec A) (l : Lawful (optional c)) (vs : List A) (n : ℕ) (old new : Cursor) → length old.rest ≤ n → chain_fits c vs → TakesAll old new (chain_items c vs) → chain_read c n old ≡ Ok (vs, new)
-unfolding chain_read
-chain_again c l [] zero old new le fits t = absurd (omega (arith, optional_shrinks c old new None t))
-chain_again c l [] (suc n) old new le fits t = rw (l.again old None new fits t) refl
-chain_again c l (v ∷ vs) zero old new le fits t =
-    let s = TakesAll-split old new ((optional c).items (Some v)) (chain_items c vs) t in
+linked_list_again : {A : Type 0} (c : Codec A) (l : Lawful (optional c)) (vs : List A) (n : ℕ) (old new : Cursor) → length old.rest ≤ n → linked_list_fits c vs → TakesAll old new (linked_list_items c vs) → linked_list_read c n old ≡ Ok (vs, new)
+unfolding linked_list_read
+linked_list_again c l [] zero old new le fits t = absurd (omega (arith, optional_shrinks c old new None t))
+linked_list_again c l [] (suc n) old new le fits t = rw (l.again old None new fits t) refl
+linked_list_again c l (v ∷ vs) zero old new le fits t =
+    let s = TakesAll-split old new ((optional c).items (Some v)) (linked_list_items c vs) t in
     absurd (omega (arith, optional_shrinks c old s.0 (Some v) s.1))
-chain_again c l (v ∷ vs) (suc n) old new le fits t =
-    let s = TakesAll-split old new ((optional c).items (Some v)) (chain_items c vs) t in
+linked_list_again c l (v ∷ vs) (suc n) old new le fits t =
+    let s = TakesAll-split old new ((optional c).items (Some v)) (linked_list_items c vs) t in
     let less : length (s.0).rest ≤ n = omega (arith, optional_shrinks c old s.0 (Some v) s.1) in
-    rw (l.again old (Some v) s.0 fits.0 s.1, chain_again c l vs n s.0 new less fits.1 s.2) refl
+    rw (l.again old (Some v) s.0 fits.0 s.1, linked_list_again c l vs n s.0 new less fits.1 s.2) refl
 
-pub chain_lawful : {A : Type 0} (c : Codec A) → Lawful c → Lawful (chain c)
-unfolding chain
-chain_lawful {A} c l = record {
-  takes = λ old vs new fits e. chain_takes c (optional_lawful c l) (length old.rest) old new vs fits e;
-  again = λ old vs new fits t. chain_again c (optional_lawful c l) vs (length old.rest) old new (omega arith) fits t;
+pub linked_list_lawful : {A : Type 0} (c : Codec A) → Lawful c → Lawful (linked_list c)
+unfolding linked_list
+linked_list_lawful {A} c l = record {
+  takes = λ old vs new fits e. linked_list_takes c (optional_lawful c l) (length old.rest) old new vs fits e;
+  again = λ old vs new fits t. linked_list_again c (optional_lawful c l) vs (length old.rest) old new (omega arith) fits t;
 }
 
 abbrev Lists : {A : Type 0} → Codec A → Cursor → List A → Cursor → Type 0

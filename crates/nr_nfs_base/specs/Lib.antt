@@ -10,5 +10,5 @@ pub mod WeakCache
 pub mod SetAttributes
 pub mod Status
 pub mod MountStatus
-pub mod Outcome
+pub mod StatusUnion
 pub mod Same

@@ -4,7 +4,7 @@ use Rattle.nr_nfs_base.specs.Codec.{Codec, Lawful, hyper, via}
 use Rattle.nr_nfs_base.specs.Laws.{hyper_lawful, via_lawful}
 use Rattle.nr_nfs_base.specs.declared.verifier.Verifier.{Verifier}
 
--- eight opaque bytes (RFC 1813 section 2.5), as the number that they spell
+-- eight opaque bytes (RFC 1813 section 2.5), as the number that they encode
 unfoldable pub verifier_codec : Codec Verifier
 verifier_codec =
     via (λ p. record { number = p })

@@ -1,4 +1,4 @@
-//! Values that are spelled as a number.
+//! Values that are encoded as a number.
 
 ghost use Rattle.std.specs.Prelude.{◌≡◌, ◌==◌, false, ℕ, List, Some, IfOk};
 ghost use Rattle.nr_nfs_base.specs.Codec.{numbered, one_of, Answers, Writes};

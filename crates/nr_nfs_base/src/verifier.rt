@@ -8,7 +8,7 @@ use nr_xdr::{Memory, Reader, Writer};
 use std::alloc::Global;
 
 /// Eight opaque bytes by which a server knows its own state, or a client its own call (RFC 1813 section 2.5, `writeverf3`,
-/// `cookieverf3` and `createverf3`), kept as the number that they spell, the first byte the highest.
+/// `cookieverf3` and `createverf3`), kept as the number that they encode, the first byte the highest.
 #[derive(Clone, Copy, Debug, PartialEq, Eq)]
 pub struct Verifier {
     pub number: u64,

@@ -1,19 +1,19 @@
 //! The scheme by which every value is read and written.
 
 ghost use Rattle.std.specs.Prelude.{◌≡◌, IfOk, MatchResult};
-ghost use Rattle.nr_nfs_base.specs.Codec.{Codec, Lawful, Answers, Writes, ReadsAs, read_all, spelled};
+ghost use Rattle.nr_nfs_base.specs.Codec.{Codec, Lawful, Answers, Writes, ReadsAs, read_all, encoded};
 ghost use Rattle.nr_nfs_base.specs.declared.fault.ValueFault.TheVariants.{Memory as memory};
 
 use crate::fault::ValueFault;
 use nr_xdr::{Memory, Octets, Reader, Writer};
 use std::alloc::Global;
 
-/// A value that is spelled as items of XDR (RFC 4506).
+/// A value that is encoded as items of XDR (RFC 4506).
 ///
 /// A type gives its codec, the two steps for a value that stands among others, and the law. `read` and `write` are the
 /// calls for a value that stands alone. Pad bytes are read as any bytes and written as zeros.
 pub trait Xdr: Drop {
-    /// The items that spell a value, which values are within the limits of the type, and what is read at a place.
+    /// The items that encode a value, which values are within the limits of the type, and what is read at a place.
     ghost codec: { Codec Self };
 
     /// The value at the reader's place, and the reader behind it. `Bad` at the first item that fails, in bytes from
@@ -21,11 +21,11 @@ pub trait Xdr: Drop {
     fn read_from<'a>(alloc: Global, reader: Reader<'a>) -> Result<(Self, Reader<'a>), ValueFault>
         ensures exact { Answers result (codec.read reader.entry) };
 
-    /// The writer with the value behind what it has: the items that spell it, each within its limits.
+    /// The writer with the value behind what it has: the items that encode it, each within its limits.
     fn write_to(&self, writer: Writer) -> Result<Writer, Memory>
         ensures ok { IfOk result (Writes codec writer self.now) };
 
-    /// What is read as a value are the items that spell it, whatever their pad bytes are, and what are those items is
+    /// What is read as a value are the items that encode it, whatever their pad bytes are, and what are those items is
     /// read as the value.
     ghost lawful: { Lawful codec };
 
@@ -44,8 +44,8 @@ pub trait Xdr: Drop {
 
     /// The bytes of the value.
     final fn write(&self, alloc: Global) -> Result<Octets, Memory>
-        // The one spelling of the value.
-        ensures spelled { IfOk result (λ bytes. bytes ≡ spelled (codec.items self.now)) }
+        // The one encoding of the value.
+        ensures encoded { IfOk result (λ bytes. bytes ≡ encoded (codec.items self.now)) }
         // The bytes are read as the value again.
         ensures again { IfOk result (λ bytes. ReadsAs codec self.now bytes) }
     {

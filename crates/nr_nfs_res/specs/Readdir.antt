@@ -1,8 +1,8 @@
 -- Results of the calls that list directories.
 use Rattle.std.proofs.Common.{refl}
 use Rattle.nr_nfs_base.specs.Attributes.{attributes_codec, attributes_lawful}
-use Rattle.nr_nfs_base.specs.Codec.{Codec, Lawful, hyper, boolean, ◌⊗◌, ◌&◌, via, optional, chain}
-use Rattle.nr_nfs_base.specs.Laws.{hyper_lawful, boolean_lawful, ◌⊠◌, via_lawful, optional_lawful, chain_lawful}
+use Rattle.nr_nfs_base.specs.Codec.{Codec, Lawful, hyper, boolean, ◌⊗◌, ◌&◌, via, optional, linked_list}
+use Rattle.nr_nfs_base.specs.Laws.{hyper_lawful, boolean_lawful, ◌⊠◌, via_lawful, optional_lawful, linked_list_lawful}
 use Rattle.nr_nfs_base.specs.Names.{handle_codec, handle_lawful, text_codec, text_lawful}
 use Rattle.nr_nfs_base.specs.Verifier.{verifier_codec, verifier_lawful}
 use Rattle.nr_nfs_res.specs.declared.readdir.Entry.{Entry}
@@ -28,13 +28,13 @@ unfoldable pub readdir_ok_codec : Codec ReaddirOk
 readdir_ok_codec =
     via (λ p. record { dir_attributes = p.0; verifier = p.1.0; entries = p.1.1.0; eof = p.1.1.1 })
     (λ v. v.dir_attributes & v.verifier & v.entries & v.eof)
-    ((optional attributes_codec) ⊗ verifier_codec ⊗ (chain entry_codec) ⊗ boolean)
+    ((optional attributes_codec) ⊗ verifier_codec ⊗ (linked_list entry_codec) ⊗ boolean)
 
 pub readdir_ok_lawful : Lawful readdir_ok_codec
 unfolding readdir_ok_codec
 readdir_ok_lawful =
     via_lawful _ _ _ (λ _. refl) (λ _. refl)
-    ((optional_lawful _ attributes_lawful) ⊠ verifier_lawful ⊠ (chain_lawful _ entry_lawful)
+    ((optional_lawful _ attributes_lawful) ⊠ verifier_lawful ⊠ (linked_list_lawful _ entry_lawful)
     ⊠ boolean_lawful)
 
 -- an entry of a directory and what it names (RFC 1813 section 3.3.17, entryplus3)
@@ -62,11 +62,11 @@ unfoldable pub readdirplus_ok_codec : Codec ReaddirplusOk
 readdirplus_ok_codec =
     via (λ p. record { dir_attributes = p.0; verifier = p.1.0; entries = p.1.1.0; eof = p.1.1.1 })
     (λ v. v.dir_attributes & v.verifier & v.entries & v.eof)
-    ((optional attributes_codec) ⊗ verifier_codec ⊗ (chain entry_plus_codec) ⊗ boolean)
+    ((optional attributes_codec) ⊗ verifier_codec ⊗ (linked_list entry_plus_codec) ⊗ boolean)
 
 pub readdirplus_ok_lawful : Lawful readdirplus_ok_codec
 unfolding readdirplus_ok_codec
 readdirplus_ok_lawful =
     via_lawful _ _ _ (λ _. refl) (λ _. refl)
-    ((optional_lawful _ attributes_lawful) ⊠ verifier_lawful ⊠ (chain_lawful _ entry_plus_lawful)
+    ((optional_lawful _ attributes_lawful) ⊠ verifier_lawful ⊠ (linked_list_lawful _ entry_plus_lawful)
     ⊠ boolean_lawful)

@@ -2,15 +2,15 @@
 
 ghost use Rattle.nr_nfs_res.specs.Attributes.{access_ok_codec, access_ok_lawful};
 
-use nr_nfs_base::{Attributes, Outcome, ValueFault, WccData, Xdr};
+use nr_nfs_base::{Attributes, StatusUnion, ValueFault, WccData, Xdr};
 use nr_xdr::{Memory, Reader, Writer};
 use std::alloc::Global;
 
 /// The results of SETATTR (RFC 1813 section 3.3.2).
-pub type SetattrRes = Outcome<WccData, WccData>;
+pub type SetattrRes = StatusUnion<WccData, WccData>;
 
 /// The results of GETATTR (RFC 1813 section 3.3.1).
-pub type GetattrRes = Outcome<Attributes, ()>;
+pub type GetattrRes = StatusUnion<Attributes, ()>;
 
 /// What ACCESS gives (RFC 1813 section 3.3.4).
 #[derive(Clone, Copy, Debug, PartialEq, Eq)]
@@ -43,4 +43,4 @@ impl Xdr for AccessOk {
 }
 
 /// The results of ACCESS (RFC 1813 section 3.3.4).
-pub type AccessRes = Outcome<AccessOk, Option<Attributes>>;
+pub type AccessRes = StatusUnion<AccessOk, Option<Attributes>>;

@@ -2,7 +2,7 @@
 
 ghost use Rattle.nr_nfs_res.specs.Bytes.{commit_ok_codec, commit_ok_lawful, read_ok_codec, read_ok_lawful, write_ok_codec, write_ok_lawful};
 
-use nr_nfs_base::{Attributes, Data, Outcome, StableHow, ValueFault, Verifier, WccData, Xdr};
+use nr_nfs_base::{Attributes, Data, StableHow, StatusUnion, ValueFault, Verifier, WccData, Xdr};
 use nr_xdr::{Memory, Reader, Writer};
 use std::alloc::Global;
 
@@ -52,7 +52,7 @@ impl Xdr for ReadOk {
 }
 
 /// The results of READ (RFC 1813 section 3.3.6).
-pub type ReadRes = Outcome<ReadOk, Option<Attributes>>;
+pub type ReadRes = StatusUnion<ReadOk, Option<Attributes>>;
 
 /// What WRITE gives (RFC 1813 section 3.3.7).
 #[derive(Clone, Copy, Debug, PartialEq, Eq)]
@@ -99,7 +99,7 @@ impl Xdr for WriteOk {
 }
 
 /// The results of WRITE (RFC 1813 section 3.3.7).
-pub type WriteRes = Outcome<WriteOk, WccData>;
+pub type WriteRes = StatusUnion<WriteOk, WccData>;
 
 /// What COMMIT gives (RFC 1813 section 3.3.21).
 #[derive(Clone, Copy, Debug, PartialEq, Eq)]
@@ -131,4 +131,4 @@ impl Xdr for CommitOk {
 }
 
 /// The results of COMMIT (RFC 1813 section 3.3.21).
-pub type CommitRes = Outcome<CommitOk, WccData>;
+pub type CommitRes = StatusUnion<CommitOk, WccData>;

@@ -2,7 +2,7 @@
 
 ghost use Rattle.nr_nfs_res.specs.Create.{create_ok_codec, create_ok_lawful};
 
-use nr_nfs_base::{Attributes, Handle, Outcome, ValueFault, WccData, Xdr};
+use nr_nfs_base::{Attributes, Handle, StatusUnion, ValueFault, WccData, Xdr};
 use nr_xdr::{Memory, Reader, Writer};
 use std::alloc::Global;
 
@@ -47,13 +47,13 @@ impl Xdr for CreateOk {
 }
 
 /// The results of CREATE (RFC 1813 section 3.3.8).
-pub type CreateRes = Outcome<CreateOk, WccData>;
+pub type CreateRes = StatusUnion<CreateOk, WccData>;
 
 /// The results of MKDIR (RFC 1813 section 3.3.9).
-pub type MkdirRes = Outcome<CreateOk, WccData>;
+pub type MkdirRes = StatusUnion<CreateOk, WccData>;
 
 /// The results of SYMLINK (RFC 1813 section 3.3.10).
-pub type SymlinkRes = Outcome<CreateOk, WccData>;
+pub type SymlinkRes = StatusUnion<CreateOk, WccData>;
 
 /// The results of MKNOD (RFC 1813 section 3.3.11).
-pub type MknodRes = Outcome<CreateOk, WccData>;
+pub type MknodRes = StatusUnion<CreateOk, WccData>;

@@ -2,7 +2,7 @@
 
 ghost use Rattle.nr_nfs_res.specs.FileSystem.{fsinfo_ok_codec, fsinfo_ok_lawful, fsstat_ok_codec, fsstat_ok_lawful, pathconf_ok_codec, pathconf_ok_lawful};
 
-use nr_nfs_base::{Attributes, Outcome, Time, ValueFault, Xdr};
+use nr_nfs_base::{Attributes, StatusUnion, Time, ValueFault, Xdr};
 use nr_xdr::{Memory, Reader, Writer};
 use std::alloc::Global;
 
@@ -71,7 +71,7 @@ impl Xdr for FsstatOk {
 }
 
 /// The results of FSSTAT (RFC 1813 section 3.3.18).
-pub type FsstatRes = Outcome<FsstatOk, Option<Attributes>>;
+pub type FsstatRes = StatusUnion<FsstatOk, Option<Attributes>>;
 
 /// What FSINFO gives (RFC 1813 section 3.3.19).
 #[derive(Clone, Copy, Debug, PartialEq, Eq)]
@@ -153,7 +153,7 @@ impl Xdr for FsinfoOk {
 }
 
 /// The results of FSINFO (RFC 1813 section 3.3.19).
-pub type FsinfoRes = Outcome<FsinfoOk, Option<Attributes>>;
+pub type FsinfoRes = StatusUnion<FsinfoOk, Option<Attributes>>;
 
 /// What PATHCONF gives (RFC 1813 section 3.3.20).
 #[derive(Clone, Copy, Debug, PartialEq, Eq)]
@@ -213,4 +213,4 @@ impl Xdr for PathconfOk {
 }
 
 /// The results of PATHCONF (RFC 1813 section 3.3.20).
-pub type PathconfRes = Outcome<PathconfOk, Option<Attributes>>;
+pub type PathconfRes = StatusUnion<PathconfOk, Option<Attributes>>;

@@ -1,6 +1,6 @@
 //! The results of the 22 procedures of NFS version 3, and of MOUNT version 3 (RFC 1813).
 //!
-//! A type for each procedure: an `Outcome` of what it gives where nothing failed, or of why it failed and what goes with a
+//! A type for each procedure: an `StatusUnion` of what it gives where nothing failed, or of why it failed and what goes with a
 //! failure. All are read and written by the scheme of `nr_nfs_base`, the crate below: the codec of each part stands in
 //! `specs/`, beside the section that it comes from, and that of each whole result in `Results.antt` (`results`). Above stand the crates that execute calls and those that read the
 //! answers. Whether a result is true is theirs to say: here a count need not be the length of the data beside it.

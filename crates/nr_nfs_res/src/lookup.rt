@@ -2,7 +2,7 @@
 
 ghost use Rattle.nr_nfs_res.specs.Lookup.{lookup_ok_codec, lookup_ok_lawful, readlink_ok_codec, readlink_ok_lawful};
 
-use nr_nfs_base::{Attributes, Handle, Outcome, Path, ValueFault, Xdr};
+use nr_nfs_base::{Attributes, Handle, Path, StatusUnion, ValueFault, Xdr};
 use nr_xdr::{Memory, Reader, Writer};
 use std::alloc::Global;
 
@@ -47,7 +47,7 @@ impl Xdr for LookupOk {
 }
 
 /// The results of LOOKUP, the attributes of the directory behind a failure (RFC 1813 section 3.3.3).
-pub type LookupRes = Outcome<LookupOk, Option<Attributes>>;
+pub type LookupRes = StatusUnion<LookupOk, Option<Attributes>>;
 
 /// What READLINK gives (RFC 1813 section 3.3.5).
 #[derive(Debug, Drop)]
@@ -79,4 +79,4 @@ impl Xdr for ReadlinkOk {
 }
 
 /// The results of READLINK (RFC 1813 section 3.3.5).
-pub type ReadlinkRes = Outcome<ReadlinkOk, Option<Attributes>>;
+pub type ReadlinkRes = StatusUnion<ReadlinkOk, Option<Attributes>>;

@@ -2,7 +2,7 @@
 
 ghost use Rattle.nr_nfs_res.specs.Mount.{mount_ok_codec, mount_ok_lawful, umnt_res_codec, umnt_res_lawful, umntall_res_codec, umntall_res_lawful};
 
-use nr_nfs_base::{Array, Handle, MountStatus, Outcome, ValueFault, Xdr};
+use nr_nfs_base::{Array, Handle, MountStatus, StatusUnion, ValueFault, Xdr};
 use nr_xdr::{Memory, Reader, Writer};
 use std::alloc::Global;
 
@@ -37,7 +37,7 @@ impl Xdr for MountOk {
 }
 
 /// The results of MNT (RFC 1813 section 5.2.1).
-pub type MntRes = Outcome<MountOk, (), MountStatus>;
+pub type MntRes = StatusUnion<MountOk, (), MountStatus>;
 
 /// Nothing: UMNT (RFC 1813 section 5.2.3).
 #[derive(Clone, Copy, Debug, PartialEq, Eq)]

@@ -2,7 +2,7 @@
 
 ghost use Rattle.nr_nfs_res.specs.Readdir.{entry_codec, entry_lawful, entry_plus_codec, entry_plus_lawful, readdir_ok_codec, readdir_ok_lawful, readdirplus_ok_codec, readdirplus_ok_lawful};
 
-use nr_nfs_base::{Attributes, Chain, Handle, Name, Outcome, ValueFault, Verifier, Xdr};
+use nr_nfs_base::{Attributes, Handle, LinkedList, Name, StatusUnion, ValueFault, Verifier, Xdr};
 use nr_xdr::{Memory, Reader, Writer};
 use std::alloc::Global;
 
@@ -47,7 +47,7 @@ impl Xdr for Entry {
 pub struct ReaddirOk {
     pub dir_attributes: Option<Attributes>,
     pub verifier: Verifier,
-    pub entries: Chain<Entry>,
+    pub entries: LinkedList<Entry>,
     /// The last entry is among these, or none was left.
     pub eof: bool,
 }
@@ -64,7 +64,7 @@ impl Xdr for ReaddirOk {
     ) -> Result<(ReaddirOk, Reader<'a>), ValueFault> {
         let (dir_attributes, reader) = Option::<Attributes>::read_from(alloc, reader)?;
         let (verifier, reader) = Verifier::read_from(alloc, reader)?;
-        let (entries, reader) = Chain::<Entry>::read_from(alloc, reader)?;
+        let (entries, reader) = LinkedList::<Entry>::read_from(alloc, reader)?;
         let (eof, reader) = bool::read_from(alloc, reader)?;
         Ok((
             ReaddirOk {
@@ -87,7 +87,7 @@ impl Xdr for ReaddirOk {
 }
 
 /// The results of READDIR (RFC 1813 section 3.3.16).
-pub type ReaddirRes = Outcome<ReaddirOk, Option<Attributes>>;
+pub type ReaddirRes = StatusUnion<ReaddirOk, Option<Attributes>>;
 
 /// An entry of a directory and what it names (RFC 1813 section 3.3.17, `entryplus3`).
 #[derive(Debug, Drop)]
@@ -139,7 +139,7 @@ impl Xdr for EntryPlus {
 pub struct ReaddirplusOk {
     pub dir_attributes: Option<Attributes>,
     pub verifier: Verifier,
-    pub entries: Chain<EntryPlus>,
+    pub entries: LinkedList<EntryPlus>,
     /// The last entry is among these, or none was left.
     pub eof: bool,
 }
@@ -156,7 +156,7 @@ impl Xdr for ReaddirplusOk {
     ) -> Result<(ReaddirplusOk, Reader<'a>), ValueFault> {
         let (dir_attributes, reader) = Option::<Attributes>::read_from(alloc, reader)?;
         let (verifier, reader) = Verifier::read_from(alloc, reader)?;
-        let (entries, reader) = Chain::<EntryPlus>::read_from(alloc, reader)?;
+        let (entries, reader) = LinkedList::<EntryPlus>::read_from(alloc, reader)?;
         let (eof, reader) = bool::read_from(alloc, reader)?;
         Ok((
             ReaddirplusOk {
@@ -179,4 +179,4 @@ impl Xdr for ReaddirplusOk {
 }
 
 /// The results of READDIRPLUS (RFC 1813 section 3.3.17).
-pub type ReaddirplusRes = Outcome<ReaddirplusOk, Option<Attributes>>;
+pub type ReaddirplusRes = StatusUnion<ReaddirplusOk, Option<Attributes>>;

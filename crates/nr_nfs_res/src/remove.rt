@@ -2,15 +2,15 @@
 
 ghost use Rattle.nr_nfs_res.specs.Remove.{link_wcc_codec, link_wcc_lawful, rename_wcc_codec, rename_wcc_lawful};
 
-use nr_nfs_base::{Attributes, Outcome, ValueFault, WccData, Xdr};
+use nr_nfs_base::{Attributes, StatusUnion, ValueFault, WccData, Xdr};
 use nr_xdr::{Memory, Reader, Writer};
 use std::alloc::Global;
 
 /// The results of RMDIR (RFC 1813 section 3.3.13).
-pub type RmdirRes = Outcome<WccData, WccData>;
+pub type RmdirRes = StatusUnion<WccData, WccData>;
 
 /// The results of REMOVE (RFC 1813 section 3.3.12).
-pub type RemoveRes = Outcome<WccData, WccData>;
+pub type RemoveRes = StatusUnion<WccData, WccData>;
 
 /// The directories of RENAME before and after it (RFC 1813 section 3.3.14).
 #[derive(Clone, Copy, Debug, PartialEq, Eq)]
@@ -42,7 +42,7 @@ impl Xdr for RenameWcc {
 }
 
 /// The results of RENAME (RFC 1813 section 3.3.14).
-pub type RenameRes = Outcome<RenameWcc, RenameWcc>;
+pub type RenameRes = StatusUnion<RenameWcc, RenameWcc>;
 
 /// The file and the directory of LINK (RFC 1813 section 3.3.15).
 #[derive(Clone, Copy, Debug, PartialEq, Eq)]
@@ -81,4 +81,4 @@ impl Xdr for LinkWcc {
 }
 
 /// The results of LINK (RFC 1813 section 3.3.15).
-pub type LinkRes = Outcome<LinkWcc, LinkWcc>;
+pub type LinkRes = StatusUnion<LinkWcc, LinkWcc>;

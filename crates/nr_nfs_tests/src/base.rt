@@ -32,7 +32,7 @@ enum Type {
     Path,
     Data,
     MountPath,
-    Chain,
+    LinkedList,
     Array,
 }
 
@@ -48,8 +48,8 @@ fn again_as(kind: Type, alloc: Global, bytes: &[u8]) -> Result<Octets, ValueFaul
         Type::FileType => again::<FileType>(alloc, bytes),
         Type::StableHow => again::<StableHow>(alloc, bytes),
         Type::TimeHow => again::<TimeHow>(alloc, bytes),
-        Type::Answer => again::<Outcome<u32, ()>>(alloc, bytes),
-        Type::MountAnswer => again::<Outcome<(), u32, MountStatus>>(alloc, bytes),
+        Type::Answer => again::<StatusUnion<u32, ()>>(alloc, bytes),
+        Type::MountAnswer => again::<StatusUnion<(), u32, MountStatus>>(alloc, bytes),
         Type::SpecialData => again::<SpecialData>(alloc, bytes),
         Type::Attributes => again::<Attributes>(alloc, bytes),
         Type::PostOpAttributes => again::<Option<Attributes>>(alloc, bytes),
@@ -63,7 +63,7 @@ fn again_as(kind: Type, alloc: Global, bytes: &[u8]) -> Result<Octets, ValueFaul
         Type::Path => again::<Path>(alloc, bytes),
         Type::Data => again::<Data>(alloc, bytes),
         Type::MountPath => again::<MountPath>(alloc, bytes),
-        Type::Chain => again::<Chain<u32>>(alloc, bytes),
+        Type::LinkedList => again::<LinkedList<u32>>(alloc, bytes),
         Type::Array => again::<Array<u32>>(alloc, bytes),
     }
 }
@@ -177,10 +177,10 @@ static TABLE: [Row; 76] = [
     Row(Type::MountPath, &[1025], Bad(0)),
     Row(Type::MountPath, &[1025; 258], Bad(0)),
     // RFC 4506 section 4.19
-    Row(Type::Chain, &[0], Same),
-    Row(Type::Chain, &[1, 7, 0], Same),
-    Row(Type::Chain, &[1, 7, 1, 8, 1, 9, 0], Same),
-    Row(Type::Chain, &[1, 7], Bad(8)),
+    Row(Type::LinkedList, &[0], Same),
+    Row(Type::LinkedList, &[1, 7, 0], Same),
+    Row(Type::LinkedList, &[1, 7, 1, 8, 1, 9, 0], Same),
+    Row(Type::LinkedList, &[1, 7], Bad(8)),
     // RFC 4506 section 4.13
     Row(Type::Array, &[0], Same),
     Row(Type::Array, &[1, 7], Same),
@@ -209,9 +209,9 @@ fn values_are_made_and_taken_apart(rt: HostRuntime) -> Result<(), Fail> {
     let name = Name::new(octets);
     assert_eq!(rt; name.as_slice().len(), 5);
 
-    let none = Chain::<u32>::new(rt.alloc());
+    let none = LinkedList::<u32>::new(rt.alloc());
     assert!(rt; none.as_slice().is_empty());
-    let values = Chain::from_vec(vec![in rt.alloc(); 7u32, 8]?);
+    let values = LinkedList::from_vec(vec![in rt.alloc(); 7u32, 8]?);
     assert_eq!(rt; values.as_slice(), [7, 8].as_slice());
     assert_eq!(rt; values.into_vec().len(), 2);
 

@@ -5,7 +5,7 @@ use Rattle.std.proofs.lemmas.Bool.{cases_eq}
 use Rattle.std.proofs.lemmas.List.Elements.{All-head, All-tail}
 use Rattle.nr_regions.specs.declared.denied.Denied.{Denied}
 use Rattle.nr_regions.specs.declared.denied.Denied.TheVariants.{NoStag}
-use Rattle.nr_regions.specs.Memory.{lack_in, written}
+use Rattle.nr_regions.specs.RegisteredMemory.{lack_in, written}
 use Rattle.nr_regions.specs.Access.{Grant, stands, grant_at, offered, lacking, Reach, access_of, after_reach, contents}
 use Rattle.nr_regions.specs.Past.{Event, reaches}
 use Rattle.nr_regions.specs.Past.Event.{Register, Release, Arrive}

@@ -10,7 +10,7 @@ use Rattle.nr_regions.specs.declared.right.Kind.{Kind}
 use Rattle.nr_regions.specs.declared.region.Region.{Region}
 use Rattle.nr_regions.specs.declared.denied.Denied.{Denied}
 use Rattle.nr_regions.specs.declared.denied.Denied.TheVariants.{Bounds, Right as WrongRight}
-use Rattle.nr_regions.specs.Memory.{Memory, Claim, IsHeld, held_at, live_at, right_for, same_right, lack_in, offer, lack, written, placed, placed_in, registered, released, claim_of, denial}
+use Rattle.nr_regions.specs.RegisteredMemory.{RegisteredMemory, Claim, IsHeld, held_at, live_at, right_for, same_right, lack_in, offer, lack, written, placed, placed_in, registered, released, claim_of, denial}
 use Rattle.nr_regions.specs.Access.{Reach, access_of}
 use Rattle.nr_regions.specs.Past.{Event, arrived_by, happened, Spares}
 use Rattle.nr_regions.specs.Past.Event.{Register, Release, Arrive}
@@ -47,63 +47,63 @@ within_by false same e = refl
 pub within : (right : Right) (buf : List ℕ) (r : Reach) → lack_in (Some (right, length buf)) (access_of r) ≡ None → r.to + length r.payload ≤ length buf
 within right buf r e = ltb-false _ _ (within_by (ltb (length buf) (r.to + length r.payload)) (same_right right (right_for r.kind)) e)
 
-pub live-held : (m : Memory) (stag : ℕ) → live_at m stag ≡ held_at m stag
+pub live-held : (m : RegisteredMemory) (stag : ℕ) → live_at m stag ≡ held_at m stag
 unfolding live_at
 live-held m stag = refl
 
-pub register_here : (m : Memory) (right : Right) (buf : List ℕ) → held_at (registered m right buf) m.next ≡ Some (record { right = right; buf = buf })
+pub register_here : (m : RegisteredMemory) (right : Right) (buf : List ℕ) → held_at (registered m right buf) m.next ≡ Some (record { right = right; buf = buf })
 unfolding held_at registered
 register_here m right buf = get-insert_here m.held m.next (record { right = right; buf = buf })
 
-pub register_other : (m : Memory) (right : Right) (buf : List ℕ) (stag : ℕ) → stag ≢ m.next → held_at (registered m right buf) stag ≡ held_at m stag
+pub register_other : (m : RegisteredMemory) (right : Right) (buf : List ℕ) (stag : ℕ) → stag ≢ m.next → held_at (registered m right buf) stag ≡ held_at m stag
 unfolding held_at registered
 register_other m right buf stag ne = get-insert_other m.held m.next (record { right = right; buf = buf }) stag ne
 
-pub release_here : (m : Memory) (stag : ℕ) → held_at (released m stag) stag ≡ None
+pub release_here : (m : RegisteredMemory) (stag : ℕ) → held_at (released m stag) stag ≡ None
 unfolding held_at released
 release_here m stag = get-remove_here m.held stag
 
-pub release_other : (m : Memory) (other stag : ℕ) → stag ≢ other → held_at (released m other) stag ≡ held_at m stag
+pub release_other : (m : RegisteredMemory) (other stag : ℕ) → stag ≢ other → held_at (released m other) stag ≡ held_at m stag
 unfolding held_at released
 release_other m other stag ne = get-remove_other m.held other stag ne
 
-pub place_here : (m : Memory) (stag to : ℕ) (bytes : List ℕ) (region : Region) → held_at m stag ≡ Some region → held_at (placed m stag to bytes) stag ≡ Some (record { right = region.right; buf = written region.buf to bytes })
+pub place_here : (m : RegisteredMemory) (stag to : ℕ) (bytes : List ℕ) (region : Region) → held_at m stag ≡ Some region → held_at (placed m stag to bytes) stag ≡ Some (record { right = region.right; buf = written region.buf to bytes })
 unfolding placed live_at held_at
 place_here m stag to bytes region e =
     ap (λ (o : Option Region). get (placed_in o m stag to bytes).held stag) e
     ∙ get-insert_here m.held stag (record { right = region.right; buf = written region.buf to bytes })
 
-place_other_by : (m : Memory) (other to : ℕ) (bytes : List ℕ) (stag : ℕ) (o : Option Region) → stag ≢ other → get (placed_in o m other to bytes).held stag ≡ get m.held stag
+place_other_by : (m : RegisteredMemory) (other to : ℕ) (bytes : List ℕ) (stag : ℕ) (o : Option Region) → stag ≢ other → get (placed_in o m other to bytes).held stag ≡ get m.held stag
 place_other_by m other to bytes stag None ne = refl
 place_other_by m other to bytes stag (Some region) ne =
     get-insert_other m.held other (record { right = region.right; buf = written region.buf to bytes }) stag ne
 
-pub place_other : (m : Memory) (other to : ℕ) (bytes : List ℕ) (stag : ℕ) → stag ≢ other → held_at (placed m other to bytes) stag ≡ held_at m stag
+pub place_other : (m : RegisteredMemory) (other to : ℕ) (bytes : List ℕ) (stag : ℕ) → stag ≢ other → held_at (placed m other to bytes) stag ≡ held_at m stag
 unfolding placed live_at held_at
 place_other m other to bytes stag ne = place_other_by m other to bytes stag (get m.held other) ne
 
-next_by : (m : Memory) (stag to : ℕ) (bytes : List ℕ) (o : Option Region) → (placed_in o m stag to bytes).next ≡ m.next
+next_by : (m : RegisteredMemory) (stag to : ℕ) (bytes : List ℕ) (o : Option Region) → (placed_in o m stag to bytes).next ≡ m.next
 next_by m stag to bytes None = refl
 next_by m stag to bytes (Some region) = refl
 
-pub next-placed : (m : Memory) (stag to : ℕ) (bytes : List ℕ) → (placed m stag to bytes).next ≡ m.next
+pub next-placed : (m : RegisteredMemory) (stag to : ℕ) (bytes : List ℕ) → (placed m stag to bytes).next ≡ m.next
 unfolding placed
 next-placed m stag to bytes = next_by m stag to bytes (live_at m stag)
 
 -- a tagged segment for another region
-arrive_other_by : (m : Memory) (r : Reach) (stag : ℕ) (d : Option Denied) → stag ≢ r.stag → held_at (arrived_by d m r) stag ≡ held_at m stag
+arrive_other_by : (m : RegisteredMemory) (r : Reach) (stag : ℕ) (d : Option Denied) → stag ≢ r.stag → held_at (arrived_by d m r) stag ≡ held_at m stag
 arrive_other_by m r stag None ne = place_other m r.stag r.to r.payload stag ne
 arrive_other_by m r stag (Some denied) ne = refl
 
-pub arrive_other : (m : Memory) (r : Reach) (stag : ℕ) → stag ≢ r.stag → held_at (happened m (Arrive r)) stag ≡ held_at m stag
+pub arrive_other : (m : RegisteredMemory) (r : Reach) (stag : ℕ) → stag ≢ r.stag → held_at (happened m (Arrive r)) stag ≡ held_at m stag
 unfolding happened
 arrive_other m r stag ne = arrive_other_by m r stag (lack m (access_of r)) ne
 
-next_arrived : (m : Memory) (r : Reach) (d : Option Denied) → (arrived_by d m r).next ≡ m.next
+next_arrived : (m : RegisteredMemory) (r : Reach) (d : Option Denied) → (arrived_by d m r).next ≡ m.next
 next_arrived m r None = next-placed m r.stag r.to r.payload
 next_arrived m r (Some denied) = refl
 
-pub next-arrive : (m : Memory) (r : Reach) → (happened m (Arrive r)).next ≡ m.next
+pub next-arrive : (m : RegisteredMemory) (r : Reach) → (happened m (Arrive r)).next ≡ m.next
 unfolding happened
 next-arrive m r = next_arrived m r (lack m (access_of r))
 
@@ -112,15 +112,15 @@ abbrev pub buf_after : Option Denied → List ℕ → Reach → List ℕ
 buf_after None buf r = written buf r.to r.payload
 buf_after (Some denied) buf r = buf
 
-arrive_here_by : (m : Memory) (r : Reach) (right : Right) (buf : List ℕ) (d : Option Denied) → held_at m r.stag ≡ Some (record { right = right; buf = buf }) → held_at (arrived_by d m r) r.stag ≡ Some (record { right = right; buf = buf_after d buf r })
+arrive_here_by : (m : RegisteredMemory) (r : Reach) (right : Right) (buf : List ℕ) (d : Option Denied) → held_at m r.stag ≡ Some (record { right = right; buf = buf }) → held_at (arrived_by d m r) r.stag ≡ Some (record { right = right; buf = buf_after d buf r })
 arrive_here_by m r right buf None e = place_here m r.stag r.to r.payload (record { right = right; buf = buf }) e
 arrive_here_by m r right buf (Some denied) e = e
 
-lack-region : (m : Memory) (r : Reach) (right : Right) (buf : List ℕ) → held_at m r.stag ≡ Some (record { right = right; buf = buf }) → lack m (access_of r) ≡ lack_in (Some (right, length buf)) (access_of r)
+lack-region : (m : RegisteredMemory) (r : Reach) (right : Right) (buf : List ℕ) → held_at m r.stag ≡ Some (record { right = right; buf = buf }) → lack m (access_of r) ≡ lack_in (Some (right, length buf)) (access_of r)
 unfolding lack live_at
 lack-region m r right buf e = ap (λ (o : Option Region). lack_in (offer o) (access_of r)) e
 
-pub arrive_here : (m : Memory) (r : Reach) (right : Right) (buf : List ℕ) → held_at m r.stag ≡ Some (record { right = right; buf = buf })
+pub arrive_here : (m : RegisteredMemory) (r : Reach) (right : Right) (buf : List ℕ) → held_at m r.stag ≡ Some (record { right = right; buf = buf })
     → held_at (happened m (Arrive r)) r.stag ≡ Some (record { right = right; buf = buf_after (lack_in (Some (right, length buf)) (access_of r)) buf r })
 unfolding happened
 arrive_here m r right buf e =
@@ -135,15 +135,15 @@ pub length-buf_after : (right : Right) (buf : List ℕ) (r : Reach) → length (
 length-buf_after right buf r = length_after_by (lack_in (Some (right, length buf)) (access_of r)) right buf r refl
 
 -- a region is held from its registration on
-pub held-registered : (m : Memory) (right : Right) (buf : List ℕ) → IsHeld (registered m right buf) (claim_of m buf)
+pub held-registered : (m : RegisteredMemory) (right : Right) (buf : List ℕ) → IsHeld (registered m right buf) (claim_of m buf)
 unfolding registered
 held-registered m right buf = record { region = record { right = right; buf = buf }; there = register_here m right buf; len = refl; given = omega arith }
 
 -- a claim on what is held in m is one on what is held in n, where n has the region's length and gave its STag
-still : (m n : Memory) (claim : Claim) (h : IsHeld m claim) (region : Region) → held_at n claim.stag ≡ Some region → length region.buf ≡ claim.len → m.next ≤ n.next → IsHeld n claim
+still : (m n : RegisteredMemory) (claim : Claim) (h : IsHeld m claim) (region : Region) → held_at n claim.stag ≡ Some region → length region.buf ≡ claim.len → m.next ≤ n.next → IsHeld n claim
 still m n claim h region there len le = record { region = region; there = there; len = len; given = omega (arith, h.given) }
 
-arrive_still : (m : Memory) (claim : Claim) (r : Reach) → IsHeld m claim → r.stag ≡ claim.stag → IsHeld (happened m (Arrive r)) claim
+arrive_still : (m : RegisteredMemory) (claim : Claim) (r : Reach) → IsHeld m claim → r.stag ≡ claim.stag → IsHeld (happened m (Arrive r)) claim
 arrive_still m claim r h e =
     let right = h.region.right in
     let buf = h.region.buf in
@@ -154,7 +154,7 @@ arrive_still m claim r h e =
     (length-buf_after right buf r ∙ h.len) (omega (arith, next-arrive m r))
 
 -- and stays held until it is released
-pub held-happened : (m : Memory) (claim : Claim) (event : Event) → IsHeld m claim → Spares claim.stag event → IsHeld (happened m event) claim
+pub held-happened : (m : RegisteredMemory) (claim : Claim) (event : Event) → IsHeld m claim → Spares claim.stag event → IsHeld (happened m event) claim
 unfolding happened registered released
 held-happened m claim (Register right buf) h s =
     still m (registered m right buf) claim h h.region (register_other m right buf claim.stag (λ e. omega (arith, h.given, e)) ∙ h.there) h.len (omega arith)
@@ -167,30 +167,30 @@ held-happened m claim (Arrive r) h s =
     ]
 
 -- what each call leaves of a claim
-pub held-placed : (m : Memory) (claim : Claim) (kind : Kind) (stag to : ℕ) (bytes : List ℕ) → lack m (record { right = right_for kind; stag = stag; to = to; len = length bytes }) ≡ None
+pub held-placed : (m : RegisteredMemory) (claim : Claim) (kind : Kind) (stag to : ℕ) (bytes : List ℕ) → lack m (record { right = right_for kind; stag = stag; to = to; len = length bytes }) ≡ None
     → IsHeld m claim → IsHeld (placed m stag to bytes) claim
 unfolding happened
 held-placed m claim kind stag to bytes e h =
     let r : Reach = record { kind = kind; stag = stag; to = to; payload = bytes; end = 0 } in
     let is : happened m (Arrive r) ≡ placed m stag to bytes = ap (λ (d : Option Denied). arrived_by d m r) e in
-    subst (λ (n : Memory). IsHeld n claim) is (held-happened m claim (Arrive r) h tt)
+    subst (λ (n : RegisteredMemory). IsHeld n claim) is (held-happened m claim (Arrive r) h tt)
 
-pub keeps-place : (r : Result Unit Denied) (m n : Memory) (kind : Kind) (stag to : ℕ) (bytes : List ℕ) → denial r ≡ lack m (record { right = right_for kind; stag = stag; to = to; len = length bytes })
+pub keeps-place : (r : Result Unit Denied) (m n : RegisteredMemory) (kind : Kind) (stag to : ℕ) (bytes : List ℕ) → denial r ≡ lack m (record { right = right_for kind; stag = stag; to = to; len = length bytes })
     → OnOk r (n ≡ placed m stag to bytes) → OnErr r (n ≡ m) → (claim : Claim) → IsHeld m claim → IsHeld n claim
-keeps-place (Ok x) m n kind stag to bytes e ok err claim h = subst (λ (k : Memory). IsHeld k claim) (sym ok) (held-placed m claim kind stag to bytes (sym e) h)
-keeps-place (Err denied) m n kind stag to bytes e ok err claim h = subst (λ (k : Memory). IsHeld k claim) (sym err) h
+keeps-place (Ok x) m n kind stag to bytes e ok err claim h = subst (λ (k : RegisteredMemory). IsHeld k claim) (sym ok) (held-placed m claim kind stag to bytes (sym e) h)
+keeps-place (Err denied) m n kind stag to bytes e ok err claim h = subst (λ (k : RegisteredMemory). IsHeld k claim) (sym err) h
 
-pub held-register : {E : Type 0} (r : Result Claim E) (m n : Memory) (right : Right) (buf : List ℕ) → IfOk r (λ claim. (claim ≡ claim_of m buf) × (n ≡ registered m right buf)) → IfOk r (λ claim. IsHeld n claim)
+pub held-register : {E : Type 0} (r : Result Claim E) (m n : RegisteredMemory) (right : Right) (buf : List ℕ) → IfOk r (λ claim. (claim ≡ claim_of m buf) × (n ≡ registered m right buf)) → IfOk r (λ claim. IsHeld n claim)
 held-register (Ok claim) m n right buf ok =
-    subst (λ (k : Memory). IsHeld k claim) (sym ok.1) (subst (λ (c : Claim). IsHeld (registered m right buf) c) (sym ok.0) (held-registered m right buf))
+    subst (λ (k : RegisteredMemory). IsHeld k claim) (sym ok.1) (subst (λ (c : Claim). IsHeld (registered m right buf) c) (sym ok.0) (held-registered m right buf))
 held-register (Err e) m n right buf ok = tt
 
-pub keeps-register : {E : Type 0} (r : Result Claim E) (m n : Memory) (right : Right) (buf : List ℕ) → IfOk r (λ claim. (claim ≡ claim_of m buf) × (n ≡ registered m right buf)) → OnErr r (n ≡ m)
+pub keeps-register : {E : Type 0} (r : Result Claim E) (m n : RegisteredMemory) (right : Right) (buf : List ℕ) → IfOk r (λ claim. (claim ≡ claim_of m buf) × (n ≡ registered m right buf)) → OnErr r (n ≡ m)
     → (claim : Claim) → IsHeld m claim → IsHeld n claim
 unfolding happened
-keeps-register (Ok _) m n right buf ok err claim h = subst (λ (k : Memory). IsHeld k claim) (sym ok.1) (held-happened m claim (Register right buf) h tt)
-keeps-register (Err _) m n right buf ok err claim h = subst (λ (k : Memory). IsHeld k claim) (sym err) h
+keeps-register (Ok _) m n right buf ok err claim h = subst (λ (k : RegisteredMemory). IsHeld k claim) (sym ok.1) (held-happened m claim (Register right buf) h tt)
+keeps-register (Err _) m n right buf ok err claim h = subst (λ (k : RegisteredMemory). IsHeld k claim) (sym err) h
 
-pub keeps-release : (m : Memory) (stag : ℕ) (claim : Claim) → claim.stag ≢ stag → IsHeld m claim → IsHeld (released m stag) claim
+pub keeps-release : (m : RegisteredMemory) (stag : ℕ) (claim : Claim) → claim.stag ≢ stag → IsHeld m claim → IsHeld (released m stag) claim
 unfolding happened
 keeps-release m stag claim ne h = held-happened m claim (Release stag) h (λ e. ne (sym e))

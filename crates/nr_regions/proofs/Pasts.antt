@@ -6,14 +6,14 @@ use Rattle.nr_regions.specs.declared.right.Right.{Right}
 use Rattle.nr_regions.specs.declared.right.Right.TheVariants.{Fetch, Fill, Sink}
 use Rattle.nr_regions.specs.declared.denied.Denied.{Denied}
 use Rattle.nr_regions.specs.declared.denied.Denied.TheVariants.{NoStag, Bounds, Right as WrongRight}
-use Rattle.nr_regions.specs.Memory.{Memory, Access, held_at, live_at, same_right, lack_in, offer, lack, registered, released, written}
+use Rattle.nr_regions.specs.RegisteredMemory.{RegisteredMemory, Access, held_at, live_at, same_right, lack_in, offer, lack, registered, released, written}
 use Rattle.nr_regions.specs.Access.{Grant, stands, grant_at, offered, lacking, Allowed, IsApart, HaveOwnStags, Reach, access_of, after_reach, contents}
 use Rattle.nr_regions.specs.Past.{Event, happened, run, reaches, IsGranted, StaysOpen}
 use Rattle.nr_regions.specs.Past.Event.{Register, Release, Arrive}
 use Rattle.nr_regions.proofs.Holding.{register_other, release_other, arrive_other, arrive_here, next-arrive, buf_after, length-buf_after}
 
 -- memory denies what the grants do, where both offer the same
-pub lack-lacking : (grants : List Grant) (m : Memory) (access : Access) (end : ℕ) → offer (live_at m access.stag) ≡ offered (grant_at grants access.stag end) → lack m access ≡ lacking grants access end
+pub lack-lacking : (grants : List Grant) (m : RegisteredMemory) (access : Access) (end : ℕ) → offer (live_at m access.stag) ≡ offered (grant_at grants access.stag end) → lack m access ≡ lacking grants access end
 unfolding lack lacking
 lack-lacking grants m access end e = ap (λ (o : Option (Right × ℕ)). lack_in o access) e
 
@@ -34,7 +34,7 @@ after_here grants stag right buf r e granted =
 pub after_other : (grants : List Grant) (stag : ℕ) (buf : List ℕ) (r : Reach) → (r.stag ≡ stag → ⊥) → after_reach grants stag buf r ≡ buf
 after_other grants stag buf r ne = ap (λ (b : Bool). cond (b && is_none (lacking grants (access_of r) r.end)) (written buf r.to r.payload) buf) (ne_eqb r.stag stag ne)
 
-arrived : (grants : List Grant) (stag : ℕ) (right : Right) (len : ℕ) (r : Reach) (m : Memory) (buf : List ℕ) → length buf ≡ len
+arrived : (grants : List Grant) (stag : ℕ) (right : Right) (len : ℕ) (r : Reach) (m : RegisteredMemory) (buf : List ℕ) → length buf ≡ len
     → held_at m stag ≡ Some (record { right = right; buf = buf }) → IsGranted grants stag right len (Arrive r)
     → (held_at (happened m (Arrive r)) stag ≡ Some (record { right = right; buf = after_reach grants stag buf r })) × (length (after_reach grants stag buf r) ≡ len)
 arrived grants stag right len r m buf is there granted =
@@ -53,7 +53,7 @@ arrived grants stag right len r m buf is there granted =
           )
     ]
 
-pub past : (grants : List Grant) (stag : ℕ) (right : Right) (len : ℕ) (events : List Event) (m : Memory) (buf : List ℕ) → length buf ≡ len → stag < m.next
+pub past : (grants : List Grant) (stag : ℕ) (right : Right) (len : ℕ) (events : List Event) (m : RegisteredMemory) (buf : List ℕ) → length buf ≡ len → stag < m.next
     → held_at m stag ≡ Some (record { right = right; buf = buf }) → StaysOpen grants stag right len events
     → held_at (run m events) stag ≡ Some (record { right = right; buf = contents grants stag buf (reaches events) })
 unfolding happened registered released
@@ -67,13 +67,13 @@ past grants stag right len (Arrive r ∷ events) m buf is given there open_ =
     past grants stag right len events (happened m (Arrive r)) (after_reach grants stag buf r) next.1 (omega (arith, next-arrive m r)) next.0 open_.2
 
 -- STags only rise
-pub next-happened : (m : Memory) (event : Event) → m.next ≤ (happened m event).next
+pub next-happened : (m : RegisteredMemory) (event : Event) → m.next ≤ (happened m event).next
 unfolding happened registered released
 next-happened m (Register right buf) = omega arith
 next-happened m (Release stag) = omega arith
 next-happened m (Arrive r) = omega (arith, next-arrive m r)
 
-pub next-run : (events : List Event) (m : Memory) → m.next ≤ (run m events).next
+pub next-run : (events : List Event) (m : RegisteredMemory) → m.next ≤ (run m events).next
 next-run [] m = omega arith
 next-run (event ∷ events) m = omega (arith, next-happened m event, next-run events (happened m event))
 

@@ -1,5 +1,5 @@
 -- The code's map changes as its finite map does.
-use Rattle.nr_regions.specs.Memory.{written}
+use Rattle.nr_regions.specs.RegisteredMemory.{written}
 use Rattle.std.proofs.Common.{◌≡◌, ℕ, cond, List, [], ◌∷◌, Option, None, Some, IfSome, refl, sym, ap, ◌∙◌, subst}
 use Rattle.std.specs.Ordering.{nat_cmp, is_eq, eq_by_cmp}
 use Rattle.std.specs.Cmp.{nat_cmp_total, eq_by_cmp_equiv}

@@ -3,7 +3,7 @@ use Rattle.std.specs.Prelude.{◌≡◌, ◌≢◌, ℕ, ◌+◌, ◌<◌, ◌�
 use Rattle.nr_regions.specs.declared.right.Right.{Right}
 use Rattle.nr_regions.specs.declared.right.Kind.{Kind}
 use Rattle.nr_regions.specs.declared.denied.Denied.{Denied}
-use Rattle.nr_regions.specs.Memory.{Access, right_for, lack_in, written}
+use Rattle.nr_regions.specs.RegisteredMemory.{Access, right_for, lack_in, written}
 
 -- A region offered to a peer under an STag, with a right and a length. It counts for the frames of the peer's stream that
 -- end behind `from` and not behind `until`.

@@ -6,7 +6,7 @@ use Rattle.std.specs.FinMap.{FinMap, code}
 use Rattle.nr_regions.specs.declared.right.Right.{Right}
 use Rattle.nr_regions.specs.declared.right.Right.TheVariants.{Fetch, Fill, Sink}
 use Rattle.nr_regions.specs.declared.region.Region.{Region}
-use Rattle.nr_regions.specs.Memory.{Memory, Claim}
+use Rattle.nr_regions.specs.RegisteredMemory.{RegisteredMemory, Claim}
 
 abbrev pub number_of : Right → ℕ
 number_of Fetch = 0
@@ -27,7 +27,7 @@ right_code = code_by ℕ coded_ℕ number_of right_of right_of-number_of
 abbrev pub region_code : Coded Region
 region_code = code_by (Right × List ℕ) (coded× right_code (coded_list coded_ℕ)) (λ r. (r.right, r.buf)) (λ p. record { right = p.0; buf = p.1 }) (λ _. refl)
 
-abbrev pub memory_code : Coded Memory
+abbrev pub memory_code : Coded RegisteredMemory
 memory_code = code_by (ℕ × FinMap nat_cmp Region) (coded× coded_ℕ (code coded_ℕ region_code)) (λ m. (m.next, m.held)) (λ p. record { next = p.0; held = p.1 }) (λ _. refl)
 
 abbrev pub claim_code : Coded Claim

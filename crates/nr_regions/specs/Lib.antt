@@ -1,5 +1,5 @@
 pub mod Code
-pub mod Memory
+pub mod RegisteredMemory
 pub mod Access
 pub mod Past
 pub mod Table

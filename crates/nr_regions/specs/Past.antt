@@ -2,7 +2,7 @@
 use Rattle.std.specs.Prelude.{◌≡◌, ◌≢◌, ℕ, ◌<◌, ◌≤◌, List, [], ◌∷◌, Option, None, Some, All}
 use Rattle.nr_regions.specs.declared.right.Right.{Right}
 use Rattle.nr_regions.specs.declared.denied.Denied.{Denied}
-use Rattle.nr_regions.specs.Memory.{Memory, lack, placed, registered, released}
+use Rattle.nr_regions.specs.RegisteredMemory.{RegisteredMemory, lack, placed, registered, released}
 use Rattle.nr_regions.specs.Access.{Grant, Reach, access_of, grant_at, offered}
 
 pub data Event : Type 0 where
@@ -11,16 +11,16 @@ pub data Event : Type 0 where
   Arrive : (reach : Reach) → Event
 
 -- a tagged segment that lacks nothing is placed, and any other changes nothing
-abbrev pub arrived_by : Option Denied → Memory → Reach → Memory
+abbrev pub arrived_by : Option Denied → RegisteredMemory → Reach → RegisteredMemory
 arrived_by None m r = placed m r.stag r.to r.payload
 arrived_by (Some denied) m r = m
 
-unfoldable pub happened : Memory → Event → Memory
+unfoldable pub happened : RegisteredMemory → Event → RegisteredMemory
 happened m (Register right buf) = registered m right buf
 happened m (Release stag) = released m stag
 happened m (Arrive r) = arrived_by (lack m (access_of r)) m r
 
-abbrev pub run : Memory → List Event → Memory
+abbrev pub run : RegisteredMemory → List Event → RegisteredMemory
 run m [] = m
 run m (event ∷ events) = run (happened m event) events
 

@@ -2,7 +2,7 @@
 
 ghost use Rattle.std.specs.Prelude.{◌≡◌, ◌+◌, ◌^◌, ◌<◌, ◌≤◌, ◌↔◌, Option, length, take, IfOk, IfErr, OnOk, OnErr, IsErrAnd, option_map, ◌≢◌};
 ghost use Rattle.std.specs.FinMap.{get};
-ghost use Rattle.nr_regions.specs.Memory.{Memory, IsHeld, bytes_in, claim_of, denial, held_at, lack, lack_in, offer, opened, placed, reached, registered, released, right_for, Claim};
+ghost use Rattle.nr_regions.specs.RegisteredMemory.{RegisteredMemory, IsHeld, bytes_in, claim_of, denial, held_at, lack, lack_in, offer, opened, placed, reached, registered, released, right_for, Claim};
 ghost use Rattle.nr_regions.specs.Table.{table};
 
 use crate::denied::{Denied, Why};
@@ -24,10 +24,10 @@ pub struct Regions {
 
 impl Model for Regions {
     ghost use Rattle.std.specs.Prelude.{◌^◌, ◌≤◌};
-    ghost use Rattle.nr_regions.specs.Memory.{Memory};
+    ghost use Rattle.nr_regions.specs.RegisteredMemory.{RegisteredMemory};
     ghost use Rattle.nr_regions.specs.Code.{memory_code};
 
-    ghost Value = { Memory };
+    ghost Value = { RegisteredMemory };
 
     ghost coded = { memory_code };
 
@@ -75,7 +75,7 @@ fn right_for(kind: Kind) -> Right
 
 impl Regions {
     /// No regions. The first one that is registered gets this STag, which isn't 0. Takes no memory.
-    #[tactic(auto, unfolding(crate::specs::Memory::opened))]
+    #[tactic(auto, unfolding(crate::specs::RegisteredMemory::opened))]
     pub fn new(alloc: Global, first_stag: u32) -> Regions
         requires { 0 < first_stag }
         ensures { result ≡ opened first_stag }
@@ -100,7 +100,7 @@ impl Regions {
         self.enter(buf, right)
     }
 
-    #[tactic(auto, unfolding(crate::specs::Memory::registered))]
+    #[tactic(auto, unfolding(crate::specs::RegisteredMemory::registered))]
     fn enter(&mut self, buf: Octets, right: Right) -> Result<Registration, (Octets, Why)>
         ensures ok { IfOk result (λ claim. (claim ≡ claim_of self.old buf) × (self.new ≡ registered self.old right buf)) }
         ensures spent { IsErrAnd result (λ e. e.1 ≡ Why.Spent) ↔ (self.old.next ≡ 2 ^ 32) }
@@ -136,7 +136,7 @@ impl Regions {
         self.leave(registration)
     }
 
-    #[tactic(auto, unfolding(crate::specs::Memory::released, crate::specs::Memory::held_at))]
+    #[tactic(auto, unfolding(crate::specs::RegisteredMemory::released, crate::specs::RegisteredMemory::held_at))]
     fn leave(&mut self, registration: Registration) -> Octets
         requires { IsHeld self.old registration }
         ensures bytes { result ≡ bytes_in (held_at self.old registration.stag) }
@@ -161,7 +161,7 @@ impl Regions {
         self.write_in(kind, stag, to, bytes)
     }
 
-    #[tactic(auto, unfolding(crate::specs::Memory::lack, crate::specs::Memory::live_at, crate::specs::Memory::held_at, crate::specs::Memory::placed))]
+    #[tactic(auto, unfolding(crate::specs::RegisteredMemory::lack, crate::specs::RegisteredMemory::live_at, crate::specs::RegisteredMemory::held_at, crate::specs::RegisteredMemory::placed))]
     fn write_in(&mut self, kind: Kind, stag: u32, to: u64, bytes: &[u8]) -> Result<(), Denied>
         ensures exact { denial result
             ≡ lack self.old (record { right = right_for kind; stag = stag; to = to; len = length bytes.now }) }
@@ -179,7 +179,7 @@ impl Regions {
 
     /// The bytes that a peer's Read Request asks for. An `Err` says what the access lacks, the first that stands. Takes no
     /// memory.
-    #[tactic(auto, unfolding(crate::specs::Memory::lack, crate::specs::Memory::live_at, crate::specs::Memory::held_at))]
+    #[tactic(auto, unfolding(crate::specs::RegisteredMemory::lack, crate::specs::RegisteredMemory::live_at, crate::specs::RegisteredMemory::held_at))]
     pub fn fetch(&self, stag: u32, to: u64, len: u64) -> Result<&[u8], Denied>
         ensures exact { denial result ≡ lack self.now (record { right = Right.Fetch; stag = stag; to = to; len = len }) }
         ensures ok { IfOk result (λ bytes. bytes.now

@@ -12,7 +12,7 @@ pub struct Registration {
 }
 
 impl Model for Registration {
-    ghost use Rattle.nr_regions.specs.Memory.{Claim};
+    ghost use Rattle.nr_regions.specs.RegisteredMemory.{Claim};
     ghost use Rattle.nr_regions.specs.Code.{claim_code};
 
     ghost Value = { Claim };

@@ -3,7 +3,7 @@
 ghost use Rattle.std.specs.Prelude.{◌≡◌, ◌+◌, ◌≤◌, length, IsSome, IfSome, OnOk, OnErr, IfErr, Some, None};
 ghost use Rattle.std.specs.FinMap.{get, insert, remove};
 ghost use Rattle.std.specs.Option.{option_copied};
-ghost use Rattle.nr_regions.specs.Memory.{written};
+ghost use Rattle.nr_regions.specs.RegisteredMemory.{written};
 ghost use Rattle.nr_regions.specs.Table.{table};
 
 use crate::region::Region;

@@ -4,19 +4,19 @@ use Rattle.std.specs.Prelude.{IfOk}
 use Rattle.std.proofs.lemmas.Bool.{eqb-true, eqb-false, ne_eqb}
 use Rattle.nr_xdr.specs.Item.{Item, IsBytes}
 use Rattle.nr_xdr.specs.Item.Item.{Unsigned}
-use Rattle.nr_xdr.specs.Items.{spellings}
+use Rattle.nr_xdr.specs.Items.{encodings}
 use Rattle.nr_xdr.specs.Reading.{Cursor, Takes}
-use Rattle.nr_xdr.proofs.Chains.{TakesEach, standing, each_takes, each_between, spellings_read, IsBytes-behind, IsBytes-opaque}
-use Rattle.nr_rpc.specs.Numbers.{AUTH_BODY_MAX, RPC_VERSION, CALL}
+use Rattle.nr_xdr.proofs.Chains.{TakesEach, standing, each_takes, each_between, encodings_read, IsBytes-behind, IsBytes-opaque}
+use Rattle.nr_rpc.specs.Constants.{AUTH_BODY_MAX, RPC_VERSION, CALL}
 use Rattle.nr_rpc.specs.declared.fault.HeadFault.{HeadFault}
 use Rattle.nr_rpc.specs.declared.cred.Cred.{Cred}
 use Rattle.nr_rpc.specs.declared.head.CallHead.{CallHead}
 use Rattle.nr_rpc.specs.declared.head.CallHead.TheVariants as calls
 use Rattle.nr_rpc.specs.Credential.{Auth, auth_items, auth_of, no_verifier, ReadsCred}
-use Rattle.nr_rpc.specs.Call.{version2_items, other_items, ReadsCall, BeginsCall, CanWriteCall, CallFits, call_spelling, call_again}
+use Rattle.nr_rpc.specs.Call.{version2_items, other_items, ReadsCall, BeginsCall, CanWriteCall, CallFits, call_encoding, call_again}
 use Rattle.nr_rpc.specs.Reading.{cred_of, version2_at, call_at, head_of, call_of, GivesCall}
-use Rattle.nr_xdr.proofs.Steps.{chosen, done, ok_is, number_step, number_again}
-use Rattle.nr_rpc.proofs.Steps.{this_step, this_again, auth_step, auth_again, TakesAuth}
+use Rattle.nr_xdr.proofs.SequencingSteps.{chosen, done, ok_is, number_step, number_again}
+use Rattle.nr_rpc.proofs.HeadSteps.{expect_step, expect_again, auth_step, auth_again, TakesAuth}
 use Rattle.nr_rpc.proofs.Credentials.{cred_takes, cred_again, cred_written, auth_of-fits}
 
 -- a call head that was read
@@ -65,7 +65,7 @@ pub call_take : (c : Cursor) (x : CallHead × Cursor) → IsBytes c.rest → cal
 unfolding call_at
 call_take c x fits e =
     let xid = number_step c _ x fits e in
-    let kind = this_step CALL xid.0.1 _ x xid.2 xid.3 in
+    let kind = expect_step CALL xid.0.1 _ x xid.2 xid.3 in
     let vers = number_step kind.0 _ x kind.2 kind.3 in
     let other : CallHead × Cursor = (calls.Other xid.0.0 vers.0.0, vers.0.1) in
     elim (chosen (eqb vers.0.0 RPC_VERSION) (version2_at xid.0.0 vers.0.1) (Ok other) (Ok x) vers.3) [
@@ -94,7 +94,7 @@ pub version2_found : (xid prog vers proc : ℕ) (auth verifier : Auth) (c after 
     → call_at c ≡ Ok (calls.Version2 xid prog vers proc (cred_of auth) after.place, after)
 unfolding call_at
 version2_found xid prog vers proc auth verifier c after (d, at_xid, (f, at_kind, (g, at_version, others))) auth_within verifier_within =
-    rw (number_again c xid d at_xid, this_again CALL d f at_kind, number_again f RPC_VERSION g at_version)
+    rw (number_again c xid d at_xid, expect_again CALL d f at_kind, number_again f RPC_VERSION g at_version)
     (version2_again xid prog vers proc auth verifier g after others auth_within verifier_within)
 
 pub call_found : (head : CallHead) (c after : Cursor) → TakesCall head c after → call_at c ≡ Ok (head, after)
@@ -105,7 +105,7 @@ call_found (calls.Version2 xid prog vers proc cred args_at) c after (auth, verif
     ∙ ap (λ (k : Cred). Ok (calls.Version2 xid prog vers proc k after.place, after)) is
     ∙ ap (λ (p : ℕ). Ok (calls.Version2 xid prog vers proc cred p, after)) (sym at)
 call_found (calls.Other xid rpcvers) c after (apart, (d, at_xid, (f, at_kind, (g, at_version, last)))) =
-    rw (number_again c xid d at_xid, this_again CALL d f at_kind, number_again f rpcvers g at_version, ne_eqb rpcvers RPC_VERSION apart)
+    rw (number_again c xid d at_xid, expect_again CALL d f at_kind, number_again f rpcvers g at_version, ne_eqb rpcvers RPC_VERSION apart)
     (ap (λ (m : Cursor). Ok (calls.Other xid rpcvers, m)) last)
 
 -- what was read, and the cursor behind it
@@ -184,20 +184,20 @@ call_is_found bytes (Ok head) fits given = call_begins bytes head fits given
 call_is_found bytes (Err fault) fits given = tt
 
 -- what is written of a head is read again
-pub call_written : (head : CallHead) (args : List ℕ) → CanWriteCall head → CallFits head → call_of (call_spelling head args) ≡ Ok (call_again head)
+pub call_written : (head : CallHead) (args : List ℕ) → CanWriteCall head → CallFits head → call_of (call_encoding head args) ≡ Ok (call_again head)
 unfolding call_of
 call_written (calls.Version2 xid prog vers proc cred args_at) args can fits =
     let auth = auth_of cred in
     let items = version2_items xid prog vers proc auth no_verifier in
-    let bytes = spellings items ++ args in
+    let bytes = encodings items ++ args in
     let auth_fits = auth_of-fits cred can fits.4 in
-    let each = each_takes items (spellings items) args (standing 0 bytes) (spellings_read items (fits.0, (omega arith, (omega arith, (fits.1, (fits.2, (fits.3, (auth_fits.0, (omega arith, (omega arith, (omega arith, tt))))))))))) refl in
-    let place : 0 + length (spellings items) ≡ length (spellings items) = omega arith in
-    ap head_of (version2_found xid prog vers proc auth no_verifier (standing 0 bytes) (standing (0 + length (spellings items)) args) each auth_fits.1 (omega arith))
-    ∙ ap (λ (k : Cred). Ok (calls.Version2 xid prog vers proc k (0 + length (spellings items)))) (cred_written cred can fits.4)
+    let each = each_takes items (encodings items) args (standing 0 bytes) (encodings_read items (fits.0, (omega arith, (omega arith, (fits.1, (fits.2, (fits.3, (auth_fits.0, (omega arith, (omega arith, (omega arith, tt))))))))))) refl in
+    let place : 0 + length (encodings items) ≡ length (encodings items) = omega arith in
+    ap head_of (version2_found xid prog vers proc auth no_verifier (standing 0 bytes) (standing (0 + length (encodings items)) args) each auth_fits.1 (omega arith))
+    ∙ ap (λ (k : Cred). Ok (calls.Version2 xid prog vers proc k (0 + length (encodings items)))) (cred_written cred can fits.4)
     ∙ ap (λ (p : ℕ). Ok (calls.Version2 xid prog vers proc cred p)) place
 call_written (calls.Other xid rpcvers) args can fits =
     let items = other_items xid rpcvers in
-    let bytes = spellings items ++ args in
-    let each = each_takes items (spellings items) args (standing 0 bytes) (spellings_read items (fits.0, (omega arith, (fits.1, tt)))) refl in
-    ap head_of (call_found (calls.Other xid rpcvers) (standing 0 bytes) (standing (0 + length (spellings items)) args) (can, each))
+    let bytes = encodings items ++ args in
+    let each = each_takes items (encodings items) args (standing 0 bytes) (encodings_read items (fits.0, (omega arith, (fits.1, tt)))) refl in
+    ap head_of (call_found (calls.Other xid rpcvers) (standing 0 bytes) (standing (0 + length (encodings items)) args) (can, each))

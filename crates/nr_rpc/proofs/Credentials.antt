@@ -1,21 +1,21 @@
--- A credential is read exactly where it is spelled.
+-- A credential is read exactly where it is encoded.
 use Rattle.std.proofs.Common.{◌≡◌, ◌≢◌, ℕ, ◌+◌, ◌*◌, ◌^◌, ◌<◌, ◌≤◌, false, cond, eqb, ltb, List, [], ◌∷◌, ◌++◌, length, map, replicate, Option, Some, None, Result, Ok, Err, refl, sym, ap, subst, ◌∙◌, arith, inl, inr, ◌⊎◌}
 use Rattle.std.specs.Prelude.{unwrap_or}
 use Rattle.std.proofs.lemmas.Bool.{ltb-false, le-ltb, eqb-true, eqb-false, ne_eqb}
 use Rattle.std.proofs.lemmas.Bool.Decides.{eqb_tells}
 use Rattle.std.proofs.lemmas.List.{append-nil, nil_from_length, length-append, length-replicate}
-use Rattle.nr_xdr.specs.Item.{IsBytes, word, spelling, pad_len}
+use Rattle.nr_xdr.specs.Item.{IsBytes, word, encoding, pad_len}
 use Rattle.nr_xdr.specs.Item.Item.{Unsigned, Opaque}
-use Rattle.nr_xdr.specs.Items.{ReadEach, spellings}
+use Rattle.nr_xdr.specs.Items.{ReadEach, encodings}
 use Rattle.nr_xdr.specs.Reading.{Cursor, Takes, unsigned_at}
-use Rattle.nr_xdr.proofs.Chains.{TakesEach, standing, each_takes, each_between, spellings_read}
-use Rattle.nr_xdr.proofs.Numbers.{length-word}
-use Rattle.nr_rpc.specs.Numbers.{AUTH_BODY_MAX, MACHINE_MAX, GIDS_MAX, AUTH_NONE, AUTH_SYS}
+use Rattle.nr_xdr.proofs.Chains.{TakesEach, standing, each_takes, each_between, encodings_read}
+use Rattle.nr_xdr.proofs.WordBytes.{length-word}
+use Rattle.nr_rpc.specs.Constants.{AUTH_BODY_MAX, MACHINE_MAX, GIDS_MAX, AUTH_NONE, AUTH_SYS}
 use Rattle.nr_rpc.specs.declared.cred.Cred.{Cred}
 use Rattle.nr_rpc.specs.declared.cred.Cred.TheVariants as creds
 use Rattle.nr_rpc.specs.Credential.{Auth, auth_of, sys_items, ReadsSys, ReadsCred, CanWriteCred, CredFits}
 use Rattle.nr_rpc.specs.Reading.{numbers_at, gids_at, sys_at, whole, cred_of}
-use Rattle.nr_xdr.proofs.Steps.{bind_ok, chosen, done, ok_is, number_step, number_again, opaque_step, opaque_placed}
+use Rattle.nr_xdr.proofs.SequencingSteps.{bind_ok, chosen, done, ok_is, number_step, number_again, opaque_step, opaque_placed}
 use Rattle.nr_rpc.proofs.Loop.{numbers_take, numbers_again}
 
 -- further groups that were read
@@ -206,14 +206,14 @@ cred_again (creds.Other flavor) auth fits (is, apart, not_sys) =
     ]
 
 -- the length of numbers, and of the body of AUTH_SYS
-pub length-numbers : (ns : List ℕ) → length (spellings (map Unsigned ns)) ≡ 4 * length ns
+pub length-numbers : (ns : List ℕ) → length (encodings (map Unsigned ns)) ≡ 4 * length ns
 length-numbers [] = refl
-length-numbers (n ∷ ns) = omega (arith, length-append (word n) (spellings (map Unsigned ns)), length-word n, length-numbers ns)
+length-numbers (n ∷ ns) = omega (arith, length-append (word n) (encodings (map Unsigned ns)), length-word n, length-numbers ns)
 
 opaque_len : List ℕ → ℕ
 opaque_len bytes = 4 + (length bytes + pad_len (length bytes))
 
-length-opaque : (bytes : List ℕ) → length (spelling (Opaque bytes)) ≡ opaque_len bytes
+length-opaque : (bytes : List ℕ) → length (encoding (Opaque bytes)) ≡ opaque_len bytes
 unfolding opaque_len
 length-opaque bytes =
     let pad : List ℕ = replicate (pad_len (length bytes)) 0 in
@@ -224,14 +224,14 @@ unfolding pad_len
 pad_len-below n = omega arith
 
 pub length-sys : (stamp : ℕ) (machine : List ℕ) (uid gid : ℕ) (gids : List ℕ) → length machine ≤ MACHINE_MAX → length gids ≤ GIDS_MAX
-    → length (spellings (sys_items stamp machine uid gid gids)) ≤ AUTH_BODY_MAX
+    → length (encodings (sys_items stamp machine uid gid gids)) ≤ AUTH_BODY_MAX
 unfolding opaque_len
 length-sys stamp machine uid gid gids machine_within gids_within =
-    let last = word (length gids) ++ spellings (map Unsigned gids) in
+    let last = word (length gids) ++ encodings (map Unsigned gids) in
     let group = word gid ++ last in
     let user = word uid ++ group in
-    let name = spelling (Opaque machine) ++ user in
-    omega (arith, length-append (word stamp) name, length-word stamp, length-append (spelling (Opaque machine)) user, length-opaque machine, pad_len-below (length machine), length-append (word uid) group, length-word uid, length-append (word gid) last, length-word gid, length-append (word (length gids)) (spellings (map Unsigned gids)), length-word (length gids), length-numbers gids)
+    let name = encoding (Opaque machine) ++ user in
+    omega (arith, length-append (word stamp) name, length-word stamp, length-append (encoding (Opaque machine)) user, length-opaque machine, pad_len-below (length machine), length-append (word uid) group, length-word uid, length-append (word gid) last, length-word gid, length-append (word (length gids)) (encodings (map Unsigned gids)), length-word (length gids), length-numbers gids)
 
 -- the credential that is written fits its items, and its body's limit
 pub auth_of-fits : (cred : Cred) → CanWriteCred cred → CredFits cred → ((auth_of cred).flavor < 2 ^ 32) × (length (auth_of cred).body ≤ AUTH_BODY_MAX)
@@ -249,8 +249,8 @@ unfolding cred_of
 cred_written creds.None can fits = refl
 cred_written (creds.Sys stamp machine uid gid gids) can fits =
     let items = sys_items stamp machine uid gid gids in
-    let r : ReadsSys stamp machine uid gid gids (spellings items) = record { items = spellings_read items fits; machine_within = can.0; gids_within = can.1 } in
-    rw (body_again stamp machine uid gid gids (spellings items) r) refl
+    let r : ReadsSys stamp machine uid gid gids (encodings items) = record { items = encodings_read items fits; machine_within = can.0; gids_within = can.1 } in
+    rw (body_again stamp machine uid gid gids (encodings items) r) refl
 cred_written (creds.Other flavor) can fits =
     let named : eqb flavor AUTH_NONE ≡ false = ne_eqb flavor AUTH_NONE can in
     elim (eqb_tells flavor AUTH_SYS) [

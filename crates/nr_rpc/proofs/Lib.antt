@@ -1,4 +1,4 @@
-pub mod Steps
+pub mod HeadSteps
 pub mod Loop
 pub mod Written
 pub mod Credentials

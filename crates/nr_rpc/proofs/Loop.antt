@@ -5,9 +5,9 @@ use Rattle.nr_xdr.specs.Item.{IsBytes}
 use Rattle.nr_xdr.specs.Item.Item.{Unsigned}
 use Rattle.nr_xdr.specs.Reading.{Cursor}
 use Rattle.nr_xdr.proofs.Chains.{TakesEach}
-use Rattle.nr_xdr.specs.Steps.{◌>>=◌, number_at}
+use Rattle.nr_xdr.specs.Sequencing.{◌>>=◌, number_at}
 use Rattle.nr_rpc.specs.Reading.{numbers_at}
-use Rattle.nr_xdr.proofs.Steps.{bind_ok, number_step, number_again, ok_is}
+use Rattle.nr_xdr.proofs.SequencingSteps.{bind_ok, number_step, number_again, ok_is}
 
 -- what was read before, and what is still read
 abbrev pub with_front : List ℕ → Result (List ℕ × Cursor) ℕ → Result (List ℕ × Cursor) ℕ

@@ -6,18 +6,18 @@ use Rattle.nr_xdr.specs.Item.{Item, IsBytes}
 use Rattle.nr_xdr.specs.Item.Item.{Unsigned}
 use Rattle.nr_xdr.specs.Items.{ReadEach, FitEach}
 use Rattle.nr_xdr.specs.Reading.{Cursor, Takes}
-use Rattle.nr_xdr.proofs.Chains.{TakesEach, standing, each_takes, each_between, spellings_read}
-use Rattle.nr_rpc.specs.Numbers.{AUTH_BODY_MAX, REPLY, MSG_ACCEPTED, MSG_DENIED, PROG_MISMATCH, RPC_MISMATCH, AUTH_ERROR}
+use Rattle.nr_xdr.proofs.Chains.{TakesEach, standing, each_takes, each_between, encodings_read}
+use Rattle.nr_rpc.specs.Constants.{AUTH_BODY_MAX, REPLY, MSG_ACCEPTED, MSG_DENIED, PROG_MISMATCH, RPC_MISMATCH, AUTH_ERROR}
 use Rattle.nr_rpc.specs.declared.fault.HeadFault.{HeadFault}
 use Rattle.nr_rpc.specs.declared.fault.HeadFault.TheVariants as faults
 use Rattle.nr_rpc.specs.declared.head.ReplyHead.{ReplyHead}
 use Rattle.nr_rpc.specs.declared.head.ReplyHead.TheVariants as replies
 use Rattle.nr_rpc.specs.Credential.{Auth, no_verifier}
-use Rattle.nr_rpc.specs.Reply.{reply_items, IsAccepted, ReadsReply, BeginsReply, CanWriteReply, ReplyFits, reply_head, reply_spelling, reply_again}
-use Rattle.nr_xdr.specs.Steps.{◌>>=◌, number_at}
+use Rattle.nr_rpc.specs.Reply.{reply_items, IsAccepted, ReadsReply, BeginsReply, CanWriteReply, ReplyFits, reply_head, reply_encoding, reply_again}
+use Rattle.nr_xdr.specs.Sequencing.{◌>>=◌, number_at}
 use Rattle.nr_rpc.specs.Reading.{versions_at, accepted_at, denied_at, reply_at, head_of, reply_of, GivesReply}
-use Rattle.nr_xdr.proofs.Steps.{chosen, done, ok_is, number_step, number_again}
-use Rattle.nr_rpc.proofs.Steps.{this_step, this_again, auth_step, auth_again, TakesAuth}
+use Rattle.nr_xdr.proofs.SequencingSteps.{chosen, done, ok_is, number_step, number_again}
+use Rattle.nr_rpc.proofs.HeadSteps.{expect_step, expect_again, auth_step, auth_again, TakesAuth}
 use Rattle.nr_rpc.proofs.Calls.{head_ok, one_answer}
 
 -- a reply head that was read
@@ -118,7 +118,7 @@ pub reply_take : (c : Cursor) (x : ReplyHead × Cursor) → IsBytes c.rest → r
 unfolding reply_at
 reply_take c x fits e =
     let xid = number_step c _ x fits e in
-    let kind = this_step REPLY xid.0.1 _ x xid.2 xid.3 in
+    let kind = expect_step REPLY xid.0.1 _ x xid.2 xid.3 in
     let status = number_step kind.0 _ x kind.2 kind.3 in
     let refused : Result (ReplyHead × Cursor) ℕ = cond (eqb status.0.0 MSG_DENIED) (denied_at xid.0.0 status.0.1) (Err kind.0.place) in
     elim (chosen (eqb status.0.0 MSG_ACCEPTED) (accepted_at xid.0.0 status.0.1) refused (Ok x) status.3) [
@@ -140,20 +140,20 @@ reply_found (replies.Accepted xid stat results_at) c after t =
     let (d, at_xid, (f, at_kind, (g, at_status, (h, at_flavor, (i, at_body, (j, at_stat, last)))))) = t.each in
     let v : TakesAuth t.verifier g i = record { behind_flavor = h; flavor = at_flavor; body = at_body; within = t.within } in
     let (apart, place) = t.accepted in
-    rw (number_again c xid d at_xid, this_again REPLY d f at_kind, number_again f MSG_ACCEPTED g at_status, auth_again t.verifier g i v, number_again i stat j at_stat, ne_eqb stat PROG_MISMATCH apart, place)
+    rw (number_again c xid d at_xid, expect_again REPLY d f at_kind, number_again f MSG_ACCEPTED g at_status, auth_again t.verifier g i v, number_again i stat j at_stat, ne_eqb stat PROG_MISMATCH apart, place)
     (ap (λ (m : Cursor). Ok (replies.Accepted xid stat m.place, m)) last)
 reply_found (replies.ProgMismatch xid low high) c after t =
     let (d, at_xid, (f, at_kind, (g, at_status, (h, at_flavor, (i, at_body, (j, at_stat, (k, at_low, (l, at_high, last)))))))) = t.each in
     let v : TakesAuth t.verifier g i = record { behind_flavor = h; flavor = at_flavor; body = at_body; within = t.within } in
-    rw (number_again c xid d at_xid, this_again REPLY d f at_kind, number_again f MSG_ACCEPTED g at_status, auth_again t.verifier g i v, number_again i PROG_MISMATCH j at_stat, versions_again (replies.ProgMismatch xid) low high j k l at_low at_high)
+    rw (number_again c xid d at_xid, expect_again REPLY d f at_kind, number_again f MSG_ACCEPTED g at_status, auth_again t.verifier g i v, number_again i PROG_MISMATCH j at_stat, versions_again (replies.ProgMismatch xid) low high j k l at_low at_high)
     (ap (λ (m : Cursor). Ok (replies.ProgMismatch xid low high, m)) last)
 reply_found (replies.RpcMismatch xid low high) c after t =
     let (d, at_xid, (f, at_kind, (g, at_status, (j, at_stat, (k, at_low, (l, at_high, last)))))) = t.each in
-    rw (number_again c xid d at_xid, this_again REPLY d f at_kind, number_again f MSG_DENIED g at_status, number_again g RPC_MISMATCH j at_stat, versions_again (replies.RpcMismatch xid) low high j k l at_low at_high)
+    rw (number_again c xid d at_xid, expect_again REPLY d f at_kind, number_again f MSG_DENIED g at_status, number_again g RPC_MISMATCH j at_stat, versions_again (replies.RpcMismatch xid) low high j k l at_low at_high)
     (ap (λ (m : Cursor). Ok (replies.RpcMismatch xid low high, m)) last)
 reply_found (replies.AuthError xid stat) c after t =
     let (d, at_xid, (f, at_kind, (g, at_status, (j, at_stat, (k, at_why, last))))) = t.each in
-    rw (number_again c xid d at_xid, this_again REPLY d f at_kind, number_again f MSG_DENIED g at_status, number_again g AUTH_ERROR j at_stat, number_again j stat k at_why)
+    rw (number_again c xid d at_xid, expect_again REPLY d f at_kind, number_again f MSG_DENIED g at_status, number_again g AUTH_ERROR j at_stat, number_again j stat k at_why)
     (ap (λ (m : Cursor). Ok (replies.AuthError xid stat, m)) last)
 
 -- the head that is read stands at the front
@@ -210,16 +210,16 @@ again_accepted (replies.RpcMismatch xid low high) can = tt
 again_accepted (replies.AuthError xid stat) can = tt
 
 -- what is written of a head is read again
-pub reply_written : (head : ReplyHead) (results : List ℕ) → CanWriteReply head → ReplyFits head → reply_of (reply_spelling head results) ≡ Ok (reply_again head)
+pub reply_written : (head : ReplyHead) (results : List ℕ) → CanWriteReply head → ReplyFits head → reply_of (reply_encoding head results) ≡ Ok (reply_again head)
 reply_written head results can fits =
     let items = reply_items head no_verifier in
     let reads : ReadsReply (reply_again head) (reply_head head) = record {
       verifier = no_verifier;
       body = omega arith;
-      items = subst (λ (is : List Item). ReadEach is (reply_head head)) (sym (again_items head)) (spellings_read items (reply_items-fit head fits));
+      items = subst (λ (is : List Item). ReadEach is (reply_head head)) (sym (again_items head)) (encodings_read items (reply_items-fit head fits));
       accepted = again_accepted head can;
     } in
-    begins_reply (reply_spelling head results) (reply_again head) (reply_head head, results, reads, refl)
+    begins_reply (reply_encoding head results) (reply_again head) (reply_head head, results, reads, refl)
 
 pub reply_is_found : (bytes : List ℕ) (r : Result ReplyHead HeadFault) → IsBytes bytes → GivesReply r (reply_of bytes) → IfOk r (λ head. BeginsReply head bytes)
 reply_is_found bytes (Ok head) fits given = reply_begins bytes head fits given

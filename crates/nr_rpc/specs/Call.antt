@@ -1,9 +1,9 @@
--- The head of a call (RFC 5531 section 9): its spelling, and which bytes read as it.
+-- The head of a call (RFC 5531 section 9): its encoding, and which bytes read as it.
 use Rattle.std.specs.Prelude.{◌≡◌, ◌≢◌, ℕ, ◌^◌, ◌<◌, ◌≤◌, List, [], ◌∷◌, ◌++◌, length}
 use Rattle.nr_xdr.specs.Item.{Item}
 use Rattle.nr_xdr.specs.Item.Item.{Unsigned}
-use Rattle.nr_xdr.specs.Items.{ReadEach, spellings}
-use Rattle.nr_rpc.specs.Numbers.{AUTH_BODY_MAX, RPC_VERSION, CALL}
+use Rattle.nr_xdr.specs.Items.{ReadEach, encodings}
+use Rattle.nr_rpc.specs.Constants.{AUTH_BODY_MAX, RPC_VERSION, CALL}
 use Rattle.nr_rpc.specs.declared.head.CallHead.{CallHead}
 use Rattle.nr_rpc.specs.declared.head.CallHead.TheVariants as calls
 use Rattle.nr_rpc.specs.Credential.{Auth, auth_items, auth_of, no_verifier, ReadsCred, CanWriteCred, CredFits}
@@ -27,13 +27,13 @@ ReadsCall (calls.Other xid rpcvers) bytes = (rpcvers ≢ RPC_VERSION) × ReadEac
 abbrev pub BeginsCall : CallHead → List ℕ → Type 0
 BeginsCall head bytes = (front : List ℕ) × (behind : List ℕ) × ReadsCall head front × (bytes ≡ front ++ behind)
 
--- the one spelling of the head, and of the head with these arguments
+-- the one encoding of the head, and of the head with these arguments
 abbrev pub call_head : CallHead → List ℕ
-call_head (calls.Version2 xid prog vers proc cred args_at) = spellings (version2_items xid prog vers proc (auth_of cred) no_verifier)
-call_head (calls.Other xid rpcvers) = spellings (other_items xid rpcvers)
+call_head (calls.Version2 xid prog vers proc cred args_at) = encodings (version2_items xid prog vers proc (auth_of cred) no_verifier)
+call_head (calls.Other xid rpcvers) = encodings (other_items xid rpcvers)
 
-abbrev pub call_spelling : CallHead → List ℕ → List ℕ
-call_spelling head args = call_head head ++ args
+abbrev pub call_encoding : CallHead → List ℕ → List ℕ
+call_encoding head args = call_head head ++ args
 
 -- What can be written: a machine's name of at most 255 bytes, at most 16 further groups, in another credential a
 -- flavor other than 0, in another head a version other than 2.
@@ -47,7 +47,7 @@ CallFits (calls.Version2 xid prog vers proc cred args_at) =
     (xid < 2 ^ 32) × (prog < 2 ^ 32) × (vers < 2 ^ 32) × (proc < 2 ^ 32) × CredFits cred
 CallFits (calls.Other xid rpcvers) = (xid < 2 ^ 32) × (rpcvers < 2 ^ 32)
 
--- the head as it is read behind its own spelling: the arguments begin there
+-- the head as it is read behind its own encoding: the arguments begin there
 abbrev pub call_again : CallHead → CallHead
 call_again (calls.Version2 xid prog vers proc cred args_at) =
     calls.Version2 xid prog vers proc cred (length (call_head (calls.Version2 xid prog vers proc cred args_at)))

@@ -2,8 +2,8 @@
 use Rattle.std.specs.Prelude.{◌≡◌, ◌≢◌, ℕ, ◌^◌, ◌<◌, ◌≤◌, List, [], ◌∷◌, length, map}
 use Rattle.nr_xdr.specs.Item.{Item}
 use Rattle.nr_xdr.specs.Item.Item.{Unsigned, Opaque}
-use Rattle.nr_xdr.specs.Items.{ReadEach, FitEach, spellings}
-use Rattle.nr_rpc.specs.Numbers.{MACHINE_MAX, GIDS_MAX, AUTH_NONE, AUTH_SYS}
+use Rattle.nr_xdr.specs.Items.{ReadEach, FitEach, encodings}
+use Rattle.nr_rpc.specs.Constants.{MACHINE_MAX, GIDS_MAX, AUTH_NONE, AUTH_SYS}
 use Rattle.nr_rpc.specs.declared.cred.Cred.{Cred}
 use Rattle.nr_rpc.specs.declared.cred.Cred.TheVariants as creds
 
@@ -37,7 +37,7 @@ ReadsCred (creds.Other flavor) auth =
 -- What is written for a credential: the body of AUTH_SYS, else none.
 abbrev pub auth_of : Cred → Auth
 auth_of creds.None = record { flavor = AUTH_NONE; body = [] }
-auth_of (creds.Sys stamp machine uid gid gids) = record { flavor = AUTH_SYS; body = spellings (sys_items stamp machine uid gid gids) }
+auth_of (creds.Sys stamp machine uid gid gids) = record { flavor = AUTH_SYS; body = encodings (sys_items stamp machine uid gid gids) }
 auth_of (creds.Other flavor) = record { flavor = flavor; body = [] }
 
 -- the verifier that is written (RFC 5531 section 8.2)

@@ -1,4 +1,4 @@
-pub mod Numbers
+pub mod Constants
 pub mod Credential
 pub mod Call
 pub mod Reply

@@ -1,8 +1,8 @@
 -- What is read at a cursor, or the place of the first item that fails.
 use Rattle.std.specs.Prelude.{◌≡◌, ℕ, zero, suc, List, [], ◌∷◌, length, Option, Some, None, unwrap_or, Result, Ok, Err, nat_lt, ◌==◌, if◌then◌else◌}
 use Rattle.nr_xdr.specs.Reading.{Cursor, opaque_at}
-use Rattle.nr_xdr.specs.Steps.{◌>>=◌, or_place, number_at}
-use Rattle.nr_rpc.specs.Numbers.{AUTH_BODY_MAX, MACHINE_MAX, GIDS_MAX, RPC_VERSION, CALL, REPLY, MSG_ACCEPTED, MSG_DENIED, PROG_MISMATCH, RPC_MISMATCH, AUTH_ERROR, AUTH_NONE, AUTH_SYS}
+use Rattle.nr_xdr.specs.Sequencing.{◌>>=◌, or_place, number_at}
+use Rattle.nr_rpc.specs.Constants.{AUTH_BODY_MAX, MACHINE_MAX, GIDS_MAX, RPC_VERSION, CALL, REPLY, MSG_ACCEPTED, MSG_DENIED, PROG_MISMATCH, RPC_MISMATCH, AUTH_ERROR, AUTH_NONE, AUTH_SYS}
 use Rattle.nr_rpc.specs.declared.fault.HeadFault.{HeadFault}
 use Rattle.nr_rpc.specs.declared.fault.HeadFault.TheVariants as faults
 use Rattle.nr_rpc.specs.declared.cred.Cred.{Cred}
@@ -11,7 +11,7 @@ use Rattle.nr_rpc.specs.declared.head.CallHead.{CallHead}
 use Rattle.nr_rpc.specs.declared.head.CallHead.TheVariants as calls
 use Rattle.nr_rpc.specs.declared.head.ReplyHead.{ReplyHead}
 use Rattle.nr_rpc.specs.declared.head.ReplyHead.TheVariants as replies
-use Rattle.nr_rpc.specs.declared.fault.Misfit.{Misfit}
+use Rattle.nr_rpc.specs.declared.fault.DecodeError.{DecodeError}
 use Rattle.nr_rpc.specs.declared.item.RawAuth.{RawAuth}
 use Rattle.nr_rpc.specs.declared.sys.SysBody.{SysBody}
 use Rattle.nr_rpc.specs.declared.call.CallStart.{CallStart}
@@ -20,8 +20,8 @@ use Rattle.nr_rpc.specs.declared.head.CallTarget.{CallTarget}
 use Rattle.nr_rpc.specs.Credential.{Auth}
 
 -- this number and no other; a word of another value fails where it stands
-unfoldable pub this_at : ℕ → Cursor → Result Cursor ℕ
-this_at wanted c = do
+unfoldable pub expect_at : ℕ → Cursor → Result Cursor ℕ
+expect_at wanted c = do
   n ← number_at c
   if n.0 == wanted then Ok n.1 else Err c.place
 
@@ -81,7 +81,7 @@ version2_at xid c = do
 unfoldable pub call_at : Cursor → Result (CallHead × Cursor) ℕ
 call_at c = do
   xid ← number_at c
-  kind ← this_at CALL xid.1
+  kind ← expect_at CALL xid.1
   rpcvers ← number_at kind
   if rpcvers.0 == RPC_VERSION then version2_at xid.0 rpcvers.1 else Ok (calls.Other xid.0 rpcvers.0, rpcvers.1)
 
@@ -110,7 +110,7 @@ denied_at xid c = do
 unfoldable pub reply_at : Cursor → Result (ReplyHead × Cursor) ℕ
 reply_at c = do
   xid ← number_at c
-  kind ← this_at REPLY xid.1
+  kind ← expect_at REPLY xid.1
   status ← number_at kind
   if status.0 == MSG_ACCEPTED then accepted_at xid.0 status.1
       else (if status.0 == MSG_DENIED then denied_at xid.0 status.1 else Err kind.place)
@@ -143,19 +143,19 @@ GivesReply (Err (faults.NotReply at)) read = read ≡ Err at
 GivesReply (Err faults.Memory) read = ⊥
 
 -- A reader answered so and stands at new: as read says, seen by view.
-abbrev pub Answers : {X Y : Type 0} → (X → Y) → Result X Misfit → Cursor → Result (Y × Cursor) ℕ → Type 0
+abbrev pub Answers : {X Y : Type 0} → (X → Y) → Result X DecodeError → Cursor → Result (Y × Cursor) ℕ → Type 0
 Answers view (Ok x) new read = read ≡ Ok (view x, new)
-Answers view (Err misfit) new read = read ≡ Err misfit.at
+Answers view (Err error) new read = read ≡ Err error.at
 
 -- the same of a step that gives no value
-abbrev pub Goes : Result Unit Misfit → Cursor → Result Cursor ℕ → Type 0
+abbrev pub Goes : Result Unit DecodeError → Cursor → Result Cursor ℕ → Type 0
 Goes (Ok x) new read = read ≡ Ok new
-Goes (Err misfit) new read = read ≡ Err misfit.at
+Goes (Err error) new read = read ≡ Err error.at
 
 -- the same without a cursor
-abbrev pub Finds : {X Y : Type 0} → (X → Y) → Result X Misfit → Result Y ℕ → Type 0
+abbrev pub Finds : {X Y : Type 0} → (X → Y) → Result X DecodeError → Result Y ℕ → Type 0
 Finds view (Ok x) read = read ≡ Ok (view x)
-Finds view (Err misfit) read = read ≡ Err misfit.at
+Finds view (Err error) read = read ≡ Err error.at
 
 -- what a credential, the body of AUTH_SYS and a call head stand for before they own their bytes
 abbrev pub auth_view : RawAuth → Auth

@@ -1,9 +1,9 @@
--- The head of a reply (RFC 5531 section 9): its spelling, and which bytes read as it.
+-- The head of a reply (RFC 5531 section 9): its encoding, and which bytes read as it.
 use Rattle.std.specs.Prelude.{◌≡◌, ◌≢◌, ℕ, ◌^◌, ◌<◌, ◌≤◌, List, [], ◌∷◌, ◌++◌, length}
 use Rattle.nr_xdr.specs.Item.{Item}
 use Rattle.nr_xdr.specs.Item.Item.{Unsigned}
-use Rattle.nr_xdr.specs.Items.{ReadEach, spellings}
-use Rattle.nr_rpc.specs.Numbers.{AUTH_BODY_MAX, REPLY, MSG_ACCEPTED, MSG_DENIED, PROG_MISMATCH, RPC_MISMATCH, AUTH_ERROR}
+use Rattle.nr_xdr.specs.Items.{ReadEach, encodings}
+use Rattle.nr_rpc.specs.Constants.{AUTH_BODY_MAX, REPLY, MSG_ACCEPTED, MSG_DENIED, PROG_MISMATCH, RPC_MISMATCH, AUTH_ERROR}
 use Rattle.nr_rpc.specs.declared.head.ReplyHead.{ReplyHead}
 use Rattle.nr_rpc.specs.declared.head.ReplyHead.TheVariants as replies
 use Rattle.nr_rpc.specs.Credential.{Auth, auth_items, no_verifier}
@@ -44,12 +44,12 @@ pub record ReadsReply (head : ReplyHead) (bytes : List ℕ) : Type 0 where
 abbrev pub BeginsReply : ReplyHead → List ℕ → Type 0
 BeginsReply head bytes = (front : List ℕ) × (behind : List ℕ) × ReadsReply head front × (bytes ≡ front ++ behind)
 
--- the one spelling of the head, and of the head with these results
+-- the one encoding of the head, and of the head with these results
 abbrev pub reply_head : ReplyHead → List ℕ
-reply_head head = spellings (reply_items head no_verifier)
+reply_head head = encodings (reply_items head no_verifier)
 
-abbrev pub reply_spelling : ReplyHead → List ℕ → List ℕ
-reply_spelling head results = reply_head head ++ results
+abbrev pub reply_encoding : ReplyHead → List ℕ → List ℕ
+reply_encoding head results = reply_head head ++ results
 
 -- What can be written: in Accepted a status other than 2.
 abbrev pub CanWriteReply : ReplyHead → Type 0
@@ -65,7 +65,7 @@ ReplyFits (replies.ProgMismatch xid low high) = (xid < 2 ^ 32) × (low < 2 ^ 32)
 ReplyFits (replies.RpcMismatch xid low high) = (xid < 2 ^ 32) × (low < 2 ^ 32) × (high < 2 ^ 32)
 ReplyFits (replies.AuthError xid stat) = (xid < 2 ^ 32) × (stat < 2 ^ 32)
 
--- the head as it is read behind its own spelling: the results begin there
+-- the head as it is read behind its own encoding: the results begin there
 abbrev pub reply_again : ReplyHead → ReplyHead
 reply_again (replies.Accepted xid stat results_at) = replies.Accepted xid stat (length (reply_head (replies.Accepted xid stat results_at)))
 reply_again (replies.ProgMismatch xid low high) = replies.ProgMismatch xid low high

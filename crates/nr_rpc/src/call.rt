@@ -2,13 +2,13 @@
 
 ghost use Rattle.std.specs.Prelude.{◌≡◌, ℕ, List, ◌++◌, ◌^◌, ◌<◌, length, Ok, Err, IfOk, IfErr};
 ghost use Rattle.nr_xdr.specs.Item.{IsBytes};
-ghost use Rattle.nr_rpc.specs.Call.{ReadsCall, BeginsCall, CanWriteCall, call_head, call_spelling};
+ghost use Rattle.nr_rpc.specs.Call.{ReadsCall, BeginsCall, CanWriteCall, call_head, call_encoding};
 ghost use Rattle.nr_rpc.specs.Reading.{Answers, Finds, GivesCall, call_at, call_of, version2_at, start_view, target_of};
 
-use crate::fault::{HeadFault, Misfit};
+use crate::constants::{CALL, RPC_VERSION};
+use crate::fault::{DecodeError, HeadFault};
 use crate::head::{CallHead, CallTarget};
 use crate::item::{RawAuth, auth, number, this};
-use crate::limits::{CALL, RPC_VERSION};
 use crate::put::{put_cred, put_no_verifier, put_numbers};
 use crate::sys::cred_from;
 use nr_xdr::{Memory, Octets, Reader, Writer};
@@ -33,7 +33,7 @@ pub(crate) enum CallStart<'a> {
 
 /// A call of version 2, from the program on.
 #[tactic(auto, unfolding(crate::specs::Reading::version2_at))]
-fn version2<'a>(reader: &mut Reader<'a>, xid: u32) -> Result<CallStart<'a>, Misfit>
+fn version2<'a>(reader: &mut Reader<'a>, xid: u32) -> Result<CallStart<'a>, DecodeError>
     ensures { Answers start_view result reader.new (version2_at xid reader.old) }
 {
     let prog = number(reader)?;
@@ -52,7 +52,7 @@ fn version2<'a>(reader: &mut Reader<'a>, xid: u32) -> Result<CallStart<'a>, Misf
 }
 
 #[tactic(auto, unfolding(crate::specs::Reading::call_at))]
-fn opening_at<'a>(reader: &mut Reader<'a>) -> Result<CallStart<'a>, Misfit>
+fn opening_at<'a>(reader: &mut Reader<'a>) -> Result<CallStart<'a>, DecodeError>
     ensures { Answers start_view result reader.new (call_at reader.old) }
 {
     let xid = number(reader)?;
@@ -66,7 +66,7 @@ fn opening_at<'a>(reader: &mut Reader<'a>) -> Result<CallStart<'a>, Misfit>
 }
 
 #[tactic(auto, unfolding(crate::specs::Reading::call_of))]
-fn opening(bytes: &[u8]) -> Result<CallStart<'_>, Misfit>
+fn opening(bytes: &[u8]) -> Result<CallStart<'_>, DecodeError>
     ensures { Finds start_view result (call_of bytes.now) }
 {
     let mut reader = Reader::new(bytes);
@@ -77,7 +77,7 @@ fn whole_call(alloc: Global, bytes: &[u8]) -> Result<CallHead, HeadFault>
     ensures { GivesCall result (call_of bytes.now) }
 {
     match opening(bytes) {
-        Err(misfit) => Err(HeadFault::NotCall { at: misfit.at }),
+        Err(error) => Err(HeadFault::NotCall { at: error.at }),
         Ok(CallStart::Other { xid, rpcvers }) => Ok(CallHead::Other { xid, rpcvers }),
         Ok(
             CallStart::Version2 {
@@ -165,11 +165,11 @@ fn call_octets(alloc: Global, head: &CallHead) -> Result<Octets, Memory>
     Ok(writer.finish())
 }
 
-/// The one spelling of a call's head, and these arguments behind it: the verifier is AUTH_NONE, and the body of another
+/// The one encoding of a call's head, and these arguments behind it: the verifier is AUTH_NONE, and the body of another
 /// credential than AUTH_SYS is empty. `args_at` isn't looked at. Only `Memory` can be wanting.
 pub fn write_call(alloc: Global, head: &CallHead, args: &[u8]) -> Result<Octets, HeadFault>
     requires { CanWriteCall head.now }
-    ensures ok { IfOk result (λ o. o ≡ call_spelling head.now args.now) }
+    ensures ok { IfOk result (λ o. o ≡ call_encoding head.now args.now) }
     ensures memory { IfErr result (λ e. e ≡ HeadFault.Memory) }
 {
     let mut octets = call_octets(alloc, head)?;

@@ -2,7 +2,7 @@
 
 ghost use Rattle.std.specs.Prelude.{◌≡◌, ◌+◌, ◌<◌, ◌≤◌, [], ◌∷◌, ◌++◌, length, IsTrue, ◌↔◌};
 
-use crate::limits::GIDS_MAX;
+use crate::constants::GIDS_MAX;
 use arrayvec::ArrayVec;
 use nr_xdr::Octets;
 use std::marker::Model;
@@ -74,7 +74,7 @@ pub enum Cred {
         gid: u32,
         gids: Gids,
     },
-    /// Another flavor, or AUTH_SYS whose body isn't spelled as AUTH_SYS is (then `flavor` is 1).
+    /// Another flavor, or AUTH_SYS whose body isn't encoded as AUTH_SYS is (then `flavor` is 1).
     Other {
         flavor: u32,
     },

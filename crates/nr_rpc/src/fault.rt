@@ -31,17 +31,17 @@ impl From<Memory> for HeadFault {
 
 /// The place of the first item that fails.
 #[derive(Clone, Copy, Debug)]
-pub(crate) struct Misfit {
+pub(crate) struct DecodeError {
     pub(crate) at: usize,
 }
 
-impl From<ItemFault> for Misfit {
+impl From<ItemFault> for DecodeError {
     ghost from_gives = { λ e m. m.at ≡ place_of e };
 
-    fn from(e: ItemFault) -> Misfit {
+    fn from(e: ItemFault) -> DecodeError {
         let at = match e {
             ItemFault::Short { at } | ItemFault::Long { at, .. } | ItemFault::BadBool { at } => at,
         };
-        Misfit { at }
+        DecodeError { at }
     }
 }

@@ -4,20 +4,20 @@ ghost use Rattle.std.specs.Prelude.{◌≡◌, ℕ, List, ◌++◌, Ok};
 ghost use Rattle.nr_xdr.specs.Item.{IsBytes};
 ghost use Rattle.nr_rpc.specs.declared.head.CallHead.{CallHead};
 ghost use Rattle.nr_rpc.specs.declared.head.ReplyHead.{ReplyHead};
-ghost use Rattle.nr_rpc.specs.Call.{ReadsCall, CanWriteCall, CallFits, call_spelling, call_again};
-ghost use Rattle.nr_rpc.specs.Reply.{ReadsReply, CanWriteReply, ReplyFits, reply_spelling, reply_again};
+ghost use Rattle.nr_rpc.specs.Call.{ReadsCall, CanWriteCall, CallFits, call_encoding, call_again};
+ghost use Rattle.nr_rpc.specs.Reply.{ReadsReply, CanWriteReply, ReplyFits, reply_encoding, reply_again};
 ghost use Rattle.nr_rpc.specs.Reading.{call_of, reply_of};
 
-/// The spelling of a call is read as its head, whatever the arguments are.
+/// The encoding of a call is read as its head, whatever the arguments are.
 pub fn call_round_trip()
     ensures { (head : CallHead) (args : List ℕ) → CanWriteCall head → CallFits head →
-        call_of (call_spelling head args) ≡ Ok (call_again head) }
+        call_of (call_encoding head args) ≡ Ok (call_again head) }
 {}
 
-/// The spelling of a reply is read as its head, whatever the results are.
+/// The encoding of a reply is read as its head, whatever the results are.
 pub fn reply_round_trip()
     ensures { (head : ReplyHead) (results : List ℕ) → CanWriteReply head → ReplyFits head →
-        reply_of (reply_spelling head results) ≡ Ok (reply_again head) }
+        reply_of (reply_encoding head results) ≡ Ok (reply_again head) }
 {}
 
 /// No reading of a call head begins another: of what begins as two heads, both are the same, and as long.

@@ -2,17 +2,17 @@
 
 ghost use Rattle.std.specs.Prelude.{◌≡◌, ◌^◌, ◌<◌, ◌≤◌, [], ◌++◌, length, map, OnOk, IfOk};
 ghost use Rattle.nr_xdr.specs.Item.Item.{Unsigned};
-ghost use Rattle.nr_xdr.specs.Items.{spellings};
+ghost use Rattle.nr_xdr.specs.Items.{encodings};
 ghost use Rattle.nr_rpc.specs.Credential.{auth_items, auth_of, no_verifier, sys_items, CanWriteCred};
 
+use crate::constants::{AUTH_BODY_MAX, AUTH_NONE, AUTH_SYS, MACHINE_MAX};
 use crate::cred::{Cred, Gids};
-use crate::limits::{AUTH_BODY_MAX, AUTH_NONE, AUTH_SYS, MACHINE_MAX};
 use nr_xdr::{Memory, Octets, Writer};
 use std::alloc::Global;
 
 /// Numbers behind one another.
 pub(crate) fn put_numbers(writer: &mut Writer, numbers: &[u32]) -> Result<(), Memory>
-    ensures { OnOk result (writer.new ≡ writer.old ++ spellings (map Unsigned numbers.now)) }
+    ensures { OnOk result (writer.new ≡ writer.old ++ encodings (map Unsigned numbers.now)) }
 {
     for number in numbers {
         writer.u32(*number)?;
@@ -23,7 +23,7 @@ pub(crate) fn put_numbers(writer: &mut Writer, numbers: &[u32]) -> Result<(), Me
 /// A flavor and a body.
 fn put_auth(writer: &mut Writer, flavor: u32, body: &[u8]) -> Result<(), Memory>
     requires { length body.now ≤ AUTH_BODY_MAX }
-    ensures { OnOk result (writer.new ≡ writer.old ++ spellings (auth_items (record { flavor = flavor; body = body.now }) [])) }
+    ensures { OnOk result (writer.new ≡ writer.old ++ encodings (auth_items (record { flavor = flavor; body = body.now }) [])) }
 {
     writer.u32(flavor)?;
     writer.opaque(body)?;
@@ -32,7 +32,7 @@ fn put_auth(writer: &mut Writer, flavor: u32, body: &[u8]) -> Result<(), Memory>
 
 /// The verifier that each head is written with (RFC 5531 section 8.2).
 pub(crate) fn put_no_verifier(writer: &mut Writer) -> Result<(), Memory>
-    ensures { OnOk result (writer.new ≡ writer.old ++ spellings (auth_items no_verifier [])) }
+    ensures { OnOk result (writer.new ≡ writer.old ++ encodings (auth_items no_verifier [])) }
 {
     put_auth(writer, AUTH_NONE, &[])
 }
@@ -47,7 +47,7 @@ fn sys_octets(
     gids: &Gids,
 ) -> Result<Octets, Memory>
     requires { length machine.now ≤ MACHINE_MAX }
-    ensures { IfOk result (λ o. o ≡ spellings (sys_items stamp machine.now uid gid gids.now)) }
+    ensures { IfOk result (λ o. o ≡ encodings (sys_items stamp machine.now uid gid gids.now)) }
 {
     let mut writer = Writer::new(alloc);
     writer.u32(stamp)?;
@@ -62,7 +62,7 @@ fn sys_octets(
 /// A credential.
 pub(crate) fn put_cred(alloc: Global, writer: &mut Writer, cred: &Cred) -> Result<(), Memory>
     requires { CanWriteCred cred.now }
-    ensures { OnOk result (writer.new ≡ writer.old ++ spellings (auth_items (auth_of cred.now) [])) }
+    ensures { OnOk result (writer.new ≡ writer.old ++ encodings (auth_items (auth_of cred.now) [])) }
 {
     match cred {
         Cred::None => put_auth(writer, AUTH_NONE, &[]),

@@ -2,20 +2,20 @@
 
 ghost use Rattle.std.specs.Prelude.{◌≡◌, ℕ, List, ◌++◌, ◌^◌, ◌<◌, length, Ok, Err, IfOk, IfErr};
 ghost use Rattle.nr_xdr.specs.Item.{IsBytes};
-ghost use Rattle.nr_rpc.specs.Reply.{ReadsReply, BeginsReply, CanWriteReply, reply_head, reply_spelling};
+ghost use Rattle.nr_rpc.specs.Reply.{ReadsReply, BeginsReply, CanWriteReply, reply_head, reply_encoding};
 ghost use Rattle.nr_rpc.specs.Reading.{Answers, Finds, GivesReply, reply_at, reply_of, accepted_at, denied_at};
 
-use crate::fault::{HeadFault, Misfit};
+use crate::constants::{AUTH_ERROR, MSG_ACCEPTED, MSG_DENIED, PROG_MISMATCH, REPLY, RPC_MISMATCH};
+use crate::fault::{DecodeError, HeadFault};
 use crate::head::ReplyHead;
 use crate::item::{auth, number, this};
-use crate::limits::{AUTH_ERROR, MSG_ACCEPTED, MSG_DENIED, PROG_MISMATCH, REPLY, RPC_MISMATCH};
 use crate::put::{put_no_verifier, put_numbers};
 use nr_xdr::{Memory, Octets, Reader, Writer};
 use std::alloc::Global;
 
 /// The reply to a call that was accepted, from the verifier on.
 #[tactic(auto, unfolding(crate::specs::Reading::accepted_at, crate::specs::Reading::versions_at))]
-fn accepted(reader: &mut Reader<'_>, xid: u32) -> Result<ReplyHead, Misfit>
+fn accepted(reader: &mut Reader<'_>, xid: u32) -> Result<ReplyHead, DecodeError>
     ensures { Answers (λ head. head) result reader.new (accepted_at xid reader.old) }
 {
     let _verifier = auth(reader)?;
@@ -34,7 +34,7 @@ fn accepted(reader: &mut Reader<'_>, xid: u32) -> Result<ReplyHead, Misfit>
 
 /// The reply to a call that was denied, from its status on.
 #[tactic(auto, unfolding(crate::specs::Reading::denied_at, crate::specs::Reading::versions_at))]
-fn denied(reader: &mut Reader<'_>, xid: u32) -> Result<ReplyHead, Misfit>
+fn denied(reader: &mut Reader<'_>, xid: u32) -> Result<ReplyHead, DecodeError>
     ensures { Answers (λ head. head) result reader.new (denied_at xid reader.old) }
 {
     let at = reader.at();
@@ -48,12 +48,12 @@ fn denied(reader: &mut Reader<'_>, xid: u32) -> Result<ReplyHead, Misfit>
             let stat = number(reader)?;
             Ok(ReplyHead::AuthError { xid, stat })
         }
-        _ => Err(Misfit { at }),
+        _ => Err(DecodeError { at }),
     }
 }
 
 #[tactic(auto, unfolding(crate::specs::Reading::reply_at))]
-fn reply(reader: &mut Reader<'_>) -> Result<ReplyHead, Misfit>
+fn reply(reader: &mut Reader<'_>) -> Result<ReplyHead, DecodeError>
     ensures { Answers (λ head. head) result reader.new (reply_at reader.old) }
 {
     let xid = number(reader)?;
@@ -62,7 +62,7 @@ fn reply(reader: &mut Reader<'_>) -> Result<ReplyHead, Misfit>
     match number(reader)? {
         MSG_ACCEPTED => accepted(reader, xid),
         MSG_DENIED => denied(reader, xid),
-        _ => Err(Misfit { at }),
+        _ => Err(DecodeError { at }),
     }
 }
 
@@ -73,7 +73,7 @@ fn whole_reply(bytes: &[u8]) -> Result<ReplyHead, HeadFault>
     let mut reader = Reader::new(bytes);
     match reply(&mut reader) {
         Ok(head) => Ok(head),
-        Err(misfit) => Err(HeadFault::NotReply { at: misfit.at }),
+        Err(error) => Err(HeadFault::NotReply { at: error.at }),
     }
 }
 
@@ -118,11 +118,11 @@ fn reply_octets(alloc: Global, head: &ReplyHead) -> Result<Octets, Memory>
     Ok(writer.finish())
 }
 
-/// The one spelling of a reply's head, and these results behind it: the verifier is AUTH_NONE. `results_at` isn't looked
+/// The one encoding of a reply's head, and these results behind it: the verifier is AUTH_NONE. `results_at` isn't looked
 /// at. Only `Memory` can be wanting.
 pub fn write_reply(alloc: Global, head: &ReplyHead, results: &[u8]) -> Result<Octets, HeadFault>
     requires { CanWriteReply head.now }
-    ensures ok { IfOk result (λ o. o ≡ reply_spelling head.now results.now) }
+    ensures ok { IfOk result (λ o. o ≡ reply_encoding head.now results.now) }
     ensures memory { IfErr result (λ e. e ≡ HeadFault.Memory) }
 {
     let mut octets = reply_octets(alloc, head)?;

@@ -4,10 +4,10 @@ ghost use Rattle.std.specs.Prelude.{◌≡◌, ◌≤◌, ◌^◌, ◌<◌, leng
 ghost use Rattle.std.specs.Option.{option_map};
 ghost use Rattle.nr_rpc.specs.Reading.{Answers, sys_at, gids_at, numbers_at, whole, sys_view, cred_of, auth_view};
 
+use crate::constants::{AUTH_NONE, AUTH_SYS, GIDS_MAX, MACHINE_MAX};
 use crate::cred::{Cred, Gids};
-use crate::fault::Misfit;
+use crate::fault::DecodeError;
 use crate::item::{RawAuth, number};
-use crate::limits::{AUTH_NONE, AUTH_SYS, GIDS_MAX, MACHINE_MAX};
 use nr_xdr::{Memory, Octets, Reader};
 use std::alloc::Global;
 
@@ -22,7 +22,7 @@ pub(crate) struct SysBody<'a> {
 }
 
 /// So many numbers.
-fn numbers(reader: &mut Reader<'_>, count: u32) -> Result<Gids, Misfit>
+fn numbers(reader: &mut Reader<'_>, count: u32) -> Result<Gids, DecodeError>
     requires { count ≤ GIDS_MAX }
     ensures { Answers (λ g. g) result reader.new (numbers_at count reader.old) }
 {
@@ -35,19 +35,19 @@ fn numbers(reader: &mut Reader<'_>, count: u32) -> Result<Gids, Misfit>
 
 /// Further groups behind their count.
 #[tactic(auto, unfolding(crate::specs::Reading::gids_at))]
-fn gids(reader: &mut Reader<'_>) -> Result<Gids, Misfit>
+fn gids(reader: &mut Reader<'_>) -> Result<Gids, DecodeError>
     ensures { Answers (λ g. g) result reader.new (gids_at reader.old) }
 {
     let at = reader.at();
     let count = number(reader)?;
     if count as usize > GIDS_MAX {
-        return Err(Misfit { at });
+        return Err(DecodeError { at });
     }
     numbers(reader, count)
 }
 
 #[tactic(auto, unfolding(crate::specs::Reading::sys_at))]
-fn sys_body<'a>(reader: &mut Reader<'a>) -> Result<SysBody<'a>, Misfit>
+fn sys_body<'a>(reader: &mut Reader<'a>) -> Result<SysBody<'a>, DecodeError>
     ensures { Answers sys_view result reader.new (sys_at reader.old) }
 {
     let stamp = number(reader)?;

@@ -159,7 +159,7 @@ fn longest_bodies(rt: HostRuntime) -> Result<(), Fail> {
     Ok(())
 }
 
-/// Credentials that aren't AUTH_NONE: the flavor that is read of them, 1 too where the body isn't spelled.
+/// Credentials that aren't AUTH_NONE: the flavor that is read of them, 1 too where the body isn't encoded.
 #[test]
 fn other_credentials(rt: HostRuntime) -> Result<(), Fail> {
     let rows: [(&[u32], u32); 4] = [
@@ -272,7 +272,7 @@ fn limits(rt: HostRuntime) -> Result<(), Fail> {
         (340, 256, 16, false),
         (344, 255, 17, false),
     ];
-    for (body, machine, groups, spelled) in rows {
+    for (body, machine, groups, encoded) in rows {
         let words = sys_words(rt.alloc(), body, machine, groups)?;
         let bytes = bytes_of(rt.alloc(), &words)?;
         let head = read_call(rt.alloc(), &bytes)?;
@@ -283,7 +283,7 @@ fn limits(rt: HostRuntime) -> Result<(), Fail> {
                 ..
             }
         );
-        assert_eq!(rt; is_sys, spelled);
+        assert_eq!(rt; is_sys, encoded);
     }
     Ok(())
 }

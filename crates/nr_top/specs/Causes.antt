@@ -6,10 +6,10 @@ use Rattle.nr_world.specs.declared.script.ScriptFault.TheVariants as faults
 use Rattle.nr_top.specs.declared.command.Stop.{Stop}
 use Rattle.nr_top.specs.declared.command.Stop.TheVariants as stops
 use Rattle.nr_top.specs.Ends.{Cause}
-use Rattle.nr_top.specs.Ends.Cause.{WrongWords, NoMemory, InputFault, OutputFault, BadScript, OverBudget}
+use Rattle.nr_top.specs.Ends.Cause.{BadArguments, NoMemory, InputFault, OutputFault, BadScript, OverBudget}
 
 abbrev pub cause_of : Stop → Cause
-cause_of stops.Words = WrongWords
+cause_of stops.Arguments = BadArguments
 cause_of stops.Memory = NoMemory
 cause_of stops.Input = InputFault
 cause_of stops.Output = OutputFault

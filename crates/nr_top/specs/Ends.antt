@@ -5,14 +5,14 @@ use Rattle.std.specs.Io.KnownBytes.{Appends, Keeps, IsAtEnd}
 use Rattle.nr_outside.specs.Content.{HandsOut}
 use Rattle.nr_outside.specs.Faults.{Rose}
 use Rattle.nr_world.specs.declared.mark.Mark.{Mark}
-use Rattle.nr_world.specs.Limits.{script_max}
+use Rattle.nr_world.specs.Constants.{script_max}
 use Rattle.nr_world.specs.Script.{ScriptLines, script_of}
 use Rattle.nr_world.specs.Headline.{IsDrill}
 use Rattle.nr_world.specs.Plain.{drill_server}
 use Rattle.nr_world.specs.Stops.{no_stops}
 use Rattle.nr_world.specs.Shown.{shown}
 use Rattle.nr_top.specs.Statuses as statuses
-use Rattle.nr_top.specs.Words.{is_drill, due_status}
+use Rattle.nr_top.specs.Arguments.{is_drill, due_status}
 
 -- a source as contracts see it: the bytes left and those given, where told, and its count of faults
 pub record InputAt : Type 0 where
@@ -65,8 +65,8 @@ abbrev pub printed : ScriptLines → List Mark → List ℕ
 printed script run = shown drill_server no_stops script.clients run
 
 -- a script was read and run
-pub record Ran (words : List (List ℕ)) (input input' : InputAt) : Type 0 where
-  pub line : is_drill words ≡ true
+pub record Ran (arguments : List (List ℕ)) (input input' : InputAt) : Type 0 where
+  pub line : is_drill arguments ≡ true
   pub text : List ℕ
   pub script : ScriptLines
   pub run : List Mark
@@ -75,31 +75,31 @@ pub record Ran (words : List (List ℕ)) (input input' : InputAt) : Type 0 where
   pub drill : IsDrill script run
 
 -- and what is shown of the run was written
-pub record Done (words : List (List ℕ)) (input input' : InputAt) (out out' : SinkAt) : Type 0 where
-  pub ran : Ran words input input'
+pub record Done (arguments : List (List ℕ)) (input input' : InputAt) (out out' : SinkAt) : Type 0 where
+  pub ran : Ran arguments input input'
   pub prints : Wrote out out' (printed ran.script ran.run)
 
 -- and but a first part of that could be written
-pub record Halfway (words : List (List ℕ)) (input input' : InputAt) (out out' : SinkAt) : Type 0 where
-  pub ran : Ran words input input'
+pub record Halfway (arguments : List (List ℕ)) (input input' : InputAt) (out out' : SinkAt) : Type 0 where
+  pub ran : Ran arguments input input'
   pub cut : CutOff out out' (printed ran.script ran.run)
 
 -- the input has a first bad line
-pub record BadLine (number : ℕ) (words : List (List ℕ)) (input input' : InputAt) : Type 0 where
-  pub line : is_drill words ≡ true
+pub record BadLine (number : ℕ) (arguments : List (List ℕ)) (input input' : InputAt) : Type 0 where
+  pub line : is_drill arguments ≡ true
   pub text : List ℕ
   pub whole : Whole input input' text
   pub bad : script_of text ≡ Err number
 
 -- the input is too long
-pub record TooLong (words : List (List ℕ)) (input : InputAt) : Type 0 where
-  pub line : is_drill words ≡ true
+pub record TooLong (arguments : List (List ℕ)) (input : InputAt) : Type 0 where
+  pub line : is_drill arguments ≡ true
   pub long : IfSome input.left (λ left. script_max < length left)
 
 -- why a command isn't done: its words are no line, memory ran out, the input or the output failed, a line of the script is
 -- bad, or the input is too long
 pub data Cause : Type 0 where
-  WrongWords : Cause
+  BadArguments : Cause
   NoMemory : Cause
   InputFault : Cause
   OutputFault : Cause
@@ -108,12 +108,12 @@ pub data Cause : Type 0 where
 
 -- what is so where a command wasn't done
 abbrev pub Stopped : Cause → List (List ℕ) → InputAt → InputAt → SinkAt → SinkAt → Type 0
-Stopped WrongWords words input input' out out' = (is_drill words ≡ false) × (input' ≡ input) × (out' ≡ out)
-Stopped NoMemory words input input' out out' = (is_drill words ≡ true) × Took input input' × (input'.faults ≡ input.faults) × Silent out out'
-Stopped InputFault words input input' out out' = (is_drill words ≡ true) × Took input input' × Rose input.faults input'.faults × Silent out out'
-Stopped OutputFault words input input' out out' = Halfway words input input' out out'
-Stopped (BadScript number) words input input' out out' = BadLine number words input input' × Silent out out'
-Stopped OverBudget words input input' out out' = TooLong words input × Took input input' × (input'.faults ≡ input.faults) × Silent out out'
+Stopped BadArguments arguments input input' out out' = (is_drill arguments ≡ false) × (input' ≡ input) × (out' ≡ out)
+Stopped NoMemory arguments input input' out out' = (is_drill arguments ≡ true) × Took input input' × (input'.faults ≡ input.faults) × Silent out out'
+Stopped InputFault arguments input input' out out' = (is_drill arguments ≡ true) × Took input input' × Rose input.faults input'.faults × Silent out out'
+Stopped OutputFault arguments input input' out out' = Halfway arguments input input' out out'
+Stopped (BadScript number) arguments input input' out out' = BadLine number arguments input input' × Silent out out'
+Stopped OverBudget arguments input input' out out' = TooLong arguments input × Took input input' × (input'.faults ≡ input.faults) × Silent out out'
 
 -- the words for want of memory, for an input that is too long, and for a bad line
 abbrev pub memory_text : List ℕ
@@ -131,7 +131,7 @@ Spoke due text status err err' = ((status ≡ due) × Wrote err err' text) ⊎ (
 
 -- what is said of a cause; words with a number need memory, and where there is none, that is said
 abbrev pub Says : Cause → ℕ → SinkAt → SinkAt → Type 0
-Says WrongWords status err err' = Spoke statuses.bad_words (codes "bad words\n") status err err'
+Says BadArguments status err err' = Spoke statuses.bad_arguments (codes "bad words\n") status err err'
 Says NoMemory status err err' = Spoke statuses.no_memory memory_text status err err'
 Says InputFault status err err' = Spoke statuses.fault (codes "input fault\n") status err err'
 Says OutputFault status err err' = Spoke statuses.fault (codes "output fault\n") status err err'
@@ -140,28 +140,28 @@ Says OverBudget status err err' = Spoke statuses.over_budget budget_text status 
 
 -- Why the command wasn't done, where a count of faults rose, and what was said of that: of a fault of the input or of the
 -- output all of its words, or a first part, where then err failed; of another cause a first part.
-abbrev pub FaultTold : List (List ℕ) → InputAt → InputAt → SinkAt → SinkAt → SinkAt → SinkAt → Type 0
-FaultTold words input input' out out' err err' = (cause : Cause) × Stopped cause words input input' out out' × Says cause statuses.fault err err'
+abbrev pub FaultReport : List (List ℕ) → InputAt → InputAt → SinkAt → SinkAt → SinkAt → SinkAt → Type 0
+FaultReport arguments input input' out out' err err' = (cause : Cause) × Stopped cause arguments input input' out out' × Says cause statuses.fault err err'
 
 -- What the status of a run tells.
-pub record Ends (words : List (List ℕ)) (status : ℕ) (input input' : InputAt) (out out' err err' : SinkAt) : Type 0 where
+pub record Ends (arguments : List (List ℕ)) (status : ℕ) (input input' : InputAt) (out out' err err' : SinkAt) : Type 0 where
   -- it is one of these
   pub known : statuses.IsStatus status
   -- the script was run, the run keeps the promise, and its lines were printed
-  pub done : status ≡ statuses.done → Done words input input' out out' × Silent err err'
+  pub done : status ≡ statuses.done → Done arguments input input' out out' × Silent err err'
   -- the words are no line, and nothing else happened
-  pub words_bad : status ≡ statuses.bad_words → Stopped WrongWords words input input' out out' × Wrote err err' (codes "bad words\n")
+  pub arguments_bad : status ≡ statuses.bad_arguments → Stopped BadArguments arguments input input' out out' × Wrote err err' (codes "bad words\n")
   -- want of memory
-  pub memory : status ≡ statuses.no_memory → Stopped NoMemory words input input' out out' × Wrote err err' memory_text
+  pub memory : status ≡ statuses.no_memory → Stopped NoMemory arguments input input' out out' × Wrote err err' memory_text
   -- the first bad line, by its number
-  pub script : status ≡ statuses.bad_script → (number : ℕ) × Stopped (BadScript number) words input input' out out' × Wrote err err' (bad_line_text number)
+  pub script : status ≡ statuses.bad_script → (number : ℕ) × Stopped (BadScript number) arguments input input' out out' × Wrote err err' (bad_line_text number)
   -- the input is longer than a script may be
-  pub budget : status ≡ statuses.over_budget → Stopped OverBudget words input input' out out' × Wrote err err' budget_text
+  pub budget : status ≡ statuses.over_budget → Stopped OverBudget arguments input input' out out' × Wrote err err' budget_text
   -- a count rose
-  pub fault : status ≡ statuses.fault → FaultTold words input input' out out' err err'
+  pub fault : status ≡ statuses.fault → FaultReport arguments input input' out out' err err'
   -- with any other status no count rose
   pub unfailing : status ≢ statuses.fault → (input'.faults ≡ input.faults) × (out'.faults ≡ out.faults) × (err'.faults ≡ err.faults)
   -- the status is the one that words and input ask for, but for memory and faults
-  pub due : (text : List ℕ) → input.left ≡ Some text → (status ≡ due_status words text) ⊎ ((status ≡ statuses.no_memory) ⊎ (status ≡ statuses.fault))
+  pub due : (text : List ℕ) → input.left ≡ Some text → (status ≡ due_status arguments text) ⊎ ((status ≡ statuses.no_memory) ⊎ (status ≡ statuses.fault))
   -- words that are no line are told so, whatever the input
-  pub words_due : is_drill words ≡ false → (status ≡ statuses.bad_words) ⊎ (status ≡ statuses.fault)
+  pub arguments_due : is_drill arguments ≡ false → (status ≡ statuses.bad_arguments) ⊎ (status ≡ statuses.fault)

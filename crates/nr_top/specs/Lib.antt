@@ -1,4 +1,4 @@
 pub mod Statuses
-pub mod Words
+pub mod Arguments
 pub mod Ends
 pub mod Causes

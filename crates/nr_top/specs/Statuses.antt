@@ -6,8 +6,8 @@ abbrev pub done : ℕ
 done = 0
 
 -- the words are no line of the program
-abbrev pub bad_words : ℕ
-bad_words = 1
+abbrev pub bad_arguments : ℕ
+bad_arguments = 1
 
 -- memory ran out
 abbrev pub no_memory : ℕ
@@ -27,4 +27,4 @@ over_budget = 11
 
 -- there is no other
 abbrev pub IsStatus : ℕ → Type 0
-IsStatus status = (status ≡ done) ⊎ ((status ≡ bad_words) ⊎ ((status ≡ no_memory) ⊎ ((status ≡ fault) ⊎ ((status ≡ bad_script) ⊎ (status ≡ over_budget)))))
+IsStatus status = (status ≡ done) ⊎ ((status ≡ bad_arguments) ⊎ ((status ≡ no_memory) ⊎ ((status ≡ fault) ⊎ ((status ≡ bad_script) ⊎ (status ≡ over_budget)))))

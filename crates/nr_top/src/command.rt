@@ -2,12 +2,12 @@
 
 ghost use Rattle.std.specs.Prelude.{◌≡◌, true, false, map, MatchResult};
 ghost use Rattle.std.specs.String.{string_bytes};
-ghost use Rattle.nr_top.specs.Words.{is_drill};
+ghost use Rattle.nr_top.specs.Arguments.{is_drill};
 ghost use Rattle.nr_top.specs.Causes.{cause_of};
 ghost use Rattle.nr_top.specs.Ends.{Ends, Done, Stopped, Spoke, Says, input_at, sink_at};
-ghost use Rattle.nr_top.specs.Ends.Cause.{NoMemory, WrongWords};
+ghost use Rattle.nr_top.specs.Ends.Cause.{NoMemory, BadArguments};
 
-use crate::status::{BAD_SCRIPT, BAD_WORDS, DONE, FAULT, NO_MEMORY, OVER_BUDGET};
+use crate::status::{BAD_SCRIPT, BAD_ARGUMENTS, DONE, FAULT, NO_MEMORY, OVER_BUDGET};
 use nr_outside::{ReadEnd, Sink, Source, read_whole, write_whole};
 use nr_world::{SCRIPT_MAX, ScriptFault, read_script, run_world, shown};
 use nr_xdr::Memory;
@@ -16,7 +16,7 @@ use std::alloc::Global;
 /// Why a command wasn't done.
 #[derive(Clone, Copy)]
 enum Stop {
-    Words,
+    Arguments,
     Memory,
     Input,
     Output,
@@ -62,29 +62,29 @@ impl From<Memory> for Stop {
 }
 
 /// Whether the words are those of a drill: the name under which the program was started, and `drill`.
-fn is_drill(words: &[String]) -> bool
-    ensures { result ≡ is_drill (map string_bytes words.now) }
+fn is_drill(arguments: &[String]) -> bool
+    ensures { result ≡ is_drill (map string_bytes arguments.now) }
 {
-    words.len() == 2 && words[1].as_str() == "drill"
+    arguments.len() == 2 && arguments[1].as_str() == "drill"
 }
 
 /// Reads a script, runs it, and prints what happened.
 fn drill<I: Source, O: Sink>(
     alloc: Global,
-    words: &[String],
+    arguments: &[String],
     input: &mut I,
     out: &mut O,
 ) -> Result<(), Stop>
     ensures { MatchResult result
-        (λ _. Done (map string_bytes words.now) (input_at (I.left input.old) (I.given input.old) (I.faults input.old))
+        (λ _. Done (map string_bytes arguments.now) (input_at (I.left input.old) (I.given input.old) (I.faults input.old))
         (input_at (I.left input.new) (I.given input.new) (I.faults input.new))
         (sink_at (O.taken out.old) (O.faults out.old)) (sink_at (O.taken out.new) (O.faults out.new)))
-        (λ stop. Stopped (cause_of stop) (map string_bytes words.now) (input_at (I.left input.old) (I.given input.old) (I.faults input.old))
+        (λ stop. Stopped (cause_of stop) (map string_bytes arguments.now) (input_at (I.left input.old) (I.given input.old) (I.faults input.old))
         (input_at (I.left input.new) (I.given input.new) (I.faults input.new))
         (sink_at (O.taken out.old) (O.faults out.old)) (sink_at (O.taken out.new) (O.faults out.new))) }
 {
-    if !is_drill(words) {
-        return Err(Stop::Words);
+    if !is_drill(arguments) {
+        return Err(Stop::Arguments);
     }
     let text = read_whole(alloc, input, SCRIPT_MAX)?;
     let script = read_script(alloc, text.as_slice())?;
@@ -112,7 +112,7 @@ fn say<E: Sink>(alloc: Global, stop: Stop, err: &mut E) -> u8
     ensures { Says (cause_of stop) result (sink_at (E.taken err.old) (E.faults err.old)) (sink_at (E.taken err.new) (E.faults err.new)) }
 {
     match stop {
-        Stop::Words => speak(err, b"bad words\n", BAD_WORDS),
+        Stop::Arguments => speak(err, b"bad words\n", BAD_ARGUMENTS),
         Stop::Memory => speak(err, b"memory\n", NO_MEMORY),
         Stop::Input => speak(err, b"input fault\n", FAULT),
         Stop::Output => speak(err, b"output fault\n", FAULT),
@@ -131,12 +131,12 @@ fn say<E: Sink>(alloc: Global, stop: Stop, err: &mut E) -> u8
 /// UTF-8.
 pub fn refuse<E: Sink>(err: &mut E, memory: bool) -> u8
     ensures memory { memory ≡ true → Says NoMemory result (sink_at (E.taken err.old) (E.faults err.old)) (sink_at (E.taken err.new) (E.faults err.new)) }
-    ensures words { memory ≡ false → Says WrongWords result (sink_at (E.taken err.old) (E.faults err.old)) (sink_at (E.taken err.new) (E.faults err.new)) }
+    ensures arguments { memory ≡ false → Says BadArguments result (sink_at (E.taken err.old) (E.faults err.old)) (sink_at (E.taken err.new) (E.faults err.new)) }
 {
     if memory {
         speak(err, b"memory\n", NO_MEMORY)
     } else {
-        speak(err, b"bad words\n", BAD_WORDS)
+        speak(err, b"bad words\n", BAD_ARGUMENTS)
     }
 }
 
@@ -150,18 +150,18 @@ pub fn refuse<E: Sink>(err: &mut E, memory: bool) -> u8
 /// the input is too long.
 pub fn run<I: Source, O: Sink, E: Sink>(
     alloc: Global,
-    words: &[String],
+    arguments: &[String],
     input: &mut I,
     out: &mut O,
     err: &mut E,
 ) -> u8
-    ensures { Ends (map string_bytes words.now) result
+    ensures { Ends (map string_bytes arguments.now) result
         (input_at (I.left input.old) (I.given input.old) (I.faults input.old))
         (input_at (I.left input.new) (I.given input.new) (I.faults input.new))
         (sink_at (O.taken out.old) (O.faults out.old)) (sink_at (O.taken out.new) (O.faults out.new))
         (sink_at (E.taken err.old) (E.faults err.old)) (sink_at (E.taken err.new) (E.faults err.new)) }
 {
-    match drill(alloc, words, input, out) {
+    match drill(alloc, arguments, input, out) {
         Ok(()) => DONE,
         Err(stop) => say(alloc, stop, err),
     }

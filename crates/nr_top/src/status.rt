@@ -4,7 +4,7 @@
 pub const DONE: u8 = 0;
 
 /// The words are no line of the program.
-pub const BAD_WORDS: u8 = 1;
+pub const BAD_ARGUMENTS: u8 = 1;
 
 /// Memory ran out.
 pub const NO_MEMORY: u8 = 2;

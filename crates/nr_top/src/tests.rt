@@ -1,4 +1,4 @@
-use crate::status::{BAD_SCRIPT, BAD_WORDS, DONE, FAULT, NO_MEMORY, OVER_BUDGET};
+use crate::status::{BAD_SCRIPT, BAD_ARGUMENTS, DONE, FAULT, NO_MEMORY, OVER_BUDGET};
 use crate::{refuse, run};
 use nr_outside::{MemSink, MemSource};
 use std::alloc::{AllocError, Global};
@@ -8,7 +8,7 @@ use std::test::Fail;
 /// written on `out` and on `err`.
 #[derive(Drop)]
 struct Row {
-    words: &'static [&'static str],
+    arguments: &'static [&'static str],
     input: &'static [u8],
     failing: [&'static [usize]; 3],
     status: u8,
@@ -28,7 +28,7 @@ const PRINTED: &[u8] =
 
 fn drill(input: &'static [u8], status: u8, out: &'static [u8], err: &'static [u8]) -> Row {
     Row {
-        words: DRILL,
+        arguments: DRILL,
         input,
         failing: NONE,
         status,
@@ -37,12 +37,12 @@ fn drill(input: &'static [u8], status: u8, out: &'static [u8], err: &'static [u8
     }
 }
 
-fn words(words: &'static [&'static str]) -> Row {
+fn arguments(arguments: &'static [&'static str]) -> Row {
     Row {
-        words,
+        arguments,
         input: SCRIPT,
         failing: NONE,
-        status: BAD_WORDS,
+        status: BAD_ARGUMENTS,
         out: b"",
         err: b"bad words\n",
     }
@@ -50,7 +50,7 @@ fn words(words: &'static [&'static str]) -> Row {
 
 fn fault(failing: [&'static [usize]; 3], out: &'static [u8], err: &'static [u8]) -> Row {
     Row {
-        words: DRILL,
+        arguments: DRILL,
         input: SCRIPT,
         failing,
         status: FAULT,
@@ -90,9 +90,9 @@ fn rows() -> [Row; 16] {
             b"",
             b"bad line 2\n",
         ),
-        words(&["nfsrdma"]),
-        words(&["nfsrdma", "drill", "drill"]),
-        words(&["nfsrdma", "Drill"]),
+        arguments(&["nfsrdma"]),
+        arguments(&["nfsrdma", "drill", "drill"]),
+        arguments(&["nfsrdma", "Drill"]),
         fault([&[0], &[], &[]], b"", b"input fault\n"),
         fault([&[1], &[], &[]], b"", b"input fault\n"),
         fault([&[], &[0], &[]], b"", b"output fault\n"),
@@ -100,9 +100,9 @@ fn rows() -> [Row; 16] {
     ]
 }
 
-fn strings(alloc: Global, words: &[&str]) -> Result<Vec<String>, AllocError> {
+fn strings(alloc: Global, arguments: &[&str]) -> Result<Vec<String>, AllocError> {
     let mut strings = Vec::new(alloc);
-    for word in words {
+    for word in arguments {
         strings.push(format!(in alloc; "{word}")?)?;
     }
     Ok(strings)
@@ -111,7 +111,7 @@ fn strings(alloc: Global, words: &[&str]) -> Result<Vec<String>, AllocError> {
 #[test]
 fn each_status_with_what_is_said(rt: HostRuntime) -> Result<(), Fail> {
     for (number, row) in rows().iter().enumerate() {
-        let words = strings(rt.alloc(), row.words)?;
+        let arguments = strings(rt.alloc(), row.arguments)?;
         let [input, out, err] = row.failing;
         let mut input = MemSource::new(
             row.input.to_vec(rt.alloc())?,
@@ -120,7 +120,7 @@ fn each_status_with_what_is_said(rt: HostRuntime) -> Result<(), Fail> {
         );
         let mut out = MemSink::new(rt.alloc(), out.to_vec(rt.alloc())?);
         let mut err = MemSink::new(rt.alloc(), err.to_vec(rt.alloc())?);
-        let status = run(rt.alloc(), words.as_slice(), &mut input, &mut out, &mut err);
+        let status = run(rt.alloc(), arguments.as_slice(), &mut input, &mut out, &mut err);
         assert_eq!(rt; status, row.status, "row {number}");
         assert_eq!(rt; out.bytes(), row.out, "row {number}");
         assert_eq!(rt; err.bytes(), row.err, "row {number}");
@@ -132,7 +132,7 @@ fn each_status_with_what_is_said(rt: HostRuntime) -> Result<(), Fail> {
 fn words_that_cannot_be_had(rt: HostRuntime) -> Result<(), Fail> {
     let rows: [(bool, &'static [usize], u8, &'static [u8]); 3] = [
         (true, &[], NO_MEMORY, b"memory\n"),
-        (false, &[], BAD_WORDS, b"bad words\n"),
+        (false, &[], BAD_ARGUMENTS, b"bad words\n"),
         (true, &[0], FAULT, b""),
     ];
     for (memory, failing, status, said) in rows {
@@ -145,7 +145,7 @@ fn words_that_cannot_be_had(rt: HostRuntime) -> Result<(), Fail> {
 
 #[test]
 fn an_input_may_have_so_many_bytes(rt: HostRuntime) -> Result<(), Fail> {
-    let words = strings(rt.alloc(), DRILL)?;
+    let arguments = strings(rt.alloc(), DRILL)?;
     let rows = [
         (16_777_217, OVER_BUDGET, b"budget 16777216\n".as_slice()),
         (16_777_216, BAD_SCRIPT, b"bad line 1\n"),
@@ -155,7 +155,7 @@ fn an_input_may_have_so_many_bytes(rt: HostRuntime) -> Result<(), Fail> {
         let mut input = MemSource::new(bytes, Vec::new(rt.alloc()), Vec::new(rt.alloc()));
         let mut out = MemSink::new(rt.alloc(), Vec::new(rt.alloc()));
         let mut err = MemSink::new(rt.alloc(), Vec::new(rt.alloc()));
-        let answer = run(rt.alloc(), words.as_slice(), &mut input, &mut out, &mut err);
+        let answer = run(rt.alloc(), arguments.as_slice(), &mut input, &mut out, &mut err);
         assert_eq!(rt; answer, status, "{len} bytes");
         assert_eq!(rt; out.bytes(), b"".as_slice());
         assert_eq!(rt; err.bytes(), said);

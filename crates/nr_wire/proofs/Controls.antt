@@ -2,7 +2,7 @@
 use Rattle.std.proofs.Common.{◌≡◌, ℕ, ◌+◌, ◌*◌, ◌/◌, ◌%◌, ◌<◌, Bool, true, false, refl, arith}
 use Rattle.std.proofs.lemmas.Bool.{eq-eqb, ne_eqb, eqb-true, eqb-false}
 use Rattle.nr_xdr.specs.Item.{bit}
-use Rattle.nr_wire.specs.Numbers.{has_bit}
+use Rattle.nr_wire.specs.Fields.{has_bit}
 
 abbrev pub first_control : ℕ → Bool → Bool → ℕ
 first_control reserved tagged last = 128 * bit tagged + 64 * bit last + 4 * reserved + 1

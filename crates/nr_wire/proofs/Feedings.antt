@@ -4,9 +4,9 @@ use Rattle.std.proofs.Common.{◌≡◌, ℕ, zero, suc, ◌-◌, ◌≤◌, Boo
 use Rattle.std.proofs.lemmas.List.{length-append, drop_all, append-nil}
 use Rattle.nr_wire.specs.declared.stream.Awaited.{Awaited}
 use Rattle.nr_wire.specs.declared.stream.Awaited.TheVariants.{Fpdu}
-use Rattle.nr_wire.specs.Stream.{frame_len, is_whole, IsPartial, awaited_after, Split, split, lacking, fields_len, IsFrame}
+use Rattle.nr_wire.specs.Stream.{frame_len, is_whole, IsPartial, awaited_after, Split, split, bytes_needed, fields_len, IsFrame}
 use Rattle.nr_wire.specs.Feeding.{Feeding, settled, fed_frames, fed, fed_one, taken}
-use Rattle.nr_wire.proofs.Frames.{whole_from, partial_from, shorter_than_frame, partial_nil, lacking_less, lacking_just, partial_not_whole}
+use Rattle.nr_wire.proofs.Frames.{whole_from, partial_from, shorter_than_frame, partial_nil, needed_less, needed_just, partial_not_whole}
 use Rattle.nr_wire.proofs.Splits.{split-whole, split-append, split-Splits, awaited_after-Fpdu}
 
 -- what is dropped behind a front
@@ -187,15 +187,15 @@ taken_staged_by a rest x y false e p =
 pub taken-staged : (a : Awaited) (rest x y : List ℕ) → IsPartial a (rest ++ x) → taken a rest (x ++ y) ≡ length x + taken a (rest ++ x) y
 taken-staged a rest x y p = taken_staged_by a rest x y (is_whole a ((rest ++ x) ++ y)) refl p
 
--- fewer bytes than are lacking are taken, all of them
-pub taken-less : (a : Awaited) (rest piece : List ℕ) → length piece < lacking a rest → taken a rest piece ≡ length piece
-taken-less a rest piece lt = taken-partial a rest piece (partial_not_whole a (rest ++ piece) (lacking_less a rest piece lt))
+-- fewer bytes than are bytes_needed are taken, all of them
+pub taken-less : (a : Awaited) (rest piece : List ℕ) → length piece < bytes_needed a rest → taken a rest piece ≡ length piece
+taken-less a rest piece lt = taken-partial a rest piece (partial_not_whole a (rest ++ piece) (needed_less a rest piece lt))
 
--- where the fields are there and as many bytes come as are lacking, those are taken, and the frame is whole
-pub taken-just : (a : Awaited) (rest front back : List ℕ) → IsPartial a rest → fields_len a ≤ length rest → length front ≡ lacking a rest
+-- where the fields are there and as many bytes come as are bytes_needed, those are taken, and the frame is whole
+pub taken-just : (a : Awaited) (rest front back : List ℕ) → IsPartial a rest → fields_len a ≤ length rest → length front ≡ bytes_needed a rest
     → (taken a rest (front ++ back) ≡ length front) × (is_whole a (rest ++ (front ++ back)) ≡ true)
 taken-just a rest front back p fields e =
-    let f : IsFrame a (rest ++ front) = (lacking_just a rest front p e).1 fields in
+    let f : IsFrame a (rest ++ front) = (needed_just a rest front p e).1 fields in
     let at = front_frame a (rest ++ front) back f in
     let same : rest ++ (front ++ back) ≡ (rest ++ front) ++ back = sym (append_assoc rest front back) in
     let whole : is_whole a (rest ++ (front ++ back)) ≡ true = ap (is_whole a) same ∙ at.whole in (

@@ -8,10 +8,10 @@ use Rattle.nr_wire.specs.Constants.{HELLO_LEN, LENGTH_LEN}
 use Rattle.nr_wire.specs.declared.hello.Side.{Side}
 use Rattle.nr_wire.specs.declared.stream.Awaited.{Awaited}
 use Rattle.nr_wire.specs.declared.stream.Awaited.TheVariants.{Hello, Fpdu}
-use Rattle.nr_wire.specs.Numbers.{half_word_at, half_word_of}
+use Rattle.nr_wire.specs.Fields.{half_word_at, half_word_of}
 use Rattle.nr_wire.specs.Hello.{hello_flaw, hello_size, hello_len}
 use Rattle.nr_wire.specs.Segment.{fpdu_size, fpdu_len, ulpdu_len}
-use Rattle.nr_wire.specs.Stream.{fields_len, frame_len, is_whole, IsFrame, IsPartial, lacking}
+use Rattle.nr_wire.specs.Stream.{fields_len, frame_len, is_whole, IsFrame, IsPartial, bytes_needed}
 
 pub half_word_at-append : (place : ℕ) (xs ys : List ℕ) → place + 2 ≤ length xs → half_word_at place (xs ++ ys) ≡ half_word_at place xs
 half_word_at-append place xs ys le =
@@ -168,43 +168,43 @@ short_partial a bytes lt = partial_from a bytes (false_from_ne_true _ (λ e. let
 long_partial : (a : Awaited) (bytes : List ℕ) → length bytes < frame_len a bytes → IsPartial a bytes
 long_partial a bytes lt = partial_from a bytes (false_from_ne_true _ (λ e. let w = whole_from a bytes e in omega (arith, w.frame)))
 
-lacking_fields : (a : Awaited) (rest : List ℕ) → length rest < fields_len a → lacking a rest ≡ fields_len a - length rest
-unfolding lacking
-lacking_fields a rest lt = rw (lt-ltb (length rest) (fields_len a) lt) refl
+needed_fields : (a : Awaited) (rest : List ℕ) → length rest < fields_len a → bytes_needed a rest ≡ fields_len a - length rest
+unfolding bytes_needed
+needed_fields a rest lt = rw (lt-ltb (length rest) (fields_len a) lt) refl
 
-lacking_frame : (a : Awaited) (rest : List ℕ) → fields_len a ≤ length rest → lacking a rest ≡ frame_len a rest - length rest
-unfolding lacking
-lacking_frame a rest le = rw (le-ltb (length rest) (fields_len a) le) refl
+needed_frame : (a : Awaited) (rest : List ℕ) → fields_len a ≤ length rest → bytes_needed a rest ≡ frame_len a rest - length rest
+unfolding bytes_needed
+needed_frame a rest le = rw (le-ltb (length rest) (fields_len a) le) refl
 
--- some bytes are lacking exactly where the frame isn't whole
-pub lacking_some : (a : Awaited) (rest : List ℕ) → IsPartial a rest ↔ (0 < lacking a rest)
-lacking_some a rest =
+-- some bytes are bytes_needed exactly where the frame isn't whole
+pub needed_some : (a : Awaited) (rest : List ℕ) → IsPartial a rest ↔ (0 < bytes_needed a rest)
+needed_some a rest =
     elim (cases_lt (length rest) (fields_len a)) [
-      | inl lt ↦ (λ p. omega (arith, lacking_fields a rest lt), λ h. short_partial a rest lt)
+      | inl lt ↦ (λ p. omega (arith, needed_fields a rest lt), λ h. short_partial a rest lt)
       | inr le ↦ (
-        λ p. omega (arith, lacking_frame a rest le, not_whole a rest (partial_not_whole a rest p) le),
-        λ h. long_partial a rest (omega (arith, lacking_frame a rest le)),
+        λ p. omega (arith, needed_frame a rest le, not_whole a rest (partial_not_whole a rest p) le),
+        λ h. long_partial a rest (omega (arith, needed_frame a rest le)),
       )
     ]
 
--- fewer bytes than are lacking don't make it whole
-pub lacking_less : (a : Awaited) (rest more : List ℕ) → length more < lacking a rest → IsPartial a (rest ++ more)
-lacking_less a rest more lt =
+-- fewer bytes than are bytes_needed don't make it whole
+pub needed_less : (a : Awaited) (rest more : List ℕ) → length more < bytes_needed a rest → IsPartial a (rest ++ more)
+needed_less a rest more lt =
     elim (cases_lt (length rest) (fields_len a)) [
-      | inl short ↦ short_partial a (rest ++ more) (omega (arith, length-append rest more, lacking_fields a rest short))
-      | inr le ↦ long_partial a (rest ++ more) (omega (arith, length-append rest more, lacking_frame a rest le, frame_len-append a rest more le))
+      | inl short ↦ short_partial a (rest ++ more) (omega (arith, length-append rest more, needed_fields a rest short))
+      | inr le ↦ long_partial a (rest ++ more) (omega (arith, length-append rest more, needed_frame a rest le, frame_len-append a rest more le))
     ]
 
--- as many as are lacking make its fields whole, or else the frame
-pub lacking_just : (a : Awaited) (rest more : List ℕ) → IsPartial a rest → length more ≡ lacking a rest
+-- as many as are bytes_needed make its fields whole, or else the frame
+pub needed_just : (a : Awaited) (rest more : List ℕ) → IsPartial a rest → length more ≡ bytes_needed a rest
     → (length rest < fields_len a → length (rest ++ more) ≡ fields_len a) × (fields_len a ≤ length rest → IsFrame a (rest ++ more))
-lacking_just a rest more p e = (
-  λ lt. omega (arith, length-append rest more, lacking_fields a rest lt),
+needed_just a rest more p e = (
+  λ lt. omega (arith, length-append rest more, needed_fields a rest lt),
   λ le.
       let lt = not_whole a rest (partial_not_whole a rest p) le in
       let same = frame_len-append a rest more le in
       record {
         fields = omega (arith, length-append rest more);
-        len = same ∙ omega (arith, length-append rest more, lacking_frame a rest le);
+        len = same ∙ omega (arith, length-append rest more, needed_frame a rest le);
       },
 )

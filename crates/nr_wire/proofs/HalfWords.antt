@@ -1,8 +1,8 @@
--- A number of two bytes that was spelled is read again, and what is read so is its spelling.
+-- A number of two bytes that was encoded is read again, and what is read so is its encoding.
 use Rattle.std.proofs.Common.{◌≡◌, ℕ, ◌^◌, ◌<◌, List, length, refl, arith}
 use Rattle.std.proofs.lemmas.Nat.{be_bytes_2, from_be_bytes-to_be_bytes_2}
 use Rattle.nr_xdr.specs.Item.{IsBytes}
-use Rattle.nr_wire.specs.Numbers.{half_word, half_word_of}
+use Rattle.nr_wire.specs.Fields.{half_word, half_word_of}
 
 pub length-half_word : (n : ℕ) → length (half_word n) ≡ 2
 unfolding half_word

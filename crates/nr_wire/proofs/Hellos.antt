@@ -1,4 +1,4 @@
--- A hello is read exactly where it is spelled.
+-- A hello is read exactly where it is encoded.
 use Rattle.std.proofs.Common.{◌≡◌, ℕ, ◌+◌, ◌^◌, ◌<◌, ◌≤◌, Bool, true, false, not, cond, eqb, ltb, List, ◌∷◌, ◌++◌, length, get_or, take, drop, Option, None, Some, refl, sym, ap, ◌∙◌, subst, ◌↔◌, arith}
 use Rattle.std.specs.List.{starts_with}
 use Rattle.std.specs.Prelude.{nat_eq}
@@ -7,13 +7,13 @@ use Rattle.std.proofs.lemmas.Bool.Decides.{Decides-eqb}
 use Rattle.std.proofs.lemmas.List.{take_at, drop_at, take-append-drop, length-append, length-take-le, length-drop, drop_more, take_all, take-take, get_or-take, get_or_append_left}
 use Rattle.std.proofs.lemmas.Slice.Eq.{starts_is}
 use Rattle.nr_xdr.specs.Item.{IsBytes}
-use Rattle.nr_xdr.proofs.Numbers.{IsBytes-take, IsBytes-drop}
+use Rattle.nr_xdr.proofs.WordBytes.{IsBytes-take, IsBytes-drop}
 use Rattle.nr_wire.specs.Constants.{HELLO_LEN, HELLO_REVISION, PRIVATE_MAX}
 use Rattle.nr_wire.specs.declared.hello.Side.{Side}
 use Rattle.nr_wire.specs.declared.hello.Side.TheVariants.{Initiator, Responder}
 use Rattle.nr_wire.specs.declared.stream.Awaited.TheVariants.{Hello as HelloFrom}
-use Rattle.nr_wire.specs.Numbers.{half_word, half_word_of}
-use Rattle.nr_wire.specs.Hello.{Hello, key, hello_spelling, flags_of, revision_of, private_len, is_refused_by, IsAccepted, hello_flaw, hello_of, hello_size, hello_len}
+use Rattle.nr_wire.specs.Fields.{half_word, half_word_of}
+use Rattle.nr_wire.specs.Hello.{Hello, key, hello_encoding, flags_of, revision_of, private_len, is_refused_by, IsAccepted, hello_flaw, hello_of, hello_size, hello_len}
 use Rattle.nr_wire.specs.Next.{Next, hello_in}
 use Rattle.nr_wire.specs.Next.Next.{Whole, More, Bad}
 use Rattle.nr_wire.specs.Stream.{is_whole, IsFrame, IsPartial}
@@ -31,9 +31,9 @@ length-key Responder = refl
 opening : Hello → List ℕ
 opening hello = key hello.side ++ (hello.flags ∷ HELLO_REVISION ∷ half_word (length hello.private))
 
-spelling-opening : (hello : Hello) → hello_spelling hello ≡ opening hello ++ hello.private
-unfolding hello_spelling opening
-spelling-opening hello = refl
+encoding-opening : (hello : Hello) → hello_encoding hello ≡ opening hello ++ hello.private
+unfolding hello_encoding opening
+encoding-opening hello = refl
 
 length-opening : (hello : Hello) → length (opening hello) ≡ 20
 unfolding opening key half_word
@@ -70,21 +70,21 @@ unfolding hello_in hello_of
 hello_in-answer side bytes = refl
 
 -- a whole hello that isn't refused
-record Spelled (hello : Hello) (frame : List ℕ) : Type 0 where
+record Encoded (hello : Hello) (frame : List ℕ) : Type 0 where
   flaw : hello_flaw hello.side (take HELLO_LEN frame) ≡ None
   flags : flags_of frame ≡ hello.flags
   private : drop HELLO_LEN frame ≡ hello.private
   frame_is : IsFrame (HelloFrom hello.side) frame
 
-spelled : (hello : Hello) → IsAccepted hello → Spelled hello (hello_spelling hello)
+encoded : (hello : Hello) → IsAccepted hello → Encoded hello (hello_encoding hello)
 unfolding hello_len opening
-spelled hello h =
+encoded hello h =
     let side = hello.side in
     let n = length hello.private in
     let head = opening hello in
     let fields = by_side side hello.flags n (omega (arith, h.1)) in
-    let frame = hello_spelling hello in
-    let is : frame ≡ head ++ hello.private = spelling-opening hello in
+    let frame = hello_encoding hello in
+    let is : frame ≡ head ++ hello.private = encoding-opening hello in
     let front : take HELLO_LEN frame ≡ head = ap (take HELLO_LEN) is ∙ take_at head hello.private HELLO_LEN (length-opening hello) in
     let flaw : hello_flaw side (take HELLO_LEN frame) ≡ None = ap (hello_flaw side) front ∙ no_flaw side hello.flags n head fields h.0 h.1 in
     let size : private_len frame ≡ n = ap private_len is ∙ half_word_at-append 18 head hello.private (omega (arith, length-opening hello)) ∙ fields.private_is in
@@ -97,12 +97,12 @@ spelled hello h =
       frame_is = record { fields = omega (arith, whole); len = len ∙ sym whole };
     }
 
--- what is spelled so is read
-pub hello_again : (hello : Hello) (more : List ℕ) → IsAccepted hello → hello_in hello.side (hello_spelling hello ++ more) ≡ Whole hello (length (hello_spelling hello))
+-- what is encoded so is read
+pub hello_again : (hello : Hello) (more : List ℕ) → IsAccepted hello → hello_in hello.side (hello_encoding hello ++ more) ≡ Whole hello (length (hello_encoding hello))
 hello_again hello more h =
     let side = hello.side in
-    let s = spelled hello h in
-    let frame = hello_spelling hello in
+    let s = encoded hello h in
+    let frame = hello_encoding hello in
     let bytes = frame ++ more in
     let front = front_frame (HelloFrom side) frame more s.frame_is in
     let value : ◌≡◌ {A = Hello} (record { side = side; flags = flags_of frame; private = drop HELLO_LEN frame }) hello = λ i. record { side = side; flags = s.flags i; private = s.private i } in
@@ -152,17 +152,17 @@ opening_of side head fits len e =
     ∙ ap (λ (x : List ℕ). flags_of head ∷ x) (drop_more head 17 0 (omega (arith, len)) ∙ (λ i. revision i ∷ last i)) in
     starts ∙ ap (λ (n : ℕ). key side ++ drop n head) (length-key side) ∙ ap (λ (x : List ℕ). key side ++ x) cells
 
--- what is read is spelled so
+-- what is read is encoded so
 pub record HelloFound (side : Side) (bytes : List ℕ) (hello : Hello) (len : ℕ) : Type 0 where
   pub side_is : hello.side ≡ side
   pub accepted : IsAccepted hello
-  pub spelled_is : take len bytes ≡ hello_spelling hello
+  pub encoded_is : take len bytes ≡ hello_encoding hello
   pub within : len ≤ length bytes
 
 hello_there : (side : Side) (bytes : List ℕ) → IsBytes bytes → IsWhole (HelloFrom side) bytes
     → hello_flaw side (take HELLO_LEN (take (hello_len side bytes) bytes)) ≡ None
     → HelloFound side bytes (record { side = side; flags = flags_of (take (hello_len side bytes) bytes); private = drop HELLO_LEN (take (hello_len side bytes) bytes) }) (hello_len side bytes)
-unfolding hello_spelling hello_len
+unfolding hello_encoding hello_len
 hello_there side bytes fits w e =
     let size = hello_len side bytes in
     let frame = take size bytes in
@@ -186,7 +186,7 @@ hello_there side bytes fits w e =
     record {
       side_is = refl;
       accepted = (ap (is_refused_by side) (sym flags) ∙ p.refused_is, omega arith);
-      spelled_is = sym (take-append-drop HELLO_LEN frame)
+      encoded_is = sym (take-append-drop HELLO_LEN frame)
           ∙ ap (λ (x : List ℕ). x ++ private) (opened ∙ (λ i. key side ++ (flags i ∷ HELLO_REVISION ∷ half_word ((n_is ∙ sym private_is) i))));
       within = w.frame;
     }

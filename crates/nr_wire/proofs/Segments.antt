@@ -1,15 +1,15 @@
--- A segment is read exactly where an FPDU spells it, whatever its reserved bits, pad and CRC hold.
+-- A segment is read exactly where an FPDU encodes it, whatever its reserved bits, pad and CRC hold.
 use Rattle.std.proofs.Common.{◌≡◌, ℕ, ◌+◌, ◌-◌, ◌/◌, ◌%◌, ◌^◌, ◌<◌, ◌≤◌, Bool, true, false, not, cond, eqb, ltb, List, ◌∷◌, ◌++◌, length, replicate, take, drop, Option, None, Some, Result, Ok, Err, refl, sym, ap, ◌∙◌, subst, ◌↔◌, arith}
 use Rattle.std.proofs.lemmas.Bool.{ltb-false, le-ltb, eqb-true, eq-eqb, not-false, or_left, or_right}
 use Rattle.std.proofs.lemmas.List.{take_at, take-append-drop, length-append, length-take-le, length-drop, drop_more, drop-drop, length-replicate}
 use Rattle.std.specs.Prelude.{slice_index, ◌||◌}
 use Rattle.std.proofs.lemmas.Bool.Decides.{nat_tests}
 use Rattle.nr_xdr.specs.Item.{IsBytes, word, hyper}
-use Rattle.nr_xdr.proofs.Numbers.{IsBytes-take, IsBytes-drop, word-word_of, word_of-word, word_of-below, hyper-hyper_of, hyper_of-hyper, hyper_of-below}
+use Rattle.nr_xdr.proofs.WordBytes.{IsBytes-take, IsBytes-drop, word-word_of, word_of-word, word_of-below, hyper-hyper_of, hyper_of-hyper, hyper_of-below}
 use Rattle.nr_wire.specs.declared.stream.Awaited.TheVariants.{Fpdu}
-use Rattle.nr_wire.specs.Numbers.{half_word, word_at, hyper_at}
+use Rattle.nr_wire.specs.Fields.{half_word, word_at, hyper_at}
 use Rattle.nr_wire.specs.Hello.{unless}
-use Rattle.nr_wire.specs.Segment.{Segment, Fits, IsLetThrough, Reads, flaw_by, segment_flaw, segment_of, read_as, is_tagged, is_last, ddp_version, rdmap_version, opcode_of, queue_of, queue_for, ulpdu_len, ulpdu_size, payload_of, header, framed, tail_len, fpdu_size, fpdu_len, is_tagged_opcode, is_untagged_opcode, is_let_through, is_of_other_form, is_of_other_queue, header_len, spelling}
+use Rattle.nr_wire.specs.Segment.{Segment, Fits, IsSupported, Reads, flaw_by, segment_flaw, segment_of, read_as, is_tagged, is_last, ddp_version, rdmap_version, opcode_of, queue_of, queue_for, ulpdu_len, ulpdu_size, payload_of, header, framed, tail_len, fpdu_size, fpdu_len, is_tagged_opcode, is_untagged_opcode, is_supported, is_of_other_form, is_of_other_queue, header_len, encoding}
 use Rattle.nr_wire.specs.Segment.Segment.{Tagged, Untagged}
 use Rattle.nr_wire.specs.Stream.{is_whole, IsFrame, IsPartial}
 use Rattle.nr_wire.specs.Next.{Next, judged, segment_in}
@@ -44,7 +44,7 @@ tagged_passes size opcode queue le known =
 untagged_other : (opcode : ℕ) → is_untagged_opcode opcode ≡ true → is_tagged_opcode opcode ≡ false
 untagged_other opcode e = grind (arith, nat_tests, e)
 
-untagged_known : (opcode : ℕ) → is_let_through opcode ≡ true → is_tagged_opcode opcode ≡ false → is_untagged_opcode opcode ≡ true
+untagged_known : (opcode : ℕ) → is_supported opcode ≡ true → is_tagged_opcode opcode ≡ false → is_untagged_opcode opcode ≡ true
 untagged_known opcode known other = sym (ap (λ (b : Bool). b || is_untagged_opcode opcode) other) ∙ known
 
 untagged_passes : (size opcode queue : ℕ) → 18 ≤ size → is_untagged_opcode opcode ≡ true → queue ≡ queue_for opcode → flaw_by size false 1 1 opcode queue ≡ None
@@ -117,7 +117,7 @@ untagged_says last opcode w queue msn offset payload reserved spare tail fits lt
       };
     }
 
-says : (segment : Segment) (frame : List ℕ) → IsLetThrough segment → Reads segment frame → Says frame segment
+says : (segment : Segment) (frame : List ℕ) → IsSupported segment → Reads segment frame → Says frame segment
 says (Tagged last opcode stag to payload) frame through r =
     subst (λ (f : List ℕ). Says f (Tagged last opcode stag to payload)) (sym r.frame_is)
     (tagged_says last opcode stag to payload r.reserved r.spare r.tail r.fits (omega (arith, r.size)) through r.reserved_below r.spare_below r.tail_is)
@@ -125,8 +125,8 @@ says (Untagged last opcode w queue msn offset payload) frame through r =
     subst (λ (f : List ℕ). Says f (Untagged last opcode w queue msn offset payload)) (sym r.frame_is)
     (untagged_says last opcode w queue msn offset payload r.reserved r.spare r.tail r.fits (omega (arith, r.size)) through.0 through.1 r.reserved_below r.spare_below r.tail_is)
 
--- what is spelled so is read
-pub segment_again : (segment : Segment) (frame more : List ℕ) → IsLetThrough segment → Reads segment frame → segment_in (frame ++ more) ≡ Whole segment (length frame)
+-- what is encoded so is read
+pub segment_again : (segment : Segment) (frame more : List ℕ) → IsSupported segment → Reads segment frame → segment_in (frame ++ more) ≡ Whole segment (length frame)
 unfolding segment_in
 segment_again segment frame more through r =
     let s = says segment frame through r in
@@ -134,7 +134,7 @@ segment_again segment frame more through r =
     λ i. cond (front.whole i) (judged ((ap segment_of front.front ∙ s.said) i) (front.len i)) More
 
 -- what a raw frame says, by itself
-pub segment_of-again : (segment : Segment) (frame : List ℕ) → IsLetThrough segment → Reads segment frame → segment_of frame ≡ Ok segment
+pub segment_of-again : (segment : Segment) (frame : List ℕ) → IsSupported segment → Reads segment frame → segment_of frame ≡ Ok segment
 segment_of-again segment frame through r = (says segment frame through r).said
 
 -- what numbers stand where
@@ -142,24 +142,24 @@ piece_word : (k : ℕ) (frame : List ℕ) → IsBytes frame → k + 4 ≤ length
 piece_word k frame fits le =
     let front = take 4 (drop k frame) in
     let len : length front ≡ 4 = length-take-le 4 (drop k frame) (omega (arith, length-drop k frame)) in
-    let spelled : front ≡ word (word_at k frame) = sym (word-word_of front len (IsBytes-take 4 (drop k frame) (IsBytes-drop k frame fits))) in
-    sym (take-append-drop 4 (drop k frame)) ∙ (λ i. spelled i ++ drop-drop 4 k frame i)
+    let encoded : front ≡ word (word_at k frame) = sym (word-word_of front len (IsBytes-take 4 (drop k frame) (IsBytes-drop k frame fits))) in
+    sym (take-append-drop 4 (drop k frame)) ∙ (λ i. encoded i ++ drop-drop 4 k frame i)
 
 piece_hyper : (k : ℕ) (frame : List ℕ) → IsBytes frame → k + 8 ≤ length frame → drop k frame ≡ hyper (hyper_at k frame) ++ drop (k + 8) frame
 piece_hyper k frame fits le =
     let front = take 8 (drop k frame) in
     let len : length front ≡ 8 = length-take-le 8 (drop k frame) (omega (arith, length-drop k frame)) in
-    let spelled : front ≡ hyper (hyper_at k frame) = sym (hyper-hyper_of front len (IsBytes-take 8 (drop k frame) (IsBytes-drop k frame fits))) in
-    sym (take-append-drop 8 (drop k frame)) ∙ (λ i. spelled i ++ drop-drop 8 k frame i)
+    let encoded : front ≡ hyper (hyper_at k frame) = sym (hyper-hyper_of front len (IsBytes-take 8 (drop k frame) (IsBytes-drop k frame fits))) in
+    sym (take-append-drop 8 (drop k frame)) ∙ (λ i. encoded i ++ drop-drop 8 k frame i)
 
 -- the length field and the two bytes behind it
 piece_opening : (frame : List ℕ) → IsBytes frame → 4 ≤ length frame → frame ≡ half_word (ulpdu_len frame) ++ (slice_index frame 2 ∷ slice_index frame 3 ∷ drop 4 frame)
 piece_opening frame fits le =
     let len : length (take 2 frame) ≡ 2 = length-take-le 2 frame (omega arith) in
-    let spelled : take 2 frame ≡ half_word (ulpdu_len frame) = sym (half_word-half_word_of (take 2 frame) len (IsBytes-take 2 frame fits)) in
+    let encoded : take 2 frame ≡ half_word (ulpdu_len frame) = sym (half_word-half_word_of (take 2 frame) len (IsBytes-take 2 frame fits)) in
     let cells : drop 2 frame ≡ slice_index frame 2 ∷ slice_index frame 3 ∷ drop 4 frame =
     drop_more frame 2 0 (omega arith) ∙ ap (λ (x : List ℕ). slice_index frame 2 ∷ x) (drop_more frame 3 0 (omega arith)) in
-    sym (take-append-drop 2 frame) ∙ (λ i. spelled i ++ cells i)
+    sym (take-append-drop 2 frame) ∙ (λ i. encoded i ++ cells i)
 
 word_below : (k : ℕ) (frame : List ℕ) → IsBytes frame → word_at k frame < 2 ^ 32
 word_below k frame fits = word_of-below (take 4 (drop k frame)) (IsBytes-take 4 (drop k frame) (IsBytes-drop k frame fits))
@@ -192,10 +192,10 @@ passed false false c d e f h = absurd (let wrong : some 6 ≡ None = h in cc)
 passed true b c d e f h = absurd (let wrong : some 5 ≡ None = h in cc)
 
 passed_in : (frame : List ℕ) (tagged : Bool) → is_tagged frame ≡ tagged → segment_flaw frame ≡ None
-    → Passed (ltb (ulpdu_len frame) (header_len tagged)) (eqb (ddp_version frame) 1) (eqb (rdmap_version frame) 1) (is_let_through (opcode_of frame)) (is_of_other_form tagged (opcode_of frame)) (is_of_other_queue tagged (opcode_of frame) (queue_of frame))
+    → Passed (ltb (ulpdu_len frame) (header_len tagged)) (eqb (ddp_version frame) 1) (eqb (rdmap_version frame) 1) (is_supported (opcode_of frame)) (is_of_other_form tagged (opcode_of frame)) (is_of_other_queue tagged (opcode_of frame) (queue_of frame))
 unfolding segment_flaw
 passed_in frame tagged t e =
-    passed (ltb (ulpdu_len frame) (header_len tagged)) (eqb (ddp_version frame) 1) (eqb (rdmap_version frame) 1) (is_let_through (opcode_of frame)) (is_of_other_form tagged (opcode_of frame)) (is_of_other_queue tagged (opcode_of frame) (queue_of frame))
+    passed (ltb (ulpdu_len frame) (header_len tagged)) (eqb (ddp_version frame) 1) (eqb (rdmap_version frame) 1) (is_supported (opcode_of frame)) (is_of_other_form tagged (opcode_of frame)) (is_of_other_queue tagged (opcode_of frame) (queue_of frame))
     (sym (ap (λ (b : Bool). flaw_by (ulpdu_len frame) b (ddp_version frame) (rdmap_version frame) (opcode_of frame) (queue_of frame)) t) ∙ e)
 
 -- where the payload lies
@@ -219,7 +219,7 @@ payload_there n frame le f =
     }
 
 record SegmentThere (segment : Segment) (frame : List ℕ) : Type 0 where
-  through : IsLetThrough segment
+  through : IsSupported segment
   reads : Reads segment frame
 
 tagged_there : (frame : List ℕ) → IsBytes frame → IsFrame Fpdu frame → is_tagged frame ≡ true → segment_flaw frame ≡ None → SegmentThere (read_as true frame) frame
@@ -302,9 +302,9 @@ segment_in-answer : (bytes : List ℕ) → segment_in bytes ≡ as_answer bytes
 unfolding segment_in segment_of
 segment_in-answer bytes = refl
 
--- what is read is spelled so
+-- what is read is encoded so
 pub record SegmentFound (bytes : List ℕ) (segment : Segment) (len : ℕ) : Type 0 where
-  pub through : IsLetThrough segment
+  pub through : IsSupported segment
   pub reads : Reads segment (take len bytes)
   pub within : len ≤ length bytes
 
@@ -333,9 +333,9 @@ segment_bad bytes reason =
     let frame = take (fpdu_len bytes) bytes in
     rw (segment_in-answer bytes) (bad_iff (is_whole Fpdu bytes) (segment_flaw frame) (read_as (is_tagged frame) frame) (fpdu_len bytes) reason)
 
-spelled_reads : (segment : Segment) → Fits segment → ulpdu_size segment ≤ 65535 → Reads segment (spelling segment)
-unfolding spelling
-spelled_reads segment fits size = record {
+encoded_reads : (segment : Segment) → Fits segment → ulpdu_size segment ≤ 65535 → Reads segment (encoding segment)
+unfolding encoding
+encoded_reads segment fits size = record {
   fits = fits;
   size = size;
   reserved = 0;
@@ -347,9 +347,9 @@ spelled_reads segment fits size = record {
   frame_is = refl;
 }
 
--- what was spelled is read again
-pub spelling_again : (segment : Segment) (more : List ℕ) → IsLetThrough segment → Fits segment → ulpdu_size segment ≤ 65535 → segment_in (spelling segment ++ more) ≡ Whole segment (length (spelling segment))
-spelling_again segment more through fits size = segment_again segment (spelling segment) more through (spelled_reads segment fits size)
+-- what was encoded is read again
+pub encoding_again : (segment : Segment) (more : List ℕ) → IsSupported segment → Fits segment → ulpdu_size segment ≤ 65535 → segment_in (encoding segment ++ more) ≡ Whole segment (length (encoding segment))
+encoding_again segment more through fits size = segment_again segment (encoding segment) more through (encoded_reads segment fits size)
 
 abbrev done : Segment → Result Segment ℕ
 done segment = Ok segment
@@ -365,12 +365,12 @@ says_which frame segment None e = (refl, ok_is (read_as (is_tagged frame) frame)
 says_which frame segment (Some reason) e = absurd (let wrong : failed reason ≡ done segment = e in cc)
 
 -- what a whole FPDU says is what it reads as
-pub segment_of-iff : (frame : List ℕ) (segment : Segment) → IsBytes frame → IsFrame Fpdu frame → (segment_of frame ≡ Ok segment) ↔ (IsLetThrough segment × Reads segment frame)
+pub segment_of-iff : (frame : List ℕ) (segment : Segment) → IsBytes frame → IsFrame Fpdu frame → (segment_of frame ≡ Ok segment) ↔ (IsSupported segment × Reads segment frame)
 unfolding segment_of
 segment_of-iff frame segment fits f = (
   λ e.
       let w = says_which frame segment (segment_flaw frame) e in
       let there = there_by frame (is_tagged frame) fits f refl w.0 in
-      subst (λ (s : Segment). IsLetThrough s × Reads s frame) w.1 (there.through, there.reads),
+      subst (λ (s : Segment). IsSupported s × Reads s frame) w.1 (there.through, there.reads),
   λ p. segment_of-again segment frame p.0 p.1,
 )

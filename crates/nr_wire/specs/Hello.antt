@@ -5,7 +5,7 @@ use Rattle.std.specs.Prelude.{codes}
 use Rattle.nr_wire.specs.Constants.{HELLO_LEN, HELLO_REVISION, PRIVATE_MAX, FLAG_MARKERS, FLAG_CRC, FLAG_REJECT, REASON_KEY, REASON_FLAGS, REASON_REVISION, REASON_PRIVATE}
 use Rattle.nr_wire.specs.declared.hello.Side.{Side}
 use Rattle.nr_wire.specs.declared.hello.Side.TheVariants.{Initiator, Responder}
-use Rattle.nr_wire.specs.Numbers.{half_word, half_word_at, has_bit}
+use Rattle.nr_wire.specs.Fields.{half_word, half_word_at, has_bit}
 
 -- a hello without where it lies in memory
 pub record Hello : Type 0 where
@@ -19,8 +19,8 @@ key Initiator = codes "MPA ID Req Frame"
 key Responder = codes "MPA ID Rep Frame"
 
 -- the bytes of a hello: key, flags, revision, the length of the private data, the private data
-unfoldable pub hello_spelling : Hello → List ℕ
-hello_spelling hello = key hello.side ++ (hello.flags ∷ HELLO_REVISION ∷ half_word (length hello.private)) ++ hello.private
+unfoldable pub hello_encoding : Hello → List ℕ
+hello_encoding hello = key hello.side ++ (hello.flags ∷ HELLO_REVISION ∷ half_word (length hello.private)) ++ hello.private
 
 -- the fields behind the key
 abbrev pub flags_of : List ℕ → ℕ

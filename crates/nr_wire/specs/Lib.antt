@@ -1,5 +1,5 @@
 pub mod Constants
-pub mod Numbers
+pub mod Fields
 pub mod Hello
 pub mod Segment
 pub mod Stream

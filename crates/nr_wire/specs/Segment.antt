@@ -2,7 +2,7 @@
 use Rattle.std.specs.Prelude.{ℕ, ◌+◌, ◌-◌, ◌*◌, ◌/◌, ◌%◌, Bool, true, false, not, ◌||◌, ◌==◌, nat_lt, if◌then◌else◌, List, [], ◌∷◌, ◌++◌, length, replicate, take, drop, slice_index, Option, None, Some, Result, ◌<◌, ◌≤◌, ◌≡◌, ◌^◌, IsTrue}
 use Rattle.nr_xdr.specs.Item.{bit, word, hyper, pad_len}
 use Rattle.nr_wire.specs.Constants.{LENGTH_LEN, CRC_LEN, TAGGED_LEN, UNTAGGED_LEN, BIT_TAGGED, BIT_LAST, DDP_VERSION, RDMAP_VERSION, OPCODE_WRITE, OPCODE_READ_REQUEST, OPCODE_READ_RESPONSE, OPCODE_SEND, OPCODE_TERMINATE, QUEUE_SEND, QUEUE_READ_REQUEST, QUEUE_TERMINATE, REASON_LENGTH, REASON_DDP_VERSION, REASON_RDMAP_VERSION, REASON_OPCODE, REASON_TAGGED, REASON_QUEUE, ULPDU_MAX}
-use Rattle.nr_wire.specs.Numbers.{half_word, half_word_at, word_at, hyper_at, has_bit}
+use Rattle.nr_wire.specs.Fields.{half_word, half_word_at, word_at, hyper_at, has_bit}
 use Rattle.nr_wire.specs.Hello.{unless}
 
 -- a segment without where it lies in memory
@@ -17,8 +17,8 @@ is_tagged_opcode opcode = opcode == OPCODE_WRITE || opcode == OPCODE_READ_RESPON
 abbrev pub is_untagged_opcode : ℕ → Bool
 is_untagged_opcode opcode = opcode == OPCODE_READ_REQUEST || opcode == OPCODE_SEND || opcode == OPCODE_TERMINATE
 
-abbrev pub is_let_through : ℕ → Bool
-is_let_through opcode = is_tagged_opcode opcode || is_untagged_opcode opcode
+abbrev pub is_supported : ℕ → Bool
+is_supported opcode = is_tagged_opcode opcode || is_untagged_opcode opcode
 
 -- the queue of an untagged opcode (RFC 5040 section 4)
 abbrev pub queue_for : ℕ → ℕ
@@ -73,10 +73,10 @@ framed reserved spare tail segment =
     half_word (ulpdu_size segment) ++ header reserved spare segment ++ payload_in segment ++ tail
 
 -- the bytes of a segment: reserved bits, pad and CRC are zeros
-unfoldable pub spelling : Segment → List ℕ
-spelling segment = framed 0 0 (replicate (tail_len (ulpdu_size segment)) 0) segment
+unfoldable pub encoding : Segment → List ℕ
+encoding segment = framed 0 0 (replicate (tail_len (ulpdu_size segment)) 0) segment
 
--- what has a spelling, beside the ranges of the numbers
+-- what has an encoding, beside the ranges of the numbers
 abbrev pub IsWritable : Segment → Type 0
 IsWritable segment = (opcode_in segment < 16) × (ulpdu_size segment ≤ ULPDU_MAX)
 
@@ -87,11 +87,11 @@ Fits (Untagged last opcode w queue msn offset payload) =
     (opcode < 16) × (w < 2 ^ 32) × (queue < 2 ^ 32) × (msn < 2 ^ 32) × (offset < 2 ^ 32)
 
 -- a segment's opcode is one that is let through, in its own form and queue
-abbrev pub IsLetThrough : Segment → Type 0
-IsLetThrough (Tagged last opcode stag to payload) = IsTrue (is_tagged_opcode opcode)
-IsLetThrough (Untagged last opcode w queue msn offset payload) = IsTrue (is_untagged_opcode opcode) × (queue ≡ queue_for opcode)
+abbrev pub IsSupported : Segment → Type 0
+IsSupported (Tagged last opcode stag to payload) = IsTrue (is_tagged_opcode opcode)
+IsSupported (Untagged last opcode w queue msn offset payload) = IsTrue (is_untagged_opcode opcode) × (queue ≡ queue_for opcode)
 
--- the FPDU reads as the segment: it spells it, whatever its reserved bits, pad and CRC hold
+-- the FPDU reads as the segment: it encodes it, whatever its reserved bits, pad and CRC hold
 pub record Reads (segment : Segment) (frame : List ℕ) : Type 0 where
   pub fits : Fits segment
   pub size : ulpdu_size segment ≤ ULPDU_MAX
@@ -152,7 +152,7 @@ flaw_by size tagged ddp rdmap opcode queue =
     if nat_lt size (header_len tagged) then Some REASON_LENGTH
     else (if not (ddp == DDP_VERSION) then Some REASON_DDP_VERSION
     else (if not (rdmap == RDMAP_VERSION) then Some REASON_RDMAP_VERSION
-    else (if not (is_let_through opcode) then Some REASON_OPCODE
+    else (if not (is_supported opcode) then Some REASON_OPCODE
     else (if is_of_other_form tagged opcode then Some REASON_TAGGED
     else (if is_of_other_queue tagged opcode queue then Some REASON_QUEUE
     else None)))))

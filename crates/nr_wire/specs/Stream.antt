@@ -33,9 +33,9 @@ pub record IsPartial (a : Awaited) (bytes : List ℕ) : Type 0 where
   pub some : 0 < length more
   pub frame : IsFrame a (bytes ++ more)
 
--- How many bytes the awaited frame still lacks: those of its fields, and then those of the frame.
-unfoldable pub lacking : Awaited → List ℕ → ℕ
-lacking a rest = if nat_lt (length rest) (fields_len a) then fields_len a - length rest else frame_len a rest - length rest
+-- How many bytes the awaited frame still bytes_needed: those of its fields, and then those of the frame.
+unfoldable pub bytes_needed : Awaited → List ℕ → ℕ
+bytes_needed a rest = if nat_lt (length rest) (fields_len a) then fields_len a - length rest else frame_len a rest - length rest
 
 -- what is awaited behind these frames
 abbrev pub awaited_after : Awaited → List (List ℕ) → Awaited

@@ -4,11 +4,11 @@ ghost use Rattle.nr_wire.specs.Constants.{FPDU_MAX};
 ghost use Rattle.nr_wire.specs.Stream.{IsPartial};
 ghost use Rattle.nr_wire.specs.Next.Next.{Whole, More, Bad};
 ghost use Rattle.std.specs.Prelude.{◌≡◌, ℕ, ◌+◌, ◌<◌, ◌≤◌, length, take, ◌↔◌, List, ◌++◌, IfNone};
-ghost use Rattle.nr_wire.specs.Hello.{key, is_refused_by, hello_flaw, hello_of, hello_len, Hello as PlainHello, IsAccepted, hello_spelling, private_len};
+ghost use Rattle.nr_wire.specs.Hello.{key, is_refused_by, hello_flaw, hello_of, hello_len, Hello as PlainHello, IsAccepted, hello_encoding, private_len};
 ghost use Rattle.nr_wire.specs.Next.{hello_in, IfWhole};
 ghost use Rattle.nr_wire.specs.View.{hello as plain, next_hello, shown};
 
-use crate::numbers::{
+use crate::constants::{
     FLAG_CRC, FLAG_MARKERS, FLAG_REJECT, HELLO_LEN, HELLO_REVISION, PRIVATE_MAX, REASON_FLAGS,
     REASON_KEY, REASON_PRIVATE, REASON_REVISION,
 };
@@ -120,12 +120,12 @@ fn hello_of(side: Side, frame: &[u8]) -> Result<Hello<'_>, u32>
 /// than a whole hello by its private length, and `Bad` for the first of the reasons 1 to 4 that stands in its first 20
 /// bytes, once these are there.
 pub fn read_hello(side: Side, bytes: &[u8]) -> NextHello<'_>
-    // What is read is spelled so.
+    // What is read is encoded so.
     ensures found { IfWhole (next_hello result) (λ hello len. (hello.side ≡ side) × IsAccepted hello
-        × (take len bytes.now ≡ hello_spelling hello) × (len ≤ length bytes.now)) }
-    // What is spelled so is read, whatever follows.
+        × (take len bytes.now ≡ hello_encoding hello) × (len ≤ length bytes.now)) }
+    // What is encoded so is read, whatever follows.
     ensures only { (hello : PlainHello) (more : List ℕ) → hello.side ≡ side → IsAccepted hello →
-        bytes.now ≡ hello_spelling hello ++ more → next_hello result ≡ Whole hello (length (hello_spelling hello)) }
+        bytes.now ≡ hello_encoding hello ++ more → next_hello result ≡ Whole hello (length (hello_encoding hello)) }
     ensures more { (next_hello result ≡ More) ↔ IsPartial (Awaited.Hello side) bytes.now }
     // Which reason it is.
     ensures bad { (reason : ℕ) → (next_hello result ≡ Bad reason)

@@ -4,8 +4,8 @@ ghost use Rattle.std.specs.Prelude.{◌≡◌, ℕ, ◌<◌, ◌≤◌, ◌↔�
 ghost use Rattle.nr_wire.specs.Constants.{ULPDU_MAX};
 ghost use Rattle.nr_wire.specs.Feeding.{Feeding, fed, fed_one, taken};
 ghost use Rattle.nr_xdr.specs.Item.{IsBytes};
-ghost use Rattle.nr_wire.specs.Hello.{Hello, IsAccepted, hello_spelling, hello_of};
-ghost use Rattle.nr_wire.specs.Segment.{Segment, Fits, IsLetThrough, Reads, segment_of, spelling, ulpdu_size};
+ghost use Rattle.nr_wire.specs.Hello.{Hello, IsAccepted, hello_encoding, hello_of};
+ghost use Rattle.nr_wire.specs.Segment.{Segment, Fits, IsSupported, Reads, segment_of, encoding, ulpdu_size};
 ghost use Rattle.nr_wire.specs.Next.{hello_in, segment_in, judged};
 ghost use Rattle.nr_wire.specs.Next.Next.{Whole};
 ghost use Rattle.nr_wire.specs.Stream.{Splits, split, beyond, awaited_after, IsFrame, IsPartial};
@@ -13,12 +13,12 @@ ghost use Rattle.nr_wire.specs.Stream.{Splits, split, beyond, awaited_after, IsF
 use crate::hello::Side;
 use crate::stream::Awaited;
 
-/// What is spelled is read again, whatever follows: a hello that isn't refused, and a segment that is let through.
+/// What is encoded is read again, whatever follows: a hello that isn't refused, and a segment that is let through.
 pub fn round_trip()
     ensures hello { (hello : Hello) (more : List ℕ) → IsAccepted hello →
-        hello_in hello.side (hello_spelling hello ++ more) ≡ Whole hello (length (hello_spelling hello)) }
-    ensures segment { (segment : Segment) (more : List ℕ) → IsLetThrough segment → Fits segment → ulpdu_size segment ≤ ULPDU_MAX →
-        segment_in (spelling segment ++ more) ≡ Whole segment (length (spelling segment)) }
+        hello_in hello.side (hello_encoding hello ++ more) ≡ Whole hello (length (hello_encoding hello)) }
+    ensures segment { (segment : Segment) (more : List ℕ) → IsSupported segment → Fits segment → ulpdu_size segment ≤ ULPDU_MAX →
+        segment_in (encoding segment ++ more) ≡ Whole segment (length (encoding segment)) }
 {}
 
 /// What stands at the front of some bytes is judged by its frame alone.
@@ -32,7 +32,7 @@ pub fn judged_alone()
 /// A whole FPDU says a segment exactly where it reads as one that is let through.
 pub fn one_segment()
     ensures { (frame : List ℕ) (segment : Segment) → IsBytes frame → IsFrame Awaited.Fpdu frame →
-        (segment_of frame ≡ Ok segment) ↔ (IsLetThrough segment × Reads segment frame) }
+        (segment_of frame ≡ Ok segment) ↔ (IsSupported segment × Reads segment frame) }
 {}
 
 /// A stream splits in one way, and as more of it comes its frames stay and its rest goes on.

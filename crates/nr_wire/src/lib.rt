@@ -3,7 +3,7 @@
 //! It stands on nr_xdr, whose words it reads and writes; the endpoint above decides what a segment does. Bytes come
 //! from the front of a stream: [`read_hello`] and [`next_segment`] find a whole frame there, less than one, or one that
 //! is refused, and judge a frame by itself alone. What depends on frames before it (numbers of messages, offsets,
-//! memory) is judged above. [`whole_frame`] and [`lacks`] cut a stream into frames by their length fields, whatever
+//! memory) is judged above. [`whole_frame`] and [`bytes_needed`] cut a stream into frames by their length fields, whatever
 //! else the frames hold.
 //!
 //! A stream is a hello, FPDUs, and a rest that is less than a frame. It splits in one way ([`one_split`]), and a layer
@@ -12,9 +12,9 @@
 //! Markers and CRCs aren't supported: the CRC field is sent as zeros and not looked at, as are the pad and reserved bits.
 #![tactic(auto)]
 
+pub mod constants;
 mod hello;
 mod laws;
-pub mod numbers;
 mod segment;
 mod stream;
 mod words;
@@ -23,7 +23,7 @@ mod write;
 pub use hello::{Hello, NextHello, Side, read_hello};
 pub use laws::{however_cut, judged_alone, one_segment, one_split, round_trip};
 pub use segment::{NextSegment, Segment, next_segment};
-pub use stream::{Awaited, lacks, whole_frame};
+pub use stream::{Awaited, bytes_needed, whole_frame};
 pub use write::{write_hello, write_segment};
 
 #[cfg(test)]

@@ -5,11 +5,11 @@ ghost use Rattle.nr_wire.specs.Stream.{IsPartial, is_whole};
 ghost use Rattle.nr_wire.specs.Next.Next.{Whole, More, Bad};
 ghost use Rattle.std.specs.Prelude.{◌≡◌, ◌+◌, ◌-◌, ◌<◌, ◌≤◌, length, IfNone, ℕ, ◌↔◌, List, ◌++◌, take, IsTrue};
 ghost use Rattle.nr_xdr.specs.Item.{pad_len};
-ghost use Rattle.nr_wire.specs.Segment.{fpdu_size, fpdu_len, tail_len, ulpdu_len, header_len, is_tagged, is_tagged_opcode, is_let_through, queue_for, is_of_other_form, segment_flaw, segment_of, read_as, Segment as PlainSegment, IsLetThrough, Reads};
+ghost use Rattle.nr_wire.specs.Segment.{fpdu_size, fpdu_len, tail_len, ulpdu_len, header_len, is_tagged, is_tagged_opcode, is_supported, queue_for, is_of_other_form, segment_flaw, segment_of, read_as, Segment as PlainSegment, IsSupported, Reads};
 ghost use Rattle.nr_wire.specs.Next.{segment_in, IfWhole};
 ghost use Rattle.nr_wire.specs.View.{segment as plain, next_segment, shown};
 
-use crate::numbers::{
+use crate::constants::{
     BIT_LAST, BIT_TAGGED, CRC_LEN, DDP_VERSION, LENGTH_LEN, OPCODE_READ_REQUEST,
     OPCODE_READ_RESPONSE, OPCODE_SEND, OPCODE_TERMINATE, OPCODE_WRITE, QUEUE_READ_REQUEST,
     QUEUE_SEND, QUEUE_TERMINATE, RDMAP_VERSION, REASON_DDP_VERSION, REASON_LENGTH, REASON_OPCODE,
@@ -88,8 +88,8 @@ fn is_tagged_opcode(opcode: u8) -> bool
     opcode == OPCODE_WRITE || opcode == OPCODE_READ_RESPONSE
 }
 
-fn is_let_through(opcode: u8) -> bool
-    ensures { result ≡ is_let_through opcode }
+fn is_supported(opcode: u8) -> bool
+    ensures { result ≡ is_supported opcode }
 {
     is_tagged_opcode(opcode)
         || opcode == OPCODE_READ_REQUEST
@@ -142,7 +142,7 @@ fn flaw(frame: &[u8]) -> Option<u32>
     if frame[3] / 64 != RDMAP_VERSION {
         return Some(REASON_RDMAP_VERSION);
     }
-    if !is_let_through(opcode) {
+    if !is_supported(opcode) {
         return Some(REASON_OPCODE);
     }
     if is_of_other_form(tagged, opcode) {
@@ -203,11 +203,11 @@ fn segment_of(frame: &[u8]) -> Result<Segment<'_>, u32>
 /// Reads the FPDU at the front of some bytes (RFC 5044 section 4). It is `More` exactly where they are less than a whole
 /// one by its length field, and `Bad` for the first of the reasons 5 to 10 that stands. The payload is a part of the bytes.
 pub fn next_segment(bytes: &[u8]) -> NextSegment<'_>
-    // What is read is spelled so, up to its reserved bits, pad and CRC.
-    ensures found { IfWhole (next_segment result) (λ segment len. IsLetThrough segment
+    // What is read is encoded so, up to its reserved bits, pad and CRC.
+    ensures found { IfWhole (next_segment result) (λ segment len. IsSupported segment
         × Reads segment (take len bytes.now) × (len ≤ length bytes.now)) }
-    // What is spelled so is read, whatever follows.
-    ensures only { (segment : PlainSegment) (frame more : List ℕ) → IsLetThrough segment → Reads segment frame →
+    // What is encoded so is read, whatever follows.
+    ensures only { (segment : PlainSegment) (frame more : List ℕ) → IsSupported segment → Reads segment frame →
         bytes.now ≡ frame ++ more → next_segment result ≡ Whole segment (length frame) }
     ensures more { (next_segment result ≡ More) ↔ IsPartial Awaited.Fpdu bytes.now }
     // Which reason it is.

@@ -2,10 +2,10 @@
 
 ghost use Rattle.std.specs.Prelude.{◌≡◌, ◌<◌, ◌≤◌, ◌↔◌, length, take, if◌then◌else◌, IfSome, IsNone, ℕ, ◌+◌, List, ◌++◌};
 ghost use Rattle.nr_wire.specs.Constants.{FPDU_MAX};
-ghost use Rattle.nr_wire.specs.Stream.{fields_len, frame_len, is_whole, lacking, IsFrame, IsPartial};
+ghost use Rattle.nr_wire.specs.Stream.{fields_len, frame_len, is_whole, bytes_needed, IsFrame, IsPartial};
 
+use crate::constants::{HELLO_LEN, LENGTH_LEN};
 use crate::hello::{Side, hello_len};
-use crate::numbers::{HELLO_LEN, LENGTH_LEN};
 use crate::segment::fpdu_len;
 
 /// What comes next in a stream: the hello of a side, and after it FPDUs.
@@ -60,9 +60,9 @@ fn first_frame(awaited: Awaited, bytes: &[u8]) -> Option<usize>
     Some(len)
 }
 
-/// How many bytes the awaited frame lacks of which these have come: first those that tell its length, then all of it.
-pub fn lacks(awaited: Awaited, rest: &[u8]) -> usize
-    // Some are lacking exactly where the frame isn't whole.
+/// How many bytes the awaited frame bytes_needed of which these have come: first those that tell its length, then all of it.
+pub fn bytes_needed(awaited: Awaited, rest: &[u8]) -> usize
+    // Some are bytes_needed exactly where the frame isn't whole.
     ensures some { IsPartial awaited rest.now ↔ (0 < result) }
     // Fewer don't make it whole.
     ensures less { (more : List ℕ) → length more < result → IsPartial awaited (rest.now ++ more) }
@@ -72,14 +72,14 @@ pub fn lacks(awaited: Awaited, rest: &[u8]) -> usize
         (more : List ℕ) → length more ≡ result → IsFrame awaited (rest.now ++ more) }
     // With them no frame is longer than the longest FPDU.
     ensures room { IsPartial awaited rest.now → length rest.now + result ≤ FPDU_MAX }
-    ensures exact { result ≡ lacking awaited rest.now }
+    ensures exact { result ≡ bytes_needed awaited rest.now }
 {
     lacking_in(awaited, rest)
 }
 
-#[tactic(auto, unfolding(crate::specs::Stream::lacking))]
+#[tactic(auto, unfolding(crate::specs::Stream::bytes_needed))]
 fn lacking_in(awaited: Awaited, rest: &[u8]) -> usize
-    ensures exact { result ≡ lacking awaited rest.now }
+    ensures exact { result ≡ bytes_needed awaited rest.now }
     ensures fields { length rest.now < fields_len awaited → length rest.now + result ≡ fields_len awaited }
     ensures room { (0 < result) → length rest.now + result ≤ FPDU_MAX }
 {

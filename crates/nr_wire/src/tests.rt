@@ -1,5 +1,5 @@
 use super::*;
-use crate::numbers::{
+use crate::constants::{
     FPDU_MAX, OPCODE_READ_REQUEST, OPCODE_READ_RESPONSE, OPCODE_SEND, OPCODE_TERMINATE,
     OPCODE_WRITE,
 };
@@ -76,7 +76,7 @@ fn segments_both_ways(rt: HostRuntime) -> Result<(), Fail> {
         assert_eq!(rt; bytes.len(), len);
         assert_eq!(rt; next_segment(bytes), NextSegment::Whole { segment, len });
         assert_eq!(rt; next_segment(&bytes[..len - 1]), NextSegment::More);
-        assert_eq!(rt; lacks(Awaited::Fpdu, &bytes[..2]), len - 2);
+        assert_eq!(rt; bytes_needed(Awaited::Fpdu, &bytes[..2]), len - 2);
         assert_eq!(rt; whole_frame(Awaited::Fpdu, bytes), Some(len));
         if let NextSegment::Whole { segment, .. } = next_segment(bytes) {
             assert_eq!(rt; write_segment(rt.alloc(), &segment)?.as_slice(), bytes);
@@ -190,14 +190,14 @@ fn hellos(rt: HostRuntime) -> Result<(), Fail> {
                 assert_eq!(rt; hello.private.len(), usize::from(private));
                 assert_eq!(rt; write_hello(rt.alloc(), &hello)?.as_slice(), &bytes[..len]);
                 assert_eq!(rt;
-                    lacks(Awaited::Hello(side), &bytes[..20]),
+                    bytes_needed(Awaited::Hello(side), &bytes[..20]),
                     usize::from(private)
                 );
             }
             NextHello::Bad { reason } => {
                 assert_eq!(rt; Err(reason), want);
                 assert_eq!(rt; read_hello(side, &bytes[..20]), NextHello::Bad { reason });
-                assert_eq!(rt; lacks(Awaited::Hello(side), &bytes[..20]), 0);
+                assert_eq!(rt; bytes_needed(Awaited::Hello(side), &bytes[..20]), 0);
             }
             NextHello::More => panic!(rt; "more than 532 bytes"),
         }

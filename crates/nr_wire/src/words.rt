@@ -1,10 +1,10 @@
 //! The numbers at a place of some bytes, the highest byte first, and single bits.
 
 ghost use Rattle.std.specs.Prelude.{◌≡◌, ℕ, ◌+◌, ◌<◌, ◌≤◌, length};
-ghost use Rattle.nr_wire.specs.Numbers.{half_word_at, word_at, hyper_at, has_bit};
+ghost use Rattle.nr_wire.specs.Fields.{half_word_at, word_at, hyper_at, has_bit};
 
 /// The two bytes at a place.
-#[tactic(auto, unfolding(crate::specs::Numbers::half_word_of))]
+#[tactic(auto, unfolding(crate::specs::Fields::half_word_of))]
 pub fn half_word_at(bytes: &[u8], place: usize) -> u16
     requires { place + 2 ≤ length bytes.now }
     ensures { result ≡ half_word_at place bytes.now }

@@ -2,24 +2,24 @@
 
 ghost use Rattle.std.specs.Prelude.{◌≡◌, ℕ, ◌+◌, ◌^◌, ◌<◌, ◌≤◌, true, false, ◌++◌, length, replicate, IfOk, OnOk};
 ghost use Rattle.nr_xdr.specs.Item.{word, hyper};
-ghost use Rattle.nr_wire.specs.Hello.{hello_spelling};
-ghost use Rattle.nr_wire.specs.Segment.{IsWritable, control, header, opcode_in, payload_in, spelling, tail_len, ulpdu_size};
+ghost use Rattle.nr_wire.specs.Hello.{hello_encoding};
+ghost use Rattle.nr_wire.specs.Segment.{IsWritable, control, header, opcode_in, payload_in, encoding, tail_len, ulpdu_size};
 ghost use Rattle.nr_wire.specs.View.{hello as plain_hello, segment as plain};
 
-use crate::hello::{Hello, key};
-use crate::numbers::{
+use crate::constants::{
     BIT_LAST, BIT_TAGGED, DDP_VERSION, HELLO_LEN, HELLO_REVISION, PRIVATE_MAX, RDMAP_VERSION,
     TAGGED_LEN, ULPDU_MAX, UNTAGGED_LEN,
 };
+use crate::hello::{Hello, key};
 use crate::segment::{Segment, fpdu_size, tail_len};
 use nr_xdr::{Memory, Octets};
 use std::alloc::Global;
 
 /// The bytes of a hello, whose private data may have at most 512 bytes.
-#[tactic(auto, unfolding(crate::specs::Hello::hello_spelling, crate::specs::Numbers::half_word))]
+#[tactic(auto, unfolding(crate::specs::Hello::hello_encoding, crate::specs::Fields::half_word))]
 pub fn write_hello(alloc: Global, hello: &Hello) -> Result<Octets, Memory>
     requires { length hello.now.private.now ≤ PRIVATE_MAX }
-    ensures { IfOk result (λ bytes. bytes ≡ hello_spelling (plain_hello hello.now)) }
+    ensures { IfOk result (λ bytes. bytes ≡ hello_encoding (plain_hello hello.now)) }
 {
     let private_len = hello.private.len() as u16;
     let mut bytes = Vec::with_capacity(alloc, HELLO_LEN + hello.private.len())?;
@@ -126,10 +126,10 @@ fn push_tail(out: &mut Vec<u8>, len: u16) -> Result<(), Memory>
 
 /// The bytes of a segment, its reserved bits, pad and CRC being zeros. Its opcode is below 16, and its header and payload
 /// have at most 65535 bytes.
-#[tactic(auto, unfolding(crate::specs::Segment::spelling, crate::specs::Numbers::half_word))]
+#[tactic(auto, unfolding(crate::specs::Segment::encoding, crate::specs::Fields::half_word))]
 pub fn write_segment(alloc: Global, segment: &Segment) -> Result<Octets, Memory>
     requires { IsWritable (plain segment.now) }
-    ensures { IfOk result (λ bytes. bytes ≡ spelling (plain segment.now)) }
+    ensures { IfOk result (λ bytes. bytes ≡ encoding (plain segment.now)) }
 {
     let len = ulpdu_size(segment);
     let mut bytes = Vec::with_capacity(alloc, fpdu_size(len))?;

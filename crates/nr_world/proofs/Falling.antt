@@ -8,7 +8,7 @@ use Rattle.nr_world.specs.Observed.{executed}
 use Rattle.nr_world.specs.Messages.{conveyed, messages, call_in}
 use Rattle.nr_world.specs.Served.{came}
 use Rattle.nr_world.specs.Follows.{drill_opened, unwritten, todo, Fell}
-use Rattle.nr_world.specs.Steps.{State, the_link, ask, answer}
+use Rattle.nr_world.specs.Driver.{State, the_link, ask, answer}
 use Rattle.nr_world.specs.Stands.{upward, downward, executed_call, counts_of, arrived_one, Stands, IsQuiet, drill_of}
 use Rattle.nr_world.proofs.Runs.{length-each}
 use Rattle.nr_world.proofs.Frames.{conveyed_call, calls-upward}
@@ -27,7 +27,7 @@ waiting-len p log place e = ap (λ (q : PipeState). length (waiting_in q)) e ∙
 -- how many calls came and are executed, and what each side sent and got, where the driver stands so
 todo-is : (s : State) → Stands s → todo (drill_opened s.credits) (drill_of s) the_link
     ≡ four (length (upward s.credits s.asked)) (length (upward s.credits (s.served + arrived_one s.arrived))) (s.served + arrived_one s.arrived) s.served
-    (length (downward s.credits s.served)) (length (downward s.credits (length s.told)))
+    (length (downward s.credits s.served)) (length (downward s.credits (length s.reports)))
 unfolding todo
 todo-is s st =
     let n : ℕ = s.served + arrived_one s.arrived in
@@ -35,7 +35,7 @@ todo-is s st =
     let credits : s.credits < 2 ^ 32 = omega (arith, st.few_credits) in
     let behind : length (unwritten (drill_opened s.credits) the_link Initiator (drill_of s)) ≡ 0 = ap length (unwritten_up-none s.credits (drill_of s) (counts_of s) st.at refl) in
     let up : length (waiting_in s.up) ≡ length (upward s.credits s.asked) - length (upward s.credits n) = waiting-len s.up _ _ st.up_is in
-    let down : length (waiting_in s.down) ≡ length (downward s.credits s.served) - length (downward s.credits (length s.told)) = waiting-len s.down _ _ st.down_is in
+    let down : length (waiting_in s.down) ≡ length (downward s.credits s.served) - length (downward s.credits (length s.reports)) = waiting-len s.down _ _ st.down_is in
     let calls : length (came the_link s.marks) ≡ n =
     ap (λ (xs : List ℕ). length (conveyed call_in (messages Initiator xs))) st.at.up_got ∙ ap length (calls-upward s.credits n few credits) ∙ length-each conveyed_call n in
     let done : length (executed the_link s.marks) ≡ s.served = ap length st.at.executed_are ∙ length-each executed_call s.served in
@@ -56,15 +56,15 @@ fell-from a b c d e f a' b' c' d' e' f' up work down (inl first) = inl (omega ar
 fell-from a b c d e f a' b' c' d' e' f' up work down (inr (same, inl second)) = inr (omega arith, inl (omega arith))
 fell-from a b c d e f a' b' c' d' e' f' up work down (inr (same, inr (idle, third))) = inr (omega arith, inr (omega arith, inl (omega arith)))
 
-pub fell-is : (s v : State) → Stands s → Stands v → v.credits ≡ s.credits → v.asked ≡ s.asked → IsQuiet v → length s.told < s.asked → Fell (todo (drill_opened s.credits) (drill_of v) the_link) (todo (drill_opened s.credits) (drill_of s) the_link)
+pub fell-is : (s v : State) → Stands s → Stands v → v.credits ≡ s.credits → v.asked ≡ s.asked → IsQuiet v → length s.reports < s.asked → Fell (todo (drill_opened s.credits) (drill_of v) the_link) (todo (drill_opened s.credits) (drill_of s) the_link)
 fell-is s v st now credits asked quiet out =
     let n : ℕ = s.served + arrived_one s.arrived in
     let all : v.served + arrived_one v.arrived ≡ v.asked = omega (arith, now.heard_served, now.came_asked, quiet) in
     let served : v.served ≡ v.asked = omega (arith, now.heard_served, now.came_asked, quiet) in
-    let told : length v.told ≡ v.served = omega (arith, served, quiet) in
+    let reports : length v.reports ≡ v.served = omega (arith, served, quiet) in
     let small : s.asked < 2 ^ 32 = omega (arith, st.few_calls) in
     let left : (length (upward s.credits n) < length (upward s.credits s.asked))
-    ⊎ ((length (upward s.credits s.asked) ≡ length (upward s.credits n)) × ((s.served < n) ⊎ ((n ≡ s.served) × (length (downward s.credits (length s.told)) < length (downward s.credits s.served))))) =
+    ⊎ ((length (upward s.credits s.asked) ≡ length (upward s.credits n)) × ((s.served < n) ⊎ ((n ≡ s.served) × (length (downward s.credits (length s.reports)) < length (downward s.credits s.served))))) =
     elim (cases_lt n s.asked) [
       | inl before ↦
           let next : suc n ≡ s.asked = omega (arith, before, st.heard_served, st.one_out, out) in
@@ -77,16 +77,16 @@ fell-is s v st now credits asked quiet out =
               | inl waits ↦ inl waits
               | inr none ↦
                   let idle : n ≡ s.served = omega (arith, none) in
-                  let next : suc (length s.told) ≡ s.served = omega (arith, idle, same, st.one_out, out) in
-                  inr (idle, subst (λ (k : ℕ). length (downward s.credits (length s.told)) < length (downward s.credits k)) next (longer_down s.credits (length s.told) (omega arith)))
+                  let next : suc (length s.reports) ≡ s.served = omega (arith, idle, same, st.one_out, out) in
+                  inr (idle, subst (λ (k : ℕ). length (downward s.credits (length s.reports)) < length (downward s.credits k)) next (longer_down s.credits (length s.reports) (omega arith)))
             ],
           )
     ] in
     let before = todo-is s st in
     let after = todo-is v now in
-    let fell = fell-from (length (upward s.credits s.asked)) (length (upward s.credits n)) n s.served (length (downward s.credits s.served)) (length (downward s.credits (length s.told)))
-    (length (upward v.credits v.asked)) (length (upward v.credits (v.served + arrived_one v.arrived))) (v.served + arrived_one v.arrived) v.served (length (downward v.credits v.served)) (length (downward v.credits (length v.told)))
-    (ap (λ (k : ℕ). length (upward v.credits k)) (sym all)) (omega (arith, all, served)) (ap (λ (k : ℕ). length (downward v.credits k)) (sym told)) left in
+    let fell = fell-from (length (upward s.credits s.asked)) (length (upward s.credits n)) n s.served (length (downward s.credits s.served)) (length (downward s.credits (length s.reports)))
+    (length (upward v.credits v.asked)) (length (upward v.credits (v.served + arrived_one v.arrived))) (v.served + arrived_one v.arrived) v.served (length (downward v.credits v.served)) (length (downward v.credits (length v.reports)))
+    (ap (λ (k : ℕ). length (upward v.credits k)) (sym all)) (omega (arith, all, served)) (ap (λ (k : ℕ). length (downward v.credits k)) (sym reports)) left in
     subst (λ (xs : List ℕ). Fell xs (todo (drill_opened s.credits) (drill_of s) the_link)) (ap (λ (c : ℕ). todo (drill_opened c) (drill_of v) the_link) credits)
     (subst (λ (xs : List ℕ). Fell (todo (drill_opened v.credits) (drill_of v) the_link) xs) (sym before)
-    (subst (λ (xs : List ℕ). Fell xs (four (length (upward s.credits s.asked)) (length (upward s.credits n)) n s.served (length (downward s.credits s.served)) (length (downward s.credits (length s.told))))) (sym after) fell))
+    (subst (λ (xs : List ℕ). Fell xs (four (length (upward s.credits s.asked)) (length (upward s.credits n)) n s.served (length (downward s.credits s.served)) (length (downward s.credits (length s.reports))))) (sym after) fell))

@@ -8,7 +8,7 @@ use Rattle.nr_world.specs.declared.mark.Conveyed.{Conveyed}
 use Rattle.nr_world.specs.Messages.{inline_message, messages, conveyed, call_xid, reply_xid, call_in, reply_in}
 use Rattle.nr_world.specs.Ending.{ended_by}
 use Rattle.nr_world.specs.Plain.{success, null_reply}
-use Rattle.nr_world.specs.Steps.{asked_payload, ask, answer}
+use Rattle.nr_world.specs.Driver.{asked_payload, ask, answer}
 use Rattle.nr_world.specs.Stands.{upward, downward, each}
 use Rattle.nr_world.proofs.Nulls.{call_of-asked, length-asked_payload, length-null_reply}
 use Rattle.nr_world.proofs.Inline.{length-inline_message, call_in-message, reply_in-message}

@@ -11,8 +11,8 @@ use Rattle.nr_world.specs.declared.call.Outcome.TheVariants as outcomes
 use Rattle.nr_world.specs.declared.mark.Mark.{Mark}
 use Rattle.nr_world.specs.declared.mark.Mark.TheVariants as marks
 use Rattle.nr_world.specs.declared.mark.Conveyed.{Conveyed}
-use Rattle.nr_world.specs.declared.report.Fate.TheVariants as fates
-use Rattle.nr_world.specs.declared.report.Told.{Told}
+use Rattle.nr_world.specs.declared.report.CallState.TheVariants as call_states
+use Rattle.nr_world.specs.declared.report.CallReport.{CallReport}
 use Rattle.nr_world.specs.Observed.{Completed, accepted, completed}
 use Rattle.nr_world.specs.Messages.{reply_in, conveyed}
 use Rattle.nr_world.specs.Ending.{ended_by}
@@ -20,8 +20,8 @@ use Rattle.nr_world.specs.Window.{heard}
 use Rattle.nr_world.specs.Plain.{null_reply}
 use Rattle.nr_world.specs.Follows.{Drill, drill_opened, settled, feeding, taken, down_by, all_down}
 use Rattle.nr_world.specs.Asked.{done_for}
-use Rattle.nr_world.specs.Steps.{State, the_link, answer, all_read, fed_down, done_by, heard_by, heard as heard_state, waits, is_some_byte}
-use Rattle.nr_world.specs.Stands.{each, downward, accepted_call, completed_call, told_call, Counts, counts_of, arrived_one, At, Stands, drill_of}
+use Rattle.nr_world.specs.Driver.{State, the_link, answer, all_read, fed_down, done_by, heard_by, heard as heard_state, waits, is_some_byte}
+use Rattle.nr_world.specs.Stands.{each, downward, accepted_call, completed_call, report_call, Counts, counts_of, arrived_one, At, Stands, drill_of}
 use Rattle.nr_world.proofs.Runs.{flat_map-more}
 use Rattle.nr_world.proofs.Frames.{conveyed_reply, answer-conveys}
 use Rattle.nr_world.proofs.Marking.{downward-more}
@@ -35,9 +35,9 @@ pub record Hears (s : State) (new : State) : Type 0 where
   pub asked_is : new.asked ≡ s.asked
   pub credits_are : new.credits ≡ s.credits
   pub makes : drill_of new ≡ all_down (drill_opened s.credits) the_link (drill_of s)
-  pub all : length new.told ≡ s.served
-  pub moved : waits s.down ≡ ltb (length s.told) s.served
-  pub still : s.served ≡ length s.told → new ≡ s
+  pub all : length new.reports ≡ s.served
+  pub moved : waits s.down ≡ ltb (length s.reports) s.served
+  pub still : s.served ≡ length s.reports → new ≡ s
 
 -- ---- which calls are handed over
 
@@ -116,15 +116,15 @@ heard_by-some : (s : State) (bytes : List ℕ) → 0 < length bytes → heard_by
 heard_by-some s [] lt = absurd (omega arith)
 heard_by-some s (b ∷ bytes) lt = refl
 
-down-none : (s : State) → Stands s → s.served ≡ length s.told → waiting_in s.down ≡ []
+down-none : (s : State) → Stands s → s.served ≡ length s.reports → waiting_in s.down ≡ []
 down-none s st all =
     let log : s.down.log ≡ downward s.credits s.served = ap (λ (p : PipeState). p.log) st.down_is in
-    let place : s.down.place ≡ length (downward s.credits (length s.told)) = ap (λ (p : PipeState). p.place) st.down_is in
+    let place : s.down.place ≡ length (downward s.credits (length s.reports)) = ap (λ (p : PipeState). p.place) st.down_is in
     drop_all s.down.place s.down.log (omega (arith, place, ap length log, ap (λ (k : ℕ). length (downward s.credits k)) all))
 
-down-one : (s : State) → Stands s → s.served ≡ suc (length s.told) → waiting_in s.down ≡ answer s.credits (suc (length s.told))
+down-one : (s : State) → Stands s → s.served ≡ suc (length s.reports) → waiting_in s.down ≡ answer s.credits (suc (length s.reports))
 down-one s st next =
-    let k = length s.told in
+    let k = length s.reports in
     let log : s.down.log ≡ downward s.credits k ++ answer s.credits (suc k) = ap (λ (p : PipeState). p.log) st.down_is ∙ ap (downward s.credits) next ∙ downward-more s.credits k in
     let place : s.down.place ≡ length (downward s.credits k) = ap (λ (p : PipeState). p.place) st.down_is in
     ap (λ (j : ℕ). drop j s.down.log) place ∙ behind_part s.down.log (downward s.credits k) (answer s.credits (suc k)) log
@@ -135,7 +135,7 @@ taken-none credits d n at same small few =
     ap (λ (xs : List Mark). record { marks = d.marks ++ xs; ways = d.ways; seconds = d.seconds }) (none_taken credits d.marks n at same small few)
     ∙ ap (λ (xs : List Mark). record { marks = xs; ways = d.ways; seconds = d.seconds }) (append-nil d.marks)
 
-hears_none : (s : State) → Stands s → s.served ≡ length s.told → Hears s (heard_state s)
+hears_none : (s : State) → Stands s → s.served ≡ length s.reports → Hears s (heard_state s)
 unfolding heard_state down_by
 hears_none s st all =
     let w = words_of s st in
@@ -143,7 +143,7 @@ hears_none s st all =
     let none = down-none s st all in
     let same : heard_state s ≡ s = heard_by-none s (waiting_in s.down) none in
     let d = drill_of s in
-    let small : length s.told < 2 ^ 32 = omega (arith, w.small, st.heard_served, st.came_asked) in
+    let small : length s.reports < 2 ^ 32 = omega (arith, w.small, st.heard_served, st.came_asked) in
     let fed = feeding-none Initiator (take (length (waiting_in s.down)) (waiting_in s.down)) (record { up = waiting_in s.up; down = drop (length (waiting_in s.down)) (waiting_in s.down) }) d (take_length (waiting_in s.down) ∙ none) in
     let makes : all_down (drill_opened c) the_link d ≡ d =
     ap (λ (x : Drill). settled (drill_opened c) the_link (taken the_link x)) fed
@@ -155,7 +155,7 @@ hears_none s st all =
       credits_are = refl;
       makes = sym makes;
       all = sym all;
-      moved = ap is_some_byte none ∙ sym (le-ltb (length s.told) s.served (omega (arith, all)));
+      moved = ap is_some_byte none ∙ sym (le-ltb (length s.reports) s.served (omega (arith, all)));
       still = λ e. refl;
     })
 
@@ -171,7 +171,7 @@ after_heard s k place number = record {
   served = s.served;
   entries = s.entries;
   place = s.place;
-  told = s.told ++ record { client = the_link; number = number; fate = fates.Answered (Some place) (outcomes.Reply (null_reply k)) } ∷ [];
+  reports = s.reports ++ record { client = the_link; number = number; state = call_states.Answered (Some place) (outcomes.Reply (null_reply k)) } ∷ [];
 }
 
 abbrev fed_with : State → List ℕ → State
@@ -185,10 +185,10 @@ fed_with s bytes = record {
   served = s.served;
   entries = s.entries;
   place = s.place;
-  told = s.told;
+  reports = s.reports;
 }
 
-heard-is : (s : State) (k : ℕ) → waiting_in s.down ≡ answer s.credits k → k < 2 ^ 32 → s.credits < 2 ^ 32 → heard_state s ≡ after_heard s k s.place (length s.told + 1)
+heard-is : (s : State) (k : ℕ) → waiting_in s.down ≡ answer s.credits k → k < 2 ^ 32 → s.credits < 2 ^ 32 → heard_state s ≡ after_heard s k s.place (length s.reports + 1)
 unfolding heard_state
 heard-is s k waits small few =
     let some : 0 < length (waiting_in s.down) = omega (arith, some_answer s.credits k small, ap length waits) in
@@ -197,13 +197,13 @@ heard-is s k waits small few =
     ∙ ap (λ (bytes : List ℕ). done_by (fed_with s bytes) (option_and_then reply_in (ended_by (segment_in bytes)))) waits
     ∙ ap (done_by (fed_with s (answer s.credits k))) (answer-conveys s.credits k small few)
 
-hears_one : (s : State) → Stands s → s.served ≡ suc (length s.told) → s.arrived ≡ None → Hears s (heard_state s)
+hears_one : (s : State) → Stands s → s.served ≡ suc (length s.reports) → s.arrived ≡ None → Hears s (heard_state s)
 unfolding down_by taken
 hears_one s st next none =
     let w = words_of s st in
     let c = s.credits in
     let n = counts_of s in
-    let h = length s.told in
+    let h = length s.reports in
     let k = suc h in
     let small : k < 2 ^ 32 = omega (arith, w.small, next, st.came_asked) in
     let all_asked : s.asked ≡ k = omega (arith, next, st.came_asked, st.one_out) in
@@ -217,8 +217,8 @@ hears_one s st next none =
     let laws1 = Laws-feed_down c s.marks n st.at st.laws next in
     let at2 : At c (run ++ complete k ∷ []) (record n1 { done = k }) = At-complete c run n1 at1 (omega (arith, next)) in
     let laws2 = Laws-complete c run n1 at1 laws1 (omega arith) (omega (arith, all_asked)) (omega (arith, next)) small w.few in
-    let told_len : length new.told ≡ k = (length_push s.told (told_call k) ∙ add-one h) in
-    let told_now : new.told ≡ each told_call k = ap (λ (xs : List Told). xs ++ told_call k ∷ []) st.told_is in
+    let report_len : length new.reports ≡ k = (length_push s.reports (report_call k) ∙ add-one h) in
+    let report_now : new.reports ≡ each report_call k = ap (λ (xs : List CallReport). xs ++ report_call k ∷ []) st.report_is in
     let log : s.down.log ≡ downward c s.served = ap (λ (p : PipeState). p.log) st.down_is in
     let d = drill_of s in
     let up = waiting_in s.up in
@@ -236,21 +236,21 @@ hears_one s st next none =
     ∙ ap (λ (xs : List Mark). settled (drill_opened c) the_link (record { marks = run ++ xs; ways = record { up = up; down = [] } ∷ []; seconds = 0 })) handed
     ∙ settled-none c last (record n1 { done = k }) at2 refl refl in
     let read : waiting_in (all_read s.down) ≡ [] = drop_all (length s.down.log) s.down.log (omega arith) in
-    let both : At c (run ++ complete k ∷ []) (record n1 { heard = length new.told; done = length new.told }) =
-    subst (λ (j : ℕ). At c (run ++ complete k ∷ []) (record n1 { heard = j; done = j })) (sym told_len) at2 in
+    let both : At c (run ++ complete k ∷ []) (record n1 { heard = length new.reports; done = length new.reports }) =
+    subst (λ (j : ℕ). At c (run ++ complete k ∷ []) (record n1 { heard = j; done = j })) (sym report_len) at2 in
     subst (λ (t : State). Hears s t) (sym same) (record {
       stands = record {
         at = both;
         laws = laws2;
         arrived_is = st.arrived_is;
         up_is = st.up_is;
-        down_is = pipe_is (all_read s.down) (downward c s.served) (length (downward c (length new.told))) log (ap length log ∙ ap (λ (j : ℕ). length (downward c j)) (next ∙ sym told_len)) (ap (λ (p : PipeState). p.faults) st.down_is);
-        told_is = told_now ∙ ap (each told_call) (sym told_len);
+        down_is = pipe_is (all_read s.down) (downward c s.served) (length (downward c (length new.reports))) log (ap length log ∙ ap (λ (j : ℕ). length (downward c j)) (next ∙ sym report_len)) (ap (λ (p : PipeState). p.faults) st.down_is);
+        report_is = report_now ∙ ap (each report_call) (sym report_len);
         no_entries = st.no_entries;
         no_place = st.no_place;
-        heard_served = omega (arith, told_len, next);
+        heard_served = omega (arith, report_len, next);
         came_asked = st.came_asked;
-        one_out = omega (arith, told_len, st.one_out);
+        one_out = omega (arith, report_len, st.one_out);
         some_credits = st.some_credits;
         few_credits = st.few_credits;
         few_calls = st.few_calls;
@@ -258,7 +258,7 @@ hears_one s st next none =
       asked_is = refl;
       credits_are = refl;
       makes = ap (λ (down : List ℕ). record { marks = run ++ complete k ∷ []; ways = record { up = up; down = down } ∷ []; seconds = 0 }) read ∙ sym makes;
-      all = told_len ∙ sym next;
+      all = report_len ∙ sym next;
       moved = some_bytes (waiting_in s.down) some ∙ sym (lt-ltb h s.served (omega (arith, next)));
       still = λ e. absurd (omega (arith, e, next));
     })
@@ -266,7 +266,7 @@ hears_one s st next none =
 pub hears : (s : State) → Stands s → s.arrived ≡ None → Hears s (heard_state s)
 hears s st none =
     let out : arrived_one s.arrived ≡ 0 = ap arrived_one none in
-    elim (cases_lt (length s.told) s.served) [
+    elim (cases_lt (length s.reports) s.served) [
       | inl more ↦ hears_one s st (omega (arith, more, st.came_asked, st.one_out)) none
       | inr all ↦ hears_none s st (omega (arith, all, st.heard_served))
     ]

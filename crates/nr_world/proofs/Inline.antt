@@ -4,9 +4,9 @@ use Rattle.std.specs.Prelude.{option_and_then}
 use Rattle.std.proofs.lemmas.Bool.{le-ltb}
 use Rattle.std.proofs.lemmas.List.{take_at, drop_at, length-append}
 use Rattle.nr_xdr.specs.Item.{word, word_of}
-use Rattle.nr_xdr.proofs.Numbers.{length-word, word_of-word}
-use Rattle.nr_header.specs.Numbers.{FIXED_LEN, PAYLOAD_MAX}
-use Rattle.nr_header.specs.Limits.{ListsWithin}
+use Rattle.nr_xdr.proofs.WordBytes.{length-word, word_of-word}
+use Rattle.nr_header.specs.Constants.{FIXED_LEN, PAYLOAD_MAX}
+use Rattle.nr_header.specs.WithinLimits.{ListsWithin}
 use Rattle.nr_header.proofs.Messages.{header_written}
 use Rattle.nr_rpc.specs.Reading.{call_of, reply_of}
 use Rattle.nr_world.specs.declared.mark.Conveyed.{Conveyed}

@@ -17,7 +17,7 @@ use Rattle.nr_world.specs.Asked.{Completes}
 use Rattle.nr_world.specs.Served.{came, next_call, Executes}
 use Rattle.nr_world.specs.Completion.{IsAnswered}
 use Rattle.nr_world.specs.Plain.{null_reply, drill_server}
-use Rattle.nr_world.specs.Steps.{the_link, asked_payload, ask, answer}
+use Rattle.nr_world.specs.Driver.{the_link, asked_payload, ask, answer}
 use Rattle.nr_world.specs.Stands.{each, upward, downward, accepted_call, executed_call, completed_call, Counts, At, Laws}
 use Rattle.nr_world.proofs.Runs.{Along-more, filter-each, filter_map-each, length-each, Contains-each, each-within, slice_get-each}
 use Rattle.nr_world.proofs.Nulls.{plain_reply-asked}

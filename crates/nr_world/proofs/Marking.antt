@@ -6,15 +6,15 @@ use Rattle.std.proofs.lemmas.List.Folds.{list_any-append}
 use Rattle.std.proofs.lemmas.Grind.{fold-append}
 use Rattle.nr_wire.specs.declared.hello.Side.TheVariants.{Initiator, Responder}
 use Rattle.nr_world.specs.declared.mark.Mark.{Mark}
-use Rattle.nr_world.specs.declared.report.Fate.TheVariants as fates
+use Rattle.nr_world.specs.declared.report.CallState.TheVariants as call_states
 use Rattle.nr_world.specs.declared.mark.Opened.{Opened}
-use Rattle.nr_world.specs.declared.report.Told.{Told}
+use Rattle.nr_world.specs.declared.report.CallReport.{CallReport}
 use Rattle.nr_world.specs.Observed.{added, drops, is_dropped}
 use Rattle.nr_world.specs.Owed.{own_hello, called_from, called_client, called_server, owed}
 use Rattle.nr_world.specs.Plain.{drill_server}
-use Rattle.nr_world.specs.Shown.{Seen, is_out, told_by, counted, seen_at, seen_of, asked_at, asked_by, told_at, told_from}
-use Rattle.nr_world.specs.Steps.{the_link, ask, answer}
-use Rattle.nr_world.specs.Stands.{joined, each, upward, downward, nothing_seen, stays_up, told_in, told_over}
+use Rattle.nr_world.specs.Shown.{Seen, is_out, report_by, counted, seen_at, seen_of, asked_at, asked_by, report_at, report_from}
+use Rattle.nr_world.specs.Driver.{the_link, ask, answer}
+use Rattle.nr_world.specs.Stands.{joined, each, upward, downward, nothing_seen, stays_up, report_in, report_over}
 use Rattle.nr_world.proofs.Runs.{flat_map-more, flat_map-none, called_from-more, fold-one}
 
 pub upward-more : (credits n : ℕ) → upward credits (suc n) ≡ upward credits n ++ ask credits (suc n)
@@ -67,43 +67,43 @@ cond-same : {A : Type 0} (b : Bool) (x : A) → cond b x x ≡ x
 cond-same true x = refl
 cond-same false x = refl
 
-pub seen-kept : (k : ℕ) (run : List Mark) (mark : Mark) (seen : Seen) → seen_of drill_server the_link k nothing_seen run ≡ seen → told_by the_link k seen mark ≡ seen → added drill_server mark ≡ [] → seen_of drill_server the_link k nothing_seen (run ++ mark ∷ []) ≡ seen
-seen-kept k run mark seen is told none =
+pub seen-kept : (k : ℕ) (run : List Mark) (mark : Mark) (seen : Seen) → seen_of drill_server the_link k nothing_seen run ≡ seen → report_by the_link k seen mark ≡ seen → added drill_server mark ≡ [] → seen_of drill_server the_link k nothing_seen (run ++ mark ∷ []) ≡ seen
+seen-kept k run mark seen is reports none =
     seen-more k run mark seen is
-    ∙ ap (λ (s : Seen). counted drill_server mark (cond (is_out seen.fate) s seen)) told
-    ∙ ap (λ (s : Seen). counted drill_server mark s) (cond-same (is_out seen.fate) seen)
+    ∙ ap (λ (s : Seen). counted drill_server mark (cond (is_out seen.state) s seen)) reports
+    ∙ ap (λ (s : Seen). counted drill_server mark s) (cond-same (is_out seen.state) seen)
     ∙ ap (λ (n : ℕ). record seen { entries = seen.entries + n }) (ap length none)
     ∙ ap (λ (n : ℕ). record seen { entries = n }) (add-zero seen.entries)
 
 -- the call lines of the first part of a run, one mark longer
-told_over-more : (before run rest : List Mark) (mark : Mark) → told_over before (run ++ mark ∷ []) rest ≡ told_over before run (mark ∷ rest) ++ told_at drill_server stays_up (before ++ run) mark rest
-told_over-more before [] rest mark = append-nil (told_at drill_server stays_up before mark rest) ∙ ap (λ (b : List Mark). told_at drill_server stays_up b mark rest) (sym (append-nil before))
-told_over-more before (m ∷ run) rest mark =
+report_over-more : (before run rest : List Mark) (mark : Mark) → report_over before (run ++ mark ∷ []) rest ≡ report_over before run (mark ∷ rest) ++ report_at drill_server stays_up (before ++ run) mark rest
+report_over-more before [] rest mark = append-nil (report_at drill_server stays_up before mark rest) ∙ ap (λ (b : List Mark). report_at drill_server stays_up b mark rest) (sym (append-nil before))
+report_over-more before (m ∷ run) rest mark =
     let all : (run ++ mark ∷ []) ++ rest ≡ run ++ mark ∷ rest = append_assoc run (mark ∷ []) rest in
-    let one = told_at drill_server stays_up before m (run ++ mark ∷ rest) in
-    ap (λ (after : List Mark). told_at drill_server stays_up before m after ++ told_over (before ++ m ∷ []) (run ++ mark ∷ []) rest) all
-    ∙ ap (λ (ys : List Told). one ++ ys) (told_over-more (before ++ m ∷ []) run rest mark)
-    ∙ sym (append_assoc one (told_over (before ++ m ∷ []) run (mark ∷ rest)) (told_at drill_server stays_up ((before ++ m ∷ []) ++ run) mark rest))
-    ∙ ap (λ (b : List Mark). (one ++ told_over (before ++ m ∷ []) run (mark ∷ rest)) ++ told_at drill_server stays_up b mark rest) (append_assoc before (m ∷ []) run)
+    let one = report_at drill_server stays_up before m (run ++ mark ∷ rest) in
+    ap (λ (after : List Mark). report_at drill_server stays_up before m after ++ report_over (before ++ m ∷ []) (run ++ mark ∷ []) rest) all
+    ∙ ap (λ (ys : List CallReport). one ++ ys) (report_over-more (before ++ m ∷ []) run rest mark)
+    ∙ sym (append_assoc one (report_over (before ++ m ∷ []) run (mark ∷ rest)) (report_at drill_server stays_up ((before ++ m ∷ []) ++ run) mark rest))
+    ∙ ap (λ (b : List Mark). (one ++ report_over (before ++ m ∷ []) run (mark ∷ rest)) ++ report_at drill_server stays_up b mark rest) (append_assoc before (m ∷ []) run)
 
-pub told-more : (run rest : List Mark) (mark : Mark) (n : ℕ) → told_over [] run (mark ∷ rest) ≡ each (told_in (run ++ mark ∷ rest)) n
-    → told_over [] (run ++ mark ∷ []) rest ≡ each (told_in ((run ++ mark ∷ []) ++ rest)) n ++ told_at drill_server stays_up run mark rest
-told-more run rest mark n is =
-    told_over-more [] run rest mark
-    ∙ ap (λ (xs : List Told). xs ++ told_at drill_server stays_up run mark rest) (is ∙ ap (λ (last : List Mark). each (told_in last) n) (sym (append_assoc run (mark ∷ []) rest)))
+pub reports-more : (run rest : List Mark) (mark : Mark) (n : ℕ) → report_over [] run (mark ∷ rest) ≡ each (report_in (run ++ mark ∷ rest)) n
+    → report_over [] (run ++ mark ∷ []) rest ≡ each (report_in ((run ++ mark ∷ []) ++ rest)) n ++ report_at drill_server stays_up run mark rest
+reports-more run rest mark n is =
+    report_over-more [] run rest mark
+    ∙ ap (λ (xs : List CallReport). xs ++ report_at drill_server stays_up run mark rest) (is ∙ ap (λ (last : List Mark). each (report_in last) n) (sym (append_assoc run (mark ∷ []) rest)))
 
-pub told-kept : (run rest : List Mark) (mark : Mark) (n : ℕ) → told_over [] run (mark ∷ rest) ≡ each (told_in (run ++ mark ∷ rest)) n → told_at drill_server stays_up run mark rest ≡ []
-    → told_over [] (run ++ mark ∷ []) rest ≡ each (told_in ((run ++ mark ∷ []) ++ rest)) n
-told-kept run rest mark n is none =
-    let ys = each (told_in ((run ++ mark ∷ []) ++ rest)) n in
-    told-more run rest mark n is ∙ ap (λ (xs : List Told). ys ++ xs) none ∙ append-nil ys
+pub reports-kept : (run rest : List Mark) (mark : Mark) (n : ℕ) → report_over [] run (mark ∷ rest) ≡ each (report_in (run ++ mark ∷ rest)) n → report_at drill_server stays_up run mark rest ≡ []
+    → report_over [] (run ++ mark ∷ []) rest ≡ each (report_in ((run ++ mark ∷ []) ++ rest)) n
+reports-kept run rest mark n is none =
+    let ys = each (report_in ((run ++ mark ∷ []) ++ rest)) n in
+    reports-more run rest mark n is ∙ ap (λ (xs : List CallReport). ys ++ xs) none ∙ append-nil ys
 
 -- all the call lines of a run
-pub told-all : (before run : List Mark) → told_from drill_server stays_up before run ≡ told_over before run []
-told-all before [] = refl
-told-all before (m ∷ run) =
-    ap (λ (after : List Mark). told_at drill_server stays_up before m after ++ told_from drill_server stays_up (before ++ m ∷ []) run) (sym (append-nil run))
-    ∙ ap (λ (ys : List Told). told_at drill_server stays_up before m (run ++ []) ++ ys) (told-all (before ++ m ∷ []) run)
+pub reports-all : (before run : List Mark) → report_from drill_server stays_up before run ≡ report_over before run []
+reports-all before [] = refl
+reports-all before (m ∷ run) =
+    ap (λ (after : List Mark). report_at drill_server stays_up before m after ++ report_from drill_server stays_up (before ++ m ∷ []) run) (sym (append-nil run))
+    ∙ ap (λ (ys : List CallReport). report_at drill_server stays_up before m (run ++ []) ++ ys) (reports-all (before ++ m ∷ []) run)
 
 -- what is seen of a call of a longer run
 pub seen-split : (k : ℕ) (run rest : List Mark) → seen_of drill_server the_link k nothing_seen (run ++ rest) ≡ fold (seen_at drill_server the_link k) (seen_of drill_server the_link k nothing_seen run) rest

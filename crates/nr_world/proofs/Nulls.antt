@@ -2,7 +2,7 @@
 use Rattle.std.proofs.Common.{◌≡◌, ℕ, ◌^◌, ◌<◌, [], length, Some, Ok, refl, ap, ◌∙◌, lit<}
 use Rattle.std.proofs.lemmas.List.{append-nil, length-append}
 use Rattle.nr_xdr.specs.Item.{pad_len}
-use Rattle.nr_xdr.proofs.Numbers.{length-word}
+use Rattle.nr_xdr.proofs.WordBytes.{length-word}
 use Rattle.nr_rpc.specs.declared.head.CallHead.{CallHead}
 use Rattle.nr_rpc.specs.declared.head.CallHead.TheVariants.{Version2}
 use Rattle.nr_rpc.specs.declared.cred.Cred.TheVariants as creds
@@ -11,7 +11,7 @@ use Rattle.nr_rpc.specs.Call.{call_head}
 use Rattle.nr_rpc.proofs.Calls.{call_written}
 use Rattle.nr_world.specs.Owed.{call_payload}
 use Rattle.nr_world.specs.Plain.{nfs_program, nfs_version, null_procedure, plain_reply, null_reply}
-use Rattle.nr_world.specs.Steps.{asked_payload}
+use Rattle.nr_world.specs.Driver.{asked_payload}
 
 -- the head of the k-th call
 abbrev null_head : ℕ → CallHead

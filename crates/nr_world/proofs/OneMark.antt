@@ -7,9 +7,9 @@ use Rattle.nr_world.specs.declared.call.Outcome.TheVariants as outcomes
 use Rattle.nr_world.specs.declared.call.Submission.TheVariants as submissions
 use Rattle.nr_world.specs.declared.mark.Mark.{Mark}
 use Rattle.nr_world.specs.declared.mark.Mark.TheVariants as marks
-use Rattle.nr_world.specs.declared.report.Fate.{Fate}
-use Rattle.nr_world.specs.declared.report.Fate.TheVariants as fates
-use Rattle.nr_world.specs.declared.report.Told.{Told}
+use Rattle.nr_world.specs.declared.report.CallState.{CallState}
+use Rattle.nr_world.specs.declared.report.CallState.TheVariants as call_states
+use Rattle.nr_world.specs.declared.report.CallReport.{CallReport}
 use Rattle.std.proofs.lemmas.Bool.{false≢true, true≢false}
 use Rattle.std.proofs.lemmas.Bool.Decides.{nat_tests}
 use Rattle.std.proofs.lemmas.Bool.{eqb-true}
@@ -18,11 +18,11 @@ use Rattle.nr_world.specs.Messages.{has_hello, is_greeted, send, inline_message}
 use Rattle.nr_world.specs.Owed.{answer_to, asking, asking_each, called_client, called_server}
 use Rattle.nr_world.specs.Follows.{drill_opened}
 use Rattle.nr_world.specs.Plain.{null_reply, drill_server}
-use Rattle.nr_world.specs.Shown.{Seen, is_out, place_for, counted, seen_at, seen_of, seen_first, last_place, told_at, asked_by}
-use Rattle.nr_world.specs.Steps.{the_link, null, asked_payload, ask, answer}
-use Rattle.nr_world.specs.Stands.{joined, each, upward, downward, accepted_call, executed_call, completed_call, Counts, is_one_of, seen_by, nothing_seen, stays_up, told_in, At}
+use Rattle.nr_world.specs.Shown.{Seen, is_out, place_for, counted, seen_at, seen_of, seen_first, last_place, report_at, asked_by}
+use Rattle.nr_world.specs.Driver.{the_link, null, asked_payload, ask, answer}
+use Rattle.nr_world.specs.Stands.{joined, each, upward, downward, accepted_call, executed_call, completed_call, Counts, is_one_of, seen_by, nothing_seen, stays_up, report_in, At}
 use Rattle.nr_world.proofs.Runs.{length-each, fold-one}
-use Rattle.nr_world.proofs.Marking.{keep, more, owed_up-more, owed_down-more, owed_up-kept, owed_down-kept, asked-more, seen-kept, seen-more, seen-split, seen-from, stays, told-more, told-kept, upward-more, downward-more}
+use Rattle.nr_world.proofs.Marking.{keep, more, owed_up-more, owed_down-more, owed_up-kept, owed_down-kept, asked-more, seen-kept, seen-more, seen-split, seen-from, stays, reports-more, reports-kept, upward-more, downward-more}
 use Rattle.nr_world.proofs.Streams.{has_hello-own, is_greeted-own}
 
 -- the client submits the next call
@@ -30,8 +30,8 @@ abbrev pub submit : ℕ → Mark
 submit k = marks.Submit the_link null Auto (submissions.Accepted k)
 
 -- what marks say of a call that may have been executed and answered
-abbrev pub seen_so : Bool → Bool → Fate → Seen
-seen_so placed ended fate = record { entries = 0; place = cond placed (Some 0) None; fate = cond ended fate fates.Out }
+abbrev pub seen_so : Bool → Bool → CallState → Seen
+seen_so placed ended state = record { entries = 0; place = cond placed (Some 0) None; state = cond ended state call_states.Out }
 
 -- the server's hello was there before
 greeting_came : (credits n : ℕ) → is_greeted Responder (downward credits n) ≡ true
@@ -57,7 +57,7 @@ other n k lt = grind (arith, nat_tests)
 seen-new : (n : Counts) (k : ℕ) → n.served < k → n.done < k → seen_by n k ≡ nothing_seen
 unfolding seen_by
 seen-new n k served done =
-    (λ i. seen_so (none-yet n.served k served i) (none-yet n.done k done i) (fates.Answered (Some 0) (outcomes.Reply (null_reply k))))
+    (λ i. seen_so (none-yet n.served k served i) (none-yet n.done k done i) (call_states.Answered (Some 0) (outcomes.Reply (null_reply k))))
 
 -- and it wasn't executed
 no-place : (n k : ℕ) → n < k → last_place k (each executed_call n) ≡ None
@@ -69,17 +69,17 @@ no-place (suc n) k lt =
     ∙ ap (λ (b : Bool). cond b (Some 0) (fold h None (each executed_call n))) (other n k lt)
     ∙ no-place n k (omega arith)
 
-told-new : (run : List Mark) (n : Counts) (rest : List Mark) → n.served < suc n.asked → asked_by the_link run ≡ n.asked → journal drill_server run ≡ [] → executed the_link run ≡ each executed_call n.served
+reports-new : (run : List Mark) (n : Counts) (rest : List Mark) → n.served < suc n.asked → asked_by the_link run ≡ n.asked → journal drill_server run ≡ [] → executed the_link run ≡ each executed_call n.served
     → seen_of drill_server the_link (suc n.asked) nothing_seen (run ++ submit (suc n.asked) ∷ []) ≡ nothing_seen
-    → told_at drill_server stays_up run (submit (suc n.asked)) rest ≡ told_in ((run ++ submit (suc n.asked) ∷ []) ++ rest) (suc n.asked) ∷ []
-told-new run n rest fewer asked none done seen =
+    → report_at drill_server stays_up run (submit (suc n.asked)) rest ≡ report_in ((run ++ submit (suc n.asked) ∷ []) ++ rest) (suc n.asked) ∷ []
+reports-new run n rest fewer asked none done seen =
     let k = suc n.asked in
     let place : last_place k (executed the_link run) ≡ None = ap (last_place k) done ∙ no-place n.served k fewer in
-    let first : seen_first drill_server the_link k run ≡ nothing_seen = (λ i. record { entries = length (none i); place = place i; fate = fates.Out }) in
+    let first : seen_first drill_server the_link k run ≡ nothing_seen = (λ i. record { entries = length (none i); place = place i; state = call_states.Out }) in
     let own : seen_of drill_server the_link k (seen_first drill_server the_link k run) rest ≡ seen_of drill_server the_link k nothing_seen ((run ++ submit k ∷ []) ++ rest) =
     ap (λ (s : Seen). seen_of drill_server the_link k s rest) first ∙ seen-from k rest
     ∙ ap (λ (s : Seen). fold (seen_at drill_server the_link k) s rest) (sym seen) ∙ sym (seen-split k (run ++ submit k ∷ []) rest) in
-    (λ i. record { client = the_link; number = (ap (λ (j : ℕ). j + 1) asked ∙ add-one n.asked) i; fate = (own i).fate } ∷ [])
+    (λ i. record { client = the_link; number = (ap (λ (j : ℕ). j + 1) asked ∙ add-one n.asked) i; state = (own i).state } ∷ [])
 
 pub At-submit : (credits : ℕ) (run : List Mark) (n : Counts) → At credits run n → n.served ≤ n.asked → n.done ≤ n.asked → At credits (run ++ submit (suc n.asked) ∷ []) (record n { asked = suc n.asked })
 unfolding sent got accepted executed completed journal seen_by
@@ -101,7 +101,7 @@ At-submit credits run n at fewer_served fewer_done =
       asked_are = asked-more run m n.asked at.asked_are ∙ add-one n.asked;
       no_entries = keep (added drill_server) run m [] at.no_entries refl;
       not_dropped = λ link. stays link run m (at.not_dropped link) refl;
-      told_are = λ rest. told-more run rest m n.asked (at.told_are (m ∷ rest)) ∙ ap (λ (ts : List Told). each (told_in ((run ++ m ∷ []) ++ rest)) n.asked ++ ts) (told-new run n rest (omega arith) at.asked_are at.no_entries at.executed_are none);
+      report_are = λ rest. reports-more run rest m n.asked (at.report_are (m ∷ rest)) ∙ ap (λ (ts : List CallReport). each (report_in ((run ++ m ∷ []) ++ rest)) n.asked ++ ts) (reports-new run n rest (omega arith) at.asked_are at.no_entries at.executed_are none);
       seen_are = seen;
     }
 
@@ -126,7 +126,7 @@ At-write_up credits run n at =
       asked_are = asked-more run m n.asked at.asked_are ∙ add-zero n.asked;
       no_entries = keep (added drill_server) run m [] at.no_entries refl;
       not_dropped = λ link. stays link run m (at.not_dropped link) refl;
-      told_are = λ rest. told-kept run rest m n.asked (at.told_are (m ∷ rest)) refl;
+      report_are = λ rest. reports-kept run rest m n.asked (at.report_are (m ∷ rest)) refl;
       seen_are = λ k. seen-kept k run m (seen_by n k) (at.seen_are k) refl refl;
     }
 
@@ -151,7 +151,7 @@ At-write_down credits run n at =
       asked_are = asked-more run m n.asked at.asked_are ∙ add-zero n.asked;
       no_entries = keep (added drill_server) run m [] at.no_entries refl;
       not_dropped = λ link. stays link run m (at.not_dropped link) refl;
-      told_are = λ rest. told-kept run rest m n.asked (at.told_are (m ∷ rest)) refl;
+      report_are = λ rest. reports-kept run rest m n.asked (at.report_are (m ∷ rest)) refl;
       seen_are = λ k. seen-kept k run m (seen_by n k) (at.seen_are k) refl refl;
     }
 
@@ -187,7 +187,7 @@ At-feed_up credits run n at =
       asked_are = asked-more run m n.asked at.asked_are ∙ add-zero n.asked;
       no_entries = keep (added drill_server) run m [] at.no_entries refl;
       not_dropped = λ link. stays link run m (at.not_dropped link) refl;
-      told_are = λ rest. told-kept run rest m n.asked (at.told_are (m ∷ rest)) refl;
+      report_are = λ rest. reports-kept run rest m n.asked (at.report_are (m ∷ rest)) refl;
       seen_are = λ k. seen-kept k run m (seen_by n k) (at.seen_are k) refl refl;
     }
 
@@ -215,7 +215,7 @@ At-feed_down credits run n at =
       asked_are = asked-more run m n.asked at.asked_are ∙ add-zero n.asked;
       no_entries = keep (added drill_server) run m [] at.no_entries refl;
       not_dropped = λ link. stays link run m (at.not_dropped link) refl;
-      told_are = λ rest. told-kept run rest m n.asked (at.told_are (m ∷ rest)) refl;
+      report_are = λ rest. reports-kept run rest m n.asked (at.report_are (m ∷ rest)) refl;
       seen_are = λ k. seen-kept k run m (seen_by n k) (at.seen_are k) refl refl;
     }
 
@@ -229,10 +229,10 @@ is_one-below n m k le e = grind (arith, nat_tests)
 -- what a call's execution says of it, and leaves of the others
 executed_so : (placed ended own : Bool) (reply : List ℕ) → (ended ≡ true → own ≡ false) →
     counted drill_server (marks.Lost 0 0)
-    (cond (is_out (cond ended (fates.Answered (Some 0) (outcomes.Reply reply)) fates.Out))
-    (cond own (record { entries = 0; place = Some 0; fate = cond ended (fates.Answered (Some 0) (outcomes.Reply reply)) fates.Out }) (seen_so placed ended (fates.Answered (Some 0) (outcomes.Reply reply))))
-    (seen_so placed ended (fates.Answered (Some 0) (outcomes.Reply reply))))
-    ≡ seen_so (placed || own) ended (fates.Answered (Some 0) (outcomes.Reply reply))
+    (cond (is_out (cond ended (call_states.Answered (Some 0) (outcomes.Reply reply)) call_states.Out))
+    (cond own (record { entries = 0; place = Some 0; state = cond ended (call_states.Answered (Some 0) (outcomes.Reply reply)) call_states.Out }) (seen_so placed ended (call_states.Answered (Some 0) (outcomes.Reply reply))))
+    (seen_so placed ended (call_states.Answered (Some 0) (outcomes.Reply reply))))
+    ≡ seen_so (placed || own) ended (call_states.Answered (Some 0) (outcomes.Reply reply))
 executed_so true true true reply h = absurd (true≢false (h refl))
 executed_so false true true reply h = absurd (true≢false (h refl))
 executed_so true true false reply h = refl
@@ -246,18 +246,18 @@ seen-executed : (n : Counts) (k : ℕ) → n.done ≤ n.served → seen_at drill
 unfolding seen_by
 seen-executed n k later =
     executed_so (is_one_of n.served k) (is_one_of n.done k) (eqb (suc n.served) k) (null_reply k) (is_one-below n.done n.served k later)
-    ∙ ap (λ (b : Bool). seen_so b (is_one_of n.done k) (fates.Answered (Some 0) (outcomes.Reply (null_reply k)))) (sym (is_one-more n.served k))
+    ∙ ap (λ (b : Bool). seen_so b (is_one_of n.done k) (call_states.Answered (Some 0) (outcomes.Reply (null_reply k)))) (sym (is_one-more n.served k))
 
 -- what its outcome says of it
 completed_so : (placed ended own : Bool) (reply payload : List ℕ) → (ended ≡ true → own ≡ false) → (own ≡ true → placed ≡ true) → (own ≡ true → payload ≡ reply) →
     counted drill_server (marks.Lost 0 0)
-    (cond (is_out (cond ended (fates.Answered (Some 0) (outcomes.Reply reply)) fates.Out))
-    (cond own (record { entries = 0; place = cond placed (Some 0) None; fate = fates.Answered (place_for (outcomes.Reply payload) 0 (cond placed (Some 0) None)) (outcomes.Reply payload) }) (seen_so placed ended (fates.Answered (Some 0) (outcomes.Reply reply))))
-    (seen_so placed ended (fates.Answered (Some 0) (outcomes.Reply reply))))
-    ≡ seen_so placed (ended || own) (fates.Answered (Some 0) (outcomes.Reply reply))
+    (cond (is_out (cond ended (call_states.Answered (Some 0) (outcomes.Reply reply)) call_states.Out))
+    (cond own (record { entries = 0; place = cond placed (Some 0) None; state = call_states.Answered (place_for (outcomes.Reply payload) 0 (cond placed (Some 0) None)) (outcomes.Reply payload) }) (seen_so placed ended (call_states.Answered (Some 0) (outcomes.Reply reply))))
+    (seen_so placed ended (call_states.Answered (Some 0) (outcomes.Reply reply))))
+    ≡ seen_so placed (ended || own) (call_states.Answered (Some 0) (outcomes.Reply reply))
 completed_so placed true true reply payload h g e = absurd (true≢false (h refl))
 completed_so placed true false reply payload h g e = refl
-completed_so true false true reply payload h g e = ap (λ (p : List ℕ). seen_so true true (fates.Answered (Some 0) (outcomes.Reply p))) (e refl)
+completed_so true false true reply payload h g e = ap (λ (p : List ℕ). seen_so true true (call_states.Answered (Some 0) (outcomes.Reply p))) (e refl)
 completed_so false false true reply payload h g e = absurd (false≢true (g refl))
 completed_so placed false false reply payload h g e = refl
 
@@ -269,7 +269,7 @@ unfolding seen_by
 seen-completed n k later =
     completed_so (is_one_of n.served k) (is_one_of n.done k) (eqb (suc n.done) k) (null_reply k) (null_reply (suc n.done))
     (is_one-below n.done n.done k (omega arith)) (one_served n.done n.served k later) (λ e. ap null_reply (eqb-true (suc n.done) k e))
-    ∙ ap (λ (b : Bool). seen_so (is_one_of n.served k) b (fates.Answered (Some 0) (outcomes.Reply (null_reply k)))) (sym (is_one-more n.done k))
+    ∙ ap (λ (b : Bool). seen_so (is_one_of n.served k) b (call_states.Answered (Some 0) (outcomes.Reply (null_reply k)))) (sym (is_one-more n.done k))
 
 -- the next call is executed
 abbrev pub execute : ℕ → Mark
@@ -297,7 +297,7 @@ At-execute credits run n at later =
       asked_are = asked-more run m n.asked at.asked_are ∙ add-zero n.asked;
       no_entries = keep (added drill_server) run m [] at.no_entries refl;
       not_dropped = λ link. stays link run m (at.not_dropped link) refl;
-      told_are = λ rest. told-kept run rest m n.asked (at.told_are (m ∷ rest)) refl;
+      report_are = λ rest. reports-kept run rest m n.asked (at.report_are (m ∷ rest)) refl;
       seen_are = λ k. seen-more k run m (seen_by n k) (at.seen_are k) ∙ seen-executed n k later;
     }
 
@@ -322,6 +322,6 @@ At-complete credits run n at later =
       asked_are = asked-more run m n.asked at.asked_are ∙ add-zero n.asked;
       no_entries = keep (added drill_server) run m [] at.no_entries refl;
       not_dropped = λ link. stays link run m (at.not_dropped link) refl;
-      told_are = λ rest. told-kept run rest m n.asked (at.told_are (m ∷ rest)) refl;
+      report_are = λ rest. reports-kept run rest m n.asked (at.report_are (m ∷ rest)) refl;
       seen_are = λ k. seen-more k run m (seen_by n k) (at.seen_are k) ∙ seen-completed n k later;
     }

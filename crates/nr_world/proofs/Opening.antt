@@ -10,15 +10,15 @@ use Rattle.nr_world.specs.declared.mark.Mark.{Mark}
 use Rattle.nr_world.specs.declared.mark.Mark.TheVariants as marks
 use Rattle.std.proofs.lemmas.Bool.Decides.{nat_tests}
 use Rattle.nr_world.specs.declared.call.Outcome.TheVariants as outcomes
-use Rattle.nr_world.specs.declared.report.Fate.TheVariants as fates
-use Rattle.nr_world.specs.Limits.{most_credits}
+use Rattle.nr_world.specs.declared.report.CallState.TheVariants as call_states
+use Rattle.nr_world.specs.Constants.{most_credits}
 use Rattle.nr_world.specs.Observed.{links_of, sent, got, accepted, executed, completed, journal}
 use Rattle.nr_world.specs.Messages.{has_hello, is_greeted}
 use Rattle.nr_world.specs.Owed.{own_hello, answer_to, asking_each, owed}
 use Rattle.nr_world.specs.Plain.{null_reply}
 use Rattle.nr_world.specs.Follows.{Drill, drill_opened, start, openings, settled, writing, unwritten, feeding, taken, up_by, down_by, all_up, all_down}
 use Rattle.nr_world.specs.Shown.{seen_of, asked_by}
-use Rattle.nr_world.specs.Steps.{the_link, opened_state}
+use Rattle.nr_world.specs.Driver.{the_link, opened_state}
 use Rattle.nr_world.specs.Stands.{upward, downward, Counts, is_one_of, seen_by, At, Laws, Stands, drill_of, Played}
 use Rattle.nr_world.proofs.Streams.{has_hello-own, hello_in-own, own_hello-frame}
 use Rattle.nr_world.proofs.OneMark.{seen_so}
@@ -73,8 +73,8 @@ At-open credits = record {
   asked_are = refl;
   no_entries = refl;
   not_dropped = λ link. refl;
-  told_are = λ rest. refl;
-  seen_are = λ k. sym (ap (λ (b : Bool). seen_so b b (fates.Answered (Some 0) (outcomes.Reply (null_reply k)))) (none_one k));
+  report_are = λ rest. refl;
+  seen_are = λ k. sym (ap (λ (b : Bool). seen_so b b (call_states.Answered (Some 0) (outcomes.Reply (null_reply k)))) (none_one k));
 }
 
 Laws-open : (credits : ℕ) → Laws credits open_marks
@@ -154,7 +154,7 @@ opened-stands credits some few =
       arrived_is = tt;
       up_is = ap (λ (xs : List ℕ). record { log = xs; place = length xs; faults = 0 }) (sym (append-nil up));
       down_is = ap (λ (xs : List ℕ). record { log = xs; place = length xs; faults = 0 }) (sym (append-nil down));
-      told_is = refl;
+      report_is = refl;
       no_entries = refl;
       no_place = refl;
       heard_served = omega arith;

@@ -6,7 +6,7 @@ use Rattle.std.specs.List.{position_or_len, position}
 use Rattle.std.specs.Str.{bytes_eq}
 use Rattle.nr_world.specs.Script.{Line, Cut, null_call, turn_onto, turns, ends_at, clients_line, credits_in, cut, line_onto, byte_onto, newline}
 use Rattle.nr_world.specs.Script.Line.{Drain}
-use Rattle.nr_world.specs.Limits.{most_credits}
+use Rattle.nr_world.specs.Constants.{most_credits}
 use Rattle.nr_world.specs.Parsing.{credits_from, turns_onto}
 
 abbrev pub is_newline : ℕ → Bool

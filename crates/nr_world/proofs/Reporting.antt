@@ -8,9 +8,9 @@ use Rattle.nr_wire.specs.declared.hello.Side.TheVariants.{Initiator, Responder}
 use Rattle.nr_world.specs.declared.call.Outcome.TheVariants as outcomes
 use Rattle.nr_world.specs.declared.mark.Mark.{Mark}
 use Rattle.nr_world.specs.declared.mark.Opened.{Opened}
-use Rattle.nr_world.specs.declared.report.Fate.{Fate}
-use Rattle.nr_world.specs.declared.report.Fate.TheVariants as fates
-use Rattle.nr_world.specs.declared.report.LinkFate.TheVariants as links
+use Rattle.nr_world.specs.declared.report.CallState.{CallState}
+use Rattle.nr_world.specs.declared.report.CallState.TheVariants as call_states
+use Rattle.nr_world.specs.declared.report.LinkState.TheVariants as links
 use Rattle.nr_world.specs.declared.report.Report.{Report}
 use Rattle.nr_world.specs.Observed.{Accepted, Executed, Completed, links_of, executed, journal, sent}
 use Rattle.nr_world.specs.Served.{next_call}
@@ -20,14 +20,14 @@ use Rattle.nr_world.specs.Places.{PlacesRise}
 use Rattle.nr_world.specs.Plain.{null_reply, drill_server}
 use Rattle.nr_world.specs.Script.{ScriptLines, Line, turns}
 use Rattle.nr_world.specs.Follows.{Drill, drill_opened, openings, start, WorksAll, MakeAll}
-use Rattle.nr_world.specs.Shown.{Seen, seen_of, told_from, calls_told, links_told}
+use Rattle.nr_world.specs.Shown.{Seen, seen_of, report_from, call_reports, link_reports}
 use Rattle.nr_world.specs.Stops.{no_stops}
 use Rattle.nr_world.specs.Promise.{HoldsOn}
 use Rattle.nr_world.specs.Headline.{EndsDrained, IsDrill, Reports, log_of}
-use Rattle.nr_world.specs.Steps.{State, the_link, worked}
-use Rattle.nr_world.specs.Stands.{each, upward, downward, counts_of, accepted_call, executed_call, completed_call, told_call, told_in, nothing_seen, is_one_of, seen_by, Stands, IsQuiet, drill_of, Played, Tells}
+use Rattle.nr_world.specs.Driver.{State, the_link, worked}
+use Rattle.nr_world.specs.Stands.{each, upward, downward, counts_of, accepted_call, executed_call, completed_call, report_call, report_in, nothing_seen, is_one_of, seen_by, Stands, IsQuiet, drill_of, Played, Tells}
 use Rattle.nr_world.proofs.Runs.{Contains-each, each-within}
-use Rattle.nr_world.proofs.Marking.{told-all}
+use Rattle.nr_world.proofs.Marking.{reports-all}
 use Rattle.nr_world.proofs.Serving.{works}
 use Rattle.nr_world.proofs.Staying.{handed_over}
 
@@ -36,7 +36,7 @@ complete-is : (s : State) → Stands s → IsQuiet s → IsComplete the_link s.m
 complete-is s st quiet a held kept =
     let of = each-within accepted_call s.asked a (subst (λ (xs : List Accepted). Contains xs a) st.at.accepted_are held) in
     let k = of.0 in
-    let there : Contains (each completed_call (length s.told)) (completed_call k) = Contains-each completed_call (length s.told) k of.1 (omega (arith, of.2, quiet)) in
+    let there : Contains (each completed_call (length s.reports)) (completed_call k) = Contains-each completed_call (length s.reports) k of.1 (omega (arith, of.2, quiet)) in
     (completed_call k, subst (λ (xs : List Completed). Contains xs (completed_call k)) (sym st.at.completed_are) there, ap (λ (x : Accepted). x.xid) of.3)
 
 -- work goes on until no call is left
@@ -49,13 +49,13 @@ settled-is : (s : State) → Stands s → IsQuiet s → IsSettled the_link s.mar
 settled-is s st quiet =
     let c = s.credits in
     let came : (counts_of s).came ≡ s.asked = omega (arith, st.came_asked, st.heard_served, quiet) in
-    let told : length s.told ≡ s.served = omega (arith, st.came_asked, st.heard_served, quiet) in
+    let reports : length s.reports ≡ s.served = omega (arith, st.came_asked, st.heard_served, quiet) in
     let w = works s st in
     let none = none_left (drill_opened c) w.count (drill_of s) (drill_of (worked s)) w.works in
     record {
       up = st.at.up_got ∙ ap (upward c) came ∙ sym st.at.up_sent;
-      down = st.at.down_got ∙ ap (downward c) told ∙ sym st.at.down_sent;
-      executed = ap (λ (t : State). next_call the_link t.marks) (sym (w.still (omega (arith, came, told, quiet)))) ∙ none;
+      down = st.at.down_got ∙ ap (downward c) reports ∙ sym st.at.down_sent;
+      executed = ap (λ (t : State). next_call the_link t.marks) (sym (w.still (omega (arith, came, reports, quiet)))) ∙ none;
     }
 
 -- the promise holds of the link of a drill that ended
@@ -120,23 +120,23 @@ each-same f g (suc n) h =
 one_of : (n k : ℕ) → 0 < k → k ≤ n → is_one_of n k ≡ true
 one_of n k lt le = grind (arith, nat_tests)
 
-pub told-is : (s : State) → Stands s → IsQuiet s → s.told ≡ calls_told drill_server no_stops s.marks
-unfolding calls_told seen_by
-told-is s st quiet =
-    let n = length s.told in
-    let same = each-same told_call (told_in s.marks) n (λ k lt le.
-    let fate : (seen_of drill_server the_link k nothing_seen s.marks).fate ≡ fates.Answered (Some 0) (outcomes.Reply (null_reply k)) =
-    ap (λ (x : Seen). x.fate) (st.at.seen_are k)
-    ∙ ap (λ (b : Bool). cond b (fates.Answered (Some 0) (outcomes.Reply (null_reply k))) fates.Out) (one_of n k lt le) in
-    ap (λ (f : Fate). record { client = the_link; number = k; fate = f }) (sym fate)) in
-    st.told_is ∙ same ∙ ap (each (told_in s.marks)) (sym quiet) ∙ ap (λ (last : List Mark). each (told_in last) s.asked) (sym (append-nil s.marks))
-    ∙ sym (st.at.told_are []) ∙ sym (told-all [] s.marks)
-    ∙ sym (λ i. told_from drill_server (λ link. ap (λ (b : Bool). b || false) (st.at.not_dropped link) i) [] s.marks)
+pub reports-is : (s : State) → Stands s → IsQuiet s → s.reports ≡ call_reports drill_server no_stops s.marks
+unfolding call_reports seen_by
+reports-is s st quiet =
+    let n = length s.reports in
+    let same = each-same report_call (report_in s.marks) n (λ k lt le.
+    let state : (seen_of drill_server the_link k nothing_seen s.marks).state ≡ call_states.Answered (Some 0) (outcomes.Reply (null_reply k)) =
+    ap (λ (x : Seen). x.state) (st.at.seen_are k)
+    ∙ ap (λ (b : Bool). cond b (call_states.Answered (Some 0) (outcomes.Reply (null_reply k))) call_states.Out) (one_of n k lt le) in
+    ap (λ (f : CallState). record { client = the_link; number = k; state = f }) (sym state)) in
+    st.report_is ∙ same ∙ ap (each (report_in s.marks)) (sym quiet) ∙ ap (λ (last : List Mark). each (report_in last) s.asked) (sym (append-nil s.marks))
+    ∙ sym (st.at.report_are []) ∙ sym (reports-all [] s.marks)
+    ∙ sym (λ i. report_from drill_server (λ link. ap (λ (b : Bool). b || false) (st.at.not_dropped link) i) [] s.marks)
 
 -- the link is neither dropped nor ended
-pub links-are : (s : State) → Stands s → [] ≡ links_told no_stops 1 s.marks
-unfolding links_told
-links-are s st = sym (ap (λ (b : Bool). cond b (record { client = the_link; fate = links.Dropped } ∷ []) [] ++ []) (st.at.not_dropped the_link))
+pub links-are : (s : State) → Stands s → [] ≡ link_reports no_stops 1 s.marks
+unfolding link_reports
+links-are s st = sym (ap (λ (b : Bool). cond b (record { client = the_link; state = links.Dropped } ∷ []) [] ++ []) (st.at.not_dropped the_link))
 
 pub logs-are : (s : State) → Stands s → record { up = s.up.log; down = s.down.log } ∷ [] ≡ map (log_of s.marks) (links_of 1)
 logs-are s st =
@@ -150,9 +150,9 @@ reports-is script calls s report one lines p t =
     record {
       drill = subst (λ (run : List Mark). IsDrill script run) (sym t.marks_are) (drill-is script calls s one lines p);
       journal = none ∙ sym p.stands.at.no_entries ∙ ap (journal drill_server) (sym t.marks_are);
-      calls = t.calls_are ∙ told-is s p.stands p.quiet ∙ ap (calls_told drill_server no_stops) (sym t.marks_are);
-      links = t.links_are ∙ links-are s p.stands ∙ ap (λ (run : List Mark). links_told no_stops 1 run) (sym t.marks_are)
-          ∙ ap (λ (n : ℕ). links_told no_stops n report.marks) (sym one);
+      calls = t.calls_are ∙ reports-is s p.stands p.quiet ∙ ap (call_reports drill_server no_stops) (sym t.marks_are);
+      links = t.links_are ∙ links-are s p.stands ∙ ap (λ (run : List Mark). link_reports no_stops 1 run) (sym t.marks_are)
+          ∙ ap (λ (n : ℕ). link_reports no_stops n report.marks) (sym one);
       logs = t.logs_are ∙ logs-are s p.stands ∙ ap (λ (run : List Mark). map (log_of run) (links_of 1)) (sym t.marks_are)
           ∙ ap (λ (n : ℕ). map (log_of report.marks) (links_of n)) (sym one);
     }

@@ -4,14 +4,14 @@ use Rattle.std.proofs.lemmas.Bool.{cases_lt, lt-ltb, le-ltb, ltb-true, ltb-false
 use Rattle.std.specs.List.{flat_map}
 use Rattle.std.proofs.lemmas.List.{append-nil}
 use Rattle.nr_world.specs.declared.mark.Mark.{Mark}
-use Rattle.nr_world.specs.declared.report.Told.{Told}
-use Rattle.nr_world.specs.Limits.{most_lines}
+use Rattle.nr_world.specs.declared.report.CallReport.{CallReport}
+use Rattle.nr_world.specs.Constants.{most_lines}
 use Rattle.nr_world.specs.Observed.{completed, links_of}
 use Rattle.nr_world.specs.Plain.{drill_server}
 use Rattle.nr_world.specs.Script.{Line, null_call, turns}
 use Rattle.nr_world.specs.Script.Line.{Drain}
 use Rattle.nr_world.specs.Follows.{Drill, drill_opened, start, openings, all_up, all_down, MovesLink, Moves, todo, Fell, Drains, Makes, MakeAll, WorksAll}
-use Rattle.nr_world.specs.Steps.{State, the_link, came, worked, heard, waits, works_on, asked_one}
+use Rattle.nr_world.specs.Driver.{State, the_link, came, worked, heard, waits, works_on, asked_one}
 use Rattle.nr_world.specs.Stands.{completed_call, counts_of, Stands, IsQuiet, drill_of, Round, Drained, Called, Played}
 use Rattle.nr_world.proofs.Runs.{length-each}
 use Rattle.nr_world.proofs.Standing.{asks, comes}
@@ -44,10 +44,10 @@ round_of s st =
     let o = drill_opened s.credits in
     let came_all : (counts_of t).came ≡ s.asked = up.all in
     let u_served : u.served ≡ s.asked = work.all ∙ came_all in
-    let u_told : u.told ≡ s.told = work.told_is ∙ up.told_is in
+    let u_reports : u.reports ≡ s.reports = work.report_is ∙ up.report_is in
     let u_credits : u.credits ≡ s.credits = work.credits_are ∙ up.credits_are in
     let v_asked : v.asked ≡ s.asked = down.asked_is ∙ work.asked_is ∙ up.asked_is in
-    let v_told : length v.told ≡ s.asked = down.all ∙ u_served in
+    let v_reports : length v.reports ≡ s.asked = down.all ∙ u_served in
     let works_from : WorksAll drill_server (drill_opened t.credits) the_link work.count (drill_of t) (drill_of u) = work.works in
     let works_here : WorksAll drill_server o the_link work.count (all_up o the_link (drill_of s)) (drill_of u) =
     subst (λ (d : Drill). WorksAll drill_server o the_link work.count d (drill_of u)) up.makes
@@ -59,31 +59,31 @@ round_of s st =
       new_is = down.makes ∙ ap (λ (c : ℕ). all_down (drill_opened c) the_link (drill_of u)) u_credits;
     } in
     let moved_work : works_on t.arrived ≡ ltb s.served s.asked = work.moved ∙ ap (λ (k : ℕ). ltb k (counts_of t).came) up.served_is ∙ ap (ltb s.served) came_all in
-    let moved_down : waits u.down ≡ ltb (length s.told) s.asked = down.moved ∙ ap (λ (xs : List Told). ltb (length xs) u.served) u_told ∙ ap (ltb (length s.told)) u_served in
+    let moved_down : waits u.down ≡ ltb (length s.reports) s.asked = down.moved ∙ ap (λ (xs : List CallReport). ltb (length xs) u.served) u_reports ∙ ap (ltb (length s.reports)) u_served in
     record {
       stands = down.stands;
       asked_is = v_asked;
       credits_are = down.credits_are ∙ u_credits;
-      quiet = v_asked ∙ sym v_told;
+      quiet = v_asked ∙ sym v_reports;
       makes = (drill_of v, one, refl);
       moved_is =
           ap (λ (b : Bool). b || works_on t.arrived || waits u.down) up.moved
           ∙ ap (λ (b : Bool). ltb (counts_of s).came s.asked || b || waits u.down) moved_work
           ∙ ap (λ (b : Bool). ltb (counts_of s).came s.asked || ltb s.served s.asked || b) moved_down
-          ∙ either-moves s.asked (counts_of s).came s.served (length s.told) st.heard_served (omega arith);
+          ∙ either-moves s.asked (counts_of s).came s.served (length s.reports) st.heard_served (omega arith);
       still = λ quiet.
           let first : t ≡ s = up.still (omega (arith, quiet, st.heard_served, st.came_asked)) in
           let second : u ≡ t = work.still (omega (arith, up.served_is, came_all, quiet, st.heard_served, st.came_asked)) in
-          let third : v ≡ u = down.still (omega (arith, u_served, ap length u_told, quiet)) in
+          let third : v ≡ u = down.still (omega (arith, u_served, ap length u_reports, quiet)) in
           third ∙ second ∙ first;
     }
 
 -- a round that moved something made other marks
 moved-marks : (s v : State) (moved : Bool) → Stands s → Round s v moved → moved ≡ true → v.marks ≢ s.marks
 moved-marks s v moved st r e same =
-    let more : length s.told < s.asked = ltb-true (length s.told) s.asked (sym r.moved_is ∙ e) in
-    let now : length (completed the_link v.marks) ≡ length v.told = ap length r.stands.at.completed_are ∙ length-each completed_call (length v.told) in
-    let before : length (completed the_link s.marks) ≡ length s.told = ap length st.at.completed_are ∙ length-each completed_call (length s.told) in
+    let more : length s.reports < s.asked = ltb-true (length s.reports) s.asked (sym r.moved_is ∙ e) in
+    let now : length (completed the_link v.marks) ≡ length v.reports = ap length r.stands.at.completed_are ∙ length-each completed_call (length v.reports) in
+    let before : length (completed the_link s.marks) ≡ length s.reports = ap length st.at.completed_are ∙ length-each completed_call (length s.reports) in
     absurd (omega (arith, more, now, before, ap (λ (run : List Mark). length (completed the_link run)) same, r.quiet, r.asked_is))
 
 -- on the one link
@@ -103,7 +103,7 @@ draining_none s st = record { stands = st; asked_is = refl; credits_are = refl; 
 -- a round that moved something is the first
 pub draining_more : (start now new : State) → Draining start now → Round now new true → Draining start new
 draining_more start now new d r =
-    let out : length now.told < now.asked = ltb-true (length now.told) now.asked (sym r.moved_is) in
+    let out : length now.reports < now.asked = ltb-true (length now.reports) now.asked (sym r.moved_is) in
     let first : now ≡ start = elim d.so_far [ inl same ↦ same | inr moved ↦ absurd (omega (arith, out, moved.0)) ] in
     record {
       stands = r.stands;
@@ -128,8 +128,8 @@ drains_from start now new d last same =
 -- one in which nothing moved is the last
 pub drained_by : (start now new : State) → Draining start now → Round now new false → Drained start new
 drained_by start now new d r =
-    let none_out : now.asked ≤ length now.told = ltb-false (length now.told) now.asked (sym r.moved_is) in
-    let quiet : now.asked ≡ length now.told = omega (arith, none_out, d.stands.heard_served, d.stands.came_asked) in
+    let none_out : now.asked ≤ length now.reports = ltb-false (length now.reports) now.asked (sym r.moved_is) in
+    let quiet : now.asked ≡ length now.reports = omega (arith, none_out, d.stands.heard_served, d.stands.came_asked) in
     let still : new ≡ now = r.still quiet in
     let last : Moves drill_server (drill_opened start.credits) (links_of 1) (drill_of now) (drill_of new) =
     subst (λ (c : ℕ). Moves drill_server (drill_opened c) (links_of 1) (drill_of now) (drill_of new)) d.credits_are r.makes in

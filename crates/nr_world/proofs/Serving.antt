@@ -12,7 +12,7 @@ use Rattle.nr_world.specs.Messages.{call_in, conveyed, messages, send, inline_me
 use Rattle.nr_world.specs.Served.{came, next_call}
 use Rattle.nr_world.specs.Plain.{null_reply, drill_server}
 use Rattle.nr_world.specs.Follows.{Drill, drill_opened, with_mark, settled, Works, WorksAll}
-use Rattle.nr_world.specs.Steps.{State, the_link, asked_payload, answer, written, answered_with, worked_on, worked, works_on, is_answered, wrote_down, executed_one}
+use Rattle.nr_world.specs.Driver.{State, the_link, asked_payload, answer, written, answered_with, worked_on, worked, works_on, is_answered, wrote_down, executed_one}
 use Rattle.nr_world.specs.Stands.{each, upward, downward, executed_call, Counts, counts_of, arrived_one, arrived_after, At, Stands, drill_of}
 use Rattle.nr_world.proofs.Runs.{length-each}
 use Rattle.nr_world.proofs.Nulls.{plain_reply-asked}
@@ -26,7 +26,7 @@ use Rattle.nr_world.proofs.Standing.{words_of, pipe_is, waiting-written}
 pub record Worked (s : State) (new : State) : Type 0 where
   pub stands : Stands new
   pub asked_is : new.asked ≡ s.asked
-  pub told_is : new.told ≡ s.told
+  pub report_is : new.reports ≡ s.reports
   pub credits_are : new.credits ≡ s.credits
   pub count : ℕ
   pub works : WorksAll drill_server (drill_opened s.credits) the_link count (drill_of s) (drill_of new)
@@ -54,7 +54,7 @@ worked_none s none st =
     subst (λ (t : State). Worked s t) (sym same) (record {
       stands = st;
       asked_is = refl;
-      told_is = refl;
+      report_is = refl;
       credits_are = refl;
       count = 0;
       works = (no_call s.credits s.marks (counts_of s) st.at all small w.few, refl);
@@ -76,7 +76,7 @@ after_work s k place = record {
   served = k;
   entries = s.entries;
   place = place;
-  told = s.told;
+  reports = s.reports;
 }
 
 worked-is : (s : State) (call : Conveyed) → s.arrived ≡ Some call → call ≡ conveyed_call (suc s.served) → suc s.served < 2 ^ 32 → worked s ≡ after_work s (suc s.served) s.entries
@@ -109,10 +109,10 @@ worked_one s call arrived is st =
     let n2 : Counts = record n { served = k; sent_down = k } in
     let at3 : At c (run ++ write_down c k ∷ []) (record n2 { came = k + 0 }) = subst (λ (j : ℕ). At c (run ++ write_down c k ∷ []) (record n2 { came = j })) counts_now at2 in
     let log : s.down.log ≡ downward c s.served = ap (λ (p : PipeState). p.log) st.down_is in
-    let place : s.down.place ≡ length (downward c (length s.told)) = ap (λ (p : PipeState). p.place) st.down_is in
+    let place : s.down.place ≡ length (downward c (length s.reports)) = ap (λ (p : PipeState). p.place) st.down_is in
     let longer : s.down.log ++ answer c k ≡ downward c k = ap (λ (xs : List ℕ). xs ++ answer c k) log ∙ sym (downward-more c s.served) in
-    let told_served : length s.told ≡ s.served = omega (arith, st.came_asked, st.one_out, st.heard_served, came_is) in
-    let within : s.down.place ≤ length s.down.log = omega (arith, place, ap length log, ap (λ (j : ℕ). length (downward c j)) told_served) in
+    let report_served : length s.reports ≡ s.served = omega (arith, st.came_asked, st.one_out, st.heard_served, came_is) in
+    let within : s.down.place ≤ length s.down.log = omega (arith, place, ap length log, ap (λ (j : ℕ). length (downward c j)) report_served) in
     let way = waiting-written s.down (answer c k) within in
     let d : Drill = with_mark (execute k) (drill_of s) in
     let makes : drill_of new ≡ settled (drill_opened c) the_link d =
@@ -132,8 +132,8 @@ worked_one s call arrived is st =
         laws = laws2;
         arrived_is = tt;
         up_is = st.up_is ∙ ap (λ (j : ℕ). record { log = upward c s.asked; place = length (upward c j); faults = 0 }) counts_now;
-        down_is = pipe_is (written s.down (answer c k)) (downward c k) (length (downward c (length s.told))) longer place (ap (λ (p : PipeState). p.faults) st.down_is);
-        told_is = st.told_is;
+        down_is = pipe_is (written s.down (answer c k)) (downward c k) (length (downward c (length s.reports))) longer place (ap (λ (p : PipeState). p.faults) st.down_is);
+        report_is = st.report_is;
         no_entries = st.no_entries;
         no_place = refl;
         heard_served = omega (arith, st.heard_served);
@@ -144,7 +144,7 @@ worked_one s call arrived is st =
         few_calls = st.few_calls;
       };
       asked_is = refl;
-      told_is = refl;
+      report_is = refl;
       credits_are = refl;
       count = 1;
       works = (drill_of new, one, (no_call c (run ++ write_down c k ∷ []) (record n2 { came = k + 0 }) at3 (add-zero k) (omega (arith, small_k)) w.few, refl));

@@ -7,7 +7,7 @@ use Rattle.nr_world.specs.declared.mark.Mark.TheVariants as marks
 use Rattle.nr_world.specs.Observed.{sent}
 use Rattle.nr_world.specs.Owed.{owed}
 use Rattle.nr_world.specs.Follows.{Drill, Way, drill_opened, way_of, with_mark, with_way, behind, writing, unwritten, settled, feeding}
-use Rattle.nr_world.specs.Steps.{the_link, ask, answer}
+use Rattle.nr_world.specs.Driver.{the_link, ask, answer}
 use Rattle.nr_world.specs.Stands.{upward, downward, Counts, At}
 use Rattle.nr_world.proofs.Frames.{ask-is, answer-is}
 use Rattle.nr_world.proofs.Marking.{upward-more, downward-more}

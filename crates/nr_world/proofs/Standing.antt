@@ -11,13 +11,13 @@ use Rattle.nr_world.specs.declared.call.Submission.TheVariants as submissions
 use Rattle.nr_world.specs.declared.mark.Mark.{Mark}
 use Rattle.nr_world.specs.declared.mark.Mark.TheVariants as marks
 use Rattle.nr_world.specs.declared.mark.Conveyed.{Conveyed}
-use Rattle.nr_world.specs.Limits.{most_lines}
+use Rattle.nr_world.specs.Constants.{most_lines}
 use Rattle.nr_world.specs.Observed.{accepted}
 use Rattle.nr_world.specs.Messages.{call_in}
 use Rattle.nr_world.specs.Ending.{ended_by}
 use Rattle.nr_world.specs.Window.{out_of, grant_of}
 use Rattle.nr_world.specs.Follows.{Drill, drill_opened, with_mark, settled, feeding, up_by, all_up, answer_of}
-use Rattle.nr_world.specs.Steps.{State, the_link, null, ask, written, all_read, asked_one, came_by, came, fed_up, is_some_byte, waits}
+use Rattle.nr_world.specs.Driver.{State, the_link, null, ask, written, all_read, asked_one, came_by, came, fed_up, is_some_byte, waits}
 use Rattle.nr_world.specs.Stands.{upward, accepted_call, Counts, counts_of, arrived_one, At, Laws, Stands, IsQuiet, drill_of}
 use Rattle.nr_world.proofs.Runs.{length-each}
 use Rattle.nr_world.proofs.Frames.{conveyed_call, ask-conveys}
@@ -70,13 +70,13 @@ after_ask s k = record {
   served = s.served;
   entries = s.entries;
   place = s.place;
-  told = s.told;
+  reports = s.reports;
 }
 
 pub record Asks (s : State) (new : State) : Type 0 where
   pub stands : Stands new
   pub asked_is : new.asked ≡ s.asked + 1
-  pub told_is : new.told ≡ s.told
+  pub report_is : new.reports ≡ s.reports
   pub makes : drill_of new ≡ settled (drill_opened s.credits) the_link (with_mark (marks.Submit the_link null Auto (answer_of (drill_opened s.credits) the_link s.marks)) (drill_of s))
   pub credits_are : new.credits ≡ s.credits
 
@@ -104,7 +104,7 @@ asks_next s st quiet room =
         arrived_is = st.arrived_is;
         up_is = pipe_is (written s.up (ask c k)) (upward c k) (length (upward c n.came)) longer place (ap (λ (p : PipeState). p.faults) st.up_is);
         down_is = st.down_is;
-        told_is = st.told_is;
+        report_is = st.report_is;
         no_entries = st.no_entries;
         no_place = st.no_place;
         heard_served = st.heard_served;
@@ -115,7 +115,7 @@ asks_next s st quiet room =
         few_calls = omega (arith, room);
       };
       asked_is = sym (add-one s.asked);
-      told_is = refl;
+      report_is = refl;
       makes =
           ap (λ (up : List ℕ). record { marks = (s.marks ++ submit k ∷ []) ++ write_up c k ∷ []; ways = record { up = up; down = waiting_in s.down } ∷ []; seconds = 0 }) way
           ∙ sym (settled-up c d n1 at1 refl refl (omega (arith, w.small)))
@@ -132,7 +132,7 @@ asks s st quiet room = subst (λ (k : ℕ). Asks s (after_ask s k)) (sym (add-on
 pub record Comes (s : State) (new : State) : Type 0 where
   pub stands : Stands new
   pub asked_is : new.asked ≡ s.asked
-  pub told_is : new.told ≡ s.told
+  pub report_is : new.reports ≡ s.reports
   pub makes : drill_of new ≡ all_up (drill_opened s.credits) the_link (drill_of s)
   pub credits_are : new.credits ≡ s.credits
   pub served_is : new.served ≡ s.served
@@ -184,7 +184,7 @@ comes_none s st all =
     subst (λ (t : State). Comes s t) (sym same) (record {
       stands = st;
       asked_is = refl;
-      told_is = refl;
+      report_is = refl;
       makes = sym makes;
       credits_are = refl;
       served_is = refl;
@@ -205,7 +205,7 @@ after_came s k = record {
   served = s.served;
   entries = s.entries;
   place = s.place;
-  told = s.told;
+  reports = s.reports;
 }
 
 abbrev fed_with : State → List ℕ → Option Conveyed → State
@@ -219,7 +219,7 @@ fed_with s bytes call = record {
   served = s.served;
   entries = s.entries;
   place = s.place;
-  told = s.told;
+  reports = s.reports;
 }
 
 came-is : (s : State) (k : ℕ) → Stands s → waiting_in s.up ≡ ask s.credits k → k < 2 ^ 32 → s.credits < 2 ^ 32 → came s ≡ after_came s k
@@ -267,7 +267,7 @@ comes_one s st none next =
         arrived_is = ap conveyed_call came_now;
         up_is = pipe_is (all_read s.up) (upward c s.asked) (length (upward c (s.served + 1))) log (ap length log ∙ ap (λ (j : ℕ). length (upward c j)) (next ∙ came_now)) (ap (λ (p : PipeState). p.faults) st.up_is);
         down_is = st.down_is;
-        told_is = st.told_is;
+        report_is = st.report_is;
         no_entries = st.no_entries;
         no_place = st.no_place;
         heard_served = st.heard_served;
@@ -278,7 +278,7 @@ comes_one s st none next =
         few_calls = st.few_calls;
       };
       asked_is = refl;
-      told_is = refl;
+      report_is = refl;
       makes = ap (λ (up : List ℕ). record { marks = s.marks ++ feed_up c k ∷ []; ways = record { up = up; down = down } ∷ []; seconds = 0 }) read ∙ sym makes;
       credits_are = refl;
       served_is = refl;

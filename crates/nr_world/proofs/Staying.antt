@@ -18,7 +18,7 @@ use Rattle.nr_world.specs.declared.mark.Mark.{Mark}
 use Rattle.nr_world.specs.declared.mark.Opened.{Opened}
 use Rattle.nr_world.specs.Observed.{PlainServer, Accepted, Executed, Completed, got, accepted, executed, completed}
 use Rattle.nr_world.specs.Messages.{is_greeted, conveyed, messages, call_in, reply_in, call_xid, reply_xid}
-use Rattle.nr_world.specs.Limits.{send_max}
+use Rattle.nr_world.specs.Constants.{send_max}
 use Rattle.nr_world.specs.Owed.{own_hello}
 use Rattle.nr_world.specs.Window.{heard, has_words}
 use Rattle.nr_world.specs.Asked.{Asked, AskedMark, done_with, done_for}

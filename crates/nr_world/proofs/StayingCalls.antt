@@ -5,11 +5,11 @@ use Rattle.std.specs.List.{AllByRecursion}
 use Rattle.std.proofs.lemmas.Bool.{eq-eqb}
 use Rattle.std.proofs.lemmas.List.{append-nil, length_push}
 use Rattle.std.proofs.lemmas.List.Elements.{All-weaker, All-contains_itself, recursion_from_All, Contains-append_left, Contains-push}
-use Rattle.nr_header.specs.Numbers.{PAYLOAD_MAX}
+use Rattle.nr_header.specs.Constants.{PAYLOAD_MAX}
 use Rattle.nr_rpc.specs.Call.{CanWriteCall, CallFits}
 use Rattle.nr_rpc.specs.Reading.{call_of, reply_of}
 use Rattle.nr_rpc.proofs.Calls.{call_written}
-use Rattle.nr_world.specs.Limits.{send_max}
+use Rattle.nr_world.specs.Constants.{send_max}
 use Rattle.nr_world.specs.declared.mark.Conveyed.{Conveyed}
 use Rattle.nr_world.specs.declared.mark.Entry.{Entry}
 use Rattle.nr_world.specs.declared.mark.Mark.{Mark}
@@ -66,7 +66,7 @@ accepted_few opened link run words along =
     (λ before mark rest parts h f.
     subst (AreFew opened) (sym (accepted-more link before mark))
     (few_more opened link before (accepted_at link mark) words.first
-    (λ a is. (words.spelled a (accepted_there link run before rest mark a parts is)).1.0)
+    (λ a is. (words.encoded a (accepted_there link run before rest mark a parts is)).1.0)
     (accepting opened link before mark h) f))
     [] run refl along (few_none opened link)
 
@@ -91,14 +91,14 @@ unfolding call_payload
 own_xid a can fits = ap call_xid (call_written (head_of a) a.call.args can fits)
 
 is_read : (opened : Opened) (a : Accepted) → opened.wished < 2 ^ 32 → FitsCall opened a → CanWriteCall (head_of a) × CallFits (head_of a) → IsRead opened a
-is_read opened a few short spelled =
+is_read opened a few short encoded =
     let payload = call_payload a.xid a.call in
-    let own = own_xid a spelled.0 spelled.1 in
+    let own = own_xid an encoded.0 encoded.1 in
     let len = length-inline_message a.xid opened.wished payload in
     record {
-      call = record { small = spelled.1.0; own = own };
+      call = record { small = encoded.1.0; own = own };
       short = short;
-      read = call_in-message a.xid opened.wished payload spelled.1.0 few (omega (arith, len, short)) own;
+      read = call_in-message a.xid opened.wished payload encoded.1.0 few (omega (arith, len, short)) own;
     }
 
 pub record AreRead (opened : Opened) (calls : List Accepted) : Type 0 where
@@ -109,11 +109,11 @@ pub accepted_read : (opened : Opened) (link : ℕ) (run : List Mark) → AreWord
 accepted_read opened link run words along =
     let calls = accepted link run in
     let f = accepted_few opened link run words along in
-    let spelled : AllByRecursion (λ a. CanWriteCall (head_of a) × CallFits (head_of a)) calls =
+    let encoded : AllByRecursion (λ a. CanWriteCall (head_of a) × CallFits (head_of a)) calls =
     recursion_from_All (λ a. CanWriteCall (head_of a) × CallFits (head_of a)) calls
-    (All-weaker (Contains calls) (λ a. CanWriteCall (head_of a) × CallFits (head_of a)) words.spelled calls (All-contains_itself calls)) in
+    (All-weaker (Contains calls) (λ a. CanWriteCall (head_of a) × CallFits (head_of a)) words.encoded calls (All-contains_itself calls)) in
     record {
-      each = all_both (FitsCall opened) (λ a. CanWriteCall (head_of a) × CallFits (head_of a)) (IsRead opened) (λ a fits s. is_read opened a words.wished fits s) calls f.fit spelled;
+      each = all_both (FitsCall opened) (λ a. CanWriteCall (head_of a) × CallFits (head_of a)) (IsRead opened) (λ a fits s. is_read opened a words.wished fits s) calls f.fit encoded;
       few = f.few;
     }
 

@@ -12,7 +12,7 @@ use Rattle.nr_wire.specs.Stream.{Split, split, is_whole, frame_len, awaited_afte
 use Rattle.nr_wire.proofs.Frames.{whole_from, is_whole-from, whole-append, IsFrame-take, partial_nil, partial_not_whole}
 use Rattle.nr_wire.proofs.FrontFrame.{hello_in-frame}
 use Rattle.nr_wire.proofs.Splits.{split-append, split-only, split-partial}
-use Rattle.nr_world.specs.Limits.{send_max}
+use Rattle.nr_world.specs.Constants.{send_max}
 use Rattle.nr_world.specs.Messages.{Part, part_in, joined_to, messages_from, messages, has_hello, is_hello, is_greeted, send}
 use Rattle.nr_world.specs.Owed.{own_hello}
 use Rattle.nr_world.proofs.Streams.{send-is, own_hello-frame}

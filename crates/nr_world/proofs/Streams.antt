@@ -8,8 +8,8 @@ use Rattle.nr_wire.specs.declared.hello.Side.TheVariants.{Initiator, Responder}
 use Rattle.nr_wire.specs.Constants.{OPCODE_SEND, QUEUE_SEND}
 use Rattle.nr_wire.specs.declared.stream.Awaited.{Awaited}
 use Rattle.nr_wire.specs.declared.stream.Awaited.TheVariants.{Hello as HelloFrom, Fpdu}
-use Rattle.nr_wire.specs.Hello.{Hello, hello_spelling, hello_of, hello_len, is_refused_by}
-use Rattle.nr_wire.specs.Segment.{Segment, segment_of, spelling, fpdu_len}
+use Rattle.nr_wire.specs.Hello.{Hello, hello_encoding, hello_of, hello_len, is_refused_by}
+use Rattle.nr_wire.specs.Segment.{Segment, segment_of, encoding, fpdu_len}
 use Rattle.nr_wire.specs.Segment.Segment.{Untagged}
 use Rattle.nr_wire.specs.Next.{judged, hello_in, segment_in}
 use Rattle.nr_wire.specs.Next.Next.{Whole, More}
@@ -17,9 +17,9 @@ use Rattle.nr_wire.specs.Stream.{Split, is_whole, frame_len, IsFrame, AreFrames,
 use Rattle.nr_wire.proofs.Frames.{whole_from, partial_nil}
 use Rattle.nr_wire.proofs.FrontFrame.{front_frame}
 use Rattle.nr_wire.proofs.Splits.{split-only}
-use Rattle.nr_wire.proofs.Segments.{spelling_again}
+use Rattle.nr_wire.proofs.Segments.{encoding_again}
 use Rattle.nr_wire.proofs.Hellos.{hello_again}
-use Rattle.nr_world.specs.Limits.{send_max}
+use Rattle.nr_world.specs.Constants.{send_max}
 use Rattle.nr_world.specs.Messages.{Part, part_in, joined_to, messages_from, messages, has_hello, is_hello, is_greeted, send}
 use Rattle.nr_world.specs.Owed.{own_hello}
 use Rattle.nr_world.specs.Stands.{joined, each}
@@ -52,9 +52,9 @@ pub send-is : (msn : ℕ) (message : List ℕ) → msn < 2 ^ 32 → length messa
 unfolding send segment_in
 send-is msn message small short =
     let segment = send_segment msn message in
-    let frame = spelling segment in
+    let frame = encoding segment in
     let read : segment_in (frame ++ []) ≡ Whole segment (length frame) =
-    spelling_again segment [] (refl, refl) (lit< tt, lit< tt, lit< tt, small, lit< tt) (omega arith) in
+    encoding_again segment [] (refl, refl) (lit< tt, lit< tt, lit< tt, small, lit< tt) (omega arith) in
     let found : segment_in frame ≡ Whole segment (length frame) = rw append-nil at read in
     let j = judged_whole (is_whole Fpdu frame) (segment_of (take (fpdu_len frame) frame)) segment (fpdu_len frame) (length frame) found in
     let all : take (fpdu_len frame) frame ≡ frame = take_all (fpdu_len frame) frame (omega (arith, j.len_is)) in
@@ -73,7 +73,7 @@ pub own_hello-frame : (side : Side) → IsFrame (HelloFrom side) (own_hello side
 unfolding own_hello hello_in
 own_hello-frame side =
     let hello : Hello = record { side = side; flags = 0; private = [] } in
-    let frame = hello_spelling hello in
+    let frame = hello_encoding hello in
     let read : hello_in side (frame ++ []) ≡ Whole hello (length frame) = hello_again hello [] (unrefused side, lit≤ tt) in
     let found : hello_in side frame ≡ Whole hello (length frame) = rw append-nil at read in
     let j = judged_whole (is_whole (HelloFrom side) frame) (hello_of side (take (hello_len side frame) frame)) hello (hello_len side frame) (length frame) found in
@@ -83,7 +83,7 @@ pub hello_in-own : (side : Side) → hello_in side (own_hello side) ≡ Whole (r
 unfolding own_hello
 hello_in-own side =
     let hello : Hello = record { side = side; flags = 0; private = [] } in
-    let read : hello_in side (hello_spelling hello ++ []) ≡ Whole hello (length (hello_spelling hello)) = hello_again hello [] (unrefused side, lit≤ tt) in
+    let read : hello_in side (hello_encoding hello ++ []) ≡ Whole hello (length (hello_encoding hello)) = hello_again hello [] (unrefused side, lit≤ tt) in
     rw append-nil at read
 
 -- the hello is there, and none that is refused, whatever follows it

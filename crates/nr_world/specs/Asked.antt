@@ -15,7 +15,7 @@ use Rattle.nr_world.specs.Messages.{conveyed, reply_in, inline_message}
 use Rattle.nr_world.specs.Owed.{call_payload, owed, HasWritten}
 use Rattle.nr_world.specs.Window.{heard}
 use Rattle.nr_world.specs.Along.{Along}
-use Rattle.nr_world.specs.Limits.{send_max}
+use Rattle.nr_world.specs.Constants.{send_max}
 
 -- a message that the client got conveys this outcome of the xid's call; error messages come with the calls that get them
 abbrev pub IsHeard : ℕ → List Mark → ℕ → Outcome → Type 0

@@ -5,7 +5,7 @@ use Rattle.nr_world.specs.declared.call.Submission.TheVariants as submissions
 use Rattle.nr_world.specs.declared.mark.Mark.{Mark}
 use Rattle.nr_world.specs.declared.mark.Mark.TheVariants as marks
 use Rattle.nr_world.specs.declared.report.Report.{Report}
-use Rattle.nr_world.specs.declared.report.Ways.{Ways}
+use Rattle.nr_world.specs.declared.report.LinkLog.{LinkLog}
 use Rattle.nr_world.specs.Observed.{PlainServer, journal, links_of, sent}
 use Rattle.nr_world.specs.Places.{PlacesRise}
 use Rattle.nr_world.specs.Along.{Along}
@@ -15,7 +15,7 @@ use Rattle.nr_world.specs.Staying.{IsSettled, IsHandedOver}
 use Rattle.nr_world.specs.Promise.{HoldsOn}
 use Rattle.nr_world.specs.Script.{ScriptLines}
 use Rattle.nr_world.specs.Follows.{Follows, drill_opened}
-use Rattle.nr_world.specs.Shown.{calls_told, links_told}
+use Rattle.nr_world.specs.Shown.{call_reports, link_reports}
 use Rattle.nr_world.specs.Plain.{drill_server}
 use Rattle.nr_world.specs.Stops.{no_stops}
 
@@ -46,12 +46,12 @@ pub record IsDrill (script : ScriptLines) (run : List Mark) : Type 0 where
   pub places : (l m : ℕ) → 1 ≤ l → l ≤ script.clients → 1 ≤ m → m ≤ script.clients → Matched l run → Matched m run → PlacesRise l m run
 
 -- what the report says beside the marks is what the marks say
-abbrev pub log_of : List Mark → ℕ → Ways
+abbrev pub log_of : List Mark → ℕ → LinkLog
 log_of run link = record { up = sent link Initiator run; down = sent link Responder run }
 
 pub record Reports (script : ScriptLines) (report : Report) : Type 0 where
   pub drill : IsDrill script report.marks
   pub journal : report.journal ≡ journal (server_of script) report.marks
-  pub calls : report.calls ≡ calls_told (server_of script) no_stops report.marks
-  pub links : report.links ≡ links_told no_stops script.clients report.marks
+  pub calls : report.calls ≡ call_reports (server_of script) no_stops report.marks
+  pub links : report.links ≡ link_reports no_stops script.clients report.marks
   pub logs : report.logs ≡ map (log_of report.marks) (links_of script.clients)

@@ -1,4 +1,4 @@
-pub mod Limits
+pub mod Constants
 pub mod Observed
 pub mod Stops
 pub mod Messages
@@ -18,6 +18,6 @@ pub mod Shown
 pub mod Promise
 pub mod Headline
 pub mod Ending
-pub mod Steps
+pub mod Driver
 pub mod Stands
 pub mod Parsing

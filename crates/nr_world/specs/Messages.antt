@@ -9,7 +9,7 @@ use Rattle.nr_header.specs.declared.header.ChunkLists.{ChunkLists}
 use Rattle.nr_header.specs.declared.header.Body.{Body}
 use Rattle.nr_header.specs.declared.header.Body.TheVariants.{Msg, Nomsg, ErrVers, ErrChunk}
 use Rattle.nr_header.specs.declared.header.Header.{Header}
-use Rattle.nr_header.specs.Header.{header_spelling}
+use Rattle.nr_header.specs.Header.{header_encoding}
 use Rattle.nr_header.specs.Reading.{word_at, header_of}
 use Rattle.nr_wire.specs.declared.hello.Side.{Side}
 use Rattle.nr_wire.specs.Constants.{OPCODE_SEND, QUEUE_SEND}
@@ -17,7 +17,7 @@ use Rattle.nr_wire.specs.declared.stream.Awaited.TheVariants.{Hello as HelloFrom
 use Rattle.nr_wire.specs.Hello.{Hello}
 use Rattle.nr_wire.specs.Next.{Next, hello_in}
 use Rattle.nr_wire.specs.Next.Next.{Whole, More, Bad}
-use Rattle.nr_wire.specs.Segment.{Segment, segment_of, spelling}
+use Rattle.nr_wire.specs.Segment.{Segment, segment_of, encoding}
 use Rattle.nr_wire.specs.Segment.Segment.{Tagged, Untagged}
 use Rattle.nr_wire.specs.Stream.{split, is_whole}
 use Rattle.nr_rpc.specs.declared.head.CallHead.{CallHead}
@@ -70,7 +70,7 @@ is_greeted side stream = is_hello (hello_in side stream)
 
 -- A Send of one segment that carries a message, the msn-th of its link in that direction. (RFC 5041 section 4.3)
 unfoldable pub send : ℕ → List ℕ → List ℕ
-send msn message = spelling (Untagged true OPCODE_SEND 0 QUEUE_SEND msn 0 message)
+send msn message = encoding (Untagged true OPCODE_SEND 0 QUEUE_SEND msn 0 message)
 
 -- The header of an RDMA_MSG message without lists: no read list, no write list, no reply chunk. (RFC 8166 section 4.3)
 abbrev pub no_lists : ChunkLists
@@ -80,7 +80,7 @@ abbrev pub header_without_lists : ℕ → ℕ → Header
 header_without_lists xid credit = record { xid = xid; credit = credit; body = Msg no_lists 0 }
 
 unfoldable pub inline_header : ℕ → ℕ → List ℕ
-inline_header xid credit = header_spelling (header_without_lists xid credit)
+inline_header xid credit = header_encoding (header_without_lists xid credit)
 
 -- such a message: the payload is behind its header
 abbrev pub inline_message : ℕ → ℕ → List ℕ → List ℕ

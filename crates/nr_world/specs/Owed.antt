@@ -3,11 +3,11 @@ use Rattle.std.specs.Prelude.{◌≡◌, ℕ, ◌+◌, not, ◌==◌, ◌&&◌, 
 use Rattle.nr_wire.specs.declared.hello.Side.{Side}
 use Rattle.nr_wire.specs.declared.hello.Side.TheVariants.{Initiator, Responder}
 use Rattle.nr_wire.specs.Constants.{FLAG_REJECT, REASON_FLAGS}
-use Rattle.nr_wire.specs.Hello.{Hello, hello_spelling}
+use Rattle.nr_wire.specs.Hello.{Hello, hello_encoding}
 use Rattle.nr_wire.specs.Next.{Next, hello_in}
 use Rattle.nr_wire.specs.Next.Next.{Whole, More, Bad}
 use Rattle.nr_rpc.specs.declared.head.CallHead.TheVariants.{Version2}
-use Rattle.nr_rpc.specs.Call.{call_spelling}
+use Rattle.nr_rpc.specs.Call.{call_encoding}
 use Rattle.nr_world.specs.declared.call.Call.{Call}
 use Rattle.nr_world.specs.declared.call.Submission.TheVariants as submissions
 use Rattle.nr_world.specs.declared.mark.Mark.{Mark}
@@ -18,11 +18,11 @@ use Rattle.nr_world.specs.Messages.{has_hello, is_greeted, send, inline_message}
 
 -- a side's hello on a link of this profile: no flags, no private data
 unfoldable pub own_hello : Side → List ℕ
-own_hello side = hello_spelling (record { side = side; flags = 0; private = [] })
+own_hello side = hello_encoding (record { side = side; flags = 0; private = [] })
 
 -- the hello of a server that takes none of the link: the connection is refused
 unfoldable pub refusing_hello : List ℕ
-refusing_hello = hello_spelling (record { side = Responder; flags = FLAG_REJECT; private = [] })
+refusing_hello = hello_encoding (record { side = Responder; flags = FLAG_REJECT; private = [] })
 
 -- What a server answers to a hello: its own; its refusal, where the client asks for markers or a CRC; and nothing to what is
 -- no hello of this kind. (RFC 5044 section 7.1; when a refusal is answered is own)
@@ -33,7 +33,7 @@ answer_to (Bad reason) = if reason == REASON_FLAGS then refusing_hello else []
 
 -- a call's payload under an xid (RFC 5531 section 9)
 unfoldable pub call_payload : ℕ → Call → List ℕ
-call_payload xid call = call_spelling (Version2 xid call.prog call.vers call.proc call.cred 0) call.args
+call_payload xid call = call_encoding (Version2 xid call.prog call.vers call.proc call.cred 0) call.args
 
 -- the Sends of some accepted calls, the first of which is the msn-th of its link. Calls that go without lists are those
 -- that there are by now; the others come with their plans.

@@ -2,7 +2,7 @@
 use Rattle.std.specs.Prelude.{ℕ, zero, suc, ◌+◌, ◌-◌, Bool, List, Option, Result, find}
 use Rattle.std.specs.List.{range_with_len}
 use Rattle.std.specs.Str.{bytes_eq}
-use Rattle.nr_world.specs.Limits.{most_credits}
+use Rattle.nr_world.specs.Constants.{most_credits}
 use Rattle.nr_world.specs.Script.{Line, null_call, turn_onto, turns_in, clients_line, cut}
 use Rattle.nr_world.specs.Script.Line.{Drain}
 

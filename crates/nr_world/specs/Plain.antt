@@ -6,7 +6,7 @@ use Rattle.nr_rpc.specs.declared.head.CallHead.{CallHead}
 use Rattle.nr_rpc.specs.declared.head.CallHead.TheVariants as calls
 use Rattle.nr_rpc.specs.declared.head.ReplyHead.TheVariants.{Accepted}
 use Rattle.nr_rpc.specs.Reading.{call_of}
-use Rattle.nr_rpc.specs.Reply.{reply_spelling}
+use Rattle.nr_rpc.specs.Reply.{reply_encoding}
 use Rattle.nr_world.specs.Observed.{PlainServer}
 
 -- the program number and the version of NFS, and its procedure that does nothing (RFC 1813 sections 3 and 3.3.0)
@@ -25,7 +25,7 @@ success = 0
 
 -- NULL's reply: accepted, with empty results
 abbrev pub null_reply : ℕ → List ℕ
-null_reply xid = reply_spelling (Accepted xid success 0) []
+null_reply xid = reply_encoding (Accepted xid success 0) []
 
 -- a call of NULL without arguments: these begin at the payload's end
 abbrev pub is_null : ℕ → ℕ → ℕ → Bool

@@ -8,7 +8,7 @@ use Rattle.nr_world.specs.declared.call.Form.TheVariants.{Auto}
 use Rattle.nr_world.specs.Plain.{nfs_program, nfs_version, null_procedure}
 use Rattle.nr_world.specs.declared.script.ScriptFault.{ScriptFault}
 use Rattle.nr_world.specs.declared.script.ScriptFault.TheVariants as faults
-use Rattle.nr_world.specs.Limits.{default_capacity, most_credits}
+use Rattle.nr_world.specs.Constants.{default_capacity, most_credits}
 
 -- a line of a script: a client submits a call, or everything moves until nothing moves
 pub data Line : Type 0 where

@@ -18,12 +18,12 @@ use Rattle.nr_world.specs.declared.call.Submission.{Submission}
 use Rattle.nr_world.specs.declared.call.Submission.TheVariants as submissions
 use Rattle.nr_world.specs.declared.mark.Mark.{Mark}
 use Rattle.nr_world.specs.declared.mark.Mark.TheVariants as marks
-use Rattle.nr_world.specs.declared.report.Fate.{Fate}
-use Rattle.nr_world.specs.declared.report.Fate.TheVariants as fates
-use Rattle.nr_world.specs.declared.report.LinkFate.{LinkFate}
-use Rattle.nr_world.specs.declared.report.LinkFate.TheVariants as links
-use Rattle.nr_world.specs.declared.report.LinkTold.{LinkTold}
-use Rattle.nr_world.specs.declared.report.Told.{Told}
+use Rattle.nr_world.specs.declared.report.CallState.{CallState}
+use Rattle.nr_world.specs.declared.report.CallState.TheVariants as call_states
+use Rattle.nr_world.specs.declared.report.LinkState.{LinkState}
+use Rattle.nr_world.specs.declared.report.LinkState.TheVariants as links
+use Rattle.nr_world.specs.declared.report.LinkReport.{LinkReport}
+use Rattle.nr_world.specs.declared.report.CallReport.{CallReport}
 use Rattle.nr_world.specs.Observed.{PlainServer, Executed, added, executed, journal, is_dropped, links_of}
 use Rattle.nr_world.specs.Stops.{Stops}
 
@@ -31,15 +31,15 @@ use Rattle.nr_world.specs.Stops.{Stops}
 pub record Seen : Type 0 where
   pub entries : ℕ
   pub place : Option ℕ
-  pub fate : Fate
+  pub state : CallState
 
-abbrev pub is_out : Fate → Bool
-is_out fates.Out = true
-is_out (fates.Answered place outcome) = false
-is_out fates.Lost = false
-is_out fates.Forgotten = false
-is_out (fates.Revoked bytes) = false
-is_out (fates.Refused why) = false
+abbrev pub is_out : CallState → Bool
+is_out call_states.Out = true
+is_out (call_states.Answered place outcome) = false
+is_out call_states.Lost = false
+is_out call_states.Forgotten = false
+is_out (call_states.Revoked bytes) = false
+is_out (call_states.Refused why) = false
 
 -- a reply has a place: that of its execution, or else the journal's length; an error of chunks has that of its execution,
 -- where there was one, and one of versions has none
@@ -50,21 +50,21 @@ place_for outcomes.Chunk entries place = place
 place_for (outcomes.Version low high) entries place = None
 
 -- a mark that says something of the call; of a call that is no longer out, nothing more is told
-abbrev pub told_by : ℕ → ℕ → Seen → Mark → Seen
-told_by link xid seen (marks.Execute l x moment payload place reply) = if l == link && x == xid then record seen { place = Some place } else seen
-told_by link xid seen (marks.Done l x outcome) =
-    if l == link && x == xid then record seen { fate = fates.Answered (place_for outcome seen.entries seen.place) outcome } else seen
-told_by link xid seen (marks.Lost l x) = if l == link && x == xid then record seen { fate = fates.Lost } else seen
-told_by link xid seen (marks.Forget l x) = if l == link && x == xid then record seen { fate = fates.Forgotten } else seen
-told_by link xid seen (marks.Revoke l x bytes) = if l == link && x == xid then record seen { fate = fates.Revoked bytes } else seen
-told_by link xid seen mark = seen
+abbrev pub report_by : ℕ → ℕ → Seen → Mark → Seen
+report_by link xid seen (marks.Execute l x moment payload place reply) = if l == link && x == xid then record seen { place = Some place } else seen
+report_by link xid seen (marks.Done l x outcome) =
+    if l == link && x == xid then record seen { state = call_states.Answered (place_for outcome seen.entries seen.place) outcome } else seen
+report_by link xid seen (marks.Lost l x) = if l == link && x == xid then record seen { state = call_states.Lost } else seen
+report_by link xid seen (marks.Forget l x) = if l == link && x == xid then record seen { state = call_states.Forgotten } else seen
+report_by link xid seen (marks.Revoke l x bytes) = if l == link && x == xid then record seen { state = call_states.Revoked bytes } else seen
+report_by link xid seen mark = seen
 
 abbrev pub counted : PlainServer → Mark → Seen → Seen
-counted plain mark seen = record { entries = seen.entries + length (added plain mark); place = seen.place; fate = seen.fate }
+counted plain mark seen = record { entries = seen.entries + length (added plain mark); place = seen.place; state = seen.state }
 
 abbrev pub seen_at : PlainServer → ℕ → ℕ → Seen → Mark → Seen
 seen_at plain link xid seen mark =
-    counted plain mark (if is_out seen.fate then told_by link xid seen mark else seen)
+    counted plain mark (if is_out seen.state then report_by link xid seen mark else seen)
 
 unfoldable pub seen_of : PlainServer → ℕ → ℕ → Seen → List Mark → Seen
 seen_of plain link xid seen after = fold (seen_at plain link xid) seen after
@@ -75,16 +75,16 @@ last_place xid calls = fold (λ place e. if e.xid == xid then Some e.place else 
 
 -- a call at its Submit
 abbrev pub seen_first : PlainServer → ℕ → ℕ → List Mark → Seen
-seen_first plain link xid before = record { entries = length (journal plain before); place = last_place xid (executed link before); fate = fates.Out }
+seen_first plain link xid before = record { entries = length (journal plain before); place = last_place xid (executed link before); state = call_states.Out }
 
 -- to a call that is out no answer comes on a link that is gone
-abbrev pub at_last : Bool → Fate → Fate
-at_last gone fate = if gone && is_out fate then fates.Lost else fate
+abbrev pub at_last : Bool → CallState → CallState
+at_last gone state = if gone && is_out state then call_states.Lost else state
 
 -- what became of a call line, by the marks before it and after it
-abbrev pub fate_of : PlainServer → Bool → ℕ → Submission → List Mark → List Mark → Fate
-fate_of plain gone link (submissions.Accepted xid) before after = at_last gone (seen_of plain link xid (seen_first plain link xid before) after).fate
-fate_of plain gone link (submissions.Refused why) before after = fates.Refused why
+abbrev pub call_state_of : PlainServer → Bool → ℕ → Submission → List Mark → List Mark → CallState
+call_state_of plain gone link (submissions.Accepted xid) before after = at_last gone (seen_of plain link xid (seen_first plain link xid before) after).state
+call_state_of plain gone link (submissions.Refused why) before after = call_states.Refused why
 
 -- how many call lines of a client are among the marks
 abbrev pub asked_at : ℕ → Mark → ℕ
@@ -95,34 +95,34 @@ unfoldable pub asked_by : ℕ → List Mark → ℕ
 asked_by link run = fold (λ n mark. n + asked_at link mark) 0 run
 
 -- each call line of a run with what became of it, in order
-abbrev pub told_at : PlainServer → (ℕ → Bool) → List Mark → Mark → List Mark → List Told
-told_at plain gone before (marks.Submit l call form answer) after =
-    record { client = l; number = asked_by l before + 1; fate = fate_of plain (gone l) l answer before after } ∷ []
-told_at plain gone before mark after = []
+abbrev pub report_at : PlainServer → (ℕ → Bool) → List Mark → Mark → List Mark → List CallReport
+report_at plain gone before (marks.Submit l call form answer) after =
+    record { client = l; number = asked_by l before + 1; state = call_state_of plain (gone l) l answer before after } ∷ []
+report_at plain gone before mark after = []
 
-abbrev pub told_from : PlainServer → (ℕ → Bool) → List Mark → List Mark → List Told
-told_from plain gone before [] = []
-told_from plain gone before (mark ∷ after) = told_at plain gone before mark after ++ told_from plain gone (before ++ mark ∷ []) after
+abbrev pub report_from : PlainServer → (ℕ → Bool) → List Mark → List Mark → List CallReport
+report_from plain gone before [] = []
+report_from plain gone before (mark ∷ after) = report_at plain gone before mark after ++ report_from plain gone (before ++ mark ∷ []) after
 
 -- the link was dropped, or its client ended
 abbrev pub is_gone : Stops → List Mark → ℕ → Bool
 is_gone stops run link = is_dropped link run || is_some (stops link Initiator run)
 
-unfoldable pub calls_told : PlainServer → Stops → List Mark → List Told
-calls_told plain stops run = told_from plain (is_gone stops run) [] run
+unfoldable pub call_reports : PlainServer → Stops → List Mark → List CallReport
+call_reports plain stops run = report_from plain (is_gone stops run) [] run
 
 -- each link that was dropped or that ended, in order
-abbrev pub side_told : ℕ → Side → Option End → List LinkTold
-side_told link side None = []
-side_told link side (Some end) = record { client = link; fate = links.Ended side end } ∷ []
+abbrev pub side_report : ℕ → Side → Option End → List LinkReport
+side_report link side None = []
+side_report link side (Some end) = record { client = link; state = links.Ended side end } ∷ []
 
-abbrev pub link_told : Stops → List Mark → ℕ → List LinkTold
-link_told stops run link =
-    if is_dropped link run then record { client = link; fate = links.Dropped } ∷ []
-    else side_told link Initiator (stops link Initiator run) ++ side_told link Responder (stops link Responder run)
+abbrev pub link_report : Stops → List Mark → ℕ → List LinkReport
+link_report stops run link =
+    if is_dropped link run then record { client = link; state = links.Dropped } ∷ []
+    else side_report link Initiator (stops link Initiator run) ++ side_report link Responder (stops link Responder run)
 
-unfoldable pub links_told : Stops → ℕ → List Mark → List LinkTold
-links_told stops clients run = flat_map (link_told stops run) (links_of clients)
+unfoldable pub link_reports : Stops → ℕ → List Mark → List LinkReport
+link_reports stops clients run = flat_map (link_report stops run) (links_of clients)
 
 -- the words behind a call line's client and number
 abbrev pub placed_text : Option ℕ → List ℕ
@@ -150,16 +150,16 @@ refused_text (refusals.NoCredit out grant) = codes " refused credit " ++ two_num
 refused_text (refusals.Spent left need) = codes " refused spent " ++ two_numbers left need
 refused_text refusals.Memory = codes " refused memory"
 
-abbrev pub fate_text : Fate → List ℕ
-fate_text fates.Out = codes " open"
-fate_text (fates.Answered place outcome) = placed_text place ++ outcome_text outcome
-fate_text fates.Lost = codes " lost"
-fate_text fates.Forgotten = codes " forgotten"
-fate_text (fates.Revoked bytes) = codes " revoked " ++ bytes_text bytes
-fate_text (fates.Refused why) = refused_text why
+abbrev pub call_state_text : CallState → List ℕ
+call_state_text call_states.Out = codes " open"
+call_state_text (call_states.Answered place outcome) = placed_text place ++ outcome_text outcome
+call_state_text call_states.Lost = codes " lost"
+call_state_text call_states.Forgotten = codes " forgotten"
+call_state_text (call_states.Revoked bytes) = codes " revoked " ++ bytes_text bytes
+call_state_text (call_states.Refused why) = refused_text why
 
-unfoldable pub told_text : Told → List ℕ
-told_text t = two_numbers t.client t.number ++ fate_text t.fate ++ codes "\n"
+unfoldable pub call_report_text : CallReport → List ℕ
+call_report_text t = two_numbers t.client t.number ++ call_state_text t.state ++ codes "\n"
 
 -- the line of a link that was dropped, or of a side that ended
 abbrev pub side_text : Side → List ℕ
@@ -178,19 +178,19 @@ end_text (ends.NoBuffer msn) = codes " nobuffer " ++ decimal msn
 end_text (ends.Terminated reason) = codes " terminated " ++ decimal reason
 end_text ends.Memory = codes " memory"
 
-abbrev pub link_fate_text : LinkFate → List ℕ
-link_fate_text links.Dropped = codes " dropped"
-link_fate_text (links.Ended side end) = side_text side ++ end_text end
+abbrev pub link_state_text : LinkState → List ℕ
+link_state_text links.Dropped = codes " dropped"
+link_state_text (links.Ended side end) = side_text side ++ end_text end
 
-unfoldable pub link_text : LinkTold → List ℕ
-link_text t = codes "link " ++ decimal t.client ++ link_fate_text t.fate ++ codes "\n"
+unfoldable pub link_text : LinkReport → List ℕ
+link_text t = codes "link " ++ decimal t.client ++ link_state_text t.state ++ codes "\n"
 
 unfoldable pub journal_text : ℕ → List ℕ
 journal_text len = codes "journal " ++ decimal len ++ codes "\n"
 
 -- the printed bytes: of call lines, links and a journal's length, and of a run of so many clients
-unfoldable pub text_of : List Told → List LinkTold → ℕ → List ℕ
-text_of calls links len = flat_map told_text calls ++ (flat_map link_text links ++ journal_text len)
+unfoldable pub text_of : List CallReport → List LinkReport → ℕ → List ℕ
+text_of calls links len = flat_map call_report_text calls ++ (flat_map link_text links ++ journal_text len)
 
 unfoldable pub shown : PlainServer → Stops → ℕ → List Mark → List ℕ
-shown plain stops clients run = text_of (calls_told plain stops run) (links_told stops clients run) (length (journal plain run))
+shown plain stops clients run = text_of (call_reports plain stops run) (link_reports stops clients run) (length (journal plain run))

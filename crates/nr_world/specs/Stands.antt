@@ -7,11 +7,11 @@ use Rattle.nr_world.specs.declared.call.Form.TheVariants.{Auto}
 use Rattle.nr_world.specs.declared.call.Outcome.TheVariants as outcomes
 use Rattle.nr_world.specs.declared.mark.Mark.{Mark}
 use Rattle.nr_world.specs.declared.mark.Conveyed.{Conveyed}
-use Rattle.nr_world.specs.declared.report.Fate.TheVariants as fates
+use Rattle.nr_world.specs.declared.report.CallState.TheVariants as call_states
 use Rattle.nr_world.specs.declared.report.Report.{Report}
-use Rattle.nr_world.specs.declared.report.Told.{Told}
-use Rattle.nr_world.specs.Limits.{most_credits, most_lines}
-use Rattle.nr_world.specs.Steps.{State, the_link, null, asked_payload, ask, answer}
+use Rattle.nr_world.specs.declared.report.CallReport.{CallReport}
+use Rattle.nr_world.specs.Constants.{most_credits, most_lines}
+use Rattle.nr_world.specs.Driver.{State, the_link, null, asked_payload, ask, answer}
 use Rattle.nr_world.specs.Observed.{Accepted, Executed, Completed, links_of, sent, got, accepted, executed, completed, journal, is_dropped}
 use Rattle.nr_world.specs.Owed.{own_hello, owed}
 use Rattle.nr_world.specs.Along.{Along}
@@ -22,7 +22,7 @@ use Rattle.nr_world.specs.Matched.{Matched}
 use Rattle.nr_world.specs.Completion.{IsFaithful}
 use Rattle.nr_world.specs.Plain.{null_reply, drill_server}
 use Rattle.nr_world.specs.Follows.{Drill, drill_opened, start, openings, Moves, Drains, Makes, MakeAll}
-use Rattle.nr_world.specs.Shown.{Seen, seen_of, told_at, asked_by}
+use Rattle.nr_world.specs.Shown.{Seen, seen_of, report_at, asked_by}
 use Rattle.nr_world.specs.Headline.{IsAccepted}
 use Rattle.nr_world.specs.Script.{null_call, turns}
 
@@ -51,8 +51,8 @@ executed_call k = record { xid = k; moment = record { seconds = 0; nanos = 0 }; 
 abbrev pub completed_call : ℕ → Completed
 completed_call k = record { xid = k; outcome = outcomes.Reply (null_reply k) }
 
-abbrev pub told_call : ℕ → Told
-told_call k = record { client = the_link; number = k; fate = fates.Answered (Some 0) (outcomes.Reply (null_reply k)) }
+abbrev pub report_call : ℕ → CallReport
+report_call k = record { client = the_link; number = k; state = call_states.Answered (Some 0) (outcomes.Reply (null_reply k)) }
 
 -- How many calls were accepted, and their Sends written; came to the server whole, were executed, and their replies
 -- written; came to the client, and were handed over.
@@ -73,25 +73,25 @@ unfoldable pub seen_by : Counts → ℕ → Seen
 seen_by n k = record {
   entries = 0;
   place = if is_one_of n.served k then Some 0 else None;
-  fate = if is_one_of n.done k then fates.Answered (Some 0) (outcomes.Reply (null_reply k)) else fates.Out;
+  state = if is_one_of n.done k then call_states.Answered (Some 0) (outcomes.Reply (null_reply k)) else call_states.Out;
 }
 
 -- nothing is known of a call
 abbrev pub nothing_seen : Seen
-nothing_seen = record { entries = 0; place = None; fate = fates.Out }
+nothing_seen = record { entries = 0; place = None; state = call_states.Out }
 
 -- the k-th call line, and what becomes of its call in a run
-abbrev pub told_in : List Mark → ℕ → Told
-told_in last k = record { client = the_link; number = k; fate = (seen_of drill_server the_link k nothing_seen last).fate }
+abbrev pub report_in : List Mark → ℕ → CallReport
+report_in last k = record { client = the_link; number = k; state = (seen_of drill_server the_link k nothing_seen last).state }
 
 -- no link is gone
 abbrev pub stays_up : ℕ → Bool
 stays_up link = false
 
 -- the call lines of the first part of a run
-abbrev pub told_over : List Mark → List Mark → List Mark → List Told
-told_over before [] rest = []
-told_over before (mark ∷ run) rest = told_at drill_server stays_up before mark (run ++ rest) ++ told_over (before ++ mark ∷ []) run rest
+abbrev pub report_over : List Mark → List Mark → List Mark → List CallReport
+report_over before [] rest = []
+report_over before (mark ∷ run) rest = report_at drill_server stays_up before mark (run ++ rest) ++ report_over (before ++ mark ∷ []) run rest
 
 -- what the marks of a drill say by these counts
 pub record At (credits : ℕ) (run : List Mark) (n : Counts) : Type 0 where
@@ -107,7 +107,7 @@ pub record At (credits : ℕ) (run : List Mark) (n : Counts) : Type 0 where
   pub asked_are : asked_by the_link run ≡ n.asked
   pub no_entries : journal drill_server run ≡ []
   pub not_dropped : (link : ℕ) → is_dropped link run ≡ false
-  pub told_are : (rest : List Mark) → told_over [] run rest ≡ each (told_in (run ++ rest)) n.asked
+  pub report_are : (rest : List Mark) → report_over [] run rest ≡ each (report_in (run ++ rest)) n.asked
   pub seen_are : (k : ℕ) → seen_of drill_server the_link k nothing_seen run ≡ seen_by n k
 
 -- the laws of a run hold of the marks so far
@@ -131,8 +131,8 @@ counts_of s = record {
   came = s.served + arrived_one s.arrived;
   served = s.served;
   sent_down = s.served;
-  heard = length s.told;
-  done = length s.told;
+  heard = length s.reports;
+  done = length s.reports;
 }
 
 abbrev pub arrived_after : ℕ → Option Conveyed → Type 0
@@ -144,20 +144,20 @@ pub record Stands (s : State) : Type 0 where
   pub laws : Laws s.credits s.marks
   pub arrived_is : arrived_after s.served s.arrived
   pub up_is : s.up ≡ record { log = upward s.credits s.asked; place = length (upward s.credits (s.served + arrived_one s.arrived)); faults = 0 }
-  pub down_is : s.down ≡ record { log = downward s.credits s.served; place = length (downward s.credits (length s.told)); faults = 0 }
-  pub told_is : s.told ≡ each told_call (length s.told)
+  pub down_is : s.down ≡ record { log = downward s.credits s.served; place = length (downward s.credits (length s.reports)); faults = 0 }
+  pub report_is : s.reports ≡ each report_call (length s.reports)
   pub no_entries : s.entries ≡ 0
   pub no_place : s.place ≡ 0
-  pub heard_served : length s.told ≤ s.served
+  pub heard_served : length s.reports ≤ s.served
   pub came_asked : s.served + arrived_one s.arrived ≤ s.asked
-  pub one_out : s.asked ≤ length s.told + 1
+  pub one_out : s.asked ≤ length s.reports + 1
   pub some_credits : 1 ≤ s.credits
   pub few_credits : s.credits ≤ most_credits
   pub few_calls : s.asked ≤ most_lines
 
 -- nothing is out
 abbrev pub IsQuiet : State → Type 0
-IsQuiet s = s.asked ≡ length s.told
+IsQuiet s = s.asked ≡ length s.reports
 
 -- the drill at this moment
 abbrev pub drill_of : State → Drill
@@ -171,8 +171,8 @@ pub record Round (old new : State) (moved : Bool) : Type 0 where
   pub credits_are : new.credits ≡ old.credits
   pub quiet : IsQuiet new
   pub makes : Moves drill_server (drill_opened old.credits) (links_of 1) (drill_of old) (drill_of new)
-  pub moved_is : moved ≡ nat_lt (length old.told) old.asked
-  pub still : old.asked ≡ length old.told → new ≡ old
+  pub moved_is : moved ≡ nat_lt (length old.reports) old.asked
+  pub still : old.asked ≡ length old.reports → new ≡ old
 
 -- what a drain makes of it
 pub record Drained (old new : State) : Type 0 where
@@ -202,6 +202,6 @@ pub record Played (credits calls : ℕ) (s : State) : Type 0 where
 pub record Tells (s : State) (report : Report) : Type 0 where
   pub marks_are : report.marks ≡ s.marks
   pub entries_are : length report.journal ≡ s.entries
-  pub calls_are : report.calls ≡ s.told
+  pub calls_are : report.calls ≡ s.reports
   pub links_are : report.links ≡ []
   pub logs_are : report.logs ≡ record { up = s.up.log; down = s.down.log } ∷ []

@@ -15,7 +15,7 @@ use Rattle.nr_world.specs.Messages.{inline_message, conveyed, reply_in, call_xid
 use Rattle.nr_world.specs.Asked.{done_for}
 use Rattle.nr_world.specs.Served.{next_call}
 use Rattle.nr_world.specs.Window.{heard}
-use Rattle.nr_world.specs.Limits.{send_max}
+use Rattle.nr_world.specs.Constants.{send_max}
 
 -- Nothing is under way on a link: each side got all that the other sent, and every call that came whole is executed.
 pub record IsSettled (link : ℕ) (run : List Mark) : Type 0 where
@@ -37,12 +37,12 @@ abbrev pub head_of : Accepted → CallHead
 head_of a = Version2 a.xid a.call.prog a.call.vers a.call.proc a.call.cred 0
 
 -- The credits that the ends of a link were opened with are words, its xids don't begin at 0, and each call that it accepted
--- has a spelling under its xid.
+-- has an encoding under its xid.
 pub record AreWords (opened : Opened) (link : ℕ) (run : List Mark) : Type 0 where
   pub wished : opened.wished < 2 ^ 32
   pub granted : opened.granted < 2 ^ 32
   pub first : 1 ≤ opened.first_xid
-  pub spelled : (a : Accepted) → Contains (accepted link run) a → CanWriteCall (head_of a) × CallFits (head_of a)
+  pub encoded : (a : Accepted) → Contains (accepted link run) a → CanWriteCall (head_of a) × CallFits (head_of a)
 
 -- A reply that goes without lists (RFC 8166 section 4.3): it is under the xid of its call, and the message that carries it is
 -- no longer than a Send may be.

@@ -1,12 +1,12 @@
 -- Credits (RFC 8166 section 3.3.1): how many calls of a link are out, and how many its server grants.
 use Rattle.std.specs.Prelude.{◌≡◌, ℕ, ◌<◌, Bool, not, ◌==◌, nat_lt, if◌then◌else◌, List, [], ◌∷◌, length, count_by}
 use Rattle.std.specs.List.{filter, list_any}
-use Rattle.nr_header.specs.Numbers.{FIXED_LEN}
+use Rattle.nr_header.specs.Constants.{FIXED_LEN}
 use Rattle.nr_wire.specs.declared.hello.Side.TheVariants.{Initiator, Responder}
 use Rattle.nr_world.specs.declared.call.Submission.TheVariants as submissions
 use Rattle.nr_world.specs.declared.mark.Mark.{Mark}
 use Rattle.nr_world.specs.declared.mark.Mark.TheVariants as marks
-use Rattle.nr_world.specs.Limits.{most_credits}
+use Rattle.nr_world.specs.Constants.{most_credits}
 use Rattle.nr_world.specs.Observed.{Accepted, accepted, got}
 use Rattle.nr_world.specs.Messages.{messages, xid_in, credit_in}
 use Rattle.nr_world.specs.Along.{Along}

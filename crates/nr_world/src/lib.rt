@@ -3,7 +3,7 @@
 
 mod call;
 mod laws;
-mod listed;
+mod sequence;
 mod mark;
 mod message;
 mod plain;
@@ -15,11 +15,11 @@ mod world;
 
 pub use call::{Call, End, Form, Lack, Lengths, Offer, Outcome, Refused, Submission};
 pub use laws::link_that_stays;
-pub use listed::Listed;
+pub use sequence::Sequence;
 pub use mark::{Entry, Mark, Marks, Moment, Opened};
 pub use printing::shown;
 pub use reading::read_script;
-pub use report::{Fate, Journal, LinkFate, LinkTold, LinkTolds, Logs, Report, Told, Tolds, Ways};
+pub use report::{CallState, Journal, LinkState, LinkReport, LinkReports, Logs, Report, CallReport, CallReports, LinkLog};
 pub use script::{SCRIPT_MAX, Script, ScriptFault};
 pub use world::run_world;
 

@@ -1,7 +1,7 @@
 //! What happens on links, mark by mark, and what marks speak of.
 
 use crate::call::{Call, Form, Outcome, Submission};
-use crate::listed::Listed;
+use crate::sequence::Sequence;
 use nr_rpc::Cred;
 use nr_wire::Side;
 use nr_xdr::Octets;
@@ -100,4 +100,4 @@ pub enum Mark {
 }
 
 /// Marks in the order in which they happened.
-pub type Marks = Listed<Mark>;
+pub type Marks = Sequence<Mark>;

@@ -7,12 +7,12 @@ ghost use Rattle.nr_wire.specs.Next.{segment_in};
 ghost use Rattle.nr_rpc.specs.Reading.{call_of, reply_of};
 ghost use Rattle.nr_world.specs.Messages.{send, inline_message, payload_at, inline_in, under_xid, call_xid, reply_xid, call_in, reply_in};
 ghost use Rattle.nr_world.specs.Ending.{ended_by};
-ghost use Rattle.nr_world.specs.Limits.{send_max};
+ghost use Rattle.nr_world.specs.Constants.{send_max};
 
 use crate::mark::Conveyed;
-use nr_header::{Body, ChunkLists, Few, Header, read_header, write_header};
+use nr_header::{Body, ChunkLists, InlineVec, Header, read_header, write_header};
 use nr_rpc::{CallHead, HeadFault, ReplyHead, read_call, read_reply};
-use nr_wire::numbers::{OPCODE_SEND, QUEUE_SEND};
+use nr_wire::constants::{OPCODE_SEND, QUEUE_SEND};
 use nr_wire::{NextSegment, Segment, next_segment, write_segment};
 use nr_xdr::{Memory, Octets};
 use std::alloc::Global;
@@ -28,8 +28,8 @@ pub fn inline_message(
     ensures { IfOk result (λ message. message ≡ inline_message xid credit payload.now) }
 {
     let lists = ChunkLists {
-        read: Few::new(),
-        write: Few::new(),
+        read: InlineVec::new(),
+        write: InlineVec::new(),
         reply: None,
     };
     let header = Header {

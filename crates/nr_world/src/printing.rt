@@ -4,10 +4,10 @@
 ghost use Rattle.std.specs.Prelude.{◌≡◌, ◌++◌, length, IfOk, OnOk};
 ghost use Rattle.std.specs.List.{flat_map};
 ghost use Rattle.std.specs.String.{string_bytes};
-ghost use Rattle.nr_world.specs.Shown.{placed_text, two_numbers, outcome_text, bytes_text, refused_text, fate_text, told_text, side_text, lack_text, end_text, link_fate_text, link_text, journal_text, text_of};
+ghost use Rattle.nr_world.specs.Shown.{placed_text, two_numbers, outcome_text, bytes_text, refused_text, call_state_text, call_report_text, side_text, lack_text, end_text, link_state_text, link_text, journal_text, text_of};
 
 use crate::call::{End, Lack, Outcome, Refused};
-use crate::report::{Fate, LinkFate, LinkTold, Report, Told};
+use crate::report::{CallState, LinkState, LinkReport, Report, CallReport};
 use nr_wire::Side;
 use nr_xdr::{Memory, Octets};
 use std::alloc::Global;
@@ -102,41 +102,41 @@ fn push_refused(text: &mut String, refused: &Refused) -> Result<(), Memory>
 }
 
 /// What became of a call.
-fn push_fate(alloc: Global, text: &mut String, fate: &Fate) -> Result<(), Memory>
-    ensures { OnOk result (string_bytes text.new ≡ string_bytes text.old ++ fate_text fate.now) }
+fn push_call_state(alloc: Global, text: &mut String, state: &CallState) -> Result<(), Memory>
+    ensures { OnOk result (string_bytes text.new ≡ string_bytes text.old ++ call_state_text state.now) }
 {
-    match fate {
-        Fate::Out => {
+    match state {
+        CallState::Out => {
             text.push_str(" open")?;
             Ok(())
         }
-        Fate::Answered { place, outcome } => {
+        CallState::Answered { place, outcome } => {
             push_place(text, *place)?;
             push_outcome(alloc, text, outcome)
         }
-        Fate::Lost => {
+        CallState::Lost => {
             text.push_str(" lost")?;
             Ok(())
         }
-        Fate::Forgotten => {
+        CallState::Forgotten => {
             text.push_str(" forgotten")?;
             Ok(())
         }
-        Fate::Revoked(bytes) => {
+        CallState::Revoked(bytes) => {
             text.push_str(" revoked ")?;
             push_bytes(alloc, text, bytes.as_slice())
         }
-        Fate::Refused(refused) => push_refused(text, refused),
+        CallState::Refused(refused) => push_refused(text, refused),
     }
 }
 
 /// The line of a call line.
-#[tactic(auto, unfolding(crate::specs::Shown::told_text))]
-fn push_told(alloc: Global, text: &mut String, told: &Told) -> Result<(), Memory>
-    ensures { OnOk result (string_bytes text.new ≡ string_bytes text.old ++ told_text told.now) }
+#[tactic(auto, unfolding(crate::specs::Shown::call_report_text))]
+fn push_call_report(alloc: Global, text: &mut String, report: &CallReport) -> Result<(), Memory>
+    ensures { OnOk result (string_bytes text.new ≡ string_bytes text.old ++ call_report_text report.now) }
 {
-    push_two(text, u64::from(told.client), told.number)?;
-    push_fate(alloc, text, &told.fate)?;
+    push_two(text, u64::from(report.client), report.number)?;
+    push_call_state(alloc, text, &report.state)?;
     text.push_str("\n")?;
     Ok(())
 }
@@ -190,15 +190,15 @@ fn side_words(side: Side) -> &'static str
 }
 
 /// How a link, or a side of it, ended.
-fn push_link_fate(text: &mut String, fate: LinkFate) -> Result<(), Memory>
-    ensures { OnOk result (string_bytes text.new ≡ string_bytes text.old ++ link_fate_text fate) }
+fn push_link_state(text: &mut String, state: LinkState) -> Result<(), Memory>
+    ensures { OnOk result (string_bytes text.new ≡ string_bytes text.old ++ link_state_text state) }
 {
-    match fate {
-        LinkFate::Dropped => {
+    match state {
+        LinkState::Dropped => {
             text.push_str(" dropped")?;
             Ok(())
         }
-        LinkFate::Ended { side, end } => {
+        LinkState::Ended { side, end } => {
             text.push_str(side_words(side))?;
             push_end(text, end)
         }
@@ -207,12 +207,12 @@ fn push_link_fate(text: &mut String, fate: LinkFate) -> Result<(), Memory>
 
 /// The line of a link that was dropped, or of a side that ended.
 #[tactic(auto, unfolding(crate::specs::Shown::link_text))]
-fn push_link(text: &mut String, told: &LinkTold) -> Result<(), Memory>
-    ensures { OnOk result (string_bytes text.new ≡ string_bytes text.old ++ link_text told.now) }
+fn push_link(text: &mut String, report: &LinkReport) -> Result<(), Memory>
+    ensures { OnOk result (string_bytes text.new ≡ string_bytes text.old ++ link_text report.now) }
 {
-    let client = told.client;
+    let client = report.client;
     write!(text, "link {client}")?;
-    push_link_fate(text, told.fate)?;
+    push_link_state(text, report.state)?;
     text.push_str("\n")?;
     Ok(())
 }
@@ -228,17 +228,17 @@ fn push_journal(text: &mut String, len: usize) -> Result<(), Memory>
 }
 
 /// The lines of call lines.
-fn push_calls(alloc: Global, text: &mut String, calls: &[Told]) -> Result<(), Memory>
-    ensures { OnOk result (string_bytes text.new ≡ string_bytes text.old ++ flat_map told_text calls.now) }
+fn push_calls(alloc: Global, text: &mut String, calls: &[CallReport]) -> Result<(), Memory>
+    ensures { OnOk result (string_bytes text.new ≡ string_bytes text.old ++ flat_map call_report_text calls.now) }
 {
-    for told in calls {
-        push_told(alloc, text, told)?;
+    for report in calls {
+        push_call_report(alloc, text, report)?;
     }
     Ok(())
 }
 
 /// The lines of links.
-fn push_links(text: &mut String, links: &[LinkTold]) -> Result<(), Memory>
+fn push_links(text: &mut String, links: &[LinkReport]) -> Result<(), Memory>
     ensures { OnOk result (string_bytes text.new ≡ string_bytes text.old ++ flat_map link_text links.now) }
 {
     for link in links {

@@ -4,7 +4,7 @@ ghost use Rattle.std.specs.Prelude.{◌≡◌, ℕ, ◌+◌, ◌*◌, ◌<◌, �
 ghost use Rattle.std.specs.List.{position};
 ghost use Rattle.std.specs.Str.{bytes_eq};
 ghost use Rattle.nr_world.specs.declared.script.ScriptFault.TheVariants as faults;
-ghost use Rattle.nr_world.specs.Limits.{most_credits, script_max};
+ghost use Rattle.nr_world.specs.Constants.{most_credits, script_max};
 ghost use Rattle.nr_world.specs.Script.{GivesScript, clients_line, credits_in, cut, ends_at, line_onto, newline, script_of, turn, turn_onto, turn_text, turns};
 ghost use Rattle.nr_world.specs.Parsing.{credits_from, lines_from, turns_onto};
 

@@ -1,17 +1,17 @@
 //! What a drill reports.
 
 use crate::call::{End, Outcome, Refused};
-use crate::listed::Listed;
+use crate::sequence::Sequence;
 use crate::mark::{Entry, Marks};
 use nr_wire::Side;
 use nr_xdr::Octets;
 
 /// The entries of the journal in order.
-pub type Journal = Listed<Entry>;
+pub type Journal = Sequence<Entry>;
 
 /// What has become of a call.
 #[derive(Debug, Drop)]
-pub enum Fate {
+pub enum CallState {
     /// It is out, and nothing came of it.
     Out,
     /// It was answered with an outcome. The place is that of its execution in the journal, if it was executed.
@@ -31,18 +31,18 @@ pub enum Fate {
 
 /// A call line of a script and what became of its call: the client, and the number of the line among that client's, from 1.
 #[derive(Debug, Drop)]
-pub struct Told {
+pub struct CallReport {
     pub client: u32,
     pub number: u64,
-    pub fate: Fate,
+    pub state: CallState,
 }
 
 /// What became of the call lines, in the script's order.
-pub type Tolds = Listed<Told>;
+pub type CallReports = Sequence<CallReport>;
 
 /// How a link, or a side of it, ended.
 #[derive(Clone, Copy, Debug, PartialEq, Eq)]
-pub enum LinkFate {
+pub enum LinkState {
     /// The link was dropped.
     Dropped,
     /// A side of it takes no more input.
@@ -51,23 +51,23 @@ pub enum LinkFate {
 
 /// A link, by its client, that was dropped or a side of which ended.
 #[derive(Clone, Copy, Debug, PartialEq, Eq)]
-pub struct LinkTold {
+pub struct LinkReport {
     pub client: u32,
-    pub fate: LinkFate,
+    pub state: LinkState,
 }
 
 /// The links that were dropped or that ended, in order, and of each its client's side first.
-pub type LinkTolds = Listed<LinkTold>;
+pub type LinkReports = Sequence<LinkReport>;
 
 /// All the bytes that the client and the server of a link wrote.
 #[derive(Debug, Drop)]
-pub struct Ways {
+pub struct LinkLog {
     pub up: Octets,
     pub down: Octets,
 }
 
 /// The logs of the links in order.
-pub type Logs = Listed<Ways>;
+pub type Logs = Sequence<LinkLog>;
 
 /// What a drill reports: what happened, mark by mark, the journal, what became of each call line and of each link, and the
 /// bytes that both sides of each link wrote.
@@ -75,7 +75,7 @@ pub type Logs = Listed<Ways>;
 pub struct Report {
     pub marks: Marks,
     pub journal: Journal,
-    pub calls: Tolds,
-    pub links: LinkTolds,
+    pub calls: CallReports,
+    pub links: LinkReports,
     pub logs: Logs,
 }

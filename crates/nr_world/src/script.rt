@@ -2,7 +2,7 @@
 
 ghost use Rattle.std.specs.Prelude.{◌≡◌, ◌+◌, ◌*◌, ◌≤◌};
 ghost use Rattle.nr_world.specs.declared.script.ScriptFault.TheVariants as faults;
-ghost use Rattle.nr_world.specs.Limits.{default_capacity, most_credits, most_lines};
+ghost use Rattle.nr_world.specs.Constants.{default_capacity, most_credits, most_lines};
 ghost use Rattle.nr_world.specs.Script.{turns};
 
 use nr_xdr::Memory;
@@ -45,7 +45,7 @@ pub struct Script {
 
 impl Model for Script {
     ghost use Rattle.std.specs.Prelude.{◌≤◌, ◌+◌, ◌*◌};
-    ghost use Rattle.nr_world.specs.Limits.{default_capacity, most_credits, most_lines};
+    ghost use Rattle.nr_world.specs.Constants.{default_capacity, most_credits, most_lines};
     ghost use Rattle.nr_world.specs.Script.{ScriptLines, turns};
 
     ghost Value = { ScriptLines };

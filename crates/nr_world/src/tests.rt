@@ -115,7 +115,7 @@ fn runs(rt: HostRuntime) -> Result<(), Fail> {
 }
 
 /// What a mark of the first link is, in words.
-fn told(mark: &Mark) -> &'static str {
+fn reports(mark: &Mark) -> &'static str {
     match mark {
         Mark::Wrote {
             link: 1,
@@ -178,7 +178,7 @@ fn marks(rt: HostRuntime) -> Result<(), Fail> {
     let marks = report.marks.as_slice();
     assert_eq!(rt; marks.len(), wanted.len());
     for (mark, wanted) in marks.iter().zip(wanted) {
-        assert_eq!(rt; told(mark), wanted);
+        assert_eq!(rt; reports(mark), wanted);
     }
     assert_eq!(rt; report.journal.len(), 0);
     assert!(rt; report.journal.is_empty());
@@ -194,38 +194,38 @@ fn marks(rt: HostRuntime) -> Result<(), Fail> {
 #[test]
 fn forms(rt: HostRuntime) -> Result<(), Fail> {
     let mut calls = Vec::new(rt.alloc());
-    let fates = [
-        Fate::Out,
-        Fate::Lost,
-        Fate::Forgotten,
-        Fate::Revoked(Octets::new(rt.alloc())),
-        Fate::Revoked(Octets::from_slice(rt.alloc(), b"hel\0\0")?),
-        Fate::Answered {
+    let call_states = [
+        CallState::Out,
+        CallState::Lost,
+        CallState::Forgotten,
+        CallState::Revoked(Octets::new(rt.alloc())),
+        CallState::Revoked(Octets::from_slice(rt.alloc(), b"hel\0\0")?),
+        CallState::Answered {
             place: Some(0),
             outcome: Outcome::Chunk,
         },
-        Fate::Answered {
+        CallState::Answered {
             place: None,
             outcome: Outcome::Chunk,
         },
-        Fate::Answered {
+        CallState::Answered {
             place: None,
             outcome: Outcome::Version { low: 1, high: 1 },
         },
-        Fate::Refused(Refused::NoCredit { out: 4, grant: 4 }),
-        Fate::Refused(Refused::TooLarge {
+        CallState::Refused(Refused::NoCredit { out: 4, grant: 4 }),
+        CallState::Refused(Refused::TooLarge {
             need: 1028,
             room: 1024,
         }),
-        Fate::Refused(Refused::Ended(End::Terminated { reason: 5 })),
-        Fate::Refused(Refused::Spent { left: 0, need: 1 }),
-        Fate::Refused(Refused::Memory),
+        CallState::Refused(Refused::Ended(End::Terminated { reason: 5 })),
+        CallState::Refused(Refused::Spent { left: 0, need: 1 }),
+        CallState::Refused(Refused::Memory),
     ];
-    for fate in fates {
-        calls.push(Told {
+    for state in call_states {
+        calls.push(CallReport {
             client: 2,
             number: 7,
-            fate,
+            state,
         })?;
     }
     let mut links = Vec::new(rt.alloc());
@@ -260,21 +260,21 @@ fn forms(rt: HostRuntime) -> Result<(), Fail> {
         (Side::Responder, End::Memory),
     ];
     for (side, end) in ends {
-        links.push(LinkTold {
+        links.push(LinkReport {
             client: 1,
-            fate: LinkFate::Ended { side, end },
+            state: LinkState::Ended { side, end },
         })?;
     }
-    links.push(LinkTold {
+    links.push(LinkReport {
         client: 2,
-        fate: LinkFate::Dropped,
+        state: LinkState::Dropped,
     })?;
     let report = Report {
-        marks: Listed::from_vec(Vec::new(rt.alloc())),
-        journal: Listed::from_vec(Vec::new(rt.alloc())),
-        calls: Listed::from_vec(calls),
-        links: Listed::from_vec(links),
-        logs: Listed::from_vec(Vec::new(rt.alloc())),
+        marks: Sequence::from_vec(Vec::new(rt.alloc())),
+        journal: Sequence::from_vec(Vec::new(rt.alloc())),
+        calls: Sequence::from_vec(calls),
+        links: Sequence::from_vec(links),
+        logs: Sequence::from_vec(Vec::new(rt.alloc())),
     };
     let wanted =
         b"2 7 open\n2 7 lost\n2 7 forgotten\n2 7 revoked -\n2 7 revoked 68656c0000\n2 7 place 0 chunk\n\

@@ -7,20 +7,20 @@
 ghost use Rattle.std.specs.Prelude.{◌≡◌, [], ◌∷◌, ◌+◌, ◌*◌, ◌<◌, ◌≤◌, length, IfOk, OnOk, ◌||◌, IfSome, option_and_then};
 ghost use Rattle.nr_outside.specs.Pipe.{waiting_in};
 ghost use Rattle.nr_wire.specs.declared.hello.Side.TheVariants.{Initiator, Responder};
-ghost use Rattle.nr_world.specs.Limits.{most_lines};
+ghost use Rattle.nr_world.specs.Constants.{most_lines};
 ghost use Rattle.nr_world.specs.Messages.{send, inline_message};
 ghost use Rattle.nr_world.specs.Owed.{own_hello};
 ghost use Rattle.nr_world.specs.Plain.{plain_reply};
 ghost use Rattle.nr_world.specs.Headline.{Reports};
 ghost use Rattle.nr_world.specs.Stands.{Stands, IsQuiet, Round, Drained, Called, Played, Tells};
-ghost use Rattle.nr_world.specs.Steps.{null, ask, wrote_up, wrote_down, fed_up, fed_down, opened_state, asked_one, waits, came, works_on, worked, done_one, heard};
+ghost use Rattle.nr_world.specs.Driver.{null, ask, wrote_up, wrote_down, fed_up, fed_down, opened_state, asked_one, waits, came, works_on, worked, done_one, heard};
 
 use crate::call::{Call, Form, Outcome, Submission};
-use crate::listed::Listed;
+use crate::sequence::Sequence;
 use crate::mark::{Conveyed, Entry, Mark, Moment};
 use crate::message::{call_in_frame, inline_message, reply_in_frame, send};
 use crate::plain::{NFS_PROGRAM, NFS_VERSION, NULL, REPLY_MAX, execute};
-use crate::report::{Fate, Logs, Report, Told, Ways};
+use crate::report::{CallState, Logs, Report, CallReport, LinkLog};
 use crate::script::Script;
 use nr_outside::{Pipe, Sink};
 use nr_rpc::{CallHead, Cred, write_call};
@@ -57,12 +57,12 @@ pub(crate) struct World {
     journal: Vec<Entry>,
     place: u64,
     /// What became of the calls whose replies the client took.
-    told: Vec<Told>,
+    reports: Vec<CallReport>,
 }
 
 impl Model for World {
     ghost use Rattle.std.specs.Prelude.{vec_len};
-    ghost use Rattle.nr_world.specs.Steps.{State};
+    ghost use Rattle.nr_world.specs.Driver.{State};
 
     ghost Value = { State };
 
@@ -76,7 +76,7 @@ impl Model for World {
       served = w.served;
       entries = vec_len w.journal;
       place = w.place;
-      told = w.told.items;
+      reports = w.reports.items;
     } };
 }
 
@@ -218,7 +218,7 @@ impl World {
     }
 
     /// A drill whose link is open: the client's hello went up whole, the server's went down whole.
-    #[tactic(auto, unfolding(crate::specs::Steps::opened_state))]
+    #[tactic(auto, unfolding(crate::specs::Driver::opened_state))]
     pub(crate) fn open(alloc: Global, credits: u32) -> Result<World, Memory>
         ensures { IfOk result (λ world. world ≡ opened_state credits) }
     {
@@ -233,7 +233,7 @@ impl World {
             served: 0,
             journal: Vec::new(alloc),
             place: 0,
-            told: Vec::new(alloc),
+            reports: Vec::new(alloc),
         };
         world.write_up(own_hello(alloc, Side::Initiator)?)?;
         world.hear_request()?;
@@ -243,7 +243,7 @@ impl World {
     }
 
     /// The client submits a call of NULL and writes its Send.
-    #[tactic(auto, unfolding(crate::specs::Steps::asked_one))]
+    #[tactic(auto, unfolding(crate::specs::Driver::asked_one))]
     fn ask(&mut self) -> Result<(), Memory>
         requires { self.old.asked < most_lines }
         ensures { OnOk result (self.new ≡ asked_one self.old) }
@@ -262,7 +262,7 @@ impl World {
     }
 
     /// The server is fed all that waits for it, and says whether that was something.
-    #[tactic(auto, unfolding(crate::specs::Steps::came))]
+    #[tactic(auto, unfolding(crate::specs::Driver::came))]
     fn feed_up(&mut self) -> Result<bool, Memory>
         ensures moves { IfOk result (λ moved. moved ≡ waits self.old.up) }
         ensures state { OnOk result (self.new ≡ came self.old) }
@@ -294,7 +294,7 @@ impl World {
     }
 
     /// The call that came whole is executed and answered, and says whether there was one.
-    #[tactic(auto, unfolding(crate::specs::Steps::worked))]
+    #[tactic(auto, unfolding(crate::specs::Driver::worked))]
     fn work_one(&mut self) -> Result<bool, Memory>
         requires { self.old.served ≤ most_lines }
         ensures moves { IfOk result (λ moved. moved ≡ works_on self.old.arrived) }
@@ -330,7 +330,7 @@ impl World {
 
     /// The client hands a reply to its caller.
     fn take(&mut self, reply: Conveyed) -> Result<(), Memory>
-        requires { length self.old.told ≤ most_lines }
+        requires { length self.old.reports ≤ most_lines }
         ensures { OnOk result (self.new ≡ done_one self.old reply) }
     {
         let payload = Octets::from_slice(self.alloc, reply.payload.as_slice())?;
@@ -339,11 +339,11 @@ impl World {
             xid: reply.xid,
             outcome: Outcome::Reply(reply.payload),
         })?;
-        let number = self.told.len() as u64 + 1;
-        self.told.push(Told {
+        let number = self.reports.len() as u64 + 1;
+        self.reports.push(CallReport {
             client: LINK,
             number,
-            fate: Fate::Answered {
+            state: CallState::Answered {
                 place: Some(self.place),
                 outcome: Outcome::Reply(payload),
             },
@@ -352,9 +352,9 @@ impl World {
     }
 
     /// The client is fed all that waits for it and hands over what is completed. Says whether anything waited.
-    #[tactic(auto, unfolding(crate::specs::Steps::heard))]
+    #[tactic(auto, unfolding(crate::specs::Driver::heard))]
     fn feed_down(&mut self) -> Result<bool, Memory>
-        requires { length self.old.told ≤ most_lines }
+        requires { length self.old.reports ≤ most_lines }
         ensures moves { IfOk result (λ moved. moved ≡ waits self.old.down) }
         ensures state { OnOk result (self.new ≡ heard self.old) }
     {
@@ -429,11 +429,11 @@ fn logs(alloc: Global, up: Pipe, down: Pipe) -> Result<Logs, Memory>
     ensures { IfOk result (λ logs. logs ≡ record { up = up.log; down = down.log } ∷ []) }
 {
     let mut ways = Vec::new(alloc);
-    ways.push(Ways {
+    ways.push(LinkLog {
         up: Octets::from_vec(up.into_log()),
         down: Octets::from_vec(down.into_log()),
     })?;
-    Ok(Listed::from_vec(ways))
+    Ok(Sequence::from_vec(ways))
 }
 
 impl World {
@@ -447,15 +447,15 @@ impl World {
             up,
             down,
             journal,
-            told,
+            reports,
             ..
         } = self;
         let logs = logs(alloc, up, down)?;
         Ok(Report {
-            marks: Listed::from_vec(marks),
-            journal: Listed::from_vec(journal),
-            calls: Listed::from_vec(told),
-            links: Listed::from_vec(Vec::new(alloc)),
+            marks: Sequence::from_vec(marks),
+            journal: Sequence::from_vec(journal),
+            calls: Sequence::from_vec(reports),
+            links: Sequence::from_vec(Vec::new(alloc)),
             logs,
         })
     }

@@ -3,9 +3,9 @@ use Rattle.std.proofs.Common.{◌≡◌, ℕ, ◌+◌, List, [], ◌∷◌, ◌+
 use Rattle.std.proofs.lemmas.List.{length-append, get_or-append-add, get_or_append_left, get_or_past, length-replicate}
 use Rattle.std.proofs.lemmas.Bool.{cases_lt}
 use Rattle.std.proofs.Common.{inl, inr}
-use Rattle.nr_xdr.specs.Item.{Item, Reads, IsBytes, Fits, padding, spelling, word}
+use Rattle.nr_xdr.specs.Item.{Item, Reads, IsBytes, Fits, padding, encoding, word}
 use Rattle.nr_xdr.specs.Item.Item.{Opaque}
-use Rattle.nr_xdr.specs.Items.{ReadEach, spellings, FitEach}
+use Rattle.nr_xdr.specs.Items.{ReadEach, encodings, FitEach}
 use Rattle.nr_xdr.specs.Reading.{Cursor, Takes}
 use Rattle.nr_xdr.proofs.Cursors.{cursor_is}
 
@@ -57,13 +57,13 @@ each_between (item ∷ items) old new (middle, taken, others) =
       place = omega (arith, taken.place, b.place, length-append taken.bytes b.bytes);
     }
 
-pub spelling_reads : (item : Item) → Fits item → Reads item (spelling item)
-spelling_reads item fits = record { fits = fits; pad = replicate (padding item) 0; pad_is = length-replicate (padding item) 0; bytes_are = refl }
+pub encoding_reads : (item : Item) → Fits item → Reads item (encoding item)
+encoding_reads item fits = record { fits = fits; pad = replicate (padding item) 0; pad_is = length-replicate (padding item) 0; bytes_are = refl }
 
--- the spelling reads as the items
-pub spellings_read : (items : List Item) → FitEach items → ReadEach items (spellings items)
-spellings_read [] fits = refl
-spellings_read (item ∷ items) fits = (spelling item, spellings items, spelling_reads item fits.0, spellings_read items fits.1, refl)
+-- the encoding reads as the items
+pub encodings_read : (items : List Item) → FitEach items → ReadEach items (encodings items)
+encodings_read [] fits = refl
+encodings_read (item ∷ items) fits = (encoding item, encodings items, encoding_reads item fits.0, encodings_read items fits.1, refl)
 
 pub IsBytes-right : (x y : List ℕ) → IsBytes (x ++ y) → IsBytes y
 IsBytes-right x y fits i = rw (← get_or-append-add x y i 0) (fits (length x + i))

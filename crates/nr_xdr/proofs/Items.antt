@@ -9,18 +9,18 @@ use Rattle.nr_xdr.specs.declared.fault.ItemFault.TheVariants.{Short, Long}
 use Rattle.nr_xdr.specs.Item.{Reads, IsBytes, word, word_of, hyper, hyper_of, pad_len, bit}
 use Rattle.nr_xdr.specs.Item.Item.{Unsigned, Hyper, Boolean, Opaque, Fixed}
 use Rattle.nr_xdr.specs.Reading.{Cursor, Takes, past, unsigned_at, hyper_at, boolean_at, boolean_by, opaque_at, opaque_by, fixed_at}
-use Rattle.nr_xdr.proofs.Numbers.{IsBytes-take, length-word, word-word_of, word_of-word, word_of-below, length-hyper, hyper-hyper_of, hyper_of-hyper, hyper_of-below}
+use Rattle.nr_xdr.proofs.WordBytes.{IsBytes-take, length-word, word-word_of, word_of-word, word_of-below, length-hyper, hyper-hyper_of, hyper_of-hyper, hyper_of-below}
 use Rattle.nr_xdr.proofs.Cursors.{guard_ok, ok_parts, past_takes, takes_past}
 
--- the first four bytes spell their number
+-- the first four bytes encode their number
 record FrontWord (bytes : List ℕ) (n : ℕ) : Type 0 where
   below : n < 2 ^ 32
-  spelled : take 4 bytes ≡ word n
+  encoded : take 4 bytes ≡ word n
 
 front_word : (bytes : List ℕ) → IsBytes bytes → 4 ≤ length bytes → FrontWord bytes (word_of (take 4 bytes))
 front_word bytes fits le = record {
   below = word_of-below (take 4 bytes) (IsBytes-take 4 bytes fits);
-  spelled = sym (word-word_of (take 4 bytes) (length-take-le 4 bytes le) (IsBytes-take 4 bytes fits));
+  encoded = sym (word-word_of (take 4 bytes) (length-take-le 4 bytes le) (IsBytes-take 4 bytes fits));
 }
 
 pub unsigned_takes : (c : Cursor) (n : ℕ) (after : Cursor) → IsBytes c.rest → unsigned_at c ≡ Ok (n, after) → Takes c after (Unsigned n)
@@ -31,7 +31,7 @@ unsigned_takes c n after fits e =
     let parts = ok_parts (word_of (take 4 c.rest)) n (past 4 c) after g.1 in
     let front = front_word c.rest fits le in
     let taken : Takes c (past 4 c) (Unsigned (word_of (take 4 c.rest))) =
-    past_takes c 4 (Unsigned (word_of (take 4 c.rest))) le (record { fits = front.below; pad = []; pad_is = refl; bytes_are = front.spelled }) in
+    past_takes c 4 (Unsigned (word_of (take 4 c.rest))) le (record { fits = front.below; pad = []; pad_is = refl; bytes_are = front.encoded }) in
     subst (λ (m : ℕ). Takes c after (Unsigned m)) parts.0 (subst (λ (d : Cursor). Takes c d (Unsigned (word_of (take 4 c.rest)))) parts.1 taken)
 
 pub unsigned_again : (c : Cursor) (n : ℕ) (after : Cursor) → Takes c after (Unsigned n) → unsigned_at c ≡ Ok (n, after)
@@ -48,9 +48,9 @@ hyper_takes c n after fits e =
     let le : 8 ≤ length c.rest = ltb-false _ _ g.0 in
     let parts = ok_parts (hyper_of (take 8 c.rest)) n (past 8 c) after g.1 in
     let bytes = IsBytes-take 8 c.rest fits in
-    let spelled : take 8 c.rest ≡ hyper (hyper_of (take 8 c.rest)) = sym (hyper-hyper_of (take 8 c.rest) (length-take-le 8 c.rest le) bytes) in
+    let encoded : take 8 c.rest ≡ hyper (hyper_of (take 8 c.rest)) = sym (hyper-hyper_of (take 8 c.rest) (length-take-le 8 c.rest le) bytes) in
     let taken : Takes c (past 8 c) (Hyper (hyper_of (take 8 c.rest))) =
-    past_takes c 8 (Hyper (hyper_of (take 8 c.rest))) le (record { fits = hyper_of-below (take 8 c.rest) bytes; pad = []; pad_is = refl; bytes_are = spelled }) in
+    past_takes c 8 (Hyper (hyper_of (take 8 c.rest))) le (record { fits = hyper_of-below (take 8 c.rest) bytes; pad = []; pad_is = refl; bytes_are = encoded }) in
     subst (λ (m : ℕ). Takes c after (Hyper m)) parts.0 (subst (λ (d : Cursor). Takes c d (Hyper (hyper_of (take 8 c.rest)))) parts.1 taken)
 
 pub hyper_again : (c : Cursor) (n : ℕ) (after : Cursor) → Takes c after (Hyper n) → hyper_at c ≡ Ok (n, after)
@@ -74,7 +74,7 @@ boolean_takes c b after fits e =
     let parts = boolean_by-ok (word_of (take 4 c.rest)) c b after g.1 in
     let front = front_word c.rest fits le in
     let taken : Takes c (past 4 c) (Boolean b) =
-    past_takes c 4 (Boolean b) le (record { fits = tt; pad = []; pad_is = refl; bytes_are = front.spelled ∙ ap word parts.0 }) in
+    past_takes c 4 (Boolean b) le (record { fits = tt; pad = []; pad_is = refl; bytes_are = front.encoded ∙ ap word parts.0 }) in
     subst (λ (d : Cursor). Takes c d (Boolean b)) parts.1 taken
 
 boolean_by-bit : (b : Bool) (c : Cursor) → boolean_by (bit b) c ≡ Ok (b, past 4 c)
@@ -148,7 +148,7 @@ opaque_by-content max n c bytes after t =
     rw (le-ltb max n t.within, le-ltb (length c.rest) (4 + (n + pad_len n)) t.enough, t.bytes_are, t.after_is) refl
 
 opaque_reads : (n : ℕ) (rest : List ℕ) → n < 2 ^ 32 → take 4 rest ≡ word n → 4 + (n + pad_len n) ≤ length rest → Reads (Opaque (take n (drop 4 rest))) (take (4 + (n + pad_len n)) rest)
-opaque_reads n rest lt spelled le =
+opaque_reads n rest lt encoded le =
     let content = drop 4 rest in
     let room : n + pad_len n ≤ length content = omega (arith, length-drop 4 rest) in
     let len : length (take n content) ≡ n = length-take-le n content (omega arith) in
@@ -158,7 +158,7 @@ opaque_reads n rest lt spelled le =
       pad = take (pad_len n) (drop n content);
       pad_is = length-take-le (pad_len n) (drop n content) left ∙ ap pad_len (sym len);
       bytes_are = take-add 4 (n + pad_len n) rest
-          ∙ ap (λ (w : List ℕ). w ++ take (n + pad_len n) content) (spelled ∙ ap word (sym len))
+          ∙ ap (λ (w : List ℕ). w ++ take (n + pad_len n) content) (encoded ∙ ap word (sym len))
           ∙ ap (λ (b : List ℕ). word (length (take n content)) ++ b) (take-add n (pad_len n) content);
     }
 
@@ -170,7 +170,7 @@ opaque_takes c max bytes after fits e =
     let le : 4 ≤ length c.rest = ltb-false _ _ g.0 in
     let t = opaque_by-ok max n c bytes after g.1 in
     let front = front_word c.rest fits le in
-    let reads = opaque_reads n c.rest front.below front.spelled t.enough in
+    let reads = opaque_reads n c.rest front.below front.encoded t.enough in
     let taken : Takes c (past (4 + (n + pad_len n)) c) (Opaque (take n (drop 4 c.rest))) = past_takes c (4 + (n + pad_len n)) (Opaque (take n (drop 4 c.rest))) t.enough reads in
     let len : length (take n (drop 4 c.rest)) ≡ n = length-take-le n (drop 4 c.rest) (omega (arith, length-drop 4 c.rest, t.enough)) in (
       subst (λ (b : List ℕ). Takes c after (Opaque b)) t.bytes_are (subst (λ (d : Cursor). Takes c d (Opaque (take n (drop 4 c.rest)))) t.after_is taken),
@@ -186,11 +186,11 @@ opaque_again c max bytes after le t =
     ap length t.reads.bytes_are ∙ length-append (word n) (bytes ++ t.reads.pad)
     ∙ omega (arith, length-word n, length-append bytes t.reads.pad, t.reads.pad_is) in
     let took = takes_past c after t.bytes (4 + (n + p)) t.rest t.place whole in
-    let spelled : take (4 + (n + p)) c.rest ≡ word n ++ (bytes ++ t.reads.pad) = took.front ∙ t.reads.bytes_are in
+    let encoded : take (4 + (n + p)) c.rest ≡ word n ++ (bytes ++ t.reads.pad) = took.front ∙ t.reads.bytes_are in
     let count : word_of (take 4 c.rest) ≡ n =
-    ap word_of (front_of_padded 4 (4 + (n + p)) c.rest (word n) (bytes ++ t.reads.pad) (length-word n) (omega arith) spelled) ∙ word_of-word n t.reads.fits in
+    ap word_of (front_of_padded 4 (4 + (n + p)) c.rest (word n) (bytes ++ t.reads.pad) (length-word n) (omega arith) encoded) ∙ word_of-word n t.reads.fits in
     let behind : take (n + p) (drop 4 c.rest) ≡ bytes ++ t.reads.pad =
-    sym (drop-take 4 (n + p) c.rest) ∙ ap (drop 4) spelled ∙ drop_at (word n) (bytes ++ t.reads.pad) 4 (length-word n) in
+    sym (drop-take 4 (n + p) c.rest) ∙ ap (drop 4) encoded ∙ drop_at (word n) (bytes ++ t.reads.pad) 4 (length-word n) in
     let content : take n (drop 4 c.rest) ≡ bytes = front_of_padded n (n + p) (drop 4 c.rest) bytes t.reads.pad refl (omega arith) behind in
     let enough : 4 ≤ length c.rest = omega (arith, took.enough) in
     rw (le-ltb (length c.rest) 4 enough, count) (opaque_by-content max n c bytes after (record { within = le; enough = took.enough; bytes_are = content; after_is = took.past }))

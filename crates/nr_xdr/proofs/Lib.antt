@@ -1,6 +1,6 @@
-pub mod Numbers
+pub mod WordBytes
 pub mod Cursors
 pub mod Items
 pub mod Chains
-pub mod Steps
+pub mod SequencingSteps
 pub mod OneReading

@@ -1,4 +1,4 @@
--- The items of XDR (RFC 4506), and the bytes that spell them.
+-- The items of XDR (RFC 4506), and the bytes that encode them.
 use Rattle.std.specs.Prelude.{◌≡◌, ℕ, ◌-◌, ◌%◌, ◌^◌, ◌<◌, Bool, true, false, List, ◌++◌, length, replicate, get_or}
 use Rattle.std.specs.Int.{w32, w64, to_be_bytes, from_be_bytes}
 
@@ -33,7 +33,7 @@ pub data Item : Type 0 where
   Opaque : (bytes : List ℕ) → Item
   Fixed : (bytes : List ℕ) → Item
 
--- what has a spelling
+-- what has an encoding
 abbrev pub Fits : Item → Type 0
 Fits (Unsigned n) = n < 2 ^ 32
 Fits (Hyper n) = n < 2 ^ 64
@@ -61,11 +61,11 @@ padded (Boolean b) pad = word (bit b)
 padded (Opaque bytes) pad = word (length bytes) ++ (bytes ++ pad)
 padded (Fixed bytes) pad = bytes ++ pad
 
--- the one spelling: every pad byte is zero
-abbrev pub spelling : Item → List ℕ
-spelling item = padded item (replicate (padding item) 0)
+-- the one encoding: every pad byte is zero
+abbrev pub encoding : Item → List ℕ
+encoding item = padded item (replicate (padding item) 0)
 
--- the bytes read as the item: they spell it, whatever the pad bytes are
+-- the bytes read as the item: they encode it, whatever the pad bytes are
 pub record Reads (item : Item) (bytes : List ℕ) : Type 0 where
   pub fits : Fits item
   pub pad : List ℕ

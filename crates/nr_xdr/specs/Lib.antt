@@ -1,4 +1,4 @@
 pub mod Item
 pub mod Items
 pub mod Reading
-pub mod Steps
+pub mod Sequencing

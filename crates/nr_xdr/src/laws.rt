@@ -1,4 +1,4 @@
-//! Laws of the spelling.
+//! Laws of the encoding.
 
 ghost use Rattle.std.specs.Prelude.{◌≡◌, ℕ, List, ◌++◌};
 ghost use Rattle.nr_xdr.specs.Item.{Item, Reads, AreOfOneType};

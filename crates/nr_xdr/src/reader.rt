@@ -152,9 +152,9 @@ impl<'a> Reader<'a> {
 
     /// An unsigned integer (RFC 4506 section 4.2): `Short` where fewer than four bytes are left.
     pub fn u32(&mut self) -> Result<u32, ItemFault>
-        // What is read is spelled so.
+        // What is read is encoded so.
         ensures found { IfOk result (λ n. Takes self.old self.new (Unsigned n)) }
-        // What is spelled so is read.
+        // What is encoded so is read.
         ensures only { (n : ℕ) (after : Cursor) → Takes self.old after (Unsigned n) →
             IsOkAnd result (λ m. m ≡ n) × (self.new ≡ after) }
         // Which fault it is.

@@ -1,7 +1,7 @@
 use super::*;
 use std::test::*;
 
-/// The name `a.txt` as RFC 4506 section 4.10 spells it, with a pad that isn't zero.
+/// The name `a.txt` as RFC 4506 section 4.10 encodes it, with a pad that isn't zero.
 const NAME_WITH_OTHER_PAD: [u8; 12] = [0, 0, 0, 5, 0x61, 0x2e, 0x74, 0x78, 0x74, 0, 0, 0xff];
 
 #[test]

@@ -1,7 +1,7 @@
 //! Writing of items.
 
 ghost use Rattle.std.specs.Prelude.{◌≡◌, ◌^◌, ◌<◌, [], ◌++◌, length, take, OnOk, OnErr};
-ghost use Rattle.nr_xdr.specs.Item.{spelling, word};
+ghost use Rattle.nr_xdr.specs.Item.{encoding, word};
 ghost use Rattle.nr_xdr.specs.Item.Item.{Unsigned, Hyper, Boolean, Opaque, Fixed};
 
 use crate::fault::Memory;
@@ -10,7 +10,7 @@ use crate::words::pad_len;
 use std::alloc::Global;
 use std::marker::Model;
 
-/// Puts items behind one another, each by its one spelling. Contracts see the bytes so far. A call that answers an `Err`
+/// Puts items behind one another, each by its one encoding. Contracts see the bytes so far. A call that answers an `Err`
 /// leaves them as they were.
 #[derive(Drop)]
 pub struct Writer {
@@ -27,7 +27,7 @@ impl Model for Writer {
 
 /// Puts data and its pad of zeros at the end. After an `Err` some of it may stand there.
 fn push_padded(out: &mut Vec<u8>, bytes: &[u8]) -> Result<(), Memory>
-    ensures ok { OnOk result (out.new.items ≡ out.old.items ++ spelling (Fixed bytes.now)) }
+    ensures ok { OnOk result (out.new.items ≡ out.old.items ++ encoding (Fixed bytes.now)) }
     ensures kept { take (length out.old.items) out.new.items ≡ out.old.items }
 {
     const ZEROS: [u8; 3] = [0; 3];
@@ -39,7 +39,7 @@ fn push_padded(out: &mut Vec<u8>, bytes: &[u8]) -> Result<(), Memory>
 /// Puts data behind its length. After an `Err` some of it may stand there.
 fn push_opaque(out: &mut Vec<u8>, bytes: &[u8]) -> Result<(), Memory>
     requires { length bytes.now < 2 ^ 32 }
-    ensures ok { OnOk result (out.new.items ≡ out.old.items ++ spelling (Opaque bytes.now)) }
+    ensures ok { OnOk result (out.new.items ≡ out.old.items ++ encoding (Opaque bytes.now)) }
     ensures kept { take (length out.old.items) out.new.items ≡ out.old.items }
 {
     push_word(out, bytes.len() as u32)?;
@@ -69,7 +69,7 @@ impl Writer {
 
     /// An unsigned integer (RFC 4506 section 4.2).
     pub fn u32(&mut self, n: u32) -> Result<(), Memory>
-        ensures ok { OnOk result (self.new ≡ self.old ++ spelling (Unsigned n)) }
+        ensures ok { OnOk result (self.new ≡ self.old ++ encoding (Unsigned n)) }
         ensures err { OnErr result (self.new ≡ self.old) }
     {
         push_word(&mut self.bytes, n)?;
@@ -79,7 +79,7 @@ impl Writer {
     /// An unsigned hyper integer (RFC 4506 section 4.5).
     #[tactic(auto, unfolding(crate::specs::Item::hyper))]
     pub fn u64(&mut self, n: u64) -> Result<(), Memory>
-        ensures ok { OnOk result (self.new ≡ self.old ++ spelling (Hyper n)) }
+        ensures ok { OnOk result (self.new ≡ self.old ++ encoding (Hyper n)) }
         ensures err { OnErr result (self.new ≡ self.old) }
     {
         self.bytes.extend_from_slice(&n.to_be_bytes())?;
@@ -88,7 +88,7 @@ impl Writer {
 
     /// A boolean (RFC 4506 section 4.4).
     pub fn boolean(&mut self, b: bool) -> Result<(), Memory>
-        ensures ok { OnOk result (self.new ≡ self.old ++ spelling (Boolean b)) }
+        ensures ok { OnOk result (self.new ≡ self.old ++ encoding (Boolean b)) }
         ensures err { OnErr result (self.new ≡ self.old) }
     {
         self.u32(u32::from(b))
@@ -97,7 +97,7 @@ impl Writer {
     /// Opaque data behind its length (RFC 4506 section 4.10).
     pub fn opaque(&mut self, bytes: &[u8]) -> Result<(), Memory>
         requires { length bytes.now < 2 ^ 32 }
-        ensures ok { OnOk result (self.new ≡ self.old ++ spelling (Opaque bytes.now)) }
+        ensures ok { OnOk result (self.new ≡ self.old ++ encoding (Opaque bytes.now)) }
         ensures err { OnErr result (self.new ≡ self.old) }
     {
         let before = self.bytes.len();
@@ -112,7 +112,7 @@ impl Writer {
 
     /// Opaque data of a length that both sides know (RFC 4506 section 4.9).
     pub fn fixed(&mut self, bytes: &[u8]) -> Result<(), Memory>
-        ensures ok { OnOk result (self.new ≡ self.old ++ spelling (Fixed bytes.now)) }
+        ensures ok { OnOk result (self.new ≡ self.old ++ encoding (Fixed bytes.now)) }
         ensures err { OnErr result (self.new ≡ self.old) }
     {
         let before = self.bytes.len();

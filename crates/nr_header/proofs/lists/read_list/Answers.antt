@@ -1,6 +1,6 @@
 use Rattle.std.proofs.Common.{arith}
 use Rattle.std.proofs.lemmas.Result.{err_from_is_err_and}
-use Rattle.nr_header.specs.Numbers.{READ_SEGMENTS_MAX}
+use Rattle.nr_header.specs.Constants.{READ_SEGMENTS_MAX}
 use Rattle.nr_header.specs.Reading.{read_list_at}
 use Rattle.nr_header.proofs.Loop.{entry_goes, list_stops, more_fails, entry_fails, list_ends, end_fails}
 use Rattle.nr_header.proofs.lists.read_list.Goals as goal

@@ -1,5 +1,5 @@
 use Rattle.std.proofs.Common.{◌≡◌, length}
-use Rattle.nr_header.specs.Numbers.{READ_SEGMENTS_MAX}
+use Rattle.nr_header.specs.Constants.{READ_SEGMENTS_MAX}
 use Rattle.nr_header.specs.Reading.{read_list_at}
 use Rattle.nr_header.proofs.Loop.{ReadSoFar}
 use Rattle.nr_header.proofs.lists.read_list.Given as goal

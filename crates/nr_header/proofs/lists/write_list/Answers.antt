@@ -1,6 +1,6 @@
 use Rattle.std.proofs.Common.{arith}
 use Rattle.std.proofs.lemmas.Result.{err_from_is_err_and}
-use Rattle.nr_header.specs.Numbers.{WRITE_CHUNKS_MAX}
+use Rattle.nr_header.specs.Constants.{WRITE_CHUNKS_MAX}
 use Rattle.nr_header.specs.Reading.{write_list_at}
 use Rattle.nr_header.proofs.Loop.{chunk_goes, chunks_stop, chunk_more_fails, chunk_fails, chunks_end, chunk_end_fails}
 use Rattle.nr_header.proofs.lists.write_list.Goals as goal

@@ -1,5 +1,5 @@
 use Rattle.std.proofs.Common.{◌≡◌, length}
-use Rattle.nr_header.specs.Numbers.{WRITE_CHUNKS_MAX}
+use Rattle.nr_header.specs.Constants.{WRITE_CHUNKS_MAX}
 use Rattle.nr_header.specs.Reading.{write_list_at}
 use Rattle.nr_header.proofs.Loop.{WriteSoFar}
 use Rattle.nr_header.proofs.lists.write_list.Given as goal

@@ -1,5 +1,5 @@
 use Rattle.std.proofs.Common.{ℕ, List, Some, refl, sym, ap, ◌∙◌, length}
-use Rattle.nr_regions.specs.Memory.{bytes_in}
+use Rattle.nr_regions.specs.RegisteredMemory.{bytes_in}
 use Rattle.nr_regions.specs.Past.{run}
 use Rattle.nr_regions.proofs.Holding.{live-held}
 use Rattle.nr_regions.proofs.Pasts.{past}

@@ -1,5 +1,5 @@
 use Rattle.std.proofs.Common.{◌∙◌}
-use Rattle.nr_regions.specs.Memory.{released}
+use Rattle.nr_regions.specs.RegisteredMemory.{released}
 use Rattle.nr_regions.proofs.Holding.{held-registered, held-happened, live-held, release_here}
 use Rattle.nr_regions.proofs.Pasts.{next-run}
 use Rattle.nr_regions.proofs.laws.held_until_released.Goals as goal

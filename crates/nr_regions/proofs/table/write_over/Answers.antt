@@ -1,7 +1,7 @@
 use Rattle.std.proofs.Common.{◌≡◌, ◌≤◌, ◌+◌, ◌∙◌, sym, length, refl}
 use Rattle.std.specs.FinMap.{get, insert}
 use Rattle.nr_regions.specs.declared.region.Region.{Region}
-use Rattle.nr_regions.specs.Memory.{written}
+use Rattle.nr_regions.specs.RegisteredMemory.{written}
 use Rattle.nr_regions.specs.Table.{table}
 use Rattle.nr_regions.proofs.Tables.{get-table, fact_at, table-write_over, none_found}
 use Rattle.nr_regions.proofs.table.write_over.Goals as goal

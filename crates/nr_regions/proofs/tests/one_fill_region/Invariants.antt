@@ -1,4 +1,4 @@
-use Rattle.nr_regions.specs.Memory.{IsHeld}
+use Rattle.nr_regions.specs.RegisteredMemory.{IsHeld}
 use Rattle.nr_regions.proofs.tests.one_fill_region.Given as goal
 
 abbrev pub invariant-loop-kind : goal.invariant-loop-kind

@@ -1,5 +1,5 @@
 use Rattle.std.proofs.Common.{◌≤◌, List, ℕ, length, subst, sym, ◌∙◌}
-use Rattle.nr_rpc.specs.Numbers.{AUTH_BODY_MAX}
+use Rattle.nr_rpc.specs.Constants.{AUTH_BODY_MAX}
 use Rattle.nr_rpc.specs.Credential.{CanWriteCred}
 use Rattle.nr_rpc.proofs.Credentials.{length-sys}
 use Rattle.nr_rpc.proofs.put.put_cred.Goals as goal

@@ -1,9 +1,9 @@
 use Rattle.std.proofs.Common.{◌≡◌, ℕ, ◌<◌, ◌≤◌, List, length, take, map, true, sym, ap, subst, ◌∙◌, arith}
 use Rattle.std.specs.Io.KnownBytes.{Appends}
 use Rattle.std.specs.String.{string_bytes}
-use Rattle.nr_world.specs.Limits.{script_max}
+use Rattle.nr_world.specs.Constants.{script_max}
 use Rattle.nr_world.specs.Script.{script_of}
-use Rattle.nr_top.specs.Words.{is_drill}
+use Rattle.nr_top.specs.Arguments.{is_drill}
 use Rattle.nr_top.specs.Ends.{printed}
 use Rattle.nr_top.proofs.Endings.{printed_is}
 use Rattle.nr_top.proofs.command.drill.Goals as goal
@@ -11,7 +11,7 @@ use Rattle.nr_top.proofs.command.drill.Goals as goal
 pub returns-in-Ok : goal.returns-in-Ok
 returns-in-Ok g c =
     let within : length c.in_ok-text.text.items ≤ script_max = omega (arith, c.in_ok-text.ensures.within, c.as_slice.ensures.len) in
-    let line : is_drill (map string_bytes c.args.words.now) ≡ true = sym c.is_drill.ensures ∙ c.if-not-is_drill.false in
+    let line : is_drill (map string_bytes c.args.arguments.now) ≡ true = sym c.is_drill.ensures ∙ c.if-not-is_drill.false in
     let text : c.as_slice-2.result.now ≡ printed c.in_ok-script.script c.in_ok-report.report.marks =
     printed_is c.in_ok-script.script c.in_ok-report.report c.as_slice-2.result.now c.in_ok-report.ensures (c.as_slice-2.ensures ∙ c.in_ok-printed.ensures) in
     record {
@@ -33,7 +33,7 @@ returns-in-Ok g c =
 pub returns : goal.returns
 returns g c =
     let within : length c.in_ok-text.text.items ≤ script_max = omega (arith, c.in_ok-text.ensures.within, c.as_slice.ensures.len) in
-    let line : is_drill (map string_bytes c.args.words.now) ≡ true = sym c.is_drill.ensures ∙ c.if-not-is_drill.false in
+    let line : is_drill (map string_bytes c.args.arguments.now) ≡ true = sym c.is_drill.ensures ∙ c.if-not-is_drill.false in
     let text : c.as_slice-2.result.now ≡ printed c.in_ok-script.script c.in_ok-report.report.marks =
     printed_is c.in_ok-script.script c.in_ok-report.report c.as_slice-2.result.now c.in_ok-report.ensures (c.as_slice-2.ensures ∙ c.in_ok-printed.ensures) in
     let part = c.in-Err.ensures.err in

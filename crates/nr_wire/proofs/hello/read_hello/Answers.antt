@@ -1,7 +1,7 @@
 use Rattle.std.proofs.Common.{◌≡◌, ◌≤◌, ◌∙◌, ap, sym, length, take, arith}
 use Rattle.nr_xdr.specs.Item.{IsBytes}
 use Rattle.nr_wire.specs.declared.hello.Side.{Side}
-use Rattle.nr_wire.specs.Hello.{IsAccepted, hello_spelling}
+use Rattle.nr_wire.specs.Hello.{IsAccepted, hello_encoding}
 use Rattle.nr_wire.specs.Next.{hello_in}
 use Rattle.nr_wire.specs.View.{next_hello}
 use Rattle.nr_wire.proofs.Nexts.{if_whole}
@@ -14,10 +14,10 @@ returns-clause-found c =
     let bytes = c.args.bytes.now in
     let fits : IsBytes bytes = λ i. omega (arith, c.type_inv.bytes i) in
     if_whole (next_hello c.first_hello.result)
-    (λ hello len. (hello.side ≡ side) × IsAccepted hello × (take len bytes ≡ hello_spelling hello) × (len ≤ length bytes))
+    (λ hello len. (hello.side ≡ side) × IsAccepted hello × (take len bytes ≡ hello_encoding hello) × (len ≤ length bytes))
     (λ hello len e.
     let f = hello_found side bytes hello len fits (sym c.first_hello.ensures ∙ e) in
-    (f.side_is, f.accepted, f.spelled_is, f.within))
+    (f.side_is, f.accepted, f.encoded_is, f.within))
 
 pub returns-clause-only : goal.returns-clause-only
 returns-clause-only c = λ hello more same accepted e.

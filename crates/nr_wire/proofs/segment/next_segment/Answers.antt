@@ -1,6 +1,6 @@
 use Rattle.std.proofs.Common.{◌≤◌, ◌∙◌, ap, sym, length, take, arith}
 use Rattle.nr_xdr.specs.Item.{IsBytes}
-use Rattle.nr_wire.specs.Segment.{IsLetThrough, Reads}
+use Rattle.nr_wire.specs.Segment.{IsSupported, Reads}
 use Rattle.nr_wire.specs.Next.{segment_in}
 use Rattle.nr_wire.specs.View.{next_segment}
 use Rattle.nr_wire.proofs.Nexts.{if_whole}
@@ -12,7 +12,7 @@ returns-clause-found c =
     let bytes = c.args.bytes.now in
     let fits : IsBytes bytes = λ i. omega (arith, c.type_inv.bytes i) in
     if_whole (next_segment c.first_segment.result)
-    (λ segment len. IsLetThrough segment × Reads segment (take len bytes) × (len ≤ length bytes))
+    (λ segment len. IsSupported segment × Reads segment (take len bytes) × (len ≤ length bytes))
     (λ segment len e.
     let f = segment_found bytes segment len fits (sym c.first_segment.ensures ∙ e) in
     (f.through, f.reads, f.within))

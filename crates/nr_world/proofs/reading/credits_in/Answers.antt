@@ -1,5 +1,5 @@
 use Rattle.std.proofs.Common.{◌≡◌, ℕ, ◌+◌, ◌-◌, arith, sym, ap, ◌∙◌, cond, Some}
-use Rattle.nr_world.specs.Limits.{most_credits}
+use Rattle.nr_world.specs.Constants.{most_credits}
 use Rattle.nr_world.specs.Parsing.{credits_from}
 use Rattle.nr_world.proofs.Parsing.{credits_first, credits_last, credits_next}
 use Rattle.nr_world.proofs.reading.credits_in.Goals as goal

@@ -1,5 +1,5 @@
 use Rattle.std.proofs.Common.{◌+◌, ◌-◌, ◌≡◌, ◌≤◌}
-use Rattle.nr_world.specs.Limits.{most_credits}
+use Rattle.nr_world.specs.Constants.{most_credits}
 use Rattle.nr_world.specs.Script.{credits_in}
 use Rattle.nr_world.specs.Parsing.{credits_from}
 use Rattle.nr_world.proofs.reading.credits_in.Given as goal

@@ -1,6 +1,6 @@
 use Rattle.std.proofs.Common.{◌≡◌, ℕ, ◌+◌, ◌*◌, ◌≤◌, length, true, false, arith, refl, ap, ◌∙◌}
 use Rattle.nr_world.specs.Script.{turn_onto, null_call}
-use Rattle.nr_world.specs.Limits.{script_max}
+use Rattle.nr_world.specs.Constants.{script_max}
 use Rattle.nr_world.specs.Parsing.{lines_from}
 use Rattle.nr_world.proofs.Parsing.{ends_empty, ends_inside, read_whole, read_bad, read_turn}
 use Rattle.nr_world.proofs.reading.turns_in.Goals as goal

@@ -1,7 +1,7 @@
 use Rattle.std.proofs.Common.{◌≡◌, ap, ◌∙◌, length, List, ℕ, arith}
 use Rattle.nr_world.specs.Messages.{inline_message}
 use Rattle.nr_world.specs.Owed.{call_payload}
-use Rattle.nr_world.specs.Steps.{ask}
+use Rattle.nr_world.specs.Driver.{ask}
 use Rattle.nr_world.proofs.Frames.{asked_message, length-asked_message}
 use Rattle.nr_world.proofs.world.ask_frame.Goals.{After-as_slice-2}
 use Rattle.nr_world.proofs.world.ask_frame.Goals as goal

@@ -1,5 +1,5 @@
 use Rattle.std.proofs.Common.{◌≡◌, ℕ, sym, ap, subst, ◌∙◌}
-use Rattle.nr_world.specs.Steps.{State, opened_state}
+use Rattle.nr_world.specs.Driver.{State, opened_state}
 use Rattle.nr_world.specs.Stands.{Played}
 use Rattle.nr_world.proofs.Opening.{played_none}
 use Rattle.nr_world.proofs.Reporting.{reported}

@@ -7,5 +7,5 @@ returns-clause-found g c =
     is_found g.Self.Xdr.codec g.met.Self.Xdr.lawful c.args.bytes.now c.read_whole.result (λ i. omega (arith, c.type_inv.bytes i)) c.read_whole.ensures
 
 pub returns-clause-only : goal.returns-clause-only
-returns-clause-only g c = λ v spelled.
-    is_only g.Self.Xdr.codec g.met.Self.Xdr.lawful c.args.bytes.now c.read_whole.result v c.read_whole.ensures spelled
+returns-clause-only g c = λ v encoded.
+    is_only g.Self.Xdr.codec g.met.Self.Xdr.lawful c.args.bytes.now c.read_whole.result v c.read_whole.ensures encoded

@@ -1,5 +1,5 @@
 use Rattle.std.proofs.Common.{sym, subst}
-use Rattle.nr_world.specs.Steps.{State}
+use Rattle.nr_world.specs.Driver.{State}
 use Rattle.nr_world.specs.Stands.{Called}
 use Rattle.nr_world.proofs.Rounds.{called_by}
 use Rattle.nr_world.proofs.world.World.call.Goals as goal

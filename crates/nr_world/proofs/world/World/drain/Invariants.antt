@@ -7,4 +7,4 @@ invariant-rounds l = Draining l.initial.self l.self
 
 -- a call is out before a round that moves, and none behind it
 abbrev pub decreases-rounds : goal.decreases-rounds
-decreases-rounds l = l.self.asked - length l.self.told
+decreases-rounds l = l.self.asked - length l.self.reports

@@ -1,5 +1,5 @@
 use Rattle.std.proofs.Common.{◌≡◌, ◌||◌, Bool, length, ap, sym, subst, ◌∙◌, arith}
-use Rattle.nr_world.specs.Steps.{State, came, worked, heard, waits, works_on}
+use Rattle.nr_world.specs.Driver.{State, came, worked, heard, waits, works_on}
 use Rattle.nr_world.specs.Stands.{Round}
 use Rattle.nr_world.proofs.Rounds.{round_of}
 use Rattle.nr_world.proofs.Standing.{comes}
@@ -17,8 +17,8 @@ feed_down-requires c =
     let old = c.args.self.now in
     let up = comes old c.requires in
     let work = works (came old) up.stands in
-    let told = ap (λ (s : State). length s.told) (c.in_ok-work.ensures.state ∙ ap worked c.in_ok-up.ensures.state) in
-    omega (arith, told, ap length work.told_is, ap length up.told_is)
+    let reports = ap (λ (s : State). length s.reports) (c.in_ok-work.ensures.state ∙ ap worked c.in_ok-up.ensures.state) in
+    omega (arith, reports, ap length work.report_is, ap length up.report_is)
 
 pub returns : goal.returns
 returns c =

@@ -1,4 +1,4 @@
--- A number that was spelled is read again, and what is read as a number is its spelling.
+-- A number that was encoded is read again, and what is read as a number is its encoding.
 use Rattle.std.proofs.Common.{◌≡◌, ℕ, ◌+◌, ◌^◌, ◌<◌, List, length, take, drop, refl, arith, inl, inr}
 use Rattle.std.proofs.lemmas.Bool.{cases_lt}
 use Rattle.std.proofs.lemmas.List.{length-take, get_or-drop, get_or-take, get_or_past}

@@ -1,19 +1,19 @@
--- Which lists of chunks are within the limits, apart from how they are spelled.
+-- Which lists of chunks are within the limits, apart from how they are encoded.
 use Rattle.std.specs.Prelude.{◌≡◌, ◌≢◌, ℕ, ◌+◌, ◌^◌, ◌≤◌, List, [], ◌++◌, length, sum_by, All, IfSome}
-use Rattle.nr_header.specs.Numbers.{READ_SEGMENTS_MAX, WRITE_CHUNKS_MAX, CHUNK_SEGMENTS_MAX, WRITE_SEGMENTS_MAX, REPLY_SEGMENTS_MAX, PAYLOAD_MAX}
-use Rattle.nr_header.specs.declared.header.Segment.{Segment}
+use Rattle.nr_header.specs.Constants.{READ_SEGMENTS_MAX, WRITE_CHUNKS_MAX, CHUNK_SEGMENTS_MAX, WRITE_SEGMENTS_MAX, REPLY_SEGMENTS_MAX, PAYLOAD_MAX}
+use Rattle.nr_header.specs.declared.header.RdmaSegment.{RdmaSegment}
 use Rattle.nr_header.specs.declared.header.ReadSegment.{ReadSegment}
 use Rattle.nr_header.specs.declared.header.ChunkLists.{ChunkLists}
 use Rattle.nr_header.specs.declared.header.Body.{Body}
 use Rattle.nr_header.specs.declared.header.Body.TheVariants.{Msg, Nomsg, ErrVers, ErrChunk}
 use Rattle.nr_header.specs.declared.header.Header.{Header}
-use Rattle.nr_header.specs.Header.{header_spelling, HeaderFits}
+use Rattle.nr_header.specs.Header.{header_encoding, HeaderFits}
 
 -- a segment's bytes are within the 2 ^ 64 of its region
 abbrev pub Ends : ℕ → ℕ → Type 0
 Ends offset len = offset + len ≤ 2 ^ 64
 
-abbrev pub SegmentsEnd : List Segment → Type 0
+abbrev pub SegmentsEnd : List RdmaSegment → Type 0
 SegmentsEnd segments = All (λ s. Ends s.offset s.length) segments
 
 -- at most one position other than 0
@@ -55,12 +55,12 @@ StreamAt (ErrChunk version) len = Unit {0}
 -- the message is this header, within the limits, and its stream
 pub record IsMessage (h : Header) (bytes : List ℕ) : Type 0 where
   pub stream : List ℕ
-  pub parts : bytes ≡ header_spelling h ++ stream
+  pub parts : bytes ≡ header_encoding h ++ stream
   pub fits : HeaderFits h
   pub can : CanRead h.body stream
-  pub place : StreamAt h.body (length (header_spelling h))
+  pub place : StreamAt h.body (length (header_encoding h))
 
--- the header as it is read behind its own spelling: the stream begins there
+-- the header as it is read behind its own encoding: the stream begins there
 abbrev pub body_again : Body → ℕ → Body
 body_again (Msg lists stream_at) len = Msg lists len
 body_again (Nomsg lists) len = Nomsg lists
@@ -68,4 +68,4 @@ body_again (ErrVers version low high) len = ErrVers version low high
 body_again (ErrChunk version) len = ErrChunk version
 
 abbrev pub header_again : Header → Header
-header_again h = record { xid = h.xid; credit = h.credit; body = body_again h.body (length (header_spelling h)) }
+header_again h = record { xid = h.xid; credit = h.credit; body = body_again h.body (length (header_encoding h)) }

@@ -1,6 +1,6 @@
 //! What a procedure answers.
 
-ghost use Rattle.nr_nfs_base.specs.Outcome.{status_tag_number, status_tags, each_status_tag, outcome_codec, outcome_lawful};
+ghost use Rattle.nr_nfs_base.specs.StatusUnion.{status_tag_number, status_tags, each_status_tag, status_union_codec, status_union_lawful};
 
 use crate::fault::ValueFault;
 use crate::numbered::{Failure, Numbered, read_numbered, write_numbered};
@@ -12,7 +12,7 @@ use std::alloc::Global;
 /// The answer of a procedure: what it gives where nothing failed, or why it failed and what goes with a failure
 /// (RFC 1813 section 3.3, the unions over `nfsstat3`; section 5.2.1, that over `mountstat3`).
 #[derive(Debug, Drop)]
-pub enum Outcome<D, F, S = Status> {
+pub enum StatusUnion<D, F, S = Status> {
     /// Status 0.
     Done(D),
     /// Another status.
@@ -45,36 +45,36 @@ impl<S: Failure> Numbered for Option<S> {
     }
 }
 
-#[tactic(auto, unfolding(crate::specs::Outcome::outcome_codec))]
-impl<D: Xdr, F: Xdr, S: Failure> Xdr for Outcome<D, F, S> {
-    ghost codec = { outcome_codec S.number S.all D.codec F.codec };
+#[tactic(auto, unfolding(crate::specs::StatusUnion::status_union_codec))]
+impl<D: Xdr, F: Xdr, S: Failure> Xdr for StatusUnion<D, F, S> {
+    ghost codec = { status_union_codec S.number S.all D.codec F.codec };
 
-    ghost lawful = { outcome_lawful S.number S.all S.not_ok S.each D.codec F.codec D.lawful F.lawful };
+    ghost lawful = { status_union_lawful S.number S.all S.not_ok S.each D.codec F.codec D.lawful F.lawful };
 
     fn read_from<'a>(
         alloc: Global,
         reader: Reader<'a>,
-    ) -> Result<(Outcome<D, F, S>, Reader<'a>), ValueFault> {
+    ) -> Result<(StatusUnion<D, F, S>, Reader<'a>), ValueFault> {
         let (tag, reader) = read_numbered::<Option<S>>(alloc, reader)?;
         match tag {
             None => {
                 let (done, reader) = D::read_from(alloc, reader)?;
-                Ok((Outcome::Done(done), reader))
+                Ok((StatusUnion::Done(done), reader))
             }
             Some(status) => {
                 let (part, reader) = F::read_from(alloc, reader)?;
-                Ok((Outcome::Failed { status, part }, reader))
+                Ok((StatusUnion::Failed { status, part }, reader))
             }
         }
     }
 
     fn write_to(&self, writer: Writer) -> Result<Writer, Memory> {
         match self {
-            Outcome::Done(done) => {
+            StatusUnion::Done(done) => {
                 let writer = write_numbered(None::<S>, writer)?;
                 done.write_to(writer)
             }
-            Outcome::Failed { status, part } => {
+            StatusUnion::Failed { status, part } => {
                 let writer = write_numbered(Some(*status), writer)?;
                 part.write_to(writer)
             }

@@ -1,8 +1,8 @@
 //! Lists whose values stand behind flags.
 
 ghost use Rattle.std.specs.Prelude.{◌≡◌, [], ◌∷◌, ◌++◌, IfOk};
-ghost use Rattle.nr_nfs_base.specs.Codec.{chain, chain_read, Answers, Writes};
-ghost use Rattle.nr_nfs_base.specs.Laws.{chain_lawful};
+ghost use Rattle.nr_nfs_base.specs.Codec.{linked_list, linked_list_read, Answers, Writes};
+ghost use Rattle.nr_nfs_base.specs.Laws.{linked_list_lawful};
 
 use crate::fault::ValueFault;
 use crate::xdr::Xdr;
@@ -12,11 +12,11 @@ use std::marker::Model;
 
 /// A list of values, each behind a 1 and with a 0 at the end (RFC 4506 section 4.19). Contracts see the list.
 #[derive(Debug, Drop)]
-pub struct Chain<T> {
+pub struct LinkedList<T> {
     values: Vec<T>,
 }
 
-impl<T> Model for Chain<T> {
+impl<T> Model for LinkedList<T> {
     ghost use Rattle.std.specs.Prelude.{List};
 
     ghost Value = { List T };
@@ -24,21 +24,21 @@ impl<T> Model for Chain<T> {
     ghost view = { λ c. c.values.items };
 }
 
-impl<T> Chain<T> {
+impl<T> LinkedList<T> {
     /// No values.
-    pub fn new(alloc: Global) -> Chain<T>
+    pub fn new(alloc: Global) -> LinkedList<T>
         ensures { result ≡ [] }
     {
-        Chain {
+        LinkedList {
             values: Vec::new(alloc),
         }
     }
 
     /// The values of a vector. Takes no memory.
-    pub fn from_vec(values: Vec<T>) -> Chain<T>
+    pub fn from_vec(values: Vec<T>) -> LinkedList<T>
         ensures { result ≡ values.items }
     {
-        Chain { values }
+        LinkedList { values }
     }
 
     /// The vector of the values. Takes no memory.
@@ -56,16 +56,16 @@ impl<T> Chain<T> {
     }
 }
 
-#[tactic(auto, unfolding(crate::specs::Codec::chain))]
-impl<T: Xdr> Xdr for Chain<T> {
-    ghost codec = { chain T.codec };
+#[tactic(auto, unfolding(crate::specs::Codec::linked_list))]
+impl<T: Xdr> Xdr for LinkedList<T> {
+    ghost codec = { linked_list T.codec };
 
-    ghost lawful = { chain_lawful T.codec T.lawful };
+    ghost lawful = { linked_list_lawful T.codec T.lawful };
 
     fn read_from<'a>(
         alloc: Global,
         reader: Reader<'a>,
-    ) -> Result<(Chain<T>, Reader<'a>), ValueFault> {
+    ) -> Result<(LinkedList<T>, Reader<'a>), ValueFault> {
         let most = reader.rest().len();
         read_values(alloc, most, reader)
     }
@@ -80,8 +80,8 @@ fn read_values<'a, T: Xdr>(
     alloc: Global,
     most: usize,
     reader: Reader<'a>,
-) -> Result<(Chain<T>, Reader<'a>), ValueFault>
-    ensures { Answers result (chain_read T.codec most reader.entry) }
+) -> Result<(LinkedList<T>, Reader<'a>), ValueFault>
+    ensures { Answers result (linked_list_read T.codec most reader.entry) }
 {
     let mut values = Vec::new(alloc);
     let mut reader = reader;
@@ -89,7 +89,7 @@ fn read_values<'a, T: Xdr>(
         let (value, behind) = Option::<T>::read_from(alloc, reader)?;
         reader = behind;
         match value {
-            None => return Ok((Chain { values }, reader)),
+            None => return Ok((LinkedList { values }, reader)),
             Some(value) => values.push(value)?,
         }
     }
@@ -98,7 +98,7 @@ fn read_values<'a, T: Xdr>(
 
 /// Writes the values, and the 0 behind them.
 fn write_values<T: Xdr>(values: &[T], writer: Writer) -> Result<Writer, Memory>
-    ensures { IfOk result (Writes (chain T.codec) writer values.now) }
+    ensures { IfOk result (Writes (linked_list T.codec) writer values.now) }
 {
     let mut writer = writer;
     for value in values {

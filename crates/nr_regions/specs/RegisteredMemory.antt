@@ -11,7 +11,7 @@ use Rattle.nr_regions.specs.declared.denied.Denied.{Denied}
 use Rattle.nr_regions.specs.declared.denied.Denied.TheVariants.{NoStag, Bounds, Right as WrongRight}
 
 -- The STag that is given next, 2 ^ 32 where none is left, and the regions that are held: registered and not yet released.
-pub record Memory : Type 0 where
+pub record RegisteredMemory : Type 0 where
   pub next : ℕ
   pub held : FinMap nat_cmp Region
 
@@ -21,19 +21,19 @@ pub record Claim : Type 0 where
   pub len : ℕ
 
 -- memory with nothing registered
-unfoldable pub opened : ℕ → Memory
+unfoldable pub opened : ℕ → RegisteredMemory
 opened first = record { next = first; held = empty }
 
 -- the region that is held under an STag
-unfoldable pub held_at : Memory → ℕ → Option Region
+unfoldable pub held_at : RegisteredMemory → ℕ → Option Region
 held_at m stag = get m.held stag
 
 -- The region that a peer reaches by an STag. Each one that is held is live.
-unfoldable pub live_at : Memory → ℕ → Option Region
+unfoldable pub live_at : RegisteredMemory → ℕ → Option Region
 live_at m stag = held_at m stag
 
 -- A region with this STag and length was registered and isn't released. Its holder asks this of `release`.
-pub record IsHeld (m : Memory) (claim : Claim) : Type 0 where
+pub record IsHeld (m : RegisteredMemory) (claim : Claim) : Type 0 where
   pub region : Region
   pub there : held_at m claim.stag ≡ Some region
   pub len : length region.buf ≡ claim.len
@@ -69,7 +69,7 @@ abbrev pub offer : Option Region → Option (Right × ℕ)
 offer None = None
 offer (Some region) = Some (region.right, length region.buf)
 
-unfoldable pub lack : Memory → Access → Option Denied
+unfoldable pub lack : RegisteredMemory → Access → Option Denied
 lack m access = lack_in (offer (live_at m access.stag)) access
 
 -- bytes with others written over those from a place on
@@ -77,23 +77,23 @@ abbrev pub written : List ℕ → ℕ → List ℕ → List ℕ
 written bytes at over = take at bytes ++ (over ++ drop (at + length over) bytes)
 
 -- the region under an STag with these bytes over its own
-abbrev pub placed_in : Option Region → Memory → ℕ → ℕ → List ℕ → Memory
+abbrev pub placed_in : Option Region → RegisteredMemory → ℕ → ℕ → List ℕ → RegisteredMemory
 placed_in None m stag to bytes = m
 placed_in (Some region) m stag to bytes =
     record { next = m.next; held = insert m.held stag (record { right = region.right; buf = written region.buf to bytes }) }
 
-unfoldable pub placed : Memory → ℕ → ℕ → List ℕ → Memory
+unfoldable pub placed : RegisteredMemory → ℕ → ℕ → List ℕ → RegisteredMemory
 placed m stag to bytes = placed_in (live_at m stag) m stag to bytes
 
 -- one more region, under the next STag
-unfoldable pub registered : Memory → Right → List ℕ → Memory
+unfoldable pub registered : RegisteredMemory → Right → List ℕ → RegisteredMemory
 registered m right buf = record { next = m.next + 1; held = insert m.held m.next (record { right = right; buf = buf }) }
 
-abbrev pub claim_of : Memory → List ℕ → Claim
+abbrev pub claim_of : RegisteredMemory → List ℕ → Claim
 claim_of m buf = record { stag = m.next; len = length buf }
 
 -- no region under this STag any more
-unfoldable pub released : Memory → ℕ → Memory
+unfoldable pub released : RegisteredMemory → ℕ → RegisteredMemory
 released m stag = record { next = m.next; held = remove m.held stag }
 
 -- the bytes of a region, as they stand
@@ -102,7 +102,7 @@ bytes_in None = []
 bytes_in (Some region) = region.buf
 
 -- the bytes that an access reaches
-abbrev pub reached : Memory → Access → List ℕ
+abbrev pub reached : RegisteredMemory → Access → List ℕ
 reached m access = take access.len (drop access.to (bytes_in (live_at m access.stag)))
 
 -- what a call answered, as what was lacking

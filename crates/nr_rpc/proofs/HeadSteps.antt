@@ -5,36 +5,36 @@ use Rattle.nr_xdr.specs.Item.{IsBytes}
 use Rattle.nr_xdr.specs.Item.Item.{Unsigned, Opaque}
 use Rattle.nr_xdr.specs.Reading.{Cursor, Takes, opaque_at}
 use Rattle.nr_xdr.proofs.Chains.{IsBytes-opaque}
-use Rattle.nr_rpc.specs.Numbers.{AUTH_BODY_MAX}
+use Rattle.nr_rpc.specs.Constants.{AUTH_BODY_MAX}
 use Rattle.nr_rpc.specs.Credential.{Auth}
-use Rattle.nr_xdr.specs.Steps.{◌>>=◌, or_place}
-use Rattle.nr_xdr.proofs.Steps.{bind_ok, chosen, done, ok_is, number_step, number_again, opaque_step, opaque_placed}
-use Rattle.nr_rpc.specs.Reading.{this_at, auth_at}
+use Rattle.nr_xdr.specs.Sequencing.{◌>>=◌, or_place}
+use Rattle.nr_xdr.proofs.SequencingSteps.{bind_ok, chosen, done, ok_is, number_step, number_again, opaque_step, opaque_placed}
+use Rattle.nr_rpc.specs.Reading.{expect_at, auth_at}
 
-this_ok : (wanted n : ℕ) (c d after : Cursor) → cond (eqb n wanted) (Ok d) (Err c.place) ≡ done after → (n ≡ wanted) × (d ≡ after)
-this_ok wanted n c d after e =
+expect_ok : (wanted n : ℕ) (c d after : Cursor) → cond (eqb n wanted) (Ok d) (Err c.place) ≡ done after → (n ≡ wanted) × (d ≡ after)
+expect_ok wanted n c d after e =
     elim (chosen (eqb n wanted) (Ok d) (Err c.place) (done after) e) [
       | inl way ↦ (eqb-true n wanted way.0, ok_is d after way.1)
       | inr way ↦ absurd (let wrong : Err c.place ≡ done after = way.1 in cc)
     ]
 
 -- a number of a known value that was read, and what follows
-pub this_step : {B : Type 0} (wanted : ℕ) (c : Cursor) (f : Cursor → Result B ℕ) (y : B) → IsBytes c.rest → (this_at wanted c >>= f) ≡ Ok y
+pub expect_step : {B : Type 0} (wanted : ℕ) (c : Cursor) (f : Cursor → Result B ℕ) (y : B) → IsBytes c.rest → (expect_at wanted c >>= f) ≡ Ok y
     → (after : Cursor) × Takes c after (Unsigned wanted) × IsBytes after.rest × (f after ≡ Ok y)
-unfolding this_at
-this_step wanted c f y fits e =
-    let a = bind_ok (this_at wanted c) f y e in
+unfolding expect_at
+expect_step wanted c f y fits e =
+    let a = bind_ok (expect_at wanted c) f y e in
     let n = number_step c (λ n. cond (eqb n.0 wanted) (Ok n.1) (Err c.place)) a.0 fits a.1 in
-    let is = this_ok wanted n.0.0 c n.0.1 a.0 n.3 in (
+    let is = expect_ok wanted n.0.0 c n.0.1 a.0 n.3 in (
       a.0,
       subst (λ (d : Cursor). Takes c d (Unsigned wanted)) is.1 (subst (λ (m : ℕ). Takes c n.0.1 (Unsigned m)) is.0 n.1),
       subst (λ (d : Cursor). IsBytes d.rest) is.1 n.2,
       a.2,
     )
 
-pub this_again : (wanted : ℕ) (c after : Cursor) → Takes c after (Unsigned wanted) → this_at wanted c ≡ Ok after
-unfolding this_at
-this_again wanted c after taken = rw (number_again c wanted after taken) (grind (arith))
+pub expect_again : (wanted : ℕ) (c after : Cursor) → Takes c after (Unsigned wanted) → expect_at wanted c ≡ Ok after
+unfolding expect_at
+expect_again wanted c after taken = rw (number_again c wanted after taken) (grind (arith))
 
 -- a flavor and a body that were read
 pub record TakesAuth (auth : Auth) (c after : Cursor) : Type 0 where

@@ -8,7 +8,7 @@ use std::marker::Model;
 /// A list of any length. Up to `N` elements it lies in the value itself, and takes no memory; a longer one is made from a
 /// `Vec`. Contracts see the list.
 #[derive(Debug, Drop)]
-pub struct Few<T, const N: usize> {
+pub struct InlineVec<T, const N: usize> {
     held: Held<T, N>,
 }
 
@@ -18,7 +18,7 @@ enum Held<T, const N: usize> {
     Long(Vec<T>),
 }
 
-impl<T, const N: usize> Model for Few<T, N> {
+impl<T, const N: usize> Model for InlineVec<T, N> {
     ghost use Rattle.std.specs.Prelude.{List};
     ghost use Rattle.std.specs.Coded.{coded_list};
 
@@ -31,23 +31,23 @@ impl<T, const N: usize> Model for Few<T, N> {
     ghost view = { λ f. items_of f.held };
 }
 
-impl<T: Default, const N: usize> Few<T, N> {
+impl<T: Default, const N: usize> InlineVec<T, N> {
     /// The empty list. Takes no memory.
     pub fn new() -> Self
         ensures { result ≡ [] }
     {
-        Few {
+        InlineVec {
             held: Held::Inline(ArrayVec::new()),
         }
     }
 }
 
-impl<T, const N: usize> Few<T, N> {
+impl<T, const N: usize> InlineVec<T, N> {
     /// The elements of a short list. Takes no memory.
     pub fn from_short(items: ArrayVec<T, N>) -> Self
         ensures { result ≡ items.items }
     {
-        Few {
+        InlineVec {
             held: Held::Inline(items),
         }
     }
@@ -56,7 +56,7 @@ impl<T, const N: usize> Few<T, N> {
     pub fn from_vec(items: Vec<T>) -> Self
         ensures { result ≡ items.items }
     {
-        Few {
+        InlineVec {
             held: Held::Long(items),
         }
     }

@@ -2,8 +2,8 @@
 use Rattle.std.specs.Prelude.{ℕ, Bool, false, if◌then◌else◌, List, [], ◌∷◌, length, codes, nat_lt, Result, Ok, Err}
 use Rattle.std.specs.Str.{bytes_eq}
 use Rattle.nr_world.specs.Script.{ScriptLines, script_of}
-use Rattle.nr_world.specs.Limits.{script_max}
-use Rattle.nr_top.specs.Statuses.{done, bad_words, bad_script, over_budget}
+use Rattle.nr_world.specs.Constants.{script_max}
+use Rattle.nr_top.specs.Statuses.{done, bad_arguments, bad_script, over_budget}
 
 -- the words of a drill: the name under which the program was started, and the command
 abbrev pub is_drill : List (List ℕ) → Bool
@@ -19,5 +19,5 @@ status_of_script (Err line) = bad_script
 
 -- the status of these words over this input, where memory lasts and nothing outside fails
 abbrev pub due_status : List (List ℕ) → List ℕ → ℕ
-due_status words text =
-    if is_drill words then (if nat_lt script_max (length text) then over_budget else status_of_script (script_of text)) else bad_words
+due_status arguments text =
+    if is_drill arguments then (if nat_lt script_max (length text) then over_budget else status_of_script (script_of text)) else bad_arguments

@@ -10,8 +10,8 @@ use Rattle.nr_world.specs.declared.call.Submission.TheVariants.{Accepted}
 use Rattle.nr_world.specs.declared.mark.Mark.{Mark}
 use Rattle.nr_world.specs.declared.mark.Mark.TheVariants as marks
 use Rattle.nr_world.specs.declared.mark.Conveyed.{Conveyed}
-use Rattle.nr_world.specs.declared.report.Fate.TheVariants as fates
-use Rattle.nr_world.specs.declared.report.Told.{Told}
+use Rattle.nr_world.specs.declared.report.CallState.TheVariants as call_states
+use Rattle.nr_world.specs.declared.report.CallReport.{CallReport}
 use Rattle.nr_world.specs.Messages.{send, inline_message, call_in, reply_in}
 use Rattle.nr_world.specs.Ending.{ended_by}
 use Rattle.nr_world.specs.Owed.{own_hello, call_payload}
@@ -29,7 +29,7 @@ pub record State : Type 0 where
   pub served : ℕ
   pub entries : ℕ
   pub place : ℕ
-  pub told : List Told
+  pub reports : List CallReport
 
 -- the drill's link
 abbrev pub the_link : ℕ
@@ -67,7 +67,7 @@ wrote_up s bytes = record {
   served = s.served;
   entries = s.entries;
   place = s.place;
-  told = s.told;
+  reports = s.reports;
 }
 
 abbrev pub wrote_down : State → List ℕ → State
@@ -81,7 +81,7 @@ wrote_down s bytes = record {
   served = s.served;
   entries = s.entries;
   place = s.place;
-  told = s.told;
+  reports = s.reports;
 }
 
 -- a side is fed all that waits for it
@@ -96,7 +96,7 @@ fed_up s call = record {
   served = s.served;
   entries = s.entries;
   place = s.place;
-  told = s.told;
+  reports = s.reports;
 }
 
 abbrev pub fed_down : State → State
@@ -110,7 +110,7 @@ fed_down s = record {
   served = s.served;
   entries = s.entries;
   place = s.place;
-  told = s.told;
+  reports = s.reports;
 }
 
 -- a call goes out
@@ -125,7 +125,7 @@ submitted s = record {
   served = s.served;
   entries = s.entries;
   place = s.place;
-  told = s.told;
+  reports = s.reports;
 }
 
 unfoldable pub asked_one : State → State
@@ -143,7 +143,7 @@ executed_one s xid payload reply = record {
   served = s.served + 1;
   entries = s.entries;
   place = s.entries;
-  told = s.told;
+  reports = s.reports;
 }
 
 abbrev pub answered_with : State → Conveyed → Option (List ℕ) → State
@@ -194,7 +194,7 @@ done_one s reply = record {
   served = s.served;
   entries = s.entries;
   place = s.place;
-  told = s.told ++ record { client = the_link; number = length s.told + 1; fate = fates.Answered (Some s.place) (outcomes.Reply reply.payload) } ∷ [];
+  reports = s.reports ++ record { client = the_link; number = length s.reports + 1; state = call_states.Answered (Some s.place) (outcomes.Reply reply.payload) } ∷ [];
 }
 
 abbrev pub done_by : State → Option Conveyed → State
@@ -223,5 +223,5 @@ opened_state credits =
       served = 0;
       entries = 0;
       place = 0;
-      told = [];
+      reports = [];
     }

@@ -1,8 +1,0 @@
-use Rattle.std.proofs.Common.{◌≡◌, ◌-◌}
-use Rattle.nr_nfs_base.specs.Codec.{chain_read}
-use Rattle.nr_nfs_base.proofs.Loops.{onto}
-use Rattle.nr_nfs_base.proofs.chain.read_values.Given as goal
-
-abbrev pub invariant-loop : goal.invariant-loop
-invariant-loop g l =
-    onto l.values.items (chain_read g.T.Xdr.codec (l.most - l.counter) l.reader) ≡ chain_read g.T.Xdr.codec l.most l.fn.reader
