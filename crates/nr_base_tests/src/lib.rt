@@ -1,6 +1,6 @@
-//! Tests of the values of NFS and MOUNT: rows of words, each of which is read as a value of a type and written again.
+//! Tests of the base crates: a module for each crate, with tables of rows whose bytes come from the RFCs.
 //!
-//! They stand in a crate of their own, above the crates of values, since a crate with tests is proved twice.
+//! They stand in a crate of their own, above the crates that they test, since a crate with tests is proved twice.
 #![tactic(auto)]
 
 use nr_nfs_base::{ValueFault, Xdr};
@@ -57,5 +57,7 @@ pub fn wanted(
 mod args;
 #[cfg(test)]
 mod base;
+#[cfg(test)]
+mod compare;
 #[cfg(test)]
 mod res;

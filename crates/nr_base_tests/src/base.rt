@@ -1,5 +1,6 @@
 //! Tests of nr_nfs_base.
 
+use crate::compare::same;
 use crate::{Want, again, bytes_of, wanted};
 use nr_nfs_base::*;
 use nr_xdr::{Octets, Reader, Writer};
@@ -190,11 +191,11 @@ static TABLE: [Row; 76] = [
 
 #[test]
 fn each_row_is_read_and_written(rt: HostRuntime) -> Result<(), AllocError> {
-    for Row(kind, words, want) in &TABLE {
+    for (row, Row(kind, words, want)) in TABLE.iter().enumerate() {
         let bytes = bytes_of(rt.alloc(), words)?;
         let wanted = wanted(rt.alloc(), words, *want)?;
         let got = again_as(*kind, rt.alloc(), &bytes).map(Octets::into_vec);
-        assert_eq!(rt; got, wanted, "{kind:?} {words:?}");
+        same(&rt, row, got, wanted);
     }
     Ok(())
 }

@@ -1,5 +1,6 @@
 //! Tests of nr_nfs_args.
 
+use crate::compare::same;
 use crate::{Want, again, bytes_of, joined, wanted};
 use nr_nfs_args::*;
 use nr_nfs_base::ValueFault;
@@ -232,11 +233,11 @@ static TABLE: [Row; 70] = [
 
 #[test]
 fn each_row_is_read_and_written(rt: HostRuntime) -> Result<(), AllocError> {
-    for Row(kind, words, want) in &TABLE {
+    for (row, Row(kind, words, want)) in TABLE.iter().enumerate() {
         let bytes = bytes_of(rt.alloc(), words)?;
         let wanted = wanted(rt.alloc(), words, *want)?;
         let got = again_as(*kind, rt.alloc(), &bytes).map(Octets::into_vec);
-        assert_eq!(rt; got, wanted, "{kind:?} {words:?}");
+        same(&rt, row, got, wanted);
     }
     Ok(())
 }
