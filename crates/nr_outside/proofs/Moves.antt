@@ -1,7 +1,7 @@
 -- One step after another that hands bytes out.
-use Rattle.std.proofs.Common.{◌≡◌, ℕ, ◌+◌, List, [], ◌++◌, Option, Some, length, take, drop, refl, sym, ap, subst, ◌∙◌, take-append-drop}
+use Rattle.std.proofs.Common.{◌≡◌, ℕ, ◌+◌, ◌≤◌, List, [], ◌++◌, Option, Some, length, take, drop, refl, sym, ap, subst, ◌∙◌, take-append-drop}
 use Rattle.std.proofs.Math.Seq.{take-add}
-use Rattle.std.proofs.lemmas.List.{drop-drop, take_at}
+use Rattle.std.proofs.lemmas.List.{drop-drop, length-append, length-take-le, take_at}
 use Rattle.std.proofs.KnownBytes.{Appends-nil, Appends-trans, Consumes-nil, Consumes-trans}
 use Rattle.nr_outside.specs.Content.{HandsOut, with_front}
 
@@ -37,3 +37,7 @@ HandsOut-piece bytes piece rest buf place split =
     ap (take n) split ∙ take_at piece rest n refl ∙ sym (take_at piece (drop n buf) n refl) in
     subst (HandsOut (Some (drop place bytes)) (Some (take place bytes)) (Some (drop (place + n) bytes)) (Some (take (place + n) bytes)))
     same (HandsOut-at bytes place n)
+
+-- how many bytes there are with those that a read put at the front of a buffer
+pub length-read : (bytes buf : List ℕ) (n : ℕ) → n ≤ length buf → length (bytes ++ take n buf) ≡ length bytes + n
+length-read bytes buf n within = length-append bytes (take n buf) ∙ ap (λ (k : ℕ). length bytes + k) (length-take-le n buf within)

@@ -2,7 +2,7 @@ ghost use Rattle.std.specs.Prelude.{◌≡◌, ℕ, ◌<◌, ◌≤◌, List, ta
 ghost use Rattle.std.specs.Io.KnownBytes.{Appends, IsAtEnd};
 ghost use Rattle.nr_outside.specs.Faults.{Rose};
 ghost use Rattle.nr_outside.specs.Content.{HandsOut};
-ghost use Rattle.nr_outside.specs.Whole.{CountsEnd};
+ghost use Rattle.nr_outside.specs.Whole.{CountsEnd, HandedOut};
 ghost use Rattle.nr_outside.specs.declared.whole.ReadEnd.TheVariants.{Failed, Memory};
 
 use crate::traits::{Failed, Sink, Source};
@@ -55,8 +55,8 @@ pub fn read_whole<S: Source>(
     ensures end { OnOk result (IsAtEnd (S.left source.new)) }
     ensures within { IfOk result (λ bytes. vec_len bytes ≤ limit) }
     ensures too_long { IsErrOf result ReadEnd.TooLong → IfSome (S.left source.old) (λ left. limit < length left) }
-    ensures err { OnErr result ((bytes : List ℕ) × HandsOut (S.left source.old) (S.given source.old)
-        (S.left source.new) (S.given source.new) bytes) }
+    ensures err { IfErr result (λ end. (bytes : List ℕ) × HandsOut (S.left source.old) (S.given source.old)
+        (S.left source.new) (S.given source.new) bytes × HandedOut end limit bytes) }
     ensures counted { MatchResult result
         (λ _. S.faults source.new ≡ S.faults source.old)
         (λ end. CountsEnd end (S.faults source.old) (S.faults source.new)) }

@@ -8,6 +8,3 @@ mod command;
 pub mod status;
 
 pub use command::{refuse, run};
-
-#[cfg(test)]
-mod tests;

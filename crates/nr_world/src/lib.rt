@@ -22,6 +22,3 @@ pub use reading::read_script;
 pub use report::{CallState, Journal, LinkState, LinkReport, LinkReports, Logs, Report, CallReport, CallReports, LinkLog};
 pub use script::{SCRIPT_MAX, Script, ScriptFault};
 pub use world::run_world;
-
-#[cfg(test)]
-mod tests;

@@ -1,8 +1,18 @@
-use crate::status::{BAD_SCRIPT, BAD_ARGUMENTS, DONE, FAULT, NO_MEMORY, OVER_BUDGET};
-use crate::{refuse, run};
+//! Tests of nr_top.
+
+use crate::compare::same;
 use nr_outside::{MemSink, MemSource};
+use nr_top::{refuse, run};
 use std::alloc::{AllocError, Global};
 use std::test::Fail;
+
+// The statuses, as the README lists them.
+const DONE: u8 = 0;
+const BAD_ARGUMENTS: u8 = 1;
+const NO_MEMORY: u8 = 2;
+const FAULT: u8 = 9;
+const BAD_SCRIPT: u8 = 10;
+const OVER_BUDGET: u8 = 11;
 
 /// Words, an input, which calls of the input, of `out` and of `err` fail, and what comes of it: the status, and what is
 /// written on `out` and on `err`.
@@ -108,57 +118,62 @@ fn strings(alloc: Global, arguments: &[&str]) -> Result<Vec<String>, AllocError>
     Ok(strings)
 }
 
+/// What came of a run: the status, what `out` took, and what `err` took.
+type Came = (u8, Vec<u8>, Vec<u8>);
+
+fn came_of(
+    alloc: Global,
+    arguments: &[&str],
+    input: Vec<u8>,
+    failing: [&'static [usize]; 3],
+) -> Result<Came, AllocError> {
+    let arguments = strings(alloc, arguments)?;
+    let [reads, writes, says] = failing;
+    let mut input = MemSource::new(input, Vec::new(alloc), reads.to_vec(alloc)?);
+    let mut out = MemSink::new(alloc, writes.to_vec(alloc)?);
+    let mut err = MemSink::new(alloc, says.to_vec(alloc)?);
+    let status = run(alloc, arguments.as_slice(), &mut input, &mut out, &mut err);
+    Ok((status, out.bytes().to_vec(alloc)?, err.bytes().to_vec(alloc)?))
+}
+
 #[test]
-fn each_status_with_what_is_said(rt: HostRuntime) -> Result<(), Fail> {
+fn each_status_with_its_text(rt: HostRuntime) -> Result<(), Fail> {
     for (number, row) in rows().iter().enumerate() {
-        let arguments = strings(rt.alloc(), row.arguments)?;
-        let [input, out, err] = row.failing;
-        let mut input = MemSource::new(
-            row.input.to_vec(rt.alloc())?,
-            Vec::new(rt.alloc()),
-            input.to_vec(rt.alloc())?,
-        );
-        let mut out = MemSink::new(rt.alloc(), out.to_vec(rt.alloc())?);
-        let mut err = MemSink::new(rt.alloc(), err.to_vec(rt.alloc())?);
-        let status = run(rt.alloc(), arguments.as_slice(), &mut input, &mut out, &mut err);
-        assert_eq!(rt; status, row.status, "row {number}");
-        assert_eq!(rt; out.bytes(), row.out, "row {number}");
-        assert_eq!(rt; err.bytes(), row.err, "row {number}");
+        let input = row.input.to_vec(rt.alloc())?;
+        let got = came_of(rt.alloc(), row.arguments, input, row.failing)?;
+        let out = row.out.to_vec(rt.alloc())?;
+        same(&rt, number, got, (row.status, out, row.err.to_vec(rt.alloc())?));
     }
     Ok(())
 }
 
 #[test]
-fn words_that_cannot_be_had(rt: HostRuntime) -> Result<(), Fail> {
+fn arguments_that_cannot_be_had(rt: HostRuntime) -> Result<(), Fail> {
     let rows: [(bool, &'static [usize], u8, &'static [u8]); 3] = [
         (true, &[], NO_MEMORY, b"memory\n"),
         (false, &[], BAD_ARGUMENTS, b"bad words\n"),
         (true, &[0], FAULT, b""),
     ];
-    for (memory, failing, status, said) in rows {
+    for (row, (memory, failing, status, text)) in rows.into_iter().enumerate() {
         let mut err = MemSink::new(rt.alloc(), failing.to_vec(rt.alloc())?);
-        assert_eq!(rt; refuse(&mut err, memory), status);
-        assert_eq!(rt; err.bytes(), said);
+        let got = (refuse(&mut err, memory), err.bytes().to_vec(rt.alloc())?);
+        same(&rt, row, got, (status, text.to_vec(rt.alloc())?));
     }
     Ok(())
 }
 
+/// Both sides of the limit of an input.
 #[test]
-fn an_input_may_have_so_many_bytes(rt: HostRuntime) -> Result<(), Fail> {
-    let arguments = strings(rt.alloc(), DRILL)?;
+fn the_longest_input(rt: HostRuntime) -> Result<(), Fail> {
     let rows = [
         (16_777_217, OVER_BUDGET, b"budget 16777216\n".as_slice()),
         (16_777_216, BAD_SCRIPT, b"bad line 1\n"),
     ];
-    for (len, status, said) in rows {
-        let bytes = vec![in rt.alloc(); b'x'; len]?;
-        let mut input = MemSource::new(bytes, Vec::new(rt.alloc()), Vec::new(rt.alloc()));
-        let mut out = MemSink::new(rt.alloc(), Vec::new(rt.alloc()));
-        let mut err = MemSink::new(rt.alloc(), Vec::new(rt.alloc()));
-        let answer = run(rt.alloc(), arguments.as_slice(), &mut input, &mut out, &mut err);
-        assert_eq!(rt; answer, status, "{len} bytes");
-        assert_eq!(rt; out.bytes(), b"".as_slice());
-        assert_eq!(rt; err.bytes(), said);
+    for (row, (len, status, text)) in rows.into_iter().enumerate() {
+        let input = vec![in rt.alloc(); b'x'; len]?;
+        let got = came_of(rt.alloc(), DRILL, input, NONE)?;
+        let want = (status, Vec::new(rt.alloc()), text.to_vec(rt.alloc())?);
+        same(&rt, row, got, want);
     }
     Ok(())
 }

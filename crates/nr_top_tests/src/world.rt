@@ -1,5 +1,7 @@
-use super::*;
-use crate::script::SCRIPT_MAX;
+//! Tests of nr_world.
+
+use crate::compare::same;
+use nr_world::*;
 use nr_wire::Side;
 use nr_xdr::Octets;
 use std::test::Fail;
@@ -37,85 +39,78 @@ const ONE_SHOWN: &[u8] =
 const TWO_SHOWN: &[u8] = b"1 1 place 0 reply 000000010000000100000000000000000000000000000000\n\
 1 2 place 0 reply 000000020000000100000000000000000000000000000000\njournal 0\n";
 
+/// The credits of a script, or the fault of its first invalid line.
 #[test]
-fn scripts(rt: HostRuntime) -> Result<(), Fail> {
+fn scripts(rt: HostRuntime) {
     link_that_stays();
-    let rows: [(&[u8], u32); 5] = [
-        (ONE_CALL, 16),
-        (TWO_CALLS, 16),
-        (b"clients 1 credits 16\n", 16),
-        (b"clients 1 credits 1\n", 1),
-        (b"clients 1 credits 64\n", 64),
-    ];
-    for (text, credits) in rows {
-        assert!(rt; text.len() <= SCRIPT_MAX);
-        assert_eq!(rt; read_script(rt.alloc(), text)?.credits(), credits);
-    }
-    Ok(())
-}
-
-#[test]
-fn bad_lines(rt: HostRuntime) {
-    let rows: [(&[u8], u64); 17] = [
-        (b"", 1),
-        (b"clients 0 credits 1\n", 1),
-        (b"clients 1 credits 0\n", 1),
-        (b"clients 1 credits 65\n", 1),
-        (b"clients 1 credits 016\n", 1),
-        (b"clients 1 credits 16", 1),
-        (b"clients 1 credits 16 \n", 1),
-        (b"clients 1 credits \xff\n", 1),
-        (b"clients 1 credits 16\ndrain\n", 2),
-        (b"clients 1 credits 16\ncall 1 auto nfs 0 - -\ndrain\n", 2),
-        (b"clients 1 credits 16\ncall 1 auto nfs 0 -", 2),
-        (b"clients 1 credits 16\n\xc3\xa4\n", 2),
-        (b"clients 1 credits 16\ncall 1 auto nfs 0 -\n", 3),
-        (b"clients 1 credits 16\ncall 1 auto nfs 0 -\ndrain", 3),
-        (b"clients 1 credits 16\ncall 1 auto nfs 0 -\n\xffdrain\n", 3),
+    let rows: [(&[u8], Result<u32, u64>); 22] = [
+        (ONE_CALL, Ok(16)),
+        (TWO_CALLS, Ok(16)),
+        (b"clients 1 credits 16\n", Ok(16)),
+        (b"clients 1 credits 1\n", Ok(1)),
+        (b"clients 1 credits 64\n", Ok(64)),
+        (b"", Err(1)),
+        (b"clients 0 credits 1\n", Err(1)),
+        (b"clients 1 credits 0\n", Err(1)),
+        (b"clients 1 credits 65\n", Err(1)),
+        (b"clients 1 credits 016\n", Err(1)),
+        (b"clients 1 credits 16", Err(1)),
+        (b"clients 1 credits 16 \n", Err(1)),
+        (b"clients 1 credits \xff\n", Err(1)),
+        (b"clients 1 credits 16\ndrain\n", Err(2)),
+        (b"clients 1 credits 16\ncall 1 auto nfs 0 - -\ndrain\n", Err(2)),
+        (b"clients 1 credits 16\ncall 1 auto nfs 0 -", Err(2)),
+        (b"clients 1 credits 16\n\xc3\xa4\n", Err(2)),
+        (b"clients 1 credits 16\ncall 1 auto nfs 0 -\n", Err(3)),
+        (b"clients 1 credits 16\ncall 1 auto nfs 0 -\ndrain", Err(3)),
+        (b"clients 1 credits 16\ncall 1 auto nfs 0 -\n\xffdrain\n", Err(3)),
         (
             b"clients 1 credits 16\ncall 1 auto nfs 0 -\ndrain\ndrain\n",
-            4,
+            Err(4),
         ),
         (
             b"clients 1 credits 16\ncall 1 auto nfs 0 -\ndrain\ncall 1 auto nfs 0 -\n",
-            5,
+            Err(5),
         ),
     ];
-    for (text, line) in rows {
+    for (row, (text, want)) in rows.into_iter().enumerate() {
         assert!(rt; text.len() <= SCRIPT_MAX);
-        assert_eq!(rt;
-            read_script(rt.alloc(), text).err(),
-            Some(ScriptFault::BadLine { line })
-        );
+        let got = match read_script(rt.alloc(), text) {
+            Ok(script) => Ok(script.credits()),
+            Err(ScriptFault::BadLine { line }) => Err(line),
+            Err(ScriptFault::Memory) => Err(0),
+        };
+        same(&rt, row, got, want);
     }
 }
 
+/// The printed lines of a script, and the bytes that both sides of its link wrote.
 #[test]
 fn runs(rt: HostRuntime) -> Result<(), Fail> {
-    let rows: [(&[u8], &[u8], &[u8], &[u8], usize); 2] = [
-        (ONE_CALL, ONE_SHOWN, b"", b"", 11),
-        (TWO_CALLS, TWO_SHOWN, SECOND_UP, SECOND_DOWN, 18),
+    let rows: [(&[u8], &[u8], &[u8], &[u8]); 2] = [
+        (ONE_CALL, ONE_SHOWN, b"", b""),
+        (TWO_CALLS, TWO_SHOWN, SECOND_UP, SECOND_DOWN),
     ];
-    for (text, wanted, up, down, marks) in rows {
+    for (row, (text, wanted, up, down)) in rows.into_iter().enumerate() {
         assert!(rt; text.len() <= SCRIPT_MAX);
         let script = read_script(rt.alloc(), text)?;
         let report = run_world(rt.alloc(), &script)?;
-        assert_eq!(rt; shown(rt.alloc(), &report)?.as_slice(), wanted);
-        let logs = report.logs.as_slice();
-        assert_eq!(rt; logs.len(), 1);
-        let mut sent_up = Vec::from_slice(rt.alloc(), UP)?;
-        sent_up.extend_from_slice(up)?;
-        assert_eq!(rt; logs[0].up.as_slice(), sent_up.as_slice());
-        let mut sent_down = Vec::from_slice(rt.alloc(), DOWN)?;
-        sent_down.extend_from_slice(down)?;
-        assert_eq!(rt; logs[0].down.as_slice(), sent_down.as_slice());
-        assert_eq!(rt; report.marks.as_slice().len(), marks);
+        let mut got = shown(rt.alloc(), &report)?.into_vec();
+        let mut want = wanted.to_vec(rt.alloc())?;
+        for log in report.logs.as_slice() {
+            got.extend_from_slice(log.up.as_slice())?;
+            got.extend_from_slice(log.down.as_slice())?;
+        }
+        for part in [UP, up, DOWN, down] {
+            want.extend_from_slice(part)?;
+        }
+        same(&rt, row, got, want);
     }
     Ok(())
 }
 
 /// What a mark of the first link is, in words.
-fn reports(mark: &Mark) -> &'static str {
+fn kind_of(mark: &Mark) -> &'static str {
     match mark {
         Mark::Wrote {
             link: 1,
@@ -176,17 +171,20 @@ fn marks(rt: HostRuntime) -> Result<(), Fail> {
         "done",
     ];
     let marks = report.marks.as_slice();
-    assert_eq!(rt; marks.len(), wanted.len());
-    for (mark, wanted) in marks.iter().zip(wanted) {
-        assert_eq!(rt; reports(mark), wanted);
+    for (row, (mark, wanted)) in marks.iter().zip(wanted).enumerate() {
+        same(&rt, row, kind_of(mark), wanted);
     }
-    assert_eq!(rt; report.journal.len(), 0);
-    assert!(rt; report.journal.is_empty());
-    assert!(rt; report.links.is_empty());
-    let calls = report.calls.as_slice();
-    assert_eq!(rt; calls.len(), 1);
-    assert_eq!(rt; (calls[0].client, calls[0].number), (1, 1));
-    assert_eq!(rt; report.calls.into_vec().len(), 1);
+    let counts = [
+        marks.len(),
+        report.journal.len(),
+        report.links.len(),
+        report.calls.len(),
+        usize::from(report.journal.is_empty()),
+    ];
+    same(&rt, 11, counts, [11, 0, 0, 1, 1]);
+    for call in report.calls.into_vec() {
+        same(&rt, 12, (call.client, call.number), (1, 1));
+    }
     Ok(())
 }
 
@@ -283,6 +281,6 @@ fn forms(rt: HostRuntime) -> Result<(), Fail> {
 link 1 server denied 1 0 right\nlink 1 server nobuffer 2\nlink 1 server terminated 101\n\
 link 1 server memory\nlink 2 dropped\n\
 journal 0\n";
-    assert_eq!(rt; shown(rt.alloc(), &report)?.as_slice(), wanted.as_slice());
+    same(&rt, 0, shown(rt.alloc(), &report)?.into_vec(), wanted.to_vec(rt.alloc())?);
     Ok(())
 }
