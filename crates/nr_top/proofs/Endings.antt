@@ -1,15 +1,14 @@
 -- What a stop and what is said of it tell of the status.
-use Rattle.std.proofs.Common.{◌≡◌, ℕ, ◌<◌, ◌≤◌, true, false, List, length, codes, Option, Some, IfSome, Err, refl, sym, ap, subst, ◌∙◌, arith, inl, inr, le-ltb, lt-ltb}
+use Rattle.std.proofs.Common.{◌≡◌, ℕ, ◌<◌, ◌≤◌, true, List, length, codes, Option, Some, IfSome, Err, refl, sym, ap, subst, ◌∙◌, arith, inl, inr, le-ltb, lt-ltb}
 use Rattle.nr_world.specs.declared.report.Report.{Report}
 use Rattle.nr_world.specs.Constants.{script_max}
 use Rattle.nr_world.specs.Script.{ScriptLines, script_of}
 use Rattle.nr_world.specs.Headline.{Reports}
-use Rattle.nr_world.specs.Plain.{drill_server}
 use Rattle.nr_world.specs.Shown.{shown, text_of}
 use Rattle.nr_top.specs.Ends.Cause.{BadArguments, NoMemory, InputFault, OutputFault, BadScript, OverBudget}
 use Rattle.nr_top.specs.Statuses as statuses
 use Rattle.nr_top.specs.Arguments.{is_drill, due_status}
-use Rattle.nr_top.specs.Ends.{InputAt, SinkAt, Wrote, CutOff, Silent, BadLine, TooLong, Cause, FaultReport, printed, memory_text, bad_line_text, budget_text, Ends, Stopped, Spoke, Says}
+use Rattle.nr_top.specs.Ends.{InputAt, SinkAt, Wrote, BadLine, TooLong, Cause, FaultReport, printed, memory_text, bad_line_text, budget_text, Ends, Stopped, Spoke, Says}
 
 -- what is printed of a report is what is shown of its marks
 pub printed_is : (script : ScriptLines) (report : Report) (text : List ℕ) → Reports script report → text ≡ text_of report.calls report.links (length report.journal) → text ≡ printed script report.marks
@@ -116,10 +115,10 @@ over_budget arguments status input input' out out' err err' stopped is said =
       arguments_due = λ other. absurd (cc (long.line, other));
     }
 
--- where there is no memory for the words of a bad line, or of an input that is too long
-without_words : (number : ℕ) (arguments : List (List ℕ)) (input input' : InputAt) (out out' : SinkAt) → Stopped (BadScript number) arguments input input' out out' → Stopped NoMemory arguments input input' out out'
-without_words number arguments input input' out out' stopped =
-    (stopped.0.line, (stopped.0.text, stopped.0.whole.handed), stopped.0.whole.unfailing, stopped.1)
+-- where there is no memory for the text of a bad line
+without_text : (number : ℕ) (arguments : List (List ℕ)) (input input' : InputAt) (out out' : SinkAt) → Stopped (BadScript number) arguments input input' out out' → Stopped NoMemory arguments input input' out out'
+without_text number arguments input input' out out' stopped =
+    (stopped.0.line, (stopped.0.text, stopped.0.whole.handed, stopped.0.whole.within), stopped.0.whole.unfailing, stopped.1)
 
 -- a cause that was told makes an end
 pub ends_of : (cause : Cause) (arguments : List (List ℕ)) (status : ℕ) (input input' : InputAt) (out out' err err' : SinkAt) → Stopped cause arguments input input' out out' → Says cause status err err' → Ends arguments status input input' out out' err err'
@@ -136,8 +135,6 @@ ends_of OutputFault arguments status input input' out out' err err' stopped said
 ends_of (BadScript number) arguments status input input' out out' err err' stopped (inl said) =
     said_or (BadScript number) arguments status input input' out out' err err' stopped (inl said) said (bad_script number arguments status input input' out out' err err' stopped)
 ends_of (BadScript number) arguments status input input' out out' err err' stopped (inr said) =
-    said_or (BadScript number) arguments status input input' out out' err err' stopped (inr said) said (no_memory arguments status input input' out out' err err' (without_words number arguments input input' out out' stopped))
-ends_of OverBudget arguments status input input' out out' err err' stopped (inl said) =
-    said_or OverBudget arguments status input input' out out' err err' stopped (inl said) said (over_budget arguments status input input' out out' err err' stopped)
-ends_of OverBudget arguments status input input' out out' err err' stopped (inr said) =
-    said_or OverBudget arguments status input input' out out' err err' stopped (inr said) said (no_memory arguments status input input' out out' err err' (stopped.0.line, stopped.1, stopped.2, stopped.3))
+    said_or (BadScript number) arguments status input input' out out' err err' stopped (inr said) said (no_memory arguments status input input' out out' err err' (without_text number arguments input input' out out' stopped))
+ends_of OverBudget arguments status input input' out out' err err' stopped said =
+    said_or OverBudget arguments status input input' out out' err err' stopped said said (over_budget arguments status input input' out out' err err' stopped)

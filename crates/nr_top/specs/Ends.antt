@@ -39,9 +39,13 @@ pub record Whole (old new : InputAt) (text : List ℕ) : Type 0 where
   pub within : length text ≤ script_max
   pub unfailing : new.faults ≡ old.faults
 
--- what was read of the input stood first in it
+-- what was read of the input stood first in it, and was no more than a script may be
 abbrev pub Took : InputAt → InputAt → Type 0
-Took old new = (bytes : List ℕ) × HandsOut old.left old.given new.left new.given bytes
+Took old new = (bytes : List ℕ) × HandsOut old.left old.given new.left new.given bytes × (length bytes ≤ script_max)
+
+-- what was read of the input stood first in it, and was more than a script may be
+abbrev pub TookTooMuch : InputAt → InputAt → Type 0
+TookTooMuch old new = (bytes : List ℕ) × HandsOut old.left old.given new.left new.given bytes × (script_max < length bytes)
 
 -- nothing was written
 pub record Silent (old new : SinkAt) : Type 0 where
@@ -113,14 +117,15 @@ Stopped NoMemory arguments input input' out out' = (is_drill arguments ≡ true)
 Stopped InputFault arguments input input' out out' = (is_drill arguments ≡ true) × Took input input' × Rose input.faults input'.faults × Silent out out'
 Stopped OutputFault arguments input input' out out' = Halfway arguments input input' out out'
 Stopped (BadScript number) arguments input input' out out' = BadLine number arguments input input' × Silent out out'
-Stopped OverBudget arguments input input' out out' = TooLong arguments input × Took input input' × (input'.faults ≡ input.faults) × Silent out out'
+Stopped OverBudget arguments input input' out out' = TooLong arguments input × TookTooMuch input input' × (input'.faults ≡ input.faults) × Silent out out'
 
--- the words for want of memory, for an input that is too long, and for a bad line
+-- the texts for want of memory, for an input that is too long, and for a bad line
 abbrev pub memory_text : List ℕ
 memory_text = codes "memory\n"
 
-unfoldable pub budget_text : List ℕ
-budget_text = codes "budget " ++ decimal script_max ++ codes "\n"
+-- (the number is script_max in decimal digits: a text without a hole needs no memory)
+abbrev pub budget_text : List ℕ
+budget_text = codes "budget 16777216\n"
 
 unfoldable pub bad_line_text : ℕ → List ℕ
 bad_line_text number = codes "bad line " ++ decimal number ++ codes "\n"
@@ -129,14 +134,14 @@ bad_line_text number = codes "bad line " ++ decimal number ++ codes "\n"
 abbrev pub Spoke : ℕ → List ℕ → ℕ → SinkAt → SinkAt → Type 0
 Spoke due text status err err' = ((status ≡ due) × Wrote err err' text) ⊎ ((status ≡ statuses.fault) × CutOff err err' text)
 
--- what is said of a cause; words with a number need memory, and where there is none, that is said
+-- what is said of a cause; the text with a line's number needs memory, and where there is none, that is said
 abbrev pub Says : Cause → ℕ → SinkAt → SinkAt → Type 0
 Says BadArguments status err err' = Spoke statuses.bad_arguments (codes "bad words\n") status err err'
 Says NoMemory status err err' = Spoke statuses.no_memory memory_text status err err'
 Says InputFault status err err' = Spoke statuses.fault (codes "input fault\n") status err err'
 Says OutputFault status err err' = Spoke statuses.fault (codes "output fault\n") status err err'
 Says (BadScript number) status err err' = Spoke statuses.bad_script (bad_line_text number) status err err' ⊎ Spoke statuses.no_memory memory_text status err err'
-Says OverBudget status err err' = Spoke statuses.over_budget budget_text status err err' ⊎ Spoke statuses.no_memory memory_text status err err'
+Says OverBudget status err err' = Spoke statuses.over_budget budget_text status err err'
 
 -- Why the command wasn't done, where a count of faults rose, and what was said of that: of a fault of the input or of the
 -- output all of its words, or a first part, where then err failed; of another cause a first part.

@@ -7,7 +7,7 @@ ghost use Rattle.nr_top.specs.Causes.{cause_of};
 ghost use Rattle.nr_top.specs.Ends.{Ends, Done, Stopped, Spoke, Says, input_at, sink_at};
 ghost use Rattle.nr_top.specs.Ends.Cause.{NoMemory, BadArguments};
 
-use crate::status::{BAD_SCRIPT, BAD_ARGUMENTS, DONE, FAULT, NO_MEMORY, OVER_BUDGET};
+use crate::status::{BAD_ARGUMENTS, BAD_SCRIPT, DONE, FAULT, NO_MEMORY, OVER_BUDGET};
 use nr_outside::{ReadEnd, Sink, Source, read_whole, write_whole};
 use nr_world::{SCRIPT_MAX, ScriptFault, read_script, run_world, shown};
 use nr_xdr::Memory;
@@ -107,7 +107,7 @@ fn speak<E: Sink>(err: &mut E, text: &[u8], status: u8) -> u8
 }
 
 /// The words for a stop, with its status. Where there is no memory for them, that is what is said.
-#[tactic(auto, unfolding(crate::specs::Ends::bad_line_text, crate::specs::Ends::budget_text))]
+#[tactic(auto, unfolding(crate::specs::Ends::bad_line_text))]
 fn say<E: Sink>(alloc: Global, stop: Stop, err: &mut E) -> u8
     ensures { Says (cause_of stop) result (sink_at (E.taken err.old) (E.faults err.old)) (sink_at (E.taken err.new) (E.faults err.new)) }
 {
@@ -116,10 +116,7 @@ fn say<E: Sink>(alloc: Global, stop: Stop, err: &mut E) -> u8
         Stop::Memory => speak(err, b"memory\n", NO_MEMORY),
         Stop::Input => speak(err, b"input fault\n", FAULT),
         Stop::Output => speak(err, b"output fault\n", FAULT),
-        Stop::Budget => match format!(in alloc; "budget {SCRIPT_MAX}\n") {
-            Ok(text) => speak(err, text.as_bytes(), OVER_BUDGET),
-            Err(_) => speak(err, b"memory\n", NO_MEMORY),
-        },
+        Stop::Budget => speak(err, b"budget 16777216\n", OVER_BUDGET),
         Stop::Script { line } => match format!(in alloc; "bad line {line}\n") {
             Ok(text) => speak(err, text.as_bytes(), BAD_SCRIPT),
             Err(_) => speak(err, b"memory\n", NO_MEMORY),

@@ -43,6 +43,7 @@ const TWO_SHOWN: &[u8] = b"1 1 place 0 reply 00000001000000010000000000000000000
 #[test]
 fn scripts(rt: HostRuntime) {
     link_that_stays();
+    script_limits();
     let rows: [(&[u8], Result<u32, u64>); 22] = [
         (ONE_CALL, Ok(16)),
         (TWO_CALLS, Ok(16)),

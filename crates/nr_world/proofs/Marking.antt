@@ -1,12 +1,11 @@
 -- One more mark of a drill: what it changes of what the marks say.
-use Rattle.std.proofs.Common.{◌≡◌, ℕ, suc, ◌+◌, Bool, true, false, cond, ◌||◌, List, [], ◌∷◌, ◌++◌, length, fold, None, refl, sym, ap, ◌∙◌, append_assoc, add-zero}
+use Rattle.std.proofs.Common.{◌≡◌, ℕ, suc, ◌+◌, Bool, true, false, cond, ◌||◌, List, [], ◌∷◌, ◌++◌, length, fold, refl, sym, ap, ◌∙◌, append_assoc, add-zero}
 use Rattle.std.specs.List.{flat_map}
 use Rattle.std.proofs.lemmas.List.{append-nil}
 use Rattle.std.proofs.lemmas.List.Folds.{list_any-append}
 use Rattle.std.proofs.lemmas.Grind.{fold-append}
 use Rattle.nr_wire.specs.declared.hello.Side.TheVariants.{Initiator, Responder}
 use Rattle.nr_world.specs.declared.mark.Mark.{Mark}
-use Rattle.nr_world.specs.declared.report.CallState.TheVariants as call_states
 use Rattle.nr_world.specs.declared.mark.Opened.{Opened}
 use Rattle.nr_world.specs.declared.report.CallReport.{CallReport}
 use Rattle.nr_world.specs.Observed.{added, drops, is_dropped}

@@ -120,9 +120,9 @@ each-same f g (suc n) h =
 one_of : (n k : ℕ) → 0 < k → k ≤ n → is_one_of n k ≡ true
 one_of n k lt le = grind (arith, nat_tests)
 
-pub reports-is : (s : State) → Stands s → IsQuiet s → s.reports ≡ call_reports drill_server no_stops s.marks
+pub call_reports-is : (s : State) → Stands s → IsQuiet s → s.reports ≡ call_reports drill_server no_stops s.marks
 unfolding call_reports seen_by
-reports-is s st quiet =
+call_reports-is s st quiet =
     let n = length s.reports in
     let same = each-same report_call (report_in s.marks) n (λ k lt le.
     let state : (seen_of drill_server the_link k nothing_seen s.marks).state ≡ call_states.Answered (Some 0) (outcomes.Reply (null_reply k)) =
@@ -150,7 +150,7 @@ reports-is script calls s report one lines p t =
     record {
       drill = subst (λ (run : List Mark). IsDrill script run) (sym t.marks_are) (drill-is script calls s one lines p);
       journal = none ∙ sym p.stands.at.no_entries ∙ ap (journal drill_server) (sym t.marks_are);
-      calls = t.calls_are ∙ reports-is s p.stands p.quiet ∙ ap (call_reports drill_server no_stops) (sym t.marks_are);
+      calls = t.calls_are ∙ call_reports-is s p.stands p.quiet ∙ ap (call_reports drill_server no_stops) (sym t.marks_are);
       links = t.links_are ∙ links-are s p.stands ∙ ap (λ (run : List Mark). link_reports no_stops 1 run) (sym t.marks_are)
           ∙ ap (λ (n : ℕ). link_reports no_stops n report.marks) (sym one);
       logs = t.logs_are ∙ logs-are s p.stands ∙ ap (λ (run : List Mark). map (log_of run) (links_of 1)) (sym t.marks_are)

@@ -1,5 +1,5 @@
 -- On a link that stays every call completes.
-use Rattle.std.proofs.Common.{◌≡◌, ℕ, ◌^◌, ◌<◌, Bool, true, cond, eqb, Option, None, Some, Result, Ok, Err, List, [], ◌++◌, ◌&&◌, length, map, Contains, slice_get, refl, sym, ap, subst, ◌∙◌, arith, lit<, ◌≤◌, inl, inr}
+use Rattle.std.proofs.Common.{◌≡◌, ℕ, ◌^◌, ◌<◌, Bool, true, cond, eqb, Option, None, Some, Result, Ok, Err, List, [], ◌++◌, ◌&&◌, length, map, slice_get, refl, sym, ap, subst, ◌∙◌, arith, lit<, ◌≤◌, inl, inr}
 use Rattle.std.specs.Prelude.{find}
 use Rattle.std.specs.List.{filter, list_any, AllByRecursion}
 use Rattle.std.proofs.lemmas.Bool.{eq-eqb, eqb-true, cases_Bool}
@@ -21,7 +21,7 @@ use Rattle.nr_world.specs.Messages.{is_greeted, conveyed, messages, call_in, rep
 use Rattle.nr_world.specs.Constants.{send_max}
 use Rattle.nr_world.specs.Owed.{own_hello}
 use Rattle.nr_world.specs.Window.{heard, has_words}
-use Rattle.nr_world.specs.Asked.{Asked, AskedMark, done_with, done_for}
+use Rattle.nr_world.specs.Asked.{Asked, AskedMark, done_with}
 use Rattle.nr_world.specs.Served.{Served, came, next_call}
 use Rattle.nr_world.specs.Completion.{IsComplete}
 use Rattle.nr_world.specs.Plain.{success, null_reply, is_null, reply_to, plain_reply, drill_server}

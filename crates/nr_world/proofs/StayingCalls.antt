@@ -1,13 +1,11 @@
 -- The calls that a client accepted are few and short, and each is read from its message as it was asked; so is each reply to
 -- such a call.
-use Rattle.std.proofs.Common.{◌≡◌, ℕ, ◌^◌, ◌<◌, ◌≤◌, Option, Some, List, [], ◌∷◌, ◌++◌, length, Contains, refl, sym, ap, subst, ◌∙◌, arith, lit<}
+use Rattle.std.proofs.Common.{◌≡◌, ℕ, ◌^◌, ◌<◌, ◌≤◌, Some, List, [], ◌∷◌, ◌++◌, length, Contains, refl, sym, ap, subst, ◌∙◌, arith, lit<}
 use Rattle.std.specs.List.{AllByRecursion}
-use Rattle.std.proofs.lemmas.Bool.{eq-eqb}
 use Rattle.std.proofs.lemmas.List.{append-nil, length_push}
 use Rattle.std.proofs.lemmas.List.Elements.{All-weaker, All-contains_itself, recursion_from_All, Contains-append_left, Contains-push}
-use Rattle.nr_header.specs.Constants.{PAYLOAD_MAX}
 use Rattle.nr_rpc.specs.Call.{CanWriteCall, CallFits}
-use Rattle.nr_rpc.specs.Reading.{call_of, reply_of}
+use Rattle.nr_rpc.specs.Reading.{call_of}
 use Rattle.nr_rpc.proofs.Calls.{call_written}
 use Rattle.nr_world.specs.Constants.{send_max}
 use Rattle.nr_world.specs.declared.mark.Conveyed.{Conveyed}
@@ -16,7 +14,7 @@ use Rattle.nr_world.specs.declared.mark.Mark.{Mark}
 use Rattle.nr_world.specs.declared.mark.Moment.{Moment}
 use Rattle.nr_world.specs.declared.mark.Opened.{Opened}
 use Rattle.nr_world.specs.Observed.{PlainServer, Accepted, Executed, accepted_at, accepted}
-use Rattle.nr_world.specs.Messages.{inline_message, call_xid, reply_xid, under_xid, call_in, reply_in}
+use Rattle.nr_world.specs.Messages.{call_xid, call_in, reply_in}
 use Rattle.nr_world.specs.Owed.{call_payload}
 use Rattle.nr_world.specs.Along.{Along}
 use Rattle.nr_world.specs.Asked.{AskedMark, Fits}
@@ -93,7 +91,7 @@ own_xid a can fits = ap call_xid (call_written (head_of a) a.call.args can fits)
 is_read : (opened : Opened) (a : Accepted) → opened.wished < 2 ^ 32 → FitsCall opened a → CanWriteCall (head_of a) × CallFits (head_of a) → IsRead opened a
 is_read opened a few short encoded =
     let payload = call_payload a.xid a.call in
-    let own = own_xid an encoded.0 encoded.1 in
+    let own = own_xid a encoded.0 encoded.1 in
     let len = length-inline_message a.xid opened.wished payload in
     record {
       call = record { small = encoded.1.0; own = own };

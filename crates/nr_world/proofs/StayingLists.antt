@@ -1,8 +1,7 @@
 -- Lists: what is found, kept and read of them, and lists that begin others.
-use Rattle.std.proofs.Common.{◌≡◌, ℕ, zero, suc, Bool, true, false, cond, ◌||◌, Option, None, Some, List, [], ◌∷◌, ◌++◌, length, map, Contains, slice_get, refl, sym, ap, ◌∙◌}
+use Rattle.std.proofs.Common.{◌≡◌, ℕ, zero, suc, Bool, true, false, cond, ◌||◌, Option, None, Some, List, [], ◌∷◌, ◌++◌, length, map, slice_get, refl, sym, ap, ◌∙◌}
 use Rattle.std.specs.Prelude.{find}
-use Rattle.std.specs.List.{flat_map, filter, filter_map, cons_option, list_any, AllByRecursion}
-use Rattle.std.proofs.lemmas.List.Elements.{All-from_recursion, All-contains}
+use Rattle.std.specs.List.{filter, filter_map, cons_option, list_any, AllByRecursion}
 use Rattle.std.proofs.lemmas.Option.{same_Some}
 
 -- ---- lists that begin others

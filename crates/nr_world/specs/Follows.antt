@@ -1,6 +1,6 @@
 -- Which marks a script makes, in order.
-use Rattle.std.specs.Prelude.{◌≡◌, ◌≢◌, ℕ, zero, suc, ◌+◌, ◌-◌, ◌<◌, ◌⊎◌, ◌==◌, nat_lt, if◌then◌else◌, List, [], ◌∷◌, ◌++◌, length, take, drop, replicate, find, Option, None, Some, slice_index_or, slice_set}
-use Rattle.std.specs.List.{flat_map, list_any, range_with_len}
+use Rattle.std.specs.Prelude.{◌≡◌, ◌≢◌, ℕ, zero, suc, ◌+◌, ◌-◌, ◌<◌, ◌⊎◌, nat_lt, if◌then◌else◌, List, [], ◌∷◌, ◌++◌, length, take, drop, replicate, None, slice_index_or, slice_set}
+use Rattle.std.specs.List.{flat_map}
 use Rattle.nr_wire.specs.declared.hello.Side.{Side}
 use Rattle.nr_wire.specs.declared.hello.Side.TheVariants.{Initiator, Responder}
 use Rattle.nr_rpc.specs.declared.cred.Cred.TheVariants as creds
@@ -13,7 +13,7 @@ use Rattle.nr_world.specs.declared.mark.Mark.TheVariants as marks
 use Rattle.nr_world.specs.Script.{Line, ScriptLines}
 use Rattle.nr_world.specs.Script.Line.{Call as CallLine, Drain as DrainLine}
 use Rattle.nr_world.specs.declared.mark.Opened.{Opened}
-use Rattle.nr_world.specs.Observed.{PlainServer, links_of, accepted, executed, sent, got}
+use Rattle.nr_world.specs.Observed.{PlainServer, links_of, accepted, executed, sent}
 use Rattle.nr_world.specs.Asked.{done_for}
 use Rattle.nr_world.specs.Owed.{owed}
 use Rattle.nr_world.specs.Window.{out_of, grant_of}

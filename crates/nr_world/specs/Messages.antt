@@ -3,7 +3,7 @@
 use Rattle.std.specs.Prelude.{ℕ, Bool, true, false, ◌==◌, if◌then◌else◌, List, [], ◌∷◌, ◌++◌, drop, Option, None, Some, option_and_then, Result, Ok, Err}
 use Rattle.std.specs.List.{filter_map}
 use Rattle.nr_header.specs.declared.fault.HeaderFault.{HeaderFault}
-use Rattle.nr_header.specs.declared.header.Segment.{Segment as HeaderSegment}
+use Rattle.nr_header.specs.declared.header.RdmaSegment.{RdmaSegment}
 use Rattle.nr_header.specs.declared.header.ReadSegment.{ReadSegment}
 use Rattle.nr_header.specs.declared.header.ChunkLists.{ChunkLists}
 use Rattle.nr_header.specs.declared.header.Body.{Body}
@@ -94,7 +94,7 @@ abbrev pub credit_in : List ℕ → ℕ
 credit_in message = word_at 8 message
 
 -- where the payload begins, in a message of RDMA_MSG with three empty lists
-abbrev pub behind_lists : List ReadSegment → List (List HeaderSegment) → Option (List HeaderSegment) → ℕ → Option ℕ
+abbrev pub behind_lists : List ReadSegment → List (List RdmaSegment) → Option (List RdmaSegment) → ℕ → Option ℕ
 behind_lists [] [] None at = Some at
 behind_lists read write reply at = None
 

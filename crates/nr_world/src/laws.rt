@@ -1,6 +1,6 @@
 //! Laws of runs, whatever made their marks.
 
-ghost use Rattle.std.specs.Prelude.{ℕ, List};
+ghost use Rattle.std.specs.Prelude.{◌≡◌, ℕ, List};
 ghost use Rattle.nr_world.specs.declared.mark.Entry.{Entry};
 ghost use Rattle.nr_world.specs.declared.mark.Mark.{Mark};
 ghost use Rattle.nr_world.specs.declared.mark.Moment.{Moment};
@@ -10,6 +10,9 @@ ghost use Rattle.nr_world.specs.Completion.{IsComplete};
 ghost use Rattle.nr_world.specs.Plain.{drill_server};
 ghost use Rattle.nr_world.specs.Served.{Served};
 ghost use Rattle.nr_world.specs.Staying.{AllReplied, AreWords, IsHandedOver, IsSettled, inline_server};
+ghost use Rattle.nr_world.specs.Constants.{script_max, most_credits};
+
+use crate::script::{MOST_CREDITS, SCRIPT_MAX};
 
 /// On a link that stays every call completes: where each side wrote all that it has to write and nothing is under way, every
 /// accepted call's reply came to its client, and each call completes once what came is handed over.
@@ -24,4 +27,10 @@ pub fn link_that_stays()
     // The server of these drills is one of those.
     ensures drill { (opened : Opened) (link : ℕ) (run : List Mark) → AreWords opened link run → Asked opened link run →
         Served drill_server opened link run → IsSettled link run → IsHandedOver link run → IsComplete link run }
+{}
+
+/// The limits of the code are those of the definitions.
+pub fn script_limits()
+    ensures longest { SCRIPT_MAX ≡ script_max }
+    ensures credits { MOST_CREDITS ≡ most_credits }
 {}

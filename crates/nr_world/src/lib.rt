@@ -3,7 +3,6 @@
 
 mod call;
 mod laws;
-mod sequence;
 mod mark;
 mod message;
 mod plain;
@@ -11,14 +10,18 @@ mod printing;
 mod reading;
 mod report;
 mod script;
+mod sequence;
 mod world;
 
 pub use call::{Call, End, Form, Lack, Lengths, Offer, Outcome, Refused, Submission};
-pub use laws::link_that_stays;
-pub use sequence::Sequence;
+pub use laws::{link_that_stays, script_limits};
 pub use mark::{Entry, Mark, Marks, Moment, Opened};
 pub use printing::shown;
 pub use reading::read_script;
-pub use report::{CallState, Journal, LinkState, LinkReport, LinkReports, Logs, Report, CallReport, CallReports, LinkLog};
+pub use report::{
+    CallReport, CallReports, CallState, Journal, LinkLog, LinkReport, LinkReports, LinkState, Logs,
+    Report,
+};
 pub use script::{SCRIPT_MAX, Script, ScriptFault};
+pub use sequence::Sequence;
 pub use world::run_world;

@@ -10,7 +10,7 @@ ghost use Rattle.nr_world.specs.Ending.{ended_by};
 ghost use Rattle.nr_world.specs.Constants.{send_max};
 
 use crate::mark::Conveyed;
-use nr_header::{Body, ChunkLists, InlineVec, Header, read_header, write_header};
+use nr_header::{Body, ChunkLists, Header, InlineVec, read_header, write_header};
 use nr_rpc::{CallHead, HeadFault, ReplyHead, read_call, read_reply};
 use nr_wire::constants::{OPCODE_SEND, QUEUE_SEND};
 use nr_wire::{NextSegment, Segment, next_segment, write_segment};

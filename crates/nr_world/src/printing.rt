@@ -7,7 +7,7 @@ ghost use Rattle.std.specs.String.{string_bytes};
 ghost use Rattle.nr_world.specs.Shown.{placed_text, two_numbers, outcome_text, bytes_text, refused_text, call_state_text, call_report_text, side_text, lack_text, end_text, link_state_text, link_text, journal_text, text_of};
 
 use crate::call::{End, Lack, Outcome, Refused};
-use crate::report::{CallState, LinkState, LinkReport, Report, CallReport};
+use crate::report::{CallReport, CallState, LinkReport, LinkState, Report};
 use nr_wire::Side;
 use nr_xdr::{Memory, Octets};
 use std::alloc::Global;

@@ -1,8 +1,8 @@
 //! What a drill reports.
 
 use crate::call::{End, Outcome, Refused};
-use crate::sequence::Sequence;
 use crate::mark::{Entry, Marks};
+use crate::sequence::Sequence;
 use nr_wire::Side;
 use nr_xdr::Octets;
 

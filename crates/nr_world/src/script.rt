@@ -7,7 +7,6 @@ ghost use Rattle.nr_world.specs.Script.{turns};
 
 use nr_xdr::Memory;
 use std::marker::Model;
-use thiserror::Error;
 
 /// The credits that a script may give each end.
 pub const MOST_CREDITS: u32 = 64;
@@ -16,13 +15,11 @@ pub const MOST_CREDITS: u32 = 64;
 pub const SCRIPT_MAX: usize = 16_777_216;
 
 /// Why a text is no script.
-#[derive(Clone, Copy, Debug, PartialEq, Eq, Error)]
+#[derive(Clone, Copy, Debug, PartialEq, Eq)]
 pub enum ScriptFault {
-    /// The line of this number, from 1, is the first that isn't one of a script's.
-    #[error("bad line {line}")]
+    /// Line `line` (from 1) is the first invalid line.
     BadLine { line: u64 },
     /// Memory ran out.
-    #[error("out of memory")]
     Memory,
 }
 

@@ -16,12 +16,12 @@ ghost use Rattle.nr_world.specs.Stands.{Stands, IsQuiet, Round, Drained, Called,
 ghost use Rattle.nr_world.specs.Driver.{null, ask, wrote_up, wrote_down, fed_up, fed_down, opened_state, asked_one, waits, came, works_on, worked, done_one, heard};
 
 use crate::call::{Call, Form, Outcome, Submission};
-use crate::sequence::Sequence;
 use crate::mark::{Conveyed, Entry, Mark, Moment};
 use crate::message::{call_in_frame, inline_message, reply_in_frame, send};
 use crate::plain::{NFS_PROGRAM, NFS_VERSION, NULL, REPLY_MAX, execute};
-use crate::report::{CallState, Logs, Report, CallReport, LinkLog};
+use crate::report::{CallReport, CallState, LinkLog, Logs, Report};
 use crate::script::Script;
+use crate::sequence::Sequence;
 use nr_outside::{Pipe, Sink};
 use nr_rpc::{CallHead, Cred, write_call};
 use nr_wire::{Hello, NextHello, Side, read_hello, write_hello};

@@ -4,5 +4,5 @@ use Rattle.std.specs.String.{string_bytes}
 use Rattle.nr_world.specs.Shown.{call_report_text}
 use Rattle.nr_world.proofs.printing.push_calls.Given as goal
 
-abbrev pub invariant-loop-reports : goal.invariant-loop-reports
-invariant-loop-reports l = string_bytes l.text ≡ string_bytes l.initial.text ++ flat_map call_report_text (take l.reports-index l.calls)
+abbrev pub invariant-loop-report : goal.invariant-loop-report
+invariant-loop-report l = string_bytes l.text ≡ string_bytes l.initial.text ++ flat_map call_report_text (take l.report-index l.calls)
