@@ -3,28 +3,21 @@
 use crate::compare::same;
 use nr_outside::{MemSink, MemSource};
 use nr_top::{refuse, run};
-use std::alloc::{AllocError, Global};
-use std::test::Fail;
+use std::alloc::Global;
+use std::process::Abort;
 
 // The statuses, as the README lists them.
 const DONE: u8 = 0;
-const BAD_ARGUMENTS: u8 = 1;
-const NO_MEMORY: u8 = 2;
-const FAULT: u8 = 9;
-const BAD_SCRIPT: u8 = 10;
-const OVER_BUDGET: u8 = 11;
 
-/// Words, an input, which calls of the input, of `out` and of `err` fail, and what comes of it: the status, and what is
-/// written on `out` and on `err`.
-#[derive(Drop)]
-struct Row {
-    arguments: &'static [&'static str],
-    input: &'static [u8],
-    failing: [&'static [usize]; 3],
-    status: u8,
-    out: &'static [u8],
-    err: &'static [u8],
-}
+const BAD_ARGUMENTS: u8 = 1;
+
+const NO_MEMORY: u8 = 2;
+
+const FAULT: u8 = 9;
+
+const BAD_SCRIPT: u8 = 10;
+
+const OVER_BUDGET: u8 = 11;
 
 const DRILL: &[&str] = &["nfsrdma", "drill"];
 
@@ -36,144 +29,168 @@ const SCRIPT: &[u8] = b"clients 1 credits 16\ncall 1 auto nfs 0 -\ndrain\n";
 const PRINTED: &[u8] =
     b"1 1 place 0 reply 000000010000000100000000000000000000000000000000\njournal 0\n";
 
-fn drill(input: &'static [u8], status: u8, out: &'static [u8], err: &'static [u8]) -> Row {
-    Row {
-        arguments: DRILL,
-        input,
-        failing: NONE,
-        status,
-        out,
-        err,
-    }
-}
+/// The arguments, the input, which calls of the input, of `out` and of `err` fail, and what comes of it: the status, and
+/// what is written on `out` and on `err`.
+type Row = (
+    &'static [&'static str],
+    &'static [u8],
+    [&'static [usize]; 3],
+    (u8, &'static [u8], &'static [u8]),
+);
 
-fn arguments(arguments: &'static [&'static str]) -> Row {
-    Row {
-        arguments,
-        input: SCRIPT,
-        failing: NONE,
-        status: BAD_ARGUMENTS,
-        out: b"",
-        err: b"bad words\n",
-    }
-}
+static ROWS: [Row; 16] = [
+    (DRILL, SCRIPT, NONE, (DONE, PRINTED, b"")),
+    (
+        DRILL,
+        b"clients 1 credits 16\n",
+        NONE,
+        (DONE, b"journal 0\n", b""),
+    ),
+    (DRILL, b"", NONE, (BAD_SCRIPT, b"", b"bad line 1\n")),
+    (
+        DRILL,
+        b"clients 0 credits 1\n",
+        NONE,
+        (BAD_SCRIPT, b"", b"bad line 1\n"),
+    ),
+    (
+        DRILL,
+        b"clients 1 credits 65\n",
+        NONE,
+        (BAD_SCRIPT, b"", b"bad line 1\n"),
+    ),
+    (
+        DRILL,
+        b"clients 1 credits 16\ncall 1 auto nfs 0 -\n",
+        NONE,
+        (BAD_SCRIPT, b"", b"bad line 3\n"),
+    ),
+    (
+        DRILL,
+        b"clients 1 credits 16\ncall 1 auto nfs 0 -\ndrain",
+        NONE,
+        (BAD_SCRIPT, b"", b"bad line 3\n"),
+    ),
+    (
+        DRILL,
+        b"clients 1 credits 16\ncall 1 auto nfs 0 - -\ndrain\n",
+        NONE,
+        (BAD_SCRIPT, b"", b"bad line 2\n"),
+    ),
+    (
+        DRILL,
+        b"clients 1 credits 16\ndr\xc3\xa4in\n",
+        NONE,
+        (BAD_SCRIPT, b"", b"bad line 2\n"),
+    ),
+    (
+        &["nfsrdma"],
+        SCRIPT,
+        NONE,
+        (BAD_ARGUMENTS, b"", b"bad words\n"),
+    ),
+    (
+        &["nfsrdma", "drill", "drill"],
+        SCRIPT,
+        NONE,
+        (BAD_ARGUMENTS, b"", b"bad words\n"),
+    ),
+    (
+        &["nfsrdma", "Drill"],
+        SCRIPT,
+        NONE,
+        (BAD_ARGUMENTS, b"", b"bad words\n"),
+    ),
+    (
+        DRILL,
+        SCRIPT,
+        [&[0], &[], &[]],
+        (FAULT, b"", b"input fault\n"),
+    ),
+    (
+        DRILL,
+        SCRIPT,
+        [&[1], &[], &[]],
+        (FAULT, b"", b"input fault\n"),
+    ),
+    (
+        DRILL,
+        SCRIPT,
+        [&[], &[0], &[]],
+        (FAULT, b"", b"output fault\n"),
+    ),
+    (DRILL, SCRIPT, [&[0], &[], &[0]], (FAULT, b"", b"")),
+];
 
-fn fault(failing: [&'static [usize]; 3], out: &'static [u8], err: &'static [u8]) -> Row {
-    Row {
-        arguments: DRILL,
-        input: SCRIPT,
-        failing,
-        status: FAULT,
-        out,
-        err,
-    }
-}
-
-fn rows() -> [Row; 16] {
-    [
-        drill(SCRIPT, DONE, PRINTED, b""),
-        drill(b"clients 1 credits 16\n", DONE, b"journal 0\n", b""),
-        drill(b"", BAD_SCRIPT, b"", b"bad line 1\n"),
-        drill(b"clients 0 credits 1\n", BAD_SCRIPT, b"", b"bad line 1\n"),
-        drill(b"clients 1 credits 65\n", BAD_SCRIPT, b"", b"bad line 1\n"),
-        drill(
-            b"clients 1 credits 16\ncall 1 auto nfs 0 -\n",
-            BAD_SCRIPT,
-            b"",
-            b"bad line 3\n",
-        ),
-        drill(
-            b"clients 1 credits 16\ncall 1 auto nfs 0 -\ndrain",
-            BAD_SCRIPT,
-            b"",
-            b"bad line 3\n",
-        ),
-        drill(
-            b"clients 1 credits 16\ncall 1 auto nfs 0 - -\ndrain\n",
-            BAD_SCRIPT,
-            b"",
-            b"bad line 2\n",
-        ),
-        drill(
-            b"clients 1 credits 16\ndr\xc3\xa4in\n",
-            BAD_SCRIPT,
-            b"",
-            b"bad line 2\n",
-        ),
-        arguments(&["nfsrdma"]),
-        arguments(&["nfsrdma", "drill", "drill"]),
-        arguments(&["nfsrdma", "Drill"]),
-        fault([&[0], &[], &[]], b"", b"input fault\n"),
-        fault([&[1], &[], &[]], b"", b"input fault\n"),
-        fault([&[], &[0], &[]], b"", b"output fault\n"),
-        fault([&[0], &[], &[0]], b"", b""),
-    ]
-}
-
-fn strings(alloc: Global, arguments: &[&str]) -> Result<Vec<String>, AllocError> {
+fn strings(rt: &impl Abort, alloc: Global, arguments: &[&str]) -> Vec<String> {
     let mut strings = Vec::new(alloc);
     for word in arguments {
-        strings.push(format!(in alloc; "{word}")?)?;
+        let string = format!(in alloc; "{word}").expect(rt, "memory");
+        strings.push(string).expect(rt, "memory");
     }
-    Ok(strings)
+    strings
 }
 
-/// What came of a run: the status, what `out` took, and what `err` took.
-type Came = (u8, Vec<u8>, Vec<u8>);
-
-fn came_of(
+/// Runs the program, and compares its status and what it wrote.
+fn same_run(
+    rt: &impl Abort,
     alloc: Global,
-    arguments: &[&str],
+    row: usize,
+    arguments: &[String],
     input: Vec<u8>,
-    failing: [&'static [usize]; 3],
-) -> Result<Came, AllocError> {
-    let arguments = strings(alloc, arguments)?;
-    let [reads, writes, says] = failing;
-    let mut input = MemSource::new(input, Vec::new(alloc), reads.to_vec(alloc)?);
-    let mut out = MemSink::new(alloc, writes.to_vec(alloc)?);
-    let mut err = MemSink::new(alloc, says.to_vec(alloc)?);
-    let status = run(alloc, arguments.as_slice(), &mut input, &mut out, &mut err);
-    Ok((status, out.bytes().to_vec(alloc)?, err.bytes().to_vec(alloc)?))
+    failing: [&[usize]; 3],
+    want: (u8, &[u8], &[u8]),
+) {
+    let [reads, writes, texts] = failing;
+    let reads = reads.to_vec(alloc).expect(rt, "memory");
+    let mut input = MemSource::new(input, Vec::new(alloc), reads);
+    let mut out = MemSink::new(alloc, writes.to_vec(alloc).expect(rt, "memory"));
+    let mut err = MemSink::new(alloc, texts.to_vec(alloc).expect(rt, "memory"));
+    let status = run(alloc, arguments, &mut input, &mut out, &mut err);
+    same(rt, row, (status, out.bytes(), err.bytes()), want);
 }
 
 #[test]
-fn each_status_with_its_text(rt: HostRuntime) -> Result<(), Fail> {
-    for (number, row) in rows().iter().enumerate() {
-        let input = row.input.to_vec(rt.alloc())?;
-        let got = came_of(rt.alloc(), row.arguments, input, row.failing)?;
-        let out = row.out.to_vec(rt.alloc())?;
-        same(&rt, number, got, (row.status, out, row.err.to_vec(rt.alloc())?));
+fn each_status_with_its_text(rt: HostRuntime) {
+    for (row, (arguments, input, failing, want)) in ROWS.iter().enumerate() {
+        let arguments = strings(&rt, rt.alloc(), arguments);
+        let input = input.to_vec(rt.alloc()).expect(&rt, "memory");
+        same_run(&rt, rt.alloc(), row, &arguments, input, *failing, *want);
     }
-    Ok(())
 }
 
 #[test]
-fn arguments_that_cannot_be_had(rt: HostRuntime) -> Result<(), Fail> {
+fn arguments_that_cannot_be_had(rt: HostRuntime) {
     let rows: [(bool, &'static [usize], u8, &'static [u8]); 3] = [
         (true, &[], NO_MEMORY, b"memory\n"),
         (false, &[], BAD_ARGUMENTS, b"bad words\n"),
         (true, &[0], FAULT, b""),
     ];
     for (row, (memory, failing, status, text)) in rows.into_iter().enumerate() {
-        let mut err = MemSink::new(rt.alloc(), failing.to_vec(rt.alloc())?);
-        let got = (refuse(&mut err, memory), err.bytes().to_vec(rt.alloc())?);
-        same(&rt, row, got, (status, text.to_vec(rt.alloc())?));
+        let mut err = MemSink::new(rt.alloc(), failing.to_vec(rt.alloc()).expect(&rt, "memory"));
+        let got = refuse(&mut err, memory);
+        same(&rt, row, (got, err.bytes()), (status, text));
     }
-    Ok(())
 }
 
 /// Both sides of the limit of an input.
 #[test]
-fn the_longest_input(rt: HostRuntime) -> Result<(), Fail> {
-    let rows = [
-        (16_777_217, OVER_BUDGET, b"budget 16777216\n".as_slice()),
+fn the_longest_input(rt: HostRuntime) {
+    let arguments = strings(&rt, rt.alloc(), DRILL);
+    let rows: [(usize, u8, &[u8]); 2] = [
+        (16_777_217, OVER_BUDGET, b"budget 16777216\n"),
         (16_777_216, BAD_SCRIPT, b"bad line 1\n"),
     ];
     for (row, (len, status, text)) in rows.into_iter().enumerate() {
-        let input = vec![in rt.alloc(); b'x'; len]?;
-        let got = came_of(rt.alloc(), DRILL, input, NONE)?;
-        let want = (status, Vec::new(rt.alloc()), text.to_vec(rt.alloc())?);
-        same(&rt, row, got, want);
+        let input = vec![in rt.alloc(); b'x'; len].expect(&rt, "memory");
+        same_run(
+            &rt,
+            rt.alloc(),
+            row,
+            &arguments,
+            input,
+            NONE,
+            (status, b"", text),
+        );
     }
-    Ok(())
 }

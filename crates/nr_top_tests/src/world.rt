@@ -1,10 +1,11 @@
 //! Tests of nr_world.
 
 use crate::compare::same;
-use nr_world::*;
 use nr_wire::Side;
+use nr_world::*;
 use nr_xdr::Octets;
-use std::test::Fail;
+use std::alloc::Global;
+use std::process::Abort;
 
 /// One call of NULL, drained.
 const ONE_CALL: &[u8] = b"clients 1 credits 16\ncall 1 auto nfs 0 -\ndrain\n";
@@ -39,249 +40,240 @@ const ONE_SHOWN: &[u8] =
 const TWO_SHOWN: &[u8] = b"1 1 place 0 reply 000000010000000100000000000000000000000000000000\n\
 1 2 place 0 reply 000000020000000100000000000000000000000000000000\njournal 0\n";
 
-/// The credits of a script, or the fault of its first invalid line.
+/// The text of a script with its credits, or with the number of its first invalid line.
+static SCRIPTS: [(&[u8], Result<u32, u64>); 22] = [
+    (ONE_CALL, Ok(16)),
+    (TWO_CALLS, Ok(16)),
+    (b"clients 1 credits 16\n", Ok(16)),
+    (b"clients 1 credits 1\n", Ok(1)),
+    (b"clients 1 credits 64\n", Ok(64)),
+    (b"", Err(1)),
+    (b"clients 0 credits 1\n", Err(1)),
+    (b"clients 1 credits 0\n", Err(1)),
+    (b"clients 1 credits 65\n", Err(1)),
+    (b"clients 1 credits 016\n", Err(1)),
+    (b"clients 1 credits 16", Err(1)),
+    (b"clients 1 credits 16 \n", Err(1)),
+    (b"clients 1 credits \xff\n", Err(1)),
+    (b"clients 1 credits 16\ndrain\n", Err(2)),
+    (
+        b"clients 1 credits 16\ncall 1 auto nfs 0 - -\ndrain\n",
+        Err(2),
+    ),
+    (b"clients 1 credits 16\ncall 1 auto nfs 0 -", Err(2)),
+    (b"clients 1 credits 16\n\xc3\xa4\n", Err(2)),
+    (b"clients 1 credits 16\ncall 1 auto nfs 0 -\n", Err(3)),
+    (b"clients 1 credits 16\ncall 1 auto nfs 0 -\ndrain", Err(3)),
+    (
+        b"clients 1 credits 16\ncall 1 auto nfs 0 -\n\xffdrain\n",
+        Err(3),
+    ),
+    (
+        b"clients 1 credits 16\ncall 1 auto nfs 0 -\ndrain\ndrain\n",
+        Err(4),
+    ),
+    (
+        b"clients 1 credits 16\ncall 1 auto nfs 0 -\ndrain\ncall 1 auto nfs 0 -\n",
+        Err(5),
+    ),
+];
+
 #[test]
 fn scripts(rt: HostRuntime) {
     link_that_stays();
     script_limits();
-    let rows: [(&[u8], Result<u32, u64>); 22] = [
-        (ONE_CALL, Ok(16)),
-        (TWO_CALLS, Ok(16)),
-        (b"clients 1 credits 16\n", Ok(16)),
-        (b"clients 1 credits 1\n", Ok(1)),
-        (b"clients 1 credits 64\n", Ok(64)),
-        (b"", Err(1)),
-        (b"clients 0 credits 1\n", Err(1)),
-        (b"clients 1 credits 0\n", Err(1)),
-        (b"clients 1 credits 65\n", Err(1)),
-        (b"clients 1 credits 016\n", Err(1)),
-        (b"clients 1 credits 16", Err(1)),
-        (b"clients 1 credits 16 \n", Err(1)),
-        (b"clients 1 credits \xff\n", Err(1)),
-        (b"clients 1 credits 16\ndrain\n", Err(2)),
-        (b"clients 1 credits 16\ncall 1 auto nfs 0 - -\ndrain\n", Err(2)),
-        (b"clients 1 credits 16\ncall 1 auto nfs 0 -", Err(2)),
-        (b"clients 1 credits 16\n\xc3\xa4\n", Err(2)),
-        (b"clients 1 credits 16\ncall 1 auto nfs 0 -\n", Err(3)),
-        (b"clients 1 credits 16\ncall 1 auto nfs 0 -\ndrain", Err(3)),
-        (b"clients 1 credits 16\ncall 1 auto nfs 0 -\n\xffdrain\n", Err(3)),
-        (
-            b"clients 1 credits 16\ncall 1 auto nfs 0 -\ndrain\ndrain\n",
-            Err(4),
-        ),
-        (
-            b"clients 1 credits 16\ncall 1 auto nfs 0 -\ndrain\ncall 1 auto nfs 0 -\n",
-            Err(5),
-        ),
-    ];
-    for (row, (text, want)) in rows.into_iter().enumerate() {
+    for (row, (text, want)) in SCRIPTS.iter().enumerate() {
         assert!(rt; text.len() <= SCRIPT_MAX);
         let got = match read_script(rt.alloc(), text) {
             Ok(script) => Ok(script.credits()),
             Err(ScriptFault::BadLine { line }) => Err(line),
             Err(ScriptFault::Memory) => Err(0),
         };
-        same(&rt, row, got, want);
+        same(&rt, row, got, *want);
     }
 }
 
-/// The printed lines of a script, and the bytes that both sides of its link wrote.
+/// What is printed of a script, and then all that the client and the server of its link wrote.
+fn printed_and_logs(rt: &impl Abort, alloc: Global, text: &[u8]) -> Vec<u8> {
+    assert!(rt; text.len() <= SCRIPT_MAX);
+    let script = read_script(alloc, text).expect(rt, "a script");
+    let report = run_world(alloc, &script).expect(rt, "memory");
+    let mut bytes = shown(alloc, &report).expect(rt, "memory").into_vec();
+    for log in report.logs.as_slice() {
+        bytes
+            .extend_from_slice(log.up.as_slice())
+            .expect(rt, "memory");
+        bytes
+            .extend_from_slice(log.down.as_slice())
+            .expect(rt, "memory");
+    }
+    bytes
+}
+
 #[test]
-fn runs(rt: HostRuntime) -> Result<(), Fail> {
-    let rows: [(&[u8], &[u8], &[u8], &[u8]); 2] = [
-        (ONE_CALL, ONE_SHOWN, b"", b""),
-        (TWO_CALLS, TWO_SHOWN, SECOND_UP, SECOND_DOWN),
+fn runs(rt: HostRuntime) {
+    let rows: [(&[u8], [&[u8]; 5]); 2] = [
+        (ONE_CALL, [ONE_SHOWN, UP, b"", DOWN, b""]),
+        (TWO_CALLS, [TWO_SHOWN, UP, SECOND_UP, DOWN, SECOND_DOWN]),
     ];
-    for (row, (text, wanted, up, down)) in rows.into_iter().enumerate() {
-        assert!(rt; text.len() <= SCRIPT_MAX);
-        let script = read_script(rt.alloc(), text)?;
-        let report = run_world(rt.alloc(), &script)?;
-        let mut got = shown(rt.alloc(), &report)?.into_vec();
-        let mut want = wanted.to_vec(rt.alloc())?;
-        for log in report.logs.as_slice() {
-            got.extend_from_slice(log.up.as_slice())?;
-            got.extend_from_slice(log.down.as_slice())?;
-        }
-        for part in [UP, up, DOWN, down] {
-            want.extend_from_slice(part)?;
-        }
-        same(&rt, row, got, want);
-    }
-    Ok(())
-}
-
-/// What a mark of the first link is, in words.
-fn kind_of(mark: &Mark) -> &'static str {
-    match mark {
-        Mark::Wrote {
-            link: 1,
-            side: Side::Initiator,
-            ..
-        } => "client wrote",
-        Mark::Wrote {
-            link: 1,
-            side: Side::Responder,
-            ..
-        } => "server wrote",
-        Mark::Fed {
-            link: 1,
-            side: Side::Initiator,
-            ..
-        } => "client fed",
-        Mark::Fed {
-            link: 1,
-            side: Side::Responder,
-            ..
-        } => "server fed",
-        Mark::Submit {
-            link: 1,
-            answer: Submission::Accepted { xid: 1 },
-            ..
-        } => "submit",
-        Mark::Execute {
-            link: 1,
-            xid: 1,
-            place: 0,
-            ..
-        } => "execute",
-        Mark::Done {
-            link: 1,
-            xid: 1,
-            outcome: Outcome::Reply(_),
-        } => "done",
-        _ => "other",
+    for (row, (text, parts)) in rows.into_iter().enumerate() {
+        let want = parts.concat(rt.alloc()).expect(&rt, "memory");
+        same(&rt, row, printed_and_logs(&rt, rt.alloc(), text), want);
     }
 }
 
-/// A link opens, and a call goes up, is executed, comes down and is done.
-#[test]
-fn marks(rt: HostRuntime) -> Result<(), Fail> {
-    let script = read_script(rt.alloc(), ONE_CALL)?;
-    let report = run_world(rt.alloc(), &script)?;
-    let wanted = [
-        "client wrote",
-        "server fed",
-        "server wrote",
-        "client fed",
-        "submit",
-        "client wrote",
-        "server fed",
-        "execute",
-        "server wrote",
-        "client fed",
-        "done",
-    ];
-    let marks = report.marks.as_slice();
-    for (row, (mark, wanted)) in marks.iter().zip(wanted).enumerate() {
-        same(&rt, row, kind_of(mark), wanted);
-    }
-    let counts = [
-        marks.len(),
-        report.journal.len(),
-        report.links.len(),
-        report.calls.len(),
-        usize::from(report.journal.is_empty()),
-    ];
-    same(&rt, 11, counts, [11, 0, 0, 1, 1]);
-    for call in report.calls.into_vec() {
-        same(&rt, 12, (call.client, call.number), (1, 1));
-    }
-    Ok(())
+/// What is printed of calls and links, and of an empty journal.
+fn printed(
+    rt: &impl Abort,
+    alloc: Global,
+    calls: Vec<CallReport>,
+    links: Vec<LinkReport>,
+) -> Vec<u8> {
+    let report = Report {
+        marks: Sequence::from_vec(Vec::new(alloc)),
+        journal: Sequence::from_vec(Vec::new(alloc)),
+        calls: Sequence::from_vec(calls),
+        links: Sequence::from_vec(links),
+        logs: Sequence::from_vec(Vec::new(alloc)),
+    };
+    shown(alloc, &report).expect(rt, "memory").into_vec()
 }
 
-/// A line of each form but that of a reply.
-#[test]
-fn forms(rt: HostRuntime) -> Result<(), Fail> {
-    let mut calls = Vec::new(rt.alloc());
-    let call_states = [
-        CallState::Out,
-        CallState::Lost,
-        CallState::Forgotten,
-        CallState::Revoked(Octets::new(rt.alloc())),
-        CallState::Revoked(Octets::from_slice(rt.alloc(), b"hel\0\0")?),
-        CallState::Answered {
+/// A state of each form but that of a reply.
+fn call_state(rt: &impl Abort, alloc: Global, row: usize) -> CallState {
+    match row {
+        0 => CallState::Out,
+        1 => CallState::Lost,
+        2 => CallState::Forgotten,
+        3 => CallState::Revoked(Octets::new(alloc)),
+        4 => CallState::Revoked(Octets::from_slice(alloc, b"hel\0\0").expect(rt, "memory")),
+        5 => CallState::Answered {
             place: Some(0),
             outcome: Outcome::Chunk,
         },
-        CallState::Answered {
+        6 => CallState::Answered {
             place: None,
             outcome: Outcome::Chunk,
         },
-        CallState::Answered {
+        7 => CallState::Answered {
             place: None,
             outcome: Outcome::Version { low: 1, high: 1 },
         },
-        CallState::Refused(Refused::NoCredit { out: 4, grant: 4 }),
-        CallState::Refused(Refused::TooLarge {
+        8 => CallState::Refused(Refused::NoCredit { out: 4, grant: 4 }),
+        9 => CallState::Refused(Refused::TooLarge {
             need: 1028,
             room: 1024,
         }),
-        CallState::Refused(Refused::Ended(End::Terminated { reason: 5 })),
-        CallState::Refused(Refused::Spent { left: 0, need: 1 }),
-        CallState::Refused(Refused::Memory),
+        10 => CallState::Refused(Refused::Ended(End::Terminated { reason: 5 })),
+        11 => CallState::Refused(Refused::Spent { left: 0, need: 1 }),
+        _ => CallState::Refused(Refused::Memory),
+    }
+}
+
+#[test]
+fn call_lines(rt: HostRuntime) {
+    let wanted: [&[u8]; 13] = [
+        b"2 7 open\njournal 0\n",
+        b"2 7 lost\njournal 0\n",
+        b"2 7 forgotten\njournal 0\n",
+        b"2 7 revoked -\njournal 0\n",
+        b"2 7 revoked 68656c0000\njournal 0\n",
+        b"2 7 place 0 chunk\njournal 0\n",
+        b"2 7 chunk\njournal 0\n",
+        b"2 7 version 1 1\njournal 0\n",
+        b"2 7 refused credit 4 4\njournal 0\n",
+        b"2 7 refused large 1028 1024\njournal 0\n",
+        b"2 7 refused ended\njournal 0\n",
+        b"2 7 refused spent 0 1\njournal 0\n",
+        b"2 7 refused memory\njournal 0\n",
     ];
-    for state in call_states {
-        calls.push(CallReport {
+    for (row, want) in wanted.into_iter().enumerate() {
+        let call = CallReport {
             client: 2,
             number: 7,
-            state,
-        })?;
+            state: call_state(&rt, rt.alloc(), row),
+        };
+        let calls = Vec::from_array(rt.alloc(), [call]).expect(&rt, "memory");
+        let got = printed(&rt, rt.alloc(), calls, Vec::new(rt.alloc()));
+        same(&rt, row, got, want.to_vec(rt.alloc()).expect(&rt, "memory"));
     }
-    let mut links = Vec::new(rt.alloc());
-    let ends = [
-        (Side::Initiator, End::Bad { at: 20, reason: 5 }),
-        (
-            Side::Initiator,
-            End::Denied {
+}
+
+const LINKS: [(LinkState, &[u8]); 8] = [
+    (
+        LinkState::Ended {
+            side: Side::Initiator,
+            end: End::Bad { at: 20, reason: 5 },
+        },
+        b"link 3 client bad 20 5\njournal 0\n",
+    ),
+    (
+        LinkState::Ended {
+            side: Side::Initiator,
+            end: End::Denied {
                 stag: 1,
                 offset: 3,
                 why: Lack::NoStag,
             },
-        ),
-        (
-            Side::Responder,
-            End::Denied {
+        },
+        b"link 3 client denied 1 3 nostag\njournal 0\n",
+    ),
+    (
+        LinkState::Ended {
+            side: Side::Responder,
+            end: End::Denied {
                 stag: 1,
                 offset: 4,
                 why: Lack::Bounds,
             },
-        ),
-        (
-            Side::Responder,
-            End::Denied {
+        },
+        b"link 3 server denied 1 4 bounds\njournal 0\n",
+    ),
+    (
+        LinkState::Ended {
+            side: Side::Responder,
+            end: End::Denied {
                 stag: 1,
                 offset: 0,
                 why: Lack::Right,
             },
-        ),
-        (Side::Responder, End::NoBuffer { msn: 2 }),
-        (Side::Responder, End::Terminated { reason: 101 }),
-        (Side::Responder, End::Memory),
-    ];
-    for (side, end) in ends {
-        links.push(LinkReport {
-            client: 1,
-            state: LinkState::Ended { side, end },
-        })?;
+        },
+        b"link 3 server denied 1 0 right\njournal 0\n",
+    ),
+    (
+        LinkState::Ended {
+            side: Side::Responder,
+            end: End::NoBuffer { msn: 2 },
+        },
+        b"link 3 server nobuffer 2\njournal 0\n",
+    ),
+    (
+        LinkState::Ended {
+            side: Side::Responder,
+            end: End::Terminated { reason: 101 },
+        },
+        b"link 3 server terminated 101\njournal 0\n",
+    ),
+    (
+        LinkState::Ended {
+            side: Side::Responder,
+            end: End::Memory,
+        },
+        b"link 3 server memory\njournal 0\n",
+    ),
+    (LinkState::Dropped, b"link 3 dropped\njournal 0\n"),
+];
+
+#[test]
+fn link_lines(rt: HostRuntime) {
+    for (row, (state, want)) in LINKS.into_iter().enumerate() {
+        let links = Vec::from_array(rt.alloc(), [LinkReport { client: 3, state }]);
+        let got = printed(
+            &rt,
+            rt.alloc(),
+            Vec::new(rt.alloc()),
+            links.expect(&rt, "memory"),
+        );
+        same(&rt, row, got, want.to_vec(rt.alloc()).expect(&rt, "memory"));
     }
-    links.push(LinkReport {
-        client: 2,
-        state: LinkState::Dropped,
-    })?;
-    let report = Report {
-        marks: Sequence::from_vec(Vec::new(rt.alloc())),
-        journal: Sequence::from_vec(Vec::new(rt.alloc())),
-        calls: Sequence::from_vec(calls),
-        links: Sequence::from_vec(links),
-        logs: Sequence::from_vec(Vec::new(rt.alloc())),
-    };
-    let wanted =
-        b"2 7 open\n2 7 lost\n2 7 forgotten\n2 7 revoked -\n2 7 revoked 68656c0000\n2 7 place 0 chunk\n\
-2 7 chunk\n2 7 version 1 1\n2 7 refused credit 4 4\n2 7 refused large 1028 1024\n2 7 refused ended\n\
-2 7 refused spent 0 1\n2 7 refused memory\nlink 1 client bad 20 5\nlink 1 client denied 1 3 nostag\nlink 1 server denied 1 4 bounds\n\
-link 1 server denied 1 0 right\nlink 1 server nobuffer 2\nlink 1 server terminated 101\n\
-link 1 server memory\nlink 2 dropped\n\
-journal 0\n";
-    same(&rt, 0, shown(rt.alloc(), &report)?.into_vec(), wanted.to_vec(rt.alloc())?);
-    Ok(())
 }
