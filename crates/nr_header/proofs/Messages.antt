@@ -9,7 +9,7 @@ use Rattle.nr_xdr.specs.declared.fault.ItemFault.TheVariants as items
 use Rattle.nr_xdr.specs.Item.{Item, IsBytes, Fits, Reads, padding, encoding, word, word_of}
 use Rattle.nr_xdr.specs.Item.Item.{Unsigned, Hyper, Boolean}
 use Rattle.nr_xdr.specs.Items.{ReadsAll, AllFit, encodings, TakesAll}
-use Rattle.nr_xdr.specs.Reading.{Cursor, Takes, past, unsigned_at}
+use Rattle.nr_xdr.specs.Reading.{Cursor, Takes, cursor_past, unsigned_at}
 use Rattle.nr_xdr.proofs.Cursors.{cursor_is, guard_ok, ok_parts}
 use Rattle.nr_xdr.proofs.Items.{unsigned_takes, unsigned_again}
 use Rattle.nr_xdr.proofs.WordBytes.{IsBytes-drop}
@@ -36,23 +36,23 @@ module _ (bytes : List ℕ) (k : ℕ) where
   -- what was taken as a word at a place is the word there, and the next place is four further on
   pub word_taken : (d : Cursor) (n : ℕ) → Takes (standing k (drop k bytes)) d (Unsigned n)
       → (k + 4 ≤ length bytes) × (word_at k bytes ≡ n) × (d ≡ standing (k + 4) (drop (k + 4) bytes))
-  unfolding unsigned_at past
+  unfolding unsigned_at cursor_past
   word_taken d n t =
       let rest = drop k bytes in
       let c = standing k rest in
-      let g = guard_ok (ltb (length rest) 4) (items.Short k) (Ok (word_of (take 4 rest), past 4 c)) (n, d) (unsigned_again c n d t) in
-      let p = ok_parts (word_of (take 4 rest)) n (past 4 c) d g.1 in
-      (omega (arith, ltb-false (length rest) 4 g.0, length-drop k bytes), p.0, sym p.1 ∙ cursor_is (past 4 c) (standing (k + 4) (drop (k + 4) bytes)) refl (drop-drop 4 k bytes))
+      let g = guard_ok (ltb (length rest) 4) (items.Short k) (Ok (word_of (take 4 rest), cursor_past 4 c)) (n, d) (unsigned_again c n d t) in
+      let p = ok_parts (word_of (take 4 rest)) n (cursor_past 4 c) d g.1 in
+      (omega (arith, ltb-false (length rest) 4 g.0, length-drop k bytes), p.0, sym p.1 ∙ cursor_is (cursor_past 4 c) (standing (k + 4) (drop (k + 4) bytes)) refl (drop-drop 4 k bytes))
 
   pub word_there : k + 4 ≤ length bytes → IsBytes bytes → Takes (standing k (drop k bytes)) (standing (k + 4) (drop (k + 4) bytes)) (Unsigned (word_at k bytes))
-  unfolding unsigned_at past
+  unfolding unsigned_at cursor_past
   word_there le fits =
       let rest = drop k bytes in
       let c = standing k rest in
       let long : 4 ≤ length rest = omega (arith, length-drop k bytes) in
-      let there : unsigned_at c ≡ Ok (word_of (take 4 rest), past 4 c) = rw (le-ltb (length rest) 4 long) refl in
-      subst (λ (d : Cursor). Takes c d (Unsigned (word_at k bytes))) (cursor_is (past 4 c) (standing (k + 4) (drop (k + 4) bytes)) refl (drop-drop 4 k bytes))
-      (unsigned_takes c (word_of (take 4 rest)) (past 4 c) (IsBytes-drop k bytes fits) there)
+      let there : unsigned_at c ≡ Ok (word_of (take 4 rest), cursor_past 4 c) = rw (le-ltb (length rest) 4 long) refl in
+      subst (λ (d : Cursor). Takes c d (Unsigned (word_at k bytes))) (cursor_is (cursor_past 4 c) (standing (k + 4) (drop (k + 4) bytes)) refl (drop-drop 4 k bytes))
+      (unsigned_takes c (word_of (take 4 rest)) (cursor_past 4 c) (IsBytes-drop k bytes fits) there)
 
 -- the fixed words of a message, and what was taken behind them
 record Fixed (bytes : List ℕ) (xid version credit kind : ℕ) (more : List Item) (after : Cursor) : Type 0 where
