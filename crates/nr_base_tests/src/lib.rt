@@ -60,4 +60,10 @@ mod base;
 #[cfg(test)]
 mod compare;
 #[cfg(test)]
+mod outside;
+#[cfg(test)]
+mod regions;
+#[cfg(test)]
 mod res;
+#[cfg(test)]
+mod xdr;

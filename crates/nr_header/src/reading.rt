@@ -140,7 +140,7 @@ fn body(reader: &mut Reader<'_>, bytes: &[u8]) -> Result<Body, HeaderFault>
     version1(reader, kind, bytes)
 }
 
-#[tactic(auto, unfolding(crate::specs::Reading::header_of, nr_xdr::specs::Reading::fixed_at, nr_xdr::specs::Reading::past, nr_xdr::specs::Item::pad_len))]
+#[tactic(auto, unfolding(crate::specs::Reading::header_of, nr_xdr::specs::Reading::fixed_at, nr_xdr::specs::Reading::cursor_past, nr_xdr::specs::Item::pad_len))]
 fn whole_header(bytes: &[u8]) -> Result<Header, HeaderFault>
     ensures { result ≡ header_of bytes.now }
 {

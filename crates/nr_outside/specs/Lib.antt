@@ -1,5 +1,5 @@
 pub mod Content
-pub mod Counted
+pub mod AdapterState
 pub mod Faults
 pub mod MemSink
 pub mod MemSource

@@ -1,17 +1,16 @@
-//! The outside: where bytes come from, and where they go.
+//! Input and output: where bytes come from, and where they go.
 //!
-//! All that the project reads and writes passes through two traits, [`Source`] and [`Sink`]. Each object has a count of
-//! its faults, which never falls, and a call answers [`Failed`] only where the count of that very object rose. So a
-//! layer above can say of each answer that lays the blame outside that a fault was there. A count rose where it is
-//! greater than before, or stands at 2^64 - 1, the last value of a counter, where it stands still.
+//! Everything that the project reads and writes passes through two traits, [`Source`] and [`Sink`]. Each object counts
+//! its faults. A call answers [`Failed`] only where the count of that object rises, so a layer above can show that a
+//! failure came from outside. A count rises where it becomes greater, or stands at 2^64 - 1, its last value.
 //!
-//! What an object holds may be told or not. In memory it is told: [`MemSource`] and [`MemSink`] fail at the calls that
-//! a list names, and a [`Pipe`] hands out what was written to it and keeps all of it. [`StdSource`] and [`StdSink`]
-//! stand over a reader and a writer of std; they count faults, and are trusted for content. [`read_whole`] and
-//! [`write_whole`] move a whole input, with the causes of what they answer.
+//! Contracts speak of an object's bytes where the bytes are known to the proof. In memory they are: [`MemSource`] and
+//! [`MemSink`] fail at the calls that a list names, and a [`Pipe`] hands out what was written to it and keeps all of it.
+//! [`StdSource`] and [`StdSink`] are adapters over a reader and a writer of std. They count faults; their bytes are
+//! unknown. [`read_whole`] and [`write_whole`] move a whole input or output.
 //!
 //! The crate stands on no other crate of the project, and each crate above that reads or writes stands on it. It opens
-//! nothing: a source and a sink are handed in.
+//! nothing: its callers hand in the source and the sink.
 #![tactic(auto)]
 
 mod byte_pipe;
@@ -30,6 +29,3 @@ pub use std_sink::StdSink;
 pub use std_source::StdSource;
 pub use traits::{Failed, Sink, Source};
 pub use whole::{ReadEnd, read_whole, write_whole};
-
-#[cfg(test)]
-mod tests;

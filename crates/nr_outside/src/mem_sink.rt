@@ -5,9 +5,9 @@ use crate::traits::{Failed, Sink};
 use std::alloc::Global;
 use std::marker::Model;
 
-/// A sink in memory. It keeps what it takes, and fails at the calls whose numbers it was given, the first call being
-/// number 0, and where it finds no memory.
-#[derive(Debug, Drop)]
+/// A sink in memory. It keeps what it takes. It fails at the calls whose numbers it was given, the first call being
+/// number 0, and where memory runs out.
+#[derive(Drop)]
 pub struct MemSink {
     bytes: Vec<u8>,
     failing: Vec<usize>,
@@ -29,8 +29,8 @@ impl Model for MemSink {
 }
 
 impl MemSink {
-    /// A sink that took nothing so far. Each call whose number stands in `failing` fails. Calls are counted up to
-    /// 2^64 - 1. It takes no memory.
+    /// A sink with no bytes so far. Each call whose number stands in `failing` fails. Calls are counted up to 2^64 - 1.
+    /// Takes no memory.
     pub fn new(alloc: Global, failing: Vec<usize>) -> MemSink
         ensures { result ≡ record { bytes = []; failing = failing.items; calls = 0; faults = 0 } }
     {
@@ -42,7 +42,7 @@ impl MemSink {
         }
     }
 
-    /// The bytes that it took so far.
+    /// The bytes taken so far.
     pub fn bytes(&self) -> &[u8]
         ensures { result.now ≡ self.now.bytes }
     {

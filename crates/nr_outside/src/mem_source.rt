@@ -8,7 +8,7 @@ use std::marker::Model;
 
 /// A source in memory. It hands out its bytes in pieces of the sizes that it was given, and fails at the calls whose
 /// numbers it was given, the first call being number 0.
-#[derive(Debug, Drop)]
+#[derive(Drop)]
 pub struct MemSource {
     bytes: Vec<u8>,
     place: usize,
@@ -37,9 +37,9 @@ impl Model for MemSource {
 }
 
 impl MemSource {
-    /// A source of these bytes. Call number k hands out at most `sizes[k]` bytes, but at least one where one is left and
-    /// there is room, so a size of 0 stands for 1; where the sizes have run out, only the room limits it. Each call whose
-    /// number stands in `failing` fails. Calls are counted up to 2^64 - 1. It takes no memory.
+    /// A source of these bytes. Call number k hands out at most `sizes[k]` bytes; a size of 0 means 1. Where there is no
+    /// such size, only the buffer limits the call. Each call whose number stands in `failing` fails. Calls are counted up
+    /// to 2^64 - 1. Takes no memory.
     pub fn new(bytes: Vec<u8>, sizes: Vec<usize>, failing: Vec<usize>) -> MemSource
         ensures { result ≡ record {
           bytes = bytes.items;
@@ -91,7 +91,7 @@ impl Source for MemSource {
     }
 }
 
-/// The first bytes, as many as the size allows, if there is one: at least one.
+/// The first bytes, as many as the size allows, if there is one. At least one.
 fn first_of<'a>(bytes: &'a [u8], size: Option<&usize>) -> &'a [u8]
     ensures { result.now ≡ within_size (option_copied size.entry) bytes.now }
 {

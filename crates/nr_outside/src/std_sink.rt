@@ -6,9 +6,9 @@ use crate::traits::{Failed, Sink};
 use std::io::Write;
 use std::marker::Model;
 
-/// A writer of std as a sink. Every error of the writer is a fault, an interrupted write too, and so is a write that
-/// takes nothing of a piece that isn't empty. Nothing is flushed. It is trusted for content: as a sink it doesn't tell
-/// its bytes.
+/// A writer of std as a sink. Each error of the writer is a fault, an interrupted write too, and so is a write that takes
+/// nothing of a piece that isn't empty: the adapter doesn't try again. Nothing is flushed. As a sink its bytes are
+/// unknown, so for the content the writer is trusted.
 #[derive(Drop)]
 pub struct StdSink<W> {
     inner: W,
@@ -16,9 +16,9 @@ pub struct StdSink<W> {
 }
 
 impl<W> Model for StdSink<W> {
-    ghost use Rattle.nr_outside.specs.Counted.{Counted};
+    ghost use Rattle.nr_outside.specs.AdapterState.{AdapterState};
 
-    ghost Value = { Counted W };
+    ghost Value = { AdapterState W };
 
     ghost view = { λ s. record { inner = s.inner; faults = s.faults } };
 }
@@ -45,7 +45,7 @@ impl<W: Write> Sink for StdSink<W> {
 
     ghost taken = { λ _. None };
 
-    /// One write to the writer.
+    /// One write to the writer. The count rises by one at `Failed`, unless it stands at its last value.
     fn write(&mut self, piece: &[u8]) -> Result<usize, Failed>
         ensures bound { IfOk result (λ n. n ≤ length piece.now) }
         ensures progress { IfOk result (λ n. 0 < length piece.now → 0 < n) }

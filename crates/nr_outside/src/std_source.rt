@@ -6,8 +6,8 @@ use crate::traits::{Failed, Source};
 use std::io::Read;
 use std::marker::Model;
 
-/// A reader of std as a source. Every error of the reader is a fault, an interrupted read too. It is trusted for
-/// content: as a source it doesn't tell its bytes.
+/// A reader of std as a source. Each error of the reader is a fault, an interrupted read too: the adapter doesn't try
+/// again. As a source its bytes are unknown, so for the content the reader is trusted.
 #[derive(Drop)]
 pub struct StdSource<R> {
     inner: R,
@@ -15,9 +15,9 @@ pub struct StdSource<R> {
 }
 
 impl<R> Model for StdSource<R> {
-    ghost use Rattle.nr_outside.specs.Counted.{Counted};
+    ghost use Rattle.nr_outside.specs.AdapterState.{AdapterState};
 
-    ghost Value = { Counted R };
+    ghost Value = { AdapterState R };
 
     ghost view = { λ s. record { inner = s.inner; faults = s.faults } };
 }
@@ -46,7 +46,7 @@ impl<R: Read> Source for StdSource<R> {
 
     ghost given = { λ _. None };
 
-    /// One read of the reader.
+    /// One read of the reader. The count rises by one at `Failed`, unless it stands at its last value.
     fn read(&mut self, buf: &mut [u8]) -> Result<usize, Failed>
         ensures bound { IfOk result (λ n. n ≤ length buf.old) }
         ensures bytes { ReadConsumes (R.remaining self.old.inner) (R.remaining self.new.inner) result buf.new }

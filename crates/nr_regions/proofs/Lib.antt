@@ -1,4 +1,5 @@
 pub mod Tables
 pub mod Holding
-pub mod Pasts
-pub mod Endings
+pub mod Totals
+pub mod Contents
+pub mod Streams

@@ -1,5 +1,5 @@
 pub mod Code
 pub mod RegisteredMemory
 pub mod Access
-pub mod Past
+pub mod Events
 pub mod Table

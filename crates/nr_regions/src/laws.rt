@@ -1,52 +1,63 @@
-//! Laws of registered memory. Each call's contract speaks in the same words.
+//! Laws of registered memory, in the terms of the contracts of [`Regions`](crate::Regions).
 
-ghost use Rattle.std.specs.Prelude.{◌≡◌, ◌≢◌, ℕ, ◌+◌, ◌<◌, ◌≤◌, ◌↔◌, List, ◌∷◌, ◌++◌, None, Some, length};
-ghost use Rattle.nr_regions.specs.Access.{Allowed, Grant, HaveOwnStags, contents, grant_at, lacking, offered};
-ghost use Rattle.nr_regions.specs.RegisteredMemory.{Access, Claim, IsHeld, RegisteredMemory, bytes_in, claim_of, held_at, lack, live_at, offer, registered, released};
-ghost use Rattle.nr_regions.specs.Past.{Event, IsReleasedAt, Spares, StaysOpen, happened, reaches, run};
-ghost use Rattle.nr_regions.specs.Past.Event.{Release};
+ghost use Rattle.std.specs.Prelude.{◌≡◌, ℕ, ◌<◌, ◌≤◌, ◌↔◌, List, ◌∷◌, ◌++◌, None, Some, All, length};
+ghost use Rattle.nr_regions.specs.Access.{Allowed, Grant, HaveOwnStags, TaggedSegment, contents, grant_at, grant_denial, grant_offer, with_ends};
+ghost use Rattle.nr_regions.specs.RegisteredMemory.{Access, Claim, IsHeld, RegisteredMemory, after_register, after_release, bytes_in, claim_of, denial, held_region, live_region, region_offer};
+ghost use Rattle.nr_regions.specs.Events.{Event, IsNoReleaseOf, IsRegisteredAt, IsReleasedAt, StaysOpen, after_event, after_events, tagged_segments};
+ghost use Rattle.nr_regions.specs.Events.Event.{Register, Release};
 
 use crate::region::Region;
 use crate::right::Right;
 
-/// A registration is held from `register` until its STag is released, whatever else happens.
-pub fn held_until_released()
-    ensures begins { (m : RegisteredMemory) (right : Right) (buf : List ℕ) → IsHeld (registered m right buf) (claim_of m buf) }
-    ensures lasts { (m : RegisteredMemory) (claim : Claim) (event : Event) → IsHeld m claim → Spares claim.stag event →
-        IsHeld (happened m event) claim }
-    // From its release on the STag is dead, and as STags rise, it isn't given again.
-    ensures dead { (m : RegisteredMemory) (stag : ℕ) → live_at (released m stag) stag ≡ None }
-    ensures rises { (m : RegisteredMemory) (events : List Event) → m.next ≤ (run m events).next }
+/// A region is held from `register` until its STag is released, whatever else happens.
+pub fn held_until_release()
+    ensures begins { (m : RegisteredMemory) (right : Right) (buf : List ℕ) → IsHeld (after_register m right buf) (claim_of m buf) }
+    ensures lasts { (m : RegisteredMemory) (claim : Claim) (event : Event) → IsHeld m claim → IsNoReleaseOf claim.stag event →
+        IsHeld (after_event m event) claim }
+    // From its release on the STag is dead.
+    ensures dead { (m : RegisteredMemory) (stag : ℕ) → live_region (after_release m stag) stag ≡ None }
+    // An STag that was given and is dead stays dead.
+    ensures stays_dead { (m : RegisteredMemory) (stag : ℕ) (events : List Event) → stag < m.next → live_region m stag ≡ None →
+        live_region (after_events m events) stag ≡ None }
+    ensures rises { (m : RegisteredMemory) (events : List Event) → m.next ≤ (after_events m events).next }
 {}
 
-/// An access is allowed by a list of grants exactly where it lacks nothing of them, and memory that offers the same as
-/// the grants denies the same.
+/// The grants allow an access exactly where they don't deny it, and memory that offers the same as the grants denies the
+/// same.
 pub fn allowed_accesses()
     ensures allowed { (grants : List Grant) (access : Access) (end : ℕ) → HaveOwnStags grants →
-        Allowed grants access end ↔ (lacking grants access end ≡ None) }
+        Allowed grants access end ↔ (grant_denial grants access end ≡ None) }
     ensures denied { (grants : List Grant) (m : RegisteredMemory) (access : Access) (end : ℕ) →
-        offer (live_at m access.stag) ≡ offered (grant_at grants access.stag end) → lack m access ≡ lacking grants access end }
+        region_offer (live_region m access.stag) ≡ grant_offer (grant_at grants access.stag end) → denial m access ≡ grant_denial grants access end }
 {}
 
-/// A region that stays open holds what it held with the payload of each allowed tagged segment over it, the later over
-/// the earlier.
-pub fn memory_is_its_past()
-    ensures { (grants : List Grant) (m : RegisteredMemory) (stag : ℕ) (right : Right) (buf : List ℕ) (events : List Event) →
-        stag < m.next → live_at m stag ≡ Some (record { right = right; buf = buf }) →
+/// What an open region holds.
+pub fn contents_while_open()
+    // A region that stays open holds what it held with the payload of each allowed tagged segment over it, the later over
+    // the earlier.
+    ensures contents { (grants : List Grant) (m : RegisteredMemory) (stag : ℕ) (right : Right) (buf : List ℕ) (events : List Event) →
+        stag < m.next → live_region m stag ≡ Some (record { right = right; buf = buf }) →
         StaysOpen grants stag right (length buf) events →
-        live_at (run m events) stag ≡ Some (record { right = right; buf = contents grants stag buf (reaches events) }) }
+        live_region (after_events m events) stag ≡ Some (record { right = right; buf = contents grants stag buf (tagged_segments events) }) }
+    // It makes no difference how long after the last tagged segment for the region its grant ends.
+    ensures any_end { (grants : List Grant) (stag until later : ℕ) (buf : List ℕ) (segments : List TaggedSegment) →
+        All (λ s. s.stag ≡ stag → s.end ≤ until) segments → until ≤ later →
+        contents (with_ends stag until grants) stag buf segments ≡ contents (with_ends stag later grants) stag buf segments }
 {}
 
-/// A buffer that is handed back at the end of its grant holds what was registered with the payload of each allowed tagged
-/// segment of the whole stream over it, also of what comes after its release.
-pub fn given_back_at_its_end()
-    ensures stands { (grants : List Grant) (m : RegisteredMemory) (stag until : ℕ) (right : Right) (buf : List ℕ) (before after : List Event) →
-        stag < m.next → live_at m stag ≡ Some (record { right = right; buf = buf }) →
+/// What a buffer holds that is given back where its grant ends: what was registered, with the payload of each allowed
+/// tagged segment of the whole stream over it, the later over the earlier.
+pub fn contents_at_release()
+    // The region as it is before the release, by the tagged segments from the registration on, those after the release
+    // among them.
+    ensures region { (grants : List Grant) (m : RegisteredMemory) (stag until : ℕ) (right : Right) (buf : List ℕ) (before after : List Event) →
+        stag < m.next → live_region m stag ≡ Some (record { right = right; buf = buf }) →
         IsReleasedAt grants stag right (length buf) until before after →
-        live_at (run m before) stag ≡ Some (record { right = right; buf = contents grants stag buf (reaches (before ++ Release stag ∷ after)) }) }
-    // What `Regions::release` gives of the memory that it is called on.
-    ensures given_back { (grants : List Grant) (m : RegisteredMemory) (stag until : ℕ) (right : Right) (buf : List ℕ) (before after : List Event) →
-        stag < m.next → live_at m stag ≡ Some (record { right = right; buf = buf }) →
-        IsReleasedAt grants stag right (length buf) until before after →
-        bytes_in (held_at (run m before) stag) ≡ contents grants stag buf (reaches (before ++ Release stag ∷ after)) }
+        live_region (after_events m before) stag ≡ Some (record { right = right; buf = contents grants stag buf (tagged_segments (before ++ Release stag ∷ after)) }) }
+    // What `Regions::release` answers, by the tagged segments of the whole stream, those before the registration among them.
+    ensures whole_stream { (grants : List Grant) (start : RegisteredMemory) (from until : ℕ) (right : Right) (buf : List ℕ) (before between after : List Event) →
+        let stag = (after_events start before).next in
+        IsRegisteredAt grants stag from before → IsReleasedAt grants stag right (length buf) until between after →
+        bytes_in (held_region (after_events start (before ++ Register right buf ∷ between)) stag)
+        ≡ contents grants stag buf (tagged_segments (before ++ Register right buf ∷ (between ++ Release stag ∷ after))) }
 {}

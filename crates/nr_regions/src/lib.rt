@@ -1,16 +1,18 @@
 //! Registered memory: the buffers that one end of a connection offers to its peer, under STags (RFC 5040).
 //!
-//! It stands on nr_xdr, for the buffers; the endpoint above brings the peer's segments to it, and both ends register and
-//! release. A region has a right: the peer reads it ([`Right::Fetch`]), writes it ([`Right::Fill`]), or answers into it
-//! ([`Right::Sink`]). An access that lacks something changes and shows nothing ([`Denied`]).
+//! The crate stands on nr_xdr, whose `Octets` are the buffers. The endpoint above hands it the peer's tagged segments and
+//! Read Requests; both ends register and release. A region has a right: the peer reads it ([`Right::Fetch`]), writes it
+//! ([`Right::Fill`]), or answers into it ([`Right::Sink`]). An access that is denied changes nothing and shows nothing
+//! ([`Denied`]).
 //!
-//! A [`Registration`] is what the owner holds: its region is held from `register` to `release`, and each call says what
-//! it leaves held. That a region is live, so that a peer reaches it, is a fact of its own.
+//! The owner of a region holds its [`Registration`]: the region is held from `register` to `release`, and each call says
+//! which registrations it leaves held ([`held_until_release`]). That a region is live, so that the peer reaches it, is a
+//! separate fact. Where memory runs out, nothing changes; [`Regions`] says how several buffers are registered, all or none.
 //!
-//! The laws speak of lists of grants and of what a stream brought: an access is allowed where a grant covers it
-//! ([`allowed_accesses`]), and a region that stays open holds what was registered with each allowed payload over it, the
-//! later over the earlier ([`memory_is_its_past`]). Released at the end of its grant, it gives that back for the whole
-//! stream ([`given_back_at_its_end`]).
+//! The laws speak of a list of grants and of the segments of a stream. An access is allowed where a grant covers it
+//! ([`allowed_accesses`]). A region that stays open holds what was registered with each allowed payload over it, the later
+//! over the earlier ([`contents_while_open`]). A buffer that is released at the end of its grant holds just that for the
+//! whole stream, with what came before the registration and what comes after the release ([`contents_at_release`]).
 #![tactic(auto)]
 
 mod denied;
@@ -22,11 +24,8 @@ mod right;
 mod table;
 
 pub use denied::{Denied, Why};
-pub use laws::{allowed_accesses, given_back_at_its_end, held_until_released, memory_is_its_past};
+pub use laws::{allowed_accesses, contents_at_release, contents_while_open, held_until_release};
 pub use region::Region;
 pub use regions::Regions;
 pub use registration::Registration;
 pub use right::{Kind, Right};
-
-#[cfg(test)]
-mod tests;

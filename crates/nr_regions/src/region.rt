@@ -4,7 +4,7 @@ use crate::right::Right;
 use nr_xdr::Octets;
 
 /// A registered buffer, and what it is offered for.
-#[derive(Debug, Drop)]
+#[derive(Drop)]
 pub struct Region {
     pub right: Right,
     pub buf: Octets,

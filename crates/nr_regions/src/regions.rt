@@ -1,53 +1,62 @@
 //! All regions of a connection's end.
 
-ghost use Rattle.std.specs.Prelude.{◌≡◌, ◌+◌, ◌^◌, ◌<◌, ◌≤◌, ◌↔◌, Option, length, take, IfOk, IfErr, OnOk, OnErr, IsErrAnd, option_map, ◌≢◌};
+ghost use Rattle.std.specs.Prelude.{◌≡◌, ◌+◌, ◌^◌, ◌<◌, ◌≤◌, ◌↔◌, length, IsOk, IfOk, IfErr, OnOk, OnErr, IsErrAnd, ◌≢◌};
 ghost use Rattle.std.specs.FinMap.{get};
-ghost use Rattle.nr_regions.specs.RegisteredMemory.{RegisteredMemory, IsHeld, bytes_in, claim_of, denial, held_at, lack, lack_in, offer, opened, placed, reached, registered, released, right_for, Claim};
+ghost use Rattle.std.specs.Result.{result_err};
+ghost use Rattle.nr_regions.specs.RegisteredMemory.{IsHeld, after_place, after_register, after_release, bytes_at, bytes_held, bytes_in, claim_of, denial, denial_in, held_region, initial_memory, region_offer, right_for, stags_left, Claim};
 ghost use Rattle.nr_regions.specs.Table.{table};
 
 use crate::denied::{Denied, Why};
 use crate::region::Region;
 use crate::registration::Registration;
 use crate::right::{Kind, Right};
-use crate::table::{look_up, put, take_out, write_over};
-use nr_xdr::Octets;
+use crate::table::{look_up, make_room, no_regions, put, take_out, write_over};
+use nr_xdr::{Memory, Octets};
 use std::alloc::Global;
-use std::collections::BTreeMap;
+use std::collections::HashMap;
 use std::marker::Model;
 
 /// The registered buffers of one end of a connection, by their STags. STags rise by one and are never used again.
-#[derive(Debug, Drop)]
+///
+/// Contracts see the memory and the room: how many more buffers can be registered without an allocation. A call that
+/// needs several regions registers all of them or none so:
+///
+/// 1. [`make_room`](Regions::make_room) for that many, before anything else. An `Err` leaves the memory as it was.
+/// 2. Refuse the call where [`stags_left`](Regions::stags_left) is below that number.
+/// 3. Register each buffer: within the room and the STags left, [`register`](Regions::register) answers `Ok`.
+#[derive(Drop)]
 pub struct Regions {
     next: u64,
-    held: BTreeMap<u32, Region>,
+    bytes: u128,
+    held: HashMap<u32, Region>,
 }
 
 impl Model for Regions {
-    ghost use Rattle.std.specs.Prelude.{◌^◌, ◌≤◌};
-    ghost use Rattle.nr_regions.specs.RegisteredMemory.{RegisteredMemory};
-    ghost use Rattle.nr_regions.specs.Code.{memory_code};
+    ghost use Rattle.nr_regions.specs.RegisteredMemory.{RegionTable};
+    ghost use Rattle.nr_regions.specs.Code.{table_code};
 
-    ghost Value = { RegisteredMemory };
+    ghost Value = { RegionTable };
 
-    ghost coded = { memory_code };
+    ghost coded = { table_code };
 
-    ghost use Rattle.nr_regions.specs.Table.{table};
+    ghost use Rattle.std.specs.HashMap.{spare};
+    ghost use Rattle.nr_regions.specs.Table.{table, IsSound};
 
-    ghost view = { λ r. record { next = r.next; held = table r.held } };
+    ghost view = { λ r. record { memory = record { next = r.next; held = table r.held }; room = spare r.held } };
 
-    ghost invariant = { λ r. r.next ≤ 2 ^ 32 };
+    ghost invariant = { λ r. IsSound r.next r.bytes (table r.held) };
 }
 
-/// The region that an access may reach, or what it lacks.
+/// The region that an access may reach, or why the access is denied.
 fn judge(
-    held: &BTreeMap<u32, Region>,
+    held: &HashMap<u32, Region>,
     right: Right,
     stag: u32,
     to: u64,
     len: u64,
 ) -> Result<&Region, Denied>
-    ensures exact { denial result
-        ≡ lack_in (offer (get (table held.now) stag)) (record { right = right; stag = stag; to = to; len = len }) }
+    ensures exact { result_err result
+        ≡ denial_in (region_offer (get (table held.now) stag)) (record { right = right; stag = stag; to = to; len = len }) }
     ensures found { IfOk result (λ region. get (table held.now) stag ≡ Some region.now) }
     ensures within { IfOk result (λ region. to + len ≤ length region.now.buf) }
 {
@@ -75,37 +84,71 @@ fn right_for(kind: Kind) -> Right
 
 impl Regions {
     /// No regions. The first one that is registered gets this STag, which isn't 0. Takes no memory.
-    #[tactic(auto, unfolding(crate::specs::RegisteredMemory::opened))]
+    #[tactic(auto, unfolding(crate::specs::RegisteredMemory::initial_memory))]
     pub fn new(alloc: Global, first_stag: u32) -> Regions
         requires { 0 < first_stag }
-        ensures { result ≡ opened first_stag }
+        ensures { result.memory ≡ initial_memory first_stag }
     {
         Regions {
             next: u64::from(first_stag),
-            held: BTreeMap::new(alloc),
+            bytes: 0,
+            held: no_regions(alloc),
         }
     }
 
-    /// Registers a buffer under the next STag. `Spent` exactly where STag 2^32 - 1 was given; the buffer comes back with
-    /// an error, which changes nothing.
-    pub fn register(&mut self, buf: Octets, right: Right) -> Result<Registration, (Octets, Why)>
-        ensures ok { IfOk result (λ claim. (claim ≡ claim_of self.old buf) × (self.new ≡ registered self.old right buf)) }
-        ensures spent { IsErrAnd result (λ e. e.1 ≡ Why.Spent) ↔ (self.old.next ≡ 2 ^ 32) }
-        ensures returned { IfErr result (λ e. e.0 ≡ buf) }
-        ensures err { OnErr result (self.new ≡ self.old) }
-        // The region is held from now on, and so is what was held before.
-        ensures held { IfOk result (λ claim. IsHeld self.new claim) }
-        ensures keeps { (claim : Claim) → IsHeld self.old claim → IsHeld self.new claim }
+    /// How many STags can still be given.
+    pub fn stags_left(&self) -> u64
+        ensures { result ≡ stags_left self.now.memory }
     {
-        self.enter(buf, right)
+        0x1_0000_0000 - self.next
     }
 
-    #[tactic(auto, unfolding(crate::specs::RegisteredMemory::registered))]
-    fn enter(&mut self, buf: Octets, right: Right) -> Result<Registration, (Octets, Why)>
-        ensures ok { IfOk result (λ claim. (claim ≡ claim_of self.old buf) × (self.new ≡ registered self.old right buf)) }
-        ensures spent { IsErrAnd result (λ e. e.1 ≡ Why.Spent) ↔ (self.old.next ≡ 2 ^ 32) }
+    /// The sum of the lengths of the regions that are held.
+    #[tactic(auto, unfolding(crate::specs::RegisteredMemory::bytes_held))]
+    pub fn bytes_held(&self) -> u128
+        ensures { result ≡ bytes_held self.now.memory }
+    {
+        self.bytes
+    }
+
+    /// Takes the memory that some further registrations need. `Ok` wherever the room is there already. The memory of the
+    /// regions is the same after either answer, and the room is no less.
+    pub fn make_room(&mut self, more: usize) -> Result<(), Memory>
+        ensures ok { OnOk result (more ≤ self.new.room) }
+        ensures succeeds { more ≤ self.old.room → IsOk result }
+        ensures same { self.new.memory ≡ self.old.memory }
+        ensures room { self.old.room ≤ self.new.room }
+    {
+        make_room(&mut self.held, more)
+    }
+
+    /// Registers a buffer under the next STag. `Spent` exactly where STag 2^32 - 1 was given. Within the room memory never
+    /// runs out, and an `Ok` uses at most one of it. The buffer comes back with an error, which changes no region and no
+    /// STag.
+    pub fn register(&mut self, buf: Octets, right: Right) -> Result<Registration, (Octets, Why)>
+        ensures ok { IfOk result (λ claim. (claim ≡ claim_of self.old.memory buf) × (self.new.memory ≡ after_register self.old.memory right buf)) }
+        ensures spent { IsErrAnd result (λ e. e.1 ≡ Why.Spent) ↔ (self.old.memory.next ≡ 2 ^ 32) }
+        ensures succeeds { 0 < self.old.room → self.old.memory.next < 2 ^ 32 → IsOk result }
+        ensures room { self.old.room ≤ self.new.room + 1 }
+        ensures room_kept { OnErr result (self.old.room ≤ self.new.room) }
         ensures returned { IfErr result (λ e. e.0 ≡ buf) }
-        ensures err { OnErr result (self.new ≡ self.old) }
+        ensures err { OnErr result (self.new.memory ≡ self.old.memory) }
+        // The region is held from now on, and so is what was held before.
+        ensures held { IfOk result (λ claim. IsHeld self.new.memory claim) }
+        ensures keeps { (claim : Claim) → IsHeld self.old.memory claim → IsHeld self.new.memory claim }
+    {
+        self.register_inner(buf, right)
+    }
+
+    #[tactic(auto, unfolding(crate::specs::RegisteredMemory::after_register))]
+    fn register_inner(&mut self, buf: Octets, right: Right) -> Result<Registration, (Octets, Why)>
+        ensures ok { IfOk result (λ claim. (claim ≡ claim_of self.old.memory buf) × (self.new.memory ≡ after_register self.old.memory right buf)) }
+        ensures spent { IsErrAnd result (λ e. e.1 ≡ Why.Spent) ↔ (self.old.memory.next ≡ 2 ^ 32) }
+        ensures succeeds { 0 < self.old.room → self.old.memory.next < 2 ^ 32 → IsOk result }
+        ensures room { self.old.room ≤ self.new.room + 1 }
+        ensures room_kept { OnErr result (self.old.room ≤ self.new.room) }
+        ensures returned { IfErr result (λ e. e.0 ≡ buf) }
+        ensures err { OnErr result (self.new.memory ≡ self.old.memory) }
     {
         if self.next > u64::from(u32::MAX) {
             return Err((buf, Why::Spent));
@@ -119,6 +162,7 @@ impl Regions {
             }
             Ok(()) => {
                 self.next += 1;
+                self.bytes += u128::from(len);
                 Ok(Registration::new(stag, len))
             }
         }
@@ -126,47 +170,52 @@ impl Regions {
 
     /// Gives the buffer back as it stands. Its STag is dead from then on. Takes no memory.
     pub fn release(&mut self, registration: Registration) -> Octets
-        requires { IsHeld self.old registration }
-        ensures bytes { result ≡ bytes_in (held_at self.old registration.stag) }
+        requires { IsHeld self.old.memory registration }
+        ensures bytes { result ≡ bytes_in (held_region self.old.memory registration.stag) }
         ensures len { length result ≡ registration.len }
-        ensures dead { self.new ≡ released self.old registration.stag }
+        ensures dead { self.new.memory ≡ after_release self.old.memory registration.stag }
+        ensures room { self.old.room ≤ self.new.room }
         // What else was held is held.
-        ensures keeps { (claim : Claim) → claim.stag ≢ registration.stag → IsHeld self.old claim → IsHeld self.new claim }
+        ensures keeps { (claim : Claim) → claim.stag ≢ registration.stag → IsHeld self.old.memory claim → IsHeld self.new.memory claim }
     {
-        self.leave(registration)
+        self.release_inner(registration)
     }
 
-    #[tactic(auto, unfolding(crate::specs::RegisteredMemory::released, crate::specs::RegisteredMemory::held_at))]
-    fn leave(&mut self, registration: Registration) -> Octets
-        requires { IsHeld self.old registration }
-        ensures bytes { result ≡ bytes_in (held_at self.old registration.stag) }
+    #[tactic(auto, unfolding(crate::specs::RegisteredMemory::after_release, crate::specs::RegisteredMemory::held_region))]
+    fn release_inner(&mut self, registration: Registration) -> Octets
+        requires { IsHeld self.old.memory registration }
+        ensures bytes { result ≡ bytes_in (held_region self.old.memory registration.stag) }
         ensures len { length result ≡ registration.len }
-        ensures dead { self.new ≡ released self.old registration.stag }
+        ensures dead { self.new.memory ≡ after_release self.old.memory registration.stag }
+        ensures room { self.old.room ≤ self.new.room }
     {
+        self.bytes -= u128::from(registration.len());
         match take_out(&mut self.held, registration.stag()) {
             Some(Region { right: _, buf }) => buf,
             None => unreachable!(),
         }
     }
 
-    /// Writes a tagged segment's payload into its region (RFC 5040 section 5). An `Err` says what the access lacks, the
-    /// first that stands, and changes nothing. Takes no memory.
+    /// Writes a tagged segment's payload into its region (RFC 5040 section 5). An `Err` says why the access is denied, the
+    /// first reason that applies, and changes nothing. Takes no memory.
     pub fn place(&mut self, kind: Kind, stag: u32, to: u64, bytes: &[u8]) -> Result<(), Denied>
-        ensures exact { denial result
-            ≡ lack self.old (record { right = right_for kind; stag = stag; to = to; len = length bytes.now }) }
-        ensures ok { OnOk result (self.new ≡ placed self.old stag to bytes.now) }
-        ensures err { OnErr result (self.new ≡ self.old) }
-        ensures keeps { (claim : Claim) → IsHeld self.old claim → IsHeld self.new claim }
+        ensures exact { result_err result
+            ≡ denial self.old.memory (record { right = right_for kind; stag = stag; to = to; len = length bytes.now }) }
+        ensures ok { OnOk result (self.new.memory ≡ after_place self.old.memory stag to bytes.now) }
+        ensures err { OnErr result (self.new.memory ≡ self.old.memory) }
+        ensures room { self.new.room ≡ self.old.room }
+        ensures keeps { (claim : Claim) → IsHeld self.old.memory claim → IsHeld self.new.memory claim }
     {
-        self.write_in(kind, stag, to, bytes)
+        self.place_inner(kind, stag, to, bytes)
     }
 
-    #[tactic(auto, unfolding(crate::specs::RegisteredMemory::lack, crate::specs::RegisteredMemory::live_at, crate::specs::RegisteredMemory::held_at, crate::specs::RegisteredMemory::placed))]
-    fn write_in(&mut self, kind: Kind, stag: u32, to: u64, bytes: &[u8]) -> Result<(), Denied>
-        ensures exact { denial result
-            ≡ lack self.old (record { right = right_for kind; stag = stag; to = to; len = length bytes.now }) }
-        ensures ok { OnOk result (self.new ≡ placed self.old stag to bytes.now) }
-        ensures err { OnErr result (self.new ≡ self.old) }
+    #[tactic(auto, unfolding(crate::specs::RegisteredMemory::denial, crate::specs::RegisteredMemory::live_region, crate::specs::RegisteredMemory::held_region, crate::specs::RegisteredMemory::after_place))]
+    fn place_inner(&mut self, kind: Kind, stag: u32, to: u64, bytes: &[u8]) -> Result<(), Denied>
+        ensures exact { result_err result
+            ≡ denial self.old.memory (record { right = right_for kind; stag = stag; to = to; len = length bytes.now }) }
+        ensures ok { OnOk result (self.new.memory ≡ after_place self.old.memory stag to bytes.now) }
+        ensures err { OnErr result (self.new.memory ≡ self.old.memory) }
+        ensures room { self.new.room ≡ self.old.room }
     {
         match judge(&self.held, right_for(kind), stag, to, bytes.len() as u64) {
             Ok(_) => {
@@ -177,13 +226,13 @@ impl Regions {
         }
     }
 
-    /// The bytes that a peer's Read Request asks for. An `Err` says what the access lacks, the first that stands. Takes no
-    /// memory.
-    #[tactic(auto, unfolding(crate::specs::RegisteredMemory::lack, crate::specs::RegisteredMemory::live_at, crate::specs::RegisteredMemory::held_at))]
+    /// The bytes that a peer's Read Request asks for. An `Err` says why the access is denied, the first reason that
+    /// applies. Takes no memory.
+    #[tactic(auto, unfolding(crate::specs::RegisteredMemory::denial, crate::specs::RegisteredMemory::live_region, crate::specs::RegisteredMemory::held_region))]
     pub fn fetch(&self, stag: u32, to: u64, len: u64) -> Result<&[u8], Denied>
-        ensures exact { denial result ≡ lack self.now (record { right = Right.Fetch; stag = stag; to = to; len = len }) }
+        ensures exact { result_err result ≡ denial self.now.memory (record { right = Right.Fetch; stag = stag; to = to; len = len }) }
         ensures ok { IfOk result (λ bytes. bytes.now
-            ≡ reached self.now (record { right = Right.Fetch; stag = stag; to = to; len = len })) }
+            ≡ bytes_at self.now.memory (record { right = Right.Fetch; stag = stag; to = to; len = len })) }
     {
         match judge(&self.held, Right::Fetch, stag, to, len) {
             Ok(region) => {

@@ -4,8 +4,8 @@ ghost use Rattle.std.specs.Prelude.{◌≡◌};
 
 use std::marker::Model;
 
-/// A registered region, held from `register` to `release`. It is neither copied nor cloned, so each is released once.
-#[derive(Debug, Drop)]
+/// A registered region, held from `register` to `release`. It can't be copied, so each region is released at most once.
+#[derive(Drop)]
 pub struct Registration {
     stag: u32,
     len: u64,

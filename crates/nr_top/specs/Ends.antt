@@ -3,7 +3,7 @@ use Rattle.std.specs.Prelude.{◌≡◌, ◌≢◌, ℕ, ◌<◌, ◌≤◌, ◌
 use Rattle.std.specs.Fmt.{decimal}
 use Rattle.std.specs.Io.KnownBytes.{Appends, Keeps, IsAtEnd}
 use Rattle.nr_outside.specs.Content.{HandsOut}
-use Rattle.nr_outside.specs.Faults.{Rose}
+use Rattle.nr_outside.specs.Faults.{Rises}
 use Rattle.nr_world.specs.declared.mark.Mark.{Mark}
 use Rattle.nr_world.specs.Constants.{script_max}
 use Rattle.nr_world.specs.Script.{ScriptLines, script_of}
@@ -62,7 +62,7 @@ pub record CutOff (old new : SinkAt) (text : List ℕ) : Type 0 where
   pub len : ℕ
   pub short : len < length text
   pub appends : Appends old.taken new.taken (take len text)
-  pub rose : Rose old.faults new.faults
+  pub rose : Rises old.faults new.faults
 
 -- what a drill prints of a run of a script
 abbrev pub printed : ScriptLines → List Mark → List ℕ
@@ -114,7 +114,7 @@ pub data Cause : Type 0 where
 abbrev pub Stopped : Cause → List (List ℕ) → InputAt → InputAt → SinkAt → SinkAt → Type 0
 Stopped BadArguments arguments input input' out out' = (is_drill arguments ≡ false) × (input' ≡ input) × (out' ≡ out)
 Stopped NoMemory arguments input input' out out' = (is_drill arguments ≡ true) × Took input input' × (input'.faults ≡ input.faults) × Silent out out'
-Stopped InputFault arguments input input' out out' = (is_drill arguments ≡ true) × Took input input' × Rose input.faults input'.faults × Silent out out'
+Stopped InputFault arguments input input' out out' = (is_drill arguments ≡ true) × Took input input' × Rises input.faults input'.faults × Silent out out'
 Stopped OutputFault arguments input input' out out' = Halfway arguments input input' out out'
 Stopped (BadScript number) arguments input input' out out' = BadLine number arguments input input' × Silent out out'
 Stopped OverBudget arguments input input' out out' = TooLong arguments input × TookTooMuch input input' × (input'.faults ≡ input.faults) × Silent out out'

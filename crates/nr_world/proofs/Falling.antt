@@ -2,7 +2,7 @@
 use Rattle.std.proofs.Common.{◌≡◌, ℕ, suc, ◌+◌, ◌-◌, ◌^◌, ◌<◌, ◌⊎◌, List, [], ◌∷◌, length, refl, sym, ap, subst, ◌∙◌, arith, inl, inr}
 use Rattle.std.proofs.lemmas.Bool.{cases_lt}
 use Rattle.std.proofs.lemmas.List.{length-append, length-drop}
-use Rattle.nr_outside.specs.Pipe.{PipeState, waiting_in}
+use Rattle.nr_outside.specs.Pipe.{PipeState, waiting_bytes}
 use Rattle.nr_wire.specs.declared.hello.Side.TheVariants.{Initiator}
 use Rattle.nr_world.specs.Observed.{executed}
 use Rattle.nr_world.specs.Messages.{conveyed, messages, call_in}
@@ -21,8 +21,8 @@ abbrev four : (a b c d e f : ℕ) → List ℕ
 four a b c d e f = (a - b) ∷ (c - d) ∷ (e - f) ∷ (a - b) ∷ []
 
 -- how many bytes wait in a pipe
-waiting-len : (p : PipeState) (log : List ℕ) (place : ℕ) → p ≡ record { log = log; place = place; faults = 0 } → length (waiting_in p) ≡ length log - place
-waiting-len p log place e = ap (λ (q : PipeState). length (waiting_in q)) e ∙ length-drop place log
+waiting-len : (p : PipeState) (log : List ℕ) (place : ℕ) → p ≡ record { log = log; place = place; faults = 0 } → length (waiting_bytes p) ≡ length log - place
+waiting-len p log place e = ap (λ (q : PipeState). length (waiting_bytes q)) e ∙ length-drop place log
 
 -- how many calls came and are executed, and what each side sent and got, where the driver stands so
 todo-is : (s : State) → Stands s → todo (drill_opened s.credits) (drill_of s) the_link
@@ -34,12 +34,12 @@ todo-is s st =
     let few : n < 2 ^ 32 = omega (arith, st.came_asked, st.few_calls) in
     let credits : s.credits < 2 ^ 32 = omega (arith, st.few_credits) in
     let behind : length (unwritten (drill_opened s.credits) the_link Initiator (drill_of s)) ≡ 0 = ap length (unwritten_up-none s.credits (drill_of s) (counts_of s) st.at refl) in
-    let up : length (waiting_in s.up) ≡ length (upward s.credits s.asked) - length (upward s.credits n) = waiting-len s.up _ _ st.up_is in
-    let down : length (waiting_in s.down) ≡ length (downward s.credits s.served) - length (downward s.credits (length s.reports)) = waiting-len s.down _ _ st.down_is in
+    let up : length (waiting_bytes s.up) ≡ length (upward s.credits s.asked) - length (upward s.credits n) = waiting-len s.up _ _ st.up_is in
+    let down : length (waiting_bytes s.down) ≡ length (downward s.credits s.served) - length (downward s.credits (length s.reports)) = waiting-len s.down _ _ st.down_is in
     let calls : length (came the_link s.marks) ≡ n =
     ap (λ (xs : List ℕ). length (conveyed call_in (messages Initiator xs))) st.at.up_got ∙ ap length (calls-upward s.credits n few credits) ∙ length-each conveyed_call n in
     let done : length (executed the_link s.marks) ≡ s.served = ap length st.at.executed_are ∙ length-each executed_call s.served in
-    let first : length (unwritten (drill_opened s.credits) the_link Initiator (drill_of s)) + length (waiting_in s.up) ≡ length (upward s.credits s.asked) - length (upward s.credits n) = omega (arith, behind, up) in
+    let first : length (unwritten (drill_opened s.credits) the_link Initiator (drill_of s)) + length (waiting_bytes s.up) ≡ length (upward s.credits s.asked) - length (upward s.credits n) = omega (arith, behind, up) in
     λ i. first i ∷ (calls i - done i) ∷ down i ∷ up i ∷ []
 
 longer_up : (credits n : ℕ) → suc n < 2 ^ 32 → length (upward credits n) < length (upward credits (suc n))

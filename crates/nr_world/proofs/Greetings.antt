@@ -1,7 +1,7 @@
 -- A side's own hello is accepted, and what waits in a pipe is peeked whole.
 use Rattle.std.proofs.Common.{◌≡◌, ℕ, ◌+◌, List, [], length, ap, ◌∙◌, refl, arith}
 use Rattle.std.proofs.lemmas.List.{take_all, length-drop}
-use Rattle.nr_outside.specs.Pipe.{PipeState, waiting_in, next_in}
+use Rattle.nr_outside.specs.Pipe.{PipeState, waiting_bytes, next_bytes}
 use Rattle.nr_wire.specs.declared.hello.Hello.{Hello as HelloFrame}
 use Rattle.nr_wire.specs.declared.hello.NextHello.{NextHello}
 use Rattle.nr_wire.specs.declared.hello.NextHello.TheVariants.{Whole as WholeHello, More as MoreHello, Bad as BadHello}
@@ -13,8 +13,8 @@ use Rattle.nr_wire.specs.View.{next_hello}
 use Rattle.nr_world.specs.Owed.{own_hello}
 use Rattle.nr_world.proofs.Streams.{hello_in-own}
 
-pub all_waiting : (p : PipeState) (n : ℕ) → p.place + n ≡ length p.log → next_in p n ≡ waiting_in p
-all_waiting p n e = take_all n (waiting_in p) (omega (arith, length-drop p.place p.log))
+pub all_waiting : (p : PipeState) (n : ℕ) → p.place + n ≡ length p.log → next_bytes p n ≡ waiting_bytes p
+all_waiting p n e = take_all n (waiting_bytes p) (omega (arith, length-drop p.place p.log))
 
 whole_own : (side : Side) (r : Next Hello) → r ≡ hello_in side (own_hello side) → r ≡ Whole (record { side = side; flags = 0; private = [] }) (length (own_hello side))
 whole_own side r e = e ∙ hello_in-own side

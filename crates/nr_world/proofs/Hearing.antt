@@ -4,7 +4,7 @@ use Rattle.std.specs.List.{flat_map, list_any}
 use Rattle.std.proofs.lemmas.Bool.{cases_lt, lt-ltb, le-ltb, eq-eqb, ne_eqb}
 use Rattle.std.proofs.lemmas.List.{append-nil, drop_all, length_push}
 use Rattle.std.proofs.lemmas.List.Folds.{list_any-append}
-use Rattle.nr_outside.specs.Pipe.{PipeState, waiting_in}
+use Rattle.nr_outside.specs.Pipe.{PipeState, waiting_bytes}
 use Rattle.nr_wire.specs.declared.hello.Side.TheVariants.{Initiator}
 use Rattle.nr_wire.specs.Next.{segment_in}
 use Rattle.nr_world.specs.declared.call.Outcome.TheVariants as outcomes
@@ -116,13 +116,13 @@ heard_by-some : (s : State) (bytes : List ℕ) → 0 < length bytes → heard_by
 heard_by-some s [] lt = absurd (omega arith)
 heard_by-some s (b ∷ bytes) lt = refl
 
-down-none : (s : State) → Stands s → s.served ≡ length s.reports → waiting_in s.down ≡ []
+down-none : (s : State) → Stands s → s.served ≡ length s.reports → waiting_bytes s.down ≡ []
 down-none s st all =
     let log : s.down.log ≡ downward s.credits s.served = ap (λ (p : PipeState). p.log) st.down_is in
     let place : s.down.place ≡ length (downward s.credits (length s.reports)) = ap (λ (p : PipeState). p.place) st.down_is in
     drop_all s.down.place s.down.log (omega (arith, place, ap length log, ap (λ (k : ℕ). length (downward s.credits k)) all))
 
-down-one : (s : State) → Stands s → s.served ≡ suc (length s.reports) → waiting_in s.down ≡ answer s.credits (suc (length s.reports))
+down-one : (s : State) → Stands s → s.served ≡ suc (length s.reports) → waiting_bytes s.down ≡ answer s.credits (suc (length s.reports))
 down-one s st next =
     let k = length s.reports in
     let log : s.down.log ≡ downward s.credits k ++ answer s.credits (suc k) = ap (λ (p : PipeState). p.log) st.down_is ∙ ap (downward s.credits) next ∙ downward-more s.credits k in
@@ -141,10 +141,10 @@ hears_none s st all =
     let w = words_of s st in
     let c = s.credits in
     let none = down-none s st all in
-    let same : heard_state s ≡ s = heard_by-none s (waiting_in s.down) none in
+    let same : heard_state s ≡ s = heard_by-none s (waiting_bytes s.down) none in
     let d = drill_of s in
     let small : length s.reports < 2 ^ 32 = omega (arith, w.small, st.heard_served, st.came_asked) in
-    let fed = feeding-none Initiator (take (length (waiting_in s.down)) (waiting_in s.down)) (record { up = waiting_in s.up; down = drop (length (waiting_in s.down)) (waiting_in s.down) }) d (take_length (waiting_in s.down) ∙ none) in
+    let fed = feeding-none Initiator (take (length (waiting_bytes s.down)) (waiting_bytes s.down)) (record { up = waiting_bytes s.up; down = drop (length (waiting_bytes s.down)) (waiting_bytes s.down) }) d (take_length (waiting_bytes s.down) ∙ none) in
     let makes : all_down (drill_opened c) the_link d ≡ d =
     ap (λ (x : Drill). settled (drill_opened c) the_link (taken the_link x)) fed
     ∙ ap (settled (drill_opened c) the_link) (taken-none c d (counts_of s) st.at refl small w.few)
@@ -188,11 +188,11 @@ fed_with s bytes = record {
   reports = s.reports;
 }
 
-heard-is : (s : State) (k : ℕ) → waiting_in s.down ≡ answer s.credits k → k < 2 ^ 32 → s.credits < 2 ^ 32 → heard_state s ≡ after_heard s k s.place (length s.reports + 1)
+heard-is : (s : State) (k : ℕ) → waiting_bytes s.down ≡ answer s.credits k → k < 2 ^ 32 → s.credits < 2 ^ 32 → heard_state s ≡ after_heard s k s.place (length s.reports + 1)
 unfolding heard_state
 heard-is s k waits small few =
-    let some : 0 < length (waiting_in s.down) = omega (arith, some_answer s.credits k small, ap length waits) in
-    let first : heard_by s (waiting_in s.down) ≡ done_by (fed_with s (waiting_in s.down)) (option_and_then reply_in (ended_by (segment_in (waiting_in s.down)))) = heard_by-some s (waiting_in s.down) some in
+    let some : 0 < length (waiting_bytes s.down) = omega (arith, some_answer s.credits k small, ap length waits) in
+    let first : heard_by s (waiting_bytes s.down) ≡ done_by (fed_with s (waiting_bytes s.down)) (option_and_then reply_in (ended_by (segment_in (waiting_bytes s.down)))) = heard_by-some s (waiting_bytes s.down) some in
     first
     ∙ ap (λ (bytes : List ℕ). done_by (fed_with s bytes) (option_and_then reply_in (ended_by (segment_in bytes)))) waits
     ∙ ap (done_by (fed_with s (answer s.credits k))) (answer-conveys s.credits k small few)
@@ -221,21 +221,21 @@ hears_one s st next none =
     let report_now : new.reports ≡ each report_call k = ap (λ (xs : List CallReport). xs ++ report_call k ∷ []) st.report_is in
     let log : s.down.log ≡ downward c s.served = ap (λ (p : PipeState). p.log) st.down_is in
     let d = drill_of s in
-    let up = waiting_in s.up in
+    let up = waiting_bytes s.up in
     let fed_drill : Drill = record { marks = run; ways = record { up = up; down = [] } ∷ []; seconds = 0 } in
     let last : Drill = record { marks = run ++ complete k ∷ []; ways = record { up = up; down = [] } ∷ []; seconds = 0 } in
-    let some : 0 < length (waiting_in s.down) = omega (arith, some_answer c k small, ap length waits) in
-    let fed : feeding the_link Initiator (take (length (waiting_in s.down)) (waiting_in s.down)) (record { up = up; down = drop (length (waiting_in s.down)) (waiting_in s.down) }) d ≡ fed_drill =
-    ap (λ (xs : List ℕ). feeding the_link Initiator xs (record { up = up; down = drop (length (waiting_in s.down)) (waiting_in s.down) }) d) (take_length (waiting_in s.down))
-    ∙ ap (λ (xs : List ℕ). feeding the_link Initiator (waiting_in s.down) (record { up = up; down = xs }) d) (drop_length (waiting_in s.down))
-    ∙ feeding-some Initiator (waiting_in s.down) (record { up = up; down = [] }) d some
+    let some : 0 < length (waiting_bytes s.down) = omega (arith, some_answer c k small, ap length waits) in
+    let fed : feeding the_link Initiator (take (length (waiting_bytes s.down)) (waiting_bytes s.down)) (record { up = up; down = drop (length (waiting_bytes s.down)) (waiting_bytes s.down) }) d ≡ fed_drill =
+    ap (λ (xs : List ℕ). feeding the_link Initiator xs (record { up = up; down = drop (length (waiting_bytes s.down)) (waiting_bytes s.down) }) d) (take_length (waiting_bytes s.down))
+    ∙ ap (λ (xs : List ℕ). feeding the_link Initiator (waiting_bytes s.down) (record { up = up; down = xs }) d) (drop_length (waiting_bytes s.down))
+    ∙ feeding-some Initiator (waiting_bytes s.down) (record { up = up; down = [] }) d some
     ∙ ap (λ (xs : List ℕ). record { marks = s.marks ++ marks.Fed the_link Initiator xs ∷ []; ways = record { up = up; down = [] } ∷ []; seconds = 0 }) waits in
     let handed = last_taken c run n1 h at1 all_asked refl refl small w.few in
     let makes : all_down (drill_opened c) the_link d ≡ last =
     ap (λ (x : Drill). settled (drill_opened c) the_link (taken the_link x)) fed
     ∙ ap (λ (xs : List Mark). settled (drill_opened c) the_link (record { marks = run ++ xs; ways = record { up = up; down = [] } ∷ []; seconds = 0 })) handed
     ∙ settled-none c last (record n1 { done = k }) at2 refl refl in
-    let read : waiting_in (all_read s.down) ≡ [] = drop_all (length s.down.log) s.down.log (omega arith) in
+    let read : waiting_bytes (all_read s.down) ≡ [] = drop_all (length s.down.log) s.down.log (omega arith) in
     let both : At c (run ++ complete k ∷ []) (record n1 { heard = length new.reports; done = length new.reports }) =
     subst (λ (j : ℕ). At c (run ++ complete k ∷ []) (record n1 { heard = j; done = j })) (sym report_len) at2 in
     subst (λ (t : State). Hears s t) (sym same) (record {
@@ -259,7 +259,7 @@ hears_one s st next none =
       credits_are = refl;
       makes = ap (λ (down : List ℕ). record { marks = run ++ complete k ∷ []; ways = record { up = up; down = down } ∷ []; seconds = 0 }) read ∙ sym makes;
       all = report_len ∙ sym next;
-      moved = some_bytes (waiting_in s.down) some ∙ sym (lt-ltb h s.served (omega (arith, next)));
+      moved = some_bytes (waiting_bytes s.down) some ∙ sym (lt-ltb h s.served (omega (arith, next)));
       still = λ e. absurd (omega (arith, e, next));
     })
 

@@ -2,7 +2,7 @@
 use Rattle.std.proofs.Common.{◌≡◌, ℕ, suc, ◌+◌, ◌^◌, ◌<◌, ◌≤◌, ltb, List, [], ◌∷◌, ◌++◌, length, Option, Some, None, refl, sym, ap, subst, ◌∙◌, arith, add-one, add-zero}
 use Rattle.std.proofs.lemmas.Bool.{lt-ltb, le-ltb}
 use Rattle.std.proofs.lemmas.Option.{slice_get_past}
-use Rattle.nr_outside.specs.Pipe.{PipeState, waiting_in}
+use Rattle.nr_outside.specs.Pipe.{PipeState, waiting_bytes}
 use Rattle.nr_wire.specs.declared.hello.Side.TheVariants.{Initiator}
 use Rattle.nr_world.specs.declared.mark.Mark.{Mark}
 use Rattle.nr_world.specs.declared.mark.Mark.TheVariants as marks
@@ -116,7 +116,7 @@ worked_one s call arrived is st =
     let way = waiting-written s.down (answer c k) within in
     let d : Drill = with_mark (execute k) (drill_of s) in
     let makes : drill_of new ≡ settled (drill_opened c) the_link d =
-    ap (λ (down : List ℕ). record { marks = run ++ write_down c k ∷ []; ways = record { up = waiting_in s.up; down = down } ∷ []; seconds = 0 }) way
+    ap (λ (down : List ℕ). record { marks = run ++ write_down c k ∷ []; ways = record { up = waiting_bytes s.up; down = down } ∷ []; seconds = 0 }) way
     ∙ sym (settled-down c d n1 at1 refl refl small_k) in
     let one : Works drill_server (drill_opened c) the_link (drill_of s) (drill_of new) = record {
       xid = k;

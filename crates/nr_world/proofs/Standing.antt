@@ -2,7 +2,7 @@
 use Rattle.std.proofs.Common.{◌≡◌, ℕ, suc, ◌+◌, ◌^◌, ◌<◌, ◌≤◌, true, ltb, List, [], ◌∷◌, ◌++◌, length, take, drop, Option, Some, None, option_and_then, refl, sym, ap, subst, ◌∙◌, arith, add-one, add-zero, inl, inr}
 use Rattle.std.proofs.lemmas.Bool.{cases_lt, lt-ltb, le-ltb}
 use Rattle.std.proofs.lemmas.List.{drop_all, drop_at, take_all, drop-append-le}
-use Rattle.nr_outside.specs.Pipe.{PipeState, waiting_in}
+use Rattle.nr_outside.specs.Pipe.{PipeState, waiting_bytes}
 use Rattle.nr_wire.specs.declared.hello.Side.TheVariants.{Responder}
 use Rattle.nr_wire.specs.Next.{segment_in}
 use Rattle.nr_world.specs.declared.call.Form.TheVariants.{Auto}
@@ -55,7 +55,7 @@ pub pipe_is : (p : PipeState) (log : List ℕ) (place : ℕ) → p.log ≡ log �
 pipe_is p log place a b c = λ i. record { log = a i; place = b i; faults = c i }
 
 -- what was written before stays on its way, and what is written is put behind it
-pub waiting-written : (p : PipeState) (bytes : List ℕ) → p.place ≤ length p.log → waiting_in (written p bytes) ≡ waiting_in p ++ bytes
+pub waiting-written : (p : PipeState) (bytes : List ℕ) → p.place ≤ length p.log → waiting_bytes (written p bytes) ≡ waiting_bytes p ++ bytes
 waiting-written p bytes le = drop-append-le p.place p.log bytes le
 
 -- the state after the k-th call went out
@@ -117,7 +117,7 @@ asks_next s st quiet room =
       asked_is = sym (add-one s.asked);
       report_is = refl;
       makes =
-          ap (λ (up : List ℕ). record { marks = (s.marks ++ submit k ∷ []) ++ write_up c k ∷ []; ways = record { up = up; down = waiting_in s.down } ∷ []; seconds = 0 }) way
+          ap (λ (up : List ℕ). record { marks = (s.marks ++ submit k ∷ []) ++ write_up c k ∷ []; ways = record { up = up; down = waiting_bytes s.down } ∷ []; seconds = 0 }) way
           ∙ sym (settled-up c d n1 at1 refl refl (omega (arith, w.small)))
           ∙ ap (λ (a : Submission). settled (drill_opened c) the_link (with_mark (marks.Submit the_link null Auto a) (drill_of s))) (sym (answer_of-is c s.marks n st.at quiet small w.few));
       credits_are = refl;
@@ -152,14 +152,14 @@ came_by-some s [] lt = absurd (omega arith)
 came_by-some s (b ∷ bytes) lt = refl
 
 -- nothing waits for the server
-up-none : (s : State) → Stands s → s.asked ≡ (counts_of s).came → waiting_in s.up ≡ []
+up-none : (s : State) → Stands s → s.asked ≡ (counts_of s).came → waiting_bytes s.up ≡ []
 up-none s st all =
     let log : s.up.log ≡ upward s.credits s.asked = ap (λ (p : PipeState). p.log) st.up_is in
     let place : s.up.place ≡ length (upward s.credits (counts_of s).came) = ap (λ (p : PipeState). p.place) st.up_is in
     drop_all s.up.place s.up.log (omega (arith, place, ap length log, ap (λ (k : ℕ). length (upward s.credits k)) all))
 
 -- one call waits for it
-up-one : (s : State) (k : ℕ) → Stands s → s.asked ≡ suc k → (counts_of s).came ≡ k → waiting_in s.up ≡ ask s.credits (suc k)
+up-one : (s : State) (k : ℕ) → Stands s → s.asked ≡ suc k → (counts_of s).came ≡ k → waiting_bytes s.up ≡ ask s.credits (suc k)
 up-one s k st next came =
     let log : s.up.log ≡ upward s.credits k ++ ask s.credits (suc k) = ap (λ (p : PipeState). p.log) st.up_is ∙ ap (upward s.credits) next ∙ upward-more s.credits k in
     let place : s.up.place ≡ length (upward s.credits k) = ap (λ (p : PipeState). p.place) st.up_is ∙ ap (λ (j : ℕ). length (upward s.credits j)) came in
@@ -177,9 +177,9 @@ unfolding came up_by
 comes_none s st all =
     let c = s.credits in
     let none = up-none s st all in
-    let same : came s ≡ s = came_by-none s (waiting_in s.up) none in
+    let same : came s ≡ s = came_by-none s (waiting_bytes s.up) none in
     let d = drill_of s in
-    let fed = feeding-none Responder (take (length (waiting_in s.up)) (waiting_in s.up)) (record { up = drop (length (waiting_in s.up)) (waiting_in s.up); down = waiting_in s.down }) d (take_length (waiting_in s.up) ∙ none) in
+    let fed = feeding-none Responder (take (length (waiting_bytes s.up)) (waiting_bytes s.up)) (record { up = drop (length (waiting_bytes s.up)) (waiting_bytes s.up); down = waiting_bytes s.down }) d (take_length (waiting_bytes s.up) ∙ none) in
     let makes : all_up (drill_opened c) the_link d ≡ d = ap (settled (drill_opened c) the_link) fed ∙ settled-none c d (counts_of s) st.at refl refl in
     subst (λ (t : State). Comes s t) (sym same) (record {
       stands = st;
@@ -222,11 +222,11 @@ fed_with s bytes call = record {
   reports = s.reports;
 }
 
-came-is : (s : State) (k : ℕ) → Stands s → waiting_in s.up ≡ ask s.credits k → k < 2 ^ 32 → s.credits < 2 ^ 32 → came s ≡ after_came s k
+came-is : (s : State) (k : ℕ) → Stands s → waiting_bytes s.up ≡ ask s.credits k → k < 2 ^ 32 → s.credits < 2 ^ 32 → came s ≡ after_came s k
 unfolding came
 came-is s k st waits small few =
-    let some : 0 < length (waiting_in s.up) = omega (arith, some_ask s.credits k small, ap length waits) in
-    let first : came_by s (waiting_in s.up) ≡ fed_with s (waiting_in s.up) (option_and_then call_in (ended_by (segment_in (waiting_in s.up)))) = came_by-some s (waiting_in s.up) some in
+    let some : 0 < length (waiting_bytes s.up) = omega (arith, some_ask s.credits k small, ap length waits) in
+    let first : came_by s (waiting_bytes s.up) ≡ fed_with s (waiting_bytes s.up) (option_and_then call_in (ended_by (segment_in (waiting_bytes s.up)))) = came_by-some s (waiting_bytes s.up) some in
     first
     ∙ ap (λ (bytes : List ℕ). fed_with s bytes (option_and_then call_in (ended_by (segment_in bytes)))) waits
     ∙ ap (fed_with s (ask s.credits k)) (ask-conveys s.credits k small few)
@@ -249,16 +249,16 @@ comes_one s st none next =
     subst (λ (j : ℕ). Laws c (s.marks ++ feed_up c (suc j) ∷ [])) came_is (Laws-feed_up c s.marks n st.at st.laws (omega (arith, next, came_is))) in
     let log : s.up.log ≡ upward c s.asked = ap (λ (p : PipeState). p.log) st.up_is in
     let d = drill_of s in
-    let down = waiting_in s.down in
+    let down = waiting_bytes s.down in
     let fed_drill : Drill = record { marks = s.marks ++ feed_up c k ∷ []; ways = record { up = []; down = down } ∷ []; seconds = 0 } in
-    let some : 0 < length (waiting_in s.up) = omega (arith, some_ask c k small, ap length waits) in
-    let fed : feeding the_link Responder (take (length (waiting_in s.up)) (waiting_in s.up)) (record { up = drop (length (waiting_in s.up)) (waiting_in s.up); down = down }) d ≡ fed_drill =
-    ap (λ (xs : List ℕ). feeding the_link Responder xs (record { up = drop (length (waiting_in s.up)) (waiting_in s.up); down = down }) d) (take_length (waiting_in s.up))
-    ∙ ap (λ (xs : List ℕ). feeding the_link Responder (waiting_in s.up) (record { up = xs; down = down }) d) (drop_length (waiting_in s.up))
-    ∙ feeding-some Responder (waiting_in s.up) (record { up = []; down = down }) d some
+    let some : 0 < length (waiting_bytes s.up) = omega (arith, some_ask c k small, ap length waits) in
+    let fed : feeding the_link Responder (take (length (waiting_bytes s.up)) (waiting_bytes s.up)) (record { up = drop (length (waiting_bytes s.up)) (waiting_bytes s.up); down = down }) d ≡ fed_drill =
+    ap (λ (xs : List ℕ). feeding the_link Responder xs (record { up = drop (length (waiting_bytes s.up)) (waiting_bytes s.up); down = down }) d) (take_length (waiting_bytes s.up))
+    ∙ ap (λ (xs : List ℕ). feeding the_link Responder (waiting_bytes s.up) (record { up = xs; down = down }) d) (drop_length (waiting_bytes s.up))
+    ∙ feeding-some Responder (waiting_bytes s.up) (record { up = []; down = down }) d some
     ∙ ap (λ (xs : List ℕ). record { marks = s.marks ++ marks.Fed the_link Responder xs ∷ []; ways = record { up = []; down = down } ∷ []; seconds = 0 }) waits in
     let makes : all_up (drill_opened c) the_link d ≡ fed_drill = ap (settled (drill_opened c) the_link) fed ∙ settled-none c fed_drill (record n { came = k }) at1 refl refl in
-    let read : waiting_in (all_read s.up) ≡ [] = drop_all (length s.up.log) s.up.log (omega arith) in
+    let read : waiting_bytes (all_read s.up) ≡ [] = drop_all (length s.up.log) s.up.log (omega arith) in
     let came_now : k ≡ s.served + 1 = sym (add-one s.served) in
     subst (λ (t : State). Comes s t) (sym same) (record {
       stands = record {
@@ -283,7 +283,7 @@ comes_one s st none next =
       credits_are = refl;
       served_is = refl;
       all = sym (next ∙ came_now);
-      moved = some_bytes (waiting_in s.up) some ∙ sym (lt-ltb n.came s.asked (omega (arith, next, came_is)));
+      moved = some_bytes (waiting_bytes s.up) some ∙ sym (lt-ltb n.came s.asked (omega (arith, next, came_is)));
       still = λ e. absurd (omega (arith, e, came_is, next));
     })
 

@@ -1,6 +1,6 @@
 -- The state of a drill under way, and what each step of its driver makes of it.
 use Rattle.std.specs.Prelude.{ℕ, ◌+◌, Bool, true, false, List, [], ◌∷◌, ◌++◌, length, Option, None, Some, option_and_then}
-use Rattle.nr_outside.specs.Pipe.{PipeState, waiting_in}
+use Rattle.nr_outside.specs.Pipe.{PipeState, waiting_bytes}
 use Rattle.nr_wire.specs.declared.hello.Side.TheVariants.{Initiator, Responder}
 use Rattle.nr_wire.specs.Next.{segment_in}
 use Rattle.nr_world.specs.declared.call.Call.{Call}
@@ -88,7 +88,7 @@ wrote_down s bytes = record {
 abbrev pub fed_up : State → Option Conveyed → State
 fed_up s call = record {
   credits = s.credits;
-  marks = s.marks ++ marks.Fed the_link Responder (waiting_in s.up) ∷ [];
+  marks = s.marks ++ marks.Fed the_link Responder (waiting_bytes s.up) ∷ [];
   up = all_read s.up;
   down = s.down;
   asked = s.asked;
@@ -102,7 +102,7 @@ fed_up s call = record {
 abbrev pub fed_down : State → State
 fed_down s = record {
   credits = s.credits;
-  marks = s.marks ++ marks.Fed the_link Initiator (waiting_in s.down) ∷ [];
+  marks = s.marks ++ marks.Fed the_link Initiator (waiting_bytes s.down) ∷ [];
   up = s.up;
   down = all_read s.down;
   asked = s.asked;
@@ -172,7 +172,7 @@ is_some_byte [] = false
 is_some_byte (b ∷ bytes) = true
 
 abbrev pub waits : PipeState → Bool
-waits p = is_some_byte (waiting_in p)
+waits p = is_some_byte (waiting_bytes p)
 
 -- the server is fed
 abbrev pub came_by : State → List ℕ → State
@@ -180,7 +180,7 @@ came_by s [] = s
 came_by s (b ∷ bytes) = fed_up s (option_and_then call_in (ended_by (segment_in (b ∷ bytes))))
 
 unfoldable pub came : State → State
-came s = came_by s (waiting_in s.up)
+came s = came_by s (waiting_bytes s.up)
 
 -- the client is fed, and hands over what is completed
 abbrev pub done_one : State → Conveyed → State
@@ -206,7 +206,7 @@ heard_by s [] = s
 heard_by s (b ∷ bytes) = done_by (fed_down s) (option_and_then reply_in (ended_by (segment_in (b ∷ bytes))))
 
 unfoldable pub heard : State → State
-heard s = heard_by s (waiting_in s.down)
+heard s = heard_by s (waiting_bytes s.down)
 
 -- a link that is open
 unfoldable pub opened_state : ℕ → State

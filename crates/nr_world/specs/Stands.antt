@@ -1,7 +1,7 @@
 -- What the driver of a drill keeps: how far its one link is. The calls go out one by one under the xids from 1 on, and at
 -- most one of them is out.
 use Rattle.std.specs.Prelude.{◌≡◌, ℕ, zero, suc, ◌+◌, ◌≤◌, nat_lt, nat_le, ◌&&◌, Bool, false, if◌then◌else◌, List, [], ◌∷◌, ◌++◌, length, Option, None, Some}
-use Rattle.nr_outside.specs.Pipe.{waiting_in}
+use Rattle.nr_outside.specs.Pipe.{waiting_bytes}
 use Rattle.nr_wire.specs.declared.hello.Side.TheVariants.{Initiator, Responder}
 use Rattle.nr_world.specs.declared.call.Form.TheVariants.{Auto}
 use Rattle.nr_world.specs.declared.call.Outcome.TheVariants as outcomes
@@ -161,7 +161,7 @@ IsQuiet s = s.asked ≡ length s.reports
 
 -- the drill at this moment
 abbrev pub drill_of : State → Drill
-drill_of s = record { marks = s.marks; ways = record { up = waiting_in s.up; down = waiting_in s.down } ∷ []; seconds = 0 }
+drill_of s = record { marks = s.marks; ways = record { up = waiting_bytes s.up; down = waiting_bytes s.down } ∷ []; seconds = 0 }
 
 -- What one round of a drain makes of the driver: all up, all work, all down. It moves something exactly where a call was
 -- out, and leaves none out.

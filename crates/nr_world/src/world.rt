@@ -5,7 +5,7 @@
 //! marks of what happened.
 
 ghost use Rattle.std.specs.Prelude.{◌≡◌, [], ◌∷◌, ◌+◌, ◌*◌, ◌<◌, ◌≤◌, length, IfOk, OnOk, ◌||◌, IfSome, option_and_then};
-ghost use Rattle.nr_outside.specs.Pipe.{waiting_in};
+ghost use Rattle.nr_outside.specs.Pipe.{waiting_bytes};
 ghost use Rattle.nr_wire.specs.declared.hello.Side.TheVariants.{Initiator, Responder};
 ghost use Rattle.nr_world.specs.Constants.{most_lines};
 ghost use Rattle.nr_world.specs.Messages.{send, inline_message};
@@ -181,7 +181,7 @@ impl World {
 
     /// The server is fed the client's hello, which it accepts.
     fn hear_request(&mut self) -> Result<(), Memory>
-        requires { waiting_in self.old.up ≡ own_hello Initiator }
+        requires { waiting_bytes self.old.up ≡ own_hello Initiator }
         ensures { OnOk result (self.new ≡ fed_up self.old self.old.arrived) }
     {
         let waiting = self.up.waiting();
@@ -200,7 +200,7 @@ impl World {
 
     /// The client is fed the server's hello, which it accepts.
     fn hear_answer(&mut self) -> Result<(), Memory>
-        requires { waiting_in self.old.down ≡ own_hello Responder }
+        requires { waiting_bytes self.old.down ≡ own_hello Responder }
         ensures { OnOk result (self.new ≡ fed_down self.old) }
     {
         let waiting = self.down.waiting();

@@ -3,7 +3,7 @@ use Rattle.std.proofs.Common.{◌≡◌, ℕ, ◌+◌, ◌≤◌, Bool, true, fa
 use Rattle.std.proofs.lemmas.List.{take_at, drop_at, take-append-drop, length-append, length-take-le}
 use Rattle.nr_xdr.specs.declared.fault.ItemFault.{ItemFault}
 use Rattle.nr_xdr.specs.Item.{Item, Reads}
-use Rattle.nr_xdr.specs.Reading.{Cursor, Takes, past, Gives}
+use Rattle.nr_xdr.specs.Reading.{Cursor, Takes, cursor_past, Gives}
 
 -- a test that did not fail
 pub guard_ok : {A : Type 0} (b : Bool) (d : ItemFault) (x : Result A ItemFault) (y : A) → cond b (Err d) x ≡ Ok y → (b ≡ false) × (x ≡ Ok y)
@@ -27,8 +27,8 @@ cursor_is c d e f =
     let by_rest = λ (r : List ℕ). record d { rest = r } in
     ap by_place e ∙ ap by_rest f
 
-pub past_takes : (c : Cursor) (k : ℕ) (item : Item) → k ≤ length c.rest → Reads item (take k c.rest) → Takes c (past k c) item
-unfolding past
+pub past_takes : (c : Cursor) (k : ℕ) (item : Item) → k ≤ length c.rest → Reads item (take k c.rest) → Takes c (cursor_past k c) item
+unfolding cursor_past
 past_takes c k item le reads = record {
   bytes = take k c.rest;
   reads = reads;
@@ -40,14 +40,14 @@ past_takes c k item le reads = record {
 pub record Took (c after : Cursor) (bytes : List ℕ) (k : ℕ) : Type 0 where
   pub enough : k ≤ length c.rest
   pub front : take k c.rest ≡ bytes
-  pub past : past k c ≡ after
+  pub past : cursor_past k c ≡ after
 
 pub takes_past : (c after : Cursor) (bytes : List ℕ) (k : ℕ) → c.rest ≡ bytes ++ after.rest → after.place ≡ c.place + length bytes → length bytes ≡ k → Took c after bytes k
-unfolding past
+unfolding cursor_past
 takes_past c after bytes k rest place len = record {
   enough = omega (arith, ap length rest, length-append bytes after.rest);
   front = ap (take k) rest ∙ take_at bytes after.rest k len;
-  past = cursor_is (past k c) after (ap (λ (n : ℕ). c.place + n) (sym len) ∙ sym place) (ap (drop k) rest ∙ drop_at bytes after.rest k len);
+  past = cursor_is (cursor_past k c) after (ap (λ (n : ℕ). c.place + n) (sym len) ∙ sym place) (ap (drop k) rest ∙ drop_at bytes after.rest k len);
 }
 
 pub found_by : {X Y : Type 0} (view : X → Y) (r : Result X ItemFault) (old new : Cursor) (read : Result (Y × Cursor) ItemFault) (P : Y → Type 0) → ((y : Y) → read ≡ Ok (y, new) → P y) → Gives view r old new read → IfOk r (λ x. P (view x))

@@ -8,7 +8,7 @@ use Rattle.nr_xdr.specs.declared.fault.ItemFault.{ItemFault}
 use Rattle.nr_xdr.specs.declared.fault.ItemFault.TheVariants.{Short, Long}
 use Rattle.nr_xdr.specs.Item.{Reads, IsBytes, word, word_of, hyper, hyper_of, pad_len, bit}
 use Rattle.nr_xdr.specs.Item.Item.{Unsigned, Hyper, Boolean, Opaque, Fixed}
-use Rattle.nr_xdr.specs.Reading.{Cursor, Takes, past, unsigned_at, hyper_at, boolean_at, boolean_by, opaque_at, opaque_by, fixed_at}
+use Rattle.nr_xdr.specs.Reading.{Cursor, Takes, cursor_past, unsigned_at, hyper_at, boolean_at, boolean_by, opaque_at, opaque_by, fixed_at}
 use Rattle.nr_xdr.proofs.WordBytes.{IsBytes-take, length-word, word-word_of, word_of-word, word_of-below, length-hyper, hyper-hyper_of, hyper_of-hyper, hyper_of-below}
 use Rattle.nr_xdr.proofs.Cursors.{guard_ok, ok_parts, past_takes, takes_past}
 
@@ -26,11 +26,11 @@ front_word bytes fits le = record {
 pub unsigned_takes : (c : Cursor) (n : ℕ) (after : Cursor) → IsBytes c.rest → unsigned_at c ≡ Ok (n, after) → Takes c after (Unsigned n)
 unfolding unsigned_at
 unsigned_takes c n after fits e =
-    let g = guard_ok (ltb (length c.rest) 4) (Short c.place) (Ok (word_of (take 4 c.rest), past 4 c)) (n, after) e in
+    let g = guard_ok (ltb (length c.rest) 4) (Short c.place) (Ok (word_of (take 4 c.rest), cursor_past 4 c)) (n, after) e in
     let le : 4 ≤ length c.rest = ltb-false _ _ g.0 in
-    let parts = ok_parts (word_of (take 4 c.rest)) n (past 4 c) after g.1 in
+    let parts = ok_parts (word_of (take 4 c.rest)) n (cursor_past 4 c) after g.1 in
     let front = front_word c.rest fits le in
-    let taken : Takes c (past 4 c) (Unsigned (word_of (take 4 c.rest))) =
+    let taken : Takes c (cursor_past 4 c) (Unsigned (word_of (take 4 c.rest))) =
     past_takes c 4 (Unsigned (word_of (take 4 c.rest))) le (record { fits = front.below; pad = []; pad_is = refl; bytes_are = front.encoded }) in
     subst (λ (m : ℕ). Takes c after (Unsigned m)) parts.0 (subst (λ (d : Cursor). Takes c d (Unsigned (word_of (take 4 c.rest)))) parts.1 taken)
 
@@ -44,12 +44,12 @@ unsigned_again c n after t =
 pub hyper_takes : (c : Cursor) (n : ℕ) (after : Cursor) → IsBytes c.rest → hyper_at c ≡ Ok (n, after) → Takes c after (Hyper n)
 unfolding hyper_at
 hyper_takes c n after fits e =
-    let g = guard_ok (ltb (length c.rest) 8) (Short c.place) (Ok (hyper_of (take 8 c.rest), past 8 c)) (n, after) e in
+    let g = guard_ok (ltb (length c.rest) 8) (Short c.place) (Ok (hyper_of (take 8 c.rest), cursor_past 8 c)) (n, after) e in
     let le : 8 ≤ length c.rest = ltb-false _ _ g.0 in
-    let parts = ok_parts (hyper_of (take 8 c.rest)) n (past 8 c) after g.1 in
+    let parts = ok_parts (hyper_of (take 8 c.rest)) n (cursor_past 8 c) after g.1 in
     let bytes = IsBytes-take 8 c.rest fits in
     let encoded : take 8 c.rest ≡ hyper (hyper_of (take 8 c.rest)) = sym (hyper-hyper_of (take 8 c.rest) (length-take-le 8 c.rest le) bytes) in
-    let taken : Takes c (past 8 c) (Hyper (hyper_of (take 8 c.rest))) =
+    let taken : Takes c (cursor_past 8 c) (Hyper (hyper_of (take 8 c.rest))) =
     past_takes c 8 (Hyper (hyper_of (take 8 c.rest))) le (record { fits = hyper_of-below (take 8 c.rest) bytes; pad = []; pad_is = refl; bytes_are = encoded }) in
     subst (λ (m : ℕ). Takes c after (Hyper m)) parts.0 (subst (λ (d : Cursor). Takes c d (Hyper (hyper_of (take 8 c.rest)))) parts.1 taken)
 
@@ -61,7 +61,7 @@ hyper_again c n after t =
     rw (le-ltb (length c.rest) 8 took.enough, is, took.past) refl
 
 -- the number of a boolean that was read
-boolean_by-ok : (n : ℕ) (c : Cursor) (b : Bool) (after : Cursor) → boolean_by n c ≡ Ok (b, after) → (n ≡ bit b) × (past 4 c ≡ after)
+boolean_by-ok : (n : ℕ) (c : Cursor) (b : Bool) (after : Cursor) → boolean_by n c ≡ Ok (b, after) → (n ≡ bit b) × (cursor_past 4 c ≡ after)
 unfolding boolean_by
 boolean_by-ok n c true after e = grind (arith, nat_tests, e)
 boolean_by-ok n c false after e = grind (arith, nat_tests, e)
@@ -73,11 +73,11 @@ boolean_takes c b after fits e =
     let le : 4 ≤ length c.rest = ltb-false _ _ g.0 in
     let parts = boolean_by-ok (word_of (take 4 c.rest)) c b after g.1 in
     let front = front_word c.rest fits le in
-    let taken : Takes c (past 4 c) (Boolean b) =
+    let taken : Takes c (cursor_past 4 c) (Boolean b) =
     past_takes c 4 (Boolean b) le (record { fits = tt; pad = []; pad_is = refl; bytes_are = front.encoded ∙ ap word parts.0 }) in
     subst (λ (d : Cursor). Takes c d (Boolean b)) parts.1 taken
 
-boolean_by-bit : (b : Bool) (c : Cursor) → boolean_by (bit b) c ≡ Ok (b, past 4 c)
+boolean_by-bit : (b : Bool) (c : Cursor) → boolean_by (bit b) c ≡ Ok (b, cursor_past 4 c)
 unfolding boolean_by
 boolean_by-bit true c = refl
 boolean_by-bit false c = refl
@@ -96,12 +96,12 @@ boolean_again c b after t =
 pub fixed_takes : (c : Cursor) (n : ℕ) (bytes : List ℕ) (after : Cursor) → fixed_at n c ≡ Ok (bytes, after) → Takes c after (Fixed bytes) × (length bytes ≡ n)
 unfolding fixed_at
 fixed_takes c n bytes after e =
-    let g = guard_ok (ltb (length c.rest) (n + pad_len n)) (Short c.place) (Ok (take n c.rest, past (n + pad_len n) c)) (bytes, after) e in
+    let g = guard_ok (ltb (length c.rest) (n + pad_len n)) (Short c.place) (Ok (take n c.rest, cursor_past (n + pad_len n) c)) (bytes, after) e in
     let le : n + pad_len n ≤ length c.rest = ltb-false _ _ g.0 in
-    let parts = ok_parts (take n c.rest) bytes (past (n + pad_len n) c) after g.1 in
+    let parts = ok_parts (take n c.rest) bytes (cursor_past (n + pad_len n) c) after g.1 in
     let len : length (take n c.rest) ≡ n = length-take-le n c.rest (omega arith) in
     let left : pad_len n ≤ length (drop n c.rest) = omega (arith, length-drop n c.rest) in
-    let taken : Takes c (past (n + pad_len n) c) (Fixed (take n c.rest)) =
+    let taken : Takes c (cursor_past (n + pad_len n) c) (Fixed (take n c.rest)) =
     past_takes c (n + pad_len n) (Fixed (take n c.rest)) le (record {
       fits = tt;
       pad = take (pad_len n) (drop n c.rest);
@@ -131,15 +131,15 @@ record Content (c : Cursor) (max n : ℕ) (bytes : List ℕ) (after : Cursor) : 
   within : n ≤ max
   enough : 4 + (n + pad_len n) ≤ length c.rest
   bytes_are : take n (drop 4 c.rest) ≡ bytes
-  after_is : past (4 + (n + pad_len n)) c ≡ after
+  after_is : cursor_past (4 + (n + pad_len n)) c ≡ after
 
 opaque_by-ok : (max n : ℕ) (c : Cursor) (bytes : List ℕ) (after : Cursor) → opaque_by max n c ≡ Ok (bytes, after) → Content c max n bytes after
 unfolding opaque_by
 opaque_by-ok max n c bytes after e =
-    let whole : Result (List ℕ × Cursor) ItemFault = Ok (take n (drop 4 c.rest), past (4 + (n + pad_len n)) c) in
+    let whole : Result (List ℕ × Cursor) ItemFault = Ok (take n (drop 4 c.rest), cursor_past (4 + (n + pad_len n)) c) in
     let g = guard_ok (ltb max n) (Long c.place n max) (cond (ltb (length c.rest) (4 + (n + pad_len n))) (Err (Short c.place)) whole) (bytes, after) e in
     let h = guard_ok (ltb (length c.rest) (4 + (n + pad_len n))) (Short c.place) whole (bytes, after) g.1 in
-    let parts = ok_parts (take n (drop 4 c.rest)) bytes (past (4 + (n + pad_len n)) c) after h.1 in
+    let parts = ok_parts (take n (drop 4 c.rest)) bytes (cursor_past (4 + (n + pad_len n)) c) after h.1 in
     record { within = ltb-false _ _ g.0; enough = ltb-false _ _ h.0; bytes_are = parts.0; after_is = parts.1 }
 
 opaque_by-content : (max n : ℕ) (c : Cursor) (bytes : List ℕ) (after : Cursor) → Content c max n bytes after → opaque_by max n c ≡ Ok (bytes, after)
@@ -171,7 +171,7 @@ opaque_takes c max bytes after fits e =
     let t = opaque_by-ok max n c bytes after g.1 in
     let front = front_word c.rest fits le in
     let reads = opaque_reads n c.rest front.below front.encoded t.enough in
-    let taken : Takes c (past (4 + (n + pad_len n)) c) (Opaque (take n (drop 4 c.rest))) = past_takes c (4 + (n + pad_len n)) (Opaque (take n (drop 4 c.rest))) t.enough reads in
+    let taken : Takes c (cursor_past (4 + (n + pad_len n)) c) (Opaque (take n (drop 4 c.rest))) = past_takes c (4 + (n + pad_len n)) (Opaque (take n (drop 4 c.rest))) t.enough reads in
     let len : length (take n (drop 4 c.rest)) ≡ n = length-take-le n (drop 4 c.rest) (omega (arith, length-drop 4 c.rest, t.enough)) in (
       subst (λ (b : List ℕ). Takes c after (Opaque b)) t.bytes_are (subst (λ (d : Cursor). Takes c d (Opaque (take n (drop 4 c.rest)))) t.after_is taken),
       omega (arith, ap length t.bytes_are, t.within),

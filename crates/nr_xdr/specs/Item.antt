@@ -20,7 +20,7 @@ hyper n = to_be_bytes w64 n
 unfoldable pub hyper_of : List ℕ → ℕ
 hyper_of bytes = from_be_bytes w64 bytes
 
--- how many bytes pad n bytes to a multiple of four (RFC 4506 section 3)
+-- how many pad bytes fill n bytes up to a multiple of four (RFC 4506 section 3)
 unfoldable pub pad_len : ℕ → ℕ
 pad_len n = (4 - n % 4) % 4
 
@@ -33,7 +33,7 @@ pub data Item : Type 0 where
   Opaque : (bytes : List ℕ) → Item
   Fixed : (bytes : List ℕ) → Item
 
--- what has an encoding
+-- the item has an encoding
 abbrev pub Fits : Item → Type 0
 Fits (Unsigned n) = n < 2 ^ 32
 Fits (Hyper n) = n < 2 ^ 64
@@ -41,7 +41,7 @@ Fits (Boolean b) = Unit {0}
 Fits (Opaque bytes) = length bytes < 2 ^ 32
 Fits (Fixed bytes) = Unit {0}
 
--- how many pad bytes end the item
+-- how many pad bytes the item has
 abbrev pub padding : Item → ℕ
 padding (Unsigned n) = 0
 padding (Hyper n) = 0
@@ -61,18 +61,18 @@ padded (Boolean b) pad = word (bit b)
 padded (Opaque bytes) pad = word (length bytes) ++ (bytes ++ pad)
 padded (Fixed bytes) pad = bytes ++ pad
 
--- the one encoding: every pad byte is zero
+-- the item's one encoding: each pad byte is zero (RFC 4506 section 3)
 abbrev pub encoding : Item → List ℕ
 encoding item = padded item (replicate (padding item) 0)
 
--- the bytes read as the item: they encode it, whatever the pad bytes are
+-- the bytes are read as the item: they are its encoding but for the pad bytes, which may have any value
 pub record Reads (item : Item) (bytes : List ℕ) : Type 0 where
   pub fits : Fits item
   pub pad : List ℕ
   pub pad_is : length pad ≡ padding item
   pub bytes_are : bytes ≡ padded item pad
 
--- the two items are of one XDR type
+-- both items are of one XDR type
 abbrev pub AreOfOneType : Item → Item → Type 0
 AreOfOneType (Unsigned m) (Unsigned n) = Unit {0}
 AreOfOneType (Hyper m) (Hyper n) = Unit {0}

@@ -1,4 +1,4 @@
--- Readings one after the other: each gives a value and the cursor behind it, or the place of the first item that fails.
+-- Sequences of readings: each gives a value with the cursor after it, or the place of the first item that fails.
 use Rattle.std.specs.Prelude.{ℕ, Result, Ok, Err}
 use Rattle.nr_xdr.specs.declared.fault.ItemFault.{ItemFault}
 use Rattle.nr_xdr.specs.Reading.{Cursor, unsigned_at, place_of}

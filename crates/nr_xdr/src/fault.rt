@@ -3,9 +3,11 @@
 ghost use Rattle.std.specs.Prelude.{◌≡◌};
 
 use std::alloc::{AllocError, AllocFailed};
+use std::fmt;
+use std::fmt::{Display, Formatter};
 use thiserror::Error;
 
-/// Memory ran out. Nothing else can go wrong in writing.
+/// Memory ran out. Writing has no other fault.
 #[derive(Clone, Copy, Debug, PartialEq, Eq, Error)]
 #[error("out of memory")]
 pub struct Memory;
@@ -22,17 +24,44 @@ impl<T: Drop> From<AllocFailed<T>> for Memory {
     }
 }
 
-/// Why the bytes at a reader's place begin no item of the type asked for. `at` is that place, in bytes from where the
-/// reader began.
-#[derive(Clone, Copy, Debug, PartialEq, Eq, Error)]
+/// Why the bytes at a reader's place begin no item of the type asked for. `at` is that place: the number of bytes before
+/// it.
+#[derive(Clone, Copy, Debug, PartialEq, Eq)]
 pub enum ItemFault {
     /// Fewer bytes are left than the item takes.
-    #[error("the item at byte {at} runs past the end")]
     Short { at: usize },
-    /// The count of opaque data passes the maximum of its type.
-    #[error("the data at byte {at} has {len} bytes, above {max}")]
+    /// The count of opaque data is above the maximum of its type.
     Long { at: usize, len: u32, max: u32 },
     /// A boolean is neither 0 nor 1.
-    #[error("the boolean at byte {at} is neither 0 nor 1")]
     BadBool { at: usize },
 }
+
+impl ItemFault {
+    ghost use Rattle.std.specs.Prelude.{◌≡◌};
+    ghost use Rattle.nr_xdr.specs.Reading.{place_of};
+
+    /// The place of the item that fails: the number of bytes before it.
+    pub fn at(self) -> usize
+        ensures { result ≡ place_of self }
+    {
+        match self {
+            ItemFault::Short { at } | ItemFault::Long { at, .. } | ItemFault::BadBool { at } => at,
+        }
+    }
+
+    fn text(self) -> &'static str {
+        match self {
+            ItemFault::Short { .. } => "runs past the end",
+            ItemFault::Long { .. } => "is longer than its maximum",
+            ItemFault::BadBool { .. } => "is a boolean that is neither 0 nor 1",
+        }
+    }
+}
+
+impl Display for ItemFault {
+    fn fmt<W: fmt::Write>(&self, f: &mut Formatter<W>) -> fmt::Result {
+        write!(f, "the item at byte {} {}", self.at(), self.text())
+    }
+}
+
+impl std::error::Error for ItemFault {}

@@ -1,8 +1,8 @@
 //! XDR items (RFC 4506): unsigned integers, hyper integers, booleans and opaque data, read and written exactly.
 //!
-//! It is the lowest layer: a [`Reader`] takes items from the front of some bytes and knows its place, a [`Writer`]
-//! puts items behind one another. [`Octets`] is the byte string of all crates above. Pad bytes are written as zeros
-//! and not looked at when read. What the items mean together (heads, headers, values) is said in the crates above.
+//! This is the lowest layer. A [`Reader`] takes items from the front of some bytes and knows its place; a [`Writer`]
+//! appends items. [`Octets`] is the byte string of the crates above. Pad bytes are written as zeros, and their values are
+//! ignored when they are read. The crates above say what items mean together: heads, headers and values.
 #![tactic(auto)]
 
 mod fault;
@@ -17,6 +17,3 @@ pub use laws::one_reading;
 pub use octets::Octets;
 pub use reader::Reader;
 pub use writer::Writer;
-
-#[cfg(test)]
-mod tests;

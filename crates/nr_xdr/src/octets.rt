@@ -6,7 +6,7 @@ use crate::fault::Memory;
 use std::alloc::Global;
 use std::marker::Model;
 
-/// A byte string. Contracts see it as the list of its bytes. It is made from a `Vec` and gives it back without memory.
+/// A byte string. Contracts see the list of its bytes. A `Vec` becomes one, and one becomes a `Vec`, without memory.
 #[derive(Debug, Drop)]
 pub struct Octets {
     bytes: Vec<u8>,
@@ -72,7 +72,7 @@ impl Octets {
         self.bytes.is_empty()
     }
 
-    /// Puts some bytes at the end. After an `Err` the bytes are as before.
+    /// Appends some bytes. After an `Err` the bytes are as before.
     pub fn extend_from_slice(&mut self, bytes: &[u8]) -> Result<(), Memory>
         ensures ok { OnOk result (self.new ≡ self.old ++ bytes.now) }
         ensures err { OnErr result (self.new ≡ self.old) }

@@ -3,14 +3,14 @@
 ghost use Rattle.std.specs.Prelude.{◌≡◌, ℕ, ◌+◌, ◌^◌, ◌<◌, ◌≤◌, Bool, List, length, take, IfOk, IsOkAnd, OnErr};
 ghost use Rattle.nr_xdr.specs.Item.{IsBytes};
 ghost use Rattle.nr_xdr.specs.Item.Item.{Unsigned, Hyper, Boolean, Opaque, Fixed};
-ghost use Rattle.nr_xdr.specs.Reading.{Cursor, Takes, Gives, past, unsigned_at, hyper_at, boolean_at, opaque_at, fixed_at};
+ghost use Rattle.nr_xdr.specs.Reading.{Cursor, Takes, Gives, cursor_past, unsigned_at, hyper_at, boolean_at, opaque_at, fixed_at};
 
 use crate::fault::ItemFault;
 use crate::words::{first_hyper, first_word, pad_len};
 use std::marker::Model;
 
-/// Takes items from the front of some bytes. Contracts see the place of the next item, in bytes from where the reader
-/// began, and the bytes from there on. A call that answers an `Err` leaves the place where it was.
+/// Takes items from the front of some bytes. Contracts see the place of the next item, which is the number of bytes taken
+/// so far, and the bytes from there on. A call that answers an `Err` takes nothing.
 #[derive(Drop)]
 pub struct Reader<'a> {
     place: usize,
@@ -54,12 +54,12 @@ impl<'a> Reader<'a> {
         self.rest
     }
 
-    /// Goes on by some bytes, and gives them.
-    #[tactic(auto, unfolding(crate::specs::Reading::past))]
+    /// Takes some bytes.
+    #[tactic(auto, unfolding(crate::specs::Reading::cursor_past))]
     fn advance(&mut self, len: usize) -> &'a [u8]
         requires { len ≤ length self.old.rest }
         ensures front { result.now ≡ take len self.old.rest }
-        ensures past { self.new ≡ past len self.old }
+        ensures cursor { self.new ≡ cursor_past len self.old }
     {
         let (front, rest) = self.rest.split_at(len);
         self.rest = rest;
@@ -68,7 +68,7 @@ impl<'a> Reader<'a> {
     }
 
     #[tactic(auto, unfolding(crate::specs::Reading::unsigned_at))]
-    fn next_u32(&mut self) -> Result<u32, ItemFault>
+    fn u32_inner(&mut self) -> Result<u32, ItemFault>
         ensures bytes { IsBytes self.old.rest }
         ensures exact { Gives (λ n. n) result self.old self.new (unsigned_at self.old) }
     {
@@ -79,7 +79,7 @@ impl<'a> Reader<'a> {
     }
 
     #[tactic(auto, unfolding(crate::specs::Reading::hyper_at))]
-    fn next_u64(&mut self) -> Result<u64, ItemFault>
+    fn u64_inner(&mut self) -> Result<u64, ItemFault>
         ensures bytes { IsBytes self.old.rest }
         ensures exact { Gives (λ n. n) result self.old self.new (hyper_at self.old) }
     {
@@ -90,7 +90,7 @@ impl<'a> Reader<'a> {
     }
 
     #[tactic(auto, unfolding(crate::specs::Reading::boolean_at, crate::specs::Reading::boolean_by))]
-    fn next_boolean(&mut self) -> Result<bool, ItemFault>
+    fn boolean_inner(&mut self) -> Result<bool, ItemFault>
         ensures bytes { IsBytes self.old.rest }
         ensures exact { Gives (λ b. b) result self.old self.new (boolean_at self.old) }
     {
@@ -111,7 +111,7 @@ impl<'a> Reader<'a> {
     }
 
     #[tactic(auto, unfolding(crate::specs::Reading::opaque_at, crate::specs::Reading::opaque_by))]
-    fn next_opaque(&mut self, max: u32) -> Result<&'a [u8], ItemFault>
+    fn opaque_inner(&mut self, max: u32) -> Result<&'a [u8], ItemFault>
         ensures bytes { IsBytes self.old.rest }
         ensures exact { Gives (λ s. s.now) result self.old self.new (opaque_at max self.old) }
     {
@@ -135,7 +135,7 @@ impl<'a> Reader<'a> {
     }
 
     #[tactic(auto, unfolding(crate::specs::Reading::fixed_at))]
-    fn next_fixed(&mut self, len: usize) -> Result<&'a [u8], ItemFault>
+    fn fixed_inner(&mut self, len: usize) -> Result<&'a [u8], ItemFault>
         ensures { Gives (λ s. s.now) result self.old self.new (fixed_at len self.old) }
     {
         let pad = pad_len(len);
@@ -152,15 +152,15 @@ impl<'a> Reader<'a> {
 
     /// An unsigned integer (RFC 4506 section 4.2): `Short` where fewer than four bytes are left.
     pub fn u32(&mut self) -> Result<u32, ItemFault>
-        // What is read is encoded so.
+        // What is read has this encoding.
         ensures found { IfOk result (λ n. Takes self.old self.new (Unsigned n)) }
-        // What is encoded so is read.
+        // What has this encoding is read.
         ensures only { (n : ℕ) (after : Cursor) → Takes self.old after (Unsigned n) →
             IsOkAnd result (λ m. m ≡ n) × (self.new ≡ after) }
-        // Which fault it is.
+        // Otherwise, which fault it is.
         ensures exact { Gives (λ n. n) result self.old self.new (unsigned_at self.old) }
     {
-        self.next_u32()
+        self.u32_inner()
     }
 
     /// An unsigned hyper integer (RFC 4506 section 4.5): `Short` where fewer than eight bytes are left.
@@ -170,7 +170,7 @@ impl<'a> Reader<'a> {
             IsOkAnd result (λ m. m ≡ n) × (self.new ≡ after) }
         ensures exact { Gives (λ n. n) result self.old self.new (hyper_at self.old) }
     {
-        self.next_u64()
+        self.u64_inner()
     }
 
     /// A boolean (RFC 4506 section 4.4): `Short` where fewer than four bytes are left, `BadBool` where the number is
@@ -181,27 +181,27 @@ impl<'a> Reader<'a> {
             IsOkAnd result (λ c. c ≡ b) × (self.new ≡ after) }
         ensures exact { Gives (λ b. b) result self.old self.new (boolean_at self.old) }
     {
-        self.next_boolean()
+        self.boolean_inner()
     }
 
-    /// Opaque data of a length that is told before it (RFC 4506 section 4.10), of at most `max` bytes: `Long` where the
-    /// count passes `max`, which is judged first, `Short` where the count, the data or its pad runs past the end.
+    /// Opaque data of variable length (RFC 4506 section 4.10), of at most `max` bytes. `Long` where the count is above
+    /// `max`; that is checked before the data. `Short` where the count, the data or its pad runs past the end.
     pub fn opaque(&mut self, max: u32) -> Result<&'a [u8], ItemFault>
         ensures found { IfOk result (λ s. Takes self.old self.new (Opaque s.now) × (length s.now ≤ max)) }
         ensures only { (bytes : List ℕ) (after : Cursor) → length bytes ≤ max → Takes self.old after (Opaque bytes) →
             IsOkAnd result (λ s. s.now ≡ bytes) × (self.new ≡ after) }
         ensures exact { Gives (λ s. s.now) result self.old self.new (opaque_at max self.old) }
     {
-        self.next_opaque(max)
+        self.opaque_inner(max)
     }
 
-    /// Opaque data of `len` bytes (RFC 4506 section 4.9): `Short` where the data or its pad runs past the end.
+    /// Opaque data of fixed length (RFC 4506 section 4.9), of `len` bytes: `Short` where the data or its pad runs past the end.
     pub fn fixed(&mut self, len: usize) -> Result<&'a [u8], ItemFault>
         ensures found { IfOk result (λ s. Takes self.old self.new (Fixed s.now) × (length s.now ≡ len)) }
         ensures only { (bytes : List ℕ) (after : Cursor) → length bytes ≡ len → Takes self.old after (Fixed bytes) →
             IsOkAnd result (λ s. s.now ≡ bytes) × (self.new ≡ after) }
         ensures exact { Gives (λ s. s.now) result self.old self.new (fixed_at len self.old) }
     {
-        self.next_fixed(len)
+        self.fixed_inner(len)
     }
 }

@@ -23,7 +23,7 @@ pub fn first_hyper(bytes: &[u8]) -> u64
     ])
 }
 
-/// How many bytes pad `len` bytes to a multiple of four (RFC 4506 section 3).
+/// How many pad bytes fill `len` bytes up to a multiple of four (RFC 4506 section 3).
 #[tactic(auto, unfolding(crate::specs::Item::pad_len))]
 pub fn pad_len(len: usize) -> usize
     ensures is { result ≡ pad_len len }

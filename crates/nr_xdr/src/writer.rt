@@ -10,8 +10,8 @@ use crate::words::pad_len;
 use std::alloc::Global;
 use std::marker::Model;
 
-/// Puts items behind one another, each by its one encoding. Contracts see the bytes so far. A call that answers an `Err`
-/// leaves them as they were.
+/// Appends items, each by its one encoding. Contracts see the bytes so far. A call that answers an `Err` leaves them as
+/// they were.
 #[derive(Drop)]
 pub struct Writer {
     bytes: Vec<u8>,
@@ -25,7 +25,7 @@ impl Model for Writer {
     ghost view = { λ w. w.bytes.items };
 }
 
-/// Puts data and its pad of zeros at the end. After an `Err` some of it may stand there.
+/// Appends data and its pad of zeros. After an `Err` some of it may stand there.
 fn push_padded(out: &mut Vec<u8>, bytes: &[u8]) -> Result<(), Memory>
     ensures ok { OnOk result (out.new.items ≡ out.old.items ++ encoding (Fixed bytes.now)) }
     ensures kept { take (length out.old.items) out.new.items ≡ out.old.items }
@@ -36,7 +36,7 @@ fn push_padded(out: &mut Vec<u8>, bytes: &[u8]) -> Result<(), Memory>
     Ok(())
 }
 
-/// Puts data behind its length. After an `Err` some of it may stand there.
+/// Appends the length of data, the data and its pad. After an `Err` some of it may stand there.
 fn push_opaque(out: &mut Vec<u8>, bytes: &[u8]) -> Result<(), Memory>
     requires { length bytes.now < 2 ^ 32 }
     ensures ok { OnOk result (out.new.items ≡ out.old.items ++ encoding (Opaque bytes.now)) }
@@ -47,7 +47,7 @@ fn push_opaque(out: &mut Vec<u8>, bytes: &[u8]) -> Result<(), Memory>
     Ok(())
 }
 
-/// Puts a number at the end. An `Err` changes nothing.
+/// Appends a number. An `Err` changes nothing.
 #[tactic(auto, unfolding(crate::specs::Item::word))]
 fn push_word(out: &mut Vec<u8>, n: u32) -> Result<(), Memory>
     ensures ok { OnOk result (out.new.items ≡ out.old.items ++ word n) }
@@ -94,7 +94,7 @@ impl Writer {
         self.u32(u32::from(b))
     }
 
-    /// Opaque data behind its length (RFC 4506 section 4.10).
+    /// Opaque data of variable length (RFC 4506 section 4.10).
     pub fn opaque(&mut self, bytes: &[u8]) -> Result<(), Memory>
         requires { length bytes.now < 2 ^ 32 }
         ensures ok { OnOk result (self.new ≡ self.old ++ encoding (Opaque bytes.now)) }
@@ -110,7 +110,7 @@ impl Writer {
         }
     }
 
-    /// Opaque data of a length that both sides know (RFC 4506 section 4.9).
+    /// Opaque data of fixed length (RFC 4506 section 4.9).
     pub fn fixed(&mut self, bytes: &[u8]) -> Result<(), Memory>
         ensures ok { OnOk result (self.new ≡ self.old ++ encoding (Fixed bytes.now)) }
         ensures err { OnErr result (self.new ≡ self.old) }

@@ -2,4 +2,4 @@ use Rattle.nr_regions.proofs.Holding.{keeps-release}
 use Rattle.nr_regions.proofs.regions.Regions.release.Goals as goal
 
 pub returns-clause-keeps : goal.returns-clause-keeps
-returns-clause-keeps c = λ claim ne h. rw c.leave.ensures.dead (keeps-release c.args.self.now c.args.registration.stag claim ne h)
+returns-clause-keeps c = λ claim ne h. rw c.release_inner.ensures.dead (keeps-release c.args.self.now.memory c.args.registration.stag claim ne h)

@@ -7,10 +7,10 @@ use Rattle.nr_xdr.proofs.reader.Reader.boolean.Goals as goal
 pub returns-clause-found : goal.returns-clause-found
 returns-clause-found c =
     let old = c.args.self.now in
-    let new = c.next_boolean.new.self in
-    found_by (λ n. n) c.next_boolean.result old new (boolean_at old) (λ n. Takes old new (Boolean n))
-    (λ n e. boolean_takes old n new c.next_boolean.ensures.bytes e) c.next_boolean.ensures.exact
+    let new = c.boolean_inner.new.self in
+    found_by (λ n. n) c.boolean_inner.result old new (boolean_at old) (λ n. Takes old new (Boolean n))
+    (λ n e. boolean_takes old n new c.boolean_inner.ensures.bytes e) c.boolean_inner.ensures.exact
 
 pub returns-clause-only : goal.returns-clause-only
 returns-clause-only c = λ n after t.
-    only_by (λ m. m) c.next_boolean.result c.args.self.now c.next_boolean.new.self after (boolean_at c.args.self.now) n (boolean_again c.args.self.now n after t) c.next_boolean.ensures.exact
+    only_by (λ m. m) c.boolean_inner.result c.args.self.now c.boolean_inner.new.self after (boolean_at c.args.self.now) n (boolean_again c.args.self.now n after t) c.boolean_inner.ensures.exact

@@ -8,10 +8,10 @@ use Rattle.nr_xdr.proofs.reader.Reader.fixed.Goals as goal
 pub returns-clause-found : goal.returns-clause-found
 returns-clause-found c =
     let old = c.args.self.now in
-    let new = c.next_fixed.new.self in
-    found_by (λ s. s.now) c.next_fixed.result old new (fixed_at c.args.len old) (λ s. Takes old new (Fixed s) × (length s ≡ c.args.len))
-    (λ s e. fixed_takes old c.args.len s new e) c.next_fixed.ensures
+    let new = c.fixed_inner.new.self in
+    found_by (λ s. s.now) c.fixed_inner.result old new (fixed_at c.args.len old) (λ s. Takes old new (Fixed s) × (length s ≡ c.args.len))
+    (λ s e. fixed_takes old c.args.len s new e) c.fixed_inner.ensures
 
 pub returns-clause-only : goal.returns-clause-only
 returns-clause-only c = λ bytes after len t.
-    only_by (λ s. s.now) c.next_fixed.result c.args.self.now c.next_fixed.new.self after (fixed_at c.args.len c.args.self.now) bytes (fixed_again c.args.self.now c.args.len bytes after len t) c.next_fixed.ensures
+    only_by (λ s. s.now) c.fixed_inner.result c.args.self.now c.fixed_inner.new.self after (fixed_at c.args.len c.args.self.now) bytes (fixed_again c.args.self.now c.args.len bytes after len t) c.fixed_inner.ensures

@@ -1,0 +1,145 @@
+-- What the fields of `Regions` keep at each change, with the sum of the lengths held.
+use Rattle.std.proofs.Common.{◌≡◌, ℕ, ◌+◌, ◌-◌, ◌^◌, ◌<◌, ◌≤◌, true, false, cond, List, [], ◌∷◌, map, length, Option, None, Some, IfSome, is_some, refl, sym, ap, subst, ◌∙◌, inl, inr, arith}
+use Rattle.std.specs.List.{sum_by}
+use Rattle.std.proofs.lemmas.Bool.{cases_eq}
+use Rattle.std.proofs.lemmas.List.{nil_from_length}
+use Rattle.std.proofs.lemmas.List.Sums.{sum_by-cons}
+use Rattle.std.specs.declared.cmp.Ordering.{Ordering}
+use Rattle.std.specs.declared.cmp.Ordering.TheVariants.{Less, Equal, Greater}
+use Rattle.std.specs.Ordering.{nat_cmp, is_eq}
+use Rattle.std.specs.Cmp.{nat_cmp_total}
+use Rattle.std.specs.FinMap.{FinMap, empty, entries, find, put, get, insert, remove, same_map, nat_cmp-IsAntisymmetric, entries-insert, get-entries, get-empty, len-empty, len-entries}
+use Rattle.std.specs.FinMap.Entries.{by_order}
+use Rattle.nr_regions.specs.declared.region.Region.{Region}
+use Rattle.nr_regions.specs.RegisteredMemory.{RegionTable, Claim, IsHeld, bytes_after_write, bytes_held, held_region}
+use Rattle.nr_regions.specs.Table.{IsSound}
+use Rattle.nr_regions.proofs.Holding.{get-insert_here, get-insert_other, get-remove_here, get-remove_other, length-bytes_after_write}
+use Rattle.nr_regions.proofs.Tables.{fact_at}
+
+abbrev size : Region → ℕ
+size region = length region.buf
+
+abbrev sum_of : List (ℕ × Region) → ℕ
+sum_of es = sum_by size (map (λ e. e.1) es)
+
+abbrev total : FinMap nat_cmp Region → ℕ
+total m = sum_of (entries m)
+
+sum_cons : (e : ℕ × Region) (es : List (ℕ × Region)) → sum_of (e ∷ es) ≡ size e.1 + sum_of es
+sum_cons e es = sum_by-cons size e.1 (map (λ e. e.1) es)
+
+abbrev some : Region → Option Region
+some region = Some region
+
+-- a new key adds its region's length
+put_by : (k : ℕ) (v : Region) (e : ℕ × Region) (es : List (ℕ × Region)) (o : Ordering) → cond (is_eq o) (Some e.1) (find nat_cmp k es) ≡ None
+    → (find nat_cmp k es ≡ None → sum_of (put nat_cmp k v es) ≡ size v + sum_of es)
+    → sum_of (by_order o ((k, v) ∷ e ∷ es) ((e.0, v) ∷ es) (e ∷ put nat_cmp k v es)) ≡ size v + sum_of (e ∷ es)
+put_by k v e es Less none more = sum_cons (k, v) (e ∷ es)
+put_by k v e es Equal none more = absurd (let wrong : some e.1 ≡ None = none in cc)
+put_by k v e es Greater none more = omega (arith, sum_cons e (put nat_cmp k v es), sum_cons e es, more none)
+
+sum_put : (k : ℕ) (v : Region) (es : List (ℕ × Region)) → find nat_cmp k es ≡ None → sum_of (put nat_cmp k v es) ≡ size v + sum_of es
+sum_put k v [] none = sum_cons (k, v) []
+sum_put k v (e ∷ es) none = put_by k v e es (nat_cmp k e.0) none (sum_put k v es)
+
+total_insert : (m : FinMap nat_cmp Region) (k : ℕ) (v : Region) → get m k ≡ None → total (insert m k v) ≡ size v + total m
+total_insert m k v none = ap sum_of (entries-insert nat_cmp_total m k v) ∙ sum_put k v (entries m) (sym (get-entries m k) ∙ none)
+
+-- the region that is taken out, put back
+again : (m : FinMap nat_cmp Region) (k : ℕ) (w : Region) (q : ℕ) → get (insert (remove m k) k w) q ≡ get (insert m k w) q
+again m k w q =
+    elim (cases_eq q k) [
+      | inl e ↦ rw e (get-insert_here (remove m k) k w ∙ sym (get-insert_here m k w))
+      | inr ne ↦ get-insert_other (remove m k) k w q ne ∙ get-remove_other m k q ne ∙ sym (get-insert_other m k w q ne)
+    ]
+
+as_before : (m : FinMap nat_cmp Region) (k : ℕ) (v : Region) (q : ℕ) → get m k ≡ Some v → get (insert m k v) q ≡ get m q
+as_before m k v q there =
+    elim (cases_eq q k) [
+      | inl e ↦ rw e (get-insert_here m k v ∙ sym there)
+      | inr ne ↦ get-insert_other m k v q ne
+    ]
+
+total_change : (m : FinMap nat_cmp Region) (k : ℕ) (w : Region) → total (insert m k w) ≡ size w + total (remove m k)
+total_change m k w =
+    ap total (sym (same_map nat_cmp_total nat_cmp-IsAntisymmetric (insert (remove m k) k w) (insert m k w) (again m k w)))
+    ∙ total_insert (remove m k) k w (get-remove_here m k)
+
+total_remove : (m : FinMap nat_cmp Region) (k : ℕ) (v : Region) → get m k ≡ Some v → total m ≡ size v + total (remove m k)
+total_remove m k v there =
+    ap total (sym (same_map nat_cmp_total nat_cmp-IsAntisymmetric (insert m k v) m (λ q. as_before m k v q there)))
+    ∙ total_change m k v
+
+total_empty : total empty ≡ 0
+total_empty = ap sum_of (nil_from_length (entries empty) (sym (len-entries empty) ∙ len-empty nat_cmp Region))
+
+-- ---- The fields
+
+not_there : (o : Option Region) → is_some o ≡ false → o ≡ None
+not_there None e = refl
+not_there (Some region) e = absurd (let wrong : true ≡ false = e in cc)
+
+there_is : (o : Option Region) (region : Region) → o ≡ Some region → is_some o ≡ false → ⊥
+there_is o region e f = let wrong : true ≡ false = ap is_some (sym e) ∙ f in absurd cc
+
+pub sound-initial : (first : ℕ) → first ≤ 2 ^ 32 → IsSound first 0 empty
+unfolding bytes_held
+sound-initial first fits = record {
+  next_fits = fits;
+  not_given = λ stag le. ap is_some (get-empty nat_cmp stag);
+  bytes_are = sym total_empty;
+  bytes_fit = omega arith;
+}
+
+pub sound-register : (next bytes : ℕ) (held : FinMap nat_cmp Region) (region : Region) → IsSound next bytes held → next < 2 ^ 32 → length region.buf < 2 ^ 64
+    → IsSound (next + 1) (bytes + length region.buf) (insert held next region)
+unfolding bytes_held
+sound-register next bytes held region s lt small =
+    let none = not_there (get held next) (s.not_given next (omega arith)) in record {
+      next_fits = omega arith;
+      not_given = λ stag le. ap is_some (get-insert_other held next region stag (λ e. omega arith)) ∙ s.not_given stag (omega arith);
+      bytes_are = omega (arith, s.bytes_are, total_insert held next region none);
+      bytes_fit = omega (arith, s.bytes_fit);
+    }
+
+-- the region's length is among the bytes
+pub sound-counts : (next bytes : ℕ) (held : FinMap nat_cmp Region) (stag : ℕ) (region : Region) → IsSound next bytes held → get held stag ≡ Some region → length region.buf ≤ bytes
+unfolding bytes_held
+sound-counts next bytes held stag region s there = omega (arith, s.bytes_are, total_remove held stag region there)
+
+pub sound-release : (next bytes : ℕ) (held : FinMap nat_cmp Region) (stag : ℕ) (region : Region) → IsSound next bytes held → get held stag ≡ Some region
+    → IsSound next (bytes - length region.buf) (remove held stag)
+unfolding bytes_held
+sound-release next bytes held stag region s there = record {
+  next_fits = s.next_fits;
+  not_given = λ q le. ap is_some (get-remove_other held stag q (λ e. there_is (get held stag) region there (s.not_given stag (omega arith)))) ∙ s.not_given q le;
+  bytes_are = omega (arith, s.bytes_are, total_remove held stag region there);
+  bytes_fit = omega (arith, s.bytes_fit);
+}
+
+pub sound-place : (next bytes : ℕ) (held : FinMap nat_cmp Region) (stag : ℕ) (region after : Region) → IsSound next bytes held → get held stag ≡ Some region
+    → length after.buf ≡ length region.buf → IsSound next bytes (insert held stag after)
+unfolding bytes_held
+sound-place next bytes held stag region after s there len = record {
+  next_fits = s.next_fits;
+  not_given = λ q le. ap is_some (get-insert_other held stag after q (λ e. there_is (get held stag) region there (s.not_given stag (omega arith)))) ∙ s.not_given q le;
+  bytes_are = omega (arith, s.bytes_are, total_remove held stag region there, total_change held stag after);
+  bytes_fit = s.bytes_fit;
+}
+
+-- bytes written over those of the region that is found
+pub sound-written : (next bytes : ℕ) (held after : FinMap nat_cmp Region) (stag to : ℕ) (payload : List ℕ) (region : Region) → IsSound next bytes held → get held stag ≡ Some region
+    → to + length payload ≤ length region.buf → IfSome (get held stag) (λ r. after ≡ insert held stag (record { right = r.right; buf = bytes_after_write r.buf to payload }))
+    → IsSound next bytes after
+sound-written next bytes held after stag to payload region s there le is =
+    let w : Region = record { right = region.right; buf = bytes_after_write region.buf to payload } in
+    subst (λ (m : FinMap nat_cmp Region). IsSound next bytes m)
+    (sym (fact_at (get held stag) region (λ r. after ≡ insert held stag (record { right = r.right; buf = bytes_after_write r.buf to payload })) there is))
+    (sound-place next bytes held stag region w s there (length-bytes_after_write region.buf to payload le))
+
+-- what a claim on the table's memory says of the map
+pub held_there : (held : FinMap nat_cmp Region) (next room : ℕ) (t : RegionTable) (claim : Claim) (h : IsHeld t.memory claim)
+    → ◌≡◌ {A = RegionTable} (record { memory = record { next = next; held = held }; room = room }) t → get held claim.stag ≡ Some h.region
+unfolding held_region
+held_there held next room t claim h is = ap (λ (k : RegionTable). get k.memory.held claim.stag) is ∙ h.there
