@@ -17,7 +17,7 @@ use Rattle.nr_rpc.specs.Reply.{reply_items, IsAccepted, ReadsReply, BeginsReply,
 use Rattle.nr_xdr.specs.Sequencing.{◌>>=◌, number_at}
 use Rattle.nr_rpc.specs.Reading.{versions_at, accepted_at, denied_at, reply_at, head_of, reply_of, GivesReply}
 use Rattle.nr_xdr.proofs.SequencingSteps.{chosen, done, ok_is, number_step, number_again}
-use Rattle.nr_rpc.proofs.HeadSteps.{expect_step, expect_again, auth_step, auth_again, TakesAuth}
+use Rattle.nr_rpc.proofs.HeadSteps.{expect_step, expect_again, pair_step, pair_again, auth_step, auth_again, TakesAuth}
 use Rattle.nr_rpc.proofs.Calls.{head_ok, one_answer}
 
 -- a reply head that was read
@@ -42,16 +42,15 @@ record TakesVersions (head : ℕ → ℕ → ReplyHead) (c : Cursor) (x : ReplyH
 versions_take : (head : ℕ → ℕ → ReplyHead) (c : Cursor) (x : ReplyHead × Cursor) → IsBytes c.rest → versions_at head c ≡ Ok x → TakesVersions head c x
 unfolding versions_at
 versions_take head c x fits e =
-    let low = number_step c _ x fits e in
-    let high = number_step low.0.1 _ x low.2 low.3 in
-    let made : ReplyHead × Cursor = (head low.0.0 high.0.0, high.0.1) in
-    subst (λ (y : ReplyHead × Cursor). TakesVersions head c y) (ok_is made x high.3)
-    (record { low = low.0.0; high = high.0.0; behind_low = low.0.1; at_low = low.1; at_high = high.1; is = refl })
+    let both = pair_step c _ x fits e in
+    let made : ReplyHead × Cursor = (head both.0.0.0 both.0.0.1, both.0.1) in
+    subst (λ (y : ReplyHead × Cursor). TakesVersions head c y) (ok_is made x both.3)
+    (record { low = both.0.0.0; high = both.0.0.1; behind_low = both.1.behind_first; at_low = both.1.at_first; at_high = both.1.at_second; is = refl })
 
 versions_again : (head : ℕ → ℕ → ReplyHead) (low high : ℕ) (c middle after : Cursor) → Takes c middle (Unsigned low) → Takes middle after (Unsigned high)
     → versions_at head c ≡ Ok (head low high, after)
 unfolding versions_at
-versions_again head low high c middle after at_low at_high = rw (number_again c low middle at_low, number_again middle high after at_high) refl
+versions_again head low high c middle after at_low at_high = rw (pair_again low high c middle after at_low at_high) refl
 
 accepted_take : (xid : ℕ) (start first second c : Cursor) (x : ReplyHead × Cursor) → IsBytes c.rest
     → Takes start first (Unsigned xid) → Takes first second (Unsigned REPLY) → Takes second c (Unsigned MSG_ACCEPTED)

@@ -1,10 +1,9 @@
-//! Why some bytes begin no head, or a head could not be written.
+//! Why bytes begin no head, or a head could not be written.
 
 ghost use Rattle.std.specs.Prelude.{◌≡◌};
-ghost use Rattle.nr_xdr.specs.Reading.{place_of};
 ghost use Rattle.nr_rpc.specs.declared.fault.HeadFault.TheVariants as faults;
 
-use nr_xdr::{ItemFault, Memory};
+use nr_xdr::Memory;
 use thiserror::Error;
 
 /// Why a head could not be read or written. `at` is the place of the first item that fails, in bytes from the front.
@@ -26,22 +25,5 @@ impl From<Memory> for HeadFault {
 
     fn from(_e: Memory) -> HeadFault {
         HeadFault::Memory
-    }
-}
-
-/// The place of the first item that fails.
-#[derive(Clone, Copy, Debug)]
-pub(crate) struct DecodeError {
-    pub(crate) at: usize,
-}
-
-impl From<ItemFault> for DecodeError {
-    ghost from_gives = { λ e m. m.at ≡ place_of e };
-
-    fn from(e: ItemFault) -> DecodeError {
-        let at = match e {
-            ItemFault::Short { at } | ItemFault::Long { at, .. } | ItemFault::BadBool { at } => at,
-        };
-        DecodeError { at }
     }
 }
