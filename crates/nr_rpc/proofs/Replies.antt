@@ -13,7 +13,7 @@ use Rattle.nr_rpc.specs.declared.fault.HeadFault.TheVariants as faults
 use Rattle.nr_rpc.specs.declared.head.ReplyHead.{ReplyHead}
 use Rattle.nr_rpc.specs.declared.head.ReplyHead.TheVariants as replies
 use Rattle.nr_rpc.specs.Credential.{Auth, no_verifier}
-use Rattle.nr_rpc.specs.Reply.{reply_items, IsAccepted, ReadsReply, BeginsReply, CanWriteReply, ReplyFits, reply_head, reply_encoding, reply_again}
+use Rattle.nr_rpc.specs.Reply.{reply_items, ResultsAt, ReadsReply, BeginsReply, CanWriteReply, ReplyFits, reply_head, reply_encoding, reply_again}
 use Rattle.nr_xdr.specs.Sequencing.{◌>>=◌, number_at}
 use Rattle.nr_rpc.specs.Reading.{versions_at, accepted_at, denied_at, reply_at, head_of, reply_of, GivesReply}
 use Rattle.nr_xdr.proofs.SequencingSteps.{chosen, done, ok_is, number_step, number_again}
@@ -25,7 +25,7 @@ pub record TakesReply (head : ReplyHead) (c after : Cursor) : Type 0 where
   pub verifier : Auth
   pub within : length verifier.body ≤ AUTH_BODY_MAX
   pub each : TakesEach (reply_items head verifier) c after
-  pub accepted : IsAccepted head after.place
+  pub accepted : ResultsAt head after.place
 
 made_is : (made x : ReplyHead × Cursor) (c : Cursor) → TakesReply made.0 c made.1 → done made ≡ done x → TakesReply x.0 c x.1
 made_is made x c t e = subst (λ (y : ReplyHead × Cursor). TakesReply y.0 c y.1) (ok_is made x e) t
@@ -163,7 +163,7 @@ reply_begins bytes head fits e =
     let t = reply_take (standing 0 bytes) (head, h.0) fits h.1 in
     let b = each_between (reply_items head t.verifier) (standing 0 bytes) h.0 t.each in
     let place : h.0.place ≡ length b.bytes = omega (arith, b.place) in
-    (b.bytes, h.0.rest, record { verifier = t.verifier; body = t.within; items = b.reads; accepted = subst (λ (n : ℕ). IsAccepted head n) place t.accepted }, b.rest)
+    (b.bytes, h.0.rest, record { verifier = t.verifier; body = t.within; items = b.reads; accepted = subst (λ (n : ℕ). ResultsAt head n) place t.accepted }, b.rest)
 
 -- bytes that read as the head are taken as it
 reads_reply : (head : ReplyHead) (bytes front behind : List ℕ) → ReadsReply head front → bytes ≡ front ++ behind
@@ -173,7 +173,7 @@ reads_reply head bytes front behind reads parts =
       verifier = reads.verifier;
       within = reads.body;
       each = each_takes (reply_items head reads.verifier) front behind (standing 0 bytes) reads.items parts;
-      accepted = subst (λ (n : ℕ). IsAccepted head n) place reads.accepted;
+      accepted = subst (λ (n : ℕ). ResultsAt head n) place reads.accepted;
     }
 
 -- the head that stands at the front is read
@@ -202,7 +202,7 @@ again_items (replies.ProgMismatch xid low high) = refl
 again_items (replies.RpcMismatch xid low high) = refl
 again_items (replies.AuthError xid stat) = refl
 
-again_accepted : (head : ReplyHead) → CanWriteReply head → IsAccepted (reply_again head) (length (reply_head head))
+again_accepted : (head : ReplyHead) → CanWriteReply head → ResultsAt (reply_again head) (length (reply_head head))
 again_accepted (replies.Accepted xid stat results_at) can = (can, refl)
 again_accepted (replies.ProgMismatch xid low high) can = tt
 again_accepted (replies.RpcMismatch xid low high) can = tt

@@ -4,19 +4,15 @@ ghost use Rattle.std.specs.Prelude.{◌≡◌};
 ghost use Rattle.nr_rpc.specs.declared.fault.HeadFault.TheVariants as faults;
 
 use nr_xdr::Memory;
-use thiserror::Error;
 
 /// Why a head could not be read or written. `at` is the place of the first item that fails, in bytes from the front.
-#[derive(Clone, Copy, Debug, PartialEq, Eq, Error)]
+#[derive(Clone, Copy, Debug, PartialEq, Eq)]
 pub enum HeadFault {
     /// The bytes begin no call head.
-    #[error("no call head: the item at byte {at} fails")]
     NotCall { at: usize },
     /// The bytes begin no reply head.
-    #[error("no reply head: the item at byte {at} fails")]
     NotReply { at: usize },
     /// Memory ran out.
-    #[error("out of memory")]
     Memory,
 }
 

@@ -162,8 +162,8 @@ fn segment_by_form(tagged: bool, frame: &[u8]) -> Segment<'_>
     ensures { plain result ≡ segment_by_form tagged frame.now }
 {
     let len = usize::from(half_word_at(frame, 0)) - header_len(tagged);
-    let (_, behind) = frame.split_at(LENGTH_LEN + header_len(tagged));
-    let (payload, _) = behind.split_at(len);
+    let (_, after) = frame.split_at(LENGTH_LEN + header_len(tagged));
+    let (payload, _) = after.split_at(len);
     let last = has_bit(BIT_LAST, frame[2]);
     let opcode = frame[3] % 16;
     if tagged {
