@@ -8,7 +8,7 @@ use nr_xdr::Octets;
 use std::marker::Model;
 
 /// The further groups of an AUTH_SYS credential: at most [`GIDS_MAX`] numbers. Takes no memory. Contracts see the list.
-#[derive(Drop)]
+#[derive(Debug, Drop)]
 pub struct Gids {
     gids: ArrayVec<u32, GIDS_MAX>,
 }
@@ -62,7 +62,7 @@ impl Gids {
 }
 
 /// The credential of a call: who calls (RFC 5531 section 8.2).
-#[derive(Drop)]
+#[derive(Debug, Drop)]
 pub enum Cred {
     /// AUTH_NONE.
     None,
