@@ -4,3 +4,4 @@ pub mod Segments
 pub mod ReadLists
 pub mod Messages
 pub mod Written
+pub mod KindsOfMessages

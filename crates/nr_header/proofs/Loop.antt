@@ -1,86 +1,88 @@
--- Lists read entry after entry, as loops do.
-use Rattle.std.proofs.Common.{◌≡◌, ℕ, suc, ◌-◌, ◌+◌, ◌≤◌, ◌<◌, Bool, true, false, List, [], ◌∷◌, ◌++◌, Result, Ok, Err, refl, sym, ap, ◌∙◌, append_assoc, arith}
-use Rattle.std.proofs.lemmas.List.{append-nil}
+-- Lists read element after element, as loops do.
+use Rattle.std.proofs.Common.{◌≡◌, ℕ, suc, ◌-◌, ◌+◌, ◌≤◌, ◌<◌, Bool, true, false, cond, Option, Some, None, List, [], ◌∷◌, ◌++◌, Result, Ok, Err, refl, sym, ap, ◌∙◌, append_assoc, arith}
 use Rattle.nr_xdr.specs.Reading.{Cursor}
 use Rattle.nr_xdr.specs.Sequencing.{◌>>=◌}
+use Rattle.nr_xdr.proofs.Fronts.{with_front, regroup, nothing_before, none_behind, left_is, none_left}
 use Rattle.nr_header.specs.Constants.{CHUNK_SEGMENTS_MAX}
-use Rattle.nr_header.specs.declared.fault.HeaderFault.{HeaderFault}
-use Rattle.nr_header.specs.declared.fault.HeaderFault.TheVariants.{Short, Version, Kind, BadChunks}
 use Rattle.nr_header.specs.declared.header.RdmaSegment.{RdmaSegment}
 use Rattle.nr_header.specs.declared.header.ReadSegment.{ReadSegment}
-use Rattle.nr_header.specs.Reading.{Fails, more_at, end_at, entry_at, segment_at, chunk_at, seen_with, read_list_at, segments_at, write_list_at}
+use Rattle.nr_header.specs.Reading.{optional_at, more_at, end_at, entry_at, segment_at, chunk_at, other_position, read_list_at, segments_at, write_list_at}
 
--- a step that fails fails what it is a part of
-pub fails_by : {A B : Type 0} (fault : HeaderFault) (r : Result A ℕ) (s : Result B ℕ) → ((at : ℕ) → r ≡ Err at → s ≡ Err at) → Fails fault r → Fails fault s
-fails_by Short r s law h = h
-fails_by (Version version) r s law h = h
-fails_by (Kind kind) r s law h = h
-fails_by (BadChunks at) r s law h = law at h
+-- what follows an optional element, or the word 0 in its place
+abbrev pub either : {A B : Type 0} → Option A → Cursor → (A → Cursor → Result B ℕ) → (Cursor → Result B ℕ) → Result B ℕ
+either (Some a) d some none = some a d
+either None d some none = none d
 
--- what was read before, and what is still read
-abbrev pub with_front : {A : Type 0} → List A → Result (List A × Cursor) ℕ → Result (List A × Cursor) ℕ
-with_front front read = read >>= λ x. Ok (front ++ x.0, x.1)
+abbrev present : {A : Type 0} → A × Cursor → Result (Option A × Cursor) ℕ
+present x = Ok (Some x.0, x.1)
 
-regroup : {A : Type 0} (front : List A) (e : A) (read : Result (List A × Cursor) ℕ) → with_front front (read >>= λ x. Ok (e ∷ x.0, x.1)) ≡ with_front (front ++ e ∷ []) read
-regroup front e (Ok x) = ap (λ (es : _). Ok (es, x.1)) (simp append_assoc)
-regroup front e (Err at) = refl
+abbrev absent : {A : Type 0} → Cursor → Result (Option A × Cursor) ℕ
+absent d = Ok (None, d)
 
-nothing_before : {A : Type 0} (read : Result (List A × Cursor) ℕ) → with_front [] read ≡ read
-nothing_before (Ok x) = refl
-nothing_before (Err at) = refl
+element_then : {A B : Type 0} (read : Result (A × Cursor) ℕ) (some : A → Cursor → Result B ℕ) (none : Cursor → Result B ℕ)
+    → (read >>= λ x. some x.0 x.1) ≡ ((read >>= present) >>= λ o. either o.0 o.1 some none)
+element_then (Ok x) some none = refl
+element_then (Err at) some none = refl
 
-none_behind : {A : Type 0} (front : List A) (c : Cursor) → with_front front (Ok ([], c)) ≡ Ok (front, c)
-none_behind front c = ap (λ (es : _). Ok (es, c)) (append-nil front)
+optional_by : {A B : Type 0} (more : Bool) (d : Cursor) (element : Cursor → Result (A × Cursor) ℕ) (some : A → Cursor → Result B ℕ) (none : Cursor → Result B ℕ)
+    → cond more (element d >>= λ x. some x.0 x.1) (none d) ≡ (cond more (element d >>= present) (absent d) >>= λ o. either o.0 o.1 some none)
+optional_by true d element some none = element_then (element d) some none
+optional_by false d element some none = refl
 
-left_is : (count i : ℕ) → i < count → count - i ≡ suc (count - (i + 1))
-left_is count i lt = omega arith
+optional_then : {A B : Type 0} (more : Result (Bool × Cursor) ℕ) (element : Cursor → Result (A × Cursor) ℕ) (some : A → Cursor → Result B ℕ) (none : Cursor → Result B ℕ)
+    → (more >>= λ m. cond m.0 (element m.1 >>= λ x. some x.0 x.1) (none m.1))
+    ≡ ((more >>= λ m. cond m.0 (element m.1 >>= present) (absent m.1)) >>= λ o. either o.0 o.1 some none)
+optional_then (Ok m) element some none = optional_by m.0 m.1 element some none
+optional_then (Err at) element some none = refl
 
-none_left : (count i : ℕ) → count ≤ i → count - i ≡ 0
-none_left count i le = omega arith
+-- elements that were read, with no more after them
+front_alone : {A : Type 0} (front : List A) (end : Result Cursor ℕ) → with_front front (end >>= λ d. Ok ([], d)) ≡ (end >>= λ d. Ok (front, d))
+front_alone front (Ok d) = none_behind front d
+front_alone front (Err at) = refl
 
 -- a read list whose first entries are read
 module _ (front : List ReadSegment) (count i : ℕ) (zero_allowed : Bool) (seen : ℕ) (c : Cursor) (total : Result (List ReadSegment × Cursor) ℕ) where
   abbrev pub ReadSoFar : Type 0
   ReadSoFar = with_front front (read_list_at (count - i) zero_allowed seen c) ≡ total
 
-  pub entry_goes : (d : Cursor) (e : ReadSegment) (after : Cursor) → i < count → more_at c ≡ Ok (true, d) → entry_at c.place zero_allowed seen d ≡ Ok (e, after)
-      → ReadSoFar → with_front (front ++ e ∷ []) (read_list_at (count - (i + 1)) zero_allowed (seen_with seen e.position) after) ≡ total
-  unfolding read_list_at
-  entry_goes d e after lt more read so_far =
-      let rest = read_list_at (count - (i + 1)) zero_allowed (seen_with seen e.position) after in
+  next : Result (Option ReadSegment × Cursor) ℕ
+  next = optional_at (entry_at c.place zero_allowed seen) c
+
+  entry_then : ReadSegment → Cursor → Result (List ReadSegment × Cursor) ℕ
+  entry_then e d = read_list_at (count - (i + 1)) zero_allowed (other_position seen e.position) d >>= λ others. Ok (e ∷ others.0, others.1)
+
+  read_step : i < count → read_list_at (count - i) zero_allowed seen c ≡ (next >>= λ o. either o.0 o.1 entry_then (λ d. Ok ([], d)))
+  unfolding read_list_at next entry_then
+  read_step lt = rw (left_is count i lt) (optional_then (more_at c) (entry_at c.place zero_allowed seen) entry_then (λ d. Ok ([], d)))
+
+  pub entry_goes : (e : ReadSegment) (after : Cursor) → i < count → optional_at (entry_at c.place zero_allowed seen) c ≡ Ok (Some e, after)
+      → ReadSoFar → with_front (front ++ e ∷ []) (read_list_at (count - (i + 1)) zero_allowed (other_position seen e.position) after) ≡ total
+  unfolding next entry_then
+  entry_goes e after lt read so_far =
+      let rest = read_list_at (count - (i + 1)) zero_allowed (other_position seen e.position) after in
       let one : with_front front (read_list_at (count - i) zero_allowed seen c) ≡ with_front (front ++ e ∷ []) rest =
-      rw (left_is count i lt, more, read) (regroup front e rest) in
+      ap (with_front front) (read_step lt ∙ ap (λ (o : Result (Option ReadSegment × Cursor) ℕ). o >>= λ o. either o.0 o.1 entry_then (λ d. Ok ([], d))) read) ∙ regroup front e rest in
       sym one ∙ so_far
 
-  pub list_stops : (d : Cursor) → i < count → more_at c ≡ Ok (false, d) → ReadSoFar → total ≡ Ok (front, d)
-  unfolding read_list_at
-  list_stops d lt more so_far =
-      let one : with_front front (read_list_at (count - i) zero_allowed seen c) ≡ Ok (front, d) = rw (left_is count i lt, more) (none_behind front d) in
+  pub list_stops : (d : Cursor) → i < count → optional_at (entry_at c.place zero_allowed seen) c ≡ Ok (None, d) → ReadSoFar → total ≡ Ok (front, d)
+  unfolding next
+  list_stops d lt read so_far =
+      let one : with_front front (read_list_at (count - i) zero_allowed seen c) ≡ Ok (front, d) =
+      ap (with_front front) (read_step lt ∙ ap (λ (o : Result (Option ReadSegment × Cursor) ℕ). o >>= λ o. either o.0 o.1 entry_then (λ d. Ok ([], d))) read) ∙ none_behind front d in
       sym so_far ∙ one
 
-  pub more_fails : (fault : HeaderFault) → i < count → Fails fault (more_at c) → ReadSoFar → Fails fault total
-  unfolding read_list_at
-  more_fails fault lt h so_far =
-      fails_by fault (more_at c) total
-      (λ at e. let one : with_front front (read_list_at (count - i) zero_allowed seen c) ≡ Err at = rw (left_is count i lt, e) refl in sym so_far ∙ one) h
-
-  pub entry_fails : (d : Cursor) (fault : HeaderFault) → i < count → more_at c ≡ Ok (true, d) → Fails fault (entry_at c.place zero_allowed seen d) → ReadSoFar → Fails fault total
-  unfolding read_list_at
-  entry_fails d fault lt more h so_far =
-      fails_by fault (entry_at c.place zero_allowed seen d) total
-      (λ at e. let one : with_front front (read_list_at (count - i) zero_allowed seen c) ≡ Err at = rw (left_is count i lt, more, e) refl in sym so_far ∙ one) h
-
-  pub list_ends : (d : Cursor) → count ≤ i → end_at c ≡ Ok d → ReadSoFar → total ≡ Ok (front, d)
-  unfolding read_list_at
-  list_ends d le end so_far =
-      let one : with_front front (read_list_at (count - i) zero_allowed seen c) ≡ Ok (front, d) = rw (none_left count i le, end) (none_behind front d) in
+  pub entry_fails : (at : ℕ) → i < count → optional_at (entry_at c.place zero_allowed seen) c ≡ Err at → ReadSoFar → total ≡ Err at
+  unfolding next
+  entry_fails at lt read so_far =
+      let one : with_front front (read_list_at (count - i) zero_allowed seen c) ≡ Err at =
+      ap (with_front front) (read_step lt ∙ ap (λ (o : Result (Option ReadSegment × Cursor) ℕ). o >>= λ o. either o.0 o.1 entry_then (λ d. Ok ([], d))) read) in
       sym so_far ∙ one
 
-  pub end_fails : (fault : HeaderFault) → count ≤ i → Fails fault (end_at c) → ReadSoFar → Fails fault total
+  pub list_tail : count ≤ i → ReadSoFar → total ≡ (end_at c >>= λ d. Ok (front, d))
   unfolding read_list_at
-  end_fails fault le h so_far =
-      fails_by fault (end_at c) total
-      (λ at e. let one : with_front front (read_list_at (count - i) zero_allowed seen c) ≡ Err at = rw (none_left count i le, e) refl in sym so_far ∙ one) h
+  list_tail le so_far =
+      let one : with_front front (read_list_at (count - i) zero_allowed seen c) ≡ (end_at c >>= λ d. Ok (front, d)) = rw (none_left count i le) (front_alone front (end_at c)) in
+      sym so_far ∙ one
 
 pub list_begins : (count : ℕ) (zero_allowed : Bool) (c : Cursor) → with_front [] (read_list_at (count - 0) zero_allowed 0 c) ≡ read_list_at count zero_allowed 0 c
 list_begins count zero_allowed c =
@@ -100,11 +102,11 @@ module _ (front : List RdmaSegment) (count i : ℕ) (c : Cursor) (total : Result
       let one : with_front front (segments_at (count - i) c) ≡ with_front (front ++ s ∷ []) rest = rw (left_is count i lt, read) (regroup front s rest) in
       sym one ∙ so_far
 
-  pub segment_fails : (fault : HeaderFault) → i < count → Fails fault (segment_at c.place c) → SegmentsSoFar → Fails fault total
+  pub segment_fails : (at : ℕ) → i < count → segment_at c.place c ≡ Err at → SegmentsSoFar → total ≡ Err at
   unfolding segments_at
-  segment_fails fault lt h so_far =
-      fails_by fault (segment_at c.place c) total
-      (λ at e. let one : with_front front (segments_at (count - i) c) ≡ Err at = rw (left_is count i lt, e) refl in sym so_far ∙ one) h
+  segment_fails at lt e so_far =
+      let one : with_front front (segments_at (count - i) c) ≡ Err at = rw (left_is count i lt, e) refl in
+      sym so_far ∙ one
 
   pub segments_end : count ≤ i → SegmentsSoFar → total ≡ Ok (front, c)
   unfolding segments_at
@@ -122,43 +124,44 @@ module _ (front : List (List RdmaSegment)) (count i : ℕ) (c : Cursor) (total :
   abbrev pub WriteSoFar : Type 0
   WriteSoFar = with_front front (write_list_at (count - i) c) ≡ total
 
-  pub chunk_goes : (d : Cursor) (chunk : List RdmaSegment) (after : Cursor) → i < count → more_at c ≡ Ok (true, d) → chunk_at CHUNK_SEGMENTS_MAX d ≡ Ok (chunk, after)
+  next_chunk : Result (Option (List RdmaSegment) × Cursor) ℕ
+  next_chunk = optional_at (chunk_at CHUNK_SEGMENTS_MAX) c
+
+  chunk_then : List RdmaSegment → Cursor → Result (List (List RdmaSegment) × Cursor) ℕ
+  chunk_then chunk d = write_list_at (count - (i + 1)) d >>= λ others. Ok (chunk ∷ others.0, others.1)
+
+  write_step : i < count → write_list_at (count - i) c ≡ (next_chunk >>= λ o. either o.0 o.1 chunk_then (λ d. Ok ([], d)))
+  unfolding write_list_at next_chunk chunk_then
+  write_step lt = rw (left_is count i lt) (optional_then (more_at c) (chunk_at CHUNK_SEGMENTS_MAX) chunk_then (λ d. Ok ([], d)))
+
+  pub chunk_goes : (chunk : List RdmaSegment) (after : Cursor) → i < count → optional_at (chunk_at CHUNK_SEGMENTS_MAX) c ≡ Ok (Some chunk, after)
       → WriteSoFar → with_front (front ++ chunk ∷ []) (write_list_at (count - (i + 1)) after) ≡ total
-  unfolding write_list_at
-  chunk_goes d chunk after lt more read so_far =
+  unfolding next_chunk chunk_then
+  chunk_goes chunk after lt read so_far =
       let rest = write_list_at (count - (i + 1)) after in
-      let one : with_front front (write_list_at (count - i) c) ≡ with_front (front ++ chunk ∷ []) rest = rw (left_is count i lt, more, read) (regroup front chunk rest) in
+      let one : with_front front (write_list_at (count - i) c) ≡ with_front (front ++ chunk ∷ []) rest =
+      ap (with_front front) (write_step lt ∙ ap (λ (o : Result (Option (List RdmaSegment) × Cursor) ℕ). o >>= λ o. either o.0 o.1 chunk_then (λ d. Ok ([], d))) read) ∙ regroup front chunk rest in
       sym one ∙ so_far
 
-  pub chunks_stop : (d : Cursor) → i < count → more_at c ≡ Ok (false, d) → WriteSoFar → total ≡ Ok (front, d)
-  unfolding write_list_at
-  chunks_stop d lt more so_far =
-      let one : with_front front (write_list_at (count - i) c) ≡ Ok (front, d) = rw (left_is count i lt, more) (none_behind front d) in
+  pub chunks_stop : (d : Cursor) → i < count → optional_at (chunk_at CHUNK_SEGMENTS_MAX) c ≡ Ok (None, d) → WriteSoFar → total ≡ Ok (front, d)
+  unfolding next_chunk
+  chunks_stop d lt read so_far =
+      let one : with_front front (write_list_at (count - i) c) ≡ Ok (front, d) =
+      ap (with_front front) (write_step lt ∙ ap (λ (o : Result (Option (List RdmaSegment) × Cursor) ℕ). o >>= λ o. either o.0 o.1 chunk_then (λ d. Ok ([], d))) read) ∙ none_behind front d in
       sym so_far ∙ one
 
-  pub chunk_more_fails : (fault : HeaderFault) → i < count → Fails fault (more_at c) → WriteSoFar → Fails fault total
-  unfolding write_list_at
-  chunk_more_fails fault lt h so_far =
-      fails_by fault (more_at c) total
-      (λ at e. let one : with_front front (write_list_at (count - i) c) ≡ Err at = rw (left_is count i lt, e) refl in sym so_far ∙ one) h
-
-  pub chunk_fails : (d : Cursor) (fault : HeaderFault) → i < count → more_at c ≡ Ok (true, d) → Fails fault (chunk_at CHUNK_SEGMENTS_MAX d) → WriteSoFar → Fails fault total
-  unfolding write_list_at
-  chunk_fails d fault lt more h so_far =
-      fails_by fault (chunk_at CHUNK_SEGMENTS_MAX d) total
-      (λ at e. let one : with_front front (write_list_at (count - i) c) ≡ Err at = rw (left_is count i lt, more, e) refl in sym so_far ∙ one) h
-
-  pub chunks_end : (d : Cursor) → count ≤ i → end_at c ≡ Ok d → WriteSoFar → total ≡ Ok (front, d)
-  unfolding write_list_at
-  chunks_end d le end so_far =
-      let one : with_front front (write_list_at (count - i) c) ≡ Ok (front, d) = rw (none_left count i le, end) (none_behind front d) in
+  pub chunk_fails : (at : ℕ) → i < count → optional_at (chunk_at CHUNK_SEGMENTS_MAX) c ≡ Err at → WriteSoFar → total ≡ Err at
+  unfolding next_chunk
+  chunk_fails at lt read so_far =
+      let one : with_front front (write_list_at (count - i) c) ≡ Err at =
+      ap (with_front front) (write_step lt ∙ ap (λ (o : Result (Option (List RdmaSegment) × Cursor) ℕ). o >>= λ o. either o.0 o.1 chunk_then (λ d. Ok ([], d))) read) in
       sym so_far ∙ one
 
-  pub chunk_end_fails : (fault : HeaderFault) → count ≤ i → Fails fault (end_at c) → WriteSoFar → Fails fault total
+  pub chunks_tail : count ≤ i → WriteSoFar → total ≡ (end_at c >>= λ d. Ok (front, d))
   unfolding write_list_at
-  chunk_end_fails fault le h so_far =
-      fails_by fault (end_at c) total
-      (λ at e. let one : with_front front (write_list_at (count - i) c) ≡ Err at = rw (none_left count i le, e) refl in sym so_far ∙ one) h
+  chunks_tail le so_far =
+      let one : with_front front (write_list_at (count - i) c) ≡ (end_at c >>= λ d. Ok (front, d)) = rw (none_left count i le) (front_alone front (end_at c)) in
+      sym so_far ∙ one
 
 pub chunks_begin : (count : ℕ) (c : Cursor) → with_front [] (write_list_at (count - 0) c) ≡ write_list_at count c
 chunks_begin count c =

@@ -8,6 +8,7 @@ use Rattle.std.proofs.lemmas.List.Elements.{All-from_recursion, All-head, All-ta
 use Rattle.nr_xdr.specs.declared.fault.ItemFault.TheVariants as items
 use Rattle.nr_xdr.specs.Item.{Item, IsBytes, Fits, Reads, padding, encoding, word, word_of}
 use Rattle.nr_xdr.specs.Item.Item.{Unsigned, Hyper, Boolean}
+use Rattle.nr_xdr.specs.Fields.{word_at}
 use Rattle.nr_xdr.specs.Items.{ReadsAll, AllFit, encodings, TakesAll}
 use Rattle.nr_xdr.specs.Reading.{Cursor, Takes, cursor_past, unsigned_at}
 use Rattle.nr_xdr.proofs.Cursors.{cursor_is, guard_ok, ok_parts}
@@ -26,7 +27,7 @@ use Rattle.nr_header.specs.declared.header.Body.TheVariants.{Msg, Nomsg, ErrVers
 use Rattle.nr_header.specs.declared.header.Header.{Header}
 use Rattle.nr_header.specs.Header.{read_items, segments_items, write_items, reply_items, lists_items, fixed_items, body_items, header_encoding, HeaderFits}
 use Rattle.nr_header.specs.WithinLimits.{SegmentsEnd, ListsWithin, read_total, CanRead, StreamAt, IsMessage, body_again, header_again}
-use Rattle.nr_header.specs.Reading.{LacksStream, IsBad, HeaderBad, lists_at, sums_pass, msg_at, nomsg_at, word_at, error_of, error_by, in_lists, version1_of, body_by, headed, header_of, read_list_at, write_list_at, reply_chunk_at}
+use Rattle.nr_header.specs.Reading.{HasNoStream, IsBad, HeaderBad, lists_at, sums_pass, msg_at, nomsg_at, error_of, error_by, in_lists, version1_of, body_by, header_by, header_of, read_list_at, write_list_at, reply_chunk_at}
 use Rattle.nr_header.proofs.Segments.{SegmentEnds, write_list_take, write_list_again, reply_chunk_take, reply_chunk_again}
 use Rattle.nr_header.proofs.ReadLists.{EntryEnds, Stand, ZeroAllowed, position_of, stand_one, stand_apart, one_stands, read_list_take, read_list_again}
 
@@ -380,9 +381,9 @@ body_cases None version kind bytes body e =
       | inr other ↦ absurd (let wrong : Err (faults.Version version) ≡ good body = other.1 in cc)
     ]
 
-headed_ok : (xid credit : ℕ) (r : Result Body HeaderFault) (h : Header) → headed xid credit r ≡ Ok h → (body : Body) × (r ≡ Ok body) × (header xid credit body ≡ h)
-headed_ok xid credit (Ok body) h e = (body, refl, good_is (header xid credit body) h e)
-headed_ok xid credit (Err fault) h e = absurd cc
+header_by_ok : (xid credit : ℕ) (r : Result Body HeaderFault) (h : Header) → header_by xid credit r ≡ Ok h → (body : Body) × (r ≡ Ok body) × (header xid credit body ≡ h)
+header_by_ok xid credit (Ok body) h e = (body, refl, good_is (header xid credit body) h e)
+header_by_ok xid credit (Err fault) h e = absurd cc
 
 body_take : (bytes : List ℕ) (body : Body) → IsBytes bytes → 16 ≤ length bytes
     → (error_by (word_at 12 bytes) bytes ≡ Some body) ⊎ ((word_at 4 bytes ≡ VERSION) × (version1_of (word_at 12 bytes) bytes ≡ Ok body)) → IsMessage (in_message bytes body) bytes
@@ -400,12 +401,12 @@ header_take bytes h fits e =
     let kind = word_at 12 bytes in
     let version = word_at 4 bytes in
     let by = error_by kind bytes in
-    let read = headed (word_at 0 bytes) (word_at 8 bytes) (body_by by version kind bytes) in
+    let read = header_by (word_at 0 bytes) (word_at 8 bytes) (body_by by version kind bytes) in
     elim (chosen (ltb (length bytes) FIXED_LEN) (Err faults.Short) read (Ok h) e) [
       | inl short ↦ absurd (let wrong : Err faults.Short ≡ good h = short.1 in cc)
       | inr long ↦
           let le : 16 ≤ length bytes = ltb-false (length bytes) FIXED_LEN long.0 in
-          let b = headed_ok (word_at 0 bytes) (word_at 8 bytes) (body_by by version kind bytes) h long.1 in
+          let b = header_by_ok (word_at 0 bytes) (word_at 8 bytes) (body_by by version kind bytes) h long.1 in
           subst (λ (x : Header). IsMessage x bytes) b.2 (body_take bytes b.0 fits le (body_cases by version kind bytes b.0 b.1))
     ]
 
@@ -481,9 +482,9 @@ message_is_read h bytes m = by_body h.xid h.credit h.body bytes m.stream m.fits 
         (rw (f.kind_is, len, wa.1, f.version_is) refl)
 
 -- a message that is read is bad exactly where it is RDMA_NOMSG and has no stream
-pub message_is_bad : (h : Header) (bytes : List ℕ) → IsMessage h bytes → HeaderBad bytes ↔ LacksStream h.body
+pub message_is_bad : (h : Header) (bytes : List ℕ) → IsMessage h bytes → HeaderBad bytes ↔ HasNoStream h.body
 message_is_bad h bytes m =
-    subst (λ (r : Result Header HeaderFault). IsBad r ↔ LacksStream h.body) (sym (message_is_read h bytes m)) (λ bad. bad, λ lacks. lacks)
+    subst (λ (r : Result Header HeaderFault). IsBad r ↔ HasNoStream h.body) (sym (message_is_read h bytes m)) (λ bad. bad, λ lacks. lacks)
 
 pub header_is_found : (bytes : List ℕ) (r : Result Header HeaderFault) → IsBytes bytes → r ≡ header_of bytes → IfOk r (λ h. IsMessage h bytes)
 header_is_found bytes (Ok h) fits is = header_take bytes h fits (sym is)

@@ -12,7 +12,7 @@ use Rattle.nr_header.specs.declared.header.RdmaSegment.{RdmaSegment}
 use Rattle.nr_header.specs.declared.header.ReadSegment.{ReadSegment}
 use Rattle.nr_header.specs.Header.{read_items}
 use Rattle.nr_header.specs.WithinLimits.{Ends}
-use Rattle.nr_header.specs.Reading.{can_stand, seen_with, end_at, segment_at, entry_at, read_list_at}
+use Rattle.nr_header.specs.Reading.{is_allowed, other_position, end_at, segment_at, entry_at, read_list_at}
 use Rattle.nr_header.proofs.Segments.{Before, Again, segment_take, segment_again, end_take, end_again}
 
 abbrev pub EntryEnds : ReadSegment → Type 0
@@ -21,14 +21,14 @@ EntryEnds r = Ends r.offset r.length
 -- each position may stand behind those before it
 abbrev pub Stand : Bool → ℕ → List ReadSegment → Type 0
 Stand zero_allowed seen [] = Unit {0}
-Stand zero_allowed seen (r ∷ rs) = (can_stand zero_allowed seen r.position ≡ true) × Stand zero_allowed (seen_with seen r.position) rs
+Stand zero_allowed seen (r ∷ rs) = (is_allowed zero_allowed seen r.position ≡ true) × Stand zero_allowed (other_position seen r.position) rs
 
 abbrev pub place_items : ReadSegment → List Item → List Item
 place_items r more = Unsigned r.position ∷ (Unsigned r.handle ∷ (Unsigned r.length ∷ (Hyper r.offset ∷ more)))
 
 record TookEntry (zero_allowed : Bool) (seen : ℕ) (r : ReadSegment) (c d : Cursor) : Type 0 where
   before : Before (place_items r) c d
-  stands : can_stand zero_allowed seen r.position ≡ true
+  stands : is_allowed zero_allowed seen r.position ≡ true
   ends : EntryEnds r
   fits : IsBytes d.rest
 
@@ -37,7 +37,7 @@ unfolding entry_at
 entry_take place zero_allowed seen c x fits e =
     let position = number_step c _ x fits e in
     let target = segment_at place position.0.1 >>= λ segment. done {A = ReadSegment × Cursor} (record { position = position.0.0; handle = segment.0.handle; length = segment.0.length; offset = segment.0.offset }, segment.1) in
-    elim (chosen (can_stand zero_allowed seen position.0.0) target (Err place) (Ok x) position.3) [
+    elim (chosen (is_allowed zero_allowed seen position.0.0) target (Err place) (Ok x) position.3) [
       | inl stands ↦
           let segment = bind_ok (segment_at place position.0.1) _ x stands.1 in
           let s = segment_take place position.0.1 segment.0 position.2 segment.1 in
@@ -54,7 +54,7 @@ entry_take place zero_allowed seen c x fits e =
 abbrev target_of : ReadSegment → RdmaSegment
 target_of r = record { handle = r.handle; length = r.length; offset = r.offset }
 
-entry_again : (place : ℕ) (zero_allowed : Bool) (seen : ℕ) (r : ReadSegment) (more : List Item) (c after : Cursor) → can_stand zero_allowed seen r.position ≡ true → EntryEnds r
+entry_again : (place : ℕ) (zero_allowed : Bool) (seen : ℕ) (r : ReadSegment) (more : List Item) (c after : Cursor) → is_allowed zero_allowed seen r.position ≡ true → EntryEnds r
     → TakesAll c after (place_items r more) → Again (entry_at place zero_allowed seen c) r more after
 unfolding entry_at
 entry_again place zero_allowed seen r more c after stands ends (a, at_position, others) =
@@ -81,7 +81,7 @@ read_none room zero_allowed seen c d x taken fits e =
     })
 
 read_more : (room : ℕ) (zero_allowed : Bool) (seen : ℕ) (r : ReadSegment) (rs : List ReadSegment) (c d f after : Cursor) (x : List ReadSegment × Cursor)
-    → Takes c d (Boolean true) → TookEntry zero_allowed seen r d f → TookRead room zero_allowed (seen_with seen r.position) rs f after
+    → Takes c d (Boolean true) → TookEntry zero_allowed seen r d f → TookRead room zero_allowed (other_position seen r.position) rs f after
     → done {A = List ReadSegment × Cursor} (r ∷ rs, after) ≡ done x → TookRead (suc room) zero_allowed seen x.0 c x.1
 read_more room zero_allowed seen r rs c d f after x taken first others e =
     let made : List ReadSegment × Cursor = (r ∷ rs, after) in
@@ -102,13 +102,13 @@ read_list_take zero zero_allowed seen c x fits e =
     read_none 0 zero_allowed seen c end.0 x t.0 t.1 end.2
 read_list_take (suc room) zero_allowed seen c x fits e =
     let more = boolean_step c _ x fits e in
-    let entries = entry_at c.place zero_allowed seen more.0.1 >>= λ entry. read_list_at room zero_allowed (seen_with seen entry.0.position) entry.1 >>= λ others. done {A = List ReadSegment × Cursor} (entry.0 ∷ others.0, others.1) in
+    let entries = entry_at c.place zero_allowed seen more.0.1 >>= λ entry. read_list_at room zero_allowed (other_position seen entry.0.position) entry.1 >>= λ others. done {A = List ReadSegment × Cursor} (entry.0 ∷ others.0, others.1) in
     elim (chosen more.0.0 entries (Ok ([], more.0.1)) (Ok x) more.3) [
       | inl goes ↦
           let entry = bind_ok (entry_at c.place zero_allowed seen more.0.1) _ x goes.1 in
           let k = entry_take c.place zero_allowed seen more.0.1 entry.0 more.2 entry.1 in
-          let others = bind_ok (read_list_at room zero_allowed (seen_with seen entry.0.0.position) entry.0.1) _ x entry.2 in
-          let ks = read_list_take room zero_allowed (seen_with seen entry.0.0.position) entry.0.1 others.0 k.fits others.1 in
+          let others = bind_ok (read_list_at room zero_allowed (other_position seen entry.0.0.position) entry.0.1) _ x entry.2 in
+          let ks = read_list_take room zero_allowed (other_position seen entry.0.0.position) entry.0.1 others.0 k.fits others.1 in
           read_more room zero_allowed seen entry.0.0 others.0.0 c more.0.1 entry.0.1 others.0.1 x (subst (λ (b : Bool). Takes c more.0.1 (Boolean b)) goes.0 more.1) k ks others.2
       | inr stops ↦ read_none (suc room) zero_allowed seen c more.0.1 x (subst (λ (b : Bool). Takes c more.0.1 (Boolean b)) stops.0 more.1) more.2 stops.1
     ]
@@ -121,7 +121,7 @@ read_list_again [] (suc room) zero_allowed seen more c after within stand ends (
 read_list_again (r ∷ rs) zero zero_allowed seen more c after within stand ends taken = absurd (omega (arith, within))
 read_list_again (r ∷ rs) (suc room) zero_allowed seen more c after within stand ends (d, taken, behind) =
     let (f, first, others) = entry_again c.place zero_allowed seen r (read_items rs more) d after stand.0 ends.0 behind in
-    let (g, read, last) = read_list_again rs room zero_allowed (seen_with seen r.position) more f after (omega (arith, within)) stand.1 ends.1 others in
+    let (g, read, last) = read_list_again rs room zero_allowed (other_position seen r.position) more f after (omega (arith, within)) stand.1 ends.1 others in
     (g, rw (boolean_placed c true d taken, first, read) refl, last)
 
 -- ---- positions
@@ -129,29 +129,29 @@ read_list_again (r ∷ rs) (suc room) zero_allowed seen more c after within stan
 -- the position other than 0 of a list, 0 where there is none
 abbrev pub position_of : ℕ → List ReadSegment → ℕ
 position_of seen [] = seen
-position_of seen (r ∷ rs) = position_of (seen_with seen r.position) rs
+position_of seen (r ∷ rs) = position_of (other_position seen r.position) rs
 
 -- what is seen stays
 position_stays : (zero_allowed : Bool) (seen : ℕ) (rs : List ReadSegment) → Stand zero_allowed seen rs → seen ≢ 0 → position_of seen rs ≡ seen
 position_stays zero_allowed seen [] stand some = refl
 position_stays zero_allowed seen (r ∷ rs) stand some =
-    let same : seen_with seen r.position ≡ seen = grind (arith, nat_tests, stand.0) in
-    let later : seen_with seen r.position ≢ 0 = λ e. some (sym same ∙ e) in
-    position_stays zero_allowed (seen_with seen r.position) rs stand.1 later ∙ same
+    let same : other_position seen r.position ≡ seen = grind (arith, nat_tests, stand.0) in
+    let later : other_position seen r.position ≢ 0 = λ e. some (sym same ∙ e) in
+    position_stays zero_allowed (other_position seen r.position) rs stand.1 later ∙ same
 
 pub stand_one : (zero_allowed : Bool) (seen : ℕ) (rs : List ReadSegment) → Stand zero_allowed seen rs → AllByRecursion (λ r. r.position ≢ 0 → r.position ≡ position_of seen rs) rs
 stand_one zero_allowed seen [] stand = tt
 stand_one zero_allowed seen (r ∷ rs) stand = (
-  λ some. let now : seen_with seen r.position ≡ r.position = grind (arith, nat_tests) in
-      let later : seen_with seen r.position ≢ 0 = λ e. some (sym now ∙ e) in
-      sym (position_stays zero_allowed (seen_with seen r.position) rs stand.1 later ∙ now),
-  stand_one zero_allowed (seen_with seen r.position) rs stand.1,
+  λ some. let now : other_position seen r.position ≡ r.position = grind (arith, nat_tests) in
+      let later : other_position seen r.position ≢ 0 = λ e. some (sym now ∙ e) in
+      sym (position_stays zero_allowed (other_position seen r.position) rs stand.1 later ∙ now),
+  stand_one zero_allowed (other_position seen r.position) rs stand.1,
 )
 
 pub stand_apart : (seen : ℕ) (rs : List ReadSegment) → Stand false seen rs → AllByRecursion (λ r. r.position ≢ 0) rs
 stand_apart seen [] stand = tt
 stand_apart seen (r ∷ rs) stand =
-    ((λ e. absurd (let wrong : can_stand false seen 0 ≡ true = subst (λ (p : ℕ). can_stand false seen p ≡ true) e stand.0 in cc)), stand_apart (seen_with seen r.position) rs stand.1)
+    ((λ e. absurd (let wrong : is_allowed false seen 0 ≡ true = subst (λ (p : ℕ). is_allowed false seen p ≡ true) e stand.0 in cc)), stand_apart (other_position seen r.position) rs stand.1)
 
 -- whether position 0 may stand in the list
 abbrev pub ZeroAllowed : Bool → List ReadSegment → Type 0
@@ -159,11 +159,11 @@ ZeroAllowed true rs = Unit {0}
 ZeroAllowed false rs = AllByRecursion (λ r. r.position ≢ 0) rs
 
 stand_first : (zero_allowed : Bool) (seen position one : ℕ) → (seen ≢ 0 → seen ≡ one) → (position ≢ 0 → position ≡ one) → (zero_allowed ≡ false → position ≢ 0)
-    → can_stand zero_allowed seen position ≡ true
+    → is_allowed zero_allowed seen position ≡ true
 stand_first true seen position one before here apart = grind (arith, nat_tests)
 stand_first false seen position one before here apart = let some = apart refl in grind (arith, nat_tests)
 
-next_is : (seen position one : ℕ) → (seen ≢ 0 → seen ≡ one) → (position ≢ 0 → position ≡ one) → seen_with seen position ≢ 0 → seen_with seen position ≡ one
+next_is : (seen position one : ℕ) → (seen ≢ 0 → seen ≡ one) → (position ≢ 0 → position ≡ one) → other_position seen position ≢ 0 → other_position seen position ≡ one
 next_is seen position one before here some =
     elim (eqb_tells position 0) [
       | inl none ↦ rw none.0 (before (rw none.0 at some))
@@ -179,5 +179,5 @@ pub one_stands : (zero_allowed : Bool) (seen one : ℕ) (rs : List ReadSegment) 
 one_stands zero_allowed seen one [] before all zeros = tt
 one_stands zero_allowed seen one (r ∷ rs) before all zeros =
     let z = zero_head zero_allowed r rs zeros in
-    let next : seen_with seen r.position ≢ 0 → seen_with seen r.position ≡ one = λ some. next_is seen r.position one before all.0 some in
-    (stand_first zero_allowed seen r.position one before all.0 z.0, one_stands zero_allowed (seen_with seen r.position) one rs next all.1 z.1)
+    let next : other_position seen r.position ≢ 0 → other_position seen r.position ≡ one = λ some. next_is seen r.position one before all.0 some in
+    (stand_first zero_allowed seen r.position one before all.0 z.0, one_stands zero_allowed (other_position seen r.position) one rs next all.1 z.1)

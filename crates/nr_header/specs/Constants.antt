@@ -5,7 +5,7 @@ use Rattle.std.specs.Prelude.{ℕ}
 abbrev pub VERSION : ℕ
 VERSION = 1
 
--- how many bytes the fixed words have (RFC 8166 section 4.2)
+-- the number of bytes of the fixed words (RFC 8166 section 4.2)
 abbrev pub FIXED_LEN : ℕ
 FIXED_LEN = 16
 
@@ -47,6 +47,6 @@ WRITE_SEGMENTS_MAX = 16
 abbrev pub REPLY_SEGMENTS_MAX : ℕ
 REPLY_SEGMENTS_MAX = 16
 
--- the most bytes of a stream behind its header and of the read list together
+-- the most bytes of a stream after its header and of the read list together
 abbrev pub PAYLOAD_MAX : ℕ
 PAYLOAD_MAX = 40960

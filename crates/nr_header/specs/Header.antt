@@ -11,15 +11,15 @@ use Rattle.nr_header.specs.declared.header.Body.{Body}
 use Rattle.nr_header.specs.declared.header.Body.TheVariants.{Msg, Nomsg, ErrVers, ErrChunk}
 use Rattle.nr_header.specs.declared.header.Header.{Header}
 
--- A segment's items, and those behind it (RFC 8166 section 3.4).
+-- the items of a segment, then those that follow it (RFC 8166 section 3.4)
 abbrev pub segment_items : RdmaSegment → List Item → List Item
 segment_items s more = Unsigned s.handle ∷ (Unsigned s.length ∷ (Hyper s.offset ∷ more))
 
--- an entry of a read list (RFC 8166 section 4.3.1), which follows the word 1
+-- an entry of a read list, after the word 1 (RFC 8166 section 4.3.1)
 abbrev pub entry_items : ReadSegment → List Item → List Item
 entry_items r more = Boolean true ∷ (Unsigned r.position ∷ (Unsigned r.handle ∷ (Unsigned r.length ∷ (Hyper r.offset ∷ more))))
 
--- A read list: its entries, and the word 0 that ends it.
+-- a read list: its entries, and the word 0 that ends it
 abbrev pub read_items : List ReadSegment → List Item → List Item
 read_items [] more = Boolean false ∷ more
 read_items (r ∷ rs) more = entry_items r (read_items rs more)
@@ -28,16 +28,16 @@ abbrev pub segments_items : List RdmaSegment → List Item → List Item
 segments_items [] more = more
 segments_items (s ∷ ss) more = segment_items s (segments_items ss more)
 
--- a chunk: how many segments, and the segments
+-- a chunk: the number of its segments, and the segments
 abbrev pub chunk_items : List RdmaSegment → List Item → List Item
 chunk_items segments more = Unsigned (length segments) ∷ segments_items segments more
 
--- A write list (RFC 8166 section 4.3.2): each chunk follows the word 1, and the word 0 ends the list.
+-- a write list: each chunk after the word 1, and the word 0 that ends the list (RFC 8166 section 4.3.2)
 abbrev pub write_items : List (List RdmaSegment) → List Item → List Item
 write_items [] more = Boolean false ∷ more
 write_items (chunk ∷ chunks) more = Boolean true ∷ chunk_items chunk (write_items chunks more)
 
--- A reply chunk behind the word 1, or the word 0 (RFC 8166 section 4.3.3).
+-- a reply chunk after the word 1, or the word 0 (RFC 8166 section 4.3.3)
 abbrev pub reply_items : Option (List RdmaSegment) → List Item → List Item
 reply_items None more = Boolean false ∷ more
 reply_items (Some chunk) more = Boolean true ∷ chunk_items chunk more
@@ -56,7 +56,7 @@ body_items xid credit (ErrVers version low high) =
     fixed_items xid version credit ERROR (Unsigned ERR_VERS ∷ (Unsigned low ∷ (Unsigned high ∷ [])))
 body_items xid credit (ErrChunk version) = fixed_items xid version credit ERROR (Unsigned ERR_CHUNK ∷ [])
 
--- the one encoding, within the limits or not
+-- the encoding, within the limits or not
 abbrev pub header_encoding : Header → List ℕ
 header_encoding h = encodings (body_items h.xid h.credit h.body)
 

@@ -1,5 +1,6 @@
-pub mod Held
+pub mod Storage
 pub mod Header
 pub mod WithinLimits
 pub mod Constants
 pub mod Reading
+pub mod Kinds

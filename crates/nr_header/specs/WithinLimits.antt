@@ -1,4 +1,4 @@
--- Which lists of chunks are within the limits, apart from how they are encoded.
+-- Which lists of chunks are within the limits, whatever their encoding.
 use Rattle.std.specs.Prelude.{◌≡◌, ◌≢◌, ℕ, ◌+◌, ◌^◌, ◌≤◌, List, [], ◌++◌, length, sum_by, All, IfSome}
 use Rattle.nr_header.specs.Constants.{READ_SEGMENTS_MAX, WRITE_CHUNKS_MAX, CHUNK_SEGMENTS_MAX, WRITE_SEGMENTS_MAX, REPLY_SEGMENTS_MAX, PAYLOAD_MAX}
 use Rattle.nr_header.specs.declared.header.RdmaSegment.{RdmaSegment}
@@ -9,7 +9,7 @@ use Rattle.nr_header.specs.declared.header.Body.TheVariants.{Msg, Nomsg, ErrVers
 use Rattle.nr_header.specs.declared.header.Header.{Header}
 use Rattle.nr_header.specs.Header.{header_encoding, HeaderFits}
 
--- a segment's bytes are within the 2 ^ 64 of its region
+-- a segment ends at 2 ^ 64 or before
 abbrev pub Ends : ℕ → ℕ → Type 0
 Ends offset len = offset + len ≤ 2 ^ 64
 
@@ -20,7 +20,7 @@ SegmentsEnd segments = All (λ s. Ends s.offset s.length) segments
 abbrev pub OnePosition : List ReadSegment → Type 0
 OnePosition read = (position : ℕ) × All (λ r. r.position ≢ 0 → r.position ≡ position) read
 
--- what a header's lists keep, of either kind
+-- the limits of a header's lists, of either kind
 pub record ListsWithin (lists : ChunkLists) : Type 0 where
   pub read_segments : length lists.read ≤ READ_SEGMENTS_MAX
   pub read_ends : All (λ r. Ends r.offset r.length) lists.read
@@ -32,12 +32,12 @@ pub record ListsWithin (lists : ChunkLists) : Type 0 where
   pub reply_segments : IfSome lists.reply (λ chunk. length chunk ≤ REPLY_SEGMENTS_MAX)
   pub reply_ends : IfSome lists.reply SegmentsEnd
 
--- how many bytes the read list offers
+-- the number of bytes that the read list offers
 abbrev pub read_total : List ReadSegment → ℕ
 read_total read = sum_by (λ r. r.length) read
 
--- Whether a header with this body can be read with this stream behind it: RDMA_MSG has its stream there, and no chunk
--- at position 0; nothing follows another header.
+-- A header with this body can be read with this stream after it: RDMA_MSG has its stream there, and no chunk at position 0;
+-- nothing follows any other header.
 abbrev pub CanRead : Body → List ℕ → Type 0
 CanRead (Msg lists stream_at) stream =
     ListsWithin lists × All (λ r. r.position ≢ 0) lists.read × (length stream + read_total lists.read ≤ PAYLOAD_MAX)
@@ -45,7 +45,7 @@ CanRead (Nomsg lists) stream = (stream ≡ []) × ListsWithin lists × (read_tot
 CanRead (ErrVers version low high) stream = stream ≡ []
 CanRead (ErrChunk version) stream = stream ≡ []
 
--- the stream begins behind a header of so many bytes
+-- the stream begins after a header of this many bytes
 abbrev pub StreamAt : Body → ℕ → Type 0
 StreamAt (Msg lists stream_at) len = stream_at ≡ len
 StreamAt (Nomsg lists) len = Unit {0}
@@ -60,7 +60,7 @@ pub record IsMessage (h : Header) (bytes : List ℕ) : Type 0 where
   pub can : CanRead h.body stream
   pub place : StreamAt h.body (length (header_encoding h))
 
--- the header as it is read behind its own encoding: the stream begins there
+-- the header as it is read from its own encoding: the stream begins after that
 abbrev pub body_again : Body → ℕ → Body
 body_again (Msg lists stream_at) len = Msg lists len
 body_again (Nomsg lists) len = Nomsg lists

@@ -3,7 +3,7 @@
 /// The version of RPC-over-RDMA (RFC 8166 section 4.2.2).
 pub const VERSION: u32 = 1;
 
-/// The fewest bytes that a message has: the fixed words (RFC 8166 section 4.2).
+/// The number of bytes of the fixed words, which every message has (RFC 8166 section 4.2).
 pub const FIXED_LEN: usize = 16;
 
 /// The kind of a message whose stream follows its header, RDMA_MSG (RFC 8166 section 4.2.4).
@@ -15,10 +15,10 @@ pub const NOMSG: u32 = 1;
 /// The kind of an error message, RDMA_ERROR (RFC 8166 section 4.2.4).
 pub const ERROR: u32 = 4;
 
-/// The error code that tells the versions, ERR_VERS (RFC 8166 section 4.5.1).
+/// The error code with the supported versions, ERR_VERS (RFC 8166 section 4.5.1).
 pub const ERR_VERS: u32 = 1;
 
-/// The error code for a chunk that isn't usable, ERR_CHUNK (RFC 8166 section 4.5.3).
+/// The error code for chunks that can't be used, ERR_CHUNK (RFC 8166 section 4.5.3).
 pub const ERR_CHUNK: u32 = 2;
 
 /// The most segments in a read list.
@@ -36,12 +36,12 @@ pub const WRITE_SEGMENTS_MAX: usize = 16;
 /// The most segments in a reply chunk.
 pub const REPLY_SEGMENTS_MAX: usize = 16;
 
-/// How many segments a chunk holds inline: as many as one of a write list or a reply chunk may have.
+/// How many segments a chunk holds inline: the most that a chunk of a write list or a reply chunk may have.
 pub const CHUNK_ROOM: usize = if CHUNK_SEGMENTS_MAX < REPLY_SEGMENTS_MAX {
     REPLY_SEGMENTS_MAX
 } else {
     CHUNK_SEGMENTS_MAX
 };
 
-/// The most bytes of a stream behind its header and of the read list together.
+/// The most bytes of a stream after its header and of the read list together.
 pub const PAYLOAD_MAX: usize = 40960;

@@ -41,7 +41,7 @@ impl Default for Chunk {
 }
 
 /// The lists of chunks (RFC 8166 section 3.4).
-#[derive(Debug, Drop)]
+#[derive(Drop)]
 pub struct ChunkLists {
     pub read: ReadList,
     pub write: WriteList,
@@ -49,21 +49,21 @@ pub struct ChunkLists {
 }
 
 /// What follows the fixed words of a header (RFC 8166 section 4.2).
-#[derive(Debug, Drop)]
+#[derive(Drop)]
 pub enum Body {
     /// RDMA_MSG: the stream follows the header, from the place `stream_at` of the message on. A header that is written
     /// needs no `stream_at`.
     Msg { lists: ChunkLists, stream_at: usize },
     /// RDMA_NOMSG: the stream is in a chunk.
     Nomsg { lists: ChunkLists },
-    /// RDMA_ERROR with ERR_VERS: the versions from `low` to `high` are spoken. `version` is the version word.
+    /// RDMA_ERROR with ERR_VERS: the sender supports the versions from `low` to `high`. `version` is the version word.
     ErrVers { version: u32, low: u32, high: u32 },
-    /// RDMA_ERROR with ERR_CHUNK: the chunks weren't usable. `version` is the version word.
+    /// RDMA_ERROR with ERR_CHUNK: the chunks of the call can't be used. `version` is the version word.
     ErrChunk { version: u32 },
 }
 
-/// A transport header (RFC 8166 section 4.2). `credit` is the number of calls that are granted or wished.
-#[derive(Debug, Drop)]
+/// A transport header (RFC 8166 section 4.2). `credit` is the number of credits that a requester asks for or a responder grants.
+#[derive(Drop)]
 pub struct Header {
     pub xid: u32,
     pub credit: u32,

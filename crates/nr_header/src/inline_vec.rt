@@ -1,19 +1,19 @@
-//! Lists that are mostly short.
+//! Lists that are stored inline while they are short.
 
 ghost use Rattle.std.specs.Prelude.{◌≡◌, ◌+◌, ◌<◌, ◌≤◌, ◌^◌, [], ◌∷◌, ◌++◌, length, IsTrue, ◌↔◌};
 
 use arrayvec::ArrayVec;
 use std::marker::Model;
 
-/// A list of any length. Up to `N` elements it lies in the value itself, and takes no memory; a longer one is made from a
+/// A list of any length. Up to `N` elements are stored in the value itself, without memory; a longer list is made from a
 /// `Vec`. Contracts see the list.
-#[derive(Debug, Drop)]
+#[derive(Drop)]
 pub struct InlineVec<T, const N: usize> {
-    held: Held<T, N>,
+    held: Storage<T, N>,
 }
 
-#[derive(Debug, Drop)]
-enum Held<T, const N: usize> {
+#[derive(Drop)]
+enum Storage<T, const N: usize> {
     Inline(ArrayVec<T, N>),
     Long(Vec<T>),
 }
@@ -26,7 +26,7 @@ impl<T, const N: usize> Model for InlineVec<T, N> {
 
     ghost coded = { coded_list T.code };
 
-    ghost use Rattle.nr_header.specs.Held.{items_of};
+    ghost use Rattle.nr_header.specs.Storage.{items_of};
 
     ghost view = { λ f. items_of f.held };
 }
@@ -37,7 +37,7 @@ impl<T: Default, const N: usize> InlineVec<T, N> {
         ensures { result ≡ [] }
     {
         InlineVec {
-            held: Held::Inline(ArrayVec::new()),
+            held: Storage::Inline(ArrayVec::new()),
         }
     }
 }
@@ -48,7 +48,7 @@ impl<T, const N: usize> InlineVec<T, N> {
         ensures { result ≡ items.items }
     {
         InlineVec {
-            held: Held::Inline(items),
+            held: Storage::Inline(items),
         }
     }
 
@@ -57,7 +57,7 @@ impl<T, const N: usize> InlineVec<T, N> {
         ensures { result ≡ items.items }
     {
         InlineVec {
-            held: Held::Long(items),
+            held: Storage::Long(items),
         }
     }
 
@@ -65,8 +65,8 @@ impl<T, const N: usize> InlineVec<T, N> {
         ensures { result.now ≡ self.now }
     {
         match &self.held {
-            Held::Inline(items) => items.as_slice(),
-            Held::Long(items) => items.as_slice(),
+            Storage::Inline(items) => items.as_slice(),
+            Storage::Long(items) => items.as_slice(),
         }
     }
 

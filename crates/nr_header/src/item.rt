@@ -1,40 +1,32 @@
-//! The items of a header, each read or refused with its place.
+//! The items of a header: each is read, or refused with its place.
 
 ghost use Rattle.std.specs.Prelude.{◌≡◌, ◌+◌, ◌^◌, ◌<◌, ◌≤◌, nat_lt, length};
-ghost use Rattle.nr_xdr.specs.Sequencing.{number_at};
-ghost use Rattle.nr_header.specs.Reading.{Answers, Goes, more_at, segment_at, end_at, word_at};
+ghost use Rattle.nr_xdr.specs.Matching.{MatchesRead, MatchesStep};
+ghost use Rattle.nr_header.specs.Reading.{more_at, segment_at, end_at};
 
-use crate::fault::HeaderFault;
 use crate::header::RdmaSegment;
-use nr_xdr::Reader;
+use nr_xdr::{DecodeError, Reader, number};
 
-/// An unsigned integer.
-pub(crate) fn number(reader: &mut Reader<'_>) -> Result<u32, HeaderFault>
-    ensures { Answers (λ n. n) result reader.new (number_at reader.old) }
-{
-    Ok(reader.u32()?)
-}
-
-/// Whether an entry follows.
-pub(crate) fn more(reader: &mut Reader<'_>) -> Result<bool, HeaderFault>
-    ensures { Answers (λ b. b) result reader.new (more_at reader.old) }
+/// Reads whether an entry follows.
+pub(crate) fn more(reader: &mut Reader<'_>) -> Result<bool, DecodeError>
+    ensures { MatchesRead (λ b. b) result reader.new (more_at reader.old) }
 {
     Ok(reader.boolean()?)
 }
 
-/// The end of a list. An entry in its place fails at its word.
+/// Reads the end of a list; an entry in its place fails at its word.
 #[tactic(auto, unfolding(crate::specs::Reading::end_at))]
-pub(crate) fn end(reader: &mut Reader<'_>) -> Result<(), HeaderFault>
-    ensures { Goes result reader.new (end_at reader.old) }
+pub(crate) fn end(reader: &mut Reader<'_>) -> Result<(), DecodeError>
+    ensures { MatchesStep result reader.new (end_at reader.old) }
 {
     let at = reader.at();
     if more(reader)? {
-        return Err(HeaderFault::BadChunks { at });
+        return Err(DecodeError { at });
     }
     Ok(())
 }
 
-/// Whether a segment's bytes pass 2^64.
+/// Whether a segment ends past 2^64.
 fn passes_end(length: u32, offset: u64) -> bool
     ensures { result ≡ nat_lt (2 ^ 64) (offset + length) }
 {
@@ -42,16 +34,16 @@ fn passes_end(length: u32, offset: u64) -> bool
     length > 0 && length - 1 > u64::MAX - offset
 }
 
-/// A segment. One whose bytes pass 2^64 fails at `place`.
+/// Reads a segment; one that ends past 2^64 fails at `place`.
 #[tactic(auto, unfolding(crate::specs::Reading::segment_at))]
-pub(crate) fn segment(reader: &mut Reader<'_>, place: usize) -> Result<RdmaSegment, HeaderFault>
-    ensures { Answers (λ s. s) result reader.new (segment_at place reader.old) }
+pub(crate) fn segment(reader: &mut Reader<'_>, place: usize) -> Result<RdmaSegment, DecodeError>
+    ensures { MatchesRead (λ s. s) result reader.new (segment_at place reader.old) }
 {
     let handle = number(reader)?;
     let length = number(reader)?;
     let offset = reader.u64()?;
     if passes_end(length, offset) {
-        return Err(HeaderFault::BadChunks { at: place });
+        return Err(DecodeError { at: place });
     }
     Ok(RdmaSegment {
         handle,

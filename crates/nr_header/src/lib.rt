@@ -1,9 +1,9 @@
 //! The transport header of RPC-over-RDMA version 1 (RFC 8166 section 4), read and written exactly.
 //!
-//! It stands on `nr_xdr`. A header begins each message: the transaction's number, the credits, and either the lists of
-//! chunks, memory that the caller offers or that the answer filled, or an error. [`read_header`] judges a message whole:
-//! its lists are within fixed limits, or it says why not and where. [`write_header`] encodes any header, within the limits
-//! or not. Which chunks a call offers and what they carry is said in the crates above.
+//! The crate stands on `nr_xdr`. A header begins each message. It has the transaction's number and the credits, and either
+//! the lists of chunks (memory that the requester offers, or that the responder filled) or an error. [`read_header`] judges a
+//! whole message: its lists are within fixed limits, or it says why not and where. [`write_header`] encodes any header,
+//! within the limits or not. The crates above decide which chunks a call offers and what they carry.
 #![tactic(auto)]
 
 mod constants;
@@ -23,9 +23,6 @@ pub use constants::{
 pub use fault::HeaderFault;
 pub use header::{Body, Chunk, ChunkLists, Header, RdmaSegment, ReadList, ReadSegment, WriteList};
 pub use inline_vec::InlineVec;
-pub use laws::{bad_messages, header_round_trip};
+pub use laws::{bad_messages, header_round_trip, kinds_of_messages};
 pub use reading::{credit_of, read_header, xid_of};
 pub use writing::write_header;
-
-#[cfg(test)]
-mod tests;

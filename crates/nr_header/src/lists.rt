@@ -2,21 +2,21 @@
 
 ghost use Rattle.std.specs.Prelude.{◌≡◌, ◌+◌, ◌^◌, ◌<◌, ◌≤◌, nat_lt, length, false};
 ghost use Rattle.nr_header.specs.WithinLimits.{read_total};
-ghost use Rattle.nr_header.specs.Reading.{Answers, can_stand, seen_with, entry_at, read_list_at, segments_at, chunk_at, write_list_at, reply_chunk_at, lists_at};
+ghost use Rattle.nr_xdr.specs.Matching.{MatchesRead};
+ghost use Rattle.nr_header.specs.Reading.{optional_at, list_end_at, lists_after, is_allowed, other_position, entry_at, read_list_at, segments_at, chunk_at, write_list_at, reply_chunk_at, lists_at};
 
 use crate::constants::{
     CHUNK_ROOM, CHUNK_SEGMENTS_MAX, READ_SEGMENTS_MAX, REPLY_SEGMENTS_MAX, WRITE_CHUNKS_MAX,
 };
-use crate::fault::HeaderFault;
 use crate::header::{Chunk, ChunkLists, ReadList, ReadSegment, WriteList};
 use crate::inline_vec::InlineVec;
-use crate::item::{end, more, number, segment};
+use crate::item::{end, more, segment};
 use arrayvec::ArrayVec;
-use nr_xdr::Reader;
+use nr_xdr::{DecodeError, Reader, number};
 
-/// Whether an entry's position may stand behind those before it, `seen` being the position other than 0 among them.
-fn can_stand(zero_allowed: bool, seen: u32, position: u32) -> bool
-    ensures { result ≡ can_stand zero_allowed seen position }
+/// Whether an entry may have this position, where `seen` is the position other than 0 among the entries before it.
+fn is_allowed(zero_allowed: bool, seen: u32, position: u32) -> bool
+    ensures { result ≡ is_allowed zero_allowed seen position }
 {
     if position == 0 {
         zero_allowed
@@ -25,26 +25,26 @@ fn can_stand(zero_allowed: bool, seen: u32, position: u32) -> bool
     }
 }
 
-/// The position other than 0 among the entries so far.
-fn seen_with(seen: u32, position: u32) -> u32
-    ensures { result ≡ seen_with seen position }
+/// The position other than 0 among the entries up to one with this position.
+fn other_position(seen: u32, position: u32) -> u32
+    ensures { result ≡ other_position seen position }
 {
     if position == 0 { seen } else { position }
 }
 
-/// An entry of a read list behind its word 1, which stands at `place`.
+/// Reads an entry of a read list, after its word 1 at `place`.
 #[tactic(auto, unfolding(crate::specs::Reading::entry_at))]
 fn entry(
     reader: &mut Reader<'_>,
     place: usize,
     zero_allowed: bool,
     seen: u32,
-) -> Result<ReadSegment, HeaderFault>
-    ensures { Answers (λ e. e) result reader.new (entry_at place zero_allowed seen reader.old) }
+) -> Result<ReadSegment, DecodeError>
+    ensures { MatchesRead (λ e. e) result reader.new (entry_at place zero_allowed seen reader.old) }
 {
     let position = number(reader)?;
-    if !can_stand(zero_allowed, seen, position) {
-        return Err(HeaderFault::BadChunks { at: place });
+    if !is_allowed(zero_allowed, seen, position) {
+        return Err(DecodeError { at: place });
     }
     let target = segment(reader, place)?;
     Ok(ReadSegment {
@@ -55,28 +55,52 @@ fn entry(
     })
 }
 
-fn read_list(reader: &mut Reader<'_>, zero_allowed: bool) -> Result<ReadList, HeaderFault>
-    ensures { Answers (λ l. l) result reader.new (read_list_at READ_SEGMENTS_MAX zero_allowed 0 reader.old) }
+/// Reads an entry of a read list after its word 1, or the word 0 that ends the list.
+fn next_entry(
+    reader: &mut Reader<'_>,
+    zero_allowed: bool,
+    seen: u32,
+) -> Result<Option<ReadSegment>, DecodeError>
+    ensures { MatchesRead (λ e. e) result reader.new (optional_at (entry_at reader.old.place zero_allowed seen) reader.old) }
+{
+    let place = reader.at();
+    if more(reader)? {
+        Ok(Some(entry(reader, place, zero_allowed, seen)?))
+    } else {
+        Ok(None)
+    }
+}
+
+/// Reads the end of a list with these elements.
+fn list_end<T: Drop, const N: usize>(
+    reader: &mut Reader<'_>,
+    items: ArrayVec<T, N>,
+) -> Result<InlineVec<T, N>, DecodeError>
+    ensures { MatchesRead (λ l. l) result reader.new (list_end_at items.items reader.old) }
+{
+    end(reader)?;
+    Ok(InlineVec::from_short(items))
+}
+
+fn read_list(reader: &mut Reader<'_>, zero_allowed: bool) -> Result<ReadList, DecodeError>
+    ensures { MatchesRead (λ l. l) result reader.new (read_list_at READ_SEGMENTS_MAX zero_allowed 0 reader.old) }
 {
     let mut entries = ArrayVec::new();
     let mut seen = 0;
     for _ in 0..READ_SEGMENTS_MAX {
-        let place = reader.at();
-        if !more(reader)? {
+        let Some(entry) = next_entry(reader, zero_allowed, seen)? else {
             return Ok(InlineVec::from_short(entries));
-        }
-        let entry = entry(reader, place, zero_allowed, seen)?;
-        seen = seen_with(seen, entry.position);
+        };
+        seen = other_position(seen, entry.position);
         entries.push(entry);
     }
-    end(reader)?;
-    Ok(InlineVec::from_short(entries))
+    list_end(reader, entries)
 }
 
-/// So many segments.
-fn segments(reader: &mut Reader<'_>, count: u32) -> Result<Chunk, HeaderFault>
+/// Reads this many segments.
+fn segments(reader: &mut Reader<'_>, count: u32) -> Result<Chunk, DecodeError>
     requires { count ≤ CHUNK_ROOM }
-    ensures { Answers (λ c. c) result reader.new (segments_at count reader.old) }
+    ensures { MatchesRead (λ c. c) result reader.new (segments_at count reader.old) }
 {
     let mut segments = ArrayVec::new();
     for _ in 0..count {
@@ -86,52 +110,66 @@ fn segments(reader: &mut Reader<'_>, count: u32) -> Result<Chunk, HeaderFault>
     Ok(InlineVec::from_short(segments))
 }
 
-/// A chunk of at most `max` segments.
+/// Reads a chunk of at most `max` segments.
 #[tactic(auto, unfolding(crate::specs::Reading::chunk_at))]
-fn chunk(reader: &mut Reader<'_>, max: usize) -> Result<Chunk, HeaderFault>
+fn chunk(reader: &mut Reader<'_>, max: usize) -> Result<Chunk, DecodeError>
     requires { max ≤ CHUNK_ROOM }
-    ensures { Answers (λ c. c) result reader.new (chunk_at max reader.old) }
+    ensures { MatchesRead (λ c. c) result reader.new (chunk_at max reader.old) }
 {
     let at = reader.at();
     let count = number(reader)?;
     if count as usize > max {
-        return Err(HeaderFault::BadChunks { at });
+        return Err(DecodeError { at });
     }
     segments(reader, count)
 }
 
-fn write_list(reader: &mut Reader<'_>) -> Result<WriteList, HeaderFault>
-    ensures { Answers (λ l. l) result reader.new (write_list_at WRITE_CHUNKS_MAX reader.old) }
-{
-    let mut chunks = ArrayVec::new();
-    for _ in 0..WRITE_CHUNKS_MAX {
-        if !more(reader)? {
-            return Ok(InlineVec::from_short(chunks));
-        }
-        chunks.push(chunk(reader, CHUNK_SEGMENTS_MAX)?);
-    }
-    end(reader)?;
-    Ok(InlineVec::from_short(chunks))
-}
-
-#[tactic(auto, unfolding(crate::specs::Reading::reply_chunk_at))]
-fn reply_chunk(reader: &mut Reader<'_>) -> Result<Option<Chunk>, HeaderFault>
-    ensures { Answers (λ c. c) result reader.new (reply_chunk_at reader.old) }
+/// Reads a chunk of at most `max` segments after the word 1, or the word 0 in its place.
+fn optional_chunk(reader: &mut Reader<'_>, max: usize) -> Result<Option<Chunk>, DecodeError>
+    requires { max ≤ CHUNK_ROOM }
+    ensures { MatchesRead (λ c. c) result reader.new (optional_at (chunk_at max) reader.old) }
 {
     if more(reader)? {
-        Ok(Some(chunk(reader, REPLY_SEGMENTS_MAX)?))
+        Ok(Some(chunk(reader, max)?))
     } else {
         Ok(None)
     }
 }
 
-/// The lists. Only where `zero_allowed` may an entry of the read list have position 0.
-#[tactic(auto, unfolding(crate::specs::Reading::lists_at))]
-pub(crate) fn lists(reader: &mut Reader<'_>, zero_allowed: bool) -> Result<ChunkLists, HeaderFault>
-    ensures { Answers (λ l. l) result reader.new (lists_at zero_allowed reader.old) }
+fn write_list(reader: &mut Reader<'_>) -> Result<WriteList, DecodeError>
+    ensures { MatchesRead (λ l. l) result reader.new (write_list_at WRITE_CHUNKS_MAX reader.old) }
 {
-    let read = read_list(reader, zero_allowed)?;
+    let mut chunks = ArrayVec::new();
+    for _ in 0..WRITE_CHUNKS_MAX {
+        let Some(chunk) = optional_chunk(reader, CHUNK_SEGMENTS_MAX)? else {
+            return Ok(InlineVec::from_short(chunks));
+        };
+        chunks.push(chunk);
+    }
+    list_end(reader, chunks)
+}
+
+#[tactic(auto, unfolding(crate::specs::Reading::reply_chunk_at))]
+fn reply_chunk(reader: &mut Reader<'_>) -> Result<Option<Chunk>, DecodeError>
+    ensures { MatchesRead (λ c. c) result reader.new (reply_chunk_at reader.old) }
+{
+    optional_chunk(reader, REPLY_SEGMENTS_MAX)
+}
+
+/// Reads the lists that follow this read list.
+fn lists_after(reader: &mut Reader<'_>, read: ReadList) -> Result<ChunkLists, DecodeError>
+    ensures { MatchesRead (λ l. l) result reader.new (lists_after read reader.old) }
+{
     let write = write_list(reader)?;
     let reply = reply_chunk(reader)?;
     Ok(ChunkLists { read, write, reply })
+}
+
+/// Reads the lists. An entry of the read list may have position 0 only where `zero_allowed`.
+#[tactic(auto, unfolding(crate::specs::Reading::lists_at))]
+pub(crate) fn lists(reader: &mut Reader<'_>, zero_allowed: bool) -> Result<ChunkLists, DecodeError>
+    ensures { MatchesRead (λ l. l) result reader.new (lists_at zero_allowed reader.old) }
+{
+    let read = read_list(reader, zero_allowed)?;
+    lists_after(reader, read)
 }

@@ -1,9 +1,11 @@
 //! Reading of a header.
 
-ghost use Rattle.std.specs.Prelude.{◌≡◌, ℕ, ◌+◌, ◌^◌, ◌<◌, ◌≤◌, nat_lt, sum_by, length, take, drop, true, false, Ok, Err, IfOk};
+ghost use Rattle.std.specs.Prelude.{◌≡◌, ℕ, ◌+◌, ◌^◌, ◌<◌, ◌≤◌, nat_lt, sum_by, length, take, drop, true, false, Ok, Err, IfOk, MatchResult};
 ghost use Rattle.nr_header.specs.declared.header.Header.{Header};
 ghost use Rattle.nr_header.specs.WithinLimits.{read_total, IsMessage};
-ghost use Rattle.nr_header.specs.Reading.{Finds, sums_pass, msg_at, nomsg_at, word_at, error_of, error_by, version1_of, body_by, in_lists, header_of};
+ghost use Rattle.nr_xdr.specs.Fields.{word_at};
+ghost use Rattle.nr_xdr.specs.Matching.{MatchesValue};
+ghost use Rattle.nr_header.specs.Reading.{sums_pass, msg_body, nomsg_body, msg_at, nomsg_at, error_of, error_by, version1_of, body_by, in_lists, header_of};
 
 use crate::constants::{
     ERR_CHUNK, ERR_VERS, ERROR, FIXED_LEN, MSG, NOMSG, PAYLOAD_MAX, VERSION, WRITE_SEGMENTS_MAX,
@@ -11,9 +13,9 @@ use crate::constants::{
 use crate::fault::HeaderFault;
 use crate::header::{Body, ChunkLists, Header, ReadList, WriteList};
 use crate::lists::lists;
-use nr_xdr::Reader;
+use nr_xdr::{DecodeError, Reader, word_at};
 
-/// Whether the chunks have more segments than are allowed in all.
+/// Whether the chunks together have more segments than the limit.
 fn passes_segments(write: &WriteList) -> bool
     ensures { result ≡ nat_lt WRITE_SEGMENTS_MAX (sum_by (λ chunk. length chunk) write.now) }
 {
@@ -27,7 +29,7 @@ fn passes_segments(write: &WriteList) -> bool
     false
 }
 
-/// Whether so many bytes of a stream and those of the read list are more than are allowed.
+/// Whether this many bytes of a stream and those of the read list are together more than the limit.
 fn passes_payload(read: &ReadList, stream: usize) -> bool
     ensures { result ≡ nat_lt PAYLOAD_MAX (stream + read_total read.now) }
 {
@@ -45,23 +47,14 @@ fn passes_payload(read: &ReadList, stream: usize) -> bool
     false
 }
 
+/// Whether a sum passes its limit, with this many bytes of a stream after the lists.
 fn sums_pass(lists: &ChunkLists, stream: usize) -> bool
     ensures { result ≡ sums_pass lists.now stream }
 {
     passes_segments(&lists.write) || passes_payload(&lists.read, stream)
 }
 
-/// The word that begins at a place of the message.
-#[tactic(auto, unfolding(nr_xdr::specs::Item::word_of))]
-fn word_at(bytes: &[u8], place: usize) -> u32
-    requires { place + 4 ≤ length bytes.now }
-    ensures { result ≡ word_at place bytes.now }
-{
-    let rest = &bytes[place..];
-    u32::from_be_bytes([rest[0], rest[1], rest[2], rest[3]])
-}
-
-/// A whole error message: its code is one of two, and it has just the bytes of that code.
+/// A whole error message: its code is one of two, and it has exactly the bytes of that code.
 fn whole_error(bytes: &[u8]) -> Option<Body>
     ensures { result ≡ error_of bytes.now }
 {
@@ -78,15 +71,12 @@ fn whole_error(bytes: &[u8]) -> Option<Body>
     }
 }
 
-/// Behind the fixed words of RDMA_MSG.
-#[tactic(auto, unfolding(crate::specs::Reading::msg_at))]
-fn msg(reader: &mut Reader<'_>) -> Result<Body, HeaderFault>
-    ensures { Finds (λ b. b) result (msg_at reader.old) }
+/// The body of RDMA_MSG, whose lists end at `at` with `left` bytes after them.
+fn msg_body(lists: ChunkLists, at: usize, left: usize) -> Result<Body, DecodeError>
+    ensures { MatchesValue (λ b. b) result (msg_body lists at left) }
 {
-    let lists = lists(reader, false)?;
-    let at = reader.at();
-    if sums_pass(&lists, reader.rest().len()) {
-        return Err(HeaderFault::BadChunks { at });
+    if sums_pass(&lists, left) {
+        return Err(DecodeError { at });
     }
     Ok(Body::Msg {
         lists,
@@ -94,33 +84,58 @@ fn msg(reader: &mut Reader<'_>) -> Result<Body, HeaderFault>
     })
 }
 
-/// Behind the fixed words of RDMA_NOMSG.
-#[tactic(auto, unfolding(crate::specs::Reading::nomsg_at))]
-fn nomsg(reader: &mut Reader<'_>) -> Result<Body, HeaderFault>
-    ensures { Finds (λ b. b) result (nomsg_at reader.old) }
+/// Reads what follows the fixed words of RDMA_MSG.
+#[tactic(auto, unfolding(crate::specs::Reading::msg_at))]
+fn msg(reader: &mut Reader<'_>) -> Result<Body, DecodeError>
+    ensures { MatchesValue (λ b. b) result (msg_at reader.old) }
 {
-    let lists = lists(reader, true)?;
-    let at = reader.at();
-    if sums_pass(&lists, 0) || !reader.rest().is_empty() {
-        return Err(HeaderFault::BadChunks { at });
+    let lists = lists(reader, false)?;
+    msg_body(lists, reader.at(), reader.rest().len())
+}
+
+/// The body of RDMA_NOMSG, whose lists end at `at` with `left` bytes after them.
+fn nomsg_body(lists: ChunkLists, at: usize, left: usize) -> Result<Body, DecodeError>
+    ensures { MatchesValue (λ b. b) result (nomsg_body lists at left) }
+{
+    if sums_pass(&lists, 0) || left > 0 {
+        return Err(DecodeError { at });
     }
     Ok(Body::Nomsg { lists })
 }
 
-/// Behind the fixed words of a message of version 1 that is no whole error message.
+/// Reads what follows the fixed words of RDMA_NOMSG.
+#[tactic(auto, unfolding(crate::specs::Reading::nomsg_at))]
+fn nomsg(reader: &mut Reader<'_>) -> Result<Body, DecodeError>
+    ensures { MatchesValue (λ b. b) result (nomsg_at reader.old) }
+{
+    let lists = lists(reader, true)?;
+    nomsg_body(lists, reader.at(), reader.rest().len())
+}
+
+/// The body that was read; lists that fail are bad chunks.
+fn or_bad_chunks(body: Result<Body, DecodeError>) -> Result<Body, HeaderFault>
+    ensures { MatchResult body (λ read. result ≡ Ok read) (λ error. result ≡ Err (HeaderFault.BadChunks error.at)) }
+{
+    match body {
+        Ok(read) => Ok(read),
+        Err(error) => Err(HeaderFault::BadChunks { at: error.at }),
+    }
+}
+
+/// Reads what follows the fixed words of a message of version 1 that is no whole error message.
 #[tactic(auto, unfolding(crate::specs::Reading::version1_of))]
 fn version1(reader: &mut Reader<'_>, kind: u32, bytes: &[u8]) -> Result<Body, HeaderFault>
     requires { reader.old ≡ record { place = FIXED_LEN; rest = drop FIXED_LEN bytes.now } }
     ensures { result ≡ version1_of kind bytes.now }
 {
     match kind {
-        MSG => msg(reader),
-        NOMSG => nomsg(reader),
+        MSG => or_bad_chunks(msg(reader)),
+        NOMSG => or_bad_chunks(nomsg(reader)),
         _ => Err(HeaderFault::Kind { kind }),
     }
 }
 
-/// What follows the fixed words.
+/// Reads what follows the fixed words.
 #[tactic(auto, unfolding(crate::specs::Reading::body_by))]
 fn body(reader: &mut Reader<'_>, bytes: &[u8]) -> Result<Body, HeaderFault>
     requires fixed { FIXED_LEN ≤ length bytes.now }
@@ -141,7 +156,7 @@ fn body(reader: &mut Reader<'_>, bytes: &[u8]) -> Result<Body, HeaderFault>
 }
 
 #[tactic(auto, unfolding(crate::specs::Reading::header_of, nr_xdr::specs::Reading::fixed_at, nr_xdr::specs::Reading::cursor_past, nr_xdr::specs::Item::pad_len))]
-fn whole_header(bytes: &[u8]) -> Result<Header, HeaderFault>
+fn read_header_inner(bytes: &[u8]) -> Result<Header, HeaderFault>
     ensures { result ≡ header_of bytes.now }
 {
     let mut reader = Reader::new(bytes);
@@ -156,10 +171,10 @@ fn whole_header(bytes: &[u8]) -> Result<Header, HeaderFault>
     })
 }
 
-/// The header of a message, within all limits. Takes no memory. Nothing but the stream of RDMA_MSG may follow a header.
-/// `Short`: the message has fewer than 16 bytes. `Version`: another version word than 1, unless it is a whole error message
-/// (28 bytes with ERR_VERS, 20 with ERR_CHUNK). `Kind`: version 1 and neither RDMA_MSG nor RDMA_NOMSG nor a whole error
-/// message. `BadChunks`: lists that don't parse or pass a limit, at the first fault in the order of the bytes.
+/// Reads the header of a message, within all limits. Takes no memory. Only the stream of RDMA_MSG may follow a header.
+/// `Short`: the message has fewer than 16 bytes. `Version`: its version word isn't 1, and it is no whole error message (28
+/// bytes with ERR_VERS, 20 bytes with ERR_CHUNK). `Kind`: its version is 1, and it is neither RDMA_MSG, nor RDMA_NOMSG, nor a
+/// whole error message. `BadChunks`: the lists don't parse or pass a limit; the first fault in the order of the bytes.
 pub fn read_header(bytes: &[u8]) -> Result<Header, HeaderFault>
     // What is read is encoded so, within the limits.
     ensures found { IfOk result (λ header. IsMessage header bytes.now) }
@@ -168,7 +183,7 @@ pub fn read_header(bytes: &[u8]) -> Result<Header, HeaderFault>
     // Which fault it is, and where.
     ensures exact { result ≡ header_of bytes.now }
 {
-    whole_header(bytes)
+    read_header_inner(bytes)
 }
 
 /// The transaction's number, the first word of a message (RFC 8166 section 4.2.1).

@@ -1,4 +1,4 @@
-//! Writing of a header.
+//! Writing of a header: each function puts its part at the end of a writer.
 
 ghost use Rattle.std.specs.Prelude.{◌≡◌, ◌^◌, ◌<◌, [], ◌∷◌, ◌++◌, length, All, true, OnOk, IfOk, IfSome};
 ghost use Rattle.nr_xdr.specs.Item.Item.{Unsigned, Boolean};
@@ -18,7 +18,7 @@ fn put_segment(writer: &mut Writer, segment: &RdmaSegment) -> Result<(), Memory>
     writer.u64(segment.offset)
 }
 
-/// An entry of a read list.
+/// Puts an entry of a read list.
 fn put_entry(writer: &mut Writer, entry: &ReadSegment) -> Result<(), Memory>
     ensures { OnOk result (writer.new ≡ writer.old ++ encodings (entry_items entry.now [])) }
 {
@@ -47,7 +47,7 @@ fn put_segments(writer: &mut Writer, segments: &[RdmaSegment]) -> Result<(), Mem
     Ok(())
 }
 
-/// A chunk behind the word 1.
+/// Puts the word 1 and a chunk.
 fn put_chunk(writer: &mut Writer, chunk: &Chunk) -> Result<(), Memory>
     requires { length chunk.now < 2 ^ 32 }
     ensures { OnOk result (writer.new ≡ writer.old ++ encodings (Boolean true ∷ chunk_items chunk.now [])) }
@@ -87,7 +87,7 @@ fn put_lists(writer: &mut Writer, lists: &ChunkLists) -> Result<(), Memory>
     Ok(())
 }
 
-/// The fixed words.
+/// Puts the fixed words.
 fn put_fixed(
     writer: &mut Writer,
     xid: u32,
@@ -103,32 +103,56 @@ fn put_fixed(
     writer.u32(kind)
 }
 
-/// The one encoding of a header, whether its lists are within the limits or not. `stream_at` isn't looked at.
+/// Puts the fixed words of version 1 and the lists.
+fn put_with_lists(
+    writer: &mut Writer,
+    xid: u32,
+    credit: u32,
+    kind: u32,
+    lists: &ChunkLists,
+) -> Result<(), Memory>
+    requires { ChunksFit lists.now }
+    ensures { OnOk result (writer.new ≡ writer.old ++ encodings (fixed_items xid VERSION credit kind (lists_items lists.now))) }
+{
+    put_fixed(writer, xid, VERSION, credit, kind)?;
+    put_lists(writer, lists)
+}
+
+/// Puts the words of ERR_VERS.
+fn put_versions(writer: &mut Writer, low: u32, high: u32) -> Result<(), Memory>
+    ensures { OnOk result (writer.new ≡ writer.old ++ encodings (Unsigned ERR_VERS ∷ (Unsigned low ∷ (Unsigned high ∷ [])))) }
+{
+    writer.u32(ERR_VERS)?;
+    writer.u32(low)?;
+    writer.u32(high)
+}
+
+/// Puts a header.
+fn put_header(writer: &mut Writer, header: &Header) -> Result<(), Memory>
+    requires { CanWriteHeader header.now }
+    ensures { OnOk result (writer.new ≡ writer.old ++ header_encoding header.now) }
+{
+    let (xid, credit) = (header.xid, header.credit);
+    match &header.body {
+        Body::Msg { lists, .. } => put_with_lists(writer, xid, credit, MSG, lists),
+        Body::Nomsg { lists } => put_with_lists(writer, xid, credit, NOMSG, lists),
+        Body::ErrVers { version, low, high } => {
+            put_fixed(writer, xid, *version, credit, ERROR)?;
+            put_versions(writer, *low, *high)
+        }
+        Body::ErrChunk { version } => {
+            put_fixed(writer, xid, *version, credit, ERROR)?;
+            writer.u32(ERR_CHUNK)
+        }
+    }
+}
+
+/// The encoding of a header, whether its lists are within the limits or not. `stream_at` is ignored.
 pub fn write_header(alloc: Global, header: &Header) -> Result<Octets, Memory>
     requires { CanWriteHeader header.now }
     ensures { IfOk result (λ o. o ≡ header_encoding header.now) }
 {
     let mut writer = Writer::new(alloc);
-    let out = &mut writer;
-    match &header.body {
-        Body::Msg { lists, .. } => {
-            put_fixed(out, header.xid, VERSION, header.credit, MSG)?;
-            put_lists(out, lists)?;
-        }
-        Body::Nomsg { lists } => {
-            put_fixed(out, header.xid, VERSION, header.credit, NOMSG)?;
-            put_lists(out, lists)?;
-        }
-        Body::ErrVers { version, low, high } => {
-            put_fixed(out, header.xid, *version, header.credit, ERROR)?;
-            out.u32(ERR_VERS)?;
-            out.u32(*low)?;
-            out.u32(*high)?;
-        }
-        Body::ErrChunk { version } => {
-            put_fixed(out, header.xid, *version, header.credit, ERROR)?;
-            out.u32(ERR_CHUNK)?;
-        }
-    }
+    put_header(&mut writer, header)?;
     Ok(writer.finish())
 }

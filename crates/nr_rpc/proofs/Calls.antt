@@ -1,6 +1,6 @@
 -- A call head is read exactly where it stands at the front.
-use Rattle.std.proofs.Common.{◌≡◌, ◌≢◌, ℕ, ◌+◌, ◌≤◌, eqb, List, [], ◌∷◌, ◌++◌, length, Result, Ok, Err, refl, sym, ap, subst, ◌∙◌, arith, inl, inr}
-use Rattle.std.specs.Prelude.{IfOk}
+use Rattle.std.proofs.Common.{◌≡◌, ◌≢◌, ℕ, ◌+◌, ◌≤◌, eqb, List, [], ◌∷◌, ◌++◌, length, Option, Some, Result, Ok, Err, refl, sym, ap, subst, ◌∙◌, arith, inl, inr}
+use Rattle.std.specs.Prelude.{IfOk, IfSome}
 use Rattle.std.proofs.lemmas.Bool.{eqb-true, eqb-false, ne_eqb}
 use Rattle.nr_xdr.specs.Item.{Item, IsBytes}
 use Rattle.nr_xdr.specs.Item.Item.{Unsigned}
@@ -14,8 +14,9 @@ use Rattle.nr_rpc.specs.declared.head.CallHead.{CallHead}
 use Rattle.nr_rpc.specs.declared.head.CallHead.TheVariants as calls
 use Rattle.nr_rpc.specs.Credential.{Auth, auth_items, auth_of, no_verifier, ReadsCred}
 use Rattle.nr_rpc.specs.Call.{version2_items, other_items, ReadsCall, BeginsCall, CanWriteCall, CallFits, call_encoding, call_again}
-use Rattle.nr_rpc.specs.Reading.{cred_of, version2_at, call_at, head_of, call_of, GivesCall}
-use Rattle.nr_xdr.proofs.SequencingSteps.{chosen, done, ok_is, number_step, number_again}
+use Rattle.nr_xdr.specs.Sequencing.{◌>>=◌, number_at}
+use Rattle.nr_rpc.specs.Reading.{cred_of, procedure_at, version2_at, call_at, head_of, call_of, GivesCall, head_xid, xid_of_call}
+use Rattle.nr_xdr.proofs.SequencingSteps.{bind_ok, chosen, done, ok_is, number_step, number_again}
 use Rattle.nr_rpc.proofs.HeadSteps.{expect_step, expect_again, auth_step, auth_again, TakesAuth}
 use Rattle.nr_rpc.proofs.Credentials.{cred_takes, cred_again, cred_written, auth_of-fits}
 
@@ -41,20 +42,48 @@ version2_made xid prog vers proc auth verifier start after x t e =
     let made : CallHead × Cursor = (calls.Version2 xid prog vers proc (cred_of auth) after.place, after) in
     subst (λ (y : CallHead × Cursor). TakesCall y.0 start y.1) (ok_is made x e) (auth, verifier, t, cred_takes auth (cred_of auth) t.bytes refl, refl)
 
+-- a program, its version and a procedure that were read, and what follows
+record TakesProcedure (prog vers proc : ℕ) (c after : Cursor) : Type 0 where
+  behind_prog : Cursor
+  at_prog : Takes c behind_prog (Unsigned prog)
+  behind_vers : Cursor
+  at_vers : Takes behind_prog behind_vers (Unsigned vers)
+  at_proc : Takes behind_vers after (Unsigned proc)
+
+procedure_step : {B : Type 0} (c : Cursor) (f : (ℕ × ℕ × ℕ) × Cursor → Result B ℕ) (y : B) → IsBytes c.rest → (procedure_at c >>= f) ≡ Ok y
+    → (x : (ℕ × ℕ × ℕ) × Cursor) × TakesProcedure x.0.0 x.0.1 x.0.2 c x.1 × IsBytes x.1.rest × (f x ≡ Ok y)
+unfolding procedure_at
+procedure_step c f y fits e =
+    let a = bind_ok (procedure_at c) f y e in
+    let prog = number_step c (λ prog. number_at prog.1 >>= λ vers. number_at vers.1 >>= λ proc. Ok ((prog.0, vers.0, proc.0), proc.1)) a.0 fits a.1 in
+    let vers = number_step prog.0.1 (λ vers. number_at vers.1 >>= λ proc. Ok ((prog.0.0, vers.0, proc.0), proc.1)) a.0 prog.2 prog.3 in
+    let proc = number_step vers.0.1 (λ proc. Ok ((prog.0.0, vers.0.0, proc.0), proc.1)) a.0 vers.2 vers.3 in
+    let made : (ℕ × ℕ × ℕ) × Cursor = ((prog.0.0, vers.0.0, proc.0.0), proc.0.1) in
+    let taken : TakesProcedure prog.0.0 vers.0.0 proc.0.0 c proc.0.1 = record { behind_prog = prog.0.1; at_prog = prog.1; behind_vers = vers.0.1; at_vers = vers.1; at_proc = proc.1 } in
+    let is = ok_is made a.0 proc.3 in (
+      a.0,
+      subst (λ (x : (ℕ × ℕ × ℕ) × Cursor). TakesProcedure x.0.0 x.0.1 x.0.2 c x.1) is taken,
+      subst (λ (x : (ℕ × ℕ × ℕ) × Cursor). IsBytes x.1.rest) is proc.2,
+      a.2,
+    )
+
+procedure_again : (prog vers proc : ℕ) (c d f after : Cursor) → Takes c d (Unsigned prog) → Takes d f (Unsigned vers) → Takes f after (Unsigned proc) → procedure_at c ≡ Ok ((prog, vers, proc), after)
+unfolding procedure_at
+procedure_again prog vers proc c d f after at_prog at_vers at_proc = rw (number_again c prog d at_prog, number_again d vers f at_vers, number_again f proc after at_proc) refl
+
 version2_take : (xid : ℕ) (first second c : Cursor) (x : CallHead × Cursor) (start : Cursor) → IsBytes c.rest
     → Takes start first (Unsigned xid) → Takes first second (Unsigned CALL) → Takes second c (Unsigned RPC_VERSION)
     → version2_at xid c ≡ Ok x → TakesCall x.0 start x.1
 unfolding version2_at
 version2_take xid first second c x start fits at_xid at_kind at_version e =
-    let prog = number_step c _ x fits e in
-    let vers = number_step prog.0.1 _ x prog.2 prog.3 in
-    let proc = number_step vers.0.1 _ x vers.2 vers.3 in
-    let auth = auth_step proc.0.1 _ x proc.2 proc.3 in
+    let called = procedure_step c _ x fits e in
+    let t = called.1 in
+    let auth = auth_step called.0.1 _ x called.2 called.3 in
     let verifier = auth_step auth.0.1 _ x auth.3 auth.4 in
-    let each = auth_each auth.0.0 (auth_items verifier.0.0 []) proc.0.1 auth.0.1 verifier.0.1 auth.1 (auth_each verifier.0.0 [] auth.0.1 verifier.0.1 verifier.0.1 verifier.1 (refl {a = verifier.0.1})) in
-    version2_made xid prog.0.0 vers.0.0 proc.0.0 auth.0.0 verifier.0.0 start verifier.0.1 x
+    let each = auth_each auth.0.0 (auth_items verifier.0.0 []) called.0.1 auth.0.1 verifier.0.1 auth.1 (auth_each verifier.0.0 [] auth.0.1 verifier.0.1 verifier.0.1 verifier.1 (refl {a = verifier.0.1})) in
+    version2_made xid called.0.0.0 called.0.0.1 called.0.0.2 auth.0.0 verifier.0.0 start verifier.0.1 x
     (record {
-      each = (first, at_xid, (second, at_kind, (c, at_version, (prog.0.1, prog.1, (vers.0.1, vers.1, (proc.0.1, proc.1, each))))));
+      each = (first, at_xid, (second, at_kind, (c, at_version, (t.behind_prog, t.at_prog, (t.behind_vers, t.at_vers, (called.0.1, t.at_proc, each))))));
       auth_within = auth.1.within;
       verifier_within = verifier.1.within;
       bytes = auth.2;
@@ -85,7 +114,7 @@ unfolding version2_at
 version2_again xid prog vers proc auth verifier c after (d, at_prog, (f, at_vers, (g, at_proc, (h, at_flavor, (i, at_body, (j, at_kind, (k, at_verifier, last))))))) auth_within verifier_within =
     let a : TakesAuth auth g i = record { behind_flavor = h; flavor = at_flavor; body = at_body; within = auth_within } in
     let v : TakesAuth verifier i k = record { behind_flavor = j; flavor = at_kind; body = at_verifier; within = verifier_within } in
-    rw (number_again c prog d at_prog, number_again d vers f at_vers, number_again f proc g at_proc, auth_again auth g i a, auth_again verifier i k v)
+    rw (procedure_again prog vers proc c d f g at_prog at_vers at_proc, auth_again auth g i a, auth_again verifier i k v)
     (ap (λ (m : Cursor). Ok (calls.Version2 xid prog vers proc (cred_of auth) m.place, m)) last)
 
 -- a head of version 2 is read where its items are taken
@@ -182,6 +211,17 @@ one_call a b x y more others fits reads_a reads_b e =
 pub call_is_found : (bytes : List ℕ) (r : Result CallHead HeadFault) → IsBytes bytes → GivesCall r (call_of bytes) → IfOk r (λ head. BeginsCall head bytes)
 call_is_found bytes (Ok head) fits given = call_begins bytes head fits given
 call_is_found bytes (Err fault) fits given = tt
+
+-- the number that is found is that of a head at the front, and the number of a head at the front is found
+pub xid_is_found : (bytes : List ℕ) (o : Option ℕ) → IsBytes bytes → o ≡ xid_of_call (call_of bytes) → IfSome o (λ xid. (head : CallHead) × BeginsCall head bytes × (head_xid head ≡ xid))
+xid_is_found bytes o fits e = rw e (by_head (call_of bytes) refl)
+  where
+    by_head : (r : Result CallHead ℕ) → call_of bytes ≡ r → IfSome (xid_of_call r) (λ xid. (head : CallHead) × BeginsCall head bytes × (head_xid head ≡ xid))
+    by_head (Ok head) is = (head, call_begins bytes head fits is, refl)
+    by_head (Err at) is = tt
+
+pub xid_again : (bytes : List ℕ) (head : CallHead) → IsBytes bytes → BeginsCall head bytes → xid_of_call (call_of bytes) ≡ Some (head_xid head)
+xid_again bytes head fits begins = ap xid_of_call (begins_call bytes head fits begins)
 
 -- what is written of a head is read again
 pub call_written : (head : CallHead) (args : List ℕ) → CanWriteCall head → CallFits head → call_of (call_encoding head args) ≡ Ok (call_again head)

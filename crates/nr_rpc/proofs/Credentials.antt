@@ -14,8 +14,9 @@ use Rattle.nr_rpc.specs.Constants.{AUTH_BODY_MAX, MACHINE_MAX, GIDS_MAX, AUTH_NO
 use Rattle.nr_rpc.specs.declared.cred.Cred.{Cred}
 use Rattle.nr_rpc.specs.declared.cred.Cred.TheVariants as creds
 use Rattle.nr_rpc.specs.Credential.{Auth, auth_of, sys_items, ReadsSys, ReadsCred, CanWriteCred, CredFits}
-use Rattle.nr_rpc.specs.Reading.{numbers_at, gids_at, sys_at, whole, cred_of}
+use Rattle.nr_rpc.specs.Reading.{numbers_at, gids_at, user_at, sys_at, whole_value, cred_of}
 use Rattle.nr_xdr.proofs.SequencingSteps.{bind_ok, chosen, done, ok_is, number_step, number_again, opaque_step, opaque_placed}
+use Rattle.nr_rpc.proofs.HeadSteps.{pair_step, pair_again}
 use Rattle.nr_rpc.proofs.Loop.{numbers_take, numbers_again}
 
 -- further groups that were read
@@ -45,6 +46,27 @@ gids_again : (gids : List ℕ) (c after : Cursor) → TakesGids gids c after →
 unfolding gids_at
 gids_again gids c after t = rw (number_again c (length gids) t.behind_count t.count, le-ltb GIDS_MAX (length gids) t.within) (numbers_again gids t.behind_count after t.each)
 
+-- a user, its group and further groups that were read
+record TakesUser (uid gid : ℕ) (gids : List ℕ) (c after : Cursor) : Type 0 where
+  behind_uid : Cursor
+  at_uid : Takes c behind_uid (Unsigned uid)
+  behind_gid : Cursor
+  at_gid : Takes behind_uid behind_gid (Unsigned gid)
+  group : TakesGids gids behind_gid after
+
+user_take : (c : Cursor) (x : (ℕ × ℕ × List ℕ) × Cursor) → IsBytes c.rest → user_at c ≡ Ok x → TakesUser x.0.0 x.0.1 x.0.2 c x.1
+unfolding user_at
+user_take c x fits e =
+    let ids = pair_step c _ x fits e in
+    let gids = bind_ok (gids_at ids.0.1) _ x ids.3 in
+    let made : (ℕ × ℕ × List ℕ) × Cursor = ((ids.0.0.0, ids.0.0.1, gids.0.0), gids.0.1) in
+    subst (λ (y : (ℕ × ℕ × List ℕ) × Cursor). TakesUser y.0.0 y.0.1 y.0.2 c y.1) (ok_is made x gids.2)
+    (record { behind_uid = ids.1.behind_first; at_uid = ids.1.at_first; behind_gid = ids.0.1; at_gid = ids.1.at_second; group = gids_take ids.0.1 gids.0 ids.2 gids.1 })
+
+user_again : (uid gid : ℕ) (gids : List ℕ) (c d f after : Cursor) → Takes c d (Unsigned uid) → Takes d f (Unsigned gid) → TakesGids gids f after → user_at c ≡ Ok ((uid, gid, gids), after)
+unfolding user_at
+user_again uid gid gids c d f after at_uid at_gid group = rw (pair_again uid gid c d f at_uid at_gid, gids_again gids f after group) refl
+
 -- the body of AUTH_SYS that was read
 pub record TakesSys (stamp : ℕ) (machine : List ℕ) (uid gid : ℕ) (gids : List ℕ) (c after : Cursor) : Type 0 where
   pub each : TakesAll c after (sys_items stamp machine uid gid gids)
@@ -72,17 +94,15 @@ unfolding sys_at
 sys_take c x fits e =
     let stamp = number_step c _ x fits e in
     let machine = opaque_step MACHINE_MAX stamp.0.1 _ x stamp.2 stamp.3 in
-    let uid = number_step machine.0.1 _ x machine.3 machine.4 in
-    let gid = number_step uid.0.1 _ x uid.2 uid.3 in
-    let gids = bind_ok (gids_at gid.0.1) _ x gid.3 in
-    let group = gids_take gid.0.1 gids.0 gid.2 gids.1 in
-    sys_made stamp.0.0 machine.0.0 uid.0.0 gid.0.0 gids.0.0 c gids.0.1 x
+    let user = bind_ok (user_at machine.0.1) _ x machine.4 in
+    let u = user_take machine.0.1 user.0 machine.3 user.1 in
+    sys_made stamp.0.0 machine.0.0 user.0.0.0 user.0.0.1 user.0.0.2 c user.0.1 x
     (record {
-      each = (stamp.0.1, stamp.1, (machine.0.1, machine.1, (uid.0.1, uid.1, (gid.0.1, gid.1, (group.behind_count, group.count, group.each)))));
+      each = (stamp.0.1, stamp.1, (machine.0.1, machine.1, (u.behind_uid, u.at_uid, (u.behind_gid, u.at_gid, (u.group.behind_count, u.group.count, u.group.each)))));
       machine_within = machine.2;
-      gids_within = group.within;
+      gids_within = u.group.within;
     })
-    gids.2
+    user.2
 
 sys_again : (stamp : ℕ) (machine : List ℕ) (uid gid : ℕ) (gids : List ℕ) (c after : Cursor) → TakesSys stamp machine uid gid gids c after
     → sys_at c ≡ Ok (creds.Sys stamp machine uid gid gids, after)
@@ -90,7 +110,7 @@ unfolding sys_at
 sys_again stamp machine uid gid gids c after t =
     let (a, at_stamp, (b, at_machine, (d, at_uid, (f, at_gid, (g, at_count, at_gids))))) = t.each in
     let group : TakesGids gids f after = record { behind_count = g; count = at_count; each = at_gids; within = t.gids_within } in
-    rw (number_again c stamp a at_stamp, opaque_placed MACHINE_MAX a machine b t.machine_within at_machine, number_again b uid d at_uid, number_again d gid f at_gid, gids_again gids f after group) refl
+    rw (number_again c stamp a at_stamp, opaque_placed MACHINE_MAX a machine b t.machine_within at_machine, user_again uid gid gids b d f after at_uid at_gid group) refl
 
 -- a body reads as AUTH_SYS exactly where it is taken so to its end
 taken_reads : (stamp : ℕ) (machine : List ℕ) (uid gid : ℕ) (gids body : List ℕ) (after : Cursor) → TakesSys stamp machine uid gid gids (standing 0 body) after → after.rest ≡ []
@@ -116,13 +136,13 @@ some_is : {A : Type 0} (x y : A) → some x ≡ some y → x ≡ y
 some_is x y e = cc
 
 -- what was read with nothing behind it
-whole_some : {A : Type 0} (r : Result (A × Cursor) ℕ) (x : A) → whole r ≡ Some x → (after : Cursor) × (r ≡ Ok (x, after)) × (after.rest ≡ [])
-whole_some (Ok y) x e =
+whole_value_some : {A : Type 0} (r : Result (A × Cursor) ℕ) (x : A) → whole_value r ≡ Some x → (after : Cursor) × (r ≡ Ok (x, after)) × (after.rest ≡ [])
+whole_value_some (Ok y) x e =
     elim (chosen (eqb (length y.1.rest) 0) (Some y.0) None (some x) e) [
       | inl way ↦ (y.1, ap (λ (z : _). Ok (z, y.1)) (some_is y.0 x way.1), nil_from_length y.1.rest (eqb-true (length y.1.rest) 0 way.0))
       | inr way ↦ absurd (let wrong : None ≡ some x = way.1 in cc)
     ]
-whole_some (Err at) x e = absurd cc
+whole_value_some (Err at) x e = absurd cc
 
 -- the parts of a credential whose body reads as AUTH_SYS
 record IsSysBody (cred : Cred) (body : List ℕ) : Type 0 where
@@ -134,9 +154,9 @@ record IsSysBody (cred : Cred) (body : List ℕ) : Type 0 where
   is : cred ≡ creds.Sys stamp machine uid gid gids
   reads : ReadsSys stamp machine uid gid gids body
 
-body_takes : (body : List ℕ) (cred : Cred) → IsBytes body → whole (sys_at (standing 0 body)) ≡ Some cred → IsSysBody cred body
+body_takes : (body : List ℕ) (cred : Cred) → IsBytes body → whole_value (sys_at (standing 0 body)) ≡ Some cred → IsSysBody cred body
 body_takes body cred fits e =
-    let w = whole_some (sys_at (standing 0 body)) cred e in
+    let w = whole_value_some (sys_at (standing 0 body)) cred e in
     let s = sys_take (standing 0 body) (cred, w.0) fits w.1 in record {
       stamp = s.stamp;
       machine = s.machine;
@@ -148,9 +168,9 @@ body_takes body cred fits e =
     }
 
 body_again : (stamp : ℕ) (machine : List ℕ) (uid gid : ℕ) (gids body : List ℕ) → ReadsSys stamp machine uid gid gids body
-    → whole (sys_at (standing 0 body)) ≡ Some (creds.Sys stamp machine uid gid gids)
+    → whole_value (sys_at (standing 0 body)) ≡ Some (creds.Sys stamp machine uid gid gids)
 body_again stamp machine uid gid gids body r =
-    ap whole (sys_again stamp machine uid gid gids (standing 0 body) (standing (0 + length body) []) (reads_taken stamp machine uid gid gids body r))
+    ap whole_value (sys_again stamp machine uid gid gids (standing 0 body) (standing (0 + length body) []) (reads_taken stamp machine uid gid gids body r))
 
 -- a value, or a default in its place
 unwrapped : {A : Type 0} (o : Option A) (d x : A) → unwrap_or o d ≡ x → (o ≡ Some x) ⊎ ((o ≡ None) × (d ≡ x))
@@ -162,7 +182,7 @@ pub cred_takes : (auth : Auth) (cred : Cred) → IsBytes auth.body → cred_of a
 unfolding cred_of
 cred_takes auth cred fits e =
     let other = creds.Other auth.flavor in
-    let sys = whole (sys_at (standing 0 auth.body)) in
+    let sys = whole_value (sys_at (standing 0 auth.body)) in
     elim (chosen (eqb auth.flavor AUTH_NONE) creds.None (cond (eqb auth.flavor AUTH_SYS) (unwrap_or sys other) other) cred e) [
       | inl none ↦ subst (λ (c : Cred). ReadsCred c auth) none.1 (eqb-true auth.flavor AUTH_NONE none.0)
       | inr named ↦
@@ -198,8 +218,8 @@ cred_again (creds.Other flavor) auth fits (is, apart, not_sys) =
     let named : eqb flavor AUTH_NONE ≡ false = ne_eqb flavor AUTH_NONE apart in
     elim (eqb_tells flavor AUTH_SYS) [
       | inl sys ↦
-          let nothing : whole (sys_at (standing 0 auth.body)) ≡ None =
-          no_value (whole (sys_at (standing 0 auth.body)))
+          let nothing : whole_value (sys_at (standing 0 auth.body)) ≡ None =
+          no_value (whole_value (sys_at (standing 0 auth.body)))
           (λ x e. let s = body_takes auth.body x fits e in not_sys sys.1 s.stamp s.machine s.uid s.gid s.gids s.reads) in
           rw (is, named, sys.0, nothing) refl
       | inr other ↦ rw (is, named, other.0) refl
@@ -239,7 +259,7 @@ auth_of-fits creds.None can fits = (omega arith, omega arith)
 auth_of-fits (creds.Sys stamp machine uid gid gids) can fits = (omega arith, length-sys stamp machine uid gid gids can.0 can.1)
 auth_of-fits (creds.Other flavor) can fits = (fits, omega arith)
 
-nothing_reads : whole (sys_at (standing 0 [])) ≡ None
+nothing_reads : whole_value (sys_at (standing 0 [])) ≡ None
 unfolding sys_at unsigned_at
 nothing_reads = refl
 

@@ -7,9 +7,9 @@ use Rattle.nr_xdr.specs.Reading.{Cursor, Takes, opaque_at}
 use Rattle.nr_xdr.proofs.Chains.{IsBytes-opaque}
 use Rattle.nr_rpc.specs.Constants.{AUTH_BODY_MAX}
 use Rattle.nr_rpc.specs.Credential.{Auth}
-use Rattle.nr_xdr.specs.Sequencing.{◌>>=◌, or_place}
+use Rattle.nr_xdr.specs.Sequencing.{◌>>=◌, or_place, number_at}
 use Rattle.nr_xdr.proofs.SequencingSteps.{bind_ok, chosen, done, ok_is, number_step, number_again, opaque_step, opaque_placed}
-use Rattle.nr_rpc.specs.Reading.{expect_at, auth_at}
+use Rattle.nr_rpc.specs.Reading.{expect_at, pair_at, auth_at}
 
 expect_ok : (wanted n : ℕ) (c d after : Cursor) → cond (eqb n wanted) (Ok d) (Err c.place) ≡ done after → (n ≡ wanted) × (d ≡ after)
 expect_ok wanted n c d after e =
@@ -35,6 +35,32 @@ expect_step wanted c f y fits e =
 pub expect_again : (wanted : ℕ) (c after : Cursor) → Takes c after (Unsigned wanted) → expect_at wanted c ≡ Ok after
 unfolding expect_at
 expect_again wanted c after taken = rw (number_again c wanted after taken) (grind (arith))
+
+-- two numbers that were read, and what follows
+pub record TakesPair (first second : ℕ) (c after : Cursor) : Type 0 where
+  pub behind_first : Cursor
+  pub at_first : Takes c behind_first (Unsigned first)
+  pub at_second : Takes behind_first after (Unsigned second)
+
+pub pair_step : {B : Type 0} (c : Cursor) (f : (ℕ × ℕ) × Cursor → Result B ℕ) (y : B) → IsBytes c.rest → (pair_at c >>= f) ≡ Ok y
+    → (x : (ℕ × ℕ) × Cursor) × TakesPair x.0.0 x.0.1 c x.1 × IsBytes x.1.rest × (f x ≡ Ok y)
+unfolding pair_at
+pair_step c f y fits e =
+    let a = bind_ok (pair_at c) f y e in
+    let first = number_step c (λ first. number_at first.1 >>= λ second. Ok ((first.0, second.0), second.1)) a.0 fits a.1 in
+    let second = number_step first.0.1 (λ second. Ok ((first.0.0, second.0), second.1)) a.0 first.2 first.3 in
+    let made : (ℕ × ℕ) × Cursor = ((first.0.0, second.0.0), second.0.1) in
+    let taken : TakesPair first.0.0 second.0.0 c second.0.1 = record { behind_first = first.0.1; at_first = first.1; at_second = second.1 } in
+    let is = ok_is made a.0 second.3 in (
+      a.0,
+      subst (λ (x : (ℕ × ℕ) × Cursor). TakesPair x.0.0 x.0.1 c x.1) is taken,
+      subst (λ (x : (ℕ × ℕ) × Cursor). IsBytes x.1.rest) is second.2,
+      a.2,
+    )
+
+pub pair_again : (first second : ℕ) (c middle after : Cursor) → Takes c middle (Unsigned first) → Takes middle after (Unsigned second) → pair_at c ≡ Ok ((first, second), after)
+unfolding pair_at
+pair_again first second c middle after at_first at_second = rw (number_again c first middle at_first, number_again middle second after at_second) refl
 
 -- a flavor and a body that were read
 pub record TakesAuth (auth : Auth) (c after : Cursor) : Type 0 where

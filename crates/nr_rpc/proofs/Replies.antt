@@ -13,11 +13,11 @@ use Rattle.nr_rpc.specs.declared.fault.HeadFault.TheVariants as faults
 use Rattle.nr_rpc.specs.declared.head.ReplyHead.{ReplyHead}
 use Rattle.nr_rpc.specs.declared.head.ReplyHead.TheVariants as replies
 use Rattle.nr_rpc.specs.Credential.{Auth, no_verifier}
-use Rattle.nr_rpc.specs.Reply.{reply_items, IsAccepted, ReadsReply, BeginsReply, CanWriteReply, ReplyFits, reply_head, reply_encoding, reply_again}
+use Rattle.nr_rpc.specs.Reply.{reply_items, ResultsAt, ReadsReply, BeginsReply, CanWriteReply, ReplyFits, reply_head, reply_encoding, reply_again}
 use Rattle.nr_xdr.specs.Sequencing.{◌>>=◌, number_at}
 use Rattle.nr_rpc.specs.Reading.{versions_at, accepted_at, denied_at, reply_at, head_of, reply_of, GivesReply}
 use Rattle.nr_xdr.proofs.SequencingSteps.{chosen, done, ok_is, number_step, number_again}
-use Rattle.nr_rpc.proofs.HeadSteps.{expect_step, expect_again, auth_step, auth_again, TakesAuth}
+use Rattle.nr_rpc.proofs.HeadSteps.{expect_step, expect_again, pair_step, pair_again, auth_step, auth_again, TakesAuth}
 use Rattle.nr_rpc.proofs.Calls.{head_ok, one_answer}
 
 -- a reply head that was read
@@ -25,7 +25,7 @@ pub record TakesReply (head : ReplyHead) (c after : Cursor) : Type 0 where
   pub verifier : Auth
   pub within : length verifier.body ≤ AUTH_BODY_MAX
   pub each : TakesAll c after (reply_items head verifier)
-  pub accepted : IsAccepted head after.place
+  pub accepted : ResultsAt head after.place
 
 made_is : (made x : ReplyHead × Cursor) (c : Cursor) → TakesReply made.0 c made.1 → done made ≡ done x → TakesReply x.0 c x.1
 made_is made x c t e = subst (λ (y : ReplyHead × Cursor). TakesReply y.0 c y.1) (ok_is made x e) t
@@ -42,16 +42,15 @@ record TakesVersions (head : ℕ → ℕ → ReplyHead) (c : Cursor) (x : ReplyH
 versions_take : (head : ℕ → ℕ → ReplyHead) (c : Cursor) (x : ReplyHead × Cursor) → IsBytes c.rest → versions_at head c ≡ Ok x → TakesVersions head c x
 unfolding versions_at
 versions_take head c x fits e =
-    let low = number_step c _ x fits e in
-    let high = number_step low.0.1 _ x low.2 low.3 in
-    let made : ReplyHead × Cursor = (head low.0.0 high.0.0, high.0.1) in
-    subst (λ (y : ReplyHead × Cursor). TakesVersions head c y) (ok_is made x high.3)
-    (record { low = low.0.0; high = high.0.0; behind_low = low.0.1; at_low = low.1; at_high = high.1; is = refl })
+    let both = pair_step c _ x fits e in
+    let made : ReplyHead × Cursor = (head both.0.0.0 both.0.0.1, both.0.1) in
+    subst (λ (y : ReplyHead × Cursor). TakesVersions head c y) (ok_is made x both.3)
+    (record { low = both.0.0.0; high = both.0.0.1; behind_low = both.1.behind_first; at_low = both.1.at_first; at_high = both.1.at_second; is = refl })
 
 versions_again : (head : ℕ → ℕ → ReplyHead) (low high : ℕ) (c middle after : Cursor) → Takes c middle (Unsigned low) → Takes middle after (Unsigned high)
     → versions_at head c ≡ Ok (head low high, after)
 unfolding versions_at
-versions_again head low high c middle after at_low at_high = rw (number_again c low middle at_low, number_again middle high after at_high) refl
+versions_again head low high c middle after at_low at_high = rw (pair_again low high c middle after at_low at_high) refl
 
 accepted_take : (xid : ℕ) (start first second c : Cursor) (x : ReplyHead × Cursor) → IsBytes c.rest
     → Takes start first (Unsigned xid) → Takes first second (Unsigned REPLY) → Takes second c (Unsigned MSG_ACCEPTED)
@@ -164,7 +163,7 @@ reply_begins bytes head fits e =
     let t = reply_take (standing 0 bytes) (head, h.0) fits h.1 in
     let b = each_between (reply_items head t.verifier) (standing 0 bytes) h.0 t.each in
     let place : h.0.place ≡ length b.bytes = omega (arith, b.place) in
-    (b.bytes, h.0.rest, record { verifier = t.verifier; body = t.within; items = b.reads; accepted = subst (λ (n : ℕ). IsAccepted head n) place t.accepted }, b.rest)
+    (b.bytes, h.0.rest, record { verifier = t.verifier; body = t.within; items = b.reads; accepted = subst (λ (n : ℕ). ResultsAt head n) place t.accepted }, b.rest)
 
 -- bytes that read as the head are taken as it
 reads_reply : (head : ReplyHead) (bytes front behind : List ℕ) → ReadsReply head front → bytes ≡ front ++ behind
@@ -174,7 +173,7 @@ reads_reply head bytes front behind reads parts =
       verifier = reads.verifier;
       within = reads.body;
       each = each_takes (reply_items head reads.verifier) front behind (standing 0 bytes) reads.items parts;
-      accepted = subst (λ (n : ℕ). IsAccepted head n) place reads.accepted;
+      accepted = subst (λ (n : ℕ). ResultsAt head n) place reads.accepted;
     }
 
 -- the head that stands at the front is read
@@ -203,7 +202,7 @@ again_items (replies.ProgMismatch xid low high) = refl
 again_items (replies.RpcMismatch xid low high) = refl
 again_items (replies.AuthError xid stat) = refl
 
-again_accepted : (head : ReplyHead) → CanWriteReply head → IsAccepted (reply_again head) (length (reply_head head))
+again_accepted : (head : ReplyHead) → CanWriteReply head → ResultsAt (reply_again head) (length (reply_head head))
 again_accepted (replies.Accepted xid stat results_at) can = (can, refl)
 again_accepted (replies.ProgMismatch xid low high) can = tt
 again_accepted (replies.RpcMismatch xid low high) can = tt

@@ -1,4 +1,4 @@
--- The sizes and the numbers of RPC heads (RFC 5531).
+-- The limits and the numbers of RPC heads (RFC 5531).
 use Rattle.std.specs.Prelude.{ℕ}
 
 -- the most bytes in the body of a credential or a verifier (RFC 5531 section 8.2)
@@ -17,23 +17,23 @@ GIDS_MAX = 16
 abbrev pub RPC_VERSION : ℕ
 RPC_VERSION = 2
 
--- the word of a call among the message types (RFC 5531 section 9)
+-- the message type of a call (RFC 5531 section 9)
 abbrev pub CALL : ℕ
 CALL = 0
 
--- the word of a reply among the message types (RFC 5531 section 9)
+-- the message type of a reply (RFC 5531 section 9)
 abbrev pub REPLY : ℕ
 REPLY = 1
 
--- the reply's word for a call that was accepted (RFC 5531 section 9)
+-- the reply status of a call that was accepted (RFC 5531 section 9)
 abbrev pub MSG_ACCEPTED : ℕ
 MSG_ACCEPTED = 0
 
--- the reply's word for a call that was denied (RFC 5531 section 9)
+-- the reply status of a call that was denied (RFC 5531 section 9)
 abbrev pub MSG_DENIED : ℕ
 MSG_DENIED = 1
 
--- the accept status behind which the lowest and the highest version stand (RFC 5531 section 9)
+-- the accept status that the lowest and the highest version follow (RFC 5531 section 9)
 abbrev pub PROG_MISMATCH : ℕ
 PROG_MISMATCH = 2
 
@@ -45,10 +45,10 @@ RPC_MISMATCH = 0
 abbrev pub AUTH_ERROR : ℕ
 AUTH_ERROR = 1
 
--- the flavor with no credential (RFC 5531 section 8.2)
+-- the flavor without a body (RFC 5531 section 8.2)
 abbrev pub AUTH_NONE : ℕ
 AUTH_NONE = 0
 
--- the flavor with a user's numbers (RFC 5531 section 8.2)
+-- the flavor with a user's and its groups' numbers (RFC 5531 section 8.2)
 abbrev pub AUTH_SYS : ℕ
 AUTH_SYS = 1

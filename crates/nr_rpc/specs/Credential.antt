@@ -20,13 +20,13 @@ abbrev pub sys_items : ℕ → List ℕ → ℕ → ℕ → List ℕ → List It
 sys_items stamp machine uid gid gids =
     Unsigned stamp ∷ (Opaque machine ∷ (Unsigned uid ∷ (Unsigned gid ∷ (Unsigned (length gids) ∷ map Unsigned gids))))
 
--- a body that reads as AUTH_SYS, with nothing behind it
+-- the body encodes AUTH_SYS, with nothing after it and whatever its pad bytes are
 pub record ReadsSys (stamp : ℕ) (machine : List ℕ) (uid gid : ℕ) (gids body : List ℕ) : Type 0 where
   pub items : ReadsAll (sys_items stamp machine uid gid gids) body
   pub machine_within : length machine ≤ MACHINE_MAX
   pub gids_within : length gids ≤ GIDS_MAX
 
--- Which credential a flavor and a body are. AUTH_SYS with a body that doesn't read so is another flavor.
+-- The credential that a flavor and a body are. AUTH_SYS with a body that doesn't encode it is another flavor.
 abbrev pub ReadsCred : Cred → Auth → Type 0
 ReadsCred creds.None auth = auth.flavor ≡ AUTH_NONE
 ReadsCred (creds.Sys stamp machine uid gid gids) auth = (auth.flavor ≡ AUTH_SYS) × ReadsSys stamp machine uid gid gids auth.body
@@ -34,17 +34,17 @@ ReadsCred (creds.Other flavor) auth =
     (auth.flavor ≡ flavor) × (flavor ≢ AUTH_NONE)
     × (flavor ≡ AUTH_SYS → (stamp : ℕ) (machine : List ℕ) (uid gid : ℕ) (gids : List ℕ) → ReadsSys stamp machine uid gid gids auth.body → ⊥)
 
--- What is written for a credential: the body of AUTH_SYS, else none.
+-- what is written for a credential: the body of AUTH_SYS, otherwise an empty one
 abbrev pub auth_of : Cred → Auth
 auth_of creds.None = record { flavor = AUTH_NONE; body = [] }
 auth_of (creds.Sys stamp machine uid gid gids) = record { flavor = AUTH_SYS; body = encodings (sys_items stamp machine uid gid gids) }
 auth_of (creds.Other flavor) = record { flavor = flavor; body = [] }
 
--- the verifier that is written (RFC 5531 section 8.2)
+-- the verifier of every head that is written (RFC 5531 section 8.2)
 abbrev pub no_verifier : Auth
 no_verifier = record { flavor = AUTH_NONE; body = [] }
 
--- What can be written, the ranges of the numbers apart.
+-- what can be written, apart from the ranges of the numbers
 abbrev pub CanWriteCred : Cred → Type 0
 CanWriteCred creds.None = Unit {0}
 CanWriteCred (creds.Sys stamp machine uid gid gids) = (length machine ≤ MACHINE_MAX) × (length gids ≤ GIDS_MAX)

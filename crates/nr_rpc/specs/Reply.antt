@@ -8,50 +8,50 @@ use Rattle.nr_rpc.specs.declared.head.ReplyHead.{ReplyHead}
 use Rattle.nr_rpc.specs.declared.head.ReplyHead.TheVariants as replies
 use Rattle.nr_rpc.specs.Credential.{Auth, auth_items, no_verifier}
 
--- the items of a reply to a call that was accepted, or denied
+-- the items of a reply to a call that was accepted, and to one that was denied
 abbrev pub accepted_items : ℕ → Auth → List Item → List Item
 accepted_items xid verifier status = Unsigned xid ∷ (Unsigned REPLY ∷ (Unsigned MSG_ACCEPTED ∷ auth_items verifier status))
 
 abbrev pub denied_items : ℕ → List Item → List Item
 denied_items xid status = Unsigned xid ∷ (Unsigned REPLY ∷ (Unsigned MSG_DENIED ∷ status))
 
--- what tells the versions from low to high
+-- a status with the lowest and the highest version
 abbrev pub versions_items : ℕ → ℕ → ℕ → List Item
 versions_items status low high = Unsigned status ∷ (Unsigned low ∷ (Unsigned high ∷ []))
 
--- the items of a head with this verifier, which a denied call's hasn't
+-- the items of a head; only an accepted call's head has the verifier
 abbrev pub reply_items : ReplyHead → Auth → List Item
 reply_items (replies.Accepted xid stat results_at) verifier = accepted_items xid verifier (Unsigned stat ∷ [])
 reply_items (replies.ProgMismatch xid low high) verifier = accepted_items xid verifier (versions_items PROG_MISMATCH low high)
 reply_items (replies.RpcMismatch xid low high) verifier = denied_items xid (versions_items RPC_MISMATCH low high)
 reply_items (replies.AuthError xid stat) verifier = denied_items xid (Unsigned AUTH_ERROR ∷ (Unsigned stat ∷ []))
 
--- Status 2 is the head with low and high; the results begin behind the head, whose bytes are so many.
-abbrev pub IsAccepted : ReplyHead → ℕ → Type 0
-IsAccepted (replies.Accepted xid stat results_at) len = (stat ≢ PROG_MISMATCH) × (results_at ≡ len)
-IsAccepted (replies.ProgMismatch xid low high) len = Unit {0}
-IsAccepted (replies.RpcMismatch xid low high) len = Unit {0}
-IsAccepted (replies.AuthError xid stat) len = Unit {0}
+-- An accept status other than 2, with the results after a head of this many bytes. Status 2 is the head with low and high.
+abbrev pub ResultsAt : ReplyHead → ℕ → Type 0
+ResultsAt (replies.Accepted xid stat results_at) len = (stat ≢ PROG_MISMATCH) × (results_at ≡ len)
+ResultsAt (replies.ProgMismatch xid low high) len = Unit {0}
+ResultsAt (replies.RpcMismatch xid low high) len = Unit {0}
+ResultsAt (replies.AuthError xid stat) len = Unit {0}
 
--- The bytes read as the head, all of them, whatever the verifier and the pad bytes are.
+-- all of the bytes encode the head, whatever the verifier and the pad bytes are
 pub record ReadsReply (head : ReplyHead) (bytes : List ℕ) : Type 0 where
   pub verifier : Auth
   pub body : length verifier.body ≤ AUTH_BODY_MAX
   pub items : ReadsAll (reply_items head verifier) bytes
-  pub accepted : IsAccepted head (length bytes)
+  pub accepted : ResultsAt head (length bytes)
 
 -- the bytes begin with the head
 abbrev pub BeginsReply : ReplyHead → List ℕ → Type 0
 BeginsReply head bytes = (front : List ℕ) × (behind : List ℕ) × ReadsReply head front × (bytes ≡ front ++ behind)
 
--- the one encoding of the head, and of the head with these results
+-- the encoding of the head, and of the head followed by these results
 abbrev pub reply_head : ReplyHead → List ℕ
 reply_head head = encodings (reply_items head no_verifier)
 
 abbrev pub reply_encoding : ReplyHead → List ℕ → List ℕ
 reply_encoding head results = reply_head head ++ results
 
--- What can be written: in Accepted a status other than 2.
+-- what can be written: a status other than 2 in Accepted
 abbrev pub CanWriteReply : ReplyHead → Type 0
 CanWriteReply (replies.Accepted xid stat results_at) = stat ≢ PROG_MISMATCH
 CanWriteReply (replies.ProgMismatch xid low high) = Unit {0}
@@ -65,7 +65,7 @@ ReplyFits (replies.ProgMismatch xid low high) = (xid < 2 ^ 32) × (low < 2 ^ 32)
 ReplyFits (replies.RpcMismatch xid low high) = (xid < 2 ^ 32) × (low < 2 ^ 32) × (high < 2 ^ 32)
 ReplyFits (replies.AuthError xid stat) = (xid < 2 ^ 32) × (stat < 2 ^ 32)
 
--- the head as it is read behind its own encoding: the results begin there
+-- the head as it is read from its own encoding: the results begin after that
 abbrev pub reply_again : ReplyHead → ReplyHead
 reply_again (replies.Accepted xid stat results_at) = replies.Accepted xid stat (length (reply_head (replies.Accepted xid stat results_at)))
 reply_again (replies.ProgMismatch xid low high) = replies.ProgMismatch xid low high

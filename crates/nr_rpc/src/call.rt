@@ -1,17 +1,18 @@
 //! Calls (RFC 5531 section 9).
 
-ghost use Rattle.std.specs.Prelude.{◌≡◌, ℕ, List, ◌++◌, ◌^◌, ◌<◌, length, Ok, Err, IfOk, IfErr};
+ghost use Rattle.std.specs.Prelude.{◌≡◌, ℕ, List, ◌++◌, ◌^◌, ◌<◌, length, Ok, Err, IfOk, IfErr, IfSome, OnOk};
 ghost use Rattle.nr_xdr.specs.Item.{IsBytes};
+ghost use Rattle.nr_xdr.specs.Matching.{MatchesRead, MatchesValue};
 ghost use Rattle.nr_rpc.specs.Call.{ReadsCall, BeginsCall, CanWriteCall, call_head, call_encoding};
-ghost use Rattle.nr_rpc.specs.Reading.{Answers, Finds, GivesCall, call_at, call_of, version2_at, start_view, target_of};
+ghost use Rattle.nr_rpc.specs.Reading.{GivesCall, call_at, call_of, version2_at, procedure_at, head_of_start, target_of, head_xid, xid_of_call};
 
 use crate::constants::{CALL, RPC_VERSION};
-use crate::fault::{DecodeError, HeadFault};
+use crate::fault::HeadFault;
 use crate::head::{CallHead, CallTarget};
-use crate::item::{RawAuth, auth, number, this};
+use crate::item::{RawAuth, auth, expect};
 use crate::put::{put_cred, put_no_verifier, put_numbers};
 use crate::sys::cred_from;
-use nr_xdr::{Memory, Octets, Reader, Writer};
+use nr_xdr::{DecodeError, Memory, Octets, Reader, Writer, number};
 use std::alloc::Global;
 
 /// A call head whose credential isn't read yet.
@@ -31,14 +32,23 @@ pub(crate) enum CallStart<'a> {
     },
 }
 
-/// A call of version 2, from the program on.
-#[tactic(auto, unfolding(crate::specs::Reading::version2_at))]
-fn version2<'a>(reader: &mut Reader<'a>, xid: u32) -> Result<CallStart<'a>, DecodeError>
-    ensures { Answers start_view result reader.new (version2_at xid reader.old) }
+/// Reads a program, its version and a procedure.
+#[tactic(auto, unfolding(crate::specs::Reading::procedure_at))]
+fn procedure(reader: &mut Reader<'_>) -> Result<(u32, u32, u32), DecodeError>
+    ensures { MatchesRead (λ p. p) result reader.new (procedure_at reader.old) }
 {
     let prog = number(reader)?;
     let vers = number(reader)?;
     let proc = number(reader)?;
+    Ok((prog, vers, proc))
+}
+
+/// Reads a call of version 2, from the program on.
+#[tactic(auto, unfolding(crate::specs::Reading::version2_at))]
+fn version2<'a>(reader: &mut Reader<'a>, xid: u32) -> Result<CallStart<'a>, DecodeError>
+    ensures { MatchesRead head_of_start result reader.new (version2_at xid reader.old) }
+{
+    let (prog, vers, proc) = procedure(reader)?;
     let cred = auth(reader)?;
     let _verifier = auth(reader)?;
     Ok(CallStart::Version2 {
@@ -52,11 +62,11 @@ fn version2<'a>(reader: &mut Reader<'a>, xid: u32) -> Result<CallStart<'a>, Deco
 }
 
 #[tactic(auto, unfolding(crate::specs::Reading::call_at))]
-fn opening_at<'a>(reader: &mut Reader<'a>) -> Result<CallStart<'a>, DecodeError>
-    ensures { Answers start_view result reader.new (call_at reader.old) }
+fn call_start_at<'a>(reader: &mut Reader<'a>) -> Result<CallStart<'a>, DecodeError>
+    ensures { MatchesRead head_of_start result reader.new (call_at reader.old) }
 {
     let xid = number(reader)?;
-    this(reader, CALL)?;
+    expect(reader, CALL)?;
     let rpcvers = number(reader)?;
     if rpcvers == RPC_VERSION {
         version2(reader, xid)
@@ -66,17 +76,17 @@ fn opening_at<'a>(reader: &mut Reader<'a>) -> Result<CallStart<'a>, DecodeError>
 }
 
 #[tactic(auto, unfolding(crate::specs::Reading::call_of))]
-fn opening(bytes: &[u8]) -> Result<CallStart<'_>, DecodeError>
-    ensures { Finds start_view result (call_of bytes.now) }
+fn call_start(bytes: &[u8]) -> Result<CallStart<'_>, DecodeError>
+    ensures { MatchesValue head_of_start result (call_of bytes.now) }
 {
     let mut reader = Reader::new(bytes);
-    opening_at(&mut reader)
+    call_start_at(&mut reader)
 }
 
-fn whole_call(alloc: Global, bytes: &[u8]) -> Result<CallHead, HeadFault>
+fn read_call_inner(alloc: Global, bytes: &[u8]) -> Result<CallHead, HeadFault>
     ensures { GivesCall result (call_of bytes.now) }
 {
-    match opening(bytes) {
+    match call_start(bytes) {
         Err(error) => Err(HeadFault::NotCall { at: error.at }),
         Ok(CallStart::Other { xid, rpcvers }) => Ok(CallHead::Other { xid, rpcvers }),
         Ok(
@@ -99,9 +109,9 @@ fn whole_call(alloc: Global, bytes: &[u8]) -> Result<CallHead, HeadFault>
     }
 }
 
-/// The call head with which the bytes begin; what follows it isn't looked at.
-/// `NotCall` at the first item that fails: one that runs past the end, a message type other than 0 at that word, a
-/// credential's or a verifier's body above 400 bytes at its length.
+/// Reads the call head at the front of the bytes. What follows it is ignored.
+/// `NotCall`: the first item that fails is one that runs past the end (at that item), a message type other than 0 (at that
+/// word), or the body of a credential or verifier above 400 bytes (at its length).
 pub fn read_call(alloc: Global, bytes: &[u8]) -> Result<CallHead, HeadFault>
     // What is read stands at the front.
     ensures found { IfOk result (λ head. BeginsCall head bytes.now) }
@@ -110,15 +120,15 @@ pub fn read_call(alloc: Global, bytes: &[u8]) -> Result<CallHead, HeadFault>
     // Which fault it is, and where.
     ensures exact { GivesCall result (call_of bytes.now) }
 {
-    whole_call(alloc, bytes)
+    read_call_inner(alloc, bytes)
 }
 
-/// What a call of RPC version 2 asks for, and where its arguments begin: `None` exactly where the bytes begin no head of
-/// that version. Takes no memory.
+/// What a call of RPC version 2 asks for, and where its arguments begin. `None` exactly where the bytes begin no call head
+/// of that version. Takes no memory.
 pub fn call_target(bytes: &[u8]) -> Option<CallTarget>
     ensures { result ≡ target_of (call_of bytes.now) }
 {
-    match opening(bytes) {
+    match call_start(bytes) {
         Ok(
             CallStart::Version2 {
                 xid,
@@ -139,12 +149,33 @@ pub fn call_target(bytes: &[u8]) -> Option<CallTarget>
     }
 }
 
-/// A head alone.
-fn call_octets(alloc: Global, head: &CallHead) -> Result<Octets, Memory>
-    requires { CanWriteCall head.now }
-    ensures { IfOk result (λ o. o ≡ call_head head.now) }
+/// The transaction's number (xid) of a call of any RPC version. `None` exactly where the bytes begin no call head. Takes no
+/// memory.
+pub fn call_xid(bytes: &[u8]) -> Option<u32>
+    // It is the number of a call head at the front.
+    ensures found { IfSome result (λ xid. (head : CallHead) × BeginsCall head bytes.now × (head_xid head ≡ xid)) }
+    // A call head at the front has its number found.
+    ensures only { (head : CallHead) → BeginsCall head bytes.now → result ≡ Some (head_xid head) }
+    ensures exact { result ≡ xid_of_call (call_of bytes.now) }
 {
-    let mut writer = Writer::new(alloc);
+    call_xid_inner(bytes)
+}
+
+fn call_xid_inner(bytes: &[u8]) -> Option<u32>
+    ensures { result ≡ xid_of_call (call_of bytes.now) }
+{
+    match call_start(bytes) {
+        Ok(CallStart::Version2 { xid, .. }) => Some(xid),
+        Ok(CallStart::Other { xid, .. }) => Some(xid),
+        Err(_error) => None,
+    }
+}
+
+/// Puts a head at the end.
+fn put_call(alloc: Global, writer: &mut Writer, head: &CallHead) -> Result<(), Memory>
+    requires { CanWriteCall head.now }
+    ensures { OnOk result (writer.new ≡ writer.old ++ call_head head.now) }
+{
     match head {
         CallHead::Version2 {
             xid,
@@ -154,19 +185,26 @@ fn call_octets(alloc: Global, head: &CallHead) -> Result<Octets, Memory>
             cred,
             ..
         } => {
-            put_numbers(&mut writer, &[*xid, CALL, RPC_VERSION, *prog, *vers, *proc])?;
-            put_cred(alloc, &mut writer, cred)?;
-            put_no_verifier(&mut writer)?;
+            put_numbers(writer, &[*xid, CALL, RPC_VERSION, *prog, *vers, *proc])?;
+            put_cred(alloc, writer, cred)?;
+            put_no_verifier(writer)
         }
-        CallHead::Other { xid, rpcvers } => {
-            put_numbers(&mut writer, &[*xid, CALL, *rpcvers])?;
-        }
+        CallHead::Other { xid, rpcvers } => put_numbers(writer, &[*xid, CALL, *rpcvers]),
     }
+}
+
+/// The bytes of a head.
+fn call_octets(alloc: Global, head: &CallHead) -> Result<Octets, Memory>
+    requires { CanWriteCall head.now }
+    ensures { IfOk result (λ o. o ≡ call_head head.now) }
+{
+    let mut writer = Writer::new(alloc);
+    put_call(alloc, &mut writer, head)?;
     Ok(writer.finish())
 }
 
-/// The one encoding of a call's head, and these arguments behind it: the verifier is AUTH_NONE, and the body of another
-/// credential than AUTH_SYS is empty. `args_at` isn't looked at. Only `Memory` can be wanting.
+/// The encoding of a call head, followed by the arguments. The verifier is AUTH_NONE, and the body of a credential other
+/// than AUTH_SYS is empty. `args_at` is ignored. The only fault is `Memory`.
 pub fn write_call(alloc: Global, head: &CallHead, args: &[u8]) -> Result<Octets, HeadFault>
     requires { CanWriteCall head.now }
     ensures ok { IfOk result (λ o. o ≡ call_encoding head.now args.now) }

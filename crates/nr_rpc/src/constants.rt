@@ -1,4 +1,4 @@
-//! The sizes and the numbers of RPC heads (RFC 5531).
+//! The limits and the numbers of RPC heads (RFC 5531).
 
 /// The most bytes in the body of a credential or a verifier (RFC 5531 section 8.2).
 pub const AUTH_BODY_MAX: u32 = 400;
@@ -12,19 +12,19 @@ pub const GIDS_MAX: usize = 16;
 /// The version of RPC (RFC 5531 section 9).
 pub const RPC_VERSION: u32 = 2;
 
-/// The word of a call among the message types (RFC 5531 section 9).
+/// The message type of a call (RFC 5531 section 9).
 pub const CALL: u32 = 0;
 
-/// The word of a reply among the message types (RFC 5531 section 9).
+/// The message type of a reply (RFC 5531 section 9).
 pub const REPLY: u32 = 1;
 
-/// The reply's word for a call that was accepted (RFC 5531 section 9).
+/// The reply status of a call that was accepted (RFC 5531 section 9).
 pub const MSG_ACCEPTED: u32 = 0;
 
-/// The reply's word for a call that was denied (RFC 5531 section 9).
+/// The reply status of a call that was denied (RFC 5531 section 9).
 pub const MSG_DENIED: u32 = 1;
 
-/// The accept status behind which the lowest and the highest version stand (RFC 5531 section 9).
+/// The accept status that the lowest and the highest version follow (RFC 5531 section 9).
 pub const PROG_MISMATCH: u32 = 2;
 
 /// The reject status for another version of RPC (RFC 5531 section 9).
@@ -33,8 +33,8 @@ pub const RPC_MISMATCH: u32 = 0;
 /// The reject status for a credential that was refused (RFC 5531 section 9).
 pub const AUTH_ERROR: u32 = 1;
 
-/// The flavor with no credential (RFC 5531 section 8.2).
+/// The flavor without a body (RFC 5531 section 8.2).
 pub const AUTH_NONE: u32 = 0;
 
-/// The flavor with a user's numbers (RFC 5531 section 8.2).
+/// The flavor with a user's and its groups' numbers (RFC 5531 section 8.2).
 pub const AUTH_SYS: u32 = 1;

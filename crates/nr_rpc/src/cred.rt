@@ -7,7 +7,7 @@ use arrayvec::ArrayVec;
 use nr_xdr::Octets;
 use std::marker::Model;
 
-/// The further groups of an AUTH_SYS credential: at most [`GIDS_MAX`] numbers. Contracts see their list. Takes no memory.
+/// The further groups of an AUTH_SYS credential: at most [`GIDS_MAX`] numbers. Takes no memory. Contracts see the list.
 #[derive(Debug, Drop)]
 pub struct Gids {
     gids: ArrayVec<u32, GIDS_MAX>,
@@ -38,7 +38,7 @@ impl Gids {
         self.gids.as_slice()
     }
 
-    /// How many groups there are.
+    /// The number of groups.
     pub fn len(&self) -> usize
         ensures is { result ≡ length self.now }
         ensures within { result ≤ GIDS_MAX }
@@ -52,7 +52,7 @@ impl Gids {
         self.gids.as_slice().is_empty()
     }
 
-    /// Puts a group at the end.
+    /// Adds a group at the end.
     pub fn push(&mut self, gid: u32)
         requires { length self.old < GIDS_MAX }
         ensures { self.new ≡ self.old ++ gid ∷ [] }
@@ -61,7 +61,7 @@ impl Gids {
     }
 }
 
-/// Who calls (RFC 5531 section 8.2).
+/// The credential of a call: who calls (RFC 5531 section 8.2).
 #[derive(Debug, Drop)]
 pub enum Cred {
     /// AUTH_NONE.
@@ -74,7 +74,7 @@ pub enum Cred {
         gid: u32,
         gids: Gids,
     },
-    /// Another flavor, or AUTH_SYS whose body isn't encoded as AUTH_SYS is (then `flavor` is 1).
+    /// Another flavor, or AUTH_SYS with a body that is no encoding of AUTH_SYS (then `flavor` is 1).
     Other {
         flavor: u32,
     },

@@ -1,23 +1,18 @@
-//! Why some bytes begin no head, or a head could not be written.
+//! Why bytes begin no head, or a head could not be written.
 
 ghost use Rattle.std.specs.Prelude.{◌≡◌};
-ghost use Rattle.nr_xdr.specs.Reading.{place_of};
 ghost use Rattle.nr_rpc.specs.declared.fault.HeadFault.TheVariants as faults;
 
-use nr_xdr::{ItemFault, Memory};
-use thiserror::Error;
+use nr_xdr::Memory;
 
 /// Why a head could not be read or written. `at` is the place of the first item that fails, in bytes from the front.
-#[derive(Clone, Copy, Debug, PartialEq, Eq, Error)]
+#[derive(Clone, Copy, Debug, PartialEq, Eq)]
 pub enum HeadFault {
     /// The bytes begin no call head.
-    #[error("no call head: the item at byte {at} fails")]
     NotCall { at: usize },
     /// The bytes begin no reply head.
-    #[error("no reply head: the item at byte {at} fails")]
     NotReply { at: usize },
     /// Memory ran out.
-    #[error("out of memory")]
     Memory,
 }
 
@@ -26,22 +21,5 @@ impl From<Memory> for HeadFault {
 
     fn from(_e: Memory) -> HeadFault {
         HeadFault::Memory
-    }
-}
-
-/// The place of the first item that fails.
-#[derive(Clone, Copy, Debug)]
-pub(crate) struct DecodeError {
-    pub(crate) at: usize,
-}
-
-impl From<ItemFault> for DecodeError {
-    ghost from_gives = { λ e m. m.at ≡ place_of e };
-
-    fn from(e: ItemFault) -> DecodeError {
-        let at = match e {
-            ItemFault::Short { at } | ItemFault::Long { at, .. } | ItemFault::BadBool { at } => at,
-        };
-        DecodeError { at }
     }
 }

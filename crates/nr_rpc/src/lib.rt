@@ -1,10 +1,12 @@
 //! Call and reply heads of RPC version 2 (RFC 5531 section 9), read and written exactly.
 //!
-//! It stands on `nr_xdr`. A head is what precedes a call's arguments or a reply's results: who calls which procedure, and
-//! how the call went. [`read_call`] and [`read_reply`] take the head at the front of some bytes and tell where the rest
-//! begins; [`write_call`] and [`write_reply`] put a head before it. Verifiers, and the bodies of other credentials than
-//! AUTH_SYS, are dropped on reading and written empty. What programs, procedures and results mean is said in the crates
-//! above, which also decide how a call is answered.
+//! The crate stands on `nr_xdr`. A head precedes the arguments of a call or the results of a reply: it says who calls which
+//! procedure, or how the call went. [`read_call`] and [`read_reply`] read the head at the front of some bytes and say where
+//! the rest begins. [`call_target`] and [`call_xid`] answer single questions about a call without memory. [`write_call`] and
+//! [`write_reply`] write a head followed by arguments or results.
+//!
+//! Verifiers, and the bodies of credentials other than AUTH_SYS, are dropped when read and written empty. The crates above
+//! give programs, procedures and results their meaning, and decide how a call is answered.
 #![tactic(auto)]
 
 mod call;
@@ -18,13 +20,10 @@ mod put;
 mod reply;
 mod sys;
 
-pub use call::{call_target, read_call, write_call};
+pub use call::{call_target, call_xid, read_call, write_call};
 pub use constants::{AUTH_BODY_MAX, AUTH_SYS, GIDS_MAX, MACHINE_MAX, PROG_MISMATCH, RPC_VERSION};
 pub use cred::{Cred, Gids};
 pub use fault::HeadFault;
 pub use head::{CallHead, CallTarget, ReplyHead};
 pub use laws::{call_round_trip, one_call_head, one_reply_head, reply_round_trip};
 pub use reply::{read_reply, write_reply};
-
-#[cfg(test)]
-mod tests;

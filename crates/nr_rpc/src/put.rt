@@ -1,4 +1,4 @@
-//! The items of heads, each written.
+//! The items of heads: each is put at the end of a writer.
 
 ghost use Rattle.std.specs.Prelude.{◌≡◌, ◌^◌, ◌<◌, ◌≤◌, [], ◌++◌, length, map, OnOk, IfOk};
 ghost use Rattle.nr_xdr.specs.Item.Item.{Unsigned};
@@ -10,7 +10,7 @@ use crate::cred::{Cred, Gids};
 use nr_xdr::{Memory, Octets, Writer};
 use std::alloc::Global;
 
-/// Numbers behind one another.
+/// Puts numbers at the end.
 pub(crate) fn put_numbers(writer: &mut Writer, numbers: &[u32]) -> Result<(), Memory>
     ensures { OnOk result (writer.new ≡ writer.old ++ encodings (map Unsigned numbers.now)) }
 {
@@ -20,7 +20,7 @@ pub(crate) fn put_numbers(writer: &mut Writer, numbers: &[u32]) -> Result<(), Me
     Ok(())
 }
 
-/// A flavor and a body.
+/// Puts a flavor and a body at the end.
 fn put_auth(writer: &mut Writer, flavor: u32, body: &[u8]) -> Result<(), Memory>
     requires { length body.now ≤ AUTH_BODY_MAX }
     ensures { OnOk result (writer.new ≡ writer.old ++ encodings (auth_items (record { flavor = flavor; body = body.now }) [])) }
@@ -30,14 +30,32 @@ fn put_auth(writer: &mut Writer, flavor: u32, body: &[u8]) -> Result<(), Memory>
     Ok(())
 }
 
-/// The verifier that each head is written with (RFC 5531 section 8.2).
+/// Puts the verifier of every head that is written, AUTH_NONE, at the end (RFC 5531 section 8.2).
 pub(crate) fn put_no_verifier(writer: &mut Writer) -> Result<(), Memory>
     ensures { OnOk result (writer.new ≡ writer.old ++ encodings (auth_items no_verifier [])) }
 {
     put_auth(writer, AUTH_NONE, &[])
 }
 
-/// The body of AUTH_SYS (RFC 5531 appendix A).
+/// Puts the body of AUTH_SYS at the end (RFC 5531 appendix A).
+fn put_sys(
+    writer: &mut Writer,
+    stamp: u32,
+    machine: &Octets,
+    uid: u32,
+    gid: u32,
+    gids: &Gids,
+) -> Result<(), Memory>
+    requires { length machine.now ≤ MACHINE_MAX }
+    ensures { OnOk result (writer.new ≡ writer.old ++ encodings (sys_items stamp machine.now uid gid gids.now)) }
+{
+    writer.u32(stamp)?;
+    writer.opaque(machine.as_slice())?;
+    put_numbers(writer, &[uid, gid, gids.len() as u32])?;
+    put_numbers(writer, gids.as_slice())
+}
+
+/// The body of AUTH_SYS.
 fn sys_octets(
     alloc: Global,
     stamp: u32,
@@ -50,16 +68,11 @@ fn sys_octets(
     ensures { IfOk result (λ o. o ≡ encodings (sys_items stamp machine.now uid gid gids.now)) }
 {
     let mut writer = Writer::new(alloc);
-    writer.u32(stamp)?;
-    writer.opaque(machine.as_slice())?;
-    writer.u32(uid)?;
-    writer.u32(gid)?;
-    writer.u32(gids.len() as u32)?;
-    put_numbers(&mut writer, gids.as_slice())?;
+    put_sys(&mut writer, stamp, machine, uid, gid, gids)?;
     Ok(writer.finish())
 }
 
-/// A credential.
+/// Puts a credential at the end.
 pub(crate) fn put_cred(alloc: Global, writer: &mut Writer, cred: &Cred) -> Result<(), Memory>
     requires { CanWriteCred cred.now }
     ensures { OnOk result (writer.new ≡ writer.old ++ encodings (auth_items (auth_of cred.now) [])) }

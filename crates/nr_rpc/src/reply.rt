@@ -1,22 +1,26 @@
 //! Replies (RFC 5531 section 9).
 
-ghost use Rattle.std.specs.Prelude.{◌≡◌, ℕ, List, ◌++◌, ◌^◌, ◌<◌, length, Ok, Err, IfOk, IfErr};
+ghost use Rattle.std.specs.Prelude.{◌≡◌, ℕ, List, ◌++◌, ◌^◌, ◌<◌, length, map, Ok, Err, IfOk, IfErr, OnOk};
 ghost use Rattle.nr_xdr.specs.Item.{IsBytes};
-ghost use Rattle.nr_rpc.specs.Reply.{ReadsReply, BeginsReply, CanWriteReply, reply_head, reply_encoding};
-ghost use Rattle.nr_rpc.specs.Reading.{Answers, Finds, GivesReply, reply_at, reply_of, accepted_at, denied_at};
+ghost use Rattle.nr_xdr.specs.Item.Item.{Unsigned};
+ghost use Rattle.nr_xdr.specs.Items.{encodings};
+ghost use Rattle.nr_xdr.specs.Matching.{MatchesRead, MatchesValue};
+ghost use Rattle.nr_rpc.specs.Credential.{no_verifier};
+ghost use Rattle.nr_rpc.specs.Reply.{ReadsReply, BeginsReply, CanWriteReply, accepted_items, denied_items, reply_head, reply_encoding};
+ghost use Rattle.nr_rpc.specs.Reading.{GivesReply, reply_at, reply_of, accepted_at, denied_at};
 
 use crate::constants::{AUTH_ERROR, MSG_ACCEPTED, MSG_DENIED, PROG_MISMATCH, REPLY, RPC_MISMATCH};
-use crate::fault::{DecodeError, HeadFault};
+use crate::fault::HeadFault;
 use crate::head::ReplyHead;
-use crate::item::{auth, number, this};
+use crate::item::{auth, expect, pair};
 use crate::put::{put_no_verifier, put_numbers};
-use nr_xdr::{Memory, Octets, Reader, Writer};
+use nr_xdr::{DecodeError, Memory, Octets, Reader, Writer, number};
 use std::alloc::Global;
 
-/// The reply to a call that was accepted, from the verifier on.
+/// Reads the reply to a call that was accepted, from the verifier on.
 #[tactic(auto, unfolding(crate::specs::Reading::accepted_at, crate::specs::Reading::versions_at))]
 fn accepted(reader: &mut Reader<'_>, xid: u32) -> Result<ReplyHead, DecodeError>
-    ensures { Answers (λ head. head) result reader.new (accepted_at xid reader.old) }
+    ensures { MatchesRead (λ head. head) result reader.new (accepted_at xid reader.old) }
 {
     let _verifier = auth(reader)?;
     let stat = number(reader)?;
@@ -27,21 +31,19 @@ fn accepted(reader: &mut Reader<'_>, xid: u32) -> Result<ReplyHead, DecodeError>
             results_at: reader.at(),
         });
     }
-    let low = number(reader)?;
-    let high = number(reader)?;
+    let (low, high) = pair(reader)?;
     Ok(ReplyHead::ProgMismatch { xid, low, high })
 }
 
-/// The reply to a call that was denied, from its status on.
+/// Reads the reply to a call that was denied, from its status on.
 #[tactic(auto, unfolding(crate::specs::Reading::denied_at, crate::specs::Reading::versions_at))]
 fn denied(reader: &mut Reader<'_>, xid: u32) -> Result<ReplyHead, DecodeError>
-    ensures { Answers (λ head. head) result reader.new (denied_at xid reader.old) }
+    ensures { MatchesRead (λ head. head) result reader.new (denied_at xid reader.old) }
 {
     let at = reader.at();
     match number(reader)? {
         RPC_MISMATCH => {
-            let low = number(reader)?;
-            let high = number(reader)?;
+            let (low, high) = pair(reader)?;
             Ok(ReplyHead::RpcMismatch { xid, low, high })
         }
         AUTH_ERROR => {
@@ -54,10 +56,10 @@ fn denied(reader: &mut Reader<'_>, xid: u32) -> Result<ReplyHead, DecodeError>
 
 #[tactic(auto, unfolding(crate::specs::Reading::reply_at))]
 fn reply(reader: &mut Reader<'_>) -> Result<ReplyHead, DecodeError>
-    ensures { Answers (λ head. head) result reader.new (reply_at reader.old) }
+    ensures { MatchesRead (λ head. head) result reader.new (reply_at reader.old) }
 {
     let xid = number(reader)?;
-    this(reader, REPLY)?;
+    expect(reader, REPLY)?;
     let at = reader.at();
     match number(reader)? {
         MSG_ACCEPTED => accepted(reader, xid),
@@ -67,7 +69,7 @@ fn reply(reader: &mut Reader<'_>) -> Result<ReplyHead, DecodeError>
 }
 
 #[tactic(auto, unfolding(crate::specs::Reading::reply_of))]
-fn whole_reply(bytes: &[u8]) -> Result<ReplyHead, HeadFault>
+fn read_reply_inner(bytes: &[u8]) -> Result<ReplyHead, HeadFault>
     ensures { GivesReply result (reply_of bytes.now) }
 {
     let mut reader = Reader::new(bytes);
@@ -77,9 +79,9 @@ fn whole_reply(bytes: &[u8]) -> Result<ReplyHead, HeadFault>
     }
 }
 
-/// The reply head with which the bytes begin; what follows it isn't looked at. Takes no memory.
-/// `NotReply` at the first item that fails: one that runs past the end, a message type other than 1, a reply status or a
-/// reject status other than 0 and 1 at that word, a verifier's body above 400 bytes at its length.
+/// Reads the reply head at the front of the bytes. What follows it is ignored. Takes no memory.
+/// `NotReply`: the first item that fails is one that runs past the end (at that item), a message type other than 1, a reply
+/// status or reject status other than 0 and 1 (at that word), or the body of a verifier above 400 bytes (at its length).
 pub fn read_reply(bytes: &[u8]) -> Result<ReplyHead, HeadFault>
     // What is read stands at the front.
     ensures found { IfOk result (λ head. BeginsReply head bytes.now) }
@@ -88,38 +90,53 @@ pub fn read_reply(bytes: &[u8]) -> Result<ReplyHead, HeadFault>
     // Which fault it is, and where.
     ensures exact { GivesReply result (reply_of bytes.now) }
 {
-    whole_reply(bytes)
+    read_reply_inner(bytes)
 }
 
-/// A head alone.
+/// Puts the reply to a call that was accepted at the end: no verifier, then the words of its status.
+fn put_accepted(writer: &mut Writer, xid: u32, status: &[u32]) -> Result<(), Memory>
+    ensures { OnOk result (writer.new ≡ writer.old ++ encodings (accepted_items xid no_verifier (map Unsigned status.now))) }
+{
+    put_numbers(writer, &[xid, REPLY, MSG_ACCEPTED])?;
+    put_no_verifier(writer)?;
+    put_numbers(writer, status)
+}
+
+/// Puts the reply to a call that was denied at the end, with the words of its status.
+fn put_denied(writer: &mut Writer, xid: u32, status: &[u32]) -> Result<(), Memory>
+    ensures { OnOk result (writer.new ≡ writer.old ++ encodings (denied_items xid (map Unsigned status.now))) }
+{
+    put_numbers(writer, &[xid, REPLY, MSG_DENIED])?;
+    put_numbers(writer, status)
+}
+
+/// Puts a head at the end.
+fn put_reply(writer: &mut Writer, head: &ReplyHead) -> Result<(), Memory>
+    ensures { OnOk result (writer.new ≡ writer.old ++ reply_head head.now) }
+{
+    match *head {
+        ReplyHead::Accepted { xid, stat, .. } => put_accepted(writer, xid, &[stat]),
+        ReplyHead::ProgMismatch { xid, low, high } => {
+            put_accepted(writer, xid, &[PROG_MISMATCH, low, high])
+        }
+        ReplyHead::RpcMismatch { xid, low, high } => {
+            put_denied(writer, xid, &[RPC_MISMATCH, low, high])
+        }
+        ReplyHead::AuthError { xid, stat } => put_denied(writer, xid, &[AUTH_ERROR, stat]),
+    }
+}
+
+/// The bytes of a head.
 fn reply_octets(alloc: Global, head: &ReplyHead) -> Result<Octets, Memory>
     ensures { IfOk result (λ o. o ≡ reply_head head.now) }
 {
     let mut writer = Writer::new(alloc);
-    match head {
-        ReplyHead::Accepted { xid, stat, .. } => {
-            put_numbers(&mut writer, &[*xid, REPLY, MSG_ACCEPTED])?;
-            put_no_verifier(&mut writer)?;
-            put_numbers(&mut writer, &[*stat])?;
-        }
-        ReplyHead::ProgMismatch { xid, low, high } => {
-            put_numbers(&mut writer, &[*xid, REPLY, MSG_ACCEPTED])?;
-            put_no_verifier(&mut writer)?;
-            put_numbers(&mut writer, &[PROG_MISMATCH, *low, *high])?;
-        }
-        ReplyHead::RpcMismatch { xid, low, high } => {
-            let numbers = [*xid, REPLY, MSG_DENIED, RPC_MISMATCH, *low, *high];
-            put_numbers(&mut writer, &numbers)?;
-        }
-        ReplyHead::AuthError { xid, stat } => {
-            put_numbers(&mut writer, &[*xid, REPLY, MSG_DENIED, AUTH_ERROR, *stat])?;
-        }
-    }
+    put_reply(&mut writer, head)?;
     Ok(writer.finish())
 }
 
-/// The one encoding of a reply's head, and these results behind it: the verifier is AUTH_NONE. `results_at` isn't looked
-/// at. Only `Memory` can be wanting.
+/// The encoding of a reply head, followed by the results. The verifier is AUTH_NONE. `results_at` is ignored. The only fault
+/// is `Memory`.
 pub fn write_reply(alloc: Global, head: &ReplyHead, results: &[u8]) -> Result<Octets, HeadFault>
     requires { CanWriteReply head.now }
     ensures ok { IfOk result (λ o. o ≡ reply_encoding head.now results.now) }

@@ -1,14 +1,14 @@
-//! Credentials by their flavor and body.
+//! Credentials from their flavor and body.
 
 ghost use Rattle.std.specs.Prelude.{◌≡◌, ◌≤◌, ◌^◌, ◌<◌, length, IfOk};
 ghost use Rattle.std.specs.Option.{option_map};
-ghost use Rattle.nr_rpc.specs.Reading.{Answers, sys_at, gids_at, numbers_at, whole, sys_view, cred_of, auth_view};
+ghost use Rattle.nr_xdr.specs.Matching.{MatchesRead};
+ghost use Rattle.nr_rpc.specs.Reading.{sys_at, user_at, gids_at, numbers_at, whole_value, cred_of_body, cred_of, auth_of_raw};
 
 use crate::constants::{AUTH_NONE, AUTH_SYS, GIDS_MAX, MACHINE_MAX};
 use crate::cred::{Cred, Gids};
-use crate::fault::DecodeError;
-use crate::item::{RawAuth, number};
-use nr_xdr::{Memory, Octets, Reader};
+use crate::item::{RawAuth, pair};
+use nr_xdr::{DecodeError, Memory, Octets, Reader, number};
 use std::alloc::Global;
 
 /// The body of AUTH_SYS (RFC 5531 appendix A).
@@ -21,10 +21,10 @@ pub(crate) struct SysBody<'a> {
     pub(crate) gids: Gids,
 }
 
-/// So many numbers.
+/// Reads this many numbers.
 fn numbers(reader: &mut Reader<'_>, count: u32) -> Result<Gids, DecodeError>
     requires { count ≤ GIDS_MAX }
-    ensures { Answers (λ g. g) result reader.new (numbers_at count reader.old) }
+    ensures { MatchesRead (λ g. g) result reader.new (numbers_at count reader.old) }
 {
     let mut gids = Gids::new();
     for _ in 0..count {
@@ -33,10 +33,10 @@ fn numbers(reader: &mut Reader<'_>, count: u32) -> Result<Gids, DecodeError>
     Ok(gids)
 }
 
-/// Further groups behind their count.
+/// Reads the further groups, after their count.
 #[tactic(auto, unfolding(crate::specs::Reading::gids_at))]
 fn gids(reader: &mut Reader<'_>) -> Result<Gids, DecodeError>
-    ensures { Answers (λ g. g) result reader.new (gids_at reader.old) }
+    ensures { MatchesRead (λ g. g) result reader.new (gids_at reader.old) }
 {
     let at = reader.at();
     let count = number(reader)?;
@@ -46,15 +46,24 @@ fn gids(reader: &mut Reader<'_>) -> Result<Gids, DecodeError>
     numbers(reader, count)
 }
 
+/// Reads a user, its group and the further groups.
+#[tactic(auto, unfolding(crate::specs::Reading::user_at))]
+fn user(reader: &mut Reader<'_>) -> Result<(u32, u32, Gids), DecodeError>
+    ensures { MatchesRead (λ u. u) result reader.new (user_at reader.old) }
+{
+    let (uid, gid) = pair(reader)?;
+    let gids = gids(reader)?;
+    Ok((uid, gid, gids))
+}
+
+/// Reads the body of AUTH_SYS.
 #[tactic(auto, unfolding(crate::specs::Reading::sys_at))]
 fn sys_body<'a>(reader: &mut Reader<'a>) -> Result<SysBody<'a>, DecodeError>
-    ensures { Answers sys_view result reader.new (sys_at reader.old) }
+    ensures { MatchesRead cred_of_body result reader.new (sys_at reader.old) }
 {
     let stamp = number(reader)?;
     let machine = reader.opaque(MACHINE_MAX)?;
-    let uid = number(reader)?;
-    let gid = number(reader)?;
-    let gids = gids(reader)?;
+    let (uid, gid, gids) = user(reader)?;
     Ok(SysBody {
         stamp,
         machine,
@@ -64,9 +73,9 @@ fn sys_body<'a>(reader: &mut Reader<'a>) -> Result<SysBody<'a>, DecodeError>
     })
 }
 
-/// What the bytes are as the body of AUTH_SYS, if they are one and nothing more.
+/// The body of AUTH_SYS that the bytes are, if they are one with nothing after it.
 fn sys_of(body: &[u8]) -> Option<SysBody<'_>>
-    ensures { option_map sys_view result ≡ whole (sys_at (record { place = 0; rest = body.now })) }
+    ensures { option_map cred_of_body result ≡ whole_value (sys_at (record { place = 0; rest = body.now })) }
 {
     let mut reader = Reader::new(body);
     match sys_body(&mut reader) {
@@ -77,14 +86,14 @@ fn sys_of(body: &[u8]) -> Option<SysBody<'_>>
                 None
             }
         }
-        Err(_misfit) => None,
+        Err(_error) => None,
     }
 }
 
-/// The credential of a flavor and a body.
+/// The credential that a flavor and a body are.
 #[tactic(auto, unfolding(crate::specs::Reading::cred_of))]
 pub(crate) fn cred_from(alloc: Global, auth: RawAuth<'_>) -> Result<Cred, Memory>
-    ensures { IfOk result (λ cred. cred ≡ cred_of (auth_view auth.entry)) }
+    ensures { IfOk result (λ cred. cred ≡ cred_of (auth_of_raw auth.entry)) }
 {
     if auth.flavor == AUTH_NONE {
         return Ok(Cred::None);
@@ -95,16 +104,16 @@ pub(crate) fn cred_from(alloc: Global, auth: RawAuth<'_>) -> Result<Cred, Memory
         });
     }
     match sys_of(auth.body) {
-        Some(sys) => owned(alloc, sys),
+        Some(sys) => owned_cred(alloc, sys),
         None => Ok(Cred::Other {
             flavor: auth.flavor,
         }),
     }
 }
 
-/// The credential that owns its machine's name.
-fn owned(alloc: Global, sys: SysBody<'_>) -> Result<Cred, Memory>
-    ensures { IfOk result (λ cred. cred ≡ sys_view sys.entry) }
+/// The credential of AUTH_SYS with this body, which owns its machine's name.
+fn owned_cred(alloc: Global, sys: SysBody<'_>) -> Result<Cred, Memory>
+    ensures { IfOk result (λ cred. cred ≡ cred_of_body sys.entry) }
 {
     let SysBody {
         stamp,

@@ -176,7 +176,7 @@ needed_frame : (a : Awaited) (rest : List ℕ) → fields_len a ≤ length rest 
 unfolding bytes_needed
 needed_frame a rest le = rw (le-ltb (length rest) (fields_len a) le) refl
 
--- some bytes are bytes_needed exactly where the frame isn't whole
+-- some bytes are needed exactly where the frame isn't whole
 pub needed_some : (a : Awaited) (rest : List ℕ) → IsPartial a rest ↔ (0 < bytes_needed a rest)
 needed_some a rest =
     elim (cases_lt (length rest) (fields_len a)) [
@@ -187,7 +187,7 @@ needed_some a rest =
       )
     ]
 
--- fewer bytes than are bytes_needed don't make it whole
+-- fewer bytes than are needed don't make it whole
 pub needed_less : (a : Awaited) (rest more : List ℕ) → length more < bytes_needed a rest → IsPartial a (rest ++ more)
 needed_less a rest more lt =
     elim (cases_lt (length rest) (fields_len a)) [
@@ -195,7 +195,7 @@ needed_less a rest more lt =
       | inr le ↦ long_partial a (rest ++ more) (omega (arith, length-append rest more, needed_frame a rest le, frame_len-append a rest more le))
     ]
 
--- as many as are bytes_needed make its fields whole, or else the frame
+-- as many as are needed make its fields whole, or else the frame
 pub needed_just : (a : Awaited) (rest more : List ℕ) → IsPartial a rest → length more ≡ bytes_needed a rest
     → (length rest < fields_len a → length (rest ++ more) ≡ fields_len a) × (fields_len a ≤ length rest → IsFrame a (rest ++ more))
 needed_just a rest more p e = (

@@ -1,6 +1,6 @@
 -- A frame at the front of some bytes.
 use Rattle.nr_wire.specs.Next.Next.{More}
-use Rattle.nr_wire.specs.Next.{hello_in, segment_in, judged}
+use Rattle.nr_wire.specs.Next.{hello_in, segment_in, frame_answer}
 use Rattle.nr_wire.specs.Segment.{segment_of}
 use Rattle.nr_wire.specs.Hello.{hello_of}
 use Rattle.nr_wire.specs.declared.stream.Awaited.TheVariants.{Hello as HelloFrom, Fpdu}
@@ -27,14 +27,14 @@ front_frame a frame more f =
     }
 
 -- what stands at the front of some bytes is judged by its frame alone
-pub hello_in-frame : (side : Side) (frame more : List ℕ) → IsFrame (HelloFrom side) frame → hello_in side (frame ++ more) ≡ judged (hello_of side frame) (length frame)
+pub hello_in-frame : (side : Side) (frame more : List ℕ) → IsFrame (HelloFrom side) frame → hello_in side (frame ++ more) ≡ frame_answer (hello_of side frame) (length frame)
 unfolding hello_in
 hello_in-frame side frame more f =
     let at = front_frame (HelloFrom side) frame more f in
-    λ i. cond (at.whole i) (judged (hello_of side (at.front i)) (at.len i)) More
+    λ i. cond (at.whole i) (frame_answer (hello_of side (at.front i)) (at.len i)) More
 
-pub segment_in-frame : (frame more : List ℕ) → IsFrame Fpdu frame → segment_in (frame ++ more) ≡ judged (segment_of frame) (length frame)
+pub segment_in-frame : (frame more : List ℕ) → IsFrame Fpdu frame → segment_in (frame ++ more) ≡ frame_answer (segment_of frame) (length frame)
 unfolding segment_in
 segment_in-frame frame more f =
     let at = front_frame Fpdu frame more f in
-    λ i. cond (at.whole i) (judged (segment_of (at.front i)) (at.len i)) More
+    λ i. cond (at.whole i) (frame_answer (segment_of (at.front i)) (at.len i)) More

@@ -1,12 +1,12 @@
 -- What an answer says of the test, the reason and the value that it was made of.
 use Rattle.std.proofs.Common.{◌≡◌, ℕ, Bool, true, false, cond, Option, None, Some, refl, ◌↔◌}
-use Rattle.nr_wire.specs.Hello.{unless}
-use Rattle.nr_wire.specs.Next.{Next, IfWhole, judged}
+use Rattle.nr_wire.specs.Hello.{value_unless}
+use Rattle.nr_wire.specs.Next.{Next, IfWhole, frame_answer}
 use Rattle.nr_wire.specs.Next.Next.{Whole, More, Bad}
 
 -- the answer where a frame is whole, its flaw, its value and its length
 abbrev pub answer : {V : Type 0} → Bool → Option ℕ → V → ℕ → Next V
-answer whole flaw value len = cond whole (judged (unless flaw value) len) More
+answer whole flaw value len = cond whole (frame_answer (value_unless flaw value) len) More
 
 abbrev fine : {V : Type 0} → V → ℕ → Next V
 fine value len = Whole value len

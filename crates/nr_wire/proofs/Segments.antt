@@ -7,12 +7,13 @@ use Rattle.std.proofs.lemmas.Bool.Decides.{nat_tests}
 use Rattle.nr_xdr.specs.Item.{IsBytes, word, hyper}
 use Rattle.nr_xdr.proofs.WordBytes.{IsBytes-take, IsBytes-drop, word-word_of, word_of-word, word_of-below, hyper-hyper_of, hyper_of-hyper, hyper_of-below}
 use Rattle.nr_wire.specs.declared.stream.Awaited.TheVariants.{Fpdu}
-use Rattle.nr_wire.specs.Fields.{half_word, word_at, hyper_at}
-use Rattle.nr_wire.specs.Hello.{unless}
-use Rattle.nr_wire.specs.Segment.{Segment, Fits, IsSupported, Reads, flaw_by, segment_flaw, segment_of, read_as, is_tagged, is_last, ddp_version, rdmap_version, opcode_of, queue_of, queue_for, ulpdu_len, ulpdu_size, payload_of, header, framed, tail_len, fpdu_size, fpdu_len, is_tagged_opcode, is_untagged_opcode, is_supported, is_of_other_form, is_of_other_queue, header_len, encoding}
+use Rattle.nr_xdr.specs.Fields.{word_at}
+use Rattle.nr_wire.specs.Fields.{half_word, hyper_at}
+use Rattle.nr_wire.specs.Hello.{value_unless}
+use Rattle.nr_wire.specs.Segment.{Segment, Fits, IsSupported, Reads, flaw_by, segment_flaw, segment_of, segment_by_form, is_tagged, is_last, ddp_version, rdmap_version, opcode_of, queue_of, queue_for, ulpdu_len, ulpdu_size, payload_of, header, fpdu_with, tail_len, fpdu_size, fpdu_len, is_tagged_opcode, is_untagged_opcode, is_supported, is_of_other_form, is_of_other_queue, header_len, encoding}
 use Rattle.nr_wire.specs.Segment.Segment.{Tagged, Untagged}
 use Rattle.nr_wire.specs.Stream.{is_whole, IsFrame, IsPartial}
-use Rattle.nr_wire.specs.Next.{Next, judged, segment_in}
+use Rattle.nr_wire.specs.Next.{Next, frame_answer, segment_in}
 use Rattle.nr_wire.specs.Next.Next.{Whole, More, Bad}
 use Rattle.nr_wire.proofs.HalfWords.{half_word-half_word_of, half_word_of-half_word, half_word_of-below}
 use Rattle.nr_wire.proofs.Controls.{first_control, second_control, first_tagged, first_last, first_version, second_version, second_opcode, first_is, second_is}
@@ -56,17 +57,17 @@ record Says (frame : List ℕ) (segment : Segment) : Type 0 where
   said : segment_of frame ≡ Ok segment
   frame_is : IsFrame Fpdu frame
 
-says_by : (frame : List ℕ) (segment : Segment) (tagged : Bool) → segment_flaw frame ≡ None → is_tagged frame ≡ tagged → read_as tagged frame ≡ segment → segment_of frame ≡ Ok segment
+says_by : (frame : List ℕ) (segment : Segment) (tagged : Bool) → segment_flaw frame ≡ None → is_tagged frame ≡ tagged → segment_by_form tagged frame ≡ segment → segment_of frame ≡ Ok segment
 unfolding segment_of
-says_by frame segment tagged flaw t value = λ i. unless (flaw i) ((ap (λ (b : Bool). read_as b frame) t ∙ value) i)
+says_by frame segment tagged flaw t value = λ i. value_unless (flaw i) ((ap (λ (b : Bool). segment_by_form b frame) t ∙ value) i)
 
 tagged_says : (last : Bool) (opcode stag to : ℕ) (payload : List ℕ) (reserved spare : ℕ) (tail : List ℕ)
     → Fits (Tagged last opcode stag to payload) → 14 + length payload < 2 ^ 16 → is_tagged_opcode opcode ≡ true → reserved < 16 → spare < 4 → length tail ≡ tail_len (14 + length payload)
-    → Says (framed reserved spare tail (Tagged last opcode stag to payload)) (Tagged last opcode stag to payload)
+    → Says (fpdu_with reserved spare tail (Tagged last opcode stag to payload)) (Tagged last opcode stag to payload)
 unfolding half_word header word hyper fpdu_len fpdu_size
 tagged_says last opcode stag to payload reserved spare tail fits lt known r s tail_is =
     let segment = Tagged last opcode stag to payload in
-    let frame = framed reserved spare tail segment in
+    let frame = fpdu_with reserved spare tail segment in
     let n = 14 + length payload in
     let j : Judged frame n true opcode (queue_of frame) = record {
       size_is = half_word_of-half_word n lt;
@@ -77,7 +78,7 @@ tagged_says last opcode stag to payload reserved spare tail fits lt known r s ta
       queue_is = refl;
     } in
     let payload_is : payload_of 14 frame ≡ payload = ap (λ (k : ℕ). take (k - 14) (payload ++ tail)) j.size_is ∙ take_at payload tail (n - 14) (omega arith) in
-    let value : read_as true frame ≡ segment =
+    let value : segment_by_form true frame ≡ segment =
     λ i. Tagged (first_last reserved true last r i) (j.opcode_is i) (word_of-word stag fits.1 i) (hyper_of-hyper to fits.2 i) (payload_is i) in
     let flaw = flaw_is frame n true opcode (queue_of frame) j ∙ tagged_passes n opcode (queue_of frame) (omega arith) known in
     record {
@@ -91,11 +92,11 @@ tagged_says last opcode stag to payload reserved spare tail fits lt known r s ta
 untagged_says : (last : Bool) (opcode w queue msn offset : ℕ) (payload : List ℕ) (reserved spare : ℕ) (tail : List ℕ)
     → Fits (Untagged last opcode w queue msn offset payload) → 18 + length payload < 2 ^ 16 → is_untagged_opcode opcode ≡ true → queue ≡ queue_for opcode
     → reserved < 16 → spare < 4 → length tail ≡ tail_len (18 + length payload)
-    → Says (framed reserved spare tail (Untagged last opcode w queue msn offset payload)) (Untagged last opcode w queue msn offset payload)
+    → Says (fpdu_with reserved spare tail (Untagged last opcode w queue msn offset payload)) (Untagged last opcode w queue msn offset payload)
 unfolding half_word header word fpdu_len fpdu_size
 untagged_says last opcode w queue msn offset payload reserved spare tail fits lt known own r s tail_is =
     let segment = Untagged last opcode w queue msn offset payload in
-    let frame = framed reserved spare tail segment in
+    let frame = fpdu_with reserved spare tail segment in
     let n = 18 + length payload in
     let j : Judged frame n false opcode queue = record {
       size_is = half_word_of-half_word n lt;
@@ -106,7 +107,7 @@ untagged_says last opcode w queue msn offset payload reserved spare tail fits lt
       queue_is = word_of-word queue fits.2;
     } in
     let payload_is : payload_of 18 frame ≡ payload = ap (λ (k : ℕ). take (k - 18) (payload ++ tail)) j.size_is ∙ take_at payload tail (n - 18) (omega arith) in
-    let value : read_as false frame ≡ segment =
+    let value : segment_by_form false frame ≡ segment =
     λ i. Untagged (first_last reserved false last r i) (j.opcode_is i) (word_of-word w fits.1 i) (j.queue_is i) (word_of-word msn fits.3 i) (word_of-word offset fits.4 i) (payload_is i) in
     let flaw = flaw_is frame n false opcode queue j ∙ untagged_passes n opcode queue (omega arith) known own in
     record {
@@ -131,7 +132,7 @@ unfolding segment_in
 segment_again segment frame more through r =
     let s = says segment frame through r in
     let front = front_frame Fpdu frame more s.frame_is in
-    λ i. cond (front.whole i) (judged ((ap segment_of front.front ∙ s.said) i) (front.len i)) More
+    λ i. cond (front.whole i) (frame_answer ((ap segment_of front.front ∙ s.said) i) (front.len i)) More
 
 -- what a raw frame says, by itself
 pub segment_of-again : (segment : Segment) (frame : List ℕ) → IsSupported segment → Reads segment frame → segment_of frame ≡ Ok segment
@@ -222,7 +223,7 @@ record SegmentThere (segment : Segment) (frame : List ℕ) : Type 0 where
   through : IsSupported segment
   reads : Reads segment frame
 
-tagged_there : (frame : List ℕ) → IsBytes frame → IsFrame Fpdu frame → is_tagged frame ≡ true → segment_flaw frame ≡ None → SegmentThere (read_as true frame) frame
+tagged_there : (frame : List ℕ) → IsBytes frame → IsFrame Fpdu frame → is_tagged frame ≡ true → segment_flaw frame ≡ None → SegmentThere (segment_by_form true frame) frame
 unfolding half_word header word hyper
 tagged_there frame fits f t e =
     let p = passed_in frame true t e in
@@ -254,7 +255,7 @@ tagged_there frame fits f t e =
       };
     }
 
-untagged_there : (frame : List ℕ) → IsBytes frame → IsFrame Fpdu frame → is_tagged frame ≡ false → segment_flaw frame ≡ None → SegmentThere (read_as false frame) frame
+untagged_there : (frame : List ℕ) → IsBytes frame → IsFrame Fpdu frame → is_tagged frame ≡ false → segment_flaw frame ≡ None → SegmentThere (segment_by_form false frame) frame
 unfolding half_word header word
 untagged_there frame fits f t e =
     let p = passed_in frame false t e in
@@ -289,14 +290,14 @@ untagged_there frame fits f t e =
       };
     }
 
-there_by : (frame : List ℕ) (tagged : Bool) → IsBytes frame → IsFrame Fpdu frame → is_tagged frame ≡ tagged → segment_flaw frame ≡ None → SegmentThere (read_as tagged frame) frame
+there_by : (frame : List ℕ) (tagged : Bool) → IsBytes frame → IsFrame Fpdu frame → is_tagged frame ≡ tagged → segment_flaw frame ≡ None → SegmentThere (segment_by_form tagged frame) frame
 there_by frame true fits f t e = tagged_there frame fits f t e
 there_by frame false fits f t e = untagged_there frame fits f t e
 
 abbrev as_answer : List ℕ → Next Segment
 as_answer bytes =
     let frame = take (fpdu_len bytes) bytes in
-    answer (is_whole Fpdu bytes) (segment_flaw frame) (read_as (is_tagged frame) frame) (fpdu_len bytes)
+    answer (is_whole Fpdu bytes) (segment_flaw frame) (segment_by_form (is_tagged frame) frame) (fpdu_len bytes)
 
 segment_in-answer : (bytes : List ℕ) → segment_in bytes ≡ as_answer bytes
 unfolding segment_in segment_of
@@ -312,7 +313,7 @@ pub segment_found : (bytes : List ℕ) (segment : Segment) (len : ℕ) → IsByt
 segment_found bytes segment len fits e =
     let size = fpdu_len bytes in
     let frame = take size bytes in
-    let read = read_as (is_tagged frame) frame in
+    let read = segment_by_form (is_tagged frame) frame in
     let f = fine_from (is_whole Fpdu bytes) (segment_flaw frame) read segment size len (sym (segment_in-answer bytes) ∙ e) in
     let w = whole_from Fpdu bytes f.whole_is in
     let there = there_by frame (is_tagged frame) (IsBytes-take size bytes fits) (IsFrame-take Fpdu bytes w) refl f.flaw_is in
@@ -322,7 +323,7 @@ segment_found bytes segment len fits e =
 pub segment_more : (bytes : List ℕ) → (segment_in bytes ≡ More) ↔ IsPartial Fpdu bytes
 segment_more bytes =
     let frame = take (fpdu_len bytes) bytes in
-    let iff : (as_answer bytes ≡ More) ↔ (is_whole Fpdu bytes ≡ false) = more_iff (is_whole Fpdu bytes) (segment_flaw frame) (read_as (is_tagged frame) frame) (fpdu_len bytes) in
+    let iff : (as_answer bytes ≡ More) ↔ (is_whole Fpdu bytes ≡ false) = more_iff (is_whole Fpdu bytes) (segment_flaw frame) (segment_by_form (is_tagged frame) frame) (fpdu_len bytes) in
     let same = segment_in-answer bytes in (
       λ e. partial_from Fpdu bytes (iff.0 (sym same ∙ e)),
       λ p. same ∙ iff.1 (partial_not_whole Fpdu bytes p),
@@ -331,7 +332,7 @@ segment_more bytes =
 pub segment_bad : (bytes : List ℕ) (reason : ℕ) → (segment_in bytes ≡ Bad reason) ↔ ((is_whole Fpdu bytes ≡ true) × (segment_flaw (take (fpdu_len bytes) bytes) ≡ Some reason))
 segment_bad bytes reason =
     let frame = take (fpdu_len bytes) bytes in
-    rw (segment_in-answer bytes) (bad_iff (is_whole Fpdu bytes) (segment_flaw frame) (read_as (is_tagged frame) frame) (fpdu_len bytes) reason)
+    rw (segment_in-answer bytes) (bad_iff (is_whole Fpdu bytes) (segment_flaw frame) (segment_by_form (is_tagged frame) frame) (fpdu_len bytes) reason)
 
 encoded_reads : (segment : Segment) → Fits segment → ulpdu_size segment ≤ 65535 → Reads segment (encoding segment)
 unfolding encoding
@@ -360,8 +361,8 @@ failed reason = Err reason
 ok_is : (a b : Segment) → done a ≡ done b → a ≡ b
 ok_is a b e = cc
 
-says_which : (frame : List ℕ) (segment : Segment) (flaw : Option ℕ) → unless flaw (read_as (is_tagged frame) frame) ≡ Ok segment → (flaw ≡ None) × (read_as (is_tagged frame) frame ≡ segment)
-says_which frame segment None e = (refl, ok_is (read_as (is_tagged frame) frame) segment e)
+says_which : (frame : List ℕ) (segment : Segment) (flaw : Option ℕ) → value_unless flaw (segment_by_form (is_tagged frame) frame) ≡ Ok segment → (flaw ≡ None) × (segment_by_form (is_tagged frame) frame ≡ segment)
+says_which frame segment None e = (refl, ok_is (segment_by_form (is_tagged frame) frame) segment e)
 says_which frame segment (Some reason) e = absurd (let wrong : failed reason ≡ done segment = e in cc)
 
 -- what a whole FPDU says is what it reads as

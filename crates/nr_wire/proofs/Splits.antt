@@ -5,7 +5,7 @@ use Rattle.std.proofs.lemmas.Bool.{false_from_ne_true}
 use Rattle.std.proofs.lemmas.List.{length-drop, take_at, drop_at, take-append-drop, append-nil}
 use Rattle.nr_wire.specs.declared.stream.Awaited.{Awaited}
 use Rattle.nr_wire.specs.declared.stream.Awaited.TheVariants.{Fpdu}
-use Rattle.nr_wire.specs.Stream.{frame_len, is_whole, IsFrame, IsPartial, awaited_after, AreFrames, Splits, Split, behind, beyond, split_within, split}
+use Rattle.nr_wire.specs.Stream.{frame_len, is_whole, IsFrame, IsPartial, awaited_after, AreFrames, Splits, Split, frame_then, frames_then, split_within, split}
 use Rattle.nr_wire.proofs.Frames.{fields_some, fields_within, frame_len-append, Whole, whole_from, is_whole-from, whole-append, IsFrame-take, partial_not_whole, partial_from}
 
 abbrev nothing : List ℕ → Split
@@ -20,7 +20,7 @@ left_shorter a bytes n le = omega (arith, length-drop (frame_len a bytes) bytes,
 
 at_most : (n : ℕ) (a : Awaited) (bytes : List ℕ) → is_whole a bytes ≡ false → split_within (suc n) a bytes ≡ nothing bytes
 at_most n a bytes e =
-    ap (λ (w : Bool). cond w (behind (take (frame_len a bytes) bytes) (split_within n Fpdu (drop (frame_len a bytes) bytes))) (nothing bytes)) e
+    ap (λ (w : Bool). cond w (frame_then (take (frame_len a bytes) bytes) (split_within n Fpdu (drop (frame_len a bytes) bytes))) (nothing bytes)) e
 
 -- it is enough to allow as many frames as there are bytes
 enough : (n m : ℕ) (a : Awaited) (bytes : List ℕ) → length bytes ≤ n → length bytes ≤ m → split_within n a bytes ≡ split_within m a bytes
@@ -29,27 +29,27 @@ enough zero (suc m) a bytes p q = sym (at_most m a bytes (short_not_whole a byte
 enough (suc n) zero a bytes p q = at_most n a bytes (short_not_whole a bytes q)
 enough (suc n) (suc m) a bytes p q =
     let next = enough n m Fpdu (drop (frame_len a bytes) bytes) (left_shorter a bytes n p) (left_shorter a bytes m q) in
-    ap (λ (s : Split). cond (is_whole a bytes) (behind (take (frame_len a bytes) bytes) s) (nothing bytes)) next
+    ap (λ (s : Split). cond (is_whole a bytes) (frame_then (take (frame_len a bytes) bytes) s) (nothing bytes)) next
 
 one_more : (a : Awaited) (bytes : List ℕ) → split a bytes ≡ split_within (suc (length bytes)) a bytes
 unfolding split
 one_more a bytes = enough (length bytes) (suc (length bytes)) a bytes (omega arith) (omega arith)
 
-pub split-whole : (a : Awaited) (bytes : List ℕ) → is_whole a bytes ≡ true → split a bytes ≡ behind (take (frame_len a bytes) bytes) (split Fpdu (drop (frame_len a bytes) bytes))
+pub split-whole : (a : Awaited) (bytes : List ℕ) → is_whole a bytes ≡ true → split a bytes ≡ frame_then (take (frame_len a bytes) bytes) (split Fpdu (drop (frame_len a bytes) bytes))
 unfolding split
 split-whole a bytes e =
     let left = drop (frame_len a bytes) bytes in
     let le : length left ≤ length bytes = omega (arith, length-drop (frame_len a bytes) bytes) in
     one_more a bytes
-    ∙ ap (λ (w : Bool). cond w (behind (take (frame_len a bytes) bytes) (split_within (length bytes) Fpdu left)) (nothing bytes)) e
-    ∙ ap (behind (take (frame_len a bytes) bytes)) (enough (length bytes) (length left) Fpdu left le (omega arith))
+    ∙ ap (λ (w : Bool). cond w (frame_then (take (frame_len a bytes) bytes) (split_within (length bytes) Fpdu left)) (nothing bytes)) e
+    ∙ ap (frame_then (take (frame_len a bytes) bytes)) (enough (length bytes) (length left) Fpdu left le (omega arith))
 
 pub split-partial : (a : Awaited) (bytes : List ℕ) → is_whole a bytes ≡ false → split a bytes ≡ nothing bytes
 split-partial a bytes e =
     one_more a bytes ∙ at_most (length bytes) a bytes e
 
 -- a frame at the front
-pub split-frame : (a : Awaited) (frame more : List ℕ) → IsFrame a frame → split a (frame ++ more) ≡ behind frame (split Fpdu more)
+pub split-frame : (a : Awaited) (frame more : List ℕ) → IsFrame a frame → split a (frame ++ more) ≡ frame_then frame (split Fpdu more)
 split-frame a frame more f =
     let w : Whole a frame = record { fields = f.fields; frame = omega (arith, f.len) } in
     let bytes = frame ++ more in
@@ -57,8 +57,8 @@ split-frame a frame more f =
     let front : take (frame_len a bytes) bytes ≡ frame = ap (λ (n : ℕ). take n bytes) len ∙ take_at frame more (length frame) refl in
     let left : drop (frame_len a bytes) bytes ≡ more = ap (λ (n : ℕ). drop n bytes) len ∙ drop_at frame more (length frame) refl in
     split-whole a bytes (is_whole-from a bytes (whole-append a frame more w))
-    ∙ ap (λ (x : List ℕ). behind x (split Fpdu (drop (frame_len a bytes) bytes))) front
-    ∙ ap (λ (x : List ℕ). behind frame (split Fpdu x)) left
+    ∙ ap (λ (x : List ℕ). frame_then x (split Fpdu (drop (frame_len a bytes) bytes))) front
+    ∙ ap (λ (x : List ℕ). frame_then frame (split Fpdu x)) left
 
 abbrev AsSplit : Awaited → List ℕ → Split → Type 0
 AsSplit a stream s = Splits a stream s.frames s.rest
@@ -94,19 +94,19 @@ pub split-Splits : (a : Awaited) (stream : List ℕ) → Splits a stream (split 
 split-Splits a stream = splits_below (length stream) a stream (omega arith) (is_whole a stream) refl
 
 -- frames before some bytes
-pub split-frames : (a : Awaited) (frames : List (List ℕ)) (more : List ℕ) → AreFrames a frames → split a (concat frames ++ more) ≡ beyond frames (split (awaited_after a frames) more)
+pub split-frames : (a : Awaited) (frames : List (List ℕ)) (more : List ℕ) → AreFrames a frames → split a (concat frames ++ more) ≡ frames_then frames (split (awaited_after a frames) more)
 split-frames a [] more each = refl
 split-frames a (frame ∷ frames) more each =
     ap (split a) (append_assoc frame (concat frames) more)
     ∙ split-frame a frame (concat frames ++ more) each.0
-    ∙ ap (behind frame) (split-frames Fpdu frames more each.1)
-    ∙ ap (λ (b : Awaited). beyond (frame ∷ frames) (split b more)) (awaited_after-Fpdu frames)
+    ∙ ap (frame_then frame) (split-frames Fpdu frames more each.1)
+    ∙ ap (λ (b : Awaited). frames_then (frame ∷ frames) (split b more)) (awaited_after-Fpdu frames)
 
 pub split-only : (a : Awaited) (stream : List ℕ) (frames : List (List ℕ)) (rest : List ℕ) → Splits a stream frames rest → split a stream ≡ record { frames = frames; rest = rest }
 split-only a stream frames rest s =
     ap (split a) s.whole
     ∙ split-frames a frames rest s.each
-    ∙ ap (beyond frames) (split-partial (awaited_after a frames) rest (partial_not_whole (awaited_after a frames) rest s.partial))
+    ∙ ap (frames_then frames) (split-partial (awaited_after a frames) rest (partial_not_whole (awaited_after a frames) rest s.partial))
     ∙ ap (λ (fs : List (List ℕ)). record { frames = fs; rest = rest }) (append-nil frames)
 
 pub one_split : (a : Awaited) (stream : List ℕ) (frames others : List (List ℕ)) (rest left : List ℕ) → Splits a stream frames rest → Splits a stream others left → (frames ≡ others) × (rest ≡ left)
@@ -114,7 +114,7 @@ one_split a stream frames others rest left s t =
     let same : ◌≡◌ {A = Split} (record { frames = frames; rest = rest }) (record { frames = others; rest = left }) = sym (split-only a stream frames rest s) ∙ split-only a stream others left t in
     (ap (λ (x : Split). x.frames) same, ap (λ (x : Split). x.rest) same)
 
-pub split-append : (a : Awaited) (x y : List ℕ) → split a (x ++ y) ≡ beyond (split a x).frames (split (awaited_after a (split a x).frames) ((split a x).rest ++ y))
+pub split-append : (a : Awaited) (x y : List ℕ) → split a (x ++ y) ≡ frames_then (split a x).frames (split (awaited_after a (split a x).frames) ((split a x).rest ++ y))
 split-append a x y =
     let s = split a x in
     let is = split-Splits a x in

@@ -22,7 +22,7 @@ key Responder = codes "MPA ID Rep Frame"
 unfoldable pub hello_encoding : Hello → List ℕ
 hello_encoding hello = key hello.side ++ (hello.flags ∷ HELLO_REVISION ∷ half_word (length hello.private)) ++ hello.private
 
--- the fields behind the key
+-- the fields after the key
 abbrev pub flags_of : List ℕ → ℕ
 flags_of head = slice_index head 16
 
@@ -32,7 +32,7 @@ revision_of head = slice_index head 17
 abbrev pub private_len : List ℕ → ℕ
 private_len head = half_word_at 18 head
 
--- the flags ask for what this link doesn't do: markers or a CRC; a reply also refuses by the reject flag
+-- whether the flags refuse the link: they ask for markers or a CRC, which it doesn't do, or a reply rejects the connection
 abbrev pub is_refused_by : Side → ℕ → Bool
 is_refused_by Initiator flags = has_bit FLAG_MARKERS flags || has_bit FLAG_CRC flags
 is_refused_by Responder flags = has_bit FLAG_MARKERS flags || has_bit FLAG_CRC flags || has_bit FLAG_REJECT flags
@@ -41,7 +41,7 @@ is_refused_by Responder flags = has_bit FLAG_MARKERS flags || has_bit FLAG_CRC f
 abbrev pub IsAccepted : Hello → Type 0
 IsAccepted hello = (is_refused_by hello.side hello.flags ≡ false) × (length hello.private ≤ PRIVATE_MAX)
 
--- why a hello of this side with these first 20 bytes is refused: the first that stands in this order
+-- why a hello of this side with these first 20 bytes is refused: the first reason that applies, in this order
 unfoldable pub hello_flaw : Side → List ℕ → Option ℕ
 hello_flaw side head =
     if not (starts_with nat_eq head (key side)) then Some REASON_KEY
@@ -50,17 +50,17 @@ hello_flaw side head =
     else (if nat_lt PRIVATE_MAX (private_len head) then Some REASON_PRIVATE
     else None)))
 
--- a value, unless a reason stands against it
-abbrev pub unless : {V : Type 0} → Option ℕ → V → Result V ℕ
-unless None value = Ok value
-unless (Some reason) value = Err reason
+-- a value, unless there is a reason against it
+abbrev pub value_unless : {V : Type 0} → Option ℕ → V → Result V ℕ
+value_unless None value = Ok value
+value_unless (Some reason) value = Err reason
 
--- what a whole hello frame of this side says, or why it is refused
+-- the hello that a whole frame of this side holds, or why it is refused
 unfoldable pub hello_of : Side → List ℕ → Result Hello ℕ
 hello_of side frame =
-    unless (hello_flaw side (take HELLO_LEN frame)) (record { side = side; flags = flags_of frame; private = drop HELLO_LEN frame })
+    value_unless (hello_flaw side (take HELLO_LEN frame)) (record { side = side; flags = flags_of frame; private = drop HELLO_LEN frame })
 
--- How many bytes the frame has. A refused hello is its first 20 bytes, whatever its private length says.
+-- the length of the frame: a refused hello is its first 20 bytes, whatever its private length says
 abbrev pub hello_size : Option ℕ → ℕ → ℕ
 hello_size None private = HELLO_LEN + private
 hello_size (Some reason) private = HELLO_LEN

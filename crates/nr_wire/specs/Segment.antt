@@ -2,15 +2,16 @@
 use Rattle.std.specs.Prelude.{ℕ, ◌+◌, ◌-◌, ◌*◌, ◌/◌, ◌%◌, Bool, true, false, not, ◌||◌, ◌==◌, nat_lt, if◌then◌else◌, List, [], ◌∷◌, ◌++◌, length, replicate, take, drop, slice_index, Option, None, Some, Result, ◌<◌, ◌≤◌, ◌≡◌, ◌^◌, IsTrue}
 use Rattle.nr_xdr.specs.Item.{bit, word, hyper, pad_len}
 use Rattle.nr_wire.specs.Constants.{LENGTH_LEN, CRC_LEN, TAGGED_LEN, UNTAGGED_LEN, BIT_TAGGED, BIT_LAST, DDP_VERSION, RDMAP_VERSION, OPCODE_WRITE, OPCODE_READ_REQUEST, OPCODE_READ_RESPONSE, OPCODE_SEND, OPCODE_TERMINATE, QUEUE_SEND, QUEUE_READ_REQUEST, QUEUE_TERMINATE, REASON_LENGTH, REASON_DDP_VERSION, REASON_RDMAP_VERSION, REASON_OPCODE, REASON_TAGGED, REASON_QUEUE, ULPDU_MAX}
-use Rattle.nr_wire.specs.Fields.{half_word, half_word_at, word_at, hyper_at, has_bit}
-use Rattle.nr_wire.specs.Hello.{unless}
+use Rattle.nr_xdr.specs.Fields.{word_at}
+use Rattle.nr_wire.specs.Fields.{half_word, half_word_at, hyper_at, has_bit}
+use Rattle.nr_wire.specs.Hello.{value_unless}
 
 -- a segment without where it lies in memory
 pub data Segment : Type 0 where
   Tagged : (last : Bool) → (opcode stag to : ℕ) → (payload : List ℕ) → Segment
   Untagged : (last : Bool) → (opcode word queue msn offset : ℕ) → (payload : List ℕ) → Segment
 
--- The opcodes let through, each with its form. Of the tagged ones the payload goes to memory of the receiver.
+-- The supported opcodes, each in its form. The payload of a tagged segment goes to memory of the receiver.
 abbrev pub is_tagged_opcode : ℕ → Bool
 is_tagged_opcode opcode = opcode == OPCODE_WRITE || opcode == OPCODE_READ_RESPONSE
 
@@ -27,11 +28,11 @@ queue_for opcode =
     else (if opcode == OPCODE_TERMINATE then QUEUE_TERMINATE
     else QUEUE_SEND)
 
--- how many bytes an FPDU has behind an ULPDU of n bytes: the pad to a multiple of four, and the CRC
+-- how many bytes of an FPDU follow an ULPDU of n bytes: the pad to a multiple of four, and the CRC
 abbrev pub tail_len : ℕ → ℕ
 tail_len n = pad_len (LENGTH_LEN + n) + CRC_LEN
 
--- how many bytes an FPDU has: the length field, an ULPDU of n bytes, and what comes behind it
+-- the length of an FPDU: the length field, an ULPDU of n bytes, the pad and the CRC
 unfoldable pub fpdu_size : ℕ → ℕ
 fpdu_size n = LENGTH_LEN + n + tail_len n
 
@@ -62,21 +63,21 @@ abbrev pub opcode_in : Segment → ℕ
 opcode_in (Tagged last opcode stag to payload) = opcode
 opcode_in (Untagged last opcode w queue msn offset payload) = opcode
 
--- how many bytes the ULPDU of a segment has
+-- the length of a segment's ULPDU
 abbrev pub ulpdu_size : Segment → ℕ
 ulpdu_size (Tagged last opcode stag to payload) = TAGGED_LEN + length payload
 ulpdu_size (Untagged last opcode w queue msn offset payload) = UNTAGGED_LEN + length payload
 
 -- the FPDU of a segment, with these reserved bits, pad and CRC
-abbrev pub framed : ℕ → ℕ → List ℕ → Segment → List ℕ
-framed reserved spare tail segment =
+abbrev pub fpdu_with : ℕ → ℕ → List ℕ → Segment → List ℕ
+fpdu_with reserved spare tail segment =
     half_word (ulpdu_size segment) ++ header reserved spare segment ++ payload_in segment ++ tail
 
 -- the bytes of a segment: reserved bits, pad and CRC are zeros
 unfoldable pub encoding : Segment → List ℕ
-encoding segment = framed 0 0 (replicate (tail_len (ulpdu_size segment)) 0) segment
+encoding segment = fpdu_with 0 0 (replicate (tail_len (ulpdu_size segment)) 0) segment
 
--- what has an encoding, beside the ranges of the numbers
+-- what has an encoding, apart from the ranges of the numbers
 abbrev pub IsWritable : Segment → Type 0
 IsWritable segment = (opcode_in segment < 16) × (ulpdu_size segment ≤ ULPDU_MAX)
 
@@ -86,12 +87,12 @@ Fits (Tagged last opcode stag to payload) = (opcode < 16) × (stag < 2 ^ 32) × 
 Fits (Untagged last opcode w queue msn offset payload) =
     (opcode < 16) × (w < 2 ^ 32) × (queue < 2 ^ 32) × (msn < 2 ^ 32) × (offset < 2 ^ 32)
 
--- a segment's opcode is one that is let through, in its own form and queue
+-- the segment's opcode is supported, and it has that opcode's form and queue
 abbrev pub IsSupported : Segment → Type 0
 IsSupported (Tagged last opcode stag to payload) = IsTrue (is_tagged_opcode opcode)
 IsSupported (Untagged last opcode w queue msn offset payload) = IsTrue (is_untagged_opcode opcode) × (queue ≡ queue_for opcode)
 
--- the FPDU reads as the segment: it encodes it, whatever its reserved bits, pad and CRC hold
+-- the FPDU encodes the segment, whatever its reserved bits, pad and CRC hold
 pub record Reads (segment : Segment) (frame : List ℕ) : Type 0 where
   pub fits : Fits segment
   pub size : ulpdu_size segment ≤ ULPDU_MAX
@@ -101,7 +102,7 @@ pub record Reads (segment : Segment) (frame : List ℕ) : Type 0 where
   pub spare_below : spare < 4
   pub tail : List ℕ
   pub tail_is : length tail ≡ tail_len (ulpdu_size segment)
-  pub frame_is : frame ≡ framed reserved spare tail segment
+  pub frame_is : frame ≡ fpdu_with reserved spare tail segment
 
 -- the fields of a whole FPDU
 abbrev pub is_tagged : List ℕ → Bool
@@ -119,24 +120,25 @@ rdmap_version frame = slice_index frame 3 / 64
 abbrev pub opcode_of : List ℕ → ℕ
 opcode_of frame = slice_index frame 3 % 16
 
--- how many bytes a header has
+-- the length of a header
 abbrev pub header_len : Bool → ℕ
 header_len tagged = if tagged then TAGGED_LEN else UNTAGGED_LEN
 
--- the payload: what the ULPDU has behind a header of n bytes
+-- the payload: the bytes of the ULPDU after a header of n bytes
 abbrev pub payload_of : ℕ → List ℕ → List ℕ
 payload_of n frame = take (ulpdu_len frame - n) (drop (LENGTH_LEN + n) frame)
 
 abbrev pub queue_of : List ℕ → ℕ
 queue_of frame = word_at 8 frame
 
-abbrev pub read_as : Bool → List ℕ → Segment
-read_as true frame =
+-- the segment that a frame holds, read in the tagged or in the untagged form
+abbrev pub segment_by_form : Bool → List ℕ → Segment
+segment_by_form true frame =
     Tagged (is_last frame) (opcode_of frame) (word_at 4 frame) (hyper_at 8 frame) (payload_of TAGGED_LEN frame)
-read_as false frame =
+segment_by_form false frame =
     Untagged (is_last frame) (opcode_of frame) (word_at 4 frame) (queue_of frame) (word_at 12 frame) (word_at 16 frame) (payload_of UNTAGGED_LEN frame)
 
--- the tagged bit or, of an untagged FPDU, the queue isn't the opcode's
+-- whether the tagged bit, or the queue of an untagged FPDU, isn't the opcode's
 abbrev pub is_of_other_form : Bool → ℕ → Bool
 is_of_other_form true opcode = not (is_tagged_opcode opcode)
 is_of_other_form false opcode = is_tagged_opcode opcode
@@ -145,8 +147,8 @@ abbrev pub is_of_other_queue : Bool → ℕ → ℕ → Bool
 is_of_other_queue true opcode queue = false
 is_of_other_queue false opcode queue = not (queue == queue_for opcode)
 
--- Why an FPDU with these fields is refused: the first that stands in this order. (An ULPDU below two bytes is below both
--- headers.)
+-- Why an FPDU with these fields is refused: the first reason that applies, in this order. (An ULPDU below two bytes is shorter
+-- than either header.)
 abbrev pub flaw_by : (size : ℕ) → (tagged : Bool) → (ddp rdmap opcode queue : ℕ) → Option ℕ
 flaw_by size tagged ddp rdmap opcode queue =
     if nat_lt size (header_len tagged) then Some REASON_LENGTH
@@ -161,6 +163,6 @@ unfoldable pub segment_flaw : List ℕ → Option ℕ
 segment_flaw frame =
     flaw_by (ulpdu_len frame) (is_tagged frame) (ddp_version frame) (rdmap_version frame) (opcode_of frame) (queue_of frame)
 
--- what a whole FPDU says, or why it is refused
+-- the segment that a whole FPDU holds, or why it is refused
 unfoldable pub segment_of : List ℕ → Result Segment ℕ
-segment_of frame = unless (segment_flaw frame) (read_as (is_tagged frame) frame)
+segment_of frame = value_unless (segment_flaw frame) (segment_by_form (is_tagged frame) frame)

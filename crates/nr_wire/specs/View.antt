@@ -30,7 +30,7 @@ next_segment (WholeSegment s len) = Whole (segment s) len
 next_segment MoreSegment = More
 next_segment (BadSegment reason) = Bad reason
 
--- an answer with its value seen so
-abbrev pub shown : {X Y : Type 0} → (X → Y) → Result X ℕ → Result Y ℕ
-shown view (Ok x) = Ok (view x)
-shown view (Err reason) = Err reason
+-- the result, with its value seen by view
+abbrev pub result_view : {X Y : Type 0} → (X → Y) → Result X ℕ → Result Y ℕ
+result_view view (Ok x) = Ok (view x)
+result_view view (Err reason) = Err reason

@@ -4,7 +4,7 @@
 pub const HELLO_LEN: usize = 20;
 /// The revision of MPA that a hello names.
 pub const HELLO_REVISION: u8 = 1;
-/// The most private data that a hello may have, in bytes.
+/// The most bytes of private data in a hello.
 pub const PRIVATE_MAX: u16 = 512;
 /// The flag by which a hello asks for markers.
 pub const FLAG_MARKERS: u8 = 0x80;
@@ -17,7 +17,7 @@ pub const FLAG_REJECT: u8 = 0x20;
 pub const LENGTH_LEN: usize = 2;
 /// Bytes of the CRC field that ends an FPDU.
 pub const CRC_LEN: usize = 4;
-/// The most bytes that an ULPDU may have: its length has 16 bits.
+/// The most bytes in an ULPDU: its length field has 16 bits.
 pub const ULPDU_MAX: usize = 65535;
 /// Bytes of the longest FPDU.
 pub const FPDU_MAX: usize = LENGTH_LEN + ULPDU_MAX + 3 + CRC_LEN;
@@ -67,9 +67,9 @@ pub const REASON_LENGTH: u32 = 5;
 pub const REASON_DDP_VERSION: u32 = 6;
 /// A segment is of another version of RDMAP.
 pub const REASON_RDMAP_VERSION: u32 = 7;
-/// A segment's opcode isn't one that is let through.
+/// A segment's opcode isn't supported.
 pub const REASON_OPCODE: u32 = 8;
-/// A segment is tagged and its opcode isn't, or the other way round.
+/// A segment is tagged and its opcode isn't, or the reverse.
 pub const REASON_TAGGED: u32 = 9;
 /// An untagged segment stands in a queue that isn't its opcode's.
 pub const REASON_QUEUE: u32 = 10;

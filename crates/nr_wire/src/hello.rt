@@ -6,7 +6,7 @@ ghost use Rattle.nr_wire.specs.Next.Next.{Whole, More, Bad};
 ghost use Rattle.std.specs.Prelude.{◌≡◌, ℕ, ◌+◌, ◌<◌, ◌≤◌, length, take, ◌↔◌, List, ◌++◌, IfNone};
 ghost use Rattle.nr_wire.specs.Hello.{key, is_refused_by, hello_flaw, hello_of, hello_len, Hello as PlainHello, IsAccepted, hello_encoding, private_len};
 ghost use Rattle.nr_wire.specs.Next.{hello_in, IfWhole};
-ghost use Rattle.nr_wire.specs.View.{hello as plain, next_hello, shown};
+ghost use Rattle.nr_wire.specs.View.{hello as plain, next_hello, result_view};
 
 use crate::constants::{
     FLAG_CRC, FLAG_MARKERS, FLAG_REJECT, HELLO_LEN, HELLO_REVISION, PRIVATE_MAX, REASON_FLAGS,
@@ -23,26 +23,26 @@ pub enum Side {
 }
 
 /// The first frame that a side sends (RFC 5044 section 7.1): an initiator's request, a responder's reply. `flags` is the
-/// byte as it stands, `private` the data for the layer above, of at most 512 bytes.
-#[derive(Clone, Copy, Debug, PartialEq, Eq)]
+/// byte unchanged, `private` the private data for the layer above, at most 512 bytes.
+#[derive(Clone, Copy)]
 pub struct Hello<'a> {
     pub side: Side,
     pub flags: u8,
     pub private: &'a [u8],
 }
 
-/// What stands at the front of some bytes in a hello's place.
-#[derive(Clone, Copy, Debug, PartialEq, Eq)]
+/// What the bytes begin with, where a hello is awaited.
+#[derive(Clone, Copy)]
 pub enum NextHello<'a> {
     /// A hello, in the first `len` bytes.
     Whole { hello: Hello<'a>, len: usize },
     /// Less than a whole hello.
     More,
-    /// A hello that is refused: the first of the reasons 1 to 4 that stands.
+    /// A hello that is refused: the first of the reasons 1 to 4 that applies.
     Bad { reason: u32 },
 }
 
-/// What opens a hello of this side.
+/// The 16 bytes that open a hello of this side.
 #[tactic(auto, unfolding(crate::specs::Hello::key))]
 pub fn key(side: Side) -> &'static [u8]
     ensures { result.now ≡ key side }
@@ -85,7 +85,7 @@ fn flaw(side: Side, head: &[u8]) -> Option<u32>
     None
 }
 
-/// How many bytes the hello has that these begin: 20 where it is refused.
+/// The length of the hello that these bytes begin: 20 if it is refused.
 #[tactic(auto, unfolding(crate::specs::Hello::hello_len))]
 pub fn hello_len(side: Side, bytes: &[u8]) -> usize
     requires { HELLO_LEN ≤ length bytes.now }
@@ -99,11 +99,11 @@ pub fn hello_len(side: Side, bytes: &[u8]) -> usize
     }
 }
 
-/// What a whole hello says, or the reason for which it is refused.
+/// The hello that a whole frame holds, or the reason for which it is refused.
 #[tactic(auto, unfolding(crate::specs::Hello::hello_of))]
 fn hello_of(side: Side, frame: &[u8]) -> Result<Hello<'_>, u32>
     requires { HELLO_LEN ≤ length frame.now }
-    ensures { shown plain result ≡ hello_of side frame.now }
+    ensures { result_view plain result ≡ hello_of side frame.now }
 {
     let (head, private) = frame.split_at(HELLO_LEN);
     match flaw(side, head) {
@@ -116,9 +116,9 @@ fn hello_of(side: Side, frame: &[u8]) -> Result<Hello<'_>, u32>
     }
 }
 
-/// Reads the hello of `side` at the front of some bytes (RFC 5044 section 7.1). It is `More` exactly where they are less
-/// than a whole hello by its private length, and `Bad` for the first of the reasons 1 to 4 that stands in its first 20
-/// bytes, once these are there.
+/// Reads the hello of `side` at the front of some bytes (RFC 5044 section 7.1). `Bad`: 20 bytes or more are there, and the
+/// first 20 give one of the reasons 1 to 4; the first that applies. `More`: exactly where fewer than 20 bytes are there, or
+/// fewer than its private length says.
 pub fn read_hello(side: Side, bytes: &[u8]) -> NextHello<'_>
     // What is read is encoded so.
     ensures found { IfWhole (next_hello result) (λ hello len. (hello.side ≡ side) × IsAccepted hello
@@ -132,11 +132,11 @@ pub fn read_hello(side: Side, bytes: &[u8]) -> NextHello<'_>
         ↔ ((HELLO_LEN ≤ length bytes.now) × (hello_flaw side (take HELLO_LEN bytes.now) ≡ Some reason)) }
     ensures exact { next_hello result ≡ hello_in side bytes.now }
 {
-    first_hello(side, bytes)
+    read_hello_inner(side, bytes)
 }
 
 #[tactic(auto, unfolding(crate::specs::Next::hello_in))]
-fn first_hello(side: Side, bytes: &[u8]) -> NextHello<'_>
+fn read_hello_inner(side: Side, bytes: &[u8]) -> NextHello<'_>
     ensures { next_hello result ≡ hello_in side bytes.now }
 {
     let Some(len) = whole_frame(Awaited::Hello(side), bytes) else {

@@ -5,9 +5,9 @@ ghost use Rattle.nr_wire.specs.Stream.{IsPartial, is_whole};
 ghost use Rattle.nr_wire.specs.Next.Next.{Whole, More, Bad};
 ghost use Rattle.std.specs.Prelude.{◌≡◌, ◌+◌, ◌-◌, ◌<◌, ◌≤◌, length, IfNone, ℕ, ◌↔◌, List, ◌++◌, take, IsTrue};
 ghost use Rattle.nr_xdr.specs.Item.{pad_len};
-ghost use Rattle.nr_wire.specs.Segment.{fpdu_size, fpdu_len, tail_len, ulpdu_len, header_len, is_tagged, is_tagged_opcode, is_supported, queue_for, is_of_other_form, segment_flaw, segment_of, read_as, Segment as PlainSegment, IsSupported, Reads};
+ghost use Rattle.nr_wire.specs.Segment.{fpdu_size, fpdu_len, tail_len, ulpdu_len, header_len, is_tagged, is_tagged_opcode, is_supported, queue_for, is_of_other_form, segment_flaw, segment_of, segment_by_form, Segment as PlainSegment, IsSupported, Reads};
 ghost use Rattle.nr_wire.specs.Next.{segment_in, IfWhole};
-ghost use Rattle.nr_wire.specs.View.{segment as plain, next_segment, shown};
+ghost use Rattle.nr_wire.specs.View.{segment as plain, next_segment, result_view};
 
 use crate::constants::{
     BIT_LAST, BIT_TAGGED, CRC_LEN, DDP_VERSION, LENGTH_LEN, OPCODE_READ_REQUEST,
@@ -16,13 +16,13 @@ use crate::constants::{
     REASON_QUEUE, REASON_RDMAP_VERSION, REASON_TAGGED, TAGGED_LEN, UNTAGGED_LEN,
 };
 use crate::stream::{Awaited, whole_frame};
-use crate::words::{half_word_at, has_bit, hyper_at, word_at};
+use crate::words::{half_word_at, has_bit, hyper_at};
+use nr_xdr::word_at;
 
-/// A segment. `last` says that it ends its message; `opcode` is the kind of message (RFC 5040 section 4). A tagged
-/// segment's payload goes to memory of its receiver, which `stag` names, from the byte `to` on. An untagged one is
-/// number `msn` of its queue, and its payload stands in that message from the byte `offset` on; `word` has a meaning
-/// for few opcodes.
-#[derive(Clone, Copy, Debug, PartialEq, Eq)]
+/// A DDP segment. `last` says that it ends its message; `opcode` is the kind of message (RFC 5040 section 4). The payload of
+/// a tagged segment goes to the memory that `stag` names at the receiver, from byte `to` on. An untagged segment belongs to
+/// message `msn` of its queue, and its payload begins at byte `offset` of that message; few opcodes use `word`.
+#[derive(Clone, Copy)]
 pub enum Segment<'a> {
     Tagged {
         last: bool,
@@ -42,18 +42,18 @@ pub enum Segment<'a> {
     },
 }
 
-/// What stands at the front of some bytes in an FPDU's place.
-#[derive(Clone, Copy, Debug, PartialEq, Eq)]
+/// What the bytes begin with, where an FPDU is awaited.
+#[derive(Clone, Copy)]
 pub enum NextSegment<'a> {
     /// A segment, in the first `len` bytes.
     Whole { segment: Segment<'a>, len: usize },
     /// Less than a whole FPDU.
     More,
-    /// An FPDU that is refused: the first of the reasons 5 to 10 that stands.
+    /// An FPDU that is refused: the first of the reasons 5 to 10 that applies.
     Bad { reason: u32 },
 }
 
-/// How many bytes an FPDU has behind an ULPDU of `len` bytes: the pad and the CRC.
+/// How many bytes of an FPDU follow an ULPDU of `len` bytes: the pad and the CRC.
 #[tactic(auto, unfolding(nr_xdr::specs::Item::pad_len))]
 pub fn tail_len(len: u16) -> usize
     ensures is { result ≡ tail_len len }
@@ -63,7 +63,7 @@ pub fn tail_len(len: u16) -> usize
     (4 - (LENGTH_LEN + usize::from(len)) % 4) % 4 + CRC_LEN
 }
 
-/// How many bytes an FPDU has whose ULPDU has `len` bytes.
+/// The length of an FPDU whose ULPDU has `len` bytes.
 #[tactic(auto, unfolding(crate::specs::Segment::fpdu_size))]
 pub fn fpdu_size(len: u16) -> usize
     ensures is { result ≡ fpdu_size len }
@@ -72,7 +72,7 @@ pub fn fpdu_size(len: u16) -> usize
     LENGTH_LEN + usize::from(len) + tail_len(len)
 }
 
-/// How many bytes the FPDU has that these begin.
+/// The length of the FPDU that these bytes begin.
 #[tactic(auto, unfolding(crate::specs::Segment::fpdu_len))]
 pub fn fpdu_len(bytes: &[u8]) -> usize
     requires { LENGTH_LEN ≤ length bytes.now }
@@ -154,16 +154,16 @@ fn flaw(frame: &[u8]) -> Option<u32>
     None
 }
 
-/// The fields of a tagged or of an untagged segment.
-fn read_as(tagged: bool, frame: &[u8]) -> Segment<'_>
+/// The segment that a frame holds, read in the tagged or in the untagged form.
+fn segment_by_form(tagged: bool, frame: &[u8]) -> Segment<'_>
     requires control { 4 ≤ length frame.now }
     requires header { header_len tagged ≤ ulpdu_len frame.now }
     requires whole { LENGTH_LEN + ulpdu_len frame.now ≤ length frame.now }
-    ensures { plain result ≡ read_as tagged frame.now }
+    ensures { plain result ≡ segment_by_form tagged frame.now }
 {
     let len = usize::from(half_word_at(frame, 0)) - header_len(tagged);
-    let (_, behind) = frame.split_at(LENGTH_LEN + header_len(tagged));
-    let (payload, _) = behind.split_at(len);
+    let (_, after) = frame.split_at(LENGTH_LEN + header_len(tagged));
+    let (payload, _) = after.split_at(len);
     let last = has_bit(BIT_LAST, frame[2]);
     let opcode = frame[3] % 16;
     if tagged {
@@ -187,21 +187,22 @@ fn read_as(tagged: bool, frame: &[u8]) -> Segment<'_>
     }
 }
 
-/// What a whole FPDU says, or the reason for which it is refused.
+/// The segment that a whole FPDU holds, or the reason for which it is refused.
 #[tactic(auto, unfolding(crate::specs::Segment::segment_of))]
 fn segment_of(frame: &[u8]) -> Result<Segment<'_>, u32>
     requires control { 4 ≤ length frame.now }
     requires whole { LENGTH_LEN + ulpdu_len frame.now ≤ length frame.now }
-    ensures { shown plain result ≡ segment_of frame.now }
+    ensures { result_view plain result ≡ segment_of frame.now }
 {
     match flaw(frame) {
-        None => Ok(read_as(has_bit(BIT_TAGGED, frame[2]), frame)),
+        None => Ok(segment_by_form(has_bit(BIT_TAGGED, frame[2]), frame)),
         Some(reason) => Err(reason),
     }
 }
 
-/// Reads the FPDU at the front of some bytes (RFC 5044 section 4). It is `More` exactly where they are less than a whole
-/// one by its length field, and `Bad` for the first of the reasons 5 to 10 that stands. The payload is a part of the bytes.
+/// Reads the FPDU at the front of some bytes (RFC 5044 section 4). `More`: exactly where fewer bytes are there than its
+/// length field says. `Bad`: a whole one is there that is refused; the first of the reasons 5 to 10 that applies. The payload
+/// is a part of the bytes.
 pub fn next_segment(bytes: &[u8]) -> NextSegment<'_>
     // What is read is encoded so, up to its reserved bits, pad and CRC.
     ensures found { IfWhole (next_segment result) (λ segment len. IsSupported segment
@@ -215,11 +216,11 @@ pub fn next_segment(bytes: &[u8]) -> NextSegment<'_>
         ↔ (IsTrue (is_whole Awaited.Fpdu bytes.now) × (segment_flaw (take (fpdu_len bytes.now) bytes.now) ≡ Some reason)) }
     ensures exact { next_segment result ≡ segment_in bytes.now }
 {
-    first_segment(bytes)
+    next_segment_inner(bytes)
 }
 
 #[tactic(auto, unfolding(crate::specs::Next::segment_in))]
-fn first_segment(bytes: &[u8]) -> NextSegment<'_>
+fn next_segment_inner(bytes: &[u8]) -> NextSegment<'_>
     ensures { next_segment result ≡ segment_in bytes.now }
 {
     let Some(len) = whole_frame(Awaited::Fpdu, bytes) else {

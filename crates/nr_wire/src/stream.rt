@@ -9,7 +9,7 @@ use crate::hello::{Side, hello_len};
 use crate::segment::fpdu_len;
 
 /// What comes next in a stream: the hello of a side, and after it FPDUs.
-#[derive(Clone, Copy, Debug, PartialEq, Eq)]
+#[derive(Clone, Copy)]
 pub enum Awaited {
     Hello(Side),
     Fpdu,
@@ -35,18 +35,18 @@ fn frame_len(awaited: Awaited, bytes: &[u8]) -> usize
     }
 }
 
-/// How many of the bytes are the awaited frame, or `None` exactly where they are less than a whole one.
+/// The length of the awaited frame at the front of the bytes. `None` exactly where they are less than a whole frame.
 pub fn whole_frame(awaited: Awaited, bytes: &[u8]) -> Option<usize>
     ensures frame { IfSome result (λ len. IsFrame awaited (take len bytes.now) × (len ≤ length bytes.now)) }
     ensures partial { IsNone result ↔ IsPartial awaited bytes.now }
     ensures bound { IfSome result (λ len. len ≤ FPDU_MAX) }
     ensures exact { result ≡ (if is_whole awaited bytes.now then Some (frame_len awaited bytes.now) else None) }
 {
-    first_frame(awaited, bytes)
+    whole_frame_inner(awaited, bytes)
 }
 
 #[tactic(auto, unfolding(crate::specs::Stream::is_whole))]
-fn first_frame(awaited: Awaited, bytes: &[u8]) -> Option<usize>
+fn whole_frame_inner(awaited: Awaited, bytes: &[u8]) -> Option<usize>
     ensures exact { result ≡ (if is_whole awaited bytes.now then Some (frame_len awaited bytes.now) else None) }
     ensures bound { IfSome result (λ len. len ≤ FPDU_MAX) }
 {
@@ -60,13 +60,14 @@ fn first_frame(awaited: Awaited, bytes: &[u8]) -> Option<usize>
     Some(len)
 }
 
-/// How many bytes the awaited frame bytes_needed of which these have come: first those that tell its length, then all of it.
+/// How many more bytes the awaited frame needs, of which these have come: first those that give its length, then those of
+/// the whole frame. 0 exactly where the frame is whole.
 pub fn bytes_needed(awaited: Awaited, rest: &[u8]) -> usize
-    // Some are bytes_needed exactly where the frame isn't whole.
+    // Bytes are needed exactly where the frame isn't whole.
     ensures some { IsPartial awaited rest.now ↔ (0 < result) }
     // Fewer don't make it whole.
     ensures less { (more : List ℕ) → length more < result → IsPartial awaited (rest.now ++ more) }
-    // As many make its fields whole and then, these being there, the frame.
+    // As many complete its fields, and once these are there, the frame.
     ensures fields { length rest.now < fields_len awaited → length rest.now + result ≡ fields_len awaited }
     ensures just { fields_len awaited ≤ length rest.now → IsPartial awaited rest.now →
         (more : List ℕ) → length more ≡ result → IsFrame awaited (rest.now ++ more) }
@@ -74,11 +75,11 @@ pub fn bytes_needed(awaited: Awaited, rest: &[u8]) -> usize
     ensures room { IsPartial awaited rest.now → length rest.now + result ≤ FPDU_MAX }
     ensures exact { result ≡ bytes_needed awaited rest.now }
 {
-    lacking_in(awaited, rest)
+    bytes_needed_inner(awaited, rest)
 }
 
 #[tactic(auto, unfolding(crate::specs::Stream::bytes_needed))]
-fn lacking_in(awaited: Awaited, rest: &[u8]) -> usize
+fn bytes_needed_inner(awaited: Awaited, rest: &[u8]) -> usize
     ensures exact { result ≡ bytes_needed awaited rest.now }
     ensures fields { length rest.now < fields_len awaited → length rest.now + result ≡ fields_len awaited }
     ensures room { (0 < result) → length rest.now + result ≤ FPDU_MAX }

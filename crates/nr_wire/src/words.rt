@@ -1,9 +1,9 @@
-//! The numbers at a place of some bytes, the highest byte first, and single bits.
+//! The numbers of two and of eight bytes at a place, the highest byte first, and single bits.
 
 ghost use Rattle.std.specs.Prelude.{◌≡◌, ℕ, ◌+◌, ◌<◌, ◌≤◌, length};
-ghost use Rattle.nr_wire.specs.Fields.{half_word_at, word_at, hyper_at, has_bit};
+ghost use Rattle.nr_wire.specs.Fields.{half_word_at, hyper_at, has_bit};
 
-/// The two bytes at a place.
+/// The two bytes at a place as a number.
 #[tactic(auto, unfolding(crate::specs::Fields::half_word_of))]
 pub fn half_word_at(bytes: &[u8], place: usize) -> u16
     requires { place + 2 ≤ length bytes.now }
@@ -13,17 +13,7 @@ pub fn half_word_at(bytes: &[u8], place: usize) -> u16
     u16::from_be_bytes([rest[0], rest[1]])
 }
 
-/// The four bytes at a place.
-#[tactic(auto, unfolding(nr_xdr::specs::Item::word_of))]
-pub fn word_at(bytes: &[u8], place: usize) -> u32
-    requires { place + 4 ≤ length bytes.now }
-    ensures { result ≡ word_at place bytes.now }
-{
-    let (_, rest) = bytes.split_at(place);
-    u32::from_be_bytes([rest[0], rest[1], rest[2], rest[3]])
-}
-
-/// The eight bytes at a place.
+/// The eight bytes at a place as a number.
 #[tactic(auto, unfolding(nr_xdr::specs::Item::hyper_of))]
 pub fn hyper_at(bytes: &[u8], place: usize) -> u64
     requires { place + 8 ≤ length bytes.now }
@@ -35,7 +25,7 @@ pub fn hyper_at(bytes: &[u8], place: usize) -> u64
     ])
 }
 
-/// Whether the bit of this value is set.
+/// Whether the bit of this value is set in the byte.
 pub fn has_bit(value: u8, byte: u8) -> bool
     requires { 0 < value }
     ensures { result ≡ has_bit value byte }

@@ -15,18 +15,27 @@ use crate::segment::{Segment, fpdu_size, tail_len};
 use nr_xdr::{Memory, Octets};
 use std::alloc::Global;
 
-/// The bytes of a hello, whose private data may have at most 512 bytes.
+/// Puts a hello at the end.
 #[tactic(auto, unfolding(crate::specs::Hello::hello_encoding, crate::specs::Fields::half_word))]
+fn push_hello(out: &mut Vec<u8>, hello: &Hello) -> Result<(), Memory>
+    requires { length hello.now.private.now ≤ PRIVATE_MAX }
+    ensures { OnOk result (out.new.items ≡ out.old.items ++ hello_encoding (plain_hello hello.now)) }
+{
+    let private_len = hello.private.len() as u16;
+    out.extend_from_slice(key(hello.side))?;
+    out.extend_from_slice(&[hello.flags, HELLO_REVISION])?;
+    out.extend_from_slice(&private_len.to_be_bytes())?;
+    out.extend_from_slice(hello.private)?;
+    Ok(())
+}
+
+/// The bytes of a hello. Its private data has at most 512 bytes.
 pub fn write_hello(alloc: Global, hello: &Hello) -> Result<Octets, Memory>
     requires { length hello.now.private.now ≤ PRIVATE_MAX }
     ensures { IfOk result (λ bytes. bytes ≡ hello_encoding (plain_hello hello.now)) }
 {
-    let private_len = hello.private.len() as u16;
     let mut bytes = Vec::with_capacity(alloc, HELLO_LEN + hello.private.len())?;
-    bytes.extend_from_slice(key(hello.side))?;
-    bytes.extend_from_slice(&[hello.flags, HELLO_REVISION])?;
-    bytes.extend_from_slice(&private_len.to_be_bytes())?;
-    bytes.extend_from_slice(hello.private)?;
+    push_hello(&mut bytes, hello)?;
     Ok(Octets::from_vec(bytes))
 }
 
@@ -61,6 +70,32 @@ fn push_word_hyper(out: &mut Vec<u8>, first: u32, second: u64) -> Result<(), Mem
     Ok(())
 }
 
+/// Puts the header of a tagged segment at the end.
+fn push_tagged(out: &mut Vec<u8>, last: bool, opcode: u8, stag: u32, to: u64) -> Result<(), Memory>
+    requires { opcode < 16 }
+    ensures { OnOk result (out.new.items ≡ out.old.items ++ (control 0 0 true last opcode ++ word stag ++ hyper to)) }
+{
+    push_control(out, true, last, opcode)?;
+    push_word_hyper(out, stag, to)
+}
+
+/// Puts the header of an untagged segment at the end: two words, then the message's number and the offset in it.
+fn push_untagged(
+    out: &mut Vec<u8>,
+    last: bool,
+    opcode: u8,
+    words: (u32, u32),
+    place: (u32, u32),
+) -> Result<(), Memory>
+    requires { opcode < 16 }
+    ensures { OnOk result (out.new.items ≡ out.old.items
+        ++ (control 0 0 false last opcode ++ word words.0 ++ word words.1 ++ word place.0 ++ word place.1)) }
+{
+    push_control(out, false, last, opcode)?;
+    push_words(out, words.0, words.1)?;
+    push_words(out, place.0, place.1)
+}
+
 /// Puts a segment's header at the end.
 #[tactic(auto, unfolding(crate::specs::Segment::header))]
 fn push_header(out: &mut Vec<u8>, segment: &Segment) -> Result<(), Memory>
@@ -74,11 +109,7 @@ fn push_header(out: &mut Vec<u8>, segment: &Segment) -> Result<(), Memory>
             stag,
             to,
             ..
-        } => {
-            push_control(out, true, last, opcode)?;
-            push_word_hyper(out, stag, to)?;
-            Ok(())
-        }
+        } => push_tagged(out, last, opcode, stag, to),
         Segment::Untagged {
             last,
             opcode,
@@ -87,12 +118,7 @@ fn push_header(out: &mut Vec<u8>, segment: &Segment) -> Result<(), Memory>
             msn,
             offset,
             ..
-        } => {
-            push_control(out, false, last, opcode)?;
-            push_words(out, word, queue)?;
-            push_words(out, msn, offset)?;
-            Ok(())
-        }
+        } => push_untagged(out, last, opcode, (word, queue), (msn, offset)),
     }
 }
 
@@ -115,7 +141,7 @@ fn payload_in<'a>(segment: &Segment<'a>) -> &'a [u8]
     }
 }
 
-/// Puts the pad and the CRC behind an ULPDU of `len` bytes, both as zeros.
+/// Puts the pad and the CRC after an ULPDU of `len` bytes at the end, all zeros.
 fn push_tail(out: &mut Vec<u8>, len: u16) -> Result<(), Memory>
     ensures { OnOk result (out.new.items ≡ out.old.items ++ replicate (tail_len len) 0) }
 {
@@ -124,18 +150,26 @@ fn push_tail(out: &mut Vec<u8>, len: u16) -> Result<(), Memory>
     Ok(())
 }
 
-/// The bytes of a segment, its reserved bits, pad and CRC being zeros. Its opcode is below 16, and its header and payload
-/// have at most 65535 bytes.
+/// Puts a segment at the end.
 #[tactic(auto, unfolding(crate::specs::Segment::encoding, crate::specs::Fields::half_word))]
+fn push_segment(out: &mut Vec<u8>, segment: &Segment) -> Result<(), Memory>
+    requires { IsWritable (plain segment.now) }
+    ensures { OnOk result (out.new.items ≡ out.old.items ++ encoding (plain segment.now)) }
+{
+    let len = ulpdu_size(segment);
+    out.extend_from_slice(&len.to_be_bytes())?;
+    push_header(out, segment)?;
+    out.extend_from_slice(payload_in(segment))?;
+    push_tail(out, len)
+}
+
+/// The bytes of a segment, with zeros for its reserved bits, pad and CRC. Its opcode is below 16, and its header and payload
+/// have at most 65535 bytes together.
 pub fn write_segment(alloc: Global, segment: &Segment) -> Result<Octets, Memory>
     requires { IsWritable (plain segment.now) }
     ensures { IfOk result (λ bytes. bytes ≡ encoding (plain segment.now)) }
 {
-    let len = ulpdu_size(segment);
-    let mut bytes = Vec::with_capacity(alloc, fpdu_size(len))?;
-    bytes.extend_from_slice(&len.to_be_bytes())?;
-    push_header(&mut bytes, segment)?;
-    bytes.extend_from_slice(payload_in(segment))?;
-    push_tail(&mut bytes, len)?;
+    let mut bytes = Vec::with_capacity(alloc, fpdu_size(ulpdu_size(segment)))?;
+    push_segment(&mut bytes, segment)?;
     Ok(Octets::from_vec(bytes))
 }

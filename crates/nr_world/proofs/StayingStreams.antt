@@ -6,7 +6,7 @@ use Rattle.nr_wire.specs.declared.hello.Side.{Side}
 use Rattle.nr_wire.specs.declared.stream.Awaited.TheVariants.{Hello as HelloFrom, Fpdu}
 use Rattle.nr_wire.specs.Hello.{Hello}
 use Rattle.nr_wire.specs.Segment.{segment_of}
-use Rattle.nr_wire.specs.Next.{hello_in, judged}
+use Rattle.nr_wire.specs.Next.{hello_in, frame_answer}
 use Rattle.nr_wire.specs.Next.Next.{More}
 use Rattle.nr_wire.specs.Stream.{Split, split, is_whole, frame_len, awaited_after, IsFrame, AreFrames, Splits}
 use Rattle.nr_wire.proofs.Frames.{whole_from, is_whole-from, whole-append, IsFrame-take, partial_nil, partial_not_whole}
@@ -44,7 +44,7 @@ pub has_hello-none : (side : Side) → has_hello side [] ≡ false
 unfolding has_hello
 has_hello-none side = partial_not_whole (HelloFrom side) [] (partial_nil (HelloFrom side))
 
-greeted_whole : (whole : Bool) (r : Result Hello ℕ) (len : ℕ) → is_hello (cond whole (judged r len) More) ≡ true → whole ≡ true
+greeted_whole : (whole : Bool) (r : Result Hello ℕ) (len : ℕ) → is_hello (cond whole (frame_answer r len) More) ≡ true → whole ≡ true
 greeted_whole true r len e = refl
 greeted_whole false r len e = absurd cc
 

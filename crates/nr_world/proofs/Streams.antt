@@ -11,7 +11,7 @@ use Rattle.nr_wire.specs.declared.stream.Awaited.TheVariants.{Hello as HelloFrom
 use Rattle.nr_wire.specs.Hello.{Hello, hello_encoding, hello_of, hello_len, is_refused_by}
 use Rattle.nr_wire.specs.Segment.{Segment, segment_of, encoding, fpdu_len}
 use Rattle.nr_wire.specs.Segment.Segment.{Untagged}
-use Rattle.nr_wire.specs.Next.{judged, hello_in, segment_in}
+use Rattle.nr_wire.specs.Next.{frame_answer, hello_in, segment_in}
 use Rattle.nr_wire.specs.Next.Next.{Whole, More}
 use Rattle.nr_wire.specs.Stream.{Split, is_whole, frame_len, IsFrame, AreFrames, Splits}
 use Rattle.nr_wire.proofs.Frames.{whole_from, partial_nil}
@@ -30,7 +30,7 @@ record Judged {V : Type 0} (whole : Bool) (r : Result V ℕ) (value : V) (len n 
   says : r ≡ Ok value
   len_is : len ≡ n
 
-judged_whole : {V : Type 0} (whole : Bool) (r : Result V ℕ) (value : V) (len n : ℕ) → cond whole (judged r len) More ≡ Whole value n → Judged whole r value len n
+judged_whole : {V : Type 0} (whole : Bool) (r : Result V ℕ) (value : V) (len n : ℕ) → cond whole (frame_answer r len) More ≡ Whole value n → Judged whole r value len n
 judged_whole true (Ok x) value len n e = record { is_whole = refl; says = cc; len_is = cc }
 judged_whole true (Err f) value len n e = absurd cc
 judged_whole false r value len n e = absurd cc

@@ -4,3 +4,4 @@ pub mod Items
 pub mod Chains
 pub mod SequencingSteps
 pub mod OneReading
+pub mod Fronts

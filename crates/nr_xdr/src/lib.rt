@@ -5,6 +5,7 @@
 //! ignored when they are read. The crates above say what items mean together: heads, headers and values.
 #![tactic(auto)]
 
+mod decode;
 mod fault;
 mod laws;
 mod octets;
@@ -12,6 +13,7 @@ mod reader;
 mod words;
 mod writer;
 
+pub use decode::{DecodeError, number, word_at};
 pub use fault::{ItemFault, Memory};
 pub use laws::one_reading;
 pub use octets::Octets;

@@ -8,7 +8,7 @@ pub returns-in_err-segment : goal.returns-in_err-segment
 returns-in_err-segment c =
     let p = err_from_is_err_and c.from_residual.result c.from_residual.ensures.1 in
     let fails = rw c.at-place.ensures at c.in_err-segment.ensures in
-    rw (p.1, p.2) (segment_fails c.loop.segments.items c.args.count c.loop.counter c.loop.reader (segments_at c.args.count c.args.reader.now) c.in_err-segment.field-0.0 c.loop-test.true fails c.loop.invariant.so_far)
+    rw (p.1, p.2) (segment_fails c.loop.segments.items c.args.count c.loop.counter c.loop.reader (segments_at c.args.count c.args.reader.now) c.in_err-segment.field-0.0.at c.loop-test.true fails c.loop.invariant.so_far)
 
 pub loop-preserved : goal.loop-preserved
 loop-preserved c =

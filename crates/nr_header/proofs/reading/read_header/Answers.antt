@@ -3,7 +3,7 @@ use Rattle.nr_header.proofs.Messages.{header_is_found, message_is_read}
 use Rattle.nr_header.proofs.reading.read_header.Goals as goal
 
 pub returns-clause-found : goal.returns-clause-found
-returns-clause-found c = header_is_found c.args.bytes.now c.whole_header.result (λ i. omega (arith, c.type_inv.bytes i)) c.whole_header.ensures
+returns-clause-found c = header_is_found c.args.bytes.now c.read_header_inner.result (λ i. omega (arith, c.type_inv.bytes i)) c.read_header_inner.ensures
 
 pub returns-clause-only : goal.returns-clause-only
-returns-clause-only c = λ header is. c.whole_header.ensures ∙ message_is_read header c.args.bytes.now is
+returns-clause-only c = λ header is. c.read_header_inner.ensures ∙ message_is_read header c.args.bytes.now is

@@ -4,7 +4,7 @@ use Rattle.nr_rpc.proofs.Replies.{reply_is_found, begins_reply, reply_answered}
 use Rattle.nr_rpc.proofs.reply.read_reply.Goals as goal
 
 pub returns-clause-found : goal.returns-clause-found
-returns-clause-found c = reply_is_found c.args.bytes.now c.whole_reply.result (λ i. omega (arith, c.type_inv.bytes i)) c.whole_reply.ensures
+returns-clause-found c = reply_is_found c.args.bytes.now c.read_reply_inner.result (λ i. omega (arith, c.type_inv.bytes i)) c.read_reply_inner.ensures
 
 pub returns-clause-only : goal.returns-clause-only
-returns-clause-only c = λ head begins. reply_answered c.whole_reply.result (reply_of c.args.bytes.now) head (begins_reply c.args.bytes.now head begins) c.whole_reply.ensures
+returns-clause-only c = λ head begins. reply_answered c.read_reply_inner.result (reply_of c.args.bytes.now) head (begins_reply c.args.bytes.now head begins) c.read_reply_inner.ensures

@@ -1,6 +1,6 @@
 use Rattle.std.proofs.Common.{◌≡◌, ◌-◌, length}
 use Rattle.nr_rpc.specs.Reading.{numbers_at}
-use Rattle.nr_rpc.proofs.Loop.{with_front}
+use Rattle.nr_xdr.proofs.Fronts.{with_front}
 use Rattle.nr_rpc.proofs.sys.numbers.Given as goal
 
 abbrev pub invariant-loop : goal.invariant-loop

@@ -13,18 +13,18 @@ returns-clause-found c =
     let side = c.args.side in
     let bytes = c.args.bytes.now in
     let fits : IsBytes bytes = λ i. omega (arith, c.type_inv.bytes i) in
-    if_whole (next_hello c.first_hello.result)
+    if_whole (next_hello c.read_hello_inner.result)
     (λ hello len. (hello.side ≡ side) × IsAccepted hello × (take len bytes ≡ hello_encoding hello) × (len ≤ length bytes))
     (λ hello len e.
-    let f = hello_found side bytes hello len fits (sym c.first_hello.ensures ∙ e) in
+    let f = hello_found side bytes hello len fits (sym c.read_hello_inner.ensures ∙ e) in
     (f.side_is, f.accepted, f.encoded_is, f.within))
 
 pub returns-clause-only : goal.returns-clause-only
 returns-clause-only c = λ hello more same accepted e.
-    c.first_hello.ensures ∙ ap (λ (s : Side). hello_in s c.args.bytes.now) (sym same) ∙ ap (hello_in hello.side) e ∙ hello_again hello more accepted
+    c.read_hello_inner.ensures ∙ ap (λ (s : Side). hello_in s c.args.bytes.now) (sym same) ∙ ap (hello_in hello.side) e ∙ hello_again hello more accepted
 
 pub returns-clause-more : goal.returns-clause-more
-returns-clause-more c = rw c.first_hello.ensures (hello_more c.args.side c.args.bytes.now)
+returns-clause-more c = rw c.read_hello_inner.ensures (hello_more c.args.side c.args.bytes.now)
 
 pub returns-clause-bad : goal.returns-clause-bad
-returns-clause-bad c = λ reason. rw c.first_hello.ensures (hello_bad c.args.side c.args.bytes.now reason)
+returns-clause-bad c = λ reason. rw c.read_hello_inner.ensures (hello_bad c.args.side c.args.bytes.now reason)
