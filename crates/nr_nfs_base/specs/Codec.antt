@@ -183,6 +183,18 @@ array c = record {
   read = λ at. word.read at >>= λ n. times c n.0 n.1;
 }
 
+-- ---- What is passed over
+
+-- what is read, or nothing where an item fails
+abbrev pub read_or_none : {A : Type 0} → Result A ℕ → Option A
+read_or_none (Ok x) = Some x
+read_or_none (Err at) = None
+
+-- the cursor behind the value that is read, or nothing where an item fails
+abbrev pub cursor_behind : {A : Type 0} → Result (A × Cursor) ℕ → Option Cursor
+cursor_behind (Ok x) = Some x.1
+cursor_behind (Err at) = None
+
 -- ---- What the code answers
 
 -- the new bytes are the old ones and the encoding of items that fit, and so does the value

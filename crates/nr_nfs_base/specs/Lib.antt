@@ -12,3 +12,4 @@ pub mod Status
 pub mod MountStatus
 pub mod StatusUnion
 pub mod Same
+pub mod Fronts

@@ -60,7 +60,15 @@ pub struct Attributes {
     pub ctime: Time,
 }
 
-#[tactic(auto, using(crate::proofs::Puts::puts_both), unfolding(crate::specs::Attributes::attributes_codec))]
+/// The fields of `Attributes`, in order.
+pub(crate) type AttributesParts = (FileType, (u32, (u32, (u32, (u32, NumbersAndTimes)))));
+
+type NumbersAndTimes = (
+    u64,
+    (u64, (SpecialData, (u64, (u64, (Time, (Time, Time)))))),
+);
+
+#[tactic(auto, unfolding(crate::specs::Attributes::attributes_codec))]
 impl Xdr for Attributes {
     ghost codec = { attributes_codec };
 
@@ -70,19 +78,12 @@ impl Xdr for Attributes {
         alloc: Global,
         reader: Reader<'a>,
     ) -> Result<(Attributes, Reader<'a>), ValueFault> {
-        let (file_type, reader) = FileType::read_from(alloc, reader)?;
-        let (mode, reader) = u32::read_from(alloc, reader)?;
-        let (nlink, reader) = u32::read_from(alloc, reader)?;
-        let (uid, reader) = u32::read_from(alloc, reader)?;
-        let (gid, reader) = u32::read_from(alloc, reader)?;
-        let (size, reader) = u64::read_from(alloc, reader)?;
-        let (used, reader) = u64::read_from(alloc, reader)?;
-        let (rdev, reader) = SpecialData::read_from(alloc, reader)?;
-        let (fsid, reader) = u64::read_from(alloc, reader)?;
-        let (fileid, reader) = u64::read_from(alloc, reader)?;
-        let (atime, reader) = Time::read_from(alloc, reader)?;
-        let (mtime, reader) = Time::read_from(alloc, reader)?;
-        let (ctime, reader) = Time::read_from(alloc, reader)?;
+        let (parts, reader) = AttributesParts::read_from(alloc, reader)?;
+        let (
+            file_type,
+            (mode, (nlink, (uid, (gid, (size, (used, (rdev, (fsid, (fileid, times))))))))),
+        ) = parts;
+        let (atime, (mtime, ctime)) = times;
         let value = Attributes {
             file_type,
             mode,
@@ -102,19 +103,15 @@ impl Xdr for Attributes {
     }
 
     fn write_to(&self, writer: Writer) -> Result<Writer, Memory> {
-        let writer = self.file_type.write_to(writer)?;
-        let writer = self.mode.write_to(writer)?;
-        let writer = self.nlink.write_to(writer)?;
-        let writer = self.uid.write_to(writer)?;
-        let writer = self.gid.write_to(writer)?;
-        let writer = self.size.write_to(writer)?;
-        let writer = self.used.write_to(writer)?;
-        let writer = self.rdev.write_to(writer)?;
-        let writer = self.fsid.write_to(writer)?;
-        let writer = self.fileid.write_to(writer)?;
-        let writer = self.atime.write_to(writer)?;
-        let writer = self.mtime.write_to(writer)?;
-        let writer = self.ctime.write_to(writer)?;
-        Ok(writer)
+        let times = (self.atime, (self.mtime, self.ctime));
+        let numbers = (
+            self.size,
+            (self.used, (self.rdev, (self.fsid, (self.fileid, times)))),
+        );
+        let parts = (
+            self.file_type,
+            (self.mode, (self.nlink, (self.uid, (self.gid, numbers)))),
+        );
+        parts.write_to(writer)
     }
 }

@@ -19,6 +19,7 @@ mod attributes;
 mod caller;
 mod fault;
 mod file_type;
+mod fronts;
 mod items;
 mod laws;
 mod linked_list;
@@ -27,7 +28,9 @@ mod names;
 mod numbered;
 mod opaque;
 mod optional;
+mod pair;
 mod set_attributes;
+mod skip;
 mod stable;
 mod status;
 mod status_union;
@@ -41,6 +44,10 @@ pub use attributes::{Attributes, SpecialData};
 pub use caller::Caller;
 pub use fault::ValueFault;
 pub use file_type::FileType;
+pub use fronts::{
+    ReadOkFront, ReadlinkOkFront, Success, SymlinkArgsFront, WriteArgsFront, skip_to_read_data,
+    skip_to_readlink_path, skip_to_symlink_path, skip_to_write_data,
+};
 pub use laws::opaque_limits;
 pub use linked_list::LinkedList;
 pub use mount_status::MountStatus;
@@ -48,6 +55,7 @@ pub use names::{Data, HANDLE_MAX, Handle, MOUNT_PATH_MAX, MountPath, Name, Path,
 pub use numbered::{Failure, Numbered, read_numbered, write_numbered};
 pub use opaque::Opaque;
 pub use set_attributes::{SetAttributes, SetTime, TimeHow};
+pub use skip::{Skip, skip_numbered};
 pub use stable::StableHow;
 pub use status::Status;
 pub use status_union::StatusUnion;

@@ -111,7 +111,16 @@ pub struct SetAttributes {
     pub mtime: SetTime,
 }
 
-#[tactic(auto, using(crate::proofs::Puts::puts_both), unfolding(crate::specs::SetAttributes::set_attributes_codec))]
+/// The fields of `SetAttributes`, in order.
+pub(crate) type SetAttributesParts = (
+    Option<u32>,
+    (
+        Option<u32>,
+        (Option<u32>, (Option<u64>, (SetTime, SetTime))),
+    ),
+);
+
+#[tactic(auto, unfolding(crate::specs::SetAttributes::set_attributes_codec))]
 impl Xdr for SetAttributes {
     ghost codec = { set_attributes_codec };
 
@@ -121,12 +130,8 @@ impl Xdr for SetAttributes {
         alloc: Global,
         reader: Reader<'a>,
     ) -> Result<(SetAttributes, Reader<'a>), ValueFault> {
-        let (mode, reader) = Option::<u32>::read_from(alloc, reader)?;
-        let (uid, reader) = Option::<u32>::read_from(alloc, reader)?;
-        let (gid, reader) = Option::<u32>::read_from(alloc, reader)?;
-        let (size, reader) = Option::<u64>::read_from(alloc, reader)?;
-        let (atime, reader) = SetTime::read_from(alloc, reader)?;
-        let (mtime, reader) = SetTime::read_from(alloc, reader)?;
+        let (parts, reader) = SetAttributesParts::read_from(alloc, reader)?;
+        let (mode, (uid, (gid, (size, (atime, mtime))))) = parts;
         let value = SetAttributes {
             mode,
             uid,
@@ -139,12 +144,8 @@ impl Xdr for SetAttributes {
     }
 
     fn write_to(&self, writer: Writer) -> Result<Writer, Memory> {
-        let writer = self.mode.write_to(writer)?;
-        let writer = self.uid.write_to(writer)?;
-        let writer = self.gid.write_to(writer)?;
-        let writer = self.size.write_to(writer)?;
-        let writer = self.atime.write_to(writer)?;
-        let writer = self.mtime.write_to(writer)?;
-        Ok(writer)
+        let times = (self.atime, self.mtime);
+        let parts = (self.mode, (self.uid, (self.gid, (self.size, times))));
+        parts.write_to(writer)
     }
 }
