@@ -3,7 +3,7 @@
 ghost use Rattle.nr_nfs_args.specs.Create.{create_args_codec, create_args_lawful, create_how_codec, create_how_lawful, mkdir_args_codec, mkdir_args_lawful};
 
 use crate::create_mode::CreateMode;
-use nr_nfs_base::{Handle, Name, SetAttributes, ValueFault, Verifier, Xdr};
+use nr_nfs_base::{Handle, Name, SetAttributes, ValueFault, Verifier, Xdr, write_three, write_two};
 use nr_xdr::{Memory, Reader, Writer};
 use std::alloc::Global;
 
@@ -47,18 +47,9 @@ impl Xdr for CreateHow {
 
     fn write_to(&self, writer: Writer) -> Result<Writer, Memory> {
         match self {
-            CreateHow::Unchecked(value) => {
-                let writer = CreateMode::Unchecked.write_to(writer)?;
-                value.write_to(writer)
-            }
-            CreateHow::Guarded(value) => {
-                let writer = CreateMode::Guarded.write_to(writer)?;
-                value.write_to(writer)
-            }
-            CreateHow::Exclusive(value) => {
-                let writer = CreateMode::Exclusive.write_to(writer)?;
-                value.write_to(writer)
-            }
+            CreateHow::Unchecked(value) => { write_two(&CreateMode::Unchecked, value, writer) }
+            CreateHow::Guarded(value) => { write_two(&CreateMode::Guarded, value, writer) }
+            CreateHow::Exclusive(value) => { write_two(&CreateMode::Exclusive, value, writer) }
         }
     }
 }
@@ -71,7 +62,7 @@ pub struct CreateArgs {
     pub how: CreateHow,
 }
 
-#[tactic(auto, using(nr_nfs_base::proofs::Puts::puts_both), unfolding(crate::specs::Create::create_args_codec))]
+#[tactic(auto, unfolding(crate::specs::Create::create_args_codec))]
 impl Xdr for CreateArgs {
     ghost codec = { create_args_codec };
 
@@ -81,17 +72,12 @@ impl Xdr for CreateArgs {
         alloc: Global,
         reader: Reader<'a>,
     ) -> Result<(CreateArgs, Reader<'a>), ValueFault> {
-        let (dir, reader) = Handle::read_from(alloc, reader)?;
-        let (name, reader) = Name::read_from(alloc, reader)?;
-        let (how, reader) = CreateHow::read_from(alloc, reader)?;
+        let ((dir, (name, how)), reader) = <(Handle, (Name, CreateHow))>::read_from(alloc, reader)?;
         Ok((CreateArgs { dir, name, how }, reader))
     }
 
     fn write_to(&self, writer: Writer) -> Result<Writer, Memory> {
-        let writer = self.dir.write_to(writer)?;
-        let writer = self.name.write_to(writer)?;
-        let writer = self.how.write_to(writer)?;
-        Ok(writer)
+        write_three(&self.dir, &self.name, &self.how, writer)
     }
 }
 
@@ -103,7 +89,7 @@ pub struct MkdirArgs {
     pub attributes: SetAttributes,
 }
 
-#[tactic(auto, using(nr_nfs_base::proofs::Puts::puts_both), unfolding(crate::specs::Create::mkdir_args_codec))]
+#[tactic(auto, unfolding(crate::specs::Create::mkdir_args_codec))]
 impl Xdr for MkdirArgs {
     ghost codec = { mkdir_args_codec };
 
@@ -113,9 +99,9 @@ impl Xdr for MkdirArgs {
         alloc: Global,
         reader: Reader<'a>,
     ) -> Result<(MkdirArgs, Reader<'a>), ValueFault> {
-        let (dir, reader) = Handle::read_from(alloc, reader)?;
-        let (name, reader) = Name::read_from(alloc, reader)?;
-        let (attributes, reader) = SetAttributes::read_from(alloc, reader)?;
+        let ((dir, (name, attributes)), reader) = <(Handle, (Name, SetAttributes))>::read_from(
+            alloc, reader,
+        )?;
         Ok((
             MkdirArgs {
                 dir,
@@ -127,9 +113,6 @@ impl Xdr for MkdirArgs {
     }
 
     fn write_to(&self, writer: Writer) -> Result<Writer, Memory> {
-        let writer = self.dir.write_to(writer)?;
-        let writer = self.name.write_to(writer)?;
-        let writer = self.attributes.write_to(writer)?;
-        Ok(writer)
+        write_three(&self.dir, &self.name, &self.attributes, writer)
     }
 }

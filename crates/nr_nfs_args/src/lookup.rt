@@ -2,7 +2,7 @@
 
 ghost use Rattle.nr_nfs_args.specs.Lookup.{lookup_args_codec, lookup_args_lawful, readlink_args_codec, readlink_args_lawful};
 
-use nr_nfs_base::{Handle, Name, ValueFault, Xdr};
+use nr_nfs_base::{Handle, Name, ValueFault, Xdr, write_two};
 use nr_xdr::{Memory, Reader, Writer};
 use std::alloc::Global;
 
@@ -13,7 +13,7 @@ pub struct LookupArgs {
     pub name: Name,
 }
 
-#[tactic(auto, using(nr_nfs_base::proofs::Puts::puts_both), unfolding(crate::specs::Lookup::lookup_args_codec))]
+#[tactic(auto, unfolding(crate::specs::Lookup::lookup_args_codec))]
 impl Xdr for LookupArgs {
     ghost codec = { lookup_args_codec };
 
@@ -23,15 +23,12 @@ impl Xdr for LookupArgs {
         alloc: Global,
         reader: Reader<'a>,
     ) -> Result<(LookupArgs, Reader<'a>), ValueFault> {
-        let (dir, reader) = Handle::read_from(alloc, reader)?;
-        let (name, reader) = Name::read_from(alloc, reader)?;
+        let ((dir, name), reader) = <(Handle, Name)>::read_from(alloc, reader)?;
         Ok((LookupArgs { dir, name }, reader))
     }
 
     fn write_to(&self, writer: Writer) -> Result<Writer, Memory> {
-        let writer = self.dir.write_to(writer)?;
-        let writer = self.name.write_to(writer)?;
-        Ok(writer)
+        write_two(&self.dir, &self.name, writer)
     }
 }
 

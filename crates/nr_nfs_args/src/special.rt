@@ -2,7 +2,10 @@
 
 ghost use Rattle.nr_nfs_args.specs.Special.{device_data_codec, device_data_lawful, mknod_args_codec, mknod_args_lawful, mknod_data_codec, mknod_data_lawful, symlink_args_codec, symlink_args_lawful};
 
-use nr_nfs_base::{FileType, Handle, Name, Path, SetAttributes, SpecialData, ValueFault, Xdr};
+use nr_nfs_base::{
+    FileType, Handle, Name, Path, SetAttributes, SpecialData, SymlinkArgsFront, ValueFault, Xdr,
+    write_three, write_two,
+};
 use nr_xdr::{Memory, Reader, Writer};
 use std::alloc::Global;
 
@@ -15,7 +18,7 @@ pub struct SymlinkArgs {
     pub path: Path,
 }
 
-#[tactic(auto, using(nr_nfs_base::proofs::Puts::puts_both), unfolding(crate::specs::Special::symlink_args_codec))]
+#[tactic(auto, unfolding(crate::specs::Special::symlink_args_codec))]
 impl Xdr for SymlinkArgs {
     ghost codec = { symlink_args_codec };
 
@@ -25,10 +28,8 @@ impl Xdr for SymlinkArgs {
         alloc: Global,
         reader: Reader<'a>,
     ) -> Result<(SymlinkArgs, Reader<'a>), ValueFault> {
-        let (dir, reader) = Handle::read_from(alloc, reader)?;
-        let (name, reader) = Name::read_from(alloc, reader)?;
-        let (attributes, reader) = SetAttributes::read_from(alloc, reader)?;
-        let (path, reader) = Path::read_from(alloc, reader)?;
+        let ((front, path), reader) = <(SymlinkArgsFront, Path)>::read_from(alloc, reader)?;
+        let (dir, (name, attributes)) = front;
         Ok((
             SymlinkArgs {
                 dir,
@@ -41,11 +42,8 @@ impl Xdr for SymlinkArgs {
     }
 
     fn write_to(&self, writer: Writer) -> Result<Writer, Memory> {
-        let writer = self.dir.write_to(writer)?;
-        let writer = self.name.write_to(writer)?;
-        let writer = self.attributes.write_to(writer)?;
-        let writer = self.path.write_to(writer)?;
-        Ok(writer)
+        let writer = write_three(&self.dir, &self.name, &self.attributes, writer)?;
+        self.path.write_to(writer)
     }
 }
 
@@ -56,7 +54,7 @@ pub struct DeviceData {
     pub device: SpecialData,
 }
 
-#[tactic(auto, using(nr_nfs_base::proofs::Puts::puts_both), unfolding(crate::specs::Special::device_data_codec))]
+#[tactic(auto, unfolding(crate::specs::Special::device_data_codec))]
 impl Xdr for DeviceData {
     ghost codec = { device_data_codec };
 
@@ -66,15 +64,14 @@ impl Xdr for DeviceData {
         alloc: Global,
         reader: Reader<'a>,
     ) -> Result<(DeviceData, Reader<'a>), ValueFault> {
-        let (attributes, reader) = SetAttributes::read_from(alloc, reader)?;
-        let (device, reader) = SpecialData::read_from(alloc, reader)?;
+        let ((attributes, device), reader) = <(SetAttributes, SpecialData)>::read_from(
+            alloc, reader,
+        )?;
         Ok((DeviceData { attributes, device }, reader))
     }
 
     fn write_to(&self, writer: Writer) -> Result<Writer, Memory> {
-        let writer = self.attributes.write_to(writer)?;
-        let writer = self.device.write_to(writer)?;
-        Ok(writer)
+        write_two(&self.attributes, &self.device, writer)
     }
 }
 
@@ -136,23 +133,11 @@ impl Xdr for MknodData {
         match self {
             MknodData::Reg => FileType::Reg.write_to(writer),
             MknodData::Dir => FileType::Dir.write_to(writer),
-            MknodData::Blk(value) => {
-                let writer = FileType::Blk.write_to(writer)?;
-                value.write_to(writer)
-            }
-            MknodData::Chr(value) => {
-                let writer = FileType::Chr.write_to(writer)?;
-                value.write_to(writer)
-            }
+            MknodData::Blk(value) => { write_two(&FileType::Blk, value, writer) }
+            MknodData::Chr(value) => { write_two(&FileType::Chr, value, writer) }
             MknodData::Lnk => FileType::Lnk.write_to(writer),
-            MknodData::Sock(value) => {
-                let writer = FileType::Sock.write_to(writer)?;
-                value.write_to(writer)
-            }
-            MknodData::Fifo(value) => {
-                let writer = FileType::Fifo.write_to(writer)?;
-                value.write_to(writer)
-            }
+            MknodData::Sock(value) => { write_two(&FileType::Sock, value, writer) }
+            MknodData::Fifo(value) => { write_two(&FileType::Fifo, value, writer) }
         }
     }
 }
@@ -165,7 +150,7 @@ pub struct MknodArgs {
     pub what: MknodData,
 }
 
-#[tactic(auto, using(nr_nfs_base::proofs::Puts::puts_both), unfolding(crate::specs::Special::mknod_args_codec))]
+#[tactic(auto, unfolding(crate::specs::Special::mknod_args_codec))]
 impl Xdr for MknodArgs {
     ghost codec = { mknod_args_codec };
 
@@ -175,16 +160,13 @@ impl Xdr for MknodArgs {
         alloc: Global,
         reader: Reader<'a>,
     ) -> Result<(MknodArgs, Reader<'a>), ValueFault> {
-        let (dir, reader) = Handle::read_from(alloc, reader)?;
-        let (name, reader) = Name::read_from(alloc, reader)?;
-        let (what, reader) = MknodData::read_from(alloc, reader)?;
+        let ((dir, (name, what)), reader) = <(Handle, (Name, MknodData))>::read_from(
+            alloc, reader,
+        )?;
         Ok((MknodArgs { dir, name, what }, reader))
     }
 
     fn write_to(&self, writer: Writer) -> Result<Writer, Memory> {
-        let writer = self.dir.write_to(writer)?;
-        let writer = self.name.write_to(writer)?;
-        let writer = self.what.write_to(writer)?;
-        Ok(writer)
+        write_three(&self.dir, &self.name, &self.what, writer)
     }
 }

@@ -5,7 +5,7 @@ use Rattle.nr_xdr.specs.Reading.{Cursor}
 use Rattle.nr_nfs_base.specs.declared.fault.ValueFault.{ValueFault}
 use Rattle.nr_nfs_base.specs.declared.fault.ValueFault.TheVariants as faults
 use Rattle.nr_xdr.specs.Sequencing.{◌>>=◌}
-use Rattle.nr_nfs_base.specs.Codec.{Codec, before, linked_list_read, optional, times, Answers}
+use Rattle.nr_nfs_base.specs.Codec.{Codec, with_first, linked_list_read, optional, values_read, Answers}
 
 abbrev ValuesRead : Type 0 → Type 0
 ValuesRead A = Result (List A × Cursor) ℕ
@@ -14,7 +14,7 @@ ValuesRead A = Result (List A × Cursor) ℕ
 abbrev pub onto : {A : Type 0} → List A → Result (List A × Cursor) ℕ → Result (List A × Cursor) ℕ
 onto front read = read >>= λ x. Ok (front ++ x.0, x.1)
 
-regroup : {A : Type 0} (front : List A) (v : A) (read : Result (List A × Cursor) ℕ) → onto front (before v read) ≡ onto (front ++ v ∷ []) read
+regroup : {A : Type 0} (front : List A) (v : A) (read : Result (List A × Cursor) ℕ) → onto front (with_first v read) ≡ onto (front ++ v ∷ []) read
 regroup {A} front v (Ok x) = ap (λ (vs : List A). Ok (vs, x.1)) (simp append_assoc)
 regroup front v (Err at) = refl
 
@@ -56,26 +56,26 @@ linked_list_runs_out c front n i at total le so_far =
 
 -- ---- Arrays
 
-pub times_goes_on : {A : Type 0} (c : Codec A) (front : List A) (n i : ℕ) (at : Cursor) (v : A) (to : Cursor) (total : Result (List A × Cursor) ℕ) → i < n → c.read at ≡ Ok (v, to)
-    → onto front (times c (n - i) at) ≡ total → onto (front ++ v ∷ []) (times c (n - (i + 1)) to) ≡ total
-unfolding times
-times_goes_on c front n i at v to total lt h so_far =
+pub values_go_on : {A : Type 0} (c : Codec A) (front : List A) (n i : ℕ) (at : Cursor) (v : A) (to : Cursor) (total : Result (List A × Cursor) ℕ) → i < n → c.read at ≡ Ok (v, to)
+    → onto front (values_read c (n - i) at) ≡ total → onto (front ++ v ∷ []) (values_read c (n - (i + 1)) to) ≡ total
+unfolding values_read
+values_go_on c front n i at v to total lt h so_far =
     let k : n - i ≡ suc (n - (i + 1)) = omega arith in
-    let one : onto front (times c (n - i) at) ≡ onto (front ++ v ∷ []) (times c (n - (i + 1)) to) = rw (k, h) (regroup front v (times c (n - (i + 1)) to)) in
+    let one : onto front (values_read c (n - i) at) ≡ onto (front ++ v ∷ []) (values_read c (n - (i + 1)) to) = rw (k, h) (regroup front v (values_read c (n - (i + 1)) to)) in
     sym one ∙ so_far
 
-pub times_fails : {A : Type 0} (c : Codec A) (e : ValueFault) (front : List A) (n i : ℕ) (at : Cursor) (total : Result (List A × Cursor) ℕ) → i < n → Answers {A = A × Cursor} (Err e) (c.read at)
-    → onto front (times c (n - i) at) ≡ total → Answers {A = List A × Cursor} (Err e) total
-unfolding times
-times_fails c faults.Memory front n i at total lt h so_far = tt
-times_fails c (faults.Bad place) front n i at total lt h so_far =
+pub values_fail : {A : Type 0} (c : Codec A) (e : ValueFault) (front : List A) (n i : ℕ) (at : Cursor) (total : Result (List A × Cursor) ℕ) → i < n → Answers {A = A × Cursor} (Err e) (c.read at)
+    → onto front (values_read c (n - i) at) ≡ total → Answers {A = List A × Cursor} (Err e) total
+unfolding values_read
+values_fail c faults.Memory front n i at total lt h so_far = tt
+values_fail c (faults.Bad place) front n i at total lt h so_far =
     let k : n - i ≡ suc (n - (i + 1)) = omega arith in
-    let one : onto front (times c (n - i) at) ≡ Err place = rw (k, h) refl in
+    let one : onto front (values_read c (n - i) at) ≡ Err place = rw (k, h) refl in
     sym so_far ∙ one
 
-pub times_done : {A : Type 0} (c : Codec A) (front : List A) (n i : ℕ) (at : Cursor) (total : Result (List A × Cursor) ℕ) → n ≤ i → onto front (times c (n - i) at) ≡ total → total ≡ Ok (front, at)
-unfolding times
-times_done {A} c front n i at total le so_far =
+pub values_done : {A : Type 0} (c : Codec A) (front : List A) (n i : ℕ) (at : Cursor) (total : Result (List A × Cursor) ℕ) → n ≤ i → onto front (values_read c (n - i) at) ≡ total → total ≡ Ok (front, at)
+unfolding values_read
+values_done {A} c front n i at total le so_far =
     let k : n - i ≡ 0 = omega arith in
-    let one : onto front (times c (n - i) at) ≡ Ok (front, at) = rw k (ap (λ (vs : List A). Ok (vs, at)) (append-nil front)) in
+    let one : onto front (values_read c (n - i) at) ≡ Ok (front, at) = rw k (ap (λ (vs : List A). Ok (vs, at)) (append-nil front)) in
     sym so_far ∙ one

@@ -2,7 +2,7 @@
 
 ghost use Rattle.std.specs.Prelude.{◌≡◌, ◌∷◌, [], ◌++◌, ◌^◌, ◌<◌, length, IfOk};
 ghost use Rattle.std.specs.List.{flat_map, AllByRecursion};
-ghost use Rattle.nr_nfs_base.specs.Codec.{array, times, Answers, Puts};
+ghost use Rattle.nr_nfs_base.specs.Codec.{array, values_read, Answers, AppendsItems};
 ghost use Rattle.nr_nfs_base.specs.Laws.{array_lawful};
 
 use crate::fault::ValueFault;
@@ -81,7 +81,7 @@ fn read_values<'a, T: Xdr>(
     count: u32,
     reader: Reader<'a>,
 ) -> Result<(Array<T>, Reader<'a>), ValueFault>
-    ensures { Answers result (times T.codec count reader.entry) }
+    ensures { Answers result (values_read T.codec count reader.entry) }
 {
     let mut values = Vec::new(alloc);
     let mut reader = reader;
@@ -95,7 +95,7 @@ fn read_values<'a, T: Xdr>(
 
 /// Writes the values behind one another.
 fn write_values<T: Xdr>(values: &[T], writer: Writer) -> Result<Writer, Memory>
-    ensures { IfOk result (λ bytes. Puts writer bytes (flat_map T.codec.items values.now) (AllByRecursion T.codec.fits values.now)) }
+    ensures { IfOk result (λ bytes. AppendsItems writer bytes (flat_map T.codec.items values.now) (AllByRecursion T.codec.fits values.now)) }
 {
     let mut writer = writer;
     for value in values {

@@ -4,6 +4,7 @@ ghost use Rattle.nr_nfs_base.specs.Attributes.{attributes_codec, attributes_lawf
 
 use crate::fault::ValueFault;
 use crate::file_type::FileType;
+use crate::pair::write_two;
 use crate::time::Time;
 use crate::xdr::Xdr;
 use nr_xdr::{Memory, Reader, Writer};
@@ -16,7 +17,7 @@ pub struct SpecialData {
     pub minor: u32,
 }
 
-#[tactic(auto, using(crate::proofs::Puts::puts_both), unfolding(crate::specs::Attributes::special_data_codec))]
+#[tactic(auto, unfolding(crate::specs::Attributes::special_data_codec))]
 impl Xdr for SpecialData {
     ghost codec = { special_data_codec };
 
@@ -26,15 +27,12 @@ impl Xdr for SpecialData {
         alloc: Global,
         reader: Reader<'a>,
     ) -> Result<(SpecialData, Reader<'a>), ValueFault> {
-        let (major, reader) = u32::read_from(alloc, reader)?;
-        let (minor, reader) = u32::read_from(alloc, reader)?;
+        let ((major, minor), reader) = <(u32, u32)>::read_from(alloc, reader)?;
         Ok((SpecialData { major, minor }, reader))
     }
 
     fn write_to(&self, writer: Writer) -> Result<Writer, Memory> {
-        let writer = self.major.write_to(writer)?;
-        let writer = self.minor.write_to(writer)?;
-        Ok(writer)
+        write_two(&self.major, &self.minor, writer)
     }
 }
 

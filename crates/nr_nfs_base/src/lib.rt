@@ -45,8 +45,9 @@ pub use caller::Caller;
 pub use fault::ValueFault;
 pub use file_type::FileType;
 pub use fronts::{
-    ReadOkFront, ReadlinkOkFront, Success, SymlinkArgsFront, WriteArgsFront, skip_to_read_data,
-    skip_to_readlink_path, skip_to_symlink_path, skip_to_write_data,
+    ReadArgsFront, ReadOkFront, ReaddirArgsFront, ReaddirplusArgsFront, ReadlinkOkFront, Success,
+    SymlinkArgsFront, WriteArgsFront, skip_to_read_count, skip_to_read_data, skip_to_readdir_count,
+    skip_to_readdirplus_maxcount, skip_to_readlink_path, skip_to_symlink_path, skip_to_write_data,
 };
 pub use laws::opaque_limits;
 pub use linked_list::LinkedList;
@@ -54,6 +55,7 @@ pub use mount_status::MountStatus;
 pub use names::{Data, HANDLE_MAX, Handle, MOUNT_PATH_MAX, MountPath, Name, Path, UNLIMITED};
 pub use numbered::{Failure, Numbered, read_numbered, write_numbered};
 pub use opaque::Opaque;
+pub use pair::{write_four, write_three, write_two};
 pub use set_attributes::{SetAttributes, SetTime, TimeHow};
 pub use skip::{Skip, skip_numbered};
 pub use stable::StableHow;

@@ -1,7 +1,7 @@
 //! Lists whose values stand behind flags.
 
 ghost use Rattle.std.specs.Prelude.{◌≡◌, [], ◌∷◌, ◌++◌, IfOk};
-ghost use Rattle.nr_nfs_base.specs.Codec.{linked_list, linked_list_read, Answers, Writes};
+ghost use Rattle.nr_nfs_base.specs.Codec.{linked_list, linked_list_read, Answers, AppendsValue};
 ghost use Rattle.nr_nfs_base.specs.Laws.{linked_list_lawful};
 
 use crate::fault::ValueFault;
@@ -98,7 +98,7 @@ fn read_values<'a, T: Xdr>(
 
 /// Writes the values, and the 0 behind them.
 fn write_values<T: Xdr>(values: &[T], writer: Writer) -> Result<Writer, Memory>
-    ensures { IfOk result (Writes (linked_list T.codec) writer values.now) }
+    ensures { IfOk result (AppendsValue (linked_list T.codec) writer values.now) }
 {
     let mut writer = writer;
     for value in values {

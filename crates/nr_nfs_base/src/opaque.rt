@@ -62,7 +62,7 @@ impl<const MAX: u32> Opaque<MAX> {
     }
 }
 
-#[tactic(auto, using(crate::proofs::Puts::puts_one), unfolding(crate::specs::Codec::opaque))]
+#[tactic(auto, using(crate::proofs::Appending::appends_one), unfolding(crate::specs::Codec::opaque))]
 impl<const MAX: u32> Xdr for Opaque<MAX> {
     ghost codec = { opaque MAX };
 

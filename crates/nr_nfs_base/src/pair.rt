@@ -1,6 +1,7 @@
-//! Values behind one another.
+//! Values one after the other.
 
-ghost use Rattle.nr_nfs_base.specs.Codec.{◌⊗◌};
+ghost use Rattle.std.specs.Prelude.{IfOk};
+ghost use Rattle.nr_nfs_base.specs.Codec.{AppendsValue, ◌⊗◌, ◌&◌};
 ghost use Rattle.nr_nfs_base.specs.Laws.{◌⊠◌};
 
 use crate::fault::ValueFault;
@@ -8,8 +9,7 @@ use crate::xdr::Xdr;
 use nr_xdr::{Memory, Reader, Writer};
 use std::alloc::Global;
 
-/// Two values behind one another (RFC 4506 section 4.14).
-#[tactic(auto, using(crate::proofs::Puts::puts_both))]
+/// Two values, one after the other (RFC 4506 section 4.14). The fields of a structure are read as nested pairs.
 impl<A: Xdr, B: Xdr> Xdr for (A, B) {
     ghost codec = { A.codec ⊗ B.codec };
 
@@ -25,7 +25,41 @@ impl<A: Xdr, B: Xdr> Xdr for (A, B) {
     }
 
     fn write_to(&self, writer: Writer) -> Result<Writer, Memory> {
-        let writer = self.0.write_to(writer)?;
-        self.1.write_to(writer)
+        write_two(&self.0, &self.1, writer)
     }
+}
+
+/// Writes two values, one after the other.
+pub fn write_two<A: Xdr, B: Xdr>(a: &A, b: &B, writer: Writer) -> Result<Writer, Memory>
+    ensures { IfOk result (AppendsValue (A.codec ⊗ B.codec) writer (a.now & b.now)) }
+{
+    let writer = a.write_to(writer)?;
+    b.write_to(writer)
+}
+
+/// Writes three values, one after the other.
+pub fn write_three<A: Xdr, B: Xdr, C: Xdr>(
+    a: &A,
+    b: &B,
+    c: &C,
+    writer: Writer,
+) -> Result<Writer, Memory>
+    ensures { IfOk result (AppendsValue (A.codec ⊗ B.codec ⊗ C.codec) writer (a.now & b.now & c.now)) }
+{
+    let writer = a.write_to(writer)?;
+    write_two(b, c, writer)
+}
+
+/// Writes four values, one after the other.
+pub fn write_four<A: Xdr, B: Xdr, C: Xdr, D: Xdr>(
+    a: &A,
+    b: &B,
+    c: &C,
+    d: &D,
+    writer: Writer,
+) -> Result<Writer, Memory>
+    ensures { IfOk result (AppendsValue (A.codec ⊗ B.codec ⊗ C.codec ⊗ D.codec) writer (a.now & b.now & c.now & d.now)) }
+{
+    let writer = a.write_to(writer)?;
+    write_three(b, c, d, writer)
 }

@@ -4,6 +4,7 @@ ghost use Rattle.nr_nfs_base.specs.SetAttributes.{each_time_how, set_attributes_
 
 use crate::fault::ValueFault;
 use crate::numbered::{Numbered, read_numbered, write_numbered};
+use crate::pair::write_two;
 use crate::time::Time;
 use crate::xdr::Xdr;
 use nr_xdr::{Memory, Reader, Writer};
@@ -92,10 +93,7 @@ impl Xdr for SetTime {
         match self {
             SetTime::Leave => TimeHow::DontChange.write_to(writer),
             SetTime::ServerTime => TimeHow::SetToServerTime.write_to(writer),
-            SetTime::ClientTime(value) => {
-                let writer = TimeHow::SetToClientTime.write_to(writer)?;
-                value.write_to(writer)
-            }
+            SetTime::ClientTime(value) => { write_two(&TimeHow::SetToClientTime, value, writer) }
         }
     }
 }

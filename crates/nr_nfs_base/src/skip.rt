@@ -1,7 +1,7 @@
 //! Passing over values without memory.
 
 ghost use Rattle.std.specs.Prelude.{◌≡◌, Some, None};
-ghost use Rattle.nr_nfs_base.specs.Codec.{cursor_behind, one_of, read_or_none};
+ghost use Rattle.nr_nfs_base.specs.Codec.{cursor_behind, enumeration, read_or_none};
 
 use crate::attributes::{Attributes, AttributesParts, SpecialData};
 use crate::file_type::FileType;
@@ -10,6 +10,7 @@ use crate::opaque::Opaque;
 use crate::set_attributes::{SetAttributes, SetAttributesParts, SetTime, TimeHow};
 use crate::stable::StableHow;
 use crate::time::Time;
+use crate::verifier::Verifier;
 use crate::xdr::Xdr;
 use nr_xdr::Reader;
 
@@ -61,9 +62,9 @@ impl<const MAX: u32> Skip for Opaque<MAX> {
 }
 
 /// The value of an enumeration at the reader's place, and the reader behind it.
-#[tactic(auto, unfolding(crate::specs::Codec::one_of, crate::specs::Codec::word))]
+#[tactic(auto, unfolding(crate::specs::Codec::enumeration, crate::specs::Codec::word))]
 fn next_numbered<'a, T: Numbered>(mut reader: Reader<'a>) -> Option<(T, Reader<'a>)>
-    ensures { result ≡ read_or_none ((one_of T.number T.all).read reader.entry) }
+    ensures { result ≡ read_or_none ((enumeration T.number T.all).read reader.entry) }
 {
     match reader.u32() {
         Err(_) => None,
@@ -76,7 +77,7 @@ fn next_numbered<'a, T: Numbered>(mut reader: Reader<'a>) -> Option<(T, Reader<'
 
 /// The reader behind an enumeration.
 pub fn skip_numbered<'a, T: Numbered>(reader: Reader<'a>) -> Option<Reader<'a>>
-    ensures { result ≡ cursor_behind ((one_of T.number T.all).read reader.entry) }
+    ensures { result ≡ cursor_behind ((enumeration T.number T.all).read reader.entry) }
 {
     match next_numbered::<T>(reader) {
         None => None,
@@ -129,28 +130,35 @@ impl<A: Skip, B: Skip> Skip for (A, B) {
     }
 }
 
-#[tactic(auto, using(crate::proofs::Skipping::via_behind), unfolding(crate::specs::Time::time_codec))]
+#[tactic(auto, using(crate::proofs::Skipping::structure_behind), unfolding(crate::specs::Time::time_codec))]
 impl Skip for Time {
     fn skip_from<'a>(reader: Reader<'a>) -> Option<Reader<'a>> {
         <(u32, u32)>::skip_from(reader)
     }
 }
 
-#[tactic(auto, using(crate::proofs::Skipping::via_behind), unfolding(crate::specs::Attributes::special_data_codec))]
+#[tactic(auto, using(crate::proofs::Skipping::structure_behind), unfolding(crate::specs::Verifier::verifier_codec))]
+impl Skip for Verifier {
+    fn skip_from<'a>(reader: Reader<'a>) -> Option<Reader<'a>> {
+        u64::skip_from(reader)
+    }
+}
+
+#[tactic(auto, using(crate::proofs::Skipping::structure_behind), unfolding(crate::specs::Attributes::special_data_codec))]
 impl Skip for SpecialData {
     fn skip_from<'a>(reader: Reader<'a>) -> Option<Reader<'a>> {
         <(u32, u32)>::skip_from(reader)
     }
 }
 
-#[tactic(auto, using(crate::proofs::Skipping::via_behind), unfolding(crate::specs::Attributes::attributes_codec))]
+#[tactic(auto, using(crate::proofs::Skipping::structure_behind), unfolding(crate::specs::Attributes::attributes_codec))]
 impl Skip for Attributes {
     fn skip_from<'a>(reader: Reader<'a>) -> Option<Reader<'a>> {
         AttributesParts::skip_from(reader)
     }
 }
 
-#[tactic(auto, using(crate::proofs::Skipping::via_behind), unfolding(crate::specs::SetAttributes::set_attributes_codec))]
+#[tactic(auto, using(crate::proofs::Skipping::structure_behind), unfolding(crate::specs::SetAttributes::set_attributes_codec))]
 impl Skip for SetAttributes {
     fn skip_from<'a>(reader: Reader<'a>) -> Option<Reader<'a>> {
         SetAttributesParts::skip_from(reader)

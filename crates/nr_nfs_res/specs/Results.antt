@@ -1,7 +1,7 @@
 -- The results of each procedure: a status, then what it gives where nothing failed, or what goes with a failure.
 use Rattle.std.specs.Prelude.{Option}
 use Rattle.nr_nfs_base.specs.Attributes.{attributes_codec}
-use Rattle.nr_nfs_base.specs.Codec.{Codec, nothing, optional}
+use Rattle.nr_nfs_base.specs.Codec.{Codec, void, optional}
 use Rattle.nr_nfs_base.specs.MountStatus.{mount_status_number, mount_statuses}
 use Rattle.nr_nfs_base.specs.StatusUnion.{status_union_codec}
 use Rattle.nr_nfs_base.specs.Status.{status_number, statuses}
@@ -41,7 +41,7 @@ nfs_result = status_union_codec status_number statuses
 
 -- GETATTR (RFC 1813 section 3.3.1)
 abbrev pub getattr_res_codec : Codec (StatusUnion Attributes (Unit {0}) Status)
-getattr_res_codec = nfs_result attributes_codec nothing
+getattr_res_codec = nfs_result attributes_codec void
 
 -- SETATTR (RFC 1813 section 3.3.2)
 abbrev pub setattr_res_codec : Codec (StatusUnion WccData WccData Status)
@@ -125,4 +125,4 @@ commit_res_codec = nfs_result commit_ok_codec wcc_data_codec
 
 -- MNT, behind a status of MOUNT (RFC 1813 section 5.2.1)
 abbrev pub mnt_res_codec : Codec (StatusUnion MountOk (Unit {0}) MountStatus)
-mnt_res_codec = status_union_codec mount_status_number mount_statuses mount_ok_codec nothing
+mnt_res_codec = status_union_codec mount_status_number mount_statuses mount_ok_codec void

@@ -2,7 +2,7 @@
 
 ghost use Rattle.nr_nfs_res.specs.Mount.{mount_ok_codec, mount_ok_lawful, umnt_res_codec, umnt_res_lawful, umntall_res_codec, umntall_res_lawful};
 
-use nr_nfs_base::{Array, Handle, MountStatus, StatusUnion, ValueFault, Xdr};
+use nr_nfs_base::{Array, Handle, MountStatus, StatusUnion, ValueFault, Xdr, write_two};
 use nr_xdr::{Memory, Reader, Writer};
 use std::alloc::Global;
 
@@ -14,7 +14,7 @@ pub struct MountOk {
     pub flavors: Array<u32>,
 }
 
-#[tactic(auto, using(nr_nfs_base::proofs::Puts::puts_both), unfolding(crate::specs::Mount::mount_ok_codec))]
+#[tactic(auto, unfolding(crate::specs::Mount::mount_ok_codec))]
 impl Xdr for MountOk {
     ghost codec = { mount_ok_codec };
 
@@ -24,15 +24,12 @@ impl Xdr for MountOk {
         alloc: Global,
         reader: Reader<'a>,
     ) -> Result<(MountOk, Reader<'a>), ValueFault> {
-        let (handle, reader) = Handle::read_from(alloc, reader)?;
-        let (flavors, reader) = Array::<u32>::read_from(alloc, reader)?;
+        let ((handle, flavors), reader) = <(Handle, Array<u32>)>::read_from(alloc, reader)?;
         Ok((MountOk { handle, flavors }, reader))
     }
 
     fn write_to(&self, writer: Writer) -> Result<Writer, Memory> {
-        let writer = self.handle.write_to(writer)?;
-        let writer = self.flavors.write_to(writer)?;
-        Ok(writer)
+        write_two(&self.handle, &self.flavors, writer)
     }
 }
 

@@ -1,10 +1,10 @@
 use Rattle.std.proofs.Common.{◌≡◌, ◌-◌, length}
-use Rattle.nr_nfs_base.specs.Codec.{times}
+use Rattle.nr_nfs_base.specs.Codec.{values_read}
 use Rattle.nr_nfs_base.proofs.Loops.{onto}
 use Rattle.nr_nfs_base.proofs.array.read_values.Given as goal
 
 abbrev pub invariant-loop : goal.invariant-loop
 invariant-loop g l = record {
-  read : onto l.values.items (times g.T.Xdr.codec (l.count - l.counter) l.reader) ≡ times g.T.Xdr.codec l.count l.fn.reader;
+  read : onto l.values.items (values_read g.T.Xdr.codec (l.count - l.counter) l.reader) ≡ values_read g.T.Xdr.codec l.count l.fn.reader;
   counted : length l.values.items ≡ l.counter;
 }
