@@ -1,7 +1,7 @@
 -- Arguments of the calls that make files.
 use Rattle.nr_nfs_args.specs.declared.create_mode.CreateMode.TheVariants as modes
 use Rattle.std.proofs.Common.{refl}
-use Rattle.std.specs.Prelude.{◌≡◌, ℕ, List, Result, Ok}
+use Rattle.std.specs.Prelude.{◌≡◌, ℕ, Bool, true, false, List, Result, Ok}
 use Rattle.nr_nfs_args.specs.CreateMode.{create_mode_codec, create_mode_lawful}
 use Rattle.nr_nfs_args.specs.declared.create.CreateArgs.{CreateArgs}
 use Rattle.nr_nfs_args.specs.declared.create.CreateHow.{CreateHow}
@@ -13,6 +13,7 @@ use Rattle.nr_nfs_base.specs.Laws.{◌⊠◌, structure_lawful, discriminated_un
 use Rattle.nr_nfs_base.specs.Names.{handle_codec, handle_lawful, text_codec, text_lawful}
 use Rattle.nr_nfs_base.specs.SetAttributes.{set_attributes_codec, set_attributes_lawful}
 use Rattle.nr_nfs_base.specs.Verifier.{verifier_codec, verifier_lawful}
+use Rattle.nr_nfs_base.specs.declared.set_attributes.SetAttributes.{SetAttributes}
 use Rattle.nr_xdr.specs.Item.{Item, IsBytes}
 use Rattle.nr_xdr.specs.Items.{TakesAll}
 use Rattle.nr_xdr.specs.Reading.{Cursor}
@@ -32,6 +33,11 @@ abbrev pub create_how_fits : CreateHow → Type 0
 create_how_fits (Unchecked v) = set_attributes_codec.fits v
 create_how_fits (Guarded v) = set_attributes_codec.fits v
 create_how_fits (Exclusive v) = verifier_codec.fits v
+
+-- the arms with attributes
+abbrev pub attributes_arm : Bool → SetAttributes → CreateHow
+attributes_arm true v = Guarded v
+attributes_arm false v = Unchecked v
 
 abbrev pub create_how_read : CreateMode → Cursor → Result (CreateHow × Cursor) ℕ
 create_how_read modes.Unchecked at = arm_value Unchecked (set_attributes_codec.read at)

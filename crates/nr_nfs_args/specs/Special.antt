@@ -1,7 +1,7 @@
 -- Arguments of the calls that make links and special files.
 use Rattle.nr_nfs_base.specs.declared.file_type.FileType.TheVariants as types
 use Rattle.std.proofs.Common.{refl, ap}
-use Rattle.std.specs.Prelude.{◌≡◌, ℕ, List, [], Result, Ok}
+use Rattle.std.specs.Prelude.{◌≡◌, ℕ, Bool, true, false, List, [], Result, Ok}
 use Rattle.nr_nfs_args.specs.declared.special.DeviceData.{DeviceData}
 use Rattle.nr_nfs_args.specs.declared.special.MknodArgs.{MknodArgs}
 use Rattle.nr_nfs_args.specs.declared.special.MknodData.{MknodData}
@@ -15,6 +15,7 @@ use Rattle.nr_nfs_base.specs.Laws.{◌⊠◌, structure_lawful, discriminated_un
 use Rattle.nr_nfs_base.specs.Names.{handle_codec, handle_lawful, text_codec, text_lawful}
 use Rattle.nr_nfs_base.specs.SetAttributes.{set_attributes_codec, set_attributes_lawful}
 use Rattle.nr_nfs_base.specs.declared.file_type.FileType.{FileType}
+use Rattle.nr_nfs_base.specs.declared.set_attributes.SetAttributes.{SetAttributes}
 use Rattle.nr_xdr.specs.Item.{Item, IsBytes}
 use Rattle.nr_xdr.specs.Items.{TakesAll}
 use Rattle.nr_xdr.specs.Reading.{Cursor}
@@ -72,6 +73,15 @@ mknod_data_fits (Chr v) = device_data_codec.fits v
 mknod_data_fits Lnk = Unit {0}
 mknod_data_fits (Sock v) = set_attributes_codec.fits v
 mknod_data_fits (Fifo v) = set_attributes_codec.fits v
+
+-- the arms with the data of a device, and those with attributes alone
+abbrev pub device_arm : Bool → DeviceData → MknodData
+device_arm true v = Blk v
+device_arm false v = Chr v
+
+abbrev pub pipe_arm : Bool → SetAttributes → MknodData
+pipe_arm true v = Sock v
+pipe_arm false v = Fifo v
 
 abbrev pub mknod_data_read : FileType → Cursor → Result (MknodData × Cursor) ℕ
 mknod_data_read types.Reg at = Ok (Reg, at)

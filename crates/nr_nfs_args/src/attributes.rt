@@ -9,7 +9,7 @@ use nr_xdr::{Memory, Reader, Writer};
 use std::alloc::Global;
 
 /// The arguments of GETATTR (RFC 1813 section 3.3.1).
-#[derive(Debug, Drop)]
+#[derive(Drop)]
 pub struct GetattrArgs {
     pub object: Handle,
 }
@@ -34,7 +34,7 @@ impl Xdr for GetattrArgs {
 }
 
 /// The arguments of SETATTR (RFC 1813 section 3.3.2).
-#[derive(Debug, Drop)]
+#[derive(Drop)]
 pub struct SetattrArgs {
     pub object: Handle,
     pub attributes: SetAttributes,
@@ -72,7 +72,7 @@ impl Xdr for SetattrArgs {
 }
 
 /// The arguments of ACCESS (RFC 1813 section 3.3.4).
-#[derive(Debug, Drop)]
+#[derive(Drop)]
 pub struct AccessArgs {
     pub object: Handle,
     /// A bit for each right that is asked about.

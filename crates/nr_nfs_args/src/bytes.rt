@@ -10,7 +10,7 @@ use nr_xdr::{Memory, Reader, Writer};
 use std::alloc::Global;
 
 /// The arguments of READ (RFC 1813 section 3.3.6).
-#[derive(Debug, Drop)]
+#[derive(Drop)]
 pub struct ReadArgs {
     pub file: Handle,
     /// In bytes.
@@ -47,7 +47,7 @@ impl Xdr for ReadArgs {
 }
 
 /// The arguments of WRITE (RFC 1813 section 3.3.7).
-#[derive(Debug, Drop)]
+#[derive(Drop)]
 pub struct WriteArgs {
     pub file: Handle,
     /// In bytes.
@@ -87,7 +87,7 @@ impl Xdr for WriteArgs {
 }
 
 /// The arguments of COMMIT (RFC 1813 section 3.3.21).
-#[derive(Debug, Drop)]
+#[derive(Drop)]
 pub struct CommitArgs {
     pub file: Handle,
     /// In bytes.

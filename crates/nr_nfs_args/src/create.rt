@@ -1,6 +1,8 @@
 //! CREATE and MKDIR.
 
-ghost use Rattle.nr_nfs_args.specs.Create.{create_args_codec, create_args_lawful, create_how_codec, create_how_lawful, mkdir_args_codec, mkdir_args_lawful};
+ghost use Rattle.nr_nfs_args.specs.Create.{attributes_arm, create_args_codec, create_args_lawful, create_how_codec, create_how_lawful, mkdir_args_codec, mkdir_args_lawful};
+ghost use Rattle.nr_nfs_base.specs.Codec.{Answers, arm_value};
+ghost use Rattle.nr_nfs_base.specs.SetAttributes.{set_attributes_codec};
 
 use crate::create_mode::CreateMode;
 use nr_nfs_base::{Handle, Name, SetAttributes, ValueFault, Verifier, Xdr, write_three, write_two};
@@ -8,7 +10,7 @@ use nr_xdr::{Memory, Reader, Writer};
 use std::alloc::Global;
 
 /// How a file is made, and with what (RFC 1813 section 3.3.8, `createhow3`).
-#[derive(Clone, Copy, Debug, PartialEq, Eq)]
+#[derive(Clone, Copy)]
 pub enum CreateHow {
     /// A file of the name may be there already.
     Unchecked(SetAttributes),
@@ -30,14 +32,8 @@ impl Xdr for CreateHow {
     ) -> Result<(CreateHow, Reader<'a>), ValueFault> {
         let (tag, reader) = CreateMode::read_from(alloc, reader)?;
         match tag {
-            CreateMode::Unchecked => {
-                let (value, reader) = SetAttributes::read_from(alloc, reader)?;
-                Ok((CreateHow::Unchecked(value), reader))
-            }
-            CreateMode::Guarded => {
-                let (value, reader) = SetAttributes::read_from(alloc, reader)?;
-                Ok((CreateHow::Guarded(value), reader))
-            }
+            CreateMode::Unchecked => read_attributes(alloc, false, reader),
+            CreateMode::Guarded => read_attributes(alloc, true, reader),
             CreateMode::Exclusive => {
                 let (value, reader) = Verifier::read_from(alloc, reader)?;
                 Ok((CreateHow::Exclusive(value), reader))
@@ -54,8 +50,24 @@ impl Xdr for CreateHow {
     }
 }
 
+/// Reads the attributes that a file is made with.
+fn read_attributes<'a>(
+    alloc: Global,
+    is_guarded: bool,
+    reader: Reader<'a>,
+) -> Result<(CreateHow, Reader<'a>), ValueFault>
+    ensures { Answers result (arm_value (attributes_arm is_guarded) (set_attributes_codec.read reader.entry)) }
+{
+    let (value, reader) = SetAttributes::read_from(alloc, reader)?;
+    if is_guarded {
+        Ok((CreateHow::Guarded(value), reader))
+    } else {
+        Ok((CreateHow::Unchecked(value), reader))
+    }
+}
+
 /// The arguments of CREATE (RFC 1813 section 3.3.8).
-#[derive(Debug, Drop)]
+#[derive(Drop)]
 pub struct CreateArgs {
     pub dir: Handle,
     pub name: Name,
@@ -82,7 +94,7 @@ impl Xdr for CreateArgs {
 }
 
 /// The arguments of MKDIR (RFC 1813 section 3.3.9).
-#[derive(Debug, Drop)]
+#[derive(Drop)]
 pub struct MkdirArgs {
     pub dir: Handle,
     pub name: Name,

@@ -7,7 +7,7 @@ use nr_xdr::{Memory, Reader, Writer};
 use std::alloc::Global;
 
 /// The arguments of LOOKUP (RFC 1813 section 3.3.3).
-#[derive(Debug, Drop)]
+#[derive(Drop)]
 pub struct LookupArgs {
     pub dir: Handle,
     pub name: Name,
@@ -33,7 +33,7 @@ impl Xdr for LookupArgs {
 }
 
 /// The arguments of READLINK (RFC 1813 section 3.3.5).
-#[derive(Debug, Drop)]
+#[derive(Drop)]
 pub struct ReadlinkArgs {
     pub symlink: Handle,
 }

@@ -10,7 +10,7 @@ use nr_xdr::{Memory, Reader, Writer};
 use std::alloc::Global;
 
 /// The arguments of READDIR (RFC 1813 section 3.3.16).
-#[derive(Debug, Drop)]
+#[derive(Drop)]
 pub struct ReaddirArgs {
     pub dir: Handle,
     /// That of the last entry known, 0 for none.
@@ -50,7 +50,7 @@ impl Xdr for ReaddirArgs {
 }
 
 /// The arguments of READDIRPLUS (RFC 1813 section 3.3.17).
-#[derive(Debug, Drop)]
+#[derive(Drop)]
 pub struct ReaddirplusArgs {
     pub dir: Handle,
     /// That of the last entry known, 0 for none.

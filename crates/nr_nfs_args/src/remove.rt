@@ -7,7 +7,7 @@ use nr_xdr::{Memory, Reader, Writer};
 use std::alloc::Global;
 
 /// The arguments of REMOVE (RFC 1813 section 3.3.12).
-#[derive(Debug, Drop)]
+#[derive(Drop)]
 pub struct RemoveArgs {
     pub dir: Handle,
     pub name: Name,
@@ -33,7 +33,7 @@ impl Xdr for RemoveArgs {
 }
 
 /// The arguments of RMDIR (RFC 1813 section 3.3.13).
-#[derive(Debug, Drop)]
+#[derive(Drop)]
 pub struct RmdirArgs {
     pub dir: Handle,
     pub name: Name,
@@ -59,7 +59,7 @@ impl Xdr for RmdirArgs {
 }
 
 /// The arguments of RENAME (RFC 1813 section 3.3.14).
-#[derive(Debug, Drop)]
+#[derive(Drop)]
 pub struct RenameArgs {
     pub from_dir: Handle,
     pub from_name: Name,
@@ -104,7 +104,7 @@ impl Xdr for RenameArgs {
 }
 
 /// The arguments of LINK (RFC 1813 section 3.3.15).
-#[derive(Debug, Drop)]
+#[derive(Drop)]
 pub struct LinkArgs {
     pub file: Handle,
     pub dir: Handle,

@@ -1,6 +1,8 @@
 //! SYMLINK and MKNOD.
 
-ghost use Rattle.nr_nfs_args.specs.Special.{device_data_codec, device_data_lawful, mknod_args_codec, mknod_args_lawful, mknod_data_codec, mknod_data_lawful, symlink_args_codec, symlink_args_lawful};
+ghost use Rattle.nr_nfs_args.specs.Special.{device_arm, device_data_codec, device_data_lawful, mknod_args_codec, mknod_args_lawful, mknod_data_codec, mknod_data_lawful, pipe_arm, symlink_args_codec, symlink_args_lawful};
+ghost use Rattle.nr_nfs_base.specs.Codec.{Answers, arm_value};
+ghost use Rattle.nr_nfs_base.specs.SetAttributes.{set_attributes_codec};
 
 use nr_nfs_base::{
     FileType, Handle, Name, Path, SetAttributes, SpecialData, SymlinkArgsFront, ValueFault, Xdr,
@@ -10,7 +12,7 @@ use nr_xdr::{Memory, Reader, Writer};
 use std::alloc::Global;
 
 /// The arguments of SYMLINK (RFC 1813 section 3.3.10).
-#[derive(Debug, Drop)]
+#[derive(Drop)]
 pub struct SymlinkArgs {
     pub dir: Handle,
     pub name: Name,
@@ -48,7 +50,7 @@ impl Xdr for SymlinkArgs {
 }
 
 /// What a device is made with (RFC 1813 section 3.3.11, `devicedata3`).
-#[derive(Clone, Copy, Debug, PartialEq, Eq)]
+#[derive(Clone, Copy)]
 pub struct DeviceData {
     pub attributes: SetAttributes,
     pub device: SpecialData,
@@ -77,7 +79,7 @@ impl Xdr for DeviceData {
 
 /// What MKNOD makes, and with what (RFC 1813 section 3.3.11, `mknoddata3`). The types that MKNOD cannot make are encoded
 /// too, with nothing behind them.
-#[derive(Clone, Copy, Debug, PartialEq, Eq)]
+#[derive(Clone, Copy)]
 pub enum MknodData {
     /// A regular file.
     Reg,
@@ -109,23 +111,11 @@ impl Xdr for MknodData {
         match tag {
             FileType::Reg => Ok((MknodData::Reg, reader)),
             FileType::Dir => Ok((MknodData::Dir, reader)),
-            FileType::Blk => {
-                let (value, reader) = DeviceData::read_from(alloc, reader)?;
-                Ok((MknodData::Blk(value), reader))
-            }
-            FileType::Chr => {
-                let (value, reader) = DeviceData::read_from(alloc, reader)?;
-                Ok((MknodData::Chr(value), reader))
-            }
             FileType::Lnk => Ok((MknodData::Lnk, reader)),
-            FileType::Sock => {
-                let (value, reader) = SetAttributes::read_from(alloc, reader)?;
-                Ok((MknodData::Sock(value), reader))
-            }
-            FileType::Fifo => {
-                let (value, reader) = SetAttributes::read_from(alloc, reader)?;
-                Ok((MknodData::Fifo(value), reader))
-            }
+            FileType::Blk => read_device(alloc, true, reader),
+            FileType::Chr => read_device(alloc, false, reader),
+            FileType::Sock => read_pipe(alloc, true, reader),
+            FileType::Fifo => read_pipe(alloc, false, reader),
         }
     }
 
@@ -142,8 +132,40 @@ impl Xdr for MknodData {
     }
 }
 
+/// Reads what a block device or a character device is made with.
+fn read_device<'a>(
+    alloc: Global,
+    is_block: bool,
+    reader: Reader<'a>,
+) -> Result<(MknodData, Reader<'a>), ValueFault>
+    ensures { Answers result (arm_value (device_arm is_block) (device_data_codec.read reader.entry)) }
+{
+    let (value, reader) = DeviceData::read_from(alloc, reader)?;
+    if is_block {
+        Ok((MknodData::Blk(value), reader))
+    } else {
+        Ok((MknodData::Chr(value), reader))
+    }
+}
+
+/// Reads what a socket or a named pipe is made with.
+fn read_pipe<'a>(
+    alloc: Global,
+    is_socket: bool,
+    reader: Reader<'a>,
+) -> Result<(MknodData, Reader<'a>), ValueFault>
+    ensures { Answers result (arm_value (pipe_arm is_socket) (set_attributes_codec.read reader.entry)) }
+{
+    let (value, reader) = SetAttributes::read_from(alloc, reader)?;
+    if is_socket {
+        Ok((MknodData::Sock(value), reader))
+    } else {
+        Ok((MknodData::Fifo(value), reader))
+    }
+}
+
 /// The arguments of MKNOD (RFC 1813 section 3.3.11).
-#[derive(Debug, Drop)]
+#[derive(Drop)]
 pub struct MknodArgs {
     pub dir: Handle,
     pub name: Name,

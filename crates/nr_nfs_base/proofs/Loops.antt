@@ -1,42 +1,39 @@
 -- Values read one after the other, as a loop does.
-use Rattle.std.proofs.Common.{◌≡◌, ℕ, suc, ◌-◌, ◌+◌, ◌≤◌, ◌<◌, List, [], ◌∷◌, ◌++◌, Option, Some, None, Result, Ok, Err, refl, sym, ap, ◌∙◌, append_assoc, arith}
+use Rattle.std.proofs.Common.{◌≡◌, ℕ, Bool, true, false, suc, ◌-◌, ◌+◌, ◌≤◌, ◌<◌, List, [], ◌∷◌, ◌++◌, Option, Some, None, Result, Ok, Err, refl, sym, ap, ◌∙◌, append_assoc, arith}
 use Rattle.std.proofs.lemmas.List.{append-nil}
 use Rattle.nr_xdr.specs.Reading.{Cursor}
 use Rattle.nr_nfs_base.specs.declared.fault.ValueFault.{ValueFault}
 use Rattle.nr_nfs_base.specs.declared.fault.ValueFault.TheVariants as faults
 use Rattle.nr_xdr.specs.Sequencing.{◌>>=◌}
-use Rattle.nr_nfs_base.specs.Codec.{Codec, with_first, linked_list_read, optional, values_read, Answers}
+use Rattle.nr_nfs_base.specs.Codec.{Codec, with_first, linked_list_read, optional, values_read, Answers, NextPushed, onto}
 
-abbrev ValuesRead : Type 0 → Type 0
-ValuesRead A = Result (List A × Cursor) ℕ
-
--- what was read before, and what is still read
-abbrev pub onto : {A : Type 0} → List A → Result (List A × Cursor) ℕ → Result (List A × Cursor) ℕ
-onto front read = read >>= λ x. Ok (front ++ x.0, x.1)
+pub onto_nothing : {A : Type 0} (read : Result (List A × Cursor) ℕ) → onto [] read ≡ read
+onto_nothing (Ok x) = refl
+onto_nothing (Err at) = refl
 
 regroup : {A : Type 0} (front : List A) (v : A) (read : Result (List A × Cursor) ℕ) → onto front (with_first v read) ≡ onto (front ++ v ∷ []) read
 regroup {A} front v (Ok x) = ap (λ (vs : List A). Ok (vs, x.1)) (simp append_assoc)
 regroup front v (Err at) = refl
 
--- ---- Chains
+-- ---- Linked lists
 
-pub linked_list_goes_on : {A : Type 0} (c : Codec A) (front : List A) (n i : ℕ) (at : Cursor) (o : Option A) (v : A) (to : Cursor) (total : Result (List A × Cursor) ℕ) → i < n → o ≡ Some v → (optional c).read at ≡ Ok (o, to)
-    → onto front (linked_list_read c (n - i) at) ≡ total → onto (front ++ v ∷ []) (linked_list_read c (n - (i + 1)) to) ≡ total
+pub linked_list_goes_on : {A : Type 0} (c : Codec A) (front new : List A) (n i : ℕ) (at : Cursor) (is_value : Bool) (to : Cursor) (total : Result (List A × Cursor) ℕ) → i < n → is_value ≡ true
+    → NextPushed front new is_value to ((optional c).read at) → onto front (linked_list_read c (n - i) at) ≡ total → onto new (linked_list_read c (n - (i + 1)) to) ≡ total
 unfolding linked_list_read
-linked_list_goes_on c front n i at o v to total lt is h so_far =
+linked_list_goes_on c front new n i at true to total lt is (v, read, pushed) so_far =
     let k : n - i ≡ suc (n - (i + 1)) = omega arith in
-    let there : (optional c).read at ≡ Ok (Some v, to) = rw is at h in
-    let one : onto front (linked_list_read c (n - i) at) ≡ onto (front ++ v ∷ []) (linked_list_read c (n - (i + 1)) to) = rw (k, there) (regroup front v (linked_list_read c (n - (i + 1)) to)) in
-    sym one ∙ so_far
+    let one : onto front (linked_list_read c (n - i) at) ≡ onto (front ++ v ∷ []) (linked_list_read c (n - (i + 1)) to) = rw (k, read) (regroup front v (linked_list_read c (n - (i + 1)) to)) in
+    rw pushed (sym one ∙ so_far)
+linked_list_goes_on c front new n i at false to total lt is next so_far = absurd cc
 
-pub linked_list_ends : {A : Type 0} (c : Codec A) (front : List A) (n i : ℕ) (at : Cursor) (o : Option A) (to : Cursor) (total : Result (List A × Cursor) ℕ) → i < n → o ≡ None → (optional c).read at ≡ Ok (o, to)
-    → onto front (linked_list_read c (n - i) at) ≡ total → total ≡ Ok (front, to)
+pub linked_list_ends : {A : Type 0} (c : Codec A) (front new : List A) (n i : ℕ) (at : Cursor) (is_value : Bool) (to : Cursor) (total : Result (List A × Cursor) ℕ) → i < n → is_value ≡ false
+    → NextPushed front new is_value to ((optional c).read at) → onto front (linked_list_read c (n - i) at) ≡ total → total ≡ Ok (new, to)
 unfolding linked_list_read
-linked_list_ends {A} c front n i at o to total lt is h so_far =
+linked_list_ends {A} c front new n i at false to total lt is (read, same) so_far =
     let k : n - i ≡ suc (n - (i + 1)) = omega arith in
-    let there : (optional c).read at ≡ Ok (None, to) = rw is at h in
-    let one : onto front (linked_list_read c (n - i) at) ≡ Ok (front, to) = rw (k, there) (ap (λ (vs : List A). Ok (vs, to)) (append-nil front)) in
-    sym so_far ∙ one
+    let one : onto front (linked_list_read c (n - i) at) ≡ Ok (front, to) = rw (k, read) (ap (λ (vs : List A). Ok (vs, to)) (append-nil front)) in
+    rw same (sym so_far ∙ one)
+linked_list_ends c front new n i at true to total lt is next so_far = absurd cc
 
 pub linked_list_fails : {A : Type 0} (c : Codec A) (e : ValueFault) (front : List A) (n i : ℕ) (at : Cursor) (total : Result (List A × Cursor) ℕ) → i < n → Answers {A = Option A × Cursor} (Err e) ((optional c).read at)
     → onto front (linked_list_read c (n - i) at) ≡ total → Answers {A = List A × Cursor} (Err e) total

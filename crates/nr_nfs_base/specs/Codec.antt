@@ -211,3 +211,23 @@ abbrev pub Answers : {A : Type 0} → Result A ValueFault → Result A ℕ → T
 Answers (Ok v) read = read ≡ Ok v
 Answers (Err faults.Memory) read = Unit {0}
 Answers (Err (faults.Bad at)) read = read ≡ Err at
+
+-- the values that stand in front, and behind them those that are read
+abbrev pub onto : {A : Type 0} → List A → Result (List A × Cursor) ℕ → Result (List A × Cursor) ℕ
+onto front read = read >>= λ x. Ok (front ++ x.0, x.1)
+
+-- The values that are read stand behind the old ones, and the result is the cursor behind them. Else it is the fault, or
+-- want of memory.
+abbrev pub PushesValues : {A : Type 0} → List A → List A → Result Cursor ValueFault → Result (List A × Cursor) ℕ → Type 0
+PushesValues {A} old new (Ok behind) read = onto old read ≡ Ok (new, behind)
+PushesValues {A} old new (Err e) read = Answers {A = List A × Cursor} (Err e) (onto old read)
+
+-- The value behind a flag stands behind the old ones, or there is none; the result says which, with the cursor behind it.
+-- Else it is the fault, or want of memory.
+abbrev pub NextPushed : {A : Type 0} → List A → List A → Bool → Cursor → Result (Option A × Cursor) ℕ → Type 0
+NextPushed {A} old new true behind read = (v : A) × (read ≡ Ok (Some v, behind)) × (new ≡ old ++ v ∷ [])
+NextPushed old new false behind read = (read ≡ Ok (None, behind)) × (new ≡ old)
+
+abbrev pub PushesNext : {A : Type 0} → List A → List A → Result (Bool × Cursor) ValueFault → Result (Option A × Cursor) ℕ → Type 0
+PushesNext old new (Ok x) read = NextPushed old new x.0 x.1 read
+PushesNext {A} old new (Err e) read = Answers {A = Option A × Cursor} (Err e) read

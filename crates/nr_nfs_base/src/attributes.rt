@@ -11,7 +11,7 @@ use nr_xdr::{Memory, Reader, Writer};
 use std::alloc::Global;
 
 /// The device that a special file stands for (RFC 1813 section 2.5, `specdata3`).
-#[derive(Clone, Copy, Debug, PartialEq, Eq)]
+#[derive(Clone, Copy)]
 pub struct SpecialData {
     pub major: u32,
     pub minor: u32,
@@ -37,7 +37,7 @@ impl Xdr for SpecialData {
 }
 
 /// The attributes of a file (RFC 1813 section 2.5, `fattr3`).
-#[derive(Clone, Copy, Debug, PartialEq, Eq)]
+#[derive(Clone, Copy)]
 pub struct Attributes {
     pub file_type: FileType,
     /// The permission bits.

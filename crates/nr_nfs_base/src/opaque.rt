@@ -11,7 +11,7 @@ use std::alloc::Global;
 use std::marker::Model;
 
 /// Opaque data of at most `MAX` bytes (RFC 4506 section 4.10). Contracts see it as the list of its bytes.
-#[derive(Debug, Drop)]
+#[derive(Drop)]
 pub struct Opaque<const MAX: u32> {
     bytes: Octets,
 }

@@ -11,7 +11,7 @@ use nr_xdr::{Memory, Reader, Writer};
 use std::alloc::Global;
 
 /// How a time is to be set (RFC 1813 section 2.5, `time_how`).
-#[derive(Clone, Copy, Debug, PartialEq, Eq)]
+#[derive(Clone, Copy)]
 pub enum TimeHow {
     DontChange = 0,
     SetToServerTime = 1,
@@ -58,7 +58,7 @@ impl Xdr for TimeHow {
 }
 
 /// What a time is to be set to (RFC 1813 section 2.5, `set_atime` and `set_mtime`).
-#[derive(Clone, Copy, Debug, PartialEq, Eq)]
+#[derive(Clone, Copy)]
 pub enum SetTime {
     /// It stays.
     Leave,
@@ -99,7 +99,7 @@ impl Xdr for SetTime {
 }
 
 /// The attributes that a call sets; one that is absent stays (RFC 1813 section 2.5, `sattr3`).
-#[derive(Clone, Copy, Debug, PartialEq, Eq)]
+#[derive(Clone, Copy)]
 pub struct SetAttributes {
     pub mode: Option<u32>,
     pub uid: Option<u32>,

@@ -13,7 +13,7 @@ use std::alloc::Global;
 
 /// The answer of a procedure: what it gives where nothing failed, or why it failed and what goes with a failure
 /// (RFC 1813 section 3.3, the unions over `nfsstat3`; section 5.2.1, that over `mountstat3`).
-#[derive(Debug, Drop)]
+#[derive(Drop)]
 pub enum StatusUnion<D, F, S = Status> {
     /// Status 0.
     Done(D),

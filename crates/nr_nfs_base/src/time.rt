@@ -9,7 +9,7 @@ use nr_xdr::{Memory, Reader, Writer};
 use std::alloc::Global;
 
 /// A moment: seconds and nanoseconds since the start of 1970 (RFC 1813 section 2.5, `nfstime3`).
-#[derive(Clone, Copy, Debug, PartialEq, Eq)]
+#[derive(Clone, Copy)]
 pub struct Time {
     pub seconds: u32,
     /// Any number: only a server refuses one of 10^9 or more.

@@ -11,7 +11,7 @@ use nr_xdr::{Memory, Reader, Writer};
 use std::alloc::Global;
 
 /// What tells whether a cached file is still the same (RFC 1813 section 2.5, `wcc_attr`).
-#[derive(Clone, Copy, Debug, PartialEq, Eq)]
+#[derive(Clone, Copy)]
 pub struct WccAttributes {
     /// In bytes.
     pub size: u64,
@@ -39,7 +39,7 @@ impl Xdr for WccAttributes {
 }
 
 /// A file before and after a call that may change it (RFC 1813 section 2.5, `wcc_data`).
-#[derive(Clone, Copy, Debug, PartialEq, Eq)]
+#[derive(Clone, Copy)]
 pub struct WccData {
     pub before: Option<WccAttributes>,
     pub after: Option<Attributes>,

@@ -13,7 +13,7 @@ pub type SetattrRes = StatusUnion<WccData, WccData>;
 pub type GetattrRes = StatusUnion<Attributes, ()>;
 
 /// What ACCESS gives (RFC 1813 section 3.3.4).
-#[derive(Clone, Copy, Debug, PartialEq, Eq)]
+#[derive(Clone, Copy)]
 pub struct AccessOk {
     pub attributes: Option<Attributes>,
     /// A bit for each right that is granted.

@@ -10,7 +10,7 @@ use nr_xdr::{Memory, Reader, Writer};
 use std::alloc::Global;
 
 /// What READ gives (RFC 1813 section 3.3.6).
-#[derive(Debug, Drop)]
+#[derive(Drop)]
 pub struct ReadOk {
     pub attributes: Option<Attributes>,
     /// In bytes.
@@ -53,7 +53,7 @@ impl Xdr for ReadOk {
 pub type ReadRes = StatusUnion<ReadOk, Option<Attributes>>;
 
 /// What WRITE gives (RFC 1813 section 3.3.7).
-#[derive(Clone, Copy, Debug, PartialEq, Eq)]
+#[derive(Clone, Copy)]
 pub struct WriteOk {
     pub wcc: WccData,
     /// The bytes that were written.
@@ -102,7 +102,7 @@ impl Xdr for WriteOk {
 pub type WriteRes = StatusUnion<WriteOk, WccData>;
 
 /// What COMMIT gives (RFC 1813 section 3.3.21).
-#[derive(Clone, Copy, Debug, PartialEq, Eq)]
+#[derive(Clone, Copy)]
 pub struct CommitOk {
     pub wcc: WccData,
     pub verifier: Verifier,

@@ -7,7 +7,7 @@ use nr_xdr::{Memory, Reader, Writer};
 use std::alloc::Global;
 
 /// What a call gives that makes a file (RFC 1813 sections 3.3.8 to 3.3.11).
-#[derive(Debug, Drop)]
+#[derive(Drop)]
 pub struct CreateOk {
     pub object: Option<Handle>,
     /// Those of the object.

@@ -7,7 +7,7 @@ use nr_xdr::{Memory, Reader, Writer};
 use std::alloc::Global;
 
 /// What FSSTAT gives (RFC 1813 section 3.3.18).
-#[derive(Clone, Copy, Debug, PartialEq, Eq)]
+#[derive(Clone, Copy)]
 pub struct FsstatOk {
     pub attributes: Option<Attributes>,
     /// All bytes.
@@ -78,7 +78,7 @@ impl Xdr for FsstatOk {
 pub type FsstatRes = StatusUnion<FsstatOk, Option<Attributes>>;
 
 /// What FSINFO gives (RFC 1813 section 3.3.19).
-#[derive(Clone, Copy, Debug, PartialEq, Eq)]
+#[derive(Clone, Copy)]
 pub struct FsinfoOk {
     pub attributes: Option<Attributes>,
     /// The most bytes of a READ.
@@ -191,7 +191,7 @@ impl Xdr for FsinfoOk {
 pub type FsinfoRes = StatusUnion<FsinfoOk, Option<Attributes>>;
 
 /// What PATHCONF gives (RFC 1813 section 3.3.20).
-#[derive(Clone, Copy, Debug, PartialEq, Eq)]
+#[derive(Clone, Copy)]
 pub struct PathconfOk {
     pub attributes: Option<Attributes>,
     /// The most hard links of a file.

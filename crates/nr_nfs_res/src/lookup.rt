@@ -7,7 +7,7 @@ use nr_xdr::{Memory, Reader, Writer};
 use std::alloc::Global;
 
 /// What LOOKUP gives (RFC 1813 section 3.3.3).
-#[derive(Debug, Drop)]
+#[derive(Drop)]
 pub struct LookupOk {
     pub object: Handle,
     /// Those of the object.
@@ -48,7 +48,7 @@ impl Xdr for LookupOk {
 pub type LookupRes = StatusUnion<LookupOk, Option<Attributes>>;
 
 /// What READLINK gives (RFC 1813 section 3.3.5).
-#[derive(Debug, Drop)]
+#[derive(Drop)]
 pub struct ReadlinkOk {
     pub attributes: Option<Attributes>,
     pub path: Path,

@@ -7,7 +7,7 @@ use nr_xdr::{Memory, Reader, Writer};
 use std::alloc::Global;
 
 /// What MNT gives (RFC 1813 section 5.2.1, `mountres3_ok`).
-#[derive(Debug, Drop)]
+#[derive(Drop)]
 pub struct MountOk {
     pub handle: Handle,
     /// The flavors of credentials that the server takes.
@@ -37,7 +37,7 @@ impl Xdr for MountOk {
 pub type MntRes = StatusUnion<MountOk, (), MountStatus>;
 
 /// Nothing: UMNT (RFC 1813 section 5.2.3).
-#[derive(Clone, Copy, Debug, PartialEq, Eq)]
+#[derive(Clone, Copy)]
 pub struct UmntRes;
 
 #[tactic(auto, unfolding(crate::specs::Mount::umnt_res_codec))]
@@ -59,7 +59,7 @@ impl Xdr for UmntRes {
 }
 
 /// Nothing: UMNTALL (RFC 1813 section 5.2.4).
-#[derive(Clone, Copy, Debug, PartialEq, Eq)]
+#[derive(Clone, Copy)]
 pub struct UmntallRes;
 
 #[tactic(auto, unfolding(crate::specs::Mount::umntall_res_codec))]

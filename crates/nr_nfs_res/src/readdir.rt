@@ -10,7 +10,7 @@ use nr_xdr::{Memory, Reader, Writer};
 use std::alloc::Global;
 
 /// An entry of a directory (RFC 1813 section 3.3.16, `entry3`).
-#[derive(Debug, Drop)]
+#[derive(Drop)]
 pub struct Entry {
     pub fileid: u64,
     pub name: Name,
@@ -41,7 +41,7 @@ impl Xdr for Entry {
 }
 
 /// What READDIR gives (RFC 1813 section 3.3.16).
-#[derive(Debug, Drop)]
+#[derive(Drop)]
 pub struct ReaddirOk {
     pub dir_attributes: Option<Attributes>,
     pub verifier: Verifier,
@@ -90,7 +90,7 @@ impl Xdr for ReaddirOk {
 pub type ReaddirRes = StatusUnion<ReaddirOk, Option<Attributes>>;
 
 /// An entry of a directory and what it names (RFC 1813 section 3.3.17, `entryplus3`).
-#[derive(Debug, Drop)]
+#[derive(Drop)]
 pub struct EntryPlus {
     pub fileid: u64,
     pub name: Name,
@@ -136,7 +136,7 @@ impl Xdr for EntryPlus {
 }
 
 /// What READDIRPLUS gives (RFC 1813 section 3.3.17).
-#[derive(Debug, Drop)]
+#[derive(Drop)]
 pub struct ReaddirplusOk {
     pub dir_attributes: Option<Attributes>,
     pub verifier: Verifier,

@@ -13,7 +13,7 @@ pub type RmdirRes = StatusUnion<WccData, WccData>;
 pub type RemoveRes = StatusUnion<WccData, WccData>;
 
 /// The directories of RENAME before and after it (RFC 1813 section 3.3.14).
-#[derive(Clone, Copy, Debug, PartialEq, Eq)]
+#[derive(Clone, Copy)]
 pub struct RenameWcc {
     pub from_dir: WccData,
     pub to_dir: WccData,
@@ -42,7 +42,7 @@ impl Xdr for RenameWcc {
 pub type RenameRes = StatusUnion<RenameWcc, RenameWcc>;
 
 /// The file and the directory of LINK (RFC 1813 section 3.3.15).
-#[derive(Clone, Copy, Debug, PartialEq, Eq)]
+#[derive(Clone, Copy)]
 pub struct LinkWcc {
     /// Those of the file.
     pub attributes: Option<Attributes>,
