@@ -66,11 +66,14 @@ pub readlink_ok_front_lawful : Lawful readlink_ok_front
 readlink_ok_front_lawful = optional_lawful _ attributes_lawful
 
 -- the status of a call that succeeded, which is 0 (RFC 1813 section 2.5, NFS3_OK of nfsstat3)
+abbrev pub success : Success
+success = record {}
+
 abbrev pub success_number : Success → ℕ
 success_number s = 0
 
 abbrev pub successes : List Success
-successes = record {} ∷ []
+successes = success ∷ []
 
 pub each_success : (s : Success) → value_with_number success_number successes (success_number s) ≡ Some s
 each_success s = refl

@@ -13,3 +13,4 @@ pub mod MountStatus
 pub mod StatusUnion
 pub mod Same
 pub mod Fronts
+pub mod Procedures

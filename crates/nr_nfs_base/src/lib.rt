@@ -29,6 +29,7 @@ mod numbered;
 mod opaque;
 mod optional;
 mod pair;
+mod procedure;
 mod set_attributes;
 mod skip;
 mod stable;
@@ -56,6 +57,7 @@ pub use names::{Data, HANDLE_MAX, Handle, MOUNT_PATH_MAX, MountPath, Name, Path,
 pub use numbered::{Failure, Numbered, read_numbered, write_numbered};
 pub use opaque::Opaque;
 pub use pair::{write_four, write_three, write_two};
+pub use procedure::{MOUNT_PROGRAM, MOUNT_VERSION, MountProcedure, NFS_PROGRAM, NFS_VERSION, NfsProcedure, Procedure, procedure_of};
 pub use set_attributes::{SetAttributes, SetTime, TimeHow};
 pub use skip::{Skip, skip_numbered};
 pub use stable::StableHow;
