@@ -7,7 +7,7 @@ use nr_xdr::{Memory, Reader, Writer};
 use std::alloc::Global;
 
 /// How a file is made (RFC 1813 section 3.3.8, `createmode3`).
-#[derive(Clone, Copy, Debug, PartialEq, Eq)]
+#[derive(Clone, Copy)]
 pub enum CreateMode {
     /// A file of the name may be there already.
     Unchecked = 0,

@@ -1,7 +1,7 @@
 -- Statuses of NFS.
 use Rattle.std.proofs.Common.{refl}
 use Rattle.std.specs.Prelude.{◌≡◌, ℕ, List, [], ◌∷◌, Some, false, ◌==◌}
-use Rattle.nr_nfs_base.specs.Codec.{numbered}
+use Rattle.nr_nfs_base.specs.Codec.{value_with_number}
 use Rattle.nr_nfs_base.specs.declared.status.Status.{Status}
 use Rattle.nr_nfs_base.specs.declared.status.Status.TheVariants.{Perm, Noent, Io, Nxio, Acces, Exist, Xdev, Nodev, Notdir, Isdir, Inval, Fbig, Nospc, Rofs, Mlink, Nametoolong, Notempty, Dquot, Stale, Remote, Badhandle, NotSync, BadCookie, Notsupp, Toosmall, Serverfault, Badtype, Jukebox}
 
@@ -39,7 +39,7 @@ status_number Jukebox = 10008
 abbrev pub statuses : List Status
 statuses = Perm ∷ Noent ∷ Io ∷ Nxio ∷ Acces ∷ Exist ∷ Xdev ∷ Nodev ∷ Notdir ∷ Isdir ∷ Inval ∷ Fbig ∷ Nospc ∷ Rofs ∷ Mlink ∷ Nametoolong ∷ Notempty ∷ Dquot ∷ Stale ∷ Remote ∷ Badhandle ∷ NotSync ∷ BadCookie ∷ Notsupp ∷ Toosmall ∷ Serverfault ∷ Badtype ∷ Jukebox ∷ []
 
-pub each_status : (v : Status) → numbered status_number statuses (status_number v) ≡ Some v
+pub each_status : (v : Status) → value_with_number status_number statuses (status_number v) ≡ Some v
 each_status Perm = refl
 each_status Noent = refl
 each_status Io = refl

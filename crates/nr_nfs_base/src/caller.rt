@@ -3,7 +3,7 @@
 use crate::array::Array;
 
 /// Who makes a call, as its credential says (RFC 5531 appendix A, `authsys_parms`).
-#[derive(Debug, Drop)]
+#[derive(Drop)]
 pub struct Caller {
     pub uid: u32,
     pub gid: u32,

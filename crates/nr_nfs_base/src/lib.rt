@@ -19,6 +19,7 @@ mod attributes;
 mod caller;
 mod fault;
 mod file_type;
+mod fronts;
 mod items;
 mod laws;
 mod linked_list;
@@ -27,7 +28,10 @@ mod names;
 mod numbered;
 mod opaque;
 mod optional;
+mod pair;
+mod procedure;
 mod set_attributes;
+mod skip;
 mod stable;
 mod status;
 mod status_union;
@@ -41,13 +45,21 @@ pub use attributes::{Attributes, SpecialData};
 pub use caller::Caller;
 pub use fault::ValueFault;
 pub use file_type::FileType;
+pub use fronts::{
+    ReadArgsFront, ReadOkFront, ReaddirArgsFront, ReaddirplusArgsFront, ReadlinkOkFront, Success,
+    SymlinkArgsFront, WriteArgsFront, skip_to_read_count, skip_to_read_data, skip_to_readdir_count,
+    skip_to_readdirplus_maxcount, skip_to_readlink_path, skip_to_symlink_path, skip_to_write_data,
+};
 pub use laws::opaque_limits;
 pub use linked_list::LinkedList;
 pub use mount_status::MountStatus;
 pub use names::{Data, HANDLE_MAX, Handle, MOUNT_PATH_MAX, MountPath, Name, Path, UNLIMITED};
 pub use numbered::{Failure, Numbered, read_numbered, write_numbered};
 pub use opaque::Opaque;
+pub use pair::{write_four, write_three, write_two};
+pub use procedure::{MOUNT_PROGRAM, MOUNT_VERSION, MountProcedure, NFS_PROGRAM, NFS_VERSION, NfsProcedure, Procedure, procedure_of};
 pub use set_attributes::{SetAttributes, SetTime, TimeHow};
+pub use skip::{Skip, skip_numbered};
 pub use stable::StableHow;
 pub use status::Status;
 pub use status_union::StatusUnion;

@@ -5,7 +5,7 @@ ghost use Rattle.nr_nfs_base.specs.MountStatus.{each_mount_status, mount_status_
 use crate::numbered::{Failure, Numbered};
 
 /// Why a MOUNT call failed (RFC 1813 section 5.1.5, `mountstat3` but for `MNT3_OK`).
-#[derive(Clone, Copy, Debug, PartialEq, Eq)]
+#[derive(Clone, Copy)]
 pub enum MountStatus {
     /// Not the owner.
     Perm = 1,

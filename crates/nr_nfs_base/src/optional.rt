@@ -9,7 +9,7 @@ use nr_xdr::{Memory, Reader, Writer};
 use std::alloc::Global;
 
 /// A value behind a flag, or only the flag (RFC 4506 section 4.19).
-#[tactic(auto, using(crate::proofs::Puts::puts_both), unfolding(crate::specs::Codec::optional))]
+#[tactic(auto, unfolding(crate::specs::Codec::optional))]
 impl<T: Xdr> Xdr for Option<T> {
     ghost codec = { optional T.codec };
 

@@ -9,7 +9,7 @@ use nr_xdr::{Memory, Reader, Writer};
 use std::alloc::Global;
 
 /// How far written data is on stable storage (RFC 1813 section 3.3.7, `stable_how`).
-#[derive(Clone, Copy, Debug, PartialEq, Eq)]
+#[derive(Clone, Copy)]
 pub enum StableHow {
     /// Nothing need be on stable storage.
     Unstable = 0,

@@ -5,7 +5,7 @@ ghost use Rattle.nr_nfs_base.specs.Status.{each_status, status_not_ok, status_nu
 use crate::numbered::{Failure, Numbered};
 
 /// Why an NFS call failed (RFC 1813 section 2.5, `nfsstat3` but for `NFS3_OK`; section 2.6).
-#[derive(Clone, Copy, Debug, PartialEq, Eq)]
+#[derive(Clone, Copy)]
 pub enum Status {
     /// Not the owner.
     Perm = 1,

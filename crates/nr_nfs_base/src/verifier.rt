@@ -9,7 +9,7 @@ use std::alloc::Global;
 
 /// Eight opaque bytes by which a server knows its own state, or a client its own call (RFC 1813 section 2.5, `writeverf3`,
 /// `cookieverf3` and `createverf3`), kept as the number that they encode, the first byte the highest.
-#[derive(Clone, Copy, Debug, PartialEq, Eq)]
+#[derive(Clone, Copy)]
 pub struct Verifier {
     pub number: u64,
 }

@@ -1,7 +1,8 @@
 //! The scheme by which every value is read and written.
 
 ghost use Rattle.std.specs.Prelude.{◌≡◌, IfOk, MatchResult};
-ghost use Rattle.nr_nfs_base.specs.Codec.{Codec, Lawful, Answers, Writes, ReadsAs, read_all, encoded};
+ghost use Rattle.nr_nfs_base.specs.Codec.{Codec, Lawful, Answers, AppendsValue, ReadsAs, read_all};
+ghost use Rattle.nr_xdr.specs.Items.{encodings};
 ghost use Rattle.nr_nfs_base.specs.declared.fault.ValueFault.TheVariants.{Memory as memory};
 
 use crate::fault::ValueFault;
@@ -23,7 +24,7 @@ pub trait Xdr: Drop {
 
     /// The writer with the value behind what it has: the items that encode it, each within its limits.
     fn write_to(&self, writer: Writer) -> Result<Writer, Memory>
-        ensures ok { IfOk result (Writes codec writer self.now) };
+        ensures ok { IfOk result (AppendsValue codec writer self.now) };
 
     /// What is read as a value are the items that encode it, whatever their pad bytes are, and what are those items is
     /// read as the value.
@@ -44,10 +45,10 @@ pub trait Xdr: Drop {
 
     /// The bytes of the value.
     final fn write(&self, alloc: Global) -> Result<Octets, Memory>
-        // The one encoding of the value.
-        ensures encoded { IfOk result (λ bytes. bytes ≡ encoded (codec.items self.now)) }
-        // The bytes are read as the value again.
-        ensures again { IfOk result (λ bytes. ReadsAs codec self.now bytes) }
+        // The bytes are the one encoding of the value.
+        ensures encoding { IfOk result (λ bytes. bytes ≡ encodings (codec.items self.now)) }
+        // The bytes are read as the value.
+        ensures reading { IfOk result (λ bytes. ReadsAs codec self.now bytes) }
     {
         Ok(self.write_to(Writer::new(alloc))?.finish())
     }

@@ -21,7 +21,7 @@ pub use attributes::{AccessOk, AccessRes, GetattrRes, SetattrRes};
 pub use bytes::{CommitOk, CommitRes, ReadOk, ReadRes, WriteOk, WriteRes};
 pub use create::{CreateOk, CreateRes, MkdirRes, MknodRes, SymlinkRes};
 pub use file_system::{FsinfoOk, FsinfoRes, FsstatOk, FsstatRes, PathconfOk, PathconfRes};
-pub use laws::results;
+pub use laws::{fronts_of_results, results};
 pub use lookup::{LookupOk, LookupRes, ReadlinkOk, ReadlinkRes};
 pub use mount::{MntRes, MountOk, UmntRes, UmntallRes};
 pub use null::NullRes;
