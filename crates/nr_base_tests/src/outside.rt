@@ -179,15 +179,15 @@ fn a_pipe_hands_out_each_byte_once_and_keeps_all(rt: HostRuntime) {
     let mut pipe = Pipe::new(rt.alloc());
     same(&rt, 0, pipe.write(b"abc"), Ok(3));
     same(&rt, 1, pipe.peek(2), b"ab".as_slice());
-    reads(
-        &rt,
-        2,
-        &mut pipe,
-        &[(Ok(3), *b"abc-"), (Ok(0), *b"----")],
-    );
+    reads(&rt, 2, &mut pipe, &[(Ok(3), *b"abc-"), (Ok(0), *b"----")]);
     same(&rt, 3, pipe.write(b"defg"), Ok(4));
     pipe.skip(1);
-    same(&rt, 4, (pipe.waiting(), pipe.peek(9)), (3, b"efg".as_slice()));
+    same(
+        &rt,
+        4,
+        (pipe.waiting(), pipe.peek(9)),
+        (3, b"efg".as_slice()),
+    );
     pipe.skip(9);
     same(&rt, 5, pipe.waiting(), 0);
     same(&rt, 6, pipe.log(), b"abcdefg".as_slice());
@@ -196,11 +196,7 @@ fn a_pipe_hands_out_each_byte_once_and_keeps_all(rt: HostRuntime) {
 /// What is read of "abcde", where the call of a number fails: how many bytes, or why none.
 fn read_five(alloc: Global, limit: usize, failing: usize) -> Result<Result<usize, ReadEnd>, Fail> {
     let sizes = vec![in alloc; 2, 1]?;
-    let mut source = MemSource::new(
-        b"abcde".to_vec(alloc)?,
-        sizes,
-        vec![in alloc; failing]?,
-    );
+    let mut source = MemSource::new(b"abcde".to_vec(alloc)?, sizes, vec![in alloc; failing]?);
     Ok(read_whole(alloc, &mut source, limit).map(|bytes| bytes.len()))
 }
 

@@ -1,5 +1,8 @@
 //! Tests of nr_regions.
 
+ghost use Rattle.std.specs.Prelude.{◌<◌, IfOk};
+ghost use Rattle.nr_regions.specs.RegisteredMemory.{IsHeld};
+
 use crate::compare::same;
 use nr_regions::*;
 use nr_xdr::Octets;
@@ -8,7 +11,10 @@ use std::test::Fail;
 
 /// Regions with three buffers, all registered or none: "shown" to be read, eight zeros to be written, and "sink" for
 /// Read Responses.
-fn three_regions(alloc: Global, first_stag: u32) -> Result<(Regions, Registration), Fail> {
+fn three_regions(alloc: Global, first_stag: u32) -> Result<(Regions, Registration), Fail>
+    requires { 0 < first_stag }
+    ensures { IfOk result (λ made. IsHeld made.0.memory made.1) }
+{
     let shown = Octets::from_slice(alloc, b"shown")?;
     let filled = Octets::from_slice(alloc, &[0; 8])?;
     let sink = Octets::from_slice(alloc, b"sink")?;
@@ -38,7 +44,12 @@ fn placed_and_released(rt: HostRuntime) -> Result<(), Fail> {
     contents_at_release();
     let (mut regions, registration) = three_regions(rt.alloc(), 1)?;
     same(&rt, 0, (registration.stag(), registration.len()), (2, 8));
-    same(&rt, 0, (regions.stags_left(), regions.bytes_held()), (0xffff_fffc, 17));
+    same(
+        &rt,
+        0,
+        (regions.stags_left(), regions.bytes_held()),
+        (0xffff_fffc, 17),
+    );
     // The kind, the STag, the place, and the answer to a segment of four bytes.
     let rows = [
         (Kind::Write, 2, u64::MAX - 1, Err(Denied::Bounds)),
@@ -60,8 +71,18 @@ fn placed_and_released(rt: HostRuntime) -> Result<(), Fail> {
     }
     let buf = regions.release(registration);
     same(&rt, 20, buf.as_slice(), b"\0\0\0wiree".as_slice());
-    same(&rt, 21, regions.place(Kind::Write, 2, 4, b"wire"), Err(Denied::NoStag));
-    same(&rt, 22, (regions.stags_left(), regions.bytes_held()), (0xffff_fffc, 9));
+    same(
+        &rt,
+        21,
+        regions.place(Kind::Write, 2, 4, b"wire"),
+        Err(Denied::NoStag),
+    );
+    same(
+        &rt,
+        22,
+        (regions.stags_left(), regions.bytes_held()),
+        (0xffff_fffc, 9),
+    );
     Ok(())
 }
 
@@ -87,7 +108,12 @@ fn fetched(rt: HostRuntime) -> Result<(), Fail> {
     let more = Octets::from_slice(rt.alloc(), b"more")?;
     match regions.register(more, Right::Fill) {
         Ok(_) => panic!(rt; "an STag was left"),
-        Err((buf, why)) => same(&rt, 21, (buf.as_slice(), why), (b"more".as_slice(), Why::Spent)),
+        Err((buf, why)) => same(
+            &rt,
+            21,
+            (buf.as_slice(), why),
+            (b"more".as_slice(), Why::Spent),
+        ),
     }
     Ok(())
 }

@@ -57,9 +57,24 @@ fn faults(rt: HostRuntime) {
     // The count is compared with the maximum before the data is looked for.
     same(&rt, 0, data_fault(bytes, 4), Some(long));
     same(&rt, 1, data_fault(&bytes[..5], 4), Some(long));
-    same(&rt, 2, data_fault(&bytes[..5], 5), Some(ItemFault::Short { at: 0 }));
-    same(&rt, 3, data_fault(&bytes[..11], 255), Some(ItemFault::Short { at: 0 }));
-    same(&rt, 4, data_fault(&bytes[..3], 255), Some(ItemFault::Short { at: 0 }));
+    same(
+        &rt,
+        2,
+        data_fault(&bytes[..5], 5),
+        Some(ItemFault::Short { at: 0 }),
+    );
+    same(
+        &rt,
+        3,
+        data_fault(&bytes[..11], 255),
+        Some(ItemFault::Short { at: 0 }),
+    );
+    same(
+        &rt,
+        4,
+        data_fault(&bytes[..3], 255),
+        Some(ItemFault::Short { at: 0 }),
+    );
     let mut reader = Reader::new(bytes);
     same(&rt, 5, reader.boolean(), Err(ItemFault::BadBool { at: 0 }));
     same(&rt, 6, reader.fixed(13), Err(ItemFault::Short { at: 0 }));
@@ -69,7 +84,12 @@ fn faults(rt: HostRuntime) {
     same(&rt, 10, reader.u32(), Err(ItemFault::Short { at: 12 }));
     same(&rt, 11, reader.u64(), Err(ItemFault::Short { at: 12 }));
     same(&rt, 12, reader.boolean(), Err(ItemFault::Short { at: 12 }));
-    same(&rt, 13, (long.at(), ItemFault::BadBool { at: 7 }.at()), (0, 7));
+    same(
+        &rt,
+        13,
+        (long.at(), ItemFault::BadBool { at: 7 }.at()),
+        (0, 7),
+    );
 }
 
 #[test]

@@ -129,6 +129,7 @@ impl Regions {
         ensures ok { IfOk result (λ claim. (claim ≡ claim_of self.old.memory buf) × (self.new.memory ≡ after_register self.old.memory right buf)) }
         ensures spent { IsErrAnd result (λ e. e.1 ≡ Why.Spent) ↔ (self.old.memory.next ≡ 2 ^ 32) }
         ensures succeeds { 0 < self.old.room → self.old.memory.next < 2 ^ 32 → IsOk result }
+        ensures next { OnOk result (self.new.memory.next ≡ self.old.memory.next + 1) }
         ensures room { self.old.room ≤ self.new.room + 1 }
         ensures room_kept { OnErr result (self.old.room ≤ self.new.room) }
         ensures returned { IfErr result (λ e. e.0 ≡ buf) }
@@ -145,6 +146,7 @@ impl Regions {
         ensures ok { IfOk result (λ claim. (claim ≡ claim_of self.old.memory buf) × (self.new.memory ≡ after_register self.old.memory right buf)) }
         ensures spent { IsErrAnd result (λ e. e.1 ≡ Why.Spent) ↔ (self.old.memory.next ≡ 2 ^ 32) }
         ensures succeeds { 0 < self.old.room → self.old.memory.next < 2 ^ 32 → IsOk result }
+        ensures next { OnOk result (self.new.memory.next ≡ self.old.memory.next + 1) }
         ensures room { self.old.room ≤ self.new.room + 1 }
         ensures room_kept { OnErr result (self.old.room ≤ self.new.room) }
         ensures returned { IfErr result (λ e. e.0 ≡ buf) }
