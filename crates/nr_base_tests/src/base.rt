@@ -203,6 +203,7 @@ fn each_row_is_read_and_written(rt: HostRuntime) -> Result<(), AllocError> {
 #[test]
 fn values_are_made_and_taken_apart(rt: HostRuntime) -> Result<(), Fail> {
     opaque_limits();
+    one_value::<u32>();
     let name = Name::from_slice(rt.alloc(), b"a.txt")?;
     let name = Name::new(name.into_octets());
     same(&rt, 0, name.as_slice(), b"a.txt".as_slice());
