@@ -1,4 +1,4 @@
--- Arguments of the calls that make files.
+-- Arguments of the calls that create files.
 use Rattle.nr_nfs_args.specs.declared.create_mode.CreateMode.TheVariants as modes
 use Rattle.std.proofs.Common.{refl}
 use Rattle.std.specs.Prelude.{◌≡◌, ℕ, Bool, true, false, List, Result, Ok}
@@ -18,7 +18,7 @@ use Rattle.nr_xdr.specs.Item.{Item, IsBytes}
 use Rattle.nr_xdr.specs.Items.{TakesAll}
 use Rattle.nr_xdr.specs.Reading.{Cursor}
 
--- how a file is made, and with what (RFC 1813 section 3.3.8, createhow3)
+-- how a file is created (RFC 1813 section 3.3.8, createhow3)
 abbrev pub create_how_tag : CreateHow → CreateMode
 create_how_tag (Unchecked v) = modes.Unchecked
 create_how_tag (Guarded v) = modes.Guarded

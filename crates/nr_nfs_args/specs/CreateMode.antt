@@ -1,4 +1,4 @@
--- How a file is made.
+-- How a file is created.
 use Rattle.std.proofs.Common.{refl}
 use Rattle.std.specs.Prelude.{◌≡◌, ℕ, List, [], ◌∷◌, Some}
 use Rattle.nr_nfs_args.specs.declared.create_mode.CreateMode.{CreateMode}
@@ -6,7 +6,7 @@ use Rattle.nr_nfs_args.specs.declared.create_mode.CreateMode.TheVariants.{Unchec
 use Rattle.nr_nfs_base.specs.Codec.{Codec, Lawful, value_with_number, enumeration}
 use Rattle.nr_nfs_base.specs.Laws.{enumeration_lawful}
 
--- how a file is made (RFC 1813 section 3.3.8, createmode3)
+-- how a file is created (RFC 1813 section 3.3.8, createmode3)
 abbrev pub create_mode_number : CreateMode → ℕ
 create_mode_number Unchecked = 0
 create_mode_number Guarded = 1

@@ -1,4 +1,4 @@
--- Arguments of the calls that make links and special files.
+-- Arguments of the calls that create links and special files.
 use Rattle.nr_nfs_base.specs.declared.file_type.FileType.TheVariants as types
 use Rattle.std.proofs.Common.{refl, ap}
 use Rattle.std.specs.Prelude.{◌≡◌, ℕ, Bool, true, false, List, [], Result, Ok}
@@ -33,7 +33,7 @@ symlink_args_lawful =
     structure_lawful _ _ _ (λ _. refl) (λ _. refl)
     (symlink_args_front_lawful ⊠ text_lawful)
 
--- what a device is made with (RFC 1813 section 3.3.11, devicedata3)
+-- the data of a device (RFC 1813 section 3.3.11, devicedata3)
 unfoldable pub device_data_codec : Codec DeviceData
 device_data_codec =
     structure (λ p. record { attributes = p.0; device = p.1 })
@@ -46,7 +46,7 @@ device_data_lawful =
     structure_lawful _ _ _ (λ _. refl) (λ _. refl)
     (set_attributes_lawful ⊠ special_data_lawful)
 
--- what MKNOD makes, and with what (RFC 1813 section 3.3.11, mknoddata3)
+-- what MKNOD creates (RFC 1813 section 3.3.11, mknoddata3)
 abbrev pub mknod_data_tag : MknodData → FileType
 mknod_data_tag Reg = types.Reg
 mknod_data_tag Dir = types.Dir

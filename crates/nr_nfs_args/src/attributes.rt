@@ -75,7 +75,7 @@ impl Xdr for SetattrArgs {
 #[derive(Drop)]
 pub struct AccessArgs {
     pub object: Handle,
-    /// A bit for each right that is asked about.
+    /// A bit for each right to check.
     pub access: u32,
 }
 

@@ -9,14 +9,14 @@ use nr_nfs_base::{Handle, Name, SetAttributes, ValueFault, Verifier, Xdr, write_
 use nr_xdr::{Memory, Reader, Writer};
 use std::alloc::Global;
 
-/// How a file is made, and with what (RFC 1813 section 3.3.8, `createhow3`).
+/// How a file is created (RFC 1813 section 3.3.8, `createhow3`).
 #[derive(Clone, Copy)]
 pub enum CreateHow {
-    /// A file of the name may be there already.
+    /// A file of this name may exist.
     Unchecked(SetAttributes),
-    /// No file of the name may be there.
+    /// No file of this name may exist.
     Guarded(SetAttributes),
-    /// A file of the name may be there if it was made with the same verifier.
+    /// A file of this name may exist if it was created with the same verifier.
     Exclusive(Verifier),
 }
 
@@ -50,7 +50,7 @@ impl Xdr for CreateHow {
     }
 }
 
-/// Reads the attributes that a file is made with.
+/// Reads the attributes of a new file.
 fn read_attributes<'a>(
     alloc: Global,
     is_guarded: bool,

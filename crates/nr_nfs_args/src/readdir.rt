@@ -13,10 +13,10 @@ use std::alloc::Global;
 #[derive(Drop)]
 pub struct ReaddirArgs {
     pub dir: Handle,
-    /// That of the last entry known, 0 for none.
+    /// The cookie of the last known entry, or 0.
     pub cookie: u64,
     pub verifier: Verifier,
-    /// The most bytes of the result.
+    /// The most bytes of the results.
     pub count: u32,
 }
 
@@ -53,12 +53,12 @@ impl Xdr for ReaddirArgs {
 #[derive(Drop)]
 pub struct ReaddirplusArgs {
     pub dir: Handle,
-    /// That of the last entry known, 0 for none.
+    /// The cookie of the last known entry, or 0.
     pub cookie: u64,
     pub verifier: Verifier,
-    /// The most bytes of names, numbers and cookies.
+    /// The most bytes of names, file numbers and cookies in the results.
     pub dircount: u32,
-    /// The most bytes of the result.
+    /// The most bytes of the results.
     pub maxcount: u32,
 }
 

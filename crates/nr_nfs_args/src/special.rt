@@ -49,7 +49,7 @@ impl Xdr for SymlinkArgs {
     }
 }
 
-/// What a device is made with (RFC 1813 section 3.3.11, `devicedata3`).
+/// The data of a device (RFC 1813 section 3.3.11, `devicedata3`).
 #[derive(Clone, Copy)]
 pub struct DeviceData {
     pub attributes: SetAttributes,
@@ -77,8 +77,8 @@ impl Xdr for DeviceData {
     }
 }
 
-/// What MKNOD makes, and with what (RFC 1813 section 3.3.11, `mknoddata3`). The types that MKNOD cannot make are encoded
-/// too, with nothing behind them.
+/// What MKNOD creates (RFC 1813 section 3.3.11, `mknoddata3`). The types that MKNOD cannot create have an encoding too,
+/// without data.
 #[derive(Clone, Copy)]
 pub enum MknodData {
     /// A regular file.
@@ -132,7 +132,7 @@ impl Xdr for MknodData {
     }
 }
 
-/// Reads what a block device or a character device is made with.
+/// Reads the data of a block device or a character device.
 fn read_device<'a>(
     alloc: Global,
     is_block: bool,
@@ -148,7 +148,7 @@ fn read_device<'a>(
     }
 }
 
-/// Reads what a socket or a named pipe is made with.
+/// Reads the data of a socket or a named pipe.
 fn read_pipe<'a>(
     alloc: Global,
     is_socket: bool,

@@ -53,3 +53,14 @@ pub written_is_read : {A : Type 0} (c : Codec A) (v : A) (old new bytes : List �
 written_is_read c v old new bytes none same w =
     let is : bytes ≡ encodings (c.items v) = same ∙ w.is ∙ ap (λ (b : List ℕ). b ++ encodings (c.items v)) none in
     (w.fits, subst (λ (b : List ℕ). ReadsAll (c.items v) b) (sym is) (encodings_read (c.items v) w.items_fit))
+
+-- what is read at the front of some bytes
+front_read : {A : Type 0} (c : Codec A) → Lawful c → (v : A) (x more bytes : List ℕ) → ReadsAs c v x → bytes ≡ x ++ more → c.read (start bytes) ≡ Ok (v, standing (0 + length x) more)
+front_read c l v x more bytes r e = l.encoded_is_read (start bytes) v (standing (0 + length x) more) r.0 (each_takes (c.items v) x more (start bytes) r.1 e)
+
+pub one_value_is : {A : Type 0} (c : Codec A) → Lawful c → (v w : A) (x y more others : List ℕ) → ReadsAs c v x → ReadsAs c w y → x ++ more ≡ y ++ others → (v ≡ w) × (more ≡ others)
+one_value_is {A} c l v w x y more others r s e =
+    let p = front_read c l v x more (x ++ more) r refl in
+    let q = front_read c l w y others (x ++ more) s e in
+    let both = ok_is {A = A × Cursor} (v, standing (0 + length x) more) (w, standing (0 + length y) others) (sym p ∙ q) in
+    (ap (λ (z : A × Cursor). z.0) both, ap (λ (z : A × Cursor). (z.1).rest) both)

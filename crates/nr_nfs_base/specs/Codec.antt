@@ -102,15 +102,15 @@ enumeration number all = record {
   read = λ at. word.read at >>= λ n. value_or_fault at (value_with_number number all n.0) n.1;
 }
 
--- The arms of a union: the discriminant of a value, its other items, whether these are within their limits, and what is
--- read behind a discriminant.
+-- The arms of a union: the tag of a value (the discriminant), its other items, whether these are within their limits, and
+-- what is read behind a tag.
 pub record Arms (T A : Type 0) : Type 1 where
   pub tag_of : A → T
   pub items : A → List Item
   pub fits : A → Type 0
   pub read : T → Cursor → Result (A × Cursor) ℕ
 
--- a discriminant, and the arm that it selects (RFC 4506 section 4.15)
+-- a discriminated union: a tag, and the arm that it selects (RFC 4506 section 4.15)
 abbrev pub discriminated_union : {T A : Type 0} → Codec T → Arms T A → Codec A
 discriminated_union tag arms = record {
   items = λ v. tag.items (arms.tag_of v) ++ arms.items v;
@@ -213,14 +213,14 @@ Answers (Err faults.Memory) read = Unit {0}
 Answers (Err (faults.Bad at)) read = read ≡ Err at
 
 -- the values that stand in front, and behind them those that are read
-abbrev pub onto : {A : Type 0} → List A → Result (List A × Cursor) ℕ → Result (List A × Cursor) ℕ
-onto front read = read >>= λ x. Ok (front ++ x.0, x.1)
+abbrev pub with_front : {A : Type 0} → List A → Result (List A × Cursor) ℕ → Result (List A × Cursor) ℕ
+with_front front read = read >>= λ x. Ok (front ++ x.0, x.1)
 
 -- The values that are read stand behind the old ones, and the result is the cursor behind them. Else it is the fault, or
 -- want of memory.
 abbrev pub PushesValues : {A : Type 0} → List A → List A → Result Cursor ValueFault → Result (List A × Cursor) ℕ → Type 0
-PushesValues {A} old new (Ok behind) read = onto old read ≡ Ok (new, behind)
-PushesValues {A} old new (Err e) read = Answers {A = List A × Cursor} (Err e) (onto old read)
+PushesValues {A} old new (Ok behind) read = with_front old read ≡ Ok (new, behind)
+PushesValues {A} old new (Err e) read = Answers {A = List A × Cursor} (Err e) (with_front old read)
 
 -- The value behind a flag stands behind the old ones, or there is none; the result says which, with the cursor behind it.
 -- Else it is the fault, or want of memory.

@@ -6,7 +6,7 @@ use Rattle.nr_nfs_base.specs.Laws.{enumeration_lawful}
 use Rattle.nr_nfs_base.specs.declared.file_type.FileType.{FileType}
 use Rattle.nr_nfs_base.specs.declared.file_type.FileType.TheVariants.{Reg, Dir, Blk, Chr, Lnk, Sock, Fifo}
 
--- what a file is, and the number that says so (RFC 1813 section 2.5, ftype3)
+-- the type of a file, and its number (RFC 1813 section 2.5, ftype3)
 abbrev pub file_type_number : FileType → ℕ
 file_type_number Reg = 1
 file_type_number Dir = 2

@@ -31,7 +31,7 @@ placed_ok : {X : Type 0} (r : Result X ItemFault) (x : X) → or_place r ≡ Ok 
 placed_ok (Ok y) x e = ap Ok (ok_is y x e)
 placed_ok (Err fault) x e = absurd cc
 
--- ---- Items taken one behind the other
+-- ---- Items taken in order
 
 takes_one : (old new : Cursor) (item : Item) → Takes old new item → TakesAll old new (item ∷ [])
 takes_one old new item t = (new, t, refl)
@@ -57,7 +57,7 @@ IsBytes-behind old new [] h t = subst (λ (c : Cursor). IsBytes c.rest) t h
 IsBytes-behind old new (x ∷ xs) h t =
     IsBytes-behind t.0 new xs (bytes_behind (t.1).bytes (t.0).rest (subst (λ (b : List ℕ). IsBytes b) (t.1).rest h)) t.2
 
--- ---- Items
+-- ---- Single items
 
 pub word_lawful : Lawful word
 unfolding word
@@ -89,7 +89,7 @@ opaque_lawful max = record {
   encoded_is_read = λ old bytes new fits t. ap or_place (opaque_again old max bytes new fits (one_taken old new (Opaque bytes) t));
 }
 
--- ---- Made of others
+-- ---- Composite types
 
 pub void_lawful : Lawful void
 void_lawful = record {

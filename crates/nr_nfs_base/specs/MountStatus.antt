@@ -5,7 +5,7 @@ use Rattle.nr_nfs_base.specs.Codec.{value_with_number}
 use Rattle.nr_nfs_base.specs.declared.mount_status.MountStatus.{MountStatus}
 use Rattle.nr_nfs_base.specs.declared.mount_status.MountStatus.TheVariants.{Perm, Noent, Io, Acces, Notdir, Inval, Nametoolong, Notsupp, Serverfault}
 
--- why a MOUNT call failed, and the number that says so (RFC 1813 section 5.1.5, mountstat3)
+-- the status of a MOUNT call that failed, and its number (RFC 1813 section 5.1.5, mountstat3)
 abbrev pub mount_status_number : MountStatus → ℕ
 mount_status_number Perm = 1
 mount_status_number Noent = 2

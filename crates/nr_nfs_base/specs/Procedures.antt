@@ -1,4 +1,4 @@
--- The programs of NFS and MOUNT, and the procedures of their version 3 (RFC 1813 sections 3 and 5). Of MOUNT, DUMP and
+-- The programs of NFS and MOUNT, and the procedures of their version 3 (RFC 1813). Of MOUNT, DUMP and
 -- EXPORT are left out: this server does not have them.
 use Rattle.std.proofs.Common.{refl}
 use Rattle.std.specs.Prelude.{◌≡◌, ℕ, List, [], ◌∷◌, Option, Some, None, option_map, ◌==◌, ◌&&◌, if◌then◌else◌}
@@ -10,14 +10,14 @@ use Rattle.nr_nfs_base.specs.declared.procedure.NfsProcedure.TheVariants as nfs
 use Rattle.nr_nfs_base.specs.declared.procedure.Procedure.{Procedure}
 use Rattle.nr_nfs_base.specs.declared.procedure.Procedure.TheVariants.{Nfs, Mount}
 
--- the number of NFS, and its version (RFC 1813 section 3)
+-- the program number of NFS, and its version (RFC 1813 section 2.2)
 abbrev pub nfs_program : ℕ
 nfs_program = 100003
 
 abbrev pub nfs_version : ℕ
 nfs_version = 3
 
--- the number of MOUNT, and its version (RFC 1813 section 5.1)
+-- the program number of MOUNT, and its version (RFC 1813 section 5.1.2)
 abbrev pub mount_program : ℕ
 mount_program = 100005
 

@@ -6,7 +6,7 @@ use Rattle.nr_nfs_base.specs.Laws.{enumeration_lawful}
 use Rattle.nr_nfs_base.specs.declared.stable.StableHow.{StableHow}
 use Rattle.nr_nfs_base.specs.declared.stable.StableHow.TheVariants.{Unstable, DataSync, FileSync}
 
--- how far written data is on stable storage (RFC 1813 section 3.3.7, stable_how)
+-- what is on stable storage after a WRITE (RFC 1813 section 3.3.7, stable_how)
 abbrev pub stable_how_number : StableHow → ℕ
 stable_how_number Unstable = 0
 stable_how_number DataSync = 1

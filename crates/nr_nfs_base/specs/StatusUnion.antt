@@ -1,4 +1,4 @@
--- What a procedure answers: a status, then the part of OK or that of a failure (RFC 1813 sections 3.3 and 5.2.1).
+-- Unions over a status: one part behind the status 0, another behind any other (RFC 1813 sections 3.3 and 5.2.1).
 use Rattle.std.proofs.Common.{refl, cond}
 use Rattle.std.specs.Prelude.{◌≡◌, ℕ, true, false, List, [], ◌∷◌, map, Some, None, Option, option_map, Result, Ok, ◌==◌}
 use Rattle.std.specs.List.{find}
@@ -10,7 +10,7 @@ use Rattle.nr_nfs_base.specs.Laws.{enumeration_lawful, discriminated_union_lawfu
 use Rattle.nr_nfs_base.specs.declared.status_union.StatusUnion.{StatusUnion}
 use Rattle.nr_nfs_base.specs.declared.status_union.StatusUnion.TheVariants.{Done, Failed}
 
--- a status word is 0 where nothing failed, else the number of the failure
+-- the number of a status: 0 means success
 abbrev pub status_tag_number : {S : Type 0} → (S → ℕ) → Option S → ℕ
 status_tag_number number None = 0
 status_tag_number number (Some s) = number s

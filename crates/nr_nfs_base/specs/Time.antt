@@ -1,10 +1,10 @@
--- Moments.
+-- Times.
 use Rattle.std.proofs.Common.{refl}
 use Rattle.nr_nfs_base.specs.Codec.{Codec, Lawful, word, ◌⊗◌, ◌&◌, structure}
 use Rattle.nr_nfs_base.specs.Laws.{word_lawful, ◌⊠◌, structure_lawful}
 use Rattle.nr_nfs_base.specs.declared.time.Time.{Time}
 
--- a moment (RFC 1813 section 2.5, nfstime3)
+-- a time (RFC 1813 section 2.5, nfstime3)
 unfoldable pub time_codec : Codec Time
 time_codec =
     structure (λ p. record { seconds = p.0; nanoseconds = p.1 })

@@ -7,7 +7,7 @@ use Rattle.nr_nfs_base.specs.Time.{time_codec, time_lawful}
 use Rattle.nr_nfs_base.specs.declared.weak_cache.WccAttributes.{WccAttributes}
 use Rattle.nr_nfs_base.specs.declared.weak_cache.WccData.{WccData}
 
--- what tells whether a file is still the same (RFC 1813 section 2.5, wcc_attr)
+-- the attributes by which a client sees that a cached file has changed (RFC 1813 section 2.5, wcc_attr)
 unfoldable pub wcc_attributes_codec : Codec WccAttributes
 wcc_attributes_codec =
     structure (λ p. record { size = p.0; mtime = p.1.0; ctime = p.1.1 })

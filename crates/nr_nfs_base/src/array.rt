@@ -1,4 +1,4 @@
-//! Lists behind the number of their values.
+//! Variable-length arrays.
 
 ghost use Rattle.std.specs.Prelude.{◌≡◌, ◌∷◌, [], ◌++◌, ◌+◌, ◌^◌, ◌<◌, length, IfOk};
 ghost use Rattle.std.specs.List.{flat_map, AllByRecursion};
@@ -11,7 +11,8 @@ use nr_xdr::{Memory, Reader, Writer};
 use std::alloc::Global;
 use std::marker::Model;
 
-/// A list of fewer than 2^32 values behind their number (RFC 4506 section 4.13). Contracts see the list.
+/// A variable-length array of fewer than 2^32 values (RFC 4506 section 4.13): their number, and then the values. Contracts
+/// see the list of the values.
 #[derive(Drop)]
 pub struct Array<T> {
     values: Vec<T>,
@@ -28,7 +29,7 @@ impl<T> Model for Array<T> {
 }
 
 impl<T> Array<T> {
-    /// The values of a vector. Takes no memory.
+    /// An array of the values of a vector. Takes no memory.
     pub fn from_vec(values: Vec<T>) -> Array<T>
         requires { length values.items < 2 ^ 32 }
         ensures { result ≡ values.items }
@@ -36,7 +37,7 @@ impl<T> Array<T> {
         Array { values }
     }
 
-    /// The vector of the values. Takes no memory.
+    /// The values as a vector. Takes no memory.
     pub fn into_vec(self) -> Vec<T>
         ensures value { result.items ≡ self }
         ensures bounded { length self < 2 ^ 32 }
@@ -75,7 +76,7 @@ impl<T: Xdr> Xdr for Array<T> {
     }
 }
 
-/// Reads so many values.
+/// Reads `count` values.
 fn read_values<'a, T: Xdr>(
     alloc: Global,
     count: u32,
@@ -88,7 +89,7 @@ fn read_values<'a, T: Xdr>(
     Ok((Array { values }, reader))
 }
 
-/// Reads so many values, and pushes each.
+/// Reads `count` values, and pushes each.
 fn push_values<'a, T: Xdr>(
     alloc: Global,
     values: &mut Vec<T>,

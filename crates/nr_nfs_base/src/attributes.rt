@@ -42,13 +42,13 @@ pub struct Attributes {
     pub file_type: FileType,
     /// The permission bits.
     pub mode: u32,
-    /// The number of its names.
+    /// The number of hard links.
     pub nlink: u32,
     pub uid: u32,
     pub gid: u32,
     /// In bytes.
     pub size: u64,
-    /// The bytes that it takes on the disk.
+    /// The bytes of disk space that the file uses.
     pub used: u64,
     pub rdev: SpecialData,
     pub fsid: u64,

@@ -1,5 +1,5 @@
 //! The fields before the data of WRITE and READ, before the paths of SYMLINK and READLINK, and before the counts of READ,
-//! READDIR and READDIRPLUS: where one of these fields begins is found without memory.
+//! READDIR and READDIRPLUS, and functions that skip them without memory.
 
 ghost use Rattle.std.specs.Prelude.{◌≡◌};
 ghost use Rattle.nr_nfs_base.specs.Codec.{cursor_behind};

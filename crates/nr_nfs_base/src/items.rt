@@ -1,4 +1,4 @@
-//! The items that are values by themselves.
+//! Values of one item, and the empty value.
 
 ghost use Rattle.nr_nfs_base.specs.Codec.{word, hyper, boolean, void};
 ghost use Rattle.nr_nfs_base.specs.Laws.{word_lawful, hyper_lawful, boolean_lawful, void_lawful};

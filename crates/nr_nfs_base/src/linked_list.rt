@@ -1,4 +1,4 @@
-//! Lists whose values stand behind flags.
+//! Linked lists.
 
 ghost use Rattle.std.specs.Prelude.{◌≡◌, [], ◌∷◌, ◌++◌, IfOk};
 ghost use Rattle.nr_nfs_base.specs.Codec.{linked_list, linked_list_read, Answers, AppendsValue, PushesNext, PushesValues, optional};
@@ -10,7 +10,7 @@ use nr_xdr::{Memory, Reader, Writer};
 use std::alloc::Global;
 use std::marker::Model;
 
-/// A list of values, each behind a 1 and with a 0 at the end (RFC 4506 section 4.19). Contracts see the list.
+/// A linked list (RFC 4506 section 4.19): a 1 before each value, and a 0 at the end. Contracts see the list of the values.
 #[derive(Drop)]
 pub struct LinkedList<T> {
     values: Vec<T>,
@@ -25,7 +25,7 @@ impl<T> Model for LinkedList<T> {
 }
 
 impl<T> LinkedList<T> {
-    /// No values.
+    /// The empty list.
     pub fn new(alloc: Global) -> LinkedList<T>
         ensures { result ≡ [] }
     {
@@ -34,14 +34,14 @@ impl<T> LinkedList<T> {
         }
     }
 
-    /// The values of a vector. Takes no memory.
+    /// A list of the values of a vector. Takes no memory.
     pub fn from_vec(values: Vec<T>) -> LinkedList<T>
         ensures { result ≡ values.items }
     {
         LinkedList { values }
     }
 
-    /// The vector of the values. Takes no memory.
+    /// The values as a vector. Takes no memory.
     pub fn into_vec(self) -> Vec<T>
         ensures { result.items ≡ self }
     {
@@ -75,7 +75,7 @@ impl<T: Xdr> Xdr for LinkedList<T> {
     }
 }
 
-/// Reads the values up to the 0 behind them. `most` bounds the number of flags.
+/// Reads the values, up to the 0 behind them. `most` bounds the number of flags.
 fn read_values<'a, T: Xdr>(
     alloc: Global,
     most: usize,
@@ -88,7 +88,7 @@ fn read_values<'a, T: Xdr>(
     Ok((LinkedList { values }, reader))
 }
 
-/// Reads the values up to the 0 behind them, and pushes each. `most` bounds the number of flags.
+/// Reads the values, up to the 0 behind them, and pushes each. `most` bounds the number of flags.
 fn push_values<'a, T: Xdr>(
     alloc: Global,
     values: &mut Vec<T>,

@@ -1,4 +1,4 @@
-//! Why a MOUNT call failed.
+//! Statuses of MOUNT.
 
 ghost use Rattle.nr_nfs_base.specs.MountStatus.{each_mount_status, mount_status_not_ok, mount_status_number, mount_statuses};
 
@@ -11,19 +11,19 @@ pub enum MountStatus {
     Perm = 1,
     /// No such file or directory.
     Noent = 2,
-    /// A hard error on the disk.
+    /// A hard I/O error.
     Io = 5,
     /// Permission denied.
     Acces = 13,
     /// Not a directory.
     Notdir = 20,
-    /// An argument that does not hold for the call.
+    /// An invalid argument.
     Inval = 22,
     /// The path is too long.
     Nametoolong = 63,
     /// Not supported.
     Notsupp = 10004,
-    /// An error with no status of its own.
+    /// An error that no other status describes.
     Serverfault = 10006,
 }
 

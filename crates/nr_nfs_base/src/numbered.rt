@@ -1,4 +1,4 @@
-//! Values that are encoded as a number.
+//! Enumerations.
 
 ghost use Rattle.std.specs.Prelude.{◌≡◌, ◌==◌, false, ℕ, List, Some, IfOk};
 ghost use Rattle.nr_nfs_base.specs.Codec.{value_with_number, enumeration, Answers, AppendsValue};
@@ -24,17 +24,17 @@ pub trait Numbered: Copy {
     fn from_number(word: u32) -> Option<Self>
         ensures { result ≡ value_with_number number all word };
 
-    /// Each value is the one with its number.
+    /// The value with the number of a value is that value.
     ghost each: { (v : Self) → value_with_number number all (number v) ≡ Some v };
 }
 
-/// An enumeration of failures: each number but 0, which says that nothing failed.
+/// An enumeration of failures. The number 0 is not among them, since it means success.
 pub trait Failure: Numbered {
     /// No failure has the number 0.
     ghost not_ok: { (v : Self) → (0 == Self.number v) ≡ false };
 }
 
-/// Reads an enumeration: `Bad` at its word where the word is no value's number.
+/// Reads a value of an enumeration. `Bad` at its word where the word is not the number of a value.
 #[tactic(auto, unfolding(crate::specs::Codec::enumeration))]
 pub fn read_numbered<'a, T: Numbered>(
     alloc: Global,

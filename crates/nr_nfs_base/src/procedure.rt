@@ -5,16 +5,16 @@ ghost use Rattle.nr_nfs_base.specs.Procedures.{each_mount_procedure, each_nfs_pr
 
 use crate::numbered::Numbered;
 
-/// The program number of NFS (RFC 1813 section 3).
+/// The program number of NFS (RFC 1813 section 2.2).
 pub const NFS_PROGRAM: u32 = 100_003;
 
-/// The version of NFS (RFC 1813 section 3).
+/// The version of NFS (RFC 1813 section 2.2).
 pub const NFS_VERSION: u32 = 3;
 
-/// The program number of MOUNT (RFC 1813 section 5.1).
+/// The program number of MOUNT (RFC 1813 section 5.1.2).
 pub const MOUNT_PROGRAM: u32 = 100_005;
 
-/// The version of MOUNT (RFC 1813 section 5.1).
+/// The version of MOUNT (RFC 1813 section 5.1.2).
 pub const MOUNT_VERSION: u32 = 3;
 
 /// A procedure of NFS version 3, by its number (RFC 1813 section 3.3).

@@ -60,9 +60,9 @@ impl Xdr for TimeHow {
 /// What a time is to be set to (RFC 1813 section 2.5, `set_atime` and `set_mtime`).
 #[derive(Clone, Copy)]
 pub enum SetTime {
-    /// It stays.
+    /// The time is not changed.
     Leave,
-    /// The time at the server.
+    /// The server's time.
     ServerTime,
     /// This time.
     ClientTime(Time),

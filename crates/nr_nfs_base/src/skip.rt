@@ -1,4 +1,4 @@
-//! Passing over values without memory.
+//! Skipping of values.
 
 ghost use Rattle.std.specs.Prelude.{◌≡◌, Some, None};
 ghost use Rattle.nr_nfs_base.specs.Codec.{cursor_behind, enumeration, read_or_none};
@@ -14,9 +14,9 @@ use crate::verifier::Verifier;
 use crate::xdr::Xdr;
 use nr_xdr::Reader;
 
-/// A value that is passed over without memory.
+/// A value that can be skipped without memory.
 pub trait Skip: Xdr {
-    /// The reader behind the value at the reader's place, or `None` where an item there fails.
+    /// The reader behind the value at the reader's place. `None` where an item of it fails.
     fn skip_from<'a>(reader: Reader<'a>) -> Option<Reader<'a>>
         ensures { result ≡ cursor_behind (Self.codec.read reader.entry) };
 }
@@ -61,7 +61,7 @@ impl<const MAX: u32> Skip for Opaque<MAX> {
     }
 }
 
-/// The value of an enumeration at the reader's place, and the reader behind it.
+/// Reads a value of an enumeration without memory.
 #[tactic(auto, unfolding(crate::specs::Codec::enumeration, crate::specs::Codec::word))]
 fn next_numbered<'a, T: Numbered>(mut reader: Reader<'a>) -> Option<(T, Reader<'a>)>
     ensures { result ≡ read_or_none ((enumeration T.number T.all).read reader.entry) }
@@ -75,7 +75,7 @@ fn next_numbered<'a, T: Numbered>(mut reader: Reader<'a>) -> Option<(T, Reader<'
     }
 }
 
-/// The reader behind an enumeration.
+/// Skips a value of an enumeration.
 pub fn skip_numbered<'a, T: Numbered>(reader: Reader<'a>) -> Option<Reader<'a>>
     ensures { result ≡ cursor_behind ((enumeration T.number T.all).read reader.entry) }
 {

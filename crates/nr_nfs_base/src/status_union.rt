@@ -1,4 +1,4 @@
-//! What a procedure answers.
+//! Unions over a status.
 
 ghost use Rattle.nr_nfs_base.specs.Codec.{Answers, arm_value};
 ghost use Rattle.nr_nfs_base.specs.declared.status_union.StatusUnion.TheVariants.{Done, Failed};
@@ -11,8 +11,7 @@ use crate::xdr::Xdr;
 use nr_xdr::{Memory, Reader, Writer};
 use std::alloc::Global;
 
-/// The answer of a procedure: what it gives where nothing failed, or why it failed and what goes with a failure
-/// (RFC 1813 section 3.3, the unions over `nfsstat3`; section 5.2.1, that over `mountstat3`).
+/// The results of a procedure: one part on success, or the status of a failure and another part (RFC 1813 section 3.3, the unions over `nfsstat3`; section 5.2.1, that over `mountstat3`).
 #[derive(Drop)]
 pub enum StatusUnion<D, F, S = Status> {
     /// Status 0.
@@ -21,7 +20,7 @@ pub enum StatusUnion<D, F, S = Status> {
     Failed { status: S, part: F },
 }
 
-/// A status word: 0 where nothing failed, which is `None`, else the number of the failure.
+/// A status: `None` is 0, which means success, and `Some` is the number of a failure.
 impl<S: Failure> Numbered for Option<S> {
     ghost number = { status_tag_number S.number };
 
@@ -78,7 +77,7 @@ impl<D: Xdr, F: Xdr, S: Failure> Xdr for StatusUnion<D, F, S> {
     }
 }
 
-/// Reads what stands behind the status 0.
+/// Reads the part behind the status 0.
 fn read_done<'a, D: Xdr, F: Xdr, S: Failure>(
     alloc: Global,
     reader: Reader<'a>,
@@ -89,7 +88,7 @@ fn read_done<'a, D: Xdr, F: Xdr, S: Failure>(
     Ok((StatusUnion::Done(done), reader))
 }
 
-/// Reads what stands behind another status.
+/// Reads the part behind another status.
 fn read_failed<'a, D: Xdr, F: Xdr, S: Failure>(
     alloc: Global,
     status: S,

@@ -1,4 +1,4 @@
-//! A moment.
+//! Times.
 
 ghost use Rattle.nr_nfs_base.specs.Time.{time_codec, time_lawful};
 
@@ -8,11 +8,11 @@ use crate::xdr::Xdr;
 use nr_xdr::{Memory, Reader, Writer};
 use std::alloc::Global;
 
-/// A moment: seconds and nanoseconds since the start of 1970 (RFC 1813 section 2.5, `nfstime3`).
+/// A time: seconds and nanoseconds since the start of 1970 (RFC 1813 section 2.5, `nfstime3`).
 #[derive(Clone, Copy)]
 pub struct Time {
     pub seconds: u32,
-    /// Any number: only a server refuses one of 10^9 or more.
+    /// Any number is read and written. A server refuses 10^9 and more.
     pub nanoseconds: u32,
 }
 

@@ -1,4 +1,4 @@
-//! What a client needs to know of a file before and after a call.
+//! Weak cache consistency.
 
 ghost use Rattle.nr_nfs_base.specs.WeakCache.{wcc_attributes_codec, wcc_attributes_lawful, wcc_data_codec, wcc_data_lawful};
 
@@ -10,7 +10,7 @@ use crate::xdr::Xdr;
 use nr_xdr::{Memory, Reader, Writer};
 use std::alloc::Global;
 
-/// What tells whether a cached file is still the same (RFC 1813 section 2.5, `wcc_attr`).
+/// The attributes by which a client sees that a cached file has changed (RFC 1813 section 2.5, `wcc_attr`).
 #[derive(Clone, Copy)]
 pub struct WccAttributes {
     /// In bytes.

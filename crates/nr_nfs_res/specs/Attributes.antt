@@ -5,7 +5,7 @@ use Rattle.nr_nfs_base.specs.Codec.{Codec, Lawful, word, ◌⊗◌, ◌&◌, str
 use Rattle.nr_nfs_base.specs.Laws.{word_lawful, ◌⊠◌, structure_lawful, optional_lawful}
 use Rattle.nr_nfs_res.specs.declared.attributes.AccessOk.{AccessOk}
 
--- what ACCESS gives (RFC 1813 section 3.3.4)
+-- the results of ACCESS on success (RFC 1813 section 3.3.4)
 unfoldable pub access_ok_codec : Codec AccessOk
 access_ok_codec =
     structure (λ p. record { attributes = p.0; access = p.1 })

@@ -11,7 +11,7 @@ use Rattle.nr_nfs_res.specs.declared.bytes.CommitOk.{CommitOk}
 use Rattle.nr_nfs_res.specs.declared.bytes.ReadOk.{ReadOk}
 use Rattle.nr_nfs_res.specs.declared.bytes.WriteOk.{WriteOk}
 
--- what READ gives (RFC 1813 section 3.3.6)
+-- the results of READ on success (RFC 1813 section 3.3.6)
 unfoldable pub read_ok_codec : Codec ReadOk
 read_ok_codec =
     structure (λ p. record { attributes = p.0.0; count = p.0.1.0; eof = p.0.1.1; bytes = p.1 })
@@ -24,7 +24,7 @@ read_ok_lawful =
     structure_lawful _ _ _ (λ _. refl) (λ _. refl)
     (read_ok_front_lawful ⊠ text_lawful)
 
--- what WRITE gives (RFC 1813 section 3.3.7)
+-- the results of WRITE on success (RFC 1813 section 3.3.7)
 unfoldable pub write_ok_codec : Codec WriteOk
 write_ok_codec =
     structure (λ p. record { wcc = p.0; count = p.1.0; committed = p.1.1.0; verifier = p.1.1.1 })
@@ -37,7 +37,7 @@ write_ok_lawful =
     structure_lawful _ _ _ (λ _. refl) (λ _. refl)
     (wcc_data_lawful ⊠ word_lawful ⊠ stable_how_lawful ⊠ verifier_lawful)
 
--- what COMMIT gives (RFC 1813 section 3.3.21)
+-- the results of COMMIT on success (RFC 1813 section 3.3.21)
 unfoldable pub commit_ok_codec : Codec CommitOk
 commit_ok_codec =
     structure (λ p. record { wcc = p.0; verifier = p.1 })

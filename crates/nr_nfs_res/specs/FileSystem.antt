@@ -8,7 +8,7 @@ use Rattle.nr_nfs_res.specs.declared.file_system.FsinfoOk.{FsinfoOk}
 use Rattle.nr_nfs_res.specs.declared.file_system.FsstatOk.{FsstatOk}
 use Rattle.nr_nfs_res.specs.declared.file_system.PathconfOk.{PathconfOk}
 
--- what FSSTAT gives (RFC 1813 section 3.3.18)
+-- the results of FSSTAT on success (RFC 1813 section 3.3.18)
 unfoldable pub fsstat_ok_codec : Codec FsstatOk
 fsstat_ok_codec =
     structure (λ p. record {
@@ -31,7 +31,7 @@ fsstat_ok_lawful =
     ((optional_lawful _ attributes_lawful) ⊠ hyper_lawful ⊠ hyper_lawful ⊠ hyper_lawful ⊠ hyper_lawful
     ⊠ hyper_lawful ⊠ hyper_lawful ⊠ word_lawful)
 
--- what FSINFO gives (RFC 1813 section 3.3.19)
+-- the results of FSINFO on success (RFC 1813 section 3.3.19)
 unfoldable pub fsinfo_ok_codec : Codec FsinfoOk
 fsinfo_ok_codec =
     structure (λ p. record {
@@ -59,7 +59,7 @@ fsinfo_ok_lawful =
     ((optional_lawful _ attributes_lawful) ⊠ word_lawful ⊠ word_lawful ⊠ word_lawful ⊠ word_lawful
     ⊠ word_lawful ⊠ word_lawful ⊠ word_lawful ⊠ hyper_lawful ⊠ time_lawful ⊠ word_lawful)
 
--- what PATHCONF gives (RFC 1813 section 3.3.20)
+-- the results of PATHCONF on success (RFC 1813 section 3.3.20)
 unfoldable pub pathconf_ok_codec : Codec PathconfOk
 pathconf_ok_codec =
     structure (λ p. record {

@@ -8,7 +8,7 @@ use Rattle.nr_nfs_base.specs.Names.{handle_codec, handle_lawful, text_codec, tex
 use Rattle.nr_nfs_res.specs.declared.lookup.LookupOk.{LookupOk}
 use Rattle.nr_nfs_res.specs.declared.lookup.ReadlinkOk.{ReadlinkOk}
 
--- what LOOKUP gives (RFC 1813 section 3.3.3)
+-- the results of LOOKUP on success (RFC 1813 section 3.3.3)
 unfoldable pub lookup_ok_codec : Codec LookupOk
 lookup_ok_codec =
     structure (λ p. record { object = p.0; attributes = p.1.0; dir_attributes = p.1.1 })
@@ -21,7 +21,7 @@ lookup_ok_lawful =
     structure_lawful _ _ _ (λ _. refl) (λ _. refl)
     (handle_lawful ⊠ (optional_lawful _ attributes_lawful) ⊠ (optional_lawful _ attributes_lawful))
 
--- what READLINK gives (RFC 1813 section 3.3.5)
+-- the results of READLINK on success (RFC 1813 section 3.3.5)
 unfoldable pub readlink_ok_codec : Codec ReadlinkOk
 readlink_ok_codec =
     structure (λ p. record { attributes = p.0; path = p.1 })

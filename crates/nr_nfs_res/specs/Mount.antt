@@ -7,7 +7,7 @@ use Rattle.nr_nfs_res.specs.declared.mount.MountOk.{MountOk}
 use Rattle.nr_nfs_res.specs.declared.mount.UmntRes.{UmntRes}
 use Rattle.nr_nfs_res.specs.declared.mount.UmntallRes.{UmntallRes}
 
--- what MNT gives (RFC 1813 section 5.2.1, mountres3_ok)
+-- the results of MNT on success (RFC 1813 section 5.2.1, mountres3_ok)
 unfoldable pub mount_ok_codec : Codec MountOk
 mount_ok_codec =
     structure (λ p. record { handle = p.0; flavors = p.1 })

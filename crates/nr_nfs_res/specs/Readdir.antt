@@ -23,7 +23,7 @@ entry_lawful =
     structure_lawful _ _ _ (λ _. refl) (λ _. refl)
     (hyper_lawful ⊠ text_lawful ⊠ hyper_lawful)
 
--- what READDIR gives (RFC 1813 section 3.3.16)
+-- the results of READDIR on success (RFC 1813 section 3.3.16)
 unfoldable pub readdir_ok_codec : Codec ReaddirOk
 readdir_ok_codec =
     structure (λ p. record { dir_attributes = p.0; verifier = p.1.0; entries = p.1.1.0; eof = p.1.1.1 })
@@ -57,7 +57,7 @@ entry_plus_lawful =
     (hyper_lawful ⊠ text_lawful ⊠ hyper_lawful ⊠ (optional_lawful _ attributes_lawful)
     ⊠ (optional_lawful _ handle_lawful))
 
--- what READDIRPLUS gives (RFC 1813 section 3.3.17)
+-- the results of READDIRPLUS on success (RFC 1813 section 3.3.17)
 unfoldable pub readdirplus_ok_codec : Codec ReaddirplusOk
 readdirplus_ok_codec =
     structure (λ p. record { dir_attributes = p.0; verifier = p.1.0; entries = p.1.1.0; eof = p.1.1.1 })

@@ -12,7 +12,7 @@ pub type SetattrRes = StatusUnion<WccData, WccData>;
 /// The results of GETATTR (RFC 1813 section 3.3.1).
 pub type GetattrRes = StatusUnion<Attributes, ()>;
 
-/// What ACCESS gives (RFC 1813 section 3.3.4).
+/// The results of ACCESS on success (RFC 1813 section 3.3.4).
 #[derive(Clone, Copy)]
 pub struct AccessOk {
     pub attributes: Option<Attributes>,

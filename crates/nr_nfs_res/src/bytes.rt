@@ -9,13 +9,13 @@ use nr_nfs_base::{
 use nr_xdr::{Memory, Reader, Writer};
 use std::alloc::Global;
 
-/// What READ gives (RFC 1813 section 3.3.6).
+/// The results of READ on success (RFC 1813 section 3.3.6).
 #[derive(Drop)]
 pub struct ReadOk {
     pub attributes: Option<Attributes>,
     /// In bytes.
     pub count: u32,
-    /// The data ends at or behind the end of the file.
+    /// The data reaches the end of the file.
     pub eof: bool,
     pub bytes: Data,
 }
@@ -52,7 +52,7 @@ impl Xdr for ReadOk {
 /// The results of READ (RFC 1813 section 3.3.6).
 pub type ReadRes = StatusUnion<ReadOk, Option<Attributes>>;
 
-/// What WRITE gives (RFC 1813 section 3.3.7).
+/// The results of WRITE on success (RFC 1813 section 3.3.7).
 #[derive(Clone, Copy)]
 pub struct WriteOk {
     pub wcc: WccData,
@@ -101,7 +101,7 @@ impl Xdr for WriteOk {
 /// The results of WRITE (RFC 1813 section 3.3.7).
 pub type WriteRes = StatusUnion<WriteOk, WccData>;
 
-/// What COMMIT gives (RFC 1813 section 3.3.21).
+/// The results of COMMIT on success (RFC 1813 section 3.3.21).
 #[derive(Clone, Copy)]
 pub struct CommitOk {
     pub wcc: WccData,

@@ -6,11 +6,11 @@ use nr_nfs_base::{Attributes, Handle, StatusUnion, ValueFault, WccData, Xdr, wri
 use nr_xdr::{Memory, Reader, Writer};
 use std::alloc::Global;
 
-/// What a call gives that makes a file (RFC 1813 sections 3.3.8 to 3.3.11).
+/// The results on success of a call that creates a file (RFC 1813 sections 3.3.8 to 3.3.11).
 #[derive(Drop)]
 pub struct CreateOk {
     pub object: Option<Handle>,
-    /// Those of the object.
+    /// The attributes of the object.
     pub attributes: Option<Attributes>,
     pub dir_wcc: WccData,
 }

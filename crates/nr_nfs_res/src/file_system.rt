@@ -6,23 +6,23 @@ use nr_nfs_base::{Attributes, StatusUnion, Time, ValueFault, Xdr};
 use nr_xdr::{Memory, Reader, Writer};
 use std::alloc::Global;
 
-/// What FSSTAT gives (RFC 1813 section 3.3.18).
+/// The results of FSSTAT on success (RFC 1813 section 3.3.18).
 #[derive(Clone, Copy)]
 pub struct FsstatOk {
     pub attributes: Option<Attributes>,
-    /// All bytes.
+    /// The bytes of the file system.
     pub tbytes: u64,
     /// Free bytes.
     pub fbytes: u64,
     /// Free bytes for the caller.
     pub abytes: u64,
-    /// All files.
+    /// The files that the file system has room for.
     pub tfiles: u64,
-    /// Free files.
+    /// The files that may still be created.
     pub ffiles: u64,
-    /// Free files for the caller.
+    /// The files that the caller may still create.
     pub afiles: u64,
-    /// Seconds for which this is not expected to change.
+    /// The seconds for which these numbers are not expected to change.
     pub invarsec: u32,
 }
 
@@ -77,7 +77,7 @@ impl Xdr for FsstatOk {
 /// The results of FSSTAT (RFC 1813 section 3.3.18).
 pub type FsstatRes = StatusUnion<FsstatOk, Option<Attributes>>;
 
-/// What FSINFO gives (RFC 1813 section 3.3.19).
+/// The results of FSINFO on success (RFC 1813 section 3.3.19).
 #[derive(Clone, Copy)]
 pub struct FsinfoOk {
     pub attributes: Option<Attributes>,
@@ -190,7 +190,7 @@ impl Xdr for FsinfoOk {
 /// The results of FSINFO (RFC 1813 section 3.3.19).
 pub type FsinfoRes = StatusUnion<FsinfoOk, Option<Attributes>>;
 
-/// What PATHCONF gives (RFC 1813 section 3.3.20).
+/// The results of PATHCONF on success (RFC 1813 section 3.3.20).
 #[derive(Clone, Copy)]
 pub struct PathconfOk {
     pub attributes: Option<Attributes>,
@@ -198,9 +198,9 @@ pub struct PathconfOk {
     pub linkmax: u32,
     /// The most bytes of a name.
     pub name_max: u32,
-    /// A longer name is refused, not cut.
+    /// A longer name is refused, not truncated.
     pub no_trunc: bool,
-    /// Only a privileged caller changes owners.
+    /// Only a privileged caller may change owners.
     pub chown_restricted: bool,
     pub case_insensitive: bool,
     pub case_preserving: bool,

@@ -6,11 +6,11 @@ use nr_nfs_base::{Attributes, Handle, Path, StatusUnion, ValueFault, Xdr, write_
 use nr_xdr::{Memory, Reader, Writer};
 use std::alloc::Global;
 
-/// What LOOKUP gives (RFC 1813 section 3.3.3).
+/// The results of LOOKUP on success (RFC 1813 section 3.3.3).
 #[derive(Drop)]
 pub struct LookupOk {
     pub object: Handle,
-    /// Those of the object.
+    /// The attributes of the object.
     pub attributes: Option<Attributes>,
     pub dir_attributes: Option<Attributes>,
 }
@@ -44,10 +44,10 @@ impl Xdr for LookupOk {
     }
 }
 
-/// The results of LOOKUP, the attributes of the directory behind a failure (RFC 1813 section 3.3.3).
+/// The results of LOOKUP. On failure they have the attributes of the directory (RFC 1813 section 3.3.3).
 pub type LookupRes = StatusUnion<LookupOk, Option<Attributes>>;
 
-/// What READLINK gives (RFC 1813 section 3.3.5).
+/// The results of READLINK on success (RFC 1813 section 3.3.5).
 #[derive(Drop)]
 pub struct ReadlinkOk {
     pub attributes: Option<Attributes>,

@@ -6,11 +6,11 @@ use nr_nfs_base::{Array, Handle, MountStatus, StatusUnion, ValueFault, Xdr, writ
 use nr_xdr::{Memory, Reader, Writer};
 use std::alloc::Global;
 
-/// What MNT gives (RFC 1813 section 5.2.1, `mountres3_ok`).
+/// The results of MNT on success (RFC 1813 section 5.2.1, `mountres3_ok`).
 #[derive(Drop)]
 pub struct MountOk {
     pub handle: Handle,
-    /// The flavors of credentials that the server takes.
+    /// The flavors of credentials that the server accepts.
     pub flavors: Array<u32>,
 }
 
@@ -36,7 +36,7 @@ impl Xdr for MountOk {
 /// The results of MNT (RFC 1813 section 5.2.1).
 pub type MntRes = StatusUnion<MountOk, (), MountStatus>;
 
-/// Nothing: UMNT (RFC 1813 section 5.2.3).
+/// The results of UMNT: none (RFC 1813 section 5.2.3).
 #[derive(Clone, Copy)]
 pub struct UmntRes;
 
@@ -58,7 +58,7 @@ impl Xdr for UmntRes {
     }
 }
 
-/// Nothing: UMNTALL (RFC 1813 section 5.2.4).
+/// The results of UMNTALL: none (RFC 1813 section 5.2.4).
 #[derive(Clone, Copy)]
 pub struct UmntallRes;
 

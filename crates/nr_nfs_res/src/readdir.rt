@@ -40,13 +40,13 @@ impl Xdr for Entry {
     }
 }
 
-/// What READDIR gives (RFC 1813 section 3.3.16).
+/// The results of READDIR on success (RFC 1813 section 3.3.16).
 #[derive(Drop)]
 pub struct ReaddirOk {
     pub dir_attributes: Option<Attributes>,
     pub verifier: Verifier,
     pub entries: LinkedList<Entry>,
-    /// The last entry is among these, or none was left.
+    /// No entry follows these.
     pub eof: bool,
 }
 
@@ -135,13 +135,13 @@ impl Xdr for EntryPlus {
     }
 }
 
-/// What READDIRPLUS gives (RFC 1813 section 3.3.17).
+/// The results of READDIRPLUS on success (RFC 1813 section 3.3.17).
 #[derive(Drop)]
 pub struct ReaddirplusOk {
     pub dir_attributes: Option<Attributes>,
     pub verifier: Verifier,
     pub entries: LinkedList<EntryPlus>,
-    /// The last entry is among these, or none was left.
+    /// No entry follows these.
     pub eof: bool,
 }
 
