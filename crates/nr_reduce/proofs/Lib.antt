@@ -1,0 +1,13 @@
+pub mod Answering
+pub mod Asking
+pub mod Drained
+pub mod Laid
+pub mod Laws
+pub mod Looks
+pub mod Once
+pub mod Opens
+pub mod Placing
+pub mod Shapes
+pub mod Standing
+pub mod Steps
+pub mod Undone

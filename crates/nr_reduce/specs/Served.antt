@@ -1,0 +1,53 @@
+-- All that the server of a link executes and writes.
+use Rattle.std.specs.Prelude.{◌≡◌, ℕ, ◌==◌, ◌&&◌, if◌then◌else◌, List, [], ◌∷◌, ◌++◌, length, Option, None, Some, slice_get}
+use Rattle.nr_wire.specs.declared.hello.Side.TheVariants.{Initiator, Responder}
+use Rattle.nr_link.specs.declared.end.End.{End}
+use Rattle.nr_reduce.specs.declared.mark.Moment.{Moment}
+use Rattle.nr_reduce.specs.declared.mark.Mark.{Mark}
+use Rattle.nr_reduce.specs.declared.mark.Mark.TheVariants as marks
+use Rattle.nr_reduce.specs.declared.mark.Opened.{Opened}
+use Rattle.nr_reduce.specs.Observed.{sent}
+use Rattle.nr_reduce.specs.Events.{Reached}
+use Rattle.nr_reduce.specs.Server.{Known, Ready}
+use Rattle.nr_reduce.specs.Runs.{server, owed, HasWritten}
+use Rattle.nr_reduce.specs.Matched.{IsPrefixOf}
+use Rattle.nr_reduce.specs.Asked.{IsAll}
+use Rattle.nr_reduce.specs.Along.{Along}
+
+-- the first call that came whole and isn't executed; a server that ended executes nothing
+abbrev pub first_ready : List Ready → Option End → Option Ready
+first_ready ready (Some end) = None
+first_ready ready None = slice_get ready 0
+
+unfoldable pub next_call : Opened → ℕ → List Mark → Option Ready
+next_call opened link run = first_ready (server opened link run).state.ready (server opened link run).ended
+
+-- It is executed, with what its Send conveyed.
+pub record Serves (opened : Opened) (link : ℕ) (before : List Mark) (xid : ℕ) (payload : List ℕ) : Type 0 where
+  pub call : Ready
+  pub is_next : next_call opened link before ≡ Some call
+  pub own : xid ≡ call.xid
+  pub conveyed : payload ≡ call.payload
+
+-- calls are executed in the order in which they came whole, none twice and none passed over
+abbrev pub ServedMark : (List ℕ → List ℕ → Type 0) → Opened → ℕ → List Mark → Mark → Type 0
+ServedMark Fills opened link before (marks.Submit l call form answer) = Unit {0}
+ServedMark Fills opened link before (marks.Wrote l Initiator bytes) = Unit {0}
+ServedMark Fills opened link before (marks.Wrote l Responder bytes) =
+    l ≡ link → Fills (sent link Responder before ++ bytes) (owed opened link Responder before)
+ServedMark Fills opened link before (marks.Fed l side bytes) = Unit {0}
+ServedMark Fills opened link before (marks.Execute l xid moment payload place reply) =
+    l ≡ link → Serves opened link before xid payload
+ServedMark Fills opened link before (marks.Done l xid outcome) = Unit {0}
+ServedMark Fills opened link before (marks.Lost l xid) = Unit {0}
+ServedMark Fills opened link before (marks.Forget l xid) = Unit {0}
+ServedMark Fills opened link before (marks.Revoke l xid bytes) = Unit {0}
+ServedMark Fills opened link before (marks.Drop l) = Unit {0}
+
+pub record Served (opened : Opened) (link : ℕ) (run : List Mark) : Type 0 where
+  pub each : Along (ServedMark IsAll opened link) [] run
+  pub written : HasWritten opened link Responder run
+
+-- as far as a run goes: what is written is the first of what is owed
+abbrev pub ServedSoFar : Opened → ℕ → List Mark → Type 0
+ServedSoFar opened link run = Along (ServedMark IsPrefixOf opened link) [] run

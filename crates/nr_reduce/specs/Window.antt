@@ -1,0 +1,55 @@
+-- Credits (RFC 8166 section 3.3.1): how many calls of a link are out, how many its server grants, and what a client answers to
+-- a call.
+use Rattle.std.specs.Prelude.{◌≡◌, ℕ, ◌+◌, ◌-◌, ◌<◌, nat_lt, nat_le, if◌then◌else◌, List, [], length, Option, None, Some, Result, Ok, Err}
+use Rattle.nr_reduce.specs.declared.call.Call.{Call}
+use Rattle.nr_link.specs.declared.end.End.{End}
+use Rattle.nr_reduce.specs.declared.call.Form.{Form}
+use Rattle.nr_reduce.specs.declared.call.Refused.TheVariants as refusals
+use Rattle.nr_reduce.specs.declared.call.Submission.{Submission}
+use Rattle.nr_reduce.specs.declared.call.Submission.TheVariants as submissions
+use Rattle.nr_reduce.specs.declared.mark.Mark.{Mark}
+use Rattle.nr_reduce.specs.declared.mark.Mark.TheVariants as marks
+use Rattle.nr_reduce.specs.declared.mark.Opened.{Opened}
+use Rattle.nr_reduce.specs.Limits.{numbers_end}
+use Rattle.nr_reduce.specs.Plans.{Plan, TooLarge, regions_needed}
+use Rattle.nr_reduce.specs.Events.{Reached}
+use Rattle.nr_reduce.specs.Client.{Known, plan_now}
+use Rattle.nr_reduce.specs.Runs.{client}
+use Rattle.nr_reduce.specs.Along.{Along}
+
+-- how many accepted calls have no message of their xid whole yet, and what the last message grants
+unfoldable pub out_of : Opened → ℕ → List Mark → ℕ
+out_of opened link run = length (client opened link run).state.out
+
+unfoldable pub grant_of : Opened → ℕ → List Mark → ℕ
+grant_of opened link run = (client opened link run).state.grant
+
+-- a call goes out only while fewer are out than are granted
+abbrev pub WithinGrant : Opened → ℕ → List Mark → Mark → Type 0
+WithinGrant opened link before (marks.Submit l call form (submissions.Accepted xid)) = l ≡ link → out_of opened link before < grant_of opened link before
+WithinGrant opened link before mark = Unit {0}
+
+abbrev pub KeepsGrant : Opened → ℕ → List Mark → Type 0
+KeepsGrant opened link run = Along (WithinGrant opened link) [] run
+
+-- What a client answers to a call: the first that stands of its end, a room that the call passes, no credit left, too few xids
+-- or STags left; else it goes out under the next xid.
+abbrev pub next_xid : Opened → Known → ℕ
+next_xid opened k = opened.first_xid + k.accepted
+
+abbrev pub unless_spent : (left need : ℕ) → Submission → Submission
+unless_spent left need answer = if nat_lt left need then submissions.Refused (refusals.Spent left need) else answer
+
+abbrev pub by_plan : Opened → Known → Result Plan TooLarge → Submission
+by_plan opened k (Err large) = submissions.Refused (refusals.TooLarge large.need large.room)
+by_plan opened k (Ok plan) =
+    if nat_le k.grant (length k.out) then submissions.Refused (refusals.NoCredit (length k.out) k.grant)
+    else unless_spent (numbers_end - next_xid opened k) 1
+    (unless_spent (numbers_end - k.stag) (regions_needed plan) (submissions.Accepted (next_xid opened k)))
+
+abbrev pub answer_by : Opened → Known → Call → Form → Option End → Submission
+answer_by opened k call form (Some end) = submissions.Refused (refusals.Ended end)
+answer_by opened k call form None = by_plan opened k (plan_now k (next_xid opened k) call form)
+
+unfoldable pub answer_of : Opened → Reached Known → Call → Form → Submission
+answer_of opened r call form = answer_by opened r.state call form r.ended
