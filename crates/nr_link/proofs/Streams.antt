@@ -7,7 +7,7 @@ use Rattle.nr_wire.specs.declared.hello.Side.{Side}
 use Rattle.nr_wire.specs.declared.stream.Awaited.TheVariants.{Hello as HelloFrom}
 use Rattle.nr_wire.specs.Stream.{Split, split, awaited_after}
 use Rattle.nr_wire.proofs.Splits.{split-append}
-use Rattle.nr_link.specs.Frames.{Frame, frames_from, frames_of, frames_with}
+use Rattle.nr_link.specs.Frames.{Frame, frames_from, frames_of, frames_completed}
 
 pub frames_from-append : (at : ℕ) (xs ys : List (List ℕ)) → frames_from at (xs ++ ys) ≡ frames_from at xs ++ frames_from (at + length (concat xs)) ys
 frames_from-append at [] ys = ap (λ (n : ℕ). frames_from n ys) (sym (add-zero at))
@@ -22,11 +22,11 @@ frames_from-append at (x ∷ xs) ys =
 abbrev pub done : Side → List ℕ → Split
 done side old = split (HelloFrom side) old
 
-pub frames_with-split : (side : Side) (old more : List ℕ) →
-    frames_with side old more
+pub frames_completed-split : (side : Side) (old more : List ℕ) →
+    frames_completed side old more
     ≡ frames_from (length (concat (done side old).frames)) (split (awaited_after (HelloFrom side) (done side old).frames) ((done side old).rest ++ more)).frames
-unfolding frames_with frames_of
-frames_with-split side old more =
+unfolding frames_completed frames_of
+frames_completed-split side old more =
     let fs = (done side old).frames in
     let later = (split (awaited_after (HelloFrom side) fs) ((done side old).rest ++ more)).frames in
     ap (λ (s : Split). drop (length (frames_from 0 fs)) (frames_from 0 s.frames)) (split-append (HelloFrom side) old more)

@@ -13,56 +13,56 @@ use Rattle.nr_regions.specs.Access.{Grant, Reach, lacking}
 use Rattle.nr_link.specs.declared.end.End.{End}
 use Rattle.nr_link.specs.declared.end.End.TheVariants as ends
 use Rattle.nr_link.specs.Reasons.{denied_word, NO_BUFFER_WORD}
-use Rattle.nr_link.specs.Written.{terminate}
+use Rattle.nr_link.specs.Output.{terminate_message}
 use Rattle.nr_link.specs.Frames.{Frame}
-use Rattle.nr_link.specs.Link.{Request, request_in, Readiness, Flaw, segment_flaw}
-use Rattle.nr_link.specs.Link.Flaw.{Reason, NoBuffer, Lacks, Peer}
+use Rattle.nr_link.specs.Receive.{ReadRequest, read_request_in, Readiness, SegmentFault, segment_fault}
+use Rattle.nr_link.specs.Receive.SegmentFault.{Reason, NoBuffer, AccessDenied, PeerTerminated}
 
 abbrev pub kind_of : ℕ → Kind
 kind_of opcode = if opcode == OPCODE_READ_RESPONSE then Response else Write
 
 -- the tagged segment of a frame, with the end of the frame
-abbrev pub reach_with : Frame → Segment → List Reach
-reach_with f (Tagged last opcode stag to payload) =
+abbrev pub reach_of : Frame → Segment → List Reach
+reach_of f (Tagged last opcode stag to payload) =
     record { kind = kind_of opcode; stag = stag; to = to; payload = payload; end = f.end } ∷ []
-reach_with f (Untagged last opcode w queue msn offset payload) = []
+reach_of f (Untagged last opcode w queue msn offset payload) = []
 
 -- what a segment reaches of the memory of the side that gets it
-abbrev pub access_with : Segment → Option Access
-access_with (Tagged last opcode stag to payload) =
+abbrev pub access_of : Segment → Option Access
+access_of (Tagged last opcode stag to payload) =
     Some (record { right = right_for (kind_of opcode); stag = stag; to = to; len = length payload })
-access_with (Untagged last opcode w queue msn offset payload) =
+access_of (Untagged last opcode w queue msn offset payload) =
     if opcode == OPCODE_READ_REQUEST
-    then Some (record { right = Fetch; stag = (request_in payload).stag; to = (request_in payload).to; len = (request_in payload).size })
+    then Some (record { right = Fetch; stag = (read_request_in payload).stag; to = (read_request_in payload).to; len = (read_request_in payload).size })
     else None
 
 -- what the access of a frame's segment lacks of the grants
-abbrev pub lack_with : List Grant → Frame → Segment → Option Denied
-lack_with grants f segment = option_and_then (λ access. lacking grants access f.end) (access_with segment)
+abbrev pub missing_access : List Grant → Frame → Segment → Option Denied
+missing_access grants f segment = option_and_then (λ access. lacking grants access f.end) (access_of segment)
 
 -- the end of a flaw
 abbrev pub denied_at : Option Access → Denied → End
 denied_at None why = ends.Denied 0 0 why
 denied_at (Some access) why = ends.Denied access.stag access.to why
 
-abbrev pub end_by : Frame → Segment → Option (Flaw Denied) → Option End
-end_by f segment None = None
-end_by f segment (Some (Reason reason)) = Some (ends.Bad f.at reason)
-end_by f segment (Some (NoBuffer msn)) = Some (ends.NoBuffer msn)
-end_by f segment (Some (Lacks why)) = Some (denied_at (access_with segment) why)
-end_by f segment (Some (Peer word)) = Some (ends.Terminated word)
+abbrev pub end_of_fault : Frame → Segment → Option (SegmentFault Denied) → Option End
+end_of_fault f segment None = None
+end_of_fault f segment (Some (Reason reason)) = Some (ends.Bad f.at reason)
+end_of_fault f segment (Some (NoBuffer msn)) = Some (ends.NoBuffer msn)
+end_of_fault f segment (Some (AccessDenied why)) = Some (denied_at (access_of segment) why)
+end_of_fault f segment (Some (PeerTerminated word)) = Some (ends.Terminated word)
 
 -- a frame as a segment of this link: the opcodes that it lets through are those of nr_wire
-unfoldable pub piece_of : Frame → Result Segment ℕ
-piece_of f = segment_of f.bytes
+unfoldable pub frame_segment : Frame → Result Segment ℕ
+frame_segment f = segment_of f.bytes
 
 abbrev pub frame_end_by : (Option Denied → Readiness Denied) → List Grant → Frame → Result Segment ℕ → Option End
-frame_end_by ready grants f (Ok segment) = end_by f segment (segment_flaw (ready (lack_with grants f segment)) segment)
+frame_end_by ready grants f (Ok segment) = end_of_fault f segment (segment_fault (ready (missing_access grants f segment)) segment)
 frame_end_by ready grants f (Err reason) = Some (ends.Bad f.at reason)
 
 -- Why a frame ends a side that offered these grants, and that is ready so, whatever the access lacks.
 unfoldable pub frame_end : (Option Denied → Readiness Denied) → List Grant → Frame → Option End
-frame_end ready grants f = frame_end_by ready grants f (piece_of f)
+frame_end ready grants f = frame_end_by ready grants f (frame_segment f)
 
 -- a refused hello
 abbrev pub hello_end : Result Hello ℕ → Option End
@@ -71,12 +71,12 @@ hello_end (Err reason) = Some (ends.Bad 0 reason)
 
 -- what a side writes last: a Terminate with its word, but for a refused hello, for the peer's own Terminate, and where memory
 -- ran out
-abbrev pub is_of_hello : ℕ → Bool
-is_of_hello reason = nat_lt reason 5
+abbrev pub is_hello_reason : ℕ → Bool
+is_hello_reason reason = nat_lt reason 5
 
-unfoldable pub last_words : End → List ℕ
-last_words (ends.Bad at reason) = if is_of_hello reason then [] else terminate reason
-last_words (ends.Denied stag offset why) = terminate (denied_word why)
-last_words (ends.NoBuffer msn) = terminate NO_BUFFER_WORD
-last_words (ends.Terminated reason) = []
-last_words ends.Memory = []
+unfoldable pub final_output : End → List ℕ
+final_output (ends.Bad at reason) = if is_hello_reason reason then [] else terminate_message reason
+final_output (ends.Denied stag offset why) = terminate_message (denied_word why)
+final_output (ends.NoBuffer msn) = terminate_message NO_BUFFER_WORD
+final_output (ends.Terminated reason) = []
+final_output ends.Memory = []

@@ -1,6 +1,6 @@
 pub mod Limits
 pub mod Reasons
 pub mod Frames
-pub mod Written
-pub mod Link
+pub mod Output
+pub mod Receive
 pub mod Ending

@@ -2,9 +2,9 @@
 use Rattle.std.specs.Prelude.{ℕ}
 
 -- the payload bytes that a segment has at most, when written
-abbrev pub piece_max : ℕ
-piece_max = 4096
+abbrev pub segment_max : ℕ
+segment_max = 4096
 
 -- the Read Requests of a side that may be open at once, and the responses that it may be asked for before it writes
-abbrev pub reads_max : ℕ
-reads_max = 8
+abbrev pub open_reads_max : ℕ
+open_reads_max = 8

@@ -11,10 +11,10 @@ use Rattle.nr_wire.specs.Constants.{OPCODE_WRITE}
 use Rattle.nr_wire.specs.Segment.{Segment as WireSegment, spelling}
 use Rattle.nr_wire.specs.Segment.Segment.{Tagged, Untagged}
 use Rattle.nr_reduce.specs.Undone.{laid, one_write, write_segments, chunk_segments}
-use Rattle.nr_link.specs.Limits.{piece_max}
+use Rattle.nr_link.specs.Limits.{segment_max}
 use Rattle.nr_reduce.specs.Plans.{segments_from}
 use Rattle.nr_reduce.specs.Chunks.{Bytes, segment_bytes, joined, chunk_total, filled}
-use Rattle.nr_link.specs.Written.{pieces, piece, cut, write}
+use Rattle.nr_link.specs.Output.{segment_count, segment_payload, cut, write}
 use Rattle.nr_reduce.specs.Holds.{writes_into}
 
 -- ---- Bytes over bytes
@@ -68,7 +68,7 @@ flat-map f g (x ∷ xs) = ap (λ (ys : List ℕ). f (g x) ++ ys) (flat-map f g x
 
 pub write_spells : (stag to : ℕ) (bytes : List ℕ) → write stag to bytes ≡ flat_map spelling (write_segments stag to bytes)
 unfolding write cut
-write_spells stag to bytes = sym (flat-map spelling (one_write stag to bytes) (range_with_len 0 (pieces bytes)))
+write_spells stag to bytes = sym (flat-map spelling (one_write stag to bytes) (range_with_len 0 (segment_count bytes)))
 
 low_piece : (i n : ℕ) → i < max 1 ((n + 4095) / 4096) → 4096 * i ≤ n
 low_piece i n h = omega (arith, h)
@@ -76,29 +76,29 @@ low_piece i n h = omega (arith, h)
 all_pieces : (n : ℕ) → n ≤ 4096 * max 1 ((n + 4095) / 4096)
 all_pieces n = omega arith
 
-laid-pieces : (stag to : ℕ) (bytes old : List ℕ) (k i : ℕ) → to + length bytes ≤ length old → i + k ≡ pieces bytes →
-    laid stag (written old to (take (piece_max * i) bytes)) (map (one_write stag to bytes) (range_with_len i k)) ≡ written old to bytes
-laid-pieces stag to bytes old zero i fits all =
+laid-segment_count : (stag to : ℕ) (bytes old : List ℕ) (k i : ℕ) → to + length bytes ≤ length old → i + k ≡ segment_count bytes →
+    laid stag (written old to (take (segment_max * i) bytes)) (map (one_write stag to bytes) (range_with_len i k)) ≡ written old to bytes
+laid-segment_count stag to bytes old zero i fits all =
     ap (λ (xs : List ℕ). written old to xs) (take_all (4096 * i) bytes (let h = all_pieces (length bytes) in omega (arith, h, all)))
-laid-pieces stag to bytes old (suc k) i fits all =
+laid-segment_count stag to bytes old (suc k) i fits all =
     let low : 4096 * i ≤ length bytes = low_piece i (length bytes) (omega (arith, all)) in
     let len : length (take (4096 * i) bytes) ≡ 4096 * i = length-take-le (4096 * i) bytes low in
-    ap (λ (b : Bool). laid stag (cond b (written (written old to (take (4096 * i) bytes)) (to + 4096 * i) (piece bytes i)) (written old to (take (4096 * i) bytes))) (map (one_write stag to bytes) (range_with_len (i + 1) k))) (eq-eqb stag stag refl)
+    ap (λ (b : Bool). laid stag (cond b (written (written old to (take (4096 * i) bytes)) (to + 4096 * i) (segment_payload bytes i)) (written old to (take (4096 * i) bytes))) (map (one_write stag to bytes) (range_with_len (i + 1) k))) (eq-eqb stag stag refl)
     ∙ ap (λ (xs : List ℕ). laid stag xs (map (one_write stag to bytes) (range_with_len (i + 1) k)))
-    (ap (λ (n : ℕ). written (written old to (take (4096 * i) bytes)) (to + n) (piece bytes i)) (sym len)
-    ∙ written-more old (take (4096 * i) bytes) (piece bytes i) to (omega (arith, len, low, fits))
+    (ap (λ (n : ℕ). written (written old to (take (4096 * i) bytes)) (to + n) (segment_payload bytes i)) (sym len)
+    ∙ written-more old (take (4096 * i) bytes) (segment_payload bytes i) to (omega (arith, len, low, fits))
     ∙ ap (λ (xs : List ℕ). written old to xs) (take-split (4096 * i) 4096 bytes ∙ ap (λ (n : ℕ). take n bytes) (let s : 4096 * i + 4096 ≡ 4096 * (i + 1) = omega arith in s)))
-    ∙ laid-pieces stag to bytes old k (i + 1) fits (omega (arith, all))
+    ∙ laid-segment_count stag to bytes old k (i + 1) fits (omega (arith, all))
 
 pub laid-write : (stag to : ℕ) (bytes old : List ℕ) → to + length bytes ≤ length old → laid stag old (write_segments stag to bytes) ≡ written old to bytes
 laid-write stag to bytes old fits =
     ap (λ (xs : List ℕ). laid stag xs (write_segments stag to bytes)) (sym (written-none old to))
-    ∙ laid-pieces stag to bytes old (pieces bytes) 0 fits (omega arith)
+    ∙ laid-segment_count stag to bytes old (segment_count bytes) 0 fits (omega arith)
 
 laid-others : (stag other to : ℕ) (bytes old : List ℕ) (is : List ℕ) → stag ≢ other → laid stag old (map (one_write other to bytes) is) ≡ old
 laid-others stag other to bytes old [] ne = refl
 laid-others stag other to bytes old (i ∷ is) ne =
-    ap (λ (b : Bool). laid stag (cond b (written old (to + piece_max * i) (piece bytes i)) old) (map (one_write other to bytes) is)) (ne_eqb other stag (λ e. ne (sym e)))
+    ap (λ (b : Bool). laid stag (cond b (written old (to + segment_max * i) (segment_payload bytes i)) old) (map (one_write other to bytes) is)) (ne_eqb other stag (λ e. ne (sym e)))
     ∙ laid-others stag other to bytes old is ne
 
 -- ---- A chunk whose segments lie one behind another
@@ -203,4 +203,4 @@ laid-other stag other at (n ∷ ns) bytes old ne =
   where
     one : (b : Bool) → laid stag old (cond b [] (write_segments other at (take n bytes))) ≡ old
     one true = refl
-    one false = laid-others stag other at (take n bytes) old (range_with_len 0 (pieces (take n bytes))) ne
+    one false = laid-others stag other at (take n bytes) old (range_with_len 0 (segment_count (take n bytes))) ne

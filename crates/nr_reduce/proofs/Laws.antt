@@ -5,17 +5,17 @@ use Rattle.nr_reduce.specs.declared.call.Submission.TheVariants as submissions
 use Rattle.nr_reduce.specs.declared.mark.Mark.{Mark}
 use Rattle.nr_reduce.specs.declared.mark.Mark.TheVariants as marks
 use Rattle.nr_reduce.specs.declared.mark.Opened.{Opened}
-use Rattle.nr_reduce.specs.Along.{Along}
+use Rattle.nr_reduce.specs.AtEachMark.{AtEachMark}
 use Rattle.nr_reduce.specs.Matched.{IsPrefixOf}
 use Rattle.nr_reduce.specs.Asked.{IsAll, AskedMark, Asked, AskedSoFar}
 use Rattle.nr_reduce.specs.Served.{ServedMark, Served, ServedSoFar}
-use Rattle.nr_reduce.specs.Window.{KeepsGrant}
+use Rattle.nr_reduce.specs.Credits.{KeepsGrant}
 use Rattle.nr_reduce.specs.SoFar.{SoFar, InFull}
-use Rattle.nr_reduce.proofs.Steps.{Along-first}
+use Rattle.nr_reduce.proofs.Steps.{AtEachMark-first}
 
-pub Along-each : (P Q : List Mark → Mark → Type 0) (before run : List Mark) → ((b : List Mark) (m : Mark) → P b m → Q b m) → Along P before run → Along Q before run
-Along-each P Q before [] f h = tt
-Along-each P Q before (m ∷ run) f h = (f before m h.0, Along-each P Q (before ++ m ∷ []) run f h.1)
+pub AtEachMark-each : (P Q : List Mark → Mark → Type 0) (before run : List Mark) → ((b : List Mark) (m : Mark) → P b m → Q b m) → AtEachMark P before run → AtEachMark Q before run
+AtEachMark-each P Q before [] f h = tt
+AtEachMark-each P Q before (m ∷ run) f h = (f before m h.0, AtEachMark-each P Q (before ++ m ∷ []) run f h.1)
 
 all-first : (xs ys : List ℕ) → xs ≡ ys → IsPrefixOf xs ys
 all-first xs ys is = ([], append-nil xs ∙ is)
@@ -47,8 +47,8 @@ served-mark opened link before (marks.Drop l) h = h
 
 pub so_far : (opened : Opened) (link : ℕ) (run more : List Mark) → InFull opened link (run ++ more) → SoFar opened link run
 so_far opened link run more full = record {
-  asked = Along-first _ [] run more (Along-each _ _ [] (run ++ more) (asked-mark opened link) full.asked.each);
-  served = Along-first _ [] run more (Along-each _ _ [] (run ++ more) (served-mark opened link) full.served.each);
-  matched = Along-first _ [] run more full.matched;
-  grant = Along-first _ [] run more full.grant;
+  asked = AtEachMark-first _ [] run more (AtEachMark-each _ _ [] (run ++ more) (asked-mark opened link) full.asked.each);
+  served = AtEachMark-first _ [] run more (AtEachMark-each _ _ [] (run ++ more) (served-mark opened link) full.served.each);
+  matched = AtEachMark-first _ [] run more full.matched;
+  grant = AtEachMark-first _ [] run more full.grant;
 }

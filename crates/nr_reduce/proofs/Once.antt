@@ -23,41 +23,41 @@ use Rattle.nr_reduce.specs.declared.mark.Moment.{Moment}
 use Rattle.nr_reduce.specs.declared.mark.Mark.{Mark}
 use Rattle.nr_reduce.specs.declared.mark.Mark.TheVariants as marks
 use Rattle.nr_reduce.specs.declared.mark.Opened.{Opened}
-use Rattle.nr_reduce.specs.Observed.{Executed}
-use Rattle.nr_reduce.specs.Along.{Along}
+use Rattle.nr_reduce.specs.History.{ExecutedCall}
+use Rattle.nr_reduce.specs.AtEachMark.{AtEachMark}
 use Rattle.nr_link.specs.Frames.{Frame, is_hello}
-use Rattle.nr_link.specs.Link.{Heard, heard_with, message_with, is_send, sent_on, so_far}
-use Rattle.nr_link.specs.Ending.{piece_of}
-use Rattle.nr_reduce.specs.Offered.{Region}
-use Rattle.nr_reduce.specs.Events.{Event, Reached, if_its, events_at, events, reached_from, stepped, stepped_by, stepped_in}
-use Rattle.nr_reduce.specs.Events.Event.{Came, Accepts, TakesBack, Executes, Writes}
-use Rattle.nr_reduce.specs.Server.{Known, known_first, Ready, Reading, Incoming, Step, Verdict, Outcome, one_if, is_read, no_step, made_ready, if_whole, opened_with, readings_of, readings_from, reading_of, refused_with, read_step, response_step, call_of_number, is_stream_read, chunk_bytes, tagged_step, message_step, by_message, with_reach, step_by, step_in, step, with_step, heard_by, verdict, by_header, by_body, by_stream, by_need, next_stag, chunks_of, has_position, no_stream, is_waiting, by_payload, by_head, payload_of, call_xid, server_after, server_ends, server_rules, server_first, regions_of}
+use Rattle.nr_link.specs.Receive.{ReceiveState, received_after, message_completed, is_send, send_continued, begun_bytes}
+use Rattle.nr_link.specs.Ending.{frame_segment}
+use Rattle.nr_reduce.specs.OfferedRegions.{Region}
+use Rattle.nr_reduce.specs.Events.{Event, EndState, if_own, events_at, events, end_state_after, next_end_state, next_end_state_by, next_end_state_in}
+use Rattle.nr_reduce.specs.Events.Event.{FrameReceived, CallSubmitted, MemoryRevoked, CallExecuted, QueueWritten}
+use Rattle.nr_reduce.specs.Server.{ServerState, initial_state, ReadyCall, PendingRead, PendingCall, FrameEffect, Verdict, CallVerdict, one_if, is_read, no_effect, made_ready, if_whole, opened_with, reads_of, reads_from, read_of, refused_with, read_effect, response_effect, call_of_number, is_stream_read, chunk_bytes, tagged_effect, message_effect, by_message, with_reach, effect_by, effect_in, frame_effect, with_effect, received_by, verdict, by_header, by_body, by_stream, by_need, next_stag, chunks_of, has_position, no_stream, is_pending, by_payload, by_head, payload_of, call_xid, server_state_after, server_end, server_rules, initial_server, regions_of}
 use Rattle.nr_reduce.specs.Server.Verdict.{Stops, OtherVersion, BadChunks, Opens}
-use Rattle.nr_reduce.specs.Server.Outcome.{Refuses, IsReady}
+use Rattle.nr_reduce.specs.Server.CallVerdict.{Refuses, IsReady}
 use Rattle.nr_reduce.specs.Chunks.{suits, total_at}
-use Rattle.nr_reduce.specs.Runs.{server}
-use Rattle.nr_reduce.specs.Served.{ServedMark, Serves, next_call, first_ready}
+use Rattle.nr_reduce.specs.Run.{server}
+use Rattle.nr_reduce.specs.Served.{ServedMark, IsExecuted, next_call, first_ready}
 use Rattle.nr_reduce.proofs.Steps.{server-one}
 use Rattle.nr_reduce.proofs.Standing.{itself}
-use Rattle.nr_reduce.proofs.Placing.{Along-at}
+use Rattle.nr_reduce.proofs.Placing.{AtEachMark-at}
 
 -- ---- How often a number is told
 
-abbrev pub told : ℕ → List Ready → ℕ
+abbrev pub told : ℕ → List ReadyCall → ℕ
 told n [] = 0
 told n (r ∷ ready) = one_if (eqb r.number n) + told n ready
 
-abbrev pub read_for : ℕ → List Reading → Bool
+abbrev pub read_for : ℕ → List PendingRead → Bool
 read_for n reads = list_any (λ r. eqb r.number n) reads
 
-abbrev pub tokens : Known → ℕ → ℕ
+abbrev pub tokens : ServerState → ℕ → ℕ
 tokens k n = told n k.ready + one_if (read_for n k.reads)
 
-told-append : (n : ℕ) (xs ys : List Ready) → told n (xs ++ ys) ≡ told n xs + told n ys
+told-append : (n : ℕ) (xs ys : List ReadyCall) → told n (xs ++ ys) ≡ told n xs + told n ys
 told-append n [] ys = omega arith
 told-append n (x ∷ xs) ys = (let h = told-append n xs ys in omega (arith, h))
 
-told-drop : (n : ℕ) (xs : List Ready) → told n (drop 1 xs) ≤ told n xs
+told-drop : (n : ℕ) (xs : List ReadyCall) → told n (drop 1 xs) ≤ told n xs
 told-drop n [] = omega arith
 told-drop n (x ∷ xs) = omega arith
 
@@ -65,12 +65,12 @@ or-assoc : (a b c : Bool) → ((a || b) || c) ≡ (a || (b || c))
 or-assoc true b c = refl
 or-assoc false b c = refl
 
-reads-append : (n : ℕ) (xs ys : List Reading) → read_for n (xs ++ ys) ≡ (read_for n xs || read_for n ys)
+reads-append : (n : ℕ) (xs ys : List PendingRead) → read_for n (xs ++ ys) ≡ (read_for n xs || read_for n ys)
 reads-append n [] ys = refl
 reads-append n (x ∷ xs) ys = ap (λ (b : Bool). eqb x.number n || b) (reads-append n xs ys) ∙ sym (or-assoc (eqb x.number n) (read_for n xs) (read_for n ys))
 
 -- the reads are fewer, for every number
-abbrev Fewer : List Reading → List Reading → Type 0
+abbrev Fewer : List PendingRead → List PendingRead → Type 0
 Fewer xs ys = (n : ℕ) → one_if (read_for n xs) ≤ one_if (read_for n ys)
 
 or-le : (a b c : Bool) → one_if b ≤ one_if c → one_if (a || b) ≤ one_if (a || c)
@@ -82,28 +82,28 @@ or-more true true = omega arith
 or-more true false = omega arith
 or-more false b = omega arith
 
-fewer-one : (p : Reading → Bool) (x : Reading) (xs : List Reading) (n : ℕ) (b : Bool) → one_if (read_for n (filter p xs)) ≤ one_if (read_for n xs)
+fewer-one : (p : PendingRead → Bool) (x : PendingRead) (xs : List PendingRead) (n : ℕ) (b : Bool) → one_if (read_for n (filter p xs)) ≤ one_if (read_for n xs)
     → one_if (read_for n (cond b (x ∷ filter p xs) (filter p xs))) ≤ one_if (eqb x.number n || read_for n xs)
 fewer-one p x xs n true h = or-le (eqb x.number n) (read_for n (filter p xs)) (read_for n xs) h
 fewer-one p x xs n false h = (let a = or-more (eqb x.number n) (read_for n xs) in omega (arith, a, h))
 
-fewer-filter : (p : Reading → Bool) (xs : List Reading) → Fewer (filter p xs) xs
+fewer-filter : (p : PendingRead → Bool) (xs : List PendingRead) → Fewer (filter p xs) xs
 fewer-filter p [] n = omega arith
 fewer-filter p (x ∷ xs) n = fewer-one p x xs n (p x) (fewer-filter p xs n)
 
 -- ---- A frame
 
 -- what a step leaves: reads and calls that are ready, with so many more told of a number
-abbrev Adds : Known → Step → (ℕ → ℕ) → Type 0
+abbrev Adds : ServerState → FrameEffect → (ℕ → ℕ) → Type 0
 Adds k s more = (n : ℕ) → told n s.ready + one_if (read_for n s.reads) ≤ one_if (read_for n k.reads) + more n
 
 abbrev none : ℕ → ℕ
 none n = 0
 
-quiet : (k : Known) (s : Step) → s.ready ≡ [] → s.reads ≡ k.reads → Adds k s none
-quiet k s e f n = (let a = ap (λ (xs : List Ready). told n xs) e in let b = ap (λ (xs : List Reading). one_if (read_for n xs)) f in omega (arith, a, b))
+quiet : (k : ServerState) (s : FrameEffect) → s.ready ≡ [] → s.reads ≡ k.reads → Adds k s none
+quiet k s e f n = (let a = ap (λ (xs : List ReadyCall). told n xs) e in let b = ap (λ (xs : List PendingRead). one_if (read_for n xs)) f in omega (arith, a, b))
 
-if-le : (b : Bool) (x y : Step) (P : Step → Type 0) → P x → P y → P (cond b x y)
+if-le : (b : Bool) (x y : FrameEffect) (P : FrameEffect → Type 0) → P x → P y → P (cond b x y)
 if-le true x y P p q = p
 if-le false x y P p q = q
 
@@ -112,32 +112,32 @@ not-true true e = absurd cc
 not-true false e = refl
 
 -- a call that becomes ready is told once, where nothing of it is left to be read
-ready-told : (n number : ℕ) (o : Outcome) (s : Step) → s.ready ≡ [] → ((r : Ready) → o ≡ IsReady r → r.number ≡ number) → told n (made_ready o s).ready ≤ one_if (eqb number n)
-ready-told n number (Refuses reason) s e h = (let a = ap (λ (xs : List Ready). told n xs) e in omega (arith, a))
+ready-told : (n number : ℕ) (o : CallVerdict) (s : FrameEffect) → s.ready ≡ [] → ((r : ReadyCall) → o ≡ IsReady r → r.number ≡ number) → told n (made_ready o s).ready ≤ one_if (eqb number n)
+ready-told n number (Refuses reason) s e h = (let a = ap (λ (xs : List ReadyCall). told n xs) e in omega (arith, a))
 ready-told n number (IsReady r) s e h = (let a = ap (λ (m : ℕ). one_if (eqb m n)) (h r refl) in omega (arith, a))
 
-same-reads : (o : Outcome) (s : Step) → (made_ready o s).reads ≡ s.reads
+same-reads : (o : CallVerdict) (s : FrameEffect) → (made_ready o s).reads ≡ s.reads
 same-reads (Refuses reason) s = refl
 same-reads (IsReady r) s = refl
 
-head-number : (c : Incoming) (payload : List ℕ) (h : Result CallHead ℕ) (r : Ready) → by_head c payload h ≡ IsReady r → r.number ≡ c.number
+head-number : (c : PendingCall) (payload : List ℕ) (h : Result CallHead ℕ) (r : ReadyCall) → by_head c payload h ≡ IsReady r → r.number ≡ c.number
 head-number c payload (Err at) r e = absurd cc
 head-number c payload (Ok head) r e = by (eqb (call_xid head) c.xid) e
   where
     by : (b : Bool) → cond b (IsReady (record { number = c.number; xid = c.xid; payload = payload })) (Refuses 19) ≡ IsReady r → r.number ≡ c.number
-    by true e = (let s : record { number = c.number; xid = c.xid; payload = payload } ≡ r = cc in ap (λ (q : Ready). q.number) (sym s))
+    by true e = (let s : record { number = c.number; xid = c.xid; payload = payload } ≡ r = cc in ap (λ (q : ReadyCall). q.number) (sym s))
     by false e = absurd cc
 
-payload-number : (c : Incoming) (p : Option (List ℕ)) (r : Ready) → by_payload c p ≡ IsReady r → r.number ≡ c.number
+payload-number : (c : PendingCall) (p : Option (List ℕ)) (r : ReadyCall) → by_payload c p ≡ IsReady r → r.number ≡ c.number
 payload-number c None r e = absurd cc
 payload-number c (Some payload) r e = head-number c payload (call_of payload) r e
 
 -- whole or not: what is told of the call is one at most, and of the others what is left to be read
-whole-adds : (k : Known) (place : ℕ) (c : Incoming) (s : Step) (n : ℕ) → s.ready ≡ [] →
+whole-adds : (k : ServerState) (place : ℕ) (c : PendingCall) (s : FrameEffect) (n : ℕ) → s.ready ≡ [] →
     told n (if_whole k place c s).ready + one_if (read_for n (if_whole k place c s).reads) ≤ cond (eqb c.number n) 1 (one_if (read_for n s.reads))
 whole-adds k place c s n e = by (eqb c.number n) refl (is_read s.reads c.number) refl
   where
-    o : Outcome
+    o : CallVerdict
     o = by_payload c (payload_of k place c)
 
     small : (b : Bool) → one_if b ≤ 1
@@ -145,13 +145,13 @@ whole-adds k place c s n e = by (eqb c.number n) refl (is_read s.reads c.number)
     small false = omega arith
 
     idle : told n s.ready ≡ 0
-    idle = ap (λ (xs : List Ready). told n xs) e
+    idle = ap (λ (xs : List ReadyCall). told n xs) e
 
     one : told n (made_ready o s).ready ≤ one_if (eqb c.number n)
     one = ready-told n c.number o s e (payload-number c (payload_of k place c))
 
     kept : read_for n (made_ready o s).reads ≡ read_for n s.reads
-    kept = ap (λ (xs : List Reading). read_for n xs) (same-reads o s)
+    kept = ap (λ (xs : List PendingRead). read_for n xs) (same-reads o s)
 
     by : (is : Bool) → eqb c.number n ≡ is → (b : Bool) → is_read s.reads c.number ≡ b →
         told n (cond b (made_ready o s) s).ready + one_if (read_for n (cond b (made_ready o s) s).reads) ≤ cond is 1 (one_if (read_for n s.reads))
@@ -166,28 +166,28 @@ whole-adds k place c s n e = by (eqb c.number n) refl (is_read s.reads c.number)
 
 -- ---- A response
 
-found-number : (number : ℕ) (calls : List Incoming) (c : Incoming) → find (λ c. eqb c.number number) calls ≡ Some c → c.number ≡ number
+found-number : (number : ℕ) (calls : List PendingCall) (c : PendingCall) → find (λ c. eqb c.number number) calls ≡ Some c → c.number ≡ number
 found-number number [] c e = absurd cc
 found-number number (d ∷ calls) c e = by (eqb d.number number) refl e (λ f. found-number number calls c f)
   where
     by : (b : Bool) → eqb d.number number ≡ b → cond b (Some d) (find (λ c. eqb c.number number) calls) ≡ Some c → (find (λ c. eqb c.number number) calls ≡ Some c → c.number ≡ number) → c.number ≡ number
-    by true is e h = (let s : d ≡ c = (let t : Some d ≡ Some c = e in cc) in ap (λ (x : Incoming). x.number) (sym s) ∙ eqb-true d.number number is)
+    by true is e h = (let s : d ≡ c = (let t : Some d ≡ Some c = e in cc) in ap (λ (x : PendingCall). x.number) (sym s) ∙ eqb-true d.number number is)
     by false is e h = h e
 
 -- one read less
-abbrev less : Known → List Reading → ℕ → Step
-less k reads kept = record (no_step k) { reads = reads; kept = kept }
+abbrev less : ServerState → List PendingRead → ℕ → FrameEffect
+less k reads kept = record (no_effect k) { reads = reads; kept = kept }
 
-refused-adds : (k : Known) (c : Incoming) (reads : List Reading) (kept n : ℕ) → told n (refused_with k c (less k reads kept)).ready + one_if (read_for n (refused_with k c (less k reads kept)).reads) ≤ one_if (read_for n reads)
+refused-adds : (k : ServerState) (c : PendingCall) (reads : List PendingRead) (kept n : ℕ) → told n (refused_with k c (less k reads kept)).ready + one_if (read_for n (refused_with k c (less k reads kept)).reads) ≤ one_if (read_for n reads)
 refused-adds k c reads kept n =
-    let p : Reading → Bool = λ r. not (eqb r.number c.number) in
+    let p : PendingRead → Bool = λ r. not (eqb r.number c.number) in
     let a = ap one_if (reads-append n (take kept reads) (filter p (drop kept reads))) in
-    let b = ap one_if (ap (λ (xs : List Reading). read_for n xs) (sym (take-append-drop kept reads)) ∙ reads-append n (take kept reads) (drop kept reads)) in
+    let b = ap one_if (ap (λ (xs : List PendingRead). read_for n xs) (sym (take-append-drop kept reads)) ∙ reads-append n (take kept reads) (drop kept reads)) in
     let h = or-le (read_for n (take kept reads)) (read_for n (filter p (drop kept reads))) (read_for n (drop kept reads)) (fewer-filter p (drop kept reads) n) in
     omega (arith, a, b, h)
 
-read-adds : (k : Known) (place : ℕ) (r : Reading) (reads : List Reading) (kept : ℕ) (o : Option Incoming) → ((c : Incoming) → o ≡ Some c → c.number ≡ r.number) → (n : ℕ)
-    → told n (read_step k place r o (less k reads kept)).ready + one_if (read_for n (read_step k place r o (less k reads kept)).reads) ≤ one_if (eqb r.number n || read_for n reads)
+read-adds : (k : ServerState) (place : ℕ) (r : PendingRead) (reads : List PendingRead) (kept : ℕ) (o : Option PendingCall) → ((c : PendingCall) → o ≡ Some c → c.number ≡ r.number) → (n : ℕ)
+    → told n (read_effect k place r o (less k reads kept)).ready + one_if (read_for n (read_effect k place r o (less k reads kept)).reads) ≤ one_if (eqb r.number n || read_for n reads)
 read-adds k place r reads kept None h n = (let a = or-more (eqb r.number n) (read_for n reads) in omega (arith, a))
 read-adds k place r reads kept (Some c) h n = by (is_stream_read c r reads && not (suits (chunk_bytes k place c 0) c.lists.read))
   where
@@ -203,30 +203,30 @@ read-adds k place r reads kept (Some c) h n = by (is_stream_read c r reads && no
     by true = (let a = refused-adds k c reads kept n in omega (arith, a, more))
     by false = (let a = whole-adds k place c (less k reads kept) n refl in let b = bound (eqb c.number n) refl in omega (arith, a, b))
 
-response-adds : (k : Known) (place : ℕ) (reads : List Reading) → k.reads ≡ reads → Adds k (response_step k place reads) none
-response-adds k place [] e n = omega arith
-response-adds k place (r ∷ reads) e n =
+read_response-adds : (k : ServerState) (place : ℕ) (reads : List PendingRead) → k.reads ≡ reads → Adds k (response_effect k place reads) none
+read_response-adds k place [] e n = omega arith
+read_response-adds k place (r ∷ reads) e n =
     let a = read-adds k place r reads (length (take 8 k.reads) - 1) (call_of_number k r.number) (λ c is. found-number r.number k.calls c is) n in
-    let b = ap (λ (xs : List Reading). one_if (read_for n xs)) e in
+    let b = ap (λ (xs : List PendingRead). one_if (read_for n xs)) e in
     omega (arith, a, b)
 
-tagged-adds : (k : Known) (place opcode : ℕ) (last : Bool) → Adds k (tagged_step k place opcode last) none
-tagged-adds k place opcode last = if-le (eqb opcode 2 && last) (response_step k place k.reads) (no_step k) (λ s. Adds k s none) (response-adds k place k.reads refl) (quiet k (no_step k) refl refl)
+tagged-adds : (k : ServerState) (place opcode : ℕ) (last : Bool) → Adds k (tagged_effect k place opcode last) none
+tagged-adds k place opcode last = if-le (eqb opcode 2 && last) (response_effect k place k.reads) (no_effect k) (λ s. Adds k s none) (read_response-adds k place k.reads refl) (quiet k (no_effect k) refl refl)
 
 -- ---- A message
 
-abbrev fresh : Known → ℕ → ℕ
-fresh k n = one_if (eqb (k.heard.sends + 1) n)
+abbrev fresh : ServerState → ℕ → ℕ
+fresh k n = one_if (eqb (k.received.sends + 1) n)
 
-readings-none : (regions : List Region) (number n : ℕ) (before read : List ReadSegment) → eqb number n ≡ false → read_for n (readings_from regions number before read) ≡ false
+readings-none : (regions : List Region) (number n : ℕ) (before read : List ReadSegment) → eqb number n ≡ false → read_for n (reads_from regions number before read) ≡ false
 readings-none regions number n before [] e = refl
 readings-none regions number n before (r ∷ read) e =
     by (eqb r.length 0) (readings-none regions number n (before ++ r ∷ []) read e)
   where
-    rest : List Reading
-    rest = readings_from regions number (before ++ r ∷ []) read
+    rest : List PendingRead
+    rest = reads_from regions number (before ++ r ∷ []) read
 
-    by : (b : Bool) → read_for n rest ≡ false → read_for n (cond b [] (reading_of regions number (total_at r.position before) r ∷ []) ++ rest) ≡ false
+    by : (b : Bool) → read_for n rest ≡ false → read_for n (cond b [] (read_of regions number (total_at r.position before) r ∷ []) ++ rest) ≡ false
     by true h = h
     by false h = ap (λ (b : Bool). b || read_for n rest) e ∙ h
 
@@ -234,7 +234,7 @@ or-false : (b : Bool) → one_if (b || false) ≤ one_if b
 or-false true = omega arith
 or-false false = omega arith
 
-opened-adds : (k : Known) (place : ℕ) (c : Incoming) → c.number ≡ k.heard.sends + 1 → Adds k (opened_with k place c (no_step k)) (fresh k)
+opened-adds : (k : ServerState) (place : ℕ) (c : PendingCall) → c.number ≡ k.received.sends + 1 → Adds k (opened_with k place c (no_effect k)) (fresh k)
 opened-adds k place c is n =
     let a = whole-adds k place c s n refl in
     let b = bound (eqb c.number n) refl in
@@ -243,13 +243,13 @@ opened-adds k place c is n =
     regions : List Region
     regions = k.regions ++ regions_of k place c
 
-    s : Step
-    s = record (no_step k) { calls = k.calls ++ c ∷ []; reads = k.reads ++ readings_of regions c; regions = regions }
+    s : FrameEffect
+    s = record (no_effect k) { calls = k.calls ++ c ∷ []; reads = k.reads ++ reads_of regions c; regions = regions }
 
-    bound : (b : Bool) → eqb c.number n ≡ b → cond b 1 (one_if (read_for n (k.reads ++ readings_of regions c))) ≤ one_if (read_for n k.reads) + fresh k n
+    bound : (b : Bool) → eqb c.number n ≡ b → cond b 1 (one_if (read_for n (k.reads ++ reads_of regions c))) ≤ one_if (read_for n k.reads) + fresh k n
     bound true e = (let a = ap (λ (m : ℕ). one_if (eqb m n)) (sym is) in let b = ap one_if e in omega (arith, a, b))
     bound false e =
-        let a = ap one_if (reads-append n k.reads (readings_of regions c) ∙ ap (λ (b : Bool). read_for n k.reads || b) (readings-none regions c.number n [] c.lists.read e)) in
+        let a = ap one_if (reads-append n k.reads (reads_of regions c) ∙ ap (λ (b : Bool). read_for n k.reads || b) (readings-none regions c.number n [] c.lists.read e)) in
         let b = or-false (read_for n k.reads) in
         omega (arith, a, b)
 
@@ -264,32 +264,32 @@ if-number : (b : Bool) (x y : Verdict) (m : ℕ) → NumberIs m x → NumberIs m
 if-number true x y m p q = p
 if-number false x y m p q = q
 
-need-number : (k : Known) (c : Incoming) (m : ℕ) → c.number ≡ m → NumberIs m (by_need k c)
+need-number : (k : ServerState) (c : PendingCall) (m : ℕ) → c.number ≡ m → NumberIs m (by_need k c)
 need-number k c m e = if-number (ltb 4294967296 (next_stag k + length (chunks_of c.lists))) (Stops 30) (Opens c) m tt e
 
-stream-number : (k : Known) (lists : ChunkLists) (xid : ℕ) (o : Option (List ℕ)) → NumberIs (k.heard.sends + 1) (by_stream k lists xid o)
-stream-number k lists xid None = need-number k _ (k.heard.sends + 1) refl
-stream-number k lists xid (Some stream) = if-number (suits stream lists.read) _ BadChunks (k.heard.sends + 1) (need-number k _ (k.heard.sends + 1) refl) tt
+stream-number : (k : ServerState) (lists : ChunkLists) (xid : ℕ) (o : Option (List ℕ)) → NumberIs (k.received.sends + 1) (by_stream k lists xid o)
+stream-number k lists xid None = need-number k _ (k.received.sends + 1) refl
+stream-number k lists xid (Some stream) = if-number (suits stream lists.read) _ BadChunks (k.received.sends + 1) (need-number k _ (k.received.sends + 1) refl) tt
 
-body-number : (k : Known) (xid : ℕ) (message : List ℕ) (b : Body) → NumberIs (k.heard.sends + 1) (by_body k xid message b)
+body-number : (k : ServerState) (xid : ℕ) (message : List ℕ) (b : Body) → NumberIs (k.received.sends + 1) (by_body k xid message b)
 body-number k xid message (Msg lists stream_at) = stream-number k lists xid (Some (drop stream_at message))
-body-number k xid message (Nomsg lists) = if-number (has_position lists.read) _ BadChunks (k.heard.sends + 1) (stream-number k lists xid (no_stream lists.read)) tt
+body-number k xid message (Nomsg lists) = if-number (has_position lists.read) _ BadChunks (k.received.sends + 1) (stream-number k lists xid (no_stream lists.read)) tt
 body-number k xid message (ErrVers version low high) = tt
 body-number k xid message (ErrChunk version) = tt
 
-header-number : (k : Known) (message : List ℕ) (r : Result Header HeaderFault) → NumberIs (k.heard.sends + 1) (by_header k message r)
+header-number : (k : ServerState) (message : List ℕ) (r : Result Header HeaderFault) → NumberIs (k.received.sends + 1) (by_header k message r)
 header-number k message (Ok header) = body-number k header.xid message header.body
 header-number k message (Err fault) = tt
 
-verdict-number : (k : Known) (message : List ℕ) → NumberIs (k.heard.sends + 1) (verdict k message)
+verdict-number : (k : ServerState) (message : List ℕ) → NumberIs (k.received.sends + 1) (verdict k message)
 unfolding verdict
 verdict-number k message =
-    if-number (not (eqb (word_at 4 message) 1)) OtherVersion _ (k.heard.sends + 1) tt
-    (if-number (eqb (word_at 12 message) 3 || eqb (word_at 12 message) 4) (Stops 17) _ (k.heard.sends + 1) tt
-    (if-number (is_waiting k (word_at 0 message)) (Stops 20) _ (k.heard.sends + 1) tt
+    if-number (not (eqb (word_at 4 message) 1)) OtherVersion _ (k.received.sends + 1) tt
+    (if-number (eqb (word_at 12 message) 3 || eqb (word_at 12 message) 4) (Stops 17) _ (k.received.sends + 1) tt
+    (if-number (is_pending k (word_at 0 message)) (Stops 20) _ (k.received.sends + 1) tt
     (header-number k message (header_of message))))
 
-message-adds : (k : Known) (place : ℕ) (message : List ℕ) (v : Verdict) → NumberIs (k.heard.sends + 1) v → Adds k (message_step k place message v) (fresh k)
+message-adds : (k : ServerState) (place : ℕ) (message : List ℕ) (v : Verdict) → NumberIs (k.received.sends + 1) v → Adds k (message_effect k place message v) (fresh k)
 message-adds k place message (Stops reason) h n = omega arith
 message-adds k place message OtherVersion h n = omega arith
 message-adds k place message BadChunks h n = omega arith
@@ -298,184 +298,184 @@ message-adds k place message (Opens c) h n = opened-adds k place c h n
 -- ---- What the server goes to
 
 -- told no more of what was known, and of a new Send once at most
-pub record Goes (k after : Known) : Type 0 where
-  pub rises : k.heard.sends ≤ after.heard.sends
-  pub known : (n : ℕ) → n ≤ k.heard.sends → tokens after n ≤ tokens k n
+pub record Goes (k after : ServerState) : Type 0 where
+  pub rises : k.received.sends ≤ after.received.sends
+  pub known : (n : ℕ) → n ≤ k.received.sends → tokens after n ≤ tokens k n
   pub new : (n : ℕ) → tokens after n ≤ tokens k n + 1
-  pub beyond : (n : ℕ) → after.heard.sends < n → tokens after n ≤ tokens k n
+  pub beyond : (n : ℕ) → after.received.sends < n → tokens after n ≤ tokens k n
 
-stays : (k after : Known) → after.heard.sends ≡ k.heard.sends → ((n : ℕ) → tokens after n ≤ tokens k n) → Goes k after
+stays : (k after : ServerState) → after.received.sends ≡ k.received.sends → ((n : ℕ) → tokens after n ≤ tokens k n) → Goes k after
 stays k after e h = record { rises = omega (arith, e); known = λ n le. h n; new = λ n. (let a = h n in omega (arith, a)); beyond = λ n lt. h n }
 
-goes-none : (k : Known) (f : Frame) (s : Step) → k.heard.sends ≤ (heard_by k.heard (piece_of f)).sends → Adds k s none → Goes k (with_step k f s)
+goes-none : (k : ServerState) (f : Frame) (s : FrameEffect) → k.received.sends ≤ (received_by k.received (frame_segment f)).sends → Adds k s none → Goes k (with_effect k f s)
 goes-none k f s rises h =
-    let same : (n : ℕ) → tokens (with_step k f s) n ≤ tokens k n = λ n. (let a = h n in let b = told-append n k.ready s.ready in omega (arith, a, b)) in
+    let same : (n : ℕ) → tokens (with_effect k f s) n ≤ tokens k n = λ n. (let a = h n in let b = told-append n k.ready s.ready in omega (arith, a, b)) in
     record { rises = rises; known = λ n le. same n; new = λ n. (let a = same n in omega (arith, a)); beyond = λ n lt. same n }
 
-goes-fresh : (k : Known) (f : Frame) (s : Step) → (heard_by k.heard (piece_of f)).sends ≡ k.heard.sends + 1 → Adds k s (fresh k) → Goes k (with_step k f s)
+goes-fresh : (k : ServerState) (f : Frame) (s : FrameEffect) → (received_by k.received (frame_segment f)).sends ≡ k.received.sends + 1 → Adds k s (fresh k) → Goes k (with_effect k f s)
 goes-fresh k f s one h = record {
   rises = omega (arith, one);
   known = λ n le. (let a = h n in let b = told-append n k.ready s.ready in let c = not_new n (λ e. omega (arith, e, le)) in omega (arith, a, b, c));
-  new = λ n. (let a = h n in let b = told-append n k.ready s.ready in let c = at_most (eqb (k.heard.sends + 1) n) in omega (arith, a, b, c));
+  new = λ n. (let a = h n in let b = told-append n k.ready s.ready in let c = at_most (eqb (k.received.sends + 1) n) in omega (arith, a, b, c));
   beyond = λ n lt. (let a = h n in let b = told-append n k.ready s.ready in let c = not_new n (λ e. omega (arith, e, lt, one)) in omega (arith, a, b, c));
 }
   where
-    not_new : (n : ℕ) → (k.heard.sends + 1 ≡ n → ⊥) → fresh k n ≡ 0
-    not_new n ne = ap one_if (ne_eqb (k.heard.sends + 1) n ne)
+    not_new : (n : ℕ) → (k.received.sends + 1 ≡ n → ⊥) → fresh k n ≡ 0
+    not_new n ne = ap one_if (ne_eqb (k.received.sends + 1) n ne)
 
     at_most : (b : Bool) → one_if b ≤ 1
     at_most true = omega arith
     at_most false = omega arith
 
 -- what a segment adds to the Sends that are whole
-rises-with : (h : Heard) (segment : Segment) → h.sends ≤ (heard_with h segment).sends
+rises-with : (h : ReceiveState) (segment : Segment) → h.sends ≤ (received_after h segment).sends
 rises-with h (Tagged last opcode stag to payload) = omega arith
 rises-with h (Untagged last opcode w queue msn offset payload) = by (is_send opcode) (eqb opcode OPCODE_READ_REQUEST)
   where
-    on : (b : Bool) → h.sends ≤ (sent_on h b payload).sends
+    on : (b : Bool) → h.sends ≤ (send_continued h b payload).sends
     on true = omega arith
     on false = omega arith
 
-    by : (a b : Bool) → h.sends ≤ (cond a (sent_on h last payload) (cond b (record { sends = h.sends; begun = h.begun; requests = h.requests + 1 }) h)).sends
+    by : (a b : Bool) → h.sends ≤ (cond a (send_continued h last payload) (cond b (record { sends = h.sends; begun = h.begun; requests = h.requests + 1 }) h)).sends
     by true b = on last
     by false true = omega arith
     by false false = omega arith
 
-whole-with : (h : Heard) (segment : Segment) (message : List ℕ) → message_with h segment ≡ Some message → (heard_with h segment).sends ≡ h.sends + 1
+whole-with : (h : ReceiveState) (segment : Segment) (message : List ℕ) → message_completed h segment ≡ Some message → (received_after h segment).sends ≡ h.sends + 1
 whole-with h (Tagged last opcode stag to payload) message e = absurd cc
 whole-with h (Untagged last opcode w queue msn offset payload) message e = by (is_send opcode) last (eqb opcode OPCODE_READ_REQUEST) e
   where
     so : List ℕ
-    so = so_far h.begun ++ payload
+    so = begun_bytes h.begun ++ payload
 
-    by : (a b c : Bool) → cond (a && b) (Some so) None ≡ Some message → (cond a (sent_on h b payload) (cond c (record { sends = h.sends; begun = h.begun; requests = h.requests + 1 }) h)).sends ≡ h.sends + 1
+    by : (a b c : Bool) → cond (a && b) (Some so) None ≡ Some message → (cond a (send_continued h b payload) (cond c (record { sends = h.sends; begun = h.begun; requests = h.requests + 1 }) h)).sends ≡ h.sends + 1
     by true true c e = refl
     by true false c e = absurd cc
     by false b c e = absurd cc
 
-by-message-goes : (k : Known) (f : Frame) (o : Option (List ℕ)) → k.heard.sends ≤ (heard_by k.heard (piece_of f)).sends → ((message : List ℕ) → o ≡ Some message → (heard_by k.heard (piece_of f)).sends ≡ k.heard.sends + 1)
-    → Goes k (with_step k f (by_message k f.end o))
-by-message-goes k f None rises h = goes-none k f (no_step k) rises (quiet k (no_step k) refl refl)
-by-message-goes k f (Some message) rises h = goes-fresh k f (message_step k f.end message (verdict k message)) (h message refl) (message-adds k f.end message (verdict k message) (verdict-number k message))
+by-message-goes : (k : ServerState) (f : Frame) (o : Option (List ℕ)) → k.received.sends ≤ (received_by k.received (frame_segment f)).sends → ((message : List ℕ) → o ≡ Some message → (received_by k.received (frame_segment f)).sends ≡ k.received.sends + 1)
+    → Goes k (with_effect k f (by_message k f.end o))
+by-message-goes k f None rises h = goes-none k f (no_effect k) rises (quiet k (no_effect k) refl refl)
+by-message-goes k f (Some message) rises h = goes-fresh k f (message_effect k f.end message (verdict k message)) (h message refl) (message-adds k f.end message (verdict k message) (verdict-number k message))
 
-frame-goes : (k : Known) (f : Frame) (r : Result Segment ℕ) → piece_of f ≡ r → Goes k (with_step k f (step_in k f r))
-frame-goes k f (Err reason) e = goes-none k f (no_step k) (let a = ap (λ (q : Result Segment ℕ). (heard_by k.heard q).sends) e in omega (arith, a)) (quiet k (no_step k) refl refl)
+frame-goes : (k : ServerState) (f : Frame) (r : Result Segment ℕ) → frame_segment f ≡ r → Goes k (with_effect k f (effect_in k f r))
+frame-goes k f (Err reason) e = goes-none k f (no_effect k) (let a = ap (λ (q : Result Segment ℕ). (received_by k.received q).sends) e in omega (arith, a)) (quiet k (no_effect k) refl refl)
 frame-goes k f (Ok (Tagged last opcode stag to payload)) e =
     let segment : Segment = Tagged last opcode stag to payload in
-    goes-none k f (tagged_step (with_reach k f segment) f.end opcode last)
-    (let a = ap (λ (q : Result Segment ℕ). (heard_by k.heard q).sends) e in omega (arith, a))
+    goes-none k f (tagged_effect (with_reach k f segment) f.end opcode last)
+    (let a = ap (λ (q : Result Segment ℕ). (received_by k.received q).sends) e in omega (arith, a))
     (tagged-adds (with_reach k f segment) f.end opcode last)
 frame-goes k f (Ok (Untagged last opcode w queue msn offset payload)) e =
     let segment : Segment = Untagged last opcode w queue msn offset payload in
-    let same = ap (λ (q : Result Segment ℕ). (heard_by k.heard q).sends) e in
-    let rises = rises-with k.heard segment in
-    by-message-goes k f (message_with k.heard segment) (omega (arith, same, rises)) (λ message is. same ∙ whole-with k.heard segment message is)
+    let same = ap (λ (q : Result Segment ℕ). (received_by k.received q).sends) e in
+    let rises = rises-with k.received segment in
+    by-message-goes k f (message_completed k.received segment) (omega (arith, same, rises)) (λ message is. same ∙ whole-with k.received segment message is)
 
-step-goes : (k : Known) (f : Frame) → Goes k (with_step k f (step k f))
-unfolding step
-step-goes k f = frame-goes k f (piece_of f) refl
+frame_effect-goes : (k : ServerState) (f : Frame) → Goes k (with_effect k f (frame_effect k f))
+unfolding frame_effect
+frame_effect-goes k f = frame-goes k f (frame_segment f) refl
 
-after-goes : (opened : Opened) (k : Known) (event : Event) → Goes k (server_after opened k event)
-unfolding server_after
-after-goes opened k (Came f) = by (is_hello f)
+after-goes : (opened : Opened) (k : ServerState) (event : Event) → Goes k (server_state_after opened k event)
+unfolding server_state_after
+after-goes opened k (FrameReceived f) = by (is_hello f)
   where
-    by : (b : Bool) → Goes k (cond b k (with_step k f (step k f)))
+    by : (b : Bool) → Goes k (cond b k (with_effect k f (frame_effect k f)))
     by true = stays k k refl (λ n. omega arith)
-    by false = step-goes k f
-after-goes opened k (Accepts place a) = stays k k refl (λ n. omega arith)
-after-goes opened k (TakesBack place xid) = stays k k refl (λ n. omega arith)
-after-goes opened k (Executes e) = stays k _ refl (λ n. (let a = told-drop n k.ready in omega (arith, a)))
-after-goes opened k Writes = stays k _ refl (λ n. omega arith)
+    by false = frame_effect-goes k f
+after-goes opened k (CallSubmitted place a) = stays k k refl (λ n. omega arith)
+after-goes opened k (MemoryRevoked place xid) = stays k k refl (λ n. omega arith)
+after-goes opened k (CallExecuted e) = stays k _ refl (λ n. (let a = told-drop n k.ready in omega (arith, a)))
+after-goes opened k QueueWritten = stays k _ refl (λ n. omega arith)
 
 -- ---- What holds along a run
 
 -- each number is told once at most, and none that isn't a Send's
-pub record Sound (k : Known) : Type 0 where
+pub record Sound (k : ServerState) : Type 0 where
   pub once : (n : ℕ) → tokens k n ≤ 1
-  pub sent : (n : ℕ) → k.heard.sends < n → tokens k n ≡ 0
+  pub bytes_sent : (n : ℕ) → k.received.sends < n → tokens k n ≡ 0
 
 -- a Send that is settled for good
-pub record Settled (n : ℕ) (k : Known) : Type 0 where
-  pub sent : n ≤ k.heard.sends
+pub record Settled (n : ℕ) (k : ServerState) : Type 0 where
+  pub bytes_sent : n ≤ k.received.sends
   pub none : tokens k n ≡ 0
 
-sound-goes : (k after : Known) → Goes k after → Sound k → Sound after
+sound-goes : (k after : ServerState) → Goes k after → Sound k → Sound after
 sound-goes k after g s = record {
-  once = λ n. elim (cases_lt k.heard.sends n) [
-    | inl lt ↦ (let a = g.new n in let b = s.sent n lt in omega (arith, a, b))
+  once = λ n. elim (cases_lt k.received.sends n) [
+    | inl lt ↦ (let a = g.new n in let b = s.bytes_sent n lt in omega (arith, a, b))
     | inr le ↦ (let a = g.known n le in let b = s.once n in omega (arith, a, b))
   ];
-  sent = λ n lt. (let a = g.beyond n lt in let r = g.rises in let b = s.sent n (omega (arith, r, lt)) in omega (arith, a, b));
+  bytes_sent = λ n lt. (let a = g.beyond n lt in let r = g.rises in let b = s.bytes_sent n (omega (arith, r, lt)) in omega (arith, a, b));
 }
 
-settled-goes : (n : ℕ) (k after : Known) → Goes k after → Settled n k → Settled n after
+settled-goes : (n : ℕ) (k after : ServerState) → Goes k after → Settled n k → Settled n after
 settled-goes n k after g s = record {
-  sent = (let a = s.sent in let r = g.rises in omega (arith, a, r));
-  none = (let a = g.known n s.sent in let b = s.none in omega (arith, a, b));
+  bytes_sent = (let a = s.bytes_sent in let r = g.rises in omega (arith, a, r));
+  none = (let a = g.known n s.bytes_sent in let b = s.none in omega (arith, a, b));
 }
 
 -- what is kept by each event is kept by all
-kept : (opened : Opened) (P : Known → Type 0) → ((k after : Known) → Goes k after → P k → P after) → (r : Reached Known) (events : List Event) → P r.state → P (reached_from (server_rules opened) r events).state
+kept : (opened : Opened) (P : ServerState → Type 0) → ((k after : ServerState) → Goes k after → P k → P after) → (r : EndState ServerState) (events : List Event) → P r.state → P (end_state_after (server_rules opened) r events).state
 kept opened P goes r [] p = p
-kept opened P goes r (event ∷ events) p = kept opened P goes (stepped (server_rules opened) r event) events (one r.state r.ended p)
+kept opened P goes r (event ∷ events) p = kept opened P goes (next_end_state (server_rules opened) r event) events (one r.state r.ended p)
   where
-    by_why : (k : Known) (why : Option Stop) → P k → P (stepped_by (server_rules opened) k event why).state
-    by_why k None p = goes k (server_after opened k event) (after-goes opened k event) p
+    by_why : (k : ServerState) (why : Option Stop) → P k → P (next_end_state_by (server_rules opened) k event why).state
+    by_why k None p = goes k (server_state_after opened k event) (after-goes opened k event) p
     by_why k (Some end) p = p
 
-    one : (k : Known) (ended : Option Stop) → P k → P (stepped_in (server_rules opened) k event ended).state
-    one k None p = by_why k (server_ends opened k event) p
+    one : (k : ServerState) (ended : Option Stop) → P k → P (next_end_state_in (server_rules opened) k event ended).state
+    one k None p = by_why k (server_end opened k event) p
     one k (Some end) p = p
 
 pub sound : (opened : Opened) (link : ℕ) (run : List Mark) → Sound (server opened link run).state
 unfolding server
-sound opened link run = kept opened Sound sound-goes (server_first opened) (events link Responder run) (record { once = λ n. omega arith; sent = λ n lt. omega arith })
+sound opened link run = kept opened Sound sound-goes (initial_server opened) (events link Responder run) (record { once = λ n. omega arith; bytes_sent = λ n lt. omega arith })
 
 settled-later : (opened : Opened) (link n : ℕ) (run more : List Mark) → Settled n (server opened link run).state → Settled n (server opened link (run ++ more)).state
 settled-later opened link n run [] s = subst (λ (r : List Mark). Settled n (server opened link r).state) (sym (append-nil run)) s
 settled-later opened link n run (mark ∷ more) s =
     let next : Settled n (server opened link (run ++ mark ∷ [])).state =
-    subst (λ (r : Reached Known). Settled n r.state) (sym (server-one opened link run mark)) (kept opened (Settled n) (settled-goes n) (server opened link run) (events_at link Responder run mark) s) in
+    subst (λ (r : EndState ServerState). Settled n r.state) (sym (server-one opened link run mark)) (kept opened (Settled n) (settled-goes n) (server opened link run) (events_at link Responder run mark) s) in
     subst (λ (r : List Mark). Settled n (server opened link r).state) (append_assoc run (mark ∷ []) more) (settled-later opened link n (run ++ mark ∷ []) more next)
 
 -- the first that is ready is told, and executed it is settled
-first-told : (ready : List Ready) (ended : Option Stop) (r : Ready) → first_ready ready ended ≡ Some r → (ended ≡ None) × (1 ≤ told r.number ready) × (told r.number (drop 1 ready) + 1 ≤ told r.number ready)
+first-told : (ready : List ReadyCall) (ended : Option Stop) (r : ReadyCall) → first_ready ready ended ≡ Some r → (ended ≡ None) × (1 ≤ told r.number ready) × (told r.number (drop 1 ready) + 1 ≤ told r.number ready)
 first-told ready (Some end) r e = absurd cc
 first-told [] None r e = absurd cc
 first-told (x ∷ ready) None r e =
     let same : x ≡ r = (let s : Some x ≡ Some r = e in cc) in
-    let a = ap one_if (eq-eqb x.number r.number (ap (λ (q : Ready). q.number) same)) in
+    let a = ap one_if (eq-eqb x.number r.number (ap (λ (q : ReadyCall). q.number) same)) in
     (refl, omega (arith, a), omega (arith, a))
 
-executes-one : (opened : Opened) (k : Known) (ended : Option Stop) (e : Executed) → ended ≡ None → (stepped_in (server_rules opened) k (Executes e) ended).state ≡ server_after opened k (Executes e)
-unfolding server_ends
+executes-one : (opened : Opened) (k : ServerState) (ended : Option Stop) (e : ExecutedCall) → ended ≡ None → (next_end_state_in (server_rules opened) k (CallExecuted e) ended).state ≡ server_state_after opened k (CallExecuted e)
+unfolding server_end
 executes-one opened k None e is = refl
 executes-one opened k (Some end) e is = absurd cc
 
-settled-one : (opened : Opened) (link : ℕ) (run : List Mark) (xid : ℕ) (moment : Moment) (payload : List ℕ) (place : ℕ) (reply : List ℕ) (r : Ready) → next_call opened link run ≡ Some r
+settled-one : (opened : Opened) (link : ℕ) (run : List Mark) (xid : ℕ) (moment : Moment) (payload : List ℕ) (place : ℕ) (reply : List ℕ) (r : ReadyCall) → next_call opened link run ≡ Some r
     → Settled r.number (server opened link (run ++ marks.Execute link xid moment payload place reply ∷ [])).state
-unfolding next_call server_after
+unfolding next_call server_state_after
 settled-one opened link run xid moment payload place reply r is =
-    let k : Known = (server opened link run).state in
+    let k : ServerState = (server opened link run).state in
     let f = first-told k.ready (server opened link run).ended r is in
     let s = sound opened link run in
-    let e : Executed = record { xid = xid; moment = moment; payload = payload; place = place; reply = reply } in
+    let e : ExecutedCall = record { xid = xid; moment = moment; payload = payload; place = place; reply = reply } in
     let once = s.once r.number in
-    let there : Settled r.number (server_after opened k (Executes e)) = record {
-      sent = elim (cases_lt k.heard.sends r.number) [
-        | inl lt ↦ (let a = s.sent r.number lt in let b = f.1 in absurd (omega (arith, a, b)))
+    let there : Settled r.number (server_state_after opened k (CallExecuted e)) = record {
+      bytes_sent = elim (cases_lt k.received.sends r.number) [
+        | inl lt ↦ (let a = s.bytes_sent r.number lt in let b = f.1 in absurd (omega (arith, a, b)))
         | inr le ↦ le
       ];
       none = (let a = f.1 in let b = f.2 in omega (arith, once, a, b));
     } in
-    subst (λ (q : Reached Known). Settled r.number q.state) (sym (server-one opened link run (marks.Execute link xid moment payload place reply)))
-    (subst (λ (b : Bool). Settled r.number (reached_from (server_rules opened) (server opened link run) (if_its (b && true) (Executes e ∷ []))).state) (sym (itself link))
-    (subst (λ (q : Known). Settled r.number q) (sym (executes-one opened k (server opened link run).ended e f.0)) there))
+    subst (λ (q : EndState ServerState). Settled r.number q.state) (sym (server-one opened link run (marks.Execute link xid moment payload place reply)))
+    (subst (λ (b : Bool). Settled r.number (end_state_after (server_rules opened) (server opened link run) (if_own (b && true) (CallExecuted e ∷ []))).state) (sym (itself link))
+    (subst (λ (q : ServerState). Settled r.number q) (sym (executes-one opened k (server opened link run).ended e f.0)) there))
 
 -- Law 8's first half, on every link: no Send is executed twice.
 pub executes_once : (Fills : List ℕ → List ℕ → Type 0) (opened : Opened) (link : ℕ) (run before between after : List Mark) (xid yid : ℕ) (moment now : Moment) (payload asked : List ℕ) (place later : ℕ) (reply answer : List ℕ) →
-    run ≡ before ++ marks.Execute link xid moment payload place reply ∷ (between ++ marks.Execute link yid now asked later answer ∷ after) → Along (ServedMark Fills opened link) [] run
-    → (first second : Ready) → next_call opened link before ≡ Some first → next_call opened link (before ++ marks.Execute link xid moment payload place reply ∷ between) ≡ Some second → first.number ≢ second.number
+    run ≡ before ++ marks.Execute link xid moment payload place reply ∷ (between ++ marks.Execute link yid now asked later answer ∷ after) → AtEachMark (ServedMark Fills opened link) [] run
+    → (first second : ReadyCall) → next_call opened link before ≡ Some first → next_call opened link (before ++ marks.Execute link xid moment payload place reply ∷ between) ≡ Some second → first.number ≢ second.number
 unfolding next_call
 executes_once Fills opened link run before between after xid yid moment now payload asked place later reply answer is h first second one two same =
     let mark = marks.Execute link xid moment payload place reply in

@@ -21,7 +21,7 @@ use Rattle.nr_reduce.specs.Items.Of.{Call}
 use Rattle.nr_reduce.specs.Plans.{Plan, plan_of, regions_needed, lists_of, call_message}
 use Rattle.nr_reduce.specs.Chunks.{suits, suits_at, is_item, item_position, position_of, total_at}
 use Rattle.nr_reduce.specs.Undone.{IsOwn}
-use Rattle.nr_reduce.specs.Server.{Known, Incoming, Verdict, verdict, by_header, by_body, by_stream, by_need, is_waiting}
+use Rattle.nr_reduce.specs.Server.{ServerState, PendingCall, Verdict, verdict, by_header, by_body, by_stream, by_need, is_pending}
 use Rattle.nr_reduce.specs.Server.Verdict.{BadChunks}
 use Rattle.nr_reduce.proofs.Looks.{item_stands}
 use Rattle.nr_reduce.proofs.Undone.{reducible}
@@ -98,13 +98,13 @@ words bytes h e is = by (ltb (length bytes) 16) e
         record { xid = a.0; version = b.0; done = b.1; error = b.2 }
 
 -- What a server makes of a message whose header reads as a call's, where its xid isn't open.
-pub judged_call : (k : Known) (message : List ℕ) (h : Header) → header_of message ≡ Ok h → IsCall h.body → is_waiting k h.xid ≡ false → verdict k message ≡ by_body k h.xid message h.body
+pub judged_call : (k : ServerState) (message : List ℕ) (h : Header) → header_of message ≡ Ok h → IsCall h.body → is_pending k h.xid ≡ false → verdict k message ≡ by_body k h.xid message h.body
 unfolding verdict
 judged_call k message h e is free =
     let w = words message h e is in
-    ap (λ (b : Bool). cond (not b) Verdict.OtherVersion (cond (eqb (word_at 12 message) 3 || eqb (word_at 12 message) 4) (Verdict.Stops 17) (cond (is_waiting k (word_at 0 message)) (Verdict.Stops 20) (by_header k message (header_of message))))) w.version
-    ∙ (λ i. cond (w.done i || w.error i) (Verdict.Stops 17) (cond (is_waiting k (word_at 0 message)) (Verdict.Stops 20) (by_header k message (header_of message))))
-    ∙ ap (λ (x : ℕ). cond (is_waiting k x) (Verdict.Stops 20) (by_header k message (header_of message))) w.xid
+    ap (λ (b : Bool). cond (not b) Verdict.OtherVersion (cond (eqb (word_at 12 message) 3 || eqb (word_at 12 message) 4) (Verdict.Stops 17) (cond (is_pending k (word_at 0 message)) (Verdict.Stops 20) (by_header k message (header_of message))))) w.version
+    ∙ (λ i. cond (w.done i || w.error i) (Verdict.Stops 17) (cond (is_pending k (word_at 0 message)) (Verdict.Stops 20) (by_header k message (header_of message))))
+    ∙ ap (λ (x : ℕ). cond (is_pending k x) (Verdict.Stops 20) (by_header k message (header_of message))) w.xid
     ∙ ap (λ (b : Bool). cond b (Verdict.Stops 20) (by_header k message (header_of message))) free
     ∙ ap (λ (r : Result Header HeaderFault). by_header k message r) e
 
@@ -116,12 +116,12 @@ inline_of payload (Reduced i) = Some (stream_of payload i)
 inline_of payload Long = None
 
 -- A stream suits its read list, and a call in one chunk waits for it.
-opens_way : (k : Known) (xid : ℕ) (payload : List ℕ) (way : Way) (w r : Offering) (stag : ℕ) (head : List ℕ) → IsBytes payload → IsWay payload way → 0 < length payload
+opens_way : (k : ServerState) (xid : ℕ) (payload : List ℕ) (way : Way) (w r : Offering) (stag : ℕ) (head : List ℕ) → IsBytes payload → IsWay payload way → 0 < length payload
     → by_body k xid (head ++ stream_in payload way) (body_again (body_of way (lists payload way w r stag)) (length head))
-    ≡ by_need k (record { number = k.heard.sends + 1; xid = xid; lists = lists payload way w r stag; inline = inline_of payload way })
+    ≡ by_need k (record { number = k.received.sends + 1; xid = xid; lists = lists payload way w r stag; inline = inline_of payload way })
 unfolding suits item_position total_at
 opens_way k xid payload Inline w r stag head fits is some =
-    ap (λ (xs : List ℕ). by_need k (record { number = k.heard.sends + 1; xid = xid; lists = lists payload Inline w r stag; inline = Some xs })) (drop_at head payload (length head) refl)
+    ap (λ (xs : List ℕ). by_need k (record { number = k.received.sends + 1; xid = xid; lists = lists payload Inline w r stag; inline = Some xs })) (drop_at head payload (length head) refl)
 opens_way k xid payload (Reduced i) w r stag head fits is some =
     let red = reducible Call payload i is in
     let stands = item_stands Call payload i fits red.item in
@@ -130,7 +130,7 @@ opens_way k xid payload (Reduced i) w r stag head fits is some =
     let least = stands.least in
     let here : eqb i.pos 0 ≡ false = ne_eqb i.pos 0 (λ e. omega (arith, e, least)) in
     let stream : drop (length head) (head ++ stream_of payload i) ≡ stream_of payload i = drop_at head (stream_of payload i) (length head) refl in
-    let whole : Verdict = by_need k (record { number = k.heard.sends + 1; xid = xid; lists = ls; inline = Some (stream_of payload i) }) in
+    let whole : Verdict = by_need k (record { number = k.received.sends + 1; xid = xid; lists = ls; inline = Some (stream_of payload i) }) in
     (λ j. by_stream k ls xid (Some (stream j)))
     ∙ ap (λ (b : Bool). cond (suits_at (stream_of payload i) (entry ∷ []) (position_of (cond (not b) (Some entry) None))) whole BadChunks) here
     ∙ ap (λ (o : Option Item). cond (is_item o i.pos (sum_by (λ r. r.length) (cond (eqb i.pos i.pos) (entry ∷ []) []))) whole BadChunks) stands.again
@@ -140,15 +140,15 @@ opens_way k xid payload Long w r stag head fits is some =
     ap (λ (b : Bool). by_stream k (lists payload Long w r stag) xid (cond b (Some []) None)) (ne_eqb (0 + length payload) 0 (λ e. omega (arith, e, some)))
 
 -- A server gets the message of a plan whose form isn't given as a call, with the plan's lists and stream: it is never refused.
-pub opens_call : (k : Known) (payload : List ℕ) (form : Form) (up down xid credit stag : ℕ) (p : Plan) → IsBytes payload → IsOwn form → plan_of payload form up down ≡ Ok p → 0 < length payload → xid < 2 ^ 32 → credit < 2 ^ 32
-    → stag + regions_needed p ≤ 2 ^ 32 → is_waiting k xid ≡ false
-    → (inline : Option (List ℕ)) × (verdict k (call_message xid credit stag p) ≡ by_need k (record { number = k.heard.sends + 1; xid = xid; lists = lists_of stag p; inline = inline }))
+pub opens_call : (k : ServerState) (payload : List ℕ) (form : Form) (up down xid credit stag : ℕ) (p : Plan) → IsBytes payload → IsOwn form → plan_of payload form up down ≡ Ok p → 0 < length payload → xid < 2 ^ 32 → credit < 2 ^ 32
+    → stag + regions_needed p ≤ 2 ^ 32 → is_pending k xid ≡ false
+    → (inline : Option (List ℕ)) × (verdict k (call_message xid credit stag p) ≡ by_need k (record { number = k.received.sends + 1; xid = xid; lists = lists_of stag p; inline = inline }))
 unfolding call_message
 opens_call k payload form up down xid credit stag p fits own e some fits_x fits_c room free =
     let is = is_plan payload form up down p own e in
     let s = is.shaped in
     let law = λ (q : Plan). stag + regions_needed q ≤ 2 ^ 32
-    → (inline : Option (List ℕ)) × (verdict k (call_message xid credit stag q) ≡ by_need k (record { number = k.heard.sends + 1; xid = xid; lists = lists_of stag q; inline = inline })) in
+    → (inline : Option (List ℕ)) × (verdict k (call_message xid credit stag q) ≡ by_need k (record { number = k.received.sends + 1; xid = xid; lists = lists_of stag q; inline = inline })) in
     subst law (sym s.is) (λ room. by_shape s.way s.write s.reply s.is_way s.write_small s.reply_small is.payload_fits room) room
   where
     is_call : (way : Way) (ls : ChunkLists) (n : ℕ) → IsCall (body_again (body_of way ls) n)
@@ -157,7 +157,7 @@ opens_call k payload form up down xid credit stag p fits own e some fits_x fits_
     is_call Long ls n = tt
 
     by_shape : (way : Way) (w r : Offering) → IsWay payload way → IsSmall w → IsSmall r → length payload ≤ PAYLOAD_MAX → stag + regions_needed (shape payload way (offered w) (offered r)) ≤ 2 ^ 32
-        → (inline : Option (List ℕ)) × (verdict k (call_message xid credit stag (shape payload way (offered w) (offered r))) ≡ by_need k (record { number = k.heard.sends + 1; xid = xid; lists = lists_of stag (shape payload way (offered w) (offered r)); inline = inline }))
+        → (inline : Option (List ℕ)) × (verdict k (call_message xid credit stag (shape payload way (offered w) (offered r))) ≡ by_need k (record { number = k.received.sends + 1; xid = xid; lists = lists_of stag (shape payload way (offered w) (offered r)); inline = inline }))
     by_shape way w r is_way small_w small_r size room =
         let m = reads-shape payload way w r xid credit stag fits is_way size small_w small_r fits_x fits_c room in
         let h : Header = record { xid = xid; credit = credit; body = body_of way (lists payload way w r stag) } in (
@@ -165,5 +165,5 @@ opens_call k payload form up down xid credit stag p fits own e some fits_x fits_
           ap (λ (bytes : List ℕ). verdict k bytes) m.0
               ∙ judged_call k (header_spelling h ++ stream_in payload way) (header_again h) m.1 (is_call way (lists payload way w r stag) (length (header_spelling h))) free
               ∙ opens_way k xid payload way w r stag (header_spelling h) fits is_way some
-              ∙ ap (λ (l : ChunkLists). by_need k (record { number = k.heard.sends + 1; xid = xid; lists = l; inline = inline_of payload way })) (sym (lists-shape payload way w r stag)),
+              ∙ ap (λ (l : ChunkLists). by_need k (record { number = k.received.sends + 1; xid = xid; lists = l; inline = inline_of payload way })) (sym (lists-shape payload way w r stag)),
         )

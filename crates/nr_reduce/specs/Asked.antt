@@ -10,70 +10,70 @@ use Rattle.nr_reduce.specs.declared.call.Outcome.{Outcome}
 use Rattle.nr_reduce.specs.declared.mark.Mark.{Mark}
 use Rattle.nr_reduce.specs.declared.mark.Mark.TheVariants as marks
 use Rattle.nr_reduce.specs.declared.mark.Opened.{Opened}
-use Rattle.nr_reduce.specs.Observed.{Accepted, Completed, accepted, completed, sent, is_given_up}
+use Rattle.nr_reduce.specs.History.{AcceptedCall, CompletedCall, accepted_calls, completed_calls, bytes_sent, is_given_up}
 use Rattle.nr_rpc.specs.Credential.{CanWriteCred}
 use Rattle.nr_reduce.specs.Limits.{numbers_end}
 use Rattle.nr_reduce.specs.Plans.{Plan, regions_needed}
-use Rattle.nr_reduce.specs.Offered.{Region, grants_by, held}
-use Rattle.nr_reduce.specs.Events.{Reached}
-use Rattle.nr_reduce.specs.Client.{Known, plan_now}
-use Rattle.nr_reduce.specs.Runs.{client, owed, placed, HasWritten}
-use Rattle.nr_reduce.specs.Window.{next_xid}
+use Rattle.nr_reduce.specs.OfferedRegions.{Region, region_grants, region_bytes}
+use Rattle.nr_reduce.specs.Events.{EndState}
+use Rattle.nr_reduce.specs.Client.{ClientState, plan_for}
+use Rattle.nr_reduce.specs.Run.{client, output_due, placed_bytes, HasWritten}
+use Rattle.nr_reduce.specs.Credits.{next_xid}
 use Rattle.nr_reduce.specs.Matched.{IsPrefixOf}
-use Rattle.nr_reduce.specs.Along.{Along}
+use Rattle.nr_reduce.specs.AtEachMark.{AtEachMark}
 
 -- A call that can be written goes out under the next xid, by its plan, on a link that hasn't ended, and with numbers that are left:
 -- those that don't fit a word would be spelled as others.
-pub record GoesOut (opened : Opened) (link : ℕ) (before : List Mark) (call : Call) (form : Form) (xid : ℕ) : Type 0 where
+pub record IsAccepted (opened : Opened) (link : ℕ) (before : List Mark) (call : Call) (form : Form) (xid : ℕ) : Type 0 where
   pub stays : (client opened link before).ended ≡ None
   pub next : xid ≡ next_xid opened (client opened link before).state
   pub plan : Plan
-  pub planned : plan_now (client opened link before).state xid call form ≡ Ok plan
+  pub planned : plan_for (client opened link before).state xid call form ≡ Ok plan
   pub xids : xid < numbers_end
   pub stags : (client opened link before).state.stag + regions_needed plan ≤ numbers_end
   pub writable : CanWriteCred call.cred
 
 -- an accepted call that has no outcome so far, and that nobody gave up
-pub record IsWanted (link : ℕ) (before : List Mark) (xid : ℕ) : Type 0 where
-  pub asked : Accepted
-  pub is_asked : Contains (accepted link before) asked
+pub record IsAwaited (link : ℕ) (before : List Mark) (xid : ℕ) : Type 0 where
+  pub asked : AcceptedCall
+  pub is_asked : Contains (accepted_calls link before) asked
   pub own : asked.xid ≡ xid
-  pub first : (c : Completed) → Contains (completed link before) c → c.xid ≢ xid
+  pub first : (c : CompletedCall) → Contains (completed_calls link before) c → c.xid ≢ xid
   pub kept : is_given_up link xid before ≡ false
 
 -- it gets this outcome, by its own message
-pub record Completes (opened : Opened) (link : ℕ) (before : List Mark) (xid : ℕ) (outcome : Outcome) : Type 0 where
-  pub wanted : IsWanted link before xid
-  pub came : Contains (client opened link before).state.outcomes (record { xid = xid; outcome = outcome })
+pub record IsCompleted (opened : Opened) (link : ℕ) (before : List Mark) (xid : ℕ) (outcome : Outcome) : Type 0 where
+  pub wanted : IsAwaited link before xid
+  pub is_received : Contains (client opened link before).state.outcomes (record { xid = xid; outcome = outcome })
 
 -- it is lost: its client ended, and no outcome of it came
 pub record IsLost (opened : Opened) (link : ℕ) (before : List Mark) (xid : ℕ) : Type 0 where
-  pub wanted : IsWanted link before xid
+  pub wanted : IsAwaited link before xid
   pub ended : End
   pub is_ended : (client opened link before).ended ≡ Some ended
-  pub none : (c : Completed) → Contains (client opened link before).state.outcomes c → c.xid ≢ xid
+  pub none : (c : CompletedCall) → Contains (client opened link before).state.outcomes c → c.xid ≢ xid
 
 -- it gives its memory back: what its regions hold, in the order in which they were offered
-abbrev pub memory_of : Opened → ℕ → List Mark → ℕ → List ℕ
-memory_of opened link before xid =
-    flat_map (λ r. placed opened link Initiator before r.stag) (filter (λ r. r.call == xid) (client opened link before).state.regions)
+abbrev pub revoked_bytes : Opened → ℕ → List Mark → ℕ → List ℕ
+revoked_bytes opened link before xid =
+    flat_map (λ r. placed_bytes opened link Initiator before r.stag) (filter (λ r. r.call == xid) (client opened link before).state.regions)
 
-pub record GivesBack (opened : Opened) (link : ℕ) (before : List Mark) (xid : ℕ) (bytes : List ℕ) : Type 0 where
-  pub wanted : IsWanted link before xid
-  pub bytes_are : bytes ≡ memory_of opened link before xid
+pub record IsRevoked (opened : Opened) (link : ℕ) (before : List Mark) (xid : ℕ) (bytes : List ℕ) : Type 0 where
+  pub wanted : IsAwaited link before xid
+  pub bytes_are : bytes ≡ revoked_bytes opened link before xid
 
 -- what a Wrote of the client writes is told by `Fills`, of all that it wrote by then and all that it has to write
 abbrev pub AskedMark : (List ℕ → List ℕ → Type 0) → Opened → ℕ → List Mark → Mark → Type 0
-AskedMark Fills opened link before (marks.Submit l call form (submissions.Accepted xid)) = l ≡ link → GoesOut opened link before call form xid
+AskedMark Fills opened link before (marks.Submit l call form (submissions.Accepted xid)) = l ≡ link → IsAccepted opened link before call form xid
 AskedMark Fills opened link before (marks.Submit l call form (submissions.Refused why)) = Unit {0}
-AskedMark Fills opened link before (marks.Wrote l Initiator bytes) = l ≡ link → Fills (sent link Initiator before ++ bytes) (owed opened link Initiator before)
+AskedMark Fills opened link before (marks.Wrote l Initiator bytes) = l ≡ link → Fills (bytes_sent link Initiator before ++ bytes) (output_due opened link Initiator before)
 AskedMark Fills opened link before (marks.Wrote l Responder bytes) = Unit {0}
 AskedMark Fills opened link before (marks.Fed l side bytes) = Unit {0}
 AskedMark Fills opened link before (marks.Execute l xid moment payload place reply) = Unit {0}
-AskedMark Fills opened link before (marks.Done l xid outcome) = l ≡ link → Completes opened link before xid outcome
+AskedMark Fills opened link before (marks.Done l xid outcome) = l ≡ link → IsCompleted opened link before xid outcome
 AskedMark Fills opened link before (marks.Lost l xid) = l ≡ link → IsLost opened link before xid
-AskedMark Fills opened link before (marks.Forget l xid) = l ≡ link → IsWanted link before xid
-AskedMark Fills opened link before (marks.Revoke l xid bytes) = l ≡ link → GivesBack opened link before xid bytes
+AskedMark Fills opened link before (marks.Forget l xid) = l ≡ link → IsAwaited link before xid
+AskedMark Fills opened link before (marks.Revoke l xid bytes) = l ≡ link → IsRevoked opened link before xid bytes
 AskedMark Fills opened link before (marks.Drop l) = Unit {0}
 
 -- each Wrote writes all that is owed by then, and in the end all is written
@@ -81,9 +81,9 @@ abbrev pub IsAll : List ℕ → List ℕ → Type 0
 IsAll written due = written ≡ due
 
 pub record Asked (opened : Opened) (link : ℕ) (run : List Mark) : Type 0 where
-  pub each : Along (AskedMark IsAll opened link) [] run
+  pub each : AtEachMark (AskedMark IsAll opened link) [] run
   pub written : HasWritten opened link Initiator run
 
 -- as far as a run goes: what is written is the first of what is owed
 abbrev pub AskedSoFar : Opened → ℕ → List Mark → Type 0
-AskedSoFar opened link run = Along (AskedMark IsPrefixOf opened link) [] run
+AskedSoFar opened link run = AtEachMark (AskedMark IsPrefixOf opened link) [] run

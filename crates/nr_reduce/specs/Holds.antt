@@ -10,7 +10,7 @@ use Rattle.nr_header.specs.Header.{header_spelling}
 use Rattle.nr_reduce.specs.Items.{Item, Of, reducible_item, stream_of, moved_of}
 use Rattle.nr_reduce.specs.Items.Of.{Reply}
 use Rattle.nr_reduce.specs.Chunks.{chunk_total, filled}
-use Rattle.nr_link.specs.Written.{write}
+use Rattle.nr_link.specs.Output.{write}
 
 -- what goes as the stream, what moves into the first write chunk, and whether the stream goes in the reply chunk
 pub record Answer : Type 0 where

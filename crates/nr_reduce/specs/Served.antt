@@ -6,25 +6,25 @@ use Rattle.nr_reduce.specs.declared.mark.Moment.{Moment}
 use Rattle.nr_reduce.specs.declared.mark.Mark.{Mark}
 use Rattle.nr_reduce.specs.declared.mark.Mark.TheVariants as marks
 use Rattle.nr_reduce.specs.declared.mark.Opened.{Opened}
-use Rattle.nr_reduce.specs.Observed.{sent}
-use Rattle.nr_reduce.specs.Events.{Reached}
-use Rattle.nr_reduce.specs.Server.{Known, Ready}
-use Rattle.nr_reduce.specs.Runs.{server, owed, HasWritten}
+use Rattle.nr_reduce.specs.History.{bytes_sent}
+use Rattle.nr_reduce.specs.Events.{EndState}
+use Rattle.nr_reduce.specs.Server.{ServerState, ReadyCall}
+use Rattle.nr_reduce.specs.Run.{server, output_due, HasWritten}
 use Rattle.nr_reduce.specs.Matched.{IsPrefixOf}
 use Rattle.nr_reduce.specs.Asked.{IsAll}
-use Rattle.nr_reduce.specs.Along.{Along}
+use Rattle.nr_reduce.specs.AtEachMark.{AtEachMark}
 
 -- the first call that came whole and isn't executed; a server that ended executes nothing
-abbrev pub first_ready : List Ready → Option End → Option Ready
+abbrev pub first_ready : List ReadyCall → Option End → Option ReadyCall
 first_ready ready (Some end) = None
 first_ready ready None = slice_get ready 0
 
-unfoldable pub next_call : Opened → ℕ → List Mark → Option Ready
+unfoldable pub next_call : Opened → ℕ → List Mark → Option ReadyCall
 next_call opened link run = first_ready (server opened link run).state.ready (server opened link run).ended
 
 -- It is executed, with what its Send conveyed.
-pub record Serves (opened : Opened) (link : ℕ) (before : List Mark) (xid : ℕ) (payload : List ℕ) : Type 0 where
-  pub call : Ready
+pub record IsExecuted (opened : Opened) (link : ℕ) (before : List Mark) (xid : ℕ) (payload : List ℕ) : Type 0 where
+  pub call : ReadyCall
   pub is_next : next_call opened link before ≡ Some call
   pub own : xid ≡ call.xid
   pub conveyed : payload ≡ call.payload
@@ -34,10 +34,10 @@ abbrev pub ServedMark : (List ℕ → List ℕ → Type 0) → Opened → ℕ �
 ServedMark Fills opened link before (marks.Submit l call form answer) = Unit {0}
 ServedMark Fills opened link before (marks.Wrote l Initiator bytes) = Unit {0}
 ServedMark Fills opened link before (marks.Wrote l Responder bytes) =
-    l ≡ link → Fills (sent link Responder before ++ bytes) (owed opened link Responder before)
+    l ≡ link → Fills (bytes_sent link Responder before ++ bytes) (output_due opened link Responder before)
 ServedMark Fills opened link before (marks.Fed l side bytes) = Unit {0}
 ServedMark Fills opened link before (marks.Execute l xid moment payload place reply) =
-    l ≡ link → Serves opened link before xid payload
+    l ≡ link → IsExecuted opened link before xid payload
 ServedMark Fills opened link before (marks.Done l xid outcome) = Unit {0}
 ServedMark Fills opened link before (marks.Lost l xid) = Unit {0}
 ServedMark Fills opened link before (marks.Forget l xid) = Unit {0}
@@ -45,9 +45,9 @@ ServedMark Fills opened link before (marks.Revoke l xid bytes) = Unit {0}
 ServedMark Fills opened link before (marks.Drop l) = Unit {0}
 
 pub record Served (opened : Opened) (link : ℕ) (run : List Mark) : Type 0 where
-  pub each : Along (ServedMark IsAll opened link) [] run
+  pub each : AtEachMark (ServedMark IsAll opened link) [] run
   pub written : HasWritten opened link Responder run
 
 -- as far as a run goes: what is written is the first of what is owed
 abbrev pub ServedSoFar : Opened → ℕ → List Mark → Type 0
-ServedSoFar opened link run = Along (ServedMark IsPrefixOf opened link) [] run
+ServedSoFar opened link run = AtEachMark (ServedMark IsPrefixOf opened link) [] run

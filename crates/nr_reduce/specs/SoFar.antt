@@ -5,7 +5,7 @@ use Rattle.nr_reduce.specs.declared.mark.Opened.{Opened}
 use Rattle.nr_reduce.specs.Asked.{Asked, AskedSoFar}
 use Rattle.nr_reduce.specs.Served.{Served, ServedSoFar}
 use Rattle.nr_reduce.specs.Matched.{Matched}
-use Rattle.nr_reduce.specs.Window.{KeepsGrant}
+use Rattle.nr_reduce.specs.Credits.{KeepsGrant}
 
 -- the laws of a link without what must yet follow; each holds of every first part of a run of which it holds
 pub record SoFar (opened : Opened) (link : ℕ) (run : List Mark) : Type 0 where

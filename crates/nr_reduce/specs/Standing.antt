@@ -8,51 +8,51 @@ use Rattle.nr_wire.specs.Stream.{Split, split, awaited_after}
 use Rattle.nr_regions.specs.declared.region.Region.{Region}
 use Rattle.nr_regions.specs.Access.{grant_at, offered}
 use Rattle.nr_regions.specs.Memory.{Memory, live_at, offer}
-use Rattle.nr_reduce.specs.Offered.{grants_by, held}
+use Rattle.nr_reduce.specs.OfferedRegions.{region_grants, region_bytes}
 use Rattle.nr_reduce.specs.declared.mark.Mark.{Mark}
 use Rattle.nr_reduce.specs.declared.mark.Opened.{Opened}
-use Rattle.nr_reduce.specs.Observed.{sent, got}
+use Rattle.nr_reduce.specs.History.{bytes_sent, bytes_received}
 use Rattle.nr_link.specs.Frames.{Frame, frames_from}
-use Rattle.nr_reduce.specs.Events.{Event, Reached}
-use Rattle.nr_reduce.specs.Events.Event.{Came}
-use Rattle.nr_reduce.specs.Client.{Known}
-use Rattle.nr_reduce.specs.Runs.{client, owed}
+use Rattle.nr_reduce.specs.Events.{Event, EndState}
+use Rattle.nr_reduce.specs.Events.Event.{FrameReceived}
+use Rattle.nr_reduce.specs.Client.{ClientState}
+use Rattle.nr_reduce.specs.Run.{client, output_due}
 use Rattle.nr_reduce.specs.Asked.{IsAll, AskedMark}
-use Rattle.nr_reduce.specs.Along.{Along}
+use Rattle.nr_reduce.specs.AtEachMark.{AtEachMark}
 
 -- what is awaited and what came of it, and the place behind the last frame
-pub record Inlet : Type 0 where
+pub record InputState : Type 0 where
   pub awaited : Awaited
   pub rest : List ℕ
   pub place : ℕ
 
 -- the frames that a piece makes whole, and what is left then
-abbrev pub pieces_of : Inlet → List ℕ → Split
-pieces_of inlet piece = split inlet.awaited (inlet.rest ++ piece)
+abbrev pub split_with : InputState → List ℕ → Split
+split_with inlet piece = split inlet.awaited (inlet.rest ++ piece)
 
-abbrev pub came : Inlet → List ℕ → List Event
-came inlet piece = map Came (frames_from inlet.place (pieces_of inlet piece).frames)
+abbrev pub frames_received : InputState → List ℕ → List Event
+frames_received inlet piece = map FrameReceived (frames_from inlet.place (split_with inlet piece).frames)
 
-abbrev pub fed : Inlet → List ℕ → Inlet
-fed inlet piece = record {
-  awaited = awaited_after inlet.awaited (pieces_of inlet piece).frames;
-  rest = (pieces_of inlet piece).rest;
-  place = inlet.place + length (concat (pieces_of inlet piece).frames);
+abbrev pub input_after : InputState → List ℕ → InputState
+input_after inlet piece = record {
+  awaited = awaited_after inlet.awaited (split_with inlet piece).frames;
+  rest = (split_with inlet piece).rest;
+  place = inlet.place + length (concat (split_with inlet piece).frames);
 }
 
 -- The end stands for these marks of its link, which are right so far: what it keeps represents how far its marks bring a client,
 -- and what it has queued is what they call for and isn't written. It keeps neither the bytes nor the marks.
-pub record StandsFor {V : Type 0} (Represents : V → Reached Known → Type 0) (opened : Opened) (link : ℕ) (v : V) (inlet : Inlet) (queued : List ℕ) (marks : List Mark) : Type 0 where
-  pub awaited : inlet.awaited ≡ awaited_after (HelloFrom Responder) (split (HelloFrom Responder) (got link Initiator marks)).frames
-  pub rest : inlet.rest ≡ (split (HelloFrom Responder) (got link Initiator marks)).rest
-  pub place : inlet.place ≡ length (concat (split (HelloFrom Responder) (got link Initiator marks)).frames)
+pub record StandsFor {V : Type 0} (Represents : V → EndState ClientState → Type 0) (opened : Opened) (link : ℕ) (v : V) (inlet : InputState) (queued : List ℕ) (marks : List Mark) : Type 0 where
+  pub awaited : inlet.awaited ≡ awaited_after (HelloFrom Responder) (split (HelloFrom Responder) (bytes_received link Initiator marks)).frames
+  pub rest : inlet.rest ≡ (split (HelloFrom Responder) (bytes_received link Initiator marks)).rest
+  pub place : inlet.place ≡ length (concat (split (HelloFrom Responder) (bytes_received link Initiator marks)).frames)
   pub represents : Represents v (client opened link marks)
-  pub due : sent link Initiator marks ++ queued ≡ owed opened link Initiator marks
-  pub each : Along (AskedMark IsAll opened link) [] marks
+  pub due : bytes_sent link Initiator marks ++ queued ≡ output_due opened link Initiator marks
+  pub each : AtEachMark (AskedMark IsAll opened link) [] marks
 
 -- The registered memory of an end agrees with what its marks say: to every later frame it offers what the grants offer, and each
 -- region that lives holds what the peer's accesses left in it.
-pub record Remembers (k : Known) (place : ℕ) (m : Memory) : Type 0 where
-  pub offers : (stag end : ℕ) → place < end → offer (live_at m stag) ≡ offered (grant_at (grants_by end k.regions) stag end)
-  pub holds : (stag : ℕ) (r : Region) → live_at m stag ≡ Some r → r.buf ≡ held (grants_by place k.regions) k.regions k.reaches stag
+pub record HoldsRegions (k : ClientState) (place : ℕ) (m : Memory) : Type 0 where
+  pub offers : (stag end : ℕ) → place < end → offer (live_at m stag) ≡ offered (grant_at (region_grants end k.regions) stag end)
+  pub holds : (stag : ℕ) (r : Region) → live_at m stag ≡ Some r → r.buf ≡ region_bytes (region_grants place k.regions) k.regions k.reaches stag
   pub next : m.next ≡ k.stag

@@ -14,10 +14,10 @@ use Rattle.nr_wire.specs.Segment.{Segment as WireSegment}
 use Rattle.nr_wire.specs.Segment.Segment.{Tagged, Untagged}
 use Rattle.nr_reduce.specs.declared.call.Form.{Form}
 use Rattle.nr_reduce.specs.declared.call.Form.TheVariants as forms
-use Rattle.nr_link.specs.Limits.{piece_max}
+use Rattle.nr_link.specs.Limits.{segment_max}
 use Rattle.nr_reduce.specs.Plans.{Plan, total, has_segment, lists_of, write_list, reply_chunk}
 use Rattle.nr_reduce.specs.Chunks.{Bytes, call_conveyed}
-use Rattle.nr_link.specs.Written.{pieces, piece}
+use Rattle.nr_link.specs.Output.{segment_count, segment_payload}
 use Rattle.nr_reduce.specs.Holds.{Answer, first_chunk, no_segments}
 
 -- the forms whose offers aren't given
@@ -62,10 +62,10 @@ laid stag bytes (Untagged last opcode w queue msn offset payload ∷ segments) =
 
 -- the segments of one RDMA Write
 abbrev pub one_write : ℕ → ℕ → List ℕ → ℕ → WireSegment
-one_write stag to bytes i = Tagged (i + 1 == pieces bytes) OPCODE_WRITE stag (to + piece_max * i) (piece bytes i)
+one_write stag to bytes i = Tagged (i + 1 == segment_count bytes) OPCODE_WRITE stag (to + segment_max * i) (segment_payload bytes i)
 
 abbrev pub write_segments : ℕ → ℕ → List ℕ → List WireSegment
-write_segments stag to bytes = map (one_write stag to bytes) (range_with_len 0 (pieces bytes))
+write_segments stag to bytes = map (one_write stag to bytes) (range_with_len 0 (segment_count bytes))
 
 -- the segments by which they come there
 abbrev pub chunk_segments : List Segment → List ℕ → List WireSegment

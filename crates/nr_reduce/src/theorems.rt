@@ -16,8 +16,8 @@ ghost use Rattle.nr_reduce.specs.declared.mark.Mark.{Mark};
 ghost use Rattle.nr_reduce.specs.declared.mark.Mark.TheVariants as marks;
 ghost use Rattle.nr_reduce.specs.declared.mark.Opened.{Opened};
 ghost use Rattle.nr_header.specs.declared.header.ReadSegment.{ReadSegment};
-ghost use Rattle.nr_reduce.specs.Observed.{Completed, completed};
-ghost use Rattle.nr_reduce.specs.Server.{Known, Ready, verdict, by_need, is_waiting};
+ghost use Rattle.nr_reduce.specs.History.{CompletedCall, completed_calls};
+ghost use Rattle.nr_reduce.specs.Server.{ServerState, ReadyCall, verdict, by_need, is_pending};
 ghost use Rattle.nr_reduce.specs.Served.{ServedSoFar, next_call};
 ghost use Rattle.nr_reduce.specs.Asked.{AskedSoFar};
 
@@ -38,10 +38,10 @@ pub fn plans_are_undone()
 
 /// A server never refuses the message of a plan whose form isn't given: it opens its call, with the plan's lists.
 pub fn plans_are_opened()
-    ensures { (k : Known) (payload : List ℕ) (form : Form) (up down xid credit stag : ℕ) (p : Plan) → IsBytes payload → IsOwn form →
+    ensures { (k : ServerState) (payload : List ℕ) (form : Form) (up down xid credit stag : ℕ) (p : Plan) → IsBytes payload → IsOwn form →
         plan_of payload form up down ≡ Ok p → 0 < length payload → xid < 2 ^ 32 → credit < 2 ^ 32 → stag + regions_needed p ≤ 2 ^ 32 →
-        is_waiting k xid ≡ false → (inline : Option (List ℕ)) ×
-        (verdict k (call_message xid credit stag p) ≡ by_need k (record { number = k.heard.sends + 1; xid = xid; lists = lists_of stag p; inline = inline })) }
+        is_pending k xid ≡ false → (inline : Option (List ℕ)) ×
+        (verdict k (call_message xid credit stag p) ≡ by_need k (record { number = k.received.sends + 1; xid = xid; lists = lists_of stag p; inline = inline })) }
 {}
 
 /// An answer for an offer that holds a reply conveys that reply, by what its Writes leave.
@@ -53,12 +53,12 @@ pub fn answers_are_undone()
 
 /// No Send is executed twice, whatever the peer sends; no call completes twice; no xid is given twice.
 pub fn nothing_twice()
-    ensures executed { (opened : Opened) (link : ℕ) (run before between behind : List Mark) (xid yid : ℕ) (moment now : Moment) (payload asked : List ℕ) (place later : ℕ) (reply answer : List ℕ) →
+    ensures executed_calls { (opened : Opened) (link : ℕ) (run before between behind : List Mark) (xid yid : ℕ) (moment now : Moment) (payload asked : List ℕ) (place later : ℕ) (reply answer : List ℕ) →
         run ≡ before ++ marks.Execute link xid moment payload place reply ∷ (between ++ marks.Execute link yid now asked later answer ∷ behind) → ServedSoFar opened link run →
-        (first second : Ready) → next_call opened link before ≡ Some first →
+        (first second : ReadyCall) → next_call opened link before ≡ Some first →
         next_call opened link (before ++ marks.Execute link xid moment payload place reply ∷ between) ≡ Some second → first.number ≢ second.number }
-    ensures completed { (opened : Opened) (link xid : ℕ) (outcome : Outcome) (run before behind : List Mark) → run ≡ before ++ marks.Done link xid outcome ∷ behind →
-        AskedSoFar opened link run → (c : Completed) → Contains (completed link before) c → c.xid ≢ xid }
+    ensures completed_calls { (opened : Opened) (link xid : ℕ) (outcome : Outcome) (run before behind : List Mark) → run ≡ before ++ marks.Done link xid outcome ∷ behind →
+        AskedSoFar opened link run → (c : CompletedCall) → Contains (completed_calls link before) c → c.xid ≢ xid }
     ensures given { (opened : Opened) (link : ℕ) (run before between behind : List Mark) (call other : Call) (form way : Form) (xid yid : ℕ) →
         run ≡ before ++ marks.Submit link call form (submissions.Accepted xid) ∷ (between ++ marks.Submit link other way (submissions.Accepted yid) ∷ behind) →
         AskedSoFar opened link run → xid < yid }

@@ -3,11 +3,11 @@ use Rattle.nr_reduce.proofs.Once.{executes_once}
 use Rattle.nr_reduce.proofs.Placing.{completes_once, xids_differ}
 use Rattle.nr_reduce.proofs.theorems.nothing_twice.Goals as goal
 
-pub returns-clause-executed : goal.returns-clause-executed
-returns-clause-executed c = executes_once IsPrefixOf
+pub returns-clause-executed_calls : goal.returns-clause-executed_calls
+returns-clause-executed_calls c = executes_once IsPrefixOf
 
-pub returns-clause-completed : goal.returns-clause-completed
-returns-clause-completed c = completes_once IsPrefixOf
+pub returns-clause-completed_calls : goal.returns-clause-completed_calls
+returns-clause-completed_calls c = completes_once IsPrefixOf
 
 pub returns-clause-given : goal.returns-clause-given
 returns-clause-given c = xids_differ IsPrefixOf

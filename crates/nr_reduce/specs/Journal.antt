@@ -4,8 +4,8 @@ use Rattle.nr_reduce.specs.declared.mark.Moment.{Moment}
 use Rattle.nr_reduce.specs.declared.mark.Mark.{Mark}
 use Rattle.nr_reduce.specs.declared.mark.Mark.TheVariants as marks
 use Rattle.nr_reduce.specs.declared.mark.Entry.{Entry}
-use Rattle.nr_reduce.specs.Observed.{PlainServer, journal}
-use Rattle.nr_reduce.specs.Along.{Along}
+use Rattle.nr_reduce.specs.History.{PlainServer, journal}
+use Rattle.nr_reduce.specs.AtEachMark.{AtEachMark}
 use Rattle.nr_reduce.specs.declared.mark.Opened.{Opened}
 use Rattle.nr_reduce.specs.Limits.{numbers_end, most_credits}
 
@@ -13,7 +13,7 @@ use Rattle.nr_reduce.specs.Limits.{numbers_end, most_credits}
 pub record AtPlace (plain : PlainServer) (J : List Entry) (moment : Moment) (payload : List ℕ) (place : ℕ) (reply : List ℕ) : Type 0 where
   pub within : place ≤ length J
   pub replied : plain.Replies (take place J) moment payload reply
-  pub added : take (length (plain.adds moment payload reply)) (drop place J) ≡ plain.adds moment payload reply
+  pub entries_added : take (length (plain.adds moment payload reply)) (drop place J) ≡ plain.adds moment payload reply
 
 abbrev pub AtPlaceMark : PlainServer → List Entry → List Mark → Mark → Type 0
 AtPlaceMark plain J before (marks.Execute l xid moment payload place reply) = AtPlace plain J moment payload place reply
@@ -21,7 +21,7 @@ AtPlaceMark plain J before mark = Unit {0}
 
 -- each call of these marks has its place in the journal
 abbrev pub AtPlaces : PlainServer → List Entry → List Mark → Type 0
-AtPlaces plain J run = Along (AtPlaceMark plain J) [] run
+AtPlaces plain J run = AtEachMark (AtPlaceMark plain J) [] run
 
 -- the journal is what the marks added, and each place that of its moment
 abbrev pub PlacedMark : PlainServer → List Mark → Mark → Type 0
@@ -30,7 +30,7 @@ PlacedMark plain before mark = Unit {0}
 
 pub record Journaled (plain : PlainServer) (J : List Entry) (run : List Mark) : Type 0 where
   pub is : journal plain run ≡ J
-  pub places : Along (PlacedMark plain) [] run
+  pub places : AtEachMark (PlacedMark plain) [] run
 
 -- each call is answered as the plain server answers at its moment
 abbrev pub PlainMark : PlainServer → List Mark → Mark → Type 0
@@ -38,7 +38,7 @@ PlainMark plain before (marks.Execute l xid moment payload place reply) = plain.
 PlainMark plain before mark = Unit {0}
 
 abbrev pub Plainly : PlainServer → List Mark → Type 0
-Plainly plain run = Along (PlainMark plain) [] run
+Plainly plain run = AtEachMark (PlainMark plain) [] run
 
 -- the numbers that both ends of a link are opened with: no first number is 0, and credits are from 1 to 64
 pub record IsOpened (opened : Opened) : Type 0 where

@@ -12,44 +12,44 @@ use Rattle.nr_reduce.specs.declared.mark.Mark.TheVariants as marks
 use Rattle.nr_reduce.specs.declared.mark.Opened.{Opened}
 use Rattle.nr_reduce.specs.Limits.{numbers_end}
 use Rattle.nr_reduce.specs.Plans.{Plan, TooLarge, regions_needed}
-use Rattle.nr_reduce.specs.Events.{Reached}
-use Rattle.nr_reduce.specs.Client.{Known, plan_now}
-use Rattle.nr_reduce.specs.Runs.{client}
-use Rattle.nr_reduce.specs.Along.{Along}
+use Rattle.nr_reduce.specs.Events.{EndState}
+use Rattle.nr_reduce.specs.Client.{ClientState, plan_for}
+use Rattle.nr_reduce.specs.Run.{client}
+use Rattle.nr_reduce.specs.AtEachMark.{AtEachMark}
 
 -- how many accepted calls have no message of their xid whole yet, and what the last message grants
-unfoldable pub out_of : Opened → ℕ → List Mark → ℕ
-out_of opened link run = length (client opened link run).state.out
+unfoldable pub calls_outstanding : Opened → ℕ → List Mark → ℕ
+calls_outstanding opened link run = length (client opened link run).state.outstanding
 
-unfoldable pub grant_of : Opened → ℕ → List Mark → ℕ
-grant_of opened link run = (client opened link run).state.grant
+unfoldable pub credits_granted : Opened → ℕ → List Mark → ℕ
+credits_granted opened link run = (client opened link run).state.grant
 
 -- a call goes out only while fewer are out than are granted
 abbrev pub WithinGrant : Opened → ℕ → List Mark → Mark → Type 0
-WithinGrant opened link before (marks.Submit l call form (submissions.Accepted xid)) = l ≡ link → out_of opened link before < grant_of opened link before
+WithinGrant opened link before (marks.Submit l call form (submissions.Accepted xid)) = l ≡ link → calls_outstanding opened link before < credits_granted opened link before
 WithinGrant opened link before mark = Unit {0}
 
 abbrev pub KeepsGrant : Opened → ℕ → List Mark → Type 0
-KeepsGrant opened link run = Along (WithinGrant opened link) [] run
+KeepsGrant opened link run = AtEachMark (WithinGrant opened link) [] run
 
 -- What a client answers to a call: the first that stands of its end, a room that the call passes, no credit left, too few xids
 -- or STags left; else it goes out under the next xid.
-abbrev pub next_xid : Opened → Known → ℕ
-next_xid opened k = opened.first_xid + k.accepted
+abbrev pub next_xid : Opened → ClientState → ℕ
+next_xid opened k = opened.first_xid + k.calls_accepted
 
 abbrev pub unless_spent : (left need : ℕ) → Submission → Submission
 unless_spent left need answer = if nat_lt left need then submissions.Refused (refusals.Spent left need) else answer
 
-abbrev pub by_plan : Opened → Known → Result Plan TooLarge → Submission
+abbrev pub by_plan : Opened → ClientState → Result Plan TooLarge → Submission
 by_plan opened k (Err large) = submissions.Refused (refusals.TooLarge large.need large.room)
 by_plan opened k (Ok plan) =
-    if nat_le k.grant (length k.out) then submissions.Refused (refusals.NoCredit (length k.out) k.grant)
+    if nat_le k.grant (length k.outstanding) then submissions.Refused (refusals.NoCredit (length k.outstanding) k.grant)
     else unless_spent (numbers_end - next_xid opened k) 1
     (unless_spent (numbers_end - k.stag) (regions_needed plan) (submissions.Accepted (next_xid opened k)))
 
-abbrev pub answer_by : Opened → Known → Call → Form → Option End → Submission
+abbrev pub answer_by : Opened → ClientState → Call → Form → Option End → Submission
 answer_by opened k call form (Some end) = submissions.Refused (refusals.Ended end)
-answer_by opened k call form None = by_plan opened k (plan_now k (next_xid opened k) call form)
+answer_by opened k call form None = by_plan opened k (plan_for k (next_xid opened k) call form)
 
-unfoldable pub answer_of : Opened → Reached Known → Call → Form → Submission
-answer_of opened r call form = answer_by opened r.state call form r.ended
+unfoldable pub submit_answer : Opened → EndState ClientState → Call → Form → Submission
+submit_answer opened r call form = answer_by opened r.state call form r.ended

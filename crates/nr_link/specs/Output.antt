@@ -8,43 +8,43 @@ use Rattle.nr_wire.specs.declared.hello.Side.TheVariants.{Responder}
 use Rattle.nr_wire.specs.Hello.{hello_spelling}
 use Rattle.nr_wire.specs.Segment.{Segment, spelling}
 use Rattle.nr_wire.specs.Segment.Segment.{Tagged, Untagged}
-use Rattle.nr_link.specs.Limits.{piece_max}
+use Rattle.nr_link.specs.Limits.{segment_max}
 
 -- how many segments the bytes take: each has at most piece_max of them, and no bytes take one
-abbrev pub pieces : List ℕ → ℕ
-pieces bytes = max 1 ((length bytes + (piece_max - 1)) / piece_max)
+abbrev pub segment_count : List ℕ → ℕ
+segment_count bytes = max 1 ((length bytes + (segment_max - 1)) / segment_max)
 
-abbrev pub piece : List ℕ → ℕ → List ℕ
-piece bytes i = take piece_max (drop (piece_max * i) bytes)
+abbrev pub segment_payload : List ℕ → ℕ → List ℕ
+segment_payload bytes i = take segment_max (drop (segment_max * i) bytes)
 
 -- the bytes cut into segments, the last of which is marked; a segment is made of that mark, of an offset and of a payload
 unfoldable pub cut : (Bool → ℕ → List ℕ → Segment) → List ℕ → List ℕ
-cut segment bytes = flat_map (λ i. spelling (segment (i + 1 == pieces bytes) (piece_max * i) (piece bytes i))) (range_with_len 0 (pieces bytes))
+cut segment bytes = flat_map (λ i. spelling (segment (i + 1 == segment_count bytes) (segment_max * i) (segment_payload bytes i))) (range_with_len 0 (segment_count bytes))
 
 -- message numbers go round at 2 ^ 32 (RFC 5041 section 4.3)
-abbrev pub wrapped : ℕ → ℕ
-wrapped n = n % 2 ^ 32
+abbrev pub msn_word : ℕ → ℕ
+msn_word n = n % 2 ^ 32
 
 -- the msn-th Send of a side
 unfoldable pub send : ℕ → List ℕ → List ℕ
-send msn message = cut (λ last offset payload. Untagged last OPCODE_SEND 0 QUEUE_SEND (wrapped msn) offset payload) message
+send msn message = cut (λ last offset payload. Untagged last OPCODE_SEND 0 QUEUE_SEND (msn_word msn) offset payload) message
 
 -- an RDMA Write, and the answer to a Read Request
 unfoldable pub write : (stag to : ℕ) → List ℕ → List ℕ
 write stag to bytes = cut (λ last offset payload. Tagged last OPCODE_WRITE stag (to + offset) payload) bytes
 
-unfoldable pub response : (stag to : ℕ) → List ℕ → List ℕ
-response stag to bytes = cut (λ last offset payload. Tagged last OPCODE_READ_RESPONSE stag (to + offset) payload) bytes
+unfoldable pub read_response : (stag to : ℕ) → List ℕ → List ℕ
+read_response stag to bytes = cut (λ last offset payload. Tagged last OPCODE_READ_RESPONSE stag (to + offset) payload) bytes
 
 -- the msn-th Read Request of a side: so many bytes, from the peer's region into its own
-unfoldable pub request : (msn sink sink_to size stag to : ℕ) → List ℕ
-request msn sink sink_to size stag to =
-    spelling (Untagged true OPCODE_READ_REQUEST 0 QUEUE_READ_REQUEST (wrapped msn) 0
+unfoldable pub read_request : (msn sink sink_to size stag to : ℕ) → List ℕ
+read_request msn sink sink_to size stag to =
+    spelling (Untagged true OPCODE_READ_REQUEST 0 QUEUE_READ_REQUEST (msn_word msn) 0
     (word sink ++ (hyper sink_to ++ (word size ++ (word stag ++ hyper to)))))
 
 -- the one Terminate of a side, with its word
-unfoldable pub terminate : ℕ → List ℕ
-terminate n = spelling (Untagged true OPCODE_TERMINATE 0 QUEUE_TERMINATE 1 0 (word n))
+unfoldable pub terminate_message : ℕ → List ℕ
+terminate_message n = spelling (Untagged true OPCODE_TERMINATE 0 QUEUE_TERMINATE 1 0 (word n))
 
 -- a side's hello on a link of this profile: no flags, no private data
 unfoldable pub own_hello : Side → List ℕ

@@ -29,82 +29,82 @@ same_side Initiator Responder = false
 same_side Responder Initiator = false
 
 -- the bytes that a side of a link wrote at a mark, and those that it was fed
-abbrev pub wrote : ℕ → Side → Mark → List ℕ
-wrote link side (marks.Wrote l s bytes) = if l == link && same_side s side then bytes else []
-wrote link side mark = []
+abbrev pub written_at : ℕ → Side → Mark → List ℕ
+written_at link side (marks.Wrote l s bytes) = if l == link && same_side s side then bytes else []
+written_at link side mark = []
 
-abbrev pub fed : ℕ → Side → Mark → List ℕ
-fed link side (marks.Fed l s bytes) = if l == link && same_side s side then bytes else []
-fed link side mark = []
+abbrev pub fed_at : ℕ → Side → Mark → List ℕ
+fed_at link side (marks.Fed l s bytes) = if l == link && same_side s side then bytes else []
+fed_at link side mark = []
 
 -- all that a side sent, and all that it got
-unfoldable pub sent : ℕ → Side → List Mark → List ℕ
-sent link side run = flat_map (wrote link side) run
+unfoldable pub bytes_sent : ℕ → Side → List Mark → List ℕ
+bytes_sent link side run = flat_map (written_at link side) run
 
-unfoldable pub got : ℕ → Side → List Mark → List ℕ
-got link side run = flat_map (fed link side) run
+unfoldable pub bytes_received : ℕ → Side → List Mark → List ℕ
+bytes_received link side run = flat_map (fed_at link side) run
 
 -- a call that a client accepted, with the xid under which it goes out
-pub record Accepted : Type 0 where
+pub record AcceptedCall : Type 0 where
   pub xid : ℕ
   pub call : Call
   pub form : Form
 
-abbrev pub accepted_as : Submission → Call → Form → List Accepted
+abbrev pub accepted_as : Submission → Call → Form → List AcceptedCall
 accepted_as (submissions.Accepted xid) call form = record { xid = xid; call = call; form = form } ∷ []
 accepted_as (submissions.Refused why) call form = []
 
-abbrev pub accepted_at : ℕ → Mark → List Accepted
+abbrev pub accepted_at : ℕ → Mark → List AcceptedCall
 accepted_at link (marks.Submit l call form answer) = if l == link then accepted_as answer call form else []
 accepted_at link mark = []
 
-unfoldable pub accepted : ℕ → List Mark → List Accepted
-accepted link run = flat_map (accepted_at link) run
+unfoldable pub accepted_calls : ℕ → List Mark → List AcceptedCall
+accepted_calls link run = flat_map (accepted_at link) run
 
 -- a call that a server executed, with its place in the journal and its reply
-pub record Executed : Type 0 where
+pub record ExecutedCall : Type 0 where
   pub xid : ℕ
   pub moment : Moment
   pub payload : List ℕ
   pub place : ℕ
   pub reply : List ℕ
 
-abbrev pub executed_at : ℕ → Mark → List Executed
+abbrev pub executed_at : ℕ → Mark → List ExecutedCall
 executed_at link (marks.Execute l xid moment payload place reply) =
     if l == link then record { xid = xid; moment = moment; payload = payload; place = place; reply = reply } ∷ [] else []
 executed_at link mark = []
 
-unfoldable pub executed : ℕ → List Mark → List Executed
-executed link run = flat_map (executed_at link) run
+unfoldable pub executed_calls : ℕ → List Mark → List ExecutedCall
+executed_calls link run = flat_map (executed_at link) run
 
 -- a call whose outcome was handed to its caller
-pub record Completed : Type 0 where
+pub record CompletedCall : Type 0 where
   pub xid : ℕ
   pub outcome : Outcome
 
-abbrev pub completed_at : ℕ → Mark → List Completed
+abbrev pub completed_at : ℕ → Mark → List CompletedCall
 completed_at link (marks.Done l xid outcome) = if l == link then record { xid = xid; outcome = outcome } ∷ [] else []
 completed_at link mark = []
 
-unfoldable pub completed : ℕ → List Mark → List Completed
-completed link run = flat_map (completed_at link) run
+unfoldable pub completed_calls : ℕ → List Mark → List CompletedCall
+completed_calls link run = flat_map (completed_at link) run
 
 -- the link was dropped
-abbrev pub drops : ℕ → Mark → Bool
-drops link (marks.Drop l) = l == link
-drops link mark = false
+abbrev pub is_drop_of : ℕ → Mark → Bool
+is_drop_of link (marks.Drop l) = l == link
+is_drop_of link mark = false
 
 abbrev pub is_dropped : ℕ → List Mark → Bool
-is_dropped link run = list_any (drops link) run
+is_dropped link run = list_any (is_drop_of link) run
 
 -- the caller gave a call's answer up, or took its memory back
-abbrev pub gives_up : ℕ → ℕ → Mark → Bool
-gives_up link xid (marks.Forget l x) = l == link && x == xid
-gives_up link xid (marks.Revoke l x bytes) = l == link && x == xid
-gives_up link xid mark = false
+abbrev pub is_given_up_at : ℕ → ℕ → Mark → Bool
+is_given_up_at link xid (marks.Forget l x) = l == link && x == xid
+is_given_up_at link xid (marks.Revoke l x bytes) = l == link && x == xid
+is_given_up_at link xid mark = false
 
 abbrev pub is_given_up : ℕ → ℕ → List Mark → Bool
-is_given_up link xid run = list_any (gives_up link xid) run
+is_given_up link xid run = list_any (is_given_up_at link xid) run
 
 -- A plain RPC server, one call after another: which reply it may give to a payload at a moment, over a journal, and what
 -- the journal gets by that.
@@ -113,9 +113,9 @@ pub record PlainServer : Type 1 where
   pub adds : Moment → List ℕ → List ℕ → List Entry
 
 -- the entries that a mark adds, whatever its link, and those of all marks in order
-abbrev pub added : PlainServer → Mark → List Entry
-added plain (marks.Execute l xid moment payload place reply) = plain.adds moment payload reply
-added plain mark = []
+abbrev pub entries_added : PlainServer → Mark → List Entry
+entries_added plain (marks.Execute l xid moment payload place reply) = plain.adds moment payload reply
+entries_added plain mark = []
 
 unfoldable pub journal : PlainServer → List Mark → List Entry
-journal plain run = flat_map (added plain) run
+journal plain run = flat_map (entries_added plain) run

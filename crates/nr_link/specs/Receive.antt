@@ -1,0 +1,182 @@
+-- What a link asks of each segment of a side, whichever end gets it (RFC 5041 sections 4 to 7; RFC 5040 sections 5 and 7): by the
+-- segments before it, and by what the end has ready for it. Memory is no part of this: what an access lacks is handed in.
+use Rattle.std.specs.Prelude.{ℕ, ◌+◌, ◌%◌, ◌^◌, Bool, true, false, not, ◌&&◌, ◌||◌, ◌==◌, nat_lt, nat_le, if◌then◌else◌, List, [], ◌∷◌, ◌++◌, length, Option, None, Some}
+use Rattle.nr_wire.specs.Constants.{OPCODE_READ_REQUEST, OPCODE_READ_RESPONSE, OPCODE_SEND, OPCODE_TERMINATE, QUEUE_SEND, QUEUE_READ_REQUEST}
+use Rattle.nr_wire.specs.Numbers.{word_at, hyper_at}
+use Rattle.nr_wire.specs.Segment.{Segment}
+use Rattle.nr_wire.specs.Segment.Segment.{Tagged, Untagged}
+use Rattle.nr_link.specs.Limits.{open_reads_max}
+use Rattle.nr_link.specs.Reasons.{REASON_MSN, REASON_OFFSET, REASON_FORM, REASON_RESPONSE, REASON_REQUESTS, REASON_SHORT, REASON_LONG}
+use Rattle.nr_link.specs.Output.{msn_word}
+
+-- ---- The untagged messages of a side so far
+
+-- How many of its Sends are whole, the bytes of the one that is begun, if one is, and how many Read Requests came.
+pub record ReceiveState : Type 0 where
+  pub sends : ℕ
+  pub begun : Option (List ℕ)
+  pub requests : ℕ
+
+abbrev pub nothing_received : ReceiveState
+nothing_received = record { sends = 0; begun = None; requests = 0 }
+
+-- the opcodes of messages
+abbrev pub is_send : ℕ → Bool
+is_send opcode = opcode == OPCODE_SEND
+
+-- the bytes of the message so far
+abbrev pub begun_bytes : Option (List ℕ) → List ℕ
+begun_bytes None = []
+begun_bytes (Some bytes) = bytes
+
+-- one more segment of a Send, one more Read Request
+abbrev pub send_continued : ReceiveState → Bool → List ℕ → ReceiveState
+send_continued h true payload = record { sends = h.sends + 1; begun = None; requests = h.requests }
+send_continued h false payload = record { sends = h.sends; begun = Some (begun_bytes h.begun ++ payload); requests = h.requests }
+
+abbrev pub received_after : ReceiveState → Segment → ReceiveState
+received_after h (Tagged last opcode stag to payload) = h
+received_after h (Untagged last opcode w queue msn offset payload) =
+    if is_send opcode then send_continued h last payload
+    else (if opcode == OPCODE_READ_REQUEST then record { sends = h.sends; begun = h.begun; requests = h.requests + 1 }
+    else h)
+
+-- the message that a segment makes whole
+abbrev pub message_completed : ReceiveState → Segment → Option (List ℕ)
+message_completed h (Tagged last opcode stag to payload) = None
+message_completed h (Untagged last opcode w queue msn offset payload) =
+    if is_send opcode && last then Some (begun_bytes h.begun ++ payload) else None
+
+-- ---- Accesses
+
+-- a Read Request's fields (RFC 5040 section 4.4)
+pub record ReadRequest : Type 0 where
+  pub sink : ℕ
+  pub sink_to : ℕ
+  pub size : ℕ
+  pub stag : ℕ
+  pub to : ℕ
+
+abbrev pub read_request_in : List ℕ → ReadRequest
+read_request_in payload = record {
+  sink = word_at 0 payload;
+  sink_to = hyper_at 4 payload;
+  size = word_at 12 payload;
+  stag = word_at 16 payload;
+  to = hyper_at 20 payload;
+}
+
+abbrev pub read_request_of : Segment → Option ReadRequest
+read_request_of (Tagged last opcode stag to payload) = None
+read_request_of (Untagged last opcode w queue msn offset payload) =
+    if opcode == OPCODE_READ_REQUEST then Some (read_request_in payload) else None
+
+-- ---- What an end has ready for a frame
+
+-- the next byte that the oldest of its Read Requests waits for: the sink, the place in it, and how many bytes are left
+pub record ExpectedResponse : Type 0 where
+  pub sink : ℕ
+  pub at : ℕ
+  pub left : ℕ
+
+-- What the side said before; whether a receive is left for a Send that begins, and how long its message may be; what the
+-- segment's access to memory lacks, if it lacks something; which response is expected, and how many responses to it aren't
+-- written yet.
+pub record Readiness (D : Type 0) : Type 0 where
+  pub received : ReceiveState
+  pub has_receive : Bool
+  pub message_max : ℕ
+  pub missing : Option D
+  pub expected : Option ExpectedResponse
+  pub responses : ℕ
+
+-- Why a segment ends the link: a reason, no receive, what its access lacks, or a Terminate with its word.
+pub data SegmentFault (D : Type 0) : Type 0 where
+  Reason : (reason : ℕ) → SegmentFault D
+  NoBuffer : (msn : ℕ) → SegmentFault D
+  AccessDenied : (why : D) → SegmentFault D
+  PeerTerminated : (word : ℕ) → SegmentFault D
+
+-- ---- Each alone
+
+abbrev pub reason_if : {D : Type 0} → ℕ → Bool → Option (SegmentFault D)
+reason_if reason true = Some (Reason reason)
+reason_if reason false = None
+
+-- the number of the next message of a queue, from 1 on
+abbrev pub next_msn : ReceiveState → ℕ → ℕ
+next_msn h queue =
+    if queue == QUEUE_SEND then msn_word (h.sends + 1)
+    else (if queue == QUEUE_READ_REQUEST then msn_word (h.requests + 1)
+    else 1)
+
+abbrev pub next_offset : ReceiveState → ℕ → ℕ
+next_offset h queue = if queue == QUEUE_SEND then length (begun_bytes h.begun) else 0
+
+abbrev pub is_begun : Option (List ℕ) → Bool
+is_begun None = false
+is_begun (Some bytes) = true
+
+-- the first segment of a Send finds no receive
+abbrev pub no_buffer : {D : Type 0} → Readiness D → Bool → ℕ → Option (SegmentFault D)
+no_buffer r true msn = if is_begun r.received.begun || r.has_receive then None else Some (NoBuffer msn)
+no_buffer r false msn = None
+
+abbrev pub missing_fault : {D : Type 0} → Option D → Option (SegmentFault D)
+missing_fault None = None
+missing_fault (Some why) = Some (AccessDenied why)
+
+-- a Read Request is one segment of 28 bytes, and its answer's bytes are within the 2 ^ 64 of a region; a Terminate is one
+-- segment with a word
+abbrev pub is_malformed : ℕ → Bool → List ℕ → Bool
+is_malformed opcode last payload =
+    if opcode == OPCODE_READ_REQUEST
+    then not last || (not (length payload == 28) || nat_lt (2 ^ 64) ((read_request_in payload).sink_to + (read_request_in payload).size))
+    else (if opcode == OPCODE_TERMINATE then not last || nat_lt (length payload) 4
+    else false)
+
+-- a Read Response is the next part of the answer that is expected, and marked exactly where it is the last
+abbrev pub is_expected : Option ExpectedResponse → Bool → ℕ → ℕ → ℕ → Bool
+is_expected None last stag to n = false
+is_expected (Some e) last stag to n =
+    stag == e.sink && (to == e.at && (nat_le n e.left && (if last then n == e.left else not (n == e.left))))
+
+abbrev pub is_unexpected : {D : Type 0} → Readiness D → ℕ → Bool → ℕ → ℕ → ℕ → Bool
+is_unexpected r opcode last stag to n = opcode == OPCODE_READ_RESPONSE && not (is_expected r.expected last stag to n)
+
+-- a Read Request while as many as may be are unanswered
+abbrev pub is_too_many : {D : Type 0} → Readiness D → ℕ → Bool
+is_too_many r opcode = opcode == OPCODE_READ_REQUEST && nat_le open_reads_max r.responses
+
+-- a message that is longer than it may be, or shorter than the fixed words of a header
+abbrev pub has_length : (ℕ → Bool) → Option (List ℕ) → Bool
+has_length test None = false
+has_length test (Some message) = test (length message)
+
+abbrev pub terminate_fault : {D : Type 0} → ℕ → List ℕ → Option (SegmentFault D)
+terminate_fault opcode payload = if opcode == OPCODE_TERMINATE then Some (PeerTerminated (word_at 0 payload)) else None
+
+-- the first that stands
+abbrev pub first_fault : {X : Type 0} → List (Option X) → Option X
+first_fault [] = None
+first_fault (None ∷ others) = first_fault others
+first_fault (Some x ∷ others) = Some x
+
+-- Why a segment ends the link: the first that stands, in this order. The reasons that a frame has by itself go before (nr_wire),
+-- and what an end makes of a whole message comes behind.
+unfoldable pub segment_fault : {D : Type 0} → Readiness D → Segment → Option (SegmentFault D)
+segment_fault r (Tagged last opcode stag to payload) = first_fault (
+    missing_fault r.missing
+    ∷ reason_if REASON_RESPONSE (is_unexpected r opcode last stag to (length payload))
+    ∷ [])
+segment_fault r (Untagged last opcode w queue msn offset payload) = first_fault (
+    reason_if REASON_MSN (not (msn == next_msn r.received queue))
+    ∷ reason_if REASON_OFFSET (not (offset == next_offset r.received queue))
+    ∷ no_buffer r (is_send opcode) msn
+    ∷ reason_if REASON_FORM (is_malformed opcode last payload)
+    ∷ missing_fault r.missing
+    ∷ reason_if REASON_REQUESTS (is_too_many r opcode)
+    ∷ reason_if REASON_LONG (has_length (nat_lt r.message_max) (message_completed r.received (Untagged last opcode w queue msn offset payload)))
+    ∷ reason_if REASON_SHORT (has_length (λ n. nat_lt n 16) (message_completed r.received (Untagged last opcode w queue msn offset payload)))
+    ∷ terminate_fault opcode payload
+    ∷ [])

@@ -1,0 +1,48 @@
+-- What the marks of a run make of both ends of a link: what each knows, why it ended, what it has to write, what it offered,
+-- and what its memory holds.
+use Rattle.std.specs.Prelude.{◌≡◌, ℕ, List, [], ◌++◌, length, Option}
+use Rattle.nr_wire.specs.declared.hello.Side.{Side}
+use Rattle.nr_wire.specs.declared.hello.Side.TheVariants.{Initiator, Responder}
+use Rattle.nr_regions.specs.Access.{Grant}
+use Rattle.nr_link.specs.declared.end.End.{End}
+use Rattle.nr_reduce.specs.declared.mark.Mark.{Mark}
+use Rattle.nr_reduce.specs.declared.mark.Opened.{Opened}
+use Rattle.nr_reduce.specs.History.{bytes_sent, bytes_received}
+use Rattle.nr_link.specs.Output.{own_hello}
+use Rattle.nr_reduce.specs.OfferedRegions.{region_grants, region_bytes}
+use Rattle.nr_reduce.specs.Events.{EndState, events, end_state_after, output_for_all}
+use Rattle.nr_reduce.specs.Client.{ClientState, client_rules, initial_client}
+use Rattle.nr_reduce.specs.Server.{ServerState, server_rules, initial_server}
+
+-- how far both ends are
+unfoldable pub client : Opened → ℕ → List Mark → EndState ClientState
+client opened link run = end_state_after (client_rules opened) (initial_client opened) (events link Initiator run)
+
+unfoldable pub server : Opened → ℕ → List Mark → EndState ServerState
+server opened link run = end_state_after (server_rules opened) (initial_server opened) (events link Responder run)
+
+-- why a side takes no more input
+unfoldable pub end_of_side : Opened → ℕ → Side → List Mark → Option End
+end_of_side opened link Initiator run = (client opened link run).ended
+end_of_side opened link Responder run = (server opened link run).ended
+
+-- All that a side has to write by these marks, in order. The client begins with its hello.
+unfoldable pub output_due : Opened → ℕ → Side → List Mark → List ℕ
+output_due opened link Initiator run = own_hello Initiator ++ output_for_all (client_rules opened) (initial_client opened) (events link Initiator run)
+output_due opened link Responder run = output_for_all (server_rules opened) (initial_server opened) (events link Responder run)
+
+-- what a side offered, with its lifetime
+unfoldable pub grants_of : Opened → ℕ → Side → List Mark → List Grant
+grants_of opened link Initiator run = region_grants (length (bytes_received link Initiator run)) (client opened link run).state.regions
+grants_of opened link Responder run = region_grants (length (bytes_received link Responder run)) (server opened link run).state.regions
+
+-- what the region under an STag of a side holds
+unfoldable pub placed_bytes : Opened → ℕ → Side → List Mark → ℕ → List ℕ
+placed_bytes opened link Initiator run stag =
+    region_bytes (grants_of opened link Initiator run) (client opened link run).state.regions (client opened link run).state.reaches stag
+placed_bytes opened link Responder run stag =
+    region_bytes (grants_of opened link Responder run) (server opened link run).state.regions (server opened link run).state.reaches stag
+
+-- a side wrote everything that it has to write
+abbrev pub HasWritten : Opened → ℕ → Side → List Mark → Type 0
+HasWritten opened link side run = bytes_sent link side run ≡ output_due opened link side run
