@@ -23,6 +23,7 @@ all-first xs ys is = ([], append-nil xs ∙ is)
 asked-mark : (opened : Opened) (link : ℕ) (before : List Mark) (mark : Mark) → AskedMark IsAll opened link before mark → AskedMark IsPrefixOf opened link before mark
 asked-mark opened link before (marks.Submit l call form (submissions.Accepted xid)) h = h
 asked-mark opened link before (marks.Submit l call form (submissions.Refused why)) h = h
+asked-mark opened link before (marks.Submit l call form submissions.Dropped) h = h
 asked-mark opened link before (marks.Wrote l Initiator bytes) h = λ same. all-first _ _ (h same)
 asked-mark opened link before (marks.Wrote l Responder bytes) h = h
 asked-mark opened link before (marks.Fed l side bytes) h = h

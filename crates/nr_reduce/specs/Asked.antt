@@ -10,7 +10,7 @@ use Rattle.nr_reduce.specs.declared.call.Outcome.{Outcome}
 use Rattle.nr_reduce.specs.declared.mark.Mark.{Mark}
 use Rattle.nr_reduce.specs.declared.mark.Mark.TheVariants as marks
 use Rattle.nr_reduce.specs.declared.mark.Opened.{Opened}
-use Rattle.nr_reduce.specs.History.{AcceptedCall, CompletedCall, accepted_calls, completed_calls, bytes_sent, is_given_up}
+use Rattle.nr_reduce.specs.History.{AcceptedCall, CompletedCall, accepted_calls, completed_calls, bytes_sent, is_abandoned}
 use Rattle.nr_rpc.specs.Credential.{CanWriteCred}
 use Rattle.nr_reduce.specs.Limits.{numbers_end}
 use Rattle.nr_reduce.specs.Plans.{Plan, regions_needed}
@@ -39,7 +39,7 @@ pub record IsAwaited (link : ℕ) (before : List Mark) (xid : ℕ) : Type 0 wher
   pub is_asked : Contains (accepted_calls link before) asked
   pub own : asked.xid ≡ xid
   pub first : (c : CompletedCall) → Contains (completed_calls link before) c → c.xid ≢ xid
-  pub kept : is_given_up link xid before ≡ false
+  pub kept : is_abandoned link xid before ≡ false
 
 -- it gets this outcome, by its own message
 pub record IsCompleted (opened : Opened) (link : ℕ) (before : List Mark) (xid : ℕ) (outcome : Outcome) : Type 0 where
@@ -66,6 +66,7 @@ pub record IsRevoked (opened : Opened) (link : ℕ) (before : List Mark) (xid : 
 abbrev pub AskedMark : (List ℕ → List ℕ → Type 0) → Opened → ℕ → List Mark → Mark → Type 0
 AskedMark Fills opened link before (marks.Submit l call form (submissions.Accepted xid)) = l ≡ link → IsAccepted opened link before call form xid
 AskedMark Fills opened link before (marks.Submit l call form (submissions.Refused why)) = Unit {0}
+AskedMark Fills opened link before (marks.Submit l call form submissions.Dropped) = Unit {0}
 AskedMark Fills opened link before (marks.Wrote l Initiator bytes) = l ≡ link → Fills (bytes_sent link Initiator before ++ bytes) (output_due opened link Initiator before)
 AskedMark Fills opened link before (marks.Wrote l Responder bytes) = Unit {0}
 AskedMark Fills opened link before (marks.Fed l side bytes) = Unit {0}

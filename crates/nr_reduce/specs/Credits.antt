@@ -1,6 +1,6 @@
 -- Credits (RFC 8166 section 3.3.1): how many calls of a link are out, how many its server grants, and what a client answers to
 -- a call.
-use Rattle.std.specs.Prelude.{◌≡◌, ℕ, ◌+◌, ◌-◌, ◌<◌, nat_lt, nat_le, if◌then◌else◌, List, [], length, Option, None, Some, Result, Ok, Err}
+use Rattle.std.specs.Prelude.{Bool, true, false, ◌≡◌, ℕ, ◌+◌, ◌-◌, ◌<◌, nat_lt, nat_le, if◌then◌else◌, List, [], length, Option, None, Some, Result, Ok, Err}
 use Rattle.nr_reduce.specs.declared.call.Call.{Call}
 use Rattle.nr_link.specs.declared.end.End.{End}
 use Rattle.nr_reduce.specs.declared.call.Form.{Form}
@@ -15,6 +15,7 @@ use Rattle.nr_reduce.specs.Plans.{Plan, TooLarge, regions_needed}
 use Rattle.nr_reduce.specs.Events.{EndState}
 use Rattle.nr_reduce.specs.Client.{ClientState, plan_for}
 use Rattle.nr_reduce.specs.Run.{client}
+use Rattle.nr_reduce.specs.History.{is_dropped}
 use Rattle.nr_reduce.specs.AtEachMark.{AtEachMark}
 
 -- how many accepted calls have no message of their xid whole yet, and what the last message grants
@@ -53,3 +54,12 @@ answer_by opened k call form None = by_plan opened k (plan_for k (next_xid opene
 
 unfoldable pub submit_answer : Opened → EndState ClientState → Call → Form → Submission
 submit_answer opened r call form = answer_by opened r.state call form r.ended
+
+-- on a dropped link a call is refused as one on a link that has ended, and there is no End to tell
+abbrev pub unless_dropped : Bool → Submission → Submission
+unless_dropped true answer = submissions.Dropped
+unless_dropped false answer = answer
+
+-- what a Submit after these marks is answered
+unfoldable pub submit_answer_after : Opened → ℕ → List Mark → Call → Form → Submission
+submit_answer_after opened link run call form = unless_dropped (is_dropped link run) (submit_answer opened (client opened link run) call form)

@@ -32,6 +32,7 @@ events_at link side before (marks.Wrote l s bytes) = if_own (l == link && same_s
 events_at link side before (marks.Submit l call form (submissions.Accepted xid)) =
     if_own (l == link && same_side Initiator side) (CallSubmitted (length (bytes_received link Initiator before)) (record { xid = xid; call = call; form = form }) ∷ [])
 events_at link side before (marks.Submit l call form (submissions.Refused why)) = []
+events_at link side before (marks.Submit l call form submissions.Dropped) = []
 events_at link side before (marks.Execute l xid moment payload place reply) =
     if_own (l == link && same_side Responder side) (CallExecuted (record { xid = xid; moment = moment; payload = payload; place = place; reply = reply }) ∷ [])
 events_at link side before (marks.Revoke l xid bytes) =

@@ -53,6 +53,7 @@ pub record AcceptedCall : Type 0 where
 abbrev pub accepted_as : Submission → Call → Form → List AcceptedCall
 accepted_as (submissions.Accepted xid) call form = record { xid = xid; call = call; form = form } ∷ []
 accepted_as (submissions.Refused why) call form = []
+accepted_as submissions.Dropped call form = []
 
 abbrev pub accepted_at : ℕ → Mark → List AcceptedCall
 accepted_at link (marks.Submit l call form answer) = if l == link then accepted_as answer call form else []
@@ -97,14 +98,15 @@ is_drop_of link mark = false
 abbrev pub is_dropped : ℕ → List Mark → Bool
 is_dropped link run = list_any (is_drop_of link) run
 
--- the caller gave a call's answer up, or took its memory back
-abbrev pub is_given_up_at : ℕ → ℕ → Mark → Bool
-is_given_up_at link xid (marks.Forget l x) = l == link && x == xid
-is_given_up_at link xid (marks.Revoke l x bytes) = l == link && x == xid
-is_given_up_at link xid mark = false
+-- A call ended without an outcome: its caller forgot it, revoked its memory, or was told that the link ended.
+abbrev pub abandons : ℕ → ℕ → Mark → Bool
+abandons link xid (marks.Forget l x) = l == link && x == xid
+abandons link xid (marks.Revoke l x bytes) = l == link && x == xid
+abandons link xid (marks.Lost l x) = l == link && x == xid
+abandons link xid mark = false
 
-abbrev pub is_given_up : ℕ → ℕ → List Mark → Bool
-is_given_up link xid run = list_any (is_given_up_at link xid) run
+abbrev pub is_abandoned : ℕ → ℕ → List Mark → Bool
+is_abandoned link xid run = list_any (abandons link xid) run
 
 -- A plain RPC server, one call after another: which reply it may give to a payload at a moment, over a journal, and what
 -- the journal gets by that.

@@ -61,9 +61,11 @@ pub enum Refused {
     Memory,
 }
 
-/// What a requester answers to a call: it goes out under this xid, or it is refused.
+/// What is answered to a call: it goes out under this xid, or it is refused.
 #[derive(Clone, Copy, Debug, PartialEq, Eq)]
 pub enum Submission {
     Accepted { xid: u32 },
     Refused(Refused),
+    /// The link was dropped: the call is refused as one on a link that has ended, and there is no [`End`] to tell.
+    Dropped,
 }
