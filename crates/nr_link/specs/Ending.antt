@@ -15,8 +15,9 @@ use Rattle.nr_link.specs.declared.end.End.TheVariants as ends
 use Rattle.nr_link.specs.Reasons.{denied_word, NO_BUFFER_WORD}
 use Rattle.nr_link.specs.Output.{terminate_message}
 use Rattle.nr_link.specs.Frames.{Frame}
-use Rattle.nr_link.specs.Receive.{ReadRequest, read_request_in, Readiness, SegmentFault, segment_fault}
-use Rattle.nr_link.specs.Receive.SegmentFault.{Reason, NoBuffer, AccessDenied, PeerTerminated}
+use Rattle.nr_link.specs.ReceiveState.{ReadRequest, read_request_in}
+use Rattle.nr_link.specs.SegmentFaults.{Readiness, SegmentFault, segment_fault}
+use Rattle.nr_link.specs.SegmentFaults.SegmentFault.{Reason, NoBuffer, AccessDenied, PeerTerminated}
 
 abbrev pub kind_of : ℕ → Kind
 kind_of opcode = if opcode == OPCODE_READ_RESPONSE then Response else Write

@@ -2,5 +2,6 @@ pub mod Limits
 pub mod Reasons
 pub mod Frames
 pub mod Output
-pub mod Receive
+pub mod ReceiveState
+pub mod SegmentFaults
 pub mod Ending

@@ -26,14 +26,19 @@ use Rattle.nr_reduce.specs.declared.mark.Opened.{Opened}
 use Rattle.nr_reduce.specs.History.{ExecutedCall}
 use Rattle.nr_reduce.specs.AtEachMark.{AtEachMark}
 use Rattle.nr_link.specs.Frames.{Frame, is_hello}
-use Rattle.nr_link.specs.Receive.{ReceiveState, received_after, message_completed, is_send, send_continued, begun_bytes}
+use Rattle.nr_link.specs.ReceiveState.{ReceiveState, received_after, message_completed, is_send, send_continued, begun_bytes}
 use Rattle.nr_link.specs.Ending.{frame_segment}
 use Rattle.nr_reduce.specs.OfferedRegions.{Region}
-use Rattle.nr_reduce.specs.Events.{Event, EndState, if_own, events_at, events, end_state_after, next_end_state, next_end_state_by, next_end_state_in}
+use Rattle.nr_reduce.specs.Events.{Event, if_own, events_at, events}
+use Rattle.nr_reduce.specs.EndRules.{EndState, end_state_after, next_end_state, next_end_state_by, next_end_state_in}
 use Rattle.nr_reduce.specs.Events.Event.{FrameReceived, CallSubmitted, MemoryRevoked, CallExecuted, QueueWritten}
-use Rattle.nr_reduce.specs.Server.{ServerState, initial_state, ReadyCall, PendingRead, PendingCall, FrameEffect, Verdict, CallVerdict, one_if, is_read, no_effect, made_ready, if_whole, opened_with, reads_of, reads_from, read_of, refused_with, read_effect, response_effect, call_of_number, is_stream_read, chunk_bytes, tagged_effect, message_effect, by_message, with_reach, effect_by, effect_in, frame_effect, with_effect, received_by, verdict, by_header, by_body, by_stream, by_need, next_stag, chunks_of, has_position, no_stream, is_pending, by_payload, by_head, payload_of, call_xid, server_state_after, server_end, server_rules, initial_server, regions_of}
-use Rattle.nr_reduce.specs.Server.Verdict.{Stops, OtherVersion, BadChunks, Opens}
-use Rattle.nr_reduce.specs.Server.CallVerdict.{Refuses, IsReady}
+use Rattle.nr_reduce.specs.ServerState.{ServerState, initial_state, ReadyCall, PendingRead, PendingCall, one_if, next_stag, is_pending}
+use Rattle.nr_reduce.specs.ServerReads.{is_read, reads_of, reads_from, read_of, chunks_of, regions_of}
+use Rattle.nr_reduce.specs.ServerMessages.{Verdict, CallVerdict, chunk_bytes, verdict, by_header, by_body, by_stream, by_need, has_position, no_stream, by_payload, by_head, payload_of, call_xid}
+use Rattle.nr_reduce.specs.ServerFrames.{FrameEffect, no_effect, made_ready, if_whole, opened_with, refused_with, read_effect, response_effect, call_of_number, is_stream_read, tagged_effect, message_effect, by_message, with_reach, effect_by, effect_in, frame_effect}
+use Rattle.nr_reduce.specs.Server.{with_effect, received_by, server_state_after, server_end, server_rules, initial_server}
+use Rattle.nr_reduce.specs.ServerMessages.Verdict.{Stops, OtherVersion, BadChunks, Opens}
+use Rattle.nr_reduce.specs.ServerMessages.CallVerdict.{Refuses, IsReady}
 use Rattle.nr_reduce.specs.Chunks.{suits, total_at}
 use Rattle.nr_reduce.specs.Run.{server}
 use Rattle.nr_reduce.specs.Served.{ServedMark, IsExecuted, next_call, first_ready}

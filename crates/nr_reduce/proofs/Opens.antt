@@ -21,8 +21,9 @@ use Rattle.nr_reduce.specs.Items.Of.{Call}
 use Rattle.nr_reduce.specs.Plans.{Plan, plan_of, regions_needed, lists_of, call_message}
 use Rattle.nr_reduce.specs.Chunks.{suits, suits_at, is_item, item_position, position_of, total_at}
 use Rattle.nr_reduce.specs.Undone.{IsOwn}
-use Rattle.nr_reduce.specs.Server.{ServerState, PendingCall, Verdict, verdict, by_header, by_body, by_stream, by_need, is_pending}
-use Rattle.nr_reduce.specs.Server.Verdict.{BadChunks}
+use Rattle.nr_reduce.specs.ServerState.{ServerState, PendingCall, is_pending}
+use Rattle.nr_reduce.specs.ServerMessages.{Verdict, verdict, by_header, by_body, by_stream, by_need}
+use Rattle.nr_reduce.specs.ServerMessages.Verdict.{BadChunks}
 use Rattle.nr_reduce.proofs.Looks.{item_stands}
 use Rattle.nr_reduce.proofs.Undone.{reducible}
 use Rattle.nr_reduce.proofs.Shapes.{Offering, offered, IsSmall, Way, shape, IsWay, Shaped, is_plan}

@@ -17,16 +17,19 @@ use Rattle.nr_reduce.specs.declared.mark.Mark.{Mark}
 use Rattle.nr_reduce.specs.declared.mark.Mark.TheVariants as marks
 use Rattle.nr_reduce.specs.declared.mark.Entry.{Entry}
 use Rattle.nr_reduce.specs.declared.mark.Opened.{Opened}
-use Rattle.nr_reduce.specs.History.{PlainServer, entries_added, journal, AcceptedCall, CompletedCall, completed_calls, bytes_received}
+use Rattle.nr_reduce.specs.History.{AcceptedCall, CompletedCall, completed_calls, bytes_received}
+use Rattle.nr_reduce.specs.PlainJournal.{PlainServer, entries_added, journal}
 use Rattle.nr_reduce.specs.AtEachMark.{AtEachMark}
 use Rattle.nr_link.specs.Frames.{Frame, is_hello}
-use Rattle.nr_link.specs.Receive.{ReadRequest, message_completed, read_request_of}
+use Rattle.nr_link.specs.ReceiveState.{ReadRequest, message_completed, read_request_of}
 use Rattle.nr_link.specs.Ending.{frame_segment}
-use Rattle.nr_reduce.specs.Events.{Event, EndState, if_own, events_at, end_state_after, next_end_state, next_end_state_by, next_end_state_in}
+use Rattle.nr_reduce.specs.Events.{Event, if_own, events_at}
+use Rattle.nr_reduce.specs.EndRules.{EndState, end_state_after, next_end_state, next_end_state_by, next_end_state_in}
 use Rattle.nr_reduce.specs.Events.Event.{FrameReceived, CallSubmitted, MemoryRevoked, CallExecuted, QueueWritten}
-use Rattle.nr_reduce.specs.Client.{ClientState, client_state_after, client_end, client_rules, with_message, with_request, with_segment}
+use Rattle.nr_reduce.specs.ClientState.{ClientState}
+use Rattle.nr_reduce.specs.Client.{client_state_after, client_end, client_rules, with_message, with_request, with_segment}
 use Rattle.nr_reduce.specs.Run.{client}
-use Rattle.nr_reduce.specs.Credits.{next_xid}
+use Rattle.nr_reduce.specs.SubmitAnswer.{next_xid}
 use Rattle.nr_reduce.specs.Asked.{AskedMark, IsAccepted}
 use Rattle.nr_reduce.specs.Journal.{AtPlace, AtPlaceMark, AtPlaces, PlacedMark, Journaled}
 use Rattle.nr_reduce.proofs.Steps.{client-one}

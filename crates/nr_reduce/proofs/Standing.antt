@@ -13,9 +13,11 @@ use Rattle.nr_reduce.specs.declared.mark.Mark.TheVariants as marks
 use Rattle.nr_reduce.specs.declared.mark.Opened.{Opened}
 use Rattle.nr_reduce.specs.History.{bytes_sent, bytes_received, written_at, fed_at}
 use Rattle.nr_link.specs.Frames.{Frame, frames_from, frames_completed}
-use Rattle.nr_reduce.specs.Events.{Event, EndState, if_own, events_at, end_state_after, output_for_all}
+use Rattle.nr_reduce.specs.Events.{Event, if_own, events_at}
+use Rattle.nr_reduce.specs.EndRules.{EndState, end_state_after, output_for_all}
 use Rattle.nr_reduce.specs.Events.Event.{FrameReceived, QueueWritten}
-use Rattle.nr_reduce.specs.Client.{ClientState, client_rules}
+use Rattle.nr_reduce.specs.ClientState.{ClientState}
+use Rattle.nr_reduce.specs.Client.{client_rules}
 use Rattle.nr_reduce.specs.Run.{client, output_due}
 use Rattle.nr_reduce.specs.Asked.{IsAll, AskedMark}
 use Rattle.nr_reduce.specs.AtEachMark.{AtEachMark}

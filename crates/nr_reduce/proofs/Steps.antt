@@ -7,7 +7,8 @@ use Rattle.nr_reduce.specs.declared.mark.Mark.{Mark}
 use Rattle.nr_reduce.specs.declared.mark.Opened.{Opened}
 use Rattle.nr_reduce.specs.AtEachMark.{AtEachMark}
 use Rattle.nr_link.specs.Output.{own_hello}
-use Rattle.nr_reduce.specs.Events.{Event, Rules, EndState, events_at, events_from, events, next_end_state, output_for, end_state_after, output_for_all}
+use Rattle.nr_reduce.specs.Events.{Event, events_at, events_from, events}
+use Rattle.nr_reduce.specs.EndRules.{Rules, EndState, next_end_state, output_for, end_state_after, output_for_all}
 use Rattle.nr_reduce.specs.Client.{client_rules, initial_client}
 use Rattle.nr_reduce.specs.Server.{server_rules, initial_server}
 use Rattle.nr_reduce.specs.Run.{client, server, output_due}

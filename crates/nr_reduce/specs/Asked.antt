@@ -15,10 +15,10 @@ use Rattle.nr_rpc.specs.Credential.{CanWriteCred}
 use Rattle.nr_reduce.specs.Limits.{numbers_end}
 use Rattle.nr_reduce.specs.Plans.{Plan, regions_needed}
 use Rattle.nr_reduce.specs.OfferedRegions.{Region, region_grants, region_bytes}
-use Rattle.nr_reduce.specs.Events.{EndState}
-use Rattle.nr_reduce.specs.Client.{ClientState, plan_for}
+use Rattle.nr_reduce.specs.EndRules.{EndState}
+use Rattle.nr_reduce.specs.ClientState.{ClientState, plan_for}
 use Rattle.nr_reduce.specs.Run.{client, output_due, placed_bytes, HasWritten}
-use Rattle.nr_reduce.specs.Credits.{next_xid}
+use Rattle.nr_reduce.specs.SubmitAnswer.{next_xid}
 use Rattle.nr_reduce.specs.Matched.{IsPrefixOf}
 use Rattle.nr_reduce.specs.AtEachMark.{AtEachMark}
 

@@ -1,156 +1,29 @@
--- The client of a link: what it knows by what came to it and what it was given, what ends it, and what it writes for each.
-use Rattle.std.specs.Prelude.{◌≡◌, ℕ, ◌+◌, Bool, true, false, not, ◌&&◌, ◌||◌, ◌==◌, nat_lt, nat_le, if◌then◌else◌, List, [], ◌∷◌, ◌++◌, length, take, drop, map, Option, None, Some, option_map, Result, Ok, Err}
-use Rattle.std.specs.List.{flat_map, filter, find, list_any}
-use Rattle.nr_header.specs.declared.fault.HeaderFault.{HeaderFault}
-use Rattle.nr_header.specs.declared.fault.HeaderFault.TheVariants as faults
-use Rattle.nr_header.specs.declared.header.ChunkLists.{ChunkLists}
-use Rattle.nr_header.specs.declared.header.Body.{Body}
-use Rattle.nr_header.specs.declared.header.Body.TheVariants.{Msg, Nomsg, ErrVers, ErrChunk}
-use Rattle.nr_header.specs.declared.header.Header.{Header}
-use Rattle.nr_header.specs.Reading.{header_of, word_at}
-use Rattle.nr_rpc.specs.declared.head.CallHead.TheVariants.{Version2}
-use Rattle.nr_rpc.specs.declared.head.ReplyHead.{ReplyHead}
-use Rattle.nr_rpc.specs.declared.head.ReplyHead.TheVariants as replies
-use Rattle.nr_rpc.specs.Call.{call_spelling}
-use Rattle.nr_rpc.specs.Reading.{reply_of}
-use Rattle.nr_regions.specs.Access.{Grant, Reach}
-use Rattle.nr_wire.specs.declared.hello.Side.TheVariants.{Initiator, Responder}
-use Rattle.nr_wire.specs.Hello.{Hello, hello_of}
+-- The client of a link, event by event: what ends it, what it writes for an event, and what it knows after it.
+use Rattle.std.specs.Prelude.{ℕ, ◌+◌, Bool, true, false, not, ◌||◌, ◌==◌, nat_lt, if◌then◌else◌, List, [], ◌∷◌, ◌++◌, take, drop, map, Option, None, Some, Result, Ok, Err}
+use Rattle.std.specs.List.{filter}
+use Rattle.nr_header.specs.Reading.{word_at}
+use Rattle.nr_wire.specs.declared.hello.Side.TheVariants.{Responder}
+use Rattle.nr_wire.specs.Hello.{hello_of}
 use Rattle.nr_wire.specs.Segment.{Segment}
-use Rattle.nr_reduce.specs.declared.call.Call.{Call}
 use Rattle.nr_link.specs.declared.end.End.{End}
 use Rattle.nr_link.specs.declared.end.End.TheVariants as ends
-use Rattle.nr_reduce.specs.declared.call.Form.{Form}
-use Rattle.nr_reduce.specs.declared.call.Outcome.{Outcome}
-use Rattle.nr_reduce.specs.declared.call.Outcome.TheVariants as outcomes
 use Rattle.nr_reduce.specs.declared.mark.Opened.{Opened}
-use Rattle.nr_reduce.specs.Limits.{most_credits, send_max}
-use Rattle.nr_link.specs.Reasons.{REASON_SHORT, REASON_KIND, REASON_HEAD, REASON_XID, REASON_CALL, REASON_CHUNKS, REASON_VERSION}
+use Rattle.nr_reduce.specs.Limits.{most_credits}
 use Rattle.nr_reduce.specs.History.{AcceptedCall, CompletedCall}
-use Rattle.nr_reduce.specs.Plans.{Plan, TooLarge, Buffer, plan_of, regions_needed, buffers, lists_of, call_message, inline_plan}
-use Rattle.nr_reduce.specs.Chunks.{answers_offer, reply_conveyed}
-use Rattle.nr_link.specs.Output.{send, read_response, own_hello}
+use Rattle.nr_reduce.specs.Plans.{Plan, TooLarge, Buffer, regions_needed, buffers, call_message, inline_plan}
+use Rattle.nr_link.specs.Output.{send, read_response}
 use Rattle.nr_link.specs.Frames.{Frame, is_hello}
-use Rattle.nr_link.specs.Receive.{ReceiveState, nothing_received, received_after, message_completed, ReadRequest, read_request_of, Readiness}
+use Rattle.nr_link.specs.ReceiveState.{received_after, message_completed, ReadRequest, read_request_of}
+use Rattle.nr_link.specs.SegmentFaults.{Readiness}
 use Rattle.nr_link.specs.Ending.{reach_of, frame_segment, frame_end, hello_end, final_output}
 use Rattle.nr_regions.specs.declared.denied.Denied.{Denied}
-use Rattle.nr_reduce.specs.OfferedRegions.{Region, region_grants, regions_closed, region_bytes}
-use Rattle.nr_reduce.specs.Events.{Event, Rules, EndState}
+use Rattle.nr_reduce.specs.OfferedRegions.{Region, region_grants, regions_closed}
+use Rattle.nr_reduce.specs.Events.{Event}
+use Rattle.nr_reduce.specs.EndRules.{Rules, EndState}
 use Rattle.nr_reduce.specs.Events.Event.{FrameReceived, CallSubmitted, MemoryRevoked, CallExecuted, QueueWritten}
-
--- A call that is out: accepted, with no message of its xid whole yet. It has the plan by which it goes, its first STag, and
--- whether its Send is written and its memory was taken back.
-pub record OutstandingCall : Type 0 where
-  pub xid : ℕ
-  pub call : Call
-  pub plan : Plan
-  pub stag : ℕ
-  pub is_written : Bool
-  pub is_revoked : Bool
-
--- What a client knows: the untagged messages of the server so far; whether the server's hello came; how many calls it
--- accepted, and the STag that it gives next; the calls that are out, in order; the regions that it offered so far, and the
--- server's accesses to them; how many of its responses aren't written; the outcomes that came, in order; what the last message
--- grants.
-pub record ClientState : Type 0 where
-  pub received : ReceiveState
-  pub has_hello : Bool
-  pub calls_accepted : ℕ
-  pub stag : ℕ
-  pub outstanding : List OutstandingCall
-  pub regions : List Region
-  pub reaches : List Reach
-  pub responses : ℕ
-  pub outcomes : List CompletedCall
-  pub grant : ℕ
-
-abbrev pub initial_state : Opened → ClientState
-initial_state opened = record {
-  received = nothing_received;
-  has_hello = false;
-  calls_accepted = 0;
-  stag = opened.first_stag;
-  outstanding = [];
-  regions = [];
-  reaches = [];
-  responses = 0;
-  outcomes = [];
-  grant = 1;
-}
-
--- the bytes that a Send has at most, from the client and to it, by what both hellos agree
-abbrev pub up_max : ClientState → ℕ
-up_max k = send_max
-
-abbrev pub down_max : ClientState → ℕ
-down_max k = send_max
-
--- a call's payload under an xid (RFC 5531 section 9)
-unfoldable pub call_payload : ℕ → Call → List ℕ
-call_payload xid call = call_spelling (Version2 xid call.prog call.vers call.proc call.cred 0) call.args
-
--- how a call would go now, under an xid
-unfoldable pub plan_for : ClientState → ℕ → Call → Form → Result Plan TooLarge
-plan_for k xid call form = plan_of (call_payload xid call) form (up_max k) (down_max k)
-
--- ---- Messages of the server
-
--- What the client makes of a message: a reason to end, or the outcome of an xid's call; none where its memory was taken back.
-pub data Verdict : Type 0 where
-  Refuses : (reason : ℕ) → Verdict
-  Gives : (xid : ℕ) → (outcome : Option Outcome) → Verdict
-
--- what its regions hold at a place
-abbrev pub memory_at : ClientState → ℕ → ℕ → List ℕ
-memory_at k place stag = region_bytes (region_grants place k.regions) k.regions k.reaches stag
-
-abbrev pub reply_xid : ReplyHead → ℕ
-reply_xid (replies.Accepted xid stat results_at) = xid
-reply_xid (replies.ProgMismatch xid low high) = xid
-reply_xid (replies.RpcMismatch xid low high) = xid
-reply_xid (replies.AuthError xid stat) = xid
-
--- the reply that a message conveys is one, and under its header's xid
-abbrev pub by_head : ℕ → List ℕ → Result ReplyHead ℕ → Verdict
-by_head xid payload (Ok head) = if reply_xid head == xid then Gives xid (Some (outcomes.Reply payload)) else Refuses REASON_XID
-by_head xid payload (Err at) = Refuses REASON_HEAD
-
-abbrev pub by_payload : ℕ → Option (List ℕ) → Verdict
-by_payload xid None = Refuses REASON_CHUNKS
-by_payload xid (Some payload) = by_head xid payload (reply_of payload)
-
--- of a call whose memory was taken back the lists alone are judged
-abbrev pub by_lists : ClientState → ℕ → OutstandingCall → Option (List ℕ) → ChunkLists → Bool → Verdict
-by_lists k place o inline lists false = Refuses REASON_CHUNKS
-by_lists k place o inline lists true =
-    if o.is_revoked then Gives o.xid None
-    else by_payload o.xid (reply_conveyed o.call.prog o.call.vers o.call.proc inline lists (memory_at k place))
-
-abbrev pub by_body : ClientState → ℕ → OutstandingCall → List ℕ → Body → Verdict
-by_body k place o message (Msg lists stream_at) =
-    by_lists k place o (Some (drop stream_at message)) lists (answers_offer false (lists_of o.stag o.plan) lists)
-by_body k place o message (Nomsg lists) = by_lists k place o None lists (answers_offer true (lists_of o.stag o.plan) lists)
-by_body k place o message (ErrVers version low high) = Gives o.xid (Some (outcomes.Version low high))
-by_body k place o message (ErrChunk version) = Gives o.xid (Some outcomes.Chunk)
-
-abbrev pub by_call : ClientState → ℕ → List ℕ → Body → Option OutstandingCall → Verdict
-by_call k place message body None = Refuses REASON_CALL
-by_call k place message body (Some o) = by_body k place o message body
-
--- the call that a message may answer: it is out, and its Send is written
-abbrev pub answered_call : ClientState → ℕ → Option OutstandingCall
-answered_call k xid = find (λ o. o.xid == xid && o.is_written) k.outstanding
-
-abbrev pub by_header : ClientState → ℕ → List ℕ → Result Header HeaderFault → Verdict
-by_header k place message (Ok header) = by_call k place message header.body (answered_call k header.xid)
-by_header k place message (Err faults.Short) = Refuses REASON_SHORT
-by_header k place message (Err (faults.Version version)) = Refuses REASON_VERSION
-by_header k place message (Err (faults.Kind kind)) = Refuses REASON_KIND
-by_header k place message (Err (faults.BadChunks at)) = Refuses REASON_KIND
-
--- a message that becomes whole at a place of the stream
-unfoldable pub verdict : ClientState → ℕ → List ℕ → Verdict
-verdict k place message = by_header k place message (header_of message)
+use Rattle.nr_reduce.specs.ClientState.{OutstandingCall, ClientState, initial_state, down_max, call_payload, plan_for, memory_at}
+use Rattle.nr_reduce.specs.ClientMessages.{Verdict, verdict}
+use Rattle.nr_reduce.specs.ClientMessages.Verdict.{Refuses, Gives}
 
 -- ---- What ends the client
 

@@ -1,5 +1,5 @@
--- What the marks of a run tell: what each side of a link sent and got, which calls were accepted, executed and
--- completed on it, in order, and the one journal of all links.
+-- What the marks of a run tell of one link: the bytes that a side sent and received, and the calls that were accepted, executed
+-- and completed, in order.
 use Rattle.std.specs.Prelude.{ℕ, Bool, true, false, ◌==◌, ◌&&◌, if◌then◌else◌, List, [], ◌∷◌}
 use Rattle.std.specs.List.{flat_map, list_any, range_with_len}
 use Rattle.nr_wire.specs.declared.hello.Side.{Side}
@@ -11,7 +11,6 @@ use Rattle.nr_reduce.specs.declared.call.Submission.{Submission}
 use Rattle.nr_reduce.specs.declared.call.Submission.TheVariants as submissions
 use Rattle.nr_reduce.specs.declared.mark.Moment.{Moment}
 use Rattle.nr_reduce.specs.declared.mark.Mark.{Mark}
-use Rattle.nr_reduce.specs.declared.mark.Entry.{Entry}
 use Rattle.nr_reduce.specs.declared.mark.Mark.TheVariants as marks
 
 -- the links of so many clients, by number
@@ -107,17 +106,3 @@ abandons link xid mark = false
 
 abbrev pub is_abandoned : ℕ → ℕ → List Mark → Bool
 is_abandoned link xid run = list_any (abandons link xid) run
-
--- A plain RPC server, one call after another: which reply it may give to a payload at a moment, over a journal, and what
--- the journal gets by that.
-pub record PlainServer : Type 1 where
-  pub Replies : List Entry → Moment → List ℕ → List ℕ → Type 0
-  pub adds : Moment → List ℕ → List ℕ → List Entry
-
--- the entries that a mark adds, whatever its link, and those of all marks in order
-abbrev pub entries_added : PlainServer → Mark → List Entry
-entries_added plain (marks.Execute l xid moment payload place reply) = plain.adds moment payload reply
-entries_added plain mark = []
-
-unfoldable pub journal : PlainServer → List Mark → List Entry
-journal plain run = flat_map (entries_added plain) run

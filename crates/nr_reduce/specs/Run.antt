@@ -10,9 +10,12 @@ use Rattle.nr_reduce.specs.declared.mark.Opened.{Opened}
 use Rattle.nr_reduce.specs.History.{bytes_sent, bytes_received}
 use Rattle.nr_link.specs.Output.{own_hello}
 use Rattle.nr_reduce.specs.OfferedRegions.{region_grants, region_bytes}
-use Rattle.nr_reduce.specs.Events.{EndState, events, end_state_after, output_for_all}
-use Rattle.nr_reduce.specs.Client.{ClientState, client_rules, initial_client}
-use Rattle.nr_reduce.specs.Server.{ServerState, server_rules, initial_server}
+use Rattle.nr_reduce.specs.Events.{events}
+use Rattle.nr_reduce.specs.EndRules.{EndState, end_state_after, output_for_all}
+use Rattle.nr_reduce.specs.ClientState.{ClientState}
+use Rattle.nr_reduce.specs.Client.{client_rules, initial_client}
+use Rattle.nr_reduce.specs.ServerState.{ServerState}
+use Rattle.nr_reduce.specs.Server.{server_rules, initial_server}
 
 -- how far both ends are
 unfoldable pub client : Opened → ℕ → List Mark → EndState ClientState

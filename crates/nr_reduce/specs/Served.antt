@@ -7,8 +7,8 @@ use Rattle.nr_reduce.specs.declared.mark.Mark.{Mark}
 use Rattle.nr_reduce.specs.declared.mark.Mark.TheVariants as marks
 use Rattle.nr_reduce.specs.declared.mark.Opened.{Opened}
 use Rattle.nr_reduce.specs.History.{bytes_sent}
-use Rattle.nr_reduce.specs.Events.{EndState}
-use Rattle.nr_reduce.specs.Server.{ServerState, ReadyCall}
+use Rattle.nr_reduce.specs.EndRules.{EndState}
+use Rattle.nr_reduce.specs.ServerState.{ServerState, ReadyCall}
 use Rattle.nr_reduce.specs.Run.{server, output_due, HasWritten}
 use Rattle.nr_reduce.specs.Matched.{IsPrefixOf}
 use Rattle.nr_reduce.specs.Asked.{IsAll}

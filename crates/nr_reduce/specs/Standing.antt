@@ -13,9 +13,10 @@ use Rattle.nr_reduce.specs.declared.mark.Mark.{Mark}
 use Rattle.nr_reduce.specs.declared.mark.Opened.{Opened}
 use Rattle.nr_reduce.specs.History.{bytes_sent, bytes_received}
 use Rattle.nr_link.specs.Frames.{Frame, frames_from}
-use Rattle.nr_reduce.specs.Events.{Event, EndState}
+use Rattle.nr_reduce.specs.Events.{Event}
+use Rattle.nr_reduce.specs.EndRules.{EndState}
 use Rattle.nr_reduce.specs.Events.Event.{FrameReceived}
-use Rattle.nr_reduce.specs.Client.{ClientState}
+use Rattle.nr_reduce.specs.ClientState.{ClientState}
 use Rattle.nr_reduce.specs.Run.{client, output_due}
 use Rattle.nr_reduce.specs.Asked.{IsAll, AskedMark}
 use Rattle.nr_reduce.specs.AtEachMark.{AtEachMark}

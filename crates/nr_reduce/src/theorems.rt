@@ -17,7 +17,8 @@ ghost use Rattle.nr_reduce.specs.declared.mark.Mark.TheVariants as marks;
 ghost use Rattle.nr_reduce.specs.declared.mark.Opened.{Opened};
 ghost use Rattle.nr_header.specs.declared.header.ReadSegment.{ReadSegment};
 ghost use Rattle.nr_reduce.specs.History.{CompletedCall, completed_calls};
-ghost use Rattle.nr_reduce.specs.Server.{ServerState, ReadyCall, verdict, by_need, is_pending};
+ghost use Rattle.nr_reduce.specs.ServerState.{ServerState, ReadyCall, is_pending};
+ghost use Rattle.nr_reduce.specs.ServerMessages.{verdict, by_need};
 ghost use Rattle.nr_reduce.specs.Served.{ServedSoFar, next_call};
 ghost use Rattle.nr_reduce.specs.Asked.{AskedSoFar};
 

@@ -1,75 +1,14 @@
--- What a link asks of each segment of a side, whichever end gets it (RFC 5041 sections 4 to 7; RFC 5040 sections 5 and 7): by the
--- segments before it, and by what the end has ready for it. Memory is no part of this: what an access lacks is handed in.
-use Rattle.std.specs.Prelude.{ℕ, ◌+◌, ◌%◌, ◌^◌, Bool, true, false, not, ◌&&◌, ◌||◌, ◌==◌, nat_lt, nat_le, if◌then◌else◌, List, [], ◌∷◌, ◌++◌, length, Option, None, Some}
-use Rattle.nr_wire.specs.Constants.{OPCODE_READ_REQUEST, OPCODE_READ_RESPONSE, OPCODE_SEND, OPCODE_TERMINATE, QUEUE_SEND, QUEUE_READ_REQUEST}
-use Rattle.nr_wire.specs.Numbers.{word_at, hyper_at}
+-- Why a segment ends the link, whichever end receives it (RFC 5041 sections 4 to 7; RFC 5040 sections 5 and 7): by the segments
+-- before it, and by what the end has ready for it. What its access to memory lacks is handed in.
+use Rattle.std.specs.Prelude.{ℕ, ◌+◌, ◌^◌, Bool, true, false, not, ◌&&◌, ◌||◌, ◌==◌, nat_lt, nat_le, if◌then◌else◌, List, [], ◌∷◌, length, Option, None, Some}
+use Rattle.nr_wire.specs.Constants.{OPCODE_READ_REQUEST, OPCODE_READ_RESPONSE, OPCODE_TERMINATE, QUEUE_SEND, QUEUE_READ_REQUEST}
+use Rattle.nr_wire.specs.Numbers.{word_at}
 use Rattle.nr_wire.specs.Segment.{Segment}
 use Rattle.nr_wire.specs.Segment.Segment.{Tagged, Untagged}
 use Rattle.nr_link.specs.Limits.{open_reads_max}
 use Rattle.nr_link.specs.Reasons.{REASON_MSN, REASON_OFFSET, REASON_FORM, REASON_RESPONSE, REASON_REQUESTS, REASON_SHORT, REASON_LONG}
 use Rattle.nr_link.specs.Output.{msn_word}
-
--- ---- The untagged messages of a side so far
-
--- How many of its Sends are whole, the bytes of the one that is begun, if one is, and how many Read Requests came.
-pub record ReceiveState : Type 0 where
-  pub sends : ℕ
-  pub begun : Option (List ℕ)
-  pub requests : ℕ
-
-abbrev pub nothing_received : ReceiveState
-nothing_received = record { sends = 0; begun = None; requests = 0 }
-
--- the opcodes of messages
-abbrev pub is_send : ℕ → Bool
-is_send opcode = opcode == OPCODE_SEND
-
--- the bytes of the message so far
-abbrev pub begun_bytes : Option (List ℕ) → List ℕ
-begun_bytes None = []
-begun_bytes (Some bytes) = bytes
-
--- one more segment of a Send, one more Read Request
-abbrev pub send_continued : ReceiveState → Bool → List ℕ → ReceiveState
-send_continued h true payload = record { sends = h.sends + 1; begun = None; requests = h.requests }
-send_continued h false payload = record { sends = h.sends; begun = Some (begun_bytes h.begun ++ payload); requests = h.requests }
-
-abbrev pub received_after : ReceiveState → Segment → ReceiveState
-received_after h (Tagged last opcode stag to payload) = h
-received_after h (Untagged last opcode w queue msn offset payload) =
-    if is_send opcode then send_continued h last payload
-    else (if opcode == OPCODE_READ_REQUEST then record { sends = h.sends; begun = h.begun; requests = h.requests + 1 }
-    else h)
-
--- the message that a segment makes whole
-abbrev pub message_completed : ReceiveState → Segment → Option (List ℕ)
-message_completed h (Tagged last opcode stag to payload) = None
-message_completed h (Untagged last opcode w queue msn offset payload) =
-    if is_send opcode && last then Some (begun_bytes h.begun ++ payload) else None
-
--- ---- Accesses
-
--- a Read Request's fields (RFC 5040 section 4.4)
-pub record ReadRequest : Type 0 where
-  pub sink : ℕ
-  pub sink_to : ℕ
-  pub size : ℕ
-  pub stag : ℕ
-  pub to : ℕ
-
-abbrev pub read_request_in : List ℕ → ReadRequest
-read_request_in payload = record {
-  sink = word_at 0 payload;
-  sink_to = hyper_at 4 payload;
-  size = word_at 12 payload;
-  stag = word_at 16 payload;
-  to = hyper_at 20 payload;
-}
-
-abbrev pub read_request_of : Segment → Option ReadRequest
-read_request_of (Tagged last opcode stag to payload) = None
-read_request_of (Untagged last opcode w queue msn offset payload) =
-    if opcode == OPCODE_READ_REQUEST then Some (read_request_in payload) else None
+use Rattle.nr_link.specs.ReceiveState.{ReceiveState, is_send, begun_bytes, message_completed, read_request_in}
 
 -- ---- What an end has ready for a frame
 

@@ -1,0 +1,113 @@
+-- What comes of one frame at a server, before an end is thought of: calls that wait, reads, error messages.
+use Rattle.std.specs.Prelude.{ℕ, ◌+◌, ◌-◌, Bool, not, ◌&&◌, ◌==◌, if◌then◌else◌, List, [], ◌∷◌, ◌++◌, length, take, drop, Option, None, Some, Result, Ok, Err}
+use Rattle.std.specs.List.{filter, find}
+use Rattle.nr_header.specs.Reading.{word_at}
+use Rattle.nr_wire.specs.Constants.{OPCODE_READ_RESPONSE}
+use Rattle.nr_wire.specs.Segment.{Segment}
+use Rattle.nr_wire.specs.Segment.Segment.{Tagged, Untagged}
+use Rattle.nr_reduce.specs.Chunks.{suits}
+use Rattle.nr_reduce.specs.Holds.{chunk_error, version_error}
+use Rattle.nr_link.specs.Frames.{Frame}
+use Rattle.nr_link.specs.ReceiveState.{message_completed}
+use Rattle.nr_link.specs.Ending.{reach_of, frame_segment}
+use Rattle.nr_reduce.specs.OfferedRegions.{Region}
+use Rattle.nr_reduce.specs.ServerState.{PendingCall, PendingRead, ReadyCall, ServerState, credit_word}
+use Rattle.nr_reduce.specs.ServerReads.{open_reads, regions_of, reads_of, is_read, is_read_at}
+use Rattle.nr_reduce.specs.ServerMessages.{chunk_bytes, payload_of, CallVerdict, by_payload, Verdict, verdict}
+use Rattle.nr_reduce.specs.ServerMessages.CallVerdict.{Refuses, IsReady}
+use Rattle.nr_reduce.specs.ServerMessages.Verdict.{Stops, OtherVersion, BadChunks, Opens}
+
+-- ---- What a frame makes: before it an end is thought of
+
+-- What comes of a frame: the calls, reads and regions behind it, what it makes ready, the error messages that it calls for,
+-- how many of the requests that were open are still, and a reason to end that is met on the way.
+pub record FrameEffect : Type 0 where
+  pub calls : List PendingCall
+  pub reads : List PendingRead
+  pub regions : List Region
+  pub ready : List ReadyCall
+  pub errors : List (List ℕ)
+  pub kept : ℕ
+  pub refusal : Option ℕ
+
+abbrev pub no_effect : ServerState → FrameEffect
+no_effect k = record {
+  calls = k.calls;
+  reads = k.reads;
+  regions = k.regions;
+  ready = [];
+  errors = [];
+  kept = length (open_reads k);
+  refusal = None;
+}
+
+abbrev pub made_ready : CallVerdict → FrameEffect → FrameEffect
+made_ready (Refuses reason) s = record s { refusal = Some reason }
+made_ready (IsReady r) s = record s { ready = r ∷ [] }
+
+-- a call is whole once nothing is left to be read for it
+abbrev pub if_whole : ServerState → ℕ → PendingCall → FrameEffect → FrameEffect
+if_whole k place c s = if is_read s.reads c.number then made_ready (by_payload c (payload_of k place c)) s else s
+
+-- a message
+abbrev pub opened_with : ServerState → ℕ → PendingCall → FrameEffect → FrameEffect
+opened_with k place c s =
+    let regions : List Region = k.regions ++ regions_of k place c in
+    if_whole k place c (record s { calls = k.calls ++ c ∷ []; reads = k.reads ++ reads_of regions c; regions = regions })
+
+abbrev pub message_effect : ServerState → ℕ → List ℕ → Verdict → FrameEffect
+message_effect k place message (Stops reason) = record (no_effect k) { refusal = Some reason }
+message_effect k place message OtherVersion =
+    record (no_effect k) { errors = version_error (word_at 0 message) (word_at 4 message) (credit_word k) ∷ [] }
+message_effect k place message BadChunks = record (no_effect k) { errors = chunk_error (word_at 0 message) (credit_word k) ∷ [] }
+message_effect k place message (Opens c) = opened_with k place c (no_effect k)
+
+-- A call is refused whose stream is read and has no item at its chunk: its requests that wait are dropped.
+abbrev pub refused_with : ServerState → PendingCall → FrameEffect → FrameEffect
+refused_with k c s = record s {
+  calls = filter (λ other. not (other.number == c.number)) s.calls;
+  reads = take s.kept s.reads ++ filter (λ r. not (r.number == c.number)) (drop s.kept s.reads);
+  errors = chunk_error c.xid (credit_word k) ∷ [];
+}
+
+-- the last byte of a request's answer came
+abbrev pub is_stream_read : PendingCall → PendingRead → List PendingRead → Bool
+is_stream_read c r reads = r.position == 0 && is_read_at reads c.number 0
+
+abbrev pub read_effect : ServerState → ℕ → PendingRead → Option PendingCall → FrameEffect → FrameEffect
+read_effect k place r None s = s
+read_effect k place r (Some c) s =
+    if is_stream_read c r s.reads && not (suits (chunk_bytes k place c 0) c.lists.read) then refused_with k c s
+    else if_whole k place c s
+
+abbrev pub call_of_number : ServerState → ℕ → Option PendingCall
+call_of_number k number = find (λ c. c.number == number) k.calls
+
+abbrev pub response_effect : ServerState → ℕ → List PendingRead → FrameEffect
+response_effect k place [] = no_effect k
+response_effect k place (r ∷ reads) =
+    read_effect k place r (call_of_number k r.number) (record (no_effect k) { reads = reads; kept = length (open_reads k) - 1 })
+
+-- the last segment of a Read Response ends the request that is expected
+abbrev pub tagged_effect : ServerState → ℕ → ℕ → Bool → FrameEffect
+tagged_effect k place opcode last = if opcode == OPCODE_READ_RESPONSE && last then response_effect k place k.reads else no_effect k
+
+abbrev pub by_message : ServerState → ℕ → Option (List ℕ) → FrameEffect
+by_message k place None = no_effect k
+by_message k place (Some message) = message_effect k place message (verdict k message)
+
+-- what was placed by a frame counts for it
+abbrev pub with_reach : ServerState → Frame → Segment → ServerState
+with_reach k f segment = record k { reaches = k.reaches ++ reach_of f segment }
+
+abbrev pub effect_by : ServerState → Frame → Segment → FrameEffect
+effect_by k f (Tagged last opcode stag to payload) = tagged_effect (with_reach k f (Tagged last opcode stag to payload)) f.end opcode last
+effect_by k f (Untagged last opcode w queue msn offset payload) =
+    by_message k f.end (message_completed k.received (Untagged last opcode w queue msn offset payload))
+
+abbrev pub effect_in : ServerState → Frame → Result Segment ℕ → FrameEffect
+effect_in k f (Ok segment) = effect_by k f segment
+effect_in k f (Err reason) = no_effect k
+
+unfoldable pub frame_effect : ServerState → Frame → FrameEffect
+frame_effect k f = effect_in k f (frame_segment f)
