@@ -8,7 +8,7 @@ use Rattle.nr_regions.specs.declared.right.Kind.{Kind}
 use Rattle.nr_regions.specs.declared.right.Kind.TheVariants.{Write, Response}
 use Rattle.nr_regions.specs.declared.right.Right.TheVariants.{Fetch}
 use Rattle.nr_regions.specs.declared.denied.Denied.{Denied}
-use Rattle.nr_regions.specs.Memory.{Access, right_for}
+use Rattle.nr_regions.specs.RegisteredMemory.{Access, right_for}
 use Rattle.nr_regions.specs.Access.{Grant, Reach, lacking}
 use Rattle.nr_link.specs.declared.end.End.{End}
 use Rattle.nr_link.specs.declared.end.End.TheVariants as ends

@@ -5,8 +5,8 @@ use Rattle.nr_xdr.specs.Item.{word, hyper}
 use Rattle.nr_wire.specs.Constants.{OPCODE_WRITE, OPCODE_READ_REQUEST, OPCODE_READ_RESPONSE, OPCODE_SEND, OPCODE_TERMINATE, QUEUE_SEND, QUEUE_READ_REQUEST, QUEUE_TERMINATE, FLAG_REJECT}
 use Rattle.nr_wire.specs.declared.hello.Side.{Side}
 use Rattle.nr_wire.specs.declared.hello.Side.TheVariants.{Responder}
-use Rattle.nr_wire.specs.Hello.{hello_spelling}
-use Rattle.nr_wire.specs.Segment.{Segment, spelling}
+use Rattle.nr_wire.specs.Hello.{hello_encoding}
+use Rattle.nr_wire.specs.Segment.{Segment, encoding}
 use Rattle.nr_wire.specs.Segment.Segment.{Tagged, Untagged}
 use Rattle.nr_link.specs.Limits.{segment_max}
 
@@ -19,7 +19,7 @@ segment_payload bytes i = take segment_max (drop (segment_max * i) bytes)
 
 -- the bytes cut into segments, the last of which is marked; a segment is made of that mark, of an offset and of a payload
 unfoldable pub cut : (Bool → ℕ → List ℕ → Segment) → List ℕ → List ℕ
-cut segment bytes = flat_map (λ i. spelling (segment (i + 1 == segment_count bytes) (segment_max * i) (segment_payload bytes i))) (range_with_len 0 (segment_count bytes))
+cut segment bytes = flat_map (λ i. encoding (segment (i + 1 == segment_count bytes) (segment_max * i) (segment_payload bytes i))) (range_with_len 0 (segment_count bytes))
 
 -- message numbers go round at 2 ^ 32 (RFC 5041 section 4.3)
 abbrev pub msn_word : ℕ → ℕ
@@ -39,17 +39,17 @@ read_response stag to bytes = cut (λ last offset payload. Tagged last OPCODE_RE
 -- the msn-th Read Request of a side: so many bytes, from the peer's region into its own
 unfoldable pub read_request : (msn sink sink_to size stag to : ℕ) → List ℕ
 read_request msn sink sink_to size stag to =
-    spelling (Untagged true OPCODE_READ_REQUEST 0 QUEUE_READ_REQUEST (msn_word msn) 0
+    encoding (Untagged true OPCODE_READ_REQUEST 0 QUEUE_READ_REQUEST (msn_word msn) 0
     (word sink ++ (hyper sink_to ++ (word size ++ (word stag ++ hyper to)))))
 
 -- the one Terminate of a side, with its word
 unfoldable pub terminate_message : ℕ → List ℕ
-terminate_message n = spelling (Untagged true OPCODE_TERMINATE 0 QUEUE_TERMINATE 1 0 (word n))
+terminate_message n = encoding (Untagged true OPCODE_TERMINATE 0 QUEUE_TERMINATE 1 0 (word n))
 
 -- a side's hello on a link of this profile: no flags, no private data
 unfoldable pub own_hello : Side → List ℕ
-own_hello side = hello_spelling (record { side = side; flags = 0; private = [] })
+own_hello side = hello_encoding (record { side = side; flags = 0; private = [] })
 
 -- the hello of a server that takes none of the link: the connection is refused
 unfoldable pub refusing_hello : List ℕ
-refusing_hello = hello_spelling (record { side = Responder; flags = FLAG_REJECT; private = [] })
+refusing_hello = hello_encoding (record { side = Responder; flags = FLAG_REJECT; private = [] })

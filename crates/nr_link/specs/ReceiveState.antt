@@ -1,7 +1,7 @@
 -- The untagged messages of a peer so far, and the Read Request that a segment carries (RFC 5041 section 4; RFC 5040 section 4.4).
 use Rattle.std.specs.Prelude.{ℕ, ◌+◌, Bool, true, false, ◌&&◌, ◌==◌, if◌then◌else◌, List, [], ◌++◌, Option, None, Some}
 use Rattle.nr_wire.specs.Constants.{OPCODE_READ_REQUEST, OPCODE_SEND}
-use Rattle.nr_wire.specs.Numbers.{word_at, hyper_at}
+use Rattle.nr_wire.specs.Fields.{word_at, hyper_at}
 use Rattle.nr_wire.specs.Segment.{Segment}
 use Rattle.nr_wire.specs.Segment.Segment.{Tagged, Untagged}
 

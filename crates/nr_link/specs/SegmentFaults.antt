@@ -2,7 +2,7 @@
 -- before it, and by what the end has ready for it. What its access to memory lacks is handed in.
 use Rattle.std.specs.Prelude.{ℕ, ◌+◌, ◌^◌, Bool, true, false, not, ◌&&◌, ◌||◌, ◌==◌, nat_lt, nat_le, if◌then◌else◌, List, [], ◌∷◌, length, Option, None, Some}
 use Rattle.nr_wire.specs.Constants.{OPCODE_READ_REQUEST, OPCODE_READ_RESPONSE, OPCODE_TERMINATE, QUEUE_SEND, QUEUE_READ_REQUEST}
-use Rattle.nr_wire.specs.Numbers.{word_at}
+use Rattle.nr_wire.specs.Fields.{word_at}
 use Rattle.nr_wire.specs.Segment.{Segment}
 use Rattle.nr_wire.specs.Segment.Segment.{Tagged, Untagged}
 use Rattle.nr_link.specs.Limits.{open_reads_max}

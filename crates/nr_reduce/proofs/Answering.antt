@@ -5,12 +5,12 @@ use Rattle.std.proofs.lemmas.List.{take_at, take_all, drop_at, length-take-le}
 use Rattle.std.specs.List.{flat_map, list_all}
 use Rattle.std.proofs.lemmas.Grind.{flat_map-append}
 use Rattle.nr_xdr.specs.Item.{IsBytes, pad_len}
-use Rattle.nr_xdr.proofs.Steps.{chosen}
-use Rattle.nr_header.specs.declared.header.Segment.{Segment}
+use Rattle.nr_xdr.proofs.SequencingSteps.{chosen}
+use Rattle.nr_header.specs.declared.header.RdmaSegment.{RdmaSegment}
 use Rattle.nr_header.specs.declared.header.ReadSegment.{ReadSegment}
 use Rattle.nr_header.specs.declared.header.ChunkLists.{ChunkLists}
-use Rattle.nr_regions.specs.Memory.{written}
-use Rattle.nr_wire.specs.Segment.{Segment as WireSegment, spelling}
+use Rattle.nr_regions.specs.RegisteredMemory.{written}
+use Rattle.nr_wire.specs.Segment.{Segment as WireSegment, encoding}
 use Rattle.nr_reduce.specs.Undone.{laid, chunk_segments, answer_segments, lengths, offering, Backs, after}
 use Rattle.nr_reduce.specs.Items.{Item, Of, reducible_item, stream_of, moved_of}
 use Rattle.nr_reduce.specs.Items.Of.{Reply}
@@ -20,13 +20,13 @@ use Rattle.nr_reduce.specs.Holds.{Answer, Parts, parts_by, parts_in, answer_size
 use Rattle.nr_reduce.proofs.Undone.{Reducible, reducible, moved-length, rebuilt}
 use Rattle.nr_reduce.proofs.Laid.{laid-append, laid-chunk, laid-other, chunk_spells, joined-filled, chunk-added, added_up, sum-added}
 
-pub answer_spells : (offer : ChunkLists) (a : Answer) → answer_writes offer a ≡ flat_map spelling (answer_segments offer a)
+pub answer_spells : (offer : ChunkLists) (a : Answer) → answer_writes offer a ≡ flat_map encoding (answer_segments offer a)
 unfolding answer_writes
 answer_spells offer a =
     (λ k. chunk_spells (first_chunk offer.write) a.moved k ++ by_long a.long k)
-    ∙ sym (flat_map-append spelling (chunk_segments (first_chunk offer.write) a.moved) (cond a.long (chunk_segments (no_segments offer.reply) a.stream) []))
+    ∙ sym (flat_map-append encoding (chunk_segments (first_chunk offer.write) a.moved) (cond a.long (chunk_segments (no_segments offer.reply) a.stream) []))
   where
-    by_long : (b : Bool) → cond b (writes_into (no_segments offer.reply) a.stream) [] ≡ flat_map spelling (cond b (chunk_segments (no_segments offer.reply) a.stream) [])
+    by_long : (b : Bool) → cond b (writes_into (no_segments offer.reply) a.stream) [] ≡ flat_map encoding (cond b (chunk_segments (no_segments offer.reply) a.stream) [])
     by_long true = chunk_spells (no_segments offer.reply) a.stream
     by_long false = refl
 
@@ -224,13 +224,13 @@ conveyed read ws rs w r down prog vers proc reply a initial fits backs e =
 
 -- ---- The lists that come back are those that were offered
 
-filled-empty : (chunk : List Segment) (n : ℕ) → n ≡ 0 → are_empty (filled chunk n) ≡ true
+filled-empty : (chunk : List RdmaSegment) (n : ℕ) → n ≡ 0 → are_empty (filled chunk n) ≡ true
 filled-empty [] n e = refl
 filled-empty (s ∷ chunk) n e =
     let none : min s.length n ≡ 0 = omega (arith, e) in
     (λ k. eq-eqb (min s.length n) 0 none k && filled-empty chunk (n - min s.length n) (omega (arith, e)) k)
 
-filled-returns : (chunk : List Segment) (n : ℕ) → returns chunk (filled chunk n) ≡ true
+filled-returns : (chunk : List RdmaSegment) (n : ℕ) → returns chunk (filled chunk n) ≡ true
 filled-returns [] n = refl
 filled-returns (s ∷ chunk) n =
     let others = filled-returns chunk (n - min s.length n) in

@@ -6,15 +6,15 @@ use Rattle.std.proofs.lemmas.List.Elements.{All-nil, All-cons}
 use Rattle.std.specs.List.{flat_map}
 use Rattle.nr_xdr.specs.Item.{Item as XdrItem, IsBytes}
 use Rattle.nr_xdr.specs.Items.{FitEach}
-use Rattle.nr_header.specs.Numbers.{VERSION, MSG, NOMSG, PAYLOAD_MAX}
-use Rattle.nr_header.specs.declared.header.Segment.{Segment}
+use Rattle.nr_header.specs.Constants.{VERSION, MSG, NOMSG, PAYLOAD_MAX}
+use Rattle.nr_header.specs.declared.header.RdmaSegment.{RdmaSegment}
 use Rattle.nr_header.specs.declared.header.ReadSegment.{ReadSegment}
 use Rattle.nr_header.specs.declared.header.ChunkLists.{ChunkLists}
 use Rattle.nr_header.specs.declared.header.Body.{Body}
 use Rattle.nr_header.specs.declared.header.Body.TheVariants.{Msg, Nomsg, ErrVers, ErrChunk}
 use Rattle.nr_header.specs.declared.header.Header.{Header}
-use Rattle.nr_header.specs.Header.{read_items, write_items, reply_items, lists_items, fixed_items, header_spelling, HeaderFits}
-use Rattle.nr_header.specs.Limits.{SegmentsEnd, OnePosition, ListsWithin, CanRead, body_again, header_again, read_total, Ends}
+use Rattle.nr_header.specs.Header.{read_items, write_items, reply_items, lists_items, fixed_items, header_encoding, HeaderFits}
+use Rattle.nr_header.specs.WithinLimits.{SegmentsEnd, OnePosition, ListsWithin, CanRead, body_again, header_again, read_total, Ends}
 use Rattle.nr_header.specs.Reading.{header_of}
 use Rattle.nr_header.proofs.Messages.{header_written}
 use Rattle.nr_reduce.specs.Undone.{IsOwn, inline_by, lists_by, Brings, Asks}
@@ -128,7 +128,7 @@ lists_fit payload way w r stag fits is size small_w small_r room =
 pub all_one : {X : Type 0} (P : X → Type 0) (x : X) → P x → All P (x ∷ [])
 all_one P x p = All-cons P x [] p (All-nil P)
 
-record WriteWithin (chunks : List (List Segment)) : Type 0 where
+record WriteWithin (chunks : List (List RdmaSegment)) : Type 0 where
   count : length chunks ≤ 4
   each : All (λ chunk. length chunk ≤ 16) chunks
   segments : sum_by (λ chunk. length chunk) chunks ≤ 16
@@ -138,9 +138,9 @@ write_within : (w : Offering) (stag : ℕ) → IsSmall w → WriteWithin (write_
 write_within Nothing stag small = record { count = omega arith; each = All-nil _; segments = omega arith; ends = All-nil _ }
 write_within (One n) stag small = record {
   count = omega arith;
-  each = all_one (λ (chunk : List Segment). length chunk ≤ 16) _ (omega arith);
+  each = all_one (λ (chunk : List RdmaSegment). length chunk ≤ 16) _ (omega arith);
   segments = omega arith;
-  ends = all_one SegmentsEnd _ (all_one (λ (s : Segment). Ends s.offset s.length) _ (omega (arith, small)));
+  ends = all_one SegmentsEnd _ (all_one (λ (s : RdmaSegment). Ends s.offset s.length) _ (omega (arith, small)));
 }
 
 reply_segments : (r : Offering) (stag : ℕ) → IfSome (reply_chunk stag (offered r)) (λ chunk. length chunk ≤ 16)
@@ -149,7 +149,7 @@ reply_segments (One n) stag = omega arith
 
 reply_ends : (r : Offering) (stag : ℕ) → IsSmall r → IfSome (reply_chunk stag (offered r)) SegmentsEnd
 reply_ends Nothing stag small = tt
-reply_ends (One n) stag small = all_one (λ (s : Segment). Ends s.offset s.length) _ (omega (arith, small))
+reply_ends (One n) stag small = all_one (λ (s : RdmaSegment). Ends s.offset s.length) _ (omega (arith, small))
 
 record ReadWithin (read : List ReadSegment) (total : ℕ) : Type 0 where
   entries : length read ≤ 16
@@ -230,8 +230,8 @@ conveys-way payload Long stag head ls chunk w r fits is brings = ap Some brings
 pub reads-shape : (payload : List ℕ) (way : Way) (w r : Offering) (xid credit stag : ℕ) → IsBytes payload → IsWay payload way → length payload ≤ PAYLOAD_MAX → IsSmall w → IsSmall r → xid < 2 ^ 32 → credit < 2 ^ 32
     → stag + regions_needed (shape payload way (offered w) (offered r)) ≤ 2 ^ 32
     → (let h : Header = record { xid = xid; credit = credit; body = body_of way (lists payload way w r stag) } in
-    (call_message xid credit stag (shape payload way (offered w) (offered r)) ≡ header_spelling h ++ stream_in payload way)
-    × (header_of (header_spelling h ++ stream_in payload way) ≡ Ok (header_again h)))
+    (call_message xid credit stag (shape payload way (offered w) (offered r)) ≡ header_encoding h ++ stream_in payload way)
+    × (header_of (header_encoding h ++ stream_in payload way) ≡ Ok (header_again h)))
 unfolding call_message
 reads-shape payload way w r xid credit stag fits is size small_w small_r fits_x fits_c room =
     let p : Plan = shape payload way (offered w) (offered r) in
@@ -239,7 +239,7 @@ reads-shape payload way w r xid credit stag fits is size small_w small_r fits_x 
     let room2 : reply_from payload way w stag + one_if (has_segment (offered r)) ≤ 2 ^ 32 = (let n = needed-shape payload way w r in omega (arith, room, n)) in
     let body_same : body_by p.read_at (lists_of stag p) ≡ body_of way ls =
     ap (λ (l : ChunkLists). body_by p.read_at l) (lists-shape payload way w r stag) ∙ body-shape payload way w r ls fits is in (
-      (λ k. header_spelling (record { xid = xid; credit = credit; body = body_same k }) ++ inline-shape way k),
+      (λ k. header_encoding (record { xid = xid; credit = credit; body = body_same k }) ++ inline-shape way k),
       header_written (record { xid = xid; credit = credit; body = body_of way ls }) (stream_in payload way)
           (head_fits xid credit way ls fits_x fits_c (lists_fit payload way w r stag fits is size small_w small_r room2)) (can_read payload way w r stag fits is size small_w small_r),
     )
@@ -260,16 +260,16 @@ asks-shape payload way w r xid credit stag fits is size small_w small_r fits_x f
     let room2 : reply_from payload way w stag + one_if (has_segment (offered r)) ≤ 2 ^ 32 = (let n = needed-shape payload way w r in omega (arith, room, n)) in
     let body_same : body_by p.read_at (lists_of stag p) ≡ body_of way ls =
     ap (λ (l : ChunkLists). body_by p.read_at l) (lists-shape payload way w r stag) ∙ body-shape payload way w r ls fits is in
-    let message_same : call_message xid credit stag p ≡ header_spelling h ++ stream_in payload way =
-    (λ k. header_spelling (record { xid = xid; credit = credit; body = body_same k }) ++ inline-shape payload way w r k) in
+    let message_same : call_message xid credit stag p ≡ header_encoding h ++ stream_in payload way =
+    (λ k. header_encoding (record { xid = xid; credit = credit; body = body_same k }) ++ inline-shape payload way w r k) in
     let read = header_written h (stream_in payload way) (head_fits xid credit way ls fits_x fits_c (lists_fit payload way w r stag fits is size small_w small_r room2)) (can_read payload way w r stag fits is size small_w small_r) in
     subst (λ (m : List ℕ). Asks payload p xid credit stag m) (sym message_same) (record {
-      body = body_again (body_of way ls) (length (header_spelling h));
+      body = body_again (body_of way ls) (length (header_encoding h));
       reads = read;
-      lists = lists-again way ls (length (header_spelling h)) ∙ sym (lists-shape payload way w r stag);
+      lists = lists-again way ls (length (header_encoding h)) ∙ sym (lists-shape payload way w r stag);
       conveys = λ chunk brings.
-          ap (λ (l : ChunkLists). call_conveyed (inline_by (header_spelling h ++ stream_in payload way) (body_again (body_of way ls) (length (header_spelling h)))) l.read chunk) (lists-shape payload way w r stag)
-          ∙ conveys-way payload way stag (header_spelling h) ls chunk w r fits is brings;
+          ap (λ (l : ChunkLists). call_conveyed (inline_by (header_encoding h ++ stream_in payload way) (body_again (body_of way ls) (length (header_encoding h)))) l.read chunk) (lists-shape payload way w r stag)
+          ∙ conveys-way payload way stag (header_encoding h) ls chunk w r fits is brings;
     })
   where
     inline-shape : (payload : List ℕ) (way : Way) (w r : Offering) → (shape payload way (offered w) (offered r)).inline ≡ stream_in payload way

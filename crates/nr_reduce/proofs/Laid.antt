@@ -5,10 +5,10 @@ use Rattle.std.proofs.lemmas.List.{take_all, drop_all, take_at, drop_at, length-
 use Rattle.std.proofs.lemmas.List.Sums.{sum_by-cons}
 use Rattle.std.specs.List.{flat_map, range_with_len}
 use Rattle.std.proofs.lemmas.Grind.{flat_map-append}
-use Rattle.nr_header.specs.declared.header.Segment.{Segment}
-use Rattle.nr_regions.specs.Memory.{written}
+use Rattle.nr_header.specs.declared.header.RdmaSegment.{RdmaSegment}
+use Rattle.nr_regions.specs.RegisteredMemory.{written}
 use Rattle.nr_wire.specs.Constants.{OPCODE_WRITE}
-use Rattle.nr_wire.specs.Segment.{Segment as WireSegment, spelling}
+use Rattle.nr_wire.specs.Segment.{Segment as WireSegment, encoding}
 use Rattle.nr_wire.specs.Segment.Segment.{Tagged, Untagged}
 use Rattle.nr_reduce.specs.Undone.{laid, one_write, write_segments, chunk_segments}
 use Rattle.nr_link.specs.Limits.{segment_max}
@@ -66,9 +66,9 @@ flat-map : {X Y : Type 0} (f : Y → List ℕ) (g : X → Y) (xs : List X) → f
 flat-map f g [] = refl
 flat-map f g (x ∷ xs) = ap (λ (ys : List ℕ). f (g x) ++ ys) (flat-map f g xs)
 
-pub write_spells : (stag to : ℕ) (bytes : List ℕ) → write stag to bytes ≡ flat_map spelling (write_segments stag to bytes)
+pub write_spells : (stag to : ℕ) (bytes : List ℕ) → write stag to bytes ≡ flat_map encoding (write_segments stag to bytes)
 unfolding write cut
-write_spells stag to bytes = sym (flat-map spelling (one_write stag to bytes) (range_with_len 0 (segment_count bytes)))
+write_spells stag to bytes = sym (flat-map encoding (one_write stag to bytes) (range_with_len 0 (segment_count bytes)))
 
 low_piece : (i n : ℕ) → i < max 1 ((n + 4095) / 4096) → 4096 * i ≤ n
 low_piece i n h = omega (arith, h)
@@ -115,7 +115,7 @@ pub chunk-added : (stag at : ℕ) (ns : List ℕ) → chunk_total (segments_from
 unfolding chunk_total
 chunk-added stag at [] = refl
 chunk-added stag at (n ∷ ns) =
-    sum_by-cons (λ (s : Segment). s.length) (record { handle = stag; length = n; offset = at }) (segments_from stag (at + n) ns)
+    sum_by-cons (λ (s : RdmaSegment). s.length) (record { handle = stag; length = n; offset = at }) (segments_from stag (at + n) ns)
     ∙ ap (λ (k : ℕ). n + k) (chunk-added stag (at + n) ns)
 
 -- so many bytes are read out of it again
@@ -137,13 +137,13 @@ joined-filled memory stag at (m ∷ ms) n h =
           ∙ append-nil (take n d)
     ]
 
-pub chunk_spells : (chunk : List Segment) (bytes : List ℕ) → writes_into chunk bytes ≡ flat_map spelling (chunk_segments chunk bytes)
+pub chunk_spells : (chunk : List RdmaSegment) (bytes : List ℕ) → writes_into chunk bytes ≡ flat_map encoding (chunk_segments chunk bytes)
 chunk_spells [] bytes = refl
 chunk_spells (s ∷ chunk) bytes =
     (λ k. by_one (eqb (min s.length (length bytes)) 0) k ++ chunk_spells chunk (drop s.length bytes) k)
-    ∙ sym (flat_map-append spelling (cond (eqb (min s.length (length bytes)) 0) [] (write_segments s.handle s.offset (take s.length bytes))) (chunk_segments chunk (drop s.length bytes)))
+    ∙ sym (flat_map-append encoding (cond (eqb (min s.length (length bytes)) 0) [] (write_segments s.handle s.offset (take s.length bytes))) (chunk_segments chunk (drop s.length bytes)))
   where
-    by_one : (b : Bool) → cond b [] (write s.handle s.offset (take s.length bytes)) ≡ flat_map spelling (cond b [] (write_segments s.handle s.offset (take s.length bytes)))
+    by_one : (b : Bool) → cond b [] (write s.handle s.offset (take s.length bytes)) ≡ flat_map encoding (cond b [] (write_segments s.handle s.offset (take s.length bytes)))
     by_one true = refl
     by_one false = write_spells s.handle s.offset (take s.length bytes)
 

@@ -4,11 +4,11 @@ use Rattle.std.proofs.lemmas.List.{take-append-drop, take_at, drop_at}
 use Rattle.nr_xdr.specs.Item.{Item as XdrItem, IsBytes}
 use Rattle.nr_xdr.specs.Item.Item.{Unsigned}
 use Rattle.nr_xdr.specs.Reading.{Cursor, Takes}
-use Rattle.nr_xdr.specs.Steps.{◌>>=◌, number_at}
-use Rattle.nr_xdr.proofs.Steps.{bind_ok, ok_is, chosen, number_step, number_again}
-use Rattle.nr_xdr.proofs.Numbers.{length-word}
+use Rattle.nr_xdr.specs.Sequencing.{◌>>=◌, number_at}
+use Rattle.nr_xdr.proofs.SequencingSteps.{bind_ok, ok_is, chosen, number_step, number_again}
+use Rattle.nr_xdr.proofs.WordBytes.{length-word}
 use Rattle.nr_xdr.proofs.Chains.{standing, IsBytes-right, IsBytes-left}
-use Rattle.nr_rpc.specs.Reading.{this_at, call_of, reply_of, target_of}
+use Rattle.nr_rpc.specs.Reading.{expect_at, call_of, reply_of, target_of}
 use Rattle.nr_rpc.specs.declared.head.CallHead.{CallHead}
 use Rattle.nr_rpc.specs.declared.head.CallHead.TheVariants as calls
 use Rattle.nr_rpc.specs.declared.head.CallTarget.{CallTarget}
@@ -92,13 +92,13 @@ then_local f g first second c after fits e =
           ∙ q.again more;
     }
 
-this_local : (wanted : ℕ) → Local (this_at wanted)
-unfolding this_at
+this_local : (wanted : ℕ) → Local (expect_at wanted)
+unfolding expect_at
 this_local wanted c after fits e =
     let s = number_step c _ after fits e in
-    let picked : (n : ℕ) (to : Cursor) → Takes c to (Unsigned n) → cond (eqb n wanted) (Ok to) (Err c.place) ≡ Ok after → Reaches (this_at wanted) c after =
+    let picked : (n : ℕ) (to : Cursor) → Takes c to (Unsigned n) → cond (eqb n wanted) (Ok to) (Err c.place) ≡ Ok after → Reaches (expect_at wanted) c after =
     λ n to taken f. elim (chosen (eqb n wanted) (Ok to) (Err c.place) (Ok after) f) [
-      | inl h ↦ subst (λ (a : Cursor). Reaches (this_at wanted) c a) (ok_is to after h.1) (record {
+      | inl h ↦ subst (λ (a : Cursor). Reaches (expect_at wanted) c a) (ok_is to after h.1) (record {
         bytes = taken.bytes;
         rest = taken.rest;
         place = taken.place;
@@ -188,7 +188,7 @@ local_path = of_codec _ (handle_lawful ⊠ text_lawful ⊠ set_attributes_lawful
 
 local_target : Local before_target
 unfolding before_target
-local_target = then_local (this_at 0) _ (this_local 0) (of_codec (optional attributes_codec) (optional_lawful attributes_codec attributes_lawful))
+local_target = then_local (expect_at 0) _ (this_local 0) (of_codec (optional attributes_codec) (optional_lawful attributes_codec attributes_lawful))
 
 local_read : Local before_read
 unfolding before_read

@@ -11,10 +11,10 @@ use Rattle.nr_header.specs.Reading.{header_of, word_at, body_by, error_by, error
 use Rattle.std.proofs.Common.{sum_by}
 use Rattle.std.proofs.lemmas.List.{drop_at}
 use Rattle.nr_xdr.specs.Item.{IsBytes, pad_len}
-use Rattle.nr_header.specs.Numbers.{PAYLOAD_MAX}
+use Rattle.nr_header.specs.Constants.{PAYLOAD_MAX}
 use Rattle.nr_header.specs.declared.header.ReadSegment.{ReadSegment}
-use Rattle.nr_header.specs.Header.{header_spelling}
-use Rattle.nr_header.specs.Limits.{body_again, header_again}
+use Rattle.nr_header.specs.Header.{header_encoding}
+use Rattle.nr_header.specs.WithinLimits.{body_again, header_again}
 use Rattle.nr_reduce.specs.declared.call.Form.{Form}
 use Rattle.nr_reduce.specs.Items.{Item, Of, item_of, stream_of}
 use Rattle.nr_reduce.specs.Items.Of.{Call}
@@ -164,7 +164,7 @@ opens_call k payload form up down xid credit stag p fits own e some fits_x fits_
         let h : Header = record { xid = xid; credit = credit; body = body_of way (lists payload way w r stag) } in (
           inline_of payload way,
           ap (λ (bytes : List ℕ). verdict k bytes) m.0
-              ∙ judged_call k (header_spelling h ++ stream_in payload way) (header_again h) m.1 (is_call way (lists payload way w r stag) (length (header_spelling h))) free
-              ∙ opens_way k xid payload way w r stag (header_spelling h) fits is_way some
+              ∙ judged_call k (header_encoding h ++ stream_in payload way) (header_again h) m.1 (is_call way (lists payload way w r stag) (length (header_encoding h))) free
+              ∙ opens_way k xid payload way w r stag (header_encoding h) fits is_way some
               ∙ ap (λ (l : ChunkLists). by_need k (record { number = k.received.sends + 1; xid = xid; lists = l; inline = inline_of payload way })) (sym (lists-shape payload way w r stag)),
         )

@@ -23,7 +23,7 @@ use Rattle.nr_reduce.specs.Matched.{IsPrefixOf}
 use Rattle.nr_reduce.specs.AtEachMark.{AtEachMark}
 
 -- A call that can be written goes out under the next xid, by its plan, on a link that hasn't ended, and with numbers that are left:
--- those that don't fit a word would be spelled as others.
+-- those that don't fit a word would be encoded as others.
 pub record IsAccepted (opened : Opened) (link : ℕ) (before : List Mark) (call : Call) (form : Form) (xid : ℕ) : Type 0 where
   pub stays : (client opened link before).ended ≡ None
   pub next : xid ≡ next_xid opened (client opened link before).state

@@ -3,7 +3,7 @@
 use Rattle.std.specs.Prelude.{◌≡◌, ℕ, ◌+◌, ◌-◌, min, Bool, true, false, nat_le, ◌&&◌, ◌||◌, ◌==◌, not, if◌then◌else◌, List, [], ◌∷◌, ◌++◌, length, take, drop, sum_by, Option, None, Some, Result, Ok, Err}
 use Rattle.std.specs.List.{flat_map, filter, find, list_all, list_any}
 use Rattle.nr_xdr.specs.Item.{pad_len}
-use Rattle.nr_header.specs.declared.header.Segment.{Segment}
+use Rattle.nr_header.specs.declared.header.RdmaSegment.{RdmaSegment}
 use Rattle.nr_header.specs.declared.header.ReadSegment.{ReadSegment}
 use Rattle.nr_header.specs.declared.header.ChunkLists.{ChunkLists}
 use Rattle.nr_reduce.specs.Items.{Item, Of, item_of, restored}
@@ -13,18 +13,18 @@ use Rattle.nr_reduce.specs.Items.Of.{Call, Reply}
 abbrev pub Bytes : Type 0
 Bytes = ℕ → List ℕ
 
-abbrev pub segment_bytes : Bytes → Segment → List ℕ
+abbrev pub segment_bytes : Bytes → RdmaSegment → List ℕ
 segment_bytes memory s = take s.length (drop s.offset (memory s.handle))
 
 -- the bytes of segments, joined in the order of the list
-unfoldable pub joined : Bytes → List Segment → List ℕ
+unfoldable pub joined : Bytes → List RdmaSegment → List ℕ
 joined memory chunk = flat_map (segment_bytes memory) chunk
 
-unfoldable pub chunk_total : List Segment → ℕ
+unfoldable pub chunk_total : List RdmaSegment → ℕ
 chunk_total chunk = sum_by (λ s. s.length) chunk
 
 -- so many bytes fall into segments in the order of the list: each with the length that it gets
-abbrev pub filled : List Segment → ℕ → List Segment
+abbrev pub filled : List RdmaSegment → ℕ → List RdmaSegment
 filled [] n = []
 filled (s ∷ chunk) n = record { handle = s.handle; length = min s.length n; offset = s.offset } ∷ filled chunk (n - min s.length n)
 
@@ -109,11 +109,11 @@ abbrev pub some_bytes : List ℕ → Option (List ℕ)
 some_bytes [] = None
 some_bytes (b ∷ bytes) = Some (b ∷ bytes)
 
-abbrev pub reply_moved : Bytes → List (List Segment) → Option (List ℕ)
+abbrev pub reply_moved : Bytes → List (List RdmaSegment) → Option (List ℕ)
 reply_moved memory [] = None
 reply_moved memory (chunk ∷ chunks) = some_bytes (joined memory chunk)
 
-abbrev pub reply_stream : Bytes → Option (List ℕ) → Option (List Segment) → List ℕ
+abbrev pub reply_stream : Bytes → Option (List ℕ) → Option (List RdmaSegment) → List ℕ
 reply_stream memory (Some inline) reply = inline
 reply_stream memory None None = []
 reply_stream memory None (Some chunk) = joined memory chunk
@@ -128,36 +128,36 @@ ConveysReply prog vers proc lists inline memory payload = reply_conveyed prog ve
 
 -- ---- What a reply may bring of what was offered
 
-abbrev pub are_empty : List Segment → Bool
+abbrev pub are_empty : List RdmaSegment → Bool
 are_empty chunk = list_all (λ s. s.length == 0) chunk
 
 -- a chunk as it comes back: the same segments, each no longer than offered, and once one is shorter the others are empty
-abbrev pub returns : (offered back : List Segment) → Bool
+abbrev pub returns : (offered back : List RdmaSegment) → Bool
 returns [] [] = true
 returns [] (b ∷ back) = false
 returns (o ∷ offered) [] = false
 returns (o ∷ offered) (b ∷ back) =
     b.handle == o.handle && (b.offset == o.offset && (nat_le b.length o.length && ((b.length == o.length || are_empty back) && returns offered back)))
 
-abbrev pub returns_each : (offered back : List (List Segment)) → Bool
+abbrev pub returns_each : (offered back : List (List RdmaSegment)) → Bool
 returns_each [] [] = true
 returns_each [] (b ∷ back) = false
 returns_each (o ∷ offered) [] = false
 returns_each (o ∷ offered) (b ∷ back) = returns o b && returns_each offered back
 
 -- the chunks behind the first are empty
-abbrev pub fills_first : List (List Segment) → Bool
+abbrev pub fills_first : List (List RdmaSegment) → Bool
 fills_first [] = true
 fills_first (chunk ∷ chunks) = list_all are_empty chunks
 
 -- the reply chunk of a reply whose stream is inline: absent, or as offered and empty
-abbrev pub returns_none : Option (List Segment) → Option (List Segment) → Bool
+abbrev pub returns_none : Option (List RdmaSegment) → Option (List RdmaSegment) → Bool
 returns_none offered None = true
 returns_none None (Some back) = false
 returns_none (Some offered) (Some back) = returns offered back && are_empty back
 
 -- and of one whose stream is in it
-abbrev pub returns_stream : Option (List Segment) → Option (List Segment) → Bool
+abbrev pub returns_stream : Option (List RdmaSegment) → Option (List RdmaSegment) → Bool
 returns_stream None back = false
 returns_stream (Some offered) None = false
 returns_stream (Some offered) (Some back) = returns offered back

@@ -1,7 +1,7 @@
 -- What the client of a link knows: the calls that are outstanding, the regions that it offers, and what was received.
 use Rattle.std.specs.Prelude.{ℕ, Bool, false, List, [], Result}
 use Rattle.nr_rpc.specs.declared.head.CallHead.TheVariants.{Version2}
-use Rattle.nr_rpc.specs.Call.{call_spelling}
+use Rattle.nr_rpc.specs.Call.{call_encoding}
 use Rattle.nr_regions.specs.Access.{Reach}
 use Rattle.nr_reduce.specs.declared.call.Call.{Call}
 use Rattle.nr_reduce.specs.declared.call.Form.{Form}
@@ -61,7 +61,7 @@ down_max k = send_max
 
 -- a call's payload under an xid (RFC 5531 section 9)
 unfoldable pub call_payload : ℕ → Call → List ℕ
-call_payload xid call = call_spelling (Version2 xid call.prog call.vers call.proc call.cred 0) call.args
+call_payload xid call = call_encoding (Version2 xid call.prog call.vers call.proc call.cred 0) call.args
 
 -- how a call would go now, under an xid
 unfoldable pub plan_for : ClientState → ℕ → Call → Form → Result Plan TooLarge

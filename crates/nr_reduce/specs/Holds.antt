@@ -1,12 +1,12 @@
 -- How a reply is sent (RFC 8166 section 3.5): by what its call offered, or not at all.
 use Rattle.std.specs.Prelude.{◌≡◌, ◌≢◌, ℕ, ◌+◌, ◌-◌, ◌*◌, min, Bool, true, false, nat_le, ◌&&◌, ◌==◌, not, if◌then◌else◌, List, [], ◌∷◌, ◌++◌, length, take, drop, sum_by, Option, None, Some}
-use Rattle.nr_header.specs.Numbers.{VERSION}
-use Rattle.nr_header.specs.declared.header.Segment.{Segment}
+use Rattle.nr_header.specs.Constants.{VERSION}
+use Rattle.nr_header.specs.declared.header.RdmaSegment.{RdmaSegment}
 use Rattle.nr_header.specs.declared.header.ChunkLists.{ChunkLists}
 use Rattle.nr_header.specs.declared.header.Body.{Body}
 use Rattle.nr_header.specs.declared.header.Body.TheVariants.{Msg, Nomsg, ErrVers, ErrChunk}
 use Rattle.nr_header.specs.declared.header.Header.{Header}
-use Rattle.nr_header.specs.Header.{header_spelling}
+use Rattle.nr_header.specs.Header.{header_encoding}
 use Rattle.nr_reduce.specs.Items.{Item, Of, reducible_item, stream_of, moved_of}
 use Rattle.nr_reduce.specs.Items.Of.{Reply}
 use Rattle.nr_reduce.specs.Chunks.{chunk_total, filled}
@@ -24,21 +24,21 @@ pub record Parts : Type 0 where
   pub stream : List ℕ
   pub moved : List ℕ
 
-abbrev pub parts_by : List Segment → List ℕ → Option Item → Option Parts
+abbrev pub parts_by : List RdmaSegment → List ℕ → Option Item → Option Parts
 parts_by chunk reply None = Some (record { stream = reply; moved = [] })
 parts_by chunk reply (Some i) =
     if nat_le i.len (chunk_total chunk) then Some (record { stream = stream_of reply i; moved = moved_of reply i }) else None
 
-abbrev pub parts_in : Of → List (List Segment) → List ℕ → Option Parts
+abbrev pub parts_in : Of → List (List RdmaSegment) → List ℕ → Option Parts
 parts_in of [] reply = Some (record { stream = reply; moved = [] })
 parts_in of ([] ∷ chunks) reply = Some (record { stream = reply; moved = [] })
 parts_in of ((s ∷ chunk) ∷ chunks) reply = parts_by (s ∷ chunk) reply (reducible_item of reply)
 
 -- the size of a header that repeats the write list and has no reply chunk (RFC 8166 section 4.3)
-abbrev pub answer_size : List (List Segment) → ℕ
+abbrev pub answer_size : List (List RdmaSegment) → ℕ
 answer_size chunks = 28 + sum_by (λ chunk. 8 + 16 * length chunk) chunks
 
-abbrev pub fits_reply : Option (List Segment) → ℕ → Bool
+abbrev pub fits_reply : Option (List RdmaSegment) → ℕ → Bool
 fits_reply None n = false
 fits_reply (Some chunk) n = nat_le n (chunk_total chunk)
 
@@ -59,24 +59,24 @@ Holds offer down prog vers proc reply = answer_for offer down prog vers proc rep
 -- ---- What is written for it
 
 -- the chunks of an answer: the first is filled, the others come back empty
-abbrev pub emptied : List (List Segment) → List (List Segment)
+abbrev pub emptied : List (List RdmaSegment) → List (List RdmaSegment)
 emptied [] = []
 emptied (chunk ∷ chunks) = filled chunk 0 ∷ emptied chunks
 
-abbrev pub written_chunks : List (List Segment) → ℕ → List (List Segment)
+abbrev pub written_chunks : List (List RdmaSegment) → ℕ → List (List RdmaSegment)
 written_chunks [] n = []
 written_chunks (chunk ∷ chunks) n = filled chunk n ∷ emptied chunks
 
-abbrev pub first_chunk : List (List Segment) → List Segment
+abbrev pub first_chunk : List (List RdmaSegment) → List RdmaSegment
 first_chunk [] = []
 first_chunk (chunk ∷ chunks) = chunk
 
-abbrev pub no_segments : Option (List Segment) → List Segment
+abbrev pub no_segments : Option (List RdmaSegment) → List RdmaSegment
 no_segments None = []
 no_segments (Some chunk) = chunk
 
 -- an RDMA Write for each segment that gets bytes, in the order of the list
-abbrev pub writes_into : List Segment → List ℕ → List ℕ
+abbrev pub writes_into : List RdmaSegment → List ℕ → List ℕ
 writes_into [] bytes = []
 writes_into (s ∷ chunk) bytes =
     (if min s.length (length bytes) == 0 then [] else write s.handle s.offset (take s.length bytes)) ++ writes_into chunk (drop s.length bytes)
@@ -98,11 +98,11 @@ answer_body offer a = if a.long then Nomsg (answer_lists offer a) else Msg (answ
 
 unfoldable pub answer_message : (xid credit : ℕ) → ChunkLists → Answer → List ℕ
 answer_message xid credit offer a =
-    header_spelling (record { xid = xid; credit = credit; body = answer_body offer a }) ++ (if a.long then [] else a.stream)
+    header_encoding (record { xid = xid; credit = credit; body = answer_body offer a }) ++ (if a.long then [] else a.stream)
 
 -- the error messages: chunks that can't be used, and a version that isn't spoken (RFC 8166 section 4.5)
 unfoldable pub chunk_error : (xid credit : ℕ) → List ℕ
-chunk_error xid credit = header_spelling (record { xid = xid; credit = credit; body = ErrChunk VERSION })
+chunk_error xid credit = header_encoding (record { xid = xid; credit = credit; body = ErrChunk VERSION })
 
 unfoldable pub version_error : (xid version credit : ℕ) → List ℕ
-version_error xid version credit = header_spelling (record { xid = xid; credit = credit; body = ErrVers version VERSION VERSION })
+version_error xid version credit = header_encoding (record { xid = xid; credit = credit; body = ErrVers version VERSION VERSION })

@@ -3,7 +3,7 @@
 use Rattle.std.specs.Prelude.{ℕ, ◌+◌, min, max, ◌&&◌, ◌==◌, if◌then◌else◌, List, [], ◌∷◌, find, Option, None, Some, option_map, unwrap_or, Result, Ok, Err}
 use Rattle.nr_xdr.specs.Item.{pad_len}
 use Rattle.nr_xdr.specs.Reading.{Cursor}
-use Rattle.nr_xdr.specs.Steps.{◌>>=◌}
+use Rattle.nr_xdr.specs.Sequencing.{◌>>=◌}
 use Rattle.nr_rpc.specs.declared.head.CallTarget.{CallTarget}
 use Rattle.nr_rpc.specs.Reading.{call_of, target_of}
 use Rattle.nr_nfs_base.specs.Codec.{◌⊗◌, word, hyper}

@@ -1,13 +1,13 @@
 -- How a call is sent (RFC 8166 section 3.5): what goes inline, what is offered to be read, and what is offered to be filled.
 use Rattle.std.specs.Prelude.{◌≡◌, ℕ, ◌+◌, ◌-◌, ◌*◌, min, Bool, true, false, nat_lt, nat_le, ◌&&◌, ◌==◌, not, if◌then◌else◌, List, [], ◌∷◌, ◌++◌, length, take, drop, replicate, sum, Option, None, Some, Result, Ok, Err}
-use Rattle.nr_header.specs.Numbers.{PAYLOAD_MAX}
-use Rattle.nr_header.specs.declared.header.Segment.{Segment}
+use Rattle.nr_header.specs.Constants.{PAYLOAD_MAX}
+use Rattle.nr_header.specs.declared.header.RdmaSegment.{RdmaSegment}
 use Rattle.nr_header.specs.declared.header.ReadSegment.{ReadSegment}
 use Rattle.nr_header.specs.declared.header.ChunkLists.{ChunkLists}
 use Rattle.nr_header.specs.declared.header.Body.{Body}
 use Rattle.nr_header.specs.declared.header.Body.TheVariants.{Msg, Nomsg}
 use Rattle.nr_header.specs.declared.header.Header.{Header}
-use Rattle.nr_header.specs.Header.{header_spelling}
+use Rattle.nr_header.specs.Header.{header_encoding}
 use Rattle.nr_regions.specs.declared.right.Right.{Right}
 use Rattle.nr_regions.specs.declared.right.Right.TheVariants.{Fetch, Fill}
 use Rattle.nr_rpc.specs.declared.head.CallTarget.{CallTarget}
@@ -194,7 +194,7 @@ buffers stag p =
     ++ buffer_if (has_segment p.reply) (reply_stag stag p) Fill (replicate (total p.reply) 0))
 
 -- segments of one region, one after the other
-abbrev pub segments_from : (handle offset : ℕ) → List ℕ → List Segment
+abbrev pub segments_from : (handle offset : ℕ) → List ℕ → List RdmaSegment
 segments_from handle offset [] = []
 segments_from handle offset (n ∷ lengths) =
     record { handle = handle; length = n; offset = offset } ∷ segments_from handle (offset + n) lengths
@@ -208,11 +208,11 @@ abbrev pub read_list : ℕ → Plan → Option ℕ → List ReadSegment
 read_list stag p None = []
 read_list stag p (Some position) = entries_from position (read_stag stag p) 0 p.read
 
-abbrev pub write_list : ℕ → Option (List ℕ) → List (List Segment)
+abbrev pub write_list : ℕ → Option (List ℕ) → List (List RdmaSegment)
 write_list stag None = []
 write_list stag (Some lengths) = segments_from stag 0 lengths ∷ []
 
-abbrev pub reply_chunk : ℕ → Option (List ℕ) → Option (List Segment)
+abbrev pub reply_chunk : ℕ → Option (List ℕ) → Option (List RdmaSegment)
 reply_chunk stag None = None
 reply_chunk stag (Some lengths) = Some (segments_from stag 0 lengths)
 
@@ -229,7 +229,7 @@ body_by None lists = Msg lists 0
 body_by (Some position) lists = if position == 0 then Nomsg lists else Msg lists 0
 
 unfoldable pub call_message : (xid credit stag : ℕ) → Plan → List ℕ
-call_message xid credit stag p = header_spelling (record { xid = xid; credit = credit; body = body_by p.read_at (lists_of stag p) }) ++ p.inline
+call_message xid credit stag p = header_encoding (record { xid = xid; credit = credit; body = body_by p.read_at (lists_of stag p) }) ++ p.inline
 
 -- The header and the inline stream by which a call goes out, and its regions.
 pub record Planned (payload : List ℕ) (form : Form) (up down : ℕ) (xid credit stag : ℕ) (message : List ℕ) (regions : List Buffer) : Type 0 where

@@ -1,7 +1,7 @@
 -- What a server makes of a message of its client (RFC 8166 sections 4.3 to 4.5), and of a call whose chunks are read.
 use Rattle.std.specs.Prelude.{ℕ, ◌+◌, Bool, not, ◌||◌, ◌==◌, nat_lt, if◌then◌else◌, List, [], length, drop, Option, None, Some, Result, Ok, Err}
 use Rattle.std.specs.List.{list_any}
-use Rattle.nr_header.specs.Numbers.{VERSION, DONE, ERROR}
+use Rattle.nr_header.specs.Constants.{VERSION, DONE, ERROR}
 use Rattle.nr_header.specs.declared.fault.HeaderFault.{HeaderFault}
 use Rattle.nr_header.specs.declared.header.ReadSegment.{ReadSegment}
 use Rattle.nr_header.specs.declared.header.ChunkLists.{ChunkLists}

@@ -7,7 +7,7 @@ use Rattle.nr_wire.specs.declared.stream.Awaited.TheVariants.{Hello as HelloFrom
 use Rattle.nr_wire.specs.Stream.{Split, split, awaited_after}
 use Rattle.nr_regions.specs.declared.region.Region.{Region}
 use Rattle.nr_regions.specs.Access.{grant_at, offered}
-use Rattle.nr_regions.specs.Memory.{Memory, live_at, offer}
+use Rattle.nr_regions.specs.RegisteredMemory.{RegisteredMemory, live_at, offer}
 use Rattle.nr_reduce.specs.OfferedRegions.{region_grants, region_bytes}
 use Rattle.nr_reduce.specs.declared.mark.Mark.{Mark}
 use Rattle.nr_reduce.specs.declared.mark.Opened.{Opened}
@@ -53,7 +53,7 @@ pub record StandsFor {V : Type 0} (Represents : V → EndState ClientState → T
 
 -- The registered memory of an end agrees with what its marks say: to every later frame it offers what the grants offer, and each
 -- region that lives holds what the peer's accesses left in it.
-pub record HoldsRegions (k : ClientState) (place : ℕ) (m : Memory) : Type 0 where
+pub record HoldsRegions (k : ClientState) (place : ℕ) (m : RegisteredMemory) : Type 0 where
   pub offers : (stag end : ℕ) → place < end → offer (live_at m stag) ≡ offered (grant_at (region_grants end k.regions) stag end)
   pub holds : (stag : ℕ) (r : Region) → live_at m stag ≡ Some r → r.buf ≡ region_bytes (region_grants place k.regions) k.regions k.reaches stag
   pub next : m.next ≡ k.stag

@@ -1,14 +1,14 @@
 -- What both ways of a payload undo: the message of a plan and its chunks, and the Writes of an answer.
 use Rattle.std.specs.Prelude.{◌≡◌, ◌≢◌, ℕ, ◌+◌, ◌*◌, min, Bool, true, false, ◌==◌, if◌then◌else◌, List, [], ◌∷◌, ◌++◌, length, take, drop, map, Option, None, Some, IfSome, Result, Ok, Err}
 use Rattle.std.specs.List.{range_with_len}
-use Rattle.nr_header.specs.declared.header.Segment.{Segment}
+use Rattle.nr_header.specs.declared.header.RdmaSegment.{RdmaSegment}
 use Rattle.nr_header.specs.declared.header.ReadSegment.{ReadSegment}
 use Rattle.nr_header.specs.declared.header.ChunkLists.{ChunkLists}
 use Rattle.nr_header.specs.declared.header.Body.{Body}
 use Rattle.nr_header.specs.declared.header.Body.TheVariants.{Msg, Nomsg, ErrVers, ErrChunk}
 use Rattle.nr_header.specs.declared.header.Header.{Header}
 use Rattle.nr_header.specs.Reading.{header_of}
-use Rattle.nr_regions.specs.Memory.{written}
+use Rattle.nr_regions.specs.RegisteredMemory.{written}
 use Rattle.nr_wire.specs.Constants.{OPCODE_WRITE}
 use Rattle.nr_wire.specs.Segment.{Segment as WireSegment}
 use Rattle.nr_wire.specs.Segment.Segment.{Tagged, Untagged}
@@ -68,7 +68,7 @@ abbrev pub write_segments : ℕ → ℕ → List ℕ → List WireSegment
 write_segments stag to bytes = map (one_write stag to bytes) (range_with_len 0 (segment_count bytes))
 
 -- the segments by which they come there
-abbrev pub chunk_segments : List Segment → List ℕ → List WireSegment
+abbrev pub chunk_segments : List RdmaSegment → List ℕ → List WireSegment
 chunk_segments [] bytes = []
 chunk_segments (s ∷ chunk) bytes =
     (if min s.length (length bytes) == 0 then [] else write_segments s.handle s.offset (take s.length bytes)) ++ chunk_segments chunk (drop s.length bytes)

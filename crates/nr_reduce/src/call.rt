@@ -1,11 +1,11 @@
 //! Calls, how they are sent, and what becomes of them: plain data.
 
-use crate::listed::Listed;
+use crate::sequence::Sequence;
 use nr_link::End;
 use nr_rpc::Cred;
 use nr_xdr::Octets;
 
-/// A call of a program (RFC 5531 section 9), with its arguments as they are spelled.
+/// A call of a program (RFC 5531 section 9), with its arguments as they are encoded.
 #[derive(Debug, Drop)]
 pub struct Call {
     pub prog: u32,
@@ -36,7 +36,7 @@ pub struct Offer {
 }
 
 /// A list of lengths in bytes.
-pub type Lengths = Listed<u32>;
+pub type Lengths = Sequence<u32>;
 
 /// What a call was answered by: the reply's payload, an ERR_CHUNK or an ERR_VERS message (RFC 8166 section 4.5).
 #[derive(Debug, Drop)]

@@ -2,13 +2,13 @@
 #![tactic(auto)]
 
 mod call;
-mod listed;
 mod mark;
+mod sequence;
 mod theorems;
 
 pub use call::{Call, Form, Lengths, Offer, Outcome, Refused, Submission};
-pub use listed::Listed;
 pub use mark::{Entry, Mark, Marks, Moment, Opened};
+pub use sequence::Sequence;
 pub use theorems::{
     answers_are_undone, nothing_twice, plans_are_opened, plans_are_undone, rebuild_undoes_cut,
 };
