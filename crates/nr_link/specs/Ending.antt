@@ -1,4 +1,5 @@
--- Why a frame ends a side of a link, by the link's rules and by the memory that the side offered; and what the side writes last.
+-- Why a frame ends a side of a link, by the rules of the link and by the memory that the side offered, and what the side writes
+-- last (RFC 5040 section 7; RFC 5041 section 7).
 use Rattle.std.specs.Prelude.{ℕ, Bool, nat_lt, ◌==◌, if◌then◌else◌, List, [], ◌∷◌, length, Option, None, Some, option_and_then, Result, Ok, Err}
 use Rattle.nr_wire.specs.Constants.{OPCODE_READ_REQUEST, OPCODE_READ_RESPONSE}
 use Rattle.nr_wire.specs.Hello.{Hello}
@@ -22,13 +23,13 @@ use Rattle.nr_link.specs.SegmentFaults.SegmentFault.{Reason, NoBuffer, AccessDen
 abbrev pub kind_of : ℕ → Kind
 kind_of opcode = if opcode == OPCODE_READ_RESPONSE then Response else Write
 
--- the tagged segment of a frame, with the end of the frame
+-- the tagged segment of a frame as an access to memory, with the place at which the frame ends
 abbrev pub reach_of : Frame → Segment → List Reach
 reach_of f (Tagged last opcode stag to payload) =
     record { kind = kind_of opcode; stag = stag; to = to; payload = payload; end = f.end } ∷ []
 reach_of f (Untagged last opcode w queue msn offset payload) = []
 
--- what a segment reaches of the memory of the side that gets it
+-- the access of a segment to the memory of the side that receives it: a Write and a Read Response fill it, a Read Request reads it
 abbrev pub access_of : Segment → Option Access
 access_of (Tagged last opcode stag to payload) =
     Some (record { right = right_for (kind_of opcode); stag = stag; to = to; len = length payload })
@@ -37,11 +38,11 @@ access_of (Untagged last opcode w queue msn offset payload) =
     then Some (record { right = Fetch; stag = (read_request_in payload).stag; to = (read_request_in payload).to; len = (read_request_in payload).size })
     else None
 
--- what the access of a frame's segment lacks of the grants
+-- what the access of a frame's segment lacks of the grants, where it lacks something
 abbrev pub missing_access : List Grant → Frame → Segment → Option Denied
 missing_access grants f segment = option_and_then (λ access. lacking grants access f.end) (access_of segment)
 
--- the end of a flaw
+-- the End that a fault of a segment makes
 abbrev pub denied_at : Option Access → Denied → End
 denied_at None why = ends.Denied 0 0 why
 denied_at (Some access) why = ends.Denied access.stag access.to why
@@ -53,7 +54,7 @@ end_of_fault f segment (Some (NoBuffer msn)) = Some (ends.NoBuffer msn)
 end_of_fault f segment (Some (AccessDenied why)) = Some (denied_at (access_of segment) why)
 end_of_fault f segment (Some (PeerTerminated word)) = Some (ends.Terminated word)
 
--- a frame as a segment of this link: the opcodes that it lets through are those of nr_wire
+-- a frame as a segment of this link. The opcodes that are supported are those of nr_wire.
 unfoldable pub frame_segment : Frame → Result Segment ℕ
 frame_segment f = segment_of f.bytes
 
@@ -61,17 +62,17 @@ abbrev pub frame_end_by : (Option Denied → Readiness Denied) → List Grant �
 frame_end_by ready grants f (Ok segment) = end_of_fault f segment (segment_fault (ready (missing_access grants f segment)) segment)
 frame_end_by ready grants f (Err reason) = Some (ends.Bad f.at reason)
 
--- Why a frame ends a side that offered these grants, and that is ready so, whatever the access lacks.
+-- Why a frame ends a side that offered these grants. `ready` is what the side has ready, given what the access lacks.
 unfoldable pub frame_end : (Option Denied → Readiness Denied) → List Grant → Frame → Option End
 frame_end ready grants f = frame_end_by ready grants f (frame_segment f)
 
--- a refused hello
+-- why a hello ends a side (RFC 5044 section 7.1)
 abbrev pub hello_end : Result Hello ℕ → Option End
 hello_end (Ok hello) = None
 hello_end (Err reason) = Some (ends.Bad 0 reason)
 
--- what a side writes last: a Terminate with its word, but for a refused hello, for the peer's own Terminate, and where memory
--- ran out
+-- What a side writes last: one Terminate with its word (RFC 5040 section 4.8). It writes none for a refused hello, for the peer's
+-- own Terminate, and where memory ran out.
 abbrev pub is_hello_reason : ℕ → Bool
 is_hello_reason reason = nat_lt reason 5
 

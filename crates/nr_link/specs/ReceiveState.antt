@@ -5,9 +5,8 @@ use Rattle.nr_wire.specs.Fields.{word_at, hyper_at}
 use Rattle.nr_wire.specs.Segment.{Segment}
 use Rattle.nr_wire.specs.Segment.Segment.{Tagged, Untagged}
 
--- ---- The untagged messages of a side so far
-
--- How many of its Sends are whole, the bytes of the one that is begun, if one is, and how many Read Requests came.
+-- The untagged queues of a side that receives (RFC 5041 section 4.3): how many Sends are whole, the bytes so far of a Send that is
+-- begun, and how many Read Requests were received.
 pub record ReceiveState : Type 0 where
   pub sends : ℕ
   pub begun : Option (List ℕ)
@@ -16,16 +15,16 @@ pub record ReceiveState : Type 0 where
 abbrev pub nothing_received : ReceiveState
 nothing_received = record { sends = 0; begun = None; requests = 0 }
 
--- the opcodes of messages
+-- the opcode of a message
 abbrev pub is_send : ℕ → Bool
 is_send opcode = opcode == OPCODE_SEND
 
--- the bytes of the message so far
+-- the bytes of the begun Send so far
 abbrev pub begun_bytes : Option (List ℕ) → List ℕ
 begun_bytes None = []
 begun_bytes (Some bytes) = bytes
 
--- one more segment of a Send, one more Read Request
+-- after one more segment of a Send; and after any segment
 abbrev pub send_continued : ReceiveState → Bool → List ℕ → ReceiveState
 send_continued h true payload = record { sends = h.sends + 1; begun = None; requests = h.requests }
 send_continued h false payload = record { sends = h.sends; begun = Some (begun_bytes h.begun ++ payload); requests = h.requests }
@@ -37,13 +36,11 @@ received_after h (Untagged last opcode w queue msn offset payload) =
     else (if opcode == OPCODE_READ_REQUEST then record { sends = h.sends; begun = h.begun; requests = h.requests + 1 }
     else h)
 
--- the message that a segment makes whole
+-- the message that a segment makes whole, where it does
 abbrev pub message_completed : ReceiveState → Segment → Option (List ℕ)
 message_completed h (Tagged last opcode stag to payload) = None
 message_completed h (Untagged last opcode w queue msn offset payload) =
     if is_send opcode && last then Some (begun_bytes h.begun ++ payload) else None
-
--- ---- Accesses
 
 -- a Read Request's fields (RFC 5040 section 4.4)
 pub record ReadRequest : Type 0 where

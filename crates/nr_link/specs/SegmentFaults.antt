@@ -10,17 +10,15 @@ use Rattle.nr_link.specs.Reasons.{REASON_MSN, REASON_OFFSET, REASON_FORM, REASON
 use Rattle.nr_link.specs.Output.{msn_word}
 use Rattle.nr_link.specs.ReceiveState.{ReceiveState, is_send, begun_bytes, message_completed, read_request_in}
 
--- ---- What an end has ready for a frame
-
--- the next byte that the oldest of its Read Requests waits for: the sink, the place in it, and how many bytes are left
+-- where the oldest open Read Request goes on: its sink, the next place in it, and how many bytes are left
 pub record ExpectedResponse : Type 0 where
   pub sink : ℕ
   pub at : ℕ
   pub left : ℕ
 
--- What the side said before; whether a receive is left for a Send that begins, and how long its message may be; what the
--- segment's access to memory lacks, if it lacks something; which response is expected, and how many responses to it aren't
--- written yet.
+-- What the end that receives a segment has ready: what it received before; whether a receive is left for a Send that begins; how
+-- long a message may be; what the segment's access to memory lacks, where it lacks something; which Read Response is expected;
+-- how many Read Responses of its own aren't written yet.
 pub record Readiness (D : Type 0) : Type 0 where
   pub received : ReceiveState
   pub has_receive : Bool
@@ -29,20 +27,18 @@ pub record Readiness (D : Type 0) : Type 0 where
   pub expected : Option ExpectedResponse
   pub responses : ℕ
 
--- Why a segment ends the link: a reason, no receive, what its access lacks, or a Terminate with its word.
+-- Why a segment ends the link: a reason, a Send without a receive, what its access lacks, or the peer's Terminate with its word.
 pub data SegmentFault (D : Type 0) : Type 0 where
   Reason : (reason : ℕ) → SegmentFault D
   NoBuffer : (msn : ℕ) → SegmentFault D
   AccessDenied : (why : D) → SegmentFault D
   PeerTerminated : (word : ℕ) → SegmentFault D
 
--- ---- Each alone
-
 abbrev pub reason_if : {D : Type 0} → ℕ → Bool → Option (SegmentFault D)
 reason_if reason true = Some (Reason reason)
 reason_if reason false = None
 
--- the number of the next message of a queue, from 1 on
+-- the number of the next message of a queue, and its offset in a message (RFC 5041 section 4.3)
 abbrev pub next_msn : ReceiveState → ℕ → ℕ
 next_msn h queue =
     if queue == QUEUE_SEND then msn_word (h.sends + 1)
@@ -56,7 +52,7 @@ abbrev pub is_begun : Option (List ℕ) → Bool
 is_begun None = false
 is_begun (Some bytes) = true
 
--- the first segment of a Send finds no receive
+-- the first segment of a Send finds no receive (RFC 5041 section 7.1)
 abbrev pub no_buffer : {D : Type 0} → Readiness D → Bool → ℕ → Option (SegmentFault D)
 no_buffer r true msn = if is_begun r.received.begun || r.has_receive then None else Some (NoBuffer msn)
 no_buffer r false msn = None
@@ -65,8 +61,8 @@ abbrev pub missing_fault : {D : Type 0} → Option D → Option (SegmentFault D)
 missing_fault None = None
 missing_fault (Some why) = Some (AccessDenied why)
 
--- a Read Request is one segment of 28 bytes, and its answer's bytes are within the 2 ^ 64 of a region; a Terminate is one
--- segment with a word
+-- A Read Request is one segment of 28 payload bytes, and its sink offset and size don't pass 2 ^ 64; a Terminate is one segment of
+-- at least a word (RFC 5040 sections 4.4 and 4.8).
 abbrev pub is_malformed : ℕ → Bool → List ℕ → Bool
 is_malformed opcode last payload =
     if opcode == OPCODE_READ_REQUEST
@@ -74,7 +70,8 @@ is_malformed opcode last payload =
     else (if opcode == OPCODE_TERMINATE then not last || nat_lt (length payload) 4
     else false)
 
--- a Read Response is the next part of the answer that is expected, and marked exactly where it is the last
+-- A Read Response goes on where the oldest open request stands, doesn't pass its size, and has the L bit exactly at its end
+-- (RFC 5040 section 5.2).
 abbrev pub is_expected : Option ExpectedResponse → Bool → ℕ → ℕ → ℕ → Bool
 is_expected None last stag to n = false
 is_expected (Some e) last stag to n =
@@ -83,11 +80,11 @@ is_expected (Some e) last stag to n =
 abbrev pub is_unexpected : {D : Type 0} → Readiness D → ℕ → Bool → ℕ → ℕ → ℕ → Bool
 is_unexpected r opcode last stag to n = opcode == OPCODE_READ_RESPONSE && not (is_expected r.expected last stag to n)
 
--- a Read Request while as many as may be are unanswered
+-- a Read Request while as many responses as may be aren't written
 abbrev pub is_too_many : {D : Type 0} → Readiness D → ℕ → Bool
 is_too_many r opcode = opcode == OPCODE_READ_REQUEST && nat_le open_reads_max r.responses
 
--- a message that is longer than it may be, or shorter than the fixed words of a header
+-- whether the length of the message that became whole passes a test
 abbrev pub has_length : (ℕ → Bool) → Option (List ℕ) → Bool
 has_length test None = false
 has_length test (Some message) = test (length message)
@@ -95,14 +92,14 @@ has_length test (Some message) = test (length message)
 abbrev pub terminate_fault : {D : Type 0} → ℕ → List ℕ → Option (SegmentFault D)
 terminate_fault opcode payload = if opcode == OPCODE_TERMINATE then Some (PeerTerminated (word_at 0 payload)) else None
 
--- the first that stands
+-- the first fault that stands
 abbrev pub first_fault : {X : Type 0} → List (Option X) → Option X
 first_fault [] = None
 first_fault (None ∷ others) = first_fault others
 first_fault (Some x ∷ others) = Some x
 
--- Why a segment ends the link: the first that stands, in this order. The reasons that a frame has by itself go before (nr_wire),
--- and what an end makes of a whole message comes behind.
+-- Why a segment ends the link: the first fault that stands, in this order. The reasons of a frame alone go before (nr_wire), and
+-- what an end makes of a whole message comes behind.
 unfoldable pub segment_fault : {D : Type 0} → Readiness D → Segment → Option (SegmentFault D)
 segment_fault r (Tagged last opcode stag to payload) = first_fault (
     missing_fault r.missing

@@ -1,4 +1,4 @@
--- All that the client of a link writes, completes and gives back.
+-- The law of a link's client: which calls it accepts, what it writes, and what it hands to its callers.
 use Rattle.std.specs.Prelude.{◌≡◌, ◌≢◌, ℕ, ◌+◌, ◌<◌, ◌≤◌, ◌==◌, Bool, true, false, List, [], ◌∷◌, ◌++◌, length, Option, None, Some, Result, Ok, Err, Contains}
 use Rattle.std.specs.List.{flat_map, filter}
 use Rattle.nr_wire.specs.declared.hello.Side.TheVariants.{Initiator, Responder}
@@ -22,8 +22,8 @@ use Rattle.nr_reduce.specs.SubmitAnswer.{next_xid}
 use Rattle.nr_reduce.specs.Matched.{IsPrefixOf}
 use Rattle.nr_reduce.specs.AtEachMark.{AtEachMark}
 
--- A call that can be written goes out under the next xid, by its plan, on a link that hasn't ended, and with numbers that are left:
--- those that don't fit a word would be encoded as others.
+-- A call is accepted under the next xid, with a plan, on a link that hasn't ended, while xids and STags are left for it. Its
+-- credential can be encoded.
 pub record IsAccepted (opened : Opened) (link : ℕ) (before : List Mark) (call : Call) (form : Form) (xid : ℕ) : Type 0 where
   pub stays : (client opened link before).ended ≡ None
   pub next : xid ≡ next_xid opened (client opened link before).state
@@ -33,7 +33,7 @@ pub record IsAccepted (opened : Opened) (link : ℕ) (before : List Mark) (call 
   pub stags : (client opened link before).state.stag + regions_needed plan ≤ numbers_end
   pub writable : CanWriteCred call.cred
 
--- an accepted call that has no outcome so far, and that nobody gave up
+-- an accepted call whose outcome wasn't handed over, and that wasn't given up
 pub record IsAwaited (link : ℕ) (before : List Mark) (xid : ℕ) : Type 0 where
   pub asked : AcceptedCall
   pub is_asked : Contains (accepted_calls link before) asked
@@ -41,19 +41,19 @@ pub record IsAwaited (link : ℕ) (before : List Mark) (xid : ℕ) : Type 0 wher
   pub first : (c : CompletedCall) → Contains (completed_calls link before) c → c.xid ≢ xid
   pub kept : is_abandoned link xid before ≡ false
 
--- it gets this outcome, by its own message
+-- its outcome is handed over: one that a message of its xid brought
 pub record IsCompleted (opened : Opened) (link : ℕ) (before : List Mark) (xid : ℕ) (outcome : Outcome) : Type 0 where
   pub wanted : IsAwaited link before xid
   pub is_received : Contains (client opened link before).state.outcomes (record { xid = xid; outcome = outcome })
 
--- it is lost: its client ended, and no outcome of it came
+-- it is lost: the client ended, and no message brought an outcome of it
 pub record IsLost (opened : Opened) (link : ℕ) (before : List Mark) (xid : ℕ) : Type 0 where
   pub wanted : IsAwaited link before xid
   pub ended : End
   pub is_ended : (client opened link before).ended ≡ Some ended
   pub none : (c : CompletedCall) → Contains (client opened link before).state.outcomes c → c.xid ≢ xid
 
--- it gives its memory back: what its regions hold, in the order in which they were offered
+-- its memory is revoked: the bytes handed back are what its regions hold, in the order in which they were offered
 abbrev pub revoked_bytes : Opened → ℕ → List Mark → ℕ → List ℕ
 revoked_bytes opened link before xid =
     flat_map (λ r. placed_bytes opened link Initiator before r.stag) (filter (λ r. r.call == xid) (client opened link before).state.regions)
@@ -62,7 +62,7 @@ pub record IsRevoked (opened : Opened) (link : ℕ) (before : List Mark) (xid : 
   pub wanted : IsAwaited link before xid
   pub bytes_are : bytes ≡ revoked_bytes opened link before xid
 
--- what a Wrote of the client writes is told by `Fills`, of all that it wrote by then and all that it has to write
+-- The law of each mark. `Fills` says how what was written with this Wrote relates to the output due.
 abbrev pub AskedMark : (List ℕ → List ℕ → Type 0) → Opened → ℕ → List Mark → Mark → Type 0
 AskedMark Fills opened link before (marks.Submit l call form (submissions.Accepted xid)) = l ≡ link → IsAccepted opened link before call form xid
 AskedMark Fills opened link before (marks.Submit l call form (submissions.Refused why)) = Unit {0}
@@ -77,7 +77,7 @@ AskedMark Fills opened link before (marks.Forget l xid) = l ≡ link → IsAwait
 AskedMark Fills opened link before (marks.Revoke l xid bytes) = l ≡ link → IsRevoked opened link before xid bytes
 AskedMark Fills opened link before (marks.Drop l) = Unit {0}
 
--- each Wrote writes all that is owed by then, and in the end all is written
+-- in full: each Wrote writes all output that is due by then, and in the end all is written
 abbrev pub IsAll : List ℕ → List ℕ → Type 0
 IsAll written due = written ≡ due
 
@@ -85,6 +85,6 @@ pub record Asked (opened : Opened) (link : ℕ) (run : List Mark) : Type 0 where
   pub each : AtEachMark (AskedMark IsAll opened link) [] run
   pub written : HasWritten opened link Initiator run
 
--- as far as a run goes: what is written is the first of what is owed
+-- so far: what is written is a prefix of the output due
 abbrev pub AskedSoFar : Opened → ℕ → List Mark → Type 0
 AskedSoFar opened link run = AtEachMark (AskedMark IsPrefixOf opened link) [] run

@@ -27,7 +27,7 @@ use Rattle.nr_reduce.specs.ClientMessages.Verdict.{Refuses, Gives}
 
 -- ---- What ends the client
 
--- a client receives each message into a receive that it gives back at once
+-- a client posts a receive again as soon as it has judged a message, so each Send finds one
 abbrev pub readiness : ClientState → Option Denied → Readiness Denied
 readiness k missing = record {
   received = k.received;
@@ -64,7 +64,7 @@ client_end k QueueWritten = None
 
 -- ---- What the client writes
 
--- the Send of a call that is the msn-th of its link
+-- the Send of a call, with its number
 abbrev pub call_output : Opened → ℕ → OutstandingCall → List ℕ
 call_output opened msn o = send msn (call_message o.xid opened.wished o.stag o.plan)
 
@@ -72,7 +72,7 @@ abbrev pub calls_output : Opened → ℕ → List OutstandingCall → List ℕ
 calls_output opened msn [] = []
 calls_output opened msn (o ∷ others) = call_output opened msn o ++ calls_output opened (msn + 1) others
 
--- the answer to a Read Request: the bytes as they stand
+-- the Read Response to a Read Request, with the bytes as they stand (RFC 5040 section 5.2)
 abbrev pub response_output : ClientState → ℕ → Option ReadRequest → List ℕ
 response_output k place None = []
 response_output k place (Some r) = read_response r.sink r.sink_to (take r.size (drop r.to (memory_at k place r.stag)))
@@ -81,7 +81,7 @@ abbrev pub segment_request : Result Segment ℕ → Option ReadRequest
 segment_request (Ok segment) = read_request_of segment
 segment_request (Err reason) = None
 
--- an accepted call, as it is out
+-- an accepted call as it is outstanding
 abbrev pub plan_or : List ℕ → Result Plan TooLarge → Plan
 plan_or payload (Ok plan) = plan
 plan_or payload (Err large) = inline_plan payload
@@ -96,7 +96,8 @@ outstanding_of k a = record {
   is_revoked = false;
 }
 
--- A call goes out once the server's hello is there; those that were accepted before go with it (RFC 5044 section 7.1).
+-- The output that is due for an event. A client sends no FPDU before the server's hello; the calls that were accepted before it
+-- are sent then (RFC 5044 section 7.1).
 unfoldable pub client_output : Opened → ClientState → Event → List ℕ
 client_output opened k (FrameReceived f) = if is_hello f then calls_output opened 1 k.outstanding else response_output k f.end (segment_request (frame_segment f))
 client_output opened k (CallSubmitted place a) = if k.has_hello then call_output opened (k.calls_accepted + 1) (outstanding_of k a) else []
@@ -106,7 +107,8 @@ client_output opened k QueueWritten = []
 
 -- ---- What the client knows after each
 
--- a credit word as it counts: 0 as 1, and one above the most as the most (RFC 8166 section 3.3.1; the bounds are own)
+-- the credits that a credit word grants: 0 counts as 1, and more than most_credits as most_credits (RFC 8166 section 3.3; the
+-- bounds are own)
 abbrev pub credits_of_word : ℕ → ℕ
 credits_of_word credit = if credit == 0 then 1 else (if nat_lt most_credits credit then most_credits else credit)
 
@@ -118,7 +120,7 @@ outcomes_of (Refuses reason) = []
 outcomes_of (Gives xid None) = []
 outcomes_of (Gives xid (Some outcome)) = record { xid = xid; outcome = outcome } ∷ []
 
--- a message of a call's xid closes its regions, and the call is no longer out
+-- a message closes the regions of the call of its xid, and that call is no longer outstanding
 abbrev pub with_message : ClientState → ℕ → Option (List ℕ) → ClientState
 with_message k place None = k
 with_message k place (Some message) = record k {
@@ -132,7 +134,7 @@ abbrev pub with_request : ClientState → Option ReadRequest → ClientState
 with_request k None = k
 with_request k (Some r) = record k { responses = k.responses + 1 }
 
--- message and access first, since what they meet is what stood before the frame
+-- message and Read Request meet the memory as it stood before the frame
 abbrev pub with_segment : ClientState → Frame → Result Segment ℕ → ClientState
 with_segment k f (Err reason) = k
 with_segment k f (Ok segment) =
@@ -168,6 +170,6 @@ client_rules opened = record {
   final_output = final_output;
 }
 
--- before anything happened
+-- a client to which nothing has happened
 abbrev pub initial_client : Opened → EndState ClientState
 initial_client opened = record { state = initial_state opened; ended = None }

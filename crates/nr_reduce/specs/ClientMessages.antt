@@ -1,4 +1,4 @@
--- What a client makes of a message of its server (RFC 8166 sections 4.4 and 4.5): the outcome of a call, or a reason to end.
+-- What a client makes of a message of its server (RFC 8166 sections 4.2 to 4.5): the outcome of a call, or a reason to end.
 use Rattle.std.specs.Prelude.{ℕ, Bool, true, false, ◌&&◌, ◌==◌, if◌then◌else◌, List, drop, Option, None, Some, Result, Ok, Err}
 use Rattle.std.specs.List.{find}
 use Rattle.nr_header.specs.declared.fault.HeaderFault.{HeaderFault}
@@ -18,9 +18,7 @@ use Rattle.nr_reduce.specs.Plans.{lists_of}
 use Rattle.nr_reduce.specs.Chunks.{answers_offer, reply_conveyed}
 use Rattle.nr_reduce.specs.ClientState.{OutstandingCall, ClientState, memory_at}
 
--- ---- Messages of the server
-
--- What the client makes of a message: a reason to end, or the outcome of an xid's call; none where its memory was taken back.
+-- What the client makes of a message: a reason to end, or the outcome of an xid's call, which is none where its memory was revoked.
 pub data Verdict : Type 0 where
   Refuses : (reason : ℕ) → Verdict
   Gives : (xid : ℕ) → (outcome : Option Outcome) → Verdict
@@ -31,7 +29,7 @@ reply_xid (replies.ProgMismatch xid low high) = xid
 reply_xid (replies.RpcMismatch xid low high) = xid
 reply_xid (replies.AuthError xid stat) = xid
 
--- the reply that a message conveys is one, and under its header's xid
+-- The payload has to be an RPC reply (RFC 5531 section 9) with the xid of the header.
 abbrev pub by_head : ℕ → List ℕ → Result ReplyHead ℕ → Verdict
 by_head xid payload (Ok head) = if reply_xid head == xid then Gives xid (Some (outcomes.Reply payload)) else Refuses REASON_XID
 by_head xid payload (Err at) = Refuses REASON_HEAD
@@ -40,7 +38,7 @@ abbrev pub by_payload : ℕ → Option (List ℕ) → Verdict
 by_payload xid None = Refuses REASON_CHUNKS
 by_payload xid (Some payload) = by_head xid payload (reply_of payload)
 
--- of a call whose memory was taken back the lists alone are judged
+-- The lists have to be those offered. Of a call whose memory was revoked nothing else is judged.
 abbrev pub by_lists : ClientState → ℕ → OutstandingCall → Option (List ℕ) → ChunkLists → Bool → Verdict
 by_lists k place o inline lists false = Refuses REASON_CHUNKS
 by_lists k place o inline lists true =
@@ -58,7 +56,7 @@ abbrev pub by_call : ClientState → ℕ → List ℕ → Body → Option Outsta
 by_call k place message body None = Refuses REASON_CALL
 by_call k place message body (Some o) = by_body k place o message body
 
--- the call that a message may answer: it is out, and its Send is written
+-- the call that a message answers: it is outstanding, and its Send is written
 abbrev pub answered_call : ClientState → ℕ → Option OutstandingCall
 answered_call k xid = find (λ o. o.xid == xid && o.is_written) k.outstanding
 
@@ -69,6 +67,7 @@ by_header k place message (Err (faults.Version version)) = Refuses REASON_VERSIO
 by_header k place message (Err (faults.Kind kind)) = Refuses REASON_KIND
 by_header k place message (Err (faults.BadChunks at)) = Refuses REASON_KIND
 
--- a message that becomes whole at a place of the stream
+-- The verdict on a message that becomes whole at a place of the stream. Of several reasons the order is: a short message, another
+-- version, another kind or lists that can't be decoded, an xid that isn't outstanding, other lists, no RPC reply, another xid.
 unfoldable pub verdict : ClientState → ℕ → List ℕ → Verdict
 verdict k place message = by_header k place message (header_of message)

@@ -12,8 +12,8 @@ use Rattle.nr_reduce.specs.Plans.{Plan, TooLarge, plan_of}
 use Rattle.nr_link.specs.ReceiveState.{ReceiveState, nothing_received}
 use Rattle.nr_reduce.specs.OfferedRegions.{Region, region_grants, region_bytes}
 
--- A call that is out: accepted, with no message of its xid whole yet. It has the plan by which it goes, its first STag, and
--- whether its Send is written and its memory was taken back.
+-- A call that is outstanding: accepted, with no message of its xid received. It has its plan, its first STag, and whether its Send
+-- is written and its memory revoked.
 pub record OutstandingCall : Type 0 where
   pub xid : ℕ
   pub call : Call
@@ -22,10 +22,10 @@ pub record OutstandingCall : Type 0 where
   pub is_written : Bool
   pub is_revoked : Bool
 
--- What a client knows: the untagged messages of the server so far; whether the server's hello came; how many calls it
--- accepted, and the STag that it gives next; the calls that are out, in order; the regions that it offered so far, and the
--- server's accesses to them; how many of its responses aren't written; the outcomes that came, in order; what the last message
--- grants.
+-- The state of a client: what it received; whether that has the server's hello; how many calls it accepted, and the STag that it
+-- gives next; the outstanding calls, in the order of their Submits; the regions that it offered, and the server's tagged segments;
+-- how many of its Read Responses aren't written; the outcomes that messages brought, in order; the credits that the last message
+-- grants (RFC 8166 section 3.3).
 pub record ClientState : Type 0 where
   pub received : ReceiveState
   pub has_hello : Bool
@@ -52,7 +52,7 @@ initial_state opened = record {
   grant = 1;
 }
 
--- the bytes that a Send has at most, from the client and to it, by what both hellos agree
+-- the bytes that a Send has at most, towards the server and from it
 abbrev pub up_max : ClientState → ℕ
 up_max k = send_max
 
@@ -63,10 +63,10 @@ down_max k = send_max
 unfoldable pub call_payload : ℕ → Call → List ℕ
 call_payload xid call = call_encoding (Version2 xid call.prog call.vers call.proc call.cred 0) call.args
 
--- how a call would go now, under an xid
+-- the plan of a call under an xid
 unfoldable pub plan_for : ClientState → ℕ → Call → Form → Result Plan TooLarge
 plan_for k xid call form = plan_of (call_payload xid call) form (up_max k) (down_max k)
 
--- what its regions hold at a place
+-- what its regions hold, by STag, where so many bytes were received
 abbrev pub memory_at : ClientState → ℕ → ℕ → List ℕ
 memory_at k place stag = region_bytes (region_grants place k.regions) k.regions k.reaches stag

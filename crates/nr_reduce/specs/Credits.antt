@@ -7,14 +7,15 @@ use Rattle.nr_reduce.specs.declared.mark.Opened.{Opened}
 use Rattle.nr_reduce.specs.Run.{client}
 use Rattle.nr_reduce.specs.AtEachMark.{AtEachMark}
 
--- how many accepted calls have no message of their xid whole yet, and what the last message grants
+-- The calls that are outstanding: accepted, with no message of their xid received. The credits that the last message grants: 1
+-- before the first message.
 unfoldable pub calls_outstanding : Opened → ℕ → List Mark → ℕ
 calls_outstanding opened link run = length (client opened link run).state.outstanding
 
 unfoldable pub credits_granted : Opened → ℕ → List Mark → ℕ
 credits_granted opened link run = (client opened link run).state.grant
 
--- a call goes out only while fewer are out than are granted
+-- a call is accepted only while fewer calls are outstanding than are granted
 abbrev pub WithinGrant : Opened → ℕ → List Mark → Mark → Type 0
 WithinGrant opened link before (marks.Submit l call form (submissions.Accepted xid)) = l ≡ link → calls_outstanding opened link before < credits_granted opened link before
 WithinGrant opened link before mark = Unit {0}

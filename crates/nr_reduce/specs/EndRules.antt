@@ -1,17 +1,17 @@
--- An end of a link as a machine over its events: what it writes for each, what it knows after each, and why one ends it.
+-- An end of a link as a machine over its events.
 use Rattle.std.specs.Prelude.{ℕ, ◌+◌, List, [], ◌∷◌, ◌++◌, Option, None, Some}
 use Rattle.nr_link.specs.declared.end.End.{End}
 use Rattle.nr_reduce.specs.Events.{Event, events}
 
--- ---- Rules of an end: of what it knows by then, why an event ends it, what an event calls for, and what it knows after it.
--- The words with which it ends are called for by the event that ends it; nothing behind that event counts.
+-- The rules of an end, by its state before an event: why the event ends it, what output is due for the event, and its state after
+-- it. An event that ends it has the final output instead, and no later event counts.
 pub record Rules (S : Type 0) : Type 0 where
   pub end_at : S → Event → Option End
   pub output_at : S → Event → List ℕ
   pub state_after : S → Event → S
   pub final_output : End → List ℕ
 
--- how far an end is: what it knows, and why it ended, once it has
+-- the state of an end, and why it ended, once it has
 pub record EndState (S : Type 0) : Type 0 where
   pub state : S
   pub ended : Option End
@@ -39,7 +39,7 @@ module _ {S : Type 0} (rules : Rules S) where
   abbrev pub output_for : EndState S → Event → List ℕ
   output_for r event = output_for_in r.state event r.ended
 
-  -- after some events, and all that they call for
+  -- after some events, and all output that is due for them
   abbrev pub end_state_after : EndState S → List Event → EndState S
   end_state_after r [] = r
   end_state_after r (event ∷ events) = end_state_after (next_end_state r event) events

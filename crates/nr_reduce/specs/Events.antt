@@ -1,4 +1,5 @@
--- What happens at one end of a link, in order: the marks of its side, as that end sees them.
+-- What happens at one end of a link, in order, told by the marks of its side. Marks of other links and of the other side are no
+-- events of it, nor are what is handed to a caller and what a caller forgets.
 use Rattle.std.specs.Prelude.{ℕ, ◌+◌, Bool, true, false, ◌==◌, ◌&&◌, List, [], ◌∷◌, ◌++◌, length, map}
 use Rattle.nr_wire.specs.declared.hello.Side.{Side}
 use Rattle.nr_wire.specs.declared.hello.Side.TheVariants.{Initiator, Responder}
@@ -8,16 +9,14 @@ use Rattle.nr_reduce.specs.declared.mark.Mark.TheVariants as marks
 use Rattle.nr_reduce.specs.History.{AcceptedCall, ExecutedCall, other, same_side, bytes_received}
 use Rattle.nr_link.specs.Frames.{Frame, frames_completed}
 
--- A frame became whole. The client accepted a call, or took the memory of one back, when so many bytes had come. The server
--- executed a call. What was to be written was written.
+-- A frame was received whole. The client accepted a call, or the memory of a call was revoked, when so many bytes had been
+-- received. The server executed a call. The queue was written.
 pub data Event : Type 0 where
   FrameReceived : (frame : Frame) → Event
   CallSubmitted : (place : ℕ) → (call : AcceptedCall) → Event
   MemoryRevoked : (place xid : ℕ) → Event
   CallExecuted : (call : ExecutedCall) → Event
   QueueWritten : Event
-
--- ---- The events of a side's marks
 
 abbrev pub if_own : Bool → List Event → List Event
 if_own true events = events

@@ -36,14 +36,14 @@ abbrev pub fed_at : ℕ → Side → Mark → List ℕ
 fed_at link side (marks.Fed l s bytes) = if l == link && same_side s side then bytes else []
 fed_at link side mark = []
 
--- all that a side sent, and all that it got
+-- all bytes that a side sent, and all that it received
 unfoldable pub bytes_sent : ℕ → Side → List Mark → List ℕ
 bytes_sent link side run = flat_map (written_at link side) run
 
 unfoldable pub bytes_received : ℕ → Side → List Mark → List ℕ
 bytes_received link side run = flat_map (fed_at link side) run
 
--- a call that a client accepted, with the xid under which it goes out
+-- a call that the client accepted, with its xid
 pub record AcceptedCall : Type 0 where
   pub xid : ℕ
   pub call : Call
@@ -61,7 +61,7 @@ accepted_at link mark = []
 unfoldable pub accepted_calls : ℕ → List Mark → List AcceptedCall
 accepted_calls link run = flat_map (accepted_at link) run
 
--- a call that a server executed, with its place in the journal and its reply
+-- a call that the server executed, with its place in the journal and its reply
 pub record ExecutedCall : Type 0 where
   pub xid : ℕ
   pub moment : Moment
@@ -89,7 +89,7 @@ completed_at link mark = []
 unfoldable pub completed_calls : ℕ → List Mark → List CompletedCall
 completed_calls link run = flat_map (completed_at link) run
 
--- the link was dropped
+-- whether the link was dropped
 abbrev pub is_drop_of : ℕ → Mark → Bool
 is_drop_of link (marks.Drop l) = l == link
 is_drop_of link mark = false
@@ -97,7 +97,8 @@ is_drop_of link mark = false
 abbrev pub is_dropped : ℕ → List Mark → Bool
 is_dropped link run = list_any (is_drop_of link) run
 
--- A call ended without an outcome: its caller forgot it, revoked its memory, or was told that the link ended.
+-- Whether a call was given up before its outcome was handed over: its caller forgot it, revoked its memory, or was told that the
+-- link ended.
 abbrev pub abandons : ℕ → ℕ → Mark → Bool
 abandons link xid (marks.Forget l x) = l == link && x == xid
 abandons link xid (marks.Revoke l x bytes) = l == link && x == xid

@@ -3,7 +3,7 @@ use Rattle.std.specs.Prelude.{◌<◌, ◌≤◌}
 use Rattle.nr_reduce.specs.declared.mark.Opened.{Opened}
 use Rattle.nr_reduce.specs.Limits.{numbers_end, most_credits}
 
--- the numbers that both ends of a link are opened with: no first number is 0, and credits are from 1 to 64
+-- no first number is 0, and credits are from 1 to most_credits
 pub record IsOpened (opened : Opened) : Type 0 where
   pub xid : 0 < opened.first_xid
   pub stag : 0 < opened.first_stag

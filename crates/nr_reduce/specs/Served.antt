@@ -1,4 +1,4 @@
--- All that the server of a link executes and writes.
+-- The law of a link's server: which calls it executes, and what it writes.
 use Rattle.std.specs.Prelude.{◌≡◌, ℕ, ◌==◌, ◌&&◌, if◌then◌else◌, List, [], ◌∷◌, ◌++◌, length, Option, None, Some, slice_get}
 use Rattle.nr_wire.specs.declared.hello.Side.TheVariants.{Initiator, Responder}
 use Rattle.nr_link.specs.declared.end.End.{End}
@@ -14,7 +14,7 @@ use Rattle.nr_reduce.specs.Matched.{IsPrefixOf}
 use Rattle.nr_reduce.specs.Asked.{IsAll}
 use Rattle.nr_reduce.specs.AtEachMark.{AtEachMark}
 
--- the first call that came whole and isn't executed; a server that ended executes nothing
+-- the first call that became whole and isn't executed; a server that ended executes nothing
 abbrev pub first_ready : List ReadyCall → Option End → Option ReadyCall
 first_ready ready (Some end) = None
 first_ready ready None = slice_get ready 0
@@ -22,14 +22,14 @@ first_ready ready None = slice_get ready 0
 unfoldable pub next_call : Opened → ℕ → List Mark → Option ReadyCall
 next_call opened link run = first_ready (server opened link run).state.ready (server opened link run).ended
 
--- It is executed, with what its Send conveyed.
+-- A call is executed: the next one, with the payload that its Send conveyed.
 pub record IsExecuted (opened : Opened) (link : ℕ) (before : List Mark) (xid : ℕ) (payload : List ℕ) : Type 0 where
   pub call : ReadyCall
   pub is_next : next_call opened link before ≡ Some call
   pub own : xid ≡ call.xid
   pub conveyed : payload ≡ call.payload
 
--- calls are executed in the order in which they came whole, none twice and none passed over
+-- The law of each mark: calls are executed in the order in which they became whole, none twice and none passed over.
 abbrev pub ServedMark : (List ℕ → List ℕ → Type 0) → Opened → ℕ → List Mark → Mark → Type 0
 ServedMark Fills opened link before (marks.Submit l call form answer) = Unit {0}
 ServedMark Fills opened link before (marks.Wrote l Initiator bytes) = Unit {0}
@@ -48,6 +48,6 @@ pub record Served (opened : Opened) (link : ℕ) (run : List Mark) : Type 0 wher
   pub each : AtEachMark (ServedMark IsAll opened link) [] run
   pub written : HasWritten opened link Responder run
 
--- as far as a run goes: what is written is the first of what is owed
+-- so far: what is written is a prefix of the output due
 abbrev pub ServedSoFar : Opened → ℕ → List Mark → Type 0
 ServedSoFar opened link run = AtEachMark (ServedMark IsPrefixOf opened link) [] run

@@ -58,7 +58,7 @@ server_end opened k (MemoryRevoked place xid) = None
 server_end opened k (CallExecuted call) = None
 server_end opened k QueueWritten = None
 
--- a refused hello is answered where the client asks for markers or a CRC
+-- a client that asks for markers or a CRC is rejected by a hello (RFC 5044 section 7.1)
 abbrev pub is_rejected : ℕ → Bool
 is_rejected reason = reason == REASON_FLAGS
 
@@ -75,7 +75,7 @@ abbrev pub sends_from : ℕ → List (List ℕ) → List ℕ
 sends_from msn [] = []
 sends_from msn (message ∷ messages) = send msn message ++ sends_from (msn + 1) messages
 
--- the requests that are open behind a frame and weren't before
+-- the reads that are open after a frame and weren't before
 abbrev pub newly_open_reads : FrameEffect → List PendingRead
 newly_open_reads s = drop s.kept (take open_reads_max s.reads)
 
@@ -83,11 +83,12 @@ abbrev pub requests_from : ℕ → List PendingRead → List ℕ
 requests_from msn [] = []
 requests_from msn (r ∷ reads) = read_request msn r.sink r.at r.size r.stag r.to ++ requests_from (msn + 1) reads
 
--- an error message first, and then requests that may go
+-- the error message of a frame goes first, and then the Read Requests of reads that are newly open
 abbrev pub effect_output : ServerState → FrameEffect → List ℕ
 effect_output k s = sends_from (k.messages_queued + 1) s.errors ++ requests_from (k.requests_sent + 1) (newly_open_reads s)
 
--- the answer to a call: RDMA Writes into what it offered and then one Send, or an error where its offer doesn't hold the reply
+-- The output for an executed call (RFC 8166 sections 3.4.6 and 3.5): RDMA Writes into what it offered and then one Send, or
+-- ERR_CHUNK where its offer doesn't hold the reply.
 abbrev pub offer_by : Option PendingCall → ChunkLists
 offer_by None = record { read = []; write = []; reply = None }
 offer_by (Some c) = c.lists
@@ -121,7 +122,7 @@ abbrev pub received_by : ReceiveState → Result Segment ℕ → ReceiveState
 received_by h (Ok segment) = received_after h segment
 received_by h (Err reason) = h
 
--- how many bytes of the first request's answer came
+-- how many bytes of the oldest read's response were received
 abbrev pub response_bytes_after : ServerState → Result Segment ℕ → ℕ
 response_bytes_after k (Ok (Tagged last opcode stag to payload)) = if last then 0 else k.response_bytes + length payload
 response_bytes_after k (Ok (Untagged last opcode w queue msn offset payload)) = k.response_bytes

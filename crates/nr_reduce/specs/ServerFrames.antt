@@ -1,4 +1,4 @@
--- What comes of one frame at a server, before an end is thought of: calls that wait, reads, error messages.
+-- What a frame that breaks no rule of the link makes of a server: pending calls, reads, calls that are ready, error messages.
 use Rattle.std.specs.Prelude.{ℕ, ◌+◌, ◌-◌, Bool, not, ◌&&◌, ◌==◌, if◌then◌else◌, List, [], ◌∷◌, ◌++◌, length, take, drop, Option, None, Some, Result, Ok, Err}
 use Rattle.std.specs.List.{filter, find}
 use Rattle.nr_header.specs.Reading.{word_at}
@@ -17,10 +17,8 @@ use Rattle.nr_reduce.specs.ServerMessages.{chunk_bytes, payload_of, CallVerdict,
 use Rattle.nr_reduce.specs.ServerMessages.CallVerdict.{Refuses, IsReady}
 use Rattle.nr_reduce.specs.ServerMessages.Verdict.{Stops, OtherVersion, BadChunks, Opens}
 
--- ---- What a frame makes: before it an end is thought of
-
--- What comes of a frame: the calls, reads and regions behind it, what it makes ready, the error messages that it calls for,
--- how many of the requests that were open are still, and a reason to end that is met on the way.
+-- The pending calls, reads and regions after a frame, the calls that it makes ready, the error messages that are due for it, how
+-- many of the reads that were open still are, and a reason to end.
 pub record FrameEffect : Type 0 where
   pub calls : List PendingCall
   pub reads : List PendingRead
@@ -49,7 +47,7 @@ made_ready (IsReady r) s = record s { ready = r ∷ [] }
 abbrev pub if_whole : ServerState → ℕ → PendingCall → FrameEffect → FrameEffect
 if_whole k place c s = if is_read s.reads c.number then made_ready (by_payload c (payload_of k place c)) s else s
 
--- a message
+-- a Send that makes a call pending
 abbrev pub opened_with : ServerState → ℕ → PendingCall → FrameEffect → FrameEffect
 opened_with k place c s =
     let regions : List Region = k.regions ++ regions_of k place c in
@@ -62,7 +60,7 @@ message_effect k place message OtherVersion =
 message_effect k place message BadChunks = record (no_effect k) { errors = chunk_error (word_at 0 message) (credit_word k) ∷ [] }
 message_effect k place message (Opens c) = opened_with k place c (no_effect k)
 
--- A call is refused whose stream is read and has no item at its chunk: its requests that wait are dropped.
+-- A call whose stream is read and whose read chunk isn't its item's is refused: its reads that wait are dropped.
 abbrev pub refused_with : ServerState → PendingCall → FrameEffect → FrameEffect
 refused_with k c s = record s {
   calls = filter (λ other. not (other.number == c.number)) s.calls;
@@ -70,7 +68,7 @@ refused_with k c s = record s {
   errors = chunk_error c.xid (credit_word k) ∷ [];
 }
 
--- the last byte of a request's answer came
+-- whether a read was the last one of its call's stream
 abbrev pub is_stream_read : PendingCall → PendingRead → List PendingRead → Bool
 is_stream_read c r reads = r.position == 0 && is_read_at reads c.number 0
 
@@ -88,7 +86,7 @@ response_effect k place [] = no_effect k
 response_effect k place (r ∷ reads) =
     read_effect k place r (call_of_number k r.number) (record (no_effect k) { reads = reads; kept = length (open_reads k) - 1 })
 
--- the last segment of a Read Response ends the request that is expected
+-- the last segment of a Read Response closes the oldest read
 abbrev pub tagged_effect : ServerState → ℕ → ℕ → Bool → FrameEffect
 tagged_effect k place opcode last = if opcode == OPCODE_READ_RESPONSE && last then response_effect k place k.reads else no_effect k
 
@@ -96,7 +94,7 @@ abbrev pub by_message : ServerState → ℕ → Option (List ℕ) → FrameEffec
 by_message k place None = no_effect k
 by_message k place (Some message) = message_effect k place message (verdict k message)
 
--- what was placed by a frame counts for it
+-- with the access of this frame's own segment
 abbrev pub with_reach : ServerState → Frame → Segment → ServerState
 with_reach k f segment = record k { reaches = k.reaches ++ reach_of f segment }
 

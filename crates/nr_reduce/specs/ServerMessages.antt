@@ -1,4 +1,4 @@
--- What a server makes of a message of its client (RFC 8166 sections 4.3 to 4.5), and of a call whose chunks are read.
+-- What a server makes of a message of its client (RFC 8166 sections 4.2 to 4.5), and of a call whose chunks are read.
 use Rattle.std.specs.Prelude.{ℕ, ◌+◌, Bool, not, ◌||◌, ◌==◌, nat_lt, if◌then◌else◌, List, [], length, drop, Option, None, Some, Result, Ok, Err}
 use Rattle.std.specs.List.{list_any}
 use Rattle.nr_header.specs.Constants.{VERSION, DONE, ERROR}
@@ -18,7 +18,7 @@ use Rattle.nr_reduce.specs.Chunks.{total_at, suits, call_conveyed}
 use Rattle.nr_reduce.specs.ServerState.{PendingCall, ReadyCall, ServerState, next_stag, is_pending, memory_at}
 use Rattle.nr_reduce.specs.ServerReads.{chunks_of, sink_of}
 
--- the bytes of a call's chunk; one without bytes has no region
+-- the bytes of a call's read chunk; one without bytes has no region
 abbrev pub chunk_bytes : ServerState → ℕ → PendingCall → ℕ → List ℕ
 chunk_bytes k place c position = memory_at k place (sink_of k.regions c.number position)
 
@@ -29,7 +29,8 @@ abbrev pub call_xid : CallHead → ℕ
 call_xid (calls.Version2 xid prog vers proc cred args_at) = xid
 call_xid (calls.Other xid rpcvers) = xid
 
--- What a call that is whole by its chunks comes to: a reason to end, or it is ready.
+-- What the server makes of a call once its chunks are read: a reason to end, or it is ready to be executed. Its payload has to be
+-- an RPC call (RFC 5531 section 9) with the xid of the header.
 pub data CallVerdict : Type 0 where
   Refuses : (reason : ℕ) → CallVerdict
   IsReady : (ready : ReadyCall) → CallVerdict
@@ -43,9 +44,7 @@ abbrev pub by_payload : PendingCall → Option (List ℕ) → CallVerdict
 by_payload c None = Refuses REASON_HEAD
 by_payload c (Some payload) = by_head c payload (call_of payload)
 
--- ---- Messages of the client
-
--- What the server makes of a message: a reason to end; an error message of versions or of chunks; or a call that waits.
+-- What the server makes of a message: a reason to end; ERR_VERS; ERR_CHUNK; or a pending call.
 pub data Verdict : Type 0 where
   Stops : (reason : ℕ) → Verdict
   OtherVersion : Verdict
@@ -55,13 +54,14 @@ pub data Verdict : Type 0 where
 abbrev pub by_need : ServerState → PendingCall → Verdict
 by_need k c = if nat_lt numbers_end (next_stag k + length (chunks_of c.lists)) then Stops REASON_STAGS else Opens c
 
--- the call of a header whose stream is there, or isn't yet
+-- A call whose stream is in the message, or has to be read. Its read chunk has to be the item's, which is judged once the stream is
+-- there.
 abbrev pub by_stream : ServerState → ChunkLists → ℕ → Option (List ℕ) → Verdict
 by_stream k lists xid None = by_need k (record { number = k.received.sends + 1; xid = xid; lists = lists; inline = None })
 by_stream k lists xid (Some stream) =
     if suits stream lists.read then by_need k (record { number = k.received.sends + 1; xid = xid; lists = lists; inline = Some stream }) else BadChunks
 
--- RDMA_NOMSG has its stream in the chunk at position 0, which may have no bytes
+-- RDMA_NOMSG has its stream in the read chunk at position 0, which may have no bytes (RFC 8166 section 3.5.3)
 abbrev pub has_position : List ReadSegment → Bool
 has_position read = list_any (λ r. r.position == 0) read
 
@@ -78,7 +78,8 @@ abbrev pub by_header : ServerState → List ℕ → Result Header HeaderFault �
 by_header k message (Ok header) = by_body k header.xid message header.body
 by_header k message (Err fault) = BadChunks
 
--- the version word, the kinds that a client doesn't send, an xid that is open, and then the header
+-- The verdict on a message, in this order: another version, a kind that a client doesn't send, an xid that is pending, the header
+-- and its lists, the read chunk, the STags that its reads need.
 unfoldable pub verdict : ServerState → List ℕ → Verdict
 verdict k message =
     if not (word_at 4 message == VERSION) then OtherVersion

@@ -9,15 +9,15 @@ use Rattle.nr_link.specs.ReceiveState.{ReceiveState, nothing_received}
 use Rattle.nr_link.specs.SegmentFaults.{is_begun}
 use Rattle.nr_reduce.specs.OfferedRegions.{Region, region_grants, region_bytes}
 
--- A call whose Send is whole and that isn't answered: the number of its Send, its xid, its lists, and its stream, where that
--- came with the Send.
+-- A call that is pending: its Send is whole, and it isn't answered. It has the number of its Send, its xid and lists, and its
+-- stream where that was in the Send (RDMA_MSG).
 pub record PendingCall : Type 0 where
   pub number : ℕ
   pub xid : ℕ
   pub lists : ChunkLists
   pub inline : Option (List ℕ)
 
--- A Read Request that is open or waits to go: for an entry of the read list of a call, at a position, into a place of a sink.
+-- A read that is open, or waits until fewer are: of an entry of a call's read list, into a place of a sink region.
 pub record PendingRead : Type 0 where
   pub number : ℕ
   pub position : ℕ
@@ -27,17 +27,16 @@ pub record PendingRead : Type 0 where
   pub stag : ℕ
   pub to : ℕ
 
--- a call that is whole, and waits to be executed
+-- a call whose payload is whole, and that waits to be executed
 pub record ReadyCall : Type 0 where
   pub number : ℕ
   pub xid : ℕ
   pub payload : List ℕ
 
--- What a server knows: the untagged messages of the client so far; the calls that aren't answered, in the order of their
--- Sends; the Read Requests for them, in the order of Sends and lists, of which the first reads_max are open, and how many bytes
--- of the first one's answer came; how many it sent so far; the regions that it gave so far, and the client's accesses to them;
--- how many messages it sent, and how many of these are written; the calls that wait to be executed, in the order in which they
--- became whole; its credit word.
+-- The state of a server: what it received; the pending calls, in the order of their Sends; the reads for them, in the order of
+-- Sends and lists, of which the first open_reads_max are open, and how many bytes of the first one's response were received; how
+-- many Read Requests it sent; the regions that it offered, and the client's tagged segments; how many messages it queued, and how
+-- many of these are written; the calls that wait to be executed, in the order in which they became whole; its credits.
 pub record ServerState : Type 0 where
   pub received : ReceiveState
   pub calls : List PendingCall
@@ -66,22 +65,22 @@ initial_state opened = record {
   credit = opened.granted;
 }
 
--- the bytes that a Send has at most, to the server and from it, by what both hellos agree
+-- the bytes that a Send has at most, towards the server and from it
 abbrev pub up_max : ServerState → ℕ
 up_max k = send_max
 
 abbrev pub down_max : ServerState → ℕ
 down_max k = send_max
 
--- the credit word of a message that is queued now
+-- the credit word of its messages (RFC 8166 section 3.3)
 abbrev pub credit_word : ServerState → ℕ
 credit_word k = k.credit
 
--- the STag that is given next: the server's begin with 1
+-- the STag that it gives next, from 1 on
 abbrev pub next_stag : ServerState → ℕ
 next_stag k = 1 + length k.regions
 
--- Receives in use: each Send that is begun has one, until its answer is written. A whole Send is answered, or its call waits.
+-- The receives in use: one for each Send that is begun, until its answer is written. A whole Send is pending or answered.
 abbrev pub one_if : Bool → ℕ
 one_if true = 1
 one_if false = 0
@@ -89,11 +88,10 @@ one_if false = 0
 unfoldable pub receives_in_use : ServerState → ℕ
 receives_in_use k = (k.messages_queued + length k.calls + one_if (is_begun k.received.begun)) - k.messages_written
 
--- the xid is that of a call that isn't answered
+-- whether an xid is that of a pending call
 abbrev pub is_pending : ServerState → ℕ → Bool
 is_pending k xid = list_any (λ c. c.xid == xid) k.calls
 
--- ---- Payloads
-
+-- what its regions hold, by STag, where so many bytes were received
 abbrev pub memory_at : ServerState → ℕ → ℕ → List ℕ
 memory_at k place stag = region_bytes (region_grants place k.regions) k.regions k.reaches stag

@@ -15,8 +15,8 @@ use Rattle.nr_reduce.specs.ClientState.{ClientState, plan_for}
 use Rattle.nr_reduce.specs.Run.{client}
 use Rattle.nr_reduce.specs.History.{is_dropped}
 
--- What a client answers to a call: the first that stands of its end, a room that the call passes, no credit left, too few xids
--- or STags left; else it goes out under the next xid.
+-- The first of these that stands: it has ended; the call needs more room than there is; no credit is left; too few xids or STags
+-- are left. Else the call is accepted under the next xid.
 abbrev pub next_xid : Opened → ClientState → ℕ
 next_xid opened k = opened.first_xid + k.calls_accepted
 
@@ -42,6 +42,6 @@ abbrev pub unless_dropped : Bool → Submission → Submission
 unless_dropped true answer = submissions.Dropped
 unless_dropped false answer = answer
 
--- what a Submit after these marks is answered
+-- the answer to a Submit after these marks
 unfoldable pub submit_answer_after : Opened → ℕ → List Mark → Call → Form → Submission
 submit_answer_after opened link run call form = unless_dropped (is_dropped link run) (submit_answer opened (client opened link run) call form)
