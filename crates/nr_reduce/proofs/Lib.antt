@@ -1,6 +1,5 @@
 pub mod Answering
 pub mod Asking
-pub mod Drained
 pub mod Laid
 pub mod Laws
 pub mod Looks

@@ -397,26 +397,26 @@ after-goes opened k QueueWritten = stays k _ refl (λ n. omega arith)
 -- each number is told once at most, and none that isn't a Send's
 pub record Sound (k : ServerState) : Type 0 where
   pub once : (n : ℕ) → tokens k n ≤ 1
-  pub bytes_sent : (n : ℕ) → k.received.sends < n → tokens k n ≡ 0
+  pub number_sent : (n : ℕ) → k.received.sends < n → tokens k n ≡ 0
 
 -- a Send that is settled for good
 pub record Settled (n : ℕ) (k : ServerState) : Type 0 where
-  pub bytes_sent : n ≤ k.received.sends
+  pub number_sent : n ≤ k.received.sends
   pub none : tokens k n ≡ 0
 
 sound-goes : (k after : ServerState) → Goes k after → Sound k → Sound after
 sound-goes k after g s = record {
   once = λ n. elim (cases_lt k.received.sends n) [
-    | inl lt ↦ (let a = g.new n in let b = s.bytes_sent n lt in omega (arith, a, b))
+    | inl lt ↦ (let a = g.new n in let b = s.number_sent n lt in omega (arith, a, b))
     | inr le ↦ (let a = g.known n le in let b = s.once n in omega (arith, a, b))
   ];
-  bytes_sent = λ n lt. (let a = g.beyond n lt in let r = g.rises in let b = s.bytes_sent n (omega (arith, r, lt)) in omega (arith, a, b));
+  number_sent = λ n lt. (let a = g.beyond n lt in let r = g.rises in let b = s.number_sent n (omega (arith, r, lt)) in omega (arith, a, b));
 }
 
 settled-goes : (n : ℕ) (k after : ServerState) → Goes k after → Settled n k → Settled n after
 settled-goes n k after g s = record {
-  bytes_sent = (let a = s.bytes_sent in let r = g.rises in omega (arith, a, r));
-  none = (let a = g.known n s.bytes_sent in let b = s.none in omega (arith, a, b));
+  number_sent = (let a = s.number_sent in let r = g.rises in omega (arith, a, r));
+  none = (let a = g.known n s.number_sent in let b = s.none in omega (arith, a, b));
 }
 
 -- what is kept by each event is kept by all
@@ -434,7 +434,7 @@ kept opened P goes r (event ∷ events) p = kept opened P goes (next_end_state (
 
 pub sound : (opened : Opened) (link : ℕ) (run : List Mark) → Sound (server opened link run).state
 unfolding server
-sound opened link run = kept opened Sound sound-goes (initial_server opened) (events link Responder run) (record { once = λ n. omega arith; bytes_sent = λ n lt. omega arith })
+sound opened link run = kept opened Sound sound-goes (initial_server opened) (events link Responder run) (record { once = λ n. omega arith; number_sent = λ n lt. omega arith })
 
 settled-later : (opened : Opened) (link n : ℕ) (run more : List Mark) → Settled n (server opened link run).state → Settled n (server opened link (run ++ more)).state
 settled-later opened link n run [] s = subst (λ (r : List Mark). Settled n (server opened link r).state) (sym (append-nil run)) s
@@ -467,8 +467,8 @@ settled-one opened link run xid moment payload place reply r is =
     let e : ExecutedCall = record { xid = xid; moment = moment; payload = payload; place = place; reply = reply } in
     let once = s.once r.number in
     let there : Settled r.number (server_state_after opened k (CallExecuted e)) = record {
-      bytes_sent = elim (cases_lt k.received.sends r.number) [
-        | inl lt ↦ (let a = s.bytes_sent r.number lt in let b = f.1 in absurd (omega (arith, a, b)))
+      number_sent = elim (cases_lt k.received.sends r.number) [
+        | inl lt ↦ (let a = s.number_sent r.number lt in let b = f.1 in absurd (omega (arith, a, b)))
         | inr le ↦ le
       ];
       none = (let a = f.1 in let b = f.2 in omega (arith, once, a, b));

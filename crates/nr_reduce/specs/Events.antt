@@ -22,22 +22,27 @@ abbrev pub if_own : Bool → List Event → List Event
 if_own true events = events
 if_own false events = []
 
+-- The events of a mark at a side of a link that received `place` bytes so far, where `completed` tells the frames that more bytes
+-- make whole.
+abbrev pub mark_events : ℕ → Side → ℕ → (List ℕ → List Frame) → Mark → List Event
+mark_events link side place completed (marks.Fed l s bytes) = if_own (l == link && same_side s side) (map FrameReceived (completed bytes))
+mark_events link side place completed (marks.Wrote l s bytes) = if_own (l == link && same_side s side) (QueueWritten ∷ [])
+mark_events link side place completed (marks.Submit l call form (submissions.Accepted xid)) =
+    if_own (l == link && same_side Initiator side) (CallSubmitted place (record { xid = xid; call = call; form = form }) ∷ [])
+mark_events link side place completed (marks.Submit l call form (submissions.Refused why)) = []
+mark_events link side place completed (marks.Submit l call form submissions.Dropped) = []
+mark_events link side place completed (marks.Execute l xid moment payload at reply) =
+    if_own (l == link && same_side Responder side) (CallExecuted (record { xid = xid; moment = moment; payload = payload; place = at; reply = reply }) ∷ [])
+mark_events link side place completed (marks.Revoke l xid bytes) = if_own (l == link && same_side Initiator side) (MemoryRevoked place xid ∷ [])
+mark_events link side place completed (marks.Done l xid outcome) = []
+mark_events link side place completed (marks.Lost l xid) = []
+mark_events link side place completed (marks.Forget l xid) = []
+mark_events link side place completed (marks.Drop l) = []
+
+-- the events of a mark at a side of a link, given the marks before it
 abbrev pub events_at : ℕ → Side → List Mark → Mark → List Event
-events_at link side before (marks.Fed l s bytes) =
-    if_own (l == link && same_side s side) (map FrameReceived (frames_completed (other side) (bytes_received link side before) bytes))
-events_at link side before (marks.Wrote l s bytes) = if_own (l == link && same_side s side) (QueueWritten ∷ [])
-events_at link side before (marks.Submit l call form (submissions.Accepted xid)) =
-    if_own (l == link && same_side Initiator side) (CallSubmitted (length (bytes_received link Initiator before)) (record { xid = xid; call = call; form = form }) ∷ [])
-events_at link side before (marks.Submit l call form (submissions.Refused why)) = []
-events_at link side before (marks.Submit l call form submissions.Dropped) = []
-events_at link side before (marks.Execute l xid moment payload place reply) =
-    if_own (l == link && same_side Responder side) (CallExecuted (record { xid = xid; moment = moment; payload = payload; place = place; reply = reply }) ∷ [])
-events_at link side before (marks.Revoke l xid bytes) =
-    if_own (l == link && same_side Initiator side) (MemoryRevoked (length (bytes_received link Initiator before)) xid ∷ [])
-events_at link side before (marks.Done l xid outcome) = []
-events_at link side before (marks.Lost l xid) = []
-events_at link side before (marks.Forget l xid) = []
-events_at link side before (marks.Drop l) = []
+events_at link side before mark =
+    mark_events link side (length (bytes_received link side before)) (frames_completed (other side) (bytes_received link side before)) mark
 
 abbrev pub events_from : ℕ → Side → List Mark → List Mark → List Event
 events_from link side before [] = []
