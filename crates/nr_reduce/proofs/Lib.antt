@@ -1,7 +1,7 @@
 pub mod Answering
 pub mod Asking
 pub mod Laid
-pub mod Laws
+pub mod SoFarLaws
 pub mod Looks
 pub mod Once
 pub mod Opens
@@ -10,3 +10,5 @@ pub mod Shapes
 pub mod Standing
 pub mod Steps
 pub mod Undone
+pub mod Touches
+pub mod Sizes

@@ -73,7 +73,7 @@ at_place plain J run before after l xid moment payload place reply is h replied 
     let behind : drop place J ≡ own ++ journal plain after = ap (λ (es : List Entry). drop place es) whole ∙ drop_at (journal plain before) (own ++ journal plain after) place (sym at) in record {
       within = omega (arith, at, ap (λ (es : List Entry). length es) whole, length-append (journal plain before) (own ++ journal plain after));
       replied = subst (λ (es : List Entry). plain.Replies es moment payload reply) (sym front) replied;
-      entries_added = ap (λ (es : List Entry). take (length own) es) behind ∙ take_at own (journal plain after) (length own) refl;
+      entry = ap (λ (es : List Entry). take (length own) es) behind ∙ take_at own (journal plain after) (length own) refl;
     }
 
 -- ---- Once

@@ -21,6 +21,8 @@ use Rattle.nr_reduce.specs.Client.{client_rules, initial_client}
 use Rattle.nr_reduce.specs.Server.{server_rules, initial_server}
 use Rattle.nr_reduce.specs.Run.{client, server, output_due}
 use Rattle.nr_reduce.specs.AtEachMark.{AtEachMark}
+use Rattle.nr_reduce.specs.Matched.{IsPrefixOf}
+use Rattle.nr_reduce.specs.Asked.{IsAll}
 use Rattle.nr_reduce.specs.Standing.{input_events, StandsFor, ClientStandsFor, ServerStandsFor}
 use Rattle.nr_reduce.proofs.Steps.{client-one, output_due_up-one, server-one, output_due_down-one}
 
@@ -104,3 +106,24 @@ server-begins opened link = record {
   received = sym (input_of-none Initiator);
   output = refl;
 }
+
+due-queue : (sent taken left due : List ℕ) → sent ++ (taken ++ left) ≡ due → IsPrefixOf (sent ++ taken) due × (left ≡ [] → IsAll (sent ++ taken) due)
+due-queue sent taken left due is = (
+  (left, append_assoc sent taken left ∙ is),
+  λ none. sym (append-nil (sent ++ taken)) ∙ ap (λ (xs : List ℕ). (sent ++ taken) ++ xs) (sym none) ∙ append_assoc sent taken left ∙ is,
+)
+
+-- what is written from a queue is due, and all of it where nothing is left
+pub client-queue : (opened : Opened) (link : ℕ) (end : EndState ClientState) (input : InputState) (taken left : List ℕ) (run : List Mark) →
+    ClientStandsFor opened link end input (taken ++ left) run →
+    IsPrefixOf (bytes_sent link Initiator run ++ taken) (output_due opened link Initiator run)
+    × (left ≡ [] → IsAll (bytes_sent link Initiator run ++ taken) (output_due opened link Initiator run))
+client-queue opened link end input taken left run s =
+    due-queue (bytes_sent link Initiator run) taken left (output_due opened link Initiator run) s.output
+
+pub server-queue : (opened : Opened) (link : ℕ) (end : EndState ServerState) (input : InputState) (taken left : List ℕ) (run : List Mark) →
+    ServerStandsFor opened link end input (taken ++ left) run →
+    IsPrefixOf (bytes_sent link Responder run ++ taken) (output_due opened link Responder run)
+    × (left ≡ [] → IsAll (bytes_sent link Responder run ++ taken) (output_due opened link Responder run))
+server-queue opened link end input taken left run s =
+    due-queue (bytes_sent link Responder run) taken left (output_due opened link Responder run) s.output

@@ -1,9 +1,10 @@
 -- What one more event, and one more mark, makes of what a side has to write, of how far it is, and of the laws so far.
-use Rattle.std.proofs.Common.{◌≡◌, ℕ, List, [], ◌∷◌, ◌++◌, length, refl, sym, ap, subst, ◌∙◌, append_assoc}
+use Rattle.std.proofs.Common.{◌≡◌, ℕ, Some, List, [], ◌∷◌, ◌++◌, length, refl, sym, ap, subst, ◌∙◌, append_assoc}
 use Rattle.std.proofs.lemmas.List.{append-nil}
 use Rattle.nr_wire.specs.declared.hello.Side.{Side}
 use Rattle.nr_wire.specs.declared.hello.Side.TheVariants.{Initiator, Responder}
 use Rattle.nr_reduce.specs.declared.mark.Mark.{Mark}
+use Rattle.nr_link.specs.declared.end.End.{End}
 use Rattle.nr_reduce.specs.declared.mark.Opened.{Opened}
 use Rattle.nr_reduce.specs.AtEachMark.{AtEachMark}
 use Rattle.nr_link.specs.Output.{own_hello}
@@ -81,3 +82,10 @@ output_due_down-one opened link run mark =
 pub AtEachMark-first : (P : List Mark → Mark → Type 0) (before run more : List Mark) → AtEachMark P before (run ++ more) → AtEachMark P before run
 AtEachMark-first P before [] more h = tt
 AtEachMark-first P before (m ∷ run) more h = (h.0, AtEachMark-first P (before ++ m ∷ []) run more h.1)
+
+-- an end that has ended stays as it is, and no output is due
+pub ended-stays : {S : Type 0} (rules : Rules S) (s : S) (end : End) (es : List Event) →
+    (end_state_after rules (record { state = s; ended = Some end }) es ≡ record { state = s; ended = Some end })
+    × (output_for_all rules (record { state = s; ended = Some end }) es ≡ [])
+ended-stays rules s end [] = (refl, refl)
+ended-stays rules s end (e ∷ es) = ended-stays rules s end es

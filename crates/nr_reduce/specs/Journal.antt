@@ -11,7 +11,7 @@ use Rattle.nr_reduce.specs.AtEachMark.{AtEachMark}
 pub record AtPlace (plain : PlainServer) (J : List Entry) (moment : Moment) (payload : List ℕ) (place : ℕ) (reply : List ℕ) : Type 0 where
   pub within : place ≤ length J
   pub replied : plain.Replies (take place J) moment payload reply
-  pub entries_added : take (length (plain.adds moment payload reply)) (drop place J) ≡ plain.adds moment payload reply
+  pub entry : take (length (plain.adds moment payload reply)) (drop place J) ≡ plain.adds moment payload reply
 
 abbrev pub AtPlaceMark : PlainServer → List Entry → List Mark → Mark → Type 0
 AtPlaceMark plain J before (marks.Execute l xid moment payload place reply) = AtPlace plain J moment payload place reply

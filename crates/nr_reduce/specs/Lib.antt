@@ -27,5 +27,7 @@ pub mod Served
 pub mod Opening
 pub mod Journal
 pub mod Undone
+pub mod PayloadLaws
 pub mod SoFar
 pub mod Standing
+pub mod RunLaws

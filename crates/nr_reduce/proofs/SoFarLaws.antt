@@ -53,3 +53,11 @@ so_far opened link run more full = record {
   matched = AtEachMark-first _ [] run more full.matched;
   grant = AtEachMark-first _ [] run more full.grant;
 }
+
+pub first_part : (opened : Opened) (link : ℕ) (run more : List Mark) → SoFar opened link (run ++ more) → SoFar opened link run
+first_part opened link run more h = record {
+  asked = AtEachMark-first _ [] run more h.asked;
+  served = AtEachMark-first _ [] run more h.served;
+  matched = AtEachMark-first _ [] run more h.matched;
+  grant = AtEachMark-first _ [] run more h.grant;
+}

@@ -1,0 +1,167 @@
+-- What follows from the definitions of a run, for every run.
+use Rattle.std.specs.Prelude.{◌≡◌, ◌≢◌, ℕ, ◌+◌, ◌^◌, ◌<◌, ◌≤◌, false, List, [], ◌∷◌, ◌++◌, length, Option, None, Some, Ok, Contains}
+use Rattle.nr_wire.specs.declared.hello.Side.{Side}
+use Rattle.nr_wire.specs.declared.hello.Side.TheVariants.{Initiator, Responder}
+use Rattle.nr_wire.specs.Segment.{Segment}
+use Rattle.nr_link.specs.declared.end.End.{End}
+use Rattle.nr_link.specs.Frames.{Frame, is_hello}
+use Rattle.nr_link.specs.Output.{own_hello}
+use Rattle.nr_link.specs.Input.{InputState, initial_input, input_of, input_after}
+use Rattle.nr_link.specs.Ending.{frame_segment, missing_access}
+use Rattle.nr_reduce.specs.declared.call.Form.{Form}
+use Rattle.nr_reduce.specs.declared.call.Call.{Call}
+use Rattle.nr_reduce.specs.declared.call.Outcome.{Outcome}
+use Rattle.nr_reduce.specs.declared.call.Submission.TheVariants as submissions
+use Rattle.nr_reduce.specs.declared.mark.Moment.{Moment}
+use Rattle.nr_reduce.specs.declared.mark.Mark.{Mark}
+use Rattle.nr_reduce.specs.declared.mark.Mark.TheVariants as marks
+use Rattle.nr_reduce.specs.declared.mark.Opened.{Opened}
+use Rattle.nr_reduce.specs.History.{CompletedCall, completed_calls, bytes_sent, bytes_received, written_at, fed_at, other}
+use Rattle.nr_reduce.specs.Events.{Event, events_at}
+use Rattle.nr_reduce.specs.EndRules.{EndState, end_state_after, output_for_all}
+use Rattle.nr_reduce.specs.OfferedRegions.{region_grants}
+use Rattle.nr_reduce.specs.Plans.{Plan, call_message, lists_of}
+use Rattle.nr_reduce.specs.ClientState.{ClientState}
+use Rattle.nr_reduce.specs.Client.{client_rules, client_end, initial_client}
+use Rattle.nr_reduce.specs.ServerState.{ServerState, ReadyCall, is_pending}
+use Rattle.nr_reduce.specs.ServerMessages.{verdict, by_need}
+use Rattle.nr_reduce.specs.Server.{server_rules, server_end, initial_server}
+use Rattle.nr_reduce.specs.Events.Event.{FrameReceived}
+use Rattle.nr_reduce.specs.Run.{client, server, output_due}
+use Rattle.nr_reduce.specs.Asked.{AskedSoFar, AskedMark, IsAll}
+use Rattle.nr_reduce.specs.Served.{ServedSoFar, ServedMark, next_call}
+use Rattle.nr_reduce.specs.Matched.{IsPrefixOf}
+use Rattle.nr_reduce.specs.SoFar.{SoFar, InFull}
+use Rattle.nr_reduce.specs.Standing.{input_events, ClientStandsFor, ServerStandsFor}
+use Rattle.nr_reduce.specs.PayloadLaws.{IsPlanned}
+
+-- ---- One mark more
+
+-- After one more mark an end is in the state to which the events of that mark bring it.
+abbrev pub ClientAfterMark : Type 0
+ClientAfterMark = (opened : Opened) (link : ℕ) (run : List Mark) (mark : Mark) →
+    client opened link (run ++ mark ∷ []) ≡ end_state_after (client_rules opened) (client opened link run) (events_at link Initiator run mark)
+
+abbrev pub ServerAfterMark : Type 0
+ServerAfterMark = (opened : Opened) (link : ℕ) (run : List Mark) (mark : Mark) →
+    server opened link (run ++ mark ∷ []) ≡ end_state_after (server_rules opened) (server opened link run) (events_at link Responder run mark)
+
+-- The output due is what was due before and what is due for those events.
+abbrev pub ClientOutputAfterMark : Type 0
+ClientOutputAfterMark = (opened : Opened) (link : ℕ) (run : List Mark) (mark : Mark) →
+    output_due opened link Initiator (run ++ mark ∷ [])
+    ≡ output_due opened link Initiator run ++ output_for_all (client_rules opened) (client opened link run) (events_at link Initiator run mark)
+
+abbrev pub ServerOutputAfterMark : Type 0
+ServerOutputAfterMark = (opened : Opened) (link : ℕ) (run : List Mark) (mark : Mark) →
+    output_due opened link Responder (run ++ mark ∷ [])
+    ≡ output_due opened link Responder run ++ output_for_all (server_rules opened) (server opened link run) (events_at link Responder run mark)
+
+-- An end that has ended stays as it is, and no output is due.
+abbrev pub EndedClientStays : Type 0
+EndedClientStays = (opened : Opened) (k : ClientState) (end : End) (events : List Event) →
+    (end_state_after (client_rules opened) (record { state = k; ended = Some end }) events ≡ record { state = k; ended = Some end })
+    × (output_for_all (client_rules opened) (record { state = k; ended = Some end }) events ≡ [])
+
+abbrev pub EndedServerStays : Type 0
+EndedServerStays = (opened : Opened) (k : ServerState) (end : End) (events : List Event) →
+    (end_state_after (server_rules opened) (record { state = k; ended = Some end }) events ≡ record { state = k; ended = Some end })
+    × (output_for_all (server_rules opened) (record { state = k; ended = Some end }) events ≡ [])
+
+-- ---- So far
+
+-- A run of which the laws hold in full, or so far, has them so far at each of its first parts.
+abbrev pub FullHoldsSoFar : Type 0
+FullHoldsSoFar = (opened : Opened) (link : ℕ) (run more : List Mark) → InFull opened link (run ++ more) → SoFar opened link run
+
+abbrev pub SoFarHoldsBefore : Type 0
+SoFarHoldsBefore = (opened : Opened) (link : ℕ) (run more : List Mark) → SoFar opened link (run ++ more) → SoFar opened link run
+
+-- The law of a side holds of one mark more where that mark keeps it.
+abbrev pub AskedWithMark : Type 0
+AskedWithMark = (opened : Opened) (link : ℕ) (run : List Mark) (mark : Mark) → AskedSoFar opened link run → AskedMark IsPrefixOf opened link run mark →
+    AskedSoFar opened link (run ++ mark ∷ [])
+
+abbrev pub ServedWithMark : Type 0
+ServedWithMark = (opened : Opened) (link : ℕ) (run : List Mark) (mark : Mark) → ServedSoFar opened link run → ServedMark IsPrefixOf opened link run mark →
+    ServedSoFar opened link (run ++ mark ∷ [])
+
+-- ---- What an end stands for
+
+-- An end stands for no marks as it is opened: a client's queue has its hello.
+abbrev pub ClientBegins : Type 0
+ClientBegins = (opened : Opened) (link : ℕ) → ClientStandsFor opened link (initial_client opened) (initial_input Responder) (own_hello Initiator) []
+
+abbrev pub ServerBegins : Type 0
+ServerBegins = (opened : Opened) (link : ℕ) → ServerStandsFor opened link (initial_server opened) (initial_input Initiator) [] []
+
+-- The events of a mark are told by the input that an end keeps.
+abbrev pub EventsOfInput : Type 0
+EventsOfInput = (link : ℕ) (side : Side) (run : List Mark) (mark : Mark) →
+    input_events link side (input_of (other side) (bytes_received link side run)) mark ≡ events_at link side run mark
+
+-- One mark more: the end goes on by the events of the mark, and what is written and what is left are the queue and the output that
+-- is due for them.
+abbrev pub ClientStandsOn : Type 0
+ClientStandsOn = (opened : Opened) (link : ℕ) (end : EndState ClientState) (input : InputState) (queue left : List ℕ) (run : List Mark) (mark : Mark) →
+    ClientStandsFor opened link end input queue run →
+    written_at link Initiator mark ++ left ≡ queue ++ output_for_all (client_rules opened) end (input_events link Initiator input mark) →
+    ClientStandsFor opened link (end_state_after (client_rules opened) end (input_events link Initiator input mark)) (input_after input (fed_at link Initiator mark)) left (run ++ mark ∷ [])
+
+abbrev pub ServerStandsOn : Type 0
+ServerStandsOn = (opened : Opened) (link : ℕ) (end : EndState ServerState) (input : InputState) (queue left : List ℕ) (run : List Mark) (mark : Mark) →
+    ServerStandsFor opened link end input queue run →
+    written_at link Responder mark ++ left ≡ queue ++ output_for_all (server_rules opened) end (input_events link Responder input mark) →
+    ServerStandsFor opened link (end_state_after (server_rules opened) end (input_events link Responder input mark)) (input_after input (fed_at link Responder mark)) left (run ++ mark ∷ [])
+
+-- A prefix of the queue that is written keeps the law so far, and the whole queue keeps it in full.
+abbrev pub ClientQueueIsDue : Type 0
+ClientQueueIsDue = (opened : Opened) (link : ℕ) (end : EndState ClientState) (input : InputState) (taken left : List ℕ) (run : List Mark) →
+    ClientStandsFor opened link end input (taken ++ left) run →
+    IsPrefixOf (bytes_sent link Initiator run ++ taken) (output_due opened link Initiator run)
+    × (left ≡ [] → IsAll (bytes_sent link Initiator run ++ taken) (output_due opened link Initiator run))
+
+abbrev pub ServerQueueIsDue : Type 0
+ServerQueueIsDue = (opened : Opened) (link : ℕ) (end : EndState ServerState) (input : InputState) (taken left : List ℕ) (run : List Mark) →
+    ServerStandsFor opened link end input (taken ++ left) run →
+    IsPrefixOf (bytes_sent link Responder run ++ taken) (output_due opened link Responder run)
+    × (left ≡ [] → IsAll (bytes_sent link Responder run ++ taken) (output_due opened link Responder run))
+
+-- ---- Memory
+
+-- A frame that doesn't end a side lacks nothing of what the side offers where the frame ends. So each access before a side's end is
+-- allowed, and the first that isn't ends it.
+abbrev pub ClientAllows : Type 0
+ClientAllows = (k : ClientState) (f : Frame) (segment : Segment) → is_hello f ≡ false → frame_segment f ≡ Ok segment →
+    client_end k (FrameReceived f) ≡ None → missing_access (region_grants f.end k.regions) f segment ≡ None
+
+abbrev pub ServerAllows : Type 0
+ServerAllows = (opened : Opened) (k : ServerState) (f : Frame) (segment : Segment) → is_hello f ≡ false → frame_segment f ≡ Ok segment →
+    server_end opened k (FrameReceived f) ≡ None → missing_access (region_grants f.end k.regions) f segment ≡ None
+
+-- ---- Calls
+
+-- A server never refuses the message of a plan whose form isn't given: the call is pending, with the plan's lists, where its xid
+-- wasn't and STags are left for its reads.
+abbrev pub PlanIsAccepted : Type 0
+PlanIsAccepted = (k : ServerState) (payload : List ℕ) (form : Form) (up down xid credit stag : ℕ) (p : Plan) → IsPlanned payload form up down xid credit stag p →
+    0 < length payload → is_pending k xid ≡ false → (inline : Option (List ℕ)) ×
+    (verdict k (call_message xid credit stag p) ≡ by_need k (record { number = k.received.sends + 1; xid = xid; lists = lists_of stag p; inline = inline }))
+
+-- No Send is executed twice, whatever the peer sends.
+abbrev pub SendIsExecutedOnce : Type 0
+SendIsExecutedOnce = (opened : Opened) (link : ℕ) (run before between behind : List Mark) (xid yid : ℕ) (moment now : Moment) (payload asked : List ℕ) (place later : ℕ) (reply answer : List ℕ) →
+    run ≡ before ++ marks.Execute link xid moment payload place reply ∷ (between ++ marks.Execute link yid now asked later answer ∷ behind) → ServedSoFar opened link run →
+    (first second : ReadyCall) → next_call opened link before ≡ Some first →
+    next_call opened link (before ++ marks.Execute link xid moment payload place reply ∷ between) ≡ Some second → first.number ≢ second.number
+
+-- No call completes twice.
+abbrev pub CallCompletesOnce : Type 0
+CallCompletesOnce = (opened : Opened) (link xid : ℕ) (outcome : Outcome) (run before behind : List Mark) → run ≡ before ++ marks.Done link xid outcome ∷ behind →
+    AskedSoFar opened link run → (c : CompletedCall) → Contains (completed_calls link before) c → c.xid ≢ xid
+
+-- No xid is given twice: xids rise.
+abbrev pub XidsRise : Type 0
+XidsRise = (opened : Opened) (link : ℕ) (run before between behind : List Mark) (call other : Call) (form way : Form) (xid yid : ℕ) →
+    run ≡ before ++ marks.Submit link call form (submissions.Accepted xid) ∷ (between ++ marks.Submit link other way (submissions.Accepted yid) ∷ behind) →
+    AskedSoFar opened link run → xid < yid

@@ -1,0 +1,24 @@
+//! Laws of payloads: what is cut, planned and answered conveys what it was made of.
+
+ghost use Rattle.nr_reduce.specs.PayloadLaws.{CutIsRebuilt, PlanReadsBack, PlanHasItsSize, RegionBringsChunks, AnswerConveysReply, AnswerWritesSegments, AnswerSuitsOffer};
+
+/// The stream and the item of a reducible payload are that payload again (RFC 8166 section 3.4).
+pub fn rebuild_undoes_cut()
+    ensures { CutIsRebuilt }
+{}
+
+/// A plan of form Auto, Inline, Chunk or Long: its message reads back as its header and stream, has the size that was
+/// tested, and conveys the payload over the plan's region.
+pub fn plans_are_undone()
+    ensures message { PlanReadsBack }
+    ensures size { PlanHasItsSize }
+    ensures memory { RegionBringsChunks }
+{}
+
+/// An answer for an offer that holds the reply: what its Writes leave in the offered regions, its lists and its stream
+/// convey that reply. The Writes are segments in the order of the lists, and the lists are those offered.
+pub fn answers_are_undone()
+    ensures conveys { AnswerConveysReply }
+    ensures writes { AnswerWritesSegments }
+    ensures lists { AnswerSuitsOffer }
+{}
