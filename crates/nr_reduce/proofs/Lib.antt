@@ -12,3 +12,4 @@ pub mod Steps
 pub mod Undone
 pub mod Touches
 pub mod Sizes
+pub mod Submitting

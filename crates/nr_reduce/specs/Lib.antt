@@ -23,6 +23,7 @@ pub mod Run
 pub mod Credits
 pub mod SubmitAnswer
 pub mod Asked
+pub mod OutcomesDue
 pub mod Served
 pub mod Opening
 pub mod Journal

@@ -28,7 +28,11 @@ use Rattle.nr_reduce.specs.ServerMessages.{verdict, by_need}
 use Rattle.nr_reduce.specs.Server.{server_rules, server_end, initial_server}
 use Rattle.nr_reduce.specs.Events.Event.{FrameReceived}
 use Rattle.nr_reduce.specs.Run.{client, server, output_due}
-use Rattle.nr_reduce.specs.Asked.{AskedSoFar, AskedMark, IsAll}
+use Rattle.nr_rpc.specs.Credential.{CanWriteCred}
+use Rattle.nr_reduce.specs.Limits.{numbers_end}
+use Rattle.nr_reduce.specs.Credits.{calls_outstanding, credits_granted}
+use Rattle.nr_reduce.specs.SubmitAnswer.{submit_answer}
+use Rattle.nr_reduce.specs.Asked.{AskedSoFar, AskedMark, IsAccepted, IsAll}
 use Rattle.nr_reduce.specs.Served.{ServedSoFar, ServedMark, next_call}
 use Rattle.nr_reduce.specs.Matched.{IsPrefixOf}
 use Rattle.nr_reduce.specs.SoFar.{SoFar, InFull}
@@ -140,6 +144,12 @@ ServerAllows = (opened : Opened) (k : ServerState) (f : Frame) (segment : Segmen
     server_end opened k (FrameReceived f) ≡ None → missing_access (region_grants f.end k.regions) f segment ≡ None
 
 -- ---- Calls
+
+-- A call that a client accepts keeps the law of its side, and fewer calls are outstanding than are granted.
+abbrev pub AcceptedKeepsLaw : Type 0
+AcceptedKeepsLaw = (opened : Opened) (link : ℕ) (run : List Mark) (call : Call) (form : Form) (xid : ℕ) →
+    submit_answer opened (client opened link run) call form ≡ submissions.Accepted xid → (client opened link run).state.stag ≤ numbers_end → CanWriteCred call.cred →
+    IsAccepted opened link run call form xid × (calls_outstanding opened link run < credits_granted opened link run)
 
 -- A server never refuses the message of a plan whose form isn't given: the call is pending, with the plan's lists, where its xid
 -- wasn't and STags are left for its reads.

@@ -1,6 +1,6 @@
 //! Laws of runs: what both ends of a link cite, and what holds of every run.
 
-ghost use Rattle.nr_reduce.specs.RunLaws.{ClientAfterMark, ServerAfterMark, ClientOutputAfterMark, ServerOutputAfterMark, EndedClientStays, EndedServerStays, FullHoldsSoFar, SoFarHoldsBefore, AskedWithMark, ServedWithMark, ClientBegins, ServerBegins, EventsOfInput, ClientStandsOn, ServerStandsOn, ClientQueueIsDue, ServerQueueIsDue, ClientAllows, ServerAllows, PlanIsAccepted, SendIsExecutedOnce, CallCompletesOnce, XidsRise};
+ghost use Rattle.nr_reduce.specs.RunLaws.{ClientAfterMark, ServerAfterMark, ClientOutputAfterMark, ServerOutputAfterMark, EndedClientStays, EndedServerStays, FullHoldsSoFar, SoFarHoldsBefore, AskedWithMark, ServedWithMark, ClientBegins, ServerBegins, EventsOfInput, ClientStandsOn, ServerStandsOn, ClientQueueIsDue, ServerQueueIsDue, ClientAllows, ServerAllows, AcceptedKeepsLaw, PlanIsAccepted, SendIsExecutedOnce, CallCompletesOnce, XidsRise};
 
 /// One mark more: the state of an end, and the output due, are those before with the events of the mark.
 pub fn one_mark_more()
@@ -42,6 +42,12 @@ pub fn ends_stand_for_marks()
 pub fn accesses_are_allowed()
     ensures client { ClientAllows }
     ensures server { ServerAllows }
+{}
+
+/// A call that a client accepts keeps the law of its side: it goes under the next xid by its plan, with numbers that are
+/// left, while fewer calls are outstanding than are granted.
+pub fn accepted_calls_keep_the_law()
+    ensures { AcceptedKeepsLaw }
 {}
 
 /// The message of a plan whose form isn't given is never refused by a server: it makes its call pending, with the lists
