@@ -12,8 +12,10 @@ use Rattle.nr_header.specs.declared.header.ChunkLists.{ChunkLists}
 use Rattle.nr_regions.specs.RegisteredMemory.{written}
 use Rattle.nr_wire.specs.Segment.{Segment as WireSegment, encoding}
 use Rattle.nr_reduce.specs.Undone.{laid, chunk_segments, answer_segments, lengths, offering, Backs, after}
-use Rattle.nr_reduce.specs.Items.{Item, Of, reducible_item, stream_of, moved_of}
-use Rattle.nr_reduce.specs.Items.Of.{Reply}
+use Rattle.nr_reduce.specs.declared.item.Item.{Item}
+use Rattle.nr_reduce.specs.declared.item.Of.{Of}
+use Rattle.nr_reduce.specs.Items.{reducible_item, stream_of, moved_of}
+use Rattle.nr_reduce.specs.declared.item.Of.TheVariants.{Reply}
 use Rattle.nr_reduce.specs.Plans.{total, has_segment, segments_from, write_list, reply_chunk}
 use Rattle.nr_reduce.specs.Chunks.{Bytes, joined, chunk_total, filled, whole, some_bytes, reply_moved, reply_stream, reply_conveyed, are_empty, returns, returns_each, fills_first, returns_none, returns_stream, answers_offer}
 use Rattle.nr_reduce.specs.Holds.{Answer, Parts, parts_by, parts_in, answer_size, fits_reply, answer_with, answer_for, emptied, written_chunks, first_chunk, no_segments, writes_into, answer_writes, answer_lists}

@@ -19,9 +19,12 @@ use Rattle.nr_header.specs.Reading.{header_of}
 use Rattle.nr_header.proofs.Messages.{header_written}
 use Rattle.nr_reduce.specs.Undone.{IsOwn, inline_by, lists_by, Brings, Asks}
 use Rattle.nr_reduce.specs.declared.call.Form.{Form}
-use Rattle.nr_reduce.specs.Items.{Item, Of, stream_of, moved_of}
-use Rattle.nr_reduce.specs.Items.Of.{Call}
-use Rattle.nr_reduce.specs.Plans.{Plan, has_segment, one_if, read_stag, write_stag, reply_stag, regions_needed, write_list, reply_chunk, lists_of, body_by, call_message, plan_of}
+use Rattle.nr_reduce.specs.declared.item.Item.{Item}
+use Rattle.nr_reduce.specs.declared.item.Of.{Of}
+use Rattle.nr_reduce.specs.Items.{stream_of, moved_of}
+use Rattle.nr_reduce.specs.declared.item.Of.TheVariants.{Call}
+use Rattle.nr_reduce.specs.declared.outline.Plan.{Plan}
+use Rattle.nr_reduce.specs.Plans.{has_segment, one_if, read_stag, write_stag, reply_stag, regions_needed, write_list, reply_chunk, lists_of, body_by, call_message, plan_of}
 use Rattle.nr_reduce.specs.Chunks.{Bytes, item_position, position_of, call_moved, whole, call_conveyed, read_bytes, ConveysCall}
 use Rattle.nr_reduce.proofs.Looks.{item_stands}
 use Rattle.nr_reduce.proofs.Undone.{Reducible, reducible, moved-length, rebuilt}

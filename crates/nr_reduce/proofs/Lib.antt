@@ -1,3 +1,7 @@
+pub mod Fronts
+pub mod Places
+pub mod Rooms
+pub mod Ways
 pub mod Answering
 pub mod Asking
 pub mod Laid

@@ -24,8 +24,10 @@ use Rattle.nr_nfs_base.specs.Names.{handle_lawful, text_lawful}
 use Rattle.nr_nfs_base.specs.Stable.{stable_how_lawful}
 use Rattle.nr_nfs_base.specs.SetAttributes.{set_attributes_lawful}
 use Rattle.nr_nfs_base.specs.Attributes.{attributes_codec, attributes_lawful}
-use Rattle.nr_reduce.specs.Items.{Item, Of, item_of, item_by, item_at, before_data, before_path, before_target, before_read, from_place, target_item, call_item, results_of, results_item, reply_item, is_nfs, READ, READLINK, WRITE, SYMLINK}
-use Rattle.nr_reduce.specs.Items.Of.{Call, Reply}
+use Rattle.nr_reduce.specs.declared.item.Item.{Item}
+use Rattle.nr_reduce.specs.declared.item.Of.{Of}
+use Rattle.nr_reduce.specs.Items.{item_of, item_by, item_at, before_data, before_path, before_target, before_read, from_place, target_item, call_item, results_of, results_item, reply_item, is_nfs, READ, READLINK, WRITE, SYMLINK}
+use Rattle.nr_reduce.specs.declared.item.Of.TheVariants.{Call, Reply}
 
 -- a step that took some bytes, and takes them again whatever follows
 pub record Reaches (read : Cursor → Result Cursor ℕ) (c after : Cursor) : Type 0 where

@@ -16,9 +16,12 @@ use Rattle.nr_header.specs.declared.header.ReadSegment.{ReadSegment}
 use Rattle.nr_header.specs.Header.{header_encoding}
 use Rattle.nr_header.specs.WithinLimits.{body_again, header_again}
 use Rattle.nr_reduce.specs.declared.call.Form.{Form}
-use Rattle.nr_reduce.specs.Items.{Item, Of, item_of, stream_of}
-use Rattle.nr_reduce.specs.Items.Of.{Call}
-use Rattle.nr_reduce.specs.Plans.{Plan, plan_of, regions_needed, lists_of, call_message}
+use Rattle.nr_reduce.specs.declared.item.Item.{Item}
+use Rattle.nr_reduce.specs.declared.item.Of.{Of}
+use Rattle.nr_reduce.specs.Items.{item_of, stream_of}
+use Rattle.nr_reduce.specs.declared.item.Of.TheVariants.{Call}
+use Rattle.nr_reduce.specs.declared.outline.Plan.{Plan}
+use Rattle.nr_reduce.specs.Plans.{plan_of, regions_needed, lists_of, call_message}
 use Rattle.nr_reduce.specs.Chunks.{suits, suits_at, is_item, item_position, position_of, total_at}
 use Rattle.nr_reduce.specs.Undone.{IsOwn}
 use Rattle.nr_reduce.specs.ServerState.{ServerState, PendingCall, is_pending}

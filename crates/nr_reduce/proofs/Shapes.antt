@@ -13,11 +13,14 @@ use Rattle.nr_header.specs.Constants.{PAYLOAD_MAX}
 use Rattle.nr_reduce.specs.Undone.{IsOwn}
 use Rattle.nr_reduce.specs.declared.call.Form.{Form}
 use Rattle.nr_reduce.specs.declared.call.Form.TheVariants as forms
-use Rattle.nr_reduce.specs.Limits.{moved_max, link_max}
-use Rattle.nr_reduce.specs.Items.{Item, Of, reducible_item, stream_of, moved_of, READ, READLINK, is_nfs, from_place}
-use Rattle.nr_reduce.specs.Items.Of.{Call}
-use Rattle.nr_reduce.specs.Largest.{largest_reply, least_reply, target_reply_max, nfs_reply_max, read_reply_max, readdir_reply_max, rounded, limit_of, limited, read_count, readdir_count, readdirplus_count, READDIR, READDIRPLUS, MOUNT_PROGRAM, MNT}
-use Rattle.nr_reduce.specs.Plans.{Plan, TooLarge, inline_plan, moved_offer, target_offer, write_offer, plan_size, reduced_by, reduced, lengthened, first_within, offering, auto_offer, auto_plan, formed, within, given_within, plan_of}
+use Rattle.nr_reduce.specs.Limits.{moved_max, readdir_max, link_max}
+use Rattle.nr_reduce.specs.declared.item.Item.{Item}
+use Rattle.nr_reduce.specs.declared.item.Of.{Of}
+use Rattle.nr_reduce.specs.Items.{reducible_item, stream_of, moved_of, READ, READLINK, is_nfs, from_place}
+use Rattle.nr_reduce.specs.declared.item.Of.TheVariants.{Call}
+use Rattle.nr_reduce.specs.Largest.{largest_reply, least_reply, target_reply_max, by_count, nfs_reply_max, read_reply_max, readdir_reply_max, rounded, limit_of, limited, read_count, readdir_count, readdirplus_count, READDIR, READDIRPLUS, MOUNT_PROGRAM, MOUNT_VERSION, MNT}
+use Rattle.nr_reduce.specs.declared.outline.Plan.{Plan}
+use Rattle.nr_reduce.specs.Plans.{TooLarge, inline_plan, moved_offer, target_offer, write_offer, chunk_for, plan_size, reduced_by, reduced, lengthened, first_within, offering, auto_offer, auto_plan, formed, within, given_within, plan_of}
 
 -- ---- How long a reply may be
 
@@ -28,7 +31,7 @@ pad_small : (n : ℕ) → pad_len n ≤ 3
 unfolding pad_len
 pad_small n = omega arith
 
-or_least : (o : Option ℕ) (f : ℕ → ℕ) → ((n : ℕ) → f n ≤ most) → unwrap_or (option_map f o) least_reply ≤ most
+or_least : (o : Option ℕ) (f : ℕ → ℕ) → ((n : ℕ) → f n ≤ most) → by_count f o ≤ most
 or_least None f h = omega arith
 or_least (Some n) f h = h n
 
@@ -48,6 +51,7 @@ choose true x y p q = p
 choose false x y p q = q
 
 nfs_small : (proc : ℕ) (c : Cursor) → nfs_reply_max proc c ≤ most
+unfolding limit_of
 nfs_small proc c =
     choose (eqb proc READ) _ _ (or_least (read_count c) read_reply_max (λ n. let p = pad_small (min n moved_max) in omega (arith, p)))
     (choose (eqb proc READDIR) _ _ (or_least (readdir_count c) readdir_reply_max (λ n. omega arith))
@@ -62,7 +66,7 @@ largest_small payload = by_target (target_of (call_of payload))
     by_target None = omega arith
     by_target (Some t) =
         choose (is_nfs t.prog t.vers) _ _ (nfs_small t.proc (from_place t.args_at payload))
-        (choose (eqb t.prog MOUNT_PROGRAM && (eqb t.vers 3 && eqb t.proc MNT)) _ _ (omega arith) (omega arith))
+        (choose (eqb t.prog MOUNT_PROGRAM && (eqb t.vers MOUNT_VERSION && eqb t.proc MNT)) _ _ (omega arith) (omega arith))
 
 -- ---- What is offered
 
@@ -83,23 +87,23 @@ pub record IsOffering (o : Option (List ℕ)) : Type 0 where
   pub small : IsSmall offering
   pub is : o ≡ offered offering
 
-pub write_offering : (payload : List ℕ) → IsOffering (write_offer payload)
+pub write_offering : (payload : List ℕ) → IsOffering (chunk_for (write_offer payload))
 unfolding write_offer
 write_offering payload = by_target (target_of (call_of payload))
   where
-    by_count : (o : Option ℕ) → IsOffering (moved_offer o)
-    by_count None = record { offering = Nothing; small = tt; is = refl }
-    by_count (Some n) = record { offering = One (min n moved_max); small = omega arith; is = refl }
+    by_moved : (o : Option ℕ) → IsOffering (chunk_for (moved_offer o))
+    by_moved None = record { offering = Nothing; small = tt; is = refl }
+    by_moved (Some n) = record { offering = One (min n moved_max); small = omega arith; is = refl }
 
-    by_link : (b : Bool) → IsOffering (cond b (Some (link_max ∷ [])) None)
+    by_link : (b : Bool) → IsOffering (chunk_for (cond b (Some link_max) None))
     by_link true = record { offering = One link_max; small = omega arith; is = refl }
     by_link false = record { offering = Nothing; small = tt; is = refl }
 
-    by_read : (b d : Bool) (o : Option ℕ) → IsOffering (cond b (moved_offer o) (cond d (Some (link_max ∷ [])) None))
-    by_read true d o = by_count o
+    by_read : (b d : Bool) (o : Option ℕ) → IsOffering (chunk_for (cond b (moved_offer o) (cond d (Some link_max) None)))
+    by_read true d o = by_moved o
     by_read false d o = by_link d
 
-    by_target : (o : Option CallTarget) → IsOffering (target_offer payload o)
+    by_target : (o : Option CallTarget) → IsOffering (chunk_for (target_offer payload o))
     by_target None = record { offering = Nothing; small = tt; is = refl }
     by_target (Some t) = by_read (is_nfs t.prog t.vers && eqb t.proc READ) (is_nfs t.prog t.vers && eqb t.proc READLINK) (read_count (from_place t.args_at payload))
 
@@ -178,7 +182,7 @@ plain_none payload = record { write = Nothing; write_small = tt; reply = Nothing
 plain_reply : (payload : List ℕ) → Plainly payload (record { inline = payload; read_at = None; read = []; region = []; write = None; reply = Some (largest_reply payload ∷ []) })
 plain_reply payload = record { write = Nothing; write_small = tt; reply = One (largest_reply payload); reply_small = largest_small payload; is = refl }
 
-plain_write : (payload : List ℕ) → Plainly payload (record { inline = payload; read_at = None; read = []; region = []; write = write_offer payload; reply = None })
+plain_write : (payload : List ℕ) → Plainly payload (record { inline = payload; read_at = None; read = []; region = []; write = chunk_for (write_offer payload); reply = None })
 plain_write payload =
     let o = write_offering payload in record {
       write = o.offering;
@@ -191,9 +195,9 @@ plain_write payload =
 plain_offering : (payload : List ℕ) → Plainly payload (offering payload (write_offer payload) (inline_plan payload))
 plain_offering payload = by_offer (write_offer payload) refl
   where
-    by_offer : (o : Option (List ℕ)) → write_offer payload ≡ o → Plainly payload (offering payload o (inline_plan payload))
+    by_offer : (o : Option ℕ) → write_offer payload ≡ o → Plainly payload (offering payload o (inline_plan payload))
     by_offer None e = plain_reply payload
-    by_offer (Some chunk) e = subst (λ (w : Option (List ℕ)). Plainly payload (shape payload Inline w None)) e (plain_write payload)
+    by_offer (Some n) e = subst (λ (w : Option ℕ). Plainly payload (shape payload Inline (chunk_for w) None)) e (plain_write payload)
 
 plain-if : (payload : List ℕ) (b : Bool) (p q : Plan) → Plainly payload p → Plainly payload q → Plainly payload (cond b p q)
 plain-if payload true p q h k = h

@@ -9,7 +9,8 @@ use Rattle.nr_header.specs.declared.header.ChunkLists.{ChunkLists}
 use Rattle.nr_header.specs.declared.header.Header.{Header}
 use Rattle.nr_header.specs.Header.{read_items, write_items, reply_items, lists_items, fixed_items, header_encoding}
 use Rattle.nr_reduce.specs.declared.call.Form.{Form}
-use Rattle.nr_reduce.specs.Plans.{Plan, write_list, reply_chunk, write_size, reply_size, plan_size, regions_needed, call_message, plan_of}
+use Rattle.nr_reduce.specs.declared.outline.Plan.{Plan}
+use Rattle.nr_reduce.specs.Plans.{write_list, reply_chunk, write_size, reply_size, plan_size, regions_needed, call_message, plan_of}
 use Rattle.nr_reduce.specs.Undone.{IsOwn}
 use Rattle.nr_reduce.proofs.Shapes.{Offering, offered, Way, shape, IsWay, Shaped, IsPlan, is_plan}
 use Rattle.nr_reduce.proofs.Shapes.Offering.{Nothing, One}

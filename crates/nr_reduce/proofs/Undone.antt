@@ -5,7 +5,9 @@ use Rattle.std.proofs.lemmas.List.{take-append-drop, take-take, length-take-le, 
 use Rattle.std.specs.List.{list_all}
 use Rattle.nr_xdr.specs.Item.{IsBytes, pad_len}
 use Rattle.nr_xdr.proofs.SequencingSteps.{chosen}
-use Rattle.nr_reduce.specs.Items.{Item, Of, item_of, ends_with_item, if_ends, reducible_item, stream_of, moved_of, restored}
+use Rattle.nr_reduce.specs.declared.item.Item.{Item}
+use Rattle.nr_reduce.specs.declared.item.Of.{Of}
+use Rattle.nr_reduce.specs.Items.{item_of, ends_with_item, if_ends, reducible_item, stream_of, moved_of, restored}
 use Rattle.nr_reduce.specs.Chunks.{whole, whole_by, has_length}
 use Rattle.nr_reduce.proofs.Looks.{Stands, item_stands}
 

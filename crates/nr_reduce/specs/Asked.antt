@@ -13,7 +13,8 @@ use Rattle.nr_reduce.specs.declared.mark.Opened.{Opened}
 use Rattle.nr_reduce.specs.History.{AcceptedCall, CompletedCall, accepted_calls, completed_calls, bytes_sent, is_abandoned}
 use Rattle.nr_rpc.specs.Credential.{CanWriteCred}
 use Rattle.nr_reduce.specs.Limits.{numbers_end}
-use Rattle.nr_reduce.specs.Plans.{Plan, regions_needed}
+use Rattle.nr_reduce.specs.declared.outline.Plan.{Plan}
+use Rattle.nr_reduce.specs.Plans.{regions_needed}
 use Rattle.nr_reduce.specs.OfferedRegions.{Region, region_grants, region_bytes}
 use Rattle.nr_reduce.specs.EndRules.{EndState}
 use Rattle.nr_reduce.specs.ClientState.{ClientState, plan_for}

@@ -6,8 +6,10 @@ use Rattle.nr_xdr.specs.Item.{pad_len}
 use Rattle.nr_header.specs.declared.header.RdmaSegment.{RdmaSegment}
 use Rattle.nr_header.specs.declared.header.ReadSegment.{ReadSegment}
 use Rattle.nr_header.specs.declared.header.ChunkLists.{ChunkLists}
-use Rattle.nr_reduce.specs.Items.{Item, Of, item_of, restored}
-use Rattle.nr_reduce.specs.Items.Of.{Call, Reply}
+use Rattle.nr_reduce.specs.declared.item.Item.{Item}
+use Rattle.nr_reduce.specs.declared.item.Of.{Of}
+use Rattle.nr_reduce.specs.Items.{item_of, restored}
+use Rattle.nr_reduce.specs.declared.item.Of.TheVariants.{Call, Reply}
 
 -- the bytes under an STag
 abbrev pub Bytes : Type 0

@@ -10,7 +10,8 @@ use Rattle.nr_link.specs.declared.end.End.TheVariants as ends
 use Rattle.nr_reduce.specs.declared.mark.Opened.{Opened}
 use Rattle.nr_reduce.specs.Limits.{most_credits}
 use Rattle.nr_reduce.specs.History.{AcceptedCall, CompletedCall}
-use Rattle.nr_reduce.specs.Plans.{Plan, TooLarge, Buffer, regions_needed, buffers, call_message, inline_plan}
+use Rattle.nr_reduce.specs.declared.outline.Plan.{Plan}
+use Rattle.nr_reduce.specs.Plans.{TooLarge, Buffer, regions_needed, buffers, call_message, inline_plan}
 use Rattle.nr_link.specs.Output.{send, read_response}
 use Rattle.nr_link.specs.Frames.{Frame, is_hello}
 use Rattle.nr_link.specs.ReceiveState.{received_after, message_completed, ReadRequest, read_request_of}

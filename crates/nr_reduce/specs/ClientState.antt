@@ -8,7 +8,8 @@ use Rattle.nr_reduce.specs.declared.call.Form.{Form}
 use Rattle.nr_reduce.specs.declared.mark.Opened.{Opened}
 use Rattle.nr_reduce.specs.Limits.{send_max}
 use Rattle.nr_reduce.specs.History.{CompletedCall}
-use Rattle.nr_reduce.specs.Plans.{Plan, TooLarge, plan_of}
+use Rattle.nr_reduce.specs.declared.outline.Plan.{Plan}
+use Rattle.nr_reduce.specs.Plans.{TooLarge, plan_of}
 use Rattle.nr_link.specs.ReceiveState.{ReceiveState, nothing_received}
 use Rattle.nr_reduce.specs.OfferedRegions.{Region, region_grants, region_bytes}
 

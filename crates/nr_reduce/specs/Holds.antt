@@ -7,8 +7,10 @@ use Rattle.nr_header.specs.declared.header.Body.{Body}
 use Rattle.nr_header.specs.declared.header.Body.TheVariants.{Msg, Nomsg, ErrVers, ErrChunk}
 use Rattle.nr_header.specs.declared.header.Header.{Header}
 use Rattle.nr_header.specs.Header.{header_encoding}
-use Rattle.nr_reduce.specs.Items.{Item, Of, reducible_item, stream_of, moved_of}
-use Rattle.nr_reduce.specs.Items.Of.{Reply}
+use Rattle.nr_reduce.specs.declared.item.Item.{Item}
+use Rattle.nr_reduce.specs.declared.item.Of.{Of}
+use Rattle.nr_reduce.specs.Items.{reducible_item, stream_of, moved_of}
+use Rattle.nr_reduce.specs.declared.item.Of.TheVariants.{Reply}
 use Rattle.nr_reduce.specs.Chunks.{chunk_total, filled}
 use Rattle.nr_link.specs.Output.{write}
 

@@ -1,9 +1,13 @@
 pub mod Limits
+pub mod Fronts
 pub mod Items
 pub mod Largest
 pub mod Plans
 pub mod Chunks
 pub mod Holds
+pub mod Views
+pub mod Outlines
+pub mod Cuts
 pub mod History
 pub mod PlainJournal
 pub mod AtEachMark

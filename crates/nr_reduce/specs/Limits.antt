@@ -14,6 +14,10 @@ send_max = 1024
 abbrev pub moved_max : ℕ
 moved_max = 32768
 
+-- the count that READDIR and READDIRPLUS work with at most
+abbrev pub readdir_max : ℕ
+readdir_max = 32768
+
 -- the bytes that are offered for the target of a symbolic link
 abbrev pub link_max : ℕ
 link_max = 1024

@@ -6,8 +6,11 @@ use Rattle.nr_wire.specs.Segment.{encoding}
 use Rattle.nr_header.specs.declared.header.ReadSegment.{ReadSegment}
 use Rattle.nr_header.specs.declared.header.ChunkLists.{ChunkLists}
 use Rattle.nr_reduce.specs.declared.call.Form.{Form}
-use Rattle.nr_reduce.specs.Items.{Item, Of, reducible_item, stream_of, moved_of}
-use Rattle.nr_reduce.specs.Plans.{Plan, plan_of, plan_size, regions_needed, call_message, lists_of, read_stag}
+use Rattle.nr_reduce.specs.declared.item.Item.{Item}
+use Rattle.nr_reduce.specs.declared.item.Of.{Of}
+use Rattle.nr_reduce.specs.Items.{reducible_item, stream_of, moved_of}
+use Rattle.nr_reduce.specs.declared.outline.Plan.{Plan}
+use Rattle.nr_reduce.specs.Plans.{plan_of, plan_size, regions_needed, call_message, lists_of, read_stag}
 use Rattle.nr_reduce.specs.Chunks.{Bytes, whole, read_bytes, reply_conveyed, answers_offer}
 use Rattle.nr_reduce.specs.Holds.{Answer, answer_for, answer_lists, answer_writes}
 use Rattle.nr_reduce.specs.Undone.{IsOwn, Asks, Brings, Backs, offering, after, answer_segments}

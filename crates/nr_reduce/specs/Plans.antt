@@ -10,25 +10,19 @@ use Rattle.nr_header.specs.declared.header.Header.{Header}
 use Rattle.nr_header.specs.Header.{header_encoding}
 use Rattle.nr_regions.specs.declared.right.Right.{Right}
 use Rattle.nr_regions.specs.declared.right.Right.TheVariants.{Fetch, Fill}
+use Rattle.nr_xdr.specs.Reading.{Cursor}
 use Rattle.nr_rpc.specs.declared.head.CallTarget.{CallTarget}
 use Rattle.nr_rpc.specs.Reading.{call_of, target_of}
 use Rattle.nr_reduce.specs.declared.call.Form.{Form}
 use Rattle.nr_reduce.specs.declared.call.Form.TheVariants as forms
 use Rattle.nr_reduce.specs.declared.call.Offer.{Offer}
 use Rattle.nr_reduce.specs.Limits.{moved_max, link_max, given_max}
-use Rattle.nr_reduce.specs.Items.{Item, Of, READ, READLINK, is_nfs, from_place, reducible_item, stream_of, moved_of}
-use Rattle.nr_reduce.specs.Items.Of.{Call}
+use Rattle.nr_reduce.specs.declared.outline.Plan.{Plan}
+use Rattle.nr_reduce.specs.declared.item.Item.{Item}
+use Rattle.nr_reduce.specs.declared.item.Of.{Of}
+use Rattle.nr_reduce.specs.Items.{READ, READLINK, is_nfs, from_place, reducible_item, stream_of, moved_of}
+use Rattle.nr_reduce.specs.declared.item.Of.TheVariants.{Call}
 use Rattle.nr_reduce.specs.Largest.{largest_reply, read_count}
-
--- The inline stream; the position and the segments' lengths of the read chunk, and the bytes of its region; the segments'
--- lengths of a write chunk and of a reply chunk.
-pub record Plan : Type 0 where
-  pub inline : List ℕ
-  pub read_at : Option ℕ
-  pub read : List ℕ
-  pub region : List ℕ
-  pub write : Option (List ℕ)
-  pub reply : Option (List ℕ)
 
 -- a call needs more bytes than there is room for
 pub record TooLarge : Type 0 where
@@ -42,20 +36,28 @@ segments_for n = n ∷ []
 abbrev pub inline_plan : List ℕ → Plan
 inline_plan payload = record { inline = payload; read_at = None; read = []; region = []; write = None; reply = None }
 
--- The write chunk that a READ or a READLINK may offer.
-abbrev pub moved_offer : Option ℕ → Option (List ℕ)
+-- How many bytes of the write chunk a READ or a READLINK may offer.
+abbrev pub moved_offer : Option ℕ → Option ℕ
 moved_offer None = None
-moved_offer (Some count) = Some (segments_for (min count moved_max))
+moved_offer (Some count) = Some (min count moved_max)
 
-abbrev pub target_offer : List ℕ → Option CallTarget → Option (List ℕ)
-target_offer payload None = None
-target_offer payload (Some t) =
-    if is_nfs t.prog t.vers && t.proc == READ then moved_offer (read_count (from_place t.args_at payload))
-    else (if is_nfs t.prog t.vers && t.proc == READLINK then Some (segments_for link_max)
+abbrev pub argument_offer : (prog vers proc : ℕ) → Cursor → Option ℕ
+argument_offer prog vers proc arguments =
+    if is_nfs prog vers && proc == READ then moved_offer (read_count arguments)
+    else (if is_nfs prog vers && proc == READLINK then Some link_max
     else None)
 
-unfoldable pub write_offer : List ℕ → Option (List ℕ)
+abbrev pub target_offer : List ℕ → Option CallTarget → Option ℕ
+target_offer payload None = None
+target_offer payload (Some t) = argument_offer t.prog t.vers t.proc (from_place t.args_at payload)
+
+unfoldable pub write_offer : List ℕ → Option ℕ
 write_offer payload = target_offer payload (target_of (call_of payload))
+
+-- the chunk for so many bytes
+abbrev pub chunk_for : Option ℕ → Option (List ℕ)
+chunk_for None = None
+chunk_for (Some n) = Some (segments_for n)
 
 -- the sizes of lists in a header (RFC 8166 section 4.3), and that of the whole Send
 abbrev pub write_size : Option (List ℕ) → ℕ
@@ -94,9 +96,9 @@ first_within up inline reduced long =
     else long)
 
 -- what a call offers for its reply, where its form is left open
-abbrev pub offering : List ℕ → Option (List ℕ) → Plan → Plan
+abbrev pub offering : List ℕ → Option ℕ → Plan → Plan
 offering payload None p = record p { reply = Some (segments_for (largest_reply payload)) }
-offering payload (Some chunk) p = record p { write = Some chunk }
+offering payload (Some n) p = record p { write = Some (segments_for n) }
 
 abbrev pub auto_offer : List ℕ → ℕ → Plan → Plan
 auto_offer payload down p = if nat_le (28 + largest_reply payload) down then p else offering payload (write_offer payload) p
@@ -128,7 +130,7 @@ given_total offer = total offer.read + total offer.write + total offer.reply
 abbrev pub formed : List ℕ → Form → (up down : ℕ) → Plan
 formed payload forms.Auto up down = auto_plan payload up (auto_offer payload down (inline_plan payload))
 formed payload forms.Inline up down = inline_plan payload
-formed payload forms.Chunk up down = reduced payload (record (inline_plan payload) { write = write_offer payload })
+formed payload forms.Chunk up down = reduced payload (record (inline_plan payload) { write = chunk_for (write_offer payload) })
 formed payload forms.Long up down =
     lengthened payload (record (inline_plan payload) { reply = Some (segments_for (largest_reply payload)) })
 formed payload (forms.Given offer) up down = given_plan payload offer

@@ -20,7 +20,8 @@ use Rattle.nr_reduce.specs.History.{CompletedCall, completed_calls, bytes_sent, 
 use Rattle.nr_reduce.specs.Events.{Event, events_at}
 use Rattle.nr_reduce.specs.EndRules.{EndState, end_state_after, output_for_all}
 use Rattle.nr_reduce.specs.OfferedRegions.{region_grants}
-use Rattle.nr_reduce.specs.Plans.{Plan, call_message, lists_of}
+use Rattle.nr_reduce.specs.declared.outline.Plan.{Plan}
+use Rattle.nr_reduce.specs.Plans.{call_message, lists_of}
 use Rattle.nr_reduce.specs.ClientState.{ClientState}
 use Rattle.nr_reduce.specs.Client.{client_rules, client_end, initial_client}
 use Rattle.nr_reduce.specs.ServerState.{ServerState, ReadyCall, is_pending}

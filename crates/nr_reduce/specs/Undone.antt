@@ -15,7 +15,8 @@ use Rattle.nr_wire.specs.Segment.Segment.{Tagged, Untagged}
 use Rattle.nr_reduce.specs.declared.call.Form.{Form}
 use Rattle.nr_reduce.specs.declared.call.Form.TheVariants as forms
 use Rattle.nr_link.specs.Limits.{segment_max}
-use Rattle.nr_reduce.specs.Plans.{Plan, total, has_segment, lists_of, write_list, reply_chunk}
+use Rattle.nr_reduce.specs.declared.outline.Plan.{Plan}
+use Rattle.nr_reduce.specs.Plans.{total, has_segment, lists_of, write_list, reply_chunk}
 use Rattle.nr_reduce.specs.Chunks.{Bytes, call_conveyed}
 use Rattle.nr_link.specs.Output.{segment_count, segment_payload}
 use Rattle.nr_reduce.specs.Holds.{Answer, first_chunk, no_segments}

@@ -2,14 +2,31 @@
 #![tactic(auto)]
 
 mod call;
+mod cutting;
+mod fault;
+mod holding;
+mod item;
+mod largest;
 mod laws;
+mod limits;
 mod mark;
+mod outline;
+mod planning;
 mod run_laws;
 mod sequence;
+mod skipping;
 
 pub use call::{Call, Form, Lengths, Offer, Outcome, Refused, Submission};
+pub use cutting::{cut, rebuild, reducible_item};
+pub use fault::{Mismatch, PayloadFault};
+pub use holding::{Answer, answer_for, holds};
+pub use item::{Cut, Item, Of, call_item, item_of, reply_item};
+pub use largest::largest_reply;
 pub use laws::{answers_are_undone, plans_are_undone, rebuild_undoes_cut};
+pub use limits::{GIVEN_MAX, LINK_MAX, MOVED_MAX, READDIR_MAX};
 pub use mark::{Entry, Mark, Marks, Moment, Opened};
+pub use outline::Plan;
+pub use planning::plan;
 pub use run_laws::{
     accepted_calls_keep_the_law, accesses_are_allowed, ended_ends_stay, ends_stand_for_marks,
     laws_so_far, nothing_twice, one_mark_more, plans_are_opened,
