@@ -17,3 +17,4 @@ pub mod Undone
 pub mod Touches
 pub mod Sizes
 pub mod Submitting
+pub mod Calls

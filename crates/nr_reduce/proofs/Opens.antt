@@ -22,6 +22,7 @@ use Rattle.nr_reduce.specs.Items.{item_of, stream_of}
 use Rattle.nr_reduce.specs.declared.item.Of.TheVariants.{Call}
 use Rattle.nr_reduce.specs.declared.outline.Plan.{Plan}
 use Rattle.nr_reduce.specs.Plans.{plan_of, regions_needed, lists_of, call_message}
+use Rattle.nr_reduce.specs.RunLaws.{inline_stream}
 use Rattle.nr_reduce.specs.Chunks.{suits, suits_at, is_item, item_position, position_of, total_at}
 use Rattle.nr_reduce.specs.Undone.{IsOwn}
 use Rattle.nr_reduce.specs.ServerState.{ServerState, PendingCall, is_pending}
@@ -119,6 +120,14 @@ inline_of payload Inline = Some payload
 inline_of payload (Reduced i) = Some (stream_of payload i)
 inline_of payload Long = None
 
+inline-shape : (payload : List ℕ) (way : Way) (w r : Offering) → IsBytes payload → IsWay payload way → inline_of payload way ≡ inline_stream (shape payload way (offered w) (offered r))
+inline-shape payload Inline w r fits is = refl
+inline-shape payload (Reduced i) w r fits is =
+    let stands = item_stands Call payload i fits (reducible Call payload i is).item in
+    let least = stands.least in
+    ap (λ (b : Bool). cond b None (Some (stream_of payload i))) (sym (ne_eqb i.pos 0 (λ e. omega (arith, e, least))))
+inline-shape payload Long w r fits is = refl
+
 -- A stream suits its read list, and a call in one chunk waits for it.
 opens_way : (k : ServerState) (xid : ℕ) (payload : List ℕ) (way : Way) (w r : Offering) (stag : ℕ) (head : List ℕ) → IsBytes payload → IsWay payload way → 0 < length payload
     → by_body k xid (head ++ stream_in payload way) (body_again (body_of way (lists payload way w r stag)) (length head))
@@ -146,13 +155,13 @@ opens_way k xid payload Long w r stag head fits is some =
 -- A server gets the message of a plan whose form isn't given as a call, with the plan's lists and stream: it is never refused.
 pub opens_call : (k : ServerState) (payload : List ℕ) (form : Form) (up down xid credit stag : ℕ) (p : Plan) → IsBytes payload → IsOwn form → plan_of payload form up down ≡ Ok p → 0 < length payload → xid < 2 ^ 32 → credit < 2 ^ 32
     → stag + regions_needed p ≤ 2 ^ 32 → is_pending k xid ≡ false
-    → (inline : Option (List ℕ)) × (verdict k (call_message xid credit stag p) ≡ by_need k (record { number = k.received.sends + 1; xid = xid; lists = lists_of stag p; inline = inline }))
+    → verdict k (call_message xid credit stag p) ≡ by_need k (record { number = k.received.sends + 1; xid = xid; lists = lists_of stag p; inline = inline_stream p })
 unfolding call_message
 opens_call k payload form up down xid credit stag p fits own e some fits_x fits_c room free =
     let is = is_plan payload form up down p own e in
     let s = is.shaped in
     let law = λ (q : Plan). stag + regions_needed q ≤ 2 ^ 32
-    → (inline : Option (List ℕ)) × (verdict k (call_message xid credit stag q) ≡ by_need k (record { number = k.received.sends + 1; xid = xid; lists = lists_of stag q; inline = inline })) in
+    → verdict k (call_message xid credit stag q) ≡ by_need k (record { number = k.received.sends + 1; xid = xid; lists = lists_of stag q; inline = inline_stream q }) in
     subst law (sym s.is) (λ room. by_shape s.way s.write s.reply s.is_way s.write_small s.reply_small is.payload_fits room) room
   where
     is_call : (way : Way) (ls : ChunkLists) (n : ℕ) → IsCall (body_again (body_of way ls) n)
@@ -161,13 +170,11 @@ opens_call k payload form up down xid credit stag p fits own e some fits_x fits_
     is_call Long ls n = tt
 
     by_shape : (way : Way) (w r : Offering) → IsWay payload way → IsSmall w → IsSmall r → length payload ≤ PAYLOAD_MAX → stag + regions_needed (shape payload way (offered w) (offered r)) ≤ 2 ^ 32
-        → (inline : Option (List ℕ)) × (verdict k (call_message xid credit stag (shape payload way (offered w) (offered r))) ≡ by_need k (record { number = k.received.sends + 1; xid = xid; lists = lists_of stag (shape payload way (offered w) (offered r)); inline = inline }))
+        → verdict k (call_message xid credit stag (shape payload way (offered w) (offered r))) ≡ by_need k (record { number = k.received.sends + 1; xid = xid; lists = lists_of stag (shape payload way (offered w) (offered r)); inline = inline_stream (shape payload way (offered w) (offered r)) })
     by_shape way w r is_way small_w small_r size room =
         let m = reads-shape payload way w r xid credit stag fits is_way size small_w small_r fits_x fits_c room in
-        let h : Header = record { xid = xid; credit = credit; body = body_of way (lists payload way w r stag) } in (
-          inline_of payload way,
-          ap (λ (bytes : List ℕ). verdict k bytes) m.0
-              ∙ judged_call k (header_encoding h ++ stream_in payload way) (header_again h) m.1 (is_call way (lists payload way w r stag) (length (header_encoding h))) free
-              ∙ opens_way k xid payload way w r stag (header_encoding h) fits is_way some
-              ∙ ap (λ (l : ChunkLists). by_need k (record { number = k.received.sends + 1; xid = xid; lists = l; inline = inline_of payload way })) (sym (lists-shape payload way w r stag)),
-        )
+        let h : Header = record { xid = xid; credit = credit; body = body_of way (lists payload way w r stag) } in
+        ap (λ (bytes : List ℕ). verdict k bytes) m.0
+        ∙ judged_call k (header_encoding h ++ stream_in payload way) (header_again h) m.1 (is_call way (lists payload way w r stag) (length (header_encoding h))) free
+        ∙ opens_way k xid payload way w r stag (header_encoding h) fits is_way some
+        ∙ (λ i. by_need k (record { number = k.received.sends + 1; xid = xid; lists = sym (lists-shape payload way w r stag) i; inline = inline-shape payload way w r fits is_way i }))

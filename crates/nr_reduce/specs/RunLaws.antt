@@ -1,11 +1,17 @@
 -- What follows from the definitions of a run, for every run.
-use Rattle.std.specs.Prelude.{◌≡◌, ◌≢◌, ℕ, ◌+◌, ◌^◌, ◌<◌, ◌≤◌, false, List, [], ◌∷◌, ◌++◌, length, Option, None, Some, Ok, Contains}
+use Rattle.std.specs.Prelude.{◌≡◌, ◌≢◌, ℕ, ◌+◌, ◌^◌, ◌<◌, ◌≤◌, ◌==◌, if◌then◌else◌, true, false, List, [], ◌∷◌, ◌++◌, length, Option, None, Some, Ok, Contains}
 use Rattle.nr_wire.specs.declared.hello.Side.{Side}
 use Rattle.nr_wire.specs.declared.hello.Side.TheVariants.{Initiator, Responder}
 use Rattle.nr_wire.specs.Segment.{Segment}
 use Rattle.nr_link.specs.declared.end.End.{End}
 use Rattle.nr_link.specs.Frames.{Frame, is_hello}
-use Rattle.nr_link.specs.Output.{own_hello}
+use Rattle.nr_link.specs.Output.{own_hello, send}
+use Rattle.nr_link.specs.Limits.{open_reads_max}
+use Rattle.nr_link.specs.ReceiveState.{message_completed}
+use Rattle.nr_header.specs.Reading.{word_at}
+use Rattle.nr_rpc.specs.declared.head.CallHead.{CallHead}
+use Rattle.nr_rpc.specs.Reading.{call_of, target_of}
+use Rattle.nr_reduce.specs.Holds.{Answer, answer_writes, answer_message, chunk_error, version_error}
 use Rattle.nr_link.specs.Input.{InputState, initial_input, input_of, input_after}
 use Rattle.nr_link.specs.Ending.{frame_segment, missing_access}
 use Rattle.nr_reduce.specs.declared.call.Form.{Form}
@@ -24,9 +30,11 @@ use Rattle.nr_reduce.specs.declared.outline.Plan.{Plan}
 use Rattle.nr_reduce.specs.Plans.{call_message, lists_of}
 use Rattle.nr_reduce.specs.ClientState.{ClientState}
 use Rattle.nr_reduce.specs.Client.{client_rules, client_end, initial_client}
-use Rattle.nr_reduce.specs.ServerState.{ServerState, ReadyCall, is_pending}
-use Rattle.nr_reduce.specs.ServerMessages.{verdict, by_need}
-use Rattle.nr_reduce.specs.Server.{server_rules, server_end, initial_server}
+use Rattle.nr_reduce.specs.ServerState.{ServerState, ReadyCall, is_pending, down_max}
+use Rattle.nr_reduce.specs.ServerReads.{open_reads}
+use Rattle.nr_reduce.specs.ServerMessages.{verdict, by_need, call_xid}
+use Rattle.nr_reduce.specs.ServerMessages.Verdict.{BadChunks, OtherVersion}
+use Rattle.nr_reduce.specs.Server.{server_rules, server_end, server_output, server_state_after, initial_server, offer_of, answer_of_target}
 use Rattle.nr_reduce.specs.Events.Event.{FrameReceived}
 use Rattle.nr_reduce.specs.Run.{client, server, output_due}
 use Rattle.nr_rpc.specs.Credential.{CanWriteCred}
@@ -34,11 +42,25 @@ use Rattle.nr_reduce.specs.Limits.{numbers_end}
 use Rattle.nr_reduce.specs.Credits.{calls_outstanding, credits_granted}
 use Rattle.nr_reduce.specs.SubmitAnswer.{submit_answer}
 use Rattle.nr_reduce.specs.Asked.{AskedSoFar, AskedMark, IsAccepted, IsAll}
-use Rattle.nr_reduce.specs.Served.{ServedSoFar, ServedMark, next_call}
+use Rattle.nr_reduce.specs.Served.{ServedSoFar, ServedMark, IsExecuted, next_call}
 use Rattle.nr_reduce.specs.Matched.{IsPrefixOf}
 use Rattle.nr_reduce.specs.SoFar.{SoFar, InFull}
 use Rattle.nr_reduce.specs.Standing.{input_events, ClientStandsFor, ServerStandsFor}
 use Rattle.nr_reduce.specs.PayloadLaws.{IsPlanned}
+
+-- the stream of a plan, where it is in the message
+abbrev pub inline_at : Option ℕ → List ℕ → Option (List ℕ)
+inline_at None stream = Some stream
+inline_at (Some position) stream = if position == 0 then None else Some stream
+
+abbrev pub inline_stream : Plan → Option (List ℕ)
+inline_stream p = inline_at p.read_at p.inline
+
+-- for a frame just this message is due, and no call becomes pending or ready
+pub record IsOnlyAnswered (opened : Opened) (k : ServerState) (f : Frame) (answer : List ℕ) : Type 0 where
+  pub output : server_output opened k (FrameReceived f) ≡ send (k.messages_queued + 1) answer
+  pub calls : (server_state_after opened k (FrameReceived f)).calls ≡ k.calls
+  pub ready : (server_state_after opened k (FrameReceived f)).ready ≡ k.ready
 
 -- ---- One mark more
 
@@ -152,12 +174,51 @@ AcceptedKeepsLaw = (opened : Opened) (link : ℕ) (run : List Mark) (call : Call
     submit_answer opened (client opened link run) call form ≡ submissions.Accepted xid → (client opened link run).state.stag ≤ numbers_end → CanWriteCred call.cred →
     IsAccepted opened link run call form xid × (calls_outstanding opened link run < credits_granted opened link run)
 
--- A server never refuses the message of a plan whose form isn't given: the call is pending, with the plan's lists, where its xid
--- wasn't and STags are left for its reads.
+-- The Send of an accepted call is due at its Submit, by its plan, once the server's hello was received. Before, nothing is due at
+-- the Submit: calls that are outstanding are due with the hello, in the order of their Submits, numbered from 1 on.
+abbrev pub SubmitIsSent : Type 0
+SubmitIsSent = (opened : Opened) (link : ℕ) (run : List Mark) (call : Call) (form : Form) (xid : ℕ) → (h : IsAccepted opened link run call form xid) →
+    ((client opened link run).state.has_hello ≡ true →
+    output_due opened link Initiator (run ++ marks.Submit link call form (submissions.Accepted xid) ∷ [])
+    ≡ output_due opened link Initiator run ++ send ((client opened link run).state.calls_accepted + 1) (call_message xid opened.wished (client opened link run).state.stag h.plan))
+    × ((client opened link run).state.has_hello ≡ false →
+    output_due opened link Initiator (run ++ marks.Submit link call form (submissions.Accepted xid) ∷ []) ≡ output_due opened link Initiator run)
+
+-- An executed call's payload begins with the head of a call under its xid.
+abbrev pub PayloadHasItsXid : Type 0
+PayloadHasItsXid = (opened : Opened) (link : ℕ) (run : List Mark) (xid : ℕ) (payload : List ℕ) → IsExecuted opened link run xid payload →
+    (head : CallHead) × ((call_of payload ≡ Ok head) × (call_xid head ≡ xid))
+
+-- It is answered by RDMA Writes and then one Send where the offer of the pending call of its xid holds the reply, else by ERR_CHUNK.
+abbrev pub ExecuteIsAnswered : Type 0
+ExecuteIsAnswered = (opened : Opened) (link : ℕ) (run : List Mark) (xid : ℕ) (moment : Moment) (payload : List ℕ) (place : ℕ) (reply : List ℕ) → IsExecuted opened link run xid payload →
+    ((a : Answer) → answer_of_target (offer_of (server opened link run).state xid) (down_max (server opened link run).state) reply (target_of (call_of payload)) ≡ Some a →
+    output_due opened link Responder (run ++ marks.Execute link xid moment payload place reply ∷ [])
+    ≡ output_due opened link Responder run
+    ++ (answer_writes (offer_of (server opened link run).state xid) a
+    ++ send ((server opened link run).state.messages_queued + 1) (answer_message xid (server opened link run).state.credit (offer_of (server opened link run).state xid) a)))
+    × (answer_of_target (offer_of (server opened link run).state xid) (down_max (server opened link run).state) reply (target_of (call_of payload)) ≡ None →
+    output_due opened link Responder (run ++ marks.Execute link xid moment payload place reply ∷ [])
+    ≡ output_due opened link Responder run
+    ++ send ((server opened link run).state.messages_queued + 1) (chunk_error xid (server opened link run).state.credit))
+
+-- A Send that is refused is answered by one error message, and makes no call pending or ready.
+abbrev pub RefusedSendIsAnswered : Type 0
+RefusedSendIsAnswered = (opened : Opened) (k : ServerState) (f : Frame) (segment : Segment) (message : List ℕ) → is_hello f ≡ false → frame_segment f ≡ Ok segment →
+    message_completed k.received segment ≡ Some message →
+    (verdict k message ≡ BadChunks → IsOnlyAnswered opened k f (chunk_error (word_at 0 message) k.credit))
+    × (verdict k message ≡ OtherVersion → IsOnlyAnswered opened k f (version_error (word_at 0 message) (word_at 4 message) k.credit))
+
+-- At most open_reads_max Read Requests are open.
+abbrev pub OpenReadsAreFew : Type 0
+OpenReadsAreFew = (k : ServerState) → length (open_reads k) ≤ open_reads_max
+
+-- A server never refuses the message of a plan whose form isn't given: the call is pending, with the plan's lists and stream, where
+-- its xid wasn't and STags are left for its reads.
 abbrev pub PlanIsAccepted : Type 0
 PlanIsAccepted = (k : ServerState) (payload : List ℕ) (form : Form) (up down xid credit stag : ℕ) (p : Plan) → IsPlanned payload form up down xid credit stag p →
-    0 < length payload → is_pending k xid ≡ false → (inline : Option (List ℕ)) ×
-    (verdict k (call_message xid credit stag p) ≡ by_need k (record { number = k.received.sends + 1; xid = xid; lists = lists_of stag p; inline = inline }))
+    0 < length payload → is_pending k xid ≡ false →
+    verdict k (call_message xid credit stag p) ≡ by_need k (record { number = k.received.sends + 1; xid = xid; lists = lists_of stag p; inline = inline_stream p })
 
 -- No Send is executed twice, whatever the peer sends.
 abbrev pub SendIsExecutedOnce : Type 0

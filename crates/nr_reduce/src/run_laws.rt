@@ -1,6 +1,6 @@
 //! Laws of runs: what both ends of a link cite, and what holds of every run.
 
-ghost use Rattle.nr_reduce.specs.RunLaws.{ClientAfterMark, ServerAfterMark, ClientOutputAfterMark, ServerOutputAfterMark, EndedClientStays, EndedServerStays, FullHoldsSoFar, SoFarHoldsBefore, AskedWithMark, ServedWithMark, ClientBegins, ServerBegins, EventsOfInput, ClientStandsOn, ServerStandsOn, ClientQueueIsDue, ServerQueueIsDue, ClientAllows, ServerAllows, AcceptedKeepsLaw, PlanIsAccepted, SendIsExecutedOnce, CallCompletesOnce, XidsRise};
+ghost use Rattle.nr_reduce.specs.RunLaws.{ClientAfterMark, ServerAfterMark, ClientOutputAfterMark, ServerOutputAfterMark, EndedClientStays, EndedServerStays, FullHoldsSoFar, SoFarHoldsBefore, AskedWithMark, ServedWithMark, ClientBegins, ServerBegins, EventsOfInput, ClientStandsOn, ServerStandsOn, ClientQueueIsDue, ServerQueueIsDue, ClientAllows, ServerAllows, AcceptedKeepsLaw, SubmitIsSent, PayloadHasItsXid, ExecuteIsAnswered, RefusedSendIsAnswered, OpenReadsAreFew, PlanIsAccepted, SendIsExecutedOnce, CallCompletesOnce, XidsRise};
 
 /// One mark more: the state of an end, and the output due, are those before with the events of the mark.
 pub fn one_mark_more()
@@ -48,6 +48,21 @@ pub fn accesses_are_allowed()
 /// left, while fewer calls are outstanding than are granted.
 pub fn accepted_calls_keep_the_law()
     ensures { AcceptedKeepsLaw }
+{}
+
+/// An accepted call is sent by its plan, once the server's hello was received.
+pub fn submits_are_sent()
+    ensures { SubmitIsSent }
+{}
+
+/// An executed call's payload begins with a call head of its xid. It is answered by RDMA Writes into what it offered and
+/// then one Send, or by ERR_CHUNK where its offer doesn't hold the reply. A Send that is refused is answered by one error
+/// message, and never executed. At most eight Read Requests are open.
+pub fn sends_are_answered()
+    ensures head { PayloadHasItsXid }
+    ensures executed_call { ExecuteIsAnswered }
+    ensures refused_send { RefusedSendIsAnswered }
+    ensures open_reads { OpenReadsAreFew }
 {}
 
 /// The message of a plan whose form isn't given is never refused by a server: it makes its call pending, with the lists
