@@ -37,9 +37,9 @@ use Rattle.nr_reduce.specs.Client.{client_rules, client_end, client_output, plan
 use Rattle.nr_reduce.specs.ServerState.{ServerState, ReadyCall, PendingCall, PendingRead, down_max}
 use Rattle.nr_reduce.specs.ServerReads.{open_reads, is_read}
 use Rattle.nr_reduce.specs.ServerMessages.{Verdict, CallVerdict, verdict, by_payload, by_head, payload_of, call_xid, chunk_bytes}
-use Rattle.nr_reduce.specs.ServerMessages.Verdict.{Stops, OtherVersion, BadChunks, Opens}
+use Rattle.nr_reduce.specs.ServerMessages.Verdict.{EndsLink, OtherVersion, BadChunks, MakesPending}
 use Rattle.nr_reduce.specs.ServerMessages.CallVerdict.{Refuses, IsReady}
-use Rattle.nr_reduce.specs.ServerFrames.{FrameEffect, no_effect, made_ready, if_whole, opened_with, message_effect, refused_with, is_stream_read, read_effect, call_of_number, response_effect, tagged_effect, by_message, with_reach, effect_by, effect_in, frame_effect}
+use Rattle.nr_reduce.specs.ServerFrames.{FrameEffect, no_effect, with_verdict, ready_if_whole, with_pending_call, message_effect, with_refused_call, is_stream_read, read_effect, call_of_number, response_effect, tagged_effect, by_message, with_reach, effect_by, effect_in, frame_effect}
 use Rattle.nr_reduce.specs.Server.{server_rules, server_end, server_output, server_state_after, initial_server, offer_of, answer_of_target, answer_output, execution_output, effect_output, newly_open_reads, sends_from, requests_from, with_effect}
 use Rattle.nr_reduce.specs.Run.{client, server, output_due}
 use Rattle.nr_reduce.specs.Asked.{IsAccepted}
@@ -152,31 +152,31 @@ heads-if : (b : Bool) (x y : FrameEffect) → AreHeads x.ready → AreHeads y.re
 heads-if true x y p q = p
 heads-if false x y p q = q
 
-head-made : (c : PendingCall) (payload : List ℕ) (r : Result CallHead ℕ) (s : FrameEffect) → call_of payload ≡ r → AreHeads s.ready → AreHeads (made_ready (by_head c payload r) s).ready
+head-made : (c : PendingCall) (payload : List ℕ) (r : Result CallHead ℕ) (s : FrameEffect) → call_of payload ≡ r → AreHeads s.ready → AreHeads (with_verdict (by_head c payload r) s).ready
 head-made c payload (Err at) s e h = h
 head-made c payload (Ok head) s e h = by (eqb (call_xid head) c.xid) refl
   where
-    by : (b : Bool) → eqb (call_xid head) c.xid ≡ b → AreHeads (made_ready (cond b (IsReady (record { number = c.number; xid = c.xid; payload = payload })) (Refuses 19)) s).ready
+    by : (b : Bool) → eqb (call_xid head) c.xid ≡ b → AreHeads (with_verdict (cond b (IsReady (record { number = c.number; xid = c.xid; payload = payload })) (Refuses 19)) s).ready
     by true is = (record { head = head; is = e; xid = eqb-true (call_xid head) c.xid is }, tt)
     by false is = h
 
-payload-made : (c : PendingCall) (p : Option (List ℕ)) (s : FrameEffect) → AreHeads s.ready → AreHeads (made_ready (by_payload c p) s).ready
+payload-made : (c : PendingCall) (p : Option (List ℕ)) (s : FrameEffect) → AreHeads s.ready → AreHeads (with_verdict (by_payload c p) s).ready
 payload-made c None s h = h
 payload-made c (Some payload) s h = head-made c payload (call_of payload) s refl h
 
-whole-heads : (k : ServerState) (place : ℕ) (c : PendingCall) (s : FrameEffect) → AreHeads s.ready → AreHeads (if_whole k place c s).ready
-whole-heads k place c s h = heads-if (is_read s.reads c.number) (made_ready (by_payload c (payload_of k place c)) s) s (payload-made c (payload_of k place c) s h) h
+whole-heads : (k : ServerState) (place : ℕ) (c : PendingCall) (s : FrameEffect) → AreHeads s.ready → AreHeads (ready_if_whole k place c s).ready
+whole-heads k place c s h = heads-if (is_read s.reads c.number) (with_verdict (by_payload c (payload_of k place c)) s) s (payload-made c (payload_of k place c) s h) h
 
 message-heads : (k : ServerState) (place : ℕ) (message : List ℕ) (v : Verdict) → AreHeads (message_effect k place message v).ready
-message-heads k place message (Stops reason) = tt
+message-heads k place message (EndsLink reason) = tt
 message-heads k place message OtherVersion = tt
 message-heads k place message BadChunks = tt
-message-heads k place message (Opens c) = whole-heads k place c _ tt
+message-heads k place message (MakesPending c) = whole-heads k place c _ tt
 
 read-heads : (k : ServerState) (place : ℕ) (r : PendingRead) (o : Option PendingCall) (s : FrameEffect) → AreHeads s.ready → AreHeads (read_effect k place r o s).ready
 read-heads k place r None s h = h
 read-heads k place r (Some c) s h =
-    heads-if (is_stream_read c r s.reads && not (suits (chunk_bytes k place c 0) c.lists.read)) (refused_with k c s) (if_whole k place c s) h (whole-heads k place c s h)
+    heads-if (is_stream_read c r s.reads && not (suits (chunk_bytes k place c 0) c.lists.read)) (with_refused_call k c s) (ready_if_whole k place c s) h (whole-heads k place c s h)
 
 response-heads : (k : ServerState) (place : ℕ) (reads : List PendingRead) → AreHeads (response_effect k place reads).ready
 response-heads k place [] = tt

@@ -1,5 +1,5 @@
--- No Send is executed twice, whatever the peer sends: a call's number is told in its reads, then among the calls that are ready, and
--- then nowhere.
+-- No Send is executed twice, whatever the peer sends: the number of a call stands in its reads, then among the calls that are ready,
+-- and then nowhere.
 use Rattle.std.proofs.Common.{◌≡◌, ◌≢◌, ℕ, ◌+◌, ◌-◌, ◌<◌, ◌≤◌, Bool, true, false, cond, not, ◌&&◌, ◌||◌, eqb, leb, ltb, List, [], ◌∷◌, ◌++◌, length, take, drop, Option, Some, None, Result, Ok, Err, refl, sym, ap, subst, ◌∙◌, arith, append_assoc, append-nil, inl, inr, ◌⊎◌}
 use Rattle.std.specs.Prelude.{slice_get}
 use Rattle.std.proofs.lemmas.Bool.{eq-eqb, ne_eqb, eqb-true, cases_lt}
@@ -35,9 +35,9 @@ use Rattle.nr_reduce.specs.Events.Event.{FrameReceived, CallSubmitted, MemoryRev
 use Rattle.nr_reduce.specs.ServerState.{ServerState, initial_state, ReadyCall, PendingRead, PendingCall, one_if, next_stag, is_pending}
 use Rattle.nr_reduce.specs.ServerReads.{is_read, reads_of, reads_from, read_of, chunks_of, regions_of}
 use Rattle.nr_reduce.specs.ServerMessages.{Verdict, CallVerdict, chunk_bytes, verdict, by_header, by_body, by_stream, by_need, has_position, no_stream, by_payload, by_head, payload_of, call_xid}
-use Rattle.nr_reduce.specs.ServerFrames.{FrameEffect, no_effect, made_ready, if_whole, opened_with, refused_with, read_effect, response_effect, call_of_number, is_stream_read, tagged_effect, message_effect, by_message, with_reach, effect_by, effect_in, frame_effect}
+use Rattle.nr_reduce.specs.ServerFrames.{FrameEffect, no_effect, with_verdict, ready_if_whole, with_pending_call, with_refused_call, read_effect, response_effect, call_of_number, is_stream_read, tagged_effect, message_effect, by_message, with_reach, effect_by, effect_in, frame_effect}
 use Rattle.nr_reduce.specs.Server.{with_effect, received_by, server_state_after, server_end, server_rules, initial_server}
-use Rattle.nr_reduce.specs.ServerMessages.Verdict.{Stops, OtherVersion, BadChunks, Opens}
+use Rattle.nr_reduce.specs.ServerMessages.Verdict.{EndsLink, OtherVersion, BadChunks, MakesPending}
 use Rattle.nr_reduce.specs.ServerMessages.CallVerdict.{Refuses, IsReady}
 use Rattle.nr_reduce.specs.Chunks.{suits, total_at}
 use Rattle.nr_reduce.specs.Run.{server}
@@ -46,25 +46,25 @@ use Rattle.nr_reduce.proofs.Steps.{server-one}
 use Rattle.nr_reduce.proofs.Standing.{itself}
 use Rattle.nr_reduce.proofs.Placing.{AtEachMark-at}
 
--- ---- How often a number is told
+-- ---- How often a number stands there
 
-abbrev pub told : ℕ → List ReadyCall → ℕ
-told n [] = 0
-told n (r ∷ ready) = one_if (eqb r.number n) + told n ready
+abbrev pub times_ready : ℕ → List ReadyCall → ℕ
+times_ready n [] = 0
+times_ready n (r ∷ ready) = one_if (eqb r.number n) + times_ready n ready
 
 abbrev pub read_for : ℕ → List PendingRead → Bool
 read_for n reads = list_any (λ r. eqb r.number n) reads
 
 abbrev pub tokens : ServerState → ℕ → ℕ
-tokens k n = told n k.ready + one_if (read_for n k.reads)
+tokens k n = times_ready n k.ready + one_if (read_for n k.reads)
 
-told-append : (n : ℕ) (xs ys : List ReadyCall) → told n (xs ++ ys) ≡ told n xs + told n ys
-told-append n [] ys = omega arith
-told-append n (x ∷ xs) ys = (let h = told-append n xs ys in omega (arith, h))
+times_ready-append : (n : ℕ) (xs ys : List ReadyCall) → times_ready n (xs ++ ys) ≡ times_ready n xs + times_ready n ys
+times_ready-append n [] ys = omega arith
+times_ready-append n (x ∷ xs) ys = (let h = times_ready-append n xs ys in omega (arith, h))
 
-told-drop : (n : ℕ) (xs : List ReadyCall) → told n (drop 1 xs) ≤ told n xs
-told-drop n [] = omega arith
-told-drop n (x ∷ xs) = omega arith
+times_ready-drop : (n : ℕ) (xs : List ReadyCall) → times_ready n (drop 1 xs) ≤ times_ready n xs
+times_ready-drop n [] = omega arith
+times_ready-drop n (x ∷ xs) = omega arith
 
 or-assoc : (a b c : Bool) → ((a || b) || c) ≡ (a || (b || c))
 or-assoc true b c = refl
@@ -98,15 +98,15 @@ fewer-filter p (x ∷ xs) n = fewer-one p x xs n (p x) (fewer-filter p xs n)
 
 -- ---- A frame
 
--- what a step leaves: reads and calls that are ready, with so many more told of a number
+-- what a step leaves: reads and calls that are ready, with so many more of a number
 abbrev Adds : ServerState → FrameEffect → (ℕ → ℕ) → Type 0
-Adds k s more = (n : ℕ) → told n s.ready + one_if (read_for n s.reads) ≤ one_if (read_for n k.reads) + more n
+Adds k s more = (n : ℕ) → times_ready n s.ready + one_if (read_for n s.reads) ≤ one_if (read_for n k.reads) + more n
 
 abbrev none : ℕ → ℕ
 none n = 0
 
 quiet : (k : ServerState) (s : FrameEffect) → s.ready ≡ [] → s.reads ≡ k.reads → Adds k s none
-quiet k s e f n = (let a = ap (λ (xs : List ReadyCall). told n xs) e in let b = ap (λ (xs : List PendingRead). one_if (read_for n xs)) f in omega (arith, a, b))
+quiet k s e f n = (let a = ap (λ (xs : List ReadyCall). times_ready n xs) e in let b = ap (λ (xs : List PendingRead). one_if (read_for n xs)) f in omega (arith, a, b))
 
 if-le : (b : Bool) (x y : FrameEffect) (P : FrameEffect → Type 0) → P x → P y → P (cond b x y)
 if-le true x y P p q = p
@@ -116,12 +116,12 @@ not-true : (b : Bool) → not b ≡ true → b ≡ false
 not-true true e = absurd cc
 not-true false e = refl
 
--- a call that becomes ready is told once, where nothing of it is left to be read
-ready-told : (n number : ℕ) (o : CallVerdict) (s : FrameEffect) → s.ready ≡ [] → ((r : ReadyCall) → o ≡ IsReady r → r.number ≡ number) → told n (made_ready o s).ready ≤ one_if (eqb number n)
-ready-told n number (Refuses reason) s e h = (let a = ap (λ (xs : List ReadyCall). told n xs) e in omega (arith, a))
-ready-told n number (IsReady r) s e h = (let a = ap (λ (m : ℕ). one_if (eqb m n)) (h r refl) in omega (arith, a))
+-- a call becomes ready once, where nothing of it is left to be read
+ready-times_ready : (n number : ℕ) (o : CallVerdict) (s : FrameEffect) → s.ready ≡ [] → ((r : ReadyCall) → o ≡ IsReady r → r.number ≡ number) → times_ready n (with_verdict o s).ready ≤ one_if (eqb number n)
+ready-times_ready n number (Refuses reason) s e h = (let a = ap (λ (xs : List ReadyCall). times_ready n xs) e in omega (arith, a))
+ready-times_ready n number (IsReady r) s e h = (let a = ap (λ (m : ℕ). one_if (eqb m n)) (h r refl) in omega (arith, a))
 
-same-reads : (o : CallVerdict) (s : FrameEffect) → (made_ready o s).reads ≡ s.reads
+same-reads : (o : CallVerdict) (s : FrameEffect) → (with_verdict o s).reads ≡ s.reads
 same-reads (Refuses reason) s = refl
 same-reads (IsReady r) s = refl
 
@@ -137,9 +137,9 @@ payload-number : (c : PendingCall) (p : Option (List ℕ)) (r : ReadyCall) → b
 payload-number c None r e = absurd cc
 payload-number c (Some payload) r e = head-number c payload (call_of payload) r e
 
--- whole or not: what is told of the call is one at most, and of the others what is left to be read
+-- whole or not: the number of the call stands there once at most, and of the others what is left to be read
 whole-adds : (k : ServerState) (place : ℕ) (c : PendingCall) (s : FrameEffect) (n : ℕ) → s.ready ≡ [] →
-    told n (if_whole k place c s).ready + one_if (read_for n (if_whole k place c s).reads) ≤ cond (eqb c.number n) 1 (one_if (read_for n s.reads))
+    times_ready n (ready_if_whole k place c s).ready + one_if (read_for n (ready_if_whole k place c s).reads) ≤ cond (eqb c.number n) 1 (one_if (read_for n s.reads))
 whole-adds k place c s n e = by (eqb c.number n) refl (is_read s.reads c.number) refl
   where
     o : CallVerdict
@@ -149,17 +149,17 @@ whole-adds k place c s n e = by (eqb c.number n) refl (is_read s.reads c.number)
     small true = omega arith
     small false = omega arith
 
-    idle : told n s.ready ≡ 0
-    idle = ap (λ (xs : List ReadyCall). told n xs) e
+    idle : times_ready n s.ready ≡ 0
+    idle = ap (λ (xs : List ReadyCall). times_ready n xs) e
 
-    one : told n (made_ready o s).ready ≤ one_if (eqb c.number n)
-    one = ready-told n c.number o s e (payload-number c (payload_of k place c))
+    one : times_ready n (with_verdict o s).ready ≤ one_if (eqb c.number n)
+    one = ready-times_ready n c.number o s e (payload-number c (payload_of k place c))
 
-    kept : read_for n (made_ready o s).reads ≡ read_for n s.reads
+    kept : read_for n (with_verdict o s).reads ≡ read_for n s.reads
     kept = ap (λ (xs : List PendingRead). read_for n xs) (same-reads o s)
 
     by : (is : Bool) → eqb c.number n ≡ is → (b : Bool) → is_read s.reads c.number ≡ b →
-        told n (cond b (made_ready o s) s).ready + one_if (read_for n (cond b (made_ready o s) s).reads) ≤ cond is 1 (one_if (read_for n s.reads))
+        times_ready n (cond b (with_verdict o s) s).ready + one_if (read_for n (cond b (with_verdict o s) s).reads) ≤ cond is 1 (one_if (read_for n s.reads))
     by true is false whole = (let a = small (read_for n s.reads) in omega (arith, a, idle))
     by false is false whole = omega (arith, idle)
     by true is true whole =
@@ -183,7 +183,7 @@ found-number number (d ∷ calls) c e = by (eqb d.number number) refl e (λ f. f
 abbrev less : ServerState → List PendingRead → ℕ → FrameEffect
 less k reads kept = record (no_effect k) { reads = reads; kept = kept }
 
-refused-adds : (k : ServerState) (c : PendingCall) (reads : List PendingRead) (kept n : ℕ) → told n (refused_with k c (less k reads kept)).ready + one_if (read_for n (refused_with k c (less k reads kept)).reads) ≤ one_if (read_for n reads)
+refused-adds : (k : ServerState) (c : PendingCall) (reads : List PendingRead) (kept n : ℕ) → times_ready n (with_refused_call k c (less k reads kept)).ready + one_if (read_for n (with_refused_call k c (less k reads kept)).reads) ≤ one_if (read_for n reads)
 refused-adds k c reads kept n =
     let p : PendingRead → Bool = λ r. not (eqb r.number c.number) in
     let a = ap one_if (reads-append n (take kept reads) (filter p (drop kept reads))) in
@@ -192,7 +192,7 @@ refused-adds k c reads kept n =
     omega (arith, a, b, h)
 
 read-adds : (k : ServerState) (place : ℕ) (r : PendingRead) (reads : List PendingRead) (kept : ℕ) (o : Option PendingCall) → ((c : PendingCall) → o ≡ Some c → c.number ≡ r.number) → (n : ℕ)
-    → told n (read_effect k place r o (less k reads kept)).ready + one_if (read_for n (read_effect k place r o (less k reads kept)).reads) ≤ one_if (eqb r.number n || read_for n reads)
+    → times_ready n (read_effect k place r o (less k reads kept)).ready + one_if (read_for n (read_effect k place r o (less k reads kept)).reads) ≤ one_if (eqb r.number n || read_for n reads)
 read-adds k place r reads kept None h n = (let a = or-more (eqb r.number n) (read_for n reads) in omega (arith, a))
 read-adds k place r reads kept (Some c) h n = by (is_stream_read c r reads && not (suits (chunk_bytes k place c 0) c.lists.read))
   where
@@ -203,8 +203,8 @@ read-adds k place r reads kept (Some c) h n = by (is_stream_read c r reads && no
     bound true is = (let a = ap (λ (m : ℕ). one_if (eqb m n || read_for n reads)) (h c refl) in let b = ap (λ (b : Bool). one_if (b || read_for n reads)) is in omega (arith, a, b))
     bound false is = more
 
-    by : (b : Bool) → told n (cond b (refused_with k c (less k reads kept)) (if_whole k place c (less k reads kept))).ready
-        + one_if (read_for n (cond b (refused_with k c (less k reads kept)) (if_whole k place c (less k reads kept))).reads) ≤ one_if (eqb r.number n || read_for n reads)
+    by : (b : Bool) → times_ready n (cond b (with_refused_call k c (less k reads kept)) (ready_if_whole k place c (less k reads kept))).ready
+        + one_if (read_for n (cond b (with_refused_call k c (less k reads kept)) (ready_if_whole k place c (less k reads kept))).reads) ≤ one_if (eqb r.number n || read_for n reads)
     by true = (let a = refused-adds k c reads kept n in omega (arith, a, more))
     by false = (let a = whole-adds k place c (less k reads kept) n refl in let b = bound (eqb c.number n) refl in omega (arith, a, b))
 
@@ -239,7 +239,7 @@ or-false : (b : Bool) → one_if (b || false) ≤ one_if b
 or-false true = omega arith
 or-false false = omega arith
 
-opened-adds : (k : ServerState) (place : ℕ) (c : PendingCall) → c.number ≡ k.received.sends + 1 → Adds k (opened_with k place c (no_effect k)) (fresh k)
+opened-adds : (k : ServerState) (place : ℕ) (c : PendingCall) → c.number ≡ k.received.sends + 1 → Adds k (with_pending_call k place c (no_effect k)) (fresh k)
 opened-adds k place c is n =
     let a = whole-adds k place c s n refl in
     let b = bound (eqb c.number n) refl in
@@ -260,17 +260,17 @@ opened-adds k place c is n =
 
 -- a call that opens has the number of its Send
 abbrev NumberIs : ℕ → Verdict → Type 0
-NumberIs m (Stops reason) = Unit {0}
+NumberIs m (EndsLink reason) = Unit {0}
 NumberIs m OtherVersion = Unit {0}
 NumberIs m BadChunks = Unit {0}
-NumberIs m (Opens c) = c.number ≡ m
+NumberIs m (MakesPending c) = c.number ≡ m
 
 if-number : (b : Bool) (x y : Verdict) (m : ℕ) → NumberIs m x → NumberIs m y → NumberIs m (cond b x y)
 if-number true x y m p q = p
 if-number false x y m p q = q
 
 need-number : (k : ServerState) (c : PendingCall) (m : ℕ) → c.number ≡ m → NumberIs m (by_need k c)
-need-number k c m e = if-number (ltb 4294967296 (next_stag k + length (chunks_of c.lists))) (Stops 30) (Opens c) m tt e
+need-number k c m e = if-number (ltb 4294967296 (next_stag k + length (chunks_of c.lists))) (EndsLink 30) (MakesPending c) m tt e
 
 stream-number : (k : ServerState) (lists : ChunkLists) (xid : ℕ) (o : Option (List ℕ)) → NumberIs (k.received.sends + 1) (by_stream k lists xid o)
 stream-number k lists xid None = need-number k _ (k.received.sends + 1) refl
@@ -290,19 +290,19 @@ verdict-number : (k : ServerState) (message : List ℕ) → NumberIs (k.received
 unfolding verdict
 verdict-number k message =
     if-number (not (eqb (word_at 4 message) 1)) OtherVersion _ (k.received.sends + 1) tt
-    (if-number (eqb (word_at 12 message) 3 || eqb (word_at 12 message) 4) (Stops 17) _ (k.received.sends + 1) tt
-    (if-number (is_pending k (word_at 0 message)) (Stops 20) _ (k.received.sends + 1) tt
+    (if-number (eqb (word_at 12 message) 3 || eqb (word_at 12 message) 4) (EndsLink 17) _ (k.received.sends + 1) tt
+    (if-number (is_pending k (word_at 0 message)) (EndsLink 20) _ (k.received.sends + 1) tt
     (header-number k message (header_of message))))
 
 message-adds : (k : ServerState) (place : ℕ) (message : List ℕ) (v : Verdict) → NumberIs (k.received.sends + 1) v → Adds k (message_effect k place message v) (fresh k)
-message-adds k place message (Stops reason) h n = omega arith
+message-adds k place message (EndsLink reason) h n = omega arith
 message-adds k place message OtherVersion h n = omega arith
 message-adds k place message BadChunks h n = omega arith
-message-adds k place message (Opens c) h n = opened-adds k place c h n
+message-adds k place message (MakesPending c) h n = opened-adds k place c h n
 
 -- ---- What the server goes to
 
--- told no more of what was known, and of a new Send once at most
+-- no more of the numbers that were known, and of a new Send once at most
 pub record Goes (k after : ServerState) : Type 0 where
   pub rises : k.received.sends ≤ after.received.sends
   pub known : (n : ℕ) → n ≤ k.received.sends → tokens after n ≤ tokens k n
@@ -314,15 +314,15 @@ stays k after e h = record { rises = omega (arith, e); known = λ n le. h n; new
 
 goes-none : (k : ServerState) (f : Frame) (s : FrameEffect) → k.received.sends ≤ (received_by k.received (frame_segment f)).sends → Adds k s none → Goes k (with_effect k f s)
 goes-none k f s rises h =
-    let same : (n : ℕ) → tokens (with_effect k f s) n ≤ tokens k n = λ n. (let a = h n in let b = told-append n k.ready s.ready in omega (arith, a, b)) in
+    let same : (n : ℕ) → tokens (with_effect k f s) n ≤ tokens k n = λ n. (let a = h n in let b = times_ready-append n k.ready s.ready in omega (arith, a, b)) in
     record { rises = rises; known = λ n le. same n; new = λ n. (let a = same n in omega (arith, a)); beyond = λ n lt. same n }
 
 goes-fresh : (k : ServerState) (f : Frame) (s : FrameEffect) → (received_by k.received (frame_segment f)).sends ≡ k.received.sends + 1 → Adds k s (fresh k) → Goes k (with_effect k f s)
 goes-fresh k f s one h = record {
   rises = omega (arith, one);
-  known = λ n le. (let a = h n in let b = told-append n k.ready s.ready in let c = not_new n (λ e. omega (arith, e, le)) in omega (arith, a, b, c));
-  new = λ n. (let a = h n in let b = told-append n k.ready s.ready in let c = at_most (eqb (k.received.sends + 1) n) in omega (arith, a, b, c));
-  beyond = λ n lt. (let a = h n in let b = told-append n k.ready s.ready in let c = not_new n (λ e. omega (arith, e, lt, one)) in omega (arith, a, b, c));
+  known = λ n le. (let a = h n in let b = times_ready-append n k.ready s.ready in let c = not_new n (λ e. omega (arith, e, le)) in omega (arith, a, b, c));
+  new = λ n. (let a = h n in let b = times_ready-append n k.ready s.ready in let c = at_most (eqb (k.received.sends + 1) n) in omega (arith, a, b, c));
+  beyond = λ n lt. (let a = h n in let b = times_ready-append n k.ready s.ready in let c = not_new n (λ e. omega (arith, e, lt, one)) in omega (arith, a, b, c));
 }
   where
     not_new : (n : ℕ) → (k.received.sends + 1 ≡ n → ⊥) → fresh k n ≡ 0
@@ -389,12 +389,12 @@ after-goes opened k (FrameReceived f) = by (is_hello f)
     by false = frame_effect-goes k f
 after-goes opened k (CallSubmitted place a) = stays k k refl (λ n. omega arith)
 after-goes opened k (MemoryRevoked place xid) = stays k k refl (λ n. omega arith)
-after-goes opened k (CallExecuted e) = stays k _ refl (λ n. (let a = told-drop n k.ready in omega (arith, a)))
+after-goes opened k (CallExecuted e) = stays k _ refl (λ n. (let a = times_ready-drop n k.ready in omega (arith, a)))
 after-goes opened k QueueWritten = stays k _ refl (λ n. omega arith)
 
 -- ---- What holds along a run
 
--- each number is told once at most, and none that isn't a Send's
+-- each number stands there once at most, and none that isn't a Send's
 pub record Sound (k : ServerState) : Type 0 where
   pub once : (n : ℕ) → tokens k n ≤ 1
   pub number_sent : (n : ℕ) → k.received.sends < n → tokens k n ≡ 0
@@ -444,10 +444,10 @@ settled-later opened link n run (mark ∷ more) s =
     subst (λ (r : List Mark). Settled n (server opened link r).state) (append_assoc run (mark ∷ []) more) (settled-later opened link n (run ++ mark ∷ []) more next)
 
 -- the first that is ready is told, and executed it is settled
-first-told : (ready : List ReadyCall) (ended : Option Stop) (r : ReadyCall) → first_ready ready ended ≡ Some r → (ended ≡ None) × (1 ≤ told r.number ready) × (told r.number (drop 1 ready) + 1 ≤ told r.number ready)
-first-told ready (Some end) r e = absurd cc
-first-told [] None r e = absurd cc
-first-told (x ∷ ready) None r e =
+first-times_ready : (ready : List ReadyCall) (ended : Option Stop) (r : ReadyCall) → first_ready ready ended ≡ Some r → (ended ≡ None) × (1 ≤ times_ready r.number ready) × (times_ready r.number (drop 1 ready) + 1 ≤ times_ready r.number ready)
+first-times_ready ready (Some end) r e = absurd cc
+first-times_ready [] None r e = absurd cc
+first-times_ready (x ∷ ready) None r e =
     let same : x ≡ r = (let s : Some x ≡ Some r = e in cc) in
     let a = ap one_if (eq-eqb x.number r.number (ap (λ (q : ReadyCall). q.number) same)) in
     (refl, omega (arith, a), omega (arith, a))
@@ -462,7 +462,7 @@ settled-one : (opened : Opened) (link : ℕ) (run : List Mark) (xid : ℕ) (mome
 unfolding next_call server_state_after
 settled-one opened link run xid moment payload place reply r is =
     let k : ServerState = (server opened link run).state in
-    let f = first-told k.ready (server opened link run).ended r is in
+    let f = first-times_ready k.ready (server opened link run).ended r is in
     let s = sound opened link run in
     let e : ExecutedCall = record { xid = xid; moment = moment; payload = payload; place = place; reply = reply } in
     let once = s.once r.number in
@@ -477,7 +477,7 @@ settled-one opened link run xid moment payload place reply r is =
     (subst (λ (b : Bool). Settled r.number (end_state_after (server_rules opened) (server opened link run) (if_own (b && true) (CallExecuted e ∷ []))).state) (sym (itself link))
     (subst (λ (q : ServerState). Settled r.number q) (sym (executes-one opened k (server opened link run).ended e f.0)) there))
 
--- Law 8's first half, on every link: no Send is executed twice.
+-- On every link: no Send is executed twice.
 pub executes_once : (Fills : List ℕ → List ℕ → Type 0) (opened : Opened) (link : ℕ) (run before between after : List Mark) (xid yid : ℕ) (moment now : Moment) (payload asked : List ℕ) (place later : ℕ) (reply answer : List ℕ) →
     run ≡ before ++ marks.Execute link xid moment payload place reply ∷ (between ++ marks.Execute link yid now asked later answer ∷ after) → AtEachMark (ServedMark Fills opened link) [] run
     → (first second : ReadyCall) → next_call opened link before ≡ Some first → next_call opened link (before ++ marks.Execute link xid moment payload place reply ∷ between) ≡ Some second → first.number ≢ second.number
@@ -488,8 +488,8 @@ executes_once Fills opened link run before between after xid yid moment now payl
     let s : Settled first.number (server opened link run2).state =
     subst (λ (r : List Mark). Settled first.number (server opened link r).state) (append_assoc before (mark ∷ []) between)
     (settled-later opened link first.number (before ++ mark ∷ []) between (settled-one opened link before xid moment payload place reply first one)) in
-    let t = first-told (server opened link run2).state.ready (server opened link run2).ended second two in
+    let t = first-times_ready (server opened link run2).state.ready (server opened link run2).ended second two in
     let a = t.1 in
     let none = s.none in
-    let b = ap (λ (n : ℕ). told n (server opened link run2).state.ready) same in
+    let b = ap (λ (n : ℕ). times_ready n (server opened link run2).state.ready) same in
     omega (arith, a, b, none)

@@ -107,10 +107,10 @@ pub judged_call : (k : ServerState) (message : List ℕ) (h : Header) → header
 unfolding verdict
 judged_call k message h e is free =
     let w = words message h e is in
-    ap (λ (b : Bool). cond (not b) Verdict.OtherVersion (cond (eqb (word_at 12 message) 3 || eqb (word_at 12 message) 4) (Verdict.Stops 17) (cond (is_pending k (word_at 0 message)) (Verdict.Stops 20) (by_header k message (header_of message))))) w.version
-    ∙ (λ i. cond (w.done i || w.error i) (Verdict.Stops 17) (cond (is_pending k (word_at 0 message)) (Verdict.Stops 20) (by_header k message (header_of message))))
-    ∙ ap (λ (x : ℕ). cond (is_pending k x) (Verdict.Stops 20) (by_header k message (header_of message))) w.xid
-    ∙ ap (λ (b : Bool). cond b (Verdict.Stops 20) (by_header k message (header_of message))) free
+    ap (λ (b : Bool). cond (not b) Verdict.OtherVersion (cond (eqb (word_at 12 message) 3 || eqb (word_at 12 message) 4) (Verdict.EndsLink 17) (cond (is_pending k (word_at 0 message)) (Verdict.EndsLink 20) (by_header k message (header_of message))))) w.version
+    ∙ (λ i. cond (w.done i || w.error i) (Verdict.EndsLink 17) (cond (is_pending k (word_at 0 message)) (Verdict.EndsLink 20) (by_header k message (header_of message))))
+    ∙ ap (λ (x : ℕ). cond (is_pending k x) (Verdict.EndsLink 20) (by_header k message (header_of message))) w.xid
+    ∙ ap (λ (b : Bool). cond b (Verdict.EndsLink 20) (by_header k message (header_of message))) free
     ∙ ap (λ (r : Result Header HeaderFault). by_header k message r) e
 
 -- ---- The message of a plan

@@ -46,7 +46,7 @@ journal-append : (plain : PlainServer) (xs ys : List Mark) → journal plain (xs
 unfolding journal
 journal-append plain xs ys = flat_map-append (entries_added plain) xs ys
 
--- Law 3's half: of two calls that were executed, the later one has the place that isn't smaller.
+-- Of two calls that were executed, the later one has the place that isn't smaller.
 pub places_rise : (plain : PlainServer) (J : List Entry) (run before between after : List Mark) (l m xid yid : ℕ) (moment now : Moment) (payload asked : List ℕ) (place later : ℕ) (reply answer : List ℕ) →
     run ≡ before ++ marks.Execute l xid moment payload place reply ∷ (between ++ marks.Execute m yid now asked later answer ∷ after) → Journaled plain J run → place ≤ later
 places_rise plain J run before between after l m xid yid moment now payload asked place later reply answer is h =
@@ -78,7 +78,7 @@ at_place plain J run before after l xid moment payload place reply is h replied 
 
 -- ---- Once
 
--- Law 8's second half: a call that completes didn't complete before.
+-- A call that completes didn't complete before.
 pub completes_once : (Fills : List ℕ → List ℕ → Type 0) (opened : Opened) (link xid : ℕ) (outcome : Outcome) (run before after : List Mark) → run ≡ before ++ marks.Done link xid outcome ∷ after
     → AtEachMark (AskedMark Fills opened link) [] run → (c : CompletedCall) → Contains (completed_calls link before) c → c.xid ≢ xid
 completes_once Fills opened link xid outcome run before after is h c there =

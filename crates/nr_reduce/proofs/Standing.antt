@@ -45,7 +45,7 @@ sent-one : (link : ℕ) (side : Side) (run : List Mark) (mark : Mark) → bytes_
 unfolding bytes_sent
 sent-one link side run mark = one_more (written_at link side) run mark
 
--- the events of a mark are told by the input
+-- the events of a mark follow from the input
 pub events-input : (link : ℕ) (side : Side) (run : List Mark) (mark : Mark) →
     input_events link side (input_of (other side) (bytes_received link side run)) mark ≡ events_at link side run mark
 events-input link side run mark =

@@ -1,4 +1,4 @@
--- Law 4's heart: a frame that doesn't end a side lacks nothing of what the side offered.
+-- A frame that doesn't end a side lacks nothing of what the side offered.
 use Rattle.std.proofs.Common.{◌≡◌, ℕ, Bool, true, false, cond, not, eqb, ltb, length, List, [], ◌∷◌, Option, Some, None, Result, Ok, Err, refl, sym, ap, ◌∙◌}
 use Rattle.nr_wire.specs.declared.hello.Side.TheVariants.{Initiator, Responder}
 use Rattle.nr_wire.specs.Hello.{hello_of}

@@ -24,7 +24,7 @@ use Rattle.nr_reduce.specs.EndRules.{Rules, EndState}
 use Rattle.nr_reduce.specs.Events.Event.{FrameReceived, CallSubmitted, MemoryRevoked, CallExecuted, QueueWritten}
 use Rattle.nr_reduce.specs.ClientState.{OutstandingCall, ClientState, initial_state, down_max, call_payload, plan_for, memory_at}
 use Rattle.nr_reduce.specs.ClientMessages.{Verdict, verdict}
-use Rattle.nr_reduce.specs.ClientMessages.Verdict.{Refuses, Gives}
+use Rattle.nr_reduce.specs.ClientMessages.Verdict.{EndsLink, GivesOutcome}
 
 -- ---- What ends the client
 
@@ -40,8 +40,8 @@ readiness k missing = record {
 }
 
 abbrev pub end_of_verdict : Frame → Verdict → Option End
-end_of_verdict f (Refuses reason) = Some (ends.Bad f.at reason)
-end_of_verdict f (Gives xid outcome) = None
+end_of_verdict f (EndsLink reason) = Some (ends.Bad f.at reason)
+end_of_verdict f (GivesOutcome xid outcome) = None
 
 abbrev pub message_end : ClientState → Frame → Option (List ℕ) → Option End
 message_end k f None = None
@@ -117,9 +117,9 @@ abbrev pub region_of : ℕ → ℕ → Buffer → Region
 region_of xid place b = record { call = xid; position = 0; stag = b.stag; right = b.right; bytes = b.bytes; from = place; until = None }
 
 abbrev pub outcomes_of : Verdict → List CompletedCall
-outcomes_of (Refuses reason) = []
-outcomes_of (Gives xid None) = []
-outcomes_of (Gives xid (Some outcome)) = record { xid = xid; outcome = outcome } ∷ []
+outcomes_of (EndsLink reason) = []
+outcomes_of (GivesOutcome xid None) = []
+outcomes_of (GivesOutcome xid (Some outcome)) = record { xid = xid; outcome = outcome } ∷ []
 
 -- a message closes the regions of the call of its xid, and that call is no longer outstanding
 abbrev pub with_message : ClientState → ℕ → Option (List ℕ) → ClientState

@@ -1,5 +1,5 @@
--- What happens at one end of a link, in order, told by the marks of its side. Marks of other links and of the other side are no
--- events of it, nor are what is handed to a caller and what a caller forgets.
+-- What happens at one end of a link, in order, as the marks of its side say. Marks of other links and of the other side are no
+-- events of it, nor is what is handed to a caller or forgotten.
 use Rattle.std.specs.Prelude.{ℕ, ◌+◌, Bool, true, false, ◌==◌, ◌&&◌, List, [], ◌∷◌, ◌++◌, length, map}
 use Rattle.nr_wire.specs.declared.hello.Side.{Side}
 use Rattle.nr_wire.specs.declared.hello.Side.TheVariants.{Initiator, Responder}

@@ -122,7 +122,7 @@ ClientBegins = (opened : Opened) (link : ℕ) → ClientStandsFor opened link (i
 abbrev pub ServerBegins : Type 0
 ServerBegins = (opened : Opened) (link : ℕ) → ServerStandsFor opened link (initial_server opened) (initial_input Initiator) [] []
 
--- The events of a mark are told by the input that an end keeps.
+-- The events of a mark follow from the input that an end keeps.
 abbrev pub EventsOfInput : Type 0
 EventsOfInput = (link : ℕ) (side : Side) (run : List Mark) (mark : Mark) →
     input_events link side (input_of (other side) (bytes_received link side run)) mark ≡ events_at link side run mark

@@ -15,7 +15,7 @@ use Rattle.nr_reduce.specs.ServerState.{PendingCall, PendingRead, ReadyCall, Ser
 use Rattle.nr_reduce.specs.ServerReads.{open_reads, regions_of, reads_of, is_read, is_read_at}
 use Rattle.nr_reduce.specs.ServerMessages.{chunk_bytes, payload_of, CallVerdict, by_payload, Verdict, verdict}
 use Rattle.nr_reduce.specs.ServerMessages.CallVerdict.{Refuses, IsReady}
-use Rattle.nr_reduce.specs.ServerMessages.Verdict.{Stops, OtherVersion, BadChunks, Opens}
+use Rattle.nr_reduce.specs.ServerMessages.Verdict.{EndsLink, OtherVersion, BadChunks, MakesPending}
 
 -- The pending calls, reads and regions after a frame, the calls that it makes ready, the error messages that are due for it, how
 -- many of the reads that were open still are, and a reason to end.
@@ -39,30 +39,30 @@ no_effect k = record {
   refusal = None;
 }
 
-abbrev pub made_ready : CallVerdict → FrameEffect → FrameEffect
-made_ready (Refuses reason) s = record s { refusal = Some reason }
-made_ready (IsReady r) s = record s { ready = r ∷ [] }
+abbrev pub with_verdict : CallVerdict → FrameEffect → FrameEffect
+with_verdict (Refuses reason) s = record s { refusal = Some reason }
+with_verdict (IsReady r) s = record s { ready = r ∷ [] }
 
 -- a call is whole once nothing is left to be read for it
-abbrev pub if_whole : ServerState → ℕ → PendingCall → FrameEffect → FrameEffect
-if_whole k place c s = if is_read s.reads c.number then made_ready (by_payload c (payload_of k place c)) s else s
+abbrev pub ready_if_whole : ServerState → ℕ → PendingCall → FrameEffect → FrameEffect
+ready_if_whole k place c s = if is_read s.reads c.number then with_verdict (by_payload c (payload_of k place c)) s else s
 
 -- a Send that makes a call pending
-abbrev pub opened_with : ServerState → ℕ → PendingCall → FrameEffect → FrameEffect
-opened_with k place c s =
+abbrev pub with_pending_call : ServerState → ℕ → PendingCall → FrameEffect → FrameEffect
+with_pending_call k place c s =
     let regions : List Region = k.regions ++ regions_of k place c in
-    if_whole k place c (record s { calls = k.calls ++ c ∷ []; reads = k.reads ++ reads_of regions c; regions = regions })
+    ready_if_whole k place c (record s { calls = k.calls ++ c ∷ []; reads = k.reads ++ reads_of regions c; regions = regions })
 
 abbrev pub message_effect : ServerState → ℕ → List ℕ → Verdict → FrameEffect
-message_effect k place message (Stops reason) = record (no_effect k) { refusal = Some reason }
+message_effect k place message (EndsLink reason) = record (no_effect k) { refusal = Some reason }
 message_effect k place message OtherVersion =
     record (no_effect k) { errors = version_error (word_at 0 message) (word_at 4 message) (credit_word k) ∷ [] }
 message_effect k place message BadChunks = record (no_effect k) { errors = chunk_error (word_at 0 message) (credit_word k) ∷ [] }
-message_effect k place message (Opens c) = opened_with k place c (no_effect k)
+message_effect k place message (MakesPending c) = with_pending_call k place c (no_effect k)
 
 -- A call whose stream is read and whose read chunk isn't its item's is refused: its reads that wait are dropped.
-abbrev pub refused_with : ServerState → PendingCall → FrameEffect → FrameEffect
-refused_with k c s = record s {
+abbrev pub with_refused_call : ServerState → PendingCall → FrameEffect → FrameEffect
+with_refused_call k c s = record s {
   calls = filter (λ other. not (other.number == c.number)) s.calls;
   reads = take s.kept s.reads ++ filter (λ r. not (r.number == c.number)) (drop s.kept s.reads);
   errors = chunk_error c.xid (credit_word k) ∷ [];
@@ -75,8 +75,8 @@ is_stream_read c r reads = r.position == 0 && is_read_at reads c.number 0
 abbrev pub read_effect : ServerState → ℕ → PendingRead → Option PendingCall → FrameEffect → FrameEffect
 read_effect k place r None s = s
 read_effect k place r (Some c) s =
-    if is_stream_read c r s.reads && not (suits (chunk_bytes k place c 0) c.lists.read) then refused_with k c s
-    else if_whole k place c s
+    if is_stream_read c r s.reads && not (suits (chunk_bytes k place c 0) c.lists.read) then with_refused_call k c s
+    else ready_if_whole k place c s
 
 abbrev pub call_of_number : ServerState → ℕ → Option PendingCall
 call_of_number k number = find (λ c. c.number == number) k.calls

@@ -46,13 +46,13 @@ by_payload c (Some payload) = by_head c payload (call_of payload)
 
 -- What the server makes of a message: a reason to end; ERR_VERS; ERR_CHUNK; or a pending call.
 pub data Verdict : Type 0 where
-  Stops : (reason : ℕ) → Verdict
+  EndsLink : (reason : ℕ) → Verdict
   OtherVersion : Verdict
   BadChunks : Verdict
-  Opens : (call : PendingCall) → Verdict
+  MakesPending : (call : PendingCall) → Verdict
 
 abbrev pub by_need : ServerState → PendingCall → Verdict
-by_need k c = if nat_lt numbers_end (next_stag k + length (chunks_of c.lists)) then Stops REASON_STAGS else Opens c
+by_need k c = if nat_lt numbers_end (next_stag k + length (chunks_of c.lists)) then EndsLink REASON_STAGS else MakesPending c
 
 -- A call whose stream is in the message, or has to be read. Its read chunk has to be the item's, which is judged once the stream is
 -- there.
@@ -83,6 +83,6 @@ by_header k message (Err fault) = BadChunks
 unfoldable pub verdict : ServerState → List ℕ → Verdict
 verdict k message =
     if not (word_at 4 message == VERSION) then OtherVersion
-    else (if word_at 12 message == DONE || word_at 12 message == ERROR then Stops REASON_KIND
-    else (if is_pending k (word_at 0 message) then Stops REASON_CALL
+    else (if word_at 12 message == DONE || word_at 12 message == ERROR then EndsLink REASON_KIND
+    else (if is_pending k (word_at 0 message) then EndsLink REASON_CALL
     else by_header k message (header_of message)))
