@@ -1,6 +1,7 @@
 pub mod Fronts
 pub mod Places
 pub mod Rooms
+pub mod Recut
 pub mod Ways
 pub mod Answering
 pub mod Asking

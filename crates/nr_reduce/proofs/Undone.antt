@@ -71,7 +71,7 @@ restored-moved of payload i r =
 pub moved-length : (of : Of) (payload : List ℕ) (i : Item) → Reducible of payload i → length (moved_of payload i) ≡ i.len
 moved-length of payload i r = length-take-le i.len (drop i.pos payload) (let l = length-drop i.pos payload in omega (arith, l, r.size))
 
-right_length : (of : Of) (i : Item) (moved : List ℕ) → length moved ≡ i.len → has_length of i moved ≡ true
+pub right_length : (of : Of) (i : Item) (moved : List ℕ) → length moved ≡ i.len → has_length of i moved ≡ true
 right_length Of.Call i moved e = ap (λ (b : Bool). b || eqb (length moved) (i.len + pad_len i.len)) (eq-eqb (length moved) i.len e)
 right_length (Of.Reply prog vers proc) i moved e = eq-eqb (length moved) i.len e
 

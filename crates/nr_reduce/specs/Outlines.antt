@@ -5,7 +5,6 @@ use Rattle.nr_reduce.specs.declared.outline.Plan.{Plan}
 use Rattle.nr_reduce.specs.declared.outline.Way.{Way}
 use Rattle.nr_reduce.specs.declared.outline.Way.TheVariants.{Inline, Reduced, Long}
 use Rattle.nr_reduce.specs.declared.outline.Outline.{Outline}
-use Rattle.nr_reduce.specs.declared.planning.Pieces.{Pieces}
 use Rattle.nr_reduce.specs.declared.fault.PayloadFault.{PayloadFault}
 use Rattle.nr_reduce.specs.declared.fault.PayloadFault.TheVariants as faults
 use Rattle.nr_reduce.specs.Items.{stream_of, moved_of}
@@ -29,29 +28,9 @@ WayFits payload Inline = Unit {0}
 WayFits payload (Reduced i) = i.pos + i.len ≤ length payload
 WayFits payload Long = Unit {0}
 
--- the segments of a read chunk
-abbrev pub read_segments : Option ℕ → List ℕ
-read_segments None = []
-read_segments (Some n) = segments_for n
-
 -- The answer is that plan, or the first room that is passed, unless memory ran out.
 abbrev pub PlanAnswers : Result Plan PayloadFault → Result Plan TooLarge → Type 0
 PlanAnswers (Ok plan) planned = planned ≡ Ok plan
 PlanAnswers (Err (faults.TooLarge need room)) planned = planned ≡ Err (record { need = need; room = room })
 PlanAnswers (Err (faults.BadChunks why)) planned = ⊥
 PlanAnswers (Err faults.Memory) planned = Unit {0}
-
--- what a plan has of its payload
-pub record PlanPieces : Type 0 where
-  pub inline : List ℕ
-  pub read_at : Option ℕ
-  pub read : Option ℕ
-  pub region : List ℕ
-
-abbrev pub pieces_view : Pieces → PlanPieces
-pieces_view p = record { inline = p.inline.now; read_at = p.read_at; read = p.read; region = p.region.now }
-
-abbrev pub pieces_of : List ℕ → Way → PlanPieces
-pieces_of payload Inline = record { inline = payload; read_at = None; read = None; region = [] }
-pieces_of payload (Reduced i) = record { inline = stream_of payload i; read_at = Some i.pos; read = Some i.len; region = moved_of payload i }
-pieces_of payload Long = record { inline = []; read_at = Some 0; read = Some (length payload); region = payload }

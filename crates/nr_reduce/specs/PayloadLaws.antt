@@ -9,15 +9,22 @@ use Rattle.nr_reduce.specs.declared.call.Form.{Form}
 use Rattle.nr_reduce.specs.declared.item.Item.{Item}
 use Rattle.nr_reduce.specs.declared.item.Of.{Of}
 use Rattle.nr_reduce.specs.Items.{reducible_item, stream_of, moved_of}
+use Rattle.nr_reduce.specs.declared.item.Cut.{Cut}
+use Rattle.nr_reduce.specs.Cuts.{cut_of, rebuilt_of}
 use Rattle.nr_reduce.specs.declared.outline.Plan.{Plan}
 use Rattle.nr_reduce.specs.Plans.{plan_of, plan_size, regions_needed, call_message, lists_of, read_stag}
 use Rattle.nr_reduce.specs.Chunks.{Bytes, whole, read_bytes, reply_conveyed, answers_offer}
 use Rattle.nr_reduce.specs.Holds.{Answer, answer_for, answer_lists, answer_writes}
 use Rattle.nr_reduce.specs.Undone.{IsOwn, Asks, Brings, Backs, offering, after, answer_segments}
 
--- The stream and what moved of a reducible payload are that payload again.
+-- What was cut of a payload is put together to that payload again.
 abbrev pub CutIsRebuilt : Type 0
-CutIsRebuilt = (of : Of) (payload : List ℕ) (i : Item) → IsBytes payload → reducible_item of payload ≡ Some i →
+CutIsRebuilt = (of : Of) (payload : List ℕ) (c : Cut) → IsBytes payload → cut_of of payload ≡ Some c →
+    rebuilt_of of c.stream c.item.pos c.moved ≡ Ok payload
+
+-- The stream and what moved of a reducible payload convey it.
+abbrev pub CutConveys : Type 0
+CutConveys = (of : Of) (payload : List ℕ) (i : Item) → IsBytes payload → reducible_item of payload ≡ Some i →
     whole of (stream_of payload i) (Some (moved_of payload i)) ≡ Some payload
 
 -- A plan of a form whose offer isn't given: the numbers of its call fit, and its STags are below 2 ^ 32.

@@ -1,6 +1,6 @@
 //! A payload cut at its item, and put together again (RFC 8166 section 3.4.4).
 
-ghost use Rattle.std.specs.Prelude.{◌≡◌, ◌+◌, ◌==◌, ◌<◌, ◌≤◌, length, replicate, Some, IfOk, IfErr, IfSome};
+ghost use Rattle.std.specs.Prelude.{◌≡◌, ◌+◌, ◌==◌, ◌<◌, ◌≤◌, ◌++◌, length, replicate, Some, IfOk, IfErr, IfSome};
 ghost use Rattle.std.specs.List.{list_all};
 ghost use Rattle.nr_xdr.specs.Item.{pad_len};
 ghost use Rattle.nr_reduce.specs.Items.{ends_with_item, reducible_item, stream_of, moved_of, restored};
@@ -108,6 +108,14 @@ fn zeros(count: usize) -> &'static [u8]
     }
 }
 
+fn joined(alloc: Global, front: &[u8], behind: &[u8]) -> Result<Octets, Memory>
+    ensures { IfOk result (λ o. o ≡ front.now ++ behind.now) }
+{
+    let mut octets = Octets::from_slice(alloc, front)?;
+    octets.extend_from_slice(behind)?;
+    Ok(octets)
+}
+
 #[tactic(auto, unfolding(crate::specs::Items::restored))]
 fn restored(alloc: Global, stream: &[u8], item: &Item, moved: &[u8]) -> Result<Octets, Memory>
     requires place { item.now.pos ≤ length stream.now }
@@ -117,8 +125,7 @@ fn restored(alloc: Global, stream: &[u8], item: &Item, moved: &[u8]) -> Result<O
     let len = item.len as usize;
     let (front, behind) = stream.split_at(item.pos);
     let (content, _) = moved.split_at(len);
-    let mut payload = Octets::from_slice(alloc, front)?;
-    payload.extend_from_slice(content)?;
+    let mut payload = joined(alloc, front, content)?;
     payload.extend_from_slice(zeros(pad_len(len)))?;
     payload.extend_from_slice(behind)?;
     Ok(payload)

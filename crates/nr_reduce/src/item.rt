@@ -20,14 +20,14 @@ pub struct Item {
 }
 
 /// Whose payload it is: that of a call, or that of a reply to a call of this program, version and procedure.
-#[derive(Clone, Copy, Debug, PartialEq, Eq)]
+#[derive(Clone, Copy)]
 pub enum Of {
     Call,
     Reply { prog: u32, vers: u32, proc: u32 },
 }
 
 /// A payload that was cut: its item, the stream that is left without the item's bytes and pad, and the item's bytes.
-#[derive(Debug, Drop)]
+#[derive(Drop)]
 pub struct Cut {
     pub item: Item,
     pub stream: Octets,

@@ -1,10 +1,11 @@
 //! Laws of payloads: what is cut, planned and answered conveys what it was made of.
 
-ghost use Rattle.nr_reduce.specs.PayloadLaws.{CutIsRebuilt, PlanReadsBack, PlanHasItsSize, RegionBringsChunks, AnswerConveysReply, AnswerWritesSegments, AnswerSuitsOffer};
+ghost use Rattle.nr_reduce.specs.PayloadLaws.{CutIsRebuilt, CutConveys, PlanReadsBack, PlanHasItsSize, RegionBringsChunks, AnswerConveysReply, AnswerWritesSegments, AnswerSuitsOffer};
 
-/// The stream and the item of a reducible payload are that payload again (RFC 8166 section 3.4).
+/// What is cut of a payload is put together to that payload again, and conveys it (RFC 8166 section 3.4).
 pub fn rebuild_undoes_cut()
-    ensures { CutIsRebuilt }
+    ensures rebuilt { CutIsRebuilt }
+    ensures conveys { CutConveys }
 {}
 
 /// A plan of form Auto, Inline, Chunk or Long: its message reads back as its header and stream, has the size that was

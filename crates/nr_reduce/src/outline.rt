@@ -16,7 +16,7 @@ use nr_xdr::{Octets, Reader};
 
 /// How a call is sent (RFC 8166 section 3.5): the stream that goes inline; the position of the read chunk, the lengths of
 /// its segments and the bytes of its region; the lengths of the segments of a write chunk and of a reply chunk.
-#[derive(Debug, Drop)]
+#[derive(Drop)]
 pub struct Plan {
     pub inline: Octets,
     pub read_at: Option<u32>,

@@ -1,12 +1,14 @@
 //! The plan of a call (RFC 8166 section 3.5).
 
 ghost use Rattle.std.specs.Prelude.{◌≡◌, ◌+◌, ◌*◌, ◌^◌, ◌<◌, ◌≤◌, [], Ok, None, Some, length, sum, IfOk};
-ghost use Rattle.nr_reduce.specs.Plans.{segments_for, chunk_for, total, given_total, given_region, given_read, given_plan, write_size, reply_size, plan_size, within, plan_of};
+ghost use Rattle.nr_reduce.specs.Plans.{segments_for, chunk_for, total, given_total, given_region, given_plan, write_size, reply_size, plan_size, within, plan_of};
+ghost use Rattle.nr_reduce.specs.Items.{stream_of, moved_of};
 ghost use Rattle.nr_reduce.specs.Limits.{given_max};
-ghost use Rattle.nr_reduce.specs.Outlines.{outlined, read_segments, pieces_view, pieces_of, WayFits, PlanAnswers};
+ghost use Rattle.nr_reduce.specs.Outlines.{outlined, WayFits, PlanAnswers};
 
 use crate::call::{Form, Lengths, Offer};
 use crate::fault::PayloadFault;
+use crate::item::Item;
 use crate::limits::GIVEN_MAX;
 use crate::outline::{
     Outline, Plan, Way, auto_outline, chunk_outline, inline_outline, long_outline, send_size,
@@ -24,15 +26,6 @@ fn segments_for(alloc: Global, len: u32) -> Result<Lengths, Memory>
     Ok(Lengths::from_vec(vec![in alloc; len]?))
 }
 
-fn read_segments(alloc: Global, len: Option<u32>) -> Result<Lengths, Memory>
-    ensures { IfOk result (λ l. l ≡ read_segments len) }
-{
-    match len {
-        Some(len) => segments_for(alloc, len),
-        None => Ok(Lengths::from_vec(Vec::new(alloc))),
-    }
-}
-
 fn chunk_for(alloc: Global, len: Option<u32>) -> Result<Option<Lengths>, Memory>
     ensures { IfOk result (λ l. l ≡ chunk_for len) }
 {
@@ -42,44 +35,93 @@ fn chunk_for(alloc: Global, len: Option<u32>) -> Result<Option<Lengths>, Memory>
     }
 }
 
-/// What a plan has of its payload.
-#[derive(Clone, Copy)]
-struct Pieces<'a> {
-    inline: &'a [u8],
+/// The read chunk of a plan, and the bytes of its region.
+#[derive(Drop)]
+struct ReadChunk {
     read_at: Option<u32>,
-    read: Option<u32>,
-    region: &'a [u8],
+    read: Lengths,
+    region: Octets,
 }
 
-fn taken(payload: &[u8], way: Way) -> Pieces<'_>
-    requires fits { WayFits payload.now way }
-    requires small { length payload.now < 2 ^ 32 }
-    ensures { pieces_view result ≡ pieces_of payload.now way }
+/// The chunks that a plan offers for the reply.
+#[derive(Drop)]
+struct ReplyChunks {
+    write: Option<Lengths>,
+    reply: Option<Lengths>,
+}
+
+fn assembled(
+    alloc: Global,
+    inline: &[u8],
+    chunk: ReadChunk,
+    chunks: ReplyChunks,
+) -> Result<Plan, Memory>
+    ensures { IfOk result (λ p. p ≡ record { inline = inline.now; read_at = chunk.read_at; read = chunk.read; region = chunk.region; write = chunks.write; reply = chunks.reply }) }
 {
-    match way {
-        Way::Inline => Pieces {
-            inline: payload,
-            read_at: None,
-            read: None,
-            region: &[],
-        },
-        Way::Reduced(item) => {
-            let (inline, behind) = payload.split_at(item.pos);
-            let (region, _) = behind.split_at(item.len as usize);
-            Pieces {
-                inline,
-                read_at: Some(item.pos as u32),
-                read: Some(item.len),
-                region,
-            }
-        }
-        Way::Long => Pieces {
-            inline: &[],
-            read_at: Some(0),
-            read: Some(payload.len() as u32),
-            region: payload,
-        },
+    let inline = Octets::from_slice(alloc, inline)?;
+    let ReadChunk {
+        read_at,
+        read,
+        region,
+    } = chunk;
+    let ReplyChunks { write, reply } = chunks;
+    Ok(Plan {
+        inline,
+        read_at,
+        read,
+        region,
+        write,
+        reply,
+    })
+}
+
+fn no_read_chunk(alloc: Global) -> ReadChunk
+    ensures { result ≡ record { read_at = None; read = []; region = [] } }
+{
+    ReadChunk {
+        read_at: None,
+        read: Lengths::from_vec(Vec::new(alloc)),
+        region: Octets::new(alloc),
     }
+}
+
+/// A read chunk of these bytes, which are fewer than 2^32, at a position.
+fn read_chunk(alloc: Global, position: u32, region: &[u8]) -> Result<ReadChunk, Memory>
+    requires { length region.now < 2 ^ 32 }
+    ensures { IfOk result (λ c. c ≡ record { read_at = Some position; read = segments_for (length region.now); region = region.now }) }
+{
+    let read = segments_for(alloc, region.len() as u32)?;
+    let region = Octets::from_slice(alloc, region)?;
+    Ok(ReadChunk {
+        read_at: Some(position),
+        read,
+        region,
+    })
+}
+
+fn reply_chunks(alloc: Global, outline: Outline) -> Result<ReplyChunks, Memory>
+    ensures { IfOk result (λ c. c ≡ record { write = chunk_for outline.write; reply = chunk_for outline.reply }) }
+{
+    let write = chunk_for(alloc, outline.write)?;
+    let reply = chunk_for(alloc, outline.reply)?;
+    Ok(ReplyChunks { write, reply })
+}
+
+/// The plan of an outline whose item is in a chunk.
+fn reduced_plan(
+    alloc: Global,
+    payload: &[u8],
+    item: Item,
+    chunks: ReplyChunks,
+) -> Result<Plan, Memory>
+    requires fits { item.pos + item.len ≤ length payload.now }
+    requires small { length payload.now < 2 ^ 32 }
+    ensures { IfOk result (λ p. p ≡ record { inline = stream_of payload.now item; read_at = Some item.pos; read = segments_for item.len; region = moved_of payload.now item; write = chunks.write; reply = chunks.reply }) }
+{
+    let (stream, behind) = payload.split_at(item.pos);
+    let (content, _) = behind.split_at(item.len as usize);
+    let chunk = read_chunk(alloc, item.pos as u32, content)?;
+    assembled(alloc, stream, chunk, chunks)
 }
 
 /// The plan of an outline. The payload is copied once.
@@ -88,15 +130,15 @@ fn filled(alloc: Global, payload: &[u8], outline: Outline) -> Result<Plan, Memor
     requires small { length payload.now < 2 ^ 32 }
     ensures { IfOk result (λ p. p ≡ outlined payload.now outline) }
 {
-    let pieces = taken(payload, outline.way);
-    Ok(Plan {
-        inline: Octets::from_slice(alloc, pieces.inline)?,
-        read_at: pieces.read_at,
-        read: read_segments(alloc, pieces.read)?,
-        region: Octets::from_slice(alloc, pieces.region)?,
-        write: chunk_for(alloc, outline.write)?,
-        reply: chunk_for(alloc, outline.reply)?,
-    })
+    let chunks = reply_chunks(alloc, outline)?;
+    match outline.way {
+        Way::Inline => assembled(alloc, payload, no_read_chunk(alloc), chunks),
+        Way::Reduced(item) => reduced_plan(alloc, payload, item, chunks),
+        Way::Long => {
+            let chunk = read_chunk(alloc, 0, payload)?;
+            assembled(alloc, &[], chunk, chunks)
+        }
+    }
 }
 
 /// The plan of an outline, where its Send has at most `up` bytes.
@@ -202,45 +244,46 @@ fn copied_list(alloc: Global, lengths: &Option<Lengths>) -> Result<Option<Length
     }
 }
 
-/// The plan of an offer that has no read list.
-fn without_read(alloc: Global, payload: &[u8], offer: &Offer) -> Result<Plan, Memory>
-    ensures { IfOk result (λ p. p ≡ record { inline = payload.now; read_at = None; read = []; region = []; write = offer.now.write; reply = offer.now.reply }) }
+/// The read chunk of an offer with these segments.
+fn given_chunk(
+    alloc: Global,
+    payload: &[u8],
+    read_at: u32,
+    read: &Lengths,
+) -> Result<ReadChunk, Memory>
+    requires { sum read.now ≤ given_max }
+    ensures { IfOk result (λ c. c ≡ record { read_at = Some read_at; read = read.now; region = given_region payload.now read_at (sum read.now) }) }
 {
-    Ok(Plan {
-        inline: Octets::from_slice(alloc, payload)?,
-        read_at: None,
-        read: Lengths::from_vec(Vec::new(alloc)),
-        region: Octets::new(alloc),
-        write: copied_list(alloc, &offer.write)?,
-        reply: copied_list(alloc, &offer.reply)?,
+    let len = sum_of(read.as_slice()) as usize;
+    let region = given_region(alloc, payload, read_at as usize, len)?;
+    let read = copied(alloc, read)?;
+    Ok(ReadChunk {
+        read_at: Some(read_at),
+        read,
+        region,
     })
 }
 
-/// The plan of an offer that has these segments to be read.
-fn with_read(alloc: Global, payload: &[u8], offer: &Offer, read: &Lengths) -> Result<Plan, Memory>
-    requires { sum read.now ≤ given_max }
-    ensures { IfOk result (λ p. p ≡ given_read payload.now offer.now.read_at (Some read.now) (record { inline = payload.now; read_at = None; read = []; region = []; write = offer.now.write; reply = offer.now.reply })) }
+fn given_chunks(alloc: Global, offer: &Offer) -> Result<ReplyChunks, Memory>
+    ensures { IfOk result (λ c. c ≡ record { write = offer.now.write; reply = offer.now.reply }) }
 {
-    let at = offer.read_at as usize;
-    let (inline, _) = payload.split_at(at.min(payload.len()));
-    let len = sum_of(read.as_slice()) as usize;
-    Ok(Plan {
-        inline: Octets::from_slice(alloc, inline)?,
-        read_at: Some(offer.read_at),
-        read: copied(alloc, read)?,
-        region: given_region(alloc, payload, at, len)?,
-        write: copied_list(alloc, &offer.write)?,
-        reply: copied_list(alloc, &offer.reply)?,
-    })
+    let write = copied_list(alloc, &offer.write)?;
+    let reply = copied_list(alloc, &offer.reply)?;
+    Ok(ReplyChunks { write, reply })
 }
 
 fn given_plan(alloc: Global, payload: &[u8], offer: &Offer) -> Result<Plan, Memory>
     requires { total offer.now.read ≤ given_max }
     ensures { IfOk result (λ p. p ≡ given_plan payload.now offer.now) }
 {
+    let chunks = given_chunks(alloc, offer)?;
     match &offer.read {
-        Some(read) => with_read(alloc, payload, offer, read),
-        None => without_read(alloc, payload, offer),
+        Some(read) => {
+            let (inline, _) = payload.split_at(payload.len().min(offer.read_at as usize));
+            let chunk = given_chunk(alloc, payload, offer.read_at, read)?;
+            assembled(alloc, inline, chunk, chunks)
+        }
+        None => assembled(alloc, payload, no_read_chunk(alloc), chunks),
     }
 }
 
