@@ -2,6 +2,7 @@ pub mod Fronts
 pub mod Places
 pub mod Rooms
 pub mod Recut
+pub mod Offers
 pub mod Ways
 pub mod Answering
 pub mod Asking

@@ -1,4 +1,5 @@
 use Rattle.nr_reduce.proofs.Asking.{asks, asks_from}
+use Rattle.nr_reduce.proofs.Offers.{offer_conveys}
 use Rattle.nr_reduce.proofs.Sizes.{message_size}
 use Rattle.nr_reduce.proofs.laws.plans_are_undone.Goals as goal
 
@@ -12,3 +13,6 @@ returns-clause-size c = λ payload form up down xid credit stag p h.
 
 pub returns-clause-memory : goal.returns-clause-memory
 returns-clause-memory c = asks_from
+
+pub returns-clause-given : goal.returns-clause-given
+returns-clause-given c = offer_conveys
