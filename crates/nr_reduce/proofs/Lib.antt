@@ -20,3 +20,5 @@ pub mod Touches
 pub mod Sizes
 pub mod Submitting
 pub mod Calls
+pub mod OfferedMemory
+pub mod MemorySteps

@@ -15,6 +15,7 @@ pub mod Matched
 pub mod Events
 pub mod EndRules
 pub mod OfferedRegions
+pub mod OfferedMemory
 pub mod ClientState
 pub mod ClientMessages
 pub mod Client
@@ -36,3 +37,4 @@ pub mod PayloadLaws
 pub mod SoFar
 pub mod Standing
 pub mod RunLaws
+pub mod MemoryLaws

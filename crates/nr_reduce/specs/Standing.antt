@@ -3,19 +3,14 @@
 use Rattle.std.specs.Prelude.{◌≡◌, ℕ, ◌<◌, Some, List, ◌++◌}
 use Rattle.nr_wire.specs.declared.hello.Side.{Side}
 use Rattle.nr_wire.specs.declared.hello.Side.TheVariants.{Initiator, Responder}
-use Rattle.nr_regions.specs.declared.region.Region.{Region}
-use Rattle.nr_regions.specs.Access.{Reach, grant_at, offered}
-use Rattle.nr_regions.specs.RegisteredMemory.{RegisteredMemory, live_at, offer}
 use Rattle.nr_link.specs.Input.{InputState, input_of, input_count, input_frames}
-use Rattle.nr_reduce.specs.OfferedRegions.{region_grants, region_bytes}
-use Rattle.nr_reduce.specs.OfferedRegions.{Region as OfferedRegion}
 use Rattle.nr_reduce.specs.declared.mark.Mark.{Mark}
 use Rattle.nr_reduce.specs.declared.mark.Opened.{Opened}
 use Rattle.nr_reduce.specs.History.{bytes_sent, bytes_received, other}
 use Rattle.nr_reduce.specs.Events.{Event, mark_events}
 use Rattle.nr_reduce.specs.EndRules.{EndState}
 use Rattle.nr_reduce.specs.ClientState.{ClientState}
-use Rattle.nr_reduce.specs.ServerState.{ServerState, next_stag}
+use Rattle.nr_reduce.specs.ServerState.{ServerState}
 use Rattle.nr_reduce.specs.Run.{client, server, output_due}
 
 -- the events of a mark, by the input alone
@@ -34,15 +29,3 @@ ClientStandsFor opened link end input queue run = StandsFor link Initiator (clie
 
 abbrev pub ServerStandsFor : Opened → ℕ → EndState ServerState → InputState → List ℕ → List Mark → Type 0
 ServerStandsFor opened link end input queue run = StandsFor link Responder (server opened link) (output_due opened link Responder) end input queue run
-
--- The registered memory of an end agrees with these regions and the peer's tagged segments, where so many bytes were received: to
--- every later frame it offers what the grants offer, and each live region holds what the peer's accesses left in it.
-pub record HoldsRegions (regions : List OfferedRegion) (reaches : List Reach) (place : ℕ) (m : RegisteredMemory) : Type 0 where
-  pub offers : (stag end : ℕ) → place < end → offer (live_at m stag) ≡ offered (grant_at (region_grants end regions) stag end)
-  pub holds : (stag : ℕ) (r : Region) → live_at m stag ≡ Some r → r.buf ≡ region_bytes (region_grants place regions) regions reaches stag
-
-abbrev pub ClientMemory : ClientState → ℕ → RegisteredMemory → Type 0
-ClientMemory k place m = HoldsRegions k.regions k.reaches place m × (m.next ≡ k.stag)
-
-abbrev pub ServerMemory : ServerState → ℕ → RegisteredMemory → Type 0
-ServerMemory k place m = HoldsRegions k.regions k.reaches place m × (m.next ≡ next_stag k)

@@ -10,6 +10,7 @@ mod largest;
 mod laws;
 mod limits;
 mod mark;
+mod memory_laws;
 mod outline;
 mod planning;
 mod run_laws;
@@ -25,6 +26,7 @@ pub use largest::largest_reply;
 pub use laws::{answers_are_undone, plans_are_undone, rebuild_undoes_cut};
 pub use limits::{GIVEN_MAX, LINK_MAX, MOVED_MAX, READDIR_MAX};
 pub use mark::{Entry, Mark, Marks, Moment, Opened};
+pub use memory_laws::{memory_follows_regions, regions_go_on};
 pub use outline::Plan;
 pub use planning::plan;
 pub use run_laws::{
