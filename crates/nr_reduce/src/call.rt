@@ -6,7 +6,7 @@ use nr_rpc::Cred;
 use nr_xdr::Octets;
 
 /// A call of a program (RFC 5531 section 9), with its arguments as they are encoded.
-#[derive(Debug, Drop)]
+#[derive(Drop)]
 pub struct Call {
     pub prog: u32,
     pub vers: u32,
@@ -17,7 +17,7 @@ pub struct Call {
 
 /// How a call is to be sent (RFC 8166 section 3.5): as fits it best, wholly inline, with its item in a chunk, wholly in a
 /// chunk, or with an offer that is given, right or wrong.
-#[derive(Debug, Drop)]
+#[derive(Drop)]
 pub enum Form {
     Auto,
     Inline,
@@ -27,7 +27,7 @@ pub enum Form {
 }
 
 /// The lengths, in bytes, of the segments of an offer. A list that is absent isn't offered.
-#[derive(Debug, Drop)]
+#[derive(Drop)]
 pub struct Offer {
     pub read_at: u32,
     pub read: Option<Lengths>,
@@ -39,7 +39,7 @@ pub struct Offer {
 pub type Lengths = Sequence<u32>;
 
 /// What a call was answered by: the reply's payload, an ERR_CHUNK or an ERR_VERS message (RFC 8166 section 4.5).
-#[derive(Debug, Drop)]
+#[derive(Drop)]
 pub enum Outcome {
     Reply(Octets),
     Chunk,
@@ -47,7 +47,7 @@ pub enum Outcome {
 }
 
 /// Why a call was not sent.
-#[derive(Clone, Copy, Debug, PartialEq, Eq)]
+#[derive(Clone, Copy)]
 pub enum Refused {
     /// The link has ended.
     Ended(End),
@@ -62,7 +62,7 @@ pub enum Refused {
 }
 
 /// What is answered to a call: it goes out under this xid, or it is refused.
-#[derive(Clone, Copy, Debug, PartialEq, Eq)]
+#[derive(Clone, Copy)]
 pub enum Submission {
     Accepted { xid: u32 },
     Refused(Refused),
