@@ -6,8 +6,8 @@ use Rattle.nr_wire.specs.declared.stream.Awaited.{Awaited}
 use Rattle.nr_wire.specs.declared.stream.Awaited.TheVariants.{Hello as HelloFrom}
 use Rattle.nr_wire.specs.Stream.{Split, split, awaited_after, beyond}
 use Rattle.nr_wire.proofs.Splits.{split-append, split-Splits, awaited_after-Fpdu}
-use Rattle.nr_link.specs.Frames.{Frame, frames_completed}
-use Rattle.nr_link.specs.Input.{InputState, input_of_split, input_of, initial_input, input_count, input_split, input_frames, input_after}
+use Rattle.nr_link.specs.Frames.{frames_completed}
+use Rattle.nr_link.specs.Input.{input_of_split, input_of, initial_input, input_count, input_split, input_frames, input_after}
 use Rattle.nr_link.proofs.Streams.{frames_completed-split}
 
 after-append : (a : Awaited) (xs ys : List (List ℕ)) → awaited_after a (xs ++ ys) ≡ awaited_after (awaited_after a xs) ys

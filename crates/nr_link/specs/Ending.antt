@@ -16,7 +16,7 @@ use Rattle.nr_link.specs.declared.end.End.TheVariants as ends
 use Rattle.nr_link.specs.Reasons.{denied_word, NO_BUFFER_WORD}
 use Rattle.nr_link.specs.Output.{terminate_message}
 use Rattle.nr_link.specs.Frames.{Frame}
-use Rattle.nr_link.specs.ReceiveState.{ReadRequest, read_request_in}
+use Rattle.nr_link.specs.ReceiveState.{read_request_in}
 use Rattle.nr_link.specs.SegmentFaults.{Readiness, SegmentFault, segment_fault}
 use Rattle.nr_link.specs.SegmentFaults.SegmentFault.{Reason, NoBuffer, AccessDenied, PeerTerminated}
 

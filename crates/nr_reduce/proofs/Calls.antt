@@ -33,7 +33,7 @@ use Rattle.nr_reduce.specs.Plans.{TooLarge, call_message}
 use Rattle.nr_reduce.specs.Chunks.{suits}
 use Rattle.nr_reduce.specs.Holds.{Answer, answer_writes, answer_message, chunk_error, version_error}
 use Rattle.nr_reduce.specs.ClientState.{ClientState, call_payload, plan_for}
-use Rattle.nr_reduce.specs.Client.{client_rules, client_end, client_output, plan_or, outstanding_of, call_output}
+use Rattle.nr_reduce.specs.Client.{client_rules, client_end, client_output, plan_or, outstanding_of, call_output, calls_output, response_output, segment_request}
 use Rattle.nr_reduce.specs.ServerState.{ServerState, ReadyCall, PendingCall, PendingRead, down_max}
 use Rattle.nr_reduce.specs.ServerReads.{open_reads, is_read}
 use Rattle.nr_reduce.specs.ServerMessages.{Verdict, CallVerdict, verdict, by_payload, by_head, payload_of, call_xid, chunk_bytes}
@@ -87,6 +87,11 @@ submit-sent opened link run call form xid h =
           ∙ ap (λ (p : Plan). due ++ send (k.calls_accepted + 1) (call_message xid opened.wished k.stag p)) (plan-is k xid call form (plan_for k xid call form) h.plan h.planned)),
       λ none. all ∙ ap (λ (b : Bool). due ++ cond b one []) none ∙ append-nil due,
     )
+
+pub hello-sends : (opened : Opened) (k : ClientState) (f : Frame) → is_hello f ≡ true → client_output opened k (FrameReceived f) ≡ calls_output opened 1 k.outstanding
+unfolding client_output
+hello-sends opened k f hello =
+    ap (λ (b : Bool). cond b (calls_output opened 1 k.outstanding) (response_output k f.end (segment_request (frame_segment f)))) hello
 
 -- ---- An Execute
 

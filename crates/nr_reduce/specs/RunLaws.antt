@@ -29,7 +29,7 @@ use Rattle.nr_reduce.specs.OfferedRegions.{region_grants}
 use Rattle.nr_reduce.specs.declared.outline.Plan.{Plan}
 use Rattle.nr_reduce.specs.Plans.{call_message, lists_of}
 use Rattle.nr_reduce.specs.ClientState.{ClientState}
-use Rattle.nr_reduce.specs.Client.{client_rules, client_end, initial_client}
+use Rattle.nr_reduce.specs.Client.{client_rules, client_end, client_output, calls_output, initial_client}
 use Rattle.nr_reduce.specs.ServerState.{ServerState, ReadyCall, is_pending, down_max}
 use Rattle.nr_reduce.specs.ServerReads.{open_reads}
 use Rattle.nr_reduce.specs.ServerMessages.{verdict, by_need, call_xid}
@@ -174,8 +174,7 @@ AcceptedKeepsLaw = (opened : Opened) (link : ℕ) (run : List Mark) (call : Call
     submit_answer opened (client opened link run) call form ≡ submissions.Accepted xid → (client opened link run).state.stag ≤ numbers_end → CanWriteCred call.cred →
     IsAccepted opened link run call form xid × (calls_outstanding opened link run < credits_granted opened link run)
 
--- The Send of an accepted call is due at its Submit, by its plan, once the server's hello was received. Before, nothing is due at
--- the Submit: calls that are outstanding are due with the hello, in the order of their Submits, numbered from 1 on.
+-- The Send of an accepted call is due at its Submit, by its plan, once the server's hello was received. Before, nothing is due.
 abbrev pub SubmitIsSent : Type 0
 SubmitIsSent = (opened : Opened) (link : ℕ) (run : List Mark) (call : Call) (form : Form) (xid : ℕ) → (h : IsAccepted opened link run call form xid) →
     ((client opened link run).state.has_hello ≡ true →
@@ -183,6 +182,10 @@ SubmitIsSent = (opened : Opened) (link : ℕ) (run : List Mark) (call : Call) (f
     ≡ output_due opened link Initiator run ++ send ((client opened link run).state.calls_accepted + 1) (call_message xid opened.wished (client opened link run).state.stag h.plan))
     × ((client opened link run).state.has_hello ≡ false →
     output_due opened link Initiator (run ++ marks.Submit link call form (submissions.Accepted xid) ∷ []) ≡ output_due opened link Initiator run)
+
+-- With the server's hello the Sends of all calls that are outstanding are due, in the order of their Submits, numbered from 1 on.
+abbrev pub HelloSendsCalls : Type 0
+HelloSendsCalls = (opened : Opened) (k : ClientState) (f : Frame) → is_hello f ≡ true → client_output opened k (FrameReceived f) ≡ calls_output opened 1 k.outstanding
 
 -- An executed call's payload begins with the head of a call under its xid.
 abbrev pub PayloadHasItsXid : Type 0

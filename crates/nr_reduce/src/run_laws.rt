@@ -1,6 +1,6 @@
 //! Laws of runs: what both ends of a link cite, and what holds of every run.
 
-ghost use Rattle.nr_reduce.specs.RunLaws.{ClientAfterMark, ServerAfterMark, ClientOutputAfterMark, ServerOutputAfterMark, EndedClientStays, EndedServerStays, FullHoldsSoFar, SoFarHoldsBefore, AskedWithMark, ServedWithMark, ClientBegins, ServerBegins, EventsOfInput, ClientStandsOn, ServerStandsOn, ClientQueueIsDue, ServerQueueIsDue, ClientAllows, ServerAllows, AcceptedKeepsLaw, SubmitIsSent, PayloadHasItsXid, ExecuteIsAnswered, RefusedSendIsAnswered, OpenReadsAreFew, PlanIsAccepted, SendIsExecutedOnce, CallCompletesOnce, XidsRise};
+ghost use Rattle.nr_reduce.specs.RunLaws.{ClientAfterMark, ServerAfterMark, ClientOutputAfterMark, ServerOutputAfterMark, EndedClientStays, EndedServerStays, FullHoldsSoFar, SoFarHoldsBefore, AskedWithMark, ServedWithMark, ClientBegins, ServerBegins, EventsOfInput, ClientStandsOn, ServerStandsOn, ClientQueueIsDue, ServerQueueIsDue, ClientAllows, ServerAllows, AcceptedKeepsLaw, SubmitIsSent, HelloSendsCalls, PayloadHasItsXid, ExecuteIsAnswered, RefusedSendIsAnswered, OpenReadsAreFew, PlanIsAccepted, SendIsExecutedOnce, CallCompletesOnce, XidsRise};
 
 /// One mark more: the state of an end, and the output due, are those before with the events of the mark.
 pub fn one_mark_more()
@@ -50,9 +50,10 @@ pub fn accepted_calls_keep_the_law()
     ensures { AcceptedKeepsLaw }
 {}
 
-/// An accepted call is sent by its plan, once the server's hello was received.
+/// An accepted call is sent by its plan: at its Submit, once the server's hello was received, else with that hello.
 pub fn submits_are_sent()
-    ensures { SubmitIsSent }
+    ensures submit { SubmitIsSent }
+    ensures hello { HelloSendsCalls }
 {}
 
 /// An executed call's payload begins with a call head of its xid. It is answered by RDMA Writes into what it offered and
