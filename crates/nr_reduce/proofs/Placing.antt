@@ -83,7 +83,7 @@ pub completes_once : (Fills : List ℕ → List ℕ → Type 0) (opened : Opened
     → AtEachMark (AskedMark Fills opened link) [] run → (c : CompletedCall) → Contains (completed_calls link before) c → c.xid ≢ xid
 completes_once Fills opened link xid outcome run before after is h c there =
     let asked : AtEachMark (AskedMark Fills opened link) [] (before ++ marks.Done link xid outcome ∷ after) = subst (λ (r : List Mark). AtEachMark (AskedMark Fills opened link) [] r) is h in
-    (AtEachMark-at (AskedMark Fills opened link) [] before (marks.Done link xid outcome) after asked refl).wanted.first c there
+    (AtEachMark-at (AskedMark Fills opened link) [] before (marks.Done link xid outcome) after asked refl).awaited.first c there
 
 -- ---- Xids
 

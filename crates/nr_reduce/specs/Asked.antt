@@ -44,12 +44,12 @@ pub record IsAwaited (link : ℕ) (before : List Mark) (xid : ℕ) : Type 0 wher
 
 -- its outcome is handed over: one that a message of its xid brought
 pub record IsCompleted (opened : Opened) (link : ℕ) (before : List Mark) (xid : ℕ) (outcome : Outcome) : Type 0 where
-  pub wanted : IsAwaited link before xid
+  pub awaited : IsAwaited link before xid
   pub is_received : Contains (client opened link before).state.outcomes (record { xid = xid; outcome = outcome })
 
 -- it is lost: the client ended, and no message brought an outcome of it
 pub record IsLost (opened : Opened) (link : ℕ) (before : List Mark) (xid : ℕ) : Type 0 where
-  pub wanted : IsAwaited link before xid
+  pub awaited : IsAwaited link before xid
   pub ended : End
   pub is_ended : (client opened link before).ended ≡ Some ended
   pub none : (c : CompletedCall) → Contains (client opened link before).state.outcomes c → c.xid ≢ xid
@@ -60,7 +60,7 @@ revoked_bytes opened link before xid =
     flat_map (λ r. placed_bytes opened link Initiator before r.stag) (filter (λ r. r.call == xid) (client opened link before).state.regions)
 
 pub record IsRevoked (opened : Opened) (link : ℕ) (before : List Mark) (xid : ℕ) (bytes : List ℕ) : Type 0 where
-  pub wanted : IsAwaited link before xid
+  pub awaited : IsAwaited link before xid
   pub bytes_are : bytes ≡ revoked_bytes opened link before xid
 
 -- The law of each mark. `Fills` says how what was written with this Wrote relates to the output due.
