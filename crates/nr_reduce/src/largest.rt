@@ -12,7 +12,7 @@ use crate::skipping::count_after;
 use nr_rpc::call_target;
 use nr_xdr::Reader;
 
-/// The reply to any other call, and to one that isn't spelled up to its count.
+/// The reply to any other call, and to one that isn't encoded up to its count.
 const LEAST_REPLY: u32 = 32;
 
 /// So many bytes and their pad.
