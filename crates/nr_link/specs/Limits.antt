@@ -1,0 +1,11 @@
+-- Limits of a link, each by its one name. All are own.
+use Rattle.std.specs.Prelude.{ℕ}
+
+-- the payload bytes that a segment has at most when it is written; one that is received may have more
+abbrev pub segment_max : ℕ
+segment_max = 4096
+
+-- the Read Requests that a side may have open, and the responses that it may owe before it has written them (RFC 5040
+-- leaves the number to the sides)
+abbrev pub open_reads_max : ℕ
+open_reads_max = 8

@@ -1,0 +1,11 @@
+//! What a link of the iWARP profile asks of each segment, and how it ends (RFC 5040, RFC 5041): the words that the endpoint
+//! and the definitions of a run share.
+//!
+//! It stands on `nr_wire`, which frames a stream, and on `nr_regions`, which says what an access lacks. [`End`] says why a side
+//! takes no more input. The rest are definitions: the frames of a stream with their places, what a side writes for a message or
+//! an access, and which segment ends a link, in the order in which that is asked.
+#![tactic(auto)]
+
+mod end;
+
+pub use end::End;

@@ -1,0 +1,318 @@
+-- The message of a plan reads back as its header and its stream, and with its memory it conveys the payload.
+use Rattle.std.proofs.Common.{◌≡◌, ◌≢◌, ℕ, zero, suc, ◌+◌, ◌^◌, ◌<◌, ◌≤◌, Bool, true, false, cond, ◌&&◌, eqb, not, List, [], ◌∷◌, ◌++◌, length, take, drop, sum_by, All, IfSome, Option, Some, None, Result, Ok, Err, refl, sym, ap, subst, ◌∙◌, arith, append-nil}
+use Rattle.std.proofs.lemmas.Bool.{eq-eqb, ne_eqb}
+use Rattle.std.proofs.lemmas.List.{take_all, drop_at, length-take-le}
+use Rattle.std.proofs.lemmas.List.Elements.{All-nil, All-cons}
+use Rattle.std.specs.List.{flat_map}
+use Rattle.nr_xdr.specs.Item.{Item as XdrItem, IsBytes}
+use Rattle.nr_xdr.specs.Items.{FitEach}
+use Rattle.nr_header.specs.Constants.{VERSION, MSG, NOMSG, PAYLOAD_MAX}
+use Rattle.nr_header.specs.declared.header.RdmaSegment.{RdmaSegment}
+use Rattle.nr_header.specs.declared.header.ReadSegment.{ReadSegment}
+use Rattle.nr_header.specs.declared.header.ChunkLists.{ChunkLists}
+use Rattle.nr_header.specs.declared.header.Body.{Body}
+use Rattle.nr_header.specs.declared.header.Body.TheVariants.{Msg, Nomsg, ErrVers, ErrChunk}
+use Rattle.nr_header.specs.declared.header.Header.{Header}
+use Rattle.nr_header.specs.Header.{read_items, write_items, reply_items, lists_items, fixed_items, header_encoding, HeaderFits}
+use Rattle.nr_header.specs.WithinLimits.{SegmentsEnd, OnePosition, ListsWithin, CanRead, body_again, header_again, read_total, Ends}
+use Rattle.nr_header.specs.Reading.{header_of}
+use Rattle.nr_header.proofs.Messages.{header_written}
+use Rattle.nr_reduce.specs.Undone.{IsOwn, inline_by, lists_by, Brings, Asks}
+use Rattle.nr_reduce.specs.declared.call.Form.{Form}
+use Rattle.nr_reduce.specs.declared.item.Item.{Item}
+use Rattle.nr_reduce.specs.declared.item.Of.{Of}
+use Rattle.nr_reduce.specs.Items.{stream_of, moved_of}
+use Rattle.nr_reduce.specs.declared.item.Of.TheVariants.{Call}
+use Rattle.nr_reduce.specs.declared.outline.Plan.{Plan}
+use Rattle.nr_reduce.specs.Plans.{has_segment, one_if, read_stag, write_stag, reply_stag, regions_needed, write_list, reply_chunk, lists_of, body_by, call_message, plan_of}
+use Rattle.nr_reduce.specs.Chunks.{Bytes, item_position, position_of, call_moved, whole, call_conveyed, read_bytes, ConveysCall}
+use Rattle.nr_reduce.proofs.Looks.{item_stands}
+use Rattle.nr_reduce.proofs.Undone.{Reducible, reducible, moved-length, rebuilt}
+use Rattle.nr_reduce.proofs.Shapes.{Offering, offered, IsSmall, Way, shape, IsWay, Shaped, IsPlan, is_plan}
+use Rattle.nr_reduce.proofs.Shapes.Offering.{Nothing, One}
+use Rattle.nr_reduce.proofs.Shapes.Way.{Inline, Reduced, Long}
+
+-- ---- The lists of a shape
+
+abbrev pub entries : List ℕ → Way → ℕ → List ReadSegment
+entries payload Inline stag = []
+entries payload (Reduced i) stag = record { position = i.pos; handle = stag; length = i.len; offset = 0 } ∷ []
+entries payload Long stag = record { position = 0; handle = stag; length = length payload; offset = 0 } ∷ []
+
+abbrev pub read_lengths : List ℕ → Way → List ℕ
+read_lengths payload Inline = []
+read_lengths payload (Reduced i) = i.len ∷ []
+read_lengths payload Long = length payload ∷ []
+
+abbrev pub write_from : List ℕ → Way → ℕ → ℕ
+write_from payload way stag = stag + one_if (has_segment (Some (read_lengths payload way)))
+
+abbrev pub reply_from : List ℕ → Way → Offering → ℕ → ℕ
+reply_from payload way w stag = write_from payload way stag + one_if (has_segment (offered w))
+
+abbrev pub lists : List ℕ → Way → Offering → Offering → ℕ → ChunkLists
+lists payload way w r stag = record {
+  read = entries payload way stag;
+  write = write_list (write_from payload way stag) (offered w);
+  reply = reply_chunk (reply_from payload way w stag) (offered r);
+}
+
+pub lists-shape : (payload : List ℕ) (way : Way) (w r : Offering) (stag : ℕ) → lists_of stag (shape payload way (offered w) (offered r)) ≡ lists payload way w r stag
+unfolding lists_of
+lists-shape payload Inline w r stag = refl
+lists-shape payload (Reduced i) w r stag = refl
+lists-shape payload Long w r stag = refl
+
+needed-shape : (payload : List ℕ) (way : Way) (w r : Offering) →
+    regions_needed (shape payload way (offered w) (offered r)) ≡ one_if (has_segment (Some (read_lengths payload way))) + one_if (has_segment (offered w)) + one_if (has_segment (offered r))
+unfolding regions_needed
+needed-shape payload Inline w r = refl
+needed-shape payload (Reduced i) w r = refl
+needed-shape payload Long w r = refl
+
+abbrev pub body_of : Way → ChunkLists → Body
+body_of Inline ls = Msg ls 0
+body_of (Reduced i) ls = Msg ls 0
+body_of Long ls = Nomsg ls
+
+abbrev pub stream_in : List ℕ → Way → List ℕ
+stream_in payload Inline = payload
+stream_in payload (Reduced i) = stream_of payload i
+stream_in payload Long = []
+
+-- where an item stands in a payload that fits
+pub record Placed (payload : List ℕ) (i : Item) : Type 0 where
+  pub least : 4 ≤ i.pos
+  pub size : i.pos + i.len ≤ length payload
+
+placed : (payload : List ℕ) (way : Way) (i : Item) → IsBytes payload → IsWay payload way → way ≡ Reduced i → Placed payload i
+placed payload Inline i fits is same = absurd cc
+placed payload (Reduced j) i fits is same =
+    let r = reducible Call payload j is in
+    let s = item_stands Call payload j fits r.item in
+    let e : j ≡ i = cc in
+    subst (λ (k : Item). Placed payload k) e (record { least = s.least; size = omega (arith, r.size) })
+placed payload Long i fits is same = absurd cc
+
+positive : (n : ℕ) → 4 ≤ n → eqb n 0 ≡ false
+positive n h = ne_eqb n 0 (λ e. omega (arith, e, h))
+
+body-shape : (payload : List ℕ) (way : Way) (w r : Offering) (ls : ChunkLists) → IsBytes payload → IsWay payload way → body_by (shape payload way (offered w) (offered r)).read_at ls ≡ body_of way ls
+body-shape payload Inline w r ls fits is = refl
+body-shape payload (Reduced i) w r ls fits is = ap (λ (b : Bool). cond b (Nomsg ls) (Msg ls 0)) (positive i.pos (placed payload (Reduced i) i fits is refl).least)
+body-shape payload Long w r ls fits is = refl
+
+-- ---- Its numbers fit, and it is within the limits
+
+write_fit : (w : Offering) (stag : ℕ) (more : List XdrItem) → IsSmall w → stag + one_if (has_segment (offered w)) ≤ 2 ^ 32 → FitEach more → FitEach (write_items (write_list stag (offered w)) more)
+write_fit Nothing stag more small room k = (tt, k)
+write_fit (One n) stag more small room k = (tt, (omega arith, (omega (arith, room), (omega (arith, small), (omega arith, (tt, k))))))
+
+reply_fit : (r : Offering) (stag : ℕ) → IsSmall r → stag + one_if (has_segment (offered r)) ≤ 2 ^ 32 → FitEach (reply_items (reply_chunk stag (offered r)) [])
+reply_fit Nothing stag small room = (tt, tt)
+reply_fit (One n) stag small room = (tt, (omega arith, (omega (arith, room), (omega (arith, small), (omega arith, tt)))))
+
+read_fit : (payload : List ℕ) (way : Way) (stag : ℕ) (more : List XdrItem) → IsBytes payload → IsWay payload way → length payload ≤ PAYLOAD_MAX → write_from payload way stag ≤ 2 ^ 32 → FitEach more
+    → FitEach (read_items (entries payload way stag) more)
+read_fit payload Inline stag more fits is size room k = (tt, k)
+read_fit payload (Reduced i) stag more fits is size room k =
+    let p = placed payload (Reduced i) i fits is refl in
+    (tt, (omega (arith, p.size, size), (omega (arith, room), (omega (arith, p.size, size), (omega arith, (tt, k))))))
+read_fit payload Long stag more fits is size room k = (tt, (omega arith, (omega (arith, room), (omega (arith, size), (omega arith, (tt, k))))))
+
+lists_fit : (payload : List ℕ) (way : Way) (w r : Offering) (stag : ℕ) → IsBytes payload → IsWay payload way → length payload ≤ PAYLOAD_MAX → IsSmall w → IsSmall r
+    → reply_from payload way w stag + one_if (has_segment (offered r)) ≤ 2 ^ 32 → FitEach (lists_items (lists payload way w r stag))
+lists_fit payload way w r stag fits is size small_w small_r room =
+    read_fit payload way stag _ fits is size (omega (arith, room))
+    (write_fit w (write_from payload way stag) _ small_w (omega (arith, room))
+    (reply_fit r (reply_from payload way w stag) small_r room))
+
+-- a list of one
+pub all_one : {X : Type 0} (P : X → Type 0) (x : X) → P x → All P (x ∷ [])
+all_one P x p = All-cons P x [] p (All-nil P)
+
+record WriteWithin (chunks : List (List RdmaSegment)) : Type 0 where
+  count : length chunks ≤ 4
+  each : All (λ chunk. length chunk ≤ 16) chunks
+  segments : sum_by (λ chunk. length chunk) chunks ≤ 16
+  ends : All SegmentsEnd chunks
+
+write_within : (w : Offering) (stag : ℕ) → IsSmall w → WriteWithin (write_list stag (offered w))
+write_within Nothing stag small = record { count = omega arith; each = All-nil _; segments = omega arith; ends = All-nil _ }
+write_within (One n) stag small = record {
+  count = omega arith;
+  each = all_one (λ (chunk : List RdmaSegment). length chunk ≤ 16) _ (omega arith);
+  segments = omega arith;
+  ends = all_one SegmentsEnd _ (all_one (λ (s : RdmaSegment). Ends s.offset s.length) _ (omega (arith, small)));
+}
+
+reply_segments : (r : Offering) (stag : ℕ) → IfSome (reply_chunk stag (offered r)) (λ chunk. length chunk ≤ 16)
+reply_segments Nothing stag = tt
+reply_segments (One n) stag = omega arith
+
+reply_ends : (r : Offering) (stag : ℕ) → IsSmall r → IfSome (reply_chunk stag (offered r)) SegmentsEnd
+reply_ends Nothing stag small = tt
+reply_ends (One n) stag small = all_one (λ (s : RdmaSegment). Ends s.offset s.length) _ (omega (arith, small))
+
+record ReadWithin (read : List ReadSegment) (total : ℕ) : Type 0 where
+  entries : length read ≤ 16
+  ends : All (λ r. Ends r.offset r.length) read
+  one : OnePosition read
+  total_is : read_total read ≡ total
+
+abbrev moved_total : List ℕ → Way → ℕ
+moved_total payload Inline = 0
+moved_total payload (Reduced i) = i.len
+moved_total payload Long = length payload
+
+read_within : (payload : List ℕ) (way : Way) (stag : ℕ) → IsBytes payload → IsWay payload way → length payload ≤ PAYLOAD_MAX → ReadWithin (entries payload way stag) (moved_total payload way)
+read_within payload Inline stag fits is size = record { entries = omega arith; ends = All-nil _; one = (0, All-nil _); total_is = refl }
+read_within payload (Reduced i) stag fits is size =
+    let p = placed payload (Reduced i) i fits is refl in record {
+      entries = omega arith;
+      ends = all_one (λ (r : ReadSegment). Ends r.offset r.length) _ (omega (arith, p.size, size));
+      one = (i.pos, all_one (λ (r : ReadSegment). r.position ≢ 0 → r.position ≡ i.pos) _ (λ h. refl));
+      total_is = omega arith;
+    }
+read_within payload Long stag fits is size = record {
+  entries = omega arith;
+  ends = all_one (λ (r : ReadSegment). Ends r.offset r.length) _ (omega (arith, size));
+  one = (0, all_one (λ (r : ReadSegment). r.position ≢ 0 → r.position ≡ 0) _ (λ h. refl));
+  total_is = omega arith;
+}
+
+lists_within : (payload : List ℕ) (way : Way) (w r : Offering) (stag : ℕ) → IsBytes payload → IsWay payload way → length payload ≤ PAYLOAD_MAX → IsSmall w → IsSmall r → ListsWithin (lists payload way w r stag)
+lists_within payload way w r stag fits is size small_w small_r =
+    let rd = read_within payload way stag fits is size in
+    let wr = write_within w (write_from payload way stag) small_w in record {
+      read_segments = rd.entries;
+      read_ends = rd.ends;
+      one_position = rd.one;
+      write_chunks = wr.count;
+      chunk_segments = wr.each;
+      write_segments = wr.segments;
+      write_ends = wr.ends;
+      reply_segments = reply_segments r (reply_from payload way w stag);
+      reply_ends = reply_ends r (reply_from payload way w stag) small_r;
+    }
+
+can_read : (payload : List ℕ) (way : Way) (w r : Offering) (stag : ℕ) → IsBytes payload → IsWay payload way → length payload ≤ PAYLOAD_MAX → IsSmall w → IsSmall r
+    → CanRead (body_of way (lists payload way w r stag)) (stream_in payload way)
+can_read payload Inline w r stag fits is size small_w small_r =
+    (lists_within payload Inline w r stag fits is size small_w small_r, All-nil _, omega (arith, size))
+can_read payload (Reduced i) w r stag fits is size small_w small_r =
+    let p = placed payload (Reduced i) i fits is refl in
+    let len = length-take-le i.pos payload (omega (arith, p.size)) in (
+      lists_within payload (Reduced i) w r stag fits is size small_w small_r,
+      all_one (λ (r : ReadSegment). r.position ≢ 0) _ (λ e. omega (arith, e, p.least)),
+      omega (arith, size, p.size, len),
+    )
+can_read payload Long w r stag fits is size small_w small_r =
+    (refl, lists_within payload Long w r stag fits is size small_w small_r, omega (arith, size))
+
+head_fits : (xid credit : ℕ) (way : Way) (ls : ChunkLists) → xid < 2 ^ 32 → credit < 2 ^ 32 → FitEach (lists_items ls) → HeaderFits (record { xid = xid; credit = credit; body = body_of way ls })
+head_fits xid credit Inline ls x c k = (x, (omega arith, (c, (omega arith, k))))
+head_fits xid credit (Reduced i) ls x c k = (x, (omega arith, (c, (omega arith, k))))
+head_fits xid credit Long ls x c k = (x, (omega arith, (c, (omega arith, k))))
+
+-- ---- The law
+
+conveys-way : (payload : List ℕ) (way : Way) (stag : ℕ) (head : List ℕ) (ls : ChunkLists) (chunk : ℕ → List ℕ) (w r : Offering) → IsBytes payload → IsWay payload way
+    → Brings chunk (shape payload way (offered w) (offered r))
+    → call_conveyed (inline_by (head ++ stream_in payload way) (body_again (body_of way ls) (length head))) (entries payload way stag) chunk ≡ Some payload
+unfolding call_conveyed item_position
+conveys-way payload Inline stag head ls chunk w r fits is brings = ap Some (drop_at head payload (length head) refl)
+conveys-way payload (Reduced i) stag head ls chunk w r fits is brings =
+    let p = placed payload (Reduced i) i fits is refl in
+    ap (λ (b : Bool). whole Call (drop (length head) (head ++ stream_of payload i)) (call_moved (position_of (cond (not b) (Some (record { position = i.pos; handle = stag; length = i.len; offset = 0 })) None)) chunk)) (positive i.pos p.least)
+    ∙ (λ k. whole Call (drop_at head (stream_of payload i) (length head) refl k) (Some (brings k)))
+    ∙ rebuilt Call payload i fits is
+conveys-way payload Long stag head ls chunk w r fits is brings = ap Some brings
+
+-- the message of a shape is its header and its stream, and reads so
+pub reads-shape : (payload : List ℕ) (way : Way) (w r : Offering) (xid credit stag : ℕ) → IsBytes payload → IsWay payload way → length payload ≤ PAYLOAD_MAX → IsSmall w → IsSmall r → xid < 2 ^ 32 → credit < 2 ^ 32
+    → stag + regions_needed (shape payload way (offered w) (offered r)) ≤ 2 ^ 32
+    → (let h : Header = record { xid = xid; credit = credit; body = body_of way (lists payload way w r stag) } in
+    (call_message xid credit stag (shape payload way (offered w) (offered r)) ≡ header_encoding h ++ stream_in payload way)
+    × (header_of (header_encoding h ++ stream_in payload way) ≡ Ok (header_again h)))
+unfolding call_message
+reads-shape payload way w r xid credit stag fits is size small_w small_r fits_x fits_c room =
+    let p : Plan = shape payload way (offered w) (offered r) in
+    let ls : ChunkLists = lists payload way w r stag in
+    let room2 : reply_from payload way w stag + one_if (has_segment (offered r)) ≤ 2 ^ 32 = (let n = needed-shape payload way w r in omega (arith, room, n)) in
+    let body_same : body_by p.read_at (lists_of stag p) ≡ body_of way ls =
+    ap (λ (l : ChunkLists). body_by p.read_at l) (lists-shape payload way w r stag) ∙ body-shape payload way w r ls fits is in (
+      (λ k. header_encoding (record { xid = xid; credit = credit; body = body_same k }) ++ inline-shape way k),
+      header_written (record { xid = xid; credit = credit; body = body_of way ls }) (stream_in payload way)
+          (head_fits xid credit way ls fits_x fits_c (lists_fit payload way w r stag fits is size small_w small_r room2)) (can_read payload way w r stag fits is size small_w small_r),
+    )
+  where
+    inline-shape : (way : Way) → (shape payload way (offered w) (offered r)).inline ≡ stream_in payload way
+    inline-shape Inline = refl
+    inline-shape (Reduced i) = refl
+    inline-shape Long = refl
+
+asks-shape : (payload : List ℕ) (way : Way) (w r : Offering) (xid credit stag : ℕ) → IsBytes payload → IsWay payload way → length payload ≤ PAYLOAD_MAX → IsSmall w → IsSmall r → xid < 2 ^ 32 → credit < 2 ^ 32
+    → stag + regions_needed (shape payload way (offered w) (offered r)) ≤ 2 ^ 32
+    → Asks payload (shape payload way (offered w) (offered r)) xid credit stag (call_message xid credit stag (shape payload way (offered w) (offered r)))
+unfolding call_message
+asks-shape payload way w r xid credit stag fits is size small_w small_r fits_x fits_c room =
+    let p : Plan = shape payload way (offered w) (offered r) in
+    let ls : ChunkLists = lists payload way w r stag in
+    let h : Header = record { xid = xid; credit = credit; body = body_of way ls } in
+    let room2 : reply_from payload way w stag + one_if (has_segment (offered r)) ≤ 2 ^ 32 = (let n = needed-shape payload way w r in omega (arith, room, n)) in
+    let body_same : body_by p.read_at (lists_of stag p) ≡ body_of way ls =
+    ap (λ (l : ChunkLists). body_by p.read_at l) (lists-shape payload way w r stag) ∙ body-shape payload way w r ls fits is in
+    let message_same : call_message xid credit stag p ≡ header_encoding h ++ stream_in payload way =
+    (λ k. header_encoding (record { xid = xid; credit = credit; body = body_same k }) ++ inline-shape payload way w r k) in
+    let read = header_written h (stream_in payload way) (head_fits xid credit way ls fits_x fits_c (lists_fit payload way w r stag fits is size small_w small_r room2)) (can_read payload way w r stag fits is size small_w small_r) in
+    subst (λ (m : List ℕ). Asks payload p xid credit stag m) (sym message_same) (record {
+      body = body_again (body_of way ls) (length (header_encoding h));
+      reads = read;
+      lists = lists-again way ls (length (header_encoding h)) ∙ sym (lists-shape payload way w r stag);
+      conveys = λ chunk brings.
+          ap (λ (l : ChunkLists). call_conveyed (inline_by (header_encoding h ++ stream_in payload way) (body_again (body_of way ls) (length (header_encoding h)))) l.read chunk) (lists-shape payload way w r stag)
+          ∙ conveys-way payload way stag (header_encoding h) ls chunk w r fits is brings;
+    })
+  where
+    inline-shape : (payload : List ℕ) (way : Way) (w r : Offering) → (shape payload way (offered w) (offered r)).inline ≡ stream_in payload way
+    inline-shape payload Inline w r = refl
+    inline-shape payload (Reduced i) w r = refl
+    inline-shape payload Long w r = refl
+
+    lists-again : (way : Way) (ls : ChunkLists) (n : ℕ) → lists_by (body_again (body_of way ls) n) ≡ ls
+    lists-again Inline ls n = refl
+    lists-again (Reduced i) ls n = refl
+    lists-again Long ls n = refl
+
+-- The message of a plan whose form isn't given reads back as its header and its stream, and conveys its payload by its chunks.
+pub asks : (payload : List ℕ) (form : Form) (up down xid credit stag : ℕ) (p : Plan) → IsBytes payload → IsOwn form → plan_of payload form up down ≡ Ok p → xid < 2 ^ 32 → credit < 2 ^ 32
+    → stag + regions_needed p ≤ 2 ^ 32 → Asks payload p xid credit stag (call_message xid credit stag p)
+asks payload form up down xid credit stag p fits own e fits_x fits_c room =
+    let is = is_plan payload form up down p own e in
+    let s = is.shaped in
+    let law = λ (q : Plan). stag + regions_needed q ≤ 2 ^ 32 → Asks payload q xid credit stag (call_message xid credit stag q) in
+    subst law (sym s.is) (λ room. asks-shape payload s.way s.write s.reply xid credit stag fits s.is_way is.payload_fits s.write_small s.reply_small fits_x fits_c room) room
+
+brings-way : (payload : List ℕ) (memory : Bytes) (stag : ℕ) (way : Way) (w r : Offering) → IsWay payload way → memory (read_stag stag (shape payload way (offered w) (offered r))) ≡ (shape payload way (offered w) (offered r)).region
+    → Brings (read_bytes memory (lists_of stag (shape payload way (offered w) (offered r))).read) (shape payload way (offered w) (offered r))
+unfolding lists_of read_bytes
+brings-way payload memory stag Inline w r is holds = tt
+brings-way payload memory stag (Reduced i) w r is holds =
+    ap (λ (b : Bool). flat_map (λ (e : ReadSegment). take e.length (drop e.offset (memory e.handle))) (cond b (record { position = i.pos; handle = stag; length = i.len; offset = 0 } ∷ []) [])) (eq-eqb i.pos i.pos refl)
+    ∙ append-nil (take i.len (memory stag))
+    ∙ ap (λ (xs : List ℕ). take i.len xs) holds
+    ∙ take_all i.len (moved_of payload i) (let l = moved-length Call payload i (reducible Call payload i is) in omega (arith, l))
+brings-way payload memory stag Long w r is holds =
+    append-nil (take (length payload) (memory stag))
+    ∙ ap (λ (xs : List ℕ). take (length payload) xs) holds
+    ∙ take_all (length payload) payload (omega arith)
+
+-- The same by its own memory: where the STag of its read chunk holds its region.
+pub asks_from : (payload : List ℕ) (form : Form) (up down stag : ℕ) (p : Plan) (memory : Bytes) → IsBytes payload → IsOwn form → plan_of payload form up down ≡ Ok p → memory (read_stag stag p) ≡ p.region
+    → Brings (read_bytes memory (lists_of stag p).read) p
+asks_from payload form up down stag p memory fits own e holds =
+    let is = is_plan payload form up down p own e in
+    let s = is.shaped in
+    let law = λ (q : Plan). memory (read_stag stag q) ≡ q.region → Brings (read_bytes memory (lists_of stag q).read) q in
+    subst law (sym s.is) (λ holds. brings-way payload memory stag s.way s.write s.reply s.is_way holds) holds

@@ -1,0 +1,281 @@
+-- What is sent for a call, and for what a client sends: the sentences on asking and answering, one event at a time.
+use Rattle.std.proofs.Common.{◌≡◌, ℕ, ◌+◌, ◌-◌, ◌≤◌, Bool, true, false, cond, not, ◌&&◌, eqb, List, [], ◌∷◌, ◌++◌, length, take, drop, Option, None, Some, Result, Ok, Err, refl, sym, ap, subst, ◌∙◌, arith, append-nil}
+use Rattle.std.proofs.lemmas.Bool.{eqb-true}
+use Rattle.std.proofs.lemmas.List.{length-take}
+use Rattle.std.proofs.Math.Seq.{drop-length}
+use Rattle.std.specs.List.{list_any}
+use Rattle.std.specs.Prelude.{slice_get}
+use Rattle.nr_wire.specs.declared.hello.Side.TheVariants.{Initiator, Responder}
+use Rattle.nr_wire.specs.Segment.{Segment}
+use Rattle.nr_wire.specs.Segment.Segment.{Tagged, Untagged}
+use Rattle.nr_header.specs.Reading.{word_at}
+use Rattle.nr_rpc.specs.declared.head.CallHead.{CallHead}
+use Rattle.nr_rpc.specs.Reading.{call_of, target_of}
+use Rattle.nr_link.specs.declared.end.End.{End as Stop}
+use Rattle.nr_link.specs.Frames.{Frame, is_hello}
+use Rattle.nr_link.specs.Output.{send, own_hello}
+use Rattle.nr_link.specs.Limits.{open_reads_max}
+use Rattle.nr_link.specs.ReceiveState.{message_completed}
+use Rattle.nr_link.specs.Ending.{frame_segment}
+use Rattle.nr_reduce.specs.declared.call.Call.{Call}
+use Rattle.nr_reduce.specs.declared.call.Form.{Form}
+use Rattle.nr_reduce.specs.declared.call.Submission.TheVariants as submissions
+use Rattle.nr_reduce.specs.declared.mark.Moment.{Moment}
+use Rattle.nr_reduce.specs.declared.mark.Mark.{Mark}
+use Rattle.nr_reduce.specs.declared.mark.Mark.TheVariants as marks
+use Rattle.nr_reduce.specs.declared.mark.Opened.{Opened}
+use Rattle.nr_reduce.specs.History.{AcceptedCall, ExecutedCall, bytes_received}
+use Rattle.nr_reduce.specs.Events.{Event, if_own, events_at, events}
+use Rattle.nr_reduce.specs.Events.Event.{FrameReceived, CallSubmitted, MemoryRevoked, CallExecuted, QueueWritten}
+use Rattle.nr_reduce.specs.EndRules.{EndState, next_end_state, next_end_state_by, next_end_state_in, end_state_after, output_for_all, output_for_in}
+use Rattle.nr_reduce.specs.declared.outline.Plan.{Plan}
+use Rattle.nr_reduce.specs.Plans.{TooLarge, call_message}
+use Rattle.nr_reduce.specs.Chunks.{suits}
+use Rattle.nr_reduce.specs.Holds.{Answer, answer_writes, answer_message, chunk_error, version_error}
+use Rattle.nr_reduce.specs.ClientState.{ClientState, call_payload, plan_for}
+use Rattle.nr_reduce.specs.Client.{client_rules, client_end, client_output, plan_or, outstanding_of, call_output, calls_output, response_output, segment_request}
+use Rattle.nr_reduce.specs.ServerState.{ServerState, ReadyCall, PendingCall, PendingRead, down_max}
+use Rattle.nr_reduce.specs.ServerReads.{open_reads, is_read}
+use Rattle.nr_reduce.specs.ServerMessages.{Verdict, CallVerdict, verdict, by_payload, by_head, payload_of, call_xid, chunk_bytes}
+use Rattle.nr_reduce.specs.ServerMessages.Verdict.{EndsLink, OtherVersion, BadChunks, MakesPending}
+use Rattle.nr_reduce.specs.ServerMessages.CallVerdict.{Refuses, IsReady}
+use Rattle.nr_reduce.specs.ServerFrames.{FrameEffect, no_effect, with_verdict, ready_if_whole, with_pending_call, message_effect, with_refused_call, is_stream_read, read_effect, call_of_number, response_effect, tagged_effect, by_message, with_reach, effect_by, effect_in, frame_effect}
+use Rattle.nr_reduce.specs.Server.{server_rules, server_end, server_output, server_state_after, initial_server, offer_of, answer_of_target, answer_output, execution_output, effect_output, newly_open_reads, sends_from, requests_from, with_effect}
+use Rattle.nr_reduce.specs.Run.{client, server, output_due}
+use Rattle.nr_reduce.specs.Asked.{IsAccepted}
+use Rattle.nr_reduce.specs.Served.{IsExecuted, next_call, first_ready}
+use Rattle.nr_reduce.specs.RunLaws.{IsOnlyAnswered}
+use Rattle.nr_reduce.proofs.Steps.{output_due_up-one, output_due_down-one}
+use Rattle.nr_reduce.proofs.Standing.{itself}
+
+-- ---- A Submit
+
+plan-is : (k : ClientState) (xid : ℕ) (call : Call) (form : Form) (r : Result Plan TooLarge) (plan : Plan) → r ≡ Ok plan → plan_or (call_payload xid call) r ≡ plan
+plan-is k xid call form r plan e = ap (λ (q : Result Plan TooLarge). plan_or (call_payload xid call) q) e
+
+submit-output : (opened : Opened) (k : ClientState) (ended : Option Stop) (place : ℕ) (a : AcceptedCall) → ended ≡ None → output_for_all (client_rules opened) (record { state = k; ended = ended }) (CallSubmitted place a ∷ []) ≡ client_output opened k (CallSubmitted place a)
+unfolding client_end
+submit-output opened k None place a e = append-nil (client_output opened k (CallSubmitted place a))
+submit-output opened k (Some end) place a e = absurd cc
+
+submit-due : (opened : Opened) (link : ℕ) (run : List Mark) (call : Call) (form : Form) (xid : ℕ) → (client opened link run).ended ≡ None →
+    output_due opened link Initiator (run ++ marks.Submit link call form (submissions.Accepted xid) ∷ [])
+    ≡ output_due opened link Initiator run ++ client_output opened (client opened link run).state (CallSubmitted (length (bytes_received link Initiator run)) (record { xid = xid; call = call; form = form }))
+submit-due opened link run call form xid stays =
+    let r = client opened link run in
+    let place = length (bytes_received link Initiator run) in
+    let a : AcceptedCall = record { xid = xid; call = call; form = form } in
+    output_due_up-one opened link run (marks.Submit link call form (submissions.Accepted xid))
+    ∙ ap (λ (b : Bool). output_due opened link Initiator run ++ output_for_all (client_rules opened) r (if_own (b && true) (CallSubmitted place a ∷ []))) (itself link)
+    ∙ ap (λ (xs : List ℕ). output_due opened link Initiator run ++ xs) (submit-output opened r.state r.ended place a stays)
+
+pub submit-sent : (opened : Opened) (link : ℕ) (run : List Mark) (call : Call) (form : Form) (xid : ℕ) → (h : IsAccepted opened link run call form xid) →
+    ((client opened link run).state.has_hello ≡ true →
+    output_due opened link Initiator (run ++ marks.Submit link call form (submissions.Accepted xid) ∷ [])
+    ≡ output_due opened link Initiator run ++ send ((client opened link run).state.calls_accepted + 1) (call_message xid opened.wished (client opened link run).state.stag h.plan))
+    × ((client opened link run).state.has_hello ≡ false →
+    output_due opened link Initiator (run ++ marks.Submit link call form (submissions.Accepted xid) ∷ []) ≡ output_due opened link Initiator run)
+unfolding client_output
+submit-sent opened link run call form xid h =
+    let k : ClientState = (client opened link run).state in
+    let a : AcceptedCall = record { xid = xid; call = call; form = form } in
+    let due = output_due opened link Initiator run in
+    let one : List ℕ = call_output opened (k.calls_accepted + 1) (outstanding_of k a) in
+    let all = submit-due opened link run call form xid h.stays in (
+      (λ hello. all
+          ∙ ap (λ (b : Bool). due ++ cond b one []) hello
+          ∙ ap (λ (p : Plan). due ++ send (k.calls_accepted + 1) (call_message xid opened.wished k.stag p)) (plan-is k xid call form (plan_for k xid call form) h.plan h.planned)),
+      λ none. all ∙ ap (λ (b : Bool). due ++ cond b one []) none ∙ append-nil due,
+    )
+
+pub hello-sends : (opened : Opened) (k : ClientState) (f : Frame) → is_hello f ≡ true → client_output opened k (FrameReceived f) ≡ calls_output opened 1 k.outstanding
+unfolding client_output
+hello-sends opened k f hello =
+    ap (λ (b : Bool). cond b (calls_output opened 1 k.outstanding) (response_output k f.end (segment_request (frame_segment f)))) hello
+
+-- ---- An Execute
+
+execute-output : (opened : Opened) (k : ServerState) (ended : Option Stop) (e : ExecutedCall) → ended ≡ None → output_for_all (server_rules opened) (record { state = k; ended = ended }) (CallExecuted e ∷ []) ≡ execution_output k e
+unfolding server_end server_output
+execute-output opened k None e is = append-nil (execution_output k e)
+execute-output opened k (Some end) e is = absurd cc
+
+not_ended : (ready : List ReadyCall) (ended : Option Stop) (r : ReadyCall) → first_ready ready ended ≡ Some r → ended ≡ None
+not_ended ready None r e = refl
+not_ended ready (Some end) r e = absurd cc
+
+execute-due : (opened : Opened) (link : ℕ) (run : List Mark) (xid : ℕ) (moment : Moment) (payload : List ℕ) (place : ℕ) (reply : List ℕ) → IsExecuted opened link run xid payload →
+    output_due opened link Responder (run ++ marks.Execute link xid moment payload place reply ∷ [])
+    ≡ output_due opened link Responder run ++ execution_output (server opened link run).state (record { xid = xid; moment = moment; payload = payload; place = place; reply = reply })
+unfolding next_call
+execute-due opened link run xid moment payload place reply h =
+    let r = server opened link run in
+    let e : ExecutedCall = record { xid = xid; moment = moment; payload = payload; place = place; reply = reply } in
+    output_due_down-one opened link run (marks.Execute link xid moment payload place reply)
+    ∙ ap (λ (b : Bool). output_due opened link Responder run ++ output_for_all (server_rules opened) r (if_own (b && true) (CallExecuted e ∷ []))) (itself link)
+    ∙ ap (λ (xs : List ℕ). output_due opened link Responder run ++ xs) (execute-output opened r.state r.ended e (not_ended r.state.ready r.ended h.call h.is_next))
+
+pub execute-answered : (opened : Opened) (link : ℕ) (run : List Mark) (xid : ℕ) (moment : Moment) (payload : List ℕ) (place : ℕ) (reply : List ℕ) → IsExecuted opened link run xid payload →
+    ((a : Answer) → answer_of_target (offer_of (server opened link run).state xid) (down_max (server opened link run).state) reply (target_of (call_of payload)) ≡ Some a →
+    output_due opened link Responder (run ++ marks.Execute link xid moment payload place reply ∷ [])
+    ≡ output_due opened link Responder run
+    ++ (answer_writes (offer_of (server opened link run).state xid) a
+    ++ send ((server opened link run).state.messages_queued + 1) (answer_message xid (server opened link run).state.credit (offer_of (server opened link run).state xid) a)))
+    × (answer_of_target (offer_of (server opened link run).state xid) (down_max (server opened link run).state) reply (target_of (call_of payload)) ≡ None →
+    output_due opened link Responder (run ++ marks.Execute link xid moment payload place reply ∷ [])
+    ≡ output_due opened link Responder run
+    ++ send ((server opened link run).state.messages_queued + 1) (chunk_error xid (server opened link run).state.credit))
+unfolding execution_output
+execute-answered opened link run xid moment payload place reply h =
+    let k : ServerState = (server opened link run).state in
+    let due = output_due opened link Responder run in
+    let all = execute-due opened link run xid moment payload place reply h in (
+      (λ a is. all ∙ ap (λ (o : Option Answer). due ++ answer_output k xid (offer_of k xid) o) is),
+      λ is. all ∙ ap (λ (o : Option Answer). due ++ answer_output k xid (offer_of k xid) o) is,
+    )
+
+-- ---- The heads of calls that are ready
+
+record HasHead (r : ReadyCall) : Type 0 where
+  pub head : CallHead
+  pub is : call_of r.payload ≡ Ok head
+  pub xid : call_xid head ≡ r.xid
+
+abbrev AreHeads : List ReadyCall → Type 0
+AreHeads [] = Unit {0}
+AreHeads (r ∷ ready) = HasHead r × AreHeads ready
+
+heads-append : (xs ys : List ReadyCall) → AreHeads xs → AreHeads ys → AreHeads (xs ++ ys)
+heads-append [] ys h g = g
+heads-append (x ∷ xs) ys h g = (h.0, heads-append xs ys h.1 g)
+
+heads-drop : (xs : List ReadyCall) → AreHeads xs → AreHeads (drop 1 xs)
+heads-drop [] h = tt
+heads-drop (x ∷ xs) h = h.1
+
+heads-if : (b : Bool) (x y : FrameEffect) → AreHeads x.ready → AreHeads y.ready → AreHeads (cond b x y).ready
+heads-if true x y p q = p
+heads-if false x y p q = q
+
+head-made : (c : PendingCall) (payload : List ℕ) (r : Result CallHead ℕ) (s : FrameEffect) → call_of payload ≡ r → AreHeads s.ready → AreHeads (with_verdict (by_head c payload r) s).ready
+head-made c payload (Err at) s e h = h
+head-made c payload (Ok head) s e h = by (eqb (call_xid head) c.xid) refl
+  where
+    by : (b : Bool) → eqb (call_xid head) c.xid ≡ b → AreHeads (with_verdict (cond b (IsReady (record { number = c.number; xid = c.xid; payload = payload })) (Refuses 19)) s).ready
+    by true is = (record { head = head; is = e; xid = eqb-true (call_xid head) c.xid is }, tt)
+    by false is = h
+
+payload-made : (c : PendingCall) (p : Option (List ℕ)) (s : FrameEffect) → AreHeads s.ready → AreHeads (with_verdict (by_payload c p) s).ready
+payload-made c None s h = h
+payload-made c (Some payload) s h = head-made c payload (call_of payload) s refl h
+
+whole-heads : (k : ServerState) (place : ℕ) (c : PendingCall) (s : FrameEffect) → AreHeads s.ready → AreHeads (ready_if_whole k place c s).ready
+whole-heads k place c s h = heads-if (is_read s.reads c.number) (with_verdict (by_payload c (payload_of k place c)) s) s (payload-made c (payload_of k place c) s h) h
+
+message-heads : (k : ServerState) (place : ℕ) (message : List ℕ) (v : Verdict) → AreHeads (message_effect k place message v).ready
+message-heads k place message (EndsLink reason) = tt
+message-heads k place message OtherVersion = tt
+message-heads k place message BadChunks = tt
+message-heads k place message (MakesPending c) = whole-heads k place c _ tt
+
+read-heads : (k : ServerState) (place : ℕ) (r : PendingRead) (o : Option PendingCall) (s : FrameEffect) → AreHeads s.ready → AreHeads (read_effect k place r o s).ready
+read-heads k place r None s h = h
+read-heads k place r (Some c) s h =
+    heads-if (is_stream_read c r s.reads && not (suits (chunk_bytes k place c 0) c.lists.read)) (with_refused_call k c s) (ready_if_whole k place c s) h (whole-heads k place c s h)
+
+response-heads : (k : ServerState) (place : ℕ) (reads : List PendingRead) → AreHeads (response_effect k place reads).ready
+response-heads k place [] = tt
+response-heads k place (r ∷ reads) = read-heads k place r (call_of_number k r.number) _ tt
+
+tagged-heads : (k : ServerState) (place opcode : ℕ) (last : Bool) → AreHeads (tagged_effect k place opcode last).ready
+tagged-heads k place opcode last = heads-if (eqb opcode 2 && last) (response_effect k place k.reads) (no_effect k) (response-heads k place k.reads) tt
+
+by_message-heads : (k : ServerState) (place : ℕ) (o : Option (List ℕ)) → AreHeads (by_message k place o).ready
+by_message-heads k place None = tt
+by_message-heads k place (Some message) = message-heads k place message (verdict k message)
+
+effect-heads : (k : ServerState) (f : Frame) (r : Result Segment ℕ) → AreHeads (effect_in k f r).ready
+effect-heads k f (Err reason) = tt
+effect-heads k f (Ok (Tagged last opcode stag to payload)) = tagged-heads (with_reach k f (Tagged last opcode stag to payload)) f.end opcode last
+effect-heads k f (Ok (Untagged last opcode w queue msn offset payload)) = by_message-heads k f.end (message_completed k.received (Untagged last opcode w queue msn offset payload))
+
+frame-heads : (k : ServerState) (f : Frame) → AreHeads (frame_effect k f).ready
+unfolding frame_effect
+frame-heads k f = effect-heads k f (frame_segment f)
+
+after-heads : (opened : Opened) (k : ServerState) (event : Event) → AreHeads k.ready → AreHeads (server_state_after opened k event).ready
+unfolding server_state_after
+after-heads opened k (FrameReceived f) h = by (is_hello f)
+  where
+    by : (b : Bool) → AreHeads (cond b k (with_effect k f (frame_effect k f))).ready
+    by true = h
+    by false = heads-append k.ready (frame_effect k f).ready h (frame-heads k f)
+after-heads opened k (CallSubmitted place a) h = h
+after-heads opened k (MemoryRevoked place xid) h = h
+after-heads opened k (CallExecuted e) h = heads-drop k.ready h
+after-heads opened k QueueWritten h = h
+
+events-heads : (opened : Opened) (r : EndState ServerState) (es : List Event) → AreHeads r.state.ready → AreHeads (end_state_after (server_rules opened) r es).state.ready
+events-heads opened r [] h = h
+events-heads opened r (event ∷ es) h = events-heads opened (next_end_state (server_rules opened) r event) es (one r.state r.ended h)
+  where
+    by_why : (k : ServerState) (why : Option Stop) → AreHeads k.ready → AreHeads (next_end_state_by (server_rules opened) k event why).state.ready
+    by_why k None h = after-heads opened k event h
+    by_why k (Some end) h = h
+
+    one : (k : ServerState) (ended : Option Stop) → AreHeads k.ready → AreHeads (next_end_state_in (server_rules opened) k event ended).state.ready
+    one k None h = by_why k (server_end opened k event) h
+    one k (Some end) h = h
+
+first-head : (ready : List ReadyCall) (ended : Option Stop) (r : ReadyCall) → AreHeads ready → first_ready ready ended ≡ Some r → HasHead r
+first-head ready (Some end) r h e = absurd cc
+first-head [] None r h e = absurd cc
+first-head (x ∷ ready) None r h e = subst HasHead (let s : Some x ≡ Some r = e in cc) h.0
+
+pub executed-head : (opened : Opened) (link : ℕ) (run : List Mark) (xid : ℕ) (payload : List ℕ) → IsExecuted opened link run xid payload →
+    (head : CallHead) × ((call_of payload ≡ Ok head) × (call_xid head ≡ xid))
+unfolding next_call server
+executed-head opened link run xid payload h =
+    let r = server opened link run in
+    let all : AreHeads r.state.ready = events-heads opened (initial_server opened) (events link Responder run) tt in
+    let head = first-head r.state.ready r.ended h.call all h.is_next in
+    (head.head, (ap call_of h.conveyed ∙ head.is, head.xid ∙ sym h.own))
+
+-- ---- A refused Send
+
+open-none : (k : ServerState) (s : FrameEffect) → s.reads ≡ k.reads → s.kept ≡ length (open_reads k) → newly_open_reads s ≡ []
+open-none k s same kept = (λ i. drop (kept i) (take 8 (same i))) ∙ drop-length (take 8 k.reads)
+
+only-answered : (opened : Opened) (k : ServerState) (f : Frame) (answer : List ℕ) → is_hello f ≡ false → frame_effect k f ≡ record (no_effect k) { errors = answer ∷ [] } → IsOnlyAnswered opened k f answer
+unfolding server_output server_state_after
+only-answered opened k f answer later is =
+    let s : FrameEffect = record (no_effect k) { errors = answer ∷ [] } in
+    record {
+      output =
+          (λ i. cond (later i) (own_hello Responder) (effect_output k (is i)))
+          ∙ ap (λ (xs : List PendingRead). (send (k.messages_queued + 1) answer ++ []) ++ requests_from (k.requests_sent + 1) xs) (open-none k s refl refl)
+          ∙ append-nil (send (k.messages_queued + 1) answer ++ [])
+          ∙ append-nil (send (k.messages_queued + 1) answer);
+      calls = λ i. (cond (later i) k (with_effect k f (is i))).calls;
+      ready = (λ i. (cond (later i) k (with_effect k f (is i))).ready) ∙ append-nil k.ready;
+    }
+
+refused-effect : (k : ServerState) (f : Frame) (segment : Segment) (message : List ℕ) (v : Verdict) → frame_segment f ≡ Ok segment → message_completed k.received segment ≡ Some message → verdict k message ≡ v → frame_effect k f ≡ message_effect k f.end message v
+unfolding frame_effect
+refused-effect k f (Tagged last opcode stag to payload) message v is whole e = absurd cc
+refused-effect k f (Untagged last opcode w queue msn offset payload) message v is whole e =
+    ap (λ (r : Result Segment ℕ). effect_in k f r) is
+    ∙ ap (λ (o : Option (List ℕ)). by_message k f.end o) whole
+    ∙ ap (λ (v : Verdict). message_effect k f.end message v) e
+
+pub refused-answered : (opened : Opened) (k : ServerState) (f : Frame) (segment : Segment) (message : List ℕ) → is_hello f ≡ false → frame_segment f ≡ Ok segment →
+    message_completed k.received segment ≡ Some message →
+    (verdict k message ≡ BadChunks → IsOnlyAnswered opened k f (chunk_error (word_at 0 message) k.credit))
+    × (verdict k message ≡ OtherVersion → IsOnlyAnswered opened k f (version_error (word_at 0 message) (word_at 4 message) k.credit))
+refused-answered opened k f segment message later is whole = (
+  (λ e. only-answered opened k f (chunk_error (word_at 0 message) k.credit) later (refused-effect k f segment message BadChunks is whole e)),
+  λ e. only-answered opened k f (version_error (word_at 0 message) (word_at 4 message) k.credit) later (refused-effect k f segment message OtherVersion is whole e),
+)
+
+pub open-few : (k : ServerState) → length (open_reads k) ≤ open_reads_max
+open-few k = (let a = length-take 8 k.reads in omega (arith, a))

@@ -1,0 +1,27 @@
+-- Sums over chunks, as far as a loop has come.
+use Rattle.std.proofs.Common.{◌≡◌, ℕ, suc, ◌+◌, ◌*◌, ◌^◌, ◌<◌, ◌≤◌, Bool, true, false, leb, List, [], ◌∷◌, ◌++◌, length, take, drop, Option, Some, None, refl, sym, ap, ◌∙◌, arith}
+use Rattle.std.specs.Prelude.{sum_by}
+use Rattle.std.proofs.lemmas.Bool.{lt-leb}
+use Rattle.std.proofs.lemmas.List.Sums.{sum_by-take-le}
+use Rattle.nr_header.specs.declared.header.RdmaSegment.{RdmaSegment}
+use Rattle.nr_reduce.specs.declared.item.Item.{Item}
+use Rattle.nr_reduce.specs.declared.item.Of.{Of}
+use Rattle.nr_reduce.specs.Chunks.{chunk_total}
+use Rattle.nr_reduce.specs.Items.{reducible_item}
+use Rattle.nr_reduce.specs.Holds.{Parts, parts_by, parts_in, answer_size}
+use Rattle.nr_reduce.specs.Views.{first_total, parts_for, parts_of}
+
+pub parts_by_total : (of : Of) (chunks : List (List RdmaSegment)) (reply : List ℕ) → parts_in of chunks reply ≡ parts_of of (first_total chunks) reply
+unfolding parts_of
+parts_by_total of [] reply = refl
+parts_by_total of ([] ∷ chunks) reply = refl
+parts_by_total of ((s ∷ chunk) ∷ chunks) reply = by (reducible_item of reply)
+  where
+    by : (o : Option Item) → parts_by (s ∷ chunk) reply o ≡ parts_for (chunk_total (s ∷ chunk)) reply o
+    by None = refl
+    by (Some i) = refl
+
+-- what a message has so far passes its room, and so does the whole message
+pub passes : (chunks : List (List RdmaSegment)) (i len need down : ℕ) → need ≡ 28 + len + sum_by (λ (chunk : List RdmaSegment). 8 + 16 * length chunk) (take i chunks) → down < need
+    → false ≡ leb (answer_size chunks + len) down
+passes chunks i len need down e lt = sym (lt-leb _ _ (omega (arith, e, sum_by-take-le (λ (chunk : List RdmaSegment). 8 + 16 * length chunk) chunks i)))

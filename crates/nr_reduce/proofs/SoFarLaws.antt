@@ -1,0 +1,63 @@
+-- A run of which the laws hold in full has them so far at each of its first parts.
+use Rattle.std.proofs.Common.{◌≡◌, ℕ, List, [], ◌∷◌, ◌++◌, refl, sym, ap, ◌∙◌, append-nil}
+use Rattle.nr_wire.specs.declared.hello.Side.TheVariants.{Initiator, Responder}
+use Rattle.nr_reduce.specs.declared.call.Submission.TheVariants as submissions
+use Rattle.nr_reduce.specs.declared.mark.Mark.{Mark}
+use Rattle.nr_reduce.specs.declared.mark.Mark.TheVariants as marks
+use Rattle.nr_reduce.specs.declared.mark.Opened.{Opened}
+use Rattle.nr_reduce.specs.AtEachMark.{AtEachMark}
+use Rattle.nr_reduce.specs.Matched.{IsPrefixOf}
+use Rattle.nr_reduce.specs.Asked.{IsAll, AskedMark, Asked, AskedSoFar}
+use Rattle.nr_reduce.specs.Served.{ServedMark, Served, ServedSoFar}
+use Rattle.nr_reduce.specs.Credits.{KeepsGrant}
+use Rattle.nr_reduce.specs.SoFar.{SoFar, InFull}
+use Rattle.nr_reduce.proofs.Steps.{AtEachMark-first}
+
+pub AtEachMark-each : (P Q : List Mark → Mark → Type 0) (before run : List Mark) → ((b : List Mark) (m : Mark) → P b m → Q b m) → AtEachMark P before run → AtEachMark Q before run
+AtEachMark-each P Q before [] f h = tt
+AtEachMark-each P Q before (m ∷ run) f h = (f before m h.0, AtEachMark-each P Q (before ++ m ∷ []) run f h.1)
+
+all-first : (xs ys : List ℕ) → xs ≡ ys → IsPrefixOf xs ys
+all-first xs ys is = ([], append-nil xs ∙ is)
+
+asked-mark : (opened : Opened) (link : ℕ) (before : List Mark) (mark : Mark) → AskedMark IsAll opened link before mark → AskedMark IsPrefixOf opened link before mark
+asked-mark opened link before (marks.Submit l call form (submissions.Accepted xid)) h = h
+asked-mark opened link before (marks.Submit l call form (submissions.Refused why)) h = h
+asked-mark opened link before (marks.Submit l call form submissions.Dropped) h = h
+asked-mark opened link before (marks.Wrote l Initiator bytes) h = λ same. all-first _ _ (h same)
+asked-mark opened link before (marks.Wrote l Responder bytes) h = h
+asked-mark opened link before (marks.Fed l side bytes) h = h
+asked-mark opened link before (marks.Execute l xid moment payload place reply) h = h
+asked-mark opened link before (marks.Done l xid outcome) h = h
+asked-mark opened link before (marks.Lost l xid) h = h
+asked-mark opened link before (marks.Forget l xid) h = h
+asked-mark opened link before (marks.Revoke l xid bytes) h = h
+asked-mark opened link before (marks.Drop l) h = h
+
+served-mark : (opened : Opened) (link : ℕ) (before : List Mark) (mark : Mark) → ServedMark IsAll opened link before mark → ServedMark IsPrefixOf opened link before mark
+served-mark opened link before (marks.Submit l call form answer) h = h
+served-mark opened link before (marks.Wrote l Initiator bytes) h = h
+served-mark opened link before (marks.Wrote l Responder bytes) h = λ same. all-first _ _ (h same)
+served-mark opened link before (marks.Fed l side bytes) h = h
+served-mark opened link before (marks.Execute l xid moment payload place reply) h = h
+served-mark opened link before (marks.Done l xid outcome) h = h
+served-mark opened link before (marks.Lost l xid) h = h
+served-mark opened link before (marks.Forget l xid) h = h
+served-mark opened link before (marks.Revoke l xid bytes) h = h
+served-mark opened link before (marks.Drop l) h = h
+
+pub so_far : (opened : Opened) (link : ℕ) (run more : List Mark) → InFull opened link (run ++ more) → SoFar opened link run
+so_far opened link run more full = record {
+  asked = AtEachMark-first _ [] run more (AtEachMark-each _ _ [] (run ++ more) (asked-mark opened link) full.asked.each);
+  served = AtEachMark-first _ [] run more (AtEachMark-each _ _ [] (run ++ more) (served-mark opened link) full.served.each);
+  matched = AtEachMark-first _ [] run more full.matched;
+  grant = AtEachMark-first _ [] run more full.grant;
+}
+
+pub first_part : (opened : Opened) (link : ℕ) (run more : List Mark) → SoFar opened link (run ++ more) → SoFar opened link run
+first_part opened link run more h = record {
+  asked = AtEachMark-first _ [] run more h.asked;
+  served = AtEachMark-first _ [] run more h.served;
+  matched = AtEachMark-first _ [] run more h.matched;
+  grant = AtEachMark-first _ [] run more h.grant;
+}

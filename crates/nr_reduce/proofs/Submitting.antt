@@ -1,0 +1,88 @@
+-- A call that a client accepts keeps the law of its side and the last grant.
+use Rattle.std.proofs.Common.{◌≡◌, ℕ, ◌+◌, ◌-◌, ◌<◌, ◌≤◌, Bool, true, false, cond, leb, ltb, List, length, Option, None, Some, Result, Ok, Err, refl, sym, ap, ◌∙◌, arith}
+use Rattle.std.proofs.lemmas.Bool.{ltb-false, leb-false}
+use Rattle.nr_rpc.specs.Credential.{CanWriteCred}
+use Rattle.nr_link.specs.declared.end.End.{End as Stop}
+use Rattle.nr_reduce.specs.declared.call.Call.{Call}
+use Rattle.nr_reduce.specs.declared.call.Form.{Form}
+use Rattle.nr_reduce.specs.declared.call.Refused.TheVariants as refusals
+use Rattle.nr_reduce.specs.declared.call.Submission.{Submission}
+use Rattle.nr_reduce.specs.declared.call.Submission.TheVariants as submissions
+use Rattle.nr_reduce.specs.declared.mark.Mark.{Mark}
+use Rattle.nr_reduce.specs.declared.mark.Opened.{Opened}
+use Rattle.nr_reduce.specs.Limits.{numbers_end}
+use Rattle.nr_reduce.specs.declared.outline.Plan.{Plan}
+use Rattle.nr_reduce.specs.Plans.{TooLarge, regions_needed}
+use Rattle.nr_reduce.specs.ClientState.{ClientState, plan_for}
+use Rattle.nr_reduce.specs.Run.{client}
+use Rattle.nr_reduce.specs.Credits.{calls_outstanding, credits_granted}
+use Rattle.nr_reduce.specs.SubmitAnswer.{next_xid, unless_spent, by_plan, answer_by, submit_answer}
+use Rattle.nr_reduce.specs.Asked.{IsAccepted}
+
+-- what an accepted call met
+record Met (opened : Opened) (k : ClientState) (call : Call) (form : Form) (ended : Option Stop) (xid : ℕ) : Type 0 where
+  pub stays : ended ≡ None
+  pub plan : Plan
+  pub planned : plan_for k (next_xid opened k) call form ≡ Ok plan
+  pub granted : length k.outstanding < k.grant
+  pub xids : 1 ≤ numbers_end - next_xid opened k
+  pub stags : regions_needed plan ≤ numbers_end - k.stag
+  pub next : xid ≡ next_xid opened k
+
+abbrev xid_in : Submission → ℕ → ℕ
+xid_in (submissions.Accepted xid) other = xid
+xid_in (submissions.Refused why) other = other
+xid_in submissions.Dropped other = other
+
+not_spent : (left need xid : ℕ) (answer : Submission) → unless_spent left need answer ≡ submissions.Accepted xid → (need ≤ left) × (answer ≡ submissions.Accepted xid)
+not_spent left need xid answer e = by (ltb left need) refl e
+  where
+    by : (b : Bool) → ltb left need ≡ b → cond b (submissions.Refused (refusals.Spent left need)) answer ≡ submissions.Accepted xid → (need ≤ left) × (answer ≡ submissions.Accepted xid)
+    by true is e = absurd cc
+    by false is e = (ltb-false left need is, e)
+
+met : (opened : Opened) (k : ClientState) (call : Call) (form : Form) (ended : Option Stop) (xid : ℕ) → answer_by opened k call form ended ≡ submissions.Accepted xid → Met opened k call form ended xid
+met opened k call form (Some end) xid e = absurd cc
+met opened k call form None xid e = by_result (plan_for k (next_xid opened k) call form) refl e
+  where
+    accepted : (plan : Plan) → Submission
+    accepted plan = unless_spent (numbers_end - next_xid opened k) 1 (unless_spent (numbers_end - k.stag) (regions_needed plan) (submissions.Accepted (next_xid opened k)))
+
+    by_grant : (plan : Plan) → plan_for k (next_xid opened k) call form ≡ Ok plan → (b : Bool) → leb k.grant (length k.outstanding) ≡ b
+        → cond b (submissions.Refused (refusals.NoCredit (length k.outstanding) k.grant)) (accepted plan) ≡ submissions.Accepted xid → Met opened k call form None xid
+    by_grant plan planned true is e = absurd cc
+    by_grant plan planned false is e =
+        let x = not_spent (numbers_end - next_xid opened k) 1 xid (unless_spent (numbers_end - k.stag) (regions_needed plan) (submissions.Accepted (next_xid opened k))) e in
+        let s = not_spent (numbers_end - k.stag) (regions_needed plan) xid (submissions.Accepted (next_xid opened k)) x.1 in
+        record {
+          stays = refl;
+          plan = plan;
+          planned = planned;
+          granted = leb-false k.grant (length k.outstanding) is;
+          xids = x.0;
+          stags = s.0;
+          next = sym (ap (λ (a : Submission). xid_in a xid) s.1);
+        }
+
+    by_result : (r : Result Plan TooLarge) → plan_for k (next_xid opened k) call form ≡ r → by_plan opened k r ≡ submissions.Accepted xid → Met opened k call form None xid
+    by_result (Ok plan) is e = by_grant plan is (leb k.grant (length k.outstanding)) refl e
+    by_result (Err large) is e = absurd cc
+
+pub accepted_keeps : (opened : Opened) (link : ℕ) (run : List Mark) (call : Call) (form : Form) (xid : ℕ) →
+    submit_answer opened (client opened link run) call form ≡ submissions.Accepted xid → (client opened link run).state.stag ≤ numbers_end → CanWriteCred call.cred →
+    IsAccepted opened link run call form xid × (calls_outstanding opened link run < credits_granted opened link run)
+unfolding submit_answer calls_outstanding credits_granted
+accepted_keeps opened link run call form xid e below writable =
+    let k : ClientState = (client opened link run).state in
+    let m = met opened k call form (client opened link run).ended xid e in (
+      record {
+        stays = m.stays;
+        next = m.next;
+        plan = m.plan;
+        planned = ap (λ (x : ℕ). plan_for k x call form) m.next ∙ m.planned;
+        xids = (let a = m.xids in let b = m.next in omega (arith, a, b));
+        stags = (let a = m.stags in omega (arith, a, below));
+        writable = writable;
+      },
+      m.granted,
+    )

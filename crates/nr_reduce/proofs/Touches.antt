@@ -1,0 +1,96 @@
+-- A frame that doesn't end a side lacks nothing of what the side offered.
+use Rattle.std.proofs.Common.{◌≡◌, ℕ, Bool, true, false, cond, not, eqb, ltb, length, List, [], ◌∷◌, Option, Some, None, Result, Ok, Err, refl, sym, ap, ◌∙◌}
+use Rattle.nr_wire.specs.declared.hello.Side.TheVariants.{Initiator, Responder}
+use Rattle.nr_wire.specs.Hello.{hello_of}
+use Rattle.nr_wire.specs.Segment.{Segment}
+use Rattle.nr_wire.specs.Segment.Segment.{Tagged, Untagged}
+use Rattle.nr_regions.specs.Access.{Grant}
+use Rattle.nr_regions.specs.declared.denied.Denied.{Denied}
+use Rattle.nr_link.specs.declared.end.End.{End as Stop}
+use Rattle.nr_reduce.specs.declared.mark.Opened.{Opened}
+use Rattle.nr_link.specs.Frames.{Frame, is_hello}
+use Rattle.nr_link.specs.SegmentFaults.{SegmentFault, Readiness, first_fault, missing_fault, segment_fault, reason_if, next_msn, next_offset, no_buffer, is_malformed, is_too_many, has_length, terminate_fault, is_unexpected}
+use Rattle.nr_link.specs.ReceiveState.{is_send, message_completed}
+use Rattle.nr_link.specs.Reasons.{REASON_MSN, REASON_OFFSET, REASON_FORM, REASON_RESPONSE, REASON_REQUESTS, REASON_SHORT, REASON_LONG}
+use Rattle.nr_link.specs.SegmentFaults.SegmentFault.{Reason, NoBuffer, AccessDenied, PeerTerminated}
+use Rattle.nr_link.specs.Ending.{missing_access, end_of_fault, frame_segment, frame_end, frame_end_by, hello_end}
+use Rattle.nr_reduce.specs.OfferedRegions.{region_grants}
+use Rattle.nr_reduce.specs.Events.Event.{FrameReceived}
+use Rattle.nr_reduce.specs.Client.{client_end, or_message_end, readiness as client_ready}
+use Rattle.nr_reduce.specs.ClientState.{ClientState}
+use Rattle.nr_reduce.specs.Server.{server_end, or_refusal, readiness as server_ready}
+use Rattle.nr_reduce.specs.ServerState.{ServerState}
+
+-- where none stands, none of them does
+abbrev AreNone : {X : Type 0} → List (Option X) → Type 0
+AreNone [] = Unit {0}
+AreNone (x ∷ xs) = (x ≡ None) × AreNone xs
+
+all_none : {X : Type 0} (xs : List (Option X)) → first_fault xs ≡ None → AreNone xs
+all_none [] e = tt
+all_none (None ∷ xs) e = (refl, all_none xs e)
+all_none (Some x ∷ xs) e = absurd cc
+
+no_lack : (o : Option Denied) → missing_fault o ≡ None → o ≡ None
+no_lack None e = refl
+no_lack (Some why) e = absurd cc
+
+flawless : (r : Readiness Denied) (segment : Segment) → segment_fault r segment ≡ None → r.missing ≡ None
+unfolding segment_fault
+flawless r (Tagged last opcode stag to payload) e =
+    let flaws : List (Option (SegmentFault Denied)) = missing_fault r.missing ∷ reason_if REASON_RESPONSE (is_unexpected r opcode last stag to (length payload)) ∷ [] in
+    let all : AreNone flaws = all_none flaws e in
+    no_lack r.missing all.0
+flawless r (Untagged last opcode w queue msn offset payload) e =
+    let message : Option (List ℕ) = message_completed r.received (Untagged last opcode w queue msn offset payload) in
+    let flaws : List (Option (SegmentFault Denied)) =
+    reason_if REASON_MSN (not (eqb msn (next_msn r.received queue)))
+    ∷ reason_if REASON_OFFSET (not (eqb offset (next_offset r.received queue)))
+    ∷ no_buffer r (is_send opcode) msn
+    ∷ reason_if REASON_FORM (is_malformed opcode last payload)
+    ∷ missing_fault r.missing
+    ∷ reason_if REASON_REQUESTS (is_too_many r opcode)
+    ∷ reason_if REASON_LONG (has_length (ltb r.message_max) message)
+    ∷ reason_if REASON_SHORT (has_length (λ n. ltb n 16) message)
+    ∷ terminate_fault opcode payload
+    ∷ [] in
+    let all : AreNone flaws = all_none flaws e in
+    no_lack r.missing all.1.1.1.1.0
+
+no_flaw : (f : Frame) (segment : Segment) (o : Option (SegmentFault Denied)) → end_of_fault f segment o ≡ None → o ≡ None
+no_flaw f segment None e = refl
+no_flaw f segment (Some (Reason reason)) e = absurd cc
+no_flaw f segment (Some (NoBuffer msn)) e = absurd cc
+no_flaw f segment (Some (AccessDenied why)) e = absurd cc
+no_flaw f segment (Some (PeerTerminated word)) e = absurd cc
+
+lacks_nothing : (ready : Option Denied → Readiness Denied) → ((o : Option Denied) → (ready o).missing ≡ o) → (grants : List Grant) (f : Frame) (segment : Segment) → frame_segment f ≡ Ok segment
+    → frame_end ready grants f ≡ None → missing_access grants f segment ≡ None
+unfolding frame_end
+lacks_nothing ready keeps grants f segment is e =
+    let by_piece : end_of_fault f segment (segment_fault (ready (missing_access grants f segment)) segment) ≡ None = ap (λ (r : Result Segment ℕ). frame_end_by ready grants f r) (sym is) ∙ e in
+    sym (keeps (missing_access grants f segment)) ∙ flawless (ready (missing_access grants f segment)) segment (no_flaw f segment _ by_piece)
+
+-- What a client's peer reaches by a frame that doesn't end it is allowed by what the client offers at that frame.
+pub client_touched : (k : ClientState) (f : Frame) (segment : Segment) → is_hello f ≡ false → frame_segment f ≡ Ok segment → client_end k (FrameReceived f) ≡ None → missing_access (region_grants f.end k.regions) f segment ≡ None
+unfolding client_end
+client_touched k f segment later is e =
+    let others : or_message_end k f (frame_end (client_ready k) (region_grants f.end k.regions) f) ≡ None =
+    ap (λ (b : Bool). cond b (hello_end (hello_of Responder f.bytes)) (or_message_end k f (frame_end (client_ready k) (region_grants f.end k.regions) f))) (sym later) ∙ e in
+    lacks_nothing (client_ready k) (λ o. refl) (region_grants f.end k.regions) f segment is (by_end (frame_end (client_ready k) (region_grants f.end k.regions) f) others)
+  where
+    by_end : (o : Option Stop) → or_message_end k f o ≡ None → o ≡ None
+    by_end None e = refl
+    by_end (Some end) e = absurd cc
+
+-- and a server's
+pub server_touched : (opened : Opened) (k : ServerState) (f : Frame) (segment : Segment) → is_hello f ≡ false → frame_segment f ≡ Ok segment → server_end opened k (FrameReceived f) ≡ None → missing_access (region_grants f.end k.regions) f segment ≡ None
+unfolding server_end
+server_touched opened k f segment later is e =
+    let others : or_refusal k f (frame_end (server_ready opened k) (region_grants f.end k.regions) f) ≡ None =
+    ap (λ (b : Bool). cond b (hello_end (hello_of Initiator f.bytes)) (or_refusal k f (frame_end (server_ready opened k) (region_grants f.end k.regions) f))) (sym later) ∙ e in
+    lacks_nothing (server_ready opened k) (λ o. refl) (region_grants f.end k.regions) f segment is (by_end (frame_end (server_ready opened k) (region_grants f.end k.regions) f) others)
+  where
+    by_end : (o : Option Stop) → or_refusal k f o ≡ None → o ≡ None
+    by_end None e = refl
+    by_end (Some end) e = absurd cc

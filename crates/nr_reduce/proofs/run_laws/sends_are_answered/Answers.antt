@@ -1,0 +1,14 @@
+use Rattle.nr_reduce.proofs.Calls.{executed-head, execute-answered, refused-answered, open-few}
+use Rattle.nr_reduce.proofs.run_laws.sends_are_answered.Goals as goal
+
+pub returns-clause-head : goal.returns-clause-head
+returns-clause-head c = executed-head
+
+pub returns-clause-executed_call : goal.returns-clause-executed_call
+returns-clause-executed_call c = execute-answered
+
+pub returns-clause-refused_send : goal.returns-clause-refused_send
+returns-clause-refused_send c = refused-answered
+
+pub returns-clause-open_reads : goal.returns-clause-open_reads
+returns-clause-open_reads c = open-few

@@ -1,0 +1,8 @@
+use Rattle.nr_reduce.proofs.Calls.{submit-sent, hello-sends}
+use Rattle.nr_reduce.proofs.run_laws.submits_are_sent.Goals as goal
+
+pub returns-clause-submit : goal.returns-clause-submit
+returns-clause-submit c = submit-sent
+
+pub returns-clause-hello : goal.returns-clause-hello
+returns-clause-hello c = hello-sends

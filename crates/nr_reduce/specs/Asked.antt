@@ -1,0 +1,91 @@
+-- The law of a link's client: which calls it accepts, what it writes, and what it hands to its callers.
+use Rattle.std.specs.Prelude.{◌≡◌, ◌≢◌, ℕ, ◌+◌, ◌<◌, ◌≤◌, ◌==◌, Bool, true, false, List, [], ◌∷◌, ◌++◌, length, Option, None, Some, Result, Ok, Err, Contains}
+use Rattle.std.specs.List.{flat_map, filter}
+use Rattle.nr_wire.specs.declared.hello.Side.TheVariants.{Initiator, Responder}
+use Rattle.nr_reduce.specs.declared.call.Call.{Call}
+use Rattle.nr_link.specs.declared.end.End.{End}
+use Rattle.nr_reduce.specs.declared.call.Form.{Form}
+use Rattle.nr_reduce.specs.declared.call.Submission.TheVariants as submissions
+use Rattle.nr_reduce.specs.declared.call.Outcome.{Outcome}
+use Rattle.nr_reduce.specs.declared.mark.Mark.{Mark}
+use Rattle.nr_reduce.specs.declared.mark.Mark.TheVariants as marks
+use Rattle.nr_reduce.specs.declared.mark.Opened.{Opened}
+use Rattle.nr_reduce.specs.History.{AcceptedCall, CompletedCall, accepted_calls, completed_calls, bytes_sent, is_abandoned}
+use Rattle.nr_rpc.specs.Credential.{CanWriteCred}
+use Rattle.nr_reduce.specs.Limits.{numbers_end}
+use Rattle.nr_reduce.specs.declared.outline.Plan.{Plan}
+use Rattle.nr_reduce.specs.Plans.{regions_needed}
+use Rattle.nr_reduce.specs.OfferedRegions.{Region, region_grants, region_bytes}
+use Rattle.nr_reduce.specs.EndRules.{EndState}
+use Rattle.nr_reduce.specs.ClientState.{ClientState, plan_for}
+use Rattle.nr_reduce.specs.Run.{client, output_due, placed_bytes, HasWritten}
+use Rattle.nr_reduce.specs.SubmitAnswer.{next_xid}
+use Rattle.nr_reduce.specs.Matched.{IsPrefixOf}
+use Rattle.nr_reduce.specs.AtEachMark.{AtEachMark}
+
+-- A call is accepted under the next xid, with a plan, on a link that hasn't ended, while xids and STags are left for it. Its
+-- credential can be encoded.
+pub record IsAccepted (opened : Opened) (link : ℕ) (before : List Mark) (call : Call) (form : Form) (xid : ℕ) : Type 0 where
+  pub stays : (client opened link before).ended ≡ None
+  pub next : xid ≡ next_xid opened (client opened link before).state
+  pub plan : Plan
+  pub planned : plan_for (client opened link before).state xid call form ≡ Ok plan
+  pub xids : xid < numbers_end
+  pub stags : (client opened link before).state.stag + regions_needed plan ≤ numbers_end
+  pub writable : CanWriteCred call.cred
+
+-- an accepted call whose outcome wasn't handed over, and that wasn't given up
+pub record IsAwaited (link : ℕ) (before : List Mark) (xid : ℕ) : Type 0 where
+  pub asked : AcceptedCall
+  pub is_asked : Contains (accepted_calls link before) asked
+  pub own : asked.xid ≡ xid
+  pub first : (c : CompletedCall) → Contains (completed_calls link before) c → c.xid ≢ xid
+  pub kept : is_abandoned link xid before ≡ false
+
+-- its outcome is handed over: one that a message of its xid brought
+pub record IsCompleted (opened : Opened) (link : ℕ) (before : List Mark) (xid : ℕ) (outcome : Outcome) : Type 0 where
+  pub awaited : IsAwaited link before xid
+  pub is_received : Contains (client opened link before).state.outcomes (record { xid = xid; outcome = outcome })
+
+-- it is lost: the client ended, and no message brought an outcome of it
+pub record IsLost (opened : Opened) (link : ℕ) (before : List Mark) (xid : ℕ) : Type 0 where
+  pub awaited : IsAwaited link before xid
+  pub ended : End
+  pub is_ended : (client opened link before).ended ≡ Some ended
+  pub none : (c : CompletedCall) → Contains (client opened link before).state.outcomes c → c.xid ≢ xid
+
+-- its memory is revoked: the bytes handed back are what its regions hold, in the order in which they were offered
+abbrev pub revoked_bytes : Opened → ℕ → List Mark → ℕ → List ℕ
+revoked_bytes opened link before xid =
+    flat_map (λ r. placed_bytes opened link Initiator before r.stag) (filter (λ r. r.call == xid) (client opened link before).state.regions)
+
+pub record IsRevoked (opened : Opened) (link : ℕ) (before : List Mark) (xid : ℕ) (bytes : List ℕ) : Type 0 where
+  pub awaited : IsAwaited link before xid
+  pub bytes_are : bytes ≡ revoked_bytes opened link before xid
+
+-- The law of each mark. `Fills` says how what was written with this Wrote relates to the output due.
+abbrev pub AskedMark : (List ℕ → List ℕ → Type 0) → Opened → ℕ → List Mark → Mark → Type 0
+AskedMark Fills opened link before (marks.Submit l call form (submissions.Accepted xid)) = l ≡ link → IsAccepted opened link before call form xid
+AskedMark Fills opened link before (marks.Submit l call form (submissions.Refused why)) = Unit {0}
+AskedMark Fills opened link before (marks.Submit l call form submissions.Dropped) = Unit {0}
+AskedMark Fills opened link before (marks.Wrote l Initiator bytes) = l ≡ link → Fills (bytes_sent link Initiator before ++ bytes) (output_due opened link Initiator before)
+AskedMark Fills opened link before (marks.Wrote l Responder bytes) = Unit {0}
+AskedMark Fills opened link before (marks.Fed l side bytes) = Unit {0}
+AskedMark Fills opened link before (marks.Execute l xid moment payload place reply) = Unit {0}
+AskedMark Fills opened link before (marks.Done l xid outcome) = l ≡ link → IsCompleted opened link before xid outcome
+AskedMark Fills opened link before (marks.Lost l xid) = l ≡ link → IsLost opened link before xid
+AskedMark Fills opened link before (marks.Forget l xid) = l ≡ link → IsAwaited link before xid
+AskedMark Fills opened link before (marks.Revoke l xid bytes) = l ≡ link → IsRevoked opened link before xid bytes
+AskedMark Fills opened link before (marks.Drop l) = Unit {0}
+
+-- in full: each Wrote writes all output that is due by then, and in the end all is written
+abbrev pub IsAll : List ℕ → List ℕ → Type 0
+IsAll written due = written ≡ due
+
+pub record Asked (opened : Opened) (link : ℕ) (run : List Mark) : Type 0 where
+  pub each : AtEachMark (AskedMark IsAll opened link) [] run
+  pub written : HasWritten opened link Initiator run
+
+-- so far: what is written is a prefix of the output due
+abbrev pub AskedSoFar : Opened → ℕ → List Mark → Type 0
+AskedSoFar opened link run = AtEachMark (AskedMark IsPrefixOf opened link) [] run

@@ -1,0 +1,176 @@
+-- The client of a link, event by event: what ends it, what it writes for an event, and what it knows after it.
+use Rattle.std.specs.Prelude.{ℕ, ◌+◌, Bool, true, false, not, ◌||◌, ◌==◌, nat_lt, if◌then◌else◌, List, [], ◌∷◌, ◌++◌, take, drop, map, Option, None, Some, Result, Ok, Err}
+use Rattle.std.specs.List.{filter}
+use Rattle.nr_header.specs.Reading.{word_at}
+use Rattle.nr_wire.specs.declared.hello.Side.TheVariants.{Responder}
+use Rattle.nr_wire.specs.Hello.{hello_of}
+use Rattle.nr_wire.specs.Segment.{Segment}
+use Rattle.nr_link.specs.declared.end.End.{End}
+use Rattle.nr_link.specs.declared.end.End.TheVariants as ends
+use Rattle.nr_reduce.specs.declared.mark.Opened.{Opened}
+use Rattle.nr_reduce.specs.Limits.{most_credits}
+use Rattle.nr_reduce.specs.History.{AcceptedCall, CompletedCall}
+use Rattle.nr_reduce.specs.declared.outline.Plan.{Plan}
+use Rattle.nr_reduce.specs.Plans.{TooLarge, Buffer, regions_needed, buffers, call_message, inline_plan}
+use Rattle.nr_link.specs.Output.{send, read_response}
+use Rattle.nr_link.specs.Frames.{Frame, is_hello}
+use Rattle.nr_link.specs.ReceiveState.{received_after, message_completed, ReadRequest, read_request_of}
+use Rattle.nr_link.specs.SegmentFaults.{Readiness}
+use Rattle.nr_link.specs.Ending.{reach_of, frame_segment, frame_end, hello_end, final_output}
+use Rattle.nr_regions.specs.declared.denied.Denied.{Denied}
+use Rattle.nr_reduce.specs.OfferedRegions.{Region, region_grants, regions_closed}
+use Rattle.nr_reduce.specs.Events.{Event}
+use Rattle.nr_reduce.specs.EndRules.{Rules, EndState}
+use Rattle.nr_reduce.specs.Events.Event.{FrameReceived, CallSubmitted, MemoryRevoked, CallExecuted, QueueWritten}
+use Rattle.nr_reduce.specs.ClientState.{OutstandingCall, ClientState, initial_state, down_max, call_payload, plan_for, memory_at}
+use Rattle.nr_reduce.specs.ClientMessages.{Verdict, verdict}
+use Rattle.nr_reduce.specs.ClientMessages.Verdict.{EndsLink, GivesOutcome}
+
+-- ---- What ends the client
+
+-- a client posts a receive again as soon as it has judged a message, so each Send finds one
+abbrev pub readiness : ClientState → Option Denied → Readiness Denied
+readiness k missing = record {
+  received = k.received;
+  has_receive = true;
+  message_max = down_max k;
+  missing = missing;
+  expected = None;
+  responses = k.responses;
+}
+
+abbrev pub end_of_verdict : Frame → Verdict → Option End
+end_of_verdict f (EndsLink reason) = Some (ends.Bad f.at reason)
+end_of_verdict f (GivesOutcome xid outcome) = None
+
+abbrev pub message_end : ClientState → Frame → Option (List ℕ) → Option End
+message_end k f None = None
+message_end k f (Some message) = end_of_verdict f (verdict k f.end message)
+
+abbrev pub segment_message : ClientState → Result Segment ℕ → Option (List ℕ)
+segment_message k (Ok segment) = message_completed k.received segment
+segment_message k (Err reason) = None
+
+abbrev pub or_message_end : ClientState → Frame → Option End → Option End
+or_message_end k f (Some end) = Some end
+or_message_end k f None = message_end k f (segment_message k (frame_segment f))
+
+unfoldable pub client_end : ClientState → Event → Option End
+client_end k (FrameReceived f) =
+    if is_hello f then hello_end (hello_of Responder f.bytes) else or_message_end k f (frame_end (readiness k) (region_grants f.end k.regions) f)
+client_end k (CallSubmitted place a) = None
+client_end k (MemoryRevoked place xid) = None
+client_end k (CallExecuted call) = None
+client_end k QueueWritten = None
+
+-- ---- What the client writes
+
+-- the Send of a call, with its number
+abbrev pub call_output : Opened → ℕ → OutstandingCall → List ℕ
+call_output opened msn o = send msn (call_message o.xid opened.wished o.stag o.plan)
+
+abbrev pub calls_output : Opened → ℕ → List OutstandingCall → List ℕ
+calls_output opened msn [] = []
+calls_output opened msn (o ∷ others) = call_output opened msn o ++ calls_output opened (msn + 1) others
+
+-- the Read Response to a Read Request, with the bytes as they stand (RFC 5040 section 5.2)
+abbrev pub response_output : ClientState → ℕ → Option ReadRequest → List ℕ
+response_output k place None = []
+response_output k place (Some r) = read_response r.sink r.sink_to (take r.size (drop r.to (memory_at k place r.stag)))
+
+abbrev pub segment_request : Result Segment ℕ → Option ReadRequest
+segment_request (Ok segment) = read_request_of segment
+segment_request (Err reason) = None
+
+-- an accepted call as it is outstanding
+abbrev pub plan_or : List ℕ → Result Plan TooLarge → Plan
+plan_or payload (Ok plan) = plan
+plan_or payload (Err large) = inline_plan payload
+
+abbrev pub outstanding_of : ClientState → AcceptedCall → OutstandingCall
+outstanding_of k a = record {
+  xid = a.xid;
+  call = a.call;
+  plan = plan_or (call_payload a.xid a.call) (plan_for k a.xid a.call a.form);
+  stag = k.stag;
+  is_written = false;
+  is_revoked = false;
+}
+
+-- The output that is due for an event. A client sends no FPDU before the server's hello; the calls that were accepted before it
+-- are sent then (RFC 5044 section 7.1).
+unfoldable pub client_output : Opened → ClientState → Event → List ℕ
+client_output opened k (FrameReceived f) = if is_hello f then calls_output opened 1 k.outstanding else response_output k f.end (segment_request (frame_segment f))
+client_output opened k (CallSubmitted place a) = if k.has_hello then call_output opened (k.calls_accepted + 1) (outstanding_of k a) else []
+client_output opened k (MemoryRevoked place xid) = []
+client_output opened k (CallExecuted call) = []
+client_output opened k QueueWritten = []
+
+-- ---- What the client knows after each
+
+-- the credits that a credit word grants: 0 counts as 1, and more than most_credits as most_credits (RFC 8166 section 3.3; the
+-- bounds are own)
+abbrev pub credits_of_word : ℕ → ℕ
+credits_of_word credit = if credit == 0 then 1 else (if nat_lt most_credits credit then most_credits else credit)
+
+abbrev pub region_of : ℕ → ℕ → Buffer → Region
+region_of xid place b = record { call = xid; position = 0; stag = b.stag; right = b.right; bytes = b.bytes; from = place; until = None }
+
+abbrev pub outcomes_of : Verdict → List CompletedCall
+outcomes_of (EndsLink reason) = []
+outcomes_of (GivesOutcome xid None) = []
+outcomes_of (GivesOutcome xid (Some outcome)) = record { xid = xid; outcome = outcome } ∷ []
+
+-- a message closes the regions of the call of its xid, and that call is no longer outstanding
+abbrev pub with_message : ClientState → ℕ → Option (List ℕ) → ClientState
+with_message k place None = k
+with_message k place (Some message) = record k {
+  outstanding = filter (λ o. not (o.xid == word_at 0 message)) k.outstanding;
+  regions = regions_closed (λ r. r.call == word_at 0 message) place k.regions;
+  outcomes = k.outcomes ++ outcomes_of (verdict k place message);
+  grant = credits_of_word (word_at 8 message);
+}
+
+abbrev pub with_request : ClientState → Option ReadRequest → ClientState
+with_request k None = k
+with_request k (Some r) = record k { responses = k.responses + 1 }
+
+-- message and Read Request meet the memory as it stood before the frame
+abbrev pub with_segment : ClientState → Frame → Result Segment ℕ → ClientState
+with_segment k f (Err reason) = k
+with_segment k f (Ok segment) =
+    let m : ClientState = with_request (with_message k f.end (message_completed k.received segment)) (read_request_of segment) in
+    record m { received = received_after k.received segment; reaches = k.reaches ++ reach_of f segment }
+
+abbrev pub revoked_call : ℕ → OutstandingCall → OutstandingCall
+revoked_call xid o = if o.xid == xid then record o { is_revoked = true } else o
+
+abbrev pub written_call : Bool → OutstandingCall → OutstandingCall
+written_call has_hello o = record o { is_written = o.is_written || has_hello }
+
+unfoldable pub client_state_after : Opened → ClientState → Event → ClientState
+client_state_after opened k (FrameReceived f) = if is_hello f then record k { has_hello = true } else with_segment k f (frame_segment f)
+client_state_after opened k (CallSubmitted place a) = record k {
+  calls_accepted = k.calls_accepted + 1;
+  stag = k.stag + regions_needed (outstanding_of k a).plan;
+  outstanding = k.outstanding ++ outstanding_of k a ∷ [];
+  regions = k.regions ++ map (region_of a.xid place) (buffers k.stag (outstanding_of k a).plan);
+}
+client_state_after opened k (MemoryRevoked place xid) = record k {
+  outstanding = map (revoked_call xid) k.outstanding;
+  regions = regions_closed (λ r. r.call == xid) place k.regions;
+}
+client_state_after opened k (CallExecuted call) = k
+client_state_after opened k QueueWritten = record k { outstanding = map (written_call k.has_hello) k.outstanding; responses = 0 }
+
+abbrev pub client_rules : Opened → Rules ClientState
+client_rules opened = record {
+  end_at = client_end;
+  output_at = client_output opened;
+  state_after = client_state_after opened;
+  final_output = final_output;
+}
+
+-- a client to which nothing has happened
+abbrev pub initial_client : Opened → EndState ClientState
+initial_client opened = record { state = initial_state opened; ended = None }

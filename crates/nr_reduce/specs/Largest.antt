@@ -1,0 +1,88 @@
+-- How long a reply may be, by its call's program, version and procedure alone (RFC 1813 section 3.3; the names and paths of
+-- this server are within its limits, own).
+use Rattle.std.specs.Prelude.{ℕ, ◌+◌, min, max, ◌&&◌, ◌==◌, if◌then◌else◌, List, [], ◌∷◌, find, Option, None, Some, option_map, unwrap_or, Result, Ok, Err}
+use Rattle.nr_xdr.specs.Item.{pad_len}
+use Rattle.nr_xdr.specs.Reading.{Cursor}
+use Rattle.nr_xdr.specs.Sequencing.{◌>>=◌}
+use Rattle.nr_rpc.specs.declared.head.CallTarget.{CallTarget}
+use Rattle.nr_rpc.specs.Reading.{call_of, target_of}
+use Rattle.nr_nfs_base.specs.Codec.{◌⊗◌, word, hyper}
+use Rattle.nr_nfs_base.specs.Names.{handle_codec}
+use Rattle.nr_reduce.specs.Limits.{moved_max, readdir_max}
+use Rattle.nr_reduce.specs.Items.{READ, is_nfs, from_place}
+
+-- the procedures that list directories, and MOUNT's that gives a handle (RFC 1813 sections 3.3.16, 3.3.17, 5.2.1)
+abbrev pub READDIR : ℕ
+READDIR = 16
+
+abbrev pub READDIRPLUS : ℕ
+READDIRPLUS = 17
+
+abbrev pub MOUNT_PROGRAM : ℕ
+MOUNT_PROGRAM = 100005
+
+abbrev pub MOUNT_VERSION : ℕ
+MOUNT_VERSION = 3
+
+abbrev pub MNT : ℕ
+MNT = 1
+
+abbrev pub count_by : {A : Type 0} → (A → ℕ) → Result (A × Cursor) ℕ → Option ℕ
+count_by count (Ok x) = Some (count x.0)
+count_by count (Err at) = None
+
+-- the count of bytes that a READ, a READDIR or a READDIRPLUS asks for, where its arguments can be read up to there
+unfoldable pub read_count : Cursor → Option ℕ
+read_count c = count_by (λ args. args.1.1) ((handle_codec ⊗ hyper ⊗ word).read c)
+
+unfoldable pub readdir_count : Cursor → Option ℕ
+readdir_count c = count_by (λ args. args.1.1.1) ((handle_codec ⊗ hyper ⊗ hyper ⊗ word).read c)
+
+unfoldable pub readdirplus_count : Cursor → Option ℕ
+readdirplus_count c = count_by (λ args. args.1.1.1.1) ((handle_codec ⊗ hyper ⊗ hyper ⊗ word ⊗ word).read c)
+
+-- any other call's reply
+abbrev pub least_reply : ℕ
+least_reply = 32
+
+abbrev pub rounded : ℕ → ℕ
+rounded n = n + pad_len n
+
+-- READ: the data is at most moved_max bytes. READDIR and READDIRPLUS: the results without their status are at most that count
+abbrev pub read_reply_max : ℕ → ℕ
+read_reply_max count = 128 + rounded (min count moved_max)
+
+abbrev pub readdir_reply_max : ℕ → ℕ
+readdir_reply_max count = max 116 (28 + min count readdir_max)
+
+-- the procedures whose replies have one limit
+abbrev pub limited : List (ℕ × ℕ)
+limited = (1, 112) ∷ (2, 144) ∷ (3, 272) ∷ (4, 120) ∷ (5, 1144) ∷ (7, 160) ∷ (8, 304) ∷ (9, 304) ∷ (10, 304) ∷ (11, 304)
+    ∷ (12, 144) ∷ (13, 144) ∷ (14, 260) ∷ (15, 232) ∷ (18, 168) ∷ (19, 164) ∷ (20, 140) ∷ (21, 152) ∷ []
+
+unfoldable pub limit_of : ℕ → ℕ
+limit_of proc = unwrap_or (option_map (λ row. row.1) (find (λ row. row.0 == proc) limited)) least_reply
+
+abbrev pub by_count : (ℕ → ℕ) → Option ℕ → ℕ
+by_count most None = least_reply
+by_count most (Some count) = most count
+
+abbrev pub nfs_reply_max : ℕ → Cursor → ℕ
+nfs_reply_max proc arguments =
+    if proc == READ then by_count read_reply_max (read_count arguments)
+    else (if proc == READDIR then by_count readdir_reply_max (readdir_count arguments)
+    else (if proc == READDIRPLUS then by_count readdir_reply_max (readdirplus_count arguments)
+    else limit_of proc))
+
+abbrev pub program_reply_max : (prog vers proc : ℕ) → Cursor → ℕ
+program_reply_max prog vers proc arguments =
+    if is_nfs prog vers then nfs_reply_max proc arguments
+    else (if prog == MOUNT_PROGRAM && (vers == MOUNT_VERSION && proc == MNT) then 108
+    else least_reply)
+
+abbrev pub target_reply_max : List ℕ → Option CallTarget → ℕ
+target_reply_max payload None = least_reply
+target_reply_max payload (Some t) = program_reply_max t.prog t.vers t.proc (from_place t.args_at payload)
+
+unfoldable pub largest_reply : List ℕ → ℕ
+largest_reply payload = target_reply_max payload (target_of (call_of payload))

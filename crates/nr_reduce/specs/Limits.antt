@@ -1,0 +1,31 @@
+-- Sizes and limits, each by its one name. All are own. The bytes of a stream and of a read list together, and the counts of
+-- segments, stand in nr_header.
+use Rattle.std.specs.Prelude.{ℕ}
+
+-- the credits that a side may wish for or grant, and the most that a credit word counts for
+abbrev pub most_credits : ℕ
+most_credits = 64
+
+-- the bytes that a Send has at most, in each direction, where the sides agree on nothing else
+abbrev pub send_max : ℕ
+send_max = 1024
+
+-- the bytes that one READ or WRITE moves at most
+abbrev pub moved_max : ℕ
+moved_max = 32768
+
+-- the count that READDIR and READDIRPLUS work with at most
+abbrev pub readdir_max : ℕ
+readdir_max = 32768
+
+-- the bytes that are offered for the target of a symbolic link
+abbrev pub link_max : ℕ
+link_max = 1024
+
+-- the bytes that an offer may have in all, where it is given
+abbrev pub given_max : ℕ
+given_max = 65536
+
+-- how many STags and xids there are: the last one is below this
+abbrev pub numbers_end : ℕ
+numbers_end = 4294967296

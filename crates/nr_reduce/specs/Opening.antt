@@ -1,0 +1,14 @@
+-- What the two ends of a link are opened with.
+use Rattle.std.specs.Prelude.{◌<◌, ◌≤◌}
+use Rattle.nr_reduce.specs.declared.mark.Opened.{Opened}
+use Rattle.nr_reduce.specs.Limits.{numbers_end, most_credits}
+
+-- no first number is 0, and credits are from 1 to most_credits
+pub record IsOpened (opened : Opened) : Type 0 where
+  pub xid : 0 < opened.first_xid
+  pub stag : 0 < opened.first_stag
+  pub stag_fits : opened.first_stag < numbers_end
+  pub wished : 0 < opened.wished
+  pub wished_fits : opened.wished ≤ most_credits
+  pub granted : 0 < opened.granted
+  pub granted_fits : opened.granted ≤ most_credits

@@ -1,0 +1,251 @@
+-- What follows from the definitions of a run, for every run.
+use Rattle.std.specs.Prelude.{◌≡◌, ◌≢◌, ℕ, ◌+◌, ◌^◌, ◌<◌, ◌≤◌, ◌==◌, if◌then◌else◌, true, false, List, [], ◌∷◌, ◌++◌, length, Option, None, Some, Ok, Contains}
+use Rattle.nr_wire.specs.declared.hello.Side.{Side}
+use Rattle.nr_wire.specs.declared.hello.Side.TheVariants.{Initiator, Responder}
+use Rattle.nr_wire.specs.Segment.{Segment}
+use Rattle.nr_link.specs.declared.end.End.{End}
+use Rattle.nr_link.specs.Frames.{Frame, is_hello}
+use Rattle.nr_link.specs.Output.{own_hello, send}
+use Rattle.nr_link.specs.Limits.{open_reads_max}
+use Rattle.nr_link.specs.ReceiveState.{message_completed}
+use Rattle.nr_header.specs.Reading.{word_at}
+use Rattle.nr_rpc.specs.declared.head.CallHead.{CallHead}
+use Rattle.nr_rpc.specs.Reading.{call_of, target_of}
+use Rattle.nr_reduce.specs.Holds.{Answer, answer_writes, answer_message, chunk_error, version_error}
+use Rattle.nr_link.specs.Input.{InputState, initial_input, input_of, input_after}
+use Rattle.nr_link.specs.Ending.{frame_segment, missing_access}
+use Rattle.nr_reduce.specs.declared.call.Form.{Form}
+use Rattle.nr_reduce.specs.declared.call.Call.{Call}
+use Rattle.nr_reduce.specs.declared.call.Outcome.{Outcome}
+use Rattle.nr_reduce.specs.declared.call.Submission.TheVariants as submissions
+use Rattle.nr_reduce.specs.declared.mark.Moment.{Moment}
+use Rattle.nr_reduce.specs.declared.mark.Mark.{Mark}
+use Rattle.nr_reduce.specs.declared.mark.Mark.TheVariants as marks
+use Rattle.nr_reduce.specs.declared.mark.Opened.{Opened}
+use Rattle.nr_reduce.specs.declared.mark.Entry.{Entry}
+use Rattle.nr_reduce.specs.PlainJournal.{any_that_adds}
+use Rattle.nr_reduce.specs.Journal.{Journaled}
+use Rattle.nr_reduce.specs.History.{CompletedCall, completed_calls, bytes_sent, bytes_received, written_at, fed_at, other}
+use Rattle.nr_reduce.specs.Events.{Event, events_at}
+use Rattle.nr_reduce.specs.EndRules.{EndState, end_state_after, output_for_all}
+use Rattle.nr_reduce.specs.OfferedRegions.{region_grants}
+use Rattle.nr_reduce.specs.declared.outline.Plan.{Plan}
+use Rattle.nr_reduce.specs.Plans.{call_message, lists_of}
+use Rattle.nr_reduce.specs.ClientState.{ClientState}
+use Rattle.nr_reduce.specs.Client.{client_rules, client_end, client_output, calls_output, initial_client}
+use Rattle.nr_reduce.specs.ServerState.{ServerState, ReadyCall, is_pending, down_max}
+use Rattle.nr_reduce.specs.ServerReads.{open_reads}
+use Rattle.nr_reduce.specs.ServerMessages.{verdict, by_need, call_xid}
+use Rattle.nr_reduce.specs.ServerMessages.Verdict.{BadChunks, OtherVersion}
+use Rattle.nr_reduce.specs.Server.{server_rules, server_end, server_output, server_state_after, initial_server, offer_of, answer_of_target}
+use Rattle.nr_reduce.specs.Events.Event.{FrameReceived}
+use Rattle.nr_reduce.specs.Run.{client, server, output_due}
+use Rattle.nr_rpc.specs.Credential.{CanWriteCred}
+use Rattle.nr_reduce.specs.Limits.{numbers_end}
+use Rattle.nr_reduce.specs.Credits.{calls_outstanding, credits_granted}
+use Rattle.nr_reduce.specs.SubmitAnswer.{submit_answer}
+use Rattle.nr_reduce.specs.Asked.{AskedSoFar, AskedMark, IsAccepted, IsAll}
+use Rattle.nr_reduce.specs.Served.{ServedSoFar, ServedMark, IsExecuted, next_call}
+use Rattle.nr_reduce.specs.Matched.{IsPrefixOf}
+use Rattle.nr_reduce.specs.SoFar.{SoFar, InFull}
+use Rattle.nr_reduce.specs.Standing.{input_events, ClientStandsFor, ServerStandsFor}
+use Rattle.nr_reduce.specs.PayloadLaws.{IsPlanned}
+
+-- the stream of a plan, where it is in the message
+abbrev pub inline_at : Option ℕ → List ℕ → Option (List ℕ)
+inline_at None stream = Some stream
+inline_at (Some position) stream = if position == 0 then None else Some stream
+
+abbrev pub inline_stream : Plan → Option (List ℕ)
+inline_stream p = inline_at p.read_at p.inline
+
+-- for a frame just this message is due, and no call becomes pending or ready
+pub record IsOnlyAnswered (opened : Opened) (k : ServerState) (f : Frame) (answer : List ℕ) : Type 0 where
+  pub output : server_output opened k (FrameReceived f) ≡ send (k.messages_queued + 1) answer
+  pub calls : (server_state_after opened k (FrameReceived f)).calls ≡ k.calls
+  pub ready : (server_state_after opened k (FrameReceived f)).ready ≡ k.ready
+
+-- ---- One mark more
+
+-- After one more mark an end is in the state to which the events of that mark bring it.
+abbrev pub ClientAfterMark : Type 0
+ClientAfterMark = (opened : Opened) (link : ℕ) (run : List Mark) (mark : Mark) →
+    client opened link (run ++ mark ∷ []) ≡ end_state_after (client_rules opened) (client opened link run) (events_at link Initiator run mark)
+
+abbrev pub ServerAfterMark : Type 0
+ServerAfterMark = (opened : Opened) (link : ℕ) (run : List Mark) (mark : Mark) →
+    server opened link (run ++ mark ∷ []) ≡ end_state_after (server_rules opened) (server opened link run) (events_at link Responder run mark)
+
+-- The output due is what was due before and what is due for those events.
+abbrev pub ClientOutputAfterMark : Type 0
+ClientOutputAfterMark = (opened : Opened) (link : ℕ) (run : List Mark) (mark : Mark) →
+    output_due opened link Initiator (run ++ mark ∷ [])
+    ≡ output_due opened link Initiator run ++ output_for_all (client_rules opened) (client opened link run) (events_at link Initiator run mark)
+
+abbrev pub ServerOutputAfterMark : Type 0
+ServerOutputAfterMark = (opened : Opened) (link : ℕ) (run : List Mark) (mark : Mark) →
+    output_due opened link Responder (run ++ mark ∷ [])
+    ≡ output_due opened link Responder run ++ output_for_all (server_rules opened) (server opened link run) (events_at link Responder run mark)
+
+-- An end that has ended stays as it is, and no output is due.
+abbrev pub EndedClientStays : Type 0
+EndedClientStays = (opened : Opened) (k : ClientState) (end : End) (events : List Event) →
+    (end_state_after (client_rules opened) (record { state = k; ended = Some end }) events ≡ record { state = k; ended = Some end })
+    × (output_for_all (client_rules opened) (record { state = k; ended = Some end }) events ≡ [])
+
+abbrev pub EndedServerStays : Type 0
+EndedServerStays = (opened : Opened) (k : ServerState) (end : End) (events : List Event) →
+    (end_state_after (server_rules opened) (record { state = k; ended = Some end }) events ≡ record { state = k; ended = Some end })
+    × (output_for_all (server_rules opened) (record { state = k; ended = Some end }) events ≡ [])
+
+-- ---- So far
+
+-- A run of which the laws hold in full, or so far, has them so far at each of its first parts.
+abbrev pub FullHoldsSoFar : Type 0
+FullHoldsSoFar = (opened : Opened) (link : ℕ) (run more : List Mark) → InFull opened link (run ++ more) → SoFar opened link run
+
+abbrev pub SoFarHoldsBefore : Type 0
+SoFarHoldsBefore = (opened : Opened) (link : ℕ) (run more : List Mark) → SoFar opened link (run ++ more) → SoFar opened link run
+
+-- The law of a side holds of one mark more where that mark keeps it.
+abbrev pub AskedWithMark : Type 0
+AskedWithMark = (opened : Opened) (link : ℕ) (run : List Mark) (mark : Mark) → AskedSoFar opened link run → AskedMark IsPrefixOf opened link run mark →
+    AskedSoFar opened link (run ++ mark ∷ [])
+
+abbrev pub ServedWithMark : Type 0
+ServedWithMark = (opened : Opened) (link : ℕ) (run : List Mark) (mark : Mark) → ServedSoFar opened link run → ServedMark IsPrefixOf opened link run mark →
+    ServedSoFar opened link (run ++ mark ∷ [])
+
+-- ---- What an end stands for
+
+-- An end stands for no marks as it is opened: a client's queue has its hello.
+abbrev pub ClientBegins : Type 0
+ClientBegins = (opened : Opened) (link : ℕ) → ClientStandsFor opened link (initial_client opened) (initial_input Responder) (own_hello Initiator) []
+
+abbrev pub ServerBegins : Type 0
+ServerBegins = (opened : Opened) (link : ℕ) → ServerStandsFor opened link (initial_server opened) (initial_input Initiator) [] []
+
+-- The events of a mark follow from the input that an end keeps.
+abbrev pub EventsOfInput : Type 0
+EventsOfInput = (link : ℕ) (side : Side) (run : List Mark) (mark : Mark) →
+    input_events link side (input_of (other side) (bytes_received link side run)) mark ≡ events_at link side run mark
+
+-- One mark more: the end goes on by the events of the mark, and what is written and what is left are the queue and the output that
+-- is due for them.
+abbrev pub ClientStandsOn : Type 0
+ClientStandsOn = (opened : Opened) (link : ℕ) (end : EndState ClientState) (input : InputState) (queue left : List ℕ) (run : List Mark) (mark : Mark) →
+    ClientStandsFor opened link end input queue run →
+    written_at link Initiator mark ++ left ≡ queue ++ output_for_all (client_rules opened) end (input_events link Initiator input mark) →
+    ClientStandsFor opened link (end_state_after (client_rules opened) end (input_events link Initiator input mark)) (input_after input (fed_at link Initiator mark)) left (run ++ mark ∷ [])
+
+abbrev pub ServerStandsOn : Type 0
+ServerStandsOn = (opened : Opened) (link : ℕ) (end : EndState ServerState) (input : InputState) (queue left : List ℕ) (run : List Mark) (mark : Mark) →
+    ServerStandsFor opened link end input queue run →
+    written_at link Responder mark ++ left ≡ queue ++ output_for_all (server_rules opened) end (input_events link Responder input mark) →
+    ServerStandsFor opened link (end_state_after (server_rules opened) end (input_events link Responder input mark)) (input_after input (fed_at link Responder mark)) left (run ++ mark ∷ [])
+
+-- A prefix of the queue that is written keeps the law so far, and the whole queue keeps it in full.
+abbrev pub ClientQueueIsDue : Type 0
+ClientQueueIsDue = (opened : Opened) (link : ℕ) (end : EndState ClientState) (input : InputState) (taken left : List ℕ) (run : List Mark) →
+    ClientStandsFor opened link end input (taken ++ left) run →
+    IsPrefixOf (bytes_sent link Initiator run ++ taken) (output_due opened link Initiator run)
+    × (left ≡ [] → IsAll (bytes_sent link Initiator run ++ taken) (output_due opened link Initiator run))
+
+abbrev pub ServerQueueIsDue : Type 0
+ServerQueueIsDue = (opened : Opened) (link : ℕ) (end : EndState ServerState) (input : InputState) (taken left : List ℕ) (run : List Mark) →
+    ServerStandsFor opened link end input (taken ++ left) run →
+    IsPrefixOf (bytes_sent link Responder run ++ taken) (output_due opened link Responder run)
+    × (left ≡ [] → IsAll (bytes_sent link Responder run ++ taken) (output_due opened link Responder run))
+
+-- ---- Memory
+
+-- A frame that doesn't end a side lacks nothing of what the side offers where the frame ends. So each access before a side's end is
+-- allowed, and the first that isn't ends it.
+abbrev pub ClientAllows : Type 0
+ClientAllows = (k : ClientState) (f : Frame) (segment : Segment) → is_hello f ≡ false → frame_segment f ≡ Ok segment →
+    client_end k (FrameReceived f) ≡ None → missing_access (region_grants f.end k.regions) f segment ≡ None
+
+abbrev pub ServerAllows : Type 0
+ServerAllows = (opened : Opened) (k : ServerState) (f : Frame) (segment : Segment) → is_hello f ≡ false → frame_segment f ≡ Ok segment →
+    server_end opened k (FrameReceived f) ≡ None → missing_access (region_grants f.end k.regions) f segment ≡ None
+
+-- ---- Calls
+
+-- A call that a client accepts keeps the law of its side, and fewer calls are outstanding than are granted.
+abbrev pub AcceptedKeepsLaw : Type 0
+AcceptedKeepsLaw = (opened : Opened) (link : ℕ) (run : List Mark) (call : Call) (form : Form) (xid : ℕ) →
+    submit_answer opened (client opened link run) call form ≡ submissions.Accepted xid → (client opened link run).state.stag ≤ numbers_end → CanWriteCred call.cred →
+    IsAccepted opened link run call form xid × (calls_outstanding opened link run < credits_granted opened link run)
+
+-- The Send of an accepted call is due at its Submit, by its plan, once the server's hello was received. Before, nothing is due.
+abbrev pub SubmitIsSent : Type 0
+SubmitIsSent = (opened : Opened) (link : ℕ) (run : List Mark) (call : Call) (form : Form) (xid : ℕ) → (h : IsAccepted opened link run call form xid) →
+    ((client opened link run).state.has_hello ≡ true →
+    output_due opened link Initiator (run ++ marks.Submit link call form (submissions.Accepted xid) ∷ [])
+    ≡ output_due opened link Initiator run ++ send ((client opened link run).state.calls_accepted + 1) (call_message xid opened.wished (client opened link run).state.stag h.plan))
+    × ((client opened link run).state.has_hello ≡ false →
+    output_due opened link Initiator (run ++ marks.Submit link call form (submissions.Accepted xid) ∷ []) ≡ output_due opened link Initiator run)
+
+-- With the server's hello the Sends of all calls that are outstanding are due, in the order of their Submits, numbered from 1 on.
+abbrev pub HelloSendsCalls : Type 0
+HelloSendsCalls = (opened : Opened) (k : ClientState) (f : Frame) → is_hello f ≡ true → client_output opened k (FrameReceived f) ≡ calls_output opened 1 k.outstanding
+
+-- An executed call's payload begins with the head of a call under its xid.
+abbrev pub PayloadHasItsXid : Type 0
+PayloadHasItsXid = (opened : Opened) (link : ℕ) (run : List Mark) (xid : ℕ) (payload : List ℕ) → IsExecuted opened link run xid payload →
+    (head : CallHead) × ((call_of payload ≡ Ok head) × (call_xid head ≡ xid))
+
+-- It is answered by RDMA Writes and then one Send where the offer of the pending call of its xid holds the reply, else by ERR_CHUNK.
+abbrev pub ExecuteIsAnswered : Type 0
+ExecuteIsAnswered = (opened : Opened) (link : ℕ) (run : List Mark) (xid : ℕ) (moment : Moment) (payload : List ℕ) (place : ℕ) (reply : List ℕ) → IsExecuted opened link run xid payload →
+    ((a : Answer) → answer_of_target (offer_of (server opened link run).state xid) (down_max (server opened link run).state) reply (target_of (call_of payload)) ≡ Some a →
+    output_due opened link Responder (run ++ marks.Execute link xid moment payload place reply ∷ [])
+    ≡ output_due opened link Responder run
+    ++ (answer_writes (offer_of (server opened link run).state xid) a
+    ++ send ((server opened link run).state.messages_queued + 1) (answer_message xid (server opened link run).state.credit (offer_of (server opened link run).state xid) a)))
+    × (answer_of_target (offer_of (server opened link run).state xid) (down_max (server opened link run).state) reply (target_of (call_of payload)) ≡ None →
+    output_due opened link Responder (run ++ marks.Execute link xid moment payload place reply ∷ [])
+    ≡ output_due opened link Responder run
+    ++ send ((server opened link run).state.messages_queued + 1) (chunk_error xid (server opened link run).state.credit))
+
+-- A Send that is refused is answered by one error message, and makes no call pending or ready.
+abbrev pub RefusedSendIsAnswered : Type 0
+RefusedSendIsAnswered = (opened : Opened) (k : ServerState) (f : Frame) (segment : Segment) (message : List ℕ) → is_hello f ≡ false → frame_segment f ≡ Ok segment →
+    message_completed k.received segment ≡ Some message →
+    (verdict k message ≡ BadChunks → IsOnlyAnswered opened k f (chunk_error (word_at 0 message) k.credit))
+    × (verdict k message ≡ OtherVersion → IsOnlyAnswered opened k f (version_error (word_at 0 message) (word_at 4 message) k.credit))
+
+-- At most open_reads_max Read Requests are open.
+abbrev pub OpenReadsAreFew : Type 0
+OpenReadsAreFew = (k : ServerState) → length (open_reads k) ≤ open_reads_max
+
+-- A server never refuses the message of a plan whose form isn't given: the call is pending, with the plan's lists and stream, where
+-- its xid wasn't and STags are left for its reads.
+abbrev pub PlanIsAccepted : Type 0
+PlanIsAccepted = (k : ServerState) (payload : List ℕ) (form : Form) (up down xid credit stag : ℕ) (p : Plan) → IsPlanned payload form up down xid credit stag p →
+    0 < length payload → is_pending k xid ≡ false →
+    verdict k (call_message xid credit stag p) ≡ by_need k (record { number = k.received.sends + 1; xid = xid; lists = lists_of stag p; inline = inline_stream p })
+
+-- No Send is executed twice, whatever the peer sends.
+abbrev pub SendIsExecutedOnce : Type 0
+SendIsExecutedOnce = (opened : Opened) (link : ℕ) (run before between behind : List Mark) (xid yid : ℕ) (moment now : Moment) (payload asked : List ℕ) (place later : ℕ) (reply answer : List ℕ) →
+    run ≡ before ++ marks.Execute link xid moment payload place reply ∷ (between ++ marks.Execute link yid now asked later answer ∷ behind) → ServedSoFar opened link run →
+    (first second : ReadyCall) → next_call opened link before ≡ Some first →
+    next_call opened link (before ++ marks.Execute link xid moment payload place reply ∷ between) ≡ Some second → first.number ≢ second.number
+
+-- No call completes twice.
+abbrev pub CallCompletesOnce : Type 0
+CallCompletesOnce = (opened : Opened) (link xid : ℕ) (outcome : Outcome) (run before behind : List Mark) → run ≡ before ++ marks.Done link xid outcome ∷ behind →
+    AskedSoFar opened link run → (c : CompletedCall) → Contains (completed_calls link before) c → c.xid ≢ xid
+
+-- No xid is given twice: xids rise.
+abbrev pub XidsRise : Type 0
+XidsRise = (opened : Opened) (link : ℕ) (run before between behind : List Mark) (call other : Call) (form way : Form) (xid yid : ℕ) →
+    run ≡ before ++ marks.Submit link call form (submissions.Accepted xid) ∷ (between ++ marks.Submit link other way (submissions.Accepted yid) ∷ behind) →
+    AskedSoFar opened link run → xid < yid
+
+-- Of two calls that were executed, on any links, the later one's place isn't smaller.
+abbrev pub PlacesRise : Type 0
+PlacesRise = (adds : Moment → List ℕ → List ℕ → List Entry) (J : List Entry) (run before between behind : List Mark) (link other xid yid : ℕ) (moment now : Moment) (payload asked : List ℕ) (place later : ℕ) (reply answer : List ℕ) →
+    run ≡ before ++ marks.Execute link xid moment payload place reply ∷ (between ++ marks.Execute other yid now asked later answer ∷ behind) →
+    Journaled (any_that_adds adds) J run → place ≤ later

@@ -1,0 +1,53 @@
+-- The law of a link's server: which calls it executes, and what it writes.
+use Rattle.std.specs.Prelude.{◌≡◌, ℕ, ◌==◌, ◌&&◌, if◌then◌else◌, List, [], ◌∷◌, ◌++◌, length, Option, None, Some, slice_get}
+use Rattle.nr_wire.specs.declared.hello.Side.TheVariants.{Initiator, Responder}
+use Rattle.nr_link.specs.declared.end.End.{End}
+use Rattle.nr_reduce.specs.declared.mark.Moment.{Moment}
+use Rattle.nr_reduce.specs.declared.mark.Mark.{Mark}
+use Rattle.nr_reduce.specs.declared.mark.Mark.TheVariants as marks
+use Rattle.nr_reduce.specs.declared.mark.Opened.{Opened}
+use Rattle.nr_reduce.specs.History.{bytes_sent}
+use Rattle.nr_reduce.specs.EndRules.{EndState}
+use Rattle.nr_reduce.specs.ServerState.{ServerState, ReadyCall}
+use Rattle.nr_reduce.specs.Run.{server, output_due, HasWritten}
+use Rattle.nr_reduce.specs.Matched.{IsPrefixOf}
+use Rattle.nr_reduce.specs.Asked.{IsAll}
+use Rattle.nr_reduce.specs.AtEachMark.{AtEachMark}
+
+-- the first call that became whole and isn't executed; a server that ended executes nothing
+abbrev pub first_ready : List ReadyCall → Option End → Option ReadyCall
+first_ready ready (Some end) = None
+first_ready ready None = slice_get ready 0
+
+unfoldable pub next_call : Opened → ℕ → List Mark → Option ReadyCall
+next_call opened link run = first_ready (server opened link run).state.ready (server opened link run).ended
+
+-- A call is executed: the next one, with the payload that its Send conveyed.
+pub record IsExecuted (opened : Opened) (link : ℕ) (before : List Mark) (xid : ℕ) (payload : List ℕ) : Type 0 where
+  pub call : ReadyCall
+  pub is_next : next_call opened link before ≡ Some call
+  pub own : xid ≡ call.xid
+  pub conveyed : payload ≡ call.payload
+
+-- The law of each mark: calls are executed in the order in which they became whole, none twice and none passed over.
+abbrev pub ServedMark : (List ℕ → List ℕ → Type 0) → Opened → ℕ → List Mark → Mark → Type 0
+ServedMark Fills opened link before (marks.Submit l call form answer) = Unit {0}
+ServedMark Fills opened link before (marks.Wrote l Initiator bytes) = Unit {0}
+ServedMark Fills opened link before (marks.Wrote l Responder bytes) =
+    l ≡ link → Fills (bytes_sent link Responder before ++ bytes) (output_due opened link Responder before)
+ServedMark Fills opened link before (marks.Fed l side bytes) = Unit {0}
+ServedMark Fills opened link before (marks.Execute l xid moment payload place reply) =
+    l ≡ link → IsExecuted opened link before xid payload
+ServedMark Fills opened link before (marks.Done l xid outcome) = Unit {0}
+ServedMark Fills opened link before (marks.Lost l xid) = Unit {0}
+ServedMark Fills opened link before (marks.Forget l xid) = Unit {0}
+ServedMark Fills opened link before (marks.Revoke l xid bytes) = Unit {0}
+ServedMark Fills opened link before (marks.Drop l) = Unit {0}
+
+pub record Served (opened : Opened) (link : ℕ) (run : List Mark) : Type 0 where
+  pub each : AtEachMark (ServedMark IsAll opened link) [] run
+  pub written : HasWritten opened link Responder run
+
+-- so far: what is written is a prefix of the output due
+abbrev pub ServedSoFar : Opened → ℕ → List Mark → Type 0
+ServedSoFar opened link run = AtEachMark (ServedMark IsPrefixOf opened link) [] run

@@ -1,0 +1,96 @@
+-- What both ways of a payload undo: the message of a plan and its chunks, and the Writes of an answer.
+use Rattle.std.specs.Prelude.{◌≡◌, ◌≢◌, ℕ, ◌+◌, ◌*◌, min, Bool, true, false, ◌==◌, if◌then◌else◌, List, [], ◌∷◌, ◌++◌, length, take, drop, map, Option, None, Some, IfSome, Result, Ok, Err}
+use Rattle.std.specs.List.{range_with_len}
+use Rattle.nr_header.specs.declared.header.RdmaSegment.{RdmaSegment}
+use Rattle.nr_header.specs.declared.header.ReadSegment.{ReadSegment}
+use Rattle.nr_header.specs.declared.header.ChunkLists.{ChunkLists}
+use Rattle.nr_header.specs.declared.header.Body.{Body}
+use Rattle.nr_header.specs.declared.header.Body.TheVariants.{Msg, Nomsg, ErrVers, ErrChunk}
+use Rattle.nr_header.specs.declared.header.Header.{Header}
+use Rattle.nr_header.specs.Reading.{header_of}
+use Rattle.nr_regions.specs.RegisteredMemory.{written}
+use Rattle.nr_wire.specs.Constants.{OPCODE_WRITE}
+use Rattle.nr_wire.specs.Segment.{Segment as WireSegment}
+use Rattle.nr_wire.specs.Segment.Segment.{Tagged, Untagged}
+use Rattle.nr_reduce.specs.declared.call.Form.{Form}
+use Rattle.nr_reduce.specs.declared.call.Form.TheVariants as forms
+use Rattle.nr_link.specs.Limits.{segment_max}
+use Rattle.nr_reduce.specs.declared.outline.Plan.{Plan}
+use Rattle.nr_reduce.specs.Plans.{total, has_segment, lists_of, write_list, reply_chunk}
+use Rattle.nr_reduce.specs.Chunks.{Bytes, call_conveyed}
+use Rattle.nr_link.specs.Output.{segment_count, segment_payload}
+use Rattle.nr_reduce.specs.Holds.{Answer, first_chunk, no_segments}
+
+-- the forms whose offers aren't given
+abbrev pub IsOwn : Form → Type 0
+IsOwn forms.Auto = Unit {0}
+IsOwn forms.Inline = Unit {0}
+IsOwn forms.Chunk = Unit {0}
+IsOwn forms.Long = Unit {0}
+IsOwn (forms.Given offer) = ⊥
+
+-- the stream that comes with a message
+abbrev pub inline_by : List ℕ → Body → Option (List ℕ)
+inline_by message (Msg ls stream_at) = Some (drop stream_at message)
+inline_by message (Nomsg ls) = None
+inline_by message (ErrVers version low high) = None
+inline_by message (ErrChunk version) = None
+
+abbrev pub lists_by : Body → ChunkLists
+lists_by (Msg ls stream_at) = ls
+lists_by (Nomsg ls) = ls
+lists_by (ErrVers version low high) = record { read = []; write = []; reply = None }
+lists_by (ErrChunk version) = record { read = []; write = []; reply = None }
+
+-- a chunk of the plan's read list brings its region
+abbrev pub Brings : (ℕ → List ℕ) → Plan → Type 0
+Brings chunk p = IfSome p.read_at (λ position. chunk position ≡ p.region)
+
+-- A message is read under this xid, with these credits, and with the chunks of its plan it conveys the payload.
+pub record Asks (payload : List ℕ) (p : Plan) (xid credit stag : ℕ) (message : List ℕ) : Type 0 where
+  pub body : Body
+  pub reads : header_of message ≡ Ok (record { xid = xid; credit = credit; body = body })
+  pub lists : lists_by body ≡ lists_of stag p
+  pub conveys : (chunk : ℕ → List ℕ) → Brings chunk p → call_conveyed (inline_by message body) (lists_of stag p).read chunk ≡ Some payload
+
+-- ---- Writes
+
+-- tagged segments for an STag lay their payloads over its bytes, the later over the earlier
+abbrev pub laid : ℕ → List ℕ → List WireSegment → List ℕ
+laid stag bytes [] = bytes
+laid stag bytes (Tagged last opcode s to payload ∷ segments) = laid stag (if s == stag then written bytes to payload else bytes) segments
+laid stag bytes (Untagged last opcode w queue msn offset payload ∷ segments) = laid stag bytes segments
+
+-- the segments of one RDMA Write
+abbrev pub one_write : ℕ → ℕ → List ℕ → ℕ → WireSegment
+one_write stag to bytes i = Tagged (i + 1 == segment_count bytes) OPCODE_WRITE stag (to + segment_max * i) (segment_payload bytes i)
+
+abbrev pub write_segments : ℕ → ℕ → List ℕ → List WireSegment
+write_segments stag to bytes = map (one_write stag to bytes) (range_with_len 0 (segment_count bytes))
+
+-- the segments by which they come there
+abbrev pub chunk_segments : List RdmaSegment → List ℕ → List WireSegment
+chunk_segments [] bytes = []
+chunk_segments (s ∷ chunk) bytes =
+    (if min s.length (length bytes) == 0 then [] else write_segments s.handle s.offset (take s.length bytes)) ++ chunk_segments chunk (drop s.length bytes)
+
+-- the segments by which an answer's Writes come
+abbrev pub answer_segments : ChunkLists → Answer → List WireSegment
+answer_segments offer a = chunk_segments (first_chunk offer.write) a.moved ++ (if a.long then chunk_segments (no_segments offer.reply) a.stream else [])
+
+abbrev pub lengths : Option (List ℕ) → List ℕ
+lengths None = []
+lengths (Some ns) = ns
+
+abbrev pub offering : List ReadSegment → (ws rs : ℕ) → (w r : Option (List ℕ)) → ChunkLists
+offering read ws rs w r = record { read = read; write = write_list ws w; reply = reply_chunk rs r }
+
+-- the regions have the lengths of their chunks, and are two
+pub record Backs (initial : Bytes) (ws rs : ℕ) (w r : Option (List ℕ)) : Type 0 where
+  pub write : has_segment w ≡ true → length (initial ws) ≡ total w
+  pub reply : has_segment r ≡ true → length (initial rs) ≡ total r
+  pub apart : has_segment w ≡ true → ws ≢ rs
+
+-- what a memory holds after an answer's Writes
+abbrev pub after : Bytes → ChunkLists → Answer → Bytes
+after initial offer a stag = laid stag (initial stag) (answer_segments offer a)

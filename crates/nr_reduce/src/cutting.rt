@@ -1,0 +1,164 @@
+//! A payload cut at its item, and put together again (RFC 8166 section 3.4.4).
+
+ghost use Rattle.std.specs.Prelude.{◌≡◌, ◌+◌, ◌==◌, ◌<◌, ◌≤◌, ◌++◌, length, replicate, Some, IfOk, IfErr, IfSome};
+ghost use Rattle.std.specs.List.{list_all};
+ghost use Rattle.nr_xdr.specs.Item.{pad_len};
+ghost use Rattle.nr_reduce.specs.Items.{ends_with_item, reducible_item, stream_of, moved_of, restored};
+ghost use Rattle.nr_reduce.specs.Chunks.{has_length, IsWhole};
+ghost use Rattle.nr_reduce.specs.Cuts.{cut_of, rebuilt_of, Rebuilds};
+
+use crate::fault::{Mismatch, PayloadFault};
+use crate::item::{Cut, Item, Of, item_of};
+use nr_xdr::{Memory, Octets};
+use std::alloc::Global;
+
+/// How many bytes pad `len` bytes to a multiple of four (RFC 4506 section 3).
+#[tactic(auto, unfolding(nr_xdr::specs::Item::pad_len))]
+pub(crate) fn pad_len(len: usize) -> usize
+    ensures is { result ≡ pad_len len }
+    ensures small { result < 4 }
+{
+    (4 - len % 4) % 4
+}
+
+fn are_zeros(bytes: &[u8]) -> bool
+    ensures { result ≡ list_all (λ b. b == 0) bytes.now }
+{
+    bytes.iter().all(|b| *b == 0)
+}
+
+/// Whether the item's bytes and a pad of zeros are all that stands behind its length word.
+fn ends_with_item(payload: &[u8], item: &Item) -> bool
+    requires { item.now.pos ≤ length payload.now }
+    ensures { result ≡ ends_with_item payload.now item.now }
+{
+    let (_, behind) = payload.split_at(item.pos);
+    let len = item.len as usize;
+    if behind.len() != len + pad_len(len) {
+        return false;
+    }
+    let (_, pad) = behind.split_at(len);
+    are_zeros(pad)
+}
+
+/// The item of a payload that can be cut: behind the item's length word stand its bytes and a pad of zeros, and nothing
+/// else. Takes no memory.
+#[tactic(auto, unfolding(crate::specs::Items::reducible_item))]
+pub fn reducible_item(of: &Of, payload: &[u8]) -> Option<Item>
+    ensures exact { result ≡ reducible_item of.now payload.now }
+    ensures inside { IfSome result (λ i. i.pos + i.len ≤ length payload.now) }
+{
+    match item_of(of, payload) {
+        Some(item) => if ends_with_item(payload, &item) {
+            Some(item)
+        } else {
+            None
+        },
+        None => None,
+    }
+}
+
+fn cut_at(alloc: Global, payload: &[u8], item: Item) -> Result<Cut, Memory>
+    requires { item.pos + item.len ≤ length payload.now }
+    ensures { IfOk result (λ c. c ≡ record { item = item; stream = stream_of payload.now item; moved = moved_of payload.now item }) }
+{
+    let (stream, behind) = payload.split_at(item.pos);
+    let (moved, _) = behind.split_at(item.len as usize);
+    Ok(Cut {
+        item,
+        stream: Octets::from_slice(alloc, stream)?,
+        moved: Octets::from_slice(alloc, moved)?,
+    })
+}
+
+/// Cuts a payload at its item: `None` exactly where it has none, or where other bytes stand behind it. Only `Memory` can
+/// be wanting.
+#[tactic(auto, unfolding(crate::specs::Cuts::cut_of))]
+pub fn cut(alloc: Global, payload: &[u8], of: &Of) -> Result<Option<Cut>, PayloadFault>
+    ensures cut { IfOk result (λ c. c ≡ cut_of of.now payload.now) }
+    ensures memory { IfErr result (λ e. e ≡ PayloadFault.Memory) }
+{
+    match reducible_item(of, payload) {
+        Some(item) => Ok(Some(cut_at(alloc, payload, item)?)),
+        None => Ok(None),
+    }
+}
+
+/// Whether so many bytes are an item's: in a call with or without its pad.
+fn has_length(of: &Of, item: &Item, moved: &[u8]) -> bool
+    ensures { result ≡ has_length of.now item.now moved.now }
+{
+    let len = item.len as usize;
+    match *of {
+        Of::Call => moved.len() == len || moved.len() == len + pad_len(len),
+        Of::Reply { .. } => moved.len() == len,
+    }
+}
+
+/// So many zeros.
+fn zeros(count: usize) -> &'static [u8]
+    requires { count < 4 }
+    ensures { result.now ≡ replicate count 0 }
+{
+    match count {
+        0 => &[],
+        1 => &[0],
+        2 => &[0, 0],
+        _ => &[0, 0, 0],
+    }
+}
+
+fn joined(alloc: Global, front: &[u8], behind: &[u8]) -> Result<Octets, Memory>
+    ensures { IfOk result (λ o. o ≡ front.now ++ behind.now) }
+{
+    let mut octets = Octets::from_slice(alloc, front)?;
+    octets.extend_from_slice(behind)?;
+    Ok(octets)
+}
+
+#[tactic(auto, unfolding(crate::specs::Items::restored))]
+fn restored(alloc: Global, stream: &[u8], item: &Item, moved: &[u8]) -> Result<Octets, Memory>
+    requires place { item.now.pos ≤ length stream.now }
+    requires content { item.now.len ≤ length moved.now }
+    ensures { IfOk result (λ p. p ≡ restored item.now stream.now moved.now) }
+{
+    let len = item.len as usize;
+    let (front, behind) = stream.split_at(item.pos);
+    let (content, _) = moved.split_at(len);
+    let mut payload = joined(alloc, front, content)?;
+    payload.extend_from_slice(zeros(pad_len(len)))?;
+    payload.extend_from_slice(behind)?;
+    Ok(payload)
+}
+
+/// The payload of a stream and of a chunk of its own that belongs at `pos`, whose bytes are `moved`. In a call these may
+/// have the item's pad at their end, which is ignored. Bytes of the stream behind the item's place are carried along.
+/// `BadChunks` where the stream has no item, where that has another position, or another length, the first that holds.
+#[tactic(auto, unfolding(crate::specs::Cuts::rebuilt_of))]
+pub fn rebuild(
+    alloc: Global,
+    of: &Of,
+    stream: &[u8],
+    pos: u32,
+    moved: &[u8],
+) -> Result<Octets, PayloadFault>
+    ensures whole { IfOk result (λ p. IsWhole of.now p stream.now (Some moved.now)) }
+    ensures exact { Rebuilds result (rebuilt_of of.now stream.now pos moved.now) }
+{
+    let Some(item) = item_of(of, stream) else {
+        return Err(PayloadFault::BadChunks {
+            why: Mismatch::NoItem,
+        });
+    };
+    if item.pos != pos as usize {
+        return Err(PayloadFault::BadChunks {
+            why: Mismatch::Position,
+        });
+    }
+    if !has_length(of, &item, moved) {
+        return Err(PayloadFault::BadChunks {
+            why: Mismatch::Length,
+        });
+    }
+    Ok(restored(alloc, stream, &item, moved)?)
+}

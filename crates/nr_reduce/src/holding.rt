@@ -1,0 +1,147 @@
+//! How a reply is sent back (RFC 8166 section 3.5), or that its offer doesn't hold it.
+
+ghost use Rattle.std.specs.Prelude.{◌≡◌, ◌↔◌, ◌+◌, ◌≤◌, nat_le, length, option_map, IsTrue};
+ghost use Rattle.nr_reduce.specs.Items.{stream_of, moved_of};
+ghost use Rattle.nr_reduce.specs.Chunks.{chunk_total};
+ghost use Rattle.nr_reduce.specs.Holds.{answer_size, fits_reply, answer_for, Holds};
+ghost use Rattle.nr_reduce.specs.Views.{first_total, parts_of, parts_view, answer_view};
+
+use crate::cutting::reducible_item;
+use crate::item::{Item, Of};
+use nr_header::{Chunk, ChunkLists, RdmaSegment};
+
+/// What goes as the stream of a reply, and what moves into its first write chunk.
+#[derive(Clone, Copy)]
+struct Parts<'a> {
+    stream: &'a [u8],
+    moved: &'a [u8],
+}
+
+/// How a reply is sent back: its stream, which goes in the reply chunk where `long`, else behind the header; and what moves
+/// into the first write chunk.
+#[derive(Clone, Copy)]
+pub struct Answer<'a> {
+    pub long: bool,
+    pub stream: &'a [u8],
+    pub moved: &'a [u8],
+}
+
+/// How many bytes a chunk has.
+#[tactic(auto, unfolding(crate::specs::Chunks::chunk_total))]
+pub(crate) fn chunk_total(chunk: &[RdmaSegment]) -> u128
+    ensures { result ≡ chunk_total chunk.now }
+{
+    let mut total: u128 = 0;
+    for segment in chunk {
+        total += u128::from(segment.length);
+    }
+    total
+}
+
+/// How many bytes the first chunk has, where it has a segment.
+fn first_total(chunks: &[Chunk]) -> Option<u128>
+    ensures { result ≡ first_total chunks.now }
+{
+    match chunks {
+        [] => None,
+        [first, ..] => if first.is_empty() {
+            None
+        } else {
+            Some(chunk_total(first.as_slice()))
+        },
+    }
+}
+
+/// Whether a message that repeats these chunks, without a reply chunk, and has a stream of `len` bytes is no longer than
+/// `down` bytes.
+fn fits_message(chunks: &[Chunk], len: usize, down: u32) -> bool
+    ensures { result ≡ nat_le (answer_size chunks.now + len) down }
+{
+    let mut need = 28 + len as u128;
+    for chunk in chunks {
+        if need > u128::from(down) {
+            return false;
+        }
+        need += 8 + 16 * chunk.len() as u128;
+    }
+    need <= u128::from(down)
+}
+
+/// Whether a reply chunk is there and has so many bytes.
+fn fits_reply(chunk: &Option<Chunk>, len: usize) -> bool
+    ensures { result ≡ fits_reply chunk.now len }
+{
+    match chunk {
+        Some(chunk) => len as u128 <= chunk_total(chunk.as_slice()),
+        None => false,
+    }
+}
+
+/// A reply whose item moves.
+fn reduced<'a>(item: Item, reply: &'a [u8]) -> Parts<'a>
+    requires { item.pos + item.len ≤ length reply.now }
+    ensures { parts_view result ≡ record { stream = stream_of reply.now item; moved = moved_of reply.now item } }
+{
+    let (stream, behind) = reply.split_at(item.pos);
+    let (moved, _) = behind.split_at(item.len as usize);
+    Parts { stream, moved }
+}
+
+/// The parts of a reply, where so many bytes may move.
+#[tactic(auto, unfolding(crate::specs::Views::parts_of))]
+fn parted<'a>(of: &Of, room: Option<u128>, reply: &'a [u8]) -> Option<Parts<'a>>
+    ensures { option_map parts_view result ≡ parts_of of.now room reply.now }
+{
+    let whole = Parts {
+        stream: reply,
+        moved: &[],
+    };
+    let Some(room) = room else {
+        return Some(whole);
+    };
+    let Some(item) = reducible_item(of, reply) else {
+        return Some(whole);
+    };
+    if u128::from(item.len) <= room {
+        Some(reduced(item, reply))
+    } else {
+        None
+    }
+}
+
+/// How a reply to a call of this program, version and procedure is sent back, where `offer` is what the call offered and a
+/// message has at most `down` bytes. Where the first write chunk has a segment and the reply an item, that moves, and must
+/// not be longer than the chunk. The rest goes behind a header that repeats the write list, where both are within `down`;
+/// else in the reply chunk, where that is long enough. `None` where neither is so. Takes no memory.
+#[tactic(auto, using(crate::proofs::Rooms::parts_by_total), unfolding(crate::specs::Holds::answer_for))]
+pub fn answer_for<'a>(
+    offer: &ChunkLists,
+    prog: u32,
+    vers: u32,
+    proc: u32,
+    reply: &'a [u8],
+    down: u32,
+) -> Option<Answer<'a>>
+    ensures { option_map answer_view result ≡ answer_for offer.now down prog vers proc reply.now }
+{
+    let of = Of::Reply { prog, vers, proc };
+    let Some(parts) = parted(&of, first_total(offer.write.as_slice()), reply) else {
+        return None;
+    };
+    let long = !fits_message(offer.write.as_slice(), parts.stream.len(), down);
+    if long && !fits_reply(&offer.reply, parts.stream.len()) {
+        return None;
+    }
+    Some(Answer {
+        long,
+        stream: parts.stream,
+        moved: parts.moved,
+    })
+}
+
+/// Whether an offer holds a reply: [`answer_for`] tells how it is sent back. Takes no memory.
+pub fn holds(offer: &ChunkLists, prog: u32, vers: u32, proc: u32, reply: &[u8], down: u32) -> bool
+    ensures { IsTrue result ↔ Holds offer.now down prog vers proc reply.now }
+{
+    answer_for(offer, prog, vers, proc, reply, down).is_some()
+}

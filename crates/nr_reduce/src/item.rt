@@ -1,0 +1,170 @@
+//! The item of a payload: the data that may move in a chunk of its own.
+
+ghost use Rattle.std.specs.Prelude.{◌≡◌, ◌+◌, ◌≤◌, Ok, length, IfSome};
+ghost use Rattle.nr_xdr.specs.Item.{pad_len};
+ghost use Rattle.nr_rpc.specs.Reading.{reply_of};
+ghost use Rattle.nr_reduce.specs.Fronts.{and_then};
+ghost use Rattle.nr_reduce.specs.Items.{from_place, item_at, is_nfs, argument_item, result_item, results_of, call_item, reply_item, item_of};
+
+use crate::limits::{NFS_PROGRAM, NFS_VERSION, READ, READLINK, SYMLINK, WRITE};
+use crate::skipping::{before_data, before_path, before_read, before_target};
+use nr_rpc::{ReplyHead, call_target, read_reply};
+use nr_xdr::{Octets, Reader};
+
+/// An item (RFC 8166 section 3.4.4): `pos` is the place of its first byte in the payload, `len` the number of its bytes,
+/// which its length word says.
+#[derive(Clone, Copy, Debug, PartialEq, Eq)]
+pub struct Item {
+    pub pos: usize,
+    pub len: u32,
+}
+
+/// Whose payload it is: that of a call, or that of a reply to a call of this program, version and procedure.
+#[derive(Clone, Copy)]
+pub enum Of {
+    Call,
+    Reply { prog: u32, vers: u32, proc: u32 },
+}
+
+/// A payload that was cut: its item, the stream that is left without the item's bytes and pad, and the item's bytes.
+#[derive(Drop)]
+pub struct Cut {
+    pub item: Item,
+    pub stream: Octets,
+    pub moved: Octets,
+}
+
+/// A reader at a place of a payload. A head ends at a multiple of four.
+pub(crate) fn reader_at(payload: &[u8], place: usize) -> Reader<'_>
+    requires inside { place ≤ length payload.now }
+    requires words { pad_len place ≡ 0 }
+    ensures { result ≡ from_place place payload.now }
+{
+    let mut reader = Reader::new(payload);
+    let _ = reader.fixed(place);
+    reader
+}
+
+/// The item whose length word is next.
+fn item_here(mut reader: Reader<'_>) -> Option<Item>
+    ensures { result ≡ item_at (Ok reader.entry) }
+{
+    match reader.u32() {
+        Ok(len) => Some(Item {
+            pos: reader.at(),
+            len,
+        }),
+        Err(_) => None,
+    }
+}
+
+/// The item whose length word is next, where what stands before it could be read.
+fn item_behind(front: Option<Reader<'_>>) -> Option<Item>
+    ensures { result ≡ and_then front.entry (λ c. item_at (Ok c)) }
+{
+    match front {
+        Some(reader) => item_here(reader),
+        None => None,
+    }
+}
+
+pub(crate) fn is_nfs(prog: u32, vers: u32) -> bool
+    ensures { result ≡ is_nfs prog vers }
+{
+    prog == NFS_PROGRAM && vers == NFS_VERSION
+}
+
+/// The item of a call's arguments.
+#[tactic(auto, using(crate::proofs::Places::item_at_front))]
+fn argument_item(prog: u32, vers: u32, proc: u32, arguments: Reader<'_>) -> Option<Item>
+    ensures { result ≡ argument_item prog vers proc arguments.entry }
+{
+    if !is_nfs(prog, vers) {
+        return None;
+    }
+    match proc {
+        WRITE => item_behind(before_data(arguments)),
+        SYMLINK => item_behind(before_path(arguments)),
+        _ => None,
+    }
+}
+
+/// The item of a reply's results.
+#[tactic(auto, using(crate::proofs::Places::item_at_front))]
+fn result_item(prog: u32, vers: u32, proc: u32, results: Reader<'_>) -> Option<Item>
+    ensures { result ≡ result_item prog vers proc results.entry }
+{
+    if !is_nfs(prog, vers) {
+        return None;
+    }
+    match proc {
+        READ => item_behind(before_read(results)),
+        READLINK => item_behind(before_target(results)),
+        _ => None,
+    }
+}
+
+/// The item of a call (RFC 8267 section 2): the data of WRITE or the path of SYMLINK, where the call's head and its
+/// arguments can be read up to the length word. What follows that word isn't looked at. Takes no memory.
+pub fn call_item(payload: &[u8]) -> Option<Item>
+    ensures exact { result ≡ call_item payload.now }
+    ensures inside { IfSome result (λ i. i.pos ≤ length payload.now) }
+{
+    match call_target(payload) {
+        Some(target) => {
+            let arguments = reader_at(payload, target.args_at);
+            argument_item(target.prog, target.vers, target.proc, arguments)
+        }
+        None => None,
+    }
+}
+
+/// Where the results of an accepted reply of status 0 begin.
+fn results_at(head: ReplyHead) -> Option<usize>
+    ensures { result ≡ results_of (Ok head) }
+{
+    match head {
+        ReplyHead::Accepted {
+            stat,
+            results_at,
+            ..
+        } if stat == 0 => Some(results_at),
+        _ => None,
+    }
+}
+
+fn results_of(payload: &[u8]) -> Option<usize>
+    ensures { result ≡ results_of (reply_of payload.now) }
+{
+    match read_reply(payload) {
+        Ok(head) => results_at(head),
+        Err(_) => None,
+    }
+}
+
+/// The item of a reply to a call of this program, version and procedure (RFC 8267 section 2): the data of READ or the path
+/// of READLINK, where the call was accepted with status 0 and the results can be read up to the length word. What follows
+/// that word isn't looked at. Takes no memory.
+pub fn reply_item(prog: u32, vers: u32, proc: u32, payload: &[u8]) -> Option<Item>
+    ensures exact { result ≡ reply_item prog vers proc payload.now }
+    ensures inside { IfSome result (λ i. i.pos ≤ length payload.now) }
+{
+    match results_of(payload) {
+        Some(at) => {
+            let results = reader_at(payload, at);
+            result_item(prog, vers, proc, results)
+        }
+        None => None,
+    }
+}
+
+/// The item of a payload. Takes no memory.
+pub fn item_of(of: &Of, payload: &[u8]) -> Option<Item>
+    ensures exact { result ≡ item_of of.now payload.now }
+    ensures inside { IfSome result (λ i. i.pos ≤ length payload.now) }
+{
+    match *of {
+        Of::Call => call_item(payload),
+        Of::Reply { prog, vers, proc } => reply_item(prog, vers, proc, payload),
+    }
+}

@@ -1,0 +1,106 @@
+//! How long a reply may be, by its call alone.
+
+ghost use Rattle.std.specs.Prelude.{◌≡◌, ◌+◌, ◌<◌, ◌≤◌};
+ghost use Rattle.nr_reduce.specs.Largest.{rounded, by_count, read_reply_max, readdir_reply_max, limit_of, nfs_reply_max, program_reply_max, largest_reply};
+
+use crate::cutting::pad_len;
+use crate::item::{is_nfs, reader_at};
+use crate::limits::{
+    MNT, MOUNT_PROGRAM, MOUNT_VERSION, MOVED_MAX, READ, READDIR, READDIR_MAX, READDIRPLUS,
+};
+use crate::skipping::count_after;
+use nr_rpc::call_target;
+use nr_xdr::Reader;
+
+/// The reply to any other call, and to one that isn't encoded up to its count.
+const LEAST_REPLY: u32 = 32;
+
+/// So many bytes and their pad.
+fn rounded(len: u32) -> u32
+    requires { len ≤ 4294967292 }
+    ensures is { result ≡ rounded len }
+    ensures small { result < len + 4 }
+{
+    len + pad_len(len as usize) as u32
+}
+
+/// The reply to a READ of so many bytes (RFC 1813 section 3.3.6).
+fn read_reply_max(count: Option<u32>) -> u32
+    ensures { result ≡ by_count read_reply_max count }
+{
+    match count {
+        Some(count) => 128 + rounded(count.min(MOVED_MAX)),
+        None => LEAST_REPLY,
+    }
+}
+
+/// The reply to a READDIR or READDIRPLUS of so many bytes (RFC 1813 sections 3.3.16 and 3.3.17).
+fn readdir_reply_max(count: Option<u32>) -> u32
+    ensures { result ≡ by_count readdir_reply_max count }
+{
+    match count {
+        Some(count) => (28 + count.min(READDIR_MAX)).max(116),
+        None => LEAST_REPLY,
+    }
+}
+
+/// The reply to a call of a procedure whose replies have one limit (RFC 1813 section 3.3).
+#[tactic(auto, unfolding(crate::specs::Largest::limit_of))]
+fn limit_of(proc: u32) -> u32
+    ensures { result ≡ limit_of proc }
+{
+    match proc {
+        1 => 112,
+        2 | 12 | 13 => 144,
+        3 => 272,
+        4 => 120,
+        5 => 1144,
+        7 => 160,
+        8 | 9 | 10 | 11 => 304,
+        14 => 260,
+        15 => 232,
+        18 => 168,
+        19 => 164,
+        20 => 140,
+        21 => 152,
+        _ => LEAST_REPLY,
+    }
+}
+
+#[tactic(auto, using(crate::proofs::Fronts::counts_after), unfolding(nr_xdr::specs::Item::pad_len))]
+fn nfs_reply_max(proc: u32, arguments: Reader<'_>) -> u32
+    ensures { result ≡ nfs_reply_max proc arguments.entry }
+{
+    match proc {
+        READ => read_reply_max(count_after(arguments, 8)),
+        READDIR => readdir_reply_max(count_after(arguments, 16)),
+        READDIRPLUS => readdir_reply_max(count_after(arguments, 20)),
+        _ => limit_of(proc),
+    }
+}
+
+fn program_reply_max(prog: u32, vers: u32, proc: u32, arguments: Reader<'_>) -> u32
+    ensures { result ≡ program_reply_max prog vers proc arguments.entry }
+{
+    if is_nfs(prog, vers) {
+        nfs_reply_max(proc, arguments)
+    } else if prog == MOUNT_PROGRAM && vers == MOUNT_VERSION && proc == MNT {
+        108
+    } else {
+        LEAST_REPLY
+    }
+}
+
+/// The most bytes that the reply to this call has, by the call's program, version and procedure, and by the count of a
+/// READ, READDIR or READDIRPLUS. At least 32, which is also the answer for what is no call. Takes no memory.
+pub fn largest_reply(payload: &[u8]) -> u32
+    ensures { result ≡ largest_reply payload.now }
+{
+    match call_target(payload) {
+        Some(target) => {
+            let arguments = reader_at(payload, target.args_at);
+            program_reply_max(target.prog, target.vers, target.proc, arguments)
+        }
+        None => LEAST_REPLY,
+    }
+}

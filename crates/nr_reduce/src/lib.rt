@@ -1,0 +1,49 @@
+//! How a call and its reply are sent over a link (RFC 8166), and what a run of a link is.
+//!
+//! It stands on `nr_rpc` and `nr_nfs_base`, for the heads and values in payloads, on `nr_header`, and on `nr_link`, for what
+//! a link asks of a segment. Both ends of a link, and the drill, stand on it.
+//!
+//! The functions take a payload apart and put it together: its item ([`call_item`], [`reply_item`]), the stream that is
+//! left without it ([`cut`], [`rebuild`]), how a call is sent in each form ([`plan`]), and whether an offer holds a reply
+//! ([`holds`]). The laws say that each way back undoes its way out ([`rebuild_undoes_cut`], [`plans_are_undone`],
+//! [`answers_are_undone`]).
+//!
+//! The rest is definitions, in `specs/`, over plain data: [`Mark`]s, what an end of a link makes of them, and the laws that
+//! a run keeps. `docs/RUNS.md` explains them. What both ends cite of them stands in contracts of functions:
+//! [`one_mark_more`], [`ends_stand_for_marks`], [`memory_follows_regions`], [`laws_so_far`] and those beside them.
+#![tactic(auto)]
+
+mod call;
+mod cutting;
+mod fault;
+mod holding;
+mod item;
+mod largest;
+mod laws;
+mod limits;
+mod mark;
+mod memory_laws;
+mod outline;
+mod planning;
+mod run_laws;
+mod sequence;
+mod skipping;
+
+pub use call::{Call, Form, Lengths, Offer, Outcome, Refused, Submission};
+pub use cutting::{cut, rebuild, reducible_item};
+pub use fault::{Mismatch, PayloadFault};
+pub use holding::{Answer, answer_for, holds};
+pub use item::{Cut, Item, Of, call_item, item_of, reply_item};
+pub use largest::largest_reply;
+pub use laws::{answers_are_undone, plans_are_undone, rebuild_undoes_cut};
+pub use limits::{GIVEN_MAX, LINK_MAX, MOVED_MAX, READDIR_MAX};
+pub use mark::{Entry, Mark, Marks, Moment, Opened};
+pub use memory_laws::{memory_follows_regions, regions_go_on};
+pub use outline::Plan;
+pub use planning::plan;
+pub use run_laws::{
+    accepted_calls_keep_the_law, accesses_are_allowed, ended_ends_stay, ends_stand_for_marks,
+    laws_so_far, nothing_twice, one_mark_more, places_rise, plans_are_opened, sends_are_answered,
+    submits_are_sent,
+};
+pub use sequence::Sequence;

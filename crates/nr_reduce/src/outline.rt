@@ -1,0 +1,225 @@
+//! How a call is sent: which of its bytes go in which way, and what it offers for the reply.
+
+ghost use Rattle.std.specs.Prelude.{◌≡◌, ℕ, ◌+◌, ◌*◌, ◌^◌, ◌<◌, ◌≤◌, Option, None, Some, length};
+ghost use Rattle.nr_reduce.specs.Largest.{largest_reply};
+ghost use Rattle.nr_reduce.specs.Plans.{segments_for, chunk_for, moved_offer, argument_offer, write_offer, write_size, reply_size, plan_size, inline_plan, reduced, lengthened, auto_offer, auto_plan};
+ghost use Rattle.nr_reduce.specs.Outlines.{plan_by, outlined, WayFits};
+
+use crate::call::Lengths;
+use crate::cutting::reducible_item;
+use crate::item::{Item, Of, is_nfs, reader_at};
+use crate::largest::largest_reply;
+use crate::limits::{LINK_MAX, MOVED_MAX, READ, READLINK};
+use crate::skipping::count_after;
+use nr_rpc::call_target;
+use nr_xdr::{Octets, Reader};
+
+/// How a call is sent (RFC 8166 section 3.5): the stream that goes inline; the position of the read chunk, the lengths of
+/// its segments and the bytes of its region; the lengths of the segments of a write chunk and of a reply chunk.
+#[derive(Drop)]
+pub struct Plan {
+    pub inline: Octets,
+    pub read_at: Option<u32>,
+    pub read: Lengths,
+    pub region: Octets,
+    pub write: Option<Lengths>,
+    pub reply: Option<Lengths>,
+}
+
+/// Which bytes of a payload go in a read chunk: none, its item, or all.
+#[derive(Clone, Copy)]
+pub(crate) enum Way {
+    Inline,
+    Reduced(Item),
+    Long,
+}
+
+/// A plan before it owns bytes: how many bytes the write chunk and the reply chunk have, where they are offered.
+#[derive(Clone, Copy)]
+pub(crate) struct Outline {
+    pub(crate) way: Way,
+    pub(crate) write: Option<u32>,
+    pub(crate) reply: Option<u32>,
+}
+
+/// How many segments a chunk of so many bytes has.
+fn segment_count(len: usize) -> usize
+    ensures { result ≡ length (segments_for len) }
+{
+    let _ = len;
+    1
+}
+
+/// The size of a write chunk in a header (RFC 8166 section 4.3.2).
+fn write_size(len: Option<u32>) -> u128
+    ensures is { result ≡ write_size (chunk_for len) }
+    ensures small { result < 2 ^ 100 }
+{
+    match len {
+        Some(len) => 8 + 16 * segment_count(len as usize) as u128,
+        None => 0,
+    }
+}
+
+/// The size of a reply chunk in a header (RFC 8166 section 4.3.3), beside that of its absence.
+fn reply_size(len: Option<u32>) -> u128
+    ensures is { result ≡ reply_size (chunk_for len) }
+    ensures small { result < 2 ^ 100 }
+{
+    match len {
+        Some(len) => 4 + 16 * segment_count(len as usize) as u128,
+        None => 0,
+    }
+}
+
+/// The size of the Send of an outline.
+#[tactic(auto, unfolding(crate::specs::Plans::plan_size))]
+pub(crate) fn send_size(payload: &[u8], outline: Outline) -> u128
+    requires { WayFits payload.now outline.way }
+    ensures { result ≡ plan_size (outlined payload.now outline) }
+{
+    let (entries, inline) = match outline.way {
+        Way::Inline => (0, payload.len()),
+        Way::Reduced(item) => (segment_count(item.len as usize), item.pos),
+        Way::Long => (segment_count(payload.len()), 0),
+    };
+    let lists = 24 * entries as u128 + write_size(outline.write) + reply_size(outline.reply);
+    28 + lists + inline as u128
+}
+
+/// How many bytes of its results a READ of this count may have in a write chunk.
+fn moved_offer(count: Option<u32>) -> Option<u32>
+    ensures { result ≡ moved_offer count }
+{
+    match count {
+        Some(count) => Some(count.min(MOVED_MAX)),
+        None => None,
+    }
+}
+
+#[tactic(auto, using(crate::proofs::Fronts::read_count_after), unfolding(nr_xdr::specs::Item::pad_len))]
+fn argument_offer(prog: u32, vers: u32, proc: u32, arguments: Reader<'_>) -> Option<u32>
+    ensures { result ≡ argument_offer prog vers proc arguments.entry }
+{
+    if !is_nfs(prog, vers) {
+        return None;
+    }
+    match proc {
+        READ => moved_offer(count_after(arguments, 8)),
+        READLINK => Some(LINK_MAX),
+        _ => None,
+    }
+}
+
+/// How many bytes the write chunk has that a call may offer: a READ and a READLINK may.
+fn write_offer(payload: &[u8]) -> Option<u32>
+    ensures { result ≡ write_offer payload.now }
+{
+    match call_target(payload) {
+        Some(target) => {
+            let arguments = reader_at(payload, target.args_at);
+            argument_offer(target.prog, target.vers, target.proc, arguments)
+        }
+        None => None,
+    }
+}
+
+/// What a call offers where its form is left open: nothing where each reply to it fits a message of `down` bytes, else a
+/// write chunk where it may, else a reply chunk.
+fn auto_offer(payload: &[u8], down: u32) -> (Option<u32>, Option<u32>)
+    ensures { plan_by payload.now Way.Inline result.0 result.1 ≡ auto_offer payload.now down (inline_plan payload.now) }
+{
+    let largest = largest_reply(payload);
+    if 28 + u64::from(largest) <= u64::from(down) {
+        return (None, None);
+    }
+    match write_offer(payload) {
+        Some(len) => (Some(len), None),
+        None => (None, Some(largest)),
+    }
+}
+
+/// The first way in which the Send has at most `up` bytes: inline, with the item in a chunk, all in a chunk.
+fn auto_way(payload: &[u8], write: Option<u32>, reply: Option<u32>, up: u32) -> Way
+    ensures plan { plan_by payload.now result write reply ≡ auto_plan payload.now up (plan_by payload.now Way.Inline write reply) }
+    ensures fits { WayFits payload.now result }
+{
+    let inline = Outline {
+        way: Way::Inline,
+        write,
+        reply,
+    };
+    let inline_size = send_size(payload, inline);
+    if inline_size <= u128::from(up) {
+        return Way::Inline;
+    }
+    match reducible_item(&Of::Call, payload) {
+        Some(item) => {
+            let reduced = Outline {
+                way: Way::Reduced(item),
+                write,
+                reply,
+            };
+            let reduced_size = send_size(payload, reduced);
+            if reduced_size <= u128::from(up) {
+                Way::Reduced(item)
+            } else {
+                Way::Long
+            }
+        }
+        None => Way::Long,
+    }
+}
+
+/// The form that is left open.
+pub(crate) fn auto_outline(payload: &[u8], up: u32, down: u32) -> Outline
+    ensures plan { outlined payload.now result ≡ auto_plan payload.now up (auto_offer payload.now down (inline_plan payload.now)) }
+    ensures fits { WayFits payload.now result.way }
+{
+    let (write, reply) = auto_offer(payload, down);
+    Outline {
+        way: auto_way(payload, write, reply, up),
+        write,
+        reply,
+    }
+}
+
+/// Nothing in chunks.
+pub(crate) fn inline_outline() -> Outline
+    ensures { result ≡ record { way = Way.Inline; write = None; reply = None } }
+{
+    Outline {
+        way: Way::Inline,
+        write: None,
+        reply: None,
+    }
+}
+
+/// The item in a chunk, and a write chunk for that of the reply, where there are such.
+#[tactic(auto, unfolding(crate::specs::Plans::reduced))]
+pub(crate) fn chunk_outline(payload: &[u8]) -> Outline
+    ensures plan { outlined payload.now result ≡ reduced payload.now (record (inline_plan payload.now) { write = chunk_for (write_offer payload.now) }) }
+    ensures fits { WayFits payload.now result.way }
+{
+    let way = match reducible_item(&Of::Call, payload) {
+        Some(item) => Way::Reduced(item),
+        None => Way::Inline,
+    };
+    Outline {
+        way,
+        write: write_offer(payload),
+        reply: None,
+    }
+}
+
+/// All in chunks.
+pub(crate) fn long_outline(payload: &[u8]) -> Outline
+    ensures plan { outlined payload.now result ≡ lengthened payload.now (record (inline_plan payload.now) { reply = chunk_for (Some (largest_reply payload.now)) }) }
+    ensures fits { WayFits payload.now result.way }
+{
+    Outline {
+        way: Way::Long,
+        write: None,
+        reply: Some(largest_reply(payload)),
+    }
+}

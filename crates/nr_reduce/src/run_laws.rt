@@ -1,0 +1,85 @@
+//! Laws of runs: what both ends of a link cite, and what holds of every run.
+
+ghost use Rattle.nr_reduce.specs.RunLaws.{ClientAfterMark, ServerAfterMark, ClientOutputAfterMark, ServerOutputAfterMark, EndedClientStays, EndedServerStays, FullHoldsSoFar, SoFarHoldsBefore, AskedWithMark, ServedWithMark, ClientBegins, ServerBegins, EventsOfInput, ClientStandsOn, ServerStandsOn, ClientQueueIsDue, ServerQueueIsDue, ClientAllows, ServerAllows, AcceptedKeepsLaw, SubmitIsSent, HelloSendsCalls, PayloadHasItsXid, ExecuteIsAnswered, RefusedSendIsAnswered, OpenReadsAreFew, PlanIsAccepted, SendIsExecutedOnce, CallCompletesOnce, XidsRise, PlacesRise};
+
+/// One mark more: the state of an end, and the output due, are those before with the events of the mark.
+pub fn one_mark_more()
+    ensures client { ClientAfterMark }
+    ensures client_output { ClientOutputAfterMark }
+    ensures server { ServerAfterMark }
+    ensures server_output { ServerOutputAfterMark }
+{}
+
+/// An end that has ended stays as it is, and writes nothing more.
+pub fn ended_ends_stay()
+    ensures client { EndedClientStays }
+    ensures server { EndedServerStays }
+{}
+
+/// The laws of a link so far hold of each first part of a run of which they hold, in full or so far, and of one mark more
+/// that keeps them.
+pub fn laws_so_far()
+    ensures full { FullHoldsSoFar }
+    ensures before { SoFarHoldsBefore }
+    ensures asked { AskedWithMark }
+    ensures served { ServedWithMark }
+{}
+
+/// What an end keeps stands for the marks of its link: as it is opened, and from mark to mark. What it writes from its
+/// queue is due.
+pub fn ends_stand_for_marks()
+    ensures client_begins { ClientBegins }
+    ensures server_begins { ServerBegins }
+    ensures events { EventsOfInput }
+    ensures client { ClientStandsOn }
+    ensures server { ServerStandsOn }
+    ensures client_queue { ClientQueueIsDue }
+    ensures server_queue { ServerQueueIsDue }
+{}
+
+/// Whatever bytes a peer sends, an access that isn't allowed ends the side that it reaches: a frame that doesn't end it
+/// lacks nothing of what the side offers there.
+pub fn accesses_are_allowed()
+    ensures client { ClientAllows }
+    ensures server { ServerAllows }
+{}
+
+/// A call that a client accepts keeps the law of its side: it goes under the next xid by its plan, with numbers that are
+/// left, while fewer calls are outstanding than are granted.
+pub fn accepted_calls_keep_the_law()
+    ensures { AcceptedKeepsLaw }
+{}
+
+/// An accepted call is sent by its plan: at its Submit, once the server's hello was received, else with that hello.
+pub fn submits_are_sent()
+    ensures submit { SubmitIsSent }
+    ensures hello { HelloSendsCalls }
+{}
+
+/// An executed call's payload begins with a call head of its xid. It is answered by RDMA Writes into what it offered and
+/// then one Send, or by ERR_CHUNK where its offer doesn't hold the reply. A Send that is refused is answered by one error
+/// message, and never executed. At most eight Read Requests are open.
+pub fn sends_are_answered()
+    ensures head { PayloadHasItsXid }
+    ensures executed_call { ExecuteIsAnswered }
+    ensures refused_send { RefusedSendIsAnswered }
+    ensures open_reads { OpenReadsAreFew }
+{}
+
+/// The message of a plan whose form isn't given is never refused by a server: it makes its call pending, with the lists
+/// of the plan.
+pub fn plans_are_opened()
+    ensures { PlanIsAccepted }
+{}
+
+/// No Send is executed twice, whatever the peer sends; no call completes twice; no xid is given twice.
+pub fn nothing_twice()
+    ensures executes { SendIsExecutedOnce }
+    ensures completes { CallCompletesOnce }
+    ensures xids { XidsRise }
+{}
+
+/// Places in the one journal rise along a run: what is executed later has a place that isn't smaller.
+pub fn places_rise()
+    ensures { PlacesRise }
+{}

@@ -1,0 +1,253 @@
+//! Items of calls and replies, what is cut and put together again, and how long replies may be.
+
+use crate::compare::same;
+use crate::{MOUNT, NFS, Payload, call_of, payload_of, put_text, put_words};
+use nr_reduce::{
+    Item, Mismatch, Of, PayloadFault, call_item, cut, largest_reply, rebuild, rebuild_undoes_cut,
+    reducible_item,
+};
+use std::alloc::{AllocError, Global};
+
+const READ: u32 = 6;
+
+const READLINK: u32 = 5;
+
+/// The words of a reply before its data: the head with this accept status, the status, attributes (RFC 1813 section 2.5),
+/// and for READ a count of 5 and the end.
+const ATTRIBUTES: [u32; 22] = [
+    1, 1, 438, 1, 0, 0, 0, 5, 0, 5, 0, 0, 0, 1, 0, 2, 0, 0, 0, 0, 0, 0,
+];
+
+fn reply_of(
+    alloc: Global,
+    accepted: u32,
+    status: u32,
+    results: &[u32],
+) -> Result<Vec<u8>, AllocError> {
+    let mut out = Vec::new(alloc);
+    put_words(&mut out, &[9, 1, 0, 0, 0, accepted, status])?;
+    put_words(&mut out, &ATTRIBUTES)?;
+    put_words(&mut out, results)?;
+    put_text(&mut out, 5)?;
+    Ok(out)
+}
+
+fn item_of_call(
+    alloc: Global,
+    payload: Payload,
+) -> Result<(Option<Item>, Option<Item>), AllocError> {
+    let bytes = payload_of(alloc, payload)?;
+    Ok((call_item(&bytes), reducible_item(&Of::Call, &bytes)))
+}
+
+const ITEM: Option<Item> = Some(Item { pos: 72, len: 5 });
+
+/// Calls, their items, and the items of those that can be cut.
+const CALLS: [(Payload, Option<Item>, Option<Item>); 7] = [
+    (Payload::Write(5), ITEM, ITEM),
+    (Payload::WriteFront(5), ITEM, None),
+    (
+        Payload::Symlink(6),
+        Some(Item { pos: 88, len: 6 }),
+        Some(Item { pos: 88, len: 6 }),
+    ),
+    (Payload::Read(5), None, None),
+    (Payload::Readlink, None, None),
+    (Payload::Mnt(5), None, None),
+    (Payload::Zeros(80), None, None),
+];
+
+#[test]
+fn items_of_calls(rt: HostRuntime) -> Result<(), AllocError> {
+    for (row, (payload, item, reducible)) in CALLS.iter().enumerate() {
+        same(
+            &rt,
+            row,
+            item_of_call(rt.alloc(), *payload)?,
+            (*item, *reducible),
+        );
+    }
+    Ok(())
+}
+
+/// A program, a version and a procedure, the accept status, the status and the words behind the attributes of a reply, and
+/// its item: 24 bytes of head, a status, attributes of 88 bytes, those words, a length word.
+const REPLIES: [(u32, u32, u32, u32, u32, &[u32], Option<Item>); 8] = [
+    (NFS, 3, READ, 0, 0, &[5, 1], Some(Item { pos: 128, len: 5 })),
+    (NFS, 3, READLINK, 0, 0, &[], Some(Item { pos: 120, len: 5 })),
+    (NFS, 3, READLINK, 0, 0, &[5, 1], None),
+    (NFS, 3, 7, 0, 0, &[5, 1], None),
+    (NFS, 2, READ, 0, 0, &[5, 1], None),
+    (MOUNT, 3, READ, 0, 0, &[5, 1], None),
+    (NFS, 3, READ, 1, 0, &[5, 1], None),
+    (NFS, 3, READ, 0, 13, &[5, 1], None),
+];
+
+#[test]
+fn items_of_replies(rt: HostRuntime) -> Result<(), AllocError> {
+    for (row, (prog, vers, proc, accepted, status, results, want)) in REPLIES.iter().enumerate() {
+        let bytes = reply_of(rt.alloc(), *accepted, *status, results)?;
+        let of = Of::Reply {
+            prog: *prog,
+            vers: *vers,
+            proc: *proc,
+        };
+        same(&rt, row, reducible_item(&of, &bytes), *want);
+    }
+    Ok(())
+}
+
+/// WRITE of HELLO to file 2 at offset 0, before its data.
+const HELLO: [u32; 8] = [8, 0, 2, 0, 0, 5, 2, 5];
+
+/// That call with these bytes as its data.
+fn hello(alloc: Global, text: &[u8]) -> Result<Vec<u8>, AllocError> {
+    let mut whole = call_of(alloc, NFS, 7, &HELLO)?;
+    whole.extend_from_slice(text)?;
+    Ok(whole)
+}
+
+/// Whether the payload that is put together has HELLO and a zero pad.
+fn is_hello(
+    alloc: Global,
+    stream: &[u8],
+    pos: u32,
+    moved: &[u8],
+) -> Result<Result<bool, PayloadFault>, AllocError> {
+    let whole = hello(alloc, b"HELLO\0\0\0")?;
+    match rebuild(alloc, &Of::Call, stream, pos, moved) {
+        Ok(payload) => Ok(Ok(payload.as_slice() == whole.as_slice())),
+        Err(fault) => Ok(Err(fault)),
+    }
+}
+
+/// The position of a read chunk and its bytes.
+const CHUNKS: [(u32, &[u8], Option<Mismatch>); 5] = [
+    (72, b"HELLO", None),
+    (72, b"HELLO\0\0\x07", None),
+    (72, b"HELLO\0", Some(Mismatch::Length)),
+    (2, b"HELLO", Some(Mismatch::Position)),
+    (2, b"HELLO\0", Some(Mismatch::Position)),
+];
+
+#[test]
+fn streams_are_rebuilt(rt: HostRuntime) -> Result<(), AllocError> {
+    rebuild_undoes_cut();
+    let stream = hello(rt.alloc(), b"")?;
+    for (row, (pos, moved, want)) in CHUNKS.iter().enumerate() {
+        let want = match *want {
+            Some(why) => Err(PayloadFault::BadChunks { why }),
+            None => Ok(true),
+        };
+        same(&rt, row, is_hello(rt.alloc(), &stream, *pos, moved)?, want);
+    }
+    same(&rt, 5, Mismatch::Length as u8, 3);
+    Ok(())
+}
+
+#[test]
+fn no_item_in_getattr(rt: HostRuntime) -> Result<(), AllocError> {
+    let why = Mismatch::NoItem;
+    let getattr = payload_of(rt.alloc(), Payload::Getattr)?;
+    let got = is_hello(rt.alloc(), &getattr, 52, b"HELLO")?;
+    same(&rt, 0, got, Err(PayloadFault::BadChunks { why }));
+    Ok(())
+}
+
+/// The item of what is cut, and the lengths of its stream and its content.
+fn cut_of(alloc: Global, text: &[u8]) -> Result<Option<(Item, usize, usize)>, AllocError> {
+    let payload = hello(alloc, text)?;
+    match cut(alloc, &payload, &Of::Call) {
+        Ok(Some(cut)) => Ok(Some((cut.item, cut.stream.len(), cut.moved.len()))),
+        _ => Ok(None),
+    }
+}
+
+/// The pad, a pad that isn't zero, a byte too few and one too many.
+#[test]
+fn whole_items_are_cut(rt: HostRuntime) -> Result<(), AllocError> {
+    let rows: [(&[u8], bool); 4] = [
+        (b"HELLO\0\0\0", true),
+        (b"HELLO\0\0\x07", false),
+        (b"HELLO\0\0", false),
+        (b"HELLO\0\0\0\0", false),
+    ];
+    for (row, (text, is_cut)) in rows.iter().enumerate() {
+        let want = if *is_cut {
+            Some((Item { pos: 72, len: 5 }, 72, 5))
+        } else {
+            None
+        };
+        same(&rt, row, cut_of(rt.alloc(), text)?, want);
+    }
+    Ok(())
+}
+
+/// The most bytes of a reply, by the procedure of NFS (RFC 1813 section 3.3).
+const SIZES: [(u32, u32); 20] = [
+    (0, 32),
+    (1, 112),
+    (2, 144),
+    (3, 272),
+    (4, 120),
+    (5, 1144),
+    (7, 160),
+    (8, 304),
+    (9, 304),
+    (10, 304),
+    (11, 304),
+    (12, 144),
+    (13, 144),
+    (14, 260),
+    (15, 232),
+    (18, 168),
+    (19, 164),
+    (20, 140),
+    (21, 152),
+    (22, 32),
+];
+
+fn limit_of(alloc: Global, prog: u32, proc: u32, arguments: &[u32]) -> Result<u32, AllocError> {
+    let bytes = call_of(alloc, prog, proc, arguments)?;
+    Ok(largest_reply(&bytes))
+}
+
+#[test]
+fn replies_have_limits(rt: HostRuntime) -> Result<(), AllocError> {
+    for (proc, want) in SIZES {
+        let got = limit_of(rt.alloc(), NFS, proc, &[8, 0, 2])?;
+        same(&rt, proc as usize, got, want);
+    }
+    same(&rt, 22, limit_of(rt.alloc(), MOUNT, 1, &[])?, 108);
+    same(&rt, 23, largest_reply(&[]), 32);
+    Ok(())
+}
+
+/// READ by its count, up to 32768; READDIR by its count and READDIRPLUS by the second of its counts.
+const COUNTS: [(u32, &[u32], u32); 12] = [
+    (6, &[8, 0, 2, 0, 0, 0], 128),
+    (6, &[8, 0, 2, 0, 0, 5], 136),
+    (6, &[8, 0, 2, 0, 0, 32768], 32896),
+    (6, &[8, 0, 2, 0, 0, 32769], 32896),
+    (6, &[8, 0, 2, 0, 0], 32),
+    (16, &[8, 0, 4, 0, 0, 0, 0, 88], 116),
+    (16, &[8, 0, 4, 0, 0, 0, 0, 89], 117),
+    (16, &[8, 0, 4, 0, 0, 0, 0, 40000], 32796),
+    (16, &[8, 0, 4, 0, 0, 0, 0], 32),
+    (17, &[8, 0, 4, 0, 0, 0, 0, 7, 4096], 4124),
+    (17, &[8, 0, 4, 0, 0, 0, 0, 4096], 32),
+    (17, &[8, 0, 4, 0, 0, 0, 0, 7, 40000], 32796),
+];
+
+#[test]
+fn replies_have_limits_by_counts(rt: HostRuntime) -> Result<(), AllocError> {
+    for (row, (proc, arguments, want)) in COUNTS.iter().enumerate() {
+        same(
+            &rt,
+            row,
+            limit_of(rt.alloc(), NFS, *proc, arguments)?,
+            *want,
+        );
+    }
+    Ok(())
+}

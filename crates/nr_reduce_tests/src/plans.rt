@@ -1,0 +1,400 @@
+//! Plans of calls.
+
+use crate::Payload::{Getattr, Mnt, Read, Readlink, Symlink, Write, Zeros};
+use crate::Way::{Auto, Chunk, Inline, Long, Offer};
+use crate::compare::same;
+use crate::{Given, Payload, Way, form_of, payload_of};
+use nr_reduce::{Lengths, PayloadFault, Plan, plan, plans_are_undone};
+use std::alloc::{AllocError, Global};
+
+/// What a plan has: the length of its inline stream, the place and the segments of its read chunk and the length of its
+/// region, the segments of a write chunk and of a reply chunk.
+#[derive(Clone, Copy, Debug, PartialEq)]
+struct Shape<'a>(
+    usize,
+    Option<u32>,
+    &'a [u32],
+    usize,
+    Option<&'a [u32]>,
+    Option<&'a [u32]>,
+);
+
+fn list_of(lengths: &Option<Lengths>) -> Option<&[u32]> {
+    match lengths {
+        Some(lengths) => Some(lengths.as_slice()),
+        None => None,
+    }
+}
+
+fn shape_of(plan: &Plan) -> Shape<'_> {
+    Shape(
+        plan.inline.len(),
+        plan.read_at,
+        plan.read.as_slice(),
+        plan.region.len(),
+        list_of(&plan.write),
+        list_of(&plan.reply),
+    )
+}
+
+/// What is planned, or the first room that is passed.
+#[derive(Clone, Copy, Debug, PartialEq)]
+enum Want<'a> {
+    Planned(Shape<'a>),
+    Large(u128, u32),
+    Other,
+}
+
+use Want::{Large, Planned};
+
+/// A call, a form, the sizes of Sends up and down, and what is to come.
+struct Row(Payload, Way, u32, u32, Want<'static>);
+
+/// The sizes: a header has 28 bytes, a read entry 24, a write chunk 8 and 16 for each segment, a reply chunk 4 and 16 for
+/// each (RFC 8166 section 4.3). Before the data of WRITE stand 72 bytes, before the path of SYMLINK 88.
+const TABLE: &[Row] = &[
+    // 28 + 72 + 924 = 1024; of 925 bytes the pad ends at 928
+    Row(
+        Write(924),
+        Auto,
+        1024,
+        1024,
+        Planned(Shape(996, None, &[], 0, None, None)),
+    ),
+    Row(
+        Write(925),
+        Auto,
+        1024,
+        1024,
+        Planned(Shape(72, Some(72), &[925], 925, None, None)),
+    ),
+    Row(Write(925), Inline, 1024, 1024, Large(1028, 1024)),
+    // 28 + 128 + 868 = 1024
+    Row(
+        Read(868),
+        Auto,
+        1024,
+        1024,
+        Planned(Shape(64, None, &[], 0, None, None)),
+    ),
+    Row(
+        Read(869),
+        Auto,
+        1024,
+        1024,
+        Planned(Shape(64, None, &[], 0, Some(&[869]), None)),
+    ),
+    // 28 + 1068 = 1096, and no item: all in a chunk. The reply has 108 bytes.
+    Row(
+        Mnt(1024),
+        Auto,
+        1024,
+        1024,
+        Planned(Shape(0, Some(0), &[1068], 1068, None, None)),
+    ),
+    // each form with each procedure that has an item
+    Row(
+        Write(5),
+        Auto,
+        1024,
+        1024,
+        Planned(Shape(80, None, &[], 0, None, None)),
+    ),
+    Row(
+        Write(5),
+        Inline,
+        1024,
+        1024,
+        Planned(Shape(80, None, &[], 0, None, None)),
+    ),
+    Row(
+        Write(5),
+        Chunk,
+        1024,
+        1024,
+        Planned(Shape(72, Some(72), &[5], 5, None, None)),
+    ),
+    Row(
+        Write(5),
+        Long,
+        1024,
+        1024,
+        Planned(Shape(0, Some(0), &[80], 80, None, Some(&[160]))),
+    ),
+    Row(
+        Symlink(1000),
+        Auto,
+        1024,
+        1024,
+        Planned(Shape(88, Some(88), &[1000], 1000, None, None)),
+    ),
+    Row(
+        Symlink(5),
+        Inline,
+        1024,
+        1024,
+        Planned(Shape(96, None, &[], 0, None, None)),
+    ),
+    Row(
+        Symlink(5),
+        Chunk,
+        1024,
+        1024,
+        Planned(Shape(88, Some(88), &[5], 5, None, None)),
+    ),
+    Row(
+        Symlink(5),
+        Long,
+        1024,
+        1024,
+        Planned(Shape(0, Some(0), &[96], 96, None, Some(&[304]))),
+    ),
+    Row(
+        Read(40000),
+        Auto,
+        1024,
+        1024,
+        Planned(Shape(64, None, &[], 0, Some(&[32768]), None)),
+    ),
+    Row(
+        Read(5),
+        Inline,
+        1024,
+        1024,
+        Planned(Shape(64, None, &[], 0, None, None)),
+    ),
+    Row(
+        Read(5),
+        Chunk,
+        1024,
+        1024,
+        Planned(Shape(64, None, &[], 0, Some(&[5]), None)),
+    ),
+    Row(
+        Read(5),
+        Long,
+        1024,
+        1024,
+        Planned(Shape(0, Some(0), &[64], 64, None, Some(&[136]))),
+    ),
+    Row(
+        Readlink,
+        Auto,
+        1024,
+        1024,
+        Planned(Shape(52, None, &[], 0, Some(&[1024]), None)),
+    ),
+    Row(
+        Readlink,
+        Inline,
+        1024,
+        1024,
+        Planned(Shape(52, None, &[], 0, None, None)),
+    ),
+    Row(
+        Readlink,
+        Chunk,
+        1024,
+        1024,
+        Planned(Shape(52, None, &[], 0, Some(&[1024]), None)),
+    ),
+    Row(
+        Readlink,
+        Long,
+        1024,
+        1024,
+        Planned(Shape(0, Some(0), &[52], 52, None, Some(&[1144]))),
+    ),
+    // and one that has none
+    Row(
+        Getattr,
+        Chunk,
+        1024,
+        1024,
+        Planned(Shape(52, None, &[], 0, None, None)),
+    ),
+    Row(
+        Getattr,
+        Long,
+        1024,
+        1024,
+        Planned(Shape(0, Some(0), &[52], 52, None, Some(&[112]))),
+    ),
+    // payloads of 40960 bytes and one more
+    Row(
+        Zeros(40960),
+        Long,
+        1024,
+        1024,
+        Planned(Shape(0, Some(0), &[40960], 40960, None, Some(&[32]))),
+    ),
+    Row(Zeros(40961), Long, 1024, 1024, Large(40961, 40960)),
+    Row(Zeros(40961), Inline, 1024, 1024, Large(40961, 40960)),
+    Row(
+        Zeros(40961),
+        Offer(Given(0, None, Some(&[65537]), None)),
+        1024,
+        1024,
+        Large(40961, 40960),
+    ),
+    Row(
+        Write(40888),
+        Auto,
+        1024,
+        1024,
+        Planned(Shape(72, Some(72), &[40888], 40888, None, None)),
+    ),
+    Row(Write(40889), Auto, 1024, 1024, Large(40964, 40960)),
+    // offers of 65536 bytes and one more, in sums that pass 2^32, and whose Send passes 1024: 28 + 8 + 61 * 16 + 52
+    Row(
+        Getattr,
+        Offer(Given(0, None, Some(&[65536]), None)),
+        1024,
+        1024,
+        Planned(Shape(52, None, &[], 0, Some(&[65536]), None)),
+    ),
+    Row(
+        Getattr,
+        Offer(Given(0, None, Some(&[65536, 1]), None)),
+        1024,
+        1024,
+        Large(65537, 65536),
+    ),
+    Row(
+        Getattr,
+        Offer(Given(40, Some(&[1]), Some(&[32768]), Some(&[32767]))),
+        1024,
+        1024,
+        Planned(Shape(40, Some(40), &[1], 1, Some(&[32768]), Some(&[32767]))),
+    ),
+    Row(
+        Getattr,
+        Offer(Given(40, Some(&[2]), Some(&[32768]), Some(&[32767]))),
+        1024,
+        1024,
+        Large(65537, 65536),
+    ),
+    Row(
+        Getattr,
+        Offer(Given(
+            0,
+            None,
+            Some(&[4294967295, 4294967295]),
+            Some(&[4294967295]),
+        )),
+        1024,
+        1024,
+        Large(12884901885, 65536),
+    ),
+    Row(
+        Getattr,
+        Offer(Given(0, None, Some(&[0; 61]), None)),
+        1024,
+        1024,
+        Large(1064, 1024),
+    ),
+    // a chunk without segments; a read chunk within the payload and past its end
+    Row(
+        Getattr,
+        Offer(Given(0, None, Some(&[]), None)),
+        1024,
+        1024,
+        Planned(Shape(52, None, &[], 0, Some(&[]), None)),
+    ),
+    Row(
+        Write(5),
+        Offer(Given(72, Some(&[6]), None, None)),
+        1024,
+        1024,
+        Planned(Shape(72, Some(72), &[6], 6, None, None)),
+    ),
+    Row(
+        Getattr,
+        Offer(Given(100, Some(&[4]), None, None)),
+        1024,
+        1024,
+        Planned(Shape(52, Some(100), &[4], 4, None, None)),
+    ),
+    // larger Sends, each direction by itself
+    Row(
+        Write(1948),
+        Auto,
+        2048,
+        1024,
+        Planned(Shape(2020, None, &[], 0, None, None)),
+    ),
+    Row(
+        Write(1949),
+        Auto,
+        2048,
+        1024,
+        Planned(Shape(72, Some(72), &[1949], 1949, None, None)),
+    ),
+    Row(
+        Read(1892),
+        Auto,
+        1024,
+        2048,
+        Planned(Shape(64, None, &[], 0, None, None)),
+    ),
+    Row(
+        Read(1893),
+        Auto,
+        1024,
+        2048,
+        Planned(Shape(64, None, &[], 0, Some(&[1893]), None)),
+    ),
+];
+
+fn planned(
+    alloc: Global,
+    payload: Payload,
+    way: Way,
+    up: u32,
+    down: u32,
+) -> Result<Result<Plan, PayloadFault>, AllocError> {
+    let bytes = payload_of(alloc, payload)?;
+    let form = form_of(alloc, way)?;
+    Ok(plan(alloc, &bytes, &form, up, down))
+}
+
+fn seen(plan: &Result<Plan, PayloadFault>) -> Want<'_> {
+    match plan {
+        Ok(plan) => Planned(shape_of(plan)),
+        Err(PayloadFault::TooLarge { need, room }) => Large(*need, *room),
+        Err(_) => Want::Other,
+    }
+}
+
+#[test]
+fn each_row_is_planned(rt: HostRuntime) -> Result<(), AllocError> {
+    plans_are_undone();
+    for (row, Row(payload, way, up, down, want)) in TABLE.iter().enumerate() {
+        let got = planned(rt.alloc(), *payload, *way, *up, *down)?;
+        same(&rt, row, seen(&got), *want);
+    }
+    Ok(())
+}
+
+/// The bytes of a read chunk's region: those of a WRITE's payload from its place on, and zeros behind them.
+const REGIONS: [(Way, &[u8]); 4] = [
+    (Chunk, b"aaaaa"),
+    (Offer(Given(72, Some(&[2, 4]), None, None)), b"aaaaa\0"),
+    (Offer(Given(76, Some(&[6]), None, None)), b"a\0\0\0\0\0"),
+    (Offer(Given(90, Some(&[2]), None, None)), b"\0\0"),
+];
+
+fn has_region(alloc: Global, way: Way, want: &[u8]) -> Result<bool, AllocError> {
+    match planned(alloc, Write(5), way, 1024, 1024)? {
+        Ok(plan) => Ok(plan.region.as_slice() == want),
+        Err(_) => Ok(false),
+    }
+}
+
+#[test]
+fn regions_hold_the_payload(rt: HostRuntime) -> Result<(), AllocError> {
+    for (row, (way, want)) in REGIONS.iter().enumerate() {
+        same(&rt, row, has_region(rt.alloc(), *way, want)?, true);
+    }
+    Ok(())
+}
