@@ -1,0 +1,1 @@
+-- The tree that a drill begins with.
