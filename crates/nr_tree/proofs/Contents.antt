@@ -39,7 +39,7 @@ pub found_none : (b : Bool) (x : Entry) (o : Option Entry) → cond b (Some x) o
 found_none true x o e = absurd cc
 found_none false x o e = (refl, e)
 
-none_append : (name : List ℕ) (es : List Entry) (e : Entry) → entry_of_name name es ≡ None → is_name name e ≡ false → entry_of_name name (es ++ e ∷ []) ≡ None
+pub none_append : (name : List ℕ) (es : List Entry) (e : Entry) → entry_of_name name es ≡ None → is_name name e ≡ false → entry_of_name name (es ++ e ∷ []) ≡ None
 none_append name [] e z f = ap (λ (b : Bool). cond b (Some e) None) f
 none_append name (x ∷ es) e z f =
     let p : (is_name name x ≡ false) × (entry_of_name name es ≡ None) = found_none (is_name name x) x (entry_of_name name es) z in

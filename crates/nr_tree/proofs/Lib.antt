@@ -19,3 +19,5 @@ pub mod ByteLemmas
 pub mod Roots
 pub mod RemovalReady
 pub mod StepLemmas
+pub mod ListingLemmas
+pub mod DrillLemmas

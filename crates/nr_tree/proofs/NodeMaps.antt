@@ -84,7 +84,7 @@ pub known : (es : List (ℕ × Node)) (k : ℕ) (P : Node → Type 0) (v : Node)
     → IfSome (get (nodes_of es) k) P → P v
 known es k P v had h = subst (λ o. IfSome o P) (get_node es k ∙ had) h
 
-other_key : (q k : ℕ) → (q ≡ k → ⊥) → eq_by_cmp nat_cmp q k ≡ false
+pub other_key : (q k : ℕ) → (q ≡ k → ⊥) → eq_by_cmp nat_cmp q k ≡ false
 other_key q k ne = grind (arith, nat_tests)
 
 -- what is known of one node stays known where another is put in

@@ -28,10 +28,14 @@ entries_at t n = value_at entries_in [] t.nodes n
 abbrev pub links_at : Tree → ℕ → ℕ
 links_at t n = value_at (λ node. node.metadata.links) 0 t.nodes n
 
--- numbers and cookies are far from the end of 64 bits
-pub record IsBounded (t : Tree) : Type 0 where
-  pub next : t.next < 2 ^ 63
-  pub cookies : (n : ℕ) (node : Node) → get t.nodes n ≡ Some node → next_cookie_of node.content < 2 ^ 63
+-- the next number and each next cookie are below a limit
+pub record IsBelow (limit : ℕ) (t : Tree) : Type 0 where
+  pub next : t.next < limit
+  pub cookies : (n : ℕ) (node : Node) → get t.nodes n ≡ Some node → next_cookie_of node.content < limit
+
+-- far from the end of 64 bits
+abbrev pub IsBounded : Tree → Type 0
+IsBounded t = IsBelow (2 ^ 63) t
 
 -- a name that a directory may get: it is free there, and has 1 to 255 bytes
 pub record IsFree (s : Skeleton) (d : ℕ) (name : List ℕ) : Type 0 where

@@ -34,7 +34,8 @@ impl Model for Directory {
 }
 
 impl Directory {
-    ghost use Rattle.nr_tree.specs.Entries.{Entries, entry_of_name, entries_with, entries_without};
+    ghost use Rattle.nr_tree.specs.Entries.{Entries, entry_of_name, entries_with, entries_without, CookiesAscend};
+    ghost use Rattle.nr_tree.specs.Listing.{entries_after};
 
     /// No entries; the first one's cookie is 1. Takes no memory.
     pub fn new(alloc: Global) -> Self
@@ -89,6 +90,25 @@ impl Directory {
         }
     }
 
+    /// The place of the first entry with a cookie above the given one, or how many entries there are. The entries from there on
+    /// are those that a listing goes on with (RFC 1813 section 3.3.16). The place is found by halving.
+    pub fn place_after(&self, cookie: u64) -> usize
+        requires { CookiesAscend 1 self.now.list self.now.next_cookie }
+        ensures within { result ≤ length self.now.list }
+        ensures entries { drop result self.now.list ≡ entries_after cookie self.now.list }
+    {
+        place_above(self, cookie)
+    }
+
+    /// The cookie of the entry at a place.
+    fn cookie_at(&self, index: usize) -> u64
+        requires { index < length self.now.list }
+        ensures { option_map (λ e. e.cookie) (slice_get self.now.list index) ≡ Some result }
+    {
+        let (_, slot) = self.entry_at(index);
+        slot.cookie
+    }
+
     /// How many entries there are.
     pub fn len(&self) -> usize
         ensures { result ≡ length self.now.list }
@@ -114,4 +134,26 @@ fn take_out(slots: &mut IndexMap<Vec<u8>, Slot>, name: &[u8])
     ensures { entries_of slots.new.entries ≡ list_without name.now (entries_of slots.old.entries) }
 {
     slots.shift_remove(name);
+}
+
+ghost use Rattle.nr_tree.specs.Entries.{CookiesAscend};
+ghost use Rattle.nr_tree.specs.Listing.{entries_after};
+ghost use Rattle.std.specs.Prelude.{drop, ◌≤◌};
+
+fn place_above(directory: &Directory, cookie: u64) -> usize
+    requires { CookiesAscend 1 directory.now.list directory.now.next_cookie }
+    ensures within { result ≤ length directory.now.list }
+    ensures entries { drop result directory.now.list ≡ entries_after cookie directory.now.list }
+{
+    let mut low = 0;
+    let mut high = directory.len();
+    while low < high {
+        let middle = low + (high - low) / 2;
+        if directory.cookie_at(middle) <= cookie {
+            low = middle + 1;
+        } else {
+            high = middle;
+        }
+    }
+    low
 }

@@ -31,6 +31,13 @@ impl File {
         }
     }
 
+    /// A file of the bytes of a vector. Takes no memory.
+    pub fn from_vec(bytes: Vec<u8>) -> File
+        ensures { result ≡ bytes.items }
+    {
+        File { bytes }
+    }
+
     /// How many bytes there are.
     pub fn len(&self) -> u64
         ensures { result ≡ length self.now }

@@ -2,6 +2,7 @@
 #![tactic(auto)]
 
 mod directory;
+mod drill;
 mod file;
 mod node;
 mod nodes;

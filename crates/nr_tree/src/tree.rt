@@ -5,9 +5,10 @@ ghost use Rattle.std.specs.Option.{option_copied, option_map};
 ghost use Rattle.std.specs.Ordering.{nat_cmp};
 ghost use Rattle.std.specs.FinMap as map;
 
-use crate::node::{Metadata, Node};
+use crate::directory::Directory;
+use crate::node::{Content, Metadata, Node};
 use crate::nodes::{
-    add_entry_to, add_link_to, drop_name_of, find, insert_with_entry, is_dir_at, remove_entry_from,
+    add_entry_to, add_link_to, drop_name_of, find, insert, insert_with_entry, is_dir_at, remove_entry_from,
     set_metadata_of, size_node, write_node,
 };
 use nr_nfs_base::Time;
@@ -39,6 +40,18 @@ impl Tree {
     ghost use Rattle.nr_tree.specs.Tree.{Tree, is_dir as is_directory, is_regular as is_regular_file};
     ghost use Rattle.nr_tree.specs.Changes.{tree_with_node, tree_without_entry, tree_with_link, tree_with_bytes, tree_with_size, tree_with_metadata};
     ghost use Rattle.nr_tree.specs.Room.{HasRoomFor};
+    ghost use Rattle.nr_tree.specs.Roots.{root_only as root_alone};
+    ghost use Rattle.nr_tree.specs.Sane.{IsSane};
+
+    /// The tree with a root alone, which is made now: number 1, mode 0777, uid 0, gid 0. The next number is 2.
+    pub fn root_only(alloc: Global, now: Time) -> Result<Tree, Memory>
+        ensures ok { IfOk result (λ t. t ≡ root_alone now) }
+        ensures sane { IfOk result IsSane }
+    {
+        let mut nodes = BTreeMap::new(alloc);
+        insert(&mut nodes, 1, root_node(alloc, now))?;
+        Ok(Tree { next: 2, nodes })
+    }
 
     /// The node under a number.
     pub fn get(&self, number: u64) -> Option<&Node>
@@ -140,3 +153,26 @@ impl Tree {
         set_metadata_of(&mut self.nodes, number, metadata);
     }
 }
+
+/// The root of a tree that is made now.
+fn root_node(alloc: Global, now: Time) -> Node
+    ensures { result ≡ new_root now }
+{
+    let metadata = Metadata {
+        mode: 0o777,
+        links: 2,
+        uid: 0,
+        gid: 0,
+        atime: now,
+        mtime: now,
+        ctime: now,
+    };
+    Node {
+        metadata,
+        parent: 1,
+        verifier: None,
+        content: Content::Directory(Directory::new(alloc)),
+    }
+}
+
+ghost use Rattle.nr_tree.specs.Roots.{root_node as new_root};
