@@ -201,7 +201,6 @@ with_many = tree_with_node with_link time_zero 1 many (many_node 0)
 abbrev root_with : ℕ → ℕ → List Entry → Node
 root_with links cookie es = drill_node mode_777 links 1 (Directory (record { next_cookie = cookie; list = es }))
 
-
 no_two : ◌≡◌ {A = ℕ} 1 2 → ⊥
 no_two z = omega (arith, z)
 
@@ -283,7 +282,7 @@ pub below_as : (i k limit : ℕ) (t new : Tree) (v : Node) → v ≡ file_node �
 below_as i k limit t new v q one low is below made =
     subst (λ (n : ℕ). IsBelow n new) (sym one)
     (subst (IsBelow (limit + 1)) (sym (made ∙ ap (λ (w : Node). tree_with_node t time_zero 4 (file_name i) w) q))
-      (below-add_node t time_zero 4 (file_name i) file_node limit (not_four i t is) below (many_node i, is.many_directory) (omega (arith, low))))
+    (below-add_node t time_zero 4 (file_name i) file_node limit (not_four i t is) below (many_node i, is.many_directory) (omega (arith, low))))
 
 pub on_ok_map : {A E : Type 0} {P Q : Type 0} (r : Result A E) → (P → Q) → OnOk r P → OnOk r Q
 on_ok_map (Ok x) f p = f p

@@ -5,6 +5,11 @@ use Rattle.std.proofs.lemmas.List.{take-append-drop}
 use Rattle.std.specs.Prelude.{slice_get}
 use Rattle.std.specs.Option.{option_map}
 use Rattle.nr_tree.specs.Entries.{Entry, CookiesAscend}
+use Rattle.std.specs.declared.vec.Vec.{Vec}
+use Rattle.std.specs.declared.alloc.Global.{Global}
+use Rattle.nr_tree.specs.declared.directory.Slot.{Slot}
+use Rattle.nr_tree.specs.Slots.{entries_of}
+use Rattle.nr_tree.proofs.Slots.{entry_of_slot}
 use Rattle.nr_tree.specs.Listing.{entries_after}
 
 append_step : (b : Bool) (x : Entry) (xs ys all : List Entry) → all ≡ xs ++ ys → cond b (x ∷ all) all ≡ cond b (x ∷ xs) xs ++ ys
@@ -14,7 +19,6 @@ append_step false x xs ys all e = e
 after-append : (c : ℕ) (xs ys : List Entry) → entries_after c (xs ++ ys) ≡ entries_after c xs ++ entries_after c ys
 after-append c [] ys = refl
 after-append c (x ∷ xs) ys = append_step (ltb c x.cookie) x (entries_after c xs) (entries_after c ys) (entries_after c (xs ++ ys)) (after-append c xs ys)
-
 
 same_cookie : (x y : ℕ) → Some x ≡ Some y → x ≡ y
 same_cookie x y e = cc
@@ -53,8 +57,8 @@ all_from c from (e ∷ es) next (suc i) k up at lt = all_from c (e.cookie + 1) e
 pub listed : (c : ℕ) (es : List Entry) (low high : ℕ) → low ≡ high → entries_after c (take low es) ≡ [] → entries_after c (drop high es) ≡ drop high es → drop low es ≡ entries_after c es
 listed c es low high same none all =
     sym (ap (entries_after c) (sym (take-append-drop low es)) ∙ after-append c (take low es) (drop low es)
-      ∙ ap (λ (l : List Entry). l ++ entries_after c (drop low es)) none
-      ∙ subst (λ (n : ℕ). entries_after c (drop n es) ≡ drop n es) (sym same) all)
+    ∙ ap (λ (l : List Entry). l ++ entries_after c (drop low es)) none
+    ∙ subst (λ (n : ℕ). entries_after c (drop n es) ≡ drop n es) (sym same) all)
 
 -- ===== the middle of a range
 
@@ -66,3 +70,7 @@ middle_high low high len lt le = omega (arith, lt, le)
 
 pub same_place : (low high : ℕ) → low ≤ high → high ≤ low → low ≡ high
 same_place low high a b = omega (arith, a, b)
+
+-- the cookie of an entry is that of its slot
+pub cookie_of_slot : (ps : List (Vec ℕ Global × Slot)) (i : ℕ) (p : Vec ℕ Global × Slot) → slice_get ps i ≡ Some p → option_map (λ (e : Entry). e.cookie) (slice_get (entries_of ps) i) ≡ Some p.1.cookie
+cookie_of_slot ps i p here = ap (option_map (λ (e : Entry). e.cookie)) (entry_of_slot ps i p here)

@@ -9,7 +9,7 @@ use std::alloc::{AllocError, Global};
 use std::marker::Model;
 
 /// Where an entry leads, and the place to go on from.
-#[derive(Clone, Copy, Debug, PartialEq, Eq)]
+#[derive(Clone, Copy)]
 pub struct Slot {
     pub cookie: u64,
     pub number: u64,
@@ -23,7 +23,7 @@ pub struct Directory {
 }
 
 impl Model for Directory {
-    ghost use Rattle.nr_tree.specs.Entries.{Entries, entries_code};
+    ghost use Rattle.nr_tree.specs.Entries.{Entries, CookiesAscend, entries_code};
     ghost use Rattle.nr_tree.specs.Slots.{entries_of};
 
     ghost Value = { Entries };
@@ -31,10 +31,13 @@ impl Model for Directory {
     ghost coded = { entries_code };
 
     ghost view = { λ d. record { next_cookie = d.next_cookie; list = entries_of d.slots.entries } };
+
+    // Cookies ascend from 1 on, and stay below the next one.
+    ghost invariant = { λ d. CookiesAscend 1 (entries_of d.slots.entries) d.next_cookie };
 }
 
 impl Directory {
-    ghost use Rattle.nr_tree.specs.Entries.{Entries, entry_of_name, entries_with, entries_without, CookiesAscend};
+    ghost use Rattle.nr_tree.specs.Entries.{Entries, entry_of_name, entries_with, entries_without};
     ghost use Rattle.nr_tree.specs.Listing.{entries_after};
 
     /// No entries; the first one's cookie is 1. Takes no memory.
@@ -93,20 +96,10 @@ impl Directory {
     /// The place of the first entry with a cookie above the given one, or how many entries there are. The entries from there on
     /// are those that a listing goes on with (RFC 1813 section 3.3.16). The place is found by halving.
     pub fn place_after(&self, cookie: u64) -> usize
-        requires { CookiesAscend 1 self.now.list self.now.next_cookie }
         ensures within { result ≤ length self.now.list }
         ensures entries { drop result self.now.list ≡ entries_after cookie self.now.list }
     {
-        place_above(self, cookie)
-    }
-
-    /// The cookie of the entry at a place.
-    fn cookie_at(&self, index: usize) -> u64
-        requires { index < length self.now.list }
-        ensures { option_map (λ e. e.cookie) (slice_get self.now.list index) ≡ Some result }
-    {
-        let (_, slot) = self.entry_at(index);
-        slot.cookie
+        place_above(&self.slots, self.next_cookie, cookie)
     }
 
     /// How many entries there are.
@@ -140,16 +133,29 @@ ghost use Rattle.nr_tree.specs.Entries.{CookiesAscend};
 ghost use Rattle.nr_tree.specs.Listing.{entries_after};
 ghost use Rattle.std.specs.Prelude.{drop, ◌≤◌};
 
-fn place_above(directory: &Directory, cookie: u64) -> usize
-    requires { CookiesAscend 1 directory.now.list directory.now.next_cookie }
-    ensures within { result ≤ length directory.now.list }
-    ensures entries { drop result directory.now.list ≡ entries_after cookie directory.now.list }
+/// The cookie of the entry at a place.
+#[tactic(auto, using(crate::proofs::ListingLemmas::cookie_of_slot))]
+fn cookie_at(slots: &IndexMap<Vec<u8>, Slot>, index: usize) -> u64
+    requires { index < length slots.now.entries }
+    ensures { option_map (λ e. e.cookie) (slice_get (entries_of slots.now.entries) index) ≡ Some result }
+{
+    match slots.get_index(index) {
+        Some((_, slot)) => slot.cookie,
+        None => unreachable!(),
+    }
+}
+
+/// The place of the first entry with a cookie above the given one.
+fn place_above(slots: &IndexMap<Vec<u8>, Slot>, next_cookie: u64, cookie: u64) -> usize
+    requires { CookiesAscend 1 (entries_of slots.now.entries) next_cookie }
+    ensures within { result ≤ length slots.now.entries }
+    ensures entries { drop result (entries_of slots.now.entries) ≡ entries_after cookie (entries_of slots.now.entries) }
 {
     let mut low = 0;
-    let mut high = directory.len();
+    let mut high = slots.len();
     while low < high {
         let middle = low + (high - low) / 2;
-        if directory.cookie_at(middle) <= cookie {
+        if cookie_at(slots, middle) <= cookie {
             low = middle + 1;
         } else {
             high = middle;

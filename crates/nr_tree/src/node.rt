@@ -2,11 +2,11 @@
 
 use crate::directory::Directory;
 use crate::file::File;
-use nr_nfs_base::{SpecialData, Time, Verifier};
+use nr_nfs_base::{Attributes, FileType, SpecialData, Time, Verifier};
 use nr_xdr::{Memory, Octets};
 
 /// What is kept of each node, whatever it is.
-#[derive(Clone, Copy, Debug, PartialEq, Eq)]
+#[derive(Clone, Copy)]
 pub struct Metadata {
     /// The permission bits.
     pub mode: u32,
@@ -44,7 +44,7 @@ ghost use Rattle.std.specs.Prelude.{◌≡◌, ◌+◌, ◌<◌, ◌≤◌, ◌^
 ghost use Rattle.std.specs.Option.{option_map};
 ghost use Rattle.nr_tree.specs.Entries.{entry_of_name};
 ghost use Rattle.nr_tree.specs.Skeleton.{one_if};
-ghost use Rattle.nr_tree.specs.Tree.{is_dir as is_directory_node, is_regular as is_regular_node, entries_in};
+ghost use Rattle.nr_tree.specs.Tree.{is_dir as is_directory_node, is_regular as is_regular_node, entries_in, type_of, bytes_of, device_of, attributes_of};
 ghost use Rattle.nr_tree.specs.Changes.{node_with_entry, node_without_entry, node_with_link, node_without_link, node_with_bytes, node_with_size, node_with_metadata};
 ghost use Rattle.nr_tree.specs.Room.{HasRoomFor};
 
@@ -163,6 +163,66 @@ impl Node {
         match &self.content {
             Content::Directory(entries) => entries.number_of(name),
             _ => None,
+        }
+    }
+
+    /// What a caller is told of the node under this number (RFC 1813 section 2.6, `fattr3`). Takes no memory.
+    pub fn attributes(&self, number: u64) -> Attributes
+        ensures { result ≡ attributes_of number self.now }
+    {
+        let size = self.content.size();
+        Attributes {
+            file_type: self.content.file_type(),
+            mode: self.metadata.mode,
+            nlink: self.metadata.links,
+            uid: self.metadata.uid,
+            gid: self.metadata.gid,
+            size,
+            used: size,
+            rdev: self.content.device(),
+            fsid: 1,
+            fileid: number,
+            atime: self.metadata.atime,
+            mtime: self.metadata.mtime,
+            ctime: self.metadata.ctime,
+        }
+    }
+}
+
+impl Content {
+    fn file_type(&self) -> FileType
+        ensures { result ≡ type_of self.now }
+    {
+        match self {
+            Content::Regular(_) => FileType::Reg,
+            Content::Directory(_) => FileType::Dir,
+            Content::Block(_) => FileType::Blk,
+            Content::Character(_) => FileType::Chr,
+            Content::Link(_) => FileType::Lnk,
+            Content::Socket => FileType::Sock,
+            Content::Fifo => FileType::Fifo,
+        }
+    }
+
+    /// In bytes: of a regular file and of a link's path.
+    fn size(&self) -> u64
+        ensures { result ≡ length (bytes_of self.now) }
+    {
+        match self {
+            Content::Regular(file) => file.len(),
+            Content::Link(path) => path.len() as u64,
+            _ => 0,
+        }
+    }
+
+    /// The device of a special file.
+    fn device(&self) -> SpecialData
+        ensures { result ≡ device_of self.now }
+    {
+        match self {
+            Content::Block(device) => *device,
+            Content::Character(device) => *device,
+            _ => SpecialData { major: 0, minor: 0 },
         }
     }
 }

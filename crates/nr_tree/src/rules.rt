@@ -126,7 +126,7 @@ pub fn is_own(name: &[u8]) -> bool
 }
 
 /// What the server may keep, what its journal costs so far, and the bytes of this call's arguments.
-#[derive(Clone, Copy, Debug, PartialEq, Eq)]
+#[derive(Clone, Copy)]
 pub struct Room {
     pub capacity: u64,
     pub used: u64,

@@ -8,8 +8,8 @@ ghost use Rattle.std.specs.FinMap as map;
 use crate::directory::Directory;
 use crate::node::{Content, Metadata, Node};
 use crate::nodes::{
-    add_entry_to, add_link_to, drop_name_of, find, insert, insert_with_entry, is_dir_at, remove_entry_from,
-    set_metadata_of, size_node, write_node,
+    add_entry_to, add_link_to, drop_name_of, find, insert, insert_with_entry, is_dir_at,
+    remove_entry_from, set_metadata_of, size_node, write_node,
 };
 use nr_nfs_base::Time;
 use nr_xdr::Memory;
