@@ -1,0 +1,28 @@
+use Rattle.std.proofs.Common.{ap, refl, sym, ◌∙◌, subst, IsSome, Some, cond}
+use Rattle.std.specs.Ordering.{nat_cmp}
+use Rattle.std.specs.BTreeMap.{is_at}
+use Rattle.std.specs.Map.{lookup}
+use Rattle.nr_tree.specs.Tree.{is_regular}
+use Rattle.nr_tree.specs.Changes.{node_with_bytes}
+use Rattle.nr_tree.proofs.NodeMaps.{nodes_changed, nodes_same, nodes_absent, there, known, on_ok, on_err}
+use Rattle.nr_tree.proofs.nodes.write_node.Goals as goal
+
+pub write-requires-clause-regular : goal.write-requires-clause-regular
+write-requires-clause-regular c = there c.args.nodes.now.entries c.args.number is_regular c.in-Some.node.now (sym c.in-Some.ensures.value) c.requires.regular
+
+pub returns-in-Some-clause-ok : goal.returns-in-Some-clause-ok
+returns-in-Some-clause-ok c = on_ok c.write.result
+    (λ e. nodes_changed c.args.nodes.now.entries _ c.args.number (node_with_bytes c.args.now c.args.offset c.args.bytes.now) c.in-Some.node.now (sym c.in-Some.ensures.value)
+    (λ q. ((c.get_mut.follows.holds c.write.new.self).3 (subst IsSome c.in-Some.ensures.value refl)).0 q
+    ∙ ap (λ v. cond (is_at (nat_cmp c.args.number) q) (Some v) (lookup (is_at (nat_cmp q)) c.args.nodes.now.entries)) e))
+    c.write.ensures.ok
+
+pub returns-in-Some-clause-err : goal.returns-in-Some-clause-err
+returns-in-Some-clause-err c = on_err c.write.result
+    (λ e. nodes_same c.args.nodes.now.entries _ c.args.number c.in-Some.node.now (sym c.in-Some.ensures.value)
+    (λ q. ((c.get_mut.follows.holds c.write.new.self).3 (subst IsSome c.in-Some.ensures.value refl)).0 q
+    ∙ ap (λ v. cond (is_at (nat_cmp c.args.number) q) (Some v) (lookup (is_at (nat_cmp q)) c.args.nodes.now.entries)) e))
+    c.write.ensures.err
+
+pub returns-in-None-clause-ok : goal.returns-in-None-clause-ok
+returns-in-None-clause-ok c = nodes_absent c.args.nodes.now.entries _ c.args.number _ (sym c.in-None.ensures.value) (ap (λ m. m.entries) c.get_mut.follows.holds-at-none)

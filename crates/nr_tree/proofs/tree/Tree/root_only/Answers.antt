@@ -1,0 +1,13 @@
+use Rattle.std.proofs.Common.{subst, sym, ap, ◌∙◌, ℕ, List}
+use Rattle.std.specs.FinMap as map
+use Rattle.nr_tree.specs.Sane.{IsSane}
+use Rattle.nr_tree.specs.Tree.{Tree, nodes_of}
+use Rattle.nr_tree.specs.declared.node.Node.{Node}
+use Rattle.nr_tree.proofs.Roots.{sane-root_only}
+use Rattle.nr_tree.proofs.tree.Tree.root_only.Goals as goal
+
+pub returns-clause-sane : goal.returns-clause-sane
+returns-clause-sane c =
+    subst IsSane
+    (sym (ap (λ m. record { next = 2; nodes = m }) (c.in_ok-insert.ensures.ok ∙ λ i. map.insert (nodes_of (c.new-nodes.ensures.empty i)) 1 (c.root_node.ensures i))))
+    (sane-root_only c.args.now)

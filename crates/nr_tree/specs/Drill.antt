@@ -1,0 +1,62 @@
+-- The tree that a drill begins with: below a root a file, a symbolic link and a directory of a hundred empty files.
+use Rattle.std.specs.Prelude.{◌≡◌, ℕ, zero, suc, ◌+◌, ◌/◌, ◌%◌, ◌<◌, ◌≤◌, List, [], ◌∷◌, ◌++◌, Option, None, Some, ◌⊎◌}
+use Rattle.std.specs.FinMap.{get}
+use Rattle.nr_nfs_base.specs.declared.time.Time.{Time}
+use Rattle.nr_tree.specs.Entries.{Entry}
+use Rattle.nr_tree.specs.Tree.{Tree}
+use Rattle.nr_tree.specs.declared.node.Node.{Node}
+use Rattle.nr_tree.specs.declared.node.Content.{Content}
+use Rattle.nr_tree.specs.declared.node.Content.TheVariants.{Regular, Directory, Link}
+
+abbrev pub time_zero : Time
+time_zero = record { seconds = 0; nanoseconds = 0 }
+
+-- of uid 0 and gid 0, with all times zero
+abbrev pub drill_node : ℕ → ℕ → ℕ → Content → Node
+drill_node mode links parent content = record {
+  metadata = record { mode = mode; links = links; uid = 0; gid = 0; atime = time_zero; mtime = time_zero; ctime = time_zero };
+  parent = parent;
+  verifier = None;
+  content = content;
+}
+
+-- the modes 0777 and 0666
+abbrev pub mode_777 : ℕ
+mode_777 = 511
+
+abbrev pub mode_666 : ℕ
+mode_666 = 438
+
+-- hello, link, many; f00 to f99
+abbrev pub hello : List ℕ
+hello = 104 ∷ 101 ∷ 108 ∷ 108 ∷ 111 ∷ []
+
+abbrev pub link : List ℕ
+link = 108 ∷ 105 ∷ 110 ∷ 107 ∷ []
+
+abbrev pub many : List ℕ
+many = 109 ∷ 97 ∷ 110 ∷ 121 ∷ []
+
+abbrev pub file_name : ℕ → List ℕ
+file_name i = 102 ∷ (48 + i / 10) ∷ (48 + i % 10) ∷ []
+
+abbrev pub root_entries : List Entry
+root_entries = record { cookie = 1; name = hello; number = 2 } ∷ record { cookie = 2; name = link; number = 3 } ∷ record { cookie = 3; name = many; number = 4 } ∷ []
+
+-- the first so many entries of `many`: cookies from 1 on, numbers from 5 on
+abbrev pub many_entries : ℕ → List Entry
+many_entries zero = []
+many_entries (suc i) = many_entries i ++ record { cookie = i + 1; name = file_name i; number = i + 5 } ∷ []
+
+-- the tree with so many files in `many`
+pub record IsDrillWith (count : ℕ) (t : Tree) : Type 0 where
+  pub next : t.next ≡ count + 5
+  pub root : get t.nodes 1 ≡ Some (drill_node mode_777 3 1 (Directory (record { next_cookie = 4; list = root_entries })))
+  pub hello_file : get t.nodes 2 ≡ Some (drill_node mode_666 1 1 (Regular hello))
+  pub link_node : get t.nodes 3 ≡ Some (drill_node mode_777 1 1 (Link hello))
+  pub many_directory : get t.nodes 4 ≡ Some (drill_node mode_777 2 1 (Directory (record { next_cookie = count + 1; list = many_entries count })))
+  pub files : (n : ℕ) → 5 ≤ n → n < count + 5 → get t.nodes n ≡ Some (drill_node mode_666 1 4 (Regular []))
+  pub nothing_else : (n : ℕ) → (n ≡ 0) ⊎ (count + 5 ≤ n) → get t.nodes n ≡ None
+
+abbrev pub IsDrill : Tree → Type 0
+IsDrill t = IsDrillWith 100 t

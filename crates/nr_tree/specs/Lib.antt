@@ -1,0 +1,16 @@
+pub mod Bytes
+pub mod Entries
+pub mod Slots
+pub mod Skeleton
+pub mod Tree
+pub mod Code
+pub mod Room
+pub mod Sane
+pub mod Roots
+pub mod Changes
+pub mod Steps
+pub mod Drill
+pub mod Listing
+pub mod Within
+pub mod Rules
+pub mod Places

@@ -1,0 +1,120 @@
+-- The rules by which a call is refused. A row of the table is a list of rules, and the first that holds is the answer.
+use Rattle.std.specs.Prelude.{ℕ, ◌+◌, ◌/◌, ◌%◌, ◌==◌, nat_lt, nat_le, nat_eq, Bool, true, false, not, ◌&&◌, ◌||◌, if◌then◌else◌, List, [], ◌∷◌, ◌++◌, length, Option, None, Some, is_none, is_some}
+use Rattle.std.specs.List.{list_any}
+use Rattle.std.specs.Int.{w64, from_be_bytes, to_be_bytes}
+use Rattle.std.specs.Cmp.Lexicographic.{pointwise}
+use Rattle.std.specs.FinMap.{get}
+use Rattle.nr_nfs_base.specs.declared.caller.Caller.{Caller}
+use Rattle.nr_nfs_base.specs.declared.status.Status.{Status}
+use Rattle.nr_nfs_base.specs.declared.status.Status.TheVariants.{Perm, Noent, Acces, Exist, Notdir, Isdir, Inval, Fbig, Nospc, Mlink, Nametoolong, Notempty, Stale, Badhandle}
+use Rattle.nr_tree.specs.Tree.{Tree, is_dir, is_regular}
+use Rattle.nr_tree.specs.declared.node.Node.{Node}
+
+-- the first refusal that holds
+abbrev pub or_else : Option Status → Option Status → Option Status
+or_else None later = later
+or_else (Some status) later = Some status
+
+abbrev pub first : List (Option Status) → Option Status
+first [] = None
+first (rule ∷ rules) = or_else rule (first rules)
+
+-- refused with this status where the test holds
+infix 5 ◌⇒◌
+abbrev pub ◌⇒◌ : Bool → Status → Option Status
+test ⇒ status = if test then Some status else None
+
+-- rules over what may not be there: what comes before them says that it is
+abbrev pub on : {A : Type 0} → Option A → (A → List (Option Status)) → List (Option Status)
+on None rules = []
+on (Some x) rules = rules x
+
+-- the tree after a call: a refused one changes nothing
+abbrev pub after : Option Status → Tree → Tree → Tree
+after None old new = new
+after (Some status) old new = old
+
+-- a call that a rule refuses is answered by fail, and each other by done
+abbrev pub answer : {R : Type 0} → Option Status → (Status → R) → R → R
+answer None fail done = done
+answer (Some status) fail done = fail status
+
+-- a handle of this server is the number in eight bytes
+abbrev pub number_of_handle : List ℕ → ℕ
+number_of_handle h = from_be_bytes w64 h
+
+abbrev pub handle_of : ℕ → List ℕ
+handle_of number = to_be_bytes w64 number
+
+-- the live node that a handle names
+abbrev pub node_of_handle : Tree → List ℕ → Option Node
+node_of_handle t h = if length h == 8 then get t.nodes (number_of_handle h) else None
+
+-- H: no handle of this server, or of a number never given; then, of a node that is gone
+abbrev pub was_given : Tree → List ℕ → Bool
+was_given t h = (length h == 8) && (nat_lt 0 (number_of_handle h) && nat_lt (number_of_handle h) t.next)
+
+abbrev pub handle_rule : Tree → List ℕ → Option Status
+handle_rule t h = if was_given t h then (is_none (node_of_handle t h) ⇒ Stale) else Some Badhandle
+
+-- rights, as bits of a class
+abbrev pub read_right : ℕ
+read_right = 4
+
+abbrev pub write_right : ℕ
+write_right = 2
+
+abbrev pub execute_right : ℕ
+execute_right = 1
+
+abbrev pub is_in_group : Caller → ℕ → Bool
+is_in_group c gid = (c.gid == gid) || list_any (λ g. g == gid) c.gids
+
+-- the owner's bits, the group's bits or the others'
+abbrev pub class_of : Caller → Node → ℕ
+class_of c node =
+    if c.uid == node.metadata.uid then node.metadata.mode / 64
+    else (if is_in_group c node.metadata.gid then node.metadata.mode / 8
+    else node.metadata.mode)
+
+abbrev pub may : Caller → ℕ → Node → Bool
+may c right node = (c.uid == 0) || ((class_of c node / right) % 2 == 1)
+
+-- Dir(w, x)
+abbrev pub change_rules : Caller → Node → List (Option Status)
+change_rules c node =
+    (not (is_dir node) ⇒ Notdir) ∷
+    (not (may c write_right node) ⇒ Acces) ∷
+    (not (may c execute_right node) ⇒ Acces) ∷ []
+
+-- N: a name that no entry may have
+abbrev pub has_byte : ℕ → List ℕ → Bool
+has_byte b bytes = list_any (λ x. x == b) bytes
+
+abbrev pub name_rules : List ℕ → List (Option Status)
+name_rules name =
+    (length name == 0 ⇒ Acces) ∷
+    ((has_byte 0 name || has_byte 47 name) ⇒ Acces) ∷
+    (nat_lt 255 (length name) ⇒ Nametoolong) ∷ []
+
+abbrev pub same_name : List ℕ → List ℕ → Bool
+same_name a b = pointwise nat_eq a b
+
+abbrev pub is_dot : List ℕ → Bool
+is_dot name = same_name name (46 ∷ [])
+
+abbrev pub is_dots : List ℕ → Bool
+is_dots name = same_name name (46 ∷ 46 ∷ [])
+
+abbrev pub is_own : List ℕ → Bool
+is_own name = is_dot name || is_dots name
+
+-- what the server may keep, what its journal costs so far, and the bytes of this call's arguments
+pub record Space : Type 0 where
+  pub capacity : ℕ
+  pub used : ℕ
+  pub arguments : ℕ
+
+-- NOSPC: the call's entry would make the journal pass the capacity
+abbrev pub space_rule : Space → Option Status
+space_rule space = nat_lt space.capacity (space.used + 64 + space.arguments) ⇒ Nospc

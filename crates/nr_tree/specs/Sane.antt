@@ -1,0 +1,46 @@
+-- What holds of every tree.
+use Rattle.std.specs.Prelude.{◌≡◌, ℕ, ◌+◌, ◌<◌, ◌≤◌, Bool, true, false, List, [], length, Option, None, Some, is_some}
+use Rattle.std.specs.Option.{option_map_or}
+use Rattle.std.specs.Ordering.{nat_cmp}
+use Rattle.std.specs.FinMap.{FinMap, get}
+use Rattle.nr_tree.specs.Entries.{Entry, Entries, CookiesAscend, NamesAreValid}
+use Rattle.nr_tree.specs.Skeleton.{Skeleton, IsSound}
+use Rattle.nr_tree.specs.Tree.{Tree, value_at, is_dir, entries_in}
+use Rattle.nr_tree.specs.declared.node.Node.{Node}
+use Rattle.nr_tree.specs.declared.node.Content.{Content}
+use Rattle.nr_tree.specs.declared.node.Content.TheVariants.{Regular, Directory, Block, Character, Link, Socket, Fifo}
+
+-- a file's most bytes, and a path's
+abbrev pub largest_file : ℕ
+largest_file = 16777216
+
+abbrev pub longest_path : ℕ
+longest_path = 1024
+
+-- what a node holds by itself: names and cookies of a directory, the size of a file and of a path
+abbrev pub IsFitContent : Content → Type 0
+IsFitContent (Regular bytes) = length bytes ≤ largest_file
+IsFitContent (Directory entries) = CookiesAscend 1 entries.list entries.next_cookie × NamesAreValid entries.list
+IsFitContent (Block device) = Unit {0}
+IsFitContent (Character device) = Unit {0}
+IsFitContent (Link path) = (0 < length path) × (length path ≤ longest_path)
+IsFitContent Socket = Unit {0}
+IsFitContent Fifo = Unit {0}
+
+-- what the nodes are to one another
+abbrev pub skeleton_of : ℕ → FinMap nat_cmp Node → Skeleton
+skeleton_of next nodes = record {
+  next = next;
+  live = value_at (λ node. true) false nodes;
+  dir = value_at is_dir false nodes;
+  entries = value_at entries_in [] nodes;
+  parent = value_at (λ node. node.parent) 0 nodes;
+  links = value_at (λ node. node.metadata.links) 0 nodes;
+}
+
+abbrev pub skeleton : Tree → Skeleton
+skeleton t = skeleton_of t.next t.nodes
+
+pub record IsSane (t : Tree) : Type 0 where
+  pub contents : (n : ℕ) (node : Node) → get t.nodes n ≡ Some node → IsFitContent node.content
+  pub skeleton : IsSound (skeleton t) None

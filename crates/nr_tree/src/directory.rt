@@ -1,0 +1,165 @@
+//! The entries of a directory, in the order in which they were made.
+
+ghost use Rattle.std.specs.Prelude.{◌≡◌, ◌+◌, ◌<◌, ◌^◌, [], ◌∷◌, ◌++◌, None, Some, slice_get, length, map, OnOk, OnErr, IsOk};
+ghost use Rattle.std.specs.Option.{option_map, option_copied};
+
+use indexmap::IndexMap;
+use nr_xdr::Memory;
+use std::alloc::{AllocError, Global};
+use std::marker::Model;
+
+/// Where an entry leads, and the place to go on from.
+#[derive(Clone, Copy)]
+pub struct Slot {
+    pub cookie: u64,
+    pub number: u64,
+}
+
+/// A directory's entries, and the cookie that the next one gets.
+#[derive(Drop)]
+pub struct Directory {
+    next_cookie: u64,
+    slots: IndexMap<Vec<u8>, Slot>,
+}
+
+impl Model for Directory {
+    ghost use Rattle.nr_tree.specs.Entries.{Entries, CookiesAscend, entries_code};
+    ghost use Rattle.nr_tree.specs.Slots.{entries_of};
+
+    ghost Value = { Entries };
+
+    ghost coded = { entries_code };
+
+    ghost view = { λ d. record { next_cookie = d.next_cookie; list = entries_of d.slots.entries } };
+
+    // Cookies ascend from 1 on, and stay below the next one.
+    ghost invariant = { λ d. CookiesAscend 1 (entries_of d.slots.entries) d.next_cookie };
+}
+
+impl Directory {
+    ghost use Rattle.nr_tree.specs.Entries.{Entries, entry_of_name, entries_with, entries_without};
+    ghost use Rattle.nr_tree.specs.Listing.{entries_after};
+
+    /// No entries; the first one's cookie is 1. Takes no memory.
+    pub fn new(alloc: Global) -> Self
+        ensures { result ≡ record { next_cookie = 1; list = [] } }
+    {
+        Directory {
+            next_cookie: 1,
+            slots: IndexMap::new(alloc),
+        }
+    }
+
+    /// The number of the node that a name leads to.
+    #[tactic(auto, using(crate::proofs::Slots::number_lookup))]
+    pub fn number_of(&self, name: &[u8]) -> Option<u64>
+        ensures { result ≡ option_map (λ e. e.number) (entry_of_name name.now self.now.list) }
+    {
+        match self.slots.get(name) {
+            Some(slot) => Some(slot.number),
+            None => None,
+        }
+    }
+
+    /// Puts an entry last, under the next cookie. After an `Err` the directory is as before.
+    pub fn add(&mut self, name: Vec<u8>, number: u64) -> Result<(), Memory>
+        requires absent { entry_of_name name.items self.old.list ≡ None }
+        requires cookies { self.old.next_cookie < 2 ^ 63 }
+        ensures ok { OnOk result (self.new ≡ entries_with self.old name.items number) }
+        ensures err { OnErr result (self.new ≡ self.old) }
+    {
+        let cookie = self.next_cookie;
+        append(&mut self.slots, name, Slot { cookie, number })?;
+        self.next_cookie += 1;
+        Ok(())
+    }
+
+    /// Takes the entry of a name out; the others keep their order and their cookies. Takes no memory.
+    pub fn remove(&mut self, name: &[u8])
+        ensures { self.new ≡ entries_without self.old name.now }
+    {
+        take_out(&mut self.slots, name);
+    }
+
+    /// The entry at a place: its name, and where it leads.
+    #[tactic(auto, using(crate::proofs::Slots::entry_of_slot))]
+    pub fn entry_at(&self, index: usize) -> (&[u8], Slot)
+        requires { index < length self.now.list }
+        ensures { slice_get self.now.list index ≡ Some (record { cookie = result.1.cookie; name = result.0.now; number = result.1.number }) }
+    {
+        match self.slots.get_index(index) {
+            Some((name, slot)) => (name.as_slice(), *slot),
+            None => unreachable!(),
+        }
+    }
+
+    /// The place of the first entry with a cookie above the given one, or how many entries there are. The entries from there on
+    /// are those that a listing goes on with (RFC 1813 section 3.3.16). The place is found by halving.
+    pub fn place_after(&self, cookie: u64) -> usize
+        ensures within { result ≤ length self.now.list }
+        ensures entries { drop result self.now.list ≡ entries_after cookie self.now.list }
+    {
+        place_above(&self.slots, self.next_cookie, cookie)
+    }
+
+    /// How many entries there are.
+    pub fn len(&self) -> usize
+        ensures { result ≡ length self.now.list }
+    {
+        self.slots.len()
+    }
+}
+
+ghost use Rattle.nr_tree.specs.Entries.{entry_of_name, list_without};
+ghost use Rattle.nr_tree.specs.Slots.{entries_of};
+
+fn append(slots: &mut IndexMap<Vec<u8>, Slot>, name: Vec<u8>, slot: Slot) -> Result<(), AllocError>
+    requires { entry_of_name name.items (entries_of slots.old.entries) ≡ None }
+    ensures ok { OnOk result (entries_of slots.new.entries ≡ entries_of slots.old.entries ++ record { cookie = slot.cookie; name = name.items; number = slot.number } ∷ []) }
+    ensures err { OnErr result (entries_of slots.new.entries ≡ entries_of slots.old.entries) }
+{
+    slots.insert(name, slot)?;
+    Ok(())
+}
+
+#[tactic(auto, using(crate::proofs::Slots::slots_without))]
+fn take_out(slots: &mut IndexMap<Vec<u8>, Slot>, name: &[u8])
+    ensures { entries_of slots.new.entries ≡ list_without name.now (entries_of slots.old.entries) }
+{
+    slots.shift_remove(name);
+}
+
+ghost use Rattle.nr_tree.specs.Entries.{CookiesAscend};
+ghost use Rattle.nr_tree.specs.Listing.{entries_after};
+ghost use Rattle.std.specs.Prelude.{drop, ◌≤◌};
+
+/// The cookie of the entry at a place.
+#[tactic(auto, using(crate::proofs::ListingLemmas::cookie_of_slot))]
+fn cookie_at(slots: &IndexMap<Vec<u8>, Slot>, index: usize) -> u64
+    requires { index < length slots.now.entries }
+    ensures { option_map (λ e. e.cookie) (slice_get (entries_of slots.now.entries) index) ≡ Some result }
+{
+    match slots.get_index(index) {
+        Some((_, slot)) => slot.cookie,
+        None => unreachable!(),
+    }
+}
+
+/// The place of the first entry with a cookie above the given one.
+fn place_above(slots: &IndexMap<Vec<u8>, Slot>, next_cookie: u64, cookie: u64) -> usize
+    requires { CookiesAscend 1 (entries_of slots.now.entries) next_cookie }
+    ensures within { result ≤ length slots.now.entries }
+    ensures entries { drop result (entries_of slots.now.entries) ≡ entries_after cookie (entries_of slots.now.entries) }
+{
+    let mut low = 0;
+    let mut high = slots.len();
+    while low < high {
+        let middle = low + (high - low) / 2;
+        if cookie_at(slots, middle) <= cookie {
+            low = middle + 1;
+        } else {
+            high = middle;
+        }
+    }
+    low
+}

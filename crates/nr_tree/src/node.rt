@@ -1,0 +1,228 @@
+//! What a tree has under a number.
+
+use crate::directory::Directory;
+use crate::file::File;
+use nr_nfs_base::{Attributes, FileType, SpecialData, Time, Verifier};
+use nr_xdr::{Memory, Octets};
+
+/// What is kept of each node, whatever it is.
+#[derive(Clone, Copy)]
+pub struct Metadata {
+    /// The permission bits.
+    pub mode: u32,
+    pub links: u32,
+    pub uid: u32,
+    pub gid: u32,
+    pub atime: Time,
+    pub mtime: Time,
+    pub ctime: Time,
+}
+
+/// What a node is, with its bytes, entries, device or path.
+#[derive(Drop)]
+pub enum Content {
+    Regular(File),
+    Directory(Directory),
+    Block(SpecialData),
+    Character(SpecialData),
+    Link(Octets),
+    Socket,
+    Fifo,
+}
+
+/// A file, a directory or the like. Only a directory's parent means something: the directory that names it.
+#[derive(Drop)]
+pub struct Node {
+    pub metadata: Metadata,
+    pub parent: u64,
+    /// The verifier that an exclusive CREATE made it with.
+    pub verifier: Option<Verifier>,
+    pub content: Content,
+}
+
+ghost use Rattle.std.specs.Prelude.{◌≡◌, ◌+◌, ◌<◌, ◌≤◌, ◌^◌, IsTrue, length, OnOk, OnErr};
+ghost use Rattle.std.specs.Option.{option_map};
+ghost use Rattle.nr_tree.specs.Entries.{entry_of_name};
+ghost use Rattle.nr_tree.specs.Skeleton.{one_if};
+ghost use Rattle.nr_tree.specs.Tree.{is_dir as is_directory_node, is_regular as is_regular_node, entries_in, type_of, bytes_of, device_of, attributes_of};
+ghost use Rattle.nr_tree.specs.Changes.{node_with_entry, node_without_entry, node_with_link, node_without_link, node_with_bytes, node_with_size, node_with_metadata};
+ghost use Rattle.nr_tree.specs.Room.{HasRoomFor};
+
+impl Node {
+    pub fn is_dir(&self) -> bool
+        ensures { result ≡ is_directory_node self.now }
+    {
+        matches!(self.content, Content::Directory(_))
+    }
+
+    pub fn is_regular(&self) -> bool
+        ensures { result ≡ is_regular_node self.now }
+    {
+        matches!(self.content, Content::Regular(_))
+    }
+
+    /// One more entry, put last, in a directory that is changed now. After an `Err` the node is as before.
+    pub fn add_entry(
+        &mut self,
+        name: Vec<u8>,
+        number: u64,
+        is_subdirectory: bool,
+        now: Time,
+    ) -> Result<(), Memory>
+        requires { HasRoomFor name.items self.old }
+        ensures ok { OnOk result (self.new ≡ node_with_entry now name.items number is_subdirectory self.old) }
+        ensures err { OnErr result (self.new ≡ self.old) }
+    {
+        match &mut self.content {
+            Content::Directory(entries) => entries.add(name, number)?,
+            _ => unreachable!(),
+        }
+        self.metadata.links += is_subdirectory as u32;
+        self.metadata.mtime = now;
+        self.metadata.ctime = now;
+        Ok(())
+    }
+
+    /// One entry less in a directory that is changed now. Takes no memory.
+    pub fn remove_entry(&mut self, name: &[u8], is_subdirectory: bool, now: Time)
+        requires is { IsTrue (is_directory_node self.old) }
+        requires counted { one_if is_subdirectory ≤ self.old.metadata.links }
+        ensures { self.new ≡ node_without_entry now name.now is_subdirectory self.old }
+    {
+        match &mut self.content {
+            Content::Directory(entries) => entries.remove(name),
+            _ => unreachable!(),
+        }
+        self.metadata.links -= is_subdirectory as u32;
+        self.metadata.mtime = now;
+        self.metadata.ctime = now;
+    }
+
+    /// A file with one link less. Takes no memory.
+    pub fn remove_link(&mut self, now: Time)
+        requires { 0 < self.old.metadata.links }
+        ensures { self.new ≡ node_without_link now self.old }
+    {
+        self.metadata.links -= 1;
+        self.metadata.ctime = now;
+    }
+
+    /// A file with one link more, from this directory.
+    pub fn add_link(&mut self, dir: u64, now: Time)
+        requires { self.old.metadata.links < 2 ^ 31 }
+        ensures { self.new ≡ node_with_link now dir self.old }
+    {
+        self.parent = dir;
+        self.metadata.links += 1;
+        self.metadata.ctime = now;
+    }
+
+    /// The same node with other attributes. Takes no memory.
+    pub fn set_metadata(&mut self, metadata: Metadata)
+        ensures { self.new ≡ node_with_metadata metadata self.old }
+    {
+        self.metadata = metadata;
+    }
+
+    /// Writes over the bytes of a regular file from a place on. After an `Err` the node is as before.
+    pub fn write(&mut self, offset: u64, bytes: &[u8], now: Time) -> Result<(), Memory>
+        requires regular { IsTrue (is_regular_node self.old) }
+        requires room { offset + length bytes.now < 2 ^ 62 }
+        ensures ok { OnOk result (self.new ≡ node_with_bytes now offset bytes.now self.old) }
+        ensures err { OnErr result (self.new ≡ self.old) }
+    {
+        match &mut self.content {
+            Content::Regular(file) => file.write(offset, bytes)?,
+            _ => unreachable!(),
+        }
+        self.metadata.mtime = now;
+        self.metadata.ctime = now;
+        Ok(())
+    }
+
+    /// Cuts a regular file, or adds zeros. After an `Err` the node is as before.
+    pub fn set_size(&mut self, size: u64, now: Time) -> Result<(), Memory>
+        requires regular { IsTrue (is_regular_node self.old) }
+        requires room { size < 2 ^ 62 }
+        ensures ok { OnOk result (self.new ≡ node_with_size now size self.old) }
+        ensures err { OnErr result (self.new ≡ self.old) }
+    {
+        match &mut self.content {
+            Content::Regular(file) => file.set_len(size)?,
+            _ => unreachable!(),
+        }
+        self.metadata.mtime = now;
+        self.metadata.ctime = now;
+        Ok(())
+    }
+
+    /// The number that a directory has under a name.
+    pub fn lookup(&self, name: &[u8]) -> Option<u64>
+        ensures { result ≡ option_map (λ e. e.number) (entry_of_name name.now (entries_in self.now)) }
+    {
+        match &self.content {
+            Content::Directory(entries) => entries.number_of(name),
+            _ => None,
+        }
+    }
+
+    /// What a caller is told of the node under this number (RFC 1813 section 2.6, `fattr3`). Takes no memory.
+    pub fn attributes(&self, number: u64) -> Attributes
+        ensures { result ≡ attributes_of number self.now }
+    {
+        let size = self.content.size();
+        Attributes {
+            file_type: self.content.file_type(),
+            mode: self.metadata.mode,
+            nlink: self.metadata.links,
+            uid: self.metadata.uid,
+            gid: self.metadata.gid,
+            size,
+            used: size,
+            rdev: self.content.device(),
+            fsid: 1,
+            fileid: number,
+            atime: self.metadata.atime,
+            mtime: self.metadata.mtime,
+            ctime: self.metadata.ctime,
+        }
+    }
+}
+
+impl Content {
+    fn file_type(&self) -> FileType
+        ensures { result ≡ type_of self.now }
+    {
+        match self {
+            Content::Regular(_) => FileType::Reg,
+            Content::Directory(_) => FileType::Dir,
+            Content::Block(_) => FileType::Blk,
+            Content::Character(_) => FileType::Chr,
+            Content::Link(_) => FileType::Lnk,
+            Content::Socket => FileType::Sock,
+            Content::Fifo => FileType::Fifo,
+        }
+    }
+
+    /// In bytes: of a regular file and of a link's path.
+    fn size(&self) -> u64
+        ensures { result ≡ length (bytes_of self.now) }
+    {
+        match self {
+            Content::Regular(file) => file.len(),
+            Content::Link(path) => path.len() as u64,
+            _ => 0,
+        }
+    }
+
+    /// The device of a special file.
+    fn device(&self) -> SpecialData
+        ensures { result ≡ device_of self.now }
+    {
+        match self {
+            Content::Block(device) => *device,
+            Content::Character(device) => *device,
+            _ => SpecialData { major: 0, minor: 0 },
+        }
+    }
+}

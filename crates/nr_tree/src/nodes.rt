@@ -1,0 +1,193 @@
+//! Nodes by number: changes of one node, and of a node with its entry.
+
+ghost use Rattle.std.specs.Prelude.{◌≡◌, ◌≢◌, ◌+◌, ◌^◌, ◌<◌, ◌≤◌, ℕ, IsTrue, IfSome, length, OnOk, OnErr, None, Some};
+ghost use Rattle.std.specs.Option.{option_copied};
+ghost use Rattle.std.specs.FinMap as map;
+ghost use Rattle.nr_tree.specs.Tree.{nodes_of, nodes_with_change, value_at, is_dir as is_directory, is_regular as is_regular_file};
+ghost use Rattle.std.specs.Prelude.{false};
+ghost use Rattle.nr_tree.specs.Changes.{node_with_entry, node_without_entry, node_without_link, nodes_with_name_dropped, node_with_bytes, node_with_size, node_with_link, node_with_metadata};
+ghost use Rattle.nr_tree.specs.Skeleton.{one_if};
+ghost use Rattle.nr_tree.specs.Room.{HasRoomFor};
+
+use crate::node::{Metadata, Node};
+use nr_nfs_base::Time;
+use nr_xdr::Memory;
+use std::alloc::AllocError;
+use std::collections::BTreeMap;
+
+#[tactic(auto, using(crate::proofs::NodeMaps::get_node))]
+pub(crate) fn find(nodes: &BTreeMap<u64, Node>, number: u64) -> Option<&Node>
+    ensures { option_copied result ≡ map.get (nodes_of nodes.now.entries) number }
+{
+    nodes.get(&number)
+}
+
+pub(crate) fn insert(
+    nodes: &mut BTreeMap<u64, Node>,
+    number: u64,
+    node: Node,
+) -> Result<(), AllocError>
+    ensures ok { OnOk result (nodes_of nodes.new.entries ≡ map.insert (nodes_of nodes.old.entries) number node) }
+    ensures err { OnErr result (nodes_of nodes.new.entries ≡ nodes_of nodes.old.entries) }
+{
+    nodes.insert(number, node)?;
+    Ok(())
+}
+
+pub(crate) fn remove(nodes: &mut BTreeMap<u64, Node>, number: u64)
+    ensures { nodes_of nodes.new.entries ≡ map.remove (nodes_of nodes.old.entries) number }
+{
+    nodes.remove(&number);
+}
+
+pub(crate) fn add_entry_to(
+    nodes: &mut BTreeMap<u64, Node>,
+    dir: u64,
+    name: Vec<u8>,
+    number: u64,
+    is_subdirectory: bool,
+    now: Time,
+) -> Result<(), Memory>
+    requires { IfSome (map.get (nodes_of nodes.old.entries) dir) (λ n. HasRoomFor name.items n) }
+    ensures ok { OnOk result (nodes_of nodes.new.entries ≡ nodes_with_change (nodes_of nodes.old.entries) dir (node_with_entry now name.items number is_subdirectory)) }
+    ensures err { OnErr result (nodes_of nodes.new.entries ≡ nodes_of nodes.old.entries) }
+{
+    match nodes.get_mut(&dir) {
+        Some(node) => node.add_entry(name, number, is_subdirectory, now),
+        None => Ok(()),
+    }
+}
+
+/// The node and its entry, or neither.
+pub(crate) fn insert_with_entry(
+    nodes: &mut BTreeMap<u64, Node>,
+    number: u64,
+    node: Node,
+    dir: u64,
+    name: Vec<u8>,
+    now: Time,
+) -> Result<(), Memory>
+    requires fresh { map.get (nodes_of nodes.old.entries) number ≡ None }
+    requires other { dir ≢ number }
+    requires free { IfSome (map.get (nodes_of nodes.old.entries) dir) (λ n. HasRoomFor name.items n) }
+    ensures ok { OnOk result (nodes_of nodes.new.entries ≡ nodes_with_change (map.insert (nodes_of nodes.old.entries) number node) dir (node_with_entry now name.items number (is_directory node))) }
+    ensures err { OnErr result (nodes_of nodes.new.entries ≡ nodes_of nodes.old.entries) }
+{
+    let is_subdirectory = node.is_dir();
+    insert(nodes, number, node)?;
+    match add_entry_to(nodes, dir, name, number, is_subdirectory, now) {
+        Ok(()) => Ok(()),
+        Err(e) => {
+            remove(nodes, number);
+            Err(e)
+        }
+    }
+}
+
+#[tactic(auto, using(crate::proofs::NodeMaps::get_node))]
+pub(crate) fn is_dir_at(nodes: &BTreeMap<u64, Node>, number: u64) -> bool
+    ensures { result ≡ value_at is_directory false (nodes_of nodes.now.entries) number }
+{
+    match find(nodes, number) {
+        Some(node) => node.is_dir(),
+        None => false,
+    }
+}
+
+pub(crate) fn remove_entry_from(
+    nodes: &mut BTreeMap<u64, Node>,
+    dir: u64,
+    name: &[u8],
+    is_subdirectory: bool,
+    now: Time,
+)
+    requires { IfSome (map.get (nodes_of nodes.old.entries) dir) (λ n. IsTrue (is_directory n) × (1 ≤ n.metadata.links)) }
+    ensures { nodes_of nodes.new.entries ≡ nodes_with_change (nodes_of nodes.old.entries) dir (node_without_entry now name.now is_subdirectory) }
+{
+    match nodes.get_mut(&dir) {
+        Some(node) => node.remove_entry(name, is_subdirectory, now),
+        None => {}
+    }
+}
+
+/// A file with one link less.
+pub(crate) fn drop_link_of(nodes: &mut BTreeMap<u64, Node>, number: u64, now: Time)
+    requires { IfSome (map.get (nodes_of nodes.old.entries) number) (λ n. 0 < n.metadata.links) }
+    ensures { nodes_of nodes.new.entries ≡ nodes_with_change (nodes_of nodes.old.entries) number (node_without_link now) }
+{
+    match nodes.get_mut(&number) {
+        Some(node) => node.remove_link(now),
+        None => {}
+    }
+}
+
+/// A node whose entry is gone: a directory goes, a file with its last link.
+pub(crate) fn drop_name_of(nodes: &mut BTreeMap<u64, Node>, number: u64, now: Time)
+    requires { IfSome (map.get (nodes_of nodes.old.entries) number) (λ n. 0 < n.metadata.links) }
+    ensures { nodes_of nodes.new.entries ≡ nodes_with_name_dropped (nodes_of nodes.old.entries) now number }
+{
+    let goes = match find(nodes, number) {
+        Some(node) => node.is_dir() || node.metadata.links <= 1,
+        None => return,
+    };
+    if goes {
+        remove(nodes, number);
+    } else {
+        drop_link_of(nodes, number, now);
+    }
+}
+
+pub(crate) fn write_node(
+    nodes: &mut BTreeMap<u64, Node>,
+    number: u64,
+    offset: u64,
+    bytes: &[u8],
+    now: Time,
+) -> Result<(), Memory>
+    requires regular { IfSome (map.get (nodes_of nodes.old.entries) number) (λ n. IsTrue (is_regular_file n)) }
+    requires room { offset + length bytes.now < 2 ^ 62 }
+    ensures ok { OnOk result (nodes_of nodes.new.entries ≡ nodes_with_change (nodes_of nodes.old.entries) number (node_with_bytes now offset bytes.now)) }
+    ensures err { OnErr result (nodes_of nodes.new.entries ≡ nodes_of nodes.old.entries) }
+{
+    match nodes.get_mut(&number) {
+        Some(node) => node.write(offset, bytes, now),
+        None => Ok(()),
+    }
+}
+
+pub(crate) fn size_node(
+    nodes: &mut BTreeMap<u64, Node>,
+    number: u64,
+    size: u64,
+    now: Time,
+) -> Result<(), Memory>
+    requires regular { IfSome (map.get (nodes_of nodes.old.entries) number) (λ n. IsTrue (is_regular_file n)) }
+    requires room { size < 2 ^ 62 }
+    ensures ok { OnOk result (nodes_of nodes.new.entries ≡ nodes_with_change (nodes_of nodes.old.entries) number (node_with_size now size)) }
+    ensures err { OnErr result (nodes_of nodes.new.entries ≡ nodes_of nodes.old.entries) }
+{
+    match nodes.get_mut(&number) {
+        Some(node) => node.set_size(size, now),
+        None => Ok(()),
+    }
+}
+
+/// A file with one link more, from this directory.
+pub(crate) fn add_link_to(nodes: &mut BTreeMap<u64, Node>, number: u64, dir: u64, now: Time)
+    requires { IfSome (map.get (nodes_of nodes.old.entries) number) (λ n. n.metadata.links < 2 ^ 31) }
+    ensures { nodes_of nodes.new.entries ≡ nodes_with_change (nodes_of nodes.old.entries) number (node_with_link now dir) }
+{
+    match nodes.get_mut(&number) {
+        Some(node) => node.add_link(dir, now),
+        None => {}
+    }
+}
+
+pub(crate) fn set_metadata_of(nodes: &mut BTreeMap<u64, Node>, number: u64, metadata: Metadata)
+    ensures { nodes_of nodes.new.entries ≡ nodes_with_change (nodes_of nodes.old.entries) number (node_with_metadata metadata) }
+{
+    match nodes.get_mut(&number) {
+        Some(node) => node.set_metadata(metadata),
+        None => {}
+    }
+}

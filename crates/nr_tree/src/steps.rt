@@ -1,0 +1,99 @@
+//! The steps of a tree. Each asks for a sane tree and leaves a sane one.
+
+ghost use Rattle.std.specs.Prelude.{◌≡◌, ◌+◌, ◌≤◌, true, length, IfOk, OnOk, OnErr};
+
+use crate::node::{Metadata, Node};
+use crate::tree::Tree;
+use nr_nfs_base::Time;
+use nr_xdr::Memory;
+
+impl Tree {
+    ghost use Rattle.nr_tree.specs.Sane.{IsSane, largest_file};
+    ghost use Rattle.nr_tree.specs.Steps.{IsBounded, CanAddNode, CanAddLink, CanRemoveEntry, is_regular_at, links_at};
+    ghost use Rattle.nr_tree.specs.Changes.{tree_with_node, tree_without_entry, tree_with_link, tree_with_bytes, tree_with_size, tree_with_metadata};
+
+    /// Puts a new node under the next number, and an entry for it last into a directory, which is changed now (CREATE,
+    /// MKDIR, SYMLINK and MKNOD, RFC 1813 sections 3.3.8 to 3.3.11). Gives the number. After an `Err` the tree is as before.
+    pub fn add_node(
+        &mut self,
+        dir: u64,
+        name: Vec<u8>,
+        node: Node,
+        now: Time,
+    ) -> Result<u64, Memory>
+        requires sane { IsSane self.old }
+        requires bounded { IsBounded self.old }
+        requires allowed { CanAddNode self.old dir name.items node }
+        ensures number { IfOk result (λ n. n ≡ self.old.next) }
+        ensures ok { OnOk result (self.new ≡ tree_with_node self.old now dir name.items node) }
+        ensures err { OnErr result (self.new ≡ self.old) }
+        ensures sane { IsSane self.new }
+    {
+        self.add_node_inner(dir, name, node, now)
+    }
+
+    /// Puts one more entry for a file last into a directory (LINK, section 3.3.15). The file has a link more. After an
+    /// `Err` the tree is as before.
+    pub fn add_link(
+        &mut self,
+        dir: u64,
+        name: Vec<u8>,
+        number: u64,
+        now: Time,
+    ) -> Result<(), Memory>
+        requires sane { IsSane self.old }
+        requires bounded { IsBounded self.old }
+        requires allowed { CanAddLink self.old dir name.items number }
+        ensures ok { OnOk result (self.new ≡ tree_with_link self.old now dir name.items number) }
+        ensures err { OnErr result (self.new ≡ self.old) }
+        ensures sane { IsSane self.new }
+    {
+        self.add_link_inner(dir, name, number, now)
+    }
+
+    /// Takes an entry out of a directory (REMOVE and RMDIR, sections 3.3.12 and 3.3.13). The node that it named has a link
+    /// less, and is removed if that was its last one or if it is a directory. Takes no memory.
+    pub fn remove_entry(&mut self, dir: u64, name: &[u8], number: u64, now: Time)
+        requires sane { IsSane self.old }
+        requires allowed { CanRemoveEntry self.old dir name.now number }
+        ensures tree { self.new ≡ tree_without_entry self.old now dir name.now number }
+        ensures sane { IsSane self.new }
+    {
+        self.remove_entry_inner(dir, name, number, now);
+    }
+
+    /// Writes over the bytes of a regular file from an offset on; a gap before it becomes zeros (WRITE, section 3.3.7).
+    /// After an `Err` the tree is as before.
+    pub fn write(&mut self, number: u64, offset: u64, bytes: &[u8], now: Time) -> Result<(), Memory>
+        requires sane { IsSane self.old }
+        requires regular { is_regular_at self.old number ≡ true }
+        requires limit { offset + length bytes.now ≤ largest_file }
+        ensures ok { OnOk result (self.new ≡ tree_with_bytes self.old now number offset bytes.now) }
+        ensures err { OnErr result (self.new ≡ self.old) }
+        ensures sane { IsSane self.new }
+    {
+        self.write_inner(number, offset, bytes, now)
+    }
+
+    /// Cuts a regular file, or adds zeros (SETATTR, section 3.3.2). After an `Err` the tree is as before.
+    pub fn set_size(&mut self, number: u64, size: u64, now: Time) -> Result<(), Memory>
+        requires sane { IsSane self.old }
+        requires regular { is_regular_at self.old number ≡ true }
+        requires limit { size ≤ largest_file }
+        ensures ok { OnOk result (self.new ≡ tree_with_size self.old now number size) }
+        ensures err { OnErr result (self.new ≡ self.old) }
+        ensures sane { IsSane self.new }
+    {
+        self.set_size_inner(number, size, now)
+    }
+
+    /// Gives a node other attributes, with as many links as before (SETATTR, section 3.3.2). Takes no memory.
+    pub fn set_metadata(&mut self, number: u64, metadata: Metadata)
+        requires sane { IsSane self.old }
+        requires links { metadata.links ≡ links_at self.old number }
+        ensures tree { self.new ≡ tree_with_metadata self.old number metadata }
+        ensures sane { IsSane self.new }
+    {
+        self.set_metadata_inner(number, metadata);
+    }
+}

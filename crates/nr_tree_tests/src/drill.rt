@@ -1,0 +1,124 @@
+//! The drill's tree, number by number, its look-ups and its listings.
+
+use crate::compare::same;
+use nr_nfs_base::{Attributes, FileType, SpecialData, Time};
+use nr_tree::{Content, Tree};
+
+/// Type, mode, links, size and parent.
+type Seen = (FileType, u32, u32, u64, u64);
+
+/// What stands under a number.
+static NODES: [(u64, Option<Seen>); 9] = [
+    (0, None),
+    (1, Some((FileType::Dir, 0o777, 3, 0, 1))),
+    (2, Some((FileType::Reg, 0o666, 1, 5, 1))),
+    (3, Some((FileType::Lnk, 0o777, 1, 5, 1))),
+    (4, Some((FileType::Dir, 0o777, 2, 0, 1))),
+    (5, Some((FileType::Reg, 0o666, 1, 0, 4))),
+    (104, Some((FileType::Reg, 0o666, 1, 0, 4))),
+    (105, None),
+    (u64::MAX, None),
+];
+
+/// The number that a directory has under a name.
+static NAMES: [(u64, &[u8], Option<u64>); 10] = [
+    (1, b"hello", Some(2)),
+    (1, b"link", Some(3)),
+    (1, b"many", Some(4)),
+    (1, b"bye", None),
+    (1, b"hell", None),
+    (2, b"hello", None),
+    (4, b"f00", Some(5)),
+    (4, b"f99", Some(104)),
+    (4, b"f100", None),
+    (105, b"f00", None),
+];
+
+/// What a listing of a directory goes on with after a cookie: place, cookie and number.
+static LISTINGS: [(u64, u64, Option<(usize, u64, u64)>); 10] = [
+    (1, 0, Some((0, 1, 2))),
+    (1, 2, Some((2, 3, 4))),
+    (1, 3, None),
+    (2, 0, None),
+    (4, 0, Some((0, 1, 5))),
+    (4, 1, Some((1, 2, 6))),
+    (4, 30, Some((30, 31, 35))),
+    (4, 99, Some((99, 100, 104))),
+    (4, 100, None),
+    (4, u64::MAX, None),
+];
+
+fn seen(tree: &Tree, number: u64) -> Option<Seen> {
+    let node = tree.get(number)?;
+    let told = node.attributes(number);
+    Some((
+        told.file_type,
+        told.mode,
+        told.nlink,
+        told.size,
+        node.parent,
+    ))
+}
+
+fn looked_up(tree: &Tree, dir: u64, name: &[u8]) -> Option<u64> {
+    tree.get(dir)?.lookup(name)
+}
+
+fn listed(tree: &Tree, dir: u64, cookie: u64) -> Option<(usize, u64, u64)> {
+    match &tree.get(dir)?.content {
+        Content::Directory(entries) => {
+            let place = entries.place_after(cookie);
+            if place >= entries.len() {
+                return None;
+            }
+            let (_, slot) = entries.entry_at(place);
+            Some((place, slot.cookie, slot.number))
+        }
+        _ => None,
+    }
+}
+
+#[test]
+fn drill_tree(rt: HostRuntime) {
+    let tree = Tree::drill(rt.alloc()).expect(&rt, "memory");
+    same(&rt, 0, tree.next(), 105);
+    for (row, (number, want)) in NODES.iter().enumerate() {
+        same(&rt, row, seen(&tree, *number), *want);
+    }
+    for (row, (dir, name, want)) in NAMES.iter().enumerate() {
+        same(&rt, row, looked_up(&tree, *dir, name), *want);
+    }
+    for (row, (dir, cookie, want)) in LISTINGS.iter().enumerate() {
+        same(&rt, row, listed(&tree, *dir, *cookie), *want);
+    }
+}
+
+#[test]
+fn root_alone(rt: HostRuntime) {
+    let now = Time {
+        seconds: 7,
+        nanoseconds: 9,
+    };
+    let tree = Tree::root_only(rt.alloc(), now).expect(&rt, "memory");
+    same(&rt, 0, tree.next(), 2);
+    let told = match tree.get(1) {
+        Some(node) => Some(node.attributes(1)),
+        None => None,
+    };
+    let want = Attributes {
+        file_type: FileType::Dir,
+        mode: 0o777,
+        nlink: 2,
+        uid: 0,
+        gid: 0,
+        size: 0,
+        used: 0,
+        rdev: SpecialData { major: 0, minor: 0 },
+        fsid: 1,
+        fileid: 1,
+        atime: now,
+        mtime: now,
+        ctime: now,
+    };
+    same(&rt, 1, told, Some(want));
+}
