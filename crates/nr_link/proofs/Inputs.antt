@@ -4,7 +4,7 @@ use Rattle.std.specs.List.{concat}
 use Rattle.nr_wire.specs.declared.hello.Side.{Side}
 use Rattle.nr_wire.specs.declared.stream.Awaited.{Awaited}
 use Rattle.nr_wire.specs.declared.stream.Awaited.TheVariants.{Hello as HelloFrom}
-use Rattle.nr_wire.specs.Stream.{Split, split, awaited_after, beyond}
+use Rattle.nr_wire.specs.Stream.{Split, split, awaited_after, frames_then}
 use Rattle.nr_wire.proofs.Splits.{split-append, split-Splits, awaited_after-Fpdu}
 use Rattle.nr_link.specs.Frames.{frames_completed}
 use Rattle.nr_link.specs.Input.{input_of_split, input_of, initial_input, input_count, input_split, input_frames, input_after}
@@ -19,7 +19,7 @@ concat-append [] ys = refl
 concat-append (x ∷ xs) ys = ap (λ (zs : List ℕ). x ++ zs) (concat-append xs ys) ∙ sym (append_assoc x (concat xs) (concat ys))
 
 beyond-input : (peer : Side) (fs : List (List ℕ)) (later : Split) →
-    input_of_split peer (beyond fs later)
+    input_of_split peer (frames_then fs later)
     ≡ record { awaited = awaited_after (awaited_after (HelloFrom peer) fs) later.frames; rest = later.rest; place = length (concat fs) + length (concat later.frames) }
 beyond-input peer fs later = λ i. record {
   awaited = after-append (HelloFrom peer) fs later.frames i;

@@ -10,7 +10,7 @@ use Rattle.nr_regions.specs.declared.right.Kind.TheVariants.{Write, Response}
 use Rattle.nr_regions.specs.declared.right.Right.TheVariants.{Fetch}
 use Rattle.nr_regions.specs.declared.denied.Denied.{Denied}
 use Rattle.nr_regions.specs.RegisteredMemory.{Access, right_for}
-use Rattle.nr_regions.specs.Access.{Grant, Reach, lacking}
+use Rattle.nr_regions.specs.Access.{Grant, TaggedSegment, grant_denial}
 use Rattle.nr_link.specs.declared.end.End.{End}
 use Rattle.nr_link.specs.declared.end.End.TheVariants as ends
 use Rattle.nr_link.specs.Reasons.{denied_word, NO_BUFFER_WORD}
@@ -24,7 +24,7 @@ abbrev pub kind_of : ℕ → Kind
 kind_of opcode = if opcode == OPCODE_READ_RESPONSE then Response else Write
 
 -- the tagged segment of a frame as an access to memory, with the place at which the frame ends
-abbrev pub reach_of : Frame → Segment → List Reach
+abbrev pub reach_of : Frame → Segment → List TaggedSegment
 reach_of f (Tagged last opcode stag to payload) =
     record { kind = kind_of opcode; stag = stag; to = to; payload = payload; end = f.end } ∷ []
 reach_of f (Untagged last opcode w queue msn offset payload) = []
@@ -40,7 +40,7 @@ access_of (Untagged last opcode w queue msn offset payload) =
 
 -- what the access of a frame's segment lacks of the grants, where it lacks something
 abbrev pub missing_access : List Grant → Frame → Segment → Option Denied
-missing_access grants f segment = option_and_then (λ access. lacking grants access f.end) (access_of segment)
+missing_access grants f segment = option_and_then (λ access. grant_denial grants access f.end) (access_of segment)
 
 -- the End that a fault of a segment makes
 abbrev pub denied_at : Option Access → Denied → End

@@ -1,9 +1,10 @@
 -- The untagged messages of a peer so far, and the Read Request that a segment carries (RFC 5041 section 4; RFC 5040 section 4.4).
 use Rattle.std.specs.Prelude.{ℕ, ◌+◌, Bool, true, false, ◌&&◌, ◌==◌, if◌then◌else◌, List, [], ◌++◌, Option, None, Some}
 use Rattle.nr_wire.specs.Constants.{OPCODE_READ_REQUEST, OPCODE_SEND}
-use Rattle.nr_wire.specs.Fields.{word_at, hyper_at}
+use Rattle.nr_wire.specs.Fields.{hyper_at}
 use Rattle.nr_wire.specs.Segment.{Segment}
 use Rattle.nr_wire.specs.Segment.Segment.{Tagged, Untagged}
+use Rattle.nr_xdr.specs.Fields.{word_at}
 
 -- The untagged queues of a side that receives (RFC 5041 section 4.3): how many Sends are whole, the bytes so far of a Send that is
 -- begun, and how many Read Requests were received.

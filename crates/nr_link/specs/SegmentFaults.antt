@@ -2,13 +2,13 @@
 -- before it, and by what the end has ready for it. What its access to memory lacks is handed in.
 use Rattle.std.specs.Prelude.{ℕ, ◌+◌, ◌^◌, Bool, true, false, not, ◌&&◌, ◌||◌, ◌==◌, nat_lt, nat_le, if◌then◌else◌, List, [], ◌∷◌, length, Option, None, Some}
 use Rattle.nr_wire.specs.Constants.{OPCODE_READ_REQUEST, OPCODE_READ_RESPONSE, OPCODE_TERMINATE, QUEUE_SEND, QUEUE_READ_REQUEST}
-use Rattle.nr_wire.specs.Fields.{word_at}
 use Rattle.nr_wire.specs.Segment.{Segment}
 use Rattle.nr_wire.specs.Segment.Segment.{Tagged, Untagged}
 use Rattle.nr_link.specs.Limits.{open_reads_max}
 use Rattle.nr_link.specs.Reasons.{REASON_MSN, REASON_OFFSET, REASON_FORM, REASON_RESPONSE, REASON_REQUESTS, REASON_SHORT, REASON_LONG}
 use Rattle.nr_link.specs.Output.{msn_word}
 use Rattle.nr_link.specs.ReceiveState.{ReceiveState, is_send, begun_bytes, message_completed, read_request_in}
+use Rattle.nr_xdr.specs.Fields.{word_at}
 
 -- where the oldest open Read Request goes on: its sink, the next place in it, and how many bytes are left
 pub record ExpectedResponse : Type 0 where
