@@ -60,4 +60,10 @@ mod base;
 #[cfg(test)]
 mod compare;
 #[cfg(test)]
+mod header;
+#[cfg(test)]
 mod res;
+#[cfg(test)]
+mod rpc;
+#[cfg(test)]
+mod wire;
