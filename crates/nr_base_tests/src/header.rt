@@ -1,9 +1,13 @@
 //! Tests of nr_header. Rows are words, worked out by hand from RFC 8166 (sections 3.4 and 4), and the limits of this project.
 
+ghost use Rattle.nr_header.specs.Header.{CanWriteHeader};
+
 use crate::bytes_of;
 use crate::compare::same;
 use nr_header::*;
+use nr_xdr::Octets;
 use std::alloc::Global;
+use std::process::Abort;
 use std::test::Fail;
 
 /// What is read: a header, or a fault with its number.
@@ -155,16 +159,22 @@ fn put_times(bytes: &mut Vec<u8>, alloc: Global, words: &[u32], times: u32) -> R
 /// many words of a stream.
 fn message(alloc: Global, counts: [u32; 5]) -> Result<Vec<u8>, Fail> {
     let [entries, first, second, reply, stream] = counts;
-    let segment = [1, 1, 0, 0];
-    let mut bytes = bytes_of(alloc, &[1, 1, 16, 0])?;
-    put_times(&mut bytes, alloc, &[1, 4, 1, 1, 0, 0], entries)?;
-    put_times(&mut bytes, alloc, &[0, 1, first], 1)?;
-    put_times(&mut bytes, alloc, &segment, first)?;
-    put_times(&mut bytes, alloc, &[1, second], 1)?;
-    put_times(&mut bytes, alloc, &segment, second)?;
-    put_times(&mut bytes, alloc, &[0, 1, reply], 1)?;
-    put_times(&mut bytes, alloc, &segment, reply)?;
-    put_times(&mut bytes, alloc, &[7], stream)?;
+    let segment: &[u32] = &[1, 1, 0, 0];
+    let parts: [(&[u32], u32); 9] = [
+        (&[1, 1, 16, 0], 1),
+        (&[1, 4, 1, 1, 0, 0], entries),
+        (&[0, 1, first], 1),
+        (segment, first),
+        (&[1, second], 1),
+        (segment, second),
+        (&[0, 1, reply], 1),
+        (segment, reply),
+        (&[7], stream),
+    ];
+    let mut bytes = Vec::new(alloc);
+    for (words, times) in parts {
+        put_times(&mut bytes, alloc, words, times)?;
+    }
     Ok(bytes)
 }
 
@@ -313,6 +323,14 @@ fn body_numbers(body: &Body) -> ([u32; 4], usize) {
     }
 }
 
+/// The xid and the credits of the header that the bytes begin with, its body's numbers, and its bytes as they are written.
+fn header_again(alloc: Global, bytes: &[u8]) -> Result<([u32; 2], [u32; 4], usize, Octets), Fail> {
+    let header = read_header(bytes)?;
+    let written = write_header(alloc, &header)?;
+    let (numbers, at) = body_numbers(&header.body);
+    Ok(([header.xid, header.credit], numbers, at, written))
+}
+
 #[test]
 fn headers_read(rt: HostRuntime) -> Result<(), Fail> {
     let rows: [(&[u32], ([u32; 4], usize)); 4] = [
@@ -323,81 +341,85 @@ fn headers_read(rt: HostRuntime) -> Result<(), Fail> {
     ];
     for (row, (words, want)) in rows.iter().enumerate() {
         let bytes = bytes_of(rt.alloc(), words)?;
-        let header = read_header(&bytes)?;
-        let fixed = (header.xid, header.credit);
-        same(&rt, row, fixed, (0x0102_0304, 32));
-        same(&rt, row, body_numbers(&header.body), *want);
-        let again = write_header(rt.alloc(), &header)?;
+        let (fixed, numbers, at, again) = header_again(rt.alloc(), &bytes)?;
+        same(&rt, row, fixed, [0x0102_0304, 32]);
+        same(&rt, row, (numbers, at), *want);
         let front = bytes.get(..again.len());
         same(&rt, row, Some(again.as_slice()), front);
     }
     Ok(())
 }
 
-/// The lists of a message, taken apart.
+/// The lists of `MSG_WORDS` and of `NOMSG_WORDS`: entries at this position, two write chunks, a reply chunk.
+fn same_lists(rt: &impl Abort, lists: &ChunkLists, position: u32) {
+    let entries: &[ReadSegment] = &[entry(position, 11), entry(position, 31)];
+    same(rt, 0, lists.read.as_slice(), entries);
+    let counts = (lists.read.is_empty(), lists.write.len());
+    same(rt, 1, counts, (false, 2));
+    let both: &[RdmaSegment] = &[FIRST, SECOND];
+    if let [first, second] = lists.write.as_slice() {
+        same(rt, 2, first.as_slice(), both);
+        same(rt, 3, second.as_slice(), &both[1..]);
+    }
+    same(rt, 4, lists.reply.is_some(), true);
+    if let Some(reply) = &lists.reply {
+        same(rt, 5, reply.as_slice(), &both[..1]);
+    }
+}
+
 #[test]
 fn lists_read(rt: HostRuntime) -> Result<(), Fail> {
     let bytes = bytes_of(rt.alloc(), &MSG_WORDS)?;
-    let header = read_header(&bytes)?;
-    let Body::Msg { lists, .. } = &header.body else {
-        return Err(Fail::from("RDMA_MSG"));
-    };
-    let entries: &[ReadSegment] = &[entry(8, 11), entry(8, 31)];
-    same(&rt, 0, lists.read.as_slice(), entries);
-    let counts = (lists.read.is_empty(), lists.write.len());
-    same(&rt, 1, counts, (false, 2));
-    let [first, second] = lists.write.as_slice() else {
-        return Err(Fail::from("two chunks"));
-    };
-    let both: &[RdmaSegment] = &[FIRST, SECOND];
-    same(&rt, 2, first.as_slice(), both);
-    same(&rt, 3, second.as_slice(), &both[1..]);
-    let Some(reply) = &lists.reply else {
-        return Err(Fail::from("a reply chunk"));
-    };
-    same(&rt, 4, reply.as_slice(), &both[..1]);
-    Ok(())
-}
-
-#[test]
-fn reply_chunk_read(rt: HostRuntime) -> Result<(), Fail> {
+    match read_header(&bytes)?.body {
+        Body::Msg { lists, .. } => same_lists(&rt, &lists, 8),
+        _ => panic!(rt; "RDMA_MSG"),
+    }
     let bytes = bytes_of(rt.alloc(), &NOMSG_WORDS)?;
-    let header = read_header(&bytes)?;
-    let Body::Nomsg { lists } = &header.body else {
-        return Err(Fail::from("RDMA_NOMSG"));
-    };
-    let entries: &[ReadSegment] = &[entry(0, 11), entry(0, 31)];
-    same(&rt, 0, lists.read.as_slice(), entries);
-    let Some(reply) = &lists.reply else {
-        return Err(Fail::from("a reply chunk"));
-    };
-    let segments: &[RdmaSegment] = &[FIRST];
-    same(&rt, 1, reply.as_slice(), segments);
+    match read_header(&bytes)?.body {
+        Body::Nomsg { lists } => same_lists(&rt, &lists, 0),
+        _ => panic!(rt; "RDMA_NOMSG"),
+    }
     Ok(())
 }
 
-/// A read list of 17 entries is written whole, and refused at its last one when it is read.
-#[test]
-fn written_above_the_limit(rt: HostRuntime) -> Result<(), Fail> {
-    let alloc = rt.alloc();
+/// RDMA_MSG with a read list of 17 entries.
+fn long_header(entries: Vec<ReadSegment>) -> Header
+    ensures { CanWriteHeader result }
+{
     let lists = ChunkLists {
-        read: InlineVec::from_vec(vec![in alloc; entry(4, 9); 17]?),
+        read: InlineVec::from_vec(entries),
         write: InlineVec::new(),
         reply: None,
     };
-    let header = Header {
+    Header {
         xid: 0x0102_0304,
         credit: 32,
         body: Body::Msg {
             lists,
             stream_at: 0,
         },
-    };
-    let written = write_header(alloc, &header)?;
-    let mut want = bytes_of(alloc, &[0x0102_0304, 1, 32, 0])?;
-    put_times(&mut want, alloc, &[1, 4, 9, 12, 13, 14], 17)?;
-    put_times(&mut want, alloc, &[0, 0, 0], 1)?;
+    }
+}
+
+fn long_header_written(alloc: Global) -> Result<Octets, Fail> {
+    let header = long_header(vec![in alloc; entry(4, 9); 17]?);
+    Ok(write_header(alloc, &header)?)
+}
+
+/// The words of that header.
+fn long_header_words(alloc: Global) -> Result<Vec<u8>, Fail> {
+    let mut bytes = bytes_of(alloc, &[0x0102_0304, 1, 32, 0])?;
+    put_times(&mut bytes, alloc, &[1, 4, 9, 12, 13, 14], 17)?;
+    put_times(&mut bytes, alloc, &[0, 0, 0], 1)?;
+    Ok(bytes)
+}
+
+/// A read list of 17 entries is written whole, and refused at its last one when it is read.
+#[test]
+fn written_above_the_limit(rt: HostRuntime) -> Result<(), Fail> {
+    let written = long_header_written(rt.alloc())?;
     same(&rt, 0, read_as(written.as_slice()), Read::BadChunks(400));
+    let want = long_header_words(rt.alloc())?;
     same(&rt, 1, written.as_slice(), want.as_slice());
     Ok(())
 }
