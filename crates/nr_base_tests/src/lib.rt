@@ -60,10 +60,16 @@ mod base;
 #[cfg(test)]
 mod compare;
 #[cfg(test)]
+mod header;
+#[cfg(test)]
 mod outside;
 #[cfg(test)]
 mod regions;
 #[cfg(test)]
 mod res;
+#[cfg(test)]
+mod rpc;
+#[cfg(test)]
+mod wire;
 #[cfg(test)]
 mod xdr;

@@ -1,0 +1,465 @@
+//! Tests of nr_rpc. Rows are words, worked out by hand from RFC 5531 (sections 8.2 and 9, appendix A).
+
+ghost use Rattle.std.specs.Prelude.{IfOk};
+ghost use Rattle.nr_rpc.specs.Credential.{CanWriteCred};
+ghost use Rattle.nr_rpc.specs.Reply.{CanWriteReply};
+
+use crate::bytes_of;
+use crate::compare::same;
+use nr_rpc::*;
+use nr_xdr::Octets;
+use std::alloc::Global;
+use std::test::Fail;
+
+/// What is read of a credential: its flavor and whether it is AUTH_SYS; then the stamp, the user, the group, the number of
+/// further groups and the first of them; and the length of the machine's name.
+fn cred_words(cred: &Cred) -> ([u32; 7], usize) {
+    match cred {
+        Cred::None => ([0; 7], 0),
+        Cred::Sys {
+            stamp,
+            machine,
+            uid,
+            gid,
+            gids,
+        } => {
+            let first = gids.as_slice().first().copied().unwrap_or(0);
+            let groups = gids.len() as u32;
+            ([1, 1, *stamp, *uid, *gid, groups, first], machine.len())
+        }
+        Cred::Other { flavor } => ([*flavor, 0, 0, 0, 0, 0, 0], 0),
+    }
+}
+
+/// What is read of a call: RPC's version, the xid, the program, its version and the procedure; the place of the arguments; and
+/// the credential.
+type CallWords = ([u32; 5], usize, ([u32; 7], usize));
+
+fn call_words(head: &CallHead) -> CallWords {
+    match head {
+        CallHead::Version2 {
+            xid,
+            prog,
+            vers,
+            proc,
+            cred,
+            args_at,
+        } => ([2, *xid, *prog, *vers, *proc], *args_at, cred_words(cred)),
+        CallHead::Other { xid, rpcvers } => ([*rpcvers, *xid, 0, 0, 0], 0, ([0; 7], 0)),
+    }
+}
+
+/// The words of the call head at the front, or the place of the first item that fails.
+fn call_answer(alloc: Global, bytes: &[u8]) -> Result<CallWords, usize> {
+    match read_call(alloc, bytes) {
+        Ok(head) => Ok(call_words(&head)),
+        Err(HeadFault::NotCall { at }) => Err(at),
+        Err(HeadFault::NotReply { .. } | HeadFault::Memory) => Err(usize::MAX),
+    }
+}
+
+/// The xid of a call, and whether it is of version 2.
+fn short_want(want: Result<CallWords, usize>) -> (Option<u32>, bool) {
+    match want {
+        Ok(words) => (Some(words.0[1]), words.0[0] == 2),
+        Err(_) => (None, false),
+    }
+}
+
+const NONE: ([u32; 7], usize) = ([0; 7], 0);
+
+static CALLS: [(&[u32], Result<CallWords, usize>); 26] = [
+    (
+        &[1, 0, 2, 100_003, 3, 0, 0, 0, 0, 0],
+        Ok(([2, 1, 100_003, 3, 0], 40, NONE)),
+    ),
+    // AUTH_SYS: stamp 5, machine `nfsrdma`, user 7, group 8, further group 9; a pad byte that isn't 0; arguments follow.
+    (
+        &[
+            0x0102_0304,
+            0,
+            2,
+            100_005,
+            3,
+            1,
+            1,
+            32,
+            5,
+            7,
+            0x6e66_7372,
+            0x646d_6100,
+            7,
+            8,
+            1,
+            9,
+            0,
+            0,
+            0x6869_0000,
+        ],
+        Ok((
+            [2, 0x0102_0304, 100_005, 3, 1],
+            72,
+            ([1, 1, 5, 7, 8, 1, 9], 7),
+        )),
+    ),
+    (
+        &[
+            1,
+            0,
+            2,
+            7,
+            6,
+            5,
+            1,
+            36,
+            5,
+            7,
+            0x6e66_7372,
+            0x646d_61ff,
+            70,
+            80,
+            2,
+            90,
+            91,
+            0,
+            0,
+        ],
+        Ok(([2, 1, 7, 6, 5], 76, ([1, 1, 5, 70, 80, 2, 90], 7))),
+    ),
+    // AUTH_NONE with a body; other flavors of the credential and of the verifier.
+    (
+        &[1, 0, 2, 100_003, 3, 0, 0, 4, 7, 0, 0],
+        Ok(([2, 1, 100_003, 3, 0], 44, NONE)),
+    ),
+    (
+        &[1, 0, 2, 100_003, 3, 0, 5, 4, 7, 6, 4, 9],
+        Ok(([2, 1, 100_003, 3, 0], 48, ([5, 0, 0, 0, 0, 0, 0], 0))),
+    ),
+    (
+        &[1, 0, 2, 100_003, 3, 0, 0, 0, 1, 8, 9, 9],
+        Ok(([2, 1, 100_003, 3, 0], 48, NONE)),
+    ),
+    // Flavor 1 whose body is empty, has bytes after AUTH_SYS, or has 17 further groups.
+    (
+        &[1, 0, 2, 100_003, 3, 0, 1, 0, 0, 0],
+        Ok(([2, 1, 100_003, 3, 0], 40, ([1, 0, 0, 0, 0, 0, 0], 0))),
+    ),
+    (
+        &[1, 0, 2, 100_003, 3, 0, 1, 24, 0, 0, 0, 0, 0, 7, 0, 0],
+        Ok(([2, 1, 100_003, 3, 0], 64, ([1, 0, 0, 0, 0, 0, 0], 0))),
+    ),
+    (
+        &[1, 0, 2, 100_003, 3, 0, 1, 20, 0, 0, 0, 0, 17, 0, 0],
+        Ok(([2, 1, 100_003, 3, 0], 60, ([1, 0, 0, 0, 0, 0, 0], 0))),
+    ),
+    // Other versions of RPC.
+    (&[1, 0, 3], Ok(([3, 1, 0, 0, 0], 0, NONE))),
+    (&[9, 0, 0, 4, 5], Ok(([0, 9, 0, 0, 0], 0, NONE))),
+    (&[9, 0, 1], Ok(([1, 9, 0, 0, 0], 0, NONE))),
+    (
+        &[0xffff_ffff, 0, 0xffff_ffff],
+        Ok(([0xffff_ffff, 0xffff_ffff, 0, 0, 0], 0, NONE)),
+    ),
+    // No call heads.
+    (&[], Err(0)),
+    (&[1], Err(4)),
+    (&[1, 0], Err(8)),
+    (&[1, 0, 2], Err(12)),
+    (&[1, 1, 2, 100_003, 3, 0, 0, 0, 0, 0], Err(4)),
+    (&[1, 1, 3], Err(4)),
+    (&[1, 2, 2], Err(4)),
+    (&[1, 0, 2, 100_003, 3], Err(20)),
+    (&[1, 0, 2, 100_003, 3, 0, 0, 401], Err(28)),
+    (&[1, 0, 2, 100_003, 3, 0, 0, 400], Err(28)),
+    (&[1, 0, 2, 100_003, 3, 0, 0, 0, 0, 401], Err(36)),
+    (&[1, 0, 2, 100_003, 3, 0, 0, 0, 0], Err(36)),
+    (&[1, 0, 2, 100_003, 3, 0, 0, 0, 0, 5, 7], Err(36)),
+];
+
+#[test]
+fn calls(rt: HostRuntime) -> Result<(), Fail> {
+    call_round_trip();
+    one_call_head();
+    for (row, (words, want)) in CALLS.iter().enumerate() {
+        let bytes = bytes_of(rt.alloc(), words)?;
+        same(&rt, row, call_answer(rt.alloc(), &bytes), *want);
+        let short = (call_xid(&bytes), call_target(&bytes).is_some());
+        same(&rt, row, short, short_want(*want));
+    }
+    Ok(())
+}
+
+#[test]
+fn targets(rt: HostRuntime) -> Result<(), Fail> {
+    let words = &[7, 0, 2, 100_005, 3, 1, 5, 4, 9, 6, 0, 8];
+    let bytes = bytes_of(rt.alloc(), words)?;
+    let target = CallTarget {
+        xid: 7,
+        prog: 100_005,
+        vers: 3,
+        proc: 1,
+        args_at: 44,
+    };
+    same(&rt, 0, call_target(&bytes), Some(target));
+    Ok(())
+}
+
+/// These words, the count of a body, and 103 words of zeros: room for a body of up to 404 bytes.
+fn counted(alloc: Global, before: &[u32], count: u32) -> Result<Vec<u8>, Fail> {
+    let mut bytes = bytes_of(alloc, before)?;
+    bytes.extend_from_slice(&count.to_be_bytes())?;
+    bytes.extend_from_slice(&[0; 412])?;
+    Ok(bytes)
+}
+
+/// The place of the arguments of the call at the front, or of the first item that fails.
+fn args_at(alloc: Global, bytes: &[u8]) -> Result<usize, usize> {
+    call_answer(alloc, bytes).map(|words| words.1)
+}
+
+/// Bodies whose bytes are all there: 400 are read, 401 are refused at their count.
+#[test]
+fn longest_bodies(rt: HostRuntime) -> Result<(), Fail> {
+    let calls: [(&[u32], u32, Result<usize, usize>); 4] = [
+        (&[1, 0, 2, 100_003, 3, 0, 5], 400, Ok(440)),
+        (&[1, 0, 2, 100_003, 3, 0, 5], 401, Err(28)),
+        (&[1, 0, 2, 100_003, 3, 0, 0, 0, 6], 400, Ok(440)),
+        (&[1, 0, 2, 100_003, 3, 0, 0, 0, 6], 401, Err(36)),
+    ];
+    for (row, (before, count, want)) in calls.iter().enumerate() {
+        let bytes = counted(rt.alloc(), before, *count)?;
+        same(&rt, row, args_at(rt.alloc(), &bytes), *want);
+    }
+    let bytes = counted(rt.alloc(), &[1, 1, 0, 3], 400)?;
+    same(&rt, 4, reply_answer(&bytes), Ok(([0, 1, 0, 0], 424)));
+    let bytes = counted(rt.alloc(), &[1, 1, 0, 3], 401)?;
+    same(&rt, 5, reply_answer(&bytes), Err(16));
+    Ok(())
+}
+
+/// A call of AUTH_SYS with a body of so many bytes, whose machine's name has so many, in 64 words, and so many further
+/// groups.
+fn sys_call(alloc: Global, body: u32, machine: u32, groups: u32) -> Result<Vec<u8>, Fail> {
+    let mut bytes = bytes_of(alloc, &[1, 0, 2, 100_003, 3, 0, 1, body, 0, machine])?;
+    bytes.extend_from_slice(&[0; 256])?;
+    bytes.extend_from_slice(&bytes_of(alloc, &[7, 8, groups])?)?;
+    for _ in 0..groups {
+        bytes.extend_from_slice(&[0, 0, 0, 9])?;
+    }
+    bytes.extend_from_slice(&[0; 8])?;
+    Ok(bytes)
+}
+
+#[test]
+fn sys_limits(rt: HostRuntime) -> Result<(), Fail> {
+    let rows = [
+        (340, 255, 16, Ok(([1, 1, 0, 7, 8, 16, 9], 255))),
+        (340, 256, 16, Ok(([1, 0, 0, 0, 0, 0, 0], 0))),
+        (344, 255, 17, Ok(([1, 0, 0, 0, 0, 0, 0], 0))),
+    ];
+    for (row, (body, machine, groups, want)) in rows.iter().enumerate() {
+        let bytes = sys_call(rt.alloc(), *body, *machine, *groups)?;
+        let cred = call_answer(rt.alloc(), &bytes).map(|words| words.2);
+        same(&rt, row, cred, *want);
+    }
+    Ok(())
+}
+
+/// A call of procedure 0 of NFS with this credential, and these arguments, as it is written.
+fn call_written(alloc: Global, cred: Cred, args: &[u8]) -> Result<Octets, Fail>
+    requires { CanWriteCred cred }
+{
+    let head = CallHead::Version2 {
+        xid: 1,
+        prog: 100_003,
+        vers: 3,
+        proc: 0,
+        cred,
+        args_at: 0,
+    };
+    Ok(write_call(alloc, &head, args)?)
+}
+
+/// AUTH_SYS: stamp 5, machine `nfsrdma`, user 7, group 8, further groups 9 and 10.
+fn sys_cred(alloc: Global) -> Result<Cred, Fail>
+    ensures { IfOk result (λ cred. CanWriteCred cred) }
+{
+    let mut gids = Gids::new();
+    gids.push(9);
+    gids.push(10);
+    Ok(Cred::Sys {
+        stamp: 5,
+        machine: Octets::from_slice(alloc, b"nfsrdma")?,
+        uid: 7,
+        gid: 8,
+        gids,
+    })
+}
+
+#[test]
+fn sys_call_written(rt: HostRuntime) -> Result<(), Fail> {
+    let words = &[
+        1,
+        0,
+        2,
+        100_003,
+        3,
+        0,
+        1,
+        36,
+        5,
+        7,
+        0x6e66_7372,
+        0x646d_6100,
+        7,
+        8,
+        2,
+        9,
+        10,
+        0,
+        0,
+        0x6869_686f,
+    ];
+    let cred = sys_cred(rt.alloc())?;
+    let written = call_written(rt.alloc(), cred, b"hiho")?;
+    let want = bytes_of(rt.alloc(), words)?;
+    same(&rt, 0, written.as_slice(), want.as_slice());
+    same(&rt, 1, Gids::new().is_empty(), true);
+    Ok(())
+}
+
+/// Whether a call with this credential and no arguments is written as these words.
+fn is_written(alloc: Global, cred: Cred, words: &[u32]) -> Result<bool, Fail>
+    requires { CanWriteCred cred }
+{
+    let written = call_written(alloc, cred, &[])?;
+    let want = bytes_of(alloc, words)?;
+    Ok(written.as_slice() == want.as_slice())
+}
+
+#[test]
+fn other_calls_written(rt: HostRuntime) -> Result<(), Fail> {
+    let none = is_written(
+        rt.alloc(),
+        Cred::None,
+        &[1, 0, 2, 100_003, 3, 0, 0, 0, 0, 0],
+    )?;
+    let cred = Cred::Other { flavor: 6 };
+    let other = is_written(rt.alloc(), cred, &[1, 0, 2, 100_003, 3, 0, 6, 0, 0, 0])?;
+    same(&rt, 0, (none, other), (true, true));
+    Ok(())
+}
+
+#[test]
+fn other_version_written(rt: HostRuntime) -> Result<(), Fail> {
+    let version = CallHead::Other { xid: 1, rpcvers: 3 };
+    let written = write_call(rt.alloc(), &version, &[])?;
+    let want: &[u8] = &[0, 0, 0, 1, 0, 0, 0, 0, 0, 0, 0, 3];
+    same(&rt, 0, written.as_slice(), want);
+    Ok(())
+}
+
+/// What is read of a reply: 0, the xid, the accept status and 0; 1 (PROG_MISMATCH) or 2 (RPC_MISMATCH), the xid, the lowest
+/// and the highest version; 3, the xid, the auth status and 0. Then the place of the results.
+fn reply_words(head: &ReplyHead) -> ([u32; 4], usize) {
+    match *head {
+        ReplyHead::Accepted {
+            xid,
+            stat,
+            results_at,
+        } => ([0, xid, stat, 0], results_at),
+        ReplyHead::ProgMismatch { xid, low, high } => ([1, xid, low, high], 0),
+        ReplyHead::RpcMismatch { xid, low, high } => ([2, xid, low, high], 0),
+        ReplyHead::AuthError { xid, stat } => ([3, xid, stat, 0], 0),
+    }
+}
+
+/// The head with these words.
+fn reply_head(words: [u32; 4]) -> ReplyHead
+    ensures { CanWriteReply result }
+{
+    let [kind, xid, a, b] = words;
+    match kind {
+        0 if a != PROG_MISMATCH => ReplyHead::Accepted {
+            xid,
+            stat: a,
+            results_at: 0,
+        },
+        0 | 1 => ReplyHead::ProgMismatch {
+            xid,
+            low: a,
+            high: b,
+        },
+        2 => ReplyHead::RpcMismatch {
+            xid,
+            low: a,
+            high: b,
+        },
+        _ => ReplyHead::AuthError { xid, stat: a },
+    }
+}
+
+/// The words of the reply head at the front, or the place of the first item that fails.
+fn reply_answer(bytes: &[u8]) -> Result<([u32; 4], usize), usize> {
+    match read_reply(bytes) {
+        Ok(head) => Ok(reply_words(&head)),
+        Err(HeadFault::NotReply { at }) => Err(at),
+        Err(HeadFault::NotCall { .. } | HeadFault::Memory) => Err(usize::MAX),
+    }
+}
+
+static REPLIES: [(&[u32], Result<([u32; 4], usize), usize>); 23] = [
+    // Heads that are written as they are read.
+    (&[1, 1, 0, 0, 0, 0], Ok(([0, 1, 0, 0], 24))),
+    (&[1, 1, 0, 0, 0, 1], Ok(([0, 1, 1, 0], 24))),
+    (&[7, 1, 0, 0, 0, 5], Ok(([0, 7, 5, 0], 24))),
+    (
+        &[7, 1, 0, 0, 0, 0xffff_ffff],
+        Ok(([0, 7, 0xffff_ffff, 0], 24)),
+    ),
+    (&[9, 1, 0, 0, 0, 2, 3, 5], Ok(([1, 9, 3, 5], 0))),
+    (&[9, 1, 0, 0, 0, 2, 5, 3], Ok(([1, 9, 5, 3], 0))),
+    (&[9, 1, 1, 0, 2, 7], Ok(([2, 9, 2, 7], 0))),
+    (&[9, 1, 1, 0, 7, 2], Ok(([2, 9, 7, 2], 0))),
+    (&[1, 1, 1, 1, 5], Ok(([3, 1, 5, 0], 0))),
+    // A verifier of another flavor, and results.
+    (&[1, 1, 0, 6, 4, 9, 0, 8], Ok(([0, 1, 0, 0], 28))),
+    (&[1, 1, 0, 1, 8, 9, 9, 4], Ok(([0, 1, 4, 0], 32))),
+    (&[9, 1, 0, 6, 1, 9, 2, 3, 5], Ok(([1, 9, 3, 5], 0))),
+    // No replies.
+    (&[], Err(0)),
+    (&[1], Err(4)),
+    (&[1, 0, 0, 0, 0, 0], Err(4)),
+    (&[1, 2, 0, 0, 0, 0], Err(4)),
+    (&[1, 1, 2, 0, 0, 0], Err(8)),
+    (&[1, 1, 0, 0, 401, 0], Err(16)),
+    (&[1, 1, 0, 0, 4], Err(16)),
+    (&[1, 1, 0, 0, 0, 2, 3], Err(28)),
+    (&[1, 1, 1, 2, 0], Err(12)),
+    (&[1, 1, 1, 0, 2], Err(20)),
+    (&[1, 1, 1, 1], Err(16)),
+];
+
+#[test]
+fn replies(rt: HostRuntime) -> Result<(), Fail> {
+    reply_round_trip();
+    one_reply_head();
+    for (row, (words, want)) in REPLIES.iter().enumerate() {
+        let bytes = bytes_of(rt.alloc(), words)?;
+        same(&rt, row, reply_answer(&bytes), *want);
+    }
+    Ok(())
+}
+
+#[test]
+fn replies_written(rt: HostRuntime) -> Result<(), Fail> {
+    for (row, (words, want)) in REPLIES.iter().take(9).enumerate() {
+        let mut bytes = bytes_of(rt.alloc(), words)?;
+        bytes.extend_from_slice(b"hi")?;
+        if let Ok(want) = want {
+            let written = write_reply(rt.alloc(), &reply_head(want.0), b"hi")?;
+            same(&rt, row, written.as_slice(), bytes.as_slice());
+        }
+    }
+    Ok(())
+}
