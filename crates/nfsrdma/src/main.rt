@@ -22,7 +22,13 @@ fn main(rt: HostRuntime) -> ExitCode {
         Ok(arguments) => {
             let mut input = StdSource::new(rt.stdin());
             let mut out = StdSink::new(rt.stdout());
-            ExitCode::from(run(rt.alloc(), arguments.as_slice(), &mut input, &mut out, &mut err))
+            ExitCode::from(run(
+                rt.alloc(),
+                arguments.as_slice(),
+                &mut input,
+                &mut out,
+                &mut err,
+            ))
         }
         Err(error) => {
             ExitCode::from(refuse(&mut err, error.kind() == io::ErrorKind::OutOfMemory))
