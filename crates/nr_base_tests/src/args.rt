@@ -1,13 +1,13 @@
 //! Tests of nr_nfs_args.
 
-use crate::compare::same;
+use crate::compare::{encoded_as, numbered_as, same};
 use crate::{Want, again, bytes_of, joined, wanted};
 use nr_nfs_args::*;
-use nr_nfs_base::ValueFault;
-use nr_xdr::Octets;
+use nr_nfs_base::{Handle, Name, ValueFault};
+use nr_xdr::{Memory, Octets};
 use std::alloc::{AllocError, Global};
 
-#[derive(Clone, Copy, Debug)]
+#[derive(Clone, Copy)]
 enum Type {
     Null,
     Getattr,
@@ -265,10 +265,37 @@ static LONG: [Long; 4] = [
 
 #[test]
 fn long_values_are_read_and_written(rt: HostRuntime) -> Result<(), AllocError> {
-    for Long(kind, parts) in &LONG {
+    for (row, Long(kind, parts)) in LONG.iter().enumerate() {
         let bytes = joined(rt.alloc(), parts)?;
         let got = again_as(*kind, rt.alloc(), &bytes).map(Octets::into_vec);
-        assert_eq!(rt; got, Ok(bytes), "{kind:?}");
+        same(&rt, row, got, Ok(bytes));
     }
     Ok(())
+}
+
+// RFC 1813 section 3.3.8, createmode3
+static CREATE_MODES: [(CreateMode, u32); 3] = [
+    (CreateMode::Unchecked, 0),
+    (CreateMode::Guarded, 1),
+    (CreateMode::Exclusive, 2),
+];
+
+#[test]
+fn each_field_has_its_place(rt: HostRuntime) -> Result<(), Memory> {
+    arguments();
+    numbered_as(&rt, &CREATE_MODES);
+    // section 3.3.14: the name `a` of the directory 1 becomes `b` of the directory 2
+    let rename = RenameArgs {
+        from_dir: Handle::from_slice(rt.alloc(), &[0, 0, 0, 0, 0, 0, 0, 1])?,
+        from_name: Name::from_slice(rt.alloc(), b"a")?,
+        to_dir: Handle::from_slice(rt.alloc(), &[0, 0, 0, 0, 0, 0, 0, 2])?,
+        to_name: Name::from_slice(rt.alloc(), b"b")?,
+    };
+    encoded_as(
+        &rt,
+        rt.alloc(),
+        0,
+        &rename,
+        &[8, 0, 1, 1, 0x6100_0000, 8, 0, 2, 1, 0x6200_0000],
+    )
 }

@@ -1,13 +1,13 @@
 //! Tests of nr_nfs_base.
 
-use crate::compare::same;
+use crate::compare::{encoded_as, numbered_as, same};
 use crate::{Want, again, bytes_of, wanted};
 use nr_nfs_base::*;
-use nr_xdr::{Octets, Reader, Writer};
+use nr_xdr::{Memory, Octets, Reader, Writer};
 use std::alloc::{AllocError, Global};
 use std::test::Fail;
 
-#[derive(Clone, Copy, Debug)]
+#[derive(Clone, Copy)]
 enum Type {
     Word,
     Hyper,
@@ -203,32 +203,333 @@ fn each_row_is_read_and_written(rt: HostRuntime) -> Result<(), AllocError> {
 #[test]
 fn values_are_made_and_taken_apart(rt: HostRuntime) -> Result<(), Fail> {
     opaque_limits();
+    one_value::<u32>();
     let name = Name::from_slice(rt.alloc(), b"a.txt")?;
-    assert_eq!(rt; name.as_slice(), b"a.txt".as_slice());
-    let octets = name.into_octets();
-    assert_eq!(rt; octets.len(), 5);
-    let name = Name::new(octets);
-    assert_eq!(rt; name.as_slice().len(), 5);
-
-    let none = LinkedList::<u32>::new(rt.alloc());
-    assert!(rt; none.as_slice().is_empty());
+    let name = Name::new(name.into_octets());
+    same(&rt, 0, name.as_slice(), b"a.txt".as_slice());
+    same(
+        &rt,
+        1,
+        LinkedList::<u32>::new(rt.alloc()).as_slice().len(),
+        0,
+    );
     let values = LinkedList::from_vec(vec![in rt.alloc(); 7u32, 8]?);
-    assert_eq!(rt; values.as_slice(), [7, 8].as_slice());
-    assert_eq!(rt; values.into_vec().len(), 2);
-
+    same(&rt, 2, values.as_slice().len(), 2);
+    same(&rt, 3, values.into_vec(), vec![in rt.alloc(); 7u32, 8]?);
     let values = Array::from_vec(vec![in rt.alloc(); 7u32, 8]?);
-    assert_eq!(rt; values.as_slice(), [7, 8].as_slice());
-    assert_eq!(rt; values.into_vec().len(), 2);
+    same(&rt, 4, values.as_slice().len(), 2);
+    same(&rt, 5, values.into_vec(), vec![in rt.alloc(); 7u32, 8]?);
     Ok(())
 }
 
 #[test]
 fn an_enumeration_stands_among_others(rt: HostRuntime) -> Result<(), Fail> {
     let writer = write_numbered(FileType::Lnk, Writer::new(rt.alloc()))?;
-    let bytes = true.write_to(writer)?.finish();
-    assert_eq!(rt; bytes.as_slice(), [0, 0, 0, 5, 0, 0, 0, 1].as_slice());
+    let bytes = write_four(&true, &false, &1u32, &2u64, writer)?.finish();
+    let words = bytes_of(rt.alloc(), &[5, 1, 0, 1, 0, 2])?;
     let (kind, reader) = read_numbered::<FileType>(rt.alloc(), Reader::new(bytes.as_slice()))?;
-    assert_eq!(rt; kind, FileType::Lnk);
-    assert_eq!(rt; reader.at(), 4);
+    same(&rt, 0, kind.number(), 5);
+    same(&rt, 1, reader.at(), 4);
+    same(&rt, 2, bytes.into_vec(), words);
+    Ok(())
+}
+
+// RFC 1813 section 2.5, nfsstat3
+static STATUSES: [(Option<Status>, u32); 29] = [
+    (None, 0),
+    (Some(Status::Perm), 1),
+    (Some(Status::Noent), 2),
+    (Some(Status::Io), 5),
+    (Some(Status::Nxio), 6),
+    (Some(Status::Acces), 13),
+    (Some(Status::Exist), 17),
+    (Some(Status::Xdev), 18),
+    (Some(Status::Nodev), 19),
+    (Some(Status::Notdir), 20),
+    (Some(Status::Isdir), 21),
+    (Some(Status::Inval), 22),
+    (Some(Status::Fbig), 27),
+    (Some(Status::Nospc), 28),
+    (Some(Status::Rofs), 30),
+    (Some(Status::Mlink), 31),
+    (Some(Status::Nametoolong), 63),
+    (Some(Status::Notempty), 66),
+    (Some(Status::Dquot), 69),
+    (Some(Status::Stale), 70),
+    (Some(Status::Remote), 71),
+    (Some(Status::Badhandle), 10001),
+    (Some(Status::NotSync), 10002),
+    (Some(Status::BadCookie), 10003),
+    (Some(Status::Notsupp), 10004),
+    (Some(Status::Toosmall), 10005),
+    (Some(Status::Serverfault), 10006),
+    (Some(Status::Badtype), 10007),
+    (Some(Status::Jukebox), 10008),
+];
+
+// section 5.1.5, mountstat3
+static MOUNT_STATUSES: [(Option<MountStatus>, u32); 10] = [
+    (None, 0),
+    (Some(MountStatus::Perm), 1),
+    (Some(MountStatus::Noent), 2),
+    (Some(MountStatus::Io), 5),
+    (Some(MountStatus::Acces), 13),
+    (Some(MountStatus::Notdir), 20),
+    (Some(MountStatus::Inval), 22),
+    (Some(MountStatus::Nametoolong), 63),
+    (Some(MountStatus::Notsupp), 10004),
+    (Some(MountStatus::Serverfault), 10006),
+];
+
+// section 2.5, ftype3
+static FILE_TYPES: [(FileType, u32); 7] = [
+    (FileType::Reg, 1),
+    (FileType::Dir, 2),
+    (FileType::Blk, 3),
+    (FileType::Chr, 4),
+    (FileType::Lnk, 5),
+    (FileType::Sock, 6),
+    (FileType::Fifo, 7),
+];
+
+// section 3.3.7, stable_how
+static STABLE_HOWS: [(StableHow, u32); 3] = [
+    (StableHow::Unstable, 0),
+    (StableHow::DataSync, 1),
+    (StableHow::FileSync, 2),
+];
+
+// section 2.5, time_how
+static TIME_HOWS: [(TimeHow, u32); 3] = [
+    (TimeHow::DontChange, 0),
+    (TimeHow::SetToServerTime, 1),
+    (TimeHow::SetToClientTime, 2),
+];
+
+// section 3.3
+static NFS_PROCEDURES: [(NfsProcedure, u32); 22] = [
+    (NfsProcedure::Null, 0),
+    (NfsProcedure::Getattr, 1),
+    (NfsProcedure::Setattr, 2),
+    (NfsProcedure::Lookup, 3),
+    (NfsProcedure::Access, 4),
+    (NfsProcedure::Readlink, 5),
+    (NfsProcedure::Read, 6),
+    (NfsProcedure::Write, 7),
+    (NfsProcedure::Create, 8),
+    (NfsProcedure::Mkdir, 9),
+    (NfsProcedure::Symlink, 10),
+    (NfsProcedure::Mknod, 11),
+    (NfsProcedure::Remove, 12),
+    (NfsProcedure::Rmdir, 13),
+    (NfsProcedure::Rename, 14),
+    (NfsProcedure::Link, 15),
+    (NfsProcedure::Readdir, 16),
+    (NfsProcedure::Readdirplus, 17),
+    (NfsProcedure::Fsstat, 18),
+    (NfsProcedure::Fsinfo, 19),
+    (NfsProcedure::Pathconf, 20),
+    (NfsProcedure::Commit, 21),
+];
+
+// section 5.2
+static MOUNT_PROCEDURES: [(MountProcedure, u32); 4] = [
+    (MountProcedure::Null, 0),
+    (MountProcedure::Mnt, 1),
+    (MountProcedure::Umnt, 3),
+    (MountProcedure::Umntall, 4),
+];
+
+#[test]
+fn each_value_has_its_number(rt: HostRuntime) {
+    numbered_as(&rt, &STATUSES);
+    numbered_as(&rt, &MOUNT_STATUSES);
+    numbered_as(&rt, &FILE_TYPES);
+    numbered_as(&rt, &STABLE_HOWS);
+    numbered_as(&rt, &TIME_HOWS);
+    numbered_as(&rt, &NFS_PROCEDURES);
+    numbered_as(&rt, &MOUNT_PROCEDURES);
+    same(&rt, 0, number_of(procedure_of(100_003, 3, 21)), Some(21));
+    same(&rt, 1, number_of(procedure_of(100_005, 3, 4)), Some(104));
+    same(&rt, 2, number_of(procedure_of(100_003, 2, 1)), None);
+    same(&rt, 3, number_of(procedure_of(100_005, 3, 2)), None);
+}
+
+/// The number of a procedure, 100 more for one of MOUNT.
+fn number_of(procedure: Option<Procedure>) -> Option<u32> {
+    match procedure {
+        Some(Procedure::Nfs(procedure)) => Some(procedure.number()),
+        Some(Procedure::Mount(procedure)) => Some(procedure.number().wrapping_add(100)),
+        None => None,
+    }
+}
+
+#[test]
+fn each_field_has_its_place(rt: HostRuntime) -> Result<(), Memory> {
+    // RFC 1813 section 2.5, fattr3
+    let atime = Time {
+        seconds: 13,
+        nanoseconds: 14,
+    };
+    let mtime = Time {
+        seconds: 15,
+        nanoseconds: 16,
+    };
+    let ctime = Time {
+        seconds: 17,
+        nanoseconds: 18,
+    };
+    let attributes = Attributes {
+        file_type: FileType::Chr,
+        mode: 0o644,
+        nlink: 2,
+        uid: 1000,
+        gid: 100,
+        size: 0x3_0000_0004,
+        used: 0x5_0000_0006,
+        rdev: SpecialData { major: 7, minor: 8 },
+        fsid: 0x9_0000_000a,
+        fileid: 0xb_0000_000c,
+        atime,
+        mtime,
+        ctime,
+    };
+    encoded_as(
+        &rt,
+        rt.alloc(),
+        0,
+        &attributes,
+        &[
+            4, 0o644, 2, 1000, 100, 3, 4, 5, 6, 7, 8, 9, 10, 11, 12, 13, 14, 15, 16, 17, 18,
+        ],
+    )?;
+    // section 2.5, wcc_data
+    let before = WccAttributes {
+        size: 0x1_0000_0002,
+        mtime,
+        ctime,
+    };
+    let wcc = WccData {
+        before: Some(before),
+        after: None,
+    };
+    encoded_as(&rt, rt.alloc(), 1, &wcc, &[1, 1, 2, 15, 16, 17, 18, 0])?;
+    // section 2.5, sattr3
+    let set = SetAttributes {
+        mode: Some(0o600),
+        uid: Some(1000),
+        gid: None,
+        size: Some(0x3_0000_0004),
+        atime: SetTime::ServerTime,
+        mtime: SetTime::ClientTime(mtime),
+    };
+    encoded_as(
+        &rt,
+        rt.alloc(),
+        2,
+        &set,
+        &[1, 0o600, 1, 1000, 0, 1, 3, 4, 1, 2, 15, 16],
+    )?;
+    let set = SetAttributes {
+        mode: None,
+        uid: None,
+        gid: Some(100),
+        size: None,
+        atime: SetTime::ClientTime(atime),
+        mtime: SetTime::Leave,
+    };
+    encoded_as(&rt, rt.alloc(), 3, &set, &[0, 0, 1, 100, 0, 2, 13, 14, 0])
+}
+
+/// A field to skip to.
+#[derive(Clone, Copy)]
+enum Field {
+    WriteData,
+    SymlinkPath,
+    ReadCount,
+    ReaddirCount,
+    ReaddirplusMaxcount,
+    ReadData,
+    ReadlinkPath,
+}
+
+/// The place of the field, if it can be skipped to.
+fn place_of(field: Field, bytes: &[u8]) -> Option<usize> {
+    let reader = Reader::new(bytes);
+    let reader = match field {
+        Field::WriteData => skip_to_write_data(reader),
+        Field::SymlinkPath => skip_to_symlink_path(reader),
+        Field::ReadCount => skip_to_read_count(reader),
+        Field::ReaddirCount => skip_to_readdir_count(reader),
+        Field::ReaddirplusMaxcount => skip_to_readdirplus_maxcount(reader),
+        Field::ReadData => skip_to_read_data(reader),
+        Field::ReadlinkPath => skip_to_readlink_path(reader),
+    };
+    match reader {
+        Some(reader) => Some(reader.at()),
+        None => None,
+    }
+}
+
+struct Skipped(Field, &'static [u32], Option<usize>);
+
+// What follows the fields that are skipped isn't looked at.
+static SKIPPED: [Skipped; 23] = [
+    // RFC 1813 section 3.3.7: file, offset, count and stable
+    Skipped(Field::WriteData, &[8, 0, 1, 0, 0, 5, 2, 5], Some(28)),
+    Skipped(Field::WriteData, &[0, 0, 0, 5, 0], Some(20)),
+    Skipped(Field::WriteData, &[8, 0, 1, 0, 0, 5, 3, 5], None),
+    Skipped(Field::WriteData, &[8, 0, 1, 0, 0, 5], None),
+    Skipped(Field::WriteData, &[65; 25], None),
+    // section 3.3.10: directory, name and attributes
+    Skipped(
+        Field::SymlinkPath,
+        &[8, 0, 1, 1, 0x6100_0000, 0, 0, 0, 0, 0, 0, 9],
+        Some(44),
+    ),
+    Skipped(
+        Field::SymlinkPath,
+        &[0, 0, 1, 0o777, 1, 2, 1, 3, 1, 4, 5, 1, 2, 6, 7],
+        Some(60),
+    ),
+    Skipped(Field::SymlinkPath, &[0, 0, 0, 0, 0, 0, 3, 0], None),
+    Skipped(Field::SymlinkPath, &[0, 0, 2, 0, 0, 0, 0, 0], None),
+    // section 3.3.6: file and offset
+    Skipped(Field::ReadCount, &[8, 0, 1, 0, 4096, 100], Some(20)),
+    Skipped(Field::ReadCount, &[8, 0, 1, 0], None),
+    // sections 3.3.16 and 3.3.17: directory, cookie and verifier, and dircount
+    Skipped(Field::ReaddirCount, &[8, 0, 1, 0, 3, 0, 0], Some(28)),
+    Skipped(Field::ReaddirCount, &[8, 0, 1, 0, 3, 0], None),
+    Skipped(
+        Field::ReaddirplusMaxcount,
+        &[8, 0, 1, 0, 3, 0, 0, 512],
+        Some(32),
+    ),
+    Skipped(Field::ReaddirplusMaxcount, &[8, 0, 1, 0, 3, 0, 0], None),
+    // section 3.3.6: status, attributes, count and eof
+    Skipped(Field::ReadData, &[0, 0, 5, 1, 5], Some(16)),
+    Skipped(
+        Field::ReadData,
+        &[
+            0, 1, 2, 0o755, 3, 1, 2, 0, 4096, 0, 8192, 5, 6, 0, 1, 0, 9, 10, 11, 12, 13, 14, 15, 5,
+            0,
+        ],
+        Some(100),
+    ),
+    Skipped(Field::ReadData, &[70, 0, 5, 1, 5], None),
+    Skipped(Field::ReadData, &[0, 0, 5, 2, 5], None),
+    Skipped(Field::ReadData, &[0, 1, 8], None),
+    // section 3.3.5: status and attributes
+    Skipped(Field::ReadlinkPath, &[0, 0, 5], Some(8)),
+    Skipped(Field::ReadlinkPath, &[0, 2, 5], None),
+    Skipped(Field::ReadlinkPath, &[22, 0], None),
+];
+
+#[test]
+fn fields_are_found_without_memory(rt: HostRuntime) -> Result<(), AllocError> {
+    for (row, Skipped(field, words, want)) in SKIPPED.iter().enumerate() {
+        let bytes = bytes_of(rt.alloc(), words)?;
+        same(&rt, row, place_of(*field, &bytes), *want);
+    }
     Ok(())
 }

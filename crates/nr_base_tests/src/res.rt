@@ -1,13 +1,13 @@
 //! Tests of nr_nfs_res.
 
-use crate::compare::same;
+use crate::compare::{encoded_as, same};
 use crate::{Want, again, bytes_of, joined, wanted};
-use nr_nfs_base::ValueFault;
+use nr_nfs_base::{Attributes, FileType, Handle, SpecialData, StatusUnion, Time, ValueFault};
 use nr_nfs_res::*;
-use nr_xdr::Octets;
+use nr_xdr::{Memory, Octets};
 use std::alloc::{AllocError, Global};
 
-#[derive(Clone, Copy, Debug)]
+#[derive(Clone, Copy)]
 enum Type {
     Null,
     Getattr,
@@ -439,10 +439,11 @@ static FULL: [Full; 50] = [
 #[test]
 fn full_values_are_read_and_written(rt: HostRuntime) -> Result<(), AllocError> {
     results();
-    for Full(kind, parts) in &FULL {
+    fronts_of_results();
+    for (row, Full(kind, parts)) in FULL.iter().enumerate() {
         let bytes = joined(rt.alloc(), parts)?;
         let got = again_as(*kind, rt.alloc(), &bytes).map(Octets::into_vec);
-        assert_eq!(rt; got, Ok(bytes), "{kind:?} {parts:?}");
+        same(&rt, row, got, Ok(bytes));
     }
     Ok(())
 }
@@ -450,10 +451,123 @@ fn full_values_are_read_and_written(rt: HostRuntime) -> Result<(), AllocError> {
 // All bytes and pads of the handle are there.
 #[test]
 fn a_handle_of_65_bytes_is_refused(rt: HostRuntime) -> Result<(), AllocError> {
-    for kind in [Type::Lookup, Type::Mnt] {
+    for (row, kind) in [Type::Lookup, Type::Mnt].iter().enumerate() {
         let bytes = joined(rt.alloc(), &[&[0], &[65; 18], &[0, 0]])?;
-        let got = again_as(kind, rt.alloc(), &bytes).map(Octets::into_vec);
-        assert_eq!(rt; got, Err(ValueFault::Bad { at: 4 }), "{kind:?}");
+        let got = again_as(*kind, rt.alloc(), &bytes).map(Octets::into_vec);
+        same(&rt, row, got, Err(ValueFault::Bad { at: 4 }));
     }
     Ok(())
+}
+
+#[test]
+fn each_field_has_its_place(rt: HostRuntime) -> Result<(), Memory> {
+    // RFC 1813 section 3.3.18
+    let fsstat = FsstatOk {
+        attributes: None,
+        tbytes: 0x1_0000_0002,
+        fbytes: 0x3_0000_0004,
+        abytes: 0x5_0000_0006,
+        tfiles: 0x7_0000_0008,
+        ffiles: 0x9_0000_000a,
+        afiles: 0xb_0000_000c,
+        invarsec: 13,
+    };
+    encoded_as(
+        &rt,
+        rt.alloc(),
+        0,
+        &fsstat,
+        &[0, 1, 2, 3, 4, 5, 6, 7, 8, 9, 10, 11, 12, 13],
+    )?;
+    // section 3.3.19
+    let fsinfo = FsinfoOk {
+        attributes: None,
+        rtmax: 1,
+        rtpref: 2,
+        rtmult: 3,
+        wtmax: 4,
+        wtpref: 5,
+        wtmult: 6,
+        dtpref: 7,
+        maxfilesize: 0x8_0000_0009,
+        time_delta: Time {
+            seconds: 10,
+            nanoseconds: 11,
+        },
+        properties: 12,
+    };
+    encoded_as(
+        &rt,
+        rt.alloc(),
+        1,
+        &fsinfo,
+        &[0, 1, 2, 3, 4, 5, 6, 7, 8, 9, 10, 11, 12],
+    )?;
+    // section 3.3.20
+    let pathconf = PathconfOk {
+        attributes: None,
+        linkmax: 1,
+        name_max: 2,
+        no_trunc: true,
+        chown_restricted: true,
+        case_insensitive: false,
+        case_preserving: false,
+    };
+    encoded_as(&rt, rt.alloc(), 2, &pathconf, &[0, 1, 2, 1, 1, 0, 0])?;
+    let pathconf = PathconfOk {
+        attributes: None,
+        linkmax: 1,
+        name_max: 2,
+        no_trunc: true,
+        chown_restricted: false,
+        case_insensitive: true,
+        case_preserving: false,
+    };
+    encoded_as(&rt, rt.alloc(), 3, &pathconf, &[0, 1, 2, 1, 0, 1, 0])
+}
+
+#[test]
+fn a_lookup_has_the_attributes_of_the_object_first(rt: HostRuntime) -> Result<(), Memory> {
+    // RFC 1813 section 2.5, fattr3: as the constant ATTRIBUTES says
+    let directory = Attributes {
+        file_type: FileType::Dir,
+        mode: 0o755,
+        nlink: 3,
+        uid: 1,
+        gid: 2,
+        size: 4096,
+        used: 8192,
+        rdev: SpecialData { major: 5, minor: 6 },
+        fsid: 1,
+        fileid: 9,
+        atime: Time {
+            seconds: 10,
+            nanoseconds: 11,
+        },
+        mtime: Time {
+            seconds: 12,
+            nanoseconds: 13,
+        },
+        ctime: Time {
+            seconds: 14,
+            nanoseconds: 15,
+        },
+    };
+    // section 3.3.3
+    let lookup = LookupOk {
+        object: Handle::from_slice(rt.alloc(), &[0, 0, 0, 0, 0, 0, 0, 1])?,
+        attributes: Some(directory),
+        dir_attributes: None,
+    };
+    let result: LookupRes = StatusUnion::Done(lookup);
+    encoded_as(
+        &rt,
+        rt.alloc(),
+        0,
+        &result,
+        &[
+            0, 8, 0, 1, 1, 2, 0o755, 3, 1, 2, 0, 4096, 0, 8192, 5, 6, 0, 1, 0, 9, 10, 11, 12, 13,
+            14, 15, 0,
+        ],
+    )
 }

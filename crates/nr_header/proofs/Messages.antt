@@ -8,12 +8,12 @@ use Rattle.std.proofs.lemmas.List.Elements.{All-from_recursion, All-head, All-ta
 use Rattle.nr_xdr.specs.declared.fault.ItemFault.TheVariants as items
 use Rattle.nr_xdr.specs.Item.{Item, IsBytes, Fits, Reads, padding, encoding, word, word_of}
 use Rattle.nr_xdr.specs.Item.Item.{Unsigned, Hyper, Boolean}
-use Rattle.nr_xdr.specs.Items.{ReadEach, FitEach, encodings}
+use Rattle.nr_xdr.specs.Items.{ReadsAll, AllFit, encodings, TakesAll}
 use Rattle.nr_xdr.specs.Reading.{Cursor, Takes, past, unsigned_at}
 use Rattle.nr_xdr.proofs.Cursors.{cursor_is, guard_ok, ok_parts}
 use Rattle.nr_xdr.proofs.Items.{unsigned_takes, unsigned_again}
 use Rattle.nr_xdr.proofs.WordBytes.{IsBytes-drop}
-use Rattle.nr_xdr.proofs.Chains.{TakesEach, standing, each_takes, each_between, encodings_read}
+use Rattle.nr_xdr.proofs.Chains.{standing, each_takes, each_between, encodings_read}
 use Rattle.nr_xdr.proofs.SequencingSteps.{bind_ok, chosen, done, ok_is}
 use Rattle.nr_header.specs.Constants.{VERSION, FIXED_LEN, MSG, NOMSG, ERROR, ERR_VERS, ERR_CHUNK, READ_SEGMENTS_MAX, WRITE_CHUNKS_MAX, CHUNK_SEGMENTS_MAX, WRITE_SEGMENTS_MAX, PAYLOAD_MAX}
 use Rattle.nr_header.specs.declared.fault.HeaderFault.{HeaderFault}
@@ -61,19 +61,19 @@ record Fixed (bytes : List ℕ) (xid version credit kind : ℕ) (more : List Ite
   version_is : word_at 4 bytes ≡ version
   credit_is : word_at 8 bytes ≡ credit
   kind_is : word_at 12 bytes ≡ kind
-  behind : TakesEach more (standing 16 (drop 16 bytes)) after
+  behind : TakesAll (standing 16 (drop 16 bytes)) after more
 
-fixed_taken : (bytes : List ℕ) (xid version credit kind : ℕ) (more : List Item) (after : Cursor) → TakesEach (fixed_items xid version credit kind more) (standing 0 bytes) after
+fixed_taken : (bytes : List ℕ) (xid version credit kind : ℕ) (more : List Item) (after : Cursor) → TakesAll (standing 0 bytes) after (fixed_items xid version credit kind more)
     → Fixed bytes xid version credit kind more after
 fixed_taken bytes xid version credit kind more after (a, ta, (b, tb, (d, td, (f, tf, others)))) =
     let wa = word_taken bytes 0 a xid ta in
     let wb = word_taken bytes 4 b version (subst (λ (x : Cursor). Takes x b (Unsigned version)) wa.2 tb) in
     let wd = word_taken bytes 8 d credit (subst (λ (x : Cursor). Takes x d (Unsigned credit)) wb.2 td) in
     let wf = word_taken bytes 12 f kind (subst (λ (x : Cursor). Takes x f (Unsigned kind)) wd.2 tf) in
-    record { long = wf.0; xid_is = wa.1; version_is = wb.1; credit_is = wd.1; kind_is = wf.1; behind = subst (λ (x : Cursor). TakesEach more x after) wf.2 others }
+    record { long = wf.0; xid_is = wa.1; version_is = wb.1; credit_is = wd.1; kind_is = wf.1; behind = subst (λ (x : Cursor). TakesAll x after more) wf.2 others }
 
-fixed_there : (bytes : List ℕ) (more : List Item) (after : Cursor) → 16 ≤ length bytes → IsBytes bytes → TakesEach more (standing 16 (drop 16 bytes)) after
-    → TakesEach (fixed_items (word_at 0 bytes) (word_at 4 bytes) (word_at 8 bytes) (word_at 12 bytes) more) (standing 0 bytes) after
+fixed_there : (bytes : List ℕ) (more : List Item) (after : Cursor) → 16 ≤ length bytes → IsBytes bytes → TakesAll (standing 16 (drop 16 bytes)) after more
+    → TakesAll (standing 0 bytes) after (fixed_items (word_at 0 bytes) (word_at 4 bytes) (word_at 8 bytes) (word_at 12 bytes) more)
 fixed_there bytes more after long fits others = (
   standing 4 (drop 4 bytes),
   word_there bytes 0 (omega arith) fits,
@@ -100,7 +100,7 @@ no_pad item bytes plain reads =
     let zeros : Rattle.std.specs.Prelude.replicate (padding item) 0 ≡ [] = rw plain refl in
     reads.bytes_are ∙ ap (λ (p : List ℕ). Rattle.nr_xdr.specs.Item.padded item p) (none ∙ sym zeros)
 
-plain_encoded : (is : List Item) (bytes : List ℕ) → PlainEach is → ReadEach is bytes → (bytes ≡ encodings is) × FitEach is
+plain_encoded : (is : List Item) (bytes : List ℕ) → PlainEach is → ReadsAll is bytes → (bytes ≡ encodings is) × AllFit is
 plain_encoded [] bytes plain reads = (reads, tt)
 plain_encoded (item ∷ is) bytes plain (front, behind, first, others, parts) =
     let more = plain_encoded is behind plain.1 others in
@@ -166,7 +166,7 @@ within_sums lists stream segments payload =
     rw (le-ltb WRITE_SEGMENTS_MAX (sum_by (λ chunk. length chunk) lists.write) segments, le-ltb PAYLOAD_MAX (stream + read_total lists.read) payload) refl
 
 record TookLists (zero_allowed : Bool) (lists : ChunkLists) (c d : Cursor) : Type 0 where
-  each : TakesEach (lists_items lists) c d
+  each : TakesAll c d (lists_items lists)
   zeros : ZeroAllowed zero_allowed lists.read
   within : sum_by (λ chunk. length chunk) lists.write ≤ WRITE_SEGMENTS_MAX → ListsWithin lists
 
@@ -201,7 +201,7 @@ lists_take zero_allowed c x fits e =
       };
     })
 
-lists_again : (zero_allowed : Bool) (lists : ChunkLists) (c after : Cursor) → ListsWithin lists → ZeroAllowed zero_allowed lists.read → TakesEach (lists_items lists) c after
+lists_again : (zero_allowed : Bool) (lists : ChunkLists) (c after : Cursor) → ListsWithin lists → ZeroAllowed zero_allowed lists.read → TakesAll c after (lists_items lists)
     → lists_at zero_allowed c ≡ Ok (lists, after)
 unfolding lists_at
 lists_again zero_allowed lists c after within zeros taken =
@@ -238,7 +238,7 @@ record Encoded (h : Header) (bytes stream : List ℕ) : Type 0 where
   fits : HeaderFits h
   parts : bytes ≡ header_encoding h ++ stream
 
-encoded_by : (h : Header) (bytes : List ℕ) (after : Cursor) → TakesEach (body_items h.xid h.credit h.body) (standing 0 bytes) after
+encoded_by : (h : Header) (bytes : List ℕ) (after : Cursor) → TakesAll (standing 0 bytes) after (body_items h.xid h.credit h.body)
     → Encoded h bytes after.rest × (after.place ≡ length (header_encoding h))
 encoded_by h bytes after taken =
     let is = body_items h.xid h.credit h.body in
@@ -253,12 +253,12 @@ ended rest e = nil_from_length rest (omega (arith, ltb-false 0 (length rest) e))
 abbrev Front : List ℕ → ℕ → ℕ → Type 0
 Front bytes version kind = (16 ≤ length bytes) × IsBytes bytes × (word_at 4 bytes ≡ version) × (word_at 12 bytes ≡ kind)
 
-front_items : (bytes : List ℕ) (version kind : ℕ) (more : List Item) (after : Cursor) → Front bytes version kind → TakesEach more (standing 16 (drop 16 bytes)) after
-    → TakesEach (fixed_items (word_at 0 bytes) version (word_at 8 bytes) kind more) (standing 0 bytes) after
+front_items : (bytes : List ℕ) (version kind : ℕ) (more : List Item) (after : Cursor) → Front bytes version kind → TakesAll (standing 16 (drop 16 bytes)) after more
+    → TakesAll (standing 0 bytes) after (fixed_items (word_at 0 bytes) version (word_at 8 bytes) kind more)
 front_items bytes version kind more after f others =
     let there = fixed_there bytes more after f.0 f.1 others in
-    let by_version = subst (λ (v : ℕ). TakesEach (fixed_items (word_at 0 bytes) v (word_at 8 bytes) (word_at 12 bytes) more) (standing 0 bytes) after) f.2 there in
-    subst (λ (k : ℕ). TakesEach (fixed_items (word_at 0 bytes) version (word_at 8 bytes) k more) (standing 0 bytes) after) f.3 by_version
+    let by_version = subst (λ (v : ℕ). TakesAll (standing 0 bytes) after (fixed_items (word_at 0 bytes) v (word_at 8 bytes) (word_at 12 bytes) more)) f.2 there in
+    subst (λ (k : ℕ). TakesAll (standing 0 bytes) after (fixed_items (word_at 0 bytes) version (word_at 8 bytes) k more)) f.3 by_version
 
 abbrev in_message : List ℕ → Body → Header
 in_message bytes body = header (word_at 0 bytes) (word_at 8 bytes) body
@@ -349,7 +349,7 @@ error_take bytes body fits kind e =
           let code : word_at 16 bytes ≡ ERR_VERS = eqb-true _ _ both.1 in
           let coded = subst (λ (n : ℕ). Takes (standing 16 (drop 16 bytes)) (standing 20 (drop 20 bytes)) (Unsigned n)) code (word_there bytes 16 (omega arith) fits) in
           let after = standing 28 (drop 28 bytes) in
-          let taken : TakesEach (Unsigned ERR_VERS ∷ (Unsigned (word_at 20 bytes) ∷ (Unsigned (word_at 24 bytes) ∷ []))) (standing 16 (drop 16 bytes)) after =
+          let taken : TakesAll (standing 16 (drop 16 bytes)) after (Unsigned ERR_VERS ∷ (Unsigned (word_at 20 bytes) ∷ (Unsigned (word_at 24 bytes) ∷ []))) =
           (standing 20 (drop 20 bytes), coded, (standing 24 (drop 24 bytes), word_there bytes 20 (omega arith) fits, (after, word_there bytes 24 (omega arith) fits, refl))) in
           let s = encoded_by (in_message bytes vers) bytes after (front_items bytes (word_at 4 bytes) ERROR (Unsigned ERR_VERS ∷ (Unsigned (word_at 20 bytes) ∷ (Unsigned (word_at 24 bytes) ∷ []))) after (omega arith, fits, refl, kind) taken) in
           subst (λ (b : Body). IsMessage (in_message bytes b) bytes) (some_is vers body way.1)
@@ -362,7 +362,7 @@ error_take bytes body fits kind e =
                 let code : word_at 16 bytes ≡ ERR_CHUNK = eqb-true _ _ both.1 in
                 let after = standing 20 (drop 20 bytes) in
                 let coded = subst (λ (n : ℕ). Takes (standing 16 (drop 16 bytes)) after (Unsigned n)) code (word_there bytes 16 (omega arith) fits) in
-                let taken : TakesEach (Unsigned ERR_CHUNK ∷ []) (standing 16 (drop 16 bytes)) after = (after, coded, refl) in
+                let taken : TakesAll (standing 16 (drop 16 bytes)) after (Unsigned ERR_CHUNK ∷ []) = (after, coded, refl) in
                 let s = encoded_by (in_message bytes chunk) bytes after (front_items bytes (word_at 4 bytes) ERROR (Unsigned ERR_CHUNK ∷ []) after (omega arith, fits, refl, kind) taken) in
                 subst (λ (b : Body). IsMessage (in_message bytes b) bytes) (some_is chunk body yes_chunk.1)
                 (record { stream = after.rest; parts = s.0.parts; fits = s.0.fits; can = drop_all 20 bytes (omega arith); place = tt })
@@ -413,7 +413,7 @@ header_take bytes h fits e =
 
 -- an encoded header's items are taken from the front on
 encoding_taken : (h : Header) (bytes stream : List ℕ) → HeaderFits h → bytes ≡ header_encoding h ++ stream
-    → TakesEach (body_items h.xid h.credit h.body) (standing 0 bytes) (standing (0 + length (header_encoding h)) stream)
+    → TakesAll (standing 0 bytes) (standing (0 + length (header_encoding h)) stream) (body_items h.xid h.credit h.body)
 encoding_taken h bytes stream fits parts =
     each_takes (body_items h.xid h.credit h.body) (header_encoding h) stream (standing 0 bytes) (encodings_read (body_items h.xid h.credit h.body) fits) parts
 
@@ -516,7 +516,7 @@ header_written h stream fits can =
     message_is_read (header_again h) (header_encoding h ++ stream) (record {
       stream = stream;
       parts = ap (λ (b : List ℕ). b ++ stream) (sym encoded);
-      fits = subst FitEach (sym same) fits;
+      fits = subst AllFit (sym same) fits;
       can = again_can h.body len stream can;
       place = again_at h.body len (length (header_encoding (header_again h))) (ap length (sym encoded));
     })

@@ -6,7 +6,7 @@ use Rattle.nr_xdr.specs.Item.{Item, IsBytes}
 use Rattle.nr_xdr.specs.Item.Item.{Unsigned, Hyper, Boolean}
 use Rattle.nr_xdr.specs.Reading.{Cursor, Takes}
 use Rattle.nr_xdr.specs.Sequencing.{◌>>=◌}
-use Rattle.nr_xdr.proofs.Chains.{TakesEach}
+use Rattle.nr_xdr.specs.Items.{TakesAll}
 use Rattle.nr_xdr.proofs.SequencingSteps.{bind_ok, chosen, done, ok_is, number_step, number_again, boolean_step, boolean_placed}
 use Rattle.nr_header.specs.declared.header.RdmaSegment.{RdmaSegment}
 use Rattle.nr_header.specs.declared.header.ReadSegment.{ReadSegment}
@@ -55,7 +55,7 @@ abbrev target_of : ReadSegment → RdmaSegment
 target_of r = record { handle = r.handle; length = r.length; offset = r.offset }
 
 entry_again : (place : ℕ) (zero_allowed : Bool) (seen : ℕ) (r : ReadSegment) (more : List Item) (c after : Cursor) → can_stand zero_allowed seen r.position ≡ true → EntryEnds r
-    → TakesEach (place_items r more) c after → Again (entry_at place zero_allowed seen c) r more after
+    → TakesAll c after (place_items r more) → Again (entry_at place zero_allowed seen c) r more after
 unfolding entry_at
 entry_again place zero_allowed seen r more c after stands ends (a, at_position, others) =
     let (d, read, last) = segment_again place (target_of r) more a after ends others in
@@ -114,7 +114,7 @@ read_list_take (suc room) zero_allowed seen c x fits e =
     ]
 
 pub read_list_again : (read : List ReadSegment) (room : ℕ) (zero_allowed : Bool) (seen : ℕ) (more : List Item) (c after : Cursor) → length read ≤ room
-    → Stand zero_allowed seen read → AllByRecursion EntryEnds read → TakesEach (read_items read more) c after → Again (read_list_at room zero_allowed seen c) read more after
+    → Stand zero_allowed seen read → AllByRecursion EntryEnds read → TakesAll c after (read_items read more) → Again (read_list_at room zero_allowed seen c) read more after
 unfolding read_list_at
 read_list_again [] zero zero_allowed seen more c after within stand ends (d, taken, behind) = (d, rw (end_again c d taken) refl, behind)
 read_list_again [] (suc room) zero_allowed seen more c after within stand ends (d, taken, behind) = (d, rw (boolean_placed c false d taken) refl, behind)

@@ -7,7 +7,7 @@ use Rattle.nr_xdr.specs.Item.{Item, IsBytes}
 use Rattle.nr_xdr.specs.Item.Item.{Unsigned, Boolean}
 use Rattle.nr_xdr.specs.Reading.{Cursor, Takes}
 use Rattle.nr_xdr.specs.Sequencing.{◌>>=◌}
-use Rattle.nr_xdr.proofs.Chains.{TakesEach}
+use Rattle.nr_xdr.specs.Items.{TakesAll}
 use Rattle.nr_xdr.proofs.SequencingSteps.{bind_ok, chosen, done, ok_is, number_step, number_again, hyper_step, hyper_placed, boolean_step, boolean_placed}
 use Rattle.nr_header.specs.Constants.{CHUNK_SEGMENTS_MAX, REPLY_SEGMENTS_MAX}
 use Rattle.nr_header.specs.declared.header.RdmaSegment.{RdmaSegment}
@@ -17,11 +17,11 @@ use Rattle.nr_header.specs.Reading.{end_at, segment_at, segments_at, chunk_at, w
 
 -- from c to d these items were taken, whatever follows
 abbrev pub Before : (List Item → List Item) → Cursor → Cursor → Type 0
-Before items c d = (more : List Item) (after : Cursor) → TakesEach more d after → TakesEach (items more) c after
+Before items c d = (more : List Item) (after : Cursor) → TakesAll d after more → TakesAll c after (items more)
 
 -- what was read of some items, and what follows them
 abbrev pub Again : {A : Type 0} → Result (A × Cursor) ℕ → A → List Item → Cursor → Type 0
-Again read value more after = (d : Cursor) × (read ≡ Ok (value, d)) × TakesEach more d after
+Again read value more after = (d : Cursor) × (read ≡ Ok (value, d)) × TakesAll d after more
 
 abbrev pub SegmentEnds : RdmaSegment → Type 0
 SegmentEnds s = Ends s.offset s.length
@@ -47,7 +47,7 @@ segment_take place c x fits e =
       })
     ]
 
-pub segment_again : (place : ℕ) (s : RdmaSegment) (more : List Item) (c after : Cursor) → SegmentEnds s → TakesEach (segment_items s more) c after → Again (segment_at place c) s more after
+pub segment_again : (place : ℕ) (s : RdmaSegment) (more : List Item) (c after : Cursor) → SegmentEnds s → TakesAll c after (segment_items s more) → Again (segment_at place c) s more after
 unfolding segment_at
 segment_again place s more c after ends (a, at_handle, (b, at_len, (d, at_offset, others))) =
     (d, rw (number_again c s.handle a at_handle, number_again a s.length b at_len, hyper_placed b s.offset d at_offset, le-ltb (2 ^ 64) (s.offset + s.length) ends) refl, others)
@@ -84,7 +84,7 @@ segments_take (suc n) c x fits e =
     let both = segments_more first.0.0 others.0.0 c first.0.1 others.0.1 x s ss.0 others.2 in
     (both.0, both.1 ∙ ap suc ss.1)
 
-pub segments_again : (ss : List RdmaSegment) (more : List Item) (c after : Cursor) → AllByRecursion SegmentEnds ss → TakesEach (segments_items ss more) c after
+pub segments_again : (ss : List RdmaSegment) (more : List Item) (c after : Cursor) → AllByRecursion SegmentEnds ss → TakesAll c after (segments_items ss more)
     → Again (segments_at (length ss) c) ss more after
 unfolding segments_at
 segments_again [] more c after ends taken = (c, refl, taken)
@@ -116,7 +116,7 @@ chunk_take max c x fits e =
           }
     ]
 
-pub chunk_again : (max : ℕ) (chunk : List RdmaSegment) (more : List Item) (c after : Cursor) → length chunk ≤ max → AllByRecursion SegmentEnds chunk → TakesEach (chunk_items chunk more) c after
+pub chunk_again : (max : ℕ) (chunk : List RdmaSegment) (more : List Item) (c after : Cursor) → length chunk ≤ max → AllByRecursion SegmentEnds chunk → TakesAll c after (chunk_items chunk more)
     → Again (chunk_at max c) chunk more after
 unfolding chunk_at
 chunk_again max chunk more c after within ends (a, at_count, others) =
@@ -194,7 +194,7 @@ write_list_take (suc room) c x fits e =
 
 pub write_list_again : (chunks : List (List RdmaSegment)) (room : ℕ) (more : List Item) (c after : Cursor) → length chunks ≤ room
     → AllByRecursion (λ chunk. length chunk ≤ CHUNK_SEGMENTS_MAX) chunks → AllByRecursion (AllByRecursion SegmentEnds) chunks
-    → TakesEach (write_items chunks more) c after → Again (write_list_at room c) chunks more after
+    → TakesAll c after (write_items chunks more) → Again (write_list_at room c) chunks more after
 unfolding write_list_at
 write_list_again [] zero more c after within small ends (d, taken, behind) = (d, rw (end_again c d taken) refl, behind)
 write_list_again [] (suc room) more c after within small ends (d, taken, behind) = (d, rw (boolean_placed c false d taken) refl, behind)
@@ -240,7 +240,7 @@ reply_chunk_take c x fits e =
     ]
 
 pub reply_chunk_again : (reply : Option (List RdmaSegment)) (more : List Item) (c after : Cursor) → IfSome reply (λ chunk. length chunk ≤ REPLY_SEGMENTS_MAX)
-    → IfSome reply (AllByRecursion SegmentEnds) → TakesEach (reply_items reply more) c after → Again (reply_chunk_at c) reply more after
+    → IfSome reply (AllByRecursion SegmentEnds) → TakesAll c after (reply_items reply more) → Again (reply_chunk_at c) reply more after
 unfolding reply_chunk_at
 reply_chunk_again None more c after within ends (d, taken, behind) = (d, rw (boolean_placed c false d taken) refl, behind)
 reply_chunk_again (Some chunk) more c after within ends (d, taken, behind) =

@@ -2,7 +2,7 @@
 use Rattle.std.specs.Prelude.{ℕ, ◌^◌, ◌<◌, true, false, List, [], ◌∷◌, length, All, Option, Some, None, IfSome}
 use Rattle.nr_xdr.specs.Item.{Item}
 use Rattle.nr_xdr.specs.Item.Item.{Unsigned, Hyper, Boolean}
-use Rattle.nr_xdr.specs.Items.{FitEach, encodings}
+use Rattle.nr_xdr.specs.Items.{AllFit, encodings}
 use Rattle.nr_header.specs.Constants.{VERSION, MSG, NOMSG, ERROR, ERR_VERS, ERR_CHUNK}
 use Rattle.nr_header.specs.declared.header.RdmaSegment.{RdmaSegment}
 use Rattle.nr_header.specs.declared.header.ReadSegment.{ReadSegment}
@@ -75,4 +75,4 @@ CanWriteHeader h = BodyFits h.body
 
 -- the numbers of a header are words, its offsets hyper integers
 abbrev pub HeaderFits : Header → Type 0
-HeaderFits h = FitEach (body_items h.xid h.credit h.body)
+HeaderFits h = AllFit (body_items h.xid h.credit h.body)

@@ -9,3 +9,4 @@ pub mod Remove
 pub mod Readdir
 pub mod FileSystem
 pub mod Mount
+pub mod Arguments

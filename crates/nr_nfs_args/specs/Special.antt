@@ -1,49 +1,52 @@
--- Arguments of the calls that make links and special files.
+-- Arguments of the calls that create links and special files.
 use Rattle.nr_nfs_base.specs.declared.file_type.FileType.TheVariants as types
 use Rattle.std.proofs.Common.{refl, ap}
-use Rattle.std.specs.Prelude.{◌≡◌, ℕ, List, [], Result, Ok}
+use Rattle.std.specs.Prelude.{◌≡◌, ℕ, Bool, true, false, List, [], Result, Ok}
 use Rattle.nr_nfs_args.specs.declared.special.DeviceData.{DeviceData}
 use Rattle.nr_nfs_args.specs.declared.special.MknodArgs.{MknodArgs}
 use Rattle.nr_nfs_args.specs.declared.special.MknodData.{MknodData}
 use Rattle.nr_nfs_args.specs.declared.special.MknodData.TheVariants.{Reg, Dir, Blk, Chr, Lnk, Sock, Fifo}
 use Rattle.nr_nfs_args.specs.declared.special.SymlinkArgs.{SymlinkArgs}
 use Rattle.nr_nfs_base.specs.Attributes.{special_data_codec, special_data_lawful}
-use Rattle.nr_nfs_base.specs.Codec.{Codec, Lawful, ◌⊗◌, ◌&◌, via, Arms, tagged, made_as, TakesAll}
+use Rattle.nr_nfs_base.specs.Codec.{Codec, Lawful, ◌⊗◌, ◌&◌, structure, Arms, discriminated_union, arm_value}
 use Rattle.nr_nfs_base.specs.FileType.{file_type_codec, file_type_lawful}
-use Rattle.nr_nfs_base.specs.Laws.{◌⊠◌, via_lawful, tagged_lawful, arm_takes, bare_takes}
+use Rattle.nr_nfs_base.specs.Fronts.{symlink_args_front, symlink_args_front_lawful}
+use Rattle.nr_nfs_base.specs.Laws.{◌⊠◌, structure_lawful, discriminated_union_lawful, arm_takes, bare_takes}
 use Rattle.nr_nfs_base.specs.Names.{handle_codec, handle_lawful, text_codec, text_lawful}
 use Rattle.nr_nfs_base.specs.SetAttributes.{set_attributes_codec, set_attributes_lawful}
 use Rattle.nr_nfs_base.specs.declared.file_type.FileType.{FileType}
+use Rattle.nr_nfs_base.specs.declared.set_attributes.SetAttributes.{SetAttributes}
 use Rattle.nr_xdr.specs.Item.{Item, IsBytes}
+use Rattle.nr_xdr.specs.Items.{TakesAll}
 use Rattle.nr_xdr.specs.Reading.{Cursor}
 
 -- the arguments of SYMLINK (RFC 1813 section 3.3.10)
 unfoldable pub symlink_args_codec : Codec SymlinkArgs
 symlink_args_codec =
-    via (λ p. record { dir = p.0; name = p.1.0; attributes = p.1.1.0; path = p.1.1.1 })
-    (λ v. v.dir & v.name & v.attributes & v.path)
-    (handle_codec ⊗ text_codec ⊗ set_attributes_codec ⊗ text_codec)
+    structure (λ p. record { dir = p.0.0; name = p.0.1.0; attributes = p.0.1.1; path = p.1 })
+    (λ v. (v.dir & v.name & v.attributes) & v.path)
+    (symlink_args_front ⊗ text_codec)
 
 pub symlink_args_lawful : Lawful symlink_args_codec
 unfolding symlink_args_codec
 symlink_args_lawful =
-    via_lawful _ _ _ (λ _. refl) (λ _. refl)
-    (handle_lawful ⊠ text_lawful ⊠ set_attributes_lawful ⊠ text_lawful)
+    structure_lawful _ _ _ (λ _. refl) (λ _. refl)
+    (symlink_args_front_lawful ⊠ text_lawful)
 
--- what a device is made with (RFC 1813 section 3.3.11, devicedata3)
+-- the data of a device (RFC 1813 section 3.3.11, devicedata3)
 unfoldable pub device_data_codec : Codec DeviceData
 device_data_codec =
-    via (λ p. record { attributes = p.0; device = p.1 })
+    structure (λ p. record { attributes = p.0; device = p.1 })
     (λ v. v.attributes & v.device)
     (set_attributes_codec ⊗ special_data_codec)
 
 pub device_data_lawful : Lawful device_data_codec
 unfolding device_data_codec
 device_data_lawful =
-    via_lawful _ _ _ (λ _. refl) (λ _. refl)
+    structure_lawful _ _ _ (λ _. refl) (λ _. refl)
     (set_attributes_lawful ⊠ special_data_lawful)
 
--- what MKNOD makes, and with what (RFC 1813 section 3.3.11, mknoddata3)
+-- what MKNOD creates (RFC 1813 section 3.3.11, mknoddata3)
 abbrev pub mknod_data_tag : MknodData → FileType
 mknod_data_tag Reg = types.Reg
 mknod_data_tag Dir = types.Dir
@@ -71,14 +74,23 @@ mknod_data_fits Lnk = Unit {0}
 mknod_data_fits (Sock v) = set_attributes_codec.fits v
 mknod_data_fits (Fifo v) = set_attributes_codec.fits v
 
+-- the arms with the data of a device, and those with attributes alone
+abbrev pub device_arm : Bool → DeviceData → MknodData
+device_arm true v = Blk v
+device_arm false v = Chr v
+
+abbrev pub pipe_arm : Bool → SetAttributes → MknodData
+pipe_arm true v = Sock v
+pipe_arm false v = Fifo v
+
 abbrev pub mknod_data_read : FileType → Cursor → Result (MknodData × Cursor) ℕ
 mknod_data_read types.Reg at = Ok (Reg, at)
 mknod_data_read types.Dir at = Ok (Dir, at)
-mknod_data_read types.Blk at = made_as Blk (device_data_codec.read at)
-mknod_data_read types.Chr at = made_as Chr (device_data_codec.read at)
+mknod_data_read types.Blk at = arm_value Blk (device_data_codec.read at)
+mknod_data_read types.Chr at = arm_value Chr (device_data_codec.read at)
 mknod_data_read types.Lnk at = Ok (Lnk, at)
-mknod_data_read types.Sock at = made_as Sock (set_attributes_codec.read at)
-mknod_data_read types.Fifo at = made_as Fifo (set_attributes_codec.read at)
+mknod_data_read types.Sock at = arm_value Sock (set_attributes_codec.read at)
+mknod_data_read types.Fifo at = arm_value Fifo (set_attributes_codec.read at)
 
 abbrev pub mknod_data_arms : Arms FileType MknodData
 mknod_data_arms = record {
@@ -89,7 +101,7 @@ mknod_data_arms = record {
 }
 
 unfoldable pub mknod_data_codec : Codec MknodData
-mknod_data_codec = tagged file_type_codec mknod_data_arms
+mknod_data_codec = discriminated_union file_type_codec mknod_data_arms
 
 -- what is read behind the tag is a value of that tag
 abbrev mknod_data_claim : FileType → Cursor → MknodData → Cursor → Type 0
@@ -116,26 +128,26 @@ mknod_data_again : (v : MknodData) (old new : Cursor) → mknod_data_fits v → 
     → mknod_data_read (mknod_data_tag v) old ≡ Ok (v, new)
 mknod_data_again Reg old new fits t = ap (λ (c : Cursor). Ok (Reg, c)) t
 mknod_data_again Dir old new fits t = ap (λ (c : Cursor). Ok (Dir, c)) t
-mknod_data_again (Blk v) old new fits t = rw ((device_data_lawful).again old v new fits t) refl
-mknod_data_again (Chr v) old new fits t = rw ((device_data_lawful).again old v new fits t) refl
+mknod_data_again (Blk v) old new fits t = rw ((device_data_lawful).encoded_is_read old v new fits t) refl
+mknod_data_again (Chr v) old new fits t = rw ((device_data_lawful).encoded_is_read old v new fits t) refl
 mknod_data_again Lnk old new fits t = ap (λ (c : Cursor). Ok (Lnk, c)) t
-mknod_data_again (Sock v) old new fits t = rw ((set_attributes_lawful).again old v new fits t) refl
-mknod_data_again (Fifo v) old new fits t = rw ((set_attributes_lawful).again old v new fits t) refl
+mknod_data_again (Sock v) old new fits t = rw ((set_attributes_lawful).encoded_is_read old v new fits t) refl
+mknod_data_again (Fifo v) old new fits t = rw ((set_attributes_lawful).encoded_is_read old v new fits t) refl
 
 pub mknod_data_lawful : Lawful mknod_data_codec
 unfolding mknod_data_codec
 mknod_data_lawful =
-    tagged_lawful file_type_codec mknod_data_arms file_type_lawful (record { takes = mknod_data_takes; again = mknod_data_again })
+    discriminated_union_lawful file_type_codec mknod_data_arms file_type_lawful (record { read_is_encoded = mknod_data_takes; encoded_is_read = mknod_data_again })
 
 -- the arguments of MKNOD (RFC 1813 section 3.3.11)
 unfoldable pub mknod_args_codec : Codec MknodArgs
 mknod_args_codec =
-    via (λ p. record { dir = p.0; name = p.1.0; what = p.1.1 })
+    structure (λ p. record { dir = p.0; name = p.1.0; what = p.1.1 })
     (λ v. v.dir & v.name & v.what)
     (handle_codec ⊗ text_codec ⊗ mknod_data_codec)
 
 pub mknod_args_lawful : Lawful mknod_args_codec
 unfolding mknod_args_codec
 mknod_args_lawful =
-    via_lawful _ _ _ (λ _. refl) (λ _. refl)
+    structure_lawful _ _ _ (λ _. refl) (λ _. refl)
     (handle_lawful ⊠ text_lawful ⊠ mknod_data_lawful)

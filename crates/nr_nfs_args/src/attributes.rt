@@ -2,12 +2,14 @@
 
 ghost use Rattle.nr_nfs_args.specs.Attributes.{access_args_codec, access_args_lawful, getattr_args_codec, getattr_args_lawful, setattr_args_codec, setattr_args_lawful};
 
-use nr_nfs_base::{Attributes, Handle, SetAttributes, Time, ValueFault, Xdr};
+use nr_nfs_base::{
+    Attributes, Handle, SetAttributes, Time, ValueFault, Xdr, write_three, write_two,
+};
 use nr_xdr::{Memory, Reader, Writer};
 use std::alloc::Global;
 
 /// The arguments of GETATTR (RFC 1813 section 3.3.1).
-#[derive(Debug, Drop)]
+#[derive(Drop)]
 pub struct GetattrArgs {
     pub object: Handle,
 }
@@ -32,7 +34,7 @@ impl Xdr for GetattrArgs {
 }
 
 /// The arguments of SETATTR (RFC 1813 section 3.3.2).
-#[derive(Debug, Drop)]
+#[derive(Drop)]
 pub struct SetattrArgs {
     pub object: Handle,
     pub attributes: SetAttributes,
@@ -40,7 +42,7 @@ pub struct SetattrArgs {
     pub guard: Option<Time>,
 }
 
-#[tactic(auto, using(nr_nfs_base::proofs::Puts::puts_both), unfolding(crate::specs::Attributes::setattr_args_codec))]
+#[tactic(auto, unfolding(crate::specs::Attributes::setattr_args_codec))]
 impl Xdr for SetattrArgs {
     ghost codec = { setattr_args_codec };
 
@@ -50,9 +52,10 @@ impl Xdr for SetattrArgs {
         alloc: Global,
         reader: Reader<'a>,
     ) -> Result<(SetattrArgs, Reader<'a>), ValueFault> {
-        let (object, reader) = Handle::read_from(alloc, reader)?;
-        let (attributes, reader) = SetAttributes::read_from(alloc, reader)?;
-        let (guard, reader) = Option::<Time>::read_from(alloc, reader)?;
+        let ((object, (attributes, guard)), reader) = <(
+            Handle,
+            (SetAttributes, Option<Time>),
+        )>::read_from(alloc, reader)?;
         Ok((
             SetattrArgs {
                 object,
@@ -64,22 +67,19 @@ impl Xdr for SetattrArgs {
     }
 
     fn write_to(&self, writer: Writer) -> Result<Writer, Memory> {
-        let writer = self.object.write_to(writer)?;
-        let writer = self.attributes.write_to(writer)?;
-        let writer = self.guard.write_to(writer)?;
-        Ok(writer)
+        write_three(&self.object, &self.attributes, &self.guard, writer)
     }
 }
 
 /// The arguments of ACCESS (RFC 1813 section 3.3.4).
-#[derive(Debug, Drop)]
+#[derive(Drop)]
 pub struct AccessArgs {
     pub object: Handle,
-    /// A bit for each right that is asked about.
+    /// A bit for each right to check.
     pub access: u32,
 }
 
-#[tactic(auto, using(nr_nfs_base::proofs::Puts::puts_both), unfolding(crate::specs::Attributes::access_args_codec))]
+#[tactic(auto, unfolding(crate::specs::Attributes::access_args_codec))]
 impl Xdr for AccessArgs {
     ghost codec = { access_args_codec };
 
@@ -89,14 +89,11 @@ impl Xdr for AccessArgs {
         alloc: Global,
         reader: Reader<'a>,
     ) -> Result<(AccessArgs, Reader<'a>), ValueFault> {
-        let (object, reader) = Handle::read_from(alloc, reader)?;
-        let (access, reader) = u32::read_from(alloc, reader)?;
+        let ((object, access), reader) = <(Handle, u32)>::read_from(alloc, reader)?;
         Ok((AccessArgs { object, access }, reader))
     }
 
     fn write_to(&self, writer: Writer) -> Result<Writer, Memory> {
-        let writer = self.object.write_to(writer)?;
-        let writer = self.access.write_to(writer)?;
-        Ok(writer)
+        write_two(&self.object, &self.access, writer)
     }
 }

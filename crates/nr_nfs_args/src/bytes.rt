@@ -2,12 +2,15 @@
 
 ghost use Rattle.nr_nfs_args.specs.Bytes.{commit_args_codec, commit_args_lawful, read_args_codec, read_args_lawful, write_args_codec, write_args_lawful};
 
-use nr_nfs_base::{Data, Handle, StableHow, ValueFault, Xdr};
+use nr_nfs_base::{
+    Data, Handle, ReadArgsFront, StableHow, ValueFault, WriteArgsFront, Xdr, write_four,
+    write_three, write_two,
+};
 use nr_xdr::{Memory, Reader, Writer};
 use std::alloc::Global;
 
 /// The arguments of READ (RFC 1813 section 3.3.6).
-#[derive(Debug, Drop)]
+#[derive(Drop)]
 pub struct ReadArgs {
     pub file: Handle,
     /// In bytes.
@@ -16,7 +19,7 @@ pub struct ReadArgs {
     pub count: u32,
 }
 
-#[tactic(auto, using(nr_nfs_base::proofs::Puts::puts_both), unfolding(crate::specs::Bytes::read_args_codec))]
+#[tactic(auto, unfolding(crate::specs::Bytes::read_args_codec))]
 impl Xdr for ReadArgs {
     ghost codec = { read_args_codec };
 
@@ -26,9 +29,7 @@ impl Xdr for ReadArgs {
         alloc: Global,
         reader: Reader<'a>,
     ) -> Result<(ReadArgs, Reader<'a>), ValueFault> {
-        let (file, reader) = Handle::read_from(alloc, reader)?;
-        let (offset, reader) = u64::read_from(alloc, reader)?;
-        let (count, reader) = u32::read_from(alloc, reader)?;
+        let (((file, offset), count), reader) = <(ReadArgsFront, u32)>::read_from(alloc, reader)?;
         Ok((
             ReadArgs {
                 file,
@@ -40,15 +41,13 @@ impl Xdr for ReadArgs {
     }
 
     fn write_to(&self, writer: Writer) -> Result<Writer, Memory> {
-        let writer = self.file.write_to(writer)?;
-        let writer = self.offset.write_to(writer)?;
-        let writer = self.count.write_to(writer)?;
-        Ok(writer)
+        let writer = write_two(&self.file, &self.offset, writer)?;
+        self.count.write_to(writer)
     }
 }
 
 /// The arguments of WRITE (RFC 1813 section 3.3.7).
-#[derive(Debug, Drop)]
+#[derive(Drop)]
 pub struct WriteArgs {
     pub file: Handle,
     /// In bytes.
@@ -56,10 +55,10 @@ pub struct WriteArgs {
     /// In bytes; it need not be the length of the data.
     pub count: u32,
     pub stable: StableHow,
-    pub data: Data,
+    pub bytes: Data,
 }
 
-#[tactic(auto, using(nr_nfs_base::proofs::Puts::puts_both), unfolding(crate::specs::Bytes::write_args_codec))]
+#[tactic(auto, unfolding(crate::specs::Bytes::write_args_codec))]
 impl Xdr for WriteArgs {
     ghost codec = { write_args_codec };
 
@@ -69,33 +68,26 @@ impl Xdr for WriteArgs {
         alloc: Global,
         reader: Reader<'a>,
     ) -> Result<(WriteArgs, Reader<'a>), ValueFault> {
-        let (file, reader) = Handle::read_from(alloc, reader)?;
-        let (offset, reader) = u64::read_from(alloc, reader)?;
-        let (count, reader) = u32::read_from(alloc, reader)?;
-        let (stable, reader) = StableHow::read_from(alloc, reader)?;
-        let (data, reader) = Data::read_from(alloc, reader)?;
+        let ((front, bytes), reader) = <(WriteArgsFront, Data)>::read_from(alloc, reader)?;
+        let (file, (offset, (count, stable))) = front;
         let value = WriteArgs {
             file,
             offset,
             count,
             stable,
-            data,
+            bytes,
         };
         Ok((value, reader))
     }
 
     fn write_to(&self, writer: Writer) -> Result<Writer, Memory> {
-        let writer = self.file.write_to(writer)?;
-        let writer = self.offset.write_to(writer)?;
-        let writer = self.count.write_to(writer)?;
-        let writer = self.stable.write_to(writer)?;
-        let writer = self.data.write_to(writer)?;
-        Ok(writer)
+        let writer = write_four(&self.file, &self.offset, &self.count, &self.stable, writer)?;
+        self.bytes.write_to(writer)
     }
 }
 
 /// The arguments of COMMIT (RFC 1813 section 3.3.21).
-#[derive(Debug, Drop)]
+#[derive(Drop)]
 pub struct CommitArgs {
     pub file: Handle,
     /// In bytes.
@@ -104,7 +96,7 @@ pub struct CommitArgs {
     pub count: u32,
 }
 
-#[tactic(auto, using(nr_nfs_base::proofs::Puts::puts_both), unfolding(crate::specs::Bytes::commit_args_codec))]
+#[tactic(auto, unfolding(crate::specs::Bytes::commit_args_codec))]
 impl Xdr for CommitArgs {
     ghost codec = { commit_args_codec };
 
@@ -114,9 +106,7 @@ impl Xdr for CommitArgs {
         alloc: Global,
         reader: Reader<'a>,
     ) -> Result<(CommitArgs, Reader<'a>), ValueFault> {
-        let (file, reader) = Handle::read_from(alloc, reader)?;
-        let (offset, reader) = u64::read_from(alloc, reader)?;
-        let (count, reader) = u32::read_from(alloc, reader)?;
+        let ((file, (offset, count)), reader) = <(Handle, (u64, u32))>::read_from(alloc, reader)?;
         Ok((
             CommitArgs {
                 file,
@@ -128,9 +118,6 @@ impl Xdr for CommitArgs {
     }
 
     fn write_to(&self, writer: Writer) -> Result<Writer, Memory> {
-        let writer = self.file.write_to(writer)?;
-        let writer = self.offset.write_to(writer)?;
-        let writer = self.count.write_to(writer)?;
-        Ok(writer)
+        write_three(&self.file, &self.offset, &self.count, writer)
     }
 }

@@ -1,20 +1,22 @@
 //! CREATE and MKDIR.
 
-ghost use Rattle.nr_nfs_args.specs.Create.{create_args_codec, create_args_lawful, create_how_codec, create_how_lawful, mkdir_args_codec, mkdir_args_lawful};
+ghost use Rattle.nr_nfs_args.specs.Create.{attributes_arm, create_args_codec, create_args_lawful, create_how_codec, create_how_lawful, mkdir_args_codec, mkdir_args_lawful};
+ghost use Rattle.nr_nfs_base.specs.Codec.{Answers, arm_value};
+ghost use Rattle.nr_nfs_base.specs.SetAttributes.{set_attributes_codec};
 
 use crate::create_mode::CreateMode;
-use nr_nfs_base::{Handle, Name, SetAttributes, ValueFault, Verifier, Xdr};
+use nr_nfs_base::{Handle, Name, SetAttributes, ValueFault, Verifier, Xdr, write_three, write_two};
 use nr_xdr::{Memory, Reader, Writer};
 use std::alloc::Global;
 
-/// How a file is made, and with what (RFC 1813 section 3.3.8, `createhow3`).
-#[derive(Clone, Copy, Debug, PartialEq, Eq)]
+/// How a file is created (RFC 1813 section 3.3.8, `createhow3`).
+#[derive(Clone, Copy)]
 pub enum CreateHow {
-    /// A file of the name may be there already.
+    /// A file of this name may exist.
     Unchecked(SetAttributes),
-    /// No file of the name may be there.
+    /// No file of this name may exist.
     Guarded(SetAttributes),
-    /// A file of the name may be there if it was made with the same verifier.
+    /// A file of this name may exist if it was created with the same verifier.
     Exclusive(Verifier),
 }
 
@@ -30,14 +32,8 @@ impl Xdr for CreateHow {
     ) -> Result<(CreateHow, Reader<'a>), ValueFault> {
         let (tag, reader) = CreateMode::read_from(alloc, reader)?;
         match tag {
-            CreateMode::Unchecked => {
-                let (value, reader) = SetAttributes::read_from(alloc, reader)?;
-                Ok((CreateHow::Unchecked(value), reader))
-            }
-            CreateMode::Guarded => {
-                let (value, reader) = SetAttributes::read_from(alloc, reader)?;
-                Ok((CreateHow::Guarded(value), reader))
-            }
+            CreateMode::Unchecked => read_attributes(alloc, false, reader),
+            CreateMode::Guarded => read_attributes(alloc, true, reader),
             CreateMode::Exclusive => {
                 let (value, reader) = Verifier::read_from(alloc, reader)?;
                 Ok((CreateHow::Exclusive(value), reader))
@@ -47,31 +43,38 @@ impl Xdr for CreateHow {
 
     fn write_to(&self, writer: Writer) -> Result<Writer, Memory> {
         match self {
-            CreateHow::Unchecked(value) => {
-                let writer = CreateMode::Unchecked.write_to(writer)?;
-                value.write_to(writer)
-            }
-            CreateHow::Guarded(value) => {
-                let writer = CreateMode::Guarded.write_to(writer)?;
-                value.write_to(writer)
-            }
-            CreateHow::Exclusive(value) => {
-                let writer = CreateMode::Exclusive.write_to(writer)?;
-                value.write_to(writer)
-            }
+            CreateHow::Unchecked(value) => { write_two(&CreateMode::Unchecked, value, writer) }
+            CreateHow::Guarded(value) => { write_two(&CreateMode::Guarded, value, writer) }
+            CreateHow::Exclusive(value) => { write_two(&CreateMode::Exclusive, value, writer) }
         }
     }
 }
 
+/// Reads the attributes of a new file.
+fn read_attributes<'a>(
+    alloc: Global,
+    is_guarded: bool,
+    reader: Reader<'a>,
+) -> Result<(CreateHow, Reader<'a>), ValueFault>
+    ensures { Answers result (arm_value (attributes_arm is_guarded) (set_attributes_codec.read reader.entry)) }
+{
+    let (value, reader) = SetAttributes::read_from(alloc, reader)?;
+    if is_guarded {
+        Ok((CreateHow::Guarded(value), reader))
+    } else {
+        Ok((CreateHow::Unchecked(value), reader))
+    }
+}
+
 /// The arguments of CREATE (RFC 1813 section 3.3.8).
-#[derive(Debug, Drop)]
+#[derive(Drop)]
 pub struct CreateArgs {
     pub dir: Handle,
     pub name: Name,
     pub how: CreateHow,
 }
 
-#[tactic(auto, using(nr_nfs_base::proofs::Puts::puts_both), unfolding(crate::specs::Create::create_args_codec))]
+#[tactic(auto, unfolding(crate::specs::Create::create_args_codec))]
 impl Xdr for CreateArgs {
     ghost codec = { create_args_codec };
 
@@ -81,29 +84,24 @@ impl Xdr for CreateArgs {
         alloc: Global,
         reader: Reader<'a>,
     ) -> Result<(CreateArgs, Reader<'a>), ValueFault> {
-        let (dir, reader) = Handle::read_from(alloc, reader)?;
-        let (name, reader) = Name::read_from(alloc, reader)?;
-        let (how, reader) = CreateHow::read_from(alloc, reader)?;
+        let ((dir, (name, how)), reader) = <(Handle, (Name, CreateHow))>::read_from(alloc, reader)?;
         Ok((CreateArgs { dir, name, how }, reader))
     }
 
     fn write_to(&self, writer: Writer) -> Result<Writer, Memory> {
-        let writer = self.dir.write_to(writer)?;
-        let writer = self.name.write_to(writer)?;
-        let writer = self.how.write_to(writer)?;
-        Ok(writer)
+        write_three(&self.dir, &self.name, &self.how, writer)
     }
 }
 
 /// The arguments of MKDIR (RFC 1813 section 3.3.9).
-#[derive(Debug, Drop)]
+#[derive(Drop)]
 pub struct MkdirArgs {
     pub dir: Handle,
     pub name: Name,
     pub attributes: SetAttributes,
 }
 
-#[tactic(auto, using(nr_nfs_base::proofs::Puts::puts_both), unfolding(crate::specs::Create::mkdir_args_codec))]
+#[tactic(auto, unfolding(crate::specs::Create::mkdir_args_codec))]
 impl Xdr for MkdirArgs {
     ghost codec = { mkdir_args_codec };
 
@@ -113,9 +111,9 @@ impl Xdr for MkdirArgs {
         alloc: Global,
         reader: Reader<'a>,
     ) -> Result<(MkdirArgs, Reader<'a>), ValueFault> {
-        let (dir, reader) = Handle::read_from(alloc, reader)?;
-        let (name, reader) = Name::read_from(alloc, reader)?;
-        let (attributes, reader) = SetAttributes::read_from(alloc, reader)?;
+        let ((dir, (name, attributes)), reader) = <(Handle, (Name, SetAttributes))>::read_from(
+            alloc, reader,
+        )?;
         Ok((
             MkdirArgs {
                 dir,
@@ -127,9 +125,6 @@ impl Xdr for MkdirArgs {
     }
 
     fn write_to(&self, writer: Writer) -> Result<Writer, Memory> {
-        let writer = self.dir.write_to(writer)?;
-        let writer = self.name.write_to(writer)?;
-        let writer = self.attributes.write_to(writer)?;
-        Ok(writer)
+        write_three(&self.dir, &self.name, &self.attributes, writer)
     }
 }

@@ -1,4 +1,4 @@
-//! How a file is made.
+//! How a file is created.
 
 ghost use Rattle.nr_nfs_args.specs.CreateMode.{create_mode_codec, create_mode_lawful, create_mode_number, create_modes, each_create_mode};
 
@@ -6,14 +6,14 @@ use nr_nfs_base::{Numbered, ValueFault, Xdr, read_numbered, write_numbered};
 use nr_xdr::{Memory, Reader, Writer};
 use std::alloc::Global;
 
-/// How a file is made (RFC 1813 section 3.3.8, `createmode3`).
-#[derive(Clone, Copy, Debug, PartialEq, Eq)]
+/// How a file is created (RFC 1813 section 3.3.8, `createmode3`).
+#[derive(Clone, Copy)]
 pub enum CreateMode {
-    /// A file of the name may be there already.
+    /// A file of this name may exist.
     Unchecked = 0,
-    /// No file of the name may be there.
+    /// No file of this name may exist.
     Guarded = 1,
-    /// The same call may come again.
+    /// A file of this name may exist if it was created with the same verifier.
     Exclusive = 2,
 }
 

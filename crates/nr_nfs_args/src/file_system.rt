@@ -7,7 +7,7 @@ use nr_xdr::{Memory, Reader, Writer};
 use std::alloc::Global;
 
 /// The arguments of FSSTAT (RFC 1813 section 3.3.18).
-#[derive(Debug, Drop)]
+#[derive(Drop)]
 pub struct FsstatArgs {
     pub fsroot: Handle,
 }
@@ -32,7 +32,7 @@ impl Xdr for FsstatArgs {
 }
 
 /// The arguments of FSINFO (RFC 1813 section 3.3.19).
-#[derive(Debug, Drop)]
+#[derive(Drop)]
 pub struct FsinfoArgs {
     pub fsroot: Handle,
 }
@@ -57,7 +57,7 @@ impl Xdr for FsinfoArgs {
 }
 
 /// The arguments of PATHCONF (RFC 1813 section 3.3.20).
-#[derive(Debug, Drop)]
+#[derive(Drop)]
 pub struct PathconfArgs {
     pub object: Handle,
 }

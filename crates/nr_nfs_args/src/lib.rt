@@ -1,9 +1,12 @@
-//! The arguments of the 22 procedures of NFS version 3, and of MOUNT version 3 (RFC 1813).
+//! The arguments of the 22 procedures of NFS version 3, and of those of MOUNT version 3 (RFC 1813).
 //!
-//! A type for each procedure, in the fields of the RFC. All are read and written by the scheme of `nr_nfs_base`, the crate
-//! below: the codec of each stands in `specs/`, beside the section that it comes from. Above stand the crates that plan
-//! calls and those that execute them. Whether an argument makes sense is theirs to say: here a name may hold any byte, and
-//! a time any nanoseconds.
+//! There is a type for each procedure, with the fields of the RFC. All are read and written by the trait `Xdr` of
+//! `nr_nfs_base`, the crate below. The codecs stand in `specs/`, each with its section of the RFC. `specs/Arguments.antt` is
+//! the table of the procedures and the codecs of their arguments, and [`arguments`] says that the types here have these
+//! codecs.
+//!
+//! The crates above plan calls and execute them. They decide whether an argument makes sense: here a name may have any
+//! bytes, and a time any nanoseconds.
 #![tactic(auto)]
 
 mod attributes;
@@ -11,6 +14,7 @@ mod bytes;
 mod create;
 mod create_mode;
 mod file_system;
+mod laws;
 mod lookup;
 mod mount;
 mod null;
@@ -23,6 +27,7 @@ pub use bytes::{CommitArgs, ReadArgs, WriteArgs};
 pub use create::{CreateArgs, CreateHow, MkdirArgs};
 pub use create_mode::CreateMode;
 pub use file_system::{FsinfoArgs, FsstatArgs, PathconfArgs};
+pub use laws::arguments;
 pub use lookup::{LookupArgs, ReadlinkArgs};
 pub use mount::{MntArgs, UmntArgs, UmntallArgs};
 pub use null::NullArgs;

@@ -2,18 +2,18 @@
 
 ghost use Rattle.nr_nfs_args.specs.Lookup.{lookup_args_codec, lookup_args_lawful, readlink_args_codec, readlink_args_lawful};
 
-use nr_nfs_base::{Handle, Name, ValueFault, Xdr};
+use nr_nfs_base::{Handle, Name, ValueFault, Xdr, write_two};
 use nr_xdr::{Memory, Reader, Writer};
 use std::alloc::Global;
 
 /// The arguments of LOOKUP (RFC 1813 section 3.3.3).
-#[derive(Debug, Drop)]
+#[derive(Drop)]
 pub struct LookupArgs {
     pub dir: Handle,
     pub name: Name,
 }
 
-#[tactic(auto, using(nr_nfs_base::proofs::Puts::puts_both), unfolding(crate::specs::Lookup::lookup_args_codec))]
+#[tactic(auto, unfolding(crate::specs::Lookup::lookup_args_codec))]
 impl Xdr for LookupArgs {
     ghost codec = { lookup_args_codec };
 
@@ -23,20 +23,17 @@ impl Xdr for LookupArgs {
         alloc: Global,
         reader: Reader<'a>,
     ) -> Result<(LookupArgs, Reader<'a>), ValueFault> {
-        let (dir, reader) = Handle::read_from(alloc, reader)?;
-        let (name, reader) = Name::read_from(alloc, reader)?;
+        let ((dir, name), reader) = <(Handle, Name)>::read_from(alloc, reader)?;
         Ok((LookupArgs { dir, name }, reader))
     }
 
     fn write_to(&self, writer: Writer) -> Result<Writer, Memory> {
-        let writer = self.dir.write_to(writer)?;
-        let writer = self.name.write_to(writer)?;
-        Ok(writer)
+        write_two(&self.dir, &self.name, writer)
     }
 }
 
 /// The arguments of READLINK (RFC 1813 section 3.3.5).
-#[derive(Debug, Drop)]
+#[derive(Drop)]
 pub struct ReadlinkArgs {
     pub symlink: Handle,
 }

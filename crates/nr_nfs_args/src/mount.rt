@@ -7,7 +7,7 @@ use nr_xdr::{Memory, Reader, Writer};
 use std::alloc::Global;
 
 /// The arguments of MNT (RFC 1813 section 5.2.1).
-#[derive(Debug, Drop)]
+#[derive(Drop)]
 pub struct MntArgs {
     pub dirpath: MountPath,
 }
@@ -32,7 +32,7 @@ impl Xdr for MntArgs {
 }
 
 /// The arguments of UMNT (RFC 1813 section 5.2.3).
-#[derive(Debug, Drop)]
+#[derive(Drop)]
 pub struct UmntArgs {
     pub dirpath: MountPath,
 }
@@ -57,7 +57,7 @@ impl Xdr for UmntArgs {
 }
 
 /// Nothing: UMNTALL (RFC 1813 section 5.2.4).
-#[derive(Clone, Copy, Debug, PartialEq, Eq)]
+#[derive(Clone, Copy)]
 pub struct UmntallArgs;
 
 #[tactic(auto, unfolding(crate::specs::Mount::umntall_args_codec))]

@@ -7,7 +7,7 @@ use nr_xdr::{Memory, Reader, Writer};
 use std::alloc::Global;
 
 /// Nothing: NULL of NFS and of MOUNT (RFC 1813 sections 3.3.0 and 5.2.0).
-#[derive(Clone, Copy, Debug, PartialEq, Eq)]
+#[derive(Clone, Copy)]
 pub struct NullArgs;
 
 #[tactic(auto, unfolding(crate::specs::Null::null_args_codec))]

@@ -2,22 +2,25 @@
 
 ghost use Rattle.nr_nfs_args.specs.Readdir.{readdir_args_codec, readdir_args_lawful, readdirplus_args_codec, readdirplus_args_lawful};
 
-use nr_nfs_base::{Handle, ValueFault, Verifier, Xdr};
+use nr_nfs_base::{
+    Handle, ReaddirArgsFront, ReaddirplusArgsFront, ValueFault, Verifier, Xdr, write_four,
+    write_three,
+};
 use nr_xdr::{Memory, Reader, Writer};
 use std::alloc::Global;
 
 /// The arguments of READDIR (RFC 1813 section 3.3.16).
-#[derive(Debug, Drop)]
+#[derive(Drop)]
 pub struct ReaddirArgs {
     pub dir: Handle,
-    /// That of the last entry known, 0 for none.
+    /// The cookie of the last known entry, or 0.
     pub cookie: u64,
     pub verifier: Verifier,
-    /// The most bytes of the result.
+    /// The most bytes of the results.
     pub count: u32,
 }
 
-#[tactic(auto, using(nr_nfs_base::proofs::Puts::puts_both), unfolding(crate::specs::Readdir::readdir_args_codec))]
+#[tactic(auto, unfolding(crate::specs::Readdir::readdir_args_codec))]
 impl Xdr for ReaddirArgs {
     ghost codec = { readdir_args_codec };
 
@@ -27,10 +30,8 @@ impl Xdr for ReaddirArgs {
         alloc: Global,
         reader: Reader<'a>,
     ) -> Result<(ReaddirArgs, Reader<'a>), ValueFault> {
-        let (dir, reader) = Handle::read_from(alloc, reader)?;
-        let (cookie, reader) = u64::read_from(alloc, reader)?;
-        let (verifier, reader) = Verifier::read_from(alloc, reader)?;
-        let (count, reader) = u32::read_from(alloc, reader)?;
+        let ((front, count), reader) = <(ReaddirArgsFront, u32)>::read_from(alloc, reader)?;
+        let (dir, (cookie, verifier)) = front;
         Ok((
             ReaddirArgs {
                 dir,
@@ -43,28 +44,25 @@ impl Xdr for ReaddirArgs {
     }
 
     fn write_to(&self, writer: Writer) -> Result<Writer, Memory> {
-        let writer = self.dir.write_to(writer)?;
-        let writer = self.cookie.write_to(writer)?;
-        let writer = self.verifier.write_to(writer)?;
-        let writer = self.count.write_to(writer)?;
-        Ok(writer)
+        let writer = write_three(&self.dir, &self.cookie, &self.verifier, writer)?;
+        self.count.write_to(writer)
     }
 }
 
 /// The arguments of READDIRPLUS (RFC 1813 section 3.3.17).
-#[derive(Debug, Drop)]
+#[derive(Drop)]
 pub struct ReaddirplusArgs {
     pub dir: Handle,
-    /// That of the last entry known, 0 for none.
+    /// The cookie of the last known entry, or 0.
     pub cookie: u64,
     pub verifier: Verifier,
-    /// The most bytes of names, numbers and cookies.
+    /// The most bytes of names, file numbers and cookies in the results.
     pub dircount: u32,
-    /// The most bytes of the result.
+    /// The most bytes of the results.
     pub maxcount: u32,
 }
 
-#[tactic(auto, using(nr_nfs_base::proofs::Puts::puts_both), unfolding(crate::specs::Readdir::readdirplus_args_codec))]
+#[tactic(auto, unfolding(crate::specs::Readdir::readdirplus_args_codec))]
 impl Xdr for ReaddirplusArgs {
     ghost codec = { readdirplus_args_codec };
 
@@ -74,11 +72,8 @@ impl Xdr for ReaddirplusArgs {
         alloc: Global,
         reader: Reader<'a>,
     ) -> Result<(ReaddirplusArgs, Reader<'a>), ValueFault> {
-        let (dir, reader) = Handle::read_from(alloc, reader)?;
-        let (cookie, reader) = u64::read_from(alloc, reader)?;
-        let (verifier, reader) = Verifier::read_from(alloc, reader)?;
-        let (dircount, reader) = u32::read_from(alloc, reader)?;
-        let (maxcount, reader) = u32::read_from(alloc, reader)?;
+        let ((front, maxcount), reader) = <(ReaddirplusArgsFront, u32)>::read_from(alloc, reader)?;
+        let (dir, (cookie, (verifier, dircount))) = front;
         let value = ReaddirplusArgs {
             dir,
             cookie,
@@ -90,11 +85,13 @@ impl Xdr for ReaddirplusArgs {
     }
 
     fn write_to(&self, writer: Writer) -> Result<Writer, Memory> {
-        let writer = self.dir.write_to(writer)?;
-        let writer = self.cookie.write_to(writer)?;
-        let writer = self.verifier.write_to(writer)?;
-        let writer = self.dircount.write_to(writer)?;
-        let writer = self.maxcount.write_to(writer)?;
-        Ok(writer)
+        let writer = write_four(
+            &self.dir,
+            &self.cookie,
+            &self.verifier,
+            &self.dircount,
+            writer,
+        )?;
+        self.maxcount.write_to(writer)
     }
 }

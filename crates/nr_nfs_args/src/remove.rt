@@ -2,18 +2,18 @@
 
 ghost use Rattle.nr_nfs_args.specs.Remove.{link_args_codec, link_args_lawful, remove_args_codec, remove_args_lawful, rename_args_codec, rename_args_lawful, rmdir_args_codec, rmdir_args_lawful};
 
-use nr_nfs_base::{Handle, Name, ValueFault, Xdr};
+use nr_nfs_base::{Handle, Name, ValueFault, Xdr, write_four, write_three, write_two};
 use nr_xdr::{Memory, Reader, Writer};
 use std::alloc::Global;
 
 /// The arguments of REMOVE (RFC 1813 section 3.3.12).
-#[derive(Debug, Drop)]
+#[derive(Drop)]
 pub struct RemoveArgs {
     pub dir: Handle,
     pub name: Name,
 }
 
-#[tactic(auto, using(nr_nfs_base::proofs::Puts::puts_both), unfolding(crate::specs::Remove::remove_args_codec))]
+#[tactic(auto, unfolding(crate::specs::Remove::remove_args_codec))]
 impl Xdr for RemoveArgs {
     ghost codec = { remove_args_codec };
 
@@ -23,26 +23,23 @@ impl Xdr for RemoveArgs {
         alloc: Global,
         reader: Reader<'a>,
     ) -> Result<(RemoveArgs, Reader<'a>), ValueFault> {
-        let (dir, reader) = Handle::read_from(alloc, reader)?;
-        let (name, reader) = Name::read_from(alloc, reader)?;
+        let ((dir, name), reader) = <(Handle, Name)>::read_from(alloc, reader)?;
         Ok((RemoveArgs { dir, name }, reader))
     }
 
     fn write_to(&self, writer: Writer) -> Result<Writer, Memory> {
-        let writer = self.dir.write_to(writer)?;
-        let writer = self.name.write_to(writer)?;
-        Ok(writer)
+        write_two(&self.dir, &self.name, writer)
     }
 }
 
 /// The arguments of RMDIR (RFC 1813 section 3.3.13).
-#[derive(Debug, Drop)]
+#[derive(Drop)]
 pub struct RmdirArgs {
     pub dir: Handle,
     pub name: Name,
 }
 
-#[tactic(auto, using(nr_nfs_base::proofs::Puts::puts_both), unfolding(crate::specs::Remove::rmdir_args_codec))]
+#[tactic(auto, unfolding(crate::specs::Remove::rmdir_args_codec))]
 impl Xdr for RmdirArgs {
     ghost codec = { rmdir_args_codec };
 
@@ -52,20 +49,17 @@ impl Xdr for RmdirArgs {
         alloc: Global,
         reader: Reader<'a>,
     ) -> Result<(RmdirArgs, Reader<'a>), ValueFault> {
-        let (dir, reader) = Handle::read_from(alloc, reader)?;
-        let (name, reader) = Name::read_from(alloc, reader)?;
+        let ((dir, name), reader) = <(Handle, Name)>::read_from(alloc, reader)?;
         Ok((RmdirArgs { dir, name }, reader))
     }
 
     fn write_to(&self, writer: Writer) -> Result<Writer, Memory> {
-        let writer = self.dir.write_to(writer)?;
-        let writer = self.name.write_to(writer)?;
-        Ok(writer)
+        write_two(&self.dir, &self.name, writer)
     }
 }
 
 /// The arguments of RENAME (RFC 1813 section 3.3.14).
-#[derive(Debug, Drop)]
+#[derive(Drop)]
 pub struct RenameArgs {
     pub from_dir: Handle,
     pub from_name: Name,
@@ -73,7 +67,7 @@ pub struct RenameArgs {
     pub to_name: Name,
 }
 
-#[tactic(auto, using(nr_nfs_base::proofs::Puts::puts_both), unfolding(crate::specs::Remove::rename_args_codec))]
+#[tactic(auto, unfolding(crate::specs::Remove::rename_args_codec))]
 impl Xdr for RenameArgs {
     ghost codec = { rename_args_codec };
 
@@ -83,10 +77,10 @@ impl Xdr for RenameArgs {
         alloc: Global,
         reader: Reader<'a>,
     ) -> Result<(RenameArgs, Reader<'a>), ValueFault> {
-        let (from_dir, reader) = Handle::read_from(alloc, reader)?;
-        let (from_name, reader) = Name::read_from(alloc, reader)?;
-        let (to_dir, reader) = Handle::read_from(alloc, reader)?;
-        let (to_name, reader) = Name::read_from(alloc, reader)?;
+        let ((from_dir, (from_name, (to_dir, to_name))), reader) = <(
+            Handle,
+            (Name, (Handle, Name)),
+        )>::read_from(alloc, reader)?;
         Ok((
             RenameArgs {
                 from_dir,
@@ -99,23 +93,25 @@ impl Xdr for RenameArgs {
     }
 
     fn write_to(&self, writer: Writer) -> Result<Writer, Memory> {
-        let writer = self.from_dir.write_to(writer)?;
-        let writer = self.from_name.write_to(writer)?;
-        let writer = self.to_dir.write_to(writer)?;
-        let writer = self.to_name.write_to(writer)?;
-        Ok(writer)
+        write_four(
+            &self.from_dir,
+            &self.from_name,
+            &self.to_dir,
+            &self.to_name,
+            writer,
+        )
     }
 }
 
 /// The arguments of LINK (RFC 1813 section 3.3.15).
-#[derive(Debug, Drop)]
+#[derive(Drop)]
 pub struct LinkArgs {
     pub file: Handle,
     pub dir: Handle,
     pub name: Name,
 }
 
-#[tactic(auto, using(nr_nfs_base::proofs::Puts::puts_both), unfolding(crate::specs::Remove::link_args_codec))]
+#[tactic(auto, unfolding(crate::specs::Remove::link_args_codec))]
 impl Xdr for LinkArgs {
     ghost codec = { link_args_codec };
 
@@ -125,16 +121,11 @@ impl Xdr for LinkArgs {
         alloc: Global,
         reader: Reader<'a>,
     ) -> Result<(LinkArgs, Reader<'a>), ValueFault> {
-        let (file, reader) = Handle::read_from(alloc, reader)?;
-        let (dir, reader) = Handle::read_from(alloc, reader)?;
-        let (name, reader) = Name::read_from(alloc, reader)?;
+        let ((file, (dir, name)), reader) = <(Handle, (Handle, Name))>::read_from(alloc, reader)?;
         Ok((LinkArgs { file, dir, name }, reader))
     }
 
     fn write_to(&self, writer: Writer) -> Result<Writer, Memory> {
-        let writer = self.file.write_to(writer)?;
-        let writer = self.dir.write_to(writer)?;
-        let writer = self.name.write_to(writer)?;
-        Ok(writer)
+        write_three(&self.file, &self.dir, &self.name, writer)
     }
 }

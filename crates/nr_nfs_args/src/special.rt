@@ -1,13 +1,18 @@
 //! SYMLINK and MKNOD.
 
-ghost use Rattle.nr_nfs_args.specs.Special.{device_data_codec, device_data_lawful, mknod_args_codec, mknod_args_lawful, mknod_data_codec, mknod_data_lawful, symlink_args_codec, symlink_args_lawful};
+ghost use Rattle.nr_nfs_args.specs.Special.{device_arm, device_data_codec, device_data_lawful, mknod_args_codec, mknod_args_lawful, mknod_data_codec, mknod_data_lawful, pipe_arm, symlink_args_codec, symlink_args_lawful};
+ghost use Rattle.nr_nfs_base.specs.Codec.{Answers, arm_value};
+ghost use Rattle.nr_nfs_base.specs.SetAttributes.{set_attributes_codec};
 
-use nr_nfs_base::{FileType, Handle, Name, Path, SetAttributes, SpecialData, ValueFault, Xdr};
+use nr_nfs_base::{
+    FileType, Handle, Name, Path, SetAttributes, SpecialData, SymlinkArgsFront, ValueFault, Xdr,
+    write_three, write_two,
+};
 use nr_xdr::{Memory, Reader, Writer};
 use std::alloc::Global;
 
 /// The arguments of SYMLINK (RFC 1813 section 3.3.10).
-#[derive(Debug, Drop)]
+#[derive(Drop)]
 pub struct SymlinkArgs {
     pub dir: Handle,
     pub name: Name,
@@ -15,7 +20,7 @@ pub struct SymlinkArgs {
     pub path: Path,
 }
 
-#[tactic(auto, using(nr_nfs_base::proofs::Puts::puts_both), unfolding(crate::specs::Special::symlink_args_codec))]
+#[tactic(auto, unfolding(crate::specs::Special::symlink_args_codec))]
 impl Xdr for SymlinkArgs {
     ghost codec = { symlink_args_codec };
 
@@ -25,10 +30,8 @@ impl Xdr for SymlinkArgs {
         alloc: Global,
         reader: Reader<'a>,
     ) -> Result<(SymlinkArgs, Reader<'a>), ValueFault> {
-        let (dir, reader) = Handle::read_from(alloc, reader)?;
-        let (name, reader) = Name::read_from(alloc, reader)?;
-        let (attributes, reader) = SetAttributes::read_from(alloc, reader)?;
-        let (path, reader) = Path::read_from(alloc, reader)?;
+        let ((front, path), reader) = <(SymlinkArgsFront, Path)>::read_from(alloc, reader)?;
+        let (dir, (name, attributes)) = front;
         Ok((
             SymlinkArgs {
                 dir,
@@ -41,22 +44,19 @@ impl Xdr for SymlinkArgs {
     }
 
     fn write_to(&self, writer: Writer) -> Result<Writer, Memory> {
-        let writer = self.dir.write_to(writer)?;
-        let writer = self.name.write_to(writer)?;
-        let writer = self.attributes.write_to(writer)?;
-        let writer = self.path.write_to(writer)?;
-        Ok(writer)
+        let writer = write_three(&self.dir, &self.name, &self.attributes, writer)?;
+        self.path.write_to(writer)
     }
 }
 
-/// What a device is made with (RFC 1813 section 3.3.11, `devicedata3`).
-#[derive(Clone, Copy, Debug, PartialEq, Eq)]
+/// The data of a device (RFC 1813 section 3.3.11, `devicedata3`).
+#[derive(Clone, Copy)]
 pub struct DeviceData {
     pub attributes: SetAttributes,
     pub device: SpecialData,
 }
 
-#[tactic(auto, using(nr_nfs_base::proofs::Puts::puts_both), unfolding(crate::specs::Special::device_data_codec))]
+#[tactic(auto, unfolding(crate::specs::Special::device_data_codec))]
 impl Xdr for DeviceData {
     ghost codec = { device_data_codec };
 
@@ -66,21 +66,20 @@ impl Xdr for DeviceData {
         alloc: Global,
         reader: Reader<'a>,
     ) -> Result<(DeviceData, Reader<'a>), ValueFault> {
-        let (attributes, reader) = SetAttributes::read_from(alloc, reader)?;
-        let (device, reader) = SpecialData::read_from(alloc, reader)?;
+        let ((attributes, device), reader) = <(SetAttributes, SpecialData)>::read_from(
+            alloc, reader,
+        )?;
         Ok((DeviceData { attributes, device }, reader))
     }
 
     fn write_to(&self, writer: Writer) -> Result<Writer, Memory> {
-        let writer = self.attributes.write_to(writer)?;
-        let writer = self.device.write_to(writer)?;
-        Ok(writer)
+        write_two(&self.attributes, &self.device, writer)
     }
 }
 
-/// What MKNOD makes, and with what (RFC 1813 section 3.3.11, `mknoddata3`). The types that MKNOD cannot make are encoded
-/// too, with nothing behind them.
-#[derive(Clone, Copy, Debug, PartialEq, Eq)]
+/// What MKNOD creates (RFC 1813 section 3.3.11, `mknoddata3`). The types that MKNOD cannot create have an encoding too,
+/// without data.
+#[derive(Clone, Copy)]
 pub enum MknodData {
     /// A regular file.
     Reg,
@@ -112,23 +111,11 @@ impl Xdr for MknodData {
         match tag {
             FileType::Reg => Ok((MknodData::Reg, reader)),
             FileType::Dir => Ok((MknodData::Dir, reader)),
-            FileType::Blk => {
-                let (value, reader) = DeviceData::read_from(alloc, reader)?;
-                Ok((MknodData::Blk(value), reader))
-            }
-            FileType::Chr => {
-                let (value, reader) = DeviceData::read_from(alloc, reader)?;
-                Ok((MknodData::Chr(value), reader))
-            }
             FileType::Lnk => Ok((MknodData::Lnk, reader)),
-            FileType::Sock => {
-                let (value, reader) = SetAttributes::read_from(alloc, reader)?;
-                Ok((MknodData::Sock(value), reader))
-            }
-            FileType::Fifo => {
-                let (value, reader) = SetAttributes::read_from(alloc, reader)?;
-                Ok((MknodData::Fifo(value), reader))
-            }
+            FileType::Blk => read_device(alloc, true, reader),
+            FileType::Chr => read_device(alloc, false, reader),
+            FileType::Sock => read_pipe(alloc, true, reader),
+            FileType::Fifo => read_pipe(alloc, false, reader),
         }
     }
 
@@ -136,36 +123,56 @@ impl Xdr for MknodData {
         match self {
             MknodData::Reg => FileType::Reg.write_to(writer),
             MknodData::Dir => FileType::Dir.write_to(writer),
-            MknodData::Blk(value) => {
-                let writer = FileType::Blk.write_to(writer)?;
-                value.write_to(writer)
-            }
-            MknodData::Chr(value) => {
-                let writer = FileType::Chr.write_to(writer)?;
-                value.write_to(writer)
-            }
+            MknodData::Blk(value) => { write_two(&FileType::Blk, value, writer) }
+            MknodData::Chr(value) => { write_two(&FileType::Chr, value, writer) }
             MknodData::Lnk => FileType::Lnk.write_to(writer),
-            MknodData::Sock(value) => {
-                let writer = FileType::Sock.write_to(writer)?;
-                value.write_to(writer)
-            }
-            MknodData::Fifo(value) => {
-                let writer = FileType::Fifo.write_to(writer)?;
-                value.write_to(writer)
-            }
+            MknodData::Sock(value) => { write_two(&FileType::Sock, value, writer) }
+            MknodData::Fifo(value) => { write_two(&FileType::Fifo, value, writer) }
         }
     }
 }
 
+/// Reads the data of a block device or a character device.
+fn read_device<'a>(
+    alloc: Global,
+    is_block: bool,
+    reader: Reader<'a>,
+) -> Result<(MknodData, Reader<'a>), ValueFault>
+    ensures { Answers result (arm_value (device_arm is_block) (device_data_codec.read reader.entry)) }
+{
+    let (value, reader) = DeviceData::read_from(alloc, reader)?;
+    if is_block {
+        Ok((MknodData::Blk(value), reader))
+    } else {
+        Ok((MknodData::Chr(value), reader))
+    }
+}
+
+/// Reads the data of a socket or a named pipe.
+fn read_pipe<'a>(
+    alloc: Global,
+    is_socket: bool,
+    reader: Reader<'a>,
+) -> Result<(MknodData, Reader<'a>), ValueFault>
+    ensures { Answers result (arm_value (pipe_arm is_socket) (set_attributes_codec.read reader.entry)) }
+{
+    let (value, reader) = SetAttributes::read_from(alloc, reader)?;
+    if is_socket {
+        Ok((MknodData::Sock(value), reader))
+    } else {
+        Ok((MknodData::Fifo(value), reader))
+    }
+}
+
 /// The arguments of MKNOD (RFC 1813 section 3.3.11).
-#[derive(Debug, Drop)]
+#[derive(Drop)]
 pub struct MknodArgs {
     pub dir: Handle,
     pub name: Name,
     pub what: MknodData,
 }
 
-#[tactic(auto, using(nr_nfs_base::proofs::Puts::puts_both), unfolding(crate::specs::Special::mknod_args_codec))]
+#[tactic(auto, unfolding(crate::specs::Special::mknod_args_codec))]
 impl Xdr for MknodArgs {
     ghost codec = { mknod_args_codec };
 
@@ -175,16 +182,13 @@ impl Xdr for MknodArgs {
         alloc: Global,
         reader: Reader<'a>,
     ) -> Result<(MknodArgs, Reader<'a>), ValueFault> {
-        let (dir, reader) = Handle::read_from(alloc, reader)?;
-        let (name, reader) = Name::read_from(alloc, reader)?;
-        let (what, reader) = MknodData::read_from(alloc, reader)?;
+        let ((dir, (name, what)), reader) = <(Handle, (Name, MknodData))>::read_from(
+            alloc, reader,
+        )?;
         Ok((MknodArgs { dir, name, what }, reader))
     }
 
     fn write_to(&self, writer: Writer) -> Result<Writer, Memory> {
-        let writer = self.dir.write_to(writer)?;
-        let writer = self.name.write_to(writer)?;
-        let writer = self.what.write_to(writer)?;
-        Ok(writer)
+        write_three(&self.dir, &self.name, &self.what, writer)
     }
 }

@@ -1,4 +1,5 @@
 pub mod Loops
-pub mod Puts
+pub mod Appending
 pub mod ReadingAll
+pub mod Skipping
 pub mod Tags

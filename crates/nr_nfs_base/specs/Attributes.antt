@@ -1,8 +1,8 @@
 -- Attributes.
 use Rattle.std.proofs.Common.{refl}
-use Rattle.nr_nfs_base.specs.Codec.{Codec, Lawful, word, hyper, ◌⊗◌, ◌&◌, via}
+use Rattle.nr_nfs_base.specs.Codec.{Codec, Lawful, word, hyper, ◌⊗◌, ◌&◌, structure}
 use Rattle.nr_nfs_base.specs.FileType.{file_type_codec, file_type_lawful}
-use Rattle.nr_nfs_base.specs.Laws.{word_lawful, hyper_lawful, ◌⊠◌, via_lawful}
+use Rattle.nr_nfs_base.specs.Laws.{word_lawful, hyper_lawful, ◌⊠◌, structure_lawful}
 use Rattle.nr_nfs_base.specs.Time.{time_codec, time_lawful}
 use Rattle.nr_nfs_base.specs.declared.attributes.Attributes.{Attributes}
 use Rattle.nr_nfs_base.specs.declared.attributes.SpecialData.{SpecialData}
@@ -10,20 +10,20 @@ use Rattle.nr_nfs_base.specs.declared.attributes.SpecialData.{SpecialData}
 -- the device of a special file (RFC 1813 section 2.5, specdata3)
 unfoldable pub special_data_codec : Codec SpecialData
 special_data_codec =
-    via (λ p. record { major = p.0; minor = p.1 })
+    structure (λ p. record { major = p.0; minor = p.1 })
     (λ v. v.major & v.minor)
     (word ⊗ word)
 
 pub special_data_lawful : Lawful special_data_codec
 unfolding special_data_codec
 special_data_lawful =
-    via_lawful _ _ _ (λ _. refl) (λ _. refl)
+    structure_lawful _ _ _ (λ _. refl) (λ _. refl)
     (word_lawful ⊠ word_lawful)
 
 -- the attributes of a file (RFC 1813 section 2.5, fattr3)
 unfoldable pub attributes_codec : Codec Attributes
 attributes_codec =
-    via (λ p. record {
+    structure (λ p. record {
       file_type = p.0;
       mode = p.1.0;
       nlink = p.1.1.0;
@@ -46,7 +46,7 @@ attributes_codec =
 pub attributes_lawful : Lawful attributes_codec
 unfolding attributes_codec
 attributes_lawful =
-    via_lawful _ _ _ (λ _. refl) (λ _. refl)
+    structure_lawful _ _ _ (λ _. refl) (λ _. refl)
     (file_type_lawful ⊠ word_lawful ⊠ word_lawful ⊠ word_lawful ⊠ word_lawful ⊠ hyper_lawful
     ⊠ hyper_lawful ⊠ special_data_lawful ⊠ hyper_lawful ⊠ hyper_lawful ⊠ time_lawful ⊠ time_lawful
     ⊠ time_lawful)

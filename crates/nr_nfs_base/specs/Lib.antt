@@ -12,3 +12,5 @@ pub mod Status
 pub mod MountStatus
 pub mod StatusUnion
 pub mod Same
+pub mod Fronts
+pub mod Procedures

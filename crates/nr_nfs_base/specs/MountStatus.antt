@@ -1,11 +1,11 @@
 -- Statuses of MOUNT.
 use Rattle.std.proofs.Common.{refl}
 use Rattle.std.specs.Prelude.{◌≡◌, ℕ, List, [], ◌∷◌, Some, false, ◌==◌}
-use Rattle.nr_nfs_base.specs.Codec.{numbered}
+use Rattle.nr_nfs_base.specs.Codec.{value_with_number}
 use Rattle.nr_nfs_base.specs.declared.mount_status.MountStatus.{MountStatus}
 use Rattle.nr_nfs_base.specs.declared.mount_status.MountStatus.TheVariants.{Perm, Noent, Io, Acces, Notdir, Inval, Nametoolong, Notsupp, Serverfault}
 
--- why a MOUNT call failed, and the number that says so (RFC 1813 section 5.1.5, mountstat3)
+-- the status of a MOUNT call that failed, and its number (RFC 1813 section 5.1.5, mountstat3)
 abbrev pub mount_status_number : MountStatus → ℕ
 mount_status_number Perm = 1
 mount_status_number Noent = 2
@@ -20,7 +20,7 @@ mount_status_number Serverfault = 10006
 abbrev pub mount_statuses : List MountStatus
 mount_statuses = Perm ∷ Noent ∷ Io ∷ Acces ∷ Notdir ∷ Inval ∷ Nametoolong ∷ Notsupp ∷ Serverfault ∷ []
 
-pub each_mount_status : (v : MountStatus) → numbered mount_status_number mount_statuses (mount_status_number v) ≡ Some v
+pub each_mount_status : (v : MountStatus) → value_with_number mount_status_number mount_statuses (mount_status_number v) ≡ Some v
 each_mount_status Perm = refl
 each_mount_status Noent = refl
 each_mount_status Io = refl

@@ -1,8 +1,8 @@
 -- Attributes to set.
 use Rattle.std.proofs.Common.{refl, ap}
 use Rattle.std.specs.Prelude.{◌≡◌, ℕ, List, [], ◌∷◌, Some, Result, Ok}
-use Rattle.nr_nfs_base.specs.Codec.{Codec, Lawful, word, hyper, ◌⊗◌, ◌&◌, via, numbered, one_of, Arms, tagged, made_as, optional, TakesAll}
-use Rattle.nr_nfs_base.specs.Laws.{word_lawful, hyper_lawful, ◌⊠◌, via_lawful, one_of_lawful, tagged_lawful, arm_takes, bare_takes, optional_lawful}
+use Rattle.nr_nfs_base.specs.Codec.{Codec, Lawful, word, hyper, ◌⊗◌, ◌&◌, structure, value_with_number, enumeration, Arms, discriminated_union, arm_value, optional}
+use Rattle.nr_nfs_base.specs.Laws.{word_lawful, hyper_lawful, ◌⊠◌, structure_lawful, enumeration_lawful, discriminated_union_lawful, arm_takes, bare_takes, optional_lawful}
 use Rattle.nr_nfs_base.specs.Time.{time_codec, time_lawful}
 use Rattle.nr_nfs_base.specs.declared.set_attributes.SetAttributes.{SetAttributes}
 use Rattle.nr_nfs_base.specs.declared.set_attributes.SetTime.{SetTime}
@@ -10,6 +10,7 @@ use Rattle.nr_nfs_base.specs.declared.set_attributes.SetTime.TheVariants.{Leave,
 use Rattle.nr_nfs_base.specs.declared.set_attributes.TimeHow.{TimeHow}
 use Rattle.nr_nfs_base.specs.declared.set_attributes.TimeHow.TheVariants.{DontChange, SetToServerTime, SetToClientTime}
 use Rattle.nr_xdr.specs.Item.{Item, IsBytes}
+use Rattle.nr_xdr.specs.Items.{TakesAll}
 use Rattle.nr_xdr.specs.Reading.{Cursor}
 
 -- how a time is to be set (RFC 1813 section 2.5, time_how)
@@ -21,17 +22,17 @@ time_how_number SetToClientTime = 2
 abbrev pub time_hows : List TimeHow
 time_hows = DontChange ∷ SetToServerTime ∷ SetToClientTime ∷ []
 
-pub each_time_how : (v : TimeHow) → numbered time_how_number time_hows (time_how_number v) ≡ Some v
+pub each_time_how : (v : TimeHow) → value_with_number time_how_number time_hows (time_how_number v) ≡ Some v
 each_time_how DontChange = refl
 each_time_how SetToServerTime = refl
 each_time_how SetToClientTime = refl
 
 unfoldable pub time_how_codec : Codec TimeHow
-time_how_codec = one_of time_how_number time_hows
+time_how_codec = enumeration time_how_number time_hows
 
 pub time_how_lawful : Lawful time_how_codec
 unfolding time_how_codec
-time_how_lawful = one_of_lawful time_how_number time_hows each_time_how
+time_how_lawful = enumeration_lawful time_how_number time_hows each_time_how
 
 -- what a time is to be set to (RFC 1813 section 2.5, set_atime and set_mtime)
 abbrev pub set_time_tag : SetTime → TimeHow
@@ -52,7 +53,7 @@ set_time_fits (ClientTime v) = time_codec.fits v
 abbrev pub set_time_read : TimeHow → Cursor → Result (SetTime × Cursor) ℕ
 set_time_read DontChange at = Ok (Leave, at)
 set_time_read SetToServerTime at = Ok (ServerTime, at)
-set_time_read SetToClientTime at = made_as ClientTime (time_codec.read at)
+set_time_read SetToClientTime at = arm_value ClientTime (time_codec.read at)
 
 abbrev pub set_time_arms : Arms TimeHow SetTime
 set_time_arms = record {
@@ -63,7 +64,7 @@ set_time_arms = record {
 }
 
 unfoldable pub set_time_codec : Codec SetTime
-set_time_codec = tagged time_how_codec set_time_arms
+set_time_codec = discriminated_union time_how_codec set_time_arms
 
 -- what is read behind the tag is a value of that tag
 abbrev set_time_claim : TimeHow → Cursor → SetTime → Cursor → Type 0
@@ -82,17 +83,17 @@ set_time_again : (v : SetTime) (old new : Cursor) → set_time_fits v → TakesA
     → set_time_read (set_time_tag v) old ≡ Ok (v, new)
 set_time_again Leave old new fits t = ap (λ (c : Cursor). Ok (Leave, c)) t
 set_time_again ServerTime old new fits t = ap (λ (c : Cursor). Ok (ServerTime, c)) t
-set_time_again (ClientTime v) old new fits t = rw ((time_lawful).again old v new fits t) refl
+set_time_again (ClientTime v) old new fits t = rw ((time_lawful).encoded_is_read old v new fits t) refl
 
 pub set_time_lawful : Lawful set_time_codec
 unfolding set_time_codec
 set_time_lawful =
-    tagged_lawful time_how_codec set_time_arms time_how_lawful (record { takes = set_time_takes; again = set_time_again })
+    discriminated_union_lawful time_how_codec set_time_arms time_how_lawful (record { read_is_encoded = set_time_takes; encoded_is_read = set_time_again })
 
 -- the attributes that a call sets (RFC 1813 section 2.5, sattr3)
 unfoldable pub set_attributes_codec : Codec SetAttributes
 set_attributes_codec =
-    via (λ p. record {
+    structure (λ p. record {
       mode = p.0;
       uid = p.1.0;
       gid = p.1.1.0;
@@ -107,6 +108,6 @@ set_attributes_codec =
 pub set_attributes_lawful : Lawful set_attributes_codec
 unfolding set_attributes_codec
 set_attributes_lawful =
-    via_lawful _ _ _ (λ _. refl) (λ _. refl)
+    structure_lawful _ _ _ (λ _. refl) (λ _. refl)
     ((optional_lawful _ word_lawful) ⊠ (optional_lawful _ word_lawful) ⊠ (optional_lawful _ word_lawful)
     ⊠ (optional_lawful _ hyper_lawful) ⊠ set_time_lawful ⊠ set_time_lawful)

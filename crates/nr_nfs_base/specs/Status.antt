@@ -1,11 +1,11 @@
 -- Statuses of NFS.
 use Rattle.std.proofs.Common.{refl}
 use Rattle.std.specs.Prelude.{◌≡◌, ℕ, List, [], ◌∷◌, Some, false, ◌==◌}
-use Rattle.nr_nfs_base.specs.Codec.{numbered}
+use Rattle.nr_nfs_base.specs.Codec.{value_with_number}
 use Rattle.nr_nfs_base.specs.declared.status.Status.{Status}
 use Rattle.nr_nfs_base.specs.declared.status.Status.TheVariants.{Perm, Noent, Io, Nxio, Acces, Exist, Xdev, Nodev, Notdir, Isdir, Inval, Fbig, Nospc, Rofs, Mlink, Nametoolong, Notempty, Dquot, Stale, Remote, Badhandle, NotSync, BadCookie, Notsupp, Toosmall, Serverfault, Badtype, Jukebox}
 
--- why an NFS call failed, and the number that says so (RFC 1813 section 2.5, nfsstat3)
+-- the status of an NFS call that failed, and its number (RFC 1813 section 2.5, nfsstat3)
 abbrev pub status_number : Status → ℕ
 status_number Perm = 1
 status_number Noent = 2
@@ -39,7 +39,7 @@ status_number Jukebox = 10008
 abbrev pub statuses : List Status
 statuses = Perm ∷ Noent ∷ Io ∷ Nxio ∷ Acces ∷ Exist ∷ Xdev ∷ Nodev ∷ Notdir ∷ Isdir ∷ Inval ∷ Fbig ∷ Nospc ∷ Rofs ∷ Mlink ∷ Nametoolong ∷ Notempty ∷ Dquot ∷ Stale ∷ Remote ∷ Badhandle ∷ NotSync ∷ BadCookie ∷ Notsupp ∷ Toosmall ∷ Serverfault ∷ Badtype ∷ Jukebox ∷ []
 
-pub each_status : (v : Status) → numbered status_number statuses (status_number v) ≡ Some v
+pub each_status : (v : Status) → value_with_number status_number statuses (status_number v) ≡ Some v
 each_status Perm = refl
 each_status Noent = refl
 each_status Io = refl

@@ -1,15 +1,16 @@
--- What a procedure answers: a status, then the part of OK or that of a failure (RFC 1813 sections 3.3 and 5.2.1).
+-- Unions over a status: one part behind the status 0, another behind any other (RFC 1813 sections 3.3 and 5.2.1).
 use Rattle.std.proofs.Common.{refl, cond}
 use Rattle.std.specs.Prelude.{◌≡◌, ℕ, true, false, List, [], ◌∷◌, map, Some, None, Option, option_map, Result, Ok, ◌==◌}
 use Rattle.std.specs.List.{find}
 use Rattle.nr_xdr.specs.Item.{Item, IsBytes}
+use Rattle.nr_xdr.specs.Items.{TakesAll}
 use Rattle.nr_xdr.specs.Reading.{Cursor}
-use Rattle.nr_nfs_base.specs.Codec.{Codec, Lawful, TakesAll, numbered, one_of, Arms, tagged, made_as}
-use Rattle.nr_nfs_base.specs.Laws.{one_of_lawful, tagged_lawful, arm_takes}
+use Rattle.nr_nfs_base.specs.Codec.{Codec, Lawful, value_with_number, enumeration, Arms, discriminated_union, arm_value}
+use Rattle.nr_nfs_base.specs.Laws.{enumeration_lawful, discriminated_union_lawful, arm_takes}
 use Rattle.nr_nfs_base.specs.declared.status_union.StatusUnion.{StatusUnion}
 use Rattle.nr_nfs_base.specs.declared.status_union.StatusUnion.TheVariants.{Done, Failed}
 
--- a status word is 0 where nothing failed, else the number of the failure
+-- the number of a status: 0 means success
 abbrev pub status_tag_number : {S : Type 0} → (S → ℕ) → Option S → ℕ
 status_tag_number number None = 0
 status_tag_number number (Some s) = number s
@@ -18,17 +19,17 @@ abbrev pub status_tags : {S : Type 0} → List S → List (Option S)
 status_tags all = None ∷ map Some all
 
 -- the tag with a number is the failure with that number
-pub find-tags : {S : Type 0} (number : S → ℕ) (all : List S) (n : ℕ) → find (λ t. status_tag_number number t == n) (map Some all) ≡ option_map Some (numbered number all n)
+pub find-tags : {S : Type 0} (number : S → ℕ) (all : List S) (n : ℕ) → find (λ t. status_tag_number number t == n) (map Some all) ≡ option_map Some (value_with_number number all n)
 find-tags number [] n = refl
 find-tags {S} number (x ∷ xs) n =
-    elim (number x == n) as (λ b. cond b (Some (Some x)) (find (λ t. status_tag_number number t == n) (map Some xs)) ≡ option_map Some (cond b (Some x) (numbered number xs n))) [
+    elim (number x == n) as (λ b. cond b (Some (Some x)) (find (λ t. status_tag_number number t == n) (map Some xs)) ≡ option_map Some (cond b (Some x) (value_with_number number xs n))) [
       | true ↦ refl
       | false ↦ find-tags number xs n
     ]
 
 pub each_status_tag : {S : Type 0} (number : S → ℕ) (all : List S) → ((s : S) → (0 == number s) ≡ false)
-    → ((s : S) → numbered number all (number s) ≡ Some s) → (t : Option S)
-    → numbered (status_tag_number number) (status_tags all) (status_tag_number number t) ≡ Some t
+    → ((s : S) → value_with_number number all (number s) ≡ Some s) → (t : Option S)
+    → value_with_number (status_tag_number number) (status_tags all) (status_tag_number number t) ≡ Some t
 each_status_tag number all not_ok each None = refl
 each_status_tag number all not_ok each (Some s) = rw (not_ok s, find-tags number all (number s), each s) refl
 
@@ -45,8 +46,8 @@ status_union_fits done failed (Done d) = done.fits d
 status_union_fits done failed (Failed s f) = failed.fits f
 
 abbrev pub status_union_read : {D F S : Type 0} → Codec D → Codec F → Option S → Cursor → Result (StatusUnion D F S × Cursor) ℕ
-status_union_read done failed None at = made_as Done (done.read at)
-status_union_read done failed (Some s) at = made_as (Failed s) (failed.read at)
+status_union_read done failed None at = arm_value Done (done.read at)
+status_union_read done failed (Some s) at = arm_value (Failed s) (failed.read at)
 
 abbrev pub status_union_arms : {D F S : Type 0} → Codec D → Codec F → Arms (Option S) (StatusUnion D F S)
 status_union_arms done failed = record {
@@ -57,7 +58,7 @@ status_union_arms done failed = record {
 }
 
 unfoldable pub status_union_codec : {D F S : Type 0} → (S → ℕ) → List S → Codec D → Codec F → Codec (StatusUnion D F S)
-status_union_codec number all done failed = tagged (one_of (status_tag_number number) (status_tags all)) (status_union_arms done failed)
+status_union_codec number all done failed = discriminated_union (enumeration (status_tag_number number) (status_tags all)) (status_union_arms done failed)
 
 -- what is read behind the status is a value of that status
 abbrev status_union_claim : {D F S : Type 0} → Codec D → Codec F → Option S → Cursor → StatusUnion D F S → Cursor → Type 0
@@ -75,13 +76,13 @@ status_union_takes done failed ld lf (Some s) old v new fits e =
 status_union_again : {D F S : Type 0} (done : Codec D) (failed : Codec F) → Lawful done → Lawful failed
     → (v : StatusUnion D F S) (old new : Cursor) → status_union_fits done failed v
     → TakesAll old new (status_union_items done failed v) → status_union_read done failed (status_union_tag v) old ≡ Ok (v, new)
-status_union_again done failed ld lf (Done d) old new fits t = rw (ld.again old d new fits t) refl
-status_union_again done failed ld lf (Failed s f) old new fits t = rw (lf.again old f new fits t) refl
+status_union_again done failed ld lf (Done d) old new fits t = rw (ld.encoded_is_read old d new fits t) refl
+status_union_again done failed ld lf (Failed s f) old new fits t = rw (lf.encoded_is_read old f new fits t) refl
 
 pub status_union_lawful : {D F S : Type 0} (number : S → ℕ) (all : List S) → ((s : S) → (0 == number s) ≡ false)
-    → ((s : S) → numbered number all (number s) ≡ Some s) → (done : Codec D) (failed : Codec F) → Lawful done → Lawful failed → Lawful (status_union_codec number all done failed)
+    → ((s : S) → value_with_number number all (number s) ≡ Some s) → (done : Codec D) (failed : Codec F) → Lawful done → Lawful failed → Lawful (status_union_codec number all done failed)
 unfolding status_union_codec
 status_union_lawful number all not_ok each done failed ld lf =
-    tagged_lawful (one_of (status_tag_number number) (status_tags all)) (status_union_arms done failed)
-    (one_of_lawful (status_tag_number number) (status_tags all) (each_status_tag number all not_ok each))
-    (record { takes = status_union_takes done failed ld lf; again = status_union_again done failed ld lf })
+    discriminated_union_lawful (enumeration (status_tag_number number) (status_tags all)) (status_union_arms done failed)
+    (enumeration_lawful (status_tag_number number) (status_tags all) (each_status_tag number all not_ok each))
+    (record { read_is_encoded = status_union_takes done failed ld lf; encoded_is_read = status_union_again done failed ld lf })

@@ -1,8 +1,8 @@
-//! Lists behind the number of their values.
+//! Variable-length arrays.
 
-ghost use Rattle.std.specs.Prelude.{◌≡◌, ◌∷◌, [], ◌++◌, ◌^◌, ◌<◌, length, IfOk};
+ghost use Rattle.std.specs.Prelude.{◌≡◌, ◌∷◌, [], ◌++◌, ◌+◌, ◌^◌, ◌<◌, length, IfOk};
 ghost use Rattle.std.specs.List.{flat_map, AllByRecursion};
-ghost use Rattle.nr_nfs_base.specs.Codec.{array, times, Answers, Puts};
+ghost use Rattle.nr_nfs_base.specs.Codec.{array, values_read, Answers, AppendsItems, PushesValues};
 ghost use Rattle.nr_nfs_base.specs.Laws.{array_lawful};
 
 use crate::fault::ValueFault;
@@ -11,8 +11,9 @@ use nr_xdr::{Memory, Reader, Writer};
 use std::alloc::Global;
 use std::marker::Model;
 
-/// A list of fewer than 2^32 values behind their number (RFC 4506 section 4.13). Contracts see the list.
-#[derive(Debug, Drop)]
+/// A variable-length array of fewer than 2^32 values (RFC 4506 section 4.13): their number, and then the values. Contracts
+/// see the list of the values.
+#[derive(Drop)]
 pub struct Array<T> {
     values: Vec<T>,
 }
@@ -28,7 +29,7 @@ impl<T> Model for Array<T> {
 }
 
 impl<T> Array<T> {
-    /// The values of a vector. Takes no memory.
+    /// An array of the values of a vector. Takes no memory.
     pub fn from_vec(values: Vec<T>) -> Array<T>
         requires { length values.items < 2 ^ 32 }
         ensures { result ≡ values.items }
@@ -36,7 +37,7 @@ impl<T> Array<T> {
         Array { values }
     }
 
-    /// The vector of the values. Takes no memory.
+    /// The values as a vector. Takes no memory.
     pub fn into_vec(self) -> Vec<T>
         ensures value { result.items ≡ self }
         ensures bounded { length self < 2 ^ 32 }
@@ -75,27 +76,41 @@ impl<T: Xdr> Xdr for Array<T> {
     }
 }
 
-/// Reads so many values.
+/// Reads `count` values.
 fn read_values<'a, T: Xdr>(
     alloc: Global,
     count: u32,
     reader: Reader<'a>,
 ) -> Result<(Array<T>, Reader<'a>), ValueFault>
-    ensures { Answers result (times T.codec count reader.entry) }
+    ensures { Answers result (values_read T.codec count reader.entry) }
 {
     let mut values = Vec::new(alloc);
+    let reader = push_values(alloc, &mut values, count, reader)?;
+    Ok((Array { values }, reader))
+}
+
+/// Reads `count` values, and pushes each.
+fn push_values<'a, T: Xdr>(
+    alloc: Global,
+    values: &mut Vec<T>,
+    count: u32,
+    reader: Reader<'a>,
+) -> Result<Reader<'a>, ValueFault>
+    ensures exact { PushesValues values.old.items values.new.items result (values_read T.codec count reader.entry) }
+    ensures counted { IfOk result (λ _. length values.new.items ≡ length values.old.items + count) }
+{
     let mut reader = reader;
     for _ in 0..count {
         let (value, behind) = T::read_from(alloc, reader)?;
         reader = behind;
         values.push(value)?;
     }
-    Ok((Array { values }, reader))
+    Ok(reader)
 }
 
-/// Writes the values behind one another.
+/// Writes the values, one after the other.
 fn write_values<T: Xdr>(values: &[T], writer: Writer) -> Result<Writer, Memory>
-    ensures { IfOk result (λ bytes. Puts writer bytes (flat_map T.codec.items values.now) (AllByRecursion T.codec.fits values.now)) }
+    ensures { IfOk result (λ bytes. AppendsItems writer bytes (flat_map T.codec.items values.now) (AllByRecursion T.codec.fits values.now)) }
 {
     let mut writer = writer;
     for value in values {

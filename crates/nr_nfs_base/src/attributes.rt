@@ -4,19 +4,20 @@ ghost use Rattle.nr_nfs_base.specs.Attributes.{attributes_codec, attributes_lawf
 
 use crate::fault::ValueFault;
 use crate::file_type::FileType;
+use crate::pair::write_two;
 use crate::time::Time;
 use crate::xdr::Xdr;
 use nr_xdr::{Memory, Reader, Writer};
 use std::alloc::Global;
 
 /// The device that a special file stands for (RFC 1813 section 2.5, `specdata3`).
-#[derive(Clone, Copy, Debug, PartialEq, Eq)]
+#[derive(Clone, Copy)]
 pub struct SpecialData {
     pub major: u32,
     pub minor: u32,
 }
 
-#[tactic(auto, using(crate::proofs::Puts::puts_both), unfolding(crate::specs::Attributes::special_data_codec))]
+#[tactic(auto, unfolding(crate::specs::Attributes::special_data_codec))]
 impl Xdr for SpecialData {
     ghost codec = { special_data_codec };
 
@@ -26,31 +27,28 @@ impl Xdr for SpecialData {
         alloc: Global,
         reader: Reader<'a>,
     ) -> Result<(SpecialData, Reader<'a>), ValueFault> {
-        let (major, reader) = u32::read_from(alloc, reader)?;
-        let (minor, reader) = u32::read_from(alloc, reader)?;
+        let ((major, minor), reader) = <(u32, u32)>::read_from(alloc, reader)?;
         Ok((SpecialData { major, minor }, reader))
     }
 
     fn write_to(&self, writer: Writer) -> Result<Writer, Memory> {
-        let writer = self.major.write_to(writer)?;
-        let writer = self.minor.write_to(writer)?;
-        Ok(writer)
+        write_two(&self.major, &self.minor, writer)
     }
 }
 
 /// The attributes of a file (RFC 1813 section 2.5, `fattr3`).
-#[derive(Clone, Copy, Debug, PartialEq, Eq)]
+#[derive(Clone, Copy)]
 pub struct Attributes {
     pub file_type: FileType,
     /// The permission bits.
     pub mode: u32,
-    /// The number of its names.
+    /// The number of hard links.
     pub nlink: u32,
     pub uid: u32,
     pub gid: u32,
     /// In bytes.
     pub size: u64,
-    /// The bytes that it takes on the disk.
+    /// The bytes of disk space that the file uses.
     pub used: u64,
     pub rdev: SpecialData,
     pub fsid: u64,
@@ -60,7 +58,15 @@ pub struct Attributes {
     pub ctime: Time,
 }
 
-#[tactic(auto, using(crate::proofs::Puts::puts_both), unfolding(crate::specs::Attributes::attributes_codec))]
+/// The fields of `Attributes`, in order.
+pub(crate) type AttributesParts = (FileType, (u32, (u32, (u32, (u32, NumbersAndTimes)))));
+
+type NumbersAndTimes = (
+    u64,
+    (u64, (SpecialData, (u64, (u64, (Time, (Time, Time)))))),
+);
+
+#[tactic(auto, unfolding(crate::specs::Attributes::attributes_codec))]
 impl Xdr for Attributes {
     ghost codec = { attributes_codec };
 
@@ -70,19 +76,12 @@ impl Xdr for Attributes {
         alloc: Global,
         reader: Reader<'a>,
     ) -> Result<(Attributes, Reader<'a>), ValueFault> {
-        let (file_type, reader) = FileType::read_from(alloc, reader)?;
-        let (mode, reader) = u32::read_from(alloc, reader)?;
-        let (nlink, reader) = u32::read_from(alloc, reader)?;
-        let (uid, reader) = u32::read_from(alloc, reader)?;
-        let (gid, reader) = u32::read_from(alloc, reader)?;
-        let (size, reader) = u64::read_from(alloc, reader)?;
-        let (used, reader) = u64::read_from(alloc, reader)?;
-        let (rdev, reader) = SpecialData::read_from(alloc, reader)?;
-        let (fsid, reader) = u64::read_from(alloc, reader)?;
-        let (fileid, reader) = u64::read_from(alloc, reader)?;
-        let (atime, reader) = Time::read_from(alloc, reader)?;
-        let (mtime, reader) = Time::read_from(alloc, reader)?;
-        let (ctime, reader) = Time::read_from(alloc, reader)?;
+        let (parts, reader) = AttributesParts::read_from(alloc, reader)?;
+        let (
+            file_type,
+            (mode, (nlink, (uid, (gid, (size, (used, (rdev, (fsid, (fileid, times))))))))),
+        ) = parts;
+        let (atime, (mtime, ctime)) = times;
         let value = Attributes {
             file_type,
             mode,
@@ -102,19 +101,15 @@ impl Xdr for Attributes {
     }
 
     fn write_to(&self, writer: Writer) -> Result<Writer, Memory> {
-        let writer = self.file_type.write_to(writer)?;
-        let writer = self.mode.write_to(writer)?;
-        let writer = self.nlink.write_to(writer)?;
-        let writer = self.uid.write_to(writer)?;
-        let writer = self.gid.write_to(writer)?;
-        let writer = self.size.write_to(writer)?;
-        let writer = self.used.write_to(writer)?;
-        let writer = self.rdev.write_to(writer)?;
-        let writer = self.fsid.write_to(writer)?;
-        let writer = self.fileid.write_to(writer)?;
-        let writer = self.atime.write_to(writer)?;
-        let writer = self.mtime.write_to(writer)?;
-        let writer = self.ctime.write_to(writer)?;
-        Ok(writer)
+        let times = (self.atime, (self.mtime, self.ctime));
+        let numbers = (
+            self.size,
+            (self.used, (self.rdev, (self.fsid, (self.fileid, times)))),
+        );
+        let parts = (
+            self.file_type,
+            (self.mode, (self.nlink, (self.uid, (self.gid, numbers)))),
+        );
+        parts.write_to(writer)
     }
 }

@@ -1,12 +1,12 @@
-//! Who makes a call.
+//! The caller of a procedure.
 
 use crate::array::Array;
 
-/// Who makes a call, as its credential says (RFC 5531 appendix A, `authsys_parms`).
-#[derive(Debug, Drop)]
+/// The caller of a procedure, as the credential says (RFC 5531 appendix A, `authsys_parms`).
+#[derive(Drop)]
 pub struct Caller {
     pub uid: u32,
     pub gid: u32,
-    /// Further groups that the caller is in.
+    /// The other groups of the caller.
     pub gids: Array<u32>,
 }

@@ -9,7 +9,7 @@ use nr_xdr::{Memory, Reader, Writer};
 use std::alloc::Global;
 
 /// What a file is (RFC 1813 section 2.5, `ftype3`).
-#[derive(Clone, Copy, Debug, PartialEq, Eq)]
+#[derive(Clone, Copy)]
 pub enum FileType {
     /// A regular file.
     Reg = 1,

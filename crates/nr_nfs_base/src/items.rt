@@ -1,7 +1,7 @@
-//! The items that are values by themselves.
+//! Values of one item, and the empty value.
 
-ghost use Rattle.nr_nfs_base.specs.Codec.{word, hyper, boolean, nothing};
-ghost use Rattle.nr_nfs_base.specs.Laws.{word_lawful, hyper_lawful, boolean_lawful, nothing_lawful};
+ghost use Rattle.nr_nfs_base.specs.Codec.{word, hyper, boolean, void};
+ghost use Rattle.nr_nfs_base.specs.Laws.{word_lawful, hyper_lawful, boolean_lawful, void_lawful};
 
 use crate::fault::ValueFault;
 use crate::xdr::Xdr;
@@ -9,7 +9,7 @@ use nr_xdr::{Memory, Reader, Writer};
 use std::alloc::Global;
 
 /// An unsigned integer (RFC 4506 section 4.2).
-#[tactic(auto, using(crate::proofs::Puts::puts_one), unfolding(crate::specs::Codec::word))]
+#[tactic(auto, using(crate::proofs::Appending::appends_one), unfolding(crate::specs::Codec::word))]
 impl Xdr for u32 {
     ghost codec = { word };
 
@@ -30,7 +30,7 @@ impl Xdr for u32 {
 }
 
 /// An unsigned hyper integer (RFC 4506 section 4.5).
-#[tactic(auto, using(crate::proofs::Puts::puts_one), unfolding(crate::specs::Codec::hyper))]
+#[tactic(auto, using(crate::proofs::Appending::appends_one), unfolding(crate::specs::Codec::hyper))]
 impl Xdr for u64 {
     ghost codec = { hyper };
 
@@ -51,7 +51,7 @@ impl Xdr for u64 {
 }
 
 /// A boolean (RFC 4506 section 4.4).
-#[tactic(auto, using(crate::proofs::Puts::puts_one), unfolding(crate::specs::Codec::boolean))]
+#[tactic(auto, using(crate::proofs::Appending::appends_one), unfolding(crate::specs::Codec::boolean))]
 impl Xdr for bool {
     ghost codec = { boolean };
 
@@ -73,9 +73,9 @@ impl Xdr for bool {
 
 /// No bytes (RFC 4506 section 4.16).
 impl Xdr for () {
-    ghost codec = { nothing };
+    ghost codec = { void };
 
-    ghost lawful = { nothing_lawful };
+    ghost lawful = { void_lawful };
 
     fn read_from<'a>(_alloc: Global, reader: Reader<'a>) -> Result<((), Reader<'a>), ValueFault> {
         Ok(((), reader))

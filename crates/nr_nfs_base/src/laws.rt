@@ -1,5 +1,7 @@
-//! The limits of handles, names, paths and data.
+//! Laws of the values: the limits of handles, names, paths and data, and that a value is read in one way.
 
+ghost use Rattle.std.specs.Prelude.{◌≡◌, ℕ, List, ◌++◌};
+ghost use Rattle.nr_nfs_base.specs.Codec.{ReadsAs};
 ghost use Rattle.nr_nfs_base.specs.Names.{handle_codec, text_codec, mount_path_codec};
 ghost use Rattle.nr_nfs_base.specs.Same.{Same};
 
@@ -15,4 +17,11 @@ pub fn opaque_limits()
     ensures name { Same ⟦<Name as Xdr>⟧.codec text_codec }
     ensures path { Same ⟦<Path as Xdr>⟧.codec text_codec }
     ensures bytes { Same ⟦<Data as Xdr>⟧.codec text_codec }
+{}
+
+/// No reading of a value is a proper prefix of another reading of its type: of what begins as two values of one type, both
+/// values are the same, and as long.
+pub fn one_value<T: Xdr>()
+    ensures { (v w : T) (x y more others : List ℕ) → ReadsAs T.codec v x → ReadsAs T.codec w y →
+        x ++ more ≡ y ++ others → (v ≡ w) × (more ≡ others) }
 {}

@@ -1,7 +1,7 @@
-//! Lists whose values stand behind flags.
+//! Linked lists.
 
 ghost use Rattle.std.specs.Prelude.{◌≡◌, [], ◌∷◌, ◌++◌, IfOk};
-ghost use Rattle.nr_nfs_base.specs.Codec.{linked_list, linked_list_read, Answers, Writes};
+ghost use Rattle.nr_nfs_base.specs.Codec.{linked_list, linked_list_read, Answers, AppendsValue, PushesNext, PushesValues, optional};
 ghost use Rattle.nr_nfs_base.specs.Laws.{linked_list_lawful};
 
 use crate::fault::ValueFault;
@@ -10,8 +10,8 @@ use nr_xdr::{Memory, Reader, Writer};
 use std::alloc::Global;
 use std::marker::Model;
 
-/// A list of values, each behind a 1 and with a 0 at the end (RFC 4506 section 4.19). Contracts see the list.
-#[derive(Debug, Drop)]
+/// A linked list (RFC 4506 section 4.19): a 1 before each value, and a 0 at the end. Contracts see the list of the values.
+#[derive(Drop)]
 pub struct LinkedList<T> {
     values: Vec<T>,
 }
@@ -25,7 +25,7 @@ impl<T> Model for LinkedList<T> {
 }
 
 impl<T> LinkedList<T> {
-    /// No values.
+    /// The empty list.
     pub fn new(alloc: Global) -> LinkedList<T>
         ensures { result ≡ [] }
     {
@@ -34,14 +34,14 @@ impl<T> LinkedList<T> {
         }
     }
 
-    /// The values of a vector. Takes no memory.
+    /// A list of the values of a vector. Takes no memory.
     pub fn from_vec(values: Vec<T>) -> LinkedList<T>
         ensures { result ≡ values.items }
     {
         LinkedList { values }
     }
 
-    /// The vector of the values. Takes no memory.
+    /// The values as a vector. Takes no memory.
     pub fn into_vec(self) -> Vec<T>
         ensures { result.items ≡ self }
     {
@@ -75,7 +75,7 @@ impl<T: Xdr> Xdr for LinkedList<T> {
     }
 }
 
-/// Reads the values up to the 0 behind them: `most` bounds them, the 0 counted.
+/// Reads the values, up to the 0 behind them. `most` bounds the number of flags.
 fn read_values<'a, T: Xdr>(
     alloc: Global,
     most: usize,
@@ -84,21 +84,51 @@ fn read_values<'a, T: Xdr>(
     ensures { Answers result (linked_list_read T.codec most reader.entry) }
 {
     let mut values = Vec::new(alloc);
+    let reader = push_values(alloc, &mut values, most, reader)?;
+    Ok((LinkedList { values }, reader))
+}
+
+/// Reads the values, up to the 0 behind them, and pushes each. `most` bounds the number of flags.
+fn push_values<'a, T: Xdr>(
+    alloc: Global,
+    values: &mut Vec<T>,
+    most: usize,
+    reader: Reader<'a>,
+) -> Result<Reader<'a>, ValueFault>
+    ensures { PushesValues values.old.items values.new.items result (linked_list_read T.codec most reader.entry) }
+{
     let mut reader = reader;
     for _ in 0..most {
-        let (value, behind) = Option::<T>::read_from(alloc, reader)?;
+        let (is_value, behind) = push_next(alloc, values, reader)?;
         reader = behind;
-        match value {
-            None => return Ok((LinkedList { values }, reader)),
-            Some(value) => values.push(value)?,
+        if !is_value {
+            return Ok(reader);
         }
     }
     Err(ValueFault::Bad { at: reader.at() })
 }
 
+/// Reads a flag. Where it is 1, the value behind it is read and pushed.
+fn push_next<'a, T: Xdr>(
+    alloc: Global,
+    values: &mut Vec<T>,
+    reader: Reader<'a>,
+) -> Result<(bool, Reader<'a>), ValueFault>
+    ensures { PushesNext values.old.items values.new.items result ((optional T.codec).read reader.entry) }
+{
+    let (value, reader) = Option::<T>::read_from(alloc, reader)?;
+    match value {
+        None => Ok((false, reader)),
+        Some(value) => {
+            values.push(value)?;
+            Ok((true, reader))
+        }
+    }
+}
+
 /// Writes the values, and the 0 behind them.
 fn write_values<T: Xdr>(values: &[T], writer: Writer) -> Result<Writer, Memory>
-    ensures { IfOk result (Writes (linked_list T.codec) writer values.now) }
+    ensures { IfOk result (AppendsValue (linked_list T.codec) writer values.now) }
 {
     let mut writer = writer;
     for value in values {

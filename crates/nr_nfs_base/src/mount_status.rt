@@ -1,29 +1,29 @@
-//! Why a MOUNT call failed.
+//! Statuses of MOUNT.
 
 ghost use Rattle.nr_nfs_base.specs.MountStatus.{each_mount_status, mount_status_not_ok, mount_status_number, mount_statuses};
 
 use crate::numbered::{Failure, Numbered};
 
 /// Why a MOUNT call failed (RFC 1813 section 5.1.5, `mountstat3` but for `MNT3_OK`).
-#[derive(Clone, Copy, Debug, PartialEq, Eq)]
+#[derive(Clone, Copy)]
 pub enum MountStatus {
     /// Not the owner.
     Perm = 1,
     /// No such file or directory.
     Noent = 2,
-    /// A hard error on the disk.
+    /// A hard I/O error.
     Io = 5,
     /// Permission denied.
     Acces = 13,
     /// Not a directory.
     Notdir = 20,
-    /// An argument that does not hold for the call.
+    /// An invalid argument.
     Inval = 22,
     /// The path is too long.
     Nametoolong = 63,
     /// Not supported.
     Notsupp = 10004,
-    /// An error with no status of its own.
+    /// An error that no other status describes.
     Serverfault = 10006,
 }
 

@@ -8,17 +8,18 @@ pub const HANDLE_MAX: u32 = 64;
 /// The most bytes that a path to mount has (RFC 1813 section 5.1.4, `MNTPATHLEN`).
 pub const MOUNT_PATH_MAX: u32 = 1024;
 
-/// The most bytes that fit behind a count word: names, paths and data have no other limit (RFC 4506 section 4.10).
+/// The most bytes of any opaque data, since its length is a word (RFC 4506 section 4.10). Names, paths and data have no
+/// other limit.
 pub const UNLIMITED: u32 = u32::MAX;
 
-/// What a server calls a file by, and a client does not look into (RFC 1813 section 2.5, `nfs_fh3`; section 5.1.5,
-/// `fhandle3`).
+/// A file handle: it names a file, and only the server knows what its bytes mean (RFC 1813 section 2.5, `nfs_fh3`; section
+/// 5.1.5, `fhandle3`).
 pub type Handle = Opaque<HANDLE_MAX>;
 
 /// The name of an entry of a directory (RFC 1813 section 2.5, `filename3`).
 pub type Name = Opaque<UNLIMITED>;
 
-/// What a symbolic link holds (RFC 1813 section 2.5, `nfspath3`).
+/// The path in a symbolic link (RFC 1813 section 2.5, `nfspath3`).
 pub type Path = Opaque<UNLIMITED>;
 
 /// Bytes of a file (RFC 1813 sections 3.3.6 and 3.3.7).

@@ -1,7 +1,7 @@
-//! Values that are encoded as a number.
+//! Enumerations.
 
 ghost use Rattle.std.specs.Prelude.{◌≡◌, ◌==◌, false, ℕ, List, Some, IfOk};
-ghost use Rattle.nr_nfs_base.specs.Codec.{numbered, one_of, Answers, Writes};
+ghost use Rattle.nr_nfs_base.specs.Codec.{value_with_number, enumeration, Answers, AppendsValue};
 
 use crate::fault::ValueFault;
 use crate::xdr::Xdr;
@@ -22,25 +22,25 @@ pub trait Numbered: Copy {
 
     /// The value with this number, if there is one.
     fn from_number(word: u32) -> Option<Self>
-        ensures { result ≡ numbered number all word };
+        ensures { result ≡ value_with_number number all word };
 
-    /// Each value is the one with its number.
-    ghost each: { (v : Self) → numbered number all (number v) ≡ Some v };
+    /// The value with the number of a value is that value.
+    ghost each: { (v : Self) → value_with_number number all (number v) ≡ Some v };
 }
 
-/// An enumeration of failures: each number but 0, which says that nothing failed.
+/// An enumeration of failures. The number 0 is not among them, since it means success.
 pub trait Failure: Numbered {
     /// No failure has the number 0.
     ghost not_ok: { (v : Self) → (0 == Self.number v) ≡ false };
 }
 
-/// Reads an enumeration: `Bad` at its word where the word is no value's number.
-#[tactic(auto, unfolding(crate::specs::Codec::one_of))]
+/// Reads a value of an enumeration. `Bad` at its word where the word is not the number of a value.
+#[tactic(auto, unfolding(crate::specs::Codec::enumeration))]
 pub fn read_numbered<'a, T: Numbered>(
     alloc: Global,
     reader: Reader<'a>,
 ) -> Result<(T, Reader<'a>), ValueFault>
-    ensures { Answers result ((one_of T.number T.all).read reader.entry) }
+    ensures { Answers result ((enumeration T.number T.all).read reader.entry) }
 {
     let at = reader.at();
     let (word, reader) = u32::read_from(alloc, reader)?;
@@ -51,9 +51,9 @@ pub fn read_numbered<'a, T: Numbered>(
 }
 
 /// Writes the number of a value.
-#[tactic(auto, unfolding(crate::specs::Codec::one_of))]
+#[tactic(auto, unfolding(crate::specs::Codec::enumeration))]
 pub fn write_numbered<T: Numbered>(value: T, writer: Writer) -> Result<Writer, Memory>
-    ensures { IfOk result (Writes (one_of T.number T.all) writer value) }
+    ensures { IfOk result (AppendsValue (enumeration T.number T.all) writer value) }
 {
     value.number().write_to(writer)
 }

@@ -11,7 +11,7 @@ use std::alloc::Global;
 use std::marker::Model;
 
 /// Opaque data of at most `MAX` bytes (RFC 4506 section 4.10). Contracts see it as the list of its bytes.
-#[derive(Debug, Drop)]
+#[derive(Drop)]
 pub struct Opaque<const MAX: u32> {
     bytes: Octets,
 }
@@ -62,7 +62,7 @@ impl<const MAX: u32> Opaque<MAX> {
     }
 }
 
-#[tactic(auto, using(crate::proofs::Puts::puts_one), unfolding(crate::specs::Codec::opaque))]
+#[tactic(auto, using(crate::proofs::Appending::appends_one), unfolding(crate::specs::Codec::opaque))]
 impl<const MAX: u32> Xdr for Opaque<MAX> {
     ghost codec = { opaque MAX };
 

@@ -1,4 +1,4 @@
-//! A value that may be absent.
+//! Optional data.
 
 ghost use Rattle.nr_nfs_base.specs.Codec.{optional};
 ghost use Rattle.nr_nfs_base.specs.Laws.{optional_lawful};
@@ -8,8 +8,8 @@ use crate::xdr::Xdr;
 use nr_xdr::{Memory, Reader, Writer};
 use std::alloc::Global;
 
-/// A value behind a flag, or only the flag (RFC 4506 section 4.19).
-#[tactic(auto, using(crate::proofs::Puts::puts_both), unfolding(crate::specs::Codec::optional))]
+/// Optional data (RFC 4506 section 4.19): a flag, and the value where the flag is 1.
+#[tactic(auto, unfolding(crate::specs::Codec::optional))]
 impl<T: Xdr> Xdr for Option<T> {
     ghost codec = { optional T.codec };
 

@@ -4,13 +4,14 @@ ghost use Rattle.nr_nfs_base.specs.SetAttributes.{each_time_how, set_attributes_
 
 use crate::fault::ValueFault;
 use crate::numbered::{Numbered, read_numbered, write_numbered};
+use crate::pair::write_two;
 use crate::time::Time;
 use crate::xdr::Xdr;
 use nr_xdr::{Memory, Reader, Writer};
 use std::alloc::Global;
 
 /// How a time is to be set (RFC 1813 section 2.5, `time_how`).
-#[derive(Clone, Copy, Debug, PartialEq, Eq)]
+#[derive(Clone, Copy)]
 pub enum TimeHow {
     DontChange = 0,
     SetToServerTime = 1,
@@ -57,11 +58,11 @@ impl Xdr for TimeHow {
 }
 
 /// What a time is to be set to (RFC 1813 section 2.5, `set_atime` and `set_mtime`).
-#[derive(Clone, Copy, Debug, PartialEq, Eq)]
+#[derive(Clone, Copy)]
 pub enum SetTime {
-    /// It stays.
+    /// The time is not changed.
     Leave,
-    /// The time at the server.
+    /// The server's time.
     ServerTime,
     /// This time.
     ClientTime(Time),
@@ -92,16 +93,13 @@ impl Xdr for SetTime {
         match self {
             SetTime::Leave => TimeHow::DontChange.write_to(writer),
             SetTime::ServerTime => TimeHow::SetToServerTime.write_to(writer),
-            SetTime::ClientTime(value) => {
-                let writer = TimeHow::SetToClientTime.write_to(writer)?;
-                value.write_to(writer)
-            }
+            SetTime::ClientTime(value) => { write_two(&TimeHow::SetToClientTime, value, writer) }
         }
     }
 }
 
 /// The attributes that a call sets; one that is absent stays (RFC 1813 section 2.5, `sattr3`).
-#[derive(Clone, Copy, Debug, PartialEq, Eq)]
+#[derive(Clone, Copy)]
 pub struct SetAttributes {
     pub mode: Option<u32>,
     pub uid: Option<u32>,
@@ -111,7 +109,16 @@ pub struct SetAttributes {
     pub mtime: SetTime,
 }
 
-#[tactic(auto, using(crate::proofs::Puts::puts_both), unfolding(crate::specs::SetAttributes::set_attributes_codec))]
+/// The fields of `SetAttributes`, in order.
+pub(crate) type SetAttributesParts = (
+    Option<u32>,
+    (
+        Option<u32>,
+        (Option<u32>, (Option<u64>, (SetTime, SetTime))),
+    ),
+);
+
+#[tactic(auto, unfolding(crate::specs::SetAttributes::set_attributes_codec))]
 impl Xdr for SetAttributes {
     ghost codec = { set_attributes_codec };
 
@@ -121,12 +128,8 @@ impl Xdr for SetAttributes {
         alloc: Global,
         reader: Reader<'a>,
     ) -> Result<(SetAttributes, Reader<'a>), ValueFault> {
-        let (mode, reader) = Option::<u32>::read_from(alloc, reader)?;
-        let (uid, reader) = Option::<u32>::read_from(alloc, reader)?;
-        let (gid, reader) = Option::<u32>::read_from(alloc, reader)?;
-        let (size, reader) = Option::<u64>::read_from(alloc, reader)?;
-        let (atime, reader) = SetTime::read_from(alloc, reader)?;
-        let (mtime, reader) = SetTime::read_from(alloc, reader)?;
+        let (parts, reader) = SetAttributesParts::read_from(alloc, reader)?;
+        let (mode, (uid, (gid, (size, (atime, mtime))))) = parts;
         let value = SetAttributes {
             mode,
             uid,
@@ -139,12 +142,8 @@ impl Xdr for SetAttributes {
     }
 
     fn write_to(&self, writer: Writer) -> Result<Writer, Memory> {
-        let writer = self.mode.write_to(writer)?;
-        let writer = self.uid.write_to(writer)?;
-        let writer = self.gid.write_to(writer)?;
-        let writer = self.size.write_to(writer)?;
-        let writer = self.atime.write_to(writer)?;
-        let writer = self.mtime.write_to(writer)?;
-        Ok(writer)
+        let times = (self.atime, self.mtime);
+        let parts = (self.mode, (self.uid, (self.gid, (self.size, times))));
+        parts.write_to(writer)
     }
 }

@@ -1,4 +1,4 @@
-//! How far data is stable.
+//! Stable storage.
 
 ghost use Rattle.nr_nfs_base.specs.Stable.{each_stable_how, stable_how_codec, stable_how_lawful, stable_how_number, stable_hows};
 
@@ -8,14 +8,14 @@ use crate::xdr::Xdr;
 use nr_xdr::{Memory, Reader, Writer};
 use std::alloc::Global;
 
-/// How far written data is on stable storage (RFC 1813 section 3.3.7, `stable_how`).
-#[derive(Clone, Copy, Debug, PartialEq, Eq)]
+/// What is on stable storage after a WRITE (RFC 1813 section 3.3.7, `stable_how`).
+#[derive(Clone, Copy)]
 pub enum StableHow {
-    /// Nothing need be on stable storage.
+    /// Possibly nothing.
     Unstable = 0,
-    /// The data is.
+    /// All data, and the metadata that is needed to read it.
     DataSync = 1,
-    /// The data and all attributes are.
+    /// All data and all metadata.
     FileSync = 2,
 }
 

@@ -1,23 +1,23 @@
-//! Why an NFS call failed.
+//! Statuses of NFS.
 
 ghost use Rattle.nr_nfs_base.specs.Status.{each_status, status_not_ok, status_number, statuses};
 
 use crate::numbered::{Failure, Numbered};
 
 /// Why an NFS call failed (RFC 1813 section 2.5, `nfsstat3` but for `NFS3_OK`; section 2.6).
-#[derive(Clone, Copy, Debug, PartialEq, Eq)]
+#[derive(Clone, Copy)]
 pub enum Status {
     /// Not the owner.
     Perm = 1,
     /// No such file or directory.
     Noent = 2,
-    /// A hard error on the disk.
+    /// A hard I/O error.
     Io = 5,
     /// No such device.
     Nxio = 6,
     /// Permission denied.
     Acces = 13,
-    /// The name is taken.
+    /// The file exists already.
     Exist = 17,
     /// A link across file systems.
     Xdev = 18,
@@ -27,13 +27,13 @@ pub enum Status {
     Notdir = 20,
     /// A directory.
     Isdir = 21,
-    /// An argument that does not hold for the call.
+    /// An invalid argument.
     Inval = 22,
     /// The file would grow too large.
     Fbig = 27,
     /// No space is left.
     Nospc = 28,
-    /// A file system that is only read.
+    /// The file system is read-only.
     Rofs = 30,
     /// Too many hard links.
     Mlink = 31,
@@ -43,23 +43,23 @@ pub enum Status {
     Notempty = 66,
     /// The quota is used up.
     Dquot = 69,
-    /// The file of the handle is gone.
+    /// The file of the handle no longer exists.
     Stale = 70,
     /// Too many levels of remote in a path.
     Remote = 71,
-    /// The handle was never given.
+    /// The handle is invalid.
     Badhandle = 10001,
-    /// The guard is not the change time.
+    /// The guard of SETATTR differs from the change time.
     NotSync = 10002,
-    /// The cookie is not of this directory.
+    /// The cookie is stale.
     BadCookie = 10003,
     /// Not supported.
     Notsupp = 10004,
     /// The count is too small for an entry.
     Toosmall = 10005,
-    /// An error with no status of its own.
+    /// An error that no other status describes.
     Serverfault = 10006,
-    /// No such type of file here.
+    /// The server does not support files of this type.
     Badtype = 10007,
     /// Try again later.
     Jukebox = 10008,

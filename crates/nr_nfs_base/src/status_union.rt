@@ -1,5 +1,7 @@
-//! What a procedure answers.
+//! Unions over a status.
 
+ghost use Rattle.nr_nfs_base.specs.Codec.{Answers, arm_value};
+ghost use Rattle.nr_nfs_base.specs.declared.status_union.StatusUnion.TheVariants.{Done, Failed};
 ghost use Rattle.nr_nfs_base.specs.StatusUnion.{status_tag_number, status_tags, each_status_tag, status_union_codec, status_union_lawful};
 
 use crate::fault::ValueFault;
@@ -9,9 +11,8 @@ use crate::xdr::Xdr;
 use nr_xdr::{Memory, Reader, Writer};
 use std::alloc::Global;
 
-/// The answer of a procedure: what it gives where nothing failed, or why it failed and what goes with a failure
-/// (RFC 1813 section 3.3, the unions over `nfsstat3`; section 5.2.1, that over `mountstat3`).
-#[derive(Debug, Drop)]
+/// The results of a procedure: one part on success, or the status of a failure and another part (RFC 1813 section 3.3, the unions over `nfsstat3`; section 5.2.1, that over `mountstat3`).
+#[derive(Drop)]
 pub enum StatusUnion<D, F, S = Status> {
     /// Status 0.
     Done(D),
@@ -19,7 +20,7 @@ pub enum StatusUnion<D, F, S = Status> {
     Failed { status: S, part: F },
 }
 
-/// A status word: 0 where nothing failed, which is `None`, else the number of the failure.
+/// A status: `None` is 0, which means success, and `Some` is the number of a failure.
 impl<S: Failure> Numbered for Option<S> {
     ghost number = { status_tag_number S.number };
 
@@ -57,14 +58,8 @@ impl<D: Xdr, F: Xdr, S: Failure> Xdr for StatusUnion<D, F, S> {
     ) -> Result<(StatusUnion<D, F, S>, Reader<'a>), ValueFault> {
         let (tag, reader) = read_numbered::<Option<S>>(alloc, reader)?;
         match tag {
-            None => {
-                let (done, reader) = D::read_from(alloc, reader)?;
-                Ok((StatusUnion::Done(done), reader))
-            }
-            Some(status) => {
-                let (part, reader) = F::read_from(alloc, reader)?;
-                Ok((StatusUnion::Failed { status, part }, reader))
-            }
+            None => read_done(alloc, reader),
+            Some(status) => read_failed(alloc, status, reader),
         }
     }
 
@@ -80,4 +75,27 @@ impl<D: Xdr, F: Xdr, S: Failure> Xdr for StatusUnion<D, F, S> {
             }
         }
     }
+}
+
+/// Reads the part behind the status 0.
+fn read_done<'a, D: Xdr, F: Xdr, S: Failure>(
+    alloc: Global,
+    reader: Reader<'a>,
+) -> Result<(StatusUnion<D, F, S>, Reader<'a>), ValueFault>
+    ensures { Answers result (arm_value Done (D.codec.read reader.entry)) }
+{
+    let (done, reader) = D::read_from(alloc, reader)?;
+    Ok((StatusUnion::Done(done), reader))
+}
+
+/// Reads the part behind another status.
+fn read_failed<'a, D: Xdr, F: Xdr, S: Failure>(
+    alloc: Global,
+    status: S,
+    reader: Reader<'a>,
+) -> Result<(StatusUnion<D, F, S>, Reader<'a>), ValueFault>
+    ensures { Answers result (arm_value (Failed status) (F.codec.read reader.entry)) }
+{
+    let (part, reader) = F::read_from(alloc, reader)?;
+    Ok((StatusUnion::Failed { status, part }, reader))
 }

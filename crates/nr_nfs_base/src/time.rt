@@ -1,29 +1,29 @@
-//! A moment.
+//! Times.
 
 ghost use Rattle.nr_nfs_base.specs.Time.{time_codec, time_lawful};
 
 use crate::fault::ValueFault;
+use crate::pair::write_two;
 use crate::xdr::Xdr;
 use nr_xdr::{Memory, Reader, Writer};
 use std::alloc::Global;
 
-/// A moment: seconds and nanoseconds since the start of 1970 (RFC 1813 section 2.5, `nfstime3`).
-#[derive(Clone, Copy, Debug, PartialEq, Eq)]
+/// A time: seconds and nanoseconds since the start of 1970 (RFC 1813 section 2.5, `nfstime3`).
+#[derive(Clone, Copy)]
 pub struct Time {
     pub seconds: u32,
-    /// Any number: only a server refuses one of 10^9 or more.
+    /// Any number is read and written. A server refuses 10^9 and more.
     pub nanoseconds: u32,
 }
 
-#[tactic(auto, using(crate::proofs::Puts::puts_both), unfolding(crate::specs::Time::time_codec))]
+#[tactic(auto, unfolding(crate::specs::Time::time_codec))]
 impl Xdr for Time {
     ghost codec = { time_codec };
 
     ghost lawful = { time_lawful };
 
     fn read_from<'a>(alloc: Global, reader: Reader<'a>) -> Result<(Time, Reader<'a>), ValueFault> {
-        let (seconds, reader) = u32::read_from(alloc, reader)?;
-        let (nanoseconds, reader) = u32::read_from(alloc, reader)?;
+        let ((seconds, nanoseconds), reader) = <(u32, u32)>::read_from(alloc, reader)?;
         Ok((
             Time {
                 seconds,
@@ -34,8 +34,6 @@ impl Xdr for Time {
     }
 
     fn write_to(&self, writer: Writer) -> Result<Writer, Memory> {
-        let writer = self.seconds.write_to(writer)?;
-        let writer = self.nanoseconds.write_to(writer)?;
-        Ok(writer)
+        write_two(&self.seconds, &self.nanoseconds, writer)
     }
 }

@@ -1,4 +1,4 @@
-//! A verifier.
+//! Verifiers.
 
 ghost use Rattle.nr_nfs_base.specs.Verifier.{verifier_codec, verifier_lawful};
 
@@ -7,9 +7,9 @@ use crate::xdr::Xdr;
 use nr_xdr::{Memory, Reader, Writer};
 use std::alloc::Global;
 
-/// Eight opaque bytes by which a server knows its own state, or a client its own call (RFC 1813 section 2.5, `writeverf3`,
-/// `cookieverf3` and `createverf3`), kept as the number that they encode, the first byte the highest.
-#[derive(Clone, Copy, Debug, PartialEq, Eq)]
+/// Eight opaque bytes by which a server recognizes its own earlier state, or a repeated call (RFC 1813 section 2.5,
+/// `writeverf3`, `cookieverf3` and `createverf3`). They are kept as a big-endian number.
+#[derive(Clone, Copy)]
 pub struct Verifier {
     pub number: u64,
 }

@@ -1,16 +1,17 @@
-//! What a client needs to know of a file before and after a call.
+//! Weak cache consistency.
 
 ghost use Rattle.nr_nfs_base.specs.WeakCache.{wcc_attributes_codec, wcc_attributes_lawful, wcc_data_codec, wcc_data_lawful};
 
 use crate::attributes::Attributes;
 use crate::fault::ValueFault;
+use crate::pair::{write_three, write_two};
 use crate::time::Time;
 use crate::xdr::Xdr;
 use nr_xdr::{Memory, Reader, Writer};
 use std::alloc::Global;
 
-/// What tells whether a cached file is still the same (RFC 1813 section 2.5, `wcc_attr`).
-#[derive(Clone, Copy, Debug, PartialEq, Eq)]
+/// The attributes by which a client sees that a cached file has changed (RFC 1813 section 2.5, `wcc_attr`).
+#[derive(Clone, Copy)]
 pub struct WccAttributes {
     /// In bytes.
     pub size: u64,
@@ -18,7 +19,7 @@ pub struct WccAttributes {
     pub ctime: Time,
 }
 
-#[tactic(auto, using(crate::proofs::Puts::puts_both), unfolding(crate::specs::WeakCache::wcc_attributes_codec))]
+#[tactic(auto, unfolding(crate::specs::WeakCache::wcc_attributes_codec))]
 impl Xdr for WccAttributes {
     ghost codec = { wcc_attributes_codec };
 
@@ -28,28 +29,23 @@ impl Xdr for WccAttributes {
         alloc: Global,
         reader: Reader<'a>,
     ) -> Result<(WccAttributes, Reader<'a>), ValueFault> {
-        let (size, reader) = u64::read_from(alloc, reader)?;
-        let (mtime, reader) = Time::read_from(alloc, reader)?;
-        let (ctime, reader) = Time::read_from(alloc, reader)?;
+        let ((size, (mtime, ctime)), reader) = <(u64, (Time, Time))>::read_from(alloc, reader)?;
         Ok((WccAttributes { size, mtime, ctime }, reader))
     }
 
     fn write_to(&self, writer: Writer) -> Result<Writer, Memory> {
-        let writer = self.size.write_to(writer)?;
-        let writer = self.mtime.write_to(writer)?;
-        let writer = self.ctime.write_to(writer)?;
-        Ok(writer)
+        write_three(&self.size, &self.mtime, &self.ctime, writer)
     }
 }
 
 /// A file before and after a call that may change it (RFC 1813 section 2.5, `wcc_data`).
-#[derive(Clone, Copy, Debug, PartialEq, Eq)]
+#[derive(Clone, Copy)]
 pub struct WccData {
     pub before: Option<WccAttributes>,
     pub after: Option<Attributes>,
 }
 
-#[tactic(auto, using(crate::proofs::Puts::puts_both), unfolding(crate::specs::WeakCache::wcc_data_codec))]
+#[tactic(auto, unfolding(crate::specs::WeakCache::wcc_data_codec))]
 impl Xdr for WccData {
     ghost codec = { wcc_data_codec };
 
@@ -59,14 +55,13 @@ impl Xdr for WccData {
         alloc: Global,
         reader: Reader<'a>,
     ) -> Result<(WccData, Reader<'a>), ValueFault> {
-        let (before, reader) = Option::<WccAttributes>::read_from(alloc, reader)?;
-        let (after, reader) = Option::<Attributes>::read_from(alloc, reader)?;
+        let ((before, after), reader) = <(Option<WccAttributes>, Option<Attributes>)>::read_from(
+            alloc, reader,
+        )?;
         Ok((WccData { before, after }, reader))
     }
 
     fn write_to(&self, writer: Writer) -> Result<Writer, Memory> {
-        let writer = self.before.write_to(writer)?;
-        let writer = self.after.write_to(writer)?;
-        Ok(writer)
+        write_two(&self.before, &self.after, writer)
     }
 }

@@ -1,7 +1,8 @@
-//! The scheme by which every value is read and written.
+//! The trait of all values that are read and written.
 
 ghost use Rattle.std.specs.Prelude.{◌≡◌, IfOk, MatchResult};
-ghost use Rattle.nr_nfs_base.specs.Codec.{Codec, Lawful, Answers, Writes, ReadsAs, read_all, encoded};
+ghost use Rattle.nr_nfs_base.specs.Codec.{Codec, Lawful, Answers, AppendsValue, ReadsAs, read_all};
+ghost use Rattle.nr_xdr.specs.Items.{encodings};
 ghost use Rattle.nr_nfs_base.specs.declared.fault.ValueFault.TheVariants.{Memory as memory};
 
 use crate::fault::ValueFault;
@@ -10,10 +11,10 @@ use std::alloc::Global;
 
 /// A value that is encoded as items of XDR (RFC 4506).
 ///
-/// A type gives its codec, the two steps for a value that stands among others, and the law. `read` and `write` are the
-/// calls for a value that stands alone. Pad bytes are read as any bytes and written as zeros.
+/// An implementation gives the codec, reading and writing of a value among others, and the law. `read` and `write` are for
+/// a value that stands alone. Pad bytes may have any value when read, and are written as zeros.
 pub trait Xdr: Drop {
-    /// The items that encode a value, which values are within the limits of the type, and what is read at a place.
+    /// The items that encode a value, whether a value is within the limits of the type, and what is read at a place.
     ghost codec: { Codec Self };
 
     /// The value at the reader's place, and the reader behind it. `Bad` at the first item that fails, in bytes from
@@ -21,12 +22,11 @@ pub trait Xdr: Drop {
     fn read_from<'a>(alloc: Global, reader: Reader<'a>) -> Result<(Self, Reader<'a>), ValueFault>
         ensures exact { Answers result (codec.read reader.entry) };
 
-    /// The writer with the value behind what it has: the items that encode it, each within its limits.
+    /// Appends the items that encode the value, each of which is within its limits.
     fn write_to(&self, writer: Writer) -> Result<Writer, Memory>
-        ensures ok { IfOk result (Writes codec writer self.now) };
+        ensures ok { IfOk result (AppendsValue codec writer self.now) };
 
-    /// What is read as a value are the items that encode it, whatever their pad bytes are, and what are those items is
-    /// read as the value.
+    /// Reading and encoding are inverse, whatever the pad bytes are.
     ghost lawful: { Lawful codec };
 
     /// The value that all of the bytes are read as, whatever their pad bytes are. `Bad` at the first item that fails, or
@@ -44,10 +44,10 @@ pub trait Xdr: Drop {
 
     /// The bytes of the value.
     final fn write(&self, alloc: Global) -> Result<Octets, Memory>
-        // The one encoding of the value.
-        ensures encoded { IfOk result (λ bytes. bytes ≡ encoded (codec.items self.now)) }
-        // The bytes are read as the value again.
-        ensures again { IfOk result (λ bytes. ReadsAs codec self.now bytes) }
+        // The bytes are the one encoding of the value.
+        ensures encoding { IfOk result (λ bytes. bytes ≡ encodings (codec.items self.now)) }
+        // The bytes are read as the value.
+        ensures reading { IfOk result (λ bytes. ReadsAs codec self.now bytes) }
     {
         Ok(self.write_to(Writer::new(alloc))?.finish())
     }

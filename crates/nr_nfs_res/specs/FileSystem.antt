@@ -1,17 +1,17 @@
 -- Results about a file system.
 use Rattle.std.proofs.Common.{refl}
 use Rattle.nr_nfs_base.specs.Attributes.{attributes_codec, attributes_lawful}
-use Rattle.nr_nfs_base.specs.Codec.{Codec, Lawful, word, hyper, boolean, ◌⊗◌, ◌&◌, via, optional}
-use Rattle.nr_nfs_base.specs.Laws.{word_lawful, hyper_lawful, boolean_lawful, ◌⊠◌, via_lawful, optional_lawful}
+use Rattle.nr_nfs_base.specs.Codec.{Codec, Lawful, word, hyper, boolean, ◌⊗◌, ◌&◌, structure, optional}
+use Rattle.nr_nfs_base.specs.Laws.{word_lawful, hyper_lawful, boolean_lawful, ◌⊠◌, structure_lawful, optional_lawful}
 use Rattle.nr_nfs_base.specs.Time.{time_codec, time_lawful}
 use Rattle.nr_nfs_res.specs.declared.file_system.FsinfoOk.{FsinfoOk}
 use Rattle.nr_nfs_res.specs.declared.file_system.FsstatOk.{FsstatOk}
 use Rattle.nr_nfs_res.specs.declared.file_system.PathconfOk.{PathconfOk}
 
--- what FSSTAT gives (RFC 1813 section 3.3.18)
+-- the results of FSSTAT on success (RFC 1813 section 3.3.18)
 unfoldable pub fsstat_ok_codec : Codec FsstatOk
 fsstat_ok_codec =
-    via (λ p. record {
+    structure (λ p. record {
       attributes = p.0;
       tbytes = p.1.0;
       fbytes = p.1.1.0;
@@ -27,14 +27,14 @@ fsstat_ok_codec =
 pub fsstat_ok_lawful : Lawful fsstat_ok_codec
 unfolding fsstat_ok_codec
 fsstat_ok_lawful =
-    via_lawful _ _ _ (λ _. refl) (λ _. refl)
+    structure_lawful _ _ _ (λ _. refl) (λ _. refl)
     ((optional_lawful _ attributes_lawful) ⊠ hyper_lawful ⊠ hyper_lawful ⊠ hyper_lawful ⊠ hyper_lawful
     ⊠ hyper_lawful ⊠ hyper_lawful ⊠ word_lawful)
 
--- what FSINFO gives (RFC 1813 section 3.3.19)
+-- the results of FSINFO on success (RFC 1813 section 3.3.19)
 unfoldable pub fsinfo_ok_codec : Codec FsinfoOk
 fsinfo_ok_codec =
-    via (λ p. record {
+    structure (λ p. record {
       attributes = p.0;
       rtmax = p.1.0;
       rtpref = p.1.1.0;
@@ -55,14 +55,14 @@ fsinfo_ok_codec =
 pub fsinfo_ok_lawful : Lawful fsinfo_ok_codec
 unfolding fsinfo_ok_codec
 fsinfo_ok_lawful =
-    via_lawful _ _ _ (λ _. refl) (λ _. refl)
+    structure_lawful _ _ _ (λ _. refl) (λ _. refl)
     ((optional_lawful _ attributes_lawful) ⊠ word_lawful ⊠ word_lawful ⊠ word_lawful ⊠ word_lawful
     ⊠ word_lawful ⊠ word_lawful ⊠ word_lawful ⊠ hyper_lawful ⊠ time_lawful ⊠ word_lawful)
 
--- what PATHCONF gives (RFC 1813 section 3.3.20)
+-- the results of PATHCONF on success (RFC 1813 section 3.3.20)
 unfoldable pub pathconf_ok_codec : Codec PathconfOk
 pathconf_ok_codec =
-    via (λ p. record {
+    structure (λ p. record {
       attributes = p.0;
       linkmax = p.1.0;
       name_max = p.1.1.0;
@@ -78,6 +78,6 @@ pathconf_ok_codec =
 pub pathconf_ok_lawful : Lawful pathconf_ok_codec
 unfolding pathconf_ok_codec
 pathconf_ok_lawful =
-    via_lawful _ _ _ (λ _. refl) (λ _. refl)
+    structure_lawful _ _ _ (λ _. refl) (λ _. refl)
     ((optional_lawful _ attributes_lawful) ⊠ word_lawful ⊠ word_lawful ⊠ boolean_lawful ⊠ boolean_lawful
     ⊠ boolean_lawful ⊠ boolean_lawful)

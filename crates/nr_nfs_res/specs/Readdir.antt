@@ -1,8 +1,8 @@
 -- Results of the calls that list directories.
 use Rattle.std.proofs.Common.{refl}
 use Rattle.nr_nfs_base.specs.Attributes.{attributes_codec, attributes_lawful}
-use Rattle.nr_nfs_base.specs.Codec.{Codec, Lawful, hyper, boolean, ◌⊗◌, ◌&◌, via, optional, linked_list}
-use Rattle.nr_nfs_base.specs.Laws.{hyper_lawful, boolean_lawful, ◌⊠◌, via_lawful, optional_lawful, linked_list_lawful}
+use Rattle.nr_nfs_base.specs.Codec.{Codec, Lawful, hyper, boolean, ◌⊗◌, ◌&◌, structure, optional, linked_list}
+use Rattle.nr_nfs_base.specs.Laws.{hyper_lawful, boolean_lawful, ◌⊠◌, structure_lawful, optional_lawful, linked_list_lawful}
 use Rattle.nr_nfs_base.specs.Names.{handle_codec, handle_lawful, text_codec, text_lawful}
 use Rattle.nr_nfs_base.specs.Verifier.{verifier_codec, verifier_lawful}
 use Rattle.nr_nfs_res.specs.declared.readdir.Entry.{Entry}
@@ -13,34 +13,34 @@ use Rattle.nr_nfs_res.specs.declared.readdir.ReaddirplusOk.{ReaddirplusOk}
 -- an entry of a directory (RFC 1813 section 3.3.16, entry3)
 unfoldable pub entry_codec : Codec Entry
 entry_codec =
-    via (λ p. record { fileid = p.0; name = p.1.0; cookie = p.1.1 })
+    structure (λ p. record { fileid = p.0; name = p.1.0; cookie = p.1.1 })
     (λ v. v.fileid & v.name & v.cookie)
     (hyper ⊗ text_codec ⊗ hyper)
 
 pub entry_lawful : Lawful entry_codec
 unfolding entry_codec
 entry_lawful =
-    via_lawful _ _ _ (λ _. refl) (λ _. refl)
+    structure_lawful _ _ _ (λ _. refl) (λ _. refl)
     (hyper_lawful ⊠ text_lawful ⊠ hyper_lawful)
 
--- what READDIR gives (RFC 1813 section 3.3.16)
+-- the results of READDIR on success (RFC 1813 section 3.3.16)
 unfoldable pub readdir_ok_codec : Codec ReaddirOk
 readdir_ok_codec =
-    via (λ p. record { dir_attributes = p.0; verifier = p.1.0; entries = p.1.1.0; eof = p.1.1.1 })
+    structure (λ p. record { dir_attributes = p.0; verifier = p.1.0; entries = p.1.1.0; eof = p.1.1.1 })
     (λ v. v.dir_attributes & v.verifier & v.entries & v.eof)
     ((optional attributes_codec) ⊗ verifier_codec ⊗ (linked_list entry_codec) ⊗ boolean)
 
 pub readdir_ok_lawful : Lawful readdir_ok_codec
 unfolding readdir_ok_codec
 readdir_ok_lawful =
-    via_lawful _ _ _ (λ _. refl) (λ _. refl)
+    structure_lawful _ _ _ (λ _. refl) (λ _. refl)
     ((optional_lawful _ attributes_lawful) ⊠ verifier_lawful ⊠ (linked_list_lawful _ entry_lawful)
     ⊠ boolean_lawful)
 
 -- an entry of a directory and what it names (RFC 1813 section 3.3.17, entryplus3)
 unfoldable pub entry_plus_codec : Codec EntryPlus
 entry_plus_codec =
-    via (λ p. record {
+    structure (λ p. record {
       fileid = p.0;
       name = p.1.0;
       cookie = p.1.1.0;
@@ -53,20 +53,20 @@ entry_plus_codec =
 pub entry_plus_lawful : Lawful entry_plus_codec
 unfolding entry_plus_codec
 entry_plus_lawful =
-    via_lawful _ _ _ (λ _. refl) (λ _. refl)
+    structure_lawful _ _ _ (λ _. refl) (λ _. refl)
     (hyper_lawful ⊠ text_lawful ⊠ hyper_lawful ⊠ (optional_lawful _ attributes_lawful)
     ⊠ (optional_lawful _ handle_lawful))
 
--- what READDIRPLUS gives (RFC 1813 section 3.3.17)
+-- the results of READDIRPLUS on success (RFC 1813 section 3.3.17)
 unfoldable pub readdirplus_ok_codec : Codec ReaddirplusOk
 readdirplus_ok_codec =
-    via (λ p. record { dir_attributes = p.0; verifier = p.1.0; entries = p.1.1.0; eof = p.1.1.1 })
+    structure (λ p. record { dir_attributes = p.0; verifier = p.1.0; entries = p.1.1.0; eof = p.1.1.1 })
     (λ v. v.dir_attributes & v.verifier & v.entries & v.eof)
     ((optional attributes_codec) ⊗ verifier_codec ⊗ (linked_list entry_plus_codec) ⊗ boolean)
 
 pub readdirplus_ok_lawful : Lawful readdirplus_ok_codec
 unfolding readdirplus_ok_codec
 readdirplus_ok_lawful =
-    via_lawful _ _ _ (λ _. refl) (λ _. refl)
+    structure_lawful _ _ _ (λ _. refl) (λ _. refl)
     ((optional_lawful _ attributes_lawful) ⊠ verifier_lawful ⊠ (linked_list_lawful _ entry_plus_lawful)
     ⊠ boolean_lawful)

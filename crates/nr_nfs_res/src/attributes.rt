@@ -2,7 +2,7 @@
 
 ghost use Rattle.nr_nfs_res.specs.Attributes.{access_ok_codec, access_ok_lawful};
 
-use nr_nfs_base::{Attributes, StatusUnion, ValueFault, WccData, Xdr};
+use nr_nfs_base::{Attributes, StatusUnion, ValueFault, WccData, Xdr, write_two};
 use nr_xdr::{Memory, Reader, Writer};
 use std::alloc::Global;
 
@@ -12,15 +12,15 @@ pub type SetattrRes = StatusUnion<WccData, WccData>;
 /// The results of GETATTR (RFC 1813 section 3.3.1).
 pub type GetattrRes = StatusUnion<Attributes, ()>;
 
-/// What ACCESS gives (RFC 1813 section 3.3.4).
-#[derive(Clone, Copy, Debug, PartialEq, Eq)]
+/// The results of ACCESS on success (RFC 1813 section 3.3.4).
+#[derive(Clone, Copy)]
 pub struct AccessOk {
     pub attributes: Option<Attributes>,
     /// A bit for each right that is granted.
     pub access: u32,
 }
 
-#[tactic(auto, using(nr_nfs_base::proofs::Puts::puts_both), unfolding(crate::specs::Attributes::access_ok_codec))]
+#[tactic(auto, unfolding(crate::specs::Attributes::access_ok_codec))]
 impl Xdr for AccessOk {
     ghost codec = { access_ok_codec };
 
@@ -30,15 +30,12 @@ impl Xdr for AccessOk {
         alloc: Global,
         reader: Reader<'a>,
     ) -> Result<(AccessOk, Reader<'a>), ValueFault> {
-        let (attributes, reader) = Option::<Attributes>::read_from(alloc, reader)?;
-        let (access, reader) = u32::read_from(alloc, reader)?;
+        let ((attributes, access), reader) = <(Option<Attributes>, u32)>::read_from(alloc, reader)?;
         Ok((AccessOk { attributes, access }, reader))
     }
 
     fn write_to(&self, writer: Writer) -> Result<Writer, Memory> {
-        let writer = self.attributes.write_to(writer)?;
-        let writer = self.access.write_to(writer)?;
-        Ok(writer)
+        write_two(&self.attributes, &self.access, writer)
     }
 }
 

@@ -2,22 +2,25 @@
 
 ghost use Rattle.nr_nfs_res.specs.Bytes.{commit_ok_codec, commit_ok_lawful, read_ok_codec, read_ok_lawful, write_ok_codec, write_ok_lawful};
 
-use nr_nfs_base::{Attributes, Data, StableHow, StatusUnion, ValueFault, Verifier, WccData, Xdr};
+use nr_nfs_base::{
+    Attributes, Data, ReadOkFront, StableHow, StatusUnion, ValueFault, Verifier, WccData, Xdr,
+    write_four, write_two,
+};
 use nr_xdr::{Memory, Reader, Writer};
 use std::alloc::Global;
 
-/// What READ gives (RFC 1813 section 3.3.6).
-#[derive(Debug, Drop)]
+/// The results of READ on success (RFC 1813 section 3.3.6).
+#[derive(Drop)]
 pub struct ReadOk {
     pub attributes: Option<Attributes>,
     /// In bytes.
     pub count: u32,
-    /// The data ends at or behind the end of the file.
+    /// The data reaches the end of the file.
     pub eof: bool,
-    pub data: Data,
+    pub bytes: Data,
 }
 
-#[tactic(auto, using(nr_nfs_base::proofs::Puts::puts_both), unfolding(crate::specs::Bytes::read_ok_codec))]
+#[tactic(auto, unfolding(crate::specs::Bytes::read_ok_codec))]
 impl Xdr for ReadOk {
     ghost codec = { read_ok_codec };
 
@@ -27,35 +30,30 @@ impl Xdr for ReadOk {
         alloc: Global,
         reader: Reader<'a>,
     ) -> Result<(ReadOk, Reader<'a>), ValueFault> {
-        let (attributes, reader) = Option::<Attributes>::read_from(alloc, reader)?;
-        let (count, reader) = u32::read_from(alloc, reader)?;
-        let (eof, reader) = bool::read_from(alloc, reader)?;
-        let (data, reader) = Data::read_from(alloc, reader)?;
+        let ((front, bytes), reader) = <(ReadOkFront, Data)>::read_from(alloc, reader)?;
+        let (attributes, (count, eof)) = front;
         Ok((
             ReadOk {
                 attributes,
                 count,
                 eof,
-                data,
+                bytes,
             },
             reader,
         ))
     }
 
     fn write_to(&self, writer: Writer) -> Result<Writer, Memory> {
-        let writer = self.attributes.write_to(writer)?;
-        let writer = self.count.write_to(writer)?;
-        let writer = self.eof.write_to(writer)?;
-        let writer = self.data.write_to(writer)?;
-        Ok(writer)
+        let front = (self.attributes, (self.count, self.eof));
+        write_two(&front, &self.bytes, writer)
     }
 }
 
 /// The results of READ (RFC 1813 section 3.3.6).
 pub type ReadRes = StatusUnion<ReadOk, Option<Attributes>>;
 
-/// What WRITE gives (RFC 1813 section 3.3.7).
-#[derive(Clone, Copy, Debug, PartialEq, Eq)]
+/// The results of WRITE on success (RFC 1813 section 3.3.7).
+#[derive(Clone, Copy)]
 pub struct WriteOk {
     pub wcc: WccData,
     /// The bytes that were written.
@@ -64,7 +62,7 @@ pub struct WriteOk {
     pub verifier: Verifier,
 }
 
-#[tactic(auto, using(nr_nfs_base::proofs::Puts::puts_both), unfolding(crate::specs::Bytes::write_ok_codec))]
+#[tactic(auto, unfolding(crate::specs::Bytes::write_ok_codec))]
 impl Xdr for WriteOk {
     ghost codec = { write_ok_codec };
 
@@ -74,10 +72,10 @@ impl Xdr for WriteOk {
         alloc: Global,
         reader: Reader<'a>,
     ) -> Result<(WriteOk, Reader<'a>), ValueFault> {
-        let (wcc, reader) = WccData::read_from(alloc, reader)?;
-        let (count, reader) = u32::read_from(alloc, reader)?;
-        let (committed, reader) = StableHow::read_from(alloc, reader)?;
-        let (verifier, reader) = Verifier::read_from(alloc, reader)?;
+        let ((wcc, (count, (committed, verifier))), reader) = <(
+            WccData,
+            (u32, (StableHow, Verifier)),
+        )>::read_from(alloc, reader)?;
         Ok((
             WriteOk {
                 wcc,
@@ -90,25 +88,27 @@ impl Xdr for WriteOk {
     }
 
     fn write_to(&self, writer: Writer) -> Result<Writer, Memory> {
-        let writer = self.wcc.write_to(writer)?;
-        let writer = self.count.write_to(writer)?;
-        let writer = self.committed.write_to(writer)?;
-        let writer = self.verifier.write_to(writer)?;
-        Ok(writer)
+        write_four(
+            &self.wcc,
+            &self.count,
+            &self.committed,
+            &self.verifier,
+            writer,
+        )
     }
 }
 
 /// The results of WRITE (RFC 1813 section 3.3.7).
 pub type WriteRes = StatusUnion<WriteOk, WccData>;
 
-/// What COMMIT gives (RFC 1813 section 3.3.21).
-#[derive(Clone, Copy, Debug, PartialEq, Eq)]
+/// The results of COMMIT on success (RFC 1813 section 3.3.21).
+#[derive(Clone, Copy)]
 pub struct CommitOk {
     pub wcc: WccData,
     pub verifier: Verifier,
 }
 
-#[tactic(auto, using(nr_nfs_base::proofs::Puts::puts_both), unfolding(crate::specs::Bytes::commit_ok_codec))]
+#[tactic(auto, unfolding(crate::specs::Bytes::commit_ok_codec))]
 impl Xdr for CommitOk {
     ghost codec = { commit_ok_codec };
 
@@ -118,15 +118,12 @@ impl Xdr for CommitOk {
         alloc: Global,
         reader: Reader<'a>,
     ) -> Result<(CommitOk, Reader<'a>), ValueFault> {
-        let (wcc, reader) = WccData::read_from(alloc, reader)?;
-        let (verifier, reader) = Verifier::read_from(alloc, reader)?;
+        let ((wcc, verifier), reader) = <(WccData, Verifier)>::read_from(alloc, reader)?;
         Ok((CommitOk { wcc, verifier }, reader))
     }
 
     fn write_to(&self, writer: Writer) -> Result<Writer, Memory> {
-        let writer = self.wcc.write_to(writer)?;
-        let writer = self.verifier.write_to(writer)?;
-        Ok(writer)
+        write_two(&self.wcc, &self.verifier, writer)
     }
 }
 

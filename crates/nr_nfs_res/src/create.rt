@@ -2,20 +2,20 @@
 
 ghost use Rattle.nr_nfs_res.specs.Create.{create_ok_codec, create_ok_lawful};
 
-use nr_nfs_base::{Attributes, Handle, StatusUnion, ValueFault, WccData, Xdr};
+use nr_nfs_base::{Attributes, Handle, StatusUnion, ValueFault, WccData, Xdr, write_three};
 use nr_xdr::{Memory, Reader, Writer};
 use std::alloc::Global;
 
-/// What a call gives that makes a file (RFC 1813 sections 3.3.8 to 3.3.11).
-#[derive(Debug, Drop)]
+/// The results on success of a call that creates a file (RFC 1813 sections 3.3.8 to 3.3.11).
+#[derive(Drop)]
 pub struct CreateOk {
     pub object: Option<Handle>,
-    /// Those of the object.
+    /// The attributes of the object.
     pub attributes: Option<Attributes>,
     pub dir_wcc: WccData,
 }
 
-#[tactic(auto, using(nr_nfs_base::proofs::Puts::puts_both), unfolding(crate::specs::Create::create_ok_codec))]
+#[tactic(auto, unfolding(crate::specs::Create::create_ok_codec))]
 impl Xdr for CreateOk {
     ghost codec = { create_ok_codec };
 
@@ -25,9 +25,10 @@ impl Xdr for CreateOk {
         alloc: Global,
         reader: Reader<'a>,
     ) -> Result<(CreateOk, Reader<'a>), ValueFault> {
-        let (object, reader) = Option::<Handle>::read_from(alloc, reader)?;
-        let (attributes, reader) = Option::<Attributes>::read_from(alloc, reader)?;
-        let (dir_wcc, reader) = WccData::read_from(alloc, reader)?;
+        let ((object, (attributes, dir_wcc)), reader) = <(
+            Option<Handle>,
+            (Option<Attributes>, WccData),
+        )>::read_from(alloc, reader)?;
         Ok((
             CreateOk {
                 object,
@@ -39,10 +40,7 @@ impl Xdr for CreateOk {
     }
 
     fn write_to(&self, writer: Writer) -> Result<Writer, Memory> {
-        let writer = self.object.write_to(writer)?;
-        let writer = self.attributes.write_to(writer)?;
-        let writer = self.dir_wcc.write_to(writer)?;
-        Ok(writer)
+        write_three(&self.object, &self.attributes, &self.dir_wcc, writer)
     }
 }
 

@@ -6,27 +6,27 @@ use nr_nfs_base::{Attributes, StatusUnion, Time, ValueFault, Xdr};
 use nr_xdr::{Memory, Reader, Writer};
 use std::alloc::Global;
 
-/// What FSSTAT gives (RFC 1813 section 3.3.18).
-#[derive(Clone, Copy, Debug, PartialEq, Eq)]
+/// The results of FSSTAT on success (RFC 1813 section 3.3.18).
+#[derive(Clone, Copy)]
 pub struct FsstatOk {
     pub attributes: Option<Attributes>,
-    /// All bytes.
+    /// The bytes of the file system.
     pub tbytes: u64,
     /// Free bytes.
     pub fbytes: u64,
     /// Free bytes for the caller.
     pub abytes: u64,
-    /// All files.
+    /// The files that the file system has room for.
     pub tfiles: u64,
-    /// Free files.
+    /// The files that may still be created.
     pub ffiles: u64,
-    /// Free files for the caller.
+    /// The files that the caller may still create.
     pub afiles: u64,
-    /// Seconds for which this is not expected to change.
+    /// The seconds for which these numbers are not expected to change.
     pub invarsec: u32,
 }
 
-#[tactic(auto, using(nr_nfs_base::proofs::Puts::puts_both), unfolding(crate::specs::FileSystem::fsstat_ok_codec))]
+#[tactic(auto, unfolding(crate::specs::FileSystem::fsstat_ok_codec))]
 impl Xdr for FsstatOk {
     ghost codec = { fsstat_ok_codec };
 
@@ -36,14 +36,13 @@ impl Xdr for FsstatOk {
         alloc: Global,
         reader: Reader<'a>,
     ) -> Result<(FsstatOk, Reader<'a>), ValueFault> {
-        let (attributes, reader) = Option::<Attributes>::read_from(alloc, reader)?;
-        let (tbytes, reader) = u64::read_from(alloc, reader)?;
-        let (fbytes, reader) = u64::read_from(alloc, reader)?;
-        let (abytes, reader) = u64::read_from(alloc, reader)?;
-        let (tfiles, reader) = u64::read_from(alloc, reader)?;
-        let (ffiles, reader) = u64::read_from(alloc, reader)?;
-        let (afiles, reader) = u64::read_from(alloc, reader)?;
-        let (invarsec, reader) = u32::read_from(alloc, reader)?;
+        let (
+            (attributes, (tbytes, (fbytes, (abytes, (tfiles, (ffiles, (afiles, invarsec))))))),
+            reader,
+        ) = <(
+            Option<Attributes>,
+            (u64, (u64, (u64, (u64, (u64, (u64, u32)))))),
+        )>::read_from(alloc, reader)?;
         let value = FsstatOk {
             attributes,
             tbytes,
@@ -58,23 +57,28 @@ impl Xdr for FsstatOk {
     }
 
     fn write_to(&self, writer: Writer) -> Result<Writer, Memory> {
-        let writer = self.attributes.write_to(writer)?;
-        let writer = self.tbytes.write_to(writer)?;
-        let writer = self.fbytes.write_to(writer)?;
-        let writer = self.abytes.write_to(writer)?;
-        let writer = self.tfiles.write_to(writer)?;
-        let writer = self.ffiles.write_to(writer)?;
-        let writer = self.afiles.write_to(writer)?;
-        let writer = self.invarsec.write_to(writer)?;
-        Ok(writer)
+        let fields = (
+            self.attributes,
+            (
+                self.tbytes,
+                (
+                    self.fbytes,
+                    (
+                        self.abytes,
+                        (self.tfiles, (self.ffiles, (self.afiles, self.invarsec))),
+                    ),
+                ),
+            ),
+        );
+        fields.write_to(writer)
     }
 }
 
 /// The results of FSSTAT (RFC 1813 section 3.3.18).
 pub type FsstatRes = StatusUnion<FsstatOk, Option<Attributes>>;
 
-/// What FSINFO gives (RFC 1813 section 3.3.19).
-#[derive(Clone, Copy, Debug, PartialEq, Eq)]
+/// The results of FSINFO on success (RFC 1813 section 3.3.19).
+#[derive(Clone, Copy)]
 pub struct FsinfoOk {
     pub attributes: Option<Attributes>,
     /// The most bytes of a READ.
@@ -99,7 +103,7 @@ pub struct FsinfoOk {
     pub properties: u32,
 }
 
-#[tactic(auto, using(nr_nfs_base::proofs::Puts::puts_both), unfolding(crate::specs::FileSystem::fsinfo_ok_codec))]
+#[tactic(auto, unfolding(crate::specs::FileSystem::fsinfo_ok_codec))]
 impl Xdr for FsinfoOk {
     ghost codec = { fsinfo_ok_codec };
 
@@ -109,17 +113,34 @@ impl Xdr for FsinfoOk {
         alloc: Global,
         reader: Reader<'a>,
     ) -> Result<(FsinfoOk, Reader<'a>), ValueFault> {
-        let (attributes, reader) = Option::<Attributes>::read_from(alloc, reader)?;
-        let (rtmax, reader) = u32::read_from(alloc, reader)?;
-        let (rtpref, reader) = u32::read_from(alloc, reader)?;
-        let (rtmult, reader) = u32::read_from(alloc, reader)?;
-        let (wtmax, reader) = u32::read_from(alloc, reader)?;
-        let (wtpref, reader) = u32::read_from(alloc, reader)?;
-        let (wtmult, reader) = u32::read_from(alloc, reader)?;
-        let (dtpref, reader) = u32::read_from(alloc, reader)?;
-        let (maxfilesize, reader) = u64::read_from(alloc, reader)?;
-        let (time_delta, reader) = Time::read_from(alloc, reader)?;
-        let (properties, reader) = u32::read_from(alloc, reader)?;
+        let (
+            (
+                attributes,
+                (
+                    rtmax,
+                    (
+                        rtpref,
+                        (
+                            rtmult,
+                            (
+                                wtmax,
+                                (
+                                    wtpref,
+                                    (wtmult, (dtpref, (maxfilesize, (time_delta, properties)))),
+                                ),
+                            ),
+                        ),
+                    ),
+                ),
+            ),
+            reader,
+        ) = <(
+            Option<Attributes>,
+            (
+                u32,
+                (u32, (u32, (u32, (u32, (u32, (u32, (u64, (Time, u32)))))))),
+            ),
+        )>::read_from(alloc, reader)?;
         let value = FsinfoOk {
             attributes,
             rtmax,
@@ -137,41 +158,55 @@ impl Xdr for FsinfoOk {
     }
 
     fn write_to(&self, writer: Writer) -> Result<Writer, Memory> {
-        let writer = self.attributes.write_to(writer)?;
-        let writer = self.rtmax.write_to(writer)?;
-        let writer = self.rtpref.write_to(writer)?;
-        let writer = self.rtmult.write_to(writer)?;
-        let writer = self.wtmax.write_to(writer)?;
-        let writer = self.wtpref.write_to(writer)?;
-        let writer = self.wtmult.write_to(writer)?;
-        let writer = self.dtpref.write_to(writer)?;
-        let writer = self.maxfilesize.write_to(writer)?;
-        let writer = self.time_delta.write_to(writer)?;
-        let writer = self.properties.write_to(writer)?;
-        Ok(writer)
+        let fields = (
+            self.attributes,
+            (
+                self.rtmax,
+                (
+                    self.rtpref,
+                    (
+                        self.rtmult,
+                        (
+                            self.wtmax,
+                            (
+                                self.wtpref,
+                                (
+                                    self.wtmult,
+                                    (
+                                        self.dtpref,
+                                        (self.maxfilesize, (self.time_delta, self.properties)),
+                                    ),
+                                ),
+                            ),
+                        ),
+                    ),
+                ),
+            ),
+        );
+        fields.write_to(writer)
     }
 }
 
 /// The results of FSINFO (RFC 1813 section 3.3.19).
 pub type FsinfoRes = StatusUnion<FsinfoOk, Option<Attributes>>;
 
-/// What PATHCONF gives (RFC 1813 section 3.3.20).
-#[derive(Clone, Copy, Debug, PartialEq, Eq)]
+/// The results of PATHCONF on success (RFC 1813 section 3.3.20).
+#[derive(Clone, Copy)]
 pub struct PathconfOk {
     pub attributes: Option<Attributes>,
     /// The most hard links of a file.
     pub linkmax: u32,
     /// The most bytes of a name.
     pub name_max: u32,
-    /// A longer name is refused, not cut.
+    /// A longer name is refused, not truncated.
     pub no_trunc: bool,
-    /// Only a privileged caller changes owners.
+    /// Only a privileged caller may change owners.
     pub chown_restricted: bool,
     pub case_insensitive: bool,
     pub case_preserving: bool,
 }
 
-#[tactic(auto, using(nr_nfs_base::proofs::Puts::puts_both), unfolding(crate::specs::FileSystem::pathconf_ok_codec))]
+#[tactic(auto, unfolding(crate::specs::FileSystem::pathconf_ok_codec))]
 impl Xdr for PathconfOk {
     ghost codec = { pathconf_ok_codec };
 
@@ -181,13 +216,19 @@ impl Xdr for PathconfOk {
         alloc: Global,
         reader: Reader<'a>,
     ) -> Result<(PathconfOk, Reader<'a>), ValueFault> {
-        let (attributes, reader) = Option::<Attributes>::read_from(alloc, reader)?;
-        let (linkmax, reader) = u32::read_from(alloc, reader)?;
-        let (name_max, reader) = u32::read_from(alloc, reader)?;
-        let (no_trunc, reader) = bool::read_from(alloc, reader)?;
-        let (chown_restricted, reader) = bool::read_from(alloc, reader)?;
-        let (case_insensitive, reader) = bool::read_from(alloc, reader)?;
-        let (case_preserving, reader) = bool::read_from(alloc, reader)?;
+        let (
+            (
+                attributes,
+                (
+                    linkmax,
+                    (name_max, (no_trunc, (chown_restricted, (case_insensitive, case_preserving)))),
+                ),
+            ),
+            reader,
+        ) = <(
+            Option<Attributes>,
+            (u32, (u32, (bool, (bool, (bool, bool))))),
+        )>::read_from(alloc, reader)?;
         let value = PathconfOk {
             attributes,
             linkmax,
@@ -201,14 +242,23 @@ impl Xdr for PathconfOk {
     }
 
     fn write_to(&self, writer: Writer) -> Result<Writer, Memory> {
-        let writer = self.attributes.write_to(writer)?;
-        let writer = self.linkmax.write_to(writer)?;
-        let writer = self.name_max.write_to(writer)?;
-        let writer = self.no_trunc.write_to(writer)?;
-        let writer = self.chown_restricted.write_to(writer)?;
-        let writer = self.case_insensitive.write_to(writer)?;
-        let writer = self.case_preserving.write_to(writer)?;
-        Ok(writer)
+        let fields = (
+            self.attributes,
+            (
+                self.linkmax,
+                (
+                    self.name_max,
+                    (
+                        self.no_trunc,
+                        (
+                            self.chown_restricted,
+                            (self.case_insensitive, self.case_preserving),
+                        ),
+                    ),
+                ),
+            ),
+        );
+        fields.write_to(writer)
     }
 }
 

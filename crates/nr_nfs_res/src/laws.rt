@@ -1,41 +1,61 @@
-//! What the results of each procedure are.
+//! The results of each procedure.
 
+ghost use Rattle.std.specs.Prelude.{◌≡◌, ◌++◌};
+ghost use Rattle.nr_nfs_base.specs.Fronts.{read_res_front, readlink_res_front};
+ghost use Rattle.nr_nfs_base.specs.Names.{text_codec};
 ghost use Rattle.nr_nfs_base.specs.Same.{Same};
-ghost use Rattle.nr_nfs_res.specs.Results.{access_res_codec, commit_res_codec, create_res_codec, fsinfo_res_codec, fsstat_res_codec, getattr_res_codec, link_res_codec, lookup_res_codec, mkdir_res_codec, mknod_res_codec, mnt_res_codec, pathconf_res_codec, read_res_codec, readdir_res_codec, readdirplus_res_codec, readlink_res_codec, remove_res_codec, rename_res_codec, rmdir_res_codec, setattr_res_codec, symlink_res_codec, write_res_codec};
+ghost use Rattle.nr_nfs_base.specs.declared.procedure.MountProcedure.TheVariants as mount;
+ghost use Rattle.nr_nfs_base.specs.declared.procedure.NfsProcedure.TheVariants as nfs;
+ghost use Rattle.nr_nfs_base.specs.declared.status_union.StatusUnion.TheVariants.{Done};
+ghost use Rattle.nr_nfs_res.specs.Results.{before_read_data, before_readlink_path, mount_results_codec, nfs_results_codec, read_res_codec, readlink_res_codec};
+ghost use Rattle.nr_nfs_res.specs.declared.bytes.ReadOk.{ReadOk};
+ghost use Rattle.nr_nfs_res.specs.declared.lookup.ReadlinkOk.{ReadlinkOk};
 
 use crate::attributes::{AccessRes, GetattrRes, SetattrRes};
 use crate::bytes::{CommitRes, ReadRes, WriteRes};
 use crate::create::{CreateRes, MkdirRes, MknodRes, SymlinkRes};
 use crate::file_system::{FsinfoRes, FsstatRes, PathconfRes};
 use crate::lookup::{LookupRes, ReadlinkRes};
-use crate::mount::MntRes;
+use crate::mount::{MntRes, UmntRes, UmntallRes};
+use crate::null::NullRes;
 use crate::readdir::{ReaddirRes, ReaddirplusRes};
 use crate::remove::{LinkRes, RemoveRes, RenameRes, RmdirRes};
 use nr_nfs_base::Xdr;
 
-/// The results of each procedure are read and written as its section of RFC 1813 says (3.3.1 to 3.3.21, and 5.2.1), the
-/// part that goes with a failure too.
+/// The type of this crate for the results of each procedure of NFS (RFC 1813 sections 3.3.0 to 3.3.21) and MOUNT
+/// (sections 5.2.0, 5.2.1, 5.2.3 and 5.2.4) has the codec that the table of the procedures gives.
 pub fn results()
-    ensures of_getattr { Same ⟦<GetattrRes as Xdr>⟧.codec getattr_res_codec }
-    ensures of_setattr { Same ⟦<SetattrRes as Xdr>⟧.codec setattr_res_codec }
-    ensures of_lookup { Same ⟦<LookupRes as Xdr>⟧.codec lookup_res_codec }
-    ensures of_access { Same ⟦<AccessRes as Xdr>⟧.codec access_res_codec }
-    ensures of_readlink { Same ⟦<ReadlinkRes as Xdr>⟧.codec readlink_res_codec }
-    ensures of_read { Same ⟦<ReadRes as Xdr>⟧.codec read_res_codec }
-    ensures of_write { Same ⟦<WriteRes as Xdr>⟧.codec write_res_codec }
-    ensures of_create { Same ⟦<CreateRes as Xdr>⟧.codec create_res_codec }
-    ensures of_mkdir { Same ⟦<MkdirRes as Xdr>⟧.codec mkdir_res_codec }
-    ensures of_symlink { Same ⟦<SymlinkRes as Xdr>⟧.codec symlink_res_codec }
-    ensures of_mknod { Same ⟦<MknodRes as Xdr>⟧.codec mknod_res_codec }
-    ensures of_remove { Same ⟦<RemoveRes as Xdr>⟧.codec remove_res_codec }
-    ensures of_rmdir { Same ⟦<RmdirRes as Xdr>⟧.codec rmdir_res_codec }
-    ensures of_rename { Same ⟦<RenameRes as Xdr>⟧.codec rename_res_codec }
-    ensures of_link { Same ⟦<LinkRes as Xdr>⟧.codec link_res_codec }
-    ensures of_readdir { Same ⟦<ReaddirRes as Xdr>⟧.codec readdir_res_codec }
-    ensures of_readdirplus { Same ⟦<ReaddirplusRes as Xdr>⟧.codec readdirplus_res_codec }
-    ensures of_fsstat { Same ⟦<FsstatRes as Xdr>⟧.codec fsstat_res_codec }
-    ensures of_fsinfo { Same ⟦<FsinfoRes as Xdr>⟧.codec fsinfo_res_codec }
-    ensures of_pathconf { Same ⟦<PathconfRes as Xdr>⟧.codec pathconf_res_codec }
-    ensures of_commit { Same ⟦<CommitRes as Xdr>⟧.codec commit_res_codec }
-    ensures of_mnt { Same ⟦<MntRes as Xdr>⟧.codec mnt_res_codec }
+    ensures nfs_null { Same ⟦<NullRes as Xdr>⟧.codec (nfs_results_codec nfs.Null) }
+    ensures nfs_getattr { Same ⟦<GetattrRes as Xdr>⟧.codec (nfs_results_codec nfs.Getattr) }
+    ensures nfs_setattr { Same ⟦<SetattrRes as Xdr>⟧.codec (nfs_results_codec nfs.Setattr) }
+    ensures nfs_lookup { Same ⟦<LookupRes as Xdr>⟧.codec (nfs_results_codec nfs.Lookup) }
+    ensures nfs_access { Same ⟦<AccessRes as Xdr>⟧.codec (nfs_results_codec nfs.Access) }
+    ensures nfs_readlink { Same ⟦<ReadlinkRes as Xdr>⟧.codec (nfs_results_codec nfs.Readlink) }
+    ensures nfs_read { Same ⟦<ReadRes as Xdr>⟧.codec (nfs_results_codec nfs.Read) }
+    ensures nfs_write { Same ⟦<WriteRes as Xdr>⟧.codec (nfs_results_codec nfs.Write) }
+    ensures nfs_create { Same ⟦<CreateRes as Xdr>⟧.codec (nfs_results_codec nfs.Create) }
+    ensures nfs_mkdir { Same ⟦<MkdirRes as Xdr>⟧.codec (nfs_results_codec nfs.Mkdir) }
+    ensures nfs_symlink { Same ⟦<SymlinkRes as Xdr>⟧.codec (nfs_results_codec nfs.Symlink) }
+    ensures nfs_mknod { Same ⟦<MknodRes as Xdr>⟧.codec (nfs_results_codec nfs.Mknod) }
+    ensures nfs_remove { Same ⟦<RemoveRes as Xdr>⟧.codec (nfs_results_codec nfs.Remove) }
+    ensures nfs_rmdir { Same ⟦<RmdirRes as Xdr>⟧.codec (nfs_results_codec nfs.Rmdir) }
+    ensures nfs_rename { Same ⟦<RenameRes as Xdr>⟧.codec (nfs_results_codec nfs.Rename) }
+    ensures nfs_link { Same ⟦<LinkRes as Xdr>⟧.codec (nfs_results_codec nfs.Link) }
+    ensures nfs_readdir { Same ⟦<ReaddirRes as Xdr>⟧.codec (nfs_results_codec nfs.Readdir) }
+    ensures nfs_readdirplus { Same ⟦<ReaddirplusRes as Xdr>⟧.codec (nfs_results_codec nfs.Readdirplus) }
+    ensures nfs_fsstat { Same ⟦<FsstatRes as Xdr>⟧.codec (nfs_results_codec nfs.Fsstat) }
+    ensures nfs_fsinfo { Same ⟦<FsinfoRes as Xdr>⟧.codec (nfs_results_codec nfs.Fsinfo) }
+    ensures nfs_pathconf { Same ⟦<PathconfRes as Xdr>⟧.codec (nfs_results_codec nfs.Pathconf) }
+    ensures nfs_commit { Same ⟦<CommitRes as Xdr>⟧.codec (nfs_results_codec nfs.Commit) }
+    ensures mount_null { Same ⟦<NullRes as Xdr>⟧.codec (mount_results_codec mount.Null) }
+    ensures mount_mnt { Same ⟦<MntRes as Xdr>⟧.codec (mount_results_codec mount.Mnt) }
+    ensures mount_umnt { Same ⟦<UmntRes as Xdr>⟧.codec (mount_results_codec mount.Umnt) }
+    ensures mount_umntall { Same ⟦<UmntallRes as Xdr>⟧.codec (mount_results_codec mount.Umntall) }
+{}
+
+/// The results of a READ and of a READLINK that succeeded are the status 0 and the fields before the data or the path, which
+/// `skip_to_read_data` and `skip_to_readlink_path` of `nr_nfs_base` skip, and then the data or the path.
+pub fn fronts_of_results()
+    ensures read { (v : ReadOk) → read_res_codec.items (Done v) ≡ read_res_front.items (before_read_data v) ++ text_codec.items v.bytes }
+    ensures readlink { (v : ReadlinkOk) → readlink_res_codec.items (Done v) ≡ readlink_res_front.items (before_readlink_path v) ++ text_codec.items v.path }
 {}

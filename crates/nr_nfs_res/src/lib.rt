@@ -1,9 +1,12 @@
-//! The results of the 22 procedures of NFS version 3, and of MOUNT version 3 (RFC 1813).
+//! The results of the 22 procedures of NFS version 3, and of those of MOUNT version 3 (RFC 1813).
 //!
-//! A type for each procedure: an `StatusUnion` of what it gives where nothing failed, or of why it failed and what goes with a
-//! failure. All are read and written by the scheme of `nr_nfs_base`, the crate below: the codec of each part stands in
-//! `specs/`, beside the section that it comes from, and that of each whole result in `Results.antt` (`results`). Above stand the crates that execute calls and those that read the
-//! answers. Whether a result is true is theirs to say: here a count need not be the length of the data beside it.
+//! There is a type for each procedure. Most are a `StatusUnion`: the results on success, or the status of a failure with its
+//! own part. All are read and written by the trait `Xdr` of `nr_nfs_base`, the crate below. The codecs stand in `specs/`,
+//! each with its section of the RFC. `specs/Results.antt` is the table of the procedures and the codecs of their results,
+//! and [`results`] says that the types here have these codecs.
+//!
+//! The crates above execute calls and read replies. They decide whether results make sense: here the count of a READ need
+//! not be the length of its data.
 #![tactic(auto)]
 
 mod attributes;
@@ -21,7 +24,7 @@ pub use attributes::{AccessOk, AccessRes, GetattrRes, SetattrRes};
 pub use bytes::{CommitOk, CommitRes, ReadOk, ReadRes, WriteOk, WriteRes};
 pub use create::{CreateOk, CreateRes, MkdirRes, MknodRes, SymlinkRes};
 pub use file_system::{FsinfoOk, FsinfoRes, FsstatOk, FsstatRes, PathconfOk, PathconfRes};
-pub use laws::results;
+pub use laws::{fronts_of_results, results};
 pub use lookup::{LookupOk, LookupRes, ReadlinkOk, ReadlinkRes};
 pub use mount::{MntRes, MountOk, UmntRes, UmntallRes};
 pub use null::NullRes;

@@ -2,20 +2,20 @@
 
 ghost use Rattle.nr_nfs_res.specs.Lookup.{lookup_ok_codec, lookup_ok_lawful, readlink_ok_codec, readlink_ok_lawful};
 
-use nr_nfs_base::{Attributes, Handle, Path, StatusUnion, ValueFault, Xdr};
+use nr_nfs_base::{Attributes, Handle, Path, StatusUnion, ValueFault, Xdr, write_three, write_two};
 use nr_xdr::{Memory, Reader, Writer};
 use std::alloc::Global;
 
-/// What LOOKUP gives (RFC 1813 section 3.3.3).
-#[derive(Debug, Drop)]
+/// The results of LOOKUP on success (RFC 1813 section 3.3.3).
+#[derive(Drop)]
 pub struct LookupOk {
     pub object: Handle,
-    /// Those of the object.
+    /// The attributes of the object.
     pub attributes: Option<Attributes>,
     pub dir_attributes: Option<Attributes>,
 }
 
-#[tactic(auto, using(nr_nfs_base::proofs::Puts::puts_both), unfolding(crate::specs::Lookup::lookup_ok_codec))]
+#[tactic(auto, unfolding(crate::specs::Lookup::lookup_ok_codec))]
 impl Xdr for LookupOk {
     ghost codec = { lookup_ok_codec };
 
@@ -25,9 +25,10 @@ impl Xdr for LookupOk {
         alloc: Global,
         reader: Reader<'a>,
     ) -> Result<(LookupOk, Reader<'a>), ValueFault> {
-        let (object, reader) = Handle::read_from(alloc, reader)?;
-        let (attributes, reader) = Option::<Attributes>::read_from(alloc, reader)?;
-        let (dir_attributes, reader) = Option::<Attributes>::read_from(alloc, reader)?;
+        let ((object, (attributes, dir_attributes)), reader) = <(
+            Handle,
+            (Option<Attributes>, Option<Attributes>),
+        )>::read_from(alloc, reader)?;
         Ok((
             LookupOk {
                 object,
@@ -39,24 +40,21 @@ impl Xdr for LookupOk {
     }
 
     fn write_to(&self, writer: Writer) -> Result<Writer, Memory> {
-        let writer = self.object.write_to(writer)?;
-        let writer = self.attributes.write_to(writer)?;
-        let writer = self.dir_attributes.write_to(writer)?;
-        Ok(writer)
+        write_three(&self.object, &self.attributes, &self.dir_attributes, writer)
     }
 }
 
-/// The results of LOOKUP, the attributes of the directory behind a failure (RFC 1813 section 3.3.3).
+/// The results of LOOKUP. On failure they have the attributes of the directory (RFC 1813 section 3.3.3).
 pub type LookupRes = StatusUnion<LookupOk, Option<Attributes>>;
 
-/// What READLINK gives (RFC 1813 section 3.3.5).
-#[derive(Debug, Drop)]
+/// The results of READLINK on success (RFC 1813 section 3.3.5).
+#[derive(Drop)]
 pub struct ReadlinkOk {
     pub attributes: Option<Attributes>,
     pub path: Path,
 }
 
-#[tactic(auto, using(nr_nfs_base::proofs::Puts::puts_both), unfolding(crate::specs::Lookup::readlink_ok_codec))]
+#[tactic(auto, unfolding(crate::specs::Lookup::readlink_ok_codec))]
 impl Xdr for ReadlinkOk {
     ghost codec = { readlink_ok_codec };
 
@@ -66,15 +64,12 @@ impl Xdr for ReadlinkOk {
         alloc: Global,
         reader: Reader<'a>,
     ) -> Result<(ReadlinkOk, Reader<'a>), ValueFault> {
-        let (attributes, reader) = Option::<Attributes>::read_from(alloc, reader)?;
-        let (path, reader) = Path::read_from(alloc, reader)?;
+        let ((attributes, path), reader) = <(Option<Attributes>, Path)>::read_from(alloc, reader)?;
         Ok((ReadlinkOk { attributes, path }, reader))
     }
 
     fn write_to(&self, writer: Writer) -> Result<Writer, Memory> {
-        let writer = self.attributes.write_to(writer)?;
-        let writer = self.path.write_to(writer)?;
-        Ok(writer)
+        write_two(&self.attributes, &self.path, writer)
     }
 }
 

@@ -2,19 +2,19 @@
 
 ghost use Rattle.nr_nfs_res.specs.Mount.{mount_ok_codec, mount_ok_lawful, umnt_res_codec, umnt_res_lawful, umntall_res_codec, umntall_res_lawful};
 
-use nr_nfs_base::{Array, Handle, MountStatus, StatusUnion, ValueFault, Xdr};
+use nr_nfs_base::{Array, Handle, MountStatus, StatusUnion, ValueFault, Xdr, write_two};
 use nr_xdr::{Memory, Reader, Writer};
 use std::alloc::Global;
 
-/// What MNT gives (RFC 1813 section 5.2.1, `mountres3_ok`).
-#[derive(Debug, Drop)]
+/// The results of MNT on success (RFC 1813 section 5.2.1, `mountres3_ok`).
+#[derive(Drop)]
 pub struct MountOk {
     pub handle: Handle,
-    /// The flavors of credentials that the server takes.
+    /// The flavors of credentials that the server accepts.
     pub flavors: Array<u32>,
 }
 
-#[tactic(auto, using(nr_nfs_base::proofs::Puts::puts_both), unfolding(crate::specs::Mount::mount_ok_codec))]
+#[tactic(auto, unfolding(crate::specs::Mount::mount_ok_codec))]
 impl Xdr for MountOk {
     ghost codec = { mount_ok_codec };
 
@@ -24,23 +24,20 @@ impl Xdr for MountOk {
         alloc: Global,
         reader: Reader<'a>,
     ) -> Result<(MountOk, Reader<'a>), ValueFault> {
-        let (handle, reader) = Handle::read_from(alloc, reader)?;
-        let (flavors, reader) = Array::<u32>::read_from(alloc, reader)?;
+        let ((handle, flavors), reader) = <(Handle, Array<u32>)>::read_from(alloc, reader)?;
         Ok((MountOk { handle, flavors }, reader))
     }
 
     fn write_to(&self, writer: Writer) -> Result<Writer, Memory> {
-        let writer = self.handle.write_to(writer)?;
-        let writer = self.flavors.write_to(writer)?;
-        Ok(writer)
+        write_two(&self.handle, &self.flavors, writer)
     }
 }
 
 /// The results of MNT (RFC 1813 section 5.2.1).
 pub type MntRes = StatusUnion<MountOk, (), MountStatus>;
 
-/// Nothing: UMNT (RFC 1813 section 5.2.3).
-#[derive(Clone, Copy, Debug, PartialEq, Eq)]
+/// The results of UMNT: none (RFC 1813 section 5.2.3).
+#[derive(Clone, Copy)]
 pub struct UmntRes;
 
 #[tactic(auto, unfolding(crate::specs::Mount::umnt_res_codec))]
@@ -61,8 +58,8 @@ impl Xdr for UmntRes {
     }
 }
 
-/// Nothing: UMNTALL (RFC 1813 section 5.2.4).
-#[derive(Clone, Copy, Debug, PartialEq, Eq)]
+/// The results of UMNTALL: none (RFC 1813 section 5.2.4).
+#[derive(Clone, Copy)]
 pub struct UmntallRes;
 
 #[tactic(auto, unfolding(crate::specs::Mount::umntall_res_codec))]

@@ -1,4 +1,4 @@
-//! The calls that give nothing.
+//! NULL.
 
 ghost use Rattle.nr_nfs_res.specs.Null.{null_res_codec, null_res_lawful};
 
@@ -6,8 +6,8 @@ use nr_nfs_base::{ValueFault, Xdr};
 use nr_xdr::{Memory, Reader, Writer};
 use std::alloc::Global;
 
-/// Nothing: NULL of NFS and of MOUNT (RFC 1813 sections 3.3.0 and 5.2.0).
-#[derive(Clone, Copy, Debug, PartialEq, Eq)]
+/// The results of NULL, of NFS and of MOUNT: none (RFC 1813 sections 3.3.0 and 5.2.0).
+#[derive(Clone, Copy)]
 pub struct NullRes;
 
 #[tactic(auto, unfolding(crate::specs::Null::null_res_codec))]

@@ -2,28 +2,29 @@
 
 ghost use Rattle.nr_nfs_res.specs.Readdir.{entry_codec, entry_lawful, entry_plus_codec, entry_plus_lawful, readdir_ok_codec, readdir_ok_lawful, readdirplus_ok_codec, readdirplus_ok_lawful};
 
-use nr_nfs_base::{Attributes, Handle, LinkedList, Name, StatusUnion, ValueFault, Verifier, Xdr};
+use nr_nfs_base::{
+    Attributes, Handle, LinkedList, Name, StatusUnion, ValueFault, Verifier, Xdr, write_four,
+    write_three,
+};
 use nr_xdr::{Memory, Reader, Writer};
 use std::alloc::Global;
 
 /// An entry of a directory (RFC 1813 section 3.3.16, `entry3`).
-#[derive(Debug, Drop)]
+#[derive(Drop)]
 pub struct Entry {
     pub fileid: u64,
     pub name: Name,
     pub cookie: u64,
 }
 
-#[tactic(auto, using(nr_nfs_base::proofs::Puts::puts_both), unfolding(crate::specs::Readdir::entry_codec))]
+#[tactic(auto, unfolding(crate::specs::Readdir::entry_codec))]
 impl Xdr for Entry {
     ghost codec = { entry_codec };
 
     ghost lawful = { entry_lawful };
 
     fn read_from<'a>(alloc: Global, reader: Reader<'a>) -> Result<(Entry, Reader<'a>), ValueFault> {
-        let (fileid, reader) = u64::read_from(alloc, reader)?;
-        let (name, reader) = Name::read_from(alloc, reader)?;
-        let (cookie, reader) = u64::read_from(alloc, reader)?;
+        let ((fileid, (name, cookie)), reader) = <(u64, (Name, u64))>::read_from(alloc, reader)?;
         Ok((
             Entry {
                 fileid,
@@ -35,24 +36,21 @@ impl Xdr for Entry {
     }
 
     fn write_to(&self, writer: Writer) -> Result<Writer, Memory> {
-        let writer = self.fileid.write_to(writer)?;
-        let writer = self.name.write_to(writer)?;
-        let writer = self.cookie.write_to(writer)?;
-        Ok(writer)
+        write_three(&self.fileid, &self.name, &self.cookie, writer)
     }
 }
 
-/// What READDIR gives (RFC 1813 section 3.3.16).
-#[derive(Debug, Drop)]
+/// The results of READDIR on success (RFC 1813 section 3.3.16).
+#[derive(Drop)]
 pub struct ReaddirOk {
     pub dir_attributes: Option<Attributes>,
     pub verifier: Verifier,
     pub entries: LinkedList<Entry>,
-    /// The last entry is among these, or none was left.
+    /// No entry follows these.
     pub eof: bool,
 }
 
-#[tactic(auto, using(nr_nfs_base::proofs::Puts::puts_both), unfolding(crate::specs::Readdir::readdir_ok_codec))]
+#[tactic(auto, unfolding(crate::specs::Readdir::readdir_ok_codec))]
 impl Xdr for ReaddirOk {
     ghost codec = { readdir_ok_codec };
 
@@ -62,10 +60,10 @@ impl Xdr for ReaddirOk {
         alloc: Global,
         reader: Reader<'a>,
     ) -> Result<(ReaddirOk, Reader<'a>), ValueFault> {
-        let (dir_attributes, reader) = Option::<Attributes>::read_from(alloc, reader)?;
-        let (verifier, reader) = Verifier::read_from(alloc, reader)?;
-        let (entries, reader) = LinkedList::<Entry>::read_from(alloc, reader)?;
-        let (eof, reader) = bool::read_from(alloc, reader)?;
+        let ((dir_attributes, (verifier, (entries, eof))), reader) = <(
+            Option<Attributes>,
+            (Verifier, (LinkedList<Entry>, bool)),
+        )>::read_from(alloc, reader)?;
         Ok((
             ReaddirOk {
                 dir_attributes,
@@ -78,11 +76,13 @@ impl Xdr for ReaddirOk {
     }
 
     fn write_to(&self, writer: Writer) -> Result<Writer, Memory> {
-        let writer = self.dir_attributes.write_to(writer)?;
-        let writer = self.verifier.write_to(writer)?;
-        let writer = self.entries.write_to(writer)?;
-        let writer = self.eof.write_to(writer)?;
-        Ok(writer)
+        write_four(
+            &self.dir_attributes,
+            &self.verifier,
+            &self.entries,
+            &self.eof,
+            writer,
+        )
     }
 }
 
@@ -90,7 +90,7 @@ impl Xdr for ReaddirOk {
 pub type ReaddirRes = StatusUnion<ReaddirOk, Option<Attributes>>;
 
 /// An entry of a directory and what it names (RFC 1813 section 3.3.17, `entryplus3`).
-#[derive(Debug, Drop)]
+#[derive(Drop)]
 pub struct EntryPlus {
     pub fileid: u64,
     pub name: Name,
@@ -99,7 +99,7 @@ pub struct EntryPlus {
     pub handle: Option<Handle>,
 }
 
-#[tactic(auto, using(nr_nfs_base::proofs::Puts::puts_both), unfolding(crate::specs::Readdir::entry_plus_codec))]
+#[tactic(auto, unfolding(crate::specs::Readdir::entry_plus_codec))]
 impl Xdr for EntryPlus {
     ghost codec = { entry_plus_codec };
 
@@ -109,11 +109,10 @@ impl Xdr for EntryPlus {
         alloc: Global,
         reader: Reader<'a>,
     ) -> Result<(EntryPlus, Reader<'a>), ValueFault> {
-        let (fileid, reader) = u64::read_from(alloc, reader)?;
-        let (name, reader) = Name::read_from(alloc, reader)?;
-        let (cookie, reader) = u64::read_from(alloc, reader)?;
-        let (attributes, reader) = Option::<Attributes>::read_from(alloc, reader)?;
-        let (handle, reader) = Option::<Handle>::read_from(alloc, reader)?;
+        let ((fileid, (name, (cookie, (attributes, handle)))), reader) = <(
+            u64,
+            (Name, (u64, (Option<Attributes>, Option<Handle>))),
+        )>::read_from(alloc, reader)?;
         let value = EntryPlus {
             fileid,
             name,
@@ -126,25 +125,27 @@ impl Xdr for EntryPlus {
 
     fn write_to(&self, writer: Writer) -> Result<Writer, Memory> {
         let writer = self.fileid.write_to(writer)?;
-        let writer = self.name.write_to(writer)?;
-        let writer = self.cookie.write_to(writer)?;
-        let writer = self.attributes.write_to(writer)?;
-        let writer = self.handle.write_to(writer)?;
-        Ok(writer)
+        write_four(
+            &self.name,
+            &self.cookie,
+            &self.attributes,
+            &self.handle,
+            writer,
+        )
     }
 }
 
-/// What READDIRPLUS gives (RFC 1813 section 3.3.17).
-#[derive(Debug, Drop)]
+/// The results of READDIRPLUS on success (RFC 1813 section 3.3.17).
+#[derive(Drop)]
 pub struct ReaddirplusOk {
     pub dir_attributes: Option<Attributes>,
     pub verifier: Verifier,
     pub entries: LinkedList<EntryPlus>,
-    /// The last entry is among these, or none was left.
+    /// No entry follows these.
     pub eof: bool,
 }
 
-#[tactic(auto, using(nr_nfs_base::proofs::Puts::puts_both), unfolding(crate::specs::Readdir::readdirplus_ok_codec))]
+#[tactic(auto, unfolding(crate::specs::Readdir::readdirplus_ok_codec))]
 impl Xdr for ReaddirplusOk {
     ghost codec = { readdirplus_ok_codec };
 
@@ -154,10 +155,10 @@ impl Xdr for ReaddirplusOk {
         alloc: Global,
         reader: Reader<'a>,
     ) -> Result<(ReaddirplusOk, Reader<'a>), ValueFault> {
-        let (dir_attributes, reader) = Option::<Attributes>::read_from(alloc, reader)?;
-        let (verifier, reader) = Verifier::read_from(alloc, reader)?;
-        let (entries, reader) = LinkedList::<EntryPlus>::read_from(alloc, reader)?;
-        let (eof, reader) = bool::read_from(alloc, reader)?;
+        let ((dir_attributes, (verifier, (entries, eof))), reader) = <(
+            Option<Attributes>,
+            (Verifier, (LinkedList<EntryPlus>, bool)),
+        )>::read_from(alloc, reader)?;
         Ok((
             ReaddirplusOk {
                 dir_attributes,
@@ -170,11 +171,13 @@ impl Xdr for ReaddirplusOk {
     }
 
     fn write_to(&self, writer: Writer) -> Result<Writer, Memory> {
-        let writer = self.dir_attributes.write_to(writer)?;
-        let writer = self.verifier.write_to(writer)?;
-        let writer = self.entries.write_to(writer)?;
-        let writer = self.eof.write_to(writer)?;
-        Ok(writer)
+        write_four(
+            &self.dir_attributes,
+            &self.verifier,
+            &self.entries,
+            &self.eof,
+            writer,
+        )
     }
 }
 

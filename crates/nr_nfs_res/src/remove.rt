@@ -2,7 +2,7 @@
 
 ghost use Rattle.nr_nfs_res.specs.Remove.{link_wcc_codec, link_wcc_lawful, rename_wcc_codec, rename_wcc_lawful};
 
-use nr_nfs_base::{Attributes, StatusUnion, ValueFault, WccData, Xdr};
+use nr_nfs_base::{Attributes, StatusUnion, ValueFault, WccData, Xdr, write_two};
 use nr_xdr::{Memory, Reader, Writer};
 use std::alloc::Global;
 
@@ -13,13 +13,13 @@ pub type RmdirRes = StatusUnion<WccData, WccData>;
 pub type RemoveRes = StatusUnion<WccData, WccData>;
 
 /// The directories of RENAME before and after it (RFC 1813 section 3.3.14).
-#[derive(Clone, Copy, Debug, PartialEq, Eq)]
+#[derive(Clone, Copy)]
 pub struct RenameWcc {
     pub from_dir: WccData,
     pub to_dir: WccData,
 }
 
-#[tactic(auto, using(nr_nfs_base::proofs::Puts::puts_both), unfolding(crate::specs::Remove::rename_wcc_codec))]
+#[tactic(auto, unfolding(crate::specs::Remove::rename_wcc_codec))]
 impl Xdr for RenameWcc {
     ghost codec = { rename_wcc_codec };
 
@@ -29,15 +29,12 @@ impl Xdr for RenameWcc {
         alloc: Global,
         reader: Reader<'a>,
     ) -> Result<(RenameWcc, Reader<'a>), ValueFault> {
-        let (from_dir, reader) = WccData::read_from(alloc, reader)?;
-        let (to_dir, reader) = WccData::read_from(alloc, reader)?;
+        let ((from_dir, to_dir), reader) = <(WccData, WccData)>::read_from(alloc, reader)?;
         Ok((RenameWcc { from_dir, to_dir }, reader))
     }
 
     fn write_to(&self, writer: Writer) -> Result<Writer, Memory> {
-        let writer = self.from_dir.write_to(writer)?;
-        let writer = self.to_dir.write_to(writer)?;
-        Ok(writer)
+        write_two(&self.from_dir, &self.to_dir, writer)
     }
 }
 
@@ -45,14 +42,14 @@ impl Xdr for RenameWcc {
 pub type RenameRes = StatusUnion<RenameWcc, RenameWcc>;
 
 /// The file and the directory of LINK (RFC 1813 section 3.3.15).
-#[derive(Clone, Copy, Debug, PartialEq, Eq)]
+#[derive(Clone, Copy)]
 pub struct LinkWcc {
     /// Those of the file.
     pub attributes: Option<Attributes>,
     pub dir_wcc: WccData,
 }
 
-#[tactic(auto, using(nr_nfs_base::proofs::Puts::puts_both), unfolding(crate::specs::Remove::link_wcc_codec))]
+#[tactic(auto, unfolding(crate::specs::Remove::link_wcc_codec))]
 impl Xdr for LinkWcc {
     ghost codec = { link_wcc_codec };
 
@@ -62,8 +59,9 @@ impl Xdr for LinkWcc {
         alloc: Global,
         reader: Reader<'a>,
     ) -> Result<(LinkWcc, Reader<'a>), ValueFault> {
-        let (attributes, reader) = Option::<Attributes>::read_from(alloc, reader)?;
-        let (dir_wcc, reader) = WccData::read_from(alloc, reader)?;
+        let ((attributes, dir_wcc), reader) = <(Option<Attributes>, WccData)>::read_from(
+            alloc, reader,
+        )?;
         Ok((
             LinkWcc {
                 attributes,
@@ -74,9 +72,7 @@ impl Xdr for LinkWcc {
     }
 
     fn write_to(&self, writer: Writer) -> Result<Writer, Memory> {
-        let writer = self.attributes.write_to(writer)?;
-        let writer = self.dir_wcc.write_to(writer)?;
-        Ok(writer)
+        write_two(&self.attributes, &self.dir_wcc, writer)
     }
 }
 

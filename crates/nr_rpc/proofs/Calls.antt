@@ -4,9 +4,9 @@ use Rattle.std.specs.Prelude.{IfOk}
 use Rattle.std.proofs.lemmas.Bool.{eqb-true, eqb-false, ne_eqb}
 use Rattle.nr_xdr.specs.Item.{Item, IsBytes}
 use Rattle.nr_xdr.specs.Item.Item.{Unsigned}
-use Rattle.nr_xdr.specs.Items.{encodings}
+use Rattle.nr_xdr.specs.Items.{encodings, TakesAll}
 use Rattle.nr_xdr.specs.Reading.{Cursor, Takes}
-use Rattle.nr_xdr.proofs.Chains.{TakesEach, standing, each_takes, each_between, encodings_read, IsBytes-behind, IsBytes-opaque}
+use Rattle.nr_xdr.proofs.Chains.{standing, each_takes, each_between, encodings_read, IsBytes-behind, IsBytes-opaque}
 use Rattle.nr_rpc.specs.Constants.{AUTH_BODY_MAX, RPC_VERSION, CALL}
 use Rattle.nr_rpc.specs.declared.fault.HeadFault.{HeadFault}
 use Rattle.nr_rpc.specs.declared.cred.Cred.{Cred}
@@ -21,7 +21,7 @@ use Rattle.nr_rpc.proofs.Credentials.{cred_takes, cred_again, cred_written, auth
 
 -- a call head that was read
 pub record TakesVersion2 (xid prog vers proc : ℕ) (auth verifier : Auth) (c after : Cursor) : Type 0 where
-  pub each : TakesEach (version2_items xid prog vers proc auth verifier) c after
+  pub each : TakesAll c after (version2_items xid prog vers proc auth verifier)
   pub auth_within : length auth.body ≤ AUTH_BODY_MAX
   pub verifier_within : length verifier.body ≤ AUTH_BODY_MAX
   pub bytes : IsBytes auth.body
@@ -29,10 +29,10 @@ pub record TakesVersion2 (xid prog vers proc : ℕ) (auth verifier : Auth) (c af
 abbrev pub TakesCall : CallHead → Cursor → Cursor → Type 0
 TakesCall (calls.Version2 xid prog vers proc cred args_at) c after =
     (auth : Auth) × (verifier : Auth) × TakesVersion2 xid prog vers proc auth verifier c after × ReadsCred cred auth × (args_at ≡ after.place)
-TakesCall (calls.Other xid rpcvers) c after = (rpcvers ≢ RPC_VERSION) × TakesEach (other_items xid rpcvers) c after
+TakesCall (calls.Other xid rpcvers) c after = (rpcvers ≢ RPC_VERSION) × TakesAll c after (other_items xid rpcvers)
 
 -- the items of a flavor and a body, and those behind them
-auth_each : (auth : Auth) (more : List Item) (c middle after : Cursor) → TakesAuth auth c middle → TakesEach more middle after → TakesEach (auth_items auth more) c after
+auth_each : (auth : Auth) (more : List Item) (c middle after : Cursor) → TakesAuth auth c middle → TakesAll middle after more → TakesAll c after (auth_items auth more)
 auth_each auth more c middle after t others = (t.behind_flavor, t.flavor, (middle, t.body, others))
 
 version2_made : (xid prog vers proc : ℕ) (auth verifier : Auth) (start after : Cursor) (x : CallHead × Cursor) → TakesVersion2 xid prog vers proc auth verifier start after
@@ -78,7 +78,7 @@ call_take c x fits e =
     ]
 
 version2_again : (xid prog vers proc : ℕ) (auth verifier : Auth) (c after : Cursor)
-    → TakesEach (Unsigned prog ∷ (Unsigned vers ∷ (Unsigned proc ∷ auth_items auth (auth_items verifier [])))) c after
+    → TakesAll c after (Unsigned prog ∷ (Unsigned vers ∷ (Unsigned proc ∷ auth_items auth (auth_items verifier []))))
     → length auth.body ≤ AUTH_BODY_MAX → length verifier.body ≤ AUTH_BODY_MAX
     → version2_at xid c ≡ Ok (calls.Version2 xid prog vers proc (cred_of auth) after.place, after)
 unfolding version2_at
@@ -89,7 +89,7 @@ version2_again xid prog vers proc auth verifier c after (d, at_prog, (f, at_vers
     (ap (λ (m : Cursor). Ok (calls.Version2 xid prog vers proc (cred_of auth) m.place, m)) last)
 
 -- a head of version 2 is read where its items are taken
-pub version2_found : (xid prog vers proc : ℕ) (auth verifier : Auth) (c after : Cursor) → TakesEach (version2_items xid prog vers proc auth verifier) c after
+pub version2_found : (xid prog vers proc : ℕ) (auth verifier : Auth) (c after : Cursor) → TakesAll c after (version2_items xid prog vers proc auth verifier)
     → length auth.body ≤ AUTH_BODY_MAX → length verifier.body ≤ AUTH_BODY_MAX
     → call_at c ≡ Ok (calls.Version2 xid prog vers proc (cred_of auth) after.place, after)
 unfolding call_at
@@ -130,7 +130,7 @@ call_begins bytes head fits e =
         (b.bytes, after.rest, (apart, b.reads), b.rest)
 
 -- bytes of a credential are bytes
-auth_bytes : (xid prog vers proc : ℕ) (auth verifier : Auth) (c after : Cursor) → IsBytes c.rest → TakesEach (version2_items xid prog vers proc auth verifier) c after → IsBytes auth.body
+auth_bytes : (xid prog vers proc : ℕ) (auth verifier : Auth) (c after : Cursor) → IsBytes c.rest → TakesAll c after (version2_items xid prog vers proc auth verifier) → IsBytes auth.body
 auth_bytes xid prog vers proc auth verifier c after fits (a, ta, (b, tb, (d, td, (f, tf, (g, tg, (h, th, (i, ti, (j, tj, others)))))))) =
     let fa = IsBytes-behind c a _ ta fits in
     let fb = IsBytes-behind a b _ tb fa in

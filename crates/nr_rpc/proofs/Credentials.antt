@@ -6,9 +6,9 @@ use Rattle.std.proofs.lemmas.Bool.Decides.{eqb_tells}
 use Rattle.std.proofs.lemmas.List.{append-nil, nil_from_length, length-append, length-replicate}
 use Rattle.nr_xdr.specs.Item.{IsBytes, word, encoding, pad_len}
 use Rattle.nr_xdr.specs.Item.Item.{Unsigned, Opaque}
-use Rattle.nr_xdr.specs.Items.{ReadEach, encodings}
+use Rattle.nr_xdr.specs.Items.{ReadsAll, encodings, TakesAll}
 use Rattle.nr_xdr.specs.Reading.{Cursor, Takes, unsigned_at}
-use Rattle.nr_xdr.proofs.Chains.{TakesEach, standing, each_takes, each_between, encodings_read}
+use Rattle.nr_xdr.proofs.Chains.{standing, each_takes, each_between, encodings_read}
 use Rattle.nr_xdr.proofs.WordBytes.{length-word}
 use Rattle.nr_rpc.specs.Constants.{AUTH_BODY_MAX, MACHINE_MAX, GIDS_MAX, AUTH_NONE, AUTH_SYS}
 use Rattle.nr_rpc.specs.declared.cred.Cred.{Cred}
@@ -22,7 +22,7 @@ use Rattle.nr_rpc.proofs.Loop.{numbers_take, numbers_again}
 record TakesGids (gids : List ℕ) (c after : Cursor) : Type 0 where
   behind_count : Cursor
   count : Takes c behind_count (Unsigned (length gids))
-  each : TakesEach (map Unsigned gids) behind_count after
+  each : TakesAll behind_count after (map Unsigned gids)
   within : length gids ≤ GIDS_MAX
 
 gids_take : (c : Cursor) (x : List ℕ × Cursor) → IsBytes c.rest → gids_at c ≡ Ok x → TakesGids x.0 c x.1
@@ -47,7 +47,7 @@ gids_again gids c after t = rw (number_again c (length gids) t.behind_count t.co
 
 -- the body of AUTH_SYS that was read
 pub record TakesSys (stamp : ℕ) (machine : List ℕ) (uid gid : ℕ) (gids : List ℕ) (c after : Cursor) : Type 0 where
-  pub each : TakesEach (sys_items stamp machine uid gid gids) c after
+  pub each : TakesAll c after (sys_items stamp machine uid gid gids)
   pub machine_within : length machine ≤ MACHINE_MAX
   pub gids_within : length gids ≤ GIDS_MAX
 
@@ -99,7 +99,7 @@ taken_reads stamp machine uid gid gids body after t none =
     let items = sys_items stamp machine uid gid gids in
     let between = each_between items (standing 0 body) after t.each in
     let all : body ≡ between.bytes = between.rest ∙ ap (λ (r : List ℕ). between.bytes ++ r) none ∙ append-nil between.bytes in
-    record { items = subst (λ (b : List ℕ). ReadEach items b) (sym all) between.reads; machine_within = t.machine_within; gids_within = t.gids_within }
+    record { items = subst (λ (b : List ℕ). ReadsAll items b) (sym all) between.reads; machine_within = t.machine_within; gids_within = t.gids_within }
 
 reads_taken : (stamp : ℕ) (machine : List ℕ) (uid gid : ℕ) (gids body : List ℕ) → ReadsSys stamp machine uid gid gids body
     → TakesSys stamp machine uid gid gids (standing 0 body) (standing (0 + length body) [])

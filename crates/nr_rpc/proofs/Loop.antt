@@ -4,7 +4,7 @@ use Rattle.std.proofs.lemmas.List.{append-nil}
 use Rattle.nr_xdr.specs.Item.{IsBytes}
 use Rattle.nr_xdr.specs.Item.Item.{Unsigned}
 use Rattle.nr_xdr.specs.Reading.{Cursor}
-use Rattle.nr_xdr.proofs.Chains.{TakesEach}
+use Rattle.nr_xdr.specs.Items.{TakesAll}
 use Rattle.nr_xdr.specs.Sequencing.{◌>>=◌, number_at}
 use Rattle.nr_rpc.specs.Reading.{numbers_at}
 use Rattle.nr_xdr.proofs.SequencingSteps.{bind_ok, number_step, number_again, ok_is}
@@ -52,19 +52,19 @@ begins count c =
     rw all (nothing_before (numbers_at count c))
 
 -- numbers that were read
-pub numbers_take : (n : ℕ) (c : Cursor) (x : List ℕ × Cursor) → IsBytes c.rest → numbers_at n c ≡ Ok x → TakesEach (map Unsigned x.0) c x.1 × (length x.0 ≡ n)
+pub numbers_take : (n : ℕ) (c : Cursor) (x : List ℕ × Cursor) → IsBytes c.rest → numbers_at n c ≡ Ok x → TakesAll c x.1 (map Unsigned x.0) × (length x.0 ≡ n)
 unfolding numbers_at
 numbers_take zero c x fits e =
-    subst (λ (y : List ℕ × Cursor). TakesEach (map Unsigned y.0) c y.1 × (length y.0 ≡ 0)) (ok_is ([], c) x e) (refl, refl)
+    subst (λ (y : List ℕ × Cursor). TakesAll c y.1 (map Unsigned y.0) × (length y.0 ≡ 0)) (ok_is ([], c) x e) (refl, refl)
 numbers_take (suc n) c x fits e =
     let first = number_step c (λ first. numbers_at n first.1 >>= λ others. Ok (first.0 ∷ others.0, others.1)) x fits e in
     let others = bind_ok (numbers_at n first.0.1) (λ others. Ok (first.0.0 ∷ others.0, others.1)) x first.3 in
     let taken = numbers_take n first.0.1 others.0 first.2 others.1 in
     let made : List ℕ × Cursor = (first.0.0 ∷ others.0.0, others.0.1) in
-    subst (λ (y : List ℕ × Cursor). TakesEach (map Unsigned y.0) c y.1 × (length y.0 ≡ suc n)) (ok_is made x others.2)
+    subst (λ (y : List ℕ × Cursor). TakesAll c y.1 (map Unsigned y.0) × (length y.0 ≡ suc n)) (ok_is made x others.2)
     ((first.0.1, first.1, taken.0), ap suc taken.1)
 
-pub numbers_again : (ns : List ℕ) (c after : Cursor) → TakesEach (map Unsigned ns) c after → numbers_at (length ns) c ≡ Ok (ns, after)
+pub numbers_again : (ns : List ℕ) (c after : Cursor) → TakesAll c after (map Unsigned ns) → numbers_at (length ns) c ≡ Ok (ns, after)
 unfolding numbers_at
 numbers_again [] c after e = ap (λ (d : Cursor). Ok ([], d)) e
 numbers_again (n ∷ ns) c after (middle, taken, others) = rw (number_again c n middle taken, numbers_again ns middle after others) refl

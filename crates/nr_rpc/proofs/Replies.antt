@@ -4,9 +4,9 @@ use Rattle.std.specs.Prelude.{IfOk}
 use Rattle.std.proofs.lemmas.Bool.{eqb-true, eqb-false, ne_eqb}
 use Rattle.nr_xdr.specs.Item.{Item, IsBytes}
 use Rattle.nr_xdr.specs.Item.Item.{Unsigned}
-use Rattle.nr_xdr.specs.Items.{ReadEach, FitEach}
+use Rattle.nr_xdr.specs.Items.{ReadsAll, AllFit, TakesAll}
 use Rattle.nr_xdr.specs.Reading.{Cursor, Takes}
-use Rattle.nr_xdr.proofs.Chains.{TakesEach, standing, each_takes, each_between, encodings_read}
+use Rattle.nr_xdr.proofs.Chains.{standing, each_takes, each_between, encodings_read}
 use Rattle.nr_rpc.specs.Constants.{AUTH_BODY_MAX, REPLY, MSG_ACCEPTED, MSG_DENIED, PROG_MISMATCH, RPC_MISMATCH, AUTH_ERROR}
 use Rattle.nr_rpc.specs.declared.fault.HeadFault.{HeadFault}
 use Rattle.nr_rpc.specs.declared.fault.HeadFault.TheVariants as faults
@@ -24,7 +24,7 @@ use Rattle.nr_rpc.proofs.Calls.{head_ok, one_answer}
 pub record TakesReply (head : ReplyHead) (c after : Cursor) : Type 0 where
   pub verifier : Auth
   pub within : length verifier.body ≤ AUTH_BODY_MAX
-  pub each : TakesEach (reply_items head verifier) c after
+  pub each : TakesAll c after (reply_items head verifier)
   pub accepted : IsAccepted head after.place
 
 made_is : (made x : ReplyHead × Cursor) (c : Cursor) → TakesReply made.0 c made.1 → done made ≡ done x → TakesReply x.0 c x.1
@@ -191,7 +191,7 @@ one_reply a b x y more others reads_a reads_b e =
     let second = reply_found b c (standing (0 + length y) others) (reads_reply b (x ++ more) y others reads_b e) in
     one_answer a b (standing (0 + length x) more) (standing (0 + length y) others) (reply_at c) first second
 
-reply_items-fit : (head : ReplyHead) → ReplyFits head → FitEach (reply_items head no_verifier)
+reply_items-fit : (head : ReplyHead) → ReplyFits head → AllFit (reply_items head no_verifier)
 reply_items-fit (replies.Accepted xid stat results_at) fits = (fits.0, (omega arith, (omega arith, (omega arith, (omega arith, (fits.1, tt))))))
 reply_items-fit (replies.ProgMismatch xid low high) fits = (fits.0, (omega arith, (omega arith, (omega arith, (omega arith, (omega arith, (fits.1, (fits.2, tt))))))))
 reply_items-fit (replies.RpcMismatch xid low high) fits = (fits.0, (omega arith, (omega arith, (omega arith, (fits.1, (fits.2, tt))))))
@@ -216,7 +216,7 @@ reply_written head results can fits =
     let reads : ReadsReply (reply_again head) (reply_head head) = record {
       verifier = no_verifier;
       body = omega arith;
-      items = subst (λ (is : List Item). ReadEach is (reply_head head)) (sym (again_items head)) (encodings_read items (reply_items-fit head fits));
+      items = subst (λ (is : List Item). ReadsAll is (reply_head head)) (sym (again_items head)) (encodings_read items (reply_items-fit head fits));
       accepted = again_accepted head can;
     } in
     begins_reply (reply_encoding head results) (reply_again head) (reply_head head, results, reads, refl)

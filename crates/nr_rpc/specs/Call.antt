@@ -2,7 +2,7 @@
 use Rattle.std.specs.Prelude.{◌≡◌, ◌≢◌, ℕ, ◌^◌, ◌<◌, ◌≤◌, List, [], ◌∷◌, ◌++◌, length}
 use Rattle.nr_xdr.specs.Item.{Item}
 use Rattle.nr_xdr.specs.Item.Item.{Unsigned}
-use Rattle.nr_xdr.specs.Items.{ReadEach, encodings}
+use Rattle.nr_xdr.specs.Items.{ReadsAll, encodings}
 use Rattle.nr_rpc.specs.Constants.{AUTH_BODY_MAX, RPC_VERSION, CALL}
 use Rattle.nr_rpc.specs.declared.head.CallHead.{CallHead}
 use Rattle.nr_rpc.specs.declared.head.CallHead.TheVariants as calls
@@ -20,8 +20,8 @@ other_items xid rpcvers = Unsigned xid ∷ (Unsigned CALL ∷ (Unsigned rpcvers 
 abbrev pub ReadsCall : CallHead → List ℕ → Type 0
 ReadsCall (calls.Version2 xid prog vers proc cred args_at) bytes =
     (auth : Auth) × (verifier : Auth) × (length auth.body ≤ AUTH_BODY_MAX) × (length verifier.body ≤ AUTH_BODY_MAX)
-    × ReadsCred cred auth × ReadEach (version2_items xid prog vers proc auth verifier) bytes × (args_at ≡ length bytes)
-ReadsCall (calls.Other xid rpcvers) bytes = (rpcvers ≢ RPC_VERSION) × ReadEach (other_items xid rpcvers) bytes
+    × ReadsCred cred auth × ReadsAll (version2_items xid prog vers proc auth verifier) bytes × (args_at ≡ length bytes)
+ReadsCall (calls.Other xid rpcvers) bytes = (rpcvers ≢ RPC_VERSION) × ReadsAll (other_items xid rpcvers) bytes
 
 -- the bytes begin with the head
 abbrev pub BeginsCall : CallHead → List ℕ → Type 0

@@ -2,7 +2,7 @@
 use Rattle.std.specs.Prelude.{◌≡◌, ◌≢◌, ℕ, ◌^◌, ◌<◌, ◌≤◌, List, [], ◌∷◌, length, map}
 use Rattle.nr_xdr.specs.Item.{Item}
 use Rattle.nr_xdr.specs.Item.Item.{Unsigned, Opaque}
-use Rattle.nr_xdr.specs.Items.{ReadEach, FitEach, encodings}
+use Rattle.nr_xdr.specs.Items.{ReadsAll, AllFit, encodings}
 use Rattle.nr_rpc.specs.Constants.{MACHINE_MAX, GIDS_MAX, AUTH_NONE, AUTH_SYS}
 use Rattle.nr_rpc.specs.declared.cred.Cred.{Cred}
 use Rattle.nr_rpc.specs.declared.cred.Cred.TheVariants as creds
@@ -22,7 +22,7 @@ sys_items stamp machine uid gid gids =
 
 -- a body that reads as AUTH_SYS, with nothing behind it
 pub record ReadsSys (stamp : ℕ) (machine : List ℕ) (uid gid : ℕ) (gids body : List ℕ) : Type 0 where
-  pub items : ReadEach (sys_items stamp machine uid gid gids) body
+  pub items : ReadsAll (sys_items stamp machine uid gid gids) body
   pub machine_within : length machine ≤ MACHINE_MAX
   pub gids_within : length gids ≤ GIDS_MAX
 
@@ -53,5 +53,5 @@ CanWriteCred (creds.Other flavor) = flavor ≢ AUTH_NONE
 -- the numbers of a credential are words
 abbrev pub CredFits : Cred → Type 0
 CredFits creds.None = Unit {0}
-CredFits (creds.Sys stamp machine uid gid gids) = FitEach (sys_items stamp machine uid gid gids)
+CredFits (creds.Sys stamp machine uid gid gids) = AllFit (sys_items stamp machine uid gid gids)
 CredFits (creds.Other flavor) = flavor < 2 ^ 32

@@ -2,7 +2,7 @@
 use Rattle.std.specs.Prelude.{◌≡◌, ◌≢◌, ℕ, ◌^◌, ◌<◌, ◌≤◌, List, [], ◌∷◌, ◌++◌, length}
 use Rattle.nr_xdr.specs.Item.{Item}
 use Rattle.nr_xdr.specs.Item.Item.{Unsigned}
-use Rattle.nr_xdr.specs.Items.{ReadEach, encodings}
+use Rattle.nr_xdr.specs.Items.{ReadsAll, encodings}
 use Rattle.nr_rpc.specs.Constants.{AUTH_BODY_MAX, REPLY, MSG_ACCEPTED, MSG_DENIED, PROG_MISMATCH, RPC_MISMATCH, AUTH_ERROR}
 use Rattle.nr_rpc.specs.declared.head.ReplyHead.{ReplyHead}
 use Rattle.nr_rpc.specs.declared.head.ReplyHead.TheVariants as replies
@@ -37,7 +37,7 @@ IsAccepted (replies.AuthError xid stat) len = Unit {0}
 pub record ReadsReply (head : ReplyHead) (bytes : List ℕ) : Type 0 where
   pub verifier : Auth
   pub body : length verifier.body ≤ AUTH_BODY_MAX
-  pub items : ReadEach (reply_items head verifier) bytes
+  pub items : ReadsAll (reply_items head verifier) bytes
   pub accepted : IsAccepted head (length bytes)
 
 -- the bytes begin with the head

@@ -5,14 +5,9 @@ use Rattle.std.proofs.lemmas.Bool.{cases_lt}
 use Rattle.std.proofs.Common.{inl, inr}
 use Rattle.nr_xdr.specs.Item.{Item, Reads, IsBytes, Fits, padding, encoding, word}
 use Rattle.nr_xdr.specs.Item.Item.{Opaque}
-use Rattle.nr_xdr.specs.Items.{ReadEach, encodings, FitEach}
+use Rattle.nr_xdr.specs.Items.{AllFit, encodings, ReadsAll, TakesAll}
 use Rattle.nr_xdr.specs.Reading.{Cursor, Takes}
 use Rattle.nr_xdr.proofs.Cursors.{cursor_is}
-
--- from old to new the reader took these items, one behind another
-abbrev pub TakesEach : List Item → Cursor → Cursor → Type 0
-TakesEach [] old new = old ≡ new
-TakesEach (item ∷ items) old new = (middle : Cursor) × Takes old middle item × TakesEach items middle new
 
 -- some bytes from a place on
 abbrev pub standing : ℕ → List ℕ → Cursor
@@ -22,7 +17,7 @@ pub reads_takes : (item : Item) (bytes behind : List ℕ) (old : Cursor) → Rea
 reads_takes item bytes behind old reads e = record { bytes = bytes; reads = reads; rest = e; place = refl }
 
 -- bytes that read as the items are taken as them
-pub each_takes : (items : List Item) (bytes behind : List ℕ) (old : Cursor) → ReadEach items bytes → old.rest ≡ bytes ++ behind → TakesEach items old (standing (old.place + length bytes) behind)
+pub each_takes : (items : List Item) (bytes behind : List ℕ) (old : Cursor) → ReadsAll items bytes → old.rest ≡ bytes ++ behind → TakesAll old (standing (old.place + length bytes) behind) items
 each_takes [] bytes behind old none e =
     cursor_is old (standing (old.place + length bytes) behind) (omega (arith, ap length none)) (e ∙ ap (λ (b : List ℕ). b ++ behind) none)
 each_takes (item ∷ items) bytes behind old (front, more, reads, others, parts) e =
@@ -31,18 +26,18 @@ each_takes (item ∷ items) bytes behind old (front, more, reads, others, parts)
     let len : (old.place + length front) + length more ≡ old.place + length bytes = omega (arith, ap length parts, length-append front more) in (
       middle,
       reads_takes item front (more ++ behind) old reads first,
-      subst (λ (p : ℕ). TakesEach items middle (standing p behind)) len (each_takes items more behind middle others refl),
+      subst (λ (p : ℕ). TakesAll middle (standing p behind) items) len (each_takes items more behind middle others refl),
     )
 
 -- the bytes between two cursors, which read as the items
 pub record Between (items : List Item) (old new : Cursor) : Type 0 where
   pub bytes : List ℕ
-  pub reads : ReadEach items bytes
+  pub reads : ReadsAll items bytes
   pub rest : old.rest ≡ bytes ++ new.rest
   pub place : new.place ≡ old.place + length bytes
 
 -- what was taken as the items are bytes that read as them
-pub each_between : (items : List Item) (old new : Cursor) → TakesEach items old new → Between items old new
+pub each_between : (items : List Item) (old new : Cursor) → TakesAll old new items → Between items old new
 each_between [] old new e = record {
   bytes = [];
   reads = refl;
@@ -61,7 +56,7 @@ pub encoding_reads : (item : Item) → Fits item → Reads item (encoding item)
 encoding_reads item fits = record { fits = fits; pad = replicate (padding item) 0; pad_is = length-replicate (padding item) 0; bytes_are = refl }
 
 -- the encoding reads as the items
-pub encodings_read : (items : List Item) → FitEach items → ReadEach items (encodings items)
+pub encodings_read : (items : List Item) → AllFit items → ReadsAll items (encodings items)
 encodings_read [] fits = refl
 encodings_read (item ∷ items) fits = (encoding item, encodings items, encoding_reads item fits.0, encodings_read items fits.1, refl)
 

@@ -36,3 +36,17 @@ pub enum ItemFault {
     #[error("the boolean at byte {at} is neither 0 nor 1")]
     BadBool { at: usize },
 }
+
+impl ItemFault {
+    ghost use Rattle.std.specs.Prelude.{◌≡◌};
+    ghost use Rattle.nr_xdr.specs.Reading.{place_of};
+
+    /// The place of the item that fails, in bytes from where the reader began.
+    pub fn at(self) -> usize
+        ensures { result ≡ place_of self }
+    {
+        match self {
+            ItemFault::Short { at } | ItemFault::Long { at, .. } | ItemFault::BadBool { at } => at,
+        }
+    }
+}

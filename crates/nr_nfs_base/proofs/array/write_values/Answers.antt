@@ -1,4 +1,4 @@
-use Rattle.nr_nfs_base.proofs.Puts.{array_more, array_done}
+use Rattle.nr_nfs_base.proofs.Appending.{array_more, array_done}
 use Rattle.nr_nfs_base.proofs.array.write_values.Goals as goal
 
 pub loop-value-preserved : goal.loop-value-preserved

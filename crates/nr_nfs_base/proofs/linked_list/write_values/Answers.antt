@@ -1,4 +1,4 @@
-use Rattle.nr_nfs_base.proofs.Puts.{linked_list_more, linked_list_done}
+use Rattle.nr_nfs_base.proofs.Appending.{linked_list_more, linked_list_done}
 use Rattle.nr_nfs_base.proofs.linked_list.write_values.Goals as goal
 
 pub loop-value-preserved : goal.loop-value-preserved

@@ -1,5 +1,5 @@
 use Rattle.std.proofs.Common.{take}
-use Rattle.nr_nfs_base.proofs.Puts.{LinkedListGoesOn}
+use Rattle.nr_nfs_base.proofs.Appending.{LinkedListGoesOn}
 use Rattle.nr_nfs_base.proofs.linked_list.write_values.Given as goal
 
 abbrev pub invariant-loop-value : goal.invariant-loop-value

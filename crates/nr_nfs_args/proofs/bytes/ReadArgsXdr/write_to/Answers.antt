@@ -1,9 +1,7 @@
 use Rattle.nr_nfs_args.specs.Bytes.{read_args_codec}
-use Rattle.nr_nfs_base.proofs.Puts.{◌▸◌}
+use Rattle.nr_nfs_base.proofs.Appending.{appends_then}
 use Rattle.nr_nfs_args.proofs.bytes.ReadArgsXdr.write_to.Goals as goal
 
 pub returns : goal.returns
 unfolding read_args_codec
-returns c = record {
-  ok = c.in_ok-writer.ensures.ok ▸ c.in_ok-writer-2.ensures.ok ▸ c.in_ok-writer-3.ensures.ok;
-}
+returns c = record { ok = appends_then c.write_to.result _ _ c.in_ok-writer.ensures c.write_to.ensures.ok }

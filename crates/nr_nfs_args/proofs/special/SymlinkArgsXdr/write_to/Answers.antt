@@ -1,10 +1,7 @@
 use Rattle.nr_nfs_args.specs.Special.{symlink_args_codec}
-use Rattle.nr_nfs_base.proofs.Puts.{◌▸◌}
+use Rattle.nr_nfs_base.proofs.Appending.{appends_then}
 use Rattle.nr_nfs_args.proofs.special.SymlinkArgsXdr.write_to.Goals as goal
 
 pub returns : goal.returns
 unfolding symlink_args_codec
-returns c = record {
-  ok = c.in_ok-writer.ensures.ok ▸ c.in_ok-writer-2.ensures.ok ▸ c.in_ok-writer-3.ensures.ok
-      ▸ c.in_ok-writer-4.ensures.ok;
-}
+returns c = record { ok = appends_then c.write_to.result _ _ c.in_ok-writer.ensures c.write_to.ensures.ok }

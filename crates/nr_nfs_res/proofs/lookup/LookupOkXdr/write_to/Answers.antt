@@ -1,9 +1,0 @@
-use Rattle.nr_nfs_res.specs.Lookup.{lookup_ok_codec}
-use Rattle.nr_nfs_base.proofs.Puts.{◌▸◌}
-use Rattle.nr_nfs_res.proofs.lookup.LookupOkXdr.write_to.Goals as goal
-
-pub returns : goal.returns
-unfolding lookup_ok_codec
-returns c = record {
-  ok = c.in_ok-writer.ensures.ok ▸ c.in_ok-writer-2.ensures.ok ▸ c.in_ok-writer-3.ensures.ok;
-}
