@@ -7,6 +7,7 @@ use Rattle.nr_xdr.specs.Sequencing.{◌>>=◌, number_at}
 use Rattle.nr_rpc.specs.declared.head.CallTarget.{CallTarget}
 use Rattle.nr_rpc.specs.Reading.{call_of, target_of}
 use Rattle.nr_nfs_base.specs.Codec.{Codec}
+use Rattle.nr_nfs_base.specs.Procedures.{mount_program, mount_version}
 use Rattle.nr_nfs_base.specs.Fronts.{read_args_front, readdir_args_front, readdirplus_args_front}
 use Rattle.nr_reduce.specs.Limits.{moved_max, readdir_max}
 use Rattle.nr_reduce.specs.Items.{READ, is_nfs, from_place}
@@ -19,10 +20,10 @@ abbrev pub READDIRPLUS : ℕ
 READDIRPLUS = 17
 
 abbrev pub MOUNT_PROGRAM : ℕ
-MOUNT_PROGRAM = 100005
+MOUNT_PROGRAM = mount_program
 
 abbrev pub MOUNT_VERSION : ℕ
-MOUNT_VERSION = 3
+MOUNT_VERSION = mount_version
 
 abbrev pub MNT : ℕ
 MNT = 1

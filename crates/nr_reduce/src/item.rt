@@ -3,12 +3,13 @@
 ghost use Rattle.std.specs.Prelude.{◌≡◌, ◌+◌, ◌≤◌, Ok, length, IfSome};
 ghost use Rattle.nr_xdr.specs.Item.{pad_len};
 ghost use Rattle.nr_rpc.specs.Reading.{reply_of};
-ghost use Rattle.nr_reduce.specs.Fronts.{and_then};
+ghost use Rattle.nr_reduce.specs.Behind.{and_then};
 ghost use Rattle.nr_reduce.specs.Items.{from_place, item_at, is_nfs, argument_item, result_item, results_of, call_item, reply_item, item_of};
 
-use crate::limits::{NFS_PROGRAM, NFS_VERSION, READ, READLINK, SYMLINK, WRITE};
+use crate::limits::{READ, READLINK, SYMLINK, WRITE};
 use nr_nfs_base::{
-    skip_to_read_data, skip_to_readlink_path, skip_to_symlink_path, skip_to_write_data,
+    NFS_PROGRAM, NFS_VERSION, skip_to_read_data, skip_to_readlink_path, skip_to_symlink_path,
+    skip_to_write_data,
 };
 use nr_rpc::{ReplyHead, call_target, read_reply};
 use nr_xdr::{Octets, Reader};

@@ -1,15 +1,16 @@
 //! How long a reply may be, by its call alone.
 
 ghost use Rattle.std.specs.Prelude.{◌≡◌, ◌+◌, ◌<◌, ◌≤◌};
-ghost use Rattle.nr_reduce.specs.Fronts.{number_behind};
+ghost use Rattle.nr_reduce.specs.Behind.{number_behind};
 ghost use Rattle.nr_reduce.specs.Largest.{rounded, by_count, read_reply_max, readdir_reply_max, limit_of, nfs_reply_max, program_reply_max, largest_reply};
 
 use crate::cutting::pad_len;
 use crate::item::{is_nfs, reader_at};
-use crate::limits::{
-    MNT, MOUNT_PROGRAM, MOUNT_VERSION, MOVED_MAX, READ, READDIR, READDIR_MAX, READDIRPLUS,
+use crate::limits::{MNT, MOVED_MAX, READ, READDIR, READDIR_MAX, READDIRPLUS};
+use nr_nfs_base::{
+    MOUNT_PROGRAM, MOUNT_VERSION, skip_to_read_count, skip_to_readdir_count,
+    skip_to_readdirplus_maxcount,
 };
-use nr_nfs_base::{skip_to_read_count, skip_to_readdir_count, skip_to_readdirplus_maxcount};
 use nr_rpc::call_target;
 use nr_xdr::Reader;
 
@@ -17,7 +18,7 @@ use nr_xdr::Reader;
 const LEAST_REPLY: u32 = 32;
 
 /// The number behind the fields before it, where these could be read.
-#[tactic(auto, unfolding(crate::specs::Fronts::number_behind))]
+#[tactic(auto, unfolding(crate::specs::Behind::number_behind))]
 pub(crate) fn number_behind(front: Option<Reader<'_>>) -> Option<u32>
     ensures { result ≡ number_behind front.entry }
 {
