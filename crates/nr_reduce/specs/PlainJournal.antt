@@ -19,3 +19,7 @@ entries_added plain mark = []
 
 unfoldable pub journal : PlainServer → List Mark → List Entry
 journal plain run = flat_map (entries_added plain) run
+
+-- the plain servers that add these entries, whatever they reply
+abbrev pub any_that_adds : (Moment → List ℕ → List ℕ → List Entry) → PlainServer
+any_that_adds adds = record { Replies = λ entries moment payload reply. Unit {0}; adds = adds }

@@ -22,6 +22,9 @@ use Rattle.nr_reduce.specs.declared.mark.Moment.{Moment}
 use Rattle.nr_reduce.specs.declared.mark.Mark.{Mark}
 use Rattle.nr_reduce.specs.declared.mark.Mark.TheVariants as marks
 use Rattle.nr_reduce.specs.declared.mark.Opened.{Opened}
+use Rattle.nr_reduce.specs.declared.mark.Entry.{Entry}
+use Rattle.nr_reduce.specs.PlainJournal.{any_that_adds}
+use Rattle.nr_reduce.specs.Journal.{Journaled}
 use Rattle.nr_reduce.specs.History.{CompletedCall, completed_calls, bytes_sent, bytes_received, written_at, fed_at, other}
 use Rattle.nr_reduce.specs.Events.{Event, events_at}
 use Rattle.nr_reduce.specs.EndRules.{EndState, end_state_after, output_for_all}
@@ -240,3 +243,9 @@ abbrev pub XidsRise : Type 0
 XidsRise = (opened : Opened) (link : ℕ) (run before between behind : List Mark) (call other : Call) (form way : Form) (xid yid : ℕ) →
     run ≡ before ++ marks.Submit link call form (submissions.Accepted xid) ∷ (between ++ marks.Submit link other way (submissions.Accepted yid) ∷ behind) →
     AskedSoFar opened link run → xid < yid
+
+-- Of two calls that were executed, on any links, the later one's place isn't smaller.
+abbrev pub PlacesRise : Type 0
+PlacesRise = (adds : Moment → List ℕ → List ℕ → List Entry) (J : List Entry) (run before between behind : List Mark) (link other xid yid : ℕ) (moment now : Moment) (payload asked : List ℕ) (place later : ℕ) (reply answer : List ℕ) →
+    run ≡ before ++ marks.Execute link xid moment payload place reply ∷ (between ++ marks.Execute other yid now asked later answer ∷ behind) →
+    Journaled (any_that_adds adds) J run → place ≤ later

@@ -52,7 +52,7 @@ pub enum Refused {
     /// The link has ended.
     Ended(End),
     /// It needs this many bytes where there is room for fewer.
-    TooLarge { need: u64, room: u32 },
+    TooLarge { need: u128, room: u32 },
     /// As many calls are out as the peer grants.
     NoCredit { out: u32, grant: u32 },
     /// Fewer xids or STags are left than it needs.

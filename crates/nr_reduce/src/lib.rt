@@ -42,7 +42,7 @@ pub use outline::Plan;
 pub use planning::plan;
 pub use run_laws::{
     accepted_calls_keep_the_law, accesses_are_allowed, ended_ends_stay, ends_stand_for_marks,
-    laws_so_far, nothing_twice, one_mark_more, plans_are_opened, sends_are_answered,
+    laws_so_far, nothing_twice, one_mark_more, places_rise, plans_are_opened, sends_are_answered,
     submits_are_sent,
 };
 pub use sequence::Sequence;

@@ -1,6 +1,6 @@
 //! Laws of runs: what both ends of a link cite, and what holds of every run.
 
-ghost use Rattle.nr_reduce.specs.RunLaws.{ClientAfterMark, ServerAfterMark, ClientOutputAfterMark, ServerOutputAfterMark, EndedClientStays, EndedServerStays, FullHoldsSoFar, SoFarHoldsBefore, AskedWithMark, ServedWithMark, ClientBegins, ServerBegins, EventsOfInput, ClientStandsOn, ServerStandsOn, ClientQueueIsDue, ServerQueueIsDue, ClientAllows, ServerAllows, AcceptedKeepsLaw, SubmitIsSent, HelloSendsCalls, PayloadHasItsXid, ExecuteIsAnswered, RefusedSendIsAnswered, OpenReadsAreFew, PlanIsAccepted, SendIsExecutedOnce, CallCompletesOnce, XidsRise};
+ghost use Rattle.nr_reduce.specs.RunLaws.{ClientAfterMark, ServerAfterMark, ClientOutputAfterMark, ServerOutputAfterMark, EndedClientStays, EndedServerStays, FullHoldsSoFar, SoFarHoldsBefore, AskedWithMark, ServedWithMark, ClientBegins, ServerBegins, EventsOfInput, ClientStandsOn, ServerStandsOn, ClientQueueIsDue, ServerQueueIsDue, ClientAllows, ServerAllows, AcceptedKeepsLaw, SubmitIsSent, HelloSendsCalls, PayloadHasItsXid, ExecuteIsAnswered, RefusedSendIsAnswered, OpenReadsAreFew, PlanIsAccepted, SendIsExecutedOnce, CallCompletesOnce, XidsRise, PlacesRise};
 
 /// One mark more: the state of an end, and the output due, are those before with the events of the mark.
 pub fn one_mark_more()
@@ -77,4 +77,9 @@ pub fn nothing_twice()
     ensures executes { SendIsExecutedOnce }
     ensures completes { CallCompletesOnce }
     ensures xids { XidsRise }
+{}
+
+/// Places in the one journal rise along a run: what is executed later has a place that isn't smaller.
+pub fn places_rise()
+    ensures { PlacesRise }
 {}
