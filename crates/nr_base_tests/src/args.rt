@@ -1,7 +1,7 @@
 //! Tests of nr_nfs_args.
 
-use crate::compare::{encoded_as, numbered_as, same};
-use crate::{Want, again, bytes_of, joined, wanted};
+use crate::compare::{encoded_as, numbered_as, row_gives, same};
+use crate::{Want, again, bytes_of, joined};
 use nr_nfs_args::*;
 use nr_nfs_base::{Handle, Name, ValueFault};
 use nr_xdr::{Memory, Octets};
@@ -235,9 +235,8 @@ static TABLE: [Row; 70] = [
 fn each_row_is_read_and_written(rt: HostRuntime) -> Result<(), AllocError> {
     for (row, Row(kind, words, want)) in TABLE.iter().enumerate() {
         let bytes = bytes_of(rt.alloc(), words)?;
-        let wanted = wanted(rt.alloc(), words, *want)?;
-        let got = again_as(*kind, rt.alloc(), &bytes).map(Octets::into_vec);
-        same(&rt, row, got, wanted);
+        let got = again_as(*kind, rt.alloc(), &bytes);
+        row_gives(&rt, rt.alloc(), row, got, words, *want)?;
     }
     Ok(())
 }
@@ -280,22 +279,30 @@ static CREATE_MODES: [(CreateMode, u32); 3] = [
     (CreateMode::Exclusive, 2),
 ];
 
+/// The handle of eight bytes of a file number, and a name of one letter.
+fn entry(alloc: Global, number: u8, name: &[u8; 1]) -> Result<(Handle, Name), Memory> {
+    let handle = Handle::from_slice(alloc, &[0, 0, 0, 0, 0, 0, 0, number])?;
+    Ok((handle, Name::from_slice(alloc, name)?))
+}
+
 #[test]
 fn each_field_has_its_place(rt: HostRuntime) -> Result<(), Memory> {
     arguments();
     numbered_as(&rt, &CREATE_MODES);
     // section 3.3.14: the name `a` of the directory 1 becomes `b` of the directory 2
+    let (from_dir, from_name) = entry(rt.alloc(), 1, b"a")?;
+    let (to_dir, to_name) = entry(rt.alloc(), 2, b"b")?;
     let rename = RenameArgs {
-        from_dir: Handle::from_slice(rt.alloc(), &[0, 0, 0, 0, 0, 0, 0, 1])?,
-        from_name: Name::from_slice(rt.alloc(), b"a")?,
-        to_dir: Handle::from_slice(rt.alloc(), &[0, 0, 0, 0, 0, 0, 0, 2])?,
-        to_name: Name::from_slice(rt.alloc(), b"b")?,
+        from_dir,
+        from_name,
+        to_dir,
+        to_name,
     };
     encoded_as(
         &rt,
         rt.alloc(),
         0,
         &rename,
-        &[8, 0, 1, 1, 0x6100_0000, 8, 0, 2, 1, 0x6200_0000],
+        &[&[8, 0, 1, 1, 0x6100_0000], &[8, 0, 2, 1, 0x6200_0000]],
     )
 }

@@ -1,7 +1,7 @@
 //! Tests of nr_nfs_base.
 
-use crate::compare::{encoded_as, numbered_as, same};
-use crate::{Want, again, bytes_of, wanted};
+use crate::compare::{encoded_as, numbered_as, row_gives, same};
+use crate::{Want, again, bytes_of};
 use nr_nfs_base::*;
 use nr_xdr::{Memory, Octets, Reader, Writer};
 use std::alloc::{AllocError, Global};
@@ -193,9 +193,8 @@ static TABLE: [Row; 76] = [
 fn each_row_is_read_and_written(rt: HostRuntime) -> Result<(), AllocError> {
     for (row, Row(kind, words, want)) in TABLE.iter().enumerate() {
         let bytes = bytes_of(rt.alloc(), words)?;
-        let wanted = wanted(rt.alloc(), words, *want)?;
-        let got = again_as(*kind, rt.alloc(), &bytes).map(Octets::into_vec);
-        same(&rt, row, got, wanted);
+        let got = again_as(*kind, rt.alloc(), &bytes);
+        row_gives(&rt, rt.alloc(), row, got, words, *want)?;
     }
     Ok(())
 }
@@ -205,32 +204,39 @@ fn values_are_made_and_taken_apart(rt: HostRuntime) -> Result<(), Fail> {
     opaque_limits();
     one_value::<u32>();
     let name = Name::from_slice(rt.alloc(), b"a.txt")?;
-    let name = Name::new(name.into_octets());
-    same(&rt, 0, name.as_slice(), b"a.txt".as_slice());
+    same(&rt, 0, Name::new(name.into_octets()).as_slice().len(), 5);
+    let list = LinkedList::from_vec(vec![in rt.alloc(); 7u32, 8]?);
+    same(&rt, 1, list.as_slice().len(), 2);
+    let array = Array::from_vec(list.into_vec());
+    same(&rt, 2, array.as_slice().len(), 2);
+    same(&rt, 3, array.into_vec().len(), 2);
     same(
         &rt,
-        1,
+        4,
         LinkedList::<u32>::new(rt.alloc()).as_slice().len(),
         0,
     );
-    let values = LinkedList::from_vec(vec![in rt.alloc(); 7u32, 8]?);
-    same(&rt, 2, values.as_slice().len(), 2);
-    same(&rt, 3, values.into_vec(), vec![in rt.alloc(); 7u32, 8]?);
-    let values = Array::from_vec(vec![in rt.alloc(); 7u32, 8]?);
-    same(&rt, 4, values.as_slice().len(), 2);
-    same(&rt, 5, values.into_vec(), vec![in rt.alloc(); 7u32, 8]?);
     Ok(())
+}
+
+/// An enumeration and four other values, one after the other.
+fn five_values(alloc: Global) -> Result<Octets, Memory> {
+    let writer = write_numbered(FileType::Lnk, Writer::new(alloc))?;
+    Ok(write_four(&true, &false, &1u32, &2u64, writer)?.finish())
 }
 
 #[test]
 fn an_enumeration_stands_among_others(rt: HostRuntime) -> Result<(), Fail> {
-    let writer = write_numbered(FileType::Lnk, Writer::new(rt.alloc()))?;
-    let bytes = write_four(&true, &false, &1u32, &2u64, writer)?.finish();
-    let words = bytes_of(rt.alloc(), &[5, 1, 0, 1, 0, 2])?;
+    let bytes = five_values(rt.alloc())?;
     let (kind, reader) = read_numbered::<FileType>(rt.alloc(), Reader::new(bytes.as_slice()))?;
     same(&rt, 0, kind.number(), 5);
     same(&rt, 1, reader.at(), 4);
-    same(&rt, 2, bytes.into_vec(), words);
+    same(
+        &rt,
+        2,
+        bytes.into_vec(),
+        bytes_of(rt.alloc(), &[5, 1, 0, 1, 0, 2])?,
+    );
     Ok(())
 }
 
@@ -394,15 +400,6 @@ fn each_field_has_its_place(rt: HostRuntime) -> Result<(), Memory> {
         mtime,
         ctime,
     };
-    encoded_as(
-        &rt,
-        rt.alloc(),
-        0,
-        &attributes,
-        &[
-            4, 0o644, 2, 1000, 100, 3, 4, 5, 6, 7, 8, 9, 10, 11, 12, 13, 14, 15, 16, 17, 18,
-        ],
-    )?;
     // section 2.5, wcc_data
     let before = WccAttributes {
         size: 0x1_0000_0002,
@@ -413,7 +410,6 @@ fn each_field_has_its_place(rt: HostRuntime) -> Result<(), Memory> {
         before: Some(before),
         after: None,
     };
-    encoded_as(&rt, rt.alloc(), 1, &wcc, &[1, 1, 2, 15, 16, 17, 18, 0])?;
     // section 2.5, sattr3
     let set = SetAttributes {
         mode: Some(0o600),
@@ -423,14 +419,7 @@ fn each_field_has_its_place(rt: HostRuntime) -> Result<(), Memory> {
         atime: SetTime::ServerTime,
         mtime: SetTime::ClientTime(mtime),
     };
-    encoded_as(
-        &rt,
-        rt.alloc(),
-        2,
-        &set,
-        &[1, 0o600, 1, 1000, 0, 1, 3, 4, 1, 2, 15, 16],
-    )?;
-    let set = SetAttributes {
+    let other = SetAttributes {
         mode: None,
         uid: None,
         gid: Some(100),
@@ -438,7 +427,20 @@ fn each_field_has_its_place(rt: HostRuntime) -> Result<(), Memory> {
         atime: SetTime::ClientTime(atime),
         mtime: SetTime::Leave,
     };
-    encoded_as(&rt, rt.alloc(), 3, &set, &[0, 0, 1, 100, 0, 2, 13, 14, 0])
+    encoded_as(
+        &rt,
+        rt.alloc(),
+        0,
+        &(attributes, (wcc, (set, other))),
+        &[
+            &[
+                4, 0o644, 2, 1000, 100, 3, 4, 5, 6, 7, 8, 9, 10, 11, 12, 13, 14, 15, 16, 17, 18,
+            ],
+            &[1, 1, 2, 15, 16, 17, 18, 0],
+            &[1, 0o600, 1, 1000, 0, 1, 3, 4, 1, 2, 15, 16],
+            &[0, 0, 1, 100, 0, 2, 13, 14, 0],
+        ],
+    )
 }
 
 /// A field to skip to.

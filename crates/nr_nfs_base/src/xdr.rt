@@ -39,7 +39,7 @@ pub trait Xdr: Drop {
         // Which fault it is.
         ensures exact { Answers result (read_all codec bytes.now) }
     {
-        read_whole(alloc, bytes)
+        read_inner(alloc, bytes)
     }
 
     /// The bytes of the value.
@@ -54,7 +54,7 @@ pub trait Xdr: Drop {
 }
 
 /// The value that all of the bytes are read as.
-fn read_whole<T: Xdr>(alloc: Global, bytes: &[u8]) -> Result<T, ValueFault>
+fn read_inner<T: Xdr>(alloc: Global, bytes: &[u8]) -> Result<T, ValueFault>
     ensures { Answers result (read_all T.codec bytes.now) }
 {
     let (value, reader) = T::read_from(alloc, Reader::new(bytes))?;
