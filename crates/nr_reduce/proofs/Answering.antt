@@ -9,7 +9,7 @@ use Rattle.nr_xdr.proofs.SequencingSteps.{chosen}
 use Rattle.nr_header.specs.declared.header.RdmaSegment.{RdmaSegment}
 use Rattle.nr_header.specs.declared.header.ReadSegment.{ReadSegment}
 use Rattle.nr_header.specs.declared.header.ChunkLists.{ChunkLists}
-use Rattle.nr_regions.specs.RegisteredMemory.{written}
+use Rattle.nr_regions.specs.RegisteredMemory.{bytes_after_write}
 use Rattle.nr_wire.specs.Segment.{Segment as WireSegment, encoding}
 use Rattle.nr_reduce.specs.Undone.{laid, chunk_segments, answer_segments, lengths, offering, Backs, after}
 use Rattle.nr_reduce.specs.declared.item.Item.{Item}
@@ -138,8 +138,8 @@ answered read ws rs w r down prog vers proc reply a fits e =
 
 -- ---- What its Writes leave
 
--- the first bytes of a region that was written from its front
-front-written : (old bytes : List ℕ) → take (length bytes) (written old 0 bytes) ≡ bytes
+-- the first bytes of a region that was bytes_after_write from its front
+front-written : (old bytes : List ℕ) → take (length bytes) (bytes_after_write old 0 bytes) ≡ bytes
 front-written old bytes = take_at bytes (drop (0 + length bytes) old) (length bytes) refl
 
 moved-left : (read : List ReadSegment) (ws rs : ℕ) (w r : Option (List ℕ)) (a : Answer) (initial : Bytes) → Backs initial ws rs w r → length a.moved ≤ added_up (lengths w)

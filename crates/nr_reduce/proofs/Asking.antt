@@ -5,7 +5,7 @@ use Rattle.std.proofs.lemmas.List.{take_all, drop_at, length-take-le}
 use Rattle.std.proofs.lemmas.List.Elements.{All-nil, All-cons}
 use Rattle.std.specs.List.{flat_map}
 use Rattle.nr_xdr.specs.Item.{Item as XdrItem, IsBytes}
-use Rattle.nr_xdr.specs.Items.{FitEach}
+use Rattle.nr_xdr.specs.Items.{AllFit}
 use Rattle.nr_header.specs.Constants.{VERSION, MSG, NOMSG, PAYLOAD_MAX}
 use Rattle.nr_header.specs.declared.header.RdmaSegment.{RdmaSegment}
 use Rattle.nr_header.specs.declared.header.ReadSegment.{ReadSegment}
@@ -104,16 +104,16 @@ body-shape payload Long w r ls fits is = refl
 
 -- ---- Its numbers fit, and it is within the limits
 
-write_fit : (w : Offering) (stag : ℕ) (more : List XdrItem) → IsSmall w → stag + one_if (has_segment (offered w)) ≤ 2 ^ 32 → FitEach more → FitEach (write_items (write_list stag (offered w)) more)
+write_fit : (w : Offering) (stag : ℕ) (more : List XdrItem) → IsSmall w → stag + one_if (has_segment (offered w)) ≤ 2 ^ 32 → AllFit more → AllFit (write_items (write_list stag (offered w)) more)
 write_fit Nothing stag more small room k = (tt, k)
 write_fit (One n) stag more small room k = (tt, (omega arith, (omega (arith, room), (omega (arith, small), (omega arith, (tt, k))))))
 
-reply_fit : (r : Offering) (stag : ℕ) → IsSmall r → stag + one_if (has_segment (offered r)) ≤ 2 ^ 32 → FitEach (reply_items (reply_chunk stag (offered r)) [])
+reply_fit : (r : Offering) (stag : ℕ) → IsSmall r → stag + one_if (has_segment (offered r)) ≤ 2 ^ 32 → AllFit (reply_items (reply_chunk stag (offered r)) [])
 reply_fit Nothing stag small room = (tt, tt)
 reply_fit (One n) stag small room = (tt, (omega arith, (omega (arith, room), (omega (arith, small), (omega arith, tt)))))
 
-read_fit : (payload : List ℕ) (way : Way) (stag : ℕ) (more : List XdrItem) → IsBytes payload → IsWay payload way → length payload ≤ PAYLOAD_MAX → write_from payload way stag ≤ 2 ^ 32 → FitEach more
-    → FitEach (read_items (entries payload way stag) more)
+read_fit : (payload : List ℕ) (way : Way) (stag : ℕ) (more : List XdrItem) → IsBytes payload → IsWay payload way → length payload ≤ PAYLOAD_MAX → write_from payload way stag ≤ 2 ^ 32 → AllFit more
+    → AllFit (read_items (entries payload way stag) more)
 read_fit payload Inline stag more fits is size room k = (tt, k)
 read_fit payload (Reduced i) stag more fits is size room k =
     let p = placed payload (Reduced i) i fits is refl in
@@ -121,7 +121,7 @@ read_fit payload (Reduced i) stag more fits is size room k =
 read_fit payload Long stag more fits is size room k = (tt, (omega arith, (omega (arith, room), (omega (arith, size), (omega arith, (tt, k))))))
 
 lists_fit : (payload : List ℕ) (way : Way) (w r : Offering) (stag : ℕ) → IsBytes payload → IsWay payload way → length payload ≤ PAYLOAD_MAX → IsSmall w → IsSmall r
-    → reply_from payload way w stag + one_if (has_segment (offered r)) ≤ 2 ^ 32 → FitEach (lists_items (lists payload way w r stag))
+    → reply_from payload way w stag + one_if (has_segment (offered r)) ≤ 2 ^ 32 → AllFit (lists_items (lists payload way w r stag))
 lists_fit payload way w r stag fits is size small_w small_r room =
     read_fit payload way stag _ fits is size (omega (arith, room))
     (write_fit w (write_from payload way stag) _ small_w (omega (arith, room))
@@ -210,7 +210,7 @@ can_read payload (Reduced i) w r stag fits is size small_w small_r =
 can_read payload Long w r stag fits is size small_w small_r =
     (refl, lists_within payload Long w r stag fits is size small_w small_r, omega (arith, size))
 
-head_fits : (xid credit : ℕ) (way : Way) (ls : ChunkLists) → xid < 2 ^ 32 → credit < 2 ^ 32 → FitEach (lists_items ls) → HeaderFits (record { xid = xid; credit = credit; body = body_of way ls })
+head_fits : (xid credit : ℕ) (way : Way) (ls : ChunkLists) → xid < 2 ^ 32 → credit < 2 ^ 32 → AllFit (lists_items ls) → HeaderFits (record { xid = xid; credit = credit; body = body_of way ls })
 head_fits xid credit Inline ls x c k = (x, (omega arith, (c, (omega arith, k))))
 head_fits xid credit (Reduced i) ls x c k = (x, (omega arith, (c, (omega arith, k))))
 head_fits xid credit Long ls x c k = (x, (omega arith, (c, (omega arith, k))))

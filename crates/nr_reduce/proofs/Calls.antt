@@ -8,7 +8,6 @@ use Rattle.std.specs.Prelude.{slice_get}
 use Rattle.nr_wire.specs.declared.hello.Side.TheVariants.{Initiator, Responder}
 use Rattle.nr_wire.specs.Segment.{Segment}
 use Rattle.nr_wire.specs.Segment.Segment.{Tagged, Untagged}
-use Rattle.nr_header.specs.Reading.{word_at}
 use Rattle.nr_rpc.specs.declared.head.CallHead.{CallHead}
 use Rattle.nr_rpc.specs.Reading.{call_of, target_of}
 use Rattle.nr_link.specs.declared.end.End.{End as Stop}
@@ -47,6 +46,7 @@ use Rattle.nr_reduce.specs.Served.{IsExecuted, next_call, first_ready}
 use Rattle.nr_reduce.specs.RunLaws.{IsOnlyAnswered}
 use Rattle.nr_reduce.proofs.Steps.{output_due_up-one, output_due_down-one}
 use Rattle.nr_reduce.proofs.Standing.{itself}
+use Rattle.nr_xdr.specs.Fields.{word_at}
 
 -- ---- A Submit
 

@@ -6,7 +6,7 @@ use Rattle.std.proofs.lemmas.List.Sums.{sum_by-cons}
 use Rattle.std.specs.List.{flat_map, range_with_len}
 use Rattle.std.proofs.lemmas.Grind.{flat_map-append}
 use Rattle.nr_header.specs.declared.header.RdmaSegment.{RdmaSegment}
-use Rattle.nr_regions.specs.RegisteredMemory.{written}
+use Rattle.nr_regions.specs.RegisteredMemory.{bytes_after_write}
 use Rattle.nr_wire.specs.Constants.{OPCODE_WRITE}
 use Rattle.nr_wire.specs.Segment.{Segment as WireSegment, encoding}
 use Rattle.nr_wire.specs.Segment.Segment.{Tagged, Untagged}
@@ -28,18 +28,18 @@ take-split zero b xs = ap (λ (n : ℕ). take n xs) (let s : b ≡ 0 + b = omega
 take-split (suc a) b [] = take-nil b ∙ sym (take-nil (suc a + b))
 take-split (suc a) b (x ∷ xs) = let s : suc (a + b) ≡ suc a + b = omega arith in ap (λ (ys : List ℕ). x ∷ ys) (take-split a b xs) ∙ ap (λ (n : ℕ). take n (x ∷ xs)) s
 
-written-none : (xs : List ℕ) (at : ℕ) → written xs at [] ≡ xs
+written-none : (xs : List ℕ) (at : ℕ) → bytes_after_write xs at [] ≡ xs
 written-none xs at = ap (λ (n : ℕ). take at xs ++ drop n xs) (let s : at + 0 ≡ at = omega arith in s) ∙ take-append-drop at xs
 
-written-more : (old xs ys : List ℕ) (at : ℕ) → at + length xs ≤ length old → written (written old at xs) (at + length xs) ys ≡ written old at (xs ++ ys)
+written-more : (old xs ys : List ℕ) (at : ℕ) → at + length xs ≤ length old → bytes_after_write (bytes_after_write old at xs) (at + length xs) ys ≡ bytes_after_write old at (xs ++ ys)
 written-more old xs ys at fits =
     let front = take at old ++ xs in
     let tail = drop (at + length xs) old in
-    let one : written old at xs ≡ front ++ tail = sym (append_assoc (take at old) xs tail) in
+    let one : bytes_after_write old at xs ≡ front ++ tail = sym (append_assoc (take at old) xs tail) in
     let len : length front ≡ at + length xs = (let a = length-append (take at old) xs in let b = length-take-le at old (omega (arith, fits)) in omega (arith, a, b)) in
-    let first : take (at + length xs) (written old at xs) ≡ front = ap (λ (zs : List ℕ). take (at + length xs) zs) one ∙ take_at front tail (at + length xs) len in
-    let rest : drop ((at + length xs) + length ys) (written old at xs) ≡ drop (at + length (xs ++ ys)) old =
-    sym (drop-drop (length ys) (at + length xs) (written old at xs))
+    let first : take (at + length xs) (bytes_after_write old at xs) ≡ front = ap (λ (zs : List ℕ). take (at + length xs) zs) one ∙ take_at front tail (at + length xs) len in
+    let rest : drop ((at + length xs) + length ys) (bytes_after_write old at xs) ≡ drop (at + length (xs ++ ys)) old =
+    sym (drop-drop (length ys) (at + length xs) (bytes_after_write old at xs))
     ∙ ap (λ (zs : List ℕ). drop (length ys) zs) (ap (λ (zs : List ℕ). drop (at + length xs) zs) one ∙ drop_at front tail (at + length xs) len)
     ∙ drop-drop (length ys) (at + length xs) old
     ∙ ap (λ (n : ℕ). drop n old) (let l = length-append xs ys in omega (arith, l)) in
@@ -47,7 +47,7 @@ written-more old xs ys at fits =
     ∙ append_assoc (take at old) xs (ys ++ drop (at + length (xs ++ ys)) old)
     ∙ ap (λ (zs : List ℕ). take at old ++ zs) (sym (append_assoc xs ys (drop (at + length (xs ++ ys)) old)))
 
-pub written-length : (old xs : List ℕ) (at : ℕ) → at + length xs ≤ length old → length (written old at xs) ≡ length old
+pub written-length : (old xs : List ℕ) (at : ℕ) → at + length xs ≤ length old → length (bytes_after_write old at xs) ≡ length old
 written-length old xs at fits =
     let a = length-append (take at old) (xs ++ drop (at + length xs) old) in
     let b = length-append xs (drop (at + length xs) old) in
@@ -59,7 +59,7 @@ written-length old xs at fits =
 
 pub laid-append : (stag : ℕ) (bytes : List ℕ) (xs ys : List WireSegment) → laid stag bytes (xs ++ ys) ≡ laid stag (laid stag bytes xs) ys
 laid-append stag bytes [] ys = refl
-laid-append stag bytes (Tagged last opcode s to payload ∷ xs) ys = laid-append stag (cond (eqb s stag) (written bytes to payload) bytes) xs ys
+laid-append stag bytes (Tagged last opcode s to payload ∷ xs) ys = laid-append stag (cond (eqb s stag) (bytes_after_write bytes to payload) bytes) xs ys
 laid-append stag bytes (Untagged last opcode w queue msn offset payload ∷ xs) ys = laid-append stag bytes xs ys
 
 flat-map : {X Y : Type 0} (f : Y → List ℕ) (g : X → Y) (xs : List X) → flat_map f (map g xs) ≡ flat_map (λ x. f (g x)) xs
@@ -77,20 +77,20 @@ all_pieces : (n : ℕ) → n ≤ 4096 * max 1 ((n + 4095) / 4096)
 all_pieces n = omega arith
 
 laid-segment_count : (stag to : ℕ) (bytes old : List ℕ) (k i : ℕ) → to + length bytes ≤ length old → i + k ≡ segment_count bytes →
-    laid stag (written old to (take (segment_max * i) bytes)) (map (one_write stag to bytes) (range_with_len i k)) ≡ written old to bytes
+    laid stag (bytes_after_write old to (take (segment_max * i) bytes)) (map (one_write stag to bytes) (range_with_len i k)) ≡ bytes_after_write old to bytes
 laid-segment_count stag to bytes old zero i fits all =
-    ap (λ (xs : List ℕ). written old to xs) (take_all (4096 * i) bytes (let h = all_pieces (length bytes) in omega (arith, h, all)))
+    ap (λ (xs : List ℕ). bytes_after_write old to xs) (take_all (4096 * i) bytes (let h = all_pieces (length bytes) in omega (arith, h, all)))
 laid-segment_count stag to bytes old (suc k) i fits all =
     let low : 4096 * i ≤ length bytes = low_piece i (length bytes) (omega (arith, all)) in
     let len : length (take (4096 * i) bytes) ≡ 4096 * i = length-take-le (4096 * i) bytes low in
-    ap (λ (b : Bool). laid stag (cond b (written (written old to (take (4096 * i) bytes)) (to + 4096 * i) (segment_payload bytes i)) (written old to (take (4096 * i) bytes))) (map (one_write stag to bytes) (range_with_len (i + 1) k))) (eq-eqb stag stag refl)
+    ap (λ (b : Bool). laid stag (cond b (bytes_after_write (bytes_after_write old to (take (4096 * i) bytes)) (to + 4096 * i) (segment_payload bytes i)) (bytes_after_write old to (take (4096 * i) bytes))) (map (one_write stag to bytes) (range_with_len (i + 1) k))) (eq-eqb stag stag refl)
     ∙ ap (λ (xs : List ℕ). laid stag xs (map (one_write stag to bytes) (range_with_len (i + 1) k)))
-    (ap (λ (n : ℕ). written (written old to (take (4096 * i) bytes)) (to + n) (segment_payload bytes i)) (sym len)
+    (ap (λ (n : ℕ). bytes_after_write (bytes_after_write old to (take (4096 * i) bytes)) (to + n) (segment_payload bytes i)) (sym len)
     ∙ written-more old (take (4096 * i) bytes) (segment_payload bytes i) to (omega (arith, len, low, fits))
-    ∙ ap (λ (xs : List ℕ). written old to xs) (take-split (4096 * i) 4096 bytes ∙ ap (λ (n : ℕ). take n bytes) (let s : 4096 * i + 4096 ≡ 4096 * (i + 1) = omega arith in s)))
+    ∙ ap (λ (xs : List ℕ). bytes_after_write old to xs) (take-split (4096 * i) 4096 bytes ∙ ap (λ (n : ℕ). take n bytes) (let s : 4096 * i + 4096 ≡ 4096 * (i + 1) = omega arith in s)))
     ∙ laid-segment_count stag to bytes old k (i + 1) fits (omega (arith, all))
 
-pub laid-write : (stag to : ℕ) (bytes old : List ℕ) → to + length bytes ≤ length old → laid stag old (write_segments stag to bytes) ≡ written old to bytes
+pub laid-write : (stag to : ℕ) (bytes old : List ℕ) → to + length bytes ≤ length old → laid stag old (write_segments stag to bytes) ≡ bytes_after_write old to bytes
 laid-write stag to bytes old fits =
     ap (λ (xs : List ℕ). laid stag xs (write_segments stag to bytes)) (sym (written-none old to))
     ∙ laid-segment_count stag to bytes old (segment_count bytes) 0 fits (omega arith)
@@ -98,7 +98,7 @@ laid-write stag to bytes old fits =
 laid-others : (stag other to : ℕ) (bytes old : List ℕ) (is : List ℕ) → stag ≢ other → laid stag old (map (one_write other to bytes) is) ≡ old
 laid-others stag other to bytes old [] ne = refl
 laid-others stag other to bytes old (i ∷ is) ne =
-    ap (λ (b : Bool). laid stag (cond b (written old (to + segment_max * i) (segment_payload bytes i)) old) (map (one_write other to bytes) is)) (ne_eqb other stag (λ e. ne (sym e)))
+    ap (λ (b : Bool). laid stag (cond b (bytes_after_write old (to + segment_max * i) (segment_payload bytes i)) old) (map (one_write other to bytes) is)) (ne_eqb other stag (λ e. ne (sym e)))
     ∙ laid-others stag other to bytes old is ne
 
 -- ---- A chunk whose segments lie one behind another
@@ -154,9 +154,9 @@ none_left (suc n) (b ∷ bytes) e = absurd (omega (arith, e))
 
 -- one more write of a chunk, or none
 laid-one : (stag at n : ℕ) (ns bytes old : List ℕ) (z : Bool) → eqb (min n (length bytes)) 0 ≡ z → at + length bytes ≤ length old
-    → laid stag old (cond z [] (write_segments stag at (take n bytes))) ≡ written old at (take n bytes)
+    → laid stag old (cond z [] (write_segments stag at (take n bytes))) ≡ bytes_after_write old at (take n bytes)
 laid-one stag at n ns bytes old true e fits =
-    sym (written-none old at) ∙ ap (λ (xs : List ℕ). written old at xs) (sym (nothing (none_left n bytes (eqb-true (min n (length bytes)) 0 e))))
+    sym (written-none old at) ∙ ap (λ (xs : List ℕ). bytes_after_write old at xs) (sym (nothing (none_left n bytes (eqb-true (min n (length bytes)) 0 e))))
   where
     nothing : (n ≡ 0) ⊎ (bytes ≡ []) → take n bytes ≡ []
     nothing (inl z) = ap (λ (m : ℕ). take m bytes) z
@@ -164,20 +164,20 @@ laid-one stag at n ns bytes old true e fits =
 laid-one stag at n ns bytes old false e fits = laid-write stag at (take n bytes) old (let l = length-take n bytes in omega (arith, l, fits))
 
 -- what is behind the first n
-rest_at : (n at : ℕ) (bytes old : List ℕ) → at + length bytes ≤ length old → written (written old at (take n bytes)) (at + n) (drop n bytes) ≡ written old at bytes
+rest_at : (n at : ℕ) (bytes old : List ℕ) → at + length bytes ≤ length old → bytes_after_write (bytes_after_write old at (take n bytes)) (at + n) (drop n bytes) ≡ bytes_after_write old at bytes
 rest_at n at bytes old fits = elim (cases_lt n (length bytes)) [
   | inl lt ↦
       let len : length (take n bytes) ≡ n = length-take-le n bytes (omega (arith, lt)) in
-      ap (λ (m : ℕ). written (written old at (take n bytes)) (at + m) (drop n bytes)) (sym len)
+      ap (λ (m : ℕ). bytes_after_write (bytes_after_write old at (take n bytes)) (at + m) (drop n bytes)) (sym len)
       ∙ written-more old (take n bytes) (drop n bytes) at (omega (arith, len, lt, fits))
-      ∙ ap (λ (xs : List ℕ). written old at xs) (take-append-drop n bytes)
+      ∙ ap (λ (xs : List ℕ). bytes_after_write old at xs) (take-append-drop n bytes)
   | inr le ↦
-      ap (λ (xs : List ℕ). written (written old at (take n bytes)) (at + n) xs) (drop_all n bytes le)
-      ∙ written-none (written old at (take n bytes)) (at + n)
-      ∙ ap (λ (xs : List ℕ). written old at xs) (take_all n bytes le)
+      ap (λ (xs : List ℕ). bytes_after_write (bytes_after_write old at (take n bytes)) (at + n) xs) (drop_all n bytes le)
+      ∙ written-none (bytes_after_write old at (take n bytes)) (at + n)
+      ∙ ap (λ (xs : List ℕ). bytes_after_write old at xs) (take_all n bytes le)
 ]
 
-pub laid-chunk : (stag at : ℕ) (ns bytes old : List ℕ) → length bytes ≤ added_up ns → at + added_up ns ≤ length old → laid stag old (chunk_segments (segments_from stag at ns) bytes) ≡ written old at bytes
+pub laid-chunk : (stag at : ℕ) (ns bytes old : List ℕ) → length bytes ≤ added_up ns → at + added_up ns ≤ length old → laid stag old (chunk_segments (segments_from stag at ns) bytes) ≡ bytes_after_write old at bytes
 laid-chunk stag at [] [] old low fits = sym (written-none old at)
 laid-chunk stag at [] (b ∷ bytes) old low fits = absurd (omega (arith, low))
 laid-chunk stag at (n ∷ ns) bytes old low fits =
@@ -185,7 +185,7 @@ laid-chunk stag at (n ∷ ns) bytes old low fits =
     let others = chunk_segments (segments_from stag (at + n) ns) (drop n bytes) in
     let dropped = length-drop n bytes in
     let taken = length-take n bytes in
-    let old2 = written old at (take n bytes) in
+    let old2 = bytes_after_write old at (take n bytes) in
     let same = written-length old (take n bytes) at (omega (arith, taken, low, fits)) in
     laid-append stag old first others
     ∙ ap (λ (xs : List ℕ). laid stag xs others) (laid-one stag at n ns bytes old (eqb (min n (length bytes)) 0) refl (omega (arith, low, fits)))

@@ -1,4 +1,3 @@
-pub mod Fronts
 pub mod Places
 pub mod Rooms
 pub mod Recut

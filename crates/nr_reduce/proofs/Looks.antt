@@ -3,12 +3,13 @@ use Rattle.std.proofs.Common.{◌≡◌, ℕ, ◌+◌, ◌≤◌, Bool, true, fa
 use Rattle.std.proofs.lemmas.List.{take-append-drop, take_at, drop_at}
 use Rattle.nr_xdr.specs.Item.{Item as XdrItem, IsBytes}
 use Rattle.nr_xdr.specs.Item.Item.{Unsigned}
+use Rattle.nr_xdr.specs.Items.{TakesAll}
 use Rattle.nr_xdr.specs.Reading.{Cursor, Takes}
 use Rattle.nr_xdr.specs.Sequencing.{◌>>=◌, number_at}
 use Rattle.nr_xdr.proofs.SequencingSteps.{bind_ok, ok_is, chosen, number_step, number_again}
 use Rattle.nr_xdr.proofs.WordBytes.{length-word}
 use Rattle.nr_xdr.proofs.Chains.{standing, IsBytes-right, IsBytes-left}
-use Rattle.nr_rpc.specs.Reading.{expect_at, call_of, reply_of, target_of}
+use Rattle.nr_rpc.specs.Reading.{call_of, reply_of, target_of}
 use Rattle.nr_rpc.specs.declared.head.CallHead.{CallHead}
 use Rattle.nr_rpc.specs.declared.head.CallHead.TheVariants as calls
 use Rattle.nr_rpc.specs.declared.head.CallTarget.{CallTarget}
@@ -18,12 +19,9 @@ use Rattle.nr_rpc.specs.Call.{BeginsCall}
 use Rattle.nr_rpc.specs.Reply.{BeginsReply}
 use Rattle.nr_rpc.proofs.Calls.{call_begins, begins_call}
 use Rattle.nr_rpc.proofs.Replies.{reply_begins, begins_reply}
-use Rattle.nr_nfs_base.specs.Codec.{Codec, Lawful, TakesAll, ◌⊗◌, word, hyper, boolean, optional}
-use Rattle.nr_nfs_base.specs.Laws.{word_lawful, hyper_lawful, boolean_lawful, optional_lawful, ◌⊠◌}
-use Rattle.nr_nfs_base.specs.Names.{handle_lawful, text_lawful}
-use Rattle.nr_nfs_base.specs.Stable.{stable_how_lawful}
-use Rattle.nr_nfs_base.specs.SetAttributes.{set_attributes_lawful}
-use Rattle.nr_nfs_base.specs.Attributes.{attributes_codec, attributes_lawful}
+use Rattle.nr_nfs_base.specs.Codec.{Codec, Lawful}
+use Rattle.nr_nfs_base.specs.Laws.{◌⊠◌}
+use Rattle.nr_nfs_base.specs.Fronts.{write_args_front, write_args_front_lawful, symlink_args_front, symlink_args_front_lawful, readlink_res_front, readlink_ok_front_lawful, read_res_front, read_ok_front_lawful, success_lawful}
 use Rattle.nr_reduce.specs.declared.item.Item.{Item}
 use Rattle.nr_reduce.specs.declared.item.Of.{Of}
 use Rattle.nr_reduce.specs.Items.{item_of, item_by, item_at, before_data, before_path, before_target, before_read, from_place, target_item, call_item, results_of, results_item, reply_item, is_nfs, READ, READLINK, WRITE, SYMLINK}
@@ -70,49 +68,15 @@ behind x = Ok x.1
 of_codec : {A : Type 0} (c : Codec A) → Lawful c → Local (λ at. c.read at >>= λ x. Ok x.1)
 of_codec {A} c lawful at after fits e =
     let b = bind_ok (c.read at) (λ x. Ok x.1) after e in
-    let taken = lawful.takes at b.0.0 b.0.1 fits b.1 in
+    let taken = lawful.read_is_encoded at b.0.0 b.0.1 fits b.1 in
     let r = retakes (c.items b.0.0) at b.0.1 taken.1 in
     subst (λ (a : Cursor). Reaches (λ at. c.read at >>= λ x. Ok x.1) at a) (ok_is b.0.1 after b.2) (record {
       bytes = r.bytes;
       rest = r.rest;
       place = r.place;
       again = λ more. ap (λ (read : Result (A × Cursor) ℕ). read >>= λ x. Ok x.1)
-          (lawful.again (standing at.place (r.bytes ++ more)) b.0.0 (standing b.0.1.place more) taken.0 (r.again more));
+          (lawful.encoded_is_read (standing at.place (r.bytes ++ more)) b.0.0 (standing b.0.1.place more) taken.0 (r.again more));
     })
-
-then_local : (f g : Cursor → Result Cursor ℕ) → Local f → Local g → Local (λ c. f c >>= g)
-then_local f g first second c after fits e =
-    let b = bind_ok (f c) g after e in
-    let p = first c b.0 fits b.1 in
-    let q = second b.0 after (IsBytes-right p.bytes b.0.rest (subst IsBytes p.rest fits)) b.2 in record {
-      bytes = p.bytes ++ q.bytes;
-      rest = p.rest ∙ ap (λ (xs : List ℕ). p.bytes ++ xs) q.rest ∙ sym (append_assoc p.bytes q.bytes after.rest);
-      place = omega (arith, p.place, q.place, length-append p.bytes q.bytes);
-      again = λ more.
-          ap (λ (xs : List ℕ). f (standing c.place xs) >>= g) (append_assoc p.bytes q.bytes more)
-          ∙ ap (λ (r : Result Cursor ℕ). r >>= g) (p.again (q.bytes ++ more))
-          ∙ q.again more;
-    }
-
-this_local : (wanted : ℕ) → Local (expect_at wanted)
-unfolding expect_at
-this_local wanted c after fits e =
-    let s = number_step c _ after fits e in
-    let picked : (n : ℕ) (to : Cursor) → Takes c to (Unsigned n) → cond (eqb n wanted) (Ok to) (Err c.place) ≡ Ok after → Reaches (expect_at wanted) c after =
-    λ n to taken f. elim (chosen (eqb n wanted) (Ok to) (Err c.place) (Ok after) f) [
-      | inl h ↦ subst (λ (a : Cursor). Reaches (expect_at wanted) c a) (ok_is to after h.1) (record {
-        bytes = taken.bytes;
-        rest = taken.rest;
-        place = taken.place;
-        again = λ more.
-            ap (λ (r : Result (ℕ × Cursor) ℕ). r >>= λ m. cond (eqb m.0 wanted) (Ok m.1) (Err c.place))
-            (number_again (standing c.place (taken.bytes ++ more)) n (standing to.place more)
-            (record { bytes = taken.bytes; reads = taken.reads; rest = refl; place = taken.place }))
-            ∙ ap (λ (b : Bool). cond b (Ok (standing to.place more)) (Err c.place)) h.0;
-      })
-      | inr h ↦ absurd (let wrong = h.1 in cc)
-    ] in
-    picked s.0.0 s.0.1 s.1 s.3
 
 -- an item that was found, by so many bytes
 pub record Found (read : Cursor → Result Cursor ℕ) (c : Cursor) (i : Item) : Type 0 where
@@ -182,19 +146,19 @@ IsBytes-take n xs fits = IsBytes-left (take n xs) (drop n xs) (subst IsBytes (sy
 
 local_data : Local before_data
 unfolding before_data
-local_data = of_codec _ (handle_lawful ⊠ hyper_lawful ⊠ word_lawful ⊠ stable_how_lawful)
+local_data = of_codec write_args_front write_args_front_lawful
 
 local_path : Local before_path
 unfolding before_path
-local_path = of_codec _ (handle_lawful ⊠ text_lawful ⊠ set_attributes_lawful)
+local_path = of_codec symlink_args_front symlink_args_front_lawful
 
 local_target : Local before_target
 unfolding before_target
-local_target = then_local (expect_at 0) _ (this_local 0) (of_codec (optional attributes_codec) (optional_lawful attributes_codec attributes_lawful))
+local_target = of_codec readlink_res_front (success_lawful ⊠ readlink_ok_front_lawful)
 
 local_read : Local before_read
 unfolding before_read
-local_read = then_local before_target _ local_target (of_codec (word ⊗ boolean) (word_lawful ⊠ boolean_lawful))
+local_read = of_codec read_res_front (success_lawful ⊠ read_ok_front_lawful)
 
 -- behind a head
 after_head : (read : Cursor → Result Cursor ℕ) → Local read → (payload front behind : List ℕ) (start : ℕ) (i : Item) → IsBytes payload → payload ≡ front ++ behind → start ≡ length front → item_at (read (from_place start payload)) ≡ Some i

@@ -1,19 +1,19 @@
 -- Memory that holds the open regions of an end holds them from event to event: at a later place, after an access, where regions are
--- closed, and where one more is registered.
+-- closed, and where one more is after_register.
 use Rattle.std.proofs.Common.{◌≡◌, ◌≢◌, ℕ, ◌+◌, ◌<◌, ◌≤◌, Bool, true, false, cond, ◌&&◌, eqb, leb, ltb, List, [], ◌∷◌, ◌++◌, length, map, Option, None, Some, refl, sym, ap, subst, ◌∙◌, arith, inl, inr}
 use Rattle.std.specs.Prelude.{IfSome, is_none}
 use Rattle.std.proofs.lemmas.Bool.{eqb-true, eq-eqb, ne_eqb, cases_eq, le-leb, le-ltb}
 use Rattle.nr_regions.specs.declared.right.Right.{Right}
 use Rattle.nr_regions.specs.declared.denied.Denied.{Denied}
 use Rattle.nr_regions.specs.declared.region.Region.{Region as HeldRegion}
-use Rattle.nr_regions.specs.RegisteredMemory.{RegisteredMemory, Access, held_at, live_at, lack_in, offer, lack, registered, written}
-use Rattle.nr_regions.specs.Access.{Grant, Reach, stands, grant_at, offered, lacking, access_of, after_reach, contents}
-use Rattle.nr_regions.specs.Past.{Event, happened, arrived_by, run}
-use Rattle.nr_regions.specs.Past.Event.{Arrive}
+use Rattle.nr_regions.specs.RegisteredMemory.{RegisteredMemory, Access, held_region, live_region, denial_in, region_offer, denial, after_register, bytes_after_write}
+use Rattle.nr_regions.specs.Access.{Grant, TaggedSegment, applies, grant_at, grant_offer, grant_denial, access_of, after_segment, contents}
+use Rattle.nr_regions.specs.Events.{Event, after_event, after_arrival, after_events}
+use Rattle.nr_regions.specs.Events.Event.{Arrive}
 use Rattle.nr_regions.proofs.Holding.{live-held, register_here, register_other, arrive_other}
-use Rattle.nr_regions.proofs.Pasts.{past}
+use Rattle.nr_regions.proofs.Contents.{contents_are}
 use Rattle.nr_reduce.specs.OfferedRegions.{Region, until_or, region_grant, region_grants, until_at, closed_if, regions_closed}
-use Rattle.nr_reduce.specs.OfferedMemory.{region_at, AreOffered, AreReceived, held_if_open, held_region, HoldsRegions, is_closed_by, ReleasesClosed}
+use Rattle.nr_reduce.specs.OfferedMemory.{region_at, AreOffered, AreReceived, held_if_open, registered_region, HoldsRegions, is_closed_by, ReleasesClosed}
 use Rattle.nr_reduce.proofs.OfferedMemory.{grants_from, found, none-found, granted, offer_if_open, offer_of, contents-same, IsAlike, AreAlike, alike-offers, judged, sized_by, contents-length}
 
 stag-found : (regions : List Region) (stag : ℕ) (r : Region) → region_at regions stag ≡ Some r → r.stag ≡ stag
@@ -26,7 +26,7 @@ stag-found (x ∷ regions) stag r e = by (eqb x.stag stag) refl e (stag-found re
 
 -- ---- Contents have the length of their region
 
-sized-found : (place now end stag : ℕ) (regions : List Region) (r : Region) → AreOffered place regions → region_at regions stag ≡ Some r → sized_by (offered (found stag end (grants_from now regions))) (length r.bytes)
+sized-found : (place now end stag : ℕ) (regions : List Region) (r : Region) → AreOffered place regions → region_at regions stag ≡ Some r → sized_by (grant_offer (found stag end (grants_from now regions))) (length r.bytes)
 sized-found place now end stag [] r h e = absurd cc
 sized-found place now end stag (x ∷ regions) r h e = by (eqb x.stag stag) refl e (sized-found place now end stag regions r h.1.1.1)
   where
@@ -36,29 +36,29 @@ sized-found place now end stag (x ∷ regions) r h e = by (eqb x.stag stag) refl
     rest : Bool
     rest = ltb x.from end && leb end (until_or now x.until)
 
-    first : (b : Bool) → others ≡ None → x ≡ r → sized_by (offered (cond b (Some (region_grant now x)) others)) (length r.bytes)
+    first : (b : Bool) → others ≡ None → x ≡ r → sized_by (grant_offer (cond b (Some (region_grant now x)) others)) (length r.bytes)
     first true none same = ap (λ (q : Region). length q.bytes) same
-    first false none same = subst (λ (o : Option Grant). sized_by (offered o) (length r.bytes)) (sym none) tt
+    first false none same = subst (λ (o : Option Grant). sized_by (grant_offer o) (length r.bytes)) (sym none) tt
 
-    by : (b : Bool) → eqb x.stag stag ≡ b → cond b (Some x) (region_at regions stag) ≡ Some r → (region_at regions stag ≡ Some r → sized_by (offered others) (length r.bytes))
-        → sized_by (offered (cond (eqb x.stag stag && rest) (Some (region_grant now x)) others)) (length r.bytes)
+    by : (b : Bool) → eqb x.stag stag ≡ b → cond b (Some x) (region_at regions stag) ≡ Some r → (region_at regions stag ≡ Some r → sized_by (grant_offer others) (length r.bytes))
+        → sized_by (grant_offer (cond (eqb x.stag stag && rest) (Some (region_grant now x)) others)) (length r.bytes)
     by true is e later =
         let same : x ≡ r = (let s : Some x ≡ Some r = e in cc) in
         let none : others ≡ None = none-found now end stag regions (subst (λ (s : ℕ). region_at regions s ≡ None) (eqb-true x.stag stag is) h.1.1.0) in
-        subst (λ (b : Bool). sized_by (offered (cond (b && rest) (Some (region_grant now x)) others)) (length r.bytes)) (sym is) (first rest none same)
+        subst (λ (b : Bool). sized_by (grant_offer (cond (b && rest) (Some (region_grant now x)) others)) (length r.bytes)) (sym is) (first rest none same)
     by false is e later =
-        subst (λ (b : Bool). sized_by (offered (cond (b && rest) (Some (region_grant now x)) others)) (length r.bytes)) (sym is) (later e)
+        subst (λ (b : Bool). sized_by (grant_offer (cond (b && rest) (Some (region_grant now x)) others)) (length r.bytes)) (sym is) (later e)
 
-region-length : (place now stag : ℕ) (regions : List Region) (reaches : List Reach) (r : Region) → AreOffered place regions → region_at regions stag ≡ Some r → length (contents (region_grants now regions) r.stag r.bytes reaches) ≡ length r.bytes
+region-length : (place now stag : ℕ) (regions : List Region) (reaches : List TaggedSegment) (r : Region) → AreOffered place regions → region_at regions stag ≡ Some r → length (contents (region_grants now regions) r.stag r.bytes reaches) ≡ length r.bytes
 unfolding region_grants
 region-length place now stag regions reaches r h e =
     let same = stag-found regions stag r e in
     contents-length (grants_from now regions) r.stag r.bytes reaches (length r.bytes) refl
-    (λ end. subst (λ (s : ℕ). sized_by (offered (found s end (grants_from now regions))) (length r.bytes)) (sym same) (sized-found place now end stag regions r h e))
+    (λ end. subst (λ (s : ℕ). sized_by (grant_offer (found s end (grants_from now regions))) (length r.bytes)) (sym same) (sized-found place now end stag regions r h e))
 
 -- an end denies what its grants deny
-pub denied_alike : (regions : List Region) (reaches : List Reach) (place end : ℕ) (m : RegisteredMemory) (access : Access) → AreOffered place regions → HoldsRegions regions reaches place m → place < end →
-    lack m access ≡ lacking (region_grants end regions) access end
+pub denied_alike : (regions : List Region) (reaches : List TaggedSegment) (place end : ℕ) (m : RegisteredMemory) (access : Access) → AreOffered place regions → HoldsRegions regions reaches place m → place < end →
+    denial m access ≡ grant_denial (region_grants end regions) access end
 denied_alike regions reaches place end m access fits holds lt =
     judged regions reaches place end m access fits holds lt (λ r e. region-length place place access.stag regions reaches r fits e)
 
@@ -73,36 +73,36 @@ self-alike place now later (r ∷ regions) low high =
     by None end le = le-leb end now (omega (arith, le, low)) ∙ sym (le-leb end later (omega (arith, le, high)))
     by (Some until) end le = refl
 
-held-alike : (place now later : ℕ) (regions others : List Region) (reaches : List Reach) (o : Option Region) → AreAlike place now later regions others → AreReceived place reaches →
-    held_region (region_grants now regions) reaches o ≡ held_region (region_grants later others) reaches o
+held-alike : (place now later : ℕ) (regions others : List Region) (reaches : List TaggedSegment) (o : Option Region) → AreAlike place now later regions others → AreReceived place reaches →
+    registered_region (region_grants now regions) reaches o ≡ registered_region (region_grants later others) reaches o
 unfolding region_grants
 held-alike place now later regions others reaches None alike received = refl
 held-alike place now later regions others reaches (Some r) alike received =
     ap (λ (b : List ℕ). held_if_open r.until (record { right = r.right; buf = b }))
     (contents-same place (grants_from now regions) (grants_from later others) r.stag r.bytes reaches (λ end le. alike-offers place now later r.stag end regions others alike le) received)
 
-pub holds-later : (regions : List Region) (reaches : List Reach) (place later : ℕ) (m : RegisteredMemory) → place ≤ later → AreReceived place reaches → HoldsRegions regions reaches place m → HoldsRegions regions reaches later m
+pub holds-later : (regions : List Region) (reaches : List TaggedSegment) (place later : ℕ) (m : RegisteredMemory) → place ≤ later → AreReceived place reaches → HoldsRegions regions reaches place m → HoldsRegions regions reaches later m
 holds-later regions reaches place later m le received holds stag =
     holds stag ∙ held-alike place place later regions regions reaches (region_at regions stag) (self-alike place place later regions (omega arith) le) received
 
 -- ---- An access
 
-contents-append : (gs : List Grant) (stag : ℕ) (bytes : List ℕ) (reaches : List Reach) (r : Reach) → contents gs stag bytes (reaches ++ r ∷ []) ≡ after_reach gs stag (contents gs stag bytes reaches) r
+contents-append : (gs : List Grant) (stag : ℕ) (bytes : List ℕ) (reaches : List TaggedSegment) (r : TaggedSegment) → contents gs stag bytes (reaches ++ r ∷ []) ≡ after_segment gs stag (contents gs stag bytes reaches) r
 contents-append gs stag bytes [] r = refl
-contents-append gs stag bytes (x ∷ reaches) r = contents-append gs stag (after_reach gs stag bytes x) reaches r
+contents-append gs stag bytes (x ∷ reaches) r = contents-append gs stag (after_segment gs stag bytes x) reaches r
 
-dead-stays : (m : RegisteredMemory) (r : Reach) (stag : ℕ) → live_at m stag ≡ None → live_at (happened m (Arrive r)) stag ≡ None
-unfolding happened lack
+dead-stays : (m : RegisteredMemory) (r : TaggedSegment) (stag : ℕ) → live_region m stag ≡ None → live_region (after_event m (Arrive r)) stag ≡ None
+unfolding after_event denial
 dead-stays m r stag none = elim (cases_eq stag r.stag) [
   | inl e ↦
-      let here : live_at m r.stag ≡ None = subst (λ (s : ℕ). live_at m s ≡ None) e none in
-      ap (λ (o : Option HeldRegion). live_at (arrived_by (lack_in (offer o) (access_of r)) m r) stag) here ∙ none
-  | inr ne ↦ live-held (happened m (Arrive r)) stag ∙ arrive_other m r stag ne ∙ sym (live-held m stag) ∙ none
+      let here : live_region m r.stag ≡ None = subst (λ (s : ℕ). live_region m s ≡ None) e none in
+      ap (λ (o : Option HeldRegion). live_region (after_arrival (denial_in (region_offer o) (access_of r)) m r) stag) here ∙ none
+  | inr ne ↦ live-held (after_event m (Arrive r)) stag ∙ arrive_other m r stag ne ∙ sym (live-held m stag) ∙ none
 ]
 
-pub holds-access : (regions : List Region) (reaches : List Reach) (place : ℕ) (m : RegisteredMemory) (r : Reach) → AreOffered place regions → AreReceived place reaches →
+pub holds-access : (regions : List Region) (reaches : List TaggedSegment) (place : ℕ) (m : RegisteredMemory) (r : TaggedSegment) → AreOffered place regions → AreReceived place reaches →
     ((stag : ℕ) (x : Region) → region_at regions stag ≡ Some x → stag < m.next) → place < r.end → HoldsRegions regions reaches place m →
-    HoldsRegions regions (reaches ++ r ∷ []) r.end (happened m (Arrive r))
+    HoldsRegions regions (reaches ++ r ∷ []) r.end (after_event m (Arrive r))
 unfolding region_grants grant_at
 holds-access regions reaches place m r fits received below lt holds stag =
     by (region_at regions stag) refl (holds-later regions reaches place r.end m (omega (arith, lt)) received holds stag)
@@ -110,23 +110,23 @@ holds-access regions reaches place m r fits received below lt holds stag =
     gs : List Grant
     gs = grants_from r.end regions
 
-    by_until : (x : Region) (u : Option ℕ) → x.until ≡ u → region_at regions stag ≡ Some x → live_at m stag ≡ held_if_open u (record { right = x.right; buf = contents gs x.stag x.bytes reaches })
-        → live_at (happened m (Arrive r)) stag ≡ held_if_open u (record { right = x.right; buf = contents gs x.stag x.bytes (reaches ++ r ∷ []) })
+    by_until : (x : Region) (u : Option ℕ) → x.until ≡ u → region_at regions stag ≡ Some x → live_region m stag ≡ held_if_open u (record { right = x.right; buf = contents gs x.stag x.bytes reaches })
+        → live_region (after_event m (Arrive r)) stag ≡ held_if_open u (record { right = x.right; buf = contents gs x.stag x.bytes (reaches ++ r ∷ []) })
     by_until x (Some until) u_is is live = dead-stays m r stag live
     by_until x None u_is is live =
         let same : x.stag ≡ stag = stag-found regions stag x is in
         let buf : List ℕ = contents gs stag x.bytes reaches in
-        let there : held_at m stag ≡ Some (record { right = x.right; buf = buf }) =
+        let there : held_region m stag ≡ Some (record { right = x.right; buf = buf }) =
         sym (live-held m stag) ∙ live ∙ ap (λ (s : ℕ). Some (record { right = x.right; buf = contents gs s x.bytes reaches })) same in
-        let offers : offered (found stag r.end gs) ≡ Some (x.right, length x.bytes) =
+        let offers : grant_offer (found stag r.end gs) ≡ Some (x.right, length x.bytes) =
         granted place r.end stag regions fits lt ∙ ap offer_of is ∙ ap (λ (u : Option ℕ). offer_if_open u x.right (length x.bytes)) u_is in
         let sized : length buf ≡ length x.bytes = ap (λ (s : ℕ). length (contents gs s x.bytes reaches)) (sym same) ∙ region-length place r.end stag regions reaches x fits is in
-        live-held (happened m (Arrive r)) stag
-        ∙ past gs stag x.right (length x.bytes) (Arrive r ∷ []) m buf sized (below stag x is) there (tt, (λ e. offers), tt)
+        live-held (after_event m (Arrive r)) stag
+        ∙ contents_are gs stag x.right (length x.bytes) (Arrive r ∷ []) m buf sized (below stag x is) there (tt, (λ e. offers), tt)
         ∙ ap (λ (b : List ℕ). Some (record { right = x.right; buf = b })) (sym (contents-append gs stag x.bytes reaches r))
         ∙ ap (λ (s : ℕ). Some (record { right = x.right; buf = contents gs s x.bytes (reaches ++ r ∷ []) })) (sym same)
 
-    by : (o : Option Region) → region_at regions stag ≡ o → live_at m stag ≡ held_region gs reaches o → live_at (happened m (Arrive r)) stag ≡ held_region gs (reaches ++ r ∷ []) o
+    by : (o : Option Region) → region_at regions stag ≡ o → live_region m stag ≡ registered_region gs reaches o → live_region (after_event m (Arrive r)) stag ≡ registered_region gs (reaches ++ r ∷ []) o
     by None is live = dead-stays m r stag live
     by (Some x) is live = by_until x x.until refl is live
 
@@ -180,7 +180,7 @@ closed-alike test place later (r ∷ regions) le = (by (test r), closed-alike te
     by true = record { stag = refl; right = refl; bytes = refl; from = refl; until = until_alike r.until }
     by false = record { stag = refl; right = refl; bytes = refl; from = refl; until = open_alike r.until }
 
-pub holds-closed : (test : Region → Bool) (regions : List Region) (reaches : List Reach) (place later : ℕ) (m after : RegisteredMemory) → place ≤ later → AreReceived place reaches → ReleasesClosed test regions m after →
+pub holds-closed : (test : Region → Bool) (regions : List Region) (reaches : List TaggedSegment) (place later : ℕ) (m after : RegisteredMemory) → place ≤ later → AreReceived place reaches → ReleasesClosed test regions m after →
     HoldsRegions regions reaches place m → HoldsRegions (regions_closed test later regions) reaches later after
 unfolding regions_closed
 holds-closed test regions reaches place later m after le received releases holds stag =
@@ -189,8 +189,8 @@ holds-closed test regions reaches place later m after le received releases holds
     closed : List Region
     closed = closed_list test later regions
 
-    by_test : (x : Region) (b : Bool) → live_at after stag ≡ cond b None (live_at m stag) → live_at m stag ≡ held_region (region_grants place regions) reaches (Some x)
-        → live_at after stag ≡ held_region (region_grants later closed) reaches (Some (closed_if b later x))
+    by_test : (x : Region) (b : Bool) → live_region after stag ≡ cond b None (live_region m stag) → live_region m stag ≡ registered_region (region_grants place regions) reaches (Some x)
+        → live_region after stag ≡ registered_region (region_grants later closed) reaches (Some (closed_if b later x))
     by_test x true is live = is ∙ dead x.until
       where
         dead : (u : Option ℕ) → None ≡ held_if_open (until_at later u) (record { right = x.right; buf = contents (region_grants later closed) x.stag x.bytes reaches })
@@ -199,19 +199,19 @@ holds-closed test regions reaches place later m after le received releases holds
     by_test x false is live =
         is ∙ live ∙ held-alike place place later regions closed reaches (Some x) (closed-alike test place later regions le) received
 
-    by : (o : Option Region) → region_at regions stag ≡ o → live_at after stag ≡ cond (is_closed_by test (region_at regions stag)) None (live_at m stag) → live_at m stag ≡ held_region (region_grants place regions) reaches (region_at regions stag)
-        → live_at after stag ≡ held_region (region_grants later closed) reaches (region_at closed stag)
+    by : (o : Option Region) → region_at regions stag ≡ o → live_region after stag ≡ cond (is_closed_by test (region_at regions stag)) None (live_region m stag) → live_region m stag ≡ registered_region (region_grants place regions) reaches (region_at regions stag)
+        → live_region after stag ≡ registered_region (region_grants later closed) reaches (region_at closed stag)
     by None is released live =
         released
-        ∙ ap (λ (o : Option Region). cond (is_closed_by test o) None (live_at m stag)) is
+        ∙ ap (λ (o : Option Region). cond (is_closed_by test o) None (live_region m stag)) is
         ∙ live
-        ∙ ap (λ (o : Option Region). held_region (region_grants place regions) reaches o) is
-        ∙ ap (λ (o : Option Region). held_region (region_grants later closed) reaches o) (sym (closed-at test later stag regions None is))
+        ∙ ap (λ (o : Option Region). registered_region (region_grants place regions) reaches o) is
+        ∙ ap (λ (o : Option Region). registered_region (region_grants later closed) reaches o) (sym (closed-at test later stag regions None is))
     by (Some x) is released live =
         by_test x (test x)
-        (released ∙ ap (λ (o : Option Region). cond (is_closed_by test o) None (live_at m stag)) is)
-        (live ∙ ap (λ (o : Option Region). held_region (region_grants place regions) reaches o) is)
-        ∙ ap (λ (o : Option Region). held_region (region_grants later closed) reaches o) (sym (closed-at test later stag regions (Some x) is))
+        (released ∙ ap (λ (o : Option Region). cond (is_closed_by test o) None (live_region m stag)) is)
+        (live ∙ ap (λ (o : Option Region). registered_region (region_grants place regions) reaches o) is)
+        ∙ ap (λ (o : Option Region). registered_region (region_grants later closed) reaches o) (sym (closed-at test later stag regions (Some x) is))
 
 -- ---- One more region
 
@@ -231,45 +231,45 @@ at-append (y ∷ regions) r stag o e = by (eqb y.stag stag) refl e (λ h. at-app
     by false is e later = ap (λ (b : Bool). cond b (Some y) (region_at (regions ++ r ∷ []) stag)) is ∙ later e
 
 -- a region that begins at a place is granted to no frame that ends there or before
-append-offers : (now place stag end : ℕ) (regions : List Region) (r : Region) → r.from ≡ place → end ≤ place → offered (found stag end (grants_from now regions)) ≡ offered (found stag end (grants_from now (regions ++ r ∷ [])))
+append-offers : (now place stag end : ℕ) (regions : List Region) (r : Region) → r.from ≡ place → end ≤ place → grant_offer (found stag end (grants_from now regions)) ≡ grant_offer (found stag end (grants_from now (regions ++ r ∷ [])))
 append-offers now place stag end [] r from le =
     (let none : ltb r.from end ≡ false = le-ltb r.from end (omega (arith, from, le)) in
-    sym (ap (λ (b : Bool). offered (cond (eqb r.stag stag && (b && leb end (until_or now r.until))) (Some (region_grant now r)) None)) none ∙ and-false (eqb r.stag stag)))
+    sym (ap (λ (b : Bool). grant_offer (cond (eqb r.stag stag && (b && leb end (until_or now r.until))) (Some (region_grant now r)) None)) none ∙ and-false (eqb r.stag stag)))
   where
-    and-false : (b : Bool) → offered (cond (b && false) (Some (region_grant now r)) None) ≡ None
+    and-false : (b : Bool) → grant_offer (cond (b && false) (Some (region_grant now r)) None) ≡ None
     and-false true = refl
     and-false false = refl
-append-offers now place stag end (x ∷ regions) r from le = by (stands stag end (region_grant now x)) (append-offers now place stag end regions r from le)
+append-offers now place stag end (x ∷ regions) r from le = by (applies stag end (region_grant now x)) (append-offers now place stag end regions r from le)
   where
-    by : (b : Bool) → offered (found stag end (grants_from now regions)) ≡ offered (found stag end (grants_from now (regions ++ r ∷ [])))
-        → offered (cond b (Some (region_grant now x)) (found stag end (grants_from now regions))) ≡ offered (cond b (Some (region_grant now x)) (found stag end (grants_from now (regions ++ r ∷ []))))
+    by : (b : Bool) → grant_offer (found stag end (grants_from now regions)) ≡ grant_offer (found stag end (grants_from now (regions ++ r ∷ [])))
+        → grant_offer (cond b (Some (region_grant now x)) (found stag end (grants_from now regions))) ≡ grant_offer (cond b (Some (region_grant now x)) (found stag end (grants_from now (regions ++ r ∷ []))))
     by true h = refl
     by false h = h
 
-none-offered : (place now end stag : ℕ) (regions : List Region) (r : Region) → region_at regions stag ≡ None → r.from ≡ place → end ≤ place → offered (found stag end (grants_from now (regions ++ r ∷ []))) ≡ None
+none-offered : (place now end stag : ℕ) (regions : List Region) (r : Region) → region_at regions stag ≡ None → r.from ≡ place → end ≤ place → grant_offer (found stag end (grants_from now (regions ++ r ∷ []))) ≡ None
 none-offered place now end stag regions r none from le =
-    sym (append-offers now place stag end regions r from le) ∙ ap offered (none-found now end stag regions none)
+    sym (append-offers now place stag end regions r from le) ∙ ap grant_offer (none-found now end stag regions none)
 
--- without an offer nothing is placed
-after-empty : (stag : ℕ) (bytes : List ℕ) (r : Reach) → after_reach [] stag bytes r ≡ bytes
-unfolding lacking grant_at
+-- without an region_offer nothing is placed
+after-empty : (stag : ℕ) (bytes : List ℕ) (r : TaggedSegment) → after_segment [] stag bytes r ≡ bytes
+unfolding grant_denial grant_at
 after-empty stag bytes r = by (eqb r.stag stag)
   where
-    by : (b : Bool) → cond (b && false) (written bytes r.to r.payload) bytes ≡ bytes
+    by : (b : Bool) → cond (b && false) (bytes_after_write bytes r.to r.payload) bytes ≡ bytes
     by true = refl
     by false = refl
 
-contents-empty : (stag : ℕ) (bytes : List ℕ) (reaches : List Reach) → contents [] stag bytes reaches ≡ bytes
+contents-empty : (stag : ℕ) (bytes : List ℕ) (reaches : List TaggedSegment) → contents [] stag bytes reaches ≡ bytes
 contents-empty stag bytes [] = refl
 contents-empty stag bytes (r ∷ reaches) =
     ap (λ (b : List ℕ). contents [] stag b reaches) (after-empty stag bytes r) ∙ contents-empty stag bytes reaches
 
-contents-none : (place : ℕ) (gs : List Grant) (stag : ℕ) (bytes : List ℕ) (reaches : List Reach) → ((end : ℕ) → end ≤ place → offered (found stag end gs) ≡ None) → AreReceived place reaches → contents gs stag bytes reaches ≡ bytes
+contents-none : (place : ℕ) (gs : List Grant) (stag : ℕ) (bytes : List ℕ) (reaches : List TaggedSegment) → ((end : ℕ) → end ≤ place → grant_offer (found stag end gs) ≡ None) → AreReceived place reaches → contents gs stag bytes reaches ≡ bytes
 contents-none place gs stag bytes reaches none received =
     contents-same place gs [] stag bytes reaches (λ end le. none end le) received ∙ contents-empty stag bytes reaches
 
-pub holds-registered : (regions : List Region) (reaches : List Reach) (place : ℕ) (m : RegisteredMemory) (r : Region) → AreReceived place reaches → region_at regions m.next ≡ None →
-    r.stag ≡ m.next → r.from ≡ place → r.until ≡ None → HoldsRegions regions reaches place m → HoldsRegions (regions ++ r ∷ []) reaches place (registered m r.right r.bytes)
+pub holds-registered : (regions : List Region) (reaches : List TaggedSegment) (place : ℕ) (m : RegisteredMemory) (r : Region) → AreReceived place reaches → region_at regions m.next ≡ None →
+    r.stag ≡ m.next → r.from ≡ place → r.until ≡ None → HoldsRegions regions reaches place m → HoldsRegions (regions ++ r ∷ []) reaches place (after_register m r.right r.bytes)
 unfolding region_grants
 holds-registered regions reaches place m r received fresh is_next from is_open holds stag =
     by (region_at regions stag) refl (holds stag)
@@ -281,45 +281,45 @@ holds-registered regions reaches place m r received fresh is_next from is_open h
     hs = grants_from place (regions ++ r ∷ [])
 
     after : RegisteredMemory
-    after = registered m r.right r.bytes
+    after = after_register m r.right r.bytes
 
-    old : stag ≢ m.next → live_at after stag ≡ live_at m stag
+    old : stag ≢ m.next → live_region after stag ≡ live_region m stag
     old ne = live-held after stag ∙ register_other m r.right r.bytes stag ne ∙ sym (live-held m stag)
 
-    by : (o : Option Region) → region_at regions stag ≡ o → live_at m stag ≡ held_region gs reaches (region_at regions stag) → live_at after stag ≡ held_region hs reaches (region_at (regions ++ r ∷ []) stag)
+    by : (o : Option Region) → region_at regions stag ≡ o → live_region m stag ≡ registered_region gs reaches (region_at regions stag) → live_region after stag ≡ registered_region hs reaches (region_at (regions ++ r ∷ []) stag)
     by (Some x) is live =
         old (λ e. (let wrong : Some x ≡ None = sym is ∙ ap (λ (s : ℕ). region_at regions s) e ∙ fresh in cc))
         ∙ live
-        ∙ ap (λ (o : Option Region). held_region gs reaches o) is
+        ∙ ap (λ (o : Option Region). registered_region gs reaches o) is
         ∙ ap (λ (b : List ℕ). held_if_open x.until (record { right = x.right; buf = b }))
         (contents-same place gs hs x.stag x.bytes reaches (λ end le. append-offers place place x.stag end regions r from le) received)
-        ∙ ap (λ (o : Option Region). held_region hs reaches o) (sym (at-append regions r stag (Some x) is))
+        ∙ ap (λ (o : Option Region). registered_region hs reaches o) (sym (at-append regions r stag (Some x) is))
     by None is live = elim (cases_eq stag m.next) [
       | inl e ↦
           let same : r.stag ≡ stag = is_next ∙ sym e in
           let none : region_at regions r.stag ≡ None = ap (λ (s : ℕ). region_at regions s) same ∙ is in
           live-held after stag
-          ∙ ap (λ (s : ℕ). held_at after s) e
+          ∙ ap (λ (s : ℕ). held_region after s) e
           ∙ register_here m r.right r.bytes
           ∙ ap (λ (b : List ℕ). Some (record { right = r.right; buf = b })) (sym (contents-none place hs r.stag r.bytes reaches (λ end le. none-offered place place end r.stag regions r none from le) received))
           ∙ ap (λ (u : Option ℕ). held_if_open u (record { right = r.right; buf = contents hs r.stag r.bytes reaches })) (sym is_open)
-          ∙ ap (λ (b : Bool). held_region hs reaches (cond b (Some r) None)) (sym (eq-eqb r.stag stag same))
-          ∙ ap (λ (o : Option Region). held_region hs reaches o) (sym (at-append regions r stag None is))
+          ∙ ap (λ (b : Bool). registered_region hs reaches (cond b (Some r) None)) (sym (eq-eqb r.stag stag same))
+          ∙ ap (λ (o : Option Region). registered_region hs reaches o) (sym (at-append regions r stag None is))
       | inr ne ↦
           old ne
           ∙ live
-          ∙ ap (λ (o : Option Region). held_region gs reaches o) is
-          ∙ ap (λ (b : Bool). held_region hs reaches (cond b (Some r) None)) (sym (ne_eqb r.stag stag (λ e. ne (sym e ∙ is_next))))
-          ∙ ap (λ (o : Option Region). held_region hs reaches o) (sym (at-append regions r stag None is))
+          ∙ ap (λ (o : Option Region). registered_region gs reaches o) is
+          ∙ ap (λ (b : Bool). registered_region hs reaches (cond b (Some r) None)) (sym (ne_eqb r.stag stag (λ e. ne (sym e ∙ is_next))))
+          ∙ ap (λ (o : Option Region). registered_region hs reaches o) (sym (at-append regions r stag None is))
     ]
 
--- ---- Regions and accesses along a run
+-- ---- Regions and accesses along a after_events
 
-pub received-later : (place later : ℕ) (reaches : List Reach) → place ≤ later → AreReceived place reaches → AreReceived later reaches
+pub received-later : (place later : ℕ) (reaches : List TaggedSegment) → place ≤ later → AreReceived place reaches → AreReceived later reaches
 received-later place later [] le h = tt
 received-later place later (r ∷ reaches) le h = ((let a = h.0 in omega (arith, a, le)), received-later place later reaches le h.1)
 
-pub received-one : (place : ℕ) (reaches : List Reach) (r : Reach) → place ≤ r.end → AreReceived place reaches → AreReceived r.end (reaches ++ r ∷ [])
+pub received-one : (place : ℕ) (reaches : List TaggedSegment) (r : TaggedSegment) → place ≤ r.end → AreReceived place reaches → AreReceived r.end (reaches ++ r ∷ [])
 received-one place [] r le h = (omega arith, tt)
 received-one place (x ∷ reaches) r le h = ((let a = h.0 in omega (arith, a, le)), received-one place reaches r le h.1)
 

@@ -1,4 +1,4 @@
--- The registered memory of an end holds its open regions from event to event, and denies what the grants deny.
+-- The after_register memory of an end holds its open regions from event to event, and denies what the grants deny.
 use Rattle.std.proofs.Common.{◌≡◌, ◌≢◌, ℕ, ◌+◌, ◌<◌, ◌≤◌, Bool, true, false, cond, ◌&&◌, eqb, leb, ltb, List, [], ◌∷◌, ◌++◌, length, map, Option, None, Some, refl, sym, ap, subst, ◌∙◌, arith, inl, inr, length-append}
 use Rattle.std.specs.Prelude.{IfSome, is_none}
 use Rattle.std.specs.List.{find}
@@ -6,14 +6,14 @@ use Rattle.std.proofs.lemmas.Bool.{eqb-true, eq-eqb, ne_eqb, cases_eq, lt-ltb, l
 use Rattle.nr_regions.specs.declared.right.Right.{Right}
 use Rattle.nr_regions.specs.declared.denied.Denied.{Denied}
 use Rattle.nr_regions.specs.declared.region.Region.{Region as HeldRegion}
-use Rattle.nr_regions.specs.RegisteredMemory.{RegisteredMemory, Access, held_at, live_at, lack_in, offer, lack, registered, written}
-use Rattle.nr_regions.specs.Access.{Grant, Reach, stands, grant_at, offered, lacking, access_of, after_reach, contents}
-use Rattle.nr_regions.specs.Past.{Event, happened, run, IsGranted}
-use Rattle.nr_regions.specs.Past.Event.{Arrive}
-use Rattle.nr_regions.proofs.Holding.{live-held, register_here, register_other, arrive_other, length-written, within}
-use Rattle.nr_regions.proofs.Pasts.{lack-lacking, past, after_other}
+use Rattle.nr_regions.specs.RegisteredMemory.{RegisteredMemory, Access, held_region, live_region, denial_in, region_offer, denial, after_register, bytes_after_write}
+use Rattle.nr_regions.specs.Access.{Grant, TaggedSegment, applies, grant_at, grant_offer, grant_denial, access_of, after_segment, contents}
+use Rattle.nr_regions.specs.Events.{Event, after_event, after_events, IsGranted}
+use Rattle.nr_regions.specs.Events.Event.{Arrive}
+use Rattle.nr_regions.proofs.Holding.{live-held, register_here, register_other, arrive_other, length-bytes_after_write, within}
+use Rattle.nr_regions.proofs.Contents.{same_denial, contents_are, after_other}
 use Rattle.nr_reduce.specs.OfferedRegions.{Region, until_or, region_grant, region_grants, until_at, closed_if, regions_closed}
-use Rattle.nr_reduce.specs.OfferedMemory.{region_at, AreOffered, AreReceived, held_if_open, held_region, HoldsRegions, is_closed_by, ReleasesClosed}
+use Rattle.nr_reduce.specs.OfferedMemory.{region_at, AreOffered, AreReceived, held_if_open, registered_region, HoldsRegions, is_closed_by, ReleasesClosed}
 
 -- ---- What is granted where a frame ends
 
@@ -21,7 +21,7 @@ abbrev pub grants_from : ℕ → List Region → List Grant
 grants_from place regions = map (region_grant place) regions
 
 abbrev pub found : ℕ → ℕ → List Grant → Option Grant
-found stag end grants = find (stands stag end) grants
+found stag end grants = find (applies stag end) grants
 
 pub none-found : (place end stag : ℕ) (regions : List Region) → region_at regions stag ≡ None → found stag end (grants_from place regions) ≡ None
 none-found place end stag [] h = refl
@@ -44,7 +44,7 @@ abbrev pub offer_of : Option Region → Option (Right × ℕ)
 offer_of None = None
 offer_of (Some r) = offer_if_open r.until r.right (length r.bytes)
 
-pub granted : (place end stag : ℕ) (regions : List Region) → AreOffered place regions → place < end → offered (found stag end (grants_from end regions)) ≡ offer_of (region_at regions stag)
+pub granted : (place end stag : ℕ) (regions : List Region) → AreOffered place regions → place < end → grant_offer (found stag end (grants_from end regions)) ≡ offer_of (region_at regions stag)
 granted place end stag [] h lt = refl
 granted place end stag (r ∷ regions) h lt = by (eqb r.stag stag) refl (granted place end stag regions h.1.1.1 lt)
   where
@@ -52,49 +52,49 @@ granted place end stag (r ∷ regions) h lt = by (eqb r.stag stag) refl (granted
     others = found stag end (grants_from end regions)
 
     by_until : (u : Option ℕ) → r.until ≡ u → IfSome u (λ until. until ≤ place) → others ≡ None →
-        offered (cond (ltb r.from end && leb end (until_or end u)) (Some (region_grant end r)) others) ≡ offer_if_open u r.right (length r.bytes)
+        grant_offer (cond (ltb r.from end && leb end (until_or end u)) (Some (region_grant end r)) others) ≡ offer_if_open u r.right (length r.bytes)
     by_until None is low none =
         let from : ltb r.from end ≡ true = lt-ltb r.from end (let a = h.0 in omega (arith, a, lt)) in
         let until : leb end end ≡ true = le-leb end end (omega arith) in
-        λ i. offered (cond (from i && until i) (Some (region_grant end r)) others)
+        λ i. grant_offer (cond (from i && until i) (Some (region_grant end r)) others)
     by_until (Some u) is low none =
         let from : ltb r.from end ≡ true = lt-ltb r.from end (let a = h.0 in omega (arith, a, lt)) in
         let until : leb end u ≡ false = lt-leb end u (omega (arith, low, lt)) in
-        (λ i. offered (cond (from i && until i) (Some (region_grant end r)) others)) ∙ ap offered none
+        (λ i. grant_offer (cond (from i && until i) (Some (region_grant end r)) others)) ∙ ap grant_offer none
 
-    by : (b : Bool) → eqb r.stag stag ≡ b → offered others ≡ offer_of (region_at regions stag) → offered (found stag end (grants_from end (r ∷ regions))) ≡ offer_of (cond b (Some r) (region_at regions stag))
+    by : (b : Bool) → eqb r.stag stag ≡ b → grant_offer others ≡ offer_of (region_at regions stag) → grant_offer (found stag end (grants_from end (r ∷ regions))) ≡ offer_of (cond b (Some r) (region_at regions stag))
     by true is later =
         let same : r.stag ≡ stag = eqb-true r.stag stag is in
         let none : others ≡ None = none-found end end stag regions (subst (λ (s : ℕ). region_at regions s ≡ None) same h.1.1.0) in
-        ap (λ (b : Bool). offered (cond (b && (ltb r.from end && leb end (until_or end r.until))) (Some (region_grant end r)) others)) is
+        ap (λ (b : Bool). grant_offer (cond (b && (ltb r.from end && leb end (until_or end r.until))) (Some (region_grant end r)) others)) is
         ∙ by_until r.until refl h.1.0 none
     by false is later =
-        ap (λ (b : Bool). offered (cond (b && (ltb r.from end && leb end (until_or end r.until))) (Some (region_grant end r)) others)) is ∙ later
+        ap (λ (b : Bool). grant_offer (cond (b && (ltb r.from end && leb end (until_or end r.until))) (Some (region_grant end r)) others)) is ∙ later
 
 -- ---- What the grants of two moments have in common
 
-after-same : (gs hs : List Grant) (stag : ℕ) (bytes : List ℕ) (r : Reach) → offered (found stag r.end gs) ≡ offered (found stag r.end hs) → after_reach gs stag bytes r ≡ after_reach hs stag bytes r
-unfolding lacking grant_at
+after-same : (gs hs : List Grant) (stag : ℕ) (bytes : List ℕ) (r : TaggedSegment) → grant_offer (found stag r.end gs) ≡ grant_offer (found stag r.end hs) → after_segment gs stag bytes r ≡ after_segment hs stag bytes r
+unfolding grant_denial grant_at
 after-same gs hs stag bytes r same = by (eqb r.stag stag) refl
   where
     by : (b : Bool) → eqb r.stag stag ≡ b →
-        cond (eqb r.stag stag && is_none (lack_in (offered (found r.stag r.end gs)) (access_of r))) (written bytes r.to r.payload) bytes
-        ≡ cond (eqb r.stag stag && is_none (lack_in (offered (found r.stag r.end hs)) (access_of r))) (written bytes r.to r.payload) bytes
+        cond (eqb r.stag stag && is_none (denial_in (grant_offer (found r.stag r.end gs)) (access_of r))) (bytes_after_write bytes r.to r.payload) bytes
+        ≡ cond (eqb r.stag stag && is_none (denial_in (grant_offer (found r.stag r.end hs)) (access_of r))) (bytes_after_write bytes r.to r.payload) bytes
     by true is =
         let e : r.stag ≡ stag = eqb-true r.stag stag is in
-        let both : offered (found r.stag r.end gs) ≡ offered (found r.stag r.end hs) =
-        ap (λ (s : ℕ). offered (found s r.end gs)) e ∙ same ∙ ap (λ (s : ℕ). offered (found s r.end hs)) (sym e) in
-        ap (λ (o : Option (Right × ℕ)). cond (eqb r.stag stag && is_none (lack_in o (access_of r))) (written bytes r.to r.payload) bytes) both
+        let both : grant_offer (found r.stag r.end gs) ≡ grant_offer (found r.stag r.end hs) =
+        ap (λ (s : ℕ). grant_offer (found s r.end gs)) e ∙ same ∙ ap (λ (s : ℕ). grant_offer (found s r.end hs)) (sym e) in
+        ap (λ (o : Option (Right × ℕ)). cond (eqb r.stag stag && is_none (denial_in o (access_of r))) (bytes_after_write bytes r.to r.payload) bytes) both
     by false is =
-        ap (λ (b : Bool). cond (b && is_none (lack_in (offered (found r.stag r.end gs)) (access_of r))) (written bytes r.to r.payload) bytes) is
-        ∙ ap (λ (b : Bool). cond (b && is_none (lack_in (offered (found r.stag r.end hs)) (access_of r))) (written bytes r.to r.payload) bytes) (sym is)
+        ap (λ (b : Bool). cond (b && is_none (denial_in (grant_offer (found r.stag r.end gs)) (access_of r))) (bytes_after_write bytes r.to r.payload) bytes) is
+        ∙ ap (λ (b : Bool). cond (b && is_none (denial_in (grant_offer (found r.stag r.end hs)) (access_of r))) (bytes_after_write bytes r.to r.payload) bytes) (sym is)
 
-pub contents-same : (place : ℕ) (gs hs : List Grant) (stag : ℕ) (bytes : List ℕ) (reaches : List Reach) → ((end : ℕ) → end ≤ place → offered (found stag end gs) ≡ offered (found stag end hs)) → AreReceived place reaches →
+pub contents-same : (place : ℕ) (gs hs : List Grant) (stag : ℕ) (bytes : List ℕ) (reaches : List TaggedSegment) → ((end : ℕ) → end ≤ place → grant_offer (found stag end gs) ≡ grant_offer (found stag end hs)) → AreReceived place reaches →
     contents gs stag bytes reaches ≡ contents hs stag bytes reaches
 contents-same place gs hs stag bytes [] same h = refl
 contents-same place gs hs stag bytes (r ∷ reaches) same h =
     ap (λ (b : List ℕ). contents gs stag b reaches) (after-same gs hs stag bytes r (same r.end h.0))
-    ∙ contents-same place gs hs stag (after_reach hs stag bytes r) reaches same h.1
+    ∙ contents-same place gs hs stag (after_segment hs stag bytes r) reaches same h.1
 
 -- regions that are alike for frames up to a place: only their ends may differ, and those not before it
 pub record IsAlike (place one two : ℕ) (r s : Region) : Type 0 where
@@ -110,38 +110,38 @@ AreAlike place one two [] (s ∷ ss) = ⊥
 AreAlike place one two (r ∷ rs) [] = ⊥
 AreAlike place one two (r ∷ rs) (s ∷ ss) = IsAlike place one two r s × AreAlike place one two rs ss
 
-both-found : (b c : Bool) (g h : Grant) (o p : Option Grant) → b ≡ c → offered (Some g) ≡ offered (Some h) → offered o ≡ offered p → offered (cond b (Some g) o) ≡ offered (cond c (Some h) p)
-both-found b true g h o p e same rest = ap (λ (x : Bool). offered (cond x (Some g) o)) e ∙ same
-both-found b false g h o p e same rest = ap (λ (x : Bool). offered (cond x (Some g) o)) e ∙ rest
+both-found : (b c : Bool) (g h : Grant) (o p : Option Grant) → b ≡ c → grant_offer (Some g) ≡ grant_offer (Some h) → grant_offer o ≡ grant_offer p → grant_offer (cond b (Some g) o) ≡ grant_offer (cond c (Some h) p)
+both-found b true g h o p e same rest = ap (λ (x : Bool). grant_offer (cond x (Some g) o)) e ∙ same
+both-found b false g h o p e same rest = ap (λ (x : Bool). grant_offer (cond x (Some g) o)) e ∙ rest
 
-pub alike-offers : (place one two stag end : ℕ) (rs ss : List Region) → AreAlike place one two rs ss → end ≤ place → offered (found stag end (grants_from one rs)) ≡ offered (found stag end (grants_from two ss))
+pub alike-offers : (place one two stag end : ℕ) (rs ss : List Region) → AreAlike place one two rs ss → end ≤ place → grant_offer (found stag end (grants_from one rs)) ≡ grant_offer (found stag end (grants_from two ss))
 alike-offers place one two stag end [] [] h le = refl
 alike-offers place one two stag end [] (s ∷ ss) h le = absurd h
 alike-offers place one two stag end (r ∷ rs) [] h le = absurd h
 alike-offers place one two stag end (r ∷ rs) (s ∷ ss) h le =
     let a = h.0 in
     let u = a.until end le in
-    both-found (stands stag end (region_grant one r)) (stands stag end (region_grant two s)) (region_grant one r) (region_grant two s) (found stag end (grants_from one rs)) (found stag end (grants_from two ss))
+    both-found (applies stag end (region_grant one r)) (applies stag end (region_grant two s)) (region_grant one r) (region_grant two s) (found stag end (grants_from one rs)) (found stag end (grants_from two ss))
     (λ i. eqb (a.stag i) stag && (ltb (a.from i) end && u i))
     (λ i. Some (a.right i, length (a.bytes i)))
     (alike-offers place one two stag end rs ss h.1 le)
 
 -- ---- Access by access
 
--- to a frame that ends later an end offers what its grants offer, and so it denies what they deny
-pub judged : (regions : List Region) (reaches : List Reach) (place end : ℕ) (m : RegisteredMemory) (access : Access) → AreOffered place regions → HoldsRegions regions reaches place m → place < end →
+-- to a frame that ends later an end offers what its grants region_offer, and so it denies what they deny
+pub judged : (regions : List Region) (reaches : List TaggedSegment) (place end : ℕ) (m : RegisteredMemory) (access : Access) → AreOffered place regions → HoldsRegions regions reaches place m → place < end →
     ((r : Region) → region_at regions access.stag ≡ Some r → length (contents (region_grants place regions) r.stag r.bytes reaches) ≡ length r.bytes) →
-    lack m access ≡ lacking (region_grants end regions) access end
+    denial m access ≡ grant_denial (region_grants end regions) access end
 unfolding grant_at region_grants
 judged regions reaches place end m access fits holds lt sized =
-    lack-lacking (region_grants end regions) m access end
-    (ap offer (holds access.stag) ∙ by (region_at regions access.stag) refl ∙ sym (granted place end access.stag regions fits lt))
+    same_denial (region_grants end regions) m access end
+    (ap region_offer (holds access.stag) ∙ by (region_at regions access.stag) refl ∙ sym (granted place end access.stag regions fits lt))
   where
-    by_until : (u : Option ℕ) (r : Region) (n : ℕ) (buf : List ℕ) → length buf ≡ n → offer (held_if_open u (record { right = r.right; buf = buf })) ≡ offer_if_open u r.right n
+    by_until : (u : Option ℕ) (r : Region) (n : ℕ) (buf : List ℕ) → length buf ≡ n → region_offer (held_if_open u (record { right = r.right; buf = buf })) ≡ offer_if_open u r.right n
     by_until None r n buf e = ap (λ (k : ℕ). Some (r.right, k)) e
     by_until (Some until) r n buf e = refl
 
-    by : (o : Option Region) → region_at regions access.stag ≡ o → offer (held_region (region_grants place regions) reaches o) ≡ offer_of o
+    by : (o : Option Region) → region_at regions access.stag ≡ o → region_offer (registered_region (region_grants place regions) reaches o) ≡ offer_of o
     by None is = refl
     by (Some r) is = by_until r.until r (length r.bytes) (contents (region_grants place regions) r.stag r.bytes reaches) (sized r is)
 
@@ -150,26 +150,26 @@ abbrev pub sized_by : (o : Option (Right × ℕ)) (n : ℕ) → Type 0
 sized_by None n = Unit {0}
 sized_by (Some x) n = x.1 ≡ n
 
-after-length : (gs : List Grant) (stag : ℕ) (bytes : List ℕ) (r : Reach) (n : ℕ) → length bytes ≡ n → sized_by (offered (found stag r.end gs)) n → length (after_reach gs stag bytes r) ≡ n
-unfolding lacking grant_at
+after-length : (gs : List Grant) (stag : ℕ) (bytes : List ℕ) (r : TaggedSegment) (n : ℕ) → length bytes ≡ n → sized_by (grant_offer (found stag r.end gs)) n → length (after_segment gs stag bytes r) ≡ n
+unfolding grant_denial grant_at
 after-length gs stag bytes r n is sized = elim (cases_eq r.stag stag) [
-  | inl e ↦ here e (offered (found r.stag r.end gs)) refl (subst (λ (s : ℕ). sized_by (offered (found s r.end gs)) n) (sym e) sized)
+  | inl e ↦ here e (grant_offer (found r.stag r.end gs)) refl (subst (λ (s : ℕ). sized_by (grant_offer (found s r.end gs)) n) (sym e) sized)
   | inr ne ↦ ap length (after_other gs stag bytes r ne) ∙ is
 ]
   where
-    by : (right : Right) (len : ℕ) → len ≡ n → (d : Option Denied) → lack_in (Some (right, len)) (access_of r) ≡ d → length (cond (is_none d) (written bytes r.to r.payload) bytes) ≡ n
+    by : (right : Right) (len : ℕ) → len ≡ n → (d : Option Denied) → denial_in (Some (right, len)) (access_of r) ≡ d → length (cond (is_none d) (bytes_after_write bytes r.to r.payload) bytes) ≡ n
     by right len same None e =
-        let fits : lack_in (Some (right, length bytes)) (access_of r) ≡ None = ap (λ (k : ℕ). lack_in (Some (right, k)) (access_of r)) (is ∙ sym same) ∙ e in
-        length-written bytes r.to r.payload (within right bytes r fits) ∙ is
+        let fits : denial_in (Some (right, length bytes)) (access_of r) ≡ None = ap (λ (k : ℕ). denial_in (Some (right, k)) (access_of r)) (is ∙ sym same) ∙ e in
+        length-bytes_after_write bytes r.to r.payload (within right bytes r fits) ∙ is
     by right len same (Some denied) e = is
 
-    here : r.stag ≡ stag → (o : Option (Right × ℕ)) → offered (found r.stag r.end gs) ≡ o → sized_by o n → length (after_reach gs stag bytes r) ≡ n
+    here : r.stag ≡ stag → (o : Option (Right × ℕ)) → grant_offer (found r.stag r.end gs) ≡ o → sized_by o n → length (after_segment gs stag bytes r) ≡ n
     here e None o_is low =
-        (λ i. length (cond (eq-eqb r.stag stag e i && is_none (lack_in (o_is i) (access_of r))) (written bytes r.to r.payload) bytes)) ∙ is
+        (λ i. length (cond (eq-eqb r.stag stag e i && is_none (denial_in (o_is i) (access_of r))) (bytes_after_write bytes r.to r.payload) bytes)) ∙ is
     here e (Some x) o_is low =
-        (λ i. length (cond (eq-eqb r.stag stag e i && is_none (lack_in (o_is i) (access_of r))) (written bytes r.to r.payload) bytes))
-        ∙ by x.0 x.1 low (lack_in (Some (x.0, x.1)) (access_of r)) refl
+        (λ i. length (cond (eq-eqb r.stag stag e i && is_none (denial_in (o_is i) (access_of r))) (bytes_after_write bytes r.to r.payload) bytes))
+        ∙ by x.0 x.1 low (denial_in (Some (x.0, x.1)) (access_of r)) refl
 
-pub contents-length : (gs : List Grant) (stag : ℕ) (bytes : List ℕ) (reaches : List Reach) (n : ℕ) → length bytes ≡ n → ((end : ℕ) → sized_by (offered (found stag end gs)) n) → length (contents gs stag bytes reaches) ≡ n
+pub contents-length : (gs : List Grant) (stag : ℕ) (bytes : List ℕ) (reaches : List TaggedSegment) (n : ℕ) → length bytes ≡ n → ((end : ℕ) → sized_by (grant_offer (found stag end gs)) n) → length (contents gs stag bytes reaches) ≡ n
 contents-length gs stag bytes [] n is sized = is
-contents-length gs stag bytes (r ∷ reaches) n is sized = contents-length gs stag (after_reach gs stag bytes r) reaches n (after-length gs stag bytes r n is (sized r.end)) sized
+contents-length gs stag bytes (r ∷ reaches) n is sized = contents-length gs stag (after_segment gs stag bytes r) reaches n (after-length gs stag bytes r n is (sized r.end)) sized

@@ -11,7 +11,7 @@ use Rattle.nr_header.specs.declared.header.Body.{Body}
 use Rattle.nr_header.specs.declared.header.Body.TheVariants.{Msg, Nomsg, ErrVers, ErrChunk}
 use Rattle.nr_header.specs.declared.header.Header.{Header}
 use Rattle.nr_header.specs.declared.fault.HeaderFault.{HeaderFault}
-use Rattle.nr_header.specs.Reading.{header_of, word_at}
+use Rattle.nr_header.specs.Reading.{header_of}
 use Rattle.nr_rpc.specs.declared.head.CallHead.{CallHead}
 use Rattle.nr_rpc.specs.Reading.{call_of}
 use Rattle.nr_wire.specs.Constants.{OPCODE_READ_REQUEST}
@@ -45,6 +45,7 @@ use Rattle.nr_reduce.specs.Served.{ServedMark, IsExecuted, next_call, first_read
 use Rattle.nr_reduce.proofs.Steps.{server-one}
 use Rattle.nr_reduce.proofs.Standing.{itself}
 use Rattle.nr_reduce.proofs.Placing.{AtEachMark-at}
+use Rattle.nr_xdr.specs.Fields.{word_at}
 
 -- ---- How often a number stands there
 

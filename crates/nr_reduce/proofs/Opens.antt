@@ -7,7 +7,7 @@ use Rattle.nr_header.specs.declared.header.Body.TheVariants.{Msg, Nomsg, ErrVers
 use Rattle.nr_header.specs.declared.header.Header.{Header}
 use Rattle.nr_header.specs.declared.fault.HeaderFault.{HeaderFault}
 use Rattle.nr_header.specs.declared.fault.HeaderFault.TheVariants as faults
-use Rattle.nr_header.specs.Reading.{header_of, word_at, body_by, error_by, error_of, version1_of, headed}
+use Rattle.nr_header.specs.Reading.{header_of, body_by, error_by, error_of, version1_of, header_by}
 use Rattle.std.proofs.Common.{sum_by}
 use Rattle.std.proofs.lemmas.List.{drop_at}
 use Rattle.nr_xdr.specs.Item.{IsBytes, pad_len}
@@ -33,6 +33,7 @@ use Rattle.nr_reduce.proofs.Undone.{reducible}
 use Rattle.nr_reduce.proofs.Shapes.{Offering, offered, IsSmall, Way, shape, IsWay, Shaped, is_plan}
 use Rattle.nr_reduce.proofs.Shapes.Way.{Inline, Reduced, Long}
 use Rattle.nr_reduce.proofs.Asking.{lists, lists-shape, body_of, stream_in, reads-shape}
+use Rattle.nr_xdr.specs.Fields.{word_at}
 
 -- a body that a call has
 abbrev pub IsCall : Body → Type 0
@@ -81,7 +82,7 @@ body_read version kind bytes None b is never e = by (eqb version 1) refl e
     by false v e = absurd cc
     by true v e = (let k = kind_read kind _ _ b e in (v, k.0, k.1))
 
-headed_ok : (xid credit : ℕ) (r : Result Body HeaderFault) (h : Header) → headed xid credit r ≡ Ok h → (xid ≡ h.xid) × (r ≡ Ok h.body)
+headed_ok : (xid credit : ℕ) (r : Result Body HeaderFault) (h : Header) → header_by xid credit r ≡ Ok h → (xid ≡ h.xid) × (r ≡ Ok h.body)
 headed_ok xid credit (Err fault) h e = absurd cc
 headed_ok xid credit (Ok body) h e =
     let mine : Header = record { xid = xid; credit = credit; body = body } in
@@ -95,7 +96,7 @@ words bytes h e is = by (ltb (length bytes) 16) e
     r : Result Body HeaderFault
     r = body_by (error_by (word_at 12 bytes) bytes) (word_at 4 bytes) (word_at 12 bytes) bytes
 
-    by : (b : Bool) → cond b (Err faults.Short) (headed (word_at 0 bytes) (word_at 8 bytes) r) ≡ Ok h → Words bytes h
+    by : (b : Bool) → cond b (Err faults.Short) (header_by (word_at 0 bytes) (word_at 8 bytes) r) ≡ Ok h → Words bytes h
     by true e = absurd cc
     by false e =
         let a = headed_ok (word_at 0 bytes) (word_at 8 bytes) r h e in

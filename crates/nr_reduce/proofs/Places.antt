@@ -4,8 +4,8 @@ use Rattle.std.proofs.lemmas.Bool.{le-ltb}
 use Rattle.nr_xdr.specs.declared.fault.ItemFault.{ItemFault}
 use Rattle.nr_xdr.specs.Item.{Item as XdrItem, IsBytes, Reads, pad_len}
 use Rattle.nr_xdr.specs.Item.Item.{Unsigned, Hyper, Boolean, Opaque, Fixed}
-use Rattle.nr_xdr.specs.Items.{ReadEach}
-use Rattle.nr_xdr.specs.Reading.{Cursor, Gives, past, fixed_at}
+use Rattle.nr_xdr.specs.Items.{ReadsAll}
+use Rattle.nr_xdr.specs.Reading.{Cursor, Gives, cursor_past, fixed_at}
 use Rattle.nr_xdr.proofs.SequencingSteps.{chosen}
 use Rattle.nr_xdr.proofs.WordBytes.{length-word, length-hyper}
 use Rattle.nr_rpc.specs.Reading.{call_of, reply_of, target_of, GivesReply}
@@ -24,16 +24,20 @@ use Rattle.std.specs.Prelude.{IfSome}
 use Rattle.nr_reduce.specs.declared.item.Item.{Item}
 use Rattle.nr_reduce.specs.declared.item.Of.{Of}
 use Rattle.nr_reduce.specs.declared.item.Of.TheVariants.{Call, Reply}
-use Rattle.nr_reduce.specs.Fronts.{reached, and_then}
-use Rattle.nr_reduce.specs.Items.{from_place, item_at, target_item, call_item, results_of, results_item, reply_item, item_of}
-use Rattle.nr_reduce.specs.Largest.{target_reply_max, largest_reply}
+use Rattle.nr_xdr.specs.Reading.{unsigned_at}
+use Rattle.nr_xdr.specs.Sequencing.{◌>>=◌, or_place, number_at}
+use Rattle.nr_nfs_base.specs.Codec.{cursor_behind}
+use Rattle.nr_nfs_base.specs.Fronts.{write_args_front, symlink_args_front, readlink_res_front, read_res_front, read_args_front, readdir_args_front, readdirplus_args_front}
+use Rattle.nr_reduce.specs.Behind.{and_then, value_of, number_behind}
+use Rattle.nr_reduce.specs.Items.{before_data, before_path, before_target, before_read, from_place, item_at, target_item, call_item, results_of, results_item, reply_item, item_of}
+use Rattle.nr_reduce.specs.Largest.{count_of, read_count, readdir_count, readdirplus_count, target_reply_max, largest_reply}
 use Rattle.nr_reduce.specs.Plans.{target_offer, write_offer}
 use Rattle.nr_reduce.proofs.Looks.{item_stands}
 
 -- ---- A reader at a place
 
 fixed_there : (n : ℕ) (payload : List ℕ) → n ≤ length payload → pad_len n ≡ 0 → fixed_at n (record { place = 0; rest = payload }) ≡ Ok (take n payload, from_place n payload)
-unfolding fixed_at past
+unfolding fixed_at cursor_past
 fixed_there n payload le padless =
     let whole : n + pad_len n ≡ n = omega (arith, padless) in
     let same : 0 + n ≡ n = zero-add n in
@@ -83,7 +87,7 @@ item_words (Fixed s) bytes r =
       is = omega (arith, w.is, ap length r.bytes_are, length-append {A = ℕ}, r.pad_is);
     }
 
-each_words : (items : List XdrItem) (bytes : List ℕ) → ReadEach items bytes → Words (length bytes)
+each_words : (items : List XdrItem) (bytes : List ℕ) → ReadsAll items bytes → Words (length bytes)
 each_words [] bytes e = record { count = 0; is = ap length e }
 each_words (item ∷ items) bytes (front, behind, reads, others, parts) =
     sum_words (length front) (length behind) (length bytes) (ap length parts ∙ length-append front behind) (item_words item front reads) (each_words items behind others)
@@ -137,9 +141,56 @@ results_behind payload at fits e = by_reply payload (reply_of payload) at fits r
 -- ---- Items
 
 -- an item is read where what stands before it can be read
-pub item_at_front : (r : Result Cursor ℕ) → item_at r ≡ and_then (reached r) (λ (c : Cursor). item_at (Ok c))
-item_at_front (Ok c) = refl
-item_at_front (Err at) = refl
+item_behind : {A : Type 0} (r : Result (A × Cursor) ℕ) → item_at (r >>= λ x. Ok x.1) ≡ and_then (cursor_behind r) (λ (c : Cursor). item_at (Ok c))
+item_behind (Ok x) = refl
+item_behind (Err at) = refl
+
+pub item_in_write : (c : Cursor) → item_at (before_data c) ≡ and_then (cursor_behind (write_args_front.read c)) (λ (c : Cursor). item_at (Ok c))
+unfolding before_data
+item_in_write c = item_behind (write_args_front.read c)
+
+pub item_in_symlink : (c : Cursor) → item_at (before_path c) ≡ and_then (cursor_behind (symlink_args_front.read c)) (λ (c : Cursor). item_at (Ok c))
+unfolding before_path
+item_in_symlink c = item_behind (symlink_args_front.read c)
+
+pub item_in_readlink : (c : Cursor) → item_at (before_target c) ≡ and_then (cursor_behind (readlink_res_front.read c)) (λ (c : Cursor). item_at (Ok c))
+unfolding before_target
+item_in_readlink c = item_behind (readlink_res_front.read c)
+
+pub item_in_read : (c : Cursor) → item_at (before_read c) ≡ and_then (cursor_behind (read_res_front.read c)) (λ (c : Cursor). item_at (Ok c))
+unfolding before_read
+item_in_read c = item_behind (read_res_front.read c)
+
+pub ruleset items_of_calls = (item_in_write, item_in_symlink)
+
+pub ruleset items_of_replies = (item_in_readlink, item_in_read)
+
+-- a count is read where what stands before it can be read
+counted : (at : Cursor) → count_of (number_at at) ≡ value_of (unsigned_at at)
+counted at = by (unsigned_at at)
+  where
+    by : (r : Result (ℕ × Cursor) ItemFault) → count_of (or_place r) ≡ value_of r
+    by (Ok n) = refl
+    by (Err e) = refl
+
+count_in : {A : Type 0} (r : Result (A × Cursor) ℕ) → count_of (r >>= λ x. number_at x.1) ≡ number_behind (cursor_behind r)
+unfolding number_behind
+count_in (Ok x) = counted x.1
+count_in (Err at) = refl
+
+pub count_in_read : (c : Cursor) → read_count c ≡ number_behind (cursor_behind (read_args_front.read c))
+unfolding read_count
+count_in_read c = count_in (read_args_front.read c)
+
+pub count_in_readdir : (c : Cursor) → readdir_count c ≡ number_behind (cursor_behind (readdir_args_front.read c))
+unfolding readdir_count
+count_in_readdir c = count_in (readdir_args_front.read c)
+
+pub count_in_readdirplus : (c : Cursor) → readdirplus_count c ≡ number_behind (cursor_behind (readdirplus_args_front.read c))
+unfolding readdirplus_count
+count_in_readdirplus c = count_in (readdirplus_args_front.read c)
+
+pub ruleset counts = (count_in_read, count_in_readdir, count_in_readdirplus)
 
 pub largest_by : (payload : List ℕ) (o : Option CallTarget) → o ≡ target_of (call_of payload) → target_reply_max payload o ≡ largest_reply payload
 unfolding largest_reply

@@ -2,7 +2,7 @@
 use Rattle.std.specs.Prelude.{ℕ, Bool, false, List, [], Result}
 use Rattle.nr_rpc.specs.declared.head.CallHead.TheVariants.{Version2}
 use Rattle.nr_rpc.specs.Call.{call_encoding}
-use Rattle.nr_regions.specs.Access.{Reach}
+use Rattle.nr_regions.specs.Access.{TaggedSegment}
 use Rattle.nr_reduce.specs.declared.call.Call.{Call}
 use Rattle.nr_reduce.specs.declared.call.Form.{Form}
 use Rattle.nr_reduce.specs.declared.mark.Opened.{Opened}
@@ -34,7 +34,7 @@ pub record ClientState : Type 0 where
   pub stag : ℕ
   pub outstanding : List OutstandingCall
   pub regions : List Region
-  pub reaches : List Reach
+  pub reaches : List TaggedSegment
   pub responses : ℕ
   pub outcomes : List CompletedCall
   pub grant : ℕ

@@ -3,11 +3,12 @@
 use Rattle.std.specs.Prelude.{ℕ, ◌+◌, min, max, ◌&&◌, ◌==◌, if◌then◌else◌, List, [], ◌∷◌, find, Option, None, Some, option_map, unwrap_or, Result, Ok, Err}
 use Rattle.nr_xdr.specs.Item.{pad_len}
 use Rattle.nr_xdr.specs.Reading.{Cursor}
-use Rattle.nr_xdr.specs.Sequencing.{◌>>=◌}
+use Rattle.nr_xdr.specs.Sequencing.{◌>>=◌, number_at}
 use Rattle.nr_rpc.specs.declared.head.CallTarget.{CallTarget}
 use Rattle.nr_rpc.specs.Reading.{call_of, target_of}
-use Rattle.nr_nfs_base.specs.Codec.{◌⊗◌, word, hyper}
-use Rattle.nr_nfs_base.specs.Names.{handle_codec}
+use Rattle.nr_nfs_base.specs.Codec.{Codec}
+use Rattle.nr_nfs_base.specs.Procedures.{mount_program, mount_version}
+use Rattle.nr_nfs_base.specs.Fronts.{read_args_front, readdir_args_front, readdirplus_args_front}
 use Rattle.nr_reduce.specs.Limits.{moved_max, readdir_max}
 use Rattle.nr_reduce.specs.Items.{READ, is_nfs, from_place}
 
@@ -19,27 +20,31 @@ abbrev pub READDIRPLUS : ℕ
 READDIRPLUS = 17
 
 abbrev pub MOUNT_PROGRAM : ℕ
-MOUNT_PROGRAM = 100005
+MOUNT_PROGRAM = mount_program
 
 abbrev pub MOUNT_VERSION : ℕ
-MOUNT_VERSION = 3
+MOUNT_VERSION = mount_version
 
 abbrev pub MNT : ℕ
 MNT = 1
 
-abbrev pub count_by : {A : Type 0} → (A → ℕ) → Result (A × Cursor) ℕ → Option ℕ
-count_by count (Ok x) = Some (count x.0)
-count_by count (Err at) = None
+-- the number behind the fields before it
+abbrev pub count_of : Result (ℕ × Cursor) ℕ → Option ℕ
+count_of (Ok n) = Some n.0
+count_of (Err at) = None
+
+abbrev pub count_behind : {A : Type 0} → Codec A → Cursor → Option ℕ
+count_behind front c = count_of (front.read c >>= λ x. number_at x.1)
 
 -- the count of bytes that a READ, a READDIR or a READDIRPLUS asks for, where its arguments can be read up to there
 unfoldable pub read_count : Cursor → Option ℕ
-read_count c = count_by (λ args. args.1.1) ((handle_codec ⊗ hyper ⊗ word).read c)
+read_count c = count_behind read_args_front c
 
 unfoldable pub readdir_count : Cursor → Option ℕ
-readdir_count c = count_by (λ args. args.1.1.1) ((handle_codec ⊗ hyper ⊗ hyper ⊗ word).read c)
+readdir_count c = count_behind readdir_args_front c
 
 unfoldable pub readdirplus_count : Cursor → Option ℕ
-readdirplus_count c = count_by (λ args. args.1.1.1.1) ((handle_codec ⊗ hyper ⊗ hyper ⊗ word ⊗ word).read c)
+readdirplus_count c = count_behind readdirplus_args_front c
 
 -- any other call's reply
 abbrev pub least_reply : ℕ

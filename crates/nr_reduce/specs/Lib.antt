@@ -1,5 +1,5 @@
 pub mod Limits
-pub mod Fronts
+pub mod Behind
 pub mod Items
 pub mod Largest
 pub mod Plans

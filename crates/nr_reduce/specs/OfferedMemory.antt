@@ -2,8 +2,8 @@
 use Rattle.std.specs.Prelude.{◌≡◌, ℕ, ◌<◌, ◌≤◌, Bool, false, ◌==◌, if◌then◌else◌, List, [], ◌∷◌, ◌++◌, Option, None, Some, IfSome}
 use Rattle.std.specs.List.{find}
 use Rattle.nr_regions.specs.declared.region.Region.{Region as HeldRegion}
-use Rattle.nr_regions.specs.RegisteredMemory.{RegisteredMemory, live_at}
-use Rattle.nr_regions.specs.Access.{Grant, Reach, contents}
+use Rattle.nr_regions.specs.RegisteredMemory.{RegisteredMemory, live_region}
+use Rattle.nr_regions.specs.Access.{Grant, TaggedSegment, contents}
 use Rattle.nr_reduce.specs.OfferedRegions.{Region, region_grants}
 
 -- the region under an STag
@@ -17,7 +17,7 @@ AreOffered place [] = Unit {0}
 AreOffered place (r ∷ regions) = (r.from ≤ place) × (IfSome r.until (λ until. until ≤ place) × ((region_at regions r.stag ≡ None) × AreOffered place regions))
 
 -- the peer's tagged segments, where so many bytes were received
-abbrev pub AreReceived : ℕ → List Reach → Type 0
+abbrev pub AreReceived : ℕ → List TaggedSegment → Type 0
 AreReceived place [] = Unit {0}
 AreReceived place (reach ∷ reaches) = (reach.end ≤ place) × AreReceived place reaches
 
@@ -26,13 +26,13 @@ abbrev pub held_if_open : Option ℕ → HeldRegion → Option HeldRegion
 held_if_open None region = Some region
 held_if_open (Some until) region = None
 
-abbrev pub held_region : List Grant → List Reach → Option Region → Option HeldRegion
-held_region grants reaches None = None
-held_region grants reaches (Some r) = held_if_open r.until (record { right = r.right; buf = contents grants r.stag r.bytes reaches })
+abbrev pub registered_region : List Grant → List TaggedSegment → Option Region → Option HeldRegion
+registered_region grants reaches None = None
+registered_region grants reaches (Some r) = held_if_open r.until (record { right = r.right; buf = contents grants r.stag r.bytes reaches })
 
 -- The memory of an end holds just its open regions, where so many bytes were received.
-abbrev pub HoldsRegions : List Region → List Reach → ℕ → RegisteredMemory → Type 0
-HoldsRegions regions reaches place m = (stag : ℕ) → live_at m stag ≡ held_region (region_grants place regions) reaches (region_at regions stag)
+abbrev pub HoldsRegions : List Region → List TaggedSegment → ℕ → RegisteredMemory → Type 0
+HoldsRegions regions reaches place m = (stag : ℕ) → live_region m stag ≡ registered_region (region_grants place regions) reaches (region_at regions stag)
 
 -- whether the region under an STag is closed by a test
 abbrev pub is_closed_by : (Region → Bool) → Option Region → Bool
@@ -41,4 +41,4 @@ is_closed_by test (Some r) = test r
 
 -- the memory in which just the regions that pass a test were released
 abbrev pub ReleasesClosed : (Region → Bool) → List Region → (before after : RegisteredMemory) → Type 0
-ReleasesClosed test regions before after = (stag : ℕ) → live_at after stag ≡ (if is_closed_by test (region_at regions stag) then None else live_at before stag)
+ReleasesClosed test regions before after = (stag : ℕ) → live_region after stag ≡ (if is_closed_by test (region_at regions stag) then None else live_region before stag)

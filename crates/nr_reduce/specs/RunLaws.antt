@@ -8,7 +8,6 @@ use Rattle.nr_link.specs.Frames.{Frame, is_hello}
 use Rattle.nr_link.specs.Output.{own_hello, send}
 use Rattle.nr_link.specs.Limits.{open_reads_max}
 use Rattle.nr_link.specs.ReceiveState.{message_completed}
-use Rattle.nr_header.specs.Reading.{word_at}
 use Rattle.nr_rpc.specs.declared.head.CallHead.{CallHead}
 use Rattle.nr_rpc.specs.Reading.{call_of, target_of}
 use Rattle.nr_reduce.specs.Holds.{Answer, answer_writes, answer_message, chunk_error, version_error}
@@ -50,6 +49,7 @@ use Rattle.nr_reduce.specs.Matched.{IsPrefixOf}
 use Rattle.nr_reduce.specs.SoFar.{SoFar, InFull}
 use Rattle.nr_reduce.specs.Standing.{input_events, ClientStandsFor, ServerStandsFor}
 use Rattle.nr_reduce.specs.PayloadLaws.{IsPlanned}
+use Rattle.nr_xdr.specs.Fields.{word_at}
 
 -- the stream of a plan, where it is in the message
 abbrev pub inline_at : Option ℕ → List ℕ → Option (List ℕ)

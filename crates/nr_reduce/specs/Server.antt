@@ -4,7 +4,7 @@ use Rattle.std.specs.List.{filter, find}
 use Rattle.nr_header.specs.declared.header.ChunkLists.{ChunkLists}
 use Rattle.nr_rpc.specs.declared.head.CallTarget.{CallTarget}
 use Rattle.nr_rpc.specs.Reading.{call_of, target_of}
-use Rattle.nr_regions.specs.Access.{Reach}
+use Rattle.nr_regions.specs.Access.{TaggedSegment}
 use Rattle.nr_wire.specs.Constants.{REASON_FLAGS}
 use Rattle.nr_wire.specs.declared.hello.Side.TheVariants.{Initiator, Responder}
 use Rattle.nr_wire.specs.Hello.{hello_of}
@@ -128,7 +128,7 @@ response_bytes_after k (Ok (Tagged last opcode stag to payload)) = if last then 
 response_bytes_after k (Ok (Untagged last opcode w queue msn offset payload)) = k.response_bytes
 response_bytes_after k (Err reason) = k.response_bytes
 
-abbrev pub reaches_by : Frame → Result Segment ℕ → List Reach
+abbrev pub reaches_by : Frame → Result Segment ℕ → List TaggedSegment
 reaches_by f (Ok segment) = reach_of f segment
 reaches_by f (Err reason) = []
 

@@ -1,7 +1,6 @@
 -- What a frame that breaks no rule of the link makes of a server: pending calls, reads, calls that are ready, error messages.
 use Rattle.std.specs.Prelude.{ℕ, ◌+◌, ◌-◌, Bool, not, ◌&&◌, ◌==◌, if◌then◌else◌, List, [], ◌∷◌, ◌++◌, length, take, drop, Option, None, Some, Result, Ok, Err}
 use Rattle.std.specs.List.{filter, find}
-use Rattle.nr_header.specs.Reading.{word_at}
 use Rattle.nr_wire.specs.Constants.{OPCODE_READ_RESPONSE}
 use Rattle.nr_wire.specs.Segment.{Segment}
 use Rattle.nr_wire.specs.Segment.Segment.{Tagged, Untagged}
@@ -16,6 +15,7 @@ use Rattle.nr_reduce.specs.ServerReads.{open_reads, regions_of, reads_of, is_rea
 use Rattle.nr_reduce.specs.ServerMessages.{chunk_bytes, payload_of, CallVerdict, by_payload, Verdict, verdict}
 use Rattle.nr_reduce.specs.ServerMessages.CallVerdict.{Refuses, IsReady}
 use Rattle.nr_reduce.specs.ServerMessages.Verdict.{EndsLink, OtherVersion, BadChunks, MakesPending}
+use Rattle.nr_xdr.specs.Fields.{word_at}
 
 -- The pending calls, reads and regions after a frame, the calls that it makes ready, the error messages that are due for it, how
 -- many of the reads that were open still are, and a reason to end.

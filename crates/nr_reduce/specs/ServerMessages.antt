@@ -8,7 +8,7 @@ use Rattle.nr_header.specs.declared.header.ChunkLists.{ChunkLists}
 use Rattle.nr_header.specs.declared.header.Body.{Body}
 use Rattle.nr_header.specs.declared.header.Body.TheVariants.{Msg, Nomsg, ErrVers, ErrChunk}
 use Rattle.nr_header.specs.declared.header.Header.{Header}
-use Rattle.nr_header.specs.Reading.{header_of, word_at}
+use Rattle.nr_header.specs.Reading.{header_of}
 use Rattle.nr_rpc.specs.declared.head.CallHead.{CallHead}
 use Rattle.nr_rpc.specs.declared.head.CallHead.TheVariants as calls
 use Rattle.nr_rpc.specs.Reading.{call_of}
@@ -17,6 +17,7 @@ use Rattle.nr_link.specs.Reasons.{REASON_KIND, REASON_HEAD, REASON_XID, REASON_C
 use Rattle.nr_reduce.specs.Chunks.{total_at, suits, call_conveyed}
 use Rattle.nr_reduce.specs.ServerState.{PendingCall, ReadyCall, ServerState, next_stag, is_pending, memory_at}
 use Rattle.nr_reduce.specs.ServerReads.{chunks_of, sink_of}
+use Rattle.nr_xdr.specs.Fields.{word_at}
 
 -- the bytes of a call's read chunk; one without bytes has no region
 abbrev pub chunk_bytes : ServerState → ℕ → PendingCall → ℕ → List ℕ

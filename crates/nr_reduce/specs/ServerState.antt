@@ -2,7 +2,7 @@
 use Rattle.std.specs.Prelude.{ℕ, ◌+◌, ◌-◌, Bool, true, false, ◌==◌, List, [], length, Option}
 use Rattle.std.specs.List.{list_any}
 use Rattle.nr_header.specs.declared.header.ChunkLists.{ChunkLists}
-use Rattle.nr_regions.specs.Access.{Reach}
+use Rattle.nr_regions.specs.Access.{TaggedSegment}
 use Rattle.nr_reduce.specs.declared.mark.Opened.{Opened}
 use Rattle.nr_reduce.specs.Limits.{send_max}
 use Rattle.nr_link.specs.ReceiveState.{ReceiveState, nothing_received}
@@ -44,7 +44,7 @@ pub record ServerState : Type 0 where
   pub response_bytes : ℕ
   pub requests_sent : ℕ
   pub regions : List Region
-  pub reaches : List Reach
+  pub reaches : List TaggedSegment
   pub messages_queued : ℕ
   pub messages_written : ℕ
   pub ready : List ReadyCall

@@ -8,7 +8,7 @@ use Rattle.nr_header.specs.declared.header.Body.{Body}
 use Rattle.nr_header.specs.declared.header.Body.TheVariants.{Msg, Nomsg, ErrVers, ErrChunk}
 use Rattle.nr_header.specs.declared.header.Header.{Header}
 use Rattle.nr_header.specs.Reading.{header_of}
-use Rattle.nr_regions.specs.RegisteredMemory.{written}
+use Rattle.nr_regions.specs.RegisteredMemory.{bytes_after_write}
 use Rattle.nr_wire.specs.Constants.{OPCODE_WRITE}
 use Rattle.nr_wire.specs.Segment.{Segment as WireSegment}
 use Rattle.nr_wire.specs.Segment.Segment.{Tagged, Untagged}
@@ -58,7 +58,7 @@ pub record Asks (payload : List ℕ) (p : Plan) (xid credit stag : ℕ) (message
 -- tagged segments for an STag lay their payloads over its bytes, the later over the earlier
 abbrev pub laid : ℕ → List ℕ → List WireSegment → List ℕ
 laid stag bytes [] = bytes
-laid stag bytes (Tagged last opcode s to payload ∷ segments) = laid stag (if s == stag then written bytes to payload else bytes) segments
+laid stag bytes (Tagged last opcode s to payload ∷ segments) = laid stag (if s == stag then bytes_after_write bytes to payload else bytes) segments
 laid stag bytes (Untagged last opcode w queue msn offset payload ∷ segments) = laid stag bytes segments
 
 -- the segments of one RDMA Write

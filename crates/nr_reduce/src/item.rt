@@ -3,11 +3,14 @@
 ghost use Rattle.std.specs.Prelude.{◌≡◌, ◌+◌, ◌≤◌, Ok, length, IfSome};
 ghost use Rattle.nr_xdr.specs.Item.{pad_len};
 ghost use Rattle.nr_rpc.specs.Reading.{reply_of};
-ghost use Rattle.nr_reduce.specs.Fronts.{and_then};
+ghost use Rattle.nr_reduce.specs.Behind.{and_then};
 ghost use Rattle.nr_reduce.specs.Items.{from_place, item_at, is_nfs, argument_item, result_item, results_of, call_item, reply_item, item_of};
 
-use crate::limits::{NFS_PROGRAM, NFS_VERSION, READ, READLINK, SYMLINK, WRITE};
-use crate::skipping::{before_data, before_path, before_read, before_target};
+use crate::limits::{READ, READLINK, SYMLINK, WRITE};
+use nr_nfs_base::{
+    NFS_PROGRAM, NFS_VERSION, skip_to_read_data, skip_to_readlink_path, skip_to_symlink_path,
+    skip_to_write_data,
+};
 use nr_rpc::{ReplyHead, call_target, read_reply};
 use nr_xdr::{Octets, Reader};
 
@@ -75,7 +78,7 @@ pub(crate) fn is_nfs(prog: u32, vers: u32) -> bool
 }
 
 /// The item of a call's arguments.
-#[tactic(auto, using(crate::proofs::Places::item_at_front))]
+#[tactic(auto, using(crate::proofs::Places::items_of_calls))]
 fn argument_item(prog: u32, vers: u32, proc: u32, arguments: Reader<'_>) -> Option<Item>
     ensures { result ≡ argument_item prog vers proc arguments.entry }
 {
@@ -83,14 +86,14 @@ fn argument_item(prog: u32, vers: u32, proc: u32, arguments: Reader<'_>) -> Opti
         return None;
     }
     match proc {
-        WRITE => item_behind(before_data(arguments)),
-        SYMLINK => item_behind(before_path(arguments)),
+        WRITE => item_behind(skip_to_write_data(arguments)),
+        SYMLINK => item_behind(skip_to_symlink_path(arguments)),
         _ => None,
     }
 }
 
 /// The item of a reply's results.
-#[tactic(auto, using(crate::proofs::Places::item_at_front))]
+#[tactic(auto, using(crate::proofs::Places::items_of_replies))]
 fn result_item(prog: u32, vers: u32, proc: u32, results: Reader<'_>) -> Option<Item>
     ensures { result ≡ result_item prog vers proc results.entry }
 {
@@ -98,8 +101,8 @@ fn result_item(prog: u32, vers: u32, proc: u32, results: Reader<'_>) -> Option<I
         return None;
     }
     match proc {
-        READ => item_behind(before_read(results)),
-        READLINK => item_behind(before_target(results)),
+        READ => item_behind(skip_to_read_data(results)),
+        READLINK => item_behind(skip_to_readlink_path(results)),
         _ => None,
     }
 }

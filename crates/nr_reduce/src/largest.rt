@@ -1,19 +1,35 @@
 //! How long a reply may be, by its call alone.
 
 ghost use Rattle.std.specs.Prelude.{◌≡◌, ◌+◌, ◌<◌, ◌≤◌};
+ghost use Rattle.nr_reduce.specs.Behind.{number_behind};
 ghost use Rattle.nr_reduce.specs.Largest.{rounded, by_count, read_reply_max, readdir_reply_max, limit_of, nfs_reply_max, program_reply_max, largest_reply};
 
 use crate::cutting::pad_len;
 use crate::item::{is_nfs, reader_at};
-use crate::limits::{
-    MNT, MOUNT_PROGRAM, MOUNT_VERSION, MOVED_MAX, READ, READDIR, READDIR_MAX, READDIRPLUS,
+use crate::limits::{MNT, MOVED_MAX, READ, READDIR, READDIR_MAX, READDIRPLUS};
+use nr_nfs_base::{
+    MOUNT_PROGRAM, MOUNT_VERSION, skip_to_read_count, skip_to_readdir_count,
+    skip_to_readdirplus_maxcount,
 };
-use crate::skipping::count_after;
 use nr_rpc::call_target;
 use nr_xdr::Reader;
 
 /// The reply to any other call, and to one that isn't encoded up to its count.
 const LEAST_REPLY: u32 = 32;
+
+/// The number behind the fields before it, where these could be read.
+#[tactic(auto, unfolding(crate::specs::Behind::number_behind))]
+pub(crate) fn number_behind(front: Option<Reader<'_>>) -> Option<u32>
+    ensures { result ≡ number_behind front.entry }
+{
+    let Some(mut reader) = front else {
+        return None;
+    };
+    match reader.u32() {
+        Ok(number) => Some(number),
+        Err(_) => None,
+    }
+}
 
 /// So many bytes and their pad.
 fn rounded(len: u32) -> u32
@@ -67,14 +83,14 @@ fn limit_of(proc: u32) -> u32
     }
 }
 
-#[tactic(auto, using(crate::proofs::Fronts::counts_after), unfolding(nr_xdr::specs::Item::pad_len))]
+#[tactic(auto, using(crate::proofs::Places::counts))]
 fn nfs_reply_max(proc: u32, arguments: Reader<'_>) -> u32
     ensures { result ≡ nfs_reply_max proc arguments.entry }
 {
     match proc {
-        READ => read_reply_max(count_after(arguments, 8)),
-        READDIR => readdir_reply_max(count_after(arguments, 16)),
-        READDIRPLUS => readdir_reply_max(count_after(arguments, 20)),
+        READ => read_reply_max(number_behind(skip_to_read_count(arguments))),
+        READDIR => readdir_reply_max(number_behind(skip_to_readdir_count(arguments))),
+        READDIRPLUS => readdir_reply_max(number_behind(skip_to_readdirplus_maxcount(arguments))),
         _ => limit_of(proc),
     }
 }

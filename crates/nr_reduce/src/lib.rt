@@ -27,7 +27,6 @@ mod outline;
 mod planning;
 mod run_laws;
 mod sequence;
-mod skipping;
 
 pub use call::{Call, Form, Lengths, Offer, Outcome, Refused, Submission};
 pub use cutting::{cut, rebuild, reducible_item};

@@ -12,16 +12,7 @@ pub const LINK_MAX: u32 = 1024;
 /// The most bytes that an offer has in all, where it is given.
 pub const GIVEN_MAX: u32 = 65536;
 
-/// The program of NFS and its version (RFC 1813 section 1.2).
-pub(crate) const NFS_PROGRAM: u32 = 100003;
-
-pub(crate) const NFS_VERSION: u32 = 3;
-
-/// The program of MOUNT and its version (RFC 1813 section 5.1), and its procedure MNT (section 5.2.1).
-pub(crate) const MOUNT_PROGRAM: u32 = 100005;
-
-pub(crate) const MOUNT_VERSION: u32 = 3;
-
+/// The procedure of MOUNT that gives a handle (RFC 1813 section 5.2.1).
 pub(crate) const MNT: u32 = 1;
 
 /// The procedures of NFS whose arguments or results are looked into (RFC 1813 section 3.3).

@@ -8,9 +8,9 @@ ghost use Rattle.nr_reduce.specs.Outlines.{plan_by, outlined, WayFits};
 use crate::call::Lengths;
 use crate::cutting::reducible_item;
 use crate::item::{Item, Of, is_nfs, reader_at};
-use crate::largest::largest_reply;
+use crate::largest::{largest_reply, number_behind};
 use crate::limits::{LINK_MAX, MOVED_MAX, READ, READLINK};
-use crate::skipping::count_after;
+use nr_nfs_base::skip_to_read_count;
 use nr_rpc::call_target;
 use nr_xdr::{Octets, Reader};
 
@@ -97,7 +97,7 @@ fn moved_offer(count: Option<u32>) -> Option<u32>
     }
 }
 
-#[tactic(auto, using(crate::proofs::Fronts::read_count_after), unfolding(nr_xdr::specs::Item::pad_len))]
+#[tactic(auto, using(crate::proofs::Places::count_in_read))]
 fn argument_offer(prog: u32, vers: u32, proc: u32, arguments: Reader<'_>) -> Option<u32>
     ensures { result ≡ argument_offer prog vers proc arguments.entry }
 {
@@ -105,7 +105,7 @@ fn argument_offer(prog: u32, vers: u32, proc: u32, arguments: Reader<'_>) -> Opt
         return None;
     }
     match proc {
-        READ => moved_offer(count_after(arguments, 8)),
+        READ => moved_offer(number_behind(skip_to_read_count(arguments))),
         READLINK => Some(LINK_MAX),
         _ => None,
     }
