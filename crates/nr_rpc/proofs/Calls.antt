@@ -15,9 +15,9 @@ use Rattle.nr_rpc.specs.declared.head.CallHead.TheVariants as calls
 use Rattle.nr_rpc.specs.Credential.{Auth, auth_items, auth_of, no_verifier, ReadsCred}
 use Rattle.nr_rpc.specs.Call.{version2_items, other_items, ReadsCall, BeginsCall, CanWriteCall, CallFits, call_encoding, call_again}
 use Rattle.nr_xdr.specs.Sequencing.{◌>>=◌, number_at}
-use Rattle.nr_rpc.specs.Reading.{cred_of, procedure_at, version2_at, call_at, head_of, call_of, GivesCall, head_xid, xid_of_call}
+use Rattle.nr_rpc.specs.Reading.{cred_of, pair_at, procedure_at, version2_at, call_at, head_of, call_of, GivesCall, head_xid, xid_of_call}
 use Rattle.nr_xdr.proofs.SequencingSteps.{bind_ok, chosen, done, ok_is, number_step, number_again}
-use Rattle.nr_rpc.proofs.HeadSteps.{expect_step, expect_again, auth_step, auth_again, TakesAuth}
+use Rattle.nr_rpc.proofs.HeadSteps.{expect_step, expect_again, auth_step, auth_again, TakesAuth, pair_step, pair_again}
 use Rattle.nr_rpc.proofs.Credentials.{cred_takes, cred_again, cred_written, auth_of-fits}
 
 -- a call head that was read
@@ -50,26 +50,25 @@ record TakesProcedure (prog vers proc : ℕ) (c after : Cursor) : Type 0 where
   at_vers : Takes behind_prog behind_vers (Unsigned vers)
   at_proc : Takes behind_vers after (Unsigned proc)
 
-procedure_step : {B : Type 0} (c : Cursor) (f : (ℕ × ℕ × ℕ) × Cursor → Result B ℕ) (y : B) → IsBytes c.rest → (procedure_at c >>= f) ≡ Ok y
-    → (x : (ℕ × ℕ × ℕ) × Cursor) × TakesProcedure x.0.0 x.0.1 x.0.2 c x.1 × IsBytes x.1.rest × (f x ≡ Ok y)
-unfolding procedure_at
+procedure_step : {B : Type 0} (c : Cursor) (f : (ℕ × (ℕ × ℕ)) × Cursor → Result B ℕ) (y : B) → IsBytes c.rest → (procedure_at c >>= f) ≡ Ok y
+    → (x : (ℕ × (ℕ × ℕ)) × Cursor) × TakesProcedure x.0.0 x.0.1.0 x.0.1.1 c x.1 × IsBytes x.1.rest × (f x ≡ Ok y)
+unfolding procedure_at pair_at
 procedure_step c f y fits e =
     let a = bind_ok (procedure_at c) f y e in
-    let prog = number_step c (λ prog. number_at prog.1 >>= λ vers. number_at vers.1 >>= λ proc. Ok ((prog.0, vers.0, proc.0), proc.1)) a.0 fits a.1 in
-    let vers = number_step prog.0.1 (λ vers. number_at vers.1 >>= λ proc. Ok ((prog.0.0, vers.0, proc.0), proc.1)) a.0 prog.2 prog.3 in
-    let proc = number_step vers.0.1 (λ proc. Ok ((prog.0.0, vers.0.0, proc.0), proc.1)) a.0 vers.2 vers.3 in
-    let made : (ℕ × ℕ × ℕ) × Cursor = ((prog.0.0, vers.0.0, proc.0.0), proc.0.1) in
-    let taken : TakesProcedure prog.0.0 vers.0.0 proc.0.0 c proc.0.1 = record { behind_prog = prog.0.1; at_prog = prog.1; behind_vers = vers.0.1; at_vers = vers.1; at_proc = proc.1 } in
-    let is = ok_is made a.0 proc.3 in (
+    let prog = number_step c (λ prog. pair_at prog.1 >>= λ version. Ok ((prog.0, version.0), version.1)) a.0 fits a.1 in
+    let version = pair_step prog.0.1 (λ version. Ok ((prog.0.0, version.0), version.1)) a.0 prog.2 prog.3 in
+    let made : (ℕ × (ℕ × ℕ)) × Cursor = ((prog.0.0, version.0.0), version.0.1) in
+    let taken : TakesProcedure prog.0.0 version.0.0.0 version.0.0.1 c version.0.1 = record { behind_prog = prog.0.1; at_prog = prog.1; behind_vers = version.1.behind_first; at_vers = version.1.at_first; at_proc = version.1.at_second } in
+    let is = ok_is made a.0 version.3 in (
       a.0,
-      subst (λ (x : (ℕ × ℕ × ℕ) × Cursor). TakesProcedure x.0.0 x.0.1 x.0.2 c x.1) is taken,
-      subst (λ (x : (ℕ × ℕ × ℕ) × Cursor). IsBytes x.1.rest) is proc.2,
+      subst (λ (x : (ℕ × (ℕ × ℕ)) × Cursor). TakesProcedure x.0.0 x.0.1.0 x.0.1.1 c x.1) is taken,
+      subst (λ (x : (ℕ × (ℕ × ℕ)) × Cursor). IsBytes x.1.rest) is version.2,
       a.2,
     )
 
-procedure_again : (prog vers proc : ℕ) (c d f after : Cursor) → Takes c d (Unsigned prog) → Takes d f (Unsigned vers) → Takes f after (Unsigned proc) → procedure_at c ≡ Ok ((prog, vers, proc), after)
+procedure_again : (prog vers proc : ℕ) (c d f after : Cursor) → Takes c d (Unsigned prog) → Takes d f (Unsigned vers) → Takes f after (Unsigned proc) → procedure_at c ≡ Ok ((prog, (vers, proc)), after)
 unfolding procedure_at
-procedure_again prog vers proc c d f after at_prog at_vers at_proc = rw (number_again c prog d at_prog, number_again d vers f at_vers, number_again f proc after at_proc) refl
+procedure_again prog vers proc c d f after at_prog at_vers at_proc = rw (number_again c prog d at_prog, pair_again vers proc d f after at_vers at_proc) refl
 
 version2_take : (xid : ℕ) (first second c : Cursor) (x : CallHead × Cursor) (start : Cursor) → IsBytes c.rest
     → Takes start first (Unsigned xid) → Takes first second (Unsigned CALL) → Takes second c (Unsigned RPC_VERSION)
@@ -81,7 +80,7 @@ version2_take xid first second c x start fits at_xid at_kind at_version e =
     let auth = auth_step called.0.1 _ x called.2 called.3 in
     let verifier = auth_step auth.0.1 _ x auth.3 auth.4 in
     let each = auth_each auth.0.0 (auth_items verifier.0.0 []) called.0.1 auth.0.1 verifier.0.1 auth.1 (auth_each verifier.0.0 [] auth.0.1 verifier.0.1 verifier.0.1 verifier.1 (refl {a = verifier.0.1})) in
-    version2_made xid called.0.0.0 called.0.0.1 called.0.0.2 auth.0.0 verifier.0.0 start verifier.0.1 x
+    version2_made xid called.0.0.0 called.0.0.1.0 called.0.0.1.1 auth.0.0 verifier.0.0 start verifier.0.1 x
     (record {
       each = (first, at_xid, (second, at_kind, (c, at_version, (t.behind_prog, t.at_prog, (t.behind_vers, t.at_vers, (called.0.1, t.at_proc, each))))));
       auth_within = auth.1.within;

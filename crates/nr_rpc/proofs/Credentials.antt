@@ -54,16 +54,16 @@ record TakesUser (uid gid : ℕ) (gids : List ℕ) (c after : Cursor) : Type 0 w
   at_gid : Takes behind_uid behind_gid (Unsigned gid)
   group : TakesGids gids behind_gid after
 
-user_take : (c : Cursor) (x : (ℕ × ℕ × List ℕ) × Cursor) → IsBytes c.rest → user_at c ≡ Ok x → TakesUser x.0.0 x.0.1 x.0.2 c x.1
+user_take : (c : Cursor) (x : ((ℕ × ℕ) × List ℕ) × Cursor) → IsBytes c.rest → user_at c ≡ Ok x → TakesUser x.0.0.0 x.0.0.1 x.0.1 c x.1
 unfolding user_at
 user_take c x fits e =
     let ids = pair_step c _ x fits e in
     let gids = bind_ok (gids_at ids.0.1) _ x ids.3 in
-    let made : (ℕ × ℕ × List ℕ) × Cursor = ((ids.0.0.0, ids.0.0.1, gids.0.0), gids.0.1) in
-    subst (λ (y : (ℕ × ℕ × List ℕ) × Cursor). TakesUser y.0.0 y.0.1 y.0.2 c y.1) (ok_is made x gids.2)
+    let made : ((ℕ × ℕ) × List ℕ) × Cursor = ((ids.0.0, gids.0.0), gids.0.1) in
+    subst (λ (y : ((ℕ × ℕ) × List ℕ) × Cursor). TakesUser y.0.0.0 y.0.0.1 y.0.1 c y.1) (ok_is made x gids.2)
     (record { behind_uid = ids.1.behind_first; at_uid = ids.1.at_first; behind_gid = ids.0.1; at_gid = ids.1.at_second; group = gids_take ids.0.1 gids.0 ids.2 gids.1 })
 
-user_again : (uid gid : ℕ) (gids : List ℕ) (c d f after : Cursor) → Takes c d (Unsigned uid) → Takes d f (Unsigned gid) → TakesGids gids f after → user_at c ≡ Ok ((uid, gid, gids), after)
+user_again : (uid gid : ℕ) (gids : List ℕ) (c d f after : Cursor) → Takes c d (Unsigned uid) → Takes d f (Unsigned gid) → TakesGids gids f after → user_at c ≡ Ok (((uid, gid), gids), after)
 unfolding user_at
 user_again uid gid gids c d f after at_uid at_gid group = rw (pair_again uid gid c d f at_uid at_gid, gids_again gids f after group) refl
 
@@ -96,7 +96,7 @@ sys_take c x fits e =
     let machine = opaque_step MACHINE_MAX stamp.0.1 _ x stamp.2 stamp.3 in
     let user = bind_ok (user_at machine.0.1) _ x machine.4 in
     let u = user_take machine.0.1 user.0 machine.3 user.1 in
-    sys_made stamp.0.0 machine.0.0 user.0.0.0 user.0.0.1 user.0.0.2 c user.0.1 x
+    sys_made stamp.0.0 machine.0.0 user.0.0.0.0 user.0.0.0.1 user.0.0.1 c user.0.1 x
     (record {
       each = (stamp.0.1, stamp.1, (machine.0.1, machine.1, (u.behind_uid, u.at_uid, (u.behind_gid, u.at_gid, (u.group.behind_count, u.group.count, u.group.each)))));
       machine_within = machine.2;

@@ -53,11 +53,11 @@ gids_at c = do
   if nat_lt GIDS_MAX count.0 then Err c.place else numbers_at count.0 count.1
 
 -- a user, its group and the further groups
-unfoldable pub user_at : Cursor → Result ((ℕ × ℕ × List ℕ) × Cursor) ℕ
+unfoldable pub user_at : Cursor → Result (((ℕ × ℕ) × List ℕ) × Cursor) ℕ
 user_at c = do
   ids ← pair_at c
   gids ← gids_at ids.1
-  Ok ((ids.0.0, ids.0.1, gids.0), gids.1)
+  Ok ((ids.0, gids.0), gids.1)
 
 -- the body of AUTH_SYS (RFC 5531 appendix A)
 unfoldable pub sys_at : Cursor → Result (Cred × Cursor) ℕ
@@ -65,7 +65,7 @@ sys_at c = do
   stamp ← number_at c
   machine ← or_place (opaque_at MACHINE_MAX stamp.1)
   user ← user_at machine.1
-  Ok (creds.Sys stamp.0 machine.0 user.0.0 user.0.1 user.0.2, user.1)
+  Ok (creds.Sys stamp.0 machine.0 user.0.0.0 user.0.0.1 user.0.1, user.1)
 
 -- the value that was read, if nothing follows it
 abbrev pub whole_value : {A : Type 0} → Result (A × Cursor) ℕ → Option A
@@ -79,13 +79,12 @@ cred_of auth =
     else (if auth.flavor == AUTH_SYS then unwrap_or (whole_value (sys_at (record { place = 0; rest = auth.body }))) (creds.Other auth.flavor)
     else creds.Other auth.flavor)
 
--- a program, its version and a procedure
-unfoldable pub procedure_at : Cursor → Result ((ℕ × ℕ × ℕ) × Cursor) ℕ
+-- a program; its version and a procedure
+unfoldable pub procedure_at : Cursor → Result ((ℕ × (ℕ × ℕ)) × Cursor) ℕ
 procedure_at c = do
   prog ← number_at c
-  vers ← number_at prog.1
-  proc ← number_at vers.1
-  Ok ((prog.0, vers.0, proc.0), proc.1)
+  version ← pair_at prog.1
+  Ok ((prog.0, version.0), version.1)
 
 -- a call of version 2, from the program on
 unfoldable pub version2_at : ℕ → Cursor → Result (CallHead × Cursor) ℕ
@@ -93,7 +92,7 @@ version2_at xid c = do
   called ← procedure_at c
   cred ← auth_at called.1
   verifier ← auth_at cred.1
-  Ok (calls.Version2 xid called.0.0 called.0.1 called.0.2 (cred_of cred.0) verifier.1.place, verifier.1)
+  Ok (calls.Version2 xid called.0.0 called.0.1.0 called.0.1.1 (cred_of cred.0) verifier.1.place, verifier.1)
 
 unfoldable pub call_at : Cursor → Result (CallHead × Cursor) ℕ
 call_at c = do

@@ -9,7 +9,7 @@ ghost use Rattle.nr_rpc.specs.Reading.{GivesCall, call_at, call_of, version2_at,
 use crate::constants::{CALL, RPC_VERSION};
 use crate::fault::HeadFault;
 use crate::head::{CallHead, CallTarget};
-use crate::item::{RawAuth, auth, expect};
+use crate::item::{RawAuth, auth, expect, pair};
 use crate::put::{put_cred, put_no_verifier, put_numbers};
 use crate::sys::cred_from;
 use nr_xdr::{DecodeError, Memory, Octets, Reader, Writer, number};
@@ -32,15 +32,14 @@ pub(crate) enum CallStart<'a> {
     },
 }
 
-/// Reads a program, its version and a procedure.
+/// Reads a program, and its version and a procedure.
 #[tactic(auto, unfolding(crate::specs::Reading::procedure_at))]
-fn procedure(reader: &mut Reader<'_>) -> Result<(u32, u32, u32), DecodeError>
+fn procedure(reader: &mut Reader<'_>) -> Result<(u32, (u32, u32)), DecodeError>
     ensures { MatchesRead (λ p. p) result reader.new (procedure_at reader.old) }
 {
     let prog = number(reader)?;
-    let vers = number(reader)?;
-    let proc = number(reader)?;
-    Ok((prog, vers, proc))
+    let version = pair(reader)?;
+    Ok((prog, version))
 }
 
 /// Reads a call of version 2, from the program on.
@@ -48,7 +47,7 @@ fn procedure(reader: &mut Reader<'_>) -> Result<(u32, u32, u32), DecodeError>
 fn version2<'a>(reader: &mut Reader<'a>, xid: u32) -> Result<CallStart<'a>, DecodeError>
     ensures { MatchesRead head_of_start result reader.new (version2_at xid reader.old) }
 {
-    let (prog, vers, proc) = procedure(reader)?;
+    let (prog, (vers, proc)) = procedure(reader)?;
     let cred = auth(reader)?;
     let _verifier = auth(reader)?;
     Ok(CallStart::Version2 {

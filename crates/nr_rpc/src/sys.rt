@@ -48,12 +48,12 @@ fn gids(reader: &mut Reader<'_>) -> Result<Gids, DecodeError>
 
 /// Reads a user, its group and the further groups.
 #[tactic(auto, unfolding(crate::specs::Reading::user_at))]
-fn user(reader: &mut Reader<'_>) -> Result<(u32, u32, Gids), DecodeError>
+fn user(reader: &mut Reader<'_>) -> Result<((u32, u32), Gids), DecodeError>
     ensures { MatchesRead (λ u. u) result reader.new (user_at reader.old) }
 {
-    let (uid, gid) = pair(reader)?;
+    let ids = pair(reader)?;
     let gids = gids(reader)?;
-    Ok((uid, gid, gids))
+    Ok((ids, gids))
 }
 
 /// Reads the body of AUTH_SYS.
@@ -63,7 +63,7 @@ fn sys_body<'a>(reader: &mut Reader<'a>) -> Result<SysBody<'a>, DecodeError>
 {
     let stamp = number(reader)?;
     let machine = reader.opaque(MACHINE_MAX)?;
-    let (uid, gid, gids) = user(reader)?;
+    let ((uid, gid), gids) = user(reader)?;
     Ok(SysBody {
         stamp,
         machine,
