@@ -1,20 +1,20 @@
 -- What a change of one node does to the skeleton.
-use Rattle.std.proofs.Common.{◌≡◌, ◌≢◌, ℕ, zero, suc, ◌+◌, ◌-◌, ◌<◌, ◌≤◌, Bool, true, false, cond, eqb, List, [], ◌∷◌, ◌++◌, Option, None, Some, refl, ap, sym, ◌∙◌, subst, arith, inl, inr, ◌⊎◌}
+use Rattle.std.proofs.Common.{◌≡◌, ℕ, ◌+◌, ◌-◌, Bool, true, false, cond, eqb, List, [], ◌∷◌, ◌++◌, Option, None, Some, refl, ap, sym, ◌∙◌, arith}
 use Rattle.std.specs.Option.{option_map_or}
 use Rattle.std.specs.Ordering.{nat_cmp, eq_by_cmp}
 use Rattle.std.specs.Cmp.{nat_cmp_total}
 use Rattle.std.specs.FinMap.{FinMap, get, insert, remove, get-insert, get-remove}
 use Rattle.std.proofs.lemmas.Bool.Decides.{nat_tests}
 use Rattle.nr_nfs_base.specs.declared.time.Time.{Time}
-use Rattle.nr_tree.specs.Entries.{Entry, Entries, entry_of_name, list_without, next_entry}
-use Rattle.nr_tree.specs.Skeleton.{Skeleton, set, one_if, node_added, link_added, link_dropped, node_removed, entry_added, entry_removed}
-use Rattle.nr_tree.specs.Tree.{Tree, value_at, nodes_with_change, is_dir, is_directory, entries_in, entries_of}
+use Rattle.nr_tree.specs.Entries.{Entry, Entries, list_without}
+use Rattle.nr_tree.specs.Skeleton.{Skeleton, set, one_if, node_added, link_added, link_dropped, node_removed, entry_removed}
+use Rattle.nr_tree.specs.Tree.{value_at, nodes_with_change, is_dir, is_directory, entries_in}
 use Rattle.nr_tree.specs.Sane.{skeleton_of}
 use Rattle.nr_tree.specs.Changes.{next_cookie_of, on_entries, node_with_entry, node_without_entry, node_with_link, node_without_link, node_with_new_name}
 use Rattle.nr_tree.specs.declared.node.Node.{Node}
 use Rattle.nr_tree.specs.declared.node.Content.{Content}
 use Rattle.nr_tree.specs.declared.node.Content.TheVariants.{Regular, Directory, Block, Character, Link, Socket, Fifo}
-use Rattle.nr_tree.proofs.Lists.{set-here, set-other, set-same}
+use Rattle.nr_tree.proofs.Lists.{set-same}
 
 abbrev Nodes : Type 0
 Nodes = FinMap nat_cmp Node
@@ -51,7 +51,7 @@ value_at-metadata f z nodes k v w e same = value_at-insert f z nodes k w ∙ set
 pub with_change-at : (nodes : Nodes) (k : ℕ) (v : Node) (change : Node → Node) → get nodes k ≡ Some v → nodes_with_change nodes k change ≡ insert nodes k (change v)
 with_change-at nodes k v change e = ap (λ o. option_map_or (λ node. insert nodes k (change node)) o nodes) e
 
-same_kind : (change : Entries → Entries) (c : Content) → is_directory (on_entries change c) ≡ is_directory c
+pub same_kind : (change : Entries → Entries) (c : Content) → is_directory (on_entries change c) ≡ is_directory c
 same_kind change (Regular bytes) = refl
 same_kind change (Directory entries) = refl
 same_kind change (Block device) = refl
@@ -72,7 +72,7 @@ one_more now name n b v (Link path) e t = absurd cc
 one_more now name n b v Socket e t = absurd cc
 one_more now name n b v Fifo e t = absurd cc
 
-one_less : (now : Time) (name : List ℕ) (b : Bool) (v : Node) (c : Content) → v.content ≡ c → is_directory c ≡ true → entries_in (node_without_entry now name b v) ≡ list_without name (entries_in v)
+pub one_less : (now : Time) (name : List ℕ) (b : Bool) (v : Node) (c : Content) → v.content ≡ c → is_directory c ≡ true → entries_in (node_without_entry now name b v) ≡ list_without name (entries_in v)
 one_less now name b v (Directory entries) e t = rw (e) refl
 one_less now name b v (Regular bytes) e t = absurd cc
 one_less now name b v (Block device) e t = absurd cc
