@@ -1,14 +1,14 @@
 #!/bin/sh
-# Reading of FPDUs: the time for each, of a short and of a long stream and by the length of the payload. Run by hand, at the
-# top of the repository, once `(cd crates/frames_bench && rt run -- 5 68 2 2)` has built the program; or with the program's path
-# as $1. The stream comes in pieces of at most 1000 FPDUs, each written into one buffer and read there.
+# Measures the time for each FPDU that is read: in a short and in a long stream, with a short and with a long payload. Run it by hand
+# at the top of the repository, after `(cd crates/frames_bench && rt run -- 5 68 2 2)` has built the program; or give the path of the
+# program as $1. The stream comes in pieces of at most 1000 FPDUs. Each piece is written into one buffer and read there.
 exec python3 - "${1:-crates/frames_bench/out/frames_bench}" <<'END'
 import resource, subprocess, sys
 
 PIECE = 1000
 
 def seconds(*runs, times=40):
-    """The least processor time of each run (FPDUs, payload bytes, FPDUs of a piece, readings), of so many taken in turn."""
+    """The least processor time of each run (FPDUs, payload bytes, FPDUs in a piece, readings). The runs take turns."""
     best = [None] * len(runs)
     for _ in range(times):
         for i, run in enumerate(runs):
@@ -21,13 +21,13 @@ def seconds(*runs, times=40):
     return best
 
 def once(piece):
-    """What writing and reading once takes for each of 10000 and of 1000000 FPDUs, beyond the start of the program."""
+    """The time to write and read one FPDU once, of 10000 and of 1000000, without the start of the program."""
     start, few, many = seconds((0, 68, PIECE, 1), (10_000, 68, piece, 1), (1_000_000, 68, piece, 1), times=120)
     return (few - start) / 10_000 * 1e9, (many - start) / 1_000_000 * 1e9
 
 def read(count, payload, times):
-    """What reading takes for each FPDU: the readings beyond the first, so that writing doesn't count. Every other one is
-    without the first FPDU of its piece."""
+    """Two runs that differ by the readings after the first, so that writing does not count, and how many FPDUs these read. Every
+    other reading leaves out the first FPDU of its piece."""
     return (count, payload, PIECE, 1), (count, payload, PIECE, times + 1), times * count - times / 2 * -(-count // PIECE)
 
 def nanoseconds(one, other):

@@ -1,10 +1,10 @@
 #!/usr/bin/env bash
-# What a drill of NULL calls costs: time and peak memory of 10,000 and of 100,000 calls, each drained before the next.
+# Measures the time and the peak memory of drills of 10,000 and of 100,000 NULL calls, each drained before the next.
 #
 #     bench/null_calls.sh [PROGRAM]
 #
-# PROGRAM is the built program, by default the one that `rt run` in crates/nfsrdma leaves. Of three runs the fastest counts. Status 1
-# where the program fails or a target is missed. Not part of the gate.
+# PROGRAM is the built program, by default the one that `rt run` leaves in crates/nfsrdma. The fastest of three runs counts. The status
+# is 1 where the program fails or a target is missed. This is not part of the gate.
 set -euo pipefail
 shopt -s inherit_errexit
 export LC_ALL=C
@@ -25,7 +25,7 @@ fi
 room=$(mktemp -d)
 trap 'rm -rf "$room"' EXIT
 
-# A script of so many calls.
+# Writes a script of $1 calls.
 script() {
     awk -v calls="$1" 'BEGIN {
         print "clients 1 credits 16"
@@ -33,8 +33,8 @@ script() {
     }'
 }
 
-# Runs the program on a script, and prints the peak of its memory in kilobytes. Without GNU time, python3 tells it, of which
-# its own few thousand are the least that it can tell.
+# Runs the program on a script, and prints its peak memory in kilobytes. Without GNU time, python3 measures it; then the result is
+# at least the few thousand kilobytes of python3 itself.
 peak_of() {
     if [[ -x /usr/bin/time ]]; then
         /usr/bin/time -v -o "$room/told" "$program" drill <"$1" >"$room/printed" || return 1
@@ -50,12 +50,12 @@ print(resource.getrusage(resource.RUSAGE_CHILDREN).ru_maxrss)
     fi
 }
 
-# Whether so many calls were answered, and none changed anything.
+# Whether $1 calls were answered, and none changed anything.
 is_right() {
     [[ $(grep -c ' place 0 reply ' "$room/printed") == "$1" && $(tail -n 1 "$room/printed") == "journal 0" ]]
 }
 
-# The fewest microseconds and kilobytes of the runs of a drill of so many calls.
+# Prints the least time in microseconds and the least peak memory in kilobytes of the runs of a drill of $1 calls.
 measure() {
     local calls=$1 fastest='' least='' start end spent peak
     script "$calls" >"$room/script"

@@ -1,7 +1,6 @@
-//! A benchmark, run by hand: writes and reads a stream of FPDUs piece by piece, and says how many segments were read. Each
-//! FPDU has its own message number, and each piece stands in the same buffer.
-//! The words are how many FPDUs there are, how many payload bytes each has, how many FPDUs a piece has at most, and how often
-//! each piece is read.
+//! A benchmark, run by hand: it writes and reads a stream of FPDUs piece by piece, and prints how many segments were
+//! read. Each FPDU has its own message number, and each piece uses the same buffer. The arguments are the number of
+//! FPDUs, the number of payload bytes of each, the most FPDUs of a piece, and how often each piece is read.
 #![tactic(auto)]
 
 ghost use Rattle.std.specs.Prelude.{◌≤◌, length};
@@ -16,19 +15,19 @@ use std::process::ExitCode;
 /// The most payload bytes, so that the FPDU can be written.
 const PAYLOAD_MAX: usize = 65_000;
 
-/// What is written and how often it is read.
+/// What is written, and how often it is read.
 #[derive(Clone, Copy)]
 struct Work<'a> {
     /// How many FPDUs there are.
     frames: u32,
-    /// How many of them a piece has at most.
+    /// The most FPDUs of a piece.
     piece: u32,
     payload: &'a [u8],
     /// How often each piece is read.
     readings: u64,
 }
 
-/// Reads a piece to its end, or to the first FPDU that isn't whole: how many there are.
+/// Reads a piece to its end, or to the first FPDU that isn't whole. Gives the number of segments.
 fn count(piece: &[u8]) -> u64 {
     let mut rest = piece;
     let mut count: u64 = 0;
@@ -44,7 +43,7 @@ fn count(piece: &[u8]) -> u64 {
     count
 }
 
-/// How many bytes the first FPDU has.
+/// The length of the first FPDU.
 fn first_len(piece: &[u8]) -> usize {
     match next_segment(piece) {
         NextSegment::Whole { len, .. } => len,
@@ -52,7 +51,7 @@ fn first_len(piece: &[u8]) -> usize {
     }
 }
 
-/// Reads a piece so often, every other time without its first FPDU: how many segments there were in all.
+/// Reads a piece this often, every other time without its first FPDU. Gives the number of segments in all.
 fn count_often(piece: &[u8], readings: u64) -> u64 {
     let shorter = match piece.get(first_len(piece)..) {
         Some(shorter) => shorter,
@@ -65,7 +64,7 @@ fn count_often(piece: &[u8], readings: u64) -> u64 {
     total
 }
 
-/// Writes a piece of so many FPDUs, whose message numbers begin behind `before`.
+/// Writes a piece of this many FPDUs, whose message numbers begin behind `before`.
 fn fill(
     alloc: Global,
     piece: &mut Vec<u8>,
@@ -94,7 +93,7 @@ fn fill(
     Ok(())
 }
 
-/// Writes and reads all pieces: how many segments there were in all.
+/// Writes and reads all pieces. Gives the number of segments in all.
 fn run(alloc: Global, work: &Work<'_>) -> Result<u64, Memory>
     requires { length work.now.payload.now ≤ PAYLOAD_MAX }
 {

@@ -1,5 +1,5 @@
-//! The program: it opens the handles of its process and hands them to [`nr_top::run`], or to [`nr_top::refuse`] where it can't
-//! have its words.
+//! The program: it opens the streams of its process and hands them to [`nr_top::run`], or to [`nr_top::refuse`] where
+//! it can't have its arguments.
 #![tactic(auto)]
 
 use nr_outside::{StdSink, StdSource};
@@ -7,7 +7,7 @@ use nr_top::{refuse, run};
 use std::process::ExitCode;
 use std::{env, io};
 
-/// The words that the program was started with, its name first.
+/// The arguments that the program was started with, its name first.
 fn arguments(rt: &HostRuntime) -> io::Result<Vec<String>> {
     let mut arguments = Vec::new(rt.alloc());
     for word in env::args(rt)? {

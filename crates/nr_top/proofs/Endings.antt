@@ -1,4 +1,4 @@
--- What a stop and what is said of it tell of the status.
+-- What a cause, and what is written for it, say of the status.
 use Rattle.std.proofs.Common.{◌≡◌, ℕ, ◌<◌, ◌≤◌, true, List, length, codes, Option, Some, IfSome, Err, refl, sym, ap, subst, ◌∙◌, arith, inl, inr, le-ltb, lt-ltb}
 use Rattle.nr_world.specs.declared.report.Report.{Report}
 use Rattle.nr_world.specs.Constants.{script_max}
@@ -15,7 +15,7 @@ pub printed_is : (script : ScriptLines) (report : Report) (text : List ℕ) → 
 unfolding shown
 printed_is script report text reports e = e ∙ (λ i. text_of (reports.calls i) (reports.links i) (length (reports.journal i)))
 
--- the count of err rose
+-- the fault count of err rose
 report_fault : (arguments : List (List ℕ)) (status : ℕ) (input input' : InputAt) (out out' err err' : SinkAt) → status ≡ statuses.fault → FaultReport arguments input input' out out' err err' → Ends arguments status input input' out out' err err'
 report_fault arguments status input input' out out' err err' is told = record {
   known = inr (inr (inr (inl is)));
@@ -30,11 +30,11 @@ report_fault arguments status input input' out out' err err' is told = record {
   arguments_due = λ _. inr is;
 }
 
--- what is said of a cause with this status
+-- what is written for a cause with this status
 with_status : (cause : Cause) (status : ℕ) (err err' : SinkAt) → status ≡ statuses.fault → Says cause status err err' → Says cause statuses.fault err err'
 with_status cause status err err' is said = subst (λ (s : ℕ). Says cause s err err') is said
 
--- what is said of a cause was said, or the count of err rose
+-- the text of a cause was written, or the fault count of err rose
 said_or : {due : ℕ} {text : List ℕ} (cause : Cause) (arguments : List (List ℕ)) (status : ℕ) (input input' : InputAt) (out out' err err' : SinkAt) → Stopped cause arguments input input' out out' → Says cause status err err'
     → Spoke due text status err err' → (status ≡ due → Wrote err err' text → Ends arguments status input input' out out' err err') → Ends arguments status input input' out out' err err'
 said_or cause arguments status input input' out out' err err' stopped said (inl spoke) make = make spoke.0 spoke.1
@@ -69,11 +69,11 @@ no_memory arguments status input input' out out' err err' stopped is said = reco
   arguments_due = λ other. absurd (cc (stopped.0, other));
 }
 
--- a text that was told
+-- a text that is known
 report_same : (left : Option (List ℕ)) (text read : List ℕ) → IfSome left (λ l. read ≡ l) → left ≡ Some text → read ≡ text
 report_same left text read all told = subst (λ (l : Option (List ℕ)). IfSome l (λ given. read ≡ given)) told all
 
--- the status of a script with a bad line
+-- the status for a script with an invalid line
 due_of_bad : (arguments : List (List ℕ)) (text : List ℕ) (number : ℕ) → is_drill arguments ≡ true → length text ≤ script_max → script_of text ≡ Err number → due_status arguments text ≡ statuses.bad_script
 due_of_bad arguments text number line within bad = rw (line, le-ltb script_max (length text) within, bad) refl
 
@@ -95,7 +95,7 @@ bad_script number arguments status input input' out out' err err' stopped is sai
       arguments_due = λ other. absurd (cc (bad.line, other));
     }
 
--- the status of an input that is too long
+-- the status for an input that is too long
 due_of_long : (arguments : List (List ℕ)) (text : List ℕ) → is_drill arguments ≡ true → script_max < length text → due_status arguments text ≡ statuses.over_budget
 due_of_long arguments text line long = rw (line, lt-ltb script_max (length text) long) refl
 
@@ -115,12 +115,12 @@ over_budget arguments status input input' out out' err err' stopped is said =
       arguments_due = λ other. absurd (cc (long.line, other));
     }
 
--- where there is no memory for the text of a bad line
+-- where there is no memory for the text of an invalid line
 without_text : (number : ℕ) (arguments : List (List ℕ)) (input input' : InputAt) (out out' : SinkAt) → Stopped (BadScript number) arguments input input' out out' → Stopped NoMemory arguments input input' out out'
 without_text number arguments input input' out out' stopped =
     (stopped.0.line, (stopped.0.text, stopped.0.whole.handed, stopped.0.whole.within), stopped.0.whole.unfailing, stopped.1)
 
--- a cause that was told makes an end
+-- a cause and what is written for it make an end
 pub ends_of : (cause : Cause) (arguments : List (List ℕ)) (status : ℕ) (input input' : InputAt) (out out' err err' : SinkAt) → Stopped cause arguments input input' out out' → Says cause status err err' → Ends arguments status input input' out out' err err'
 ends_of BadArguments arguments status input input' out out' err err' stopped said =
     said_or BadArguments arguments status input input' out out' err err' stopped said said (bad_arguments arguments status input input' out out' err err' stopped)

@@ -1,4 +1,4 @@
--- The cause that each fault of a command below is told as.
+-- The cause that is reported for each fault of a command.
 use Rattle.nr_outside.specs.declared.whole.ReadEnd.{ReadEnd}
 use Rattle.nr_outside.specs.declared.whole.ReadEnd.TheVariants as ends
 use Rattle.nr_world.specs.declared.script.ScriptFault.{ScriptFault}

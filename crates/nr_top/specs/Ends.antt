@@ -1,4 +1,5 @@
--- How a run of the program ends, and what its status tells.
+-- How a run of the program ends, and what its status says. Clauses about bytes apply only where the bytes are known;
+-- fault counts are always known.
 use Rattle.std.specs.Prelude.{◌≡◌, ◌≢◌, ℕ, ◌<◌, ◌≤◌, ◌⊎◌, true, false, List, ◌++◌, length, take, codes, Option, Some, IfSome, Ok, Err}
 use Rattle.std.specs.Fmt.{decimal}
 use Rattle.std.specs.Io.KnownBytes.{Appends, Keeps, IsAtEnd}
@@ -14,7 +15,7 @@ use Rattle.nr_world.specs.Shown.{shown}
 use Rattle.nr_top.specs.Statuses as statuses
 use Rattle.nr_top.specs.Arguments.{is_drill, due_status}
 
--- a source as contracts see it: the bytes left and those given, where told, and its count of faults
+-- a source as contracts see it: the bytes left and those handed out, where known, and its fault count
 pub record InputAt : Type 0 where
   pub left : Option (List ℕ)
   pub given : Option (List ℕ)
@@ -23,7 +24,7 @@ pub record InputAt : Type 0 where
 abbrev pub input_at : Option (List ℕ) → Option (List ℕ) → ℕ → InputAt
 input_at left given faults = record { left = left; given = given; faults = faults }
 
--- a sink as contracts see it: the bytes taken, where told, and its count of faults
+-- a sink as contracts see it: the bytes taken, where known, and its fault count
 pub record SinkAt : Type 0 where
   pub taken : Option (List ℕ)
   pub faults : ℕ
@@ -57,7 +58,7 @@ pub record Wrote (old new : SinkAt) (text : List ℕ) : Type 0 where
   pub appends : Appends old.taken new.taken text
   pub unfailing : new.faults ≡ old.faults
 
--- a first part of this was written, and then the count rose
+-- a proper prefix of this was written, and then the count rose
 pub record CutOff (old new : SinkAt) (text : List ℕ) : Type 0 where
   pub len : ℕ
   pub short : len < length text
@@ -83,12 +84,12 @@ pub record Done (arguments : List (List ℕ)) (input input' : InputAt) (out out'
   pub ran : Ran arguments input input'
   pub prints : Wrote out out' (printed ran.script ran.run)
 
--- and but a first part of that could be written
+-- and a proper prefix of that was written
 pub record Halfway (arguments : List (List ℕ)) (input input' : InputAt) (out out' : SinkAt) : Type 0 where
   pub ran : Ran arguments input input'
   pub cut : CutOff out out' (printed ran.script ran.run)
 
--- the input has a first bad line
+-- the input is no script: this is the number of its first invalid line
 pub record BadLine (number : ℕ) (arguments : List (List ℕ)) (input input' : InputAt) : Type 0 where
   pub line : is_drill arguments ≡ true
   pub text : List ℕ
@@ -100,8 +101,8 @@ pub record TooLong (arguments : List (List ℕ)) (input : InputAt) : Type 0 wher
   pub line : is_drill arguments ≡ true
   pub long : IfSome input.left (λ left. script_max < length left)
 
--- why a command isn't done: its words are no line, memory ran out, the input or the output failed, a line of the script is
--- bad, or the input is too long
+-- why a command isn't done: its arguments are not those of a command, memory ran out, the input or the output failed, a
+-- line of the script is invalid, or the input is too long
 pub data Cause : Type 0 where
   BadArguments : Cause
   NoMemory : Cause
@@ -110,7 +111,7 @@ pub data Cause : Type 0 where
   BadScript : (line : ℕ) → Cause
   OverBudget : Cause
 
--- what is so where a command wasn't done
+-- what holds where a command wasn't done, by the cause
 abbrev pub Stopped : Cause → List (List ℕ) → InputAt → InputAt → SinkAt → SinkAt → Type 0
 Stopped BadArguments arguments input input' out out' = (is_drill arguments ≡ false) × (input' ≡ input) × (out' ≡ out)
 Stopped NoMemory arguments input input' out out' = (is_drill arguments ≡ true) × Took input input' × (input'.faults ≡ input.faults) × Silent out out'
@@ -119,22 +120,22 @@ Stopped OutputFault arguments input input' out out' = Halfway arguments input in
 Stopped (BadScript number) arguments input input' out out' = BadLine number arguments input input' × Silent out out'
 Stopped OverBudget arguments input input' out out' = TooLong arguments input × TookTooMuch input input' × (input'.faults ≡ input.faults) × Silent out out'
 
--- the texts for want of memory, for an input that is too long, and for a bad line
+-- the texts for want of memory, for an input that is too long, and for an invalid line
 abbrev pub memory_text : List ℕ
 memory_text = codes "memory\n"
 
--- (the number is script_max in decimal digits: a text without a hole needs no memory)
+-- (the number is script_max in decimal digits: a literal text needs no memory)
 abbrev pub budget_text : List ℕ
 budget_text = codes "budget 16777216\n"
 
 unfoldable pub bad_line_text : ℕ → List ℕ
 bad_line_text number = codes "bad line " ++ decimal number ++ codes "\n"
 
--- this was said with this status; or not all of it could be said, which has a status of its own
+-- this was written with this status; or only a proper prefix of it was written, with the status of a fault
 abbrev pub Spoke : ℕ → List ℕ → ℕ → SinkAt → SinkAt → Type 0
 Spoke due text status err err' = ((status ≡ due) × Wrote err err' text) ⊎ ((status ≡ statuses.fault) × CutOff err err' text)
 
--- what is said of a cause; the text with a line's number needs memory, and where there is none, that is said
+-- What is written for a cause. The text with the number of a line needs memory; where there is none, that is written.
 abbrev pub Says : Cause → ℕ → SinkAt → SinkAt → Type 0
 Says BadArguments status err err' = Spoke statuses.bad_arguments (codes "bad words\n") status err err'
 Says NoMemory status err err' = Spoke statuses.no_memory memory_text status err err'
@@ -143,30 +144,30 @@ Says OutputFault status err err' = Spoke statuses.fault (codes "output fault\n")
 Says (BadScript number) status err err' = Spoke statuses.bad_script (bad_line_text number) status err err' ⊎ Spoke statuses.no_memory memory_text status err err'
 Says OverBudget status err err' = Spoke statuses.over_budget budget_text status err err'
 
--- Why the command wasn't done, where a count of faults rose, and what was said of that: of a fault of the input or of the
--- output all of its words, or a first part, where then err failed; of another cause a first part.
+-- Why the command wasn't done, where a fault count rose, and what was written for it: for a fault of the input or of
+-- the output the whole text, or a proper prefix, where err failed too; for another cause a proper prefix.
 abbrev pub FaultReport : List (List ℕ) → InputAt → InputAt → SinkAt → SinkAt → SinkAt → SinkAt → Type 0
 FaultReport arguments input input' out out' err err' = (cause : Cause) × Stopped cause arguments input input' out out' × Says cause statuses.fault err err'
 
--- What the status of a run tells.
+-- What the status of a run says.
 pub record Ends (arguments : List (List ℕ)) (status : ℕ) (input input' : InputAt) (out out' err err' : SinkAt) : Type 0 where
   -- it is one of these
   pub known : statuses.IsStatus status
   -- the script was run, the run keeps the promise, and its lines were printed
   pub done : status ≡ statuses.done → Done arguments input input' out out' × Silent err err'
-  -- the words are no line, and nothing else happened
+  -- the arguments are not those of a command, and nothing else happened
   pub arguments_bad : status ≡ statuses.bad_arguments → Stopped BadArguments arguments input input' out out' × Wrote err err' (codes "bad words\n")
   -- want of memory
   pub memory : status ≡ statuses.no_memory → Stopped NoMemory arguments input input' out out' × Wrote err err' memory_text
-  -- the first bad line, by its number
+  -- the number of the first invalid line
   pub script : status ≡ statuses.bad_script → (number : ℕ) × Stopped (BadScript number) arguments input input' out out' × Wrote err err' (bad_line_text number)
   -- the input is longer than a script may be
   pub budget : status ≡ statuses.over_budget → Stopped OverBudget arguments input input' out out' × Wrote err err' budget_text
-  -- a count rose
+  -- a fault count rose
   pub fault : status ≡ statuses.fault → FaultReport arguments input input' out out' err err'
-  -- with any other status no count rose
+  -- with any other status no fault count rose
   pub unfailing : status ≢ statuses.fault → (input'.faults ≡ input.faults) × (out'.faults ≡ out.faults) × (err'.faults ≡ err.faults)
-  -- the status is the one that words and input ask for, but for memory and faults
+  -- the status is the one that is due for arguments and input, unless memory ran out or a fault count rose
   pub due : (text : List ℕ) → input.left ≡ Some text → (status ≡ due_status arguments text) ⊎ ((status ≡ statuses.no_memory) ⊎ (status ≡ statuses.fault))
-  -- words that are no line are told so, whatever the input
+  -- arguments that are not those of a command are reported, whatever the input
   pub arguments_due : is_drill arguments ≡ false → (status ≡ statuses.bad_arguments) ⊎ (status ≡ statuses.fault)

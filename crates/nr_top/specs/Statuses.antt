@@ -5,7 +5,7 @@ use Rattle.std.specs.Prelude.{◌≡◌, ℕ, ◌⊎◌}
 abbrev pub done : ℕ
 done = 0
 
--- the words are no line of the program
+-- the arguments are not those of a command
 abbrev pub bad_arguments : ℕ
 bad_arguments = 1
 
@@ -25,6 +25,6 @@ bad_script = 10
 abbrev pub over_budget : ℕ
 over_budget = 11
 
--- there is no other
+-- there is no other status
 abbrev pub IsStatus : ℕ → Type 0
 IsStatus status = (status ≡ done) ⊎ ((status ≡ bad_arguments) ⊎ ((status ≡ no_memory) ⊎ ((status ≡ fault) ⊎ ((status ≡ bad_script) ⊎ (status ≡ over_budget)))))

@@ -1,4 +1,4 @@
-//! A run: the words say what is to be done.
+//! The command: from the arguments to what is printed, and the status.
 
 ghost use Rattle.std.specs.Prelude.{◌≡◌, true, false, map, MatchResult};
 ghost use Rattle.std.specs.String.{string_bytes};
@@ -61,7 +61,7 @@ impl From<Memory> for Stop {
     }
 }
 
-/// Whether the words are those of a drill: the name under which the program was started, and `drill`.
+/// Whether the arguments are those of a drill: the name under which the program was started, and `drill`.
 fn is_drill(arguments: &[String]) -> bool
     ensures { result ≡ is_drill (map string_bytes arguments.now) }
 {
@@ -96,7 +96,7 @@ fn drill<I: Source, O: Sink>(
     }
 }
 
-/// Says on `err` why the command wasn't done, and gives the status of that.
+/// Writes a text to `err`, and gives this status, or that of a fault.
 fn speak<E: Sink>(err: &mut E, text: &[u8], status: u8) -> u8
     ensures { Spoke status text.now result (sink_at (E.taken err.old) (E.faults err.old)) (sink_at (E.taken err.new) (E.faults err.new)) }
 {
@@ -106,7 +106,8 @@ fn speak<E: Sink>(err: &mut E, text: &[u8], status: u8) -> u8
     }
 }
 
-/// The words for a stop, with its status. Where there is no memory for them, that is what is said.
+/// Reports on `err` why the command wasn't done, and gives the status. Where there is no memory for the text, that is
+/// reported.
 #[tactic(auto, unfolding(crate::specs::Ends::bad_line_text))]
 fn say<E: Sink>(alloc: Global, stop: Stop, err: &mut E) -> u8
     ensures { Says (cause_of stop) result (sink_at (E.taken err.old) (E.faults err.old)) (sink_at (E.taken err.new) (E.faults err.new)) }
@@ -124,7 +125,7 @@ fn say<E: Sink>(alloc: Global, stop: Stop, err: &mut E) -> u8
     }
 }
 
-/// Says on `err` why the words can't be had, and gives the status of that: memory ran out for them, or one of them isn't
+/// Reports on `err` why the arguments can't be had, and gives the status: memory ran out for them, or one of them isn't
 /// UTF-8.
 pub fn refuse<E: Sink>(err: &mut E, memory: bool) -> u8
     ensures memory { memory ≡ true → Says NoMemory result (sink_at (E.taken err.old) (E.faults err.old)) (sink_at (E.taken err.new) (E.faults err.new)) }
@@ -137,14 +138,14 @@ pub fn refuse<E: Sink>(err: &mut E, memory: bool) -> u8
     }
 }
 
-/// Does what the words say, and gives the status. The words are the name under which the program was started and the
-/// command, which is `drill` by now: it reads a script from `input`, runs it, and prints on `out` what happened. Where
-/// it can't, it says why on `err`.
+/// Runs the command, and gives the status. The arguments are the name under which the program was started, and the
+/// command. Today there is one, `drill`: it reads a script from `input`, runs it, and prints on `out` what happened.
+/// Where the command isn't done, `err` takes the reason.
 ///
-/// The record `Ends` of the specs says what each status tells: 0 that the run is one of the script and keeps the promise,
-/// and that it was printed; 1 that the words are no line; 2 that want of memory is told, and nothing was printed; 9 that a
-/// count of faults of `input`, `out` or `err` rose; 10 that the input's first bad line is the one that is named; 11 that
-/// the input is too long.
+/// The record `Ends` of the specs says what each status means. 0: the script was run, the run keeps the promise of a
+/// drill, and it was printed. 1: the arguments are not those of a command. 2: memory ran out, and nothing was printed.
+/// 9: a fault count of `input`, `out` or `err` rose. 10: a line of the script is invalid, and `err` took the number of
+/// the first one. 11: the input is too long.
 pub fn run<I: Source, O: Sink, E: Sink>(
     alloc: Global,
     arguments: &[String],

@@ -3,13 +3,13 @@
 /// The command was done.
 pub const DONE: u8 = 0;
 
-/// The words are no line of the program.
+/// The arguments are not those of a command.
 pub const BAD_ARGUMENTS: u8 = 1;
 
 /// Memory ran out.
 pub const NO_MEMORY: u8 = 2;
 
-/// A read of the input failed, or a write of what is printed or said.
+/// A read of the input failed, or a write to standard output or standard error.
 pub const FAULT: u8 = 9;
 
 /// The input is no script.

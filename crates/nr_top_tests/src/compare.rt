@@ -1,4 +1,4 @@
-//! Comparison of what a row of a table gives with what it has to give.
+//! Comparison of what a row of a table gives with what is expected.
 
 use std::fmt::Debug;
 use std::process::Abort;

@@ -29,8 +29,8 @@ const SCRIPT: &[u8] = b"clients 1 credits 16\ncall 1 auto nfs 0 -\ndrain\n";
 const PRINTED: &[u8] =
     b"1 1 place 0 reply 000000010000000100000000000000000000000000000000\njournal 0\n";
 
-/// The arguments, the input, which calls of the input, of `out` and of `err` fail, and what comes of it: the status, and
-/// what is written on `out` and on `err`.
+/// A row: the arguments, the input, the calls of the input, of `out` and of `err` that fail, and what is expected: the
+/// status, and what is written on `out` and on `err`.
 type Row = (
     &'static [&'static str],
     &'static [u8],

@@ -7,20 +7,20 @@ use nr_xdr::Octets;
 use std::alloc::Global;
 use std::process::Abort;
 
-/// One call of NULL, drained.
+/// One NULL call, drained.
 const ONE_CALL: &[u8] = b"clients 1 credits 16\ncall 1 auto nfs 0 -\ndrain\n";
 
 const TWO_CALLS: &[u8] =
     b"clients 1 credits 16\ncall 1 auto nfs 0 -\ndrain\ncall 1 auto nfs 0 -\ndrain\n";
 
-/// The client's hello, and the FPDU of the first call: its frame and segment header, its transport header, its payload and
-/// the CRC field.
+/// The client's hello, and the FPDU of the first call: its frame and segment header, its transport header, its payload
+/// and the CRC field.
 const UP: &[u8] = b"MPA ID Req Frame\0\x01\0\0\
 \x00\x56\x41\x43\0\0\0\0\0\0\0\0\0\0\0\x01\0\0\0\0\
 \0\0\0\x01\0\0\0\x01\0\0\0\x10\0\0\0\0\0\0\0\0\0\0\0\0\0\0\0\0\
 \0\0\0\x01\0\0\0\0\0\0\0\x02\0\x01\x86\xa3\0\0\0\x03\0\0\0\0\0\0\0\0\0\0\0\0\0\0\0\0\0\0\0\0\0\0\0\0";
 
-/// The FPDU of the second call: message, transport header and payload have number 2.
+/// The FPDU of the second call: its message number, the xid of its header and that of its payload are 2.
 const SECOND_UP: &[u8] = b"\x00\x56\x41\x43\0\0\0\0\0\0\0\0\0\0\0\x02\0\0\0\0\
 \0\0\0\x02\0\0\0\x01\0\0\0\x10\0\0\0\0\0\0\0\0\0\0\0\0\0\0\0\0\
 \0\0\0\x02\0\0\0\0\0\0\0\x02\0\x01\x86\xa3\0\0\0\x03\0\0\0\0\0\0\0\0\0\0\0\0\0\0\0\0\0\0\0\0\0\0\0\0";
@@ -93,7 +93,7 @@ fn scripts(rt: HostRuntime) {
     }
 }
 
-/// What is printed of a script, and then all that the client and the server of its link wrote.
+/// What is printed for a script, and then all bytes that the client and the server of its link wrote.
 fn printed_and_logs(rt: &impl Abort, alloc: Global, text: &[u8]) -> Vec<u8> {
     assert!(rt; text.len() <= SCRIPT_MAX);
     let script = read_script(alloc, text).expect(rt, "a script");
@@ -122,7 +122,7 @@ fn runs(rt: HostRuntime) {
     }
 }
 
-/// What is printed of calls and links, and of an empty journal.
+/// What is printed for calls and links, and an empty journal.
 fn printed(
     rt: &impl Abort,
     alloc: Global,
@@ -139,7 +139,7 @@ fn printed(
     shown(alloc, &report).expect(rt, "memory").into_vec()
 }
 
-/// A state of each form but that of a reply.
+/// One state of each kind, apart from a reply.
 fn call_state(rt: &impl Abort, alloc: Global, row: usize) -> CallState {
     match row {
         0 => CallState::Out,

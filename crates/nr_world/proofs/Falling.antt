@@ -1,4 +1,4 @@
--- A round of a drain that moves something lowers what is left to do.
+-- A round of a drain that moves something decreases the work left.
 use Rattle.std.proofs.Common.{◌≡◌, ℕ, suc, ◌+◌, ◌-◌, ◌^◌, ◌<◌, ◌⊎◌, List, [], ◌∷◌, length, refl, sym, ap, subst, ◌∙◌, arith, inl, inr}
 use Rattle.std.proofs.lemmas.Bool.{cases_lt}
 use Rattle.std.proofs.lemmas.List.{length-append, length-drop}
@@ -15,8 +15,8 @@ use Rattle.nr_world.proofs.Frames.{conveyed_call, calls-upward}
 use Rattle.nr_world.proofs.Marking.{upward-more, downward-more}
 use Rattle.nr_world.proofs.Settling.{some_ask, some_answer, unwritten_up-none}
 
--- the four numbers of a link whose client owes a bytes, b of which came up; c calls came, d are executed; e bytes were written
--- to go down, and f came
+-- The work left on a link whose client has a bytes to send, b of which were fed to the server; the server received c
+-- calls and executed d; it wrote e bytes, and f were fed to the client.
 abbrev four : (a b c d e f : ℕ) → List ℕ
 four a b c d e f = (a - b) ∷ (c - d) ∷ (e - f) ∷ (a - b) ∷ []
 
@@ -24,7 +24,7 @@ four a b c d e f = (a - b) ∷ (c - d) ∷ (e - f) ∷ (a - b) ∷ []
 waiting-len : (p : PipeState) (log : List ℕ) (place : ℕ) → p ≡ record { log = log; place = place; faults = 0 } → length (waiting_bytes p) ≡ length log - place
 waiting-len p log place e = ap (λ (q : PipeState). length (waiting_bytes q)) e ∙ length-drop place log
 
--- how many calls came and are executed, and what each side sent and got, where the driver stands so
+-- how many calls were received and executed, and what each side sent and got, where the driver's invariant holds
 todo-is : (s : State) → Stands s → todo (drill_opened s.credits) (drill_of s) the_link
     ≡ four (length (upward s.credits s.asked)) (length (upward s.credits (s.served + arrived_one s.arrived))) (s.served + arrived_one s.arrived) s.served
     (length (downward s.credits s.served)) (length (downward s.credits (length s.reports)))
@@ -50,7 +50,7 @@ longer_down : (credits n : ℕ) → suc n < 2 ^ 32 → length (downward credits 
 longer_down credits n small =
     omega (arith, ap length (downward-more credits n), length-append (downward credits n) (answer credits (suc n)), some_answer credits (suc n) small)
 
--- where nothing is left, and before that one call was out
+-- no work is left, and before that one call was out
 fell-from : (a b c d e f a' b' c' d' e' f' : ℕ) → a' ≡ b' → c' ≡ d' → e' ≡ f' → (b < a) ⊎ ((a ≡ b) × ((d < c) ⊎ ((c ≡ d) × (f < e)))) → Fell (four a' b' c' d' e' f') (four a b c d e f)
 fell-from a b c d e f a' b' c' d' e' f' up work down (inl first) = inl (omega arith)
 fell-from a b c d e f a' b' c' d' e' f' up work down (inr (same, inl second)) = inr (omega arith, inl (omega arith))

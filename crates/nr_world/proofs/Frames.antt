@@ -1,4 +1,4 @@
--- The k-th call and reply of a drill on the link.
+-- Call number k and its reply on the link of a drill.
 use Rattle.std.proofs.Common.{◌≡◌, ℕ, ◌^◌, ◌<◌, List, [], length, Some, option_and_then, refl, ap, ◌∙◌, arith}
 use Rattle.nr_rpc.specs.declared.head.ReplyHead.TheVariants.{Accepted}
 use Rattle.nr_rpc.proofs.Replies.{reply_written}
@@ -47,7 +47,7 @@ pub reply_in-answered : (credits k : ℕ) → k < 2 ^ 32 → credits < 2 ^ 32 �
 reply_in-answered credits k small few =
     reply_in-message k credits (null_reply k) small few (omega (arith, length-null_reply k)) (ap reply_xid (reply_written (Accepted k success 0) [] (λ e. cc) (small, omega arith)))
 
--- what stands in the pieces that are fed
+-- what is in the pieces that are fed
 pub ask-conveys : (credits k : ℕ) → k < 2 ^ 32 → credits < 2 ^ 32 → option_and_then call_in (ended_by (segment_in (ask credits k))) ≡ Some (record { xid = k; payload = asked_payload k })
 ask-conveys credits k small few = rw (ask-is credits k small).found (call_in-asked credits k small few)
 

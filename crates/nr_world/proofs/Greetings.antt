@@ -1,4 +1,4 @@
--- A side's own hello is accepted, and what waits in a pipe is peeked whole.
+-- A side's own hello is accepted, and `peek` shows all the bytes that wait in a pipe.
 use Rattle.std.proofs.Common.{◌≡◌, ℕ, ◌+◌, List, [], length, ap, ◌∙◌, refl, arith}
 use Rattle.std.proofs.lemmas.List.{take_all, length-drop}
 use Rattle.nr_outside.specs.Pipe.{PipeState, waiting_bytes, next_bytes}

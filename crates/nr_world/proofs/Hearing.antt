@@ -72,7 +72,7 @@ not_done credits run n k at lt =
     ap (list_any (λ (c : Completed). eqb c.xid k)) at.completed_are
     ∙ list_any-none (λ (c : Completed). eqb c.xid k) completed_call n.done (λ j pos le. ne_eqb j k (λ e. omega (arith, e)))
 
--- one whose reply hasn't come isn't handed over
+-- a call whose reply wasn't received isn't handed over
 done_for-out : (credits : ℕ) (run : List Mark) (n : Counts) (k : ℕ) → At credits run n → n.done < k → n.heard < k → n.heard < 2 ^ 32 → credits < 2 ^ 32 → done_for the_link run (accepted_call k) ≡ []
 done_for-out credits run n k at lt later small few =
     let none : find (λ reply. eqb reply.xid k) (conveyed reply_in (heard the_link run)) ≡ None =
@@ -80,7 +80,7 @@ done_for-out credits run n k at lt later small few =
     ∙ find-past (λ (reply : Conveyed). eqb reply.xid k) conveyed_reply n.heard [] (λ j pos le. ne_eqb j k (λ e. omega (arith, e))) in
     rw (not_done credits run n k at lt, none) refl
 
--- the last reply's call is handed over
+-- the call of the last reply is handed over
 done_for-last : (credits : ℕ) (run : List Mark) (n : Counts) (k : ℕ) → At credits run n → n.done < suc k → n.heard ≡ suc k → n.heard < 2 ^ 32 → credits < 2 ^ 32 → done_for the_link run (accepted_call (suc k)) ≡ complete (suc k) ∷ []
 done_for-last credits run n k at lt last small few =
     let p = λ (reply : Conveyed). eqb reply.xid (suc k) in
@@ -90,7 +90,7 @@ done_for-last credits run n k at lt last small few =
     ∙ ap (λ (b : Bool). cond b (Some (conveyed_reply (suc k))) None) (eq-eqb (suc k) (suc k) refl) in
     rw (not_done credits run n (suc k) at lt, found) refl
 
--- what is handed over
+-- the calls that are handed over
 none_taken : (credits : ℕ) (run : List Mark) (n : Counts) → At credits run n → n.heard ≡ n.done → n.heard < 2 ^ 32 → credits < 2 ^ 32 → flat_map (done_for the_link run) (accepted the_link run) ≡ []
 none_taken credits run n at same small few =
     ap (flat_map (done_for the_link run)) at.accepted_are
@@ -159,7 +159,7 @@ hears_none s st all =
       still = λ e. refl;
     })
 
--- the state after the k-th reply was handed over, told of a place and under a number
+-- the state after reply number k was handed over, with a place and a number
 abbrev after_heard : State → ℕ → ℕ → ℕ → State
 after_heard s k place number = record {
   credits = s.credits;

@@ -1,4 +1,4 @@
--- A message without lists is read as it was written.
+-- A message without chunk lists is read as it was written.
 use Rattle.std.proofs.Common.{◌≡◌, ℕ, ◌+◌, ◌^◌, ◌<◌, ◌≤◌, true, not, List, [], ◌++◌, length, take, All, Option, Some, refl, ap, ◌∙◌, append_assoc, arith, lit<, eq-eqb}
 use Rattle.std.specs.Prelude.{option_and_then}
 use Rattle.std.proofs.lemmas.Bool.{le-ltb}

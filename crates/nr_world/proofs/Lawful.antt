@@ -26,7 +26,7 @@ use Rattle.nr_world.proofs.Frames.{length-asked_message, messages-downward, call
 use Rattle.nr_world.proofs.Marking.{upward-more, downward-more}
 use Rattle.nr_world.proofs.OneMark.{submit, write_up, write_down, feed_up, feed_down, execute, complete}
 
--- what the client heard
+-- the messages that the client received
 heard-are : (credits : ℕ) (run : List Mark) (n : Counts) → At credits run n → n.heard < 2 ^ 32 → heard the_link run ≡ each (answered_message credits) n.heard
 heard-are credits run n at small =
     ap (λ (xs : List ℕ). filter has_words (messages Responder xs)) at.down_got
@@ -38,7 +38,7 @@ replies-are credits run n at small few =
     ap (conveyed reply_in) (heard-are credits run n at small)
     ∙ filter_map-each reply_in (answered_message credits) conveyed_reply n.heard (λ k le. reply_in-answered credits k (omega arith) few)
 
--- nothing is out once every call is heard
+-- no call is out once every reply was received
 or-true : (b : Bool) → (b || true) ≡ true
 or-true true = refl
 or-true false = refl
@@ -158,7 +158,7 @@ Laws-feed_down credits run n at laws next =
       unrefused = Along-more _ [] run m laws.unrefused tt;
     }
 
--- the call that came and isn't executed
+-- the call that was received and isn't executed
 pub next_call-is : (credits : ℕ) (run : List Mark) (n : Counts) → At credits run n → n.served < n.came → n.came < 2 ^ 32 → credits < 2 ^ 32 → next_call the_link run ≡ Some (conveyed_call (suc n.served))
 unfolding next_call
 next_call-is credits run n at lt small few =
@@ -187,7 +187,7 @@ Laws-execute credits run n at laws lt small few =
       unrefused = Along-more _ [] run m laws.unrefused tt;
     }
 
--- the next reply's call has no outcome so far, and gets its own
+-- the call of the next reply has no outcome so far, and gets its own
 pub completes-is : (credits : ℕ) (run : List Mark) (n : Counts) → At credits run n → n.done < n.heard → n.heard ≤ n.asked → n.heard < 2 ^ 32 → credits < 2 ^ 32 → Completes the_link run (suc n.done) (outcomes.Reply (null_reply (suc n.done)))
 completes-is credits run n at lt le small few =
     let k = suc n.done in

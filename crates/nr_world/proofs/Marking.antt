@@ -1,4 +1,4 @@
--- One more mark of a drill: what it changes of what the marks say.
+-- One more mark of a drill: how it changes what the marks say.
 use Rattle.std.proofs.Common.{◌≡◌, ℕ, suc, ◌+◌, Bool, true, false, cond, ◌||◌, List, [], ◌∷◌, ◌++◌, length, fold, refl, sym, ap, ◌∙◌, append_assoc, add-zero}
 use Rattle.std.specs.List.{flat_map}
 use Rattle.std.proofs.lemmas.List.{append-nil}
@@ -24,7 +24,7 @@ pub downward-more : (credits n : ℕ) → downward credits (suc n) ≡ downward 
 unfolding downward
 downward-more credits n = sym (append_assoc (own_hello Responder) (joined (answer credits) n) (answer credits (suc n)))
 
--- an observation that the mark leaves, and one that it adds to
+-- an observation that the mark leaves as it was, and one that it adds to
 pub keep : {A : Type 0} (f : Mark → List A) (run : List Mark) (mark : Mark) (ys : List A) → flat_map f run ≡ ys → f mark ≡ [] → flat_map f (run ++ mark ∷ []) ≡ ys
 keep f run mark ys is none = flat_map-none f run mark none ∙ is
 
@@ -74,7 +74,7 @@ seen-kept k run mark seen is reports none =
     ∙ ap (λ (n : ℕ). record seen { entries = seen.entries + n }) (ap length none)
     ∙ ap (λ (n : ℕ). record seen { entries = n }) (add-zero seen.entries)
 
--- the call lines of the first part of a run, one mark longer
+-- the call lines of a prefix of a run, one mark longer
 report_over-more : (before run rest : List Mark) (mark : Mark) → report_over before (run ++ mark ∷ []) rest ≡ report_over before run (mark ∷ rest) ++ report_at drill_server stays_up (before ++ run) mark rest
 report_over-more before [] rest mark = append-nil (report_at drill_server stays_up before mark rest) ∙ ap (λ (b : List Mark). report_at drill_server stays_up b mark rest) (sym (append-nil before))
 report_over-more before (m ∷ run) rest mark =
@@ -104,17 +104,17 @@ reports-all before (m ∷ run) =
     ap (λ (after : List Mark). report_at drill_server stays_up before m after ++ report_from drill_server stays_up (before ++ m ∷ []) run) (sym (append-nil run))
     ∙ ap (λ (ys : List CallReport). report_at drill_server stays_up before m (run ++ []) ++ ys) (reports-all (before ++ m ∷ []) run)
 
--- what is seen of a call of a longer run
+-- what a longer run says of a call
 pub seen-split : (k : ℕ) (run rest : List Mark) → seen_of drill_server the_link k nothing_seen (run ++ rest) ≡ fold (seen_at drill_server the_link k) (seen_of drill_server the_link k nothing_seen run) rest
 unfolding seen_of
 seen-split k run rest = fold-append (seen_at drill_server the_link k) nothing_seen run rest
 
--- of a call of which nothing is known so far
+-- the same of a call of which nothing is known so far
 pub seen-from : (k : ℕ) (rest : List Mark) → seen_of drill_server the_link k nothing_seen rest ≡ fold (seen_at drill_server the_link k) nothing_seen rest
 unfolding seen_of
 seen-from k rest = refl
 
--- a link that isn't dropped stays so by any other mark
+-- a link that isn't dropped isn't dropped after any other mark
 pub stays : (link : ℕ) (run : List Mark) (mark : Mark) → is_dropped link run ≡ false → drops link mark ≡ false → is_dropped link (run ++ mark ∷ []) ≡ false
 stays link run mark e f =
     list_any-append (drops link) run (mark ∷ []) ∙ ap (λ (b : Bool). b || (drops link mark || false)) e ∙ ap (λ (b : Bool). b || false) f

@@ -13,7 +13,7 @@ use Rattle.nr_world.specs.Owed.{call_payload}
 use Rattle.nr_world.specs.Plain.{nfs_program, nfs_version, null_procedure, plain_reply, null_reply}
 use Rattle.nr_world.specs.Driver.{asked_payload}
 
--- the head of the k-th call
+-- the head of call number k
 abbrev null_head : ℕ → CallHead
 null_head k = Version2 k nfs_program nfs_version null_procedure creds.None 0
 

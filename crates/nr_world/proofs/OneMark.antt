@@ -1,4 +1,4 @@
--- Each mark of a drill raises one count.
+-- Each mark of a drill increases one count.
 use Rattle.std.proofs.Common.{◌≡◌, ℕ, zero, suc, ◌+◌, ◌<◌, ◌≤◌, Bool, true, false, cond, not, eqb, List, [], ◌∷◌, ◌++◌, ◌&&◌, ◌||◌, length, fold, Option, Some, None, refl, sym, ap, ◌∙◌, arith, add-one, add-zero}
 use Rattle.nr_wire.specs.declared.hello.Side.TheVariants.{Initiator, Responder}
 use Rattle.nr_wire.specs.Next.{hello_in}
@@ -33,7 +33,7 @@ submit k = marks.Submit the_link null Auto (submissions.Accepted k)
 abbrev pub seen_so : Bool → Bool → CallState → Seen
 seen_so placed ended state = record { entries = 0; place = cond placed (Some 0) None; state = cond ended state call_states.Out }
 
--- the server's hello was there before
+-- the client had the server's hello before
 greeting_came : (credits n : ℕ) → is_greeted Responder (downward credits n) ≡ true
 unfolding downward
 greeting_came credits n = is_greeted-own Responder (joined (answer credits) n)
@@ -47,7 +47,7 @@ called_is credits run n at =
     ap (λ (b : Bool). cond b (asking (drill_opened credits) (length (accepted the_link run) + 1) (accepted_call k)) []) greeted
     ∙ ap (λ (j : ℕ). send j (inline_message k credits (asked_payload k))) len
 
--- nothing is known of a call that isn't asked
+-- nothing is known of a call that isn't submitted
 none-yet : (n k : ℕ) → n < k → is_one_of n k ≡ false
 none-yet n k lt = grind (arith, nat_tests)
 
@@ -159,7 +159,7 @@ At-write_down credits run n at =
 abbrev pub feed_up : ℕ → ℕ → Mark
 feed_up credits k = marks.Fed the_link Responder (ask credits k)
 
--- a hello that was there before calls for nothing
+-- for a hello that was whole before, nothing is due
 no_hello : (there now : Bool) (called : List ℕ) → there ≡ true → cond (not there && now) called [] ≡ []
 no_hello there now called e = rw e refl
 
@@ -226,7 +226,7 @@ is_one-more n k = grind (arith, nat_tests)
 is_one-below : (n m k : ℕ) → n ≤ m → is_one_of n k ≡ true → eqb (suc m) k ≡ false
 is_one-below n m k le e = grind (arith, nat_tests)
 
--- what a call's execution says of it, and leaves of the others
+-- what the execution of a call says of it; of the others nothing changes
 executed_so : (placed ended own : Bool) (reply : List ℕ) → (ended ≡ true → own ≡ false) →
     counted drill_server (marks.Lost 0 0)
     (cond (is_out (cond ended (call_states.Answered (Some 0) (outcomes.Reply reply)) call_states.Out))
@@ -248,7 +248,7 @@ seen-executed n k later =
     executed_so (is_one_of n.served k) (is_one_of n.done k) (eqb (suc n.served) k) (null_reply k) (is_one-below n.done n.served k later)
     ∙ ap (λ (b : Bool). seen_so b (is_one_of n.done k) (call_states.Answered (Some 0) (outcomes.Reply (null_reply k)))) (sym (is_one-more n.served k))
 
--- what its outcome says of it
+-- what the outcome of a call says of it
 completed_so : (placed ended own : Bool) (reply payload : List ℕ) → (ended ≡ true → own ≡ false) → (own ≡ true → placed ≡ true) → (own ≡ true → payload ≡ reply) →
     counted drill_server (marks.Lost 0 0)
     (cond (is_out (cond ended (call_states.Answered (Some 0) (outcomes.Reply reply)) call_states.Out))

@@ -40,7 +40,7 @@ open_marks =
 abbrev no_counts : Counts
 no_counts = record { asked = 0; sent_up = 0; came = 0; served = 0; sent_down = 0; heard = 0; done = 0 }
 
--- the server's hello is called for by the client's
+-- the server's hello is due after the client's
 called : (b c : Bool) (bytes : List ℕ) → b ≡ false → c ≡ true → cond (not b && c) bytes [] ≡ bytes
 called b c bytes e f = rw (e, f) refl
 
@@ -53,7 +53,7 @@ answered = answer_to (hello_in Initiator (own_hello Initiator))
 hello_called : cond (not (has_hello Initiator []) && has_hello Initiator (own_hello Initiator)) answered [] ≡ own_hello Responder
 hello_called = called (has_hello Initiator []) (has_hello Initiator (own_hello Initiator)) answered no_hello_yet hello_now ∙ ap answer_to (hello_in-own Initiator)
 
--- no call was accepted before, so none is asked now
+-- no call was accepted before, so no Send is due now
 none_asked : (b : Bool) → cond b (asking_each (drill_opened 0) 1 []) [] ≡ []
 none_asked true = refl
 none_asked false = refl

@@ -1,4 +1,4 @@
--- Reading of scripts: lines of a text, and what turns of calls and drains say.
+-- Reading of scripts: the lines of a text, and what pairs of a call and a drain say.
 use Rattle.std.proofs.Common.{◌≡◌, ℕ, zero, suc, ◌+◌, ◌-◌, ◌<◌, ◌≤◌, Bool, true, false, not, cond, ◌==◌, List, [], ◌∷◌, length, take, drop, drop-drop, Some, None, Result, Ok, Err, refl, sym, ap, ◌∙◌, arith}
 use Rattle.std.proofs.lemmas.List.{length-drop}
 use Rattle.std.specs.Prelude.{if◌then◌else◌}
@@ -12,7 +12,7 @@ use Rattle.nr_world.specs.Parsing.{credits_from, turns_onto}
 abbrev pub is_newline : ℕ → Bool
 is_newline b = b == newline
 
--- where the first newline of a text is, or how long the text is
+-- the place of the first newline of a text, or the length of the text
 abbrev pub line_len : List ℕ → ℕ
 line_len text = position_or_len is_newline text
 
@@ -22,7 +22,7 @@ first_of text = line_onto (take (line_len text) text) (cut (drop (suc (line_len 
 abbrev pub whole_of : List ℕ → Cut
 whole_of text = record { lines = []; rest = text }
 
--- a text cut at its first newline, where its first byte is that or isn't
+-- a text cut at its first newline, where its first byte is a newline or isn't
 found_by : (is : Bool) (b : ℕ) (text : List ℕ) → (line_len text < length text → cut text ≡ first_of text) → cond (not is) (1 + line_len text) 0 < suc (length text) → (if is then line_onto [] (cut text) else byte_onto b (cut text).lines (cut text).rest) ≡ line_onto (take (cond (not is) (1 + line_len text) 0) (b ∷ text)) (cut (drop (suc (cond (not is) (1 + line_len text) 0)) (b ∷ text)))
 found_by true b text ih lt = refl
 found_by false b text ih lt =
@@ -58,7 +58,7 @@ credits_next text c n e =
     let there : most_credits + 1 - (c + 1) ≡ n = omega arith in
     rw (here, there) refl
 
--- one more turn, behind others
+-- one more pair, behind others
 pub turns_more : (n : ℕ) (read : Result (List Line) ℕ) → turns_onto n (turn_onto null_call (turn_onto Drain read)) ≡ turns_onto (n + 1) read
 turns_more zero read = refl
 turns_more (suc n) read =
@@ -73,7 +73,7 @@ pub turns_bad : (n number : ℕ) → turns_onto n (Err number) ≡ Err number
 turns_bad zero number = refl
 turns_bad (suc n) number = ap (λ (r : Result (List Line) ℕ). turn_onto null_call (turn_onto Drain r)) (turns_bad n number)
 
--- where the first newline was looked for
+-- the place at which the first newline was looked for
 pub not_found : (text : List ℕ) → position is_newline text ≡ None → cut text ≡ whole_of text
 not_found text e = cut_none text (let le : length text ≤ line_len text = grind (arith) in le)
 
@@ -93,7 +93,7 @@ pub ends_inside : (number : ℕ) (rest : List ℕ) → 0 < length rest → ends_
 ends_inside number [] lt = absurd (omega arith)
 ends_inside number (b ∷ rest) lt = refl
 
--- what so many turns and the lines behind them say
+-- what this many pairs and the lines behind them say
 pub read_whole : (n : ℕ) (all read : Result (List Line) ℕ) → all ≡ turns_onto n read → read ≡ Ok [] → all ≡ Ok (turns n)
 read_whole n all read e is = e ∙ ap (λ (r : Result (List Line) ℕ). turns_onto n r) is ∙ turns_end n
 

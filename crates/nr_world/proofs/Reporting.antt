@@ -1,4 +1,4 @@
--- What a drill that ended reports.
+-- What a drill reports at its end.
 use Rattle.std.proofs.Common.{◌≡◌, ℕ, zero, suc, ◌<◌, ◌≤◌, Bool, true, false, ◌||◌, cond, Result, Ok, Err, List, [], ◌∷◌, ◌++◌, length, map, Some, None, Contains, refl, sym, ap, subst, ◌∙◌, arith}
 use Rattle.std.specs.Prelude.{IfOk}
 use Rattle.std.proofs.lemmas.Bool.Decides.{nat_tests}
@@ -39,12 +39,12 @@ complete-is s st quiet a held kept =
     let there : Contains (each completed_call (length s.reports)) (completed_call k) = Contains-each completed_call (length s.reports) k of.1 (omega (arith, of.2, quiet)) in
     (completed_call k, subst (λ (xs : List Completed). Contains xs (completed_call k)) (sym st.at.completed_are) there, ap (λ (x : Accepted). x.xid) of.3)
 
--- work goes on until no call is left
+-- calls are executed until none is left
 none_left : (opened : Opened) (count : ℕ) (old new : Drill) → WorksAll drill_server opened the_link count old new → next_call the_link new.marks ≡ None
 none_left opened zero old new w = ap (λ (d : Drill). next_call the_link d.marks) w.1 ∙ w.0
 none_left opened (suc count) old new w = none_left opened count w.0 new w.2
 
--- and once nothing is out, nothing is left to do
+-- and once no call is out, no work is left
 settled-is : (s : State) → Stands s → IsQuiet s → IsSettled the_link s.marks
 settled-is s st quiet =
     let c = s.credits in
@@ -58,7 +58,7 @@ settled-is s st quiet =
       executed = ap (λ (t : State). next_call the_link t.marks) (sym (w.still (omega (arith, came, reports, quiet)))) ∙ none;
     }
 
--- the promise holds of the link of a drill that ended
+-- the promise holds for the link of a drill at its end
 holds-is : (s : State) → Stands s → IsQuiet s → HoldsOn drill_server (drill_opened s.credits) the_link s.marks
 holds-is s st quiet = record {
   asked = record { each = st.laws.asked; written = st.at.up_sent ∙ sym st.at.up_owed };
@@ -77,7 +77,7 @@ drained-is s st quiet = record {
   complete = complete-is s st quiet;
 }
 
--- every call stands at place 0, since NULL adds no entry
+-- every call has place 0, since NULL adds no entry
 placed-is : (s : State) → Stands s → (e : Executed) → Contains (executed the_link s.marks) e → e.place ≡ 0
 placed-is s st e held =
     let of = each-within executed_call s.served e (subst (λ (xs : List Executed). Contains xs e) st.at.executed_are held) in
@@ -110,7 +110,7 @@ drill-is script calls s one lines p =
           subst (λ (n : ℕ). PlacesRise n m s.marks) first (subst (λ (n : ℕ). PlacesRise the_link n s.marks) second (places-are s p.stands));
     }
 
--- what became of each call line
+-- what became of each call
 each-same : {X : Type 0} (f g : ℕ → X) (n : ℕ) → ((k : ℕ) → 0 < k → k ≤ n → f k ≡ g k) → each f n ≡ each g n
 each-same f g zero h = refl
 each-same f g (suc n) h =

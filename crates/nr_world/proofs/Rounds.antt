@@ -78,7 +78,7 @@ round_of s st =
           third ∙ second ∙ first;
     }
 
--- a round that moved something made other marks
+-- a round that moved something changed the marks
 moved-marks : (s v : State) (moved : Bool) → Stands s → Round s v moved → moved ≡ true → v.marks ≢ s.marks
 moved-marks s v moved st r e same =
     let more : length s.reports < s.asked = ltb-true (length s.reports) s.asked (sym r.moved_is ∙ e) in
@@ -90,7 +90,7 @@ moved-marks s v moved st r e same =
 fell-links : (s v : State) → Fell (todo (drill_opened s.credits) (drill_of v) the_link) (todo (drill_opened s.credits) (drill_of s) the_link) → Fell (flat_map (todo (drill_opened s.credits) (drill_of v)) (links_of 1)) (flat_map (todo (drill_opened s.credits) (drill_of s)) (links_of 1))
 fell-links s v fell = rw (append-nil (todo (drill_opened s.credits) (drill_of v) the_link), append-nil (todo (drill_opened s.credits) (drill_of s) the_link)) fell
 
--- how far a drain has come: nothing moved yet, or one round did
+-- how far a drain is: nothing moved yet, or one round moved something
 pub record Draining (start now : State) : Type 0 where
   pub stands : Stands now
   pub asked_is : now.asked ≡ start.asked
@@ -125,7 +125,7 @@ drains_from start now new d last same =
       | inr moved ↦ (1, (drill_of now, moved.1, moved.2, moved.3, (last, same)))
     ]
 
--- one in which nothing moved is the last
+-- a round in which nothing moved is the last
 pub drained_by : (start now new : State) → Draining start now → Round now new false → Drained start new
 drained_by start now new d r =
     let none_out : now.asked ≤ length now.reports = ltb-false (length now.reports) now.asked (sym r.moved_is) in

@@ -14,7 +14,7 @@ use Rattle.nr_world.specs.Stands.{each}
 pub flat_map-more : {X A : Type 0} (f : X → List A) (xs : List X) (x : X) → flat_map f (xs ++ x ∷ []) ≡ flat_map f xs ++ f x
 flat_map-more f xs x = flat_map-append f xs (x ∷ []) ∙ ap (λ (ys : List _). flat_map f xs ++ ys) (append-nil (f x))
 
--- where the mark says nothing, and where it says something
+-- where the mark adds nothing, and where it adds something
 pub flat_map-none : {X A : Type 0} (f : X → List A) (xs : List X) (x : X) → f x ≡ [] → flat_map f (xs ++ x ∷ []) ≡ flat_map f xs
 flat_map-none f xs x e = flat_map-more f xs x ∙ ap (λ (ys : List _). flat_map f xs ++ ys) e ∙ append-nil (flat_map f xs)
 
@@ -28,7 +28,7 @@ called_from-more called before (m ∷ run) mark =
     ∙ sym (append_assoc (called before m) (called_from called (before ++ m ∷ []) run) (called ((before ++ m ∷ []) ++ run) mark))
     ∙ ap (λ (b : List Mark). (called before m ++ called_from called (before ++ m ∷ []) run) ++ called b mark) (append_assoc before (m ∷ []) run)
 
--- a fact of each mark so far and of one more
+-- a fact of each mark so far, and of one more
 pub Along-more : (P : List Mark → Mark → Type 0) (before run : List Mark) (mark : Mark) → Along P before run → P (before ++ run) mark → Along P before (run ++ mark ∷ [])
 Along-more P before [] mark h p = (let at : P before mark = rw append-nil at p in at, tt)
 Along-more P before (m ∷ run) mark h p =
@@ -46,7 +46,7 @@ get_or-each f n (suc m) d lt =
       | inr last ↦ let is : m ≡ n = omega arith in get_or_at (each f m) (f (suc m)) [] d n (length-each f m ∙ is) ∙ ap (λ (j : ℕ). f (suc j)) is
     ]
 
--- what is read of each of a list
+-- what is read of each element of a list
 pub filter_map-each : {X Y : Type 0} (read : X → Option Y) (f : ℕ → X) (g : ℕ → Y) (n : ℕ) → ((k : ℕ) → k ≤ n → read (f k) ≡ Some (g k)) → filter_map read (each f n) ≡ each g n
 filter_map-each read f g zero h = refl
 filter_map-each read f g (suc n) h =
@@ -54,7 +54,7 @@ filter_map-each read f g (suc n) h =
     ∙ ap (λ (ys : List _). ys ++ filter_map read (f (suc n) ∷ [])) (filter_map-each read f g n (λ k le. h k (omega arith)))
     ∙ ap (λ (y : Option _). each g n ++ cons_option y []) (h (suc n) (omega arith))
 
--- what passes the test, where each of a list does
+-- the elements that pass a test, where each of them does
 pub filter-each : {X : Type 0} (p : X → Bool) (f : ℕ → X) (n : ℕ) → ((k : ℕ) → k ≤ n → p (f k) ≡ true) → filter p (each f n) ≡ each f n
 filter-each p f zero h = refl
 filter-each p f (suc n) h =
@@ -62,7 +62,7 @@ filter-each p f (suc n) h =
     ∙ ap (λ (ys : List _). ys ++ filter p (f (suc n) ∷ [])) (filter-each p f n (λ k le. h k (omega arith)))
     ∙ ap (λ (b : Bool). each f n ++ cond b (f (suc n) ∷ []) []) (h (suc n) (omega arith))
 
--- the k-th of a list
+-- element k of a list
 pub Contains-each : {X : Type 0} (f : ℕ → X) (n k : ℕ) → 0 < k → k ≤ n → Contains (each f n) (f k)
 Contains-each f zero k lt le = absurd (omega arith)
 Contains-each f (suc n) k lt le =

@@ -1,4 +1,4 @@
--- All work: the call that came whole is executed and answered.
+-- All work: the call that was received is executed and answered.
 use Rattle.std.proofs.Common.{◌≡◌, ℕ, suc, ◌+◌, ◌^◌, ◌<◌, ◌≤◌, ltb, List, [], ◌∷◌, ◌++◌, length, Option, Some, None, refl, sym, ap, subst, ◌∙◌, arith, add-one, add-zero}
 use Rattle.std.proofs.lemmas.Bool.{lt-ltb, le-ltb}
 use Rattle.std.proofs.lemmas.Option.{slice_get_past}
@@ -35,7 +35,7 @@ pub record Worked (s : State) (new : State) : Type 0 where
   pub moved : works_on s.arrived ≡ ltb s.served (counts_of s).came
   pub still : s.served ≡ (counts_of s).came → new ≡ s
 
--- every call that came is executed
+-- every call that was received is executed
 no_call : (credits : ℕ) (run : List Mark) (n : Counts) → At credits run n → n.came ≡ n.served → n.came < 2 ^ 32 → credits < 2 ^ 32 → next_call the_link run ≡ None
 unfolding next_call
 no_call credits run n at all small few =
@@ -64,7 +64,7 @@ worked_none s none st =
       still = λ e. refl;
     })
 
--- the state after the k-th call was executed at a place
+-- the state after call number k was executed at a place
 abbrev after_work : State → ℕ → ℕ → State
 after_work s k place = record {
   credits = s.credits;

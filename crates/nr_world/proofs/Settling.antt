@@ -19,7 +19,7 @@ some_ask credits k small = omega (arith, fpdu_holds (ask credits k) (ask-is cred
 pub some_answer : (credits k : ℕ) → k < 2 ^ 32 → 0 < length (answer credits k)
 some_answer credits k small = omega (arith, fpdu_holds (answer credits k) (answer-is credits k small).is_frame)
 
--- what is to be written beyond what was
+-- the output that is due beyond what was due before
 pub beyond : (s o : List ℕ) (written rest : List ℕ) → s ≡ written → o ≡ written ++ rest → drop (length s) o ≡ rest
 beyond s o written rest a b = ap (λ (x : List ℕ). drop (length x) o) a ∙ ap (drop (length written)) b ∙ drop_at written rest (length written) refl
 
@@ -60,7 +60,7 @@ settled-none credits d n at up down =
     ap (λ (x : Drill). writing the_link Responder (unwritten o the_link Responder x) x) first
     ∙ writing-none Responder (unwritten o the_link Responder d) d (unwritten_down-none credits d n at down)
 
--- the client's next Send is to be written
+-- the client's next Send is due
 abbrev pub wrote_ask : ℕ → ℕ → Drill → Drill
 wrote_ask credits k d = with_way the_link (behind Initiator (ask credits k) (way_of the_link d)) (with_mark (write_up credits k) d)
 
@@ -76,7 +76,7 @@ settled-up credits d n at up down small =
     ∙ writing-none Responder (unwritten o the_link Responder (wrote_ask credits k d)) (wrote_ask credits k d)
     (unwritten_down-none credits (wrote_ask credits k d) (record n { sent_up = k }) (At-write_up credits d.marks n at) down)
 
--- the server's next reply is to be written
+-- the Send of the server's next reply is due
 abbrev pub wrote_answer : ℕ → ℕ → Drill → Drill
 wrote_answer credits k d = with_way the_link (behind Responder (answer credits k) (way_of the_link d)) (with_mark (write_down credits k) d)
 

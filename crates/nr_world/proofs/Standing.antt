@@ -1,4 +1,4 @@
--- Each step of the driver keeps what it stands on, and is the step that the script makes.
+-- Each step of the driver keeps the invariant, and is the step that the script makes.
 use Rattle.std.proofs.Common.{◌≡◌, ℕ, suc, ◌+◌, ◌^◌, ◌<◌, ◌≤◌, true, ltb, List, [], ◌∷◌, ◌++◌, length, take, drop, Option, Some, None, option_and_then, refl, sym, ap, subst, ◌∙◌, arith, add-one, add-zero, inl, inr}
 use Rattle.std.proofs.lemmas.Bool.{cases_lt, lt-ltb, le-ltb}
 use Rattle.std.proofs.lemmas.List.{drop_all, drop_at, take_all, drop-append-le}
@@ -37,7 +37,7 @@ words_of s st = record { few = omega (arith, st.few_credits); small = omega (ari
 counts-is : (credits : ℕ) (run : List Mark) (n m : Counts) → n ≡ m → At credits run n → At credits run m
 counts-is credits run n m e at = subst (λ (c : Counts). At credits run c) e at
 
--- what is behind the first part of a log
+-- what is behind a prefix of a log
 pub behind_part : (log front rest : List ℕ) → log ≡ front ++ rest → drop (length front) log ≡ rest
 behind_part log front rest e = ap (drop (length front)) e ∙ drop_at front rest (length front) refl
 
@@ -54,11 +54,11 @@ answer_of-is credits run n at all small few =
 pub pipe_is : (p : PipeState) (log : List ℕ) (place : ℕ) → p.log ≡ log → p.place ≡ place → p.faults ≡ 0 → p ≡ record { log = log; place = place; faults = 0 }
 pipe_is p log place a b c = λ i. record { log = a i; place = b i; faults = c i }
 
--- what was written before stays on its way, and what is written is put behind it
+-- what was written before stays under way, and what is written goes behind it
 pub waiting-written : (p : PipeState) (bytes : List ℕ) → p.place ≤ length p.log → waiting_bytes (written p bytes) ≡ waiting_bytes p ++ bytes
 waiting-written p bytes le = drop-append-le p.place p.log bytes le
 
--- the state after the k-th call went out
+-- the state after call number k went out
 abbrev after_ask : State → ℕ → State
 after_ask s k = record {
   credits = s.credits;
@@ -151,7 +151,7 @@ came_by-some : (s : State) (bytes : List ℕ) → 0 < length bytes → came_by s
 came_by-some s [] lt = absurd (omega arith)
 came_by-some s (b ∷ bytes) lt = refl
 
--- nothing waits for the server
+-- no bytes wait for the server
 up-none : (s : State) → Stands s → s.asked ≡ (counts_of s).came → waiting_bytes s.up ≡ []
 up-none s st all =
     let log : s.up.log ≡ upward s.credits s.asked = ap (λ (p : PipeState). p.log) st.up_is in
@@ -165,7 +165,7 @@ up-one s k st next came =
     let place : s.up.place ≡ length (upward s.credits k) = ap (λ (p : PipeState). p.place) st.up_is ∙ ap (λ (j : ℕ). length (upward s.credits j)) came in
     ap (λ (j : ℕ). drop j s.up.log) place ∙ behind_part s.up.log (upward s.credits k) (ask s.credits (suc k)) log
 
--- all that is on its way is fed
+-- all the bytes under way are fed
 pub take_length : (xs : List ℕ) → take (length xs) xs ≡ xs
 take_length xs = take_all (length xs) xs (omega arith)
 
@@ -193,7 +193,7 @@ comes_none s st all =
       still = λ e. refl;
     })
 
--- the state after the k-th call came
+-- the state after call number k was received
 abbrev after_came : State → ℕ → State
 after_came s k = record {
   credits = s.credits;
@@ -287,7 +287,7 @@ comes_one s st none next =
       still = λ e. absurd (omega (arith, e, came_is, next));
     })
 
--- whether a call waits is told by the counts
+-- the counts say whether a call waits
 comes_by : (s : State) (a : Option Conveyed) → s.arrived ≡ a → Stands s → Comes s (came s)
 comes_by s (Some call) e st =
     let one : arrived_one s.arrived ≡ 1 = ap arrived_one e in

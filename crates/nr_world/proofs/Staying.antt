@@ -69,7 +69,7 @@ module _ (plain : PlainServer) (opened : Opened) (link : ℕ) (run : List Mark) 
   asks_read : AreRead opened asks
   asks_read = accepted_read opened link run words asked.each
 
-  -- every accepted call came
+  -- every accepted call was received
   all_came : came link run ≡ map call_of_accepted asks
   all_came =
       let few : length (map (ask_message opened) asks) < 2 ^ 32 = omega (arith, length-map asks (ask_message opened), asks_read.few) in
@@ -79,7 +79,7 @@ module _ (plain : PlainServer) (opened : Opened) (link : ℕ) (run : List Mark) 
       ∙ ap (conveyed call_in) (messages-sends Initiator (map (ask_message opened) asks) few short)
       ∙ filter_map-map call_in (ask_message opened) call_of_accepted asks (all_each (IsRead opened) (λ a. call_in (ask_message opened a) ≡ Some (call_of_accepted a)) (λ a r. r.read) asks asks_read.each)
 
-  -- and every call that came was executed
+  -- and every received call was executed
   all_executed : map call_of_executed done ≡ map call_of_accepted asks
   unfolding next_call
   all_executed =
@@ -102,7 +102,7 @@ module _ (plain : PlainServer) (opened : Opened) (link : ℕ) (run : List Mark) 
       all_mapped IsCall call_of_executed done (subst (AllByRecursion IsCall) (sym all_executed) of_asks) in
       all_both (IsReplied plain) (λ e. IsCall (call_of_executed e)) (IsAnswered opened) (λ e r c. is_answered plain opened e inline words.granted r c) done first.replied of_done
 
-  -- every reply came
+  -- every reply was received
   all_heard : conveyed reply_in (heard link run) ≡ map reply_of_executed done
   all_heard =
       let few : length (map (reply_message opened) done) < 2 ^ 32 =
@@ -114,7 +114,7 @@ module _ (plain : PlainServer) (opened : Opened) (link : ℕ) (run : List Mark) 
       ∙ ap (conveyed reply_in) (filter-map has_words (reply_message opened) done (λ e. has_words-message e.xid opened.granted e.reply))
       ∙ filter_map-map reply_in (reply_message opened) reply_of_executed done (all_each (IsAnswered opened) (λ e. reply_in (reply_message opened e) ≡ Some (reply_of_executed e)) (λ e r. r.read) done answered)
 
-  -- so each accepted call's reply came
+  -- so the reply to each accepted call was received
   pub reply_came : AllReplied link run
   reply_came a held =
       let own = λ (c : Conveyed). eqb c.xid a.xid in
@@ -141,7 +141,7 @@ module _ (plain : PlainServer) (opened : Opened) (link : ℕ) (run : List Mark) 
             absurd (no_done link a.xid replied came_back.0 came_back.1 left)
       ]
 
--- and where every call is complete, nothing is left to hand over
+-- where every call is complete, nothing is left to hand over
 pub handed_over : (link : ℕ) (run : List Mark) → IsComplete link run → IsHandedOver link run
 handed_over link run complete a held kept =
     let c = complete a held kept in

@@ -1,5 +1,5 @@
--- What the server of any run owes, in one sum, where what it got begins as the client's own hello; and the calls that it
--- executed are the first that came.
+-- All output of the server of any run, as one expression, where what it received is a prefix of a stream that begins
+-- with the client's own hello. And the calls that it executed are the first calls that it received.
 use Rattle.std.proofs.Common.{◌≡◌, ℕ, ◌+◌, Bool, true, false, cond, not, ◌&&◌, eqb, Option, None, Some, List, [], ◌∷◌, ◌++◌, length, map, slice_get, refl, sym, ap, subst, ◌∙◌, append_assoc}
 use Rattle.std.specs.List.{AllByRecursion}
 use Rattle.std.proofs.lemmas.Bool.{eqb-true, both_ways, true_from_ne_false, false_from_ne_true}
@@ -31,14 +31,14 @@ use Rattle.nr_world.proofs.StayingOwed.{sends-push, other_side}
 abbrev pub reply_message : Opened → Executed → List ℕ
 reply_message opened e = inline_message e.xid opened.granted e.reply
 
--- the server's hello and the Sends of these replies, where the client's hello is there
+-- the server's hello and the Sends of these replies, where the server has the client's hello
 abbrev pub replies : Opened → Bool → List Executed → List ℕ
 replies opened greeted es = cond greeted (own_hello Responder ++ sends 1 (map (reply_message opened) es)) []
 
 abbrev pub all_replies : Opened → ℕ → List Mark → List ℕ
 all_replies opened link before = replies opened (has_hello Initiator (got link Responder before)) (executed link before)
 
--- what a mark adds, by what it brings
+-- the output for a mark, by what the mark brings
 abbrev AddsReplies : Opened → List ℕ → List Executed → List ℕ → List ℕ → List Executed → Type 0
 AddsReplies opened before es called bytes new =
     replies opened (has_hello Initiator before) es ++ called ≡ replies opened (has_hello Initiator (before ++ bytes)) (es ++ new)
@@ -50,7 +50,7 @@ replies_quiet opened before es bytes none =
     ∙ ap (λ (xs : List ℕ). replies opened (has_hello Initiator xs) es) (sym same)
     ∙ ap (replies opened (has_hello Initiator (before ++ bytes))) (sym (append-nil es))
 
--- the hello comes, before which nothing was executed
+-- after the mark that makes the hello whole; before it no call was executed
 replies_greeted : (opened : Opened) (es : List Executed) (answer : List ℕ) (old new : Bool) → (old ≡ true → new ≡ true) → (old ≡ false → es ≡ []) → (new ≡ true → answer ≡ own_hello Responder)
     → replies opened old es ++ cond (not old && new) answer [] ≡ replies opened new es
 replies_greeted opened es answer true true kept closed is = append-nil (replies opened true es)
@@ -78,7 +78,7 @@ replies_executed opened before es e true whole =
     ∙ ap (λ (b : Bool). replies opened b (es ++ e ∷ [])) (sym (has_hello-more Initiator before [] there))
 replies_executed opened before es e false whole = replies_quiet opened before es [] refl
 
--- a call came whole only behind a whole hello
+-- a call is received only after a whole hello
 none_came : (link : ℕ) (before : List Mark) → has_hello Initiator (got link Responder before) ≡ false → next_call link before ≡ None
 unfolding next_call
 none_came link before e =
@@ -89,7 +89,7 @@ hello_came link before call next =
     true_from_ne_false (has_hello Initiator (got link Responder before)) (λ no.
     let wrong : ◌≡◌ {A = Option Conveyed} None (Some call) = sym (none_came link before no) ∙ next in cc)
 
--- what the server got is the beginning of a stream that begins with the client's own hello
+-- what the server received is a prefix of a stream that begins with the client's own hello
 abbrev pub Client : ℕ → List Mark → Type 0
 Client link run = Begins (own_hello Initiator) (got link Responder run)
 
@@ -132,7 +132,7 @@ module _ (plain : PlainServer) (opened : Opened) (link : ℕ) (run : List Mark) 
   adds_replies before (marks.Revoke l xid bytes) rest parts h closed = replies_quiet opened (got link Responder before) (executed link before) [] refl
   adds_replies before (marks.Drop l) rest parts h closed = replies_quiet opened (got link Responder before) (executed link before) [] refl
 
--- before the hello is whole nothing is executed
+-- before the hello is whole no call is executed
 still_closed : (before bytes : List ℕ) → has_hello Initiator (before ++ bytes) ≡ false → has_hello Initiator before ≡ false
 still_closed before bytes e = false_from_ne_true (has_hello Initiator before) (λ there. both_ways _ e (has_hello-more Initiator before bytes there))
 
@@ -145,7 +145,7 @@ stays_closed plain link before bytes new (NoneDone none) closed e =
 stays_closed plain link before bytes new (OneDone x is h) closed e =
     absurd (both_ways _ (still_closed (got link Responder before) bytes e) (hello_came link before (record { xid = x.xid; payload = x.payload }) h.is_next))
 
--- what a prefix calls for, and that nothing is executed before the hello
+-- the output for a prefix of the run, and that no call is executed before the hello
 record Owes (opened : Opened) (link : ℕ) (before : List Mark) : Type 0 where
   called : called_from (called_server opened link) [] before ≡ all_replies opened link before
   closed : has_hello Initiator (got link Responder before) ≡ false → executed link before ≡ []
@@ -169,7 +169,7 @@ owes_more plain opened link run client before mark rest parts h o =
       closed = λ e. x ∙ stays_closed plain link before (fed link Responder mark) (executed_at link mark) (executing plain opened link before mark h) o.closed (ap (has_hello Initiator) (sym g) ∙ e);
     }
 
--- the server owes its hello and the Sends of all replies so far
+-- all output of the server is its hello and the Sends of all replies so far
 pub owed_server : (plain : PlainServer) (opened : Opened) (link : ℕ) (run : List Mark) → Client link run → Along (ServedMark plain opened link) [] run
     → owed opened link Responder run ≡ own_hello Responder ++ sends 1 (map (reply_message opened) (executed link run))
 unfolding owed
@@ -180,7 +180,7 @@ owed_server plain opened link run client along =
 
 -- ---- the calls that were executed
 
--- what came before is the beginning of what came
+-- the calls that were received before are a prefix of those received
 pub came-beyond : (link : ℕ) (before rest : List Mark) → Begins (came link before) (came link (before ++ rest))
 came-beyond link before rest =
     let longer = messages-more Initiator (got link Responder before) (got link Responder rest) in (
@@ -193,11 +193,11 @@ came-beyond link before rest =
 abbrev pub call_of_executed : Executed → Conveyed
 call_of_executed e = record { xid = e.xid; payload = e.payload }
 
--- the plain server gave it its reply, over some journal
+-- the plain server gave the call its reply, over some journal
 abbrev pub IsReplied : PlainServer → Executed → Type 0
 IsReplied plain e = (entries : List Entry) × plain.Replies entries e.moment e.payload e.reply
 
--- the executed calls are the first that came, and each has such a reply
+-- the executed calls are the first that were received, and each has such a reply
 pub record AreFirst (plain : PlainServer) (link : ℕ) (run before : List Mark) : Type 0 where
   pub calls : Begins (map call_of_executed (executed link before)) (came link run)
   pub replied : AllByRecursion (IsReplied plain) (executed link before)

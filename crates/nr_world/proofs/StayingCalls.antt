@@ -1,5 +1,5 @@
--- The calls that a client accepted are few and short, and each is read from its message as it was asked; so is each reply to
--- such a call.
+-- The calls that a client accepted are limited in number and length, and each is read from its message as it was
+-- submitted. So is each reply to such a call.
 use Rattle.std.proofs.Common.{◌≡◌, ℕ, ◌^◌, ◌<◌, ◌≤◌, Some, List, [], ◌∷◌, ◌++◌, length, Contains, refl, sym, ap, subst, ◌∙◌, arith, lit<}
 use Rattle.std.specs.List.{AllByRecursion}
 use Rattle.std.proofs.lemmas.List.{append-nil, length_push}
@@ -26,7 +26,7 @@ use Rattle.nr_world.proofs.StayingRuns.Accepting.{NoneNew, OneNew}
 use Rattle.nr_world.proofs.StayingOwed.{ask_message}
 use Rattle.nr_world.proofs.StayingAnswers.{reply_message, call_of_executed, IsReplied}
 
--- ---- how many calls there are, and how long
+-- ---- number and length of the calls
 
 abbrev FitsCall : Opened → Accepted → Type 0
 FitsCall opened a = Fits opened a.xid a.call
@@ -74,7 +74,7 @@ accepted_few opened link run words along =
 abbrev pub call_of_accepted : Accepted → Conveyed
 call_of_accepted a = record { xid = a.xid; payload = call_payload a.xid a.call }
 
--- a call under a word for its xid
+-- a call under an xid that is a word
 pub record IsCall (call : Conveyed) : Type 0 where
   pub small : call.xid < 2 ^ 32
   pub own : call_xid (call_of call.payload) ≡ Some call.xid
@@ -121,7 +121,7 @@ accepted_read opened link run words along =
 abbrev pub reply_of_executed : Executed → Conveyed
 reply_of_executed e = record { xid = e.xid; payload = e.reply }
 
--- every reply of the server goes without lists
+-- every reply of the server goes without chunk lists
 abbrev pub AnswersInline : PlainServer → Type 0
 AnswersInline plain = (entries : List Entry) (moment : Moment) (payload reply : List ℕ) → plain.Replies entries moment payload reply → IsInline payload reply
 

@@ -1,33 +1,33 @@
--- Lists: what is found, kept and read of them, and lists that begin others.
+-- Lists: what is found, kept and read of them, and lists that are prefixes of others.
 use Rattle.std.proofs.Common.{◌≡◌, ℕ, zero, suc, Bool, true, false, cond, ◌||◌, Option, None, Some, List, [], ◌∷◌, ◌++◌, length, map, slice_get, refl, sym, ap, ◌∙◌}
 use Rattle.std.specs.Prelude.{find}
 use Rattle.std.specs.List.{filter, filter_map, cons_option, list_any, AllByRecursion}
 use Rattle.std.proofs.lemmas.Option.{same_Some}
 
--- ---- lists that begin others
+-- ---- prefixes
 
 abbrev pub Begins : {A : Type 0} → List A → List A → Type 0
 Begins {A} xs ys = (more : List A) × (xs ++ more ≡ ys)
 
--- an element of the beginning is one of the whole
+-- an element of the prefix is one of the whole list
 pub slice_get-more : {A : Type 0} (xs more : List A) (n : ℕ) (x : A) → slice_get xs n ≡ Some x → slice_get (xs ++ more) n ≡ Some x
 slice_get-more [] more n x e = absurd cc
 slice_get-more (y ∷ xs) more zero x e = e
 slice_get-more (y ∷ xs) more (suc n) x e = slice_get-more xs more n x e
 
--- the element behind a beginning
+-- the element behind a prefix
 pub next_of : {A : Type 0} (xs more : List A) (x : A) → slice_get (xs ++ more) (length xs) ≡ Some x → (others : List A) × (more ≡ x ∷ others)
 next_of [] [] x e = absurd cc
 next_of [] (y ∷ more) x e = (more, ap (λ (z : _). z ∷ more) (same_Some y x e))
 next_of (y ∷ xs) more x e = next_of xs more x e
 
--- nothing is behind it
+-- no element is behind it
 pub none_behind : {A : Type 0} (xs more : List A) → slice_get (xs ++ more) (length xs) ≡ None → more ≡ []
 none_behind [] [] e = refl
 none_behind [] (y ∷ more) e = absurd cc
 none_behind (y ∷ xs) more e = none_behind xs more e
 
--- ---- what holds of each
+-- ---- what holds of each element
 
 pub all_push : {A : Type 0} (P : A → Type 0) (xs : List A) (x : A) → AllByRecursion P xs → P x → AllByRecursion P (xs ++ x ∷ [])
 all_push P [] x h p = (p, tt)
@@ -45,7 +45,7 @@ pub all_each : {A : Type 0} (P Q : A → Type 0) → ((x : A) → P x → Q x) �
 all_each P Q step [] h = tt
 all_each P Q step (x ∷ xs) h = (step x h.0, all_each P Q step xs h.1)
 
--- from two facts of each a third
+-- a third fact of each element, from two
 pub all_both : {A : Type 0} (P Q R : A → Type 0) → ((x : A) → P x → Q x → R x) → (xs : List A) → AllByRecursion P xs → AllByRecursion Q xs → AllByRecursion R xs
 all_both P Q R step [] h k = tt
 all_both P Q R step (x ∷ xs) h k = (step x h.0 k.0, all_both P Q R step xs h.1 k.1)
@@ -72,7 +72,7 @@ found_by : {A : Type 0} (p : A → Bool) (x : A) (others : Option A) (b : Bool) 
 found_by p x others true h = (x, refl)
 found_by p x others false h = h refl
 
--- where one passes the test, one is found
+-- where an element passes the test, one is found
 pub found : {A : Type 0} (p : A → Bool) (xs : List A) → list_any p xs ≡ true → (x : A) × (find p xs ≡ Some x)
 found p [] e = absurd cc
 found p (x ∷ xs) e =
@@ -80,7 +80,7 @@ found p (x ∷ xs) e =
     let rest : list_any p xs ≡ true = sym (ap (λ (b : Bool). b || list_any p xs) no) ∙ e in
     found p xs rest)
 
--- ---- lists that come to nothing
+-- ---- lists that map to nothing
 
 no_parts : {A : Type 0} (xs ys : List A) → xs ++ ys ≡ [] → (xs ≡ []) × (ys ≡ [])
 no_parts [] ys e = (refl, e)

@@ -1,4 +1,4 @@
--- What a side of any run owes, in one sum: its hello, and the Sends of all calls so far.
+-- All output of a side of any run, as one expression: its hello, and the Sends of all calls so far.
 use Rattle.std.proofs.Common.{◌≡◌, ℕ, ◌+◌, Bool, true, false, cond, not, ◌&&◌, eqb, List, [], ◌∷◌, ◌++◌, length, map, refl, sym, ap, ◌∙◌}
 use Rattle.std.proofs.lemmas.List.{append-nil, map-append, length-map}
 use Rattle.nr_wire.specs.declared.hello.Side.TheVariants.{Initiator, Responder}
@@ -29,11 +29,11 @@ sends-push f xs x =
     ∙ sends-more 1 (map f xs) (f x)
     ∙ ap (λ (n : ℕ). sends 1 (map f xs) ++ send (n + 1) (f x)) (length-map xs f)
 
--- the Sends of these calls, where the server's hello is there
+-- the Sends of these calls, where the client has the server's hello
 abbrev asks : Opened → Bool → List Accepted → List ℕ
 asks opened greeted calls = cond greeted (sends 1 (map (ask_message opened) calls)) []
 
--- all that the client's calls called for so far
+-- the output for all calls of the client so far
 abbrev pub all_asks : Opened → ℕ → List Mark → List ℕ
 all_asks opened link before = asks opened (is_greeted Responder (got link Initiator before)) (accepted link before)
 
@@ -50,7 +50,7 @@ asks_greeted opened calls true false kept = absurd (let wrong : false ≡ true =
 asks_greeted opened calls false true kept = asking_each-sends opened 1 calls
 asks_greeted opened calls false false kept = refl
 
--- what a mark adds, by what it brings
+-- the output for a mark, by what the mark brings
 abbrev AddsAsks : Opened → List ℕ → List Accepted → List ℕ → List ℕ → List Accepted → Type 0
 AddsAsks opened before calls called bytes new =
     asks opened (is_greeted Responder before) calls ++ called ≡ asks opened (is_greeted Responder (before ++ bytes)) (calls ++ new)
@@ -111,7 +111,7 @@ none_asked opened link = nothing (is_greeted Responder (got link Initiator []))
     nothing true = refl
     nothing false = refl
 
--- the client owes its hello, and the Sends of all calls so far once the server's hello is there
+-- all output of the client is its hello, and the Sends of all calls so far once it has the server's hello
 pub owed_client : (P : List Mark → Mark → Type 0) (opened : Opened) (link : ℕ) (run : List Mark) → Along P [] run → owed opened link Initiator run ≡ own_hello Initiator ++ all_asks opened link run
 unfolding owed
 owed_client P opened link run along =

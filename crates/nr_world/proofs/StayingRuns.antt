@@ -1,4 +1,5 @@
--- Runs mark by mark: what holds of each prefix, and what one more mark adds to what each side got, accepted and executed.
+-- Runs mark by mark: what holds of each prefix, and what one more mark adds to what each side got, accepted and
+-- executed.
 use Rattle.std.proofs.Common.{◌≡◌, ℕ, ◌+◌, Bool, true, false, cond, eqb, List, [], ◌∷◌, ◌++◌, length, refl, sym, subst, ◌∙◌, append_assoc}
 use Rattle.std.specs.List.{flat_map}
 use Rattle.std.proofs.lemmas.Bool.{eqb-true}
@@ -15,7 +16,7 @@ use Rattle.nr_world.specs.Asked.{AskedMark, Fits}
 use Rattle.nr_world.specs.Served.{ServedMark, Executes}
 use Rattle.nr_world.proofs.Runs.{flat_map-more}
 
--- a fact that each mark keeps, after those before it, holds of the whole run
+-- a fact that each mark keeps, given the marks before it, holds of the whole run
 pub each_keeps : (P : List Mark → Mark → Type 0) (F : List Mark → Type 0) (whole : List Mark)
     → ((before : List Mark) (mark : Mark) (rest : List Mark) → before ++ mark ∷ rest ≡ whole → P before mark → F before → F (before ++ mark ∷ []))
     → (before run : List Mark) → before ++ run ≡ whole → Along P before run → F before → F whole
@@ -36,7 +37,7 @@ pub executed-more : (link : ℕ) (before : List Mark) (mark : Mark) → executed
 unfolding executed
 executed-more link before mark = flat_map-more (executed_at link) before mark
 
--- the parts of the whole, around one mark
+-- the parts of the whole run, around one mark
 around : {A : Type 0} (f : Mark → List A) (before : List Mark) (mark : Mark) (rest : List Mark) → flat_map f (before ++ mark ∷ rest) ≡ (flat_map f before ++ f mark) ++ flat_map f rest
 around f before mark rest = flat_map-append f before (mark ∷ rest) ∙ sym (append_assoc (flat_map f before) (f mark) (flat_map f rest))
 
@@ -48,14 +49,14 @@ pub accepted-around : (link : ℕ) (before : List Mark) (mark : Mark) (rest : Li
 unfolding accepted
 accepted-around link before mark rest = around (accepted_at link) before mark rest
 
--- and what was got before is the beginning of the whole
+-- and what was received before is a prefix of the whole
 pub got-beyond : (link : ℕ) (side : Side) (before rest : List Mark) → got link side (before ++ rest) ≡ got link side before ++ got link side rest
 unfolding got
 got-beyond link side before rest = flat_map-append (fed link side) before rest
 
 -- ---- the calls of a mark
 
--- a mark that accepts no call, or this one
+-- a mark that accepts no call, or this call
 pub data Accepting (opened : Opened) (link : ℕ) (before : List Mark) (new : List Accepted) : Type 0 where
   NoneNew : new ≡ [] → Accepting opened link before new
   OneNew : (a : Accepted) → new ≡ a ∷ [] → a.xid ≡ opened.first_xid + length (accepted link before) → Fits opened a.xid a.call → Accepting opened link before new
@@ -82,7 +83,7 @@ accepting opened link before (marks.Forget l xid) h = NoneNew refl
 accepting opened link before (marks.Revoke l xid bytes) h = NoneNew refl
 accepting opened link before (marks.Drop l) h = NoneNew refl
 
--- a mark that executes no call, or this one
+-- a mark that executes no call, or this call
 pub data Executing (plain : PlainServer) (link : ℕ) (before : List Mark) (new : List Executed) : Type 0 where
   NoneDone : new ≡ [] → Executing plain link before new
   OneDone : (e : Executed) → new ≡ e ∷ [] → Executes plain link before e.xid e.moment e.payload e.place e.reply → Executing plain link before new

@@ -1,4 +1,5 @@
--- Streams that go on: what was read of them stays read. And a hello with Sends behind it is read as the messages of those.
+-- Streams that continue: what was read of their beginning stays read. And a hello with Sends behind it is read as the
+-- messages of those Sends.
 use Rattle.std.proofs.Common.{◌≡◌, ℕ, suc, ◌+◌, ◌^◌, ◌<◌, ◌≤◌, Bool, true, false, cond, Option, None, Some, Result, List, [], ◌∷◌, ◌++◌, length, take, drop, refl, sym, ap, subst, ◌∙◌, append_assoc, arith}
 use Rattle.std.specs.List.{concat, AllByRecursion}
 use Rattle.std.proofs.lemmas.List.{append-nil, take-append-drop}
@@ -20,7 +21,7 @@ use Rattle.nr_world.proofs.StayingLists.{Begins}
 
 -- ---- the hello
 
--- what stands at the front is judged alone, so a whole hello says the same whatever comes behind it
+-- A frame is judged by itself, so a whole hello is read the same whatever follows it.
 pub hello_in-more : (side : Side) (x y : List ℕ) → has_hello side x ≡ true → hello_in side (x ++ y) ≡ hello_in side x
 unfolding has_hello
 hello_in-more side x y e =
@@ -63,7 +64,7 @@ pub messages-none : (side : Side) (x : List ℕ) → has_hello side x ≡ false 
 unfolding messages has_hello
 messages-none side x e = ap (λ (s : Split). messages_from (drop 1 s.frames) []) (split-partial (HelloFrom side) x e)
 
--- the beginning of two readings
+-- a prefix of two readings
 abbrev GoOn : (List ℕ → List (List ℕ)) → (List ℕ → List (List ℕ)) → Type 0
 GoOn front all = (begun : List ℕ) → Begins (front begun) (all begun)
 
@@ -85,7 +86,7 @@ behind_hello : (frames others : List (List ℕ)) → Begins (messages_from (drop
 behind_hello [] others = (messages_from (drop 1 others) [], refl)
 behind_hello (hello ∷ frames) others = frames_go_on frames others []
 
--- the messages of a stream are the first of a longer one's
+-- the messages of a stream are the first messages of a longer one
 pub messages-more : (side : Side) (x y : List ℕ) → Begins (messages side x) (messages side (x ++ y))
 unfolding messages
 messages-more side x y =
@@ -96,7 +97,7 @@ messages-more side x y =
 
 -- ---- Sends behind a hello
 
--- the Sends of some messages, the first of which is the msn-th
+-- the Sends of some messages, the first of which is Send number msn
 abbrev pub sends : ℕ → List (List ℕ) → List ℕ
 sends msn [] = []
 sends msn (message ∷ others) = send msn message ++ sends (msn + 1) others
@@ -133,7 +134,7 @@ frames_of-messages msn (m ∷ messages) few short =
     ap (λ (p : Option Part). joined_to p (messages_from (frames_of (msn + 1) messages)) []) part
     ∙ ap (λ (ms : List (List ℕ)). m ∷ ms) (frames_of-messages (msn + 1) messages (omega arith) short.1)
 
--- the messages of a hello and of the Sends of some messages are those
+-- the messages of a stream with a hello and the Sends of some messages are those messages
 pub messages-sends : (side : Side) (whole : List (List ℕ)) → length whole < 2 ^ 32 → AreShort whole → messages side (own_hello side ++ sends 1 whole) ≡ whole
 unfolding messages
 messages-sends side whole few short =

@@ -1,4 +1,4 @@
--- The streams of a drill: a hello and then Sends of one segment each.
+-- The streams of a drill: a hello, and then Sends of one segment each.
 use Rattle.std.proofs.Common.{◌≡◌, ℕ, zero, suc, ◌^◌, ◌<◌, ◌≤◌, Bool, true, false, cond, List, [], ◌∷◌, ◌++◌, length, take, drop, Option, Some, Result, Ok, Err, refl, sym, ap, ◌∙◌, append_assoc, arith, lit<, lit≤}
 use Rattle.std.specs.List.{concat}
 use Rattle.std.proofs.lemmas.List.{append-nil, take_all}
@@ -24,7 +24,7 @@ use Rattle.nr_world.specs.Messages.{Part, part_in, joined_to, messages_from, mes
 use Rattle.nr_world.specs.Owed.{own_hello}
 use Rattle.nr_world.specs.Stands.{joined, each}
 
--- a value that is read whole stands in a whole frame
+-- a value that is read whole is in a whole frame
 record Judged {V : Type 0} (whole : Bool) (r : Result V ℕ) (value : V) (len n : ℕ) : Type 0 where
   is_whole : whole ≡ true
   says : r ≡ Ok value
@@ -86,7 +86,7 @@ hello_in-own side =
     let read : hello_in side (hello_encoding hello ++ []) ≡ Whole hello (length (hello_encoding hello)) = hello_again hello [] (unrefused side, lit≤ tt) in
     rw append-nil at read
 
--- the hello is there, and none that is refused, whatever follows it
+-- the hello is whole and isn't refused, whatever follows it
 pub is_greeted-own : (side : Side) (more : List ℕ) → is_greeted side (own_hello side ++ more) ≡ true
 unfolding is_greeted own_hello
 is_greeted-own side more = ap is_hello (hello_again (record { side = side; flags = 0; private = [] }) more (unrefused side, lit≤ tt))
@@ -95,7 +95,7 @@ pub has_hello-own : (side : Side) (more : List ℕ) → has_hello side (own_hell
 unfolding has_hello
 has_hello-own side more = (front_frame (HelloFrom side) (own_hello side) more (own_hello-frame side)).whole
 
--- Sends that each are the whole of a message
+-- Sends, each of which is a whole message
 pub record AreSends (f g : ℕ → List ℕ) (n : ℕ) : Type 0 where
   pub frames : (k : ℕ) → k ≤ n → IsFrame Fpdu (f k)
   pub parts : (k : ℕ) → k ≤ n → part_in (segment_of (f k)) ≡ Some (record { last = true; payload = g k })
@@ -123,7 +123,7 @@ messages_from-each f g (suc n) more s =
     ∙ ap (λ (xs : List (List ℕ)). each g n ++ xs) one
     ∙ sym (append_assoc (each g n) (g (suc n) ∷ []) (messages_from more []))
 
--- the messages of a hello and so many Sends
+-- the messages of a stream with a hello and this many Sends
 pub messages-each : (side : Side) (f g : ℕ → List ℕ) (n : ℕ) → AreSends f g n → messages side (own_hello side ++ joined f n) ≡ each g n
 unfolding messages
 messages-each side f g n s =

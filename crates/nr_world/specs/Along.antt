@@ -1,4 +1,4 @@
--- A fact of each mark after those before it.
+-- A fact of each mark of a run, given the marks before it.
 use Rattle.std.specs.Prelude.{List, [], ◌∷◌, ◌++◌}
 use Rattle.nr_world.specs.declared.mark.Mark.{Mark}
 

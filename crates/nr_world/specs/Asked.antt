@@ -17,7 +17,8 @@ use Rattle.nr_world.specs.Window.{heard}
 use Rattle.nr_world.specs.Along.{Along}
 use Rattle.nr_world.specs.Constants.{send_max}
 
--- a message that the client got conveys this outcome of the xid's call; error messages come with the calls that get them
+-- A message that the client received conveys this outcome of the call with this xid. Error messages aren't covered
+-- here.
 abbrev pub IsHeard : ℕ → List Mark → ℕ → Outcome → Type 0
 IsHeard link before xid (outcomes.Reply payload) = Contains (conveyed reply_in (heard link before)) (record { xid = xid; payload = payload })
 IsHeard link before xid outcomes.Chunk = ⊥
@@ -29,7 +30,7 @@ pub record Completes (link : ℕ) (before : List Mark) (xid : ℕ) (outcome : Ou
   pub first : (c : Completed) → Contains (completed link before) c → c.xid ≢ xid
   pub heard : IsHeard link before xid outcome
 
--- the outcome of an accepted call that has none yet, where its message came
+-- the outcome of an accepted call that has none yet, where its message was received
 abbrev pub done_with : ℕ → ℕ → Option Conveyed → List Mark
 done_with link xid None = []
 done_with link xid (Some reply) = marks.Done link xid (outcomes.Reply reply.payload) ∷ []
@@ -43,8 +44,8 @@ done_for link before a =
 abbrev pub Fits : Opened → ℕ → Call → Type 0
 Fits opened xid call = length (inline_message xid opened.wished (call_payload xid call)) ≤ send_max
 
--- xids rise by one from the first on, and a call that goes out fits; a Wrote writes all that is owed by then; a call is
--- completed once
+-- Xids rise by one from the first, and a call that goes out fits into a Send. A Wrote writes all output that is due by
+-- then. A call is completed once.
 abbrev pub AskedMark : Opened → ℕ → List Mark → Mark → Type 0
 AskedMark opened link before (marks.Submit l call form (submissions.Accepted xid)) =
     l ≡ link → (xid ≡ opened.first_xid + length (accepted link before)) × Fits opened xid call

@@ -9,8 +9,8 @@ use Rattle.nr_world.specs.Observed.{PlainServer, Accepted, Executed, Completed, 
 use Rattle.nr_world.specs.Owed.{call_payload}
 use Rattle.nr_world.specs.Along.{Along}
 
--- the call of an xid was executed with its own payload at a place of the one journal, this is the reply that the plain
--- server gives it there, and what it changed is the journal's entry at its place
+-- The call of an xid was executed with its own payload at a place of the one journal. The plain server gives it this
+-- reply there, and what it changed is the journal's entry at its place.
 pub record IsAnswered (plain : PlainServer) (link : ℕ) (before : List Mark) (xid : ℕ) (reply : List ℕ) : Type 0 where
   pub asked : Accepted
   pub is_asked : Contains (accepted link before) asked

@@ -1,4 +1,4 @@
--- The state of a drill under way, and what each step of its driver makes of it.
+-- The state of a drill under way, and how each step of its driver changes it. This file describes the driver's code.
 use Rattle.std.specs.Prelude.{ℕ, ◌+◌, Bool, true, false, List, [], ◌∷◌, ◌++◌, length, Option, None, Some, option_and_then}
 use Rattle.nr_outside.specs.Pipe.{PipeState, waiting_bytes}
 use Rattle.nr_wire.specs.declared.hello.Side.TheVariants.{Initiator, Responder}
@@ -55,7 +55,7 @@ written p bytes = record { log = p.log ++ bytes; place = p.place; faults = p.fau
 abbrev pub all_read : PipeState → PipeState
 all_read p = record { log = p.log; place = length p.log; faults = p.faults }
 
--- a side writes
+-- after a side writes
 abbrev pub wrote_up : State → List ℕ → State
 wrote_up s bytes = record {
   credits = s.credits;
@@ -84,7 +84,7 @@ wrote_down s bytes = record {
   reports = s.reports;
 }
 
--- a side is fed all that waits for it
+-- after a side is fed all the bytes that wait for it
 abbrev pub fed_up : State → Option Conveyed → State
 fed_up s call = record {
   credits = s.credits;
@@ -113,7 +113,7 @@ fed_down s = record {
   reports = s.reports;
 }
 
--- a call goes out
+-- after a call goes out
 abbrev pub submitted : State → State
 submitted s = record {
   credits = s.credits;
@@ -131,7 +131,7 @@ submitted s = record {
 unfoldable pub asked_one : State → State
 asked_one s = wrote_up (submitted s) (ask s.credits (s.asked + 1))
 
--- a call is executed
+-- after a call is executed
 abbrev pub executed_one : State → ℕ → List ℕ → List ℕ → State
 executed_one s xid payload reply = record {
   credits = s.credits;
@@ -158,7 +158,7 @@ worked_on s (Some call) = answered_with s call (plain_reply call.payload)
 unfoldable pub worked : State → State
 worked s = worked_on s s.arrived
 
--- something moves
+-- whether something moves
 abbrev pub is_answered : Option (List ℕ) → Bool
 is_answered None = false
 is_answered (Some reply) = true
@@ -174,7 +174,7 @@ is_some_byte (b ∷ bytes) = true
 abbrev pub waits : PipeState → Bool
 waits p = is_some_byte (waiting_bytes p)
 
--- the server is fed
+-- after the server is fed
 abbrev pub came_by : State → List ℕ → State
 came_by s [] = s
 came_by s (b ∷ bytes) = fed_up s (option_and_then call_in (ended_by (segment_in (b ∷ bytes))))
@@ -182,7 +182,7 @@ came_by s (b ∷ bytes) = fed_up s (option_and_then call_in (ended_by (segment_i
 unfoldable pub came : State → State
 came s = came_by s (waiting_bytes s.up)
 
--- the client is fed, and hands over what is completed
+-- after the client is fed, and hands over the completed calls
 abbrev pub done_one : State → Conveyed → State
 done_one s reply = record {
   credits = s.credits;

@@ -1,4 +1,4 @@
--- The message that ends in what stands at the front of a stream.
+-- The message that ends in the frame at the front of a stream. This file describes the driver's code.
 use Rattle.std.specs.Prelude.{ℕ, if◌then◌else◌, List, Option, None, Some}
 use Rattle.nr_wire.specs.Segment.{Segment}
 use Rattle.nr_wire.specs.Next.{Next}

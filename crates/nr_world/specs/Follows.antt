@@ -1,4 +1,4 @@
--- Which marks a script makes, in order.
+-- The marks that a script makes, in order.
 use Rattle.std.specs.Prelude.{◌≡◌, ◌≢◌, ℕ, zero, suc, ◌+◌, ◌-◌, ◌<◌, ◌⊎◌, nat_lt, if◌then◌else◌, List, [], ◌∷◌, ◌++◌, length, take, drop, replicate, None, slice_index_or, slice_set}
 use Rattle.std.specs.List.{flat_map}
 use Rattle.nr_wire.specs.declared.hello.Side.{Side}
@@ -19,12 +19,12 @@ use Rattle.nr_world.specs.Owed.{owed}
 use Rattle.nr_world.specs.Window.{out_of, grant_of}
 use Rattle.nr_world.specs.Served.{came, next_call, Executes}
 
--- the bytes on their way on a link: written by one side, and to be fed to the other
+-- the bytes under way on a link: written by one side, and not yet fed to the other
 pub record Way : Type 0 where
   pub up : List ℕ
   pub down : List ℕ
 
--- a drill at a moment: its marks, what is on its way on each link, and the clock's seconds
+-- a drill at a moment: its marks, the bytes under way on each link, and the seconds of the clock
 pub record Drill : Type 0 where
   pub marks : List Mark
   pub ways : List Way
@@ -42,49 +42,49 @@ with_mark mark d = record { marks = d.marks ++ mark ∷ []; ways = d.ways; secon
 abbrev pub with_way : ℕ → Way → Drill → Drill
 with_way link way d = record { marks = d.marks; ways = slice_set d.ways (link - 1) way; seconds = d.seconds }
 
--- bytes that a side wrote are put behind those on their way
+-- after a side wrote bytes, which go behind those under way
 abbrev pub behind : Side → List ℕ → Way → Way
 behind Initiator bytes way = record { up = way.up ++ bytes; down = way.down }
 behind Responder bytes way = record { up = way.up; down = way.down ++ bytes }
 
--- a side writes these bytes, if there are any
+-- after a side writes these bytes, if there are any
 abbrev pub writing : ℕ → Side → List ℕ → Drill → Drill
 writing link side [] d = d
 writing link side (b ∷ bytes) d =
     with_way link (behind side (b ∷ bytes) (way_of link d)) (with_mark (marks.Wrote link side (b ∷ bytes)) d)
 
--- what a side has to write and hasn't written
+-- the bytes that a side has to write and hasn't written
 abbrev pub unwritten : Opened → ℕ → Side → Drill → List ℕ
 unwritten opened link side d = drop (length (sent link side d.marks)) (owed opened link side d.marks)
 
--- both sides of a link write what they have queued
+-- after both sides of a link wrote what they have to write
 unfoldable pub settled : Opened → ℕ → Drill → Drill
 settled opened link d =
     let asked = writing link Initiator (unwritten opened link Initiator d) d in
     writing link Responder (unwritten opened link Responder asked) asked
 
--- a side is fed this piece, if it has bytes
+-- after a side is fed this piece, if it has bytes
 abbrev pub feeding : ℕ → Side → List ℕ → Way → Drill → Drill
 feeding link side [] rest d = d
 feeding link side (b ∷ bytes) rest d = with_way link rest (with_mark (marks.Fed link side (b ∷ bytes)) d)
 
--- the next n bytes on their way to the server
+-- after the next n bytes under way to the server are fed
 unfoldable pub up_by : Opened → ℕ → ℕ → Drill → Drill
 up_by opened link n d =
     let way = way_of link d in
     settled opened link (feeding link Responder (take n way.up) (record { up = drop n way.up; down = way.down }) d)
 
--- completed calls are taken in the order in which they were submitted
+-- after the completed calls are handed over, in the order in which they were submitted
 unfoldable pub taken : ℕ → Drill → Drill
 taken link d = record { marks = d.marks ++ flat_map (done_for link d.marks) (accepted link d.marks); ways = d.ways; seconds = d.seconds }
 
--- the next n bytes on their way to the client, which then hands over what is completed
+-- after the next n bytes under way to the client are fed, and the completed calls are handed over
 unfoldable pub down_by : Opened → ℕ → ℕ → Drill → Drill
 down_by opened link n d =
     let way = way_of link d in
     settled opened link (taken link (feeding link Initiator (take n way.down) (record { up = way.up; down = drop n way.down }) d))
 
--- the next call of a link that came whole is executed and answered
+-- the next call that the server of a link received is executed and answered
 pub record Works (plain : PlainServer) (opened : Opened) (link : ℕ) (old new : Drill) : Type 0 where
   pub xid : ℕ
   pub payload : List ℕ
@@ -93,7 +93,7 @@ pub record Works (plain : PlainServer) (opened : Opened) (link : ℕ) (old new :
   pub executes : Executes plain link old.marks xid (record { seconds = old.seconds; nanos = 0 }) payload place reply
   pub new_is : new ≡ settled opened link (with_mark (marks.Execute link xid (record { seconds = old.seconds; nanos = 0 }) payload place reply) old)
 
--- so many calls of a link are executed, and then none is left that came whole
+-- this many calls of a link are executed, and then no received call is left
 abbrev pub WorksAll : PlainServer → Opened → ℕ → ℕ → Drill → Drill → Type 0
 WorksAll plain opened link zero old new = (next_call link old.marks ≡ None) × (new ≡ old)
 WorksAll plain opened link (suc n) old new = (mid : Drill) × Works plain opened link old mid × WorksAll plain opened link n mid new
@@ -111,13 +111,13 @@ pub record MovesLink (plain : PlainServer) (opened : Opened) (link : ℕ) (old n
   pub works : WorksAll plain opened link count (all_up opened link old) worked
   pub new_is : new ≡ all_down opened link worked
 
--- for each of these links in order
+-- for each of these links, in order
 abbrev pub Moves : PlainServer → Opened → List ℕ → Drill → Drill → Type 0
 Moves plain opened [] old new = new ≡ old
 Moves plain opened (link ∷ links) old new = (mid : Drill) × MovesLink plain opened link old mid × Moves plain opened links mid new
 
--- What is left to do on a link, what goes before first: bytes that the client has still to bring up, calls that came whole
--- and aren't executed, bytes that wait to go down, bytes that wait to go up.
+-- The work left on a link, most significant first: bytes that the server has still to receive, received calls that
+-- aren't executed, bytes under way to the client, bytes under way to the server.
 unfoldable pub todo : Opened → Drill → ℕ → List ℕ
 todo opened d link =
     (length (unwritten opened link Initiator d) + length (way_of link d).up)
@@ -126,32 +126,32 @@ todo opened d link =
     ∷ length (way_of link d).up
     ∷ []
 
--- the first of these numbers that changed fell
+-- the work left decreases lexicographically
 abbrev pub Fell : List ℕ → List ℕ → Type 0
 Fell [] old = ⊥
 Fell (n ∷ new) [] = ⊥
 Fell (n ∷ new) (m ∷ old) = (n < m) ⊎ ((n ≡ m) × Fell new old)
 
--- So many rounds in which something moves, and then one in which nothing does. It ends, since what is left to do falls in
--- each round that moves something.
+-- This many rounds in which something moves, and then one in which nothing does. A drain ends, since the work left
+-- decreases in each round that moves something.
 abbrev pub Drains : PlainServer → Opened → List ℕ → ℕ → Drill → Drill → Type 0
 Drains plain opened links zero old new = Moves plain opened links old new × (new.marks ≡ old.marks)
 Drains plain opened links (suc n) old new =
     (mid : Drill) × Moves plain opened links old mid × (mid.marks ≢ old.marks)
     × Fell (flat_map (todo opened mid) links) (flat_map (todo opened old) links) × Drains plain opened links n mid new
 
--- what a client answers to a call: it goes out under the next xid while credits are left
+-- the client's answer to a call: it goes out under the next xid while credits are left
 unfoldable pub answer_of : Opened → ℕ → List Mark → Submission
 answer_of opened link before =
     if nat_lt (out_of link before) (grant_of link before)
     then submissions.Accepted (opened.first_xid + length (accepted link before))
     else submissions.Refused (refusals.NoCredit (out_of link before) (grant_of link before))
 
--- a call line's call, without a credential
+-- the call of a call line, without a credential
 abbrev pub line_call : ℕ → ℕ → ℕ → List ℕ → Call
 line_call prog vers proc args = record { prog = prog; vers = vers; proc = proc; cred = creds.None; args = args }
 
--- what a line makes
+-- what a line of a script makes
 abbrev pub Makes : PlainServer → Opened → ℕ → Line → Drill → Drill → Type 0
 Makes plain opened clients (CallLine client form prog vers proc args) old new =
     new ≡ settled opened client (with_mark (marks.Submit client (line_call prog vers proc args) form (answer_of opened client old.marks)) old)
@@ -162,7 +162,7 @@ MakeAll plain opened clients [] old new = new ≡ old
 MakeAll plain opened clients (line ∷ others) old new =
     (mid : Drill) × Makes plain opened clients line old mid × MakeAll plain opened clients others mid new
 
--- a link opens: the client's hello goes up whole, the server's goes down whole
+-- a link opens: each side is fed the whole hello of the other
 abbrev pub opening : Opened → ℕ → Drill → Drill
 opening opened link d = all_down opened link (all_up opened link (settled opened link d))
 

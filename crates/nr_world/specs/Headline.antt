@@ -1,4 +1,4 @@
--- What a drill promises of its run, and of its report.
+-- What a drill promises about its run and its report.
 use Rattle.std.specs.Prelude.{◌≡◌, ℕ, ◌≤◌, List, [], map}
 use Rattle.nr_wire.specs.declared.hello.Side.TheVariants.{Initiator, Responder}
 use Rattle.nr_world.specs.declared.call.Submission.TheVariants as submissions
@@ -25,8 +25,8 @@ IsAccepted link before (marks.Submit l call form (submissions.Accepted xid)) = U
 IsAccepted link before (marks.Submit l call form (submissions.Refused why)) = l ≡ link → ⊥
 IsAccepted link before mark = Unit {0}
 
--- A link of these drills carries what its sides write and nothing else, stays, refuses no call, and ends drained: so every
--- accepted call completes.
+-- A link of these drills carries what its sides write and nothing else, stays, refuses no call, and ends drained. So
+-- every accepted call completes.
 pub record EndsDrained (link : ℕ) (run : List Mark) : Type 0 where
   pub matched : Matched link run
   pub unrefused : Along (IsAccepted link) [] run
@@ -38,14 +38,14 @@ pub record EndsDrained (link : ℕ) (run : List Mark) : Type 0 where
 abbrev pub server_of : ScriptLines → PlainServer
 server_of script = drill_server
 
--- the run is one of the script, each link of it keeps the promise, and places don't fall, whatever the links
+-- The run is one of the script, each of its links keeps the promise, and places don't decrease, whatever the links.
 pub record IsDrill (script : ScriptLines) (run : List Mark) : Type 0 where
   pub follows : Follows (server_of script) script run
   pub links : (link : ℕ) → 1 ≤ link → link ≤ script.clients → HoldsOn (server_of script) (drill_opened script.credits) link run
   pub drained : (link : ℕ) → 1 ≤ link → link ≤ script.clients → EndsDrained link run
   pub places : (l m : ℕ) → 1 ≤ l → l ≤ script.clients → 1 ≤ m → m ≤ script.clients → Matched l run → Matched m run → PlacesRise l m run
 
--- what the report says beside the marks is what the marks say
+-- The log of a link by the marks. What a report says beside its marks is what the marks say.
 abbrev pub log_of : List Mark → ℕ → LinkLog
 log_of run link = record { up = sent link Initiator run; down = sent link Responder run }
 

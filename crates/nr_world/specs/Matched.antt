@@ -1,4 +1,4 @@
--- A link loses, makes and changes nothing: what a side got is what the other sent first.
+-- A link loses, makes and changes nothing: what a side received is a prefix of what the other side sent.
 use Rattle.std.specs.Prelude.{◌≡◌, ℕ, List, [], ◌++◌}
 use Rattle.nr_world.specs.declared.mark.Mark.{Mark}
 use Rattle.nr_world.specs.declared.mark.Mark.TheVariants as marks

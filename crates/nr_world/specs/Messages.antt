@@ -1,5 +1,5 @@
--- The messages of a stream (RFC 5040 section 5): the Sends whole in it, each the payloads of its segments joined. Streams
--- are read by their frames, whatever else stands in them.
+-- The messages of a stream (RFC 5040 section 5): the Sends that are whole in it, each the payloads of its segments
+-- joined. A stream is read by its frames, whatever else they hold.
 use Rattle.std.specs.Prelude.{ℕ, Bool, true, false, ◌==◌, if◌then◌else◌, List, [], ◌∷◌, ◌++◌, drop, Option, None, Some, option_and_then, Result, Ok, Err}
 use Rattle.std.specs.List.{filter_map}
 use Rattle.nr_header.specs.declared.fault.HeaderFault.{HeaderFault}
@@ -28,7 +28,7 @@ use Rattle.nr_rpc.specs.declared.head.ReplyHead.TheVariants as replies
 use Rattle.nr_rpc.specs.Reading.{call_of, reply_of}
 use Rattle.nr_world.specs.declared.mark.Conveyed.{Conveyed}
 
--- a segment of a Send, as far as it matters for the message
+-- the part of a message that a segment of a Send has
 pub record Part : Type 0 where
   pub last : Bool
   pub payload : List ℕ
@@ -42,7 +42,8 @@ abbrev pub part_in : Result Segment ℕ → Option Part
 part_in (Ok segment) = part_by segment
 part_in (Err reason) = None
 
--- The messages of some FPDUs: what begins with these bytes ends with the last segment of its Send.
+-- The messages of some FPDUs, of which the first continues these bytes. A message ends with the last segment of its
+-- Send.
 abbrev pub joined_to : Option Part → (List ℕ → List (List ℕ)) → List ℕ → List (List ℕ)
 joined_to None others begun = others begun
 joined_to (Some part) others begun =
@@ -56,11 +57,11 @@ messages_from (frame ∷ frames) begun = joined_to (part_in (segment_of frame)) 
 unfoldable pub messages : Side → List ℕ → List (List ℕ)
 messages side stream = messages_from (drop 1 (split (HelloFrom side) stream).frames) []
 
--- its hello is whole
+-- the hello of the stream is whole
 unfoldable pub has_hello : Side → List ℕ → Bool
 has_hello side stream = is_whole (HelloFrom side) stream
 
--- its hello is whole, and none that is refused
+-- its hello is whole and isn't refused
 abbrev pub is_hello : Next Hello → Bool
 is_hello (Whole hello len) = true
 is_hello More = false
@@ -69,11 +70,12 @@ is_hello (Bad reason) = false
 unfoldable pub is_greeted : Side → List ℕ → Bool
 is_greeted side stream = is_hello (hello_in side stream)
 
--- A Send of one segment that carries a message, the msn-th of its link in that direction. (RFC 5041 section 4.3)
+-- A Send of one segment that carries a message: Send number msn of its link in that direction. (RFC 5041 section 4.3)
 unfoldable pub send : ℕ → List ℕ → List ℕ
 send msn message = encoding (Untagged true OPCODE_SEND 0 QUEUE_SEND msn 0 message)
 
--- The header of an RDMA_MSG message without lists: no read list, no write list, no reply chunk. (RFC 8166 section 4.3)
+-- The header of an RDMA_MSG message without chunk lists: no read list, no write list, no reply chunk. (RFC 8166 section
+-- 4.3)
 abbrev pub no_lists : ChunkLists
 no_lists = record { read = []; write = []; reply = None }
 
@@ -94,7 +96,7 @@ xid_in message = word_at 0 message
 abbrev pub credit_in : List ℕ → ℕ
 credit_in message = word_at 8 message
 
--- where the payload begins, in a message of RDMA_MSG with three empty lists
+-- the place of the payload in an RDMA_MSG message with three empty lists
 abbrev pub behind_lists : List ReadSegment → List (List RdmaSegment) → Option (List RdmaSegment) → ℕ → Option ℕ
 behind_lists [] [] None at = Some at
 behind_lists read write reply at = None
@@ -113,7 +115,7 @@ abbrev pub by_header : List ℕ → Result Header HeaderFault → Option Conveye
 by_header message (Ok header) = from_place header.xid message (payload_at header.body)
 by_header message (Err fault) = None
 
--- the payload of a message without lists, under its header's xid
+-- the payload of a message without chunk lists, with the xid of its header
 unfoldable pub inline_in : List ℕ → Option Conveyed
 inline_in message = by_header message (header_of message)
 
@@ -129,18 +131,18 @@ reply_xid (Ok (replies.RpcMismatch xid low high)) = Some xid
 reply_xid (Ok (replies.AuthError xid stat)) = Some xid
 reply_xid (Err at) = None
 
--- where the head's xid is the header's
+-- the same, where the head has that xid too
 abbrev pub under_xid : Option ℕ → Conveyed → Option Conveyed
 under_xid None carried = None
 under_xid (Some own) carried = if own == carried.xid then Some carried else None
 
--- The call and the reply that a message conveys. Messages with lists come with the calls that need them.
+-- The call and the reply that a message conveys. Messages with chunk lists convey none here.
 unfoldable pub call_in : List ℕ → Option Conveyed
 call_in message = option_and_then (λ carried. under_xid (call_xid (call_of carried.payload)) carried) (inline_in message)
 
 unfoldable pub reply_in : List ℕ → Option Conveyed
 reply_in message = option_and_then (λ carried. under_xid (reply_xid (reply_of carried.payload)) carried) (inline_in message)
 
--- all calls that an initiator's stream conveys, and all replies that a responder's does, in order
+-- all calls that the stream of an initiator conveys, and all replies that the stream of a responder conveys, in order
 abbrev pub conveyed : (List ℕ → Option Conveyed) → List (List ℕ) → List Conveyed
 conveyed read whole = filter_map read whole

@@ -1,5 +1,5 @@
--- What the marks of a run tell: what each side of a link sent and got, which calls were accepted, executed and
--- completed on it, in order, and the one journal of all links.
+-- What follows from the marks of a run: the bytes that each side of a link sent and got, the calls that were accepted,
+-- executed and completed on it, in order, and the one journal of all links.
 use Rattle.std.specs.Prelude.{ℕ, Bool, true, false, ◌==◌, ◌&&◌, if◌then◌else◌, List, [], ◌∷◌}
 use Rattle.std.specs.List.{flat_map, list_any, range_with_len}
 use Rattle.nr_wire.specs.declared.hello.Side.{Side}
@@ -14,7 +14,7 @@ use Rattle.nr_world.specs.declared.mark.Mark.{Mark}
 use Rattle.nr_world.specs.declared.mark.Entry.{Entry}
 use Rattle.nr_world.specs.declared.mark.Mark.TheVariants as marks
 
--- the links of so many clients, by number
+-- the links of this many clients, by number
 abbrev pub links_of : ℕ → List ℕ
 links_of clients = range_with_len 1 clients
 
@@ -97,7 +97,7 @@ drops link mark = false
 abbrev pub is_dropped : ℕ → List Mark → Bool
 is_dropped link run = list_any (drops link) run
 
--- the caller gave a call's answer up, or took its memory back
+-- the caller gave the answer to a call up, or took its memory back
 abbrev pub gives_up : ℕ → ℕ → Mark → Bool
 gives_up link xid (marks.Forget l x) = l == link && x == xid
 gives_up link xid (marks.Revoke l x bytes) = l == link && x == xid
@@ -106,8 +106,8 @@ gives_up link xid mark = false
 abbrev pub is_given_up : ℕ → ℕ → List Mark → Bool
 is_given_up link xid run = list_any (gives_up link xid) run
 
--- A plain RPC server, one call after another: which reply it may give to a payload at a moment, over a journal, and what
--- the journal gets by that.
+-- A plain RPC server that takes one call after another: which reply it may give to a payload at a moment, over a
+-- journal, and the entries that it then adds.
 pub record PlainServer : Type 1 where
   pub Replies : List Entry → Moment → List ℕ → List ℕ → Type 0
   pub adds : Moment → List ℕ → List ℕ → List Entry

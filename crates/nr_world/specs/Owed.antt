@@ -1,4 +1,4 @@
--- What a side of a link has to write: what each mark calls for, in order.
+-- What a side of a link has to write: the output that is due for each mark, in order.
 use Rattle.std.specs.Prelude.{◌≡◌, ℕ, ◌+◌, not, ◌==◌, ◌&&◌, if◌then◌else◌, List, [], ◌∷◌, ◌++◌, length}
 use Rattle.nr_wire.specs.declared.hello.Side.{Side}
 use Rattle.nr_wire.specs.declared.hello.Side.TheVariants.{Initiator, Responder}
@@ -20,12 +20,12 @@ use Rattle.nr_world.specs.Messages.{has_hello, is_greeted, send, inline_message}
 unfoldable pub own_hello : Side → List ℕ
 own_hello side = hello_encoding (record { side = side; flags = 0; private = [] })
 
--- the hello of a server that takes none of the link: the connection is refused
+-- the hello by which a server rejects a connection (RFC 5044 section 7.1)
 unfoldable pub refusing_hello : List ℕ
 refusing_hello = hello_encoding (record { side = Responder; flags = FLAG_REJECT; private = [] })
 
--- What a server answers to a hello: its own; its refusal, where the client asks for markers or a CRC; and nothing to what is
--- no hello of this kind. (RFC 5044 section 7.1; when a refusal is answered is own)
+-- The server's answer to a hello: its own hello; its refusal, where the client asks for markers or a CRC; and nothing
+-- to any other hello that is refused. (RFC 5044 section 7.1; when a refusal is answered is own)
 abbrev pub answer_to : Next Hello → List ℕ
 answer_to (Whole hello len) = own_hello Responder
 answer_to More = []
@@ -35,8 +35,8 @@ answer_to (Bad reason) = if reason == REASON_FLAGS then refusing_hello else []
 unfoldable pub call_payload : ℕ → Call → List ℕ
 call_payload xid call = call_encoding (Version2 xid call.prog call.vers call.proc call.cred 0) call.args
 
--- the Sends of some accepted calls, the first of which is the msn-th of its link. Calls that go without lists are those
--- that there are by now; the others come with their plans.
+-- The Sends of some accepted calls, the first of which is Send number msn of the link. These calls go without chunk
+-- lists.
 abbrev pub asking : Opened → ℕ → Accepted → List ℕ
 asking opened msn a = send msn (inline_message a.xid opened.wished (call_payload a.xid a.call))
 
@@ -44,7 +44,7 @@ abbrev pub asking_each : Opened → ℕ → List Accepted → List ℕ
 asking_each opened msn [] = []
 asking_each opened msn (a ∷ others) = asking opened msn a ++ asking_each opened (msn + 1) others
 
--- What a mark calls for at the client: a Send of each call that it accepts, once the server's hello is there. (RFC 5044
+-- The client's output for a mark: a Send of each call that it accepts, once it has the server's hello. (RFC 5044
 -- section 7.1)
 abbrev pub called_client : Opened → ℕ → List Mark → Mark → List ℕ
 called_client opened link before (marks.Submit l call form (submissions.Accepted xid)) =
@@ -55,11 +55,11 @@ called_client opened link before (marks.Fed l Initiator bytes) =
     then asking_each opened 1 (accepted link before) else []
 called_client opened link before mark = []
 
--- how many messages a server answered by so far: a reply to each call that it executed
+-- how many messages a server has sent: a reply to each call that it executed
 abbrev pub answered : ℕ → List Mark → ℕ
 answered link run = length (executed link run)
 
--- What a mark calls for at the server: its answer to the client's hello once that is whole, and a Send of each reply.
+-- The server's output for a mark: its answer to the client's hello once that is whole, and a Send of each reply.
 abbrev pub called_server : Opened → ℕ → List Mark → Mark → List ℕ
 called_server opened link before (marks.Fed l Responder bytes) =
     if l == link && (not (has_hello Initiator (got link Responder before)) && has_hello Initiator (got link Responder before ++ bytes))
@@ -68,16 +68,16 @@ called_server opened link before (marks.Execute l xid moment payload place reply
     if l == link then send (answered link before + 1) (inline_message xid opened.granted reply) else []
 called_server opened link before mark = []
 
--- all that the marks call for, one after another
+-- the output for all marks, joined
 abbrev pub called_from : (List Mark → Mark → List ℕ) → List Mark → List Mark → List ℕ
 called_from called before [] = []
 called_from called before (mark ∷ run) = called before mark ++ called_from called (before ++ mark ∷ []) run
 
--- All that a side has to write by these marks. The client begins with its hello.
+-- All output of a side by these marks. The client begins with its hello.
 unfoldable pub owed : Opened → ℕ → Side → List Mark → List ℕ
 owed opened link Initiator run = own_hello Initiator ++ called_from (called_client opened link) [] run
 owed opened link Responder run = called_from (called_server opened link) [] run
 
--- a side wrote everything that it has to write
+-- a side wrote all of its output
 abbrev pub HasWritten : Opened → ℕ → Side → List Mark → Type 0
 HasWritten opened link side run = sent link side run ≡ owed opened link side run

@@ -3,8 +3,8 @@ use Rattle.std.specs.Prelude.{◌≡◌, ◌≢◌, ℕ, ◌≤◌, List, ◌++�
 use Rattle.nr_world.specs.declared.mark.Mark.{Mark}
 use Rattle.nr_world.specs.Observed.{Accepted, Executed, Completed, accepted, executed, completed}
 
--- one call was submitted after another was completed: there is a moment of the run at which the other has its outcome, and
--- the call isn't submitted yet
+-- One call was submitted after another was completed: at some moment of the run the other has its outcome, and the call
+-- isn't submitted yet.
 pub record IsLater (run : List Mark) (link xid later_link later_xid : ℕ) : Type 0 where
   pub before : List Mark
   pub after : List Mark
@@ -12,6 +12,6 @@ pub record IsLater (run : List Mark) (link xid later_link later_xid : ℕ) : Typ
   pub is_done : (c : Completed) × Contains (completed link before) c × (c.xid ≡ xid)
   pub is_new : (a : Accepted) → Contains (accepted later_link before) a → a.xid ≢ later_xid
 
--- a call that was submitted after another was completed has a place that is not smaller
+-- a call that was submitted after another was completed has no smaller place
 abbrev pub PlacesRise : ℕ → ℕ → List Mark → Type 0
 PlacesRise link later_link run = (e f : Executed) → Contains (executed link run) e → Contains (executed later_link run) f → IsLater run link e.xid later_link f.xid → e.place ≤ f.place

@@ -1,5 +1,5 @@
--- The plain server: what a serial RPC server replies (RFC 5531 section 9, RFC 1813 section 3). The procedures come one by
--- one; by now there is NULL of NFS version 3, called without a credential.
+-- The plain server: what a serial RPC server replies (RFC 5531 section 9, RFC 1813 section 3). Today it has one
+-- procedure, NULL of NFS version 3, called without a credential.
 use Rattle.std.specs.Prelude.{◌≡◌, ℕ, ◌==◌, ◌&&◌, Bool, if◌then◌else◌, List, [], length, Option, None, Some, Result, Ok, Err}
 use Rattle.nr_rpc.specs.declared.cred.Cred.TheVariants as creds
 use Rattle.nr_rpc.specs.declared.head.CallHead.{CallHead}
@@ -27,7 +27,7 @@ success = 0
 abbrev pub null_reply : ℕ → List ℕ
 null_reply xid = reply_encoding (Accepted xid success 0) []
 
--- a call of NULL without arguments: these begin at the payload's end
+-- a NULL call without arguments: the arguments begin at the end of the payload
 abbrev pub is_null : ℕ → ℕ → ℕ → Bool
 is_null prog vers proc = prog == nfs_program && vers == nfs_version && proc == null_procedure
 
@@ -39,10 +39,10 @@ reply_to (Ok (calls.Version2 xid prog vers proc (creds.Other flavor) args_at)) l
 reply_to (Ok (calls.Other xid rpcvers)) len = None
 reply_to (Err at) len = None
 
--- the reply to a payload, where its procedure is there by now
+-- the reply to a payload, where the server has its procedure
 unfoldable pub plain_reply : List ℕ → Option (List ℕ)
 plain_reply payload = reply_to (call_of payload) (length payload)
 
--- NULL changes nothing, so no journal and no moment matters to it, and it adds no entry
+-- The reply to NULL depends on no journal and no moment, and NULL adds no entry.
 abbrev pub drill_server : PlainServer
 drill_server = record { Replies = λ entries moment payload reply. plain_reply payload ≡ Some reply; adds = λ moment payload reply. [] }

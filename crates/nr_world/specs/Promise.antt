@@ -1,4 +1,4 @@
--- What is promised of one link of a run, whatever made its marks.
+-- What is promised of one link of a run. It holds whatever made the marks.
 use Rattle.std.specs.Prelude.{ℕ, List}
 use Rattle.nr_world.specs.declared.mark.Mark.{Mark}
 use Rattle.nr_world.specs.declared.mark.Opened.{Opened}
@@ -10,8 +10,8 @@ use Rattle.nr_world.specs.Matched.{Matched}
 use Rattle.nr_world.specs.Completion.{IsFaithful, IsComplete}
 use Rattle.nr_world.specs.Staying.{IsSettled, IsHandedOver}
 
--- What holds of one link: of a matched one, that each completed call has its reply; of one that stays until nothing is under
--- way and all is handed over, that each accepted call completes.
+-- What holds of one link. On a matched link each completed call has its reply. Where nothing is under way and all
+-- outcomes are handed over, each accepted call completes.
 pub record HoldsOn (plain : PlainServer) (opened : Opened) (link : ℕ) (run : List Mark) : Type 0 where
   pub asked : Asked opened link run
   pub served : Served plain opened link run

@@ -1,4 +1,4 @@
--- The text of a script, and what it says. Lines end with a newline each.
+-- The text of a script, and what it says. Each line ends with a newline.
 use Rattle.std.specs.Prelude.{◌≡◌, ℕ, zero, suc, ◌+◌, Bool, true, false, not, ◌==◌, if◌then◌else◌, List, [], ◌∷◌, ◌++◌, codes, find, Option, None, Some, Result, Ok, Err}
 use Rattle.std.specs.Fmt.{decimal}
 use Rattle.std.specs.Str.{bytes_eq}
@@ -15,15 +15,15 @@ pub data Line : Type 0 where
   Call : (client : ℕ) → (form : Form) → (prog vers proc : ℕ) → (args : List ℕ) → Line
   Drain : Line
 
--- a script: how many clients there are, the credits that both ends of each link are opened with, what the journal may cost,
--- and the lines behind that
+-- a script: the number of clients, the credits with which both ends of each link are opened, the bytes that the journal
+-- may cost, and the lines
 pub record ScriptLines : Type 0 where
   pub clients : ℕ
   pub credits : ℕ
   pub capacity : ℕ
   pub lines : List Line
 
--- a text cut at its newlines: the lines, and what stands behind the last newline
+-- a text cut at its newlines: the lines, and the text behind the last newline
 pub record Cut : Type 0 where
   pub lines : List (List ℕ)
   pub rest : List ℕ
@@ -42,7 +42,7 @@ abbrev pub cut : List ℕ → Cut
 cut [] = record { lines = []; rest = [] }
 cut (b ∷ text) = if b == newline then line_onto [] (cut text) else byte_onto b (cut text).lines (cut text).rest
 
--- the first line, the call line and the drain line that there are by now
+-- the first line, the call line and the drain line of today's scripts
 unfoldable pub clients_line : ℕ → List ℕ
 clients_line credits = codes "clients 1 credits " ++ decimal credits
 
@@ -52,16 +52,16 @@ call_line = codes "call 1 auto nfs 0 -"
 unfoldable pub drain_line : List ℕ
 drain_line = codes "drain"
 
--- what the lines say
+-- what a call line says
 abbrev pub null_call : Line
 null_call = Call 1 Auto nfs_program nfs_version null_procedure []
 
--- so many calls, each drained before the next
+-- this many calls, each drained before the next
 abbrev pub turns : ℕ → List Line
 turns zero = []
 turns (suc n) = null_call ∷ Drain ∷ turns n
 
--- a call line and a drain line follow one another, a call line first
+-- call lines and drain lines alternate, a call line first
 abbrev pub turn_text : Bool → List ℕ
 turn_text false = call_line
 turn_text true = drain_line
@@ -70,8 +70,8 @@ abbrev pub turn : Bool → Line
 turn false = null_call
 turn true = Drain
 
--- the lines from this one on, where a drain line is due or isn't: what they say, or the number of the first bad one. A
--- text that ends inside a line, or where a drain line is due, is bad behind its last newline.
+-- The lines from this one on, where a drain line is due or a call line is: what they say, or the number of the first
+-- invalid one. A text that ends inside a line, or where a drain line is due, is invalid behind its last newline.
 abbrev pub turn_onto : Line → Result (List Line) ℕ → Result (List Line) ℕ
 turn_onto line (Ok others) = Ok (line ∷ others)
 turn_onto line (Err number) = Err number
@@ -86,7 +86,7 @@ turns_in [] rest number due = ends_at number due rest
 turns_in (text ∷ others) rest number due =
     if bytes_eq text (turn_text due) then turn_onto (turn due) (turns_in others rest (number + 1) (not due)) else Err number
 
--- the credits of a first line: from 1 to the most
+-- the credits of a first line, from 1 to the maximum
 unfoldable pub credits_in : List ℕ → Option ℕ
 credits_in text = find (λ credits. bytes_eq text (clients_line credits)) (range_with_len 1 most_credits)
 
@@ -99,11 +99,11 @@ abbrev pub script_by : List (List ℕ) → List ℕ → Result ScriptLines ℕ
 script_by [] rest = Err 1
 script_by (text ∷ others) rest = script_with (credits_in text) (turns_in others rest 2 false)
 
--- what a text says as a script, or the number of its first bad line
+-- what a text says as a script, or the number of its first invalid line
 unfoldable pub script_of : List ℕ → Result ScriptLines ℕ
 script_of text = script_by (cut text).lines (cut text).rest
 
--- what reading answered is what the text says, or its first bad line; memory may run out
+-- The answer of reading is what the text says, or its first invalid line. Memory may run out.
 abbrev pub GivesScript : Result ScriptLines ScriptFault → Result ScriptLines ℕ → Type 0
 GivesScript (Ok script) read = read ≡ Ok script
 GivesScript (Err (faults.BadLine line)) read = read ≡ Err line

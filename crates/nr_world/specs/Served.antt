@@ -11,21 +11,21 @@ use Rattle.nr_world.specs.Messages.{conveyed, messages, call_in}
 use Rattle.nr_world.specs.Owed.{owed, HasWritten}
 use Rattle.nr_world.specs.Along.{Along}
 
--- the calls that came whole to the server of a link, in order
+-- the calls that the server of a link received whole, in order
 abbrev pub came : ℕ → List Mark → List Conveyed
 came link run = conveyed call_in (messages Initiator (got link Responder run))
 
--- the first call that came whole and isn't executed
+-- the first received call that isn't executed
 unfoldable pub next_call : ℕ → List Mark → Option Conveyed
 next_call link run = slice_get (came link run) (length (executed link run))
 
--- It is executed at the journal's end, and answered as the plain server answers there.
+-- A call is executed at the journal's end, and answered as the plain server answers there.
 pub record Executes (plain : PlainServer) (link : ℕ) (before : List Mark) (xid : ℕ) (moment : Moment) (payload : List ℕ) (place : ℕ) (reply : List ℕ) : Type 0 where
   pub is_next : next_call link before ≡ Some (record { xid = xid; payload = payload })
   pub placed : place ≡ length (journal plain before)
   pub replied : plain.Replies (journal plain before) moment payload reply
 
--- calls are executed in the order in which they came whole, none twice and none passed over
+-- Calls are executed in the order in which they were received, none twice and none passed over.
 abbrev pub ServedMark : PlainServer → Opened → ℕ → List Mark → Mark → Type 0
 ServedMark plain opened link before (marks.Execute l xid moment payload place reply) =
     l ≡ link → Executes plain link before xid moment payload place reply

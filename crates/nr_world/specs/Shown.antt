@@ -1,5 +1,5 @@
--- What is printed of a run: a line for each call line, one for each link that was dropped and each side that ended, and the
--- journal's length.
+-- What is printed of a run: a line for each call line, a line for each link that was dropped and each side that ended,
+-- and the journal's length.
 use Rattle.std.specs.Prelude.{ℕ, ◌+◌, Bool, true, false, ◌==◌, ◌&&◌, ◌||◌, if◌then◌else◌, List, [], ◌∷◌, ◌++◌, length, codes, fold, Option, None, Some, is_some}
 use Rattle.std.specs.Fmt.{decimal}
 use Rattle.std.specs.List.{flat_map}
@@ -27,7 +27,8 @@ use Rattle.nr_world.specs.declared.report.CallReport.{CallReport}
 use Rattle.nr_world.specs.Observed.{PlainServer, Executed, added, executed, journal, is_dropped, links_of}
 use Rattle.nr_world.specs.Stops.{Stops}
 
--- what the marks so far say of one call: the journal's length, the place of its last execution, and what became of it
+-- what the marks so far say of one call: the journal's length, the place of the call's last execution, and what became
+-- of it
 pub record Seen : Type 0 where
   pub entries : ℕ
   pub place : Option ℕ
@@ -41,15 +42,15 @@ is_out call_states.Forgotten = false
 is_out (call_states.Revoked bytes) = false
 is_out (call_states.Refused why) = false
 
--- a reply has a place: that of its execution, or else the journal's length; an error of chunks has that of its execution,
--- where there was one, and one of versions has none
+-- A reply has the place of its execution, or else the journal's length. An ERR_CHUNK has the place of its execution,
+-- where there was one. An ERR_VERS has none.
 abbrev pub place_for : Outcome → ℕ → Option ℕ → Option ℕ
 place_for (outcomes.Reply payload) entries None = Some entries
 place_for (outcomes.Reply payload) entries (Some place) = Some place
 place_for outcomes.Chunk entries place = place
 place_for (outcomes.Version low high) entries place = None
 
--- a mark that says something of the call; of a call that is no longer out, nothing more is told
+-- After a mark that says something of the call. Once the call is no longer out, nothing changes.
 abbrev pub report_by : ℕ → ℕ → Seen → Mark → Seen
 report_by link xid seen (marks.Execute l x moment payload place reply) = if l == link && x == xid then record seen { place = Some place } else seen
 report_by link xid seen (marks.Done l x outcome) =
@@ -77,11 +78,11 @@ last_place xid calls = fold (λ place e. if e.xid == xid then Some e.place else 
 abbrev pub seen_first : PlainServer → ℕ → ℕ → List Mark → Seen
 seen_first plain link xid before = record { entries = length (journal plain before); place = last_place xid (executed link before); state = call_states.Out }
 
--- to a call that is out no answer comes on a link that is gone
+-- a call that is out gets no answer on a link that is gone
 abbrev pub at_last : Bool → CallState → CallState
 at_last gone state = if gone && is_out state then call_states.Lost else state
 
--- what became of a call line, by the marks before it and after it
+-- what became of a call, by the marks before its Submit and those after it
 abbrev pub call_state_of : PlainServer → Bool → ℕ → Submission → List Mark → List Mark → CallState
 call_state_of plain gone link (submissions.Accepted xid) before after = at_last gone (seen_of plain link xid (seen_first plain link xid before) after).state
 call_state_of plain gone link (submissions.Refused why) before after = call_states.Refused why
@@ -94,7 +95,7 @@ asked_at link mark = 0
 unfoldable pub asked_by : ℕ → List Mark → ℕ
 asked_by link run = fold (λ n mark. n + asked_at link mark) 0 run
 
--- each call line of a run with what became of it, in order
+-- each call line of a run with what became of its call, in order
 abbrev pub report_at : PlainServer → (ℕ → Bool) → List Mark → Mark → List Mark → List CallReport
 report_at plain gone before (marks.Submit l call form answer) after =
     record { client = l; number = asked_by l before + 1; state = call_state_of plain (gone l) l answer before after } ∷ []
@@ -124,12 +125,12 @@ link_report stops run link =
 unfoldable pub link_reports : Stops → ℕ → List Mark → List LinkReport
 link_reports stops clients run = flat_map (link_report stops run) (links_of clients)
 
--- the words behind a call line's client and number
+-- the text behind the client and the number of a call line
 abbrev pub placed_text : Option ℕ → List ℕ
 placed_text None = []
 placed_text (Some place) = codes " place " ++ decimal place
 
--- two numbers with a space between
+-- two numbers with a space between them
 unfoldable pub two_numbers : ℕ → ℕ → List ℕ
 two_numbers first second = decimal first ++ codes " " ++ decimal second
 
@@ -138,7 +139,7 @@ outcome_text (outcomes.Reply payload) = codes " reply " ++ encode_lower payload
 outcome_text outcomes.Chunk = codes " chunk"
 outcome_text (outcomes.Version low high) = codes " version " ++ two_numbers low high
 
--- the bytes of a revoked call's memory, which may be none
+-- the bytes of the memory of a revoked call, of which there may be none
 abbrev pub bytes_text : List ℕ → List ℕ
 bytes_text [] = codes "-"
 bytes_text (b ∷ bytes) = encode_lower (b ∷ bytes)
@@ -188,7 +189,7 @@ link_text t = codes "link " ++ decimal t.client ++ link_state_text t.state ++ co
 unfoldable pub journal_text : ℕ → List ℕ
 journal_text len = codes "journal " ++ decimal len ++ codes "\n"
 
--- the printed bytes: of call lines, links and a journal's length, and of a run of so many clients
+-- the printed bytes of call lines, links and a journal's length, and those of a run of this many clients
 unfoldable pub text_of : List CallReport → List LinkReport → ℕ → List ℕ
 text_of calls links len = flat_map call_report_text calls ++ (flat_map link_text links ++ journal_text len)
 

@@ -1,5 +1,5 @@
--- What the driver of a drill keeps: how far its one link is. The calls go out one by one under the xids from 1 on, and at
--- most one of them is out.
+-- The invariant of a drill's driver: how far its one link is. The calls go out one by one under the xids from 1 on, and
+-- at most one of them is out. This file describes the driver's code.
 use Rattle.std.specs.Prelude.{◌≡◌, ℕ, zero, suc, ◌+◌, ◌≤◌, nat_lt, nat_le, ◌&&◌, Bool, false, if◌then◌else◌, List, [], ◌∷◌, ◌++◌, length, Option, None, Some}
 use Rattle.nr_outside.specs.Pipe.{waiting_bytes}
 use Rattle.nr_wire.specs.declared.hello.Side.TheVariants.{Initiator, Responder}
@@ -26,7 +26,7 @@ use Rattle.nr_world.specs.Shown.{Seen, seen_of, report_at, asked_by}
 use Rattle.nr_world.specs.Headline.{IsAccepted}
 use Rattle.nr_world.specs.Script.{null_call, turns}
 
--- f of 1 to n, joined and as a list
+-- f of 1 to n, joined, and as a list
 abbrev pub joined : (ℕ → List ℕ) → ℕ → List ℕ
 joined f zero = []
 joined f (suc n) = joined f n ++ f (suc n)
@@ -54,8 +54,8 @@ completed_call k = record { xid = k; outcome = outcomes.Reply (null_reply k) }
 abbrev pub report_call : ℕ → CallReport
 report_call k = record { client = the_link; number = k; state = call_states.Answered (Some 0) (outcomes.Reply (null_reply k)) }
 
--- How many calls were accepted, and their Sends written; came to the server whole, were executed, and their replies
--- written; came to the client, and were handed over.
+-- How many calls were accepted, and how many of their Sends were written; how many calls the server received and
+-- executed, and how many replies it wrote; how many replies the client received, and how many it handed over.
 pub record Counts : Type 0 where
   pub asked : ℕ
   pub sent_up : ℕ
@@ -76,11 +76,11 @@ seen_by n k = record {
   state = if is_one_of n.done k then call_states.Answered (Some 0) (outcomes.Reply (null_reply k)) else call_states.Out;
 }
 
--- nothing is known of a call
+-- a call of which nothing is known
 abbrev pub nothing_seen : Seen
 nothing_seen = record { entries = 0; place = None; state = call_states.Out }
 
--- the k-th call line, and what becomes of its call in a run
+-- call line number k, and what becomes of its call in a run
 abbrev pub report_in : List Mark → ℕ → CallReport
 report_in last k = record { client = the_link; number = k; state = (seen_of drill_server the_link k nothing_seen last).state }
 
@@ -110,7 +110,7 @@ pub record At (credits : ℕ) (run : List Mark) (n : Counts) : Type 0 where
   pub report_are : (rest : List Mark) → report_over [] run rest ≡ each (report_in (run ++ rest)) n.asked
   pub seen_are : (k : ℕ) → seen_of drill_server the_link k nothing_seen run ≡ seen_by n k
 
--- the laws of a run hold of the marks so far
+-- the laws of a run hold for the marks so far
 pub record Laws (credits : ℕ) (run : List Mark) : Type 0 where
   pub asked : Along (AskedMark (drill_opened credits) the_link) [] run
   pub served : Along (ServedMark drill_server (drill_opened credits) the_link) [] run
@@ -119,7 +119,7 @@ pub record Laws (credits : ℕ) (run : List Mark) : Type 0 where
   pub faithful : IsFaithful drill_server the_link run
   pub unrefused : Along (IsAccepted the_link) [] run
 
--- the call that came whole and isn't executed
+-- the number of calls that were received and aren't executed
 abbrev pub arrived_one : Option Conveyed → ℕ
 arrived_one None = 0
 arrived_one (Some call) = 1
@@ -155,7 +155,7 @@ pub record Stands (s : State) : Type 0 where
   pub few_credits : s.credits ≤ most_credits
   pub few_calls : s.asked ≤ most_lines
 
--- nothing is out
+-- no call is out
 abbrev pub IsQuiet : State → Type 0
 IsQuiet s = s.asked ≡ length s.reports
 
@@ -163,7 +163,7 @@ IsQuiet s = s.asked ≡ length s.reports
 abbrev pub drill_of : State → Drill
 drill_of s = record { marks = s.marks; ways = record { up = waiting_bytes s.up; down = waiting_bytes s.down } ∷ []; seconds = 0 }
 
--- What one round of a drain makes of the driver: all up, all work, all down. It moves something exactly where a call was
+-- How one round of a drain changes the driver: all up, all work, all down. It moves something exactly where a call was
 -- out, and leaves none out.
 pub record Round (old new : State) (moved : Bool) : Type 0 where
   pub stands : Stands new
@@ -174,7 +174,7 @@ pub record Round (old new : State) (moved : Bool) : Type 0 where
   pub moved_is : moved ≡ nat_lt (length old.reports) old.asked
   pub still : old.asked ≡ length old.reports → new ≡ old
 
--- what a drain makes of it
+-- how a drain changes it
 pub record Drained (old new : State) : Type 0 where
   pub stands : Stands new
   pub asked_is : new.asked ≡ old.asked
@@ -183,14 +183,14 @@ pub record Drained (old new : State) : Type 0 where
   pub rounds : ℕ
   pub drains : Drains drill_server (drill_opened old.credits) (links_of 1) rounds (drill_of old) (drill_of new)
 
--- what a call line makes of it
+-- how a call line changes it
 pub record Called (old new : State) : Type 0 where
   pub stands : Stands new
   pub asked_is : new.asked ≡ old.asked + 1
   pub credits_are : new.credits ≡ old.credits
   pub makes : Makes drill_server (drill_opened old.credits) 1 null_call (drill_of old) (drill_of new)
 
--- the driver after so many calls, each drained
+-- the driver after this many calls, each drained
 pub record Played (credits calls : ℕ) (s : State) : Type 0 where
   pub stands : Stands s
   pub quiet : IsQuiet s
@@ -198,7 +198,7 @@ pub record Played (credits calls : ℕ) (s : State) : Type 0 where
   pub credits_are : s.credits ≡ credits
   pub makes : MakeAll drill_server (drill_opened credits) 1 (turns calls) (openings (drill_opened credits) (links_of 1) (start 1)) (drill_of s)
 
--- the report of a driver as it stands
+-- the report that a driver makes as it stands
 pub record Tells (s : State) (report : Report) : Type 0 where
   pub marks_are : report.marks ≡ s.marks
   pub entries_are : length report.journal ≡ s.entries

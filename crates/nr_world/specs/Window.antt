@@ -15,22 +15,22 @@ use Rattle.nr_world.specs.Along.{Along}
 abbrev pub has_words : List ℕ → Bool
 has_words message = not (nat_lt (length message) FIXED_LEN)
 
--- the messages that the client of a link got whole, those without these words apart
+-- the messages that the client of a link received, without those that are shorter
 abbrev pub heard : ℕ → List Mark → List (List ℕ)
 heard link run = filter has_words (messages Responder (got link Initiator run))
 
 abbrev pub is_heard : List (List ℕ) → Accepted → Bool
 is_heard whole a = list_any (λ message. xid_in message == a.xid) whole
 
--- how many accepted calls have no message of their xid whole yet
+-- how many accepted calls have no whole message of their xid yet
 unfoldable pub out_of : ℕ → List Mark → ℕ
 out_of link run = count_by (λ a. not (is_heard (heard link run) a)) (accepted link run)
 
--- a credit word as it counts: 0 as 1, and one above the most as the most
+-- the credits of a credit word: 0 counts as 1, and more than the maximum as the maximum
 abbrev pub credits_by : ℕ → ℕ
 credits_by credit = if credit == 0 then 1 else (if nat_lt most_credits credit then most_credits else credit)
 
--- what the last of the messages grants; before the first, 1
+-- what the last of the messages grants, and 1 before the first
 abbrev pub granted_by : List (List ℕ) → ℕ → ℕ
 granted_by [] granted = granted
 granted_by (message ∷ others) granted = granted_by others (credits_by (credit_in message))

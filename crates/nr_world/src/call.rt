@@ -1,10 +1,10 @@
-//! Calls, how they are sent, and what becomes of them: plain data.
+//! Calls, how they are sent, and what became of them: plain data.
 
 use crate::sequence::Sequence;
 use nr_rpc::Cred;
 use nr_xdr::Octets;
 
-/// A call of a program (RFC 5531 section 9), with its arguments as they are encoded.
+/// A call of a program (RFC 5531 section 9), with its encoded arguments.
 #[derive(Debug, Drop)]
 pub struct Call {
     pub prog: u32,
@@ -14,8 +14,8 @@ pub struct Call {
     pub args: Octets,
 }
 
-/// How a call is to be sent (RFC 8166 section 3.5): as fits it best, wholly inline, with its item in a chunk, wholly in a
-/// chunk, or with an offer that is given, right or wrong.
+/// How a call is to be sent (RFC 8166 section 3.5): as fits it best, wholly inline, with its item in a chunk, wholly in
+/// a chunk, or with a given offer, right or wrong.
 #[derive(Debug, Drop)]
 pub enum Form {
     Auto,
@@ -25,7 +25,7 @@ pub enum Form {
     Given(Offer),
 }
 
-/// The lengths, in bytes, of the segments of an offer. A list that is absent isn't offered.
+/// The lengths, in bytes, of the segments of an offer. An absent list isn't offered.
 #[derive(Debug, Drop)]
 pub struct Offer {
     pub read_at: u32,
@@ -37,7 +37,7 @@ pub struct Offer {
 /// A list of lengths in bytes.
 pub type Lengths = Sequence<u32>;
 
-/// What a call was answered by: the reply's payload, an ERR_CHUNK or an ERR_VERS message (RFC 8166 section 4.5).
+/// The answer to a call: the reply's payload, an ERR_CHUNK or an ERR_VERS message (RFC 8166 section 4.5).
 #[derive(Debug, Drop)]
 pub enum Outcome {
     Reply(Octets),
@@ -48,9 +48,9 @@ pub enum Outcome {
 /// Why a side of a link takes no more input.
 #[derive(Clone, Copy, Debug, PartialEq, Eq)]
 pub enum End {
-    /// The hello or FPDU at byte `at` of the stream is refused, for a reason of the link's table.
+    /// The hello or FPDU at byte `at` of the stream is refused, for a reason of the link.
     Bad { at: u64, reason: u32 },
-    /// A tagged segment reaches memory that it may not reach.
+    /// A tagged segment accesses memory that it may not access.
     Denied { stag: u32, offset: u64, why: Lack },
     /// A Send found no receive buffer.
     NoBuffer { msn: u32 },
@@ -60,7 +60,7 @@ pub enum End {
     Memory,
 }
 
-/// What an access to registered memory lacks: a live STag, room, or the right.
+/// Why an access to registered memory is denied: no live STag, out of bounds, or another right.
 #[derive(Clone, Copy, Debug, PartialEq, Eq)]
 pub enum Lack {
     NoStag,
@@ -73,9 +73,9 @@ pub enum Lack {
 pub enum Refused {
     /// The link has ended.
     Ended(End),
-    /// It needs this many bytes where there is room for fewer.
+    /// It needs this many bytes, and there is room for fewer.
     TooLarge { need: u64, room: u32 },
-    /// As many calls are out as the peer grants.
+    /// As many calls are outstanding as the peer grants.
     NoCredit { out: u32, grant: u32 },
     /// Fewer xids or STags are left than it needs.
     Spent { left: u64, need: u64 },
@@ -83,7 +83,7 @@ pub enum Refused {
     Memory,
 }
 
-/// What a requester answers to a call: it goes out under this xid, or it is refused.
+/// The answer of a client to a call: it goes out under this xid, or it is refused.
 #[derive(Clone, Copy, Debug, PartialEq, Eq)]
 pub enum Submission {
     Accepted { xid: u32 },

@@ -1,4 +1,4 @@
-//! Laws of runs, whatever made their marks.
+//! Laws of runs. They hold whatever made the marks.
 
 ghost use Rattle.std.specs.Prelude.{◌≡◌, ℕ, List};
 ghost use Rattle.nr_world.specs.declared.mark.Entry.{Entry};
@@ -14,17 +14,18 @@ ghost use Rattle.nr_world.specs.Constants.{script_max, most_credits};
 
 use crate::script::{MOST_CREDITS, SCRIPT_MAX};
 
-/// On a link that stays every call completes: where each side wrote all that it has to write and nothing is under way, every
-/// accepted call's reply came to its client, and each call completes once what came is handed over.
+/// On a link that stays every call completes. Where each side wrote all that it has to write and nothing is under way,
+/// the reply to every accepted call was received by its client, and each call completes once the received outcomes are
+/// handed over.
 pub fn link_that_stays()
-    // Whatever the server, as long as its replies go without lists.
+    // For any server whose replies go without chunk lists.
     ensures replied { (adds : Moment → List ℕ → List ℕ → List Entry) (opened : Opened) (link : ℕ) (run : List Mark) →
         AreWords opened link run → Asked opened link run → Served (inline_server adds) opened link run →
         IsSettled link run → AllReplied link run }
     ensures completes { (adds : Moment → List ℕ → List ℕ → List Entry) (opened : Opened) (link : ℕ) (run : List Mark) →
         AreWords opened link run → Asked opened link run → Served (inline_server adds) opened link run →
         IsSettled link run → IsHandedOver link run → IsComplete link run }
-    // The server of these drills is one of those.
+    // For the server of these drills, which is one of those.
     ensures drill { (opened : Opened) (link : ℕ) (run : List Mark) → AreWords opened link run → Asked opened link run →
         Served drill_server opened link run → IsSettled link run → IsHandedOver link run → IsComplete link run }
 {}

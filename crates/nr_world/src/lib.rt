@@ -1,4 +1,8 @@
-//! The drill: both ends of a link and a plain server, run step by step by a script, and what is printed of that.
+//! The drill: both ends of a link and a plain server, run step by step by a script, and what is printed of the run.
+//!
+//! These parts of the crate serve the calls of one client in turn, and will be replaced whole when both ends are
+//! crates: `world.rt`, `script.rt` and `reading.rt`; in `specs/` the files `Driver`, `Stands`, `Ending` and `Parsing`;
+//! in `proofs/` the files from `Nulls` to `Reporting` (in the order of `Lib.antt`), and `Parsing`.
 #![tactic(auto)]
 
 mod call;

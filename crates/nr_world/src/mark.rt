@@ -1,4 +1,4 @@
-//! What happens on links, mark by mark, and what marks speak of.
+//! What happens on links, mark by mark, and the values that marks contain.
 
 use crate::call::{Call, Form, Outcome, Submission};
 use crate::sequence::Sequence;
@@ -13,8 +13,8 @@ pub struct Moment {
     pub nanos: u32,
 }
 
-/// What the two ends of a link were opened with: the first xid and the first STag of the client, the credits that it
-/// wishes for, and the credits that the server grants.
+/// What the two ends of a link were opened with: the client's first xid and first STag, the credits that it asks for,
+/// and the credits that the server grants.
 #[derive(Clone, Copy, Debug, PartialEq, Eq)]
 pub struct Opened {
     pub first_xid: u32,
@@ -77,12 +77,12 @@ pub enum Mark {
         xid: u32,
         outcome: Outcome,
     },
-    /// The client told the caller that the link ended before the call was answered.
+    /// The client reported to the caller that the link ended before the call was answered.
     Lost {
         link: u32,
         xid: u32,
     },
-    /// The caller gave up the answer.
+    /// The caller gave the answer up.
     Forget {
         link: u32,
         xid: u32,

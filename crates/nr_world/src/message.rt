@@ -1,5 +1,5 @@
-//! The messages of a link, as far as calls and replies go without lists: the transport header (RFC 8166 section 4.2)
-//! and the payload, in one Send.
+//! Messages without chunk lists: the transport header (RFC 8166 section 4.2) and the payload of a call or reply, in one
+//! Send.
 
 ghost use Rattle.std.specs.Prelude.{◌≡◌, ◌≤◌, length, None, Some, IfOk, MatchOption, option_and_then};
 ghost use Rattle.std.specs.Option.{option_copied};
@@ -17,7 +17,7 @@ use nr_wire::{NextSegment, Segment, next_segment, write_segment};
 use nr_xdr::{Memory, Octets};
 use std::alloc::Global;
 
-/// An RDMA_MSG message without lists: the header, and the payload behind it.
+/// An RDMA_MSG message without chunk lists: the header, and the payload behind it.
 #[tactic(auto, unfolding(crate::specs::Messages::inline_header))]
 pub fn inline_message(
     alloc: Global,
@@ -45,7 +45,7 @@ pub fn inline_message(
     Ok(message)
 }
 
-/// A Send of one segment that carries a message, the `msn`-th of its link in that direction.
+/// A Send of one segment that carries a message: Send number `msn` of its link in that direction.
 #[tactic(auto, unfolding(crate::specs::Messages::send))]
 pub fn send(alloc: Global, msn: u32, message: &[u8]) -> Result<Octets, Memory>
     requires { length message.now ≤ send_max }
@@ -63,7 +63,7 @@ pub fn send(alloc: Global, msn: u32, message: &[u8]) -> Result<Octets, Memory>
     write_segment(alloc, &segment)
 }
 
-/// The message that ends in the FPDU at the front of some bytes.
+/// The message that ends in the FPDU at the front of the bytes.
 fn message_in(bytes: &[u8]) -> Option<&[u8]>
     ensures { option_copied result ≡ ended_by (segment_in bytes.now) }
 {
@@ -81,7 +81,7 @@ fn message_in(bytes: &[u8]) -> Option<&[u8]>
     }
 }
 
-/// Where the payload begins, in a message of RDMA_MSG with three empty lists.
+/// The place of the payload in an RDMA_MSG message with three empty lists.
 fn payload_at(body: &Body) -> Option<usize>
     ensures { result ≡ payload_at body.now }
 {
@@ -94,7 +94,7 @@ fn payload_at(body: &Body) -> Option<usize>
     }
 }
 
-/// The xid of a message without lists, and its payload.
+/// The xid and the payload of a message without chunk lists.
 #[tactic(auto, unfolding(crate::specs::Messages::inline_in))]
 fn inline_in(message: &[u8]) -> Option<(u32, &[u8])>
     ensures { MatchOption result (inline_in message.now ≡ None)
@@ -107,7 +107,7 @@ fn inline_in(message: &[u8]) -> Option<(u32, &[u8])>
     Some((header.xid, &message[place..]))
 }
 
-/// The payload under its xid, where the head's xid is the header's.
+/// The payload with its xid, where the head has the same xid as the header.
 fn under_xid(
     alloc: Global,
     own: Option<u32>,
@@ -125,7 +125,7 @@ fn under_xid(
     }))
 }
 
-/// The xid of the call head with which some bytes begin.
+/// The xid of the call head at the front of the bytes.
 fn call_xid(alloc: Global, bytes: &[u8]) -> Result<Option<u32>, Memory>
     ensures { IfOk result (λ xid. xid ≡ call_xid (call_of bytes.now)) }
 {
@@ -138,7 +138,7 @@ fn call_xid(alloc: Global, bytes: &[u8]) -> Result<Option<u32>, Memory>
     }
 }
 
-/// The xid of the reply head with which some bytes begin.
+/// The xid of the reply head at the front of the bytes.
 fn reply_xid(bytes: &[u8]) -> Option<u32>
     ensures { result ≡ reply_xid (reply_of bytes.now) }
 {
@@ -174,7 +174,7 @@ fn reply_in(alloc: Global, message: &[u8]) -> Result<Option<Conveyed>, Memory>
     under_xid(alloc, reply_xid(payload), xid, payload)
 }
 
-/// The call that the message in the FPDU at the front of some bytes conveys.
+/// The call that the message in the FPDU at the front of the bytes conveys.
 pub fn call_in_frame(alloc: Global, bytes: &[u8]) -> Result<Option<Conveyed>, Memory>
     ensures { IfOk result (λ found. found ≡ option_and_then call_in (ended_by (segment_in bytes.now))) }
 {
@@ -184,7 +184,7 @@ pub fn call_in_frame(alloc: Global, bytes: &[u8]) -> Result<Option<Conveyed>, Me
     }
 }
 
-/// The reply that the message in the FPDU at the front of some bytes conveys.
+/// The reply that the message in the FPDU at the front of the bytes conveys.
 pub fn reply_in_frame(alloc: Global, bytes: &[u8]) -> Result<Option<Conveyed>, Memory>
     ensures { IfOk result (λ found. found ≡ option_and_then reply_in (ended_by (segment_in bytes.now))) }
 {

@@ -1,4 +1,4 @@
-//! The plain server, as far as there is one: NFS version 3 with its NULL procedure.
+//! The plain server. Today it has the NULL procedure of NFS version 3.
 
 ghost use Rattle.std.specs.Prelude.{◌≡◌, ◌≤◌, length, IfOk, IfSome};
 ghost use Rattle.nr_world.specs.Plain.{null_reply, plain_reply};
@@ -18,7 +18,7 @@ pub const NULL: u32 = 0;
 /// The accept status of a call that was executed (RFC 5531 section 9).
 pub const SUCCESS: u32 = 0;
 
-/// The bytes that a reply of these procedures has at most.
+/// The most bytes that a reply of these procedures has.
 pub const REPLY_MAX: usize = 24;
 
 /// The reply to NULL: accepted, without results.
@@ -37,7 +37,7 @@ fn null_reply(alloc: Global, xid: u32) -> Result<Octets, Memory>
     }
 }
 
-/// The reply to a payload, where its procedure is there by now.
+/// The reply to a payload, where the server has its procedure.
 #[tactic(auto, unfolding(crate::specs::Plain::plain_reply))]
 pub fn execute(alloc: Global, payload: &[u8]) -> Result<Option<Octets>, Memory>
     ensures exact { IfOk result (λ reply. reply ≡ plain_reply payload.now) }

@@ -1,5 +1,5 @@
-//! What a drill prints: a line for each call line, one for each link that was dropped and each side that ended, and the
-//! journal's length.
+//! What a drill prints: a line for each call line, a line for each link that was dropped and each side that ended, and
+//! the journal's length.
 
 ghost use Rattle.std.specs.Prelude.{◌≡◌, ◌++◌, length, IfOk, OnOk};
 ghost use Rattle.std.specs.List.{flat_map};
@@ -13,7 +13,7 @@ use nr_xdr::{Memory, Octets};
 use std::alloc::Global;
 use std::fmt::Write;
 
-/// Two numbers with a space between.
+/// Two numbers with a space between them.
 #[tactic(auto, unfolding(crate::specs::Shown::two_numbers))]
 fn push_two(text: &mut String, first: u64, second: u64) -> Result<(), Memory>
     ensures { OnOk result (string_bytes text.new ≡ string_bytes text.old ++ two_numbers first second) }
@@ -22,7 +22,7 @@ fn push_two(text: &mut String, first: u64, second: u64) -> Result<(), Memory>
     Ok(())
 }
 
-/// Words, and two numbers behind them.
+/// A text, and two numbers behind it.
 fn push_words(text: &mut String, words: &str, first: u64, second: u64) -> Result<(), Memory>
     ensures { OnOk result (string_bytes text.new ≡ string_bytes text.old ++ (words.now ++ two_numbers first second)) }
 {
@@ -31,7 +31,7 @@ fn push_words(text: &mut String, words: &str, first: u64, second: u64) -> Result
     Ok(())
 }
 
-/// Where a call was executed, if it was.
+/// The place at which a call was executed, if it was.
 fn push_place(text: &mut String, place: Option<u64>) -> Result<(), Memory>
     ensures { OnOk result (string_bytes text.new ≡ string_bytes text.old ++ placed_text place) }
 {
@@ -44,7 +44,7 @@ fn push_place(text: &mut String, place: Option<u64>) -> Result<(), Memory>
     }
 }
 
-/// What a call was answered by.
+/// The answer to a call.
 fn push_outcome(alloc: Global, text: &mut String, outcome: &Outcome) -> Result<(), Memory>
     ensures { OnOk result (string_bytes text.new ≡ string_bytes text.old ++ outcome_text outcome.now) }
 {
@@ -65,7 +65,7 @@ fn push_outcome(alloc: Global, text: &mut String, outcome: &Outcome) -> Result<(
     }
 }
 
-/// The bytes of a revoked call's memory, which may be none.
+/// The bytes of the memory of a revoked call. There may be none.
 fn push_bytes(alloc: Global, text: &mut String, bytes: &[u8]) -> Result<(), Memory>
     ensures { OnOk result (string_bytes text.new ≡ string_bytes text.old ++ bytes_text bytes.now) }
 {
@@ -130,7 +130,7 @@ fn push_call_state(alloc: Global, text: &mut String, state: &CallState) -> Resul
     }
 }
 
-/// The line of a call line.
+/// The line of a call.
 #[tactic(auto, unfolding(crate::specs::Shown::call_report_text))]
 fn push_call_report(alloc: Global, text: &mut String, report: &CallReport) -> Result<(), Memory>
     ensures { OnOk result (string_bytes text.new ≡ string_bytes text.old ++ call_report_text report.now) }
@@ -141,7 +141,7 @@ fn push_call_report(alloc: Global, text: &mut String, report: &CallReport) -> Re
     Ok(())
 }
 
-/// What an access lacked.
+/// Why an access was denied.
 fn lack_words(why: Lack) -> &'static str
     ensures { result.now ≡ lack_text why }
 {
@@ -227,7 +227,7 @@ fn push_journal(text: &mut String, len: usize) -> Result<(), Memory>
     Ok(())
 }
 
-/// The lines of call lines.
+/// The lines of the calls.
 fn push_calls(alloc: Global, text: &mut String, calls: &[CallReport]) -> Result<(), Memory>
     ensures { OnOk result (string_bytes text.new ≡ string_bytes text.old ++ flat_map call_report_text calls.now) }
 {
@@ -237,7 +237,7 @@ fn push_calls(alloc: Global, text: &mut String, calls: &[CallReport]) -> Result<
     Ok(())
 }
 
-/// The lines of links.
+/// The lines of the links.
 fn push_links(text: &mut String, links: &[LinkReport]) -> Result<(), Memory>
     ensures { OnOk result (string_bytes text.new ≡ string_bytes text.old ++ flat_map link_text links.now) }
 {

@@ -36,7 +36,7 @@ fn credits_in(alloc: Global, line: &[u8]) -> Result<Option<u32>, Memory>
     Ok(None)
 }
 
-/// Whether a line is what is due: a call or, behind a call, a drain.
+/// Whether a line is the one that is due: a call or, behind a call, a drain.
 #[tactic(auto, unfolding(crate::specs::Script::call_line, crate::specs::Script::drain_line))]
 fn is_due(due: bool, line: &[u8]) -> bool
     ensures { result ≡ bytes_eq line.now (turn_text due) }
@@ -49,14 +49,14 @@ fn is_due(due: bool, line: &[u8]) -> bool
     line == wanted
 }
 
-/// Where the first newline of a text is.
+/// The place of the first newline of a text.
 fn newline_at(text: &[u8]) -> Option<usize>
     ensures { result ≡ position (λ b. b == newline) text.now }
 {
     text.iter().position(|b| *b == b'\n')
 }
 
-/// The first line of a text, without its newline, and what stands behind that.
+/// The first line of a text, without its newline, and the text behind it.
 fn next_line(text: &[u8]) -> Option<(&[u8], &[u8])>
     ensures { MatchOption result (cut text.now ≡ record { lines = []; rest = text.now })
         (λ found. (cut text.now ≡ line_onto found.0.now (cut found.1.now)) × (length found.1.now < length text.now)) }
@@ -67,7 +67,7 @@ fn next_line(text: &[u8]) -> Option<(&[u8], &[u8])>
     Some((line, behind))
 }
 
-/// What stands behind the line that is due, where a text starts with that.
+/// The text behind the line that is due, where the text begins with that line.
 fn behind_due(due: bool, text: &[u8]) -> Option<&[u8]>
     ensures { MatchOption result ((number : ℕ) → lines_from text.now number due ≡ ends_at number due text.now)
         (λ behind. ((number : ℕ) → lines_from text.now number due ≡ turn_onto (turn due) (lines_from behind.now (number + 1) (not due)))
@@ -81,7 +81,8 @@ fn behind_due(due: bool, text: &[u8]) -> Option<&[u8]>
     }
 }
 
-/// How many turns of a call and a drain a text is, or the number of its first bad line, where its first line is line 2.
+/// How many pairs of a call and a drain a text is, or the number of its first invalid line, where its first line is
+/// line 2.
 fn turns_in(text: &[u8]) -> Result<u32, u64>
     requires { length text.now ≤ script_max }
     ensures read { MatchResult result (λ calls. lines_from text.now 2 false ≡ Ok (turns calls)) (λ line. lines_from text.now 2 false ≡ Err line) }
@@ -106,14 +107,15 @@ fn turns_in(text: &[u8]) -> Result<u32, u64>
     }
 }
 
-/// Reads the text of a script: what it says, or the number of its first bad line.
+/// Reads the text of a script. It gives what the text says, or the number of its first invalid line.
 ///
-/// A text that ends inside a line, or where a drain line is due, is bad behind its last newline. It asks for a text of at
-/// most [`SCRIPT_MAX`](crate::SCRIPT_MAX) bytes.
+/// A text that ends inside a line, or where a drain line is due, is invalid behind its last newline. The text may have
+/// at most [`SCRIPT_MAX`](crate::SCRIPT_MAX) bytes.
 ///
 /// # Errors
 ///
-/// [`ScriptFault::BadLine`] with the number of the first bad line, from 1; [`ScriptFault::Memory`] where memory ran out.
+/// [`ScriptFault::BadLine`] with the number of the first invalid line, from 1; [`ScriptFault::Memory`] where memory ran
+/// out.
 #[tactic(auto, unfolding(crate::specs::Script::script_of))]
 pub fn read_script(alloc: Global, text: &[u8]) -> Result<Script, ScriptFault>
     requires { length text.now ≤ script_max }

@@ -9,27 +9,28 @@ use nr_xdr::Octets;
 /// The entries of the journal in order.
 pub type Journal = Sequence<Entry>;
 
-/// What has become of a call.
+/// What became of a call.
 #[derive(Debug, Drop)]
 pub enum CallState {
-    /// It is out, and nothing came of it.
+    /// It is out: it has no answer yet.
     Out,
-    /// It was answered with an outcome. The place is that of its execution in the journal, if it was executed.
+    /// It was answered with this outcome. `place` is the place of its execution in the journal, if it was executed.
     Answered {
         place: Option<u64>,
         outcome: Outcome,
     },
-    /// Its link was dropped before, or its client ended.
+    /// Its link was dropped before that, or its client ended.
     Lost,
-    /// Its caller gave up the answer before.
+    /// Its caller gave the answer up before that.
     Forgotten,
-    /// Its caller took back its memory before, which held these bytes.
+    /// Its caller took back the call's memory before that, which held these bytes.
     Revoked(Octets),
     /// It wasn't sent.
     Refused(Refused),
 }
 
-/// A call line of a script and what became of its call: the client, and the number of the line among that client's, from 1.
+/// A call line of a script and what became of its call. `number` is the number of the line among those of the client,
+/// from 1.
 #[derive(Debug, Drop)]
 pub struct CallReport {
     pub client: u32,
@@ -37,7 +38,7 @@ pub struct CallReport {
     pub state: CallState,
 }
 
-/// What became of the call lines, in the script's order.
+/// What became of the calls, in the order of the script.
 pub type CallReports = Sequence<CallReport>;
 
 /// How a link, or a side of it, ended.
@@ -49,14 +50,14 @@ pub enum LinkState {
     Ended { side: Side, end: End },
 }
 
-/// A link, by its client, that was dropped or a side of which ended.
+/// A link that was dropped, or a side of which ended, by the number of its client.
 #[derive(Clone, Copy, Debug, PartialEq, Eq)]
 pub struct LinkReport {
     pub client: u32,
     pub state: LinkState,
 }
 
-/// The links that were dropped or that ended, in order, and of each its client's side first.
+/// The links that were dropped or that ended, in order. For each link the client's side comes first.
 pub type LinkReports = Sequence<LinkReport>;
 
 /// All the bytes that the client and the server of a link wrote.
@@ -69,7 +70,7 @@ pub struct LinkLog {
 /// The logs of the links in order.
 pub type Logs = Sequence<LinkLog>;
 
-/// What a drill reports: what happened, mark by mark, the journal, what became of each call line and of each link, and the
+/// The report of a drill: what happened, mark by mark; the journal; what became of each call and of each link; and the
 /// bytes that both sides of each link wrote.
 #[derive(Debug, Drop)]
 pub struct Report {

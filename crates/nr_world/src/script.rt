@@ -1,4 +1,4 @@
-//! Scripts: what a drill is to do.
+//! Scripts: what a drill has to do.
 
 ghost use Rattle.std.specs.Prelude.{◌≡◌, ◌+◌, ◌*◌, ◌≤◌};
 ghost use Rattle.nr_world.specs.declared.script.ScriptFault.TheVariants as faults;
@@ -8,10 +8,10 @@ ghost use Rattle.nr_world.specs.Script.{turns};
 use nr_xdr::Memory;
 use std::marker::Model;
 
-/// The credits that a script may give each end.
+/// The most credits that a script may give each end.
 pub const MOST_CREDITS: u32 = 64;
 
-/// The bytes that the text of a script may have.
+/// The most bytes that the text of a script may have.
 pub const SCRIPT_MAX: usize = 16_777_216;
 
 /// Why a text is no script.
@@ -31,9 +31,9 @@ impl From<Memory> for ScriptFault {
     }
 }
 
-/// A script that was read: how many clients there are, the credits that both ends of each link are opened with, the
-/// bytes that the journal may cost, and the lines behind that. By now a script has one client and calls NULL, each call
-/// drained before the next.
+/// A script that was read: the number of clients, the credits with which both ends of each link are opened, the bytes
+/// that the journal may cost, and the lines. Today a script has one client and calls NULL, and each call is drained
+/// before the next.
 #[derive(Debug, Drop)]
 pub struct Script {
     credits: u32,
@@ -53,7 +53,7 @@ impl Model for Script {
 }
 
 impl Script {
-    /// A script of so many calls, each drained before the next.
+    /// A script of this many calls, each drained before the next.
     pub(crate) fn new(credits: u32, calls: u32) -> Script
         requires some { 1 ≤ credits }
         requires few { credits ≤ most_credits }
@@ -63,7 +63,7 @@ impl Script {
         Script { credits, calls }
     }
 
-    /// The credits that both ends of each link are opened with.
+    /// The credits with which both ends of each link are opened.
     pub fn credits(&self) -> u32
         ensures is { result ≡ self.now.credits }
         ensures some { 1 ≤ result }
@@ -72,7 +72,7 @@ impl Script {
         self.credits
     }
 
-    /// How many calls it makes, each drained before the next.
+    /// How many calls the script makes, each drained before the next.
     pub(crate) fn calls(&self) -> u32
         ensures lines { self.now.lines ≡ turns result }
         ensures few { 2 * result + 1 ≤ most_lines }

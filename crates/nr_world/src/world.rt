@@ -1,8 +1,12 @@
 //! The driver of a drill: both ends of a link, the pipes between them and the plain server, moved step by step.
 //!
-//! By now there is one link, whose calls are NULL and whose messages go without lists. The ends are small: the client is
-//! the number of calls that it sent and took, the server the call that came whole and isn't executed. Each step pushes the
-//! marks of what happened.
+//! Today there is one link. Its calls are NULL, and its messages go without chunk lists. Each end is small: the client
+//! is the number of calls that it sent and took, and the server is the call that was received and isn't executed yet.
+//! Each step adds the marks of what happened.
+//!
+//! These parts of the crate serve the calls of one client in turn, and will be replaced whole when both ends are
+//! crates: `world.rt`, `script.rt` and `reading.rt`; in `specs/` the files `Driver`, `Stands`, `Ending` and `Parsing`;
+//! in `proofs/` the files from `Nulls` to `Reporting` (in the order of `Lib.antt`), and `Parsing`.
 
 ghost use Rattle.std.specs.Prelude.{◌≡◌, [], ◌∷◌, ◌+◌, ◌*◌, ◌<◌, ◌≤◌, length, IfOk, OnOk, ◌||◌, IfSome, option_and_then};
 ghost use Rattle.nr_outside.specs.Pipe.{waiting_bytes};
@@ -32,7 +36,7 @@ use std::marker::Model;
 /// The number of the one link.
 pub(crate) const LINK: u32 = 1;
 
-/// The moment at which calls are executed: the drill's clock stands.
+/// The moment at which calls are executed: the clock of a drill stays at 0.
 const MOMENT: Moment = Moment {
     seconds: 0,
     nanos: 0,
@@ -50,7 +54,7 @@ pub(crate) struct World {
     down: Pipe,
     /// How many calls the client sent.
     asked: u32,
-    /// The call that came whole to the server and isn't executed, and how many it executed.
+    /// The call that the server received and hasn't executed, and how many calls it executed.
     arrived: Option<Conveyed>,
     served: u32,
     /// The journal, and the place in it at which the last call was executed.
@@ -80,7 +84,7 @@ impl Model for World {
     } };
 }
 
-/// A call of NULL, without a credential.
+/// A NULL call without a credential.
 fn null_call(alloc: Global) -> Call
     ensures { result ≡ null }
 {
@@ -93,7 +97,7 @@ fn null_call(alloc: Global) -> Call
     }
 }
 
-/// The Send of a call of NULL, which is the `xid`-th of its link.
+/// The Send of NULL call number `xid` of the link.
 fn ask_frame(alloc: Global, credits: u32, xid: u32) -> Result<Octets, Memory>
     ensures { IfOk result (λ frame. frame ≡ ask credits xid) }
 {
@@ -126,7 +130,7 @@ fn own_hello(alloc: Global, side: Side) -> Result<Octets, Memory>
     write_hello(alloc, &hello)
 }
 
-/// The Send of a reply, which is number `msn` of its link.
+/// The Send of a reply. It is Send number `msn` of the link.
 fn answer_frame(
     alloc: Global,
     credits: u32,
@@ -141,7 +145,7 @@ fn answer_frame(
     send(alloc, msn, message.as_slice())
 }
 
-/// Whether one of these moved.
+/// Whether any of these moved.
 fn any_of(up: bool, work: bool, down: bool) -> bool
     ensures { result ≡ (up || work || down) }
 {
@@ -217,7 +221,7 @@ impl World {
         Ok(())
     }
 
-    /// A drill whose link is open: the client's hello went up whole, the server's went down whole.
+    /// A drill whose link is open: each side was fed the hello of the other.
     #[tactic(auto, unfolding(crate::specs::Driver::opened_state))]
     pub(crate) fn open(alloc: Global, credits: u32) -> Result<World, Memory>
         ensures { IfOk result (λ world. world ≡ opened_state credits) }
@@ -242,7 +246,7 @@ impl World {
         Ok(world)
     }
 
-    /// The client submits a call of NULL and writes its Send.
+    /// The client submits a NULL call and writes its Send.
     #[tactic(auto, unfolding(crate::specs::Driver::asked_one))]
     fn ask(&mut self) -> Result<(), Memory>
         requires { self.old.asked < most_lines }
@@ -261,7 +265,7 @@ impl World {
         Ok(())
     }
 
-    /// The server is fed all that waits for it, and says whether that was something.
+    /// The server is fed all the bytes that wait for it. Says whether any waited.
     #[tactic(auto, unfolding(crate::specs::Driver::came))]
     fn feed_up(&mut self) -> Result<bool, Memory>
         ensures moves { IfOk result (λ moved. moved ≡ waits self.old.up) }
@@ -282,7 +286,7 @@ impl World {
         Ok(true)
     }
 
-    /// The reply to the call that came whole, if there is one.
+    /// The reply to the call that was received, if there is one.
     fn reply(&self) -> Result<Option<Octets>, Memory>
         ensures exact { IfOk result (λ reply. reply ≡ option_and_then (λ call. plain_reply call.payload) self.now.arrived) }
         ensures short { IfOk result (λ reply. IfSome reply (λ bytes. length bytes ≤ REPLY_MAX)) }
@@ -293,7 +297,7 @@ impl World {
         }
     }
 
-    /// The call that came whole is executed and answered, and says whether there was one.
+    /// The call that was received is executed and answered. Says whether there was one.
     #[tactic(auto, unfolding(crate::specs::Driver::worked))]
     fn work_one(&mut self) -> Result<bool, Memory>
         requires { self.old.served ≤ most_lines }
@@ -351,7 +355,8 @@ impl World {
         Ok(())
     }
 
-    /// The client is fed all that waits for it and hands over what is completed. Says whether anything waited.
+    /// The client is fed all the bytes that wait for it, and hands over the completed calls. Says whether any bytes
+    /// waited.
     #[tactic(auto, unfolding(crate::specs::Driver::heard))]
     fn feed_down(&mut self) -> Result<bool, Memory>
         requires { length self.old.reports ≤ most_lines }
@@ -376,7 +381,7 @@ impl World {
         Ok(true)
     }
 
-    /// All up, all work, all down. Says whether something moved.
+    /// One round: all up, all work, all down. Says whether something moved.
     fn round(&mut self) -> Result<bool, Memory>
         requires { Stands self.old }
         ensures { IfOk result (λ moved. Round self.old self.new moved) }
@@ -399,7 +404,7 @@ impl World {
         }
     }
 
-    /// A call line.
+    /// Runs a call line.
     fn call(&mut self) -> Result<(), Memory>
         requires stands { Stands self.old }
         requires quiet { IsQuiet self.old }
@@ -410,7 +415,7 @@ impl World {
         Ok(())
     }
 
-    /// The lines of a script: so many calls, each drained before the next.
+    /// Runs the lines of a script of this many calls, each drained before the next.
     pub(crate) fn play(&mut self, calls: u32) -> Result<(), Memory>
         requires opened { Played self.old.credits 0 self.old }
         requires few { 2 * calls + 1 ≤ most_lines }
@@ -424,7 +429,7 @@ impl World {
     }
 }
 
-/// The bytes that the two sides of the link wrote, as the report has them.
+/// The bytes that the two sides of the link wrote, as logs of the report.
 fn logs(alloc: Global, up: Pipe, down: Pipe) -> Result<Logs, Memory>
     ensures { IfOk result (λ logs. logs ≡ record { up = up.log; down = down.log } ∷ []) }
 {
@@ -437,7 +442,7 @@ fn logs(alloc: Global, up: Pipe, down: Pipe) -> Result<Logs, Memory>
 }
 
 impl World {
-    /// What the drill reports as it stands.
+    /// The report of the drill as it stands.
     fn into_report(self) -> Result<Report, Memory>
         ensures { IfOk result (λ report. Tells self report) }
     {
@@ -461,8 +466,8 @@ impl World {
     }
 }
 
-/// Runs a script. The report has what happened, mark by mark, and what the marks tell: the journal, what became of each
-/// call line, and the bytes that both sides of each link wrote. Want of memory is its only other answer.
+/// Runs a script. The report has the marks of what happened, and what follows from them: the journal, what became of
+/// each call, and the bytes that both sides of each link wrote. Want of memory is the only other answer.
 pub fn run_world(alloc: Global, script: &Script) -> Result<Report, Memory>
     ensures { IfOk result (λ report. Reports script.now report) }
 {

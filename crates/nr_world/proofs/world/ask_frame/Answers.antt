@@ -6,7 +6,7 @@ use Rattle.nr_world.proofs.Frames.{asked_message, length-asked_message}
 use Rattle.nr_world.proofs.world.ask_frame.Goals.{After-as_slice-2}
 use Rattle.nr_world.proofs.world.ask_frame.Goals as goal
 
--- the message that is sent is the call's
+-- the message that is sent is that of the call
 message_is : (c : After-as_slice-2) → c.as_slice-2.result.now ≡ asked_message c.args.credits c.args.xid
 unfolding call_payload
 message_is c =
