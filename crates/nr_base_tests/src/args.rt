@@ -3,7 +3,7 @@
 use crate::compare::{encoded_as, numbered_as, row_gives, same};
 use crate::{Want, again, bytes_of, joined};
 use nr_nfs_args::*;
-use nr_nfs_base::{Handle, Name, ValueFault};
+use nr_nfs_base::{Handle, Name, SetAttributes, SetTime, ValueFault, Verifier};
 use nr_xdr::{Memory, Octets};
 use std::alloc::{AllocError, Global};
 
@@ -305,4 +305,57 @@ fn each_field_has_its_place(rt: HostRuntime) -> Result<(), Memory> {
         &rename,
         &[&[8, 0, 1, 1, 0x6100_0000], &[8, 0, 2, 1, 0x6200_0000]],
     )
+}
+
+/// A mode and nothing else (RFC 1813 section 2.5, sattr3).
+const MODE: SetAttributes = SetAttributes {
+    mode: Some(7),
+    uid: None,
+    gid: None,
+    size: None,
+    atime: SetTime::Leave,
+    mtime: SetTime::Leave,
+};
+
+#[test]
+fn each_handle_and_count_has_its_place(rt: HostRuntime) -> Result<(), Memory> {
+    // section 3.3.15: the file 1 gets the name `a` in the directory 2
+    let (file, name) = entry(rt.alloc(), 1, b"a")?;
+    let dir = Handle::from_slice(rt.alloc(), &[0, 0, 0, 0, 0, 0, 0, 2])?;
+    let link = LinkArgs { file, dir, name };
+    let words = [8, 0, 1, 8, 0, 2, 1, 0x6100_0000];
+    encoded_as(&rt, rt.alloc(), 0, &link, &[&words])?;
+    // section 3.3.17
+    let readdirplus = ReaddirplusArgs {
+        dir: Handle::from_slice(rt.alloc(), &[0, 0, 0, 0, 0, 0, 0, 1])?,
+        cookie: 0x2_0000_0003,
+        verifier: Verifier {
+            number: 0x4_0000_0005,
+        },
+        dircount: 6,
+        maxcount: 7,
+    };
+    let words = [8, 0, 1, 2, 3, 4, 5, 6, 7];
+    encoded_as(&rt, rt.alloc(), 1, &readdirplus, &[&words])
+}
+
+#[test]
+fn each_arm_has_its_number(rt: HostRuntime) -> Result<(), Memory> {
+    // sections 3.3.8 and 3.3.11
+    let created = [CreateHow::Unchecked(MODE), CreateHow::Guarded(MODE)];
+    for (row, how) in created.iter().enumerate() {
+        let number = if row == 0 { 0 } else { 1 };
+        encoded_as(&rt, rt.alloc(), row, how, &[&[number, 1, 7, 0, 0, 0, 0, 0]])?;
+    }
+    let made = [(MknodData::Sock(MODE), 6), (MknodData::Fifo(MODE), 7)];
+    for (row, (what, number)) in made.iter().enumerate() {
+        encoded_as(
+            &rt,
+            rt.alloc(),
+            row,
+            what,
+            &[&[*number, 1, 7, 0, 0, 0, 0, 0]],
+        )?;
+    }
+    Ok(())
 }

@@ -32,6 +32,7 @@ impl Write for Broken {
 #[derive(Drop)]
 struct FailsOnce {
     failed: bool,
+    kind: ErrorKind,
 }
 
 impl FailsOnce {
@@ -40,7 +41,7 @@ impl FailsOnce {
             return Ok(());
         }
         self.failed = true;
-        Err(io::Error::new(ErrorKind::Interrupted, "interrupted"))
+        Err(io::Error::new(self.kind, "fails once"))
     }
 }
 
@@ -129,14 +130,15 @@ fn sources(rt: HostRuntime) -> Result<(), Fail> {
     reads(&rt, 1, &mut StdSource::new(b"abcde".as_slice()), &slice);
     let broken = [(Err(Failed), *b"----"), (Err(Failed), *b"----")];
     reads(&rt, 2, &mut StdSource::new(Broken), &broken);
-    // The adapter answers the first error, and doesn't read again by itself.
+    // The adapter answers the first error of any kind, and doesn't read again by itself.
     let once = [(Err(Failed), *b"----"), (Ok(2), *b"ok--")];
-    reads(
-        &rt,
-        3,
-        &mut StdSource::new(FailsOnce { failed: false }),
-        &once,
-    );
+    for kind in [ErrorKind::Interrupted, ErrorKind::Other] {
+        let reader = FailsOnce {
+            failed: false,
+            kind,
+        };
+        reads(&rt, 3, &mut StdSource::new(reader), &once);
+    }
     Ok(())
 }
 
@@ -153,14 +155,15 @@ fn sinks(rt: HostRuntime) -> Result<(), Fail> {
     same(&rt, 0, memory.bytes(), b"abef".as_slice());
     let broken: [(&[u8], Result<usize, Failed>); 2] = [(b"abc", Err(Failed)), (b"", Err(Failed))];
     writes(&rt, 1, &mut StdSink::new(Broken), &broken);
-    // The adapter answers the first error, and doesn't write again by itself.
+    // The adapter answers the first error of any kind, and doesn't write again by itself.
     let once: [(&[u8], Result<usize, Failed>); 2] = [(b"abc", Err(Failed)), (b"abc", Ok(1))];
-    writes(
-        &rt,
-        2,
-        &mut StdSink::new(FailsOnce { failed: false }),
-        &once,
-    );
+    for kind in [ErrorKind::Interrupted, ErrorKind::Other] {
+        let writer = FailsOnce {
+            failed: false,
+            kind,
+        };
+        writes(&rt, 2, &mut StdSink::new(writer), &once);
+    }
     let narrow: [(&[u8], Result<usize, Failed>); 4] = [
         (b"abc", Ok(2)),
         (b"", Ok(0)),

@@ -36,6 +36,18 @@ fn three_regions(alloc: Global, first_stag: u32) -> Result<(Regions, Registratio
     Ok((regions, registration))
 }
 
+/// Without room made before, a registration takes its own memory.
+#[test]
+fn registered_without_room(rt: HostRuntime) -> Result<(), Fail> {
+    let mut regions = Regions::new(rt.alloc(), 1);
+    let stag = match regions.register(Octets::new(rt.alloc()), Right::Fill) {
+        Ok(registration) => registration.stag(),
+        Err(_) => 0,
+    };
+    same(&rt, 0, stag, 1);
+    Ok(())
+}
+
 #[test]
 fn placed_and_released(rt: HostRuntime) -> Result<(), Fail> {
     held_until_release();

@@ -2,7 +2,10 @@
 
 use crate::compare::{encoded_as, row_gives, same};
 use crate::{Want, again, bytes_of, joined};
-use nr_nfs_base::{Attributes, FileType, Handle, SpecialData, StatusUnion, Time, ValueFault};
+use nr_nfs_base::{
+    Attributes, FileType, Handle, Name, SpecialData, StatusUnion, Time, ValueFault, WccAttributes,
+    WccData,
+};
 use nr_nfs_res::*;
 use nr_xdr::{Memory, Octets};
 use std::alloc::{AllocError, Global};
@@ -562,4 +565,50 @@ fn a_lookup_has_the_attributes_of_the_object_first(rt: HostRuntime) -> Result<()
         &result,
         &[&[0, 8, 0, 1], &ATTRIBUTES, &[0]],
     )
+}
+
+/// What a directory had before, and nothing after (RFC 1813 section 2.6, wcc_data).
+fn before(size: u64) -> WccData {
+    let time = Time {
+        seconds: 8,
+        nanoseconds: 9,
+    };
+    WccData {
+        before: Some(WccAttributes {
+            size,
+            mtime: time,
+            ctime: time,
+        }),
+        after: None,
+    }
+}
+
+#[test]
+fn entries_and_directories_have_their_places(rt: HostRuntime) -> Result<(), Memory> {
+    // section 3.3.16
+    let entry = Entry {
+        fileid: 0x1_0000_0002,
+        name: Name::from_slice(rt.alloc(), b"a")?,
+        cookie: 0x3_0000_0004,
+    };
+    let words = [1, 2, 1, 0x6100_0000, 3, 4];
+    encoded_as(&rt, rt.alloc(), 0, &entry, &[&words])?;
+    // section 3.3.17
+    let plus = EntryPlus {
+        fileid: 0x1_0000_0002,
+        name: Name::from_slice(rt.alloc(), b"a")?,
+        cookie: 0x3_0000_0004,
+        attributes: None,
+        handle: None,
+    };
+    let words = [1, 2, 1, 0x6100_0000, 3, 4, 0, 0];
+    encoded_as(&rt, rt.alloc(), 1, &plus, &[&words])?;
+    // section 3.3.14
+    let rename = RenameWcc {
+        from_dir: before(0x1_0000_0002),
+        to_dir: before(0x3_0000_0004),
+    };
+    let from_dir = [1, 1, 2, 8, 9, 8, 9, 0];
+    let to_dir = [1, 3, 4, 8, 9, 8, 9, 0];
+    encoded_as(&rt, rt.alloc(), 2, &rename, &[&from_dir, &to_dir])
 }

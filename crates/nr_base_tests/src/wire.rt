@@ -354,6 +354,24 @@ fn hellos(rt: HostRuntime) {
 }
 
 #[test]
+fn hello_fields(rt: HostRuntime) {
+    let mut bytes = hello_bytes(b'p', 0x1f, 1, 2);
+    bytes[20] = 1;
+    bytes[21] = 2;
+    match read_hello(Responder, &bytes) {
+        NextHello::Whole { hello, .. } => {
+            same(
+                &rt,
+                0,
+                (hello.flags, hello.private),
+                (0x1f, [1, 2].as_slice()),
+            );
+        }
+        NextHello::More | NextHello::Bad { .. } => panic!(rt; "a hello stands there"),
+    }
+}
+
+#[test]
 fn hellos_written(rt: HostRuntime) -> Result<(), Memory> {
     for (row, (side, key, flags, revision, private, want)) in HELLOS.iter().enumerate() {
         let bytes = hello_bytes(*key, *flags, *revision, *private);

@@ -1,5 +1,5 @@
 -- Messages by their fixed words: what is read of them, and which are bad.
-use Rattle.std.proofs.Common.{◌≡◌, ◌≢◌, ℕ, ◌≤◌, ◌<◌, true, false, cond, eqb, ltb, ◌&&◌, List, length, drop, Option, Some, None, Result, Ok, Err, refl, sym, ap, subst, ◌∙◌, arith, inl, inr, ◌⊎◌}
+use Rattle.std.proofs.Common.{◌≡◌, ◌≢◌, ℕ, ◌≤◌, ◌<◌, true, false, cond, eqb, ltb, ◌&&◌, List, length, drop, Option, Some, None, Result, Ok, Err, refl, sym, ap, subst, ◌∙◌, arith, inl, inr, ◌⊎◌, ◌↔◌, All}
 use Rattle.std.proofs.lemmas.Bool.{lt-ltb, le-ltb, ne_eqb}
 use Rattle.std.proofs.lemmas.Bool.Decides.{eqb_tells}
 use Rattle.nr_xdr.specs.Fields.{word_at}
@@ -7,7 +7,8 @@ use Rattle.nr_xdr.specs.Reading.{Cursor}
 use Rattle.nr_header.specs.declared.fault.HeaderFault.{HeaderFault}
 use Rattle.nr_header.specs.declared.fault.HeaderFault.TheVariants as faults
 use Rattle.nr_header.specs.declared.header.Body.{Body}
-use Rattle.nr_header.specs.declared.header.Body.TheVariants.{ErrVers, ErrChunk}
+use Rattle.nr_header.specs.declared.header.Body.TheVariants.{Msg, Nomsg, ErrVers, ErrChunk}
+use Rattle.nr_header.specs.declared.header.ChunkLists.{ChunkLists}
 use Rattle.nr_header.specs.declared.header.Header.{Header}
 use Rattle.nr_header.specs.Reading.{IsBad, HeaderBad, msg_at, nomsg_at, in_lists, version1_of, body_by, error_by, error_of, header_by, header_of}
 use Rattle.nr_header.specs.Kinds.{HasFixedWords, IsWholeError}
@@ -137,3 +138,15 @@ bad_chunk_is bytes kind len code =
     let error : error_of bytes ≡ Some body = rw (len, code) refl in
     let is = whole_read bytes body (omega (arith, len)) kind error in
     (is, fine_by bytes (Ok (record { xid = word_at 0 bytes; credit = word_at 8 bytes; body = body })) is (λ bad. bad))
+
+pub lists_are : (at : ℕ) (bytes : List ℕ) → header_of bytes ≡ Err (faults.BadChunks at) → HeaderBad bytes
+lists_are at bytes is = subst IsBad (sym is) tt
+
+pub msg_fine : (xid credit at : ℕ) (lists : ChunkLists) (bytes : List ℕ) →
+    header_of bytes ≡ Ok (record { xid = xid; credit = credit; body = Msg lists at }) → HeaderBad bytes → ⊥
+msg_fine xid credit at lists bytes is bad = subst IsBad is bad
+
+pub nomsg_bad : (xid credit : ℕ) (lists : ChunkLists) (bytes : List ℕ) →
+    header_of bytes ≡ Ok (record { xid = xid; credit = credit; body = Nomsg lists }) →
+    HeaderBad bytes ↔ All (λ r. r.position ≢ 0) lists.read
+nomsg_bad xid credit lists bytes is = (λ bad. subst IsBad is bad, λ bad. subst IsBad (sym is) bad)

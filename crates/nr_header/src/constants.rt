@@ -6,13 +6,13 @@ pub const VERSION: u32 = 1;
 /// The number of bytes of the fixed words, which every message has (RFC 8166 section 4.2).
 pub const FIXED_LEN: usize = 16;
 
-/// The kind of a message whose stream follows its header, RDMA_MSG (RFC 8166 section 4.2.4).
+/// RDMA_MSG: the Payload stream follows the header. A message's kind is its rdma_proc field (RFC 8166 section 4.2.4).
 pub const MSG: u32 = 0;
 
-/// The kind of a message whose stream is in a chunk, RDMA_NOMSG (RFC 8166 section 4.2.4).
+/// RDMA_NOMSG: the Payload stream is in a chunk (RFC 8166 section 4.2.4).
 pub const NOMSG: u32 = 1;
 
-/// The kind of an error message, RDMA_ERROR (RFC 8166 section 4.2.4).
+/// RDMA_ERROR: the message reports an error (RFC 8166 section 4.2.4).
 pub const ERROR: u32 = 4;
 
 /// The error code with the supported versions, ERR_VERS (RFC 8166 section 4.5.1).

@@ -1,6 +1,6 @@
-//! Why a message has no header that can be used.
+//! Why a message has no usable header.
 
-/// Why a message has no header that can be used. The sender is to blame for each fault.
+/// Why a message has no usable header. Each fault is the sender's error.
 #[derive(Clone, Copy, Debug, PartialEq, Eq)]
 pub enum HeaderFault {
     /// The message has fewer than 16 bytes.

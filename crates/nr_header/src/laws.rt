@@ -1,6 +1,6 @@
 //! Laws of headers.
 
-ghost use Rattle.std.specs.Prelude.{◌≡◌, ◌≢◌, ◌<◌, ℕ, List, ◌++◌, length, drop, Ok, Err, ◌↔◌};
+ghost use Rattle.std.specs.Prelude.{◌≡◌, ◌≢◌, ◌<◌, ℕ, List, ◌++◌, length, drop, Ok, Err, All, ◌↔◌};
 ghost use Rattle.nr_xdr.specs.Fields.{word_at};
 ghost use Rattle.nr_header.specs.Kinds.{HasFixedWords, IsWholeError};
 ghost use Rattle.nr_header.specs.declared.header.Header.{Header};
@@ -9,7 +9,7 @@ ghost use Rattle.nr_header.specs.WithinLimits.{CanRead, IsMessage, header_again}
 ghost use Rattle.nr_header.specs.Reading.{HeaderBad, HasNoStream, header_of, header_by, in_lists, msg_at, nomsg_at};
 
 use crate::fault::HeaderFault;
-use crate::header::Body;
+use crate::header::{Body, ChunkLists};
 
 /// The encoding of a header within the limits is read as that header; RDMA_MSG with a stream after it.
 pub fn header_round_trip()
@@ -55,4 +55,12 @@ pub fn kinds_of_messages()
     // Any other kind.
     ensures above { (kind : ℕ) (bytes : List ℕ) → HasFixedWords 1 kind bytes → 4 < kind →
         (header_of bytes ≡ Err (HeaderFault.Kind kind)) × HeaderBad bytes }
+    // Lists that fail or pass a limit.
+    ensures lists { (at : ℕ) (bytes : List ℕ) → header_of bytes ≡ Err (HeaderFault.BadChunks at) → HeaderBad bytes }
+    // Messages that are read.
+    ensures msg_read { (xid credit at : ℕ) (lists : ChunkLists) (bytes : List ℕ) →
+        header_of bytes ≡ Ok (record { xid = xid; credit = credit; body = Body.Msg lists at }) → ¬ HeaderBad bytes }
+    ensures nomsg_read { (xid credit : ℕ) (lists : ChunkLists) (bytes : List ℕ) →
+        header_of bytes ≡ Ok (record { xid = xid; credit = credit; body = Body.Nomsg lists }) →
+        HeaderBad bytes ↔ All (λ r. r.position ≢ 0) lists.read }
 {}

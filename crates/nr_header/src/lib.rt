@@ -1,7 +1,8 @@
 //! The transport header of RPC-over-RDMA version 1 (RFC 8166 section 4), read and written exactly.
 //!
-//! The crate stands on `nr_xdr`. A header begins each message. It has the transaction's number and the credits, and either
-//! the lists of chunks (memory that the requester offers, or that the responder filled) or an error. [`read_header`] judges a
+//! The crate stands on `nr_xdr`. A header begins each message. It carries the XID, the credit value and the procedure
+//! (RDMA_MSG, RDMA_NOMSG or RDMA_ERROR), then the chunk lists (memory that the requester offers, or that the responder filled)
+//! or an error. [`read_header`] judges a
 //! whole message: its lists are within fixed limits, or it says why not and where. [`write_header`] encodes any header,
 //! within the limits or not. The crates above decide which chunks a call offers and what they carry.
 #![tactic(auto)]

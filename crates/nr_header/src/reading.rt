@@ -171,7 +171,7 @@ fn read_header_inner(bytes: &[u8]) -> Result<Header, HeaderFault>
     })
 }
 
-/// Reads the header of a message, within all limits. Takes no memory. Only the stream of RDMA_MSG may follow a header.
+/// Reads a message's header and checks it against the limits. Takes no memory. Only in RDMA_MSG may bytes follow the header.
 /// `Short`: the message has fewer than 16 bytes. `Version`: its version word isn't 1, and it is no whole error message (28
 /// bytes with ERR_VERS, 20 bytes with ERR_CHUNK). `Kind`: its version is 1, and it is neither RDMA_MSG, nor RDMA_NOMSG, nor a
 /// whole error message. `BadChunks`: the lists don't parse or pass a limit; the first fault in the order of the bytes.
@@ -186,7 +186,7 @@ pub fn read_header(bytes: &[u8]) -> Result<Header, HeaderFault>
     read_header_inner(bytes)
 }
 
-/// The transaction's number, the first word of a message (RFC 8166 section 4.2.1).
+/// The transaction ID (XID), the first word of a message (RFC 8166 section 4.2.1).
 pub fn xid_of(bytes: &[u8]) -> u32
     requires { FIXED_LEN ≤ length bytes.now }
     ensures { result ≡ word_at 0 bytes.now }

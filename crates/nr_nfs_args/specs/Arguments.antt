@@ -113,7 +113,3 @@ Arguments (Mount p) = MountArguments p
 abbrev pub arguments_codec : (p : Procedure) → Codec (Arguments p)
 arguments_codec (Nfs p) = nfs_arguments_codec p
 arguments_codec (Mount p) = mount_arguments_codec p
-
--- the bytes are read as these arguments of the procedure
-abbrev pub ReadsArguments : (p : Procedure) → Arguments p → List ℕ → Type 0
-ReadsArguments p v bytes = ReadsAs (arguments_codec p) v bytes

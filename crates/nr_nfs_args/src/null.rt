@@ -6,7 +6,7 @@ use nr_nfs_base::{ValueFault, Xdr};
 use nr_xdr::{Memory, Reader, Writer};
 use std::alloc::Global;
 
-/// Nothing: NULL of NFS and of MOUNT (RFC 1813 sections 3.3.0 and 5.2.0).
+/// The arguments of NULL of NFS and of MOUNT: none (RFC 1813 sections 3.3.0 and 5.2.0).
 #[derive(Clone, Copy)]
 pub struct NullArgs;
 

@@ -16,7 +16,7 @@ pub struct ReaddirArgs {
     /// The cookie of the last known entry, or 0.
     pub cookie: u64,
     pub verifier: Verifier,
-    /// The most bytes of the results.
+    /// The most bytes of the results on success, without the status.
     pub count: u32,
 }
 
@@ -58,7 +58,7 @@ pub struct ReaddirplusArgs {
     pub verifier: Verifier,
     /// The most bytes of names, file numbers and cookies in the results.
     pub dircount: u32,
-    /// The most bytes of the results.
+    /// The most bytes of the results on success, without the status.
     pub maxcount: u32,
 }
 

@@ -19,8 +19,8 @@ pub fn opaque_limits()
     ensures bytes { Same ⟦<Data as Xdr>⟧.codec text_codec }
 {}
 
-/// No reading of a value is a proper prefix of another reading of its type: of what begins as two values of one type, both
-/// values are the same, and as long.
+/// Where some bytes begin with readings of two values of one type, the values are equal and both readings have the same
+/// length.
 pub fn one_value<T: Xdr>()
     ensures { (v w : T) (x y more others : List ℕ) → ReadsAs T.codec v x → ReadsAs T.codec w y →
         x ++ more ≡ y ++ others → (v ≡ w) × (more ≡ others) }

@@ -11,7 +11,7 @@
 //! zeros as pad bytes. It accepts every value. [`one_value`] says that no reading of a value is a proper prefix of another,
 //! and [`opaque_limits`] states the limits of handles, names, paths and data.
 //!
-//! [`Skip`] finds the place behind a value without memory. The functions `skip_to_..` so find the data of WRITE and READ,
+//! [`Skip`] finds the end of a value without memory. The `skip_to_..` functions use it to find the data of WRITE and READ,
 //! the paths of SYMLINK and READLINK, and the counts of READ, READDIR and READDIRPLUS.
 //!
 //! The items are those of `nr_xdr`, the crate below. The arguments and the results of each procedure are in `nr_nfs_args`

@@ -13,7 +13,7 @@ pub enum Status {
     Noent = 2,
     /// A hard I/O error.
     Io = 5,
-    /// No such device.
+    /// No such device or address.
     Nxio = 6,
     /// Permission denied.
     Acces = 13,

@@ -11,8 +11,8 @@ use std::alloc::Global;
 
 /// A value that is encoded as items of XDR (RFC 4506).
 ///
-/// An implementation gives the codec, reading and writing of a value among others, and the law. `read` and `write` are for
-/// a value that stands alone. Pad bytes may have any value when read, and are written as zeros.
+/// An implementation provides `codec`, `read_from`, `write_to` and the law. `read` and `write` treat a value that stands
+/// alone. Pad bytes may have any value when read, and are written as zeros.
 pub trait Xdr: Drop {
     /// The items that encode a value, whether a value is within the limits of the type, and what is read at a place.
     ghost codec: { Codec Self };

@@ -211,10 +211,6 @@ abbrev pub results_codec : (p : Procedure) → Codec (Results p)
 results_codec (Nfs p) = nfs_results_codec p
 results_codec (Mount p) = mount_results_codec p
 
--- the bytes are read as these results of the procedure
-abbrev pub ReadsResults : (p : Procedure) → Results p → List ℕ → Type 0
-ReadsResults p v bytes = ReadsAs (results_codec p) v bytes
-
 -- the fields before the data of READ, and those before the path of READLINK
 abbrev pub before_read_data : ReadOk → Success × (Option Attributes × (ℕ × Bool))
 before_read_data v = success & v.attributes & v.count & v.eof

@@ -6,8 +6,9 @@ ghost use Rattle.nr_nfs_base.specs.Names.{text_codec};
 ghost use Rattle.nr_nfs_base.specs.Same.{Same};
 ghost use Rattle.nr_nfs_base.specs.declared.procedure.MountProcedure.TheVariants as mount;
 ghost use Rattle.nr_nfs_base.specs.declared.procedure.NfsProcedure.TheVariants as nfs;
+ghost use Rattle.nr_nfs_base.specs.declared.procedure.Procedure.TheVariants.{Nfs, Mount};
 ghost use Rattle.nr_nfs_base.specs.declared.status_union.StatusUnion.TheVariants.{Done};
-ghost use Rattle.nr_nfs_res.specs.Results.{before_read_data, before_readlink_path, mount_results_codec, nfs_results_codec, read_res_codec, readlink_res_codec};
+ghost use Rattle.nr_nfs_res.specs.Results.{before_read_data, before_readlink_path, results_codec, read_res_codec, readlink_res_codec};
 ghost use Rattle.nr_nfs_res.specs.declared.bytes.ReadOk.{ReadOk};
 ghost use Rattle.nr_nfs_res.specs.declared.lookup.ReadlinkOk.{ReadlinkOk};
 
@@ -25,32 +26,32 @@ use nr_nfs_base::Xdr;
 /// The type of this crate for the results of each procedure of NFS (RFC 1813 sections 3.3.0 to 3.3.21) and MOUNT
 /// (sections 5.2.0, 5.2.1, 5.2.3 and 5.2.4) has the codec that the table of the procedures gives.
 pub fn results()
-    ensures nfs_null { Same ⟦<NullRes as Xdr>⟧.codec (nfs_results_codec nfs.Null) }
-    ensures nfs_getattr { Same ⟦<GetattrRes as Xdr>⟧.codec (nfs_results_codec nfs.Getattr) }
-    ensures nfs_setattr { Same ⟦<SetattrRes as Xdr>⟧.codec (nfs_results_codec nfs.Setattr) }
-    ensures nfs_lookup { Same ⟦<LookupRes as Xdr>⟧.codec (nfs_results_codec nfs.Lookup) }
-    ensures nfs_access { Same ⟦<AccessRes as Xdr>⟧.codec (nfs_results_codec nfs.Access) }
-    ensures nfs_readlink { Same ⟦<ReadlinkRes as Xdr>⟧.codec (nfs_results_codec nfs.Readlink) }
-    ensures nfs_read { Same ⟦<ReadRes as Xdr>⟧.codec (nfs_results_codec nfs.Read) }
-    ensures nfs_write { Same ⟦<WriteRes as Xdr>⟧.codec (nfs_results_codec nfs.Write) }
-    ensures nfs_create { Same ⟦<CreateRes as Xdr>⟧.codec (nfs_results_codec nfs.Create) }
-    ensures nfs_mkdir { Same ⟦<MkdirRes as Xdr>⟧.codec (nfs_results_codec nfs.Mkdir) }
-    ensures nfs_symlink { Same ⟦<SymlinkRes as Xdr>⟧.codec (nfs_results_codec nfs.Symlink) }
-    ensures nfs_mknod { Same ⟦<MknodRes as Xdr>⟧.codec (nfs_results_codec nfs.Mknod) }
-    ensures nfs_remove { Same ⟦<RemoveRes as Xdr>⟧.codec (nfs_results_codec nfs.Remove) }
-    ensures nfs_rmdir { Same ⟦<RmdirRes as Xdr>⟧.codec (nfs_results_codec nfs.Rmdir) }
-    ensures nfs_rename { Same ⟦<RenameRes as Xdr>⟧.codec (nfs_results_codec nfs.Rename) }
-    ensures nfs_link { Same ⟦<LinkRes as Xdr>⟧.codec (nfs_results_codec nfs.Link) }
-    ensures nfs_readdir { Same ⟦<ReaddirRes as Xdr>⟧.codec (nfs_results_codec nfs.Readdir) }
-    ensures nfs_readdirplus { Same ⟦<ReaddirplusRes as Xdr>⟧.codec (nfs_results_codec nfs.Readdirplus) }
-    ensures nfs_fsstat { Same ⟦<FsstatRes as Xdr>⟧.codec (nfs_results_codec nfs.Fsstat) }
-    ensures nfs_fsinfo { Same ⟦<FsinfoRes as Xdr>⟧.codec (nfs_results_codec nfs.Fsinfo) }
-    ensures nfs_pathconf { Same ⟦<PathconfRes as Xdr>⟧.codec (nfs_results_codec nfs.Pathconf) }
-    ensures nfs_commit { Same ⟦<CommitRes as Xdr>⟧.codec (nfs_results_codec nfs.Commit) }
-    ensures mount_null { Same ⟦<NullRes as Xdr>⟧.codec (mount_results_codec mount.Null) }
-    ensures mount_mnt { Same ⟦<MntRes as Xdr>⟧.codec (mount_results_codec mount.Mnt) }
-    ensures mount_umnt { Same ⟦<UmntRes as Xdr>⟧.codec (mount_results_codec mount.Umnt) }
-    ensures mount_umntall { Same ⟦<UmntallRes as Xdr>⟧.codec (mount_results_codec mount.Umntall) }
+    ensures nfs_null { Same ⟦<NullRes as Xdr>⟧.codec (results_codec (Nfs nfs.Null)) }
+    ensures nfs_getattr { Same ⟦<GetattrRes as Xdr>⟧.codec (results_codec (Nfs nfs.Getattr)) }
+    ensures nfs_setattr { Same ⟦<SetattrRes as Xdr>⟧.codec (results_codec (Nfs nfs.Setattr)) }
+    ensures nfs_lookup { Same ⟦<LookupRes as Xdr>⟧.codec (results_codec (Nfs nfs.Lookup)) }
+    ensures nfs_access { Same ⟦<AccessRes as Xdr>⟧.codec (results_codec (Nfs nfs.Access)) }
+    ensures nfs_readlink { Same ⟦<ReadlinkRes as Xdr>⟧.codec (results_codec (Nfs nfs.Readlink)) }
+    ensures nfs_read { Same ⟦<ReadRes as Xdr>⟧.codec (results_codec (Nfs nfs.Read)) }
+    ensures nfs_write { Same ⟦<WriteRes as Xdr>⟧.codec (results_codec (Nfs nfs.Write)) }
+    ensures nfs_create { Same ⟦<CreateRes as Xdr>⟧.codec (results_codec (Nfs nfs.Create)) }
+    ensures nfs_mkdir { Same ⟦<MkdirRes as Xdr>⟧.codec (results_codec (Nfs nfs.Mkdir)) }
+    ensures nfs_symlink { Same ⟦<SymlinkRes as Xdr>⟧.codec (results_codec (Nfs nfs.Symlink)) }
+    ensures nfs_mknod { Same ⟦<MknodRes as Xdr>⟧.codec (results_codec (Nfs nfs.Mknod)) }
+    ensures nfs_remove { Same ⟦<RemoveRes as Xdr>⟧.codec (results_codec (Nfs nfs.Remove)) }
+    ensures nfs_rmdir { Same ⟦<RmdirRes as Xdr>⟧.codec (results_codec (Nfs nfs.Rmdir)) }
+    ensures nfs_rename { Same ⟦<RenameRes as Xdr>⟧.codec (results_codec (Nfs nfs.Rename)) }
+    ensures nfs_link { Same ⟦<LinkRes as Xdr>⟧.codec (results_codec (Nfs nfs.Link)) }
+    ensures nfs_readdir { Same ⟦<ReaddirRes as Xdr>⟧.codec (results_codec (Nfs nfs.Readdir)) }
+    ensures nfs_readdirplus { Same ⟦<ReaddirplusRes as Xdr>⟧.codec (results_codec (Nfs nfs.Readdirplus)) }
+    ensures nfs_fsstat { Same ⟦<FsstatRes as Xdr>⟧.codec (results_codec (Nfs nfs.Fsstat)) }
+    ensures nfs_fsinfo { Same ⟦<FsinfoRes as Xdr>⟧.codec (results_codec (Nfs nfs.Fsinfo)) }
+    ensures nfs_pathconf { Same ⟦<PathconfRes as Xdr>⟧.codec (results_codec (Nfs nfs.Pathconf)) }
+    ensures nfs_commit { Same ⟦<CommitRes as Xdr>⟧.codec (results_codec (Nfs nfs.Commit)) }
+    ensures mount_null { Same ⟦<NullRes as Xdr>⟧.codec (results_codec (Mount mount.Null)) }
+    ensures mount_mnt { Same ⟦<MntRes as Xdr>⟧.codec (results_codec (Mount mount.Mnt)) }
+    ensures mount_umnt { Same ⟦<UmntRes as Xdr>⟧.codec (results_codec (Mount mount.Umnt)) }
+    ensures mount_umntall { Same ⟦<UmntallRes as Xdr>⟧.codec (results_codec (Mount mount.Umntall)) }
 {}
 
 /// The results of a READ and of a READLINK that succeeded are the status 0 and the fields before the data or the path, which

@@ -41,7 +41,7 @@ impl Xdr for RenameWcc {
 /// The results of RENAME (RFC 1813 section 3.3.14).
 pub type RenameRes = StatusUnion<RenameWcc, RenameWcc>;
 
-/// The file and the directory of LINK (RFC 1813 section 3.3.15).
+/// The attributes of the file and the `wcc_data` of the directory of LINK (RFC 1813 section 3.3.15).
 #[derive(Clone, Copy)]
 pub struct LinkWcc {
     /// Those of the file.

@@ -2,7 +2,7 @@
 //!
 //! Everything that the project reads and writes passes through two traits, [`Source`] and [`Sink`]. Each object counts
 //! its faults. A call answers [`Failed`] only where the count of that object rises, so a layer above can show that a
-//! failure came from outside. A count rises where it becomes greater, or stands at 2^64 - 1, its last value.
+//! failure came from outside. A count has risen if it is greater than before, or stands at its maximum, 2^64 - 1.
 //!
 //! Contracts speak of an object's bytes where the bytes are known to the proof. In memory they are: [`MemSource`] and
 //! [`MemSink`] fail at the calls that a list names, and a [`Pipe`] hands out what was written to it and keeps all of it.

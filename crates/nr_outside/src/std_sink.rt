@@ -6,8 +6,8 @@ use crate::traits::{Failed, Sink};
 use std::io::Write;
 use std::marker::Model;
 
-/// A writer of std as a sink. Each error of the writer is a fault, an interrupted write too, and so is a write that takes
-/// nothing of a piece that isn't empty: the adapter doesn't try again. Nothing is flushed. As a sink its bytes are
+/// A writer of std as a sink. Each error of the writer is a fault, `Interrupted` included. So is a write that returns 0 for
+/// a piece that isn't empty. That the writer is called only once is tested, not proved. Nothing is flushed. As a sink its bytes are
 /// unknown, so for the content the writer is trusted.
 #[derive(Drop)]
 pub struct StdSink<W> {

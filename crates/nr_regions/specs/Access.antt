@@ -41,11 +41,12 @@ pub record Allowed (grants : List Grant) (access : Access) (end : ℕ) : Type 0 
   pub within : access.to + access.len ≤ grant.len
   pub right : grant.right ≡ access.right
 
--- no two of the grants have one STag
+-- no grant of the list has this one's STag
 abbrev pub HasOwnStag : Grant → List Grant → Type 0
 HasOwnStag g [] = Unit {0}
 HasOwnStag g (other ∷ grants) = (g.stag ≢ other.stag) × HasOwnStag g grants
 
+-- no two of the grants have the same STag
 abbrev pub HaveOwnStags : List Grant → Type 0
 HaveOwnStags [] = Unit {0}
 HaveOwnStags (g ∷ grants) = HasOwnStag g grants × HaveOwnStags grants

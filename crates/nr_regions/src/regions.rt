@@ -111,8 +111,8 @@ impl Regions {
         self.bytes
     }
 
-    /// Takes the memory that some further registrations need. `Ok` wherever the room is there already. The memory of the
-    /// regions is the same after either answer, and the room is no less.
+    /// Takes the memory that `more` further registrations need. Always `Ok` where the room suffices already. Either way the
+    /// regions are unchanged and the room doesn't shrink.
     pub fn make_room(&mut self, more: usize) -> Result<(), Memory>
         ensures ok { OnOk result (more ≤ self.new.room) }
         ensures succeeds { more ≤ self.old.room → IsOk result }
@@ -170,7 +170,7 @@ impl Regions {
         }
     }
 
-    /// Gives the buffer back as it stands. Its STag is dead from then on. Takes no memory.
+    /// Returns the buffer with its present content. From then on its STag is invalid. Takes no memory.
     pub fn release(&mut self, registration: Registration) -> Octets
         requires { IsHeld self.old.memory registration }
         ensures bytes { result ≡ bytes_in (held_region self.old.memory registration.stag) }

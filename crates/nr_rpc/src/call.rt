@@ -148,7 +148,7 @@ pub fn call_target(bytes: &[u8]) -> Option<CallTarget>
     }
 }
 
-/// The transaction's number (xid) of a call of any RPC version. `None` exactly where the bytes begin no call head. Takes no
+/// The transaction ID (XID) of a call of any RPC version. `None` exactly where the bytes begin no call head. Takes no
 /// memory.
 pub fn call_xid(bytes: &[u8]) -> Option<u32>
     // It is the number of a call head at the front.

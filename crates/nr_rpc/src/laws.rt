@@ -20,7 +20,8 @@ pub fn reply_round_trip()
         reply_of (reply_encoding head results) ≡ Ok (reply_again head) }
 {}
 
-/// No reading of a call head begins another: of what begins as two heads, both are the same, and as long.
+/// No call head is a proper prefix of another: if bytes begin with two call heads, the heads are equal and end at the same
+/// place.
 pub fn one_call_head()
     ensures { (a b : CallHead) (x y more others : List ℕ) → IsBytes (x ++ more) → ReadsCall a x → ReadsCall b y →
         x ++ more ≡ y ++ others → (a ≡ b) × (more ≡ others) }

@@ -40,11 +40,11 @@ pub record Whole (old new : InputAt) (text : List ℕ) : Type 0 where
   pub within : length text ≤ script_max
   pub unfailing : new.faults ≡ old.faults
 
--- what was read of the input stood first in it, and was no more than a script may be
+-- the bytes that were read are a prefix of the input, at most script_max long
 abbrev pub Took : InputAt → InputAt → Type 0
 Took old new = (bytes : List ℕ) × HandsOut old.left old.given new.left new.given bytes × (length bytes ≤ script_max)
 
--- what was read of the input stood first in it, and was more than a script may be
+-- the bytes that were read are a prefix of the input, more than script_max long
 abbrev pub TookTooMuch : InputAt → InputAt → Type 0
 TookTooMuch old new = (bytes : List ℕ) × HandsOut old.left old.given new.left new.given bytes × (script_max < length bytes)
 

@@ -69,7 +69,7 @@ pub const REASON_DDP_VERSION: u32 = 6;
 pub const REASON_RDMAP_VERSION: u32 = 7;
 /// A segment's opcode isn't supported.
 pub const REASON_OPCODE: u32 = 8;
-/// A segment is tagged and its opcode isn't, or the reverse.
+/// The T bit isn't the one that the opcode requires.
 pub const REASON_TAGGED: u32 = 9;
 /// An untagged segment stands in a queue that isn't its opcode's.
 pub const REASON_QUEUE: u32 = 10;

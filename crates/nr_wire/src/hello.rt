@@ -117,8 +117,8 @@ fn hello_of(side: Side, frame: &[u8]) -> Result<Hello<'_>, u32>
 }
 
 /// Reads the hello of `side` at the front of some bytes (RFC 5044 section 7.1). `Bad`: 20 bytes or more are there, and the
-/// first 20 give one of the reasons 1 to 4; the first that applies. `More`: exactly where fewer than 20 bytes are there, or
-/// fewer than its private length says.
+/// first 20 give one of the reasons 1 to 4; the first that applies. `More`: exactly where fewer than 20 bytes are there, or the
+/// first 20 give no reason and fewer bytes follow than the private length says.
 pub fn read_hello(side: Side, bytes: &[u8]) -> NextHello<'_>
     // What is read is encoded so.
     ensures found { IfWhole (next_hello result) (λ hello len. (hello.side ≡ side) × IsAccepted hello

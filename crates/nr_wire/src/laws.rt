@@ -30,7 +30,7 @@ pub fn judged_alone()
         segment_in (frame ++ more) ≡ frame_answer (segment_of frame) (length frame) }
 {}
 
-/// A whole FPDU says a segment exactly where it encodes it and its opcode is supported.
+/// A whole FPDU is read as a segment exactly where it encodes that segment and the opcode is supported.
 pub fn one_segment()
     ensures { (frame : List ℕ) (segment : Segment) → IsBytes frame → IsFrame Awaited.Fpdu frame →
         (segment_of frame ≡ Ok segment) ↔ (IsSupported segment × Reads segment frame) }

@@ -21,7 +21,8 @@ use nr_xdr::word_at;
 
 /// A DDP segment. `last` says that it ends its message; `opcode` is the kind of message (RFC 5040 section 4). The payload of
 /// a tagged segment goes to the memory that `stag` names at the receiver, from byte `to` on. An untagged segment belongs to
-/// message `msn` of its queue, and its payload begins at byte `offset` of that message; few opcodes use `word`.
+/// message `msn` of its queue, and its payload begins at byte `offset` of that message; `word` is the RsvdULP field (RFC 5041
+/// section 4.3), which the supported opcodes ignore.
 #[derive(Clone, Copy)]
 pub enum Segment<'a> {
     Tagged {
@@ -200,9 +201,9 @@ fn segment_of(frame: &[u8]) -> Result<Segment<'_>, u32>
     }
 }
 
-/// Reads the FPDU at the front of some bytes (RFC 5044 section 4). `More`: exactly where fewer bytes are there than its
-/// length field says. `Bad`: a whole one is there that is refused; the first of the reasons 5 to 10 that applies. The payload
-/// is a part of the bytes.
+/// Reads the FPDU at the front of some bytes (RFC 5044 section 4). `More`: exactly where fewer than two bytes are there,
+/// or fewer than the FPDU that the length field announces, pad and CRC included. `Bad`: a whole FPDU is there that is refused;
+/// the first of the reasons 5 to 10 that applies. The payload is a part of the bytes.
 pub fn next_segment(bytes: &[u8]) -> NextSegment<'_>
     // What is read is encoded so, up to its reserved bits, pad and CRC.
     ensures found { IfWhole (next_segment result) (λ segment len. IsSupported segment

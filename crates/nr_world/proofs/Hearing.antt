@@ -16,11 +16,11 @@ use Rattle.nr_world.specs.declared.report.CallReport.{CallReport}
 use Rattle.nr_world.specs.Observed.{Completed, accepted, completed}
 use Rattle.nr_world.specs.Messages.{reply_in, conveyed}
 use Rattle.nr_world.specs.Ending.{ended_by}
-use Rattle.nr_world.specs.Window.{heard}
+use Rattle.nr_world.specs.Window.{received_messages}
 use Rattle.nr_world.specs.Plain.{null_reply}
 use Rattle.nr_world.specs.Follows.{Drill, drill_opened, settled, feeding, taken, down_by, all_down}
 use Rattle.nr_world.specs.Asked.{done_for}
-use Rattle.nr_world.specs.Driver.{State, the_link, answer, all_read, fed_down, done_by, heard_by, heard as heard_state, waits, is_some_byte}
+use Rattle.nr_world.specs.Driver.{State, the_link, answer, all_read, fed_down, done_by, heard_by, received_messages as heard_state, waits, is_some_byte}
 use Rattle.nr_world.specs.Stands.{each, downward, accepted_call, completed_call, report_call, Counts, counts_of, arrived_one, At, Stands, drill_of}
 use Rattle.nr_world.proofs.Runs.{flat_map-more}
 use Rattle.nr_world.proofs.Frames.{conveyed_reply, answer-conveys}
@@ -73,25 +73,25 @@ not_done credits run n k at lt =
     ∙ list_any-none (λ (c : Completed). eqb c.xid k) completed_call n.done (λ j pos le. ne_eqb j k (λ e. omega (arith, e)))
 
 -- a call whose reply wasn't received isn't handed over
-done_for-out : (credits : ℕ) (run : List Mark) (n : Counts) (k : ℕ) → At credits run n → n.done < k → n.heard < k → n.heard < 2 ^ 32 → credits < 2 ^ 32 → done_for the_link run (accepted_call k) ≡ []
+done_for-out : (credits : ℕ) (run : List Mark) (n : Counts) (k : ℕ) → At credits run n → n.done < k → n.received_messages < k → n.received_messages < 2 ^ 32 → credits < 2 ^ 32 → done_for the_link run (accepted_call k) ≡ []
 done_for-out credits run n k at lt later small few =
-    let none : find (λ reply. eqb reply.xid k) (conveyed reply_in (heard the_link run)) ≡ None =
-    ap (find (λ (reply : Conveyed). eqb reply.xid k)) (replies-are credits run n at small few ∙ sym (append-nil (each conveyed_reply n.heard)))
-    ∙ find-past (λ (reply : Conveyed). eqb reply.xid k) conveyed_reply n.heard [] (λ j pos le. ne_eqb j k (λ e. omega (arith, e))) in
+    let none : find (λ reply. eqb reply.xid k) (conveyed reply_in (received_messages the_link run)) ≡ None =
+    ap (find (λ (reply : Conveyed). eqb reply.xid k)) (replies-are credits run n at small few ∙ sym (append-nil (each conveyed_reply n.received_messages)))
+    ∙ find-past (λ (reply : Conveyed). eqb reply.xid k) conveyed_reply n.received_messages [] (λ j pos le. ne_eqb j k (λ e. omega (arith, e))) in
     rw (not_done credits run n k at lt, none) refl
 
 -- the call of the last reply is handed over
-done_for-last : (credits : ℕ) (run : List Mark) (n : Counts) (k : ℕ) → At credits run n → n.done < suc k → n.heard ≡ suc k → n.heard < 2 ^ 32 → credits < 2 ^ 32 → done_for the_link run (accepted_call (suc k)) ≡ complete (suc k) ∷ []
+done_for-last : (credits : ℕ) (run : List Mark) (n : Counts) (k : ℕ) → At credits run n → n.done < suc k → n.received_messages ≡ suc k → n.received_messages < 2 ^ 32 → credits < 2 ^ 32 → done_for the_link run (accepted_call (suc k)) ≡ complete (suc k) ∷ []
 done_for-last credits run n k at lt last small few =
     let p = λ (reply : Conveyed). eqb reply.xid (suc k) in
-    let found : find p (conveyed reply_in (heard the_link run)) ≡ Some (conveyed_reply (suc k)) =
+    let found : find p (conveyed reply_in (received_messages the_link run)) ≡ Some (conveyed_reply (suc k)) =
     ap (find p) (replies-are credits run n at small few ∙ ap (each conveyed_reply) last)
     ∙ find-past p conveyed_reply k (conveyed_reply (suc k) ∷ []) (λ j pos le. ne_eqb j (suc k) (λ e. omega (arith, e)))
     ∙ ap (λ (b : Bool). cond b (Some (conveyed_reply (suc k))) None) (eq-eqb (suc k) (suc k) refl) in
     rw (not_done credits run n (suc k) at lt, found) refl
 
 -- the calls that are handed over
-none_taken : (credits : ℕ) (run : List Mark) (n : Counts) → At credits run n → n.heard ≡ n.done → n.heard < 2 ^ 32 → credits < 2 ^ 32 → flat_map (done_for the_link run) (accepted the_link run) ≡ []
+none_taken : (credits : ℕ) (run : List Mark) (n : Counts) → At credits run n → n.received_messages ≡ n.done → n.received_messages < 2 ^ 32 → credits < 2 ^ 32 → flat_map (done_for the_link run) (accepted the_link run) ≡ []
 none_taken credits run n at same small few =
     ap (flat_map (done_for the_link run)) at.accepted_are
     ∙ flat_map-each (done_for the_link run) accepted_call n.asked (λ k lt le.
@@ -100,7 +100,7 @@ none_taken credits run n at same small few =
       | inr done ↦ done_for-done credits run n k at lt done
     ])
 
-last_taken : (credits : ℕ) (run : List Mark) (n : Counts) (k : ℕ) → At credits run n → n.asked ≡ suc k → n.heard ≡ suc k → n.done ≡ k → n.heard < 2 ^ 32 → credits < 2 ^ 32 → flat_map (done_for the_link run) (accepted the_link run) ≡ complete (suc k) ∷ []
+last_taken : (credits : ℕ) (run : List Mark) (n : Counts) (k : ℕ) → At credits run n → n.asked ≡ suc k → n.received_messages ≡ suc k → n.done ≡ k → n.received_messages < 2 ^ 32 → credits < 2 ^ 32 → flat_map (done_for the_link run) (accepted the_link run) ≡ complete (suc k) ∷ []
 last_taken credits run n k at all last before small few =
     ap (flat_map (done_for the_link run)) (at.accepted_are ∙ ap (each accepted_call) all)
     ∙ flat_map-more (done_for the_link run) (each accepted_call k) (accepted_call (suc k))
@@ -129,7 +129,7 @@ down-one s st next =
     let place : s.down.place ≡ length (downward s.credits k) = ap (λ (p : PipeState). p.place) st.down_is in
     ap (λ (j : ℕ). drop j s.down.log) place ∙ behind_part s.down.log (downward s.credits k) (answer s.credits (suc k)) log
 
-taken-none : (credits : ℕ) (d : Drill) (n : Counts) → At credits d.marks n → n.heard ≡ n.done → n.heard < 2 ^ 32 → credits < 2 ^ 32 → taken the_link d ≡ d
+taken-none : (credits : ℕ) (d : Drill) (n : Counts) → At credits d.marks n → n.received_messages ≡ n.done → n.received_messages < 2 ^ 32 → credits < 2 ^ 32 → taken the_link d ≡ d
 unfolding taken
 taken-none credits d n at same small few =
     ap (λ (xs : List Mark). record { marks = d.marks ++ xs; ways = d.ways; seconds = d.seconds }) (none_taken credits d.marks n at same small few)
@@ -188,9 +188,9 @@ fed_with s bytes = record {
   reports = s.reports;
 }
 
-heard-is : (s : State) (k : ℕ) → waiting_bytes s.down ≡ answer s.credits k → k < 2 ^ 32 → s.credits < 2 ^ 32 → heard_state s ≡ after_heard s k s.place (length s.reports + 1)
+received_messages-is : (s : State) (k : ℕ) → waiting_bytes s.down ≡ answer s.credits k → k < 2 ^ 32 → s.credits < 2 ^ 32 → heard_state s ≡ after_heard s k s.place (length s.reports + 1)
 unfolding heard_state
-heard-is s k waits small few =
+received_messages-is s k waits small few =
     let some : 0 < length (waiting_bytes s.down) = omega (arith, some_answer s.credits k small, ap length waits) in
     let first : heard_by s (waiting_bytes s.down) ≡ done_by (fed_with s (waiting_bytes s.down)) (option_and_then reply_in (ended_by (segment_in (waiting_bytes s.down)))) = heard_by-some s (waiting_bytes s.down) some in
     first
@@ -210,9 +210,9 @@ hears_one s st next none =
     let waits = down-one s st next in
     let new = after_heard s k 0 k in
     let same : heard_state s ≡ new =
-    heard-is s k waits small w.few ∙ ap (λ (p : ℕ). after_heard s k p (h + 1)) st.no_place ∙ ap (after_heard s k 0) (add-one h) in
+    received_messages-is s k waits small w.few ∙ ap (λ (p : ℕ). after_heard s k p (h + 1)) st.no_place ∙ ap (after_heard s k 0) (add-one h) in
     let run = s.marks ++ feed_down c k ∷ [] in
-    let n1 : Counts = record n { heard = k } in
+    let n1 : Counts = record n { received_messages = k } in
     let at1 : At c run n1 = At-feed_down c s.marks n st.at in
     let laws1 = Laws-feed_down c s.marks n st.at st.laws next in
     let at2 : At c (run ++ complete k ∷ []) (record n1 { done = k }) = At-complete c run n1 at1 (omega (arith, next)) in
@@ -236,8 +236,8 @@ hears_one s st next none =
     ∙ ap (λ (xs : List Mark). settled (drill_opened c) the_link (record { marks = run ++ xs; ways = record { up = up; down = [] } ∷ []; seconds = 0 })) handed
     ∙ settled-none c last (record n1 { done = k }) at2 refl refl in
     let read : waiting_bytes (all_read s.down) ≡ [] = drop_all (length s.down.log) s.down.log (omega arith) in
-    let both : At c (run ++ complete k ∷ []) (record n1 { heard = length new.reports; done = length new.reports }) =
-    subst (λ (j : ℕ). At c (run ++ complete k ∷ []) (record n1 { heard = j; done = j })) (sym report_len) at2 in
+    let both : At c (run ++ complete k ∷ []) (record n1 { received_messages = length new.reports; done = length new.reports }) =
+    subst (λ (j : ℕ). At c (run ++ complete k ∷ []) (record n1 { received_messages = j; done = j })) (sym report_len) at2 in
     subst (λ (t : State). Hears s t) (sym same) (record {
       stands = record {
         at = both;

@@ -12,9 +12,9 @@ use Rattle.nr_world.specs.declared.mark.Mark.{Mark}
 use Rattle.nr_world.specs.declared.mark.Conveyed.{Conveyed}
 use Rattle.nr_world.specs.Observed.{Accepted, Executed, Completed, accepted, executed, got, journal, sent}
 use Rattle.nr_world.specs.Messages.{conveyed, messages, call_in, reply_in, xid_in, credit_in}
-use Rattle.nr_world.specs.Window.{heard, is_heard, out_of, credits_by, granted_by, grant_of, has_words}
+use Rattle.nr_world.specs.Window.{received_messages, is_heard, out_of, credits_by, granted_by, grant_of, has_words}
 use Rattle.nr_world.specs.Asked.{Completes}
-use Rattle.nr_world.specs.Served.{came, next_call, Executes}
+use Rattle.nr_world.specs.Served.{received_calls, next_call, Executes}
 use Rattle.nr_world.specs.Completion.{IsAnswered}
 use Rattle.nr_world.specs.Plain.{null_reply, drill_server}
 use Rattle.nr_world.specs.Driver.{the_link, asked_payload, ask, answer}
@@ -27,16 +27,16 @@ use Rattle.nr_world.proofs.Marking.{upward-more, downward-more}
 use Rattle.nr_world.proofs.OneMark.{submit, write_up, write_down, feed_up, feed_down, execute, complete}
 
 -- the messages that the client received
-heard-are : (credits : ℕ) (run : List Mark) (n : Counts) → At credits run n → n.heard < 2 ^ 32 → heard the_link run ≡ each (answered_message credits) n.heard
-heard-are credits run n at small =
+received_messages-are : (credits : ℕ) (run : List Mark) (n : Counts) → At credits run n → n.received_messages < 2 ^ 32 → received_messages the_link run ≡ each (answered_message credits) n.received_messages
+received_messages-are credits run n at small =
     ap (λ (xs : List ℕ). filter has_words (messages Responder xs)) at.down_got
-    ∙ ap (filter has_words) (messages-downward credits n.heard small)
-    ∙ filter-each has_words (answered_message credits) n.heard (λ k le. has_words-message k credits (null_reply k))
+    ∙ ap (filter has_words) (messages-downward credits n.received_messages small)
+    ∙ filter-each has_words (answered_message credits) n.received_messages (λ k le. has_words-message k credits (null_reply k))
 
-pub replies-are : (credits : ℕ) (run : List Mark) (n : Counts) → At credits run n → n.heard < 2 ^ 32 → credits < 2 ^ 32 → conveyed reply_in (heard the_link run) ≡ each conveyed_reply n.heard
+pub replies-are : (credits : ℕ) (run : List Mark) (n : Counts) → At credits run n → n.received_messages < 2 ^ 32 → credits < 2 ^ 32 → conveyed reply_in (received_messages the_link run) ≡ each conveyed_reply n.received_messages
 replies-are credits run n at small few =
-    ap (conveyed reply_in) (heard-are credits run n at small)
-    ∙ filter_map-each reply_in (answered_message credits) conveyed_reply n.heard (λ k le. reply_in-answered credits k (omega arith) few)
+    ap (conveyed reply_in) (received_messages-are credits run n at small)
+    ∙ filter_map-each reply_in (answered_message credits) conveyed_reply n.received_messages (λ k le. reply_in-answered credits k (omega arith) few)
 
 -- no call is out once every reply was received
 or-true : (b : Bool) → (b || true) ≡ true
@@ -55,8 +55,8 @@ list_any-each p f (suc n) k lt le e =
       | inr before ↦ step ∙ ap (λ (b : Bool). b || list_any p (f (suc n) ∷ [])) (list_any-each p f n k lt before e)
     ]
 
-heard-one : (credits n k : ℕ) → 0 < k → k ≤ n → n < 2 ^ 32 → credits < 2 ^ 32 → is_heard (each (answered_message credits) n) (accepted_call k) ≡ true
-heard-one credits n k lt le small few =
+received_messages-one : (credits n k : ℕ) → 0 < k → k ≤ n → n < 2 ^ 32 → credits < 2 ^ 32 → is_heard (each (answered_message credits) n) (accepted_call k) ≡ true
+received_messages-one credits n k lt le small few =
     list_any-each (λ message. eqb (xid_in message) k) (answered_message credits) n k lt le
     (eq-eqb (xid_in (answered_message credits k)) k (xid_in-message k credits (null_reply k) (omega arith)))
 
@@ -64,7 +64,7 @@ none_out : (credits : ℕ) (n m : ℕ) → m ≤ n → n < 2 ^ 32 → credits < 
 none_out credits n zero le small few = refl
 none_out credits n (suc m) le small few =
     let p = λ (a : Accepted). not (is_heard (each (answered_message credits) n) a) in
-    let one : p (accepted_call (suc m)) ≡ false = ap not (heard-one credits n (suc m) (omega arith) le small few) in
+    let one : p (accepted_call (suc m)) ≡ false = ap not (received_messages-one credits n (suc m) (omega arith) le small few) in
     sum_by_push (λ a. cond (p a) 1 0) (each accepted_call m) (accepted_call (suc m))
     ∙ ap (λ (b : Bool). count_by p (each accepted_call m) + cond b 1 0) one
     ∙ omega (arith, none_out credits n m (omega arith) small few)
@@ -76,18 +76,18 @@ some_granted : (whole : List (List ℕ)) (n : ℕ) → 0 < n → 0 < granted_by 
 some_granted [] n lt = lt
 some_granted (m ∷ ms) n lt = some_granted ms (credits_by (credit_in m)) (some_credit (credit_in m))
 
-pub out_of-none : (credits : ℕ) (run : List Mark) (n : Counts) → At credits run n → n.asked ≡ n.heard → n.heard < 2 ^ 32 → credits < 2 ^ 32 → out_of the_link run ≡ 0
+pub out_of-none : (credits : ℕ) (run : List Mark) (n : Counts) → At credits run n → n.asked ≡ n.received_messages → n.received_messages < 2 ^ 32 → credits < 2 ^ 32 → out_of the_link run ≡ 0
 unfolding out_of
 out_of-none credits run n at all small few =
-    ap (λ (whole : List (List ℕ)). count_by (λ a. not (is_heard whole a)) (accepted the_link run)) (heard-are credits run n at small)
-    ∙ ap (λ (as_ : List Accepted). count_by (λ a. not (is_heard (each (answered_message credits) n.heard) a)) as_) at.accepted_are
-    ∙ none_out credits n.heard n.asked (omega arith) small few
+    ap (λ (whole : List (List ℕ)). count_by (λ a. not (is_heard whole a)) (accepted the_link run)) (received_messages-are credits run n at small)
+    ∙ ap (λ (as_ : List Accepted). count_by (λ a. not (is_heard (each (answered_message credits) n.received_messages) a)) as_) at.accepted_are
+    ∙ none_out credits n.received_messages n.asked (omega arith) small few
 
 pub grant_of-some : (run : List Mark) → 0 < grant_of the_link run
 unfolding grant_of
-grant_of-some run = some_granted (heard the_link run) 1 (omega arith)
+grant_of-some run = some_granted (received_messages the_link run) 1 (omega arith)
 
-pub Laws-submit : (credits : ℕ) (run : List Mark) (n : Counts) → At credits run n → Laws credits run → n.asked ≡ n.heard → n.heard < 2 ^ 32 → credits < 2 ^ 32 → Laws credits (run ++ submit (suc n.asked) ∷ [])
+pub Laws-submit : (credits : ℕ) (run : List Mark) (n : Counts) → At credits run n → Laws credits run → n.asked ≡ n.received_messages → n.received_messages < 2 ^ 32 → credits < 2 ^ 32 → Laws credits (run ++ submit (suc n.asked) ∷ [])
 Laws-submit credits run n at laws all small few =
     let m = submit (suc n.asked) in
     let none = out_of-none credits run n at all small few in
@@ -130,52 +130,52 @@ Laws-write_down credits run n at laws next =
       unrefused = Along-more _ [] run m laws.unrefused tt;
     }
 
-pub Laws-feed_up : (credits : ℕ) (run : List Mark) (n : Counts) → At credits run n → Laws credits run → n.sent_up ≡ suc n.came → Laws credits (run ++ feed_up credits (suc n.came) ∷ [])
+pub Laws-feed_up : (credits : ℕ) (run : List Mark) (n : Counts) → At credits run n → Laws credits run → n.sent_up ≡ suc n.received_calls → Laws credits (run ++ feed_up credits (suc n.received_calls) ∷ [])
 Laws-feed_up credits run n at laws next =
-    let m = feed_up credits (suc n.came) in
-    let all : got the_link Responder run ++ ask credits (suc n.came) ≡ sent the_link Initiator run =
-    ap (λ (xs : List ℕ). xs ++ ask credits (suc n.came)) at.up_got ∙ sym (upward-more credits n.came) ∙ ap (upward credits) (sym next) ∙ sym at.up_sent in
+    let m = feed_up credits (suc n.received_calls) in
+    let all : got the_link Responder run ++ ask credits (suc n.received_calls) ≡ sent the_link Initiator run =
+    ap (λ (xs : List ℕ). xs ++ ask credits (suc n.received_calls)) at.up_got ∙ sym (upward-more credits n.received_calls) ∙ ap (upward credits) (sym next) ∙ sym at.up_sent in
     record {
       asked = Along-more _ [] run m laws.asked tt;
       served = Along-more _ [] run m laws.served tt;
-      matched = Along-more _ [] run m laws.matched (λ e. ([], append-nil (got the_link Responder run ++ ask credits (suc n.came)) ∙ all));
+      matched = Along-more _ [] run m laws.matched (λ e. ([], append-nil (got the_link Responder run ++ ask credits (suc n.received_calls)) ∙ all));
       grant = Along-more _ [] run m laws.grant tt;
       faithful = Along-more _ [] run m laws.faithful tt;
       unrefused = Along-more _ [] run m laws.unrefused tt;
     }
 
-pub Laws-feed_down : (credits : ℕ) (run : List Mark) (n : Counts) → At credits run n → Laws credits run → n.sent_down ≡ suc n.heard → Laws credits (run ++ feed_down credits (suc n.heard) ∷ [])
+pub Laws-feed_down : (credits : ℕ) (run : List Mark) (n : Counts) → At credits run n → Laws credits run → n.sent_down ≡ suc n.received_messages → Laws credits (run ++ feed_down credits (suc n.received_messages) ∷ [])
 Laws-feed_down credits run n at laws next =
-    let m = feed_down credits (suc n.heard) in
-    let all : got the_link Initiator run ++ answer credits (suc n.heard) ≡ sent the_link Responder run =
-    ap (λ (xs : List ℕ). xs ++ answer credits (suc n.heard)) at.down_got ∙ sym (downward-more credits n.heard) ∙ ap (downward credits) (sym next) ∙ sym at.down_sent in
+    let m = feed_down credits (suc n.received_messages) in
+    let all : got the_link Initiator run ++ answer credits (suc n.received_messages) ≡ sent the_link Responder run =
+    ap (λ (xs : List ℕ). xs ++ answer credits (suc n.received_messages)) at.down_got ∙ sym (downward-more credits n.received_messages) ∙ ap (downward credits) (sym next) ∙ sym at.down_sent in
     record {
       asked = Along-more _ [] run m laws.asked tt;
       served = Along-more _ [] run m laws.served tt;
-      matched = Along-more _ [] run m laws.matched (λ e. ([], append-nil (got the_link Initiator run ++ answer credits (suc n.heard)) ∙ all));
+      matched = Along-more _ [] run m laws.matched (λ e. ([], append-nil (got the_link Initiator run ++ answer credits (suc n.received_messages)) ∙ all));
       grant = Along-more _ [] run m laws.grant tt;
       faithful = Along-more _ [] run m laws.faithful tt;
       unrefused = Along-more _ [] run m laws.unrefused tt;
     }
 
 -- the call that was received and isn't executed
-pub next_call-is : (credits : ℕ) (run : List Mark) (n : Counts) → At credits run n → n.served < n.came → n.came < 2 ^ 32 → credits < 2 ^ 32 → next_call the_link run ≡ Some (conveyed_call (suc n.served))
+pub next_call-is : (credits : ℕ) (run : List Mark) (n : Counts) → At credits run n → n.served < n.received_calls → n.received_calls < 2 ^ 32 → credits < 2 ^ 32 → next_call the_link run ≡ Some (conveyed_call (suc n.served))
 unfolding next_call
 next_call-is credits run n at lt small few =
-    let calls : came the_link run ≡ each conveyed_call n.came =
-    ap (λ (xs : List ℕ). conveyed call_in (messages Initiator xs)) at.up_got ∙ calls-upward credits n.came small few in
+    let calls : received_calls the_link run ≡ each conveyed_call n.received_calls =
+    ap (λ (xs : List ℕ). conveyed call_in (messages Initiator xs)) at.up_got ∙ calls-upward credits n.received_calls small few in
     let len : length (executed the_link run) ≡ n.served = ap length at.executed_are ∙ length-each executed_call n.served in
     ap (λ (cs : List Conveyed). slice_get cs (length (executed the_link run))) calls
-    ∙ ap (slice_get (each conveyed_call n.came)) len ∙ slice_get-each conveyed_call n.served n.came lt
+    ∙ ap (slice_get (each conveyed_call n.received_calls)) len ∙ slice_get-each conveyed_call n.served n.received_calls lt
 
-pub executes-is : (credits : ℕ) (run : List Mark) (n : Counts) → At credits run n → n.served < n.came → n.came < 2 ^ 32 → credits < 2 ^ 32 → Executes drill_server the_link run (suc n.served) (record { seconds = 0; nanos = 0 }) (asked_payload (suc n.served)) 0 (null_reply (suc n.served))
+pub executes-is : (credits : ℕ) (run : List Mark) (n : Counts) → At credits run n → n.served < n.received_calls → n.received_calls < 2 ^ 32 → credits < 2 ^ 32 → Executes drill_server the_link run (suc n.served) (record { seconds = 0; nanos = 0 }) (asked_payload (suc n.served)) 0 (null_reply (suc n.served))
 executes-is credits run n at lt small few = record {
   is_next = next_call-is credits run n at lt small few;
   placed = sym (ap length at.no_entries);
   replied = plain_reply-asked (suc n.served) (omega arith);
 }
 
-pub Laws-execute : (credits : ℕ) (run : List Mark) (n : Counts) → At credits run n → Laws credits run → n.served < n.came → n.came < 2 ^ 32 → credits < 2 ^ 32 → Laws credits (run ++ execute (suc n.served) ∷ [])
+pub Laws-execute : (credits : ℕ) (run : List Mark) (n : Counts) → At credits run n → Laws credits run → n.served < n.received_calls → n.received_calls < 2 ^ 32 → credits < 2 ^ 32 → Laws credits (run ++ execute (suc n.served) ∷ [])
 Laws-execute credits run n at laws lt small few =
     let m = execute (suc n.served) in
     record {
@@ -188,17 +188,17 @@ Laws-execute credits run n at laws lt small few =
     }
 
 -- the call of the next reply has no outcome so far, and gets its own
-pub completes-is : (credits : ℕ) (run : List Mark) (n : Counts) → At credits run n → n.done < n.heard → n.heard ≤ n.asked → n.heard < 2 ^ 32 → credits < 2 ^ 32 → Completes the_link run (suc n.done) (outcomes.Reply (null_reply (suc n.done)))
+pub completes-is : (credits : ℕ) (run : List Mark) (n : Counts) → At credits run n → n.done < n.received_messages → n.received_messages ≤ n.asked → n.received_messages < 2 ^ 32 → credits < 2 ^ 32 → Completes the_link run (suc n.done) (outcomes.Reply (null_reply (suc n.done)))
 completes-is credits run n at lt le small few =
     let k = suc n.done in
-    let replies : conveyed reply_in (heard the_link run) ≡ each conveyed_reply n.heard = replies-are credits run n at small few in
+    let replies : conveyed reply_in (received_messages the_link run) ≡ each conveyed_reply n.received_messages = replies-are credits run n at small few in
     record {
       asked = (accepted_call k, subst (λ (as_ : List Accepted). Contains as_ (accepted_call k)) (sym at.accepted_are) (Contains-each accepted_call n.asked k (omega arith) (omega arith)), refl);
       first = λ c held e.
           let of = each-within completed_call n.done c (subst (λ (cs : List Completed). Contains cs c) at.completed_are held) in
           let same : of.0 ≡ c.xid = ap (λ (d : Completed). d.xid) of.3 in
           absurd (omega (arith, of.2, same, e));
-      heard = subst (λ (rs : List Conveyed). Contains rs (conveyed_reply k)) (sym replies) (Contains-each conveyed_reply n.heard k (omega arith) (omega arith));
+      received_messages = subst (λ (rs : List Conveyed). Contains rs (conveyed_reply k)) (sym replies) (Contains-each conveyed_reply n.received_messages k (omega arith) (omega arith));
     }
 
 pub answered-is : (credits : ℕ) (run : List Mark) (n : Counts) → At credits run n → n.done < n.served → n.done < n.asked → suc n.done < 2 ^ 32 → IsAnswered drill_server the_link run (suc n.done) (null_reply (suc n.done))
@@ -218,7 +218,7 @@ answered-is credits run n at lt le small =
       entered = (journal drill_server run, refl);
     }
 
-pub Laws-complete : (credits : ℕ) (run : List Mark) (n : Counts) → At credits run n → Laws credits run → n.done < n.heard → n.heard ≤ n.asked → n.done < n.served → n.heard < 2 ^ 32 → credits < 2 ^ 32 → Laws credits (run ++ complete (suc n.done) ∷ [])
+pub Laws-complete : (credits : ℕ) (run : List Mark) (n : Counts) → At credits run n → Laws credits run → n.done < n.received_messages → n.received_messages ≤ n.asked → n.done < n.served → n.received_messages < 2 ^ 32 → credits < 2 ^ 32 → Laws credits (run ++ complete (suc n.done) ∷ [])
 Laws-complete credits run n at laws lt le later small few =
     let m = complete (suc n.done) in
     record {

@@ -6,7 +6,7 @@ use Rattle.std.proofs.lemmas.List.Folds.{list_any-append}
 use Rattle.std.proofs.lemmas.Grind.{fold-append}
 use Rattle.nr_wire.specs.declared.hello.Side.TheVariants.{Initiator, Responder}
 use Rattle.nr_world.specs.declared.mark.Mark.{Mark}
-use Rattle.nr_world.specs.declared.mark.Opened.{Opened}
+use Rattle.nr_world.specs.declared.mark.LinkParameters.{LinkParameters}
 use Rattle.nr_world.specs.declared.report.CallReport.{CallReport}
 use Rattle.nr_world.specs.Observed.{added, drops, is_dropped}
 use Rattle.nr_world.specs.Owed.{own_hello, called_from, called_client, called_server, owed}
@@ -31,7 +31,7 @@ keep f run mark ys is none = flat_map-none f run mark none ∙ is
 pub more : {A : Type 0} (f : Mark → List A) (run : List Mark) (mark : Mark) (ys : List A) → flat_map f run ≡ ys → flat_map f (run ++ mark ∷ []) ≡ ys ++ f mark
 more f run mark ys is = flat_map-more f run mark ∙ ap (λ (xs : List _). xs ++ f mark) is
 
-pub owed_up-more : (opened : Opened) (run : List Mark) (mark : Mark) (ys : List ℕ) → owed opened the_link Initiator run ≡ ys → owed opened the_link Initiator (run ++ mark ∷ []) ≡ ys ++ called_client opened the_link run mark
+pub owed_up-more : (opened : LinkParameters) (run : List Mark) (mark : Mark) (ys : List ℕ) → owed opened the_link Initiator run ≡ ys → owed opened the_link Initiator (run ++ mark ∷ []) ≡ ys ++ called_client opened the_link run mark
 unfolding owed
 owed_up-more opened run mark ys is =
     let called = called_client opened the_link in
@@ -39,16 +39,16 @@ owed_up-more opened run mark ys is =
     ∙ sym (append_assoc (own_hello Initiator) (called_from called [] run) (called run mark))
     ∙ ap (λ (xs : List ℕ). xs ++ called run mark) is
 
-pub owed_down-more : (opened : Opened) (run : List Mark) (mark : Mark) (ys : List ℕ) → owed opened the_link Responder run ≡ ys → owed opened the_link Responder (run ++ mark ∷ []) ≡ ys ++ called_server opened the_link run mark
+pub owed_down-more : (opened : LinkParameters) (run : List Mark) (mark : Mark) (ys : List ℕ) → owed opened the_link Responder run ≡ ys → owed opened the_link Responder (run ++ mark ∷ []) ≡ ys ++ called_server opened the_link run mark
 unfolding owed
 owed_down-more opened run mark ys is =
     let called = called_server opened the_link in
     called_from-more called [] run mark ∙ ap (λ (xs : List ℕ). xs ++ called run mark) is
 
-pub owed_up-kept : (opened : Opened) (run : List Mark) (mark : Mark) (ys : List ℕ) → owed opened the_link Initiator run ≡ ys → called_client opened the_link run mark ≡ [] → owed opened the_link Initiator (run ++ mark ∷ []) ≡ ys
+pub owed_up-kept : (opened : LinkParameters) (run : List Mark) (mark : Mark) (ys : List ℕ) → owed opened the_link Initiator run ≡ ys → called_client opened the_link run mark ≡ [] → owed opened the_link Initiator (run ++ mark ∷ []) ≡ ys
 owed_up-kept opened run mark ys is none = owed_up-more opened run mark ys is ∙ ap (λ (xs : List ℕ). ys ++ xs) none ∙ append-nil ys
 
-pub owed_down-kept : (opened : Opened) (run : List Mark) (mark : Mark) (ys : List ℕ) → owed opened the_link Responder run ≡ ys → called_server opened the_link run mark ≡ [] → owed opened the_link Responder (run ++ mark ∷ []) ≡ ys
+pub owed_down-kept : (opened : LinkParameters) (run : List Mark) (mark : Mark) (ys : List ℕ) → owed opened the_link Responder run ≡ ys → called_server opened the_link run mark ≡ [] → owed opened the_link Responder (run ++ mark ∷ []) ≡ ys
 owed_down-kept opened run mark ys is none = owed_down-more opened run mark ys is ∙ ap (λ (xs : List ℕ). ys ++ xs) none ∙ append-nil ys
 
 pub asked-more : (run : List Mark) (mark : Mark) (n : ℕ) → asked_by the_link run ≡ n → asked_by the_link (run ++ mark ∷ []) ≡ n + asked_at the_link mark

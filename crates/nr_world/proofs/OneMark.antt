@@ -42,7 +42,7 @@ called_is : (credits : ℕ) (run : List Mark) (n : Counts) → At credits run n 
 unfolding ask
 called_is credits run n at =
     let len : length (accepted the_link run) + 1 ≡ suc n.asked = omega (arith, ap length at.accepted_are, length-each accepted_call n.asked) in
-    let greeted : is_greeted Responder (got the_link Initiator run) ≡ true = ap (is_greeted Responder) at.down_got ∙ greeting_came credits n.heard in
+    let greeted : is_greeted Responder (got the_link Initiator run) ≡ true = ap (is_greeted Responder) at.down_got ∙ greeting_came credits n.received_messages in
     let k = suc n.asked in
     ap (λ (b : Bool). cond b (asking (drill_opened credits) (length (accepted the_link run) + 1) (accepted_call k)) []) greeted
     ∙ ap (λ (j : ℕ). send j (inline_message k credits (asked_payload k))) len
@@ -90,9 +90,9 @@ At-submit credits run n at fewer_served fewer_done =
     let none : seen_of drill_server the_link k nothing_seen (run ++ m ∷ []) ≡ nothing_seen = seen k ∙ seen-new n k (omega arith) (omega arith) in
     record {
       up_sent = keep (wrote the_link Initiator) run m (upward credits n.sent_up) at.up_sent refl;
-      up_got = keep (fed the_link Responder) run m (upward credits n.came) at.up_got refl;
+      up_got = keep (fed the_link Responder) run m (upward credits n.received_calls) at.up_got refl;
       down_sent = keep (wrote the_link Responder) run m (downward credits n.sent_down) at.down_sent refl;
-      down_got = keep (fed the_link Initiator) run m (downward credits n.heard) at.down_got refl;
+      down_got = keep (fed the_link Initiator) run m (downward credits n.received_messages) at.down_got refl;
       up_owed = owed_up-more (drill_opened credits) run m (upward credits n.asked) at.up_owed ∙ ap (λ (xs : List ℕ). upward credits n.asked ++ xs) (called_is credits run n at) ∙ sym (upward-more credits n.asked);
       down_owed = owed_down-kept (drill_opened credits) run m (downward credits n.served) at.down_owed refl;
       accepted_are = more (accepted_at the_link) run m (each accepted_call n.asked) at.accepted_are;
@@ -115,9 +115,9 @@ At-write_up credits run n at =
     let m = write_up credits (suc n.sent_up) in
     record {
       up_sent = more (wrote the_link Initiator) run m (upward credits n.sent_up) at.up_sent ∙ sym (upward-more credits n.sent_up);
-      up_got = keep (fed the_link Responder) run m (upward credits n.came) at.up_got refl;
+      up_got = keep (fed the_link Responder) run m (upward credits n.received_calls) at.up_got refl;
       down_sent = keep (wrote the_link Responder) run m (downward credits n.sent_down) at.down_sent refl;
-      down_got = keep (fed the_link Initiator) run m (downward credits n.heard) at.down_got refl;
+      down_got = keep (fed the_link Initiator) run m (downward credits n.received_messages) at.down_got refl;
       up_owed = owed_up-kept (drill_opened credits) run m (upward credits n.asked) at.up_owed refl;
       down_owed = owed_down-kept (drill_opened credits) run m (downward credits n.served) at.down_owed refl;
       accepted_are = keep (accepted_at the_link) run m (each accepted_call n.asked) at.accepted_are refl;
@@ -140,9 +140,9 @@ At-write_down credits run n at =
     let m = write_down credits (suc n.sent_down) in
     record {
       up_sent = keep (wrote the_link Initiator) run m (upward credits n.sent_up) at.up_sent refl;
-      up_got = keep (fed the_link Responder) run m (upward credits n.came) at.up_got refl;
+      up_got = keep (fed the_link Responder) run m (upward credits n.received_calls) at.up_got refl;
       down_sent = more (wrote the_link Responder) run m (downward credits n.sent_down) at.down_sent ∙ sym (downward-more credits n.sent_down);
-      down_got = keep (fed the_link Initiator) run m (downward credits n.heard) at.down_got refl;
+      down_got = keep (fed the_link Initiator) run m (downward credits n.received_messages) at.down_got refl;
       up_owed = owed_up-kept (drill_opened credits) run m (upward credits n.asked) at.up_owed refl;
       down_owed = owed_down-kept (drill_opened credits) run m (downward credits n.served) at.down_owed refl;
       accepted_are = keep (accepted_at the_link) run m (each accepted_call n.asked) at.accepted_are refl;
@@ -167,18 +167,18 @@ hello_came : (credits n : ℕ) → has_hello Initiator (upward credits n) ≡ tr
 unfolding upward
 hello_came credits n = has_hello-own Initiator (joined (ask credits) n)
 
-pub At-feed_up : (credits : ℕ) (run : List Mark) (n : Counts) → At credits run n → At credits (run ++ feed_up credits (suc n.came) ∷ []) (record n { came = suc n.came })
+pub At-feed_up : (credits : ℕ) (run : List Mark) (n : Counts) → At credits run n → At credits (run ++ feed_up credits (suc n.received_calls) ∷ []) (record n { received_calls = suc n.received_calls })
 unfolding sent got accepted executed completed journal seen_by
 At-feed_up credits run n at =
-    let m = feed_up credits (suc n.came) in
+    let m = feed_up credits (suc n.received_calls) in
     let quiet : called_server (drill_opened credits) the_link run m ≡ [] =
-    no_hello (has_hello Initiator (got the_link Responder run)) (has_hello Initiator (got the_link Responder run ++ ask credits (suc n.came)))
-    (answer_to (hello_in Initiator (got the_link Responder run ++ ask credits (suc n.came)))) (ap (has_hello Initiator) at.up_got ∙ hello_came credits n.came) in
+    no_hello (has_hello Initiator (got the_link Responder run)) (has_hello Initiator (got the_link Responder run ++ ask credits (suc n.received_calls)))
+    (answer_to (hello_in Initiator (got the_link Responder run ++ ask credits (suc n.received_calls)))) (ap (has_hello Initiator) at.up_got ∙ hello_came credits n.received_calls) in
     record {
       up_sent = keep (wrote the_link Initiator) run m (upward credits n.sent_up) at.up_sent refl;
-      up_got = more (fed the_link Responder) run m (upward credits n.came) at.up_got ∙ sym (upward-more credits n.came);
+      up_got = more (fed the_link Responder) run m (upward credits n.received_calls) at.up_got ∙ sym (upward-more credits n.received_calls);
       down_sent = keep (wrote the_link Responder) run m (downward credits n.sent_down) at.down_sent refl;
-      down_got = keep (fed the_link Initiator) run m (downward credits n.heard) at.down_got refl;
+      down_got = keep (fed the_link Initiator) run m (downward credits n.received_messages) at.down_got refl;
       up_owed = owed_up-kept (drill_opened credits) run m (upward credits n.asked) at.up_owed refl;
       down_owed = owed_down-kept (drill_opened credits) run m (downward credits n.served) at.down_owed quiet;
       accepted_are = keep (accepted_at the_link) run m (each accepted_call n.asked) at.accepted_are refl;
@@ -195,18 +195,18 @@ At-feed_up credits run n at =
 abbrev pub feed_down : ℕ → ℕ → Mark
 feed_down credits k = marks.Fed the_link Initiator (answer credits k)
 
-pub At-feed_down : (credits : ℕ) (run : List Mark) (n : Counts) → At credits run n → At credits (run ++ feed_down credits (suc n.heard) ∷ []) (record n { heard = suc n.heard })
+pub At-feed_down : (credits : ℕ) (run : List Mark) (n : Counts) → At credits run n → At credits (run ++ feed_down credits (suc n.received_messages) ∷ []) (record n { received_messages = suc n.received_messages })
 unfolding sent got accepted executed completed journal seen_by
 At-feed_down credits run n at =
-    let m = feed_down credits (suc n.heard) in
+    let m = feed_down credits (suc n.received_messages) in
     let quiet : called_client (drill_opened credits) the_link run m ≡ [] =
-    no_hello (is_greeted Responder (got the_link Initiator run)) (is_greeted Responder (got the_link Initiator run ++ answer credits (suc n.heard)))
-    (asking_each (drill_opened credits) 1 (accepted the_link run)) (ap (is_greeted Responder) at.down_got ∙ greeting_came credits n.heard) in
+    no_hello (is_greeted Responder (got the_link Initiator run)) (is_greeted Responder (got the_link Initiator run ++ answer credits (suc n.received_messages)))
+    (asking_each (drill_opened credits) 1 (accepted the_link run)) (ap (is_greeted Responder) at.down_got ∙ greeting_came credits n.received_messages) in
     record {
       up_sent = keep (wrote the_link Initiator) run m (upward credits n.sent_up) at.up_sent refl;
-      up_got = keep (fed the_link Responder) run m (upward credits n.came) at.up_got refl;
+      up_got = keep (fed the_link Responder) run m (upward credits n.received_calls) at.up_got refl;
       down_sent = keep (wrote the_link Responder) run m (downward credits n.sent_down) at.down_sent refl;
-      down_got = more (fed the_link Initiator) run m (downward credits n.heard) at.down_got ∙ sym (downward-more credits n.heard);
+      down_got = more (fed the_link Initiator) run m (downward credits n.received_messages) at.down_got ∙ sym (downward-more credits n.received_messages);
       up_owed = owed_up-kept (drill_opened credits) run m (upward credits n.asked) at.up_owed quiet;
       down_owed = owed_down-kept (drill_opened credits) run m (downward credits n.served) at.down_owed refl;
       accepted_are = keep (accepted_at the_link) run m (each accepted_call n.asked) at.accepted_are refl;
@@ -286,9 +286,9 @@ At-execute credits run n at later =
     let len : length (executed the_link run) + 1 ≡ suc n.served = omega (arith, ap length at.executed_are, length-each executed_call n.served) in
     record {
       up_sent = keep (wrote the_link Initiator) run m (upward credits n.sent_up) at.up_sent refl;
-      up_got = keep (fed the_link Responder) run m (upward credits n.came) at.up_got refl;
+      up_got = keep (fed the_link Responder) run m (upward credits n.received_calls) at.up_got refl;
       down_sent = keep (wrote the_link Responder) run m (downward credits n.sent_down) at.down_sent refl;
-      down_got = keep (fed the_link Initiator) run m (downward credits n.heard) at.down_got refl;
+      down_got = keep (fed the_link Initiator) run m (downward credits n.received_messages) at.down_got refl;
       up_owed = owed_up-kept (drill_opened credits) run m (upward credits n.asked) at.up_owed refl;
       down_owed = owed_down-more (drill_opened credits) run m (downward credits n.served) at.down_owed ∙ ap (λ (xs : List ℕ). downward credits n.served ++ xs) (answered_is credits run n.served len) ∙ sym (downward-more credits n.served);
       accepted_are = keep (accepted_at the_link) run m (each accepted_call n.asked) at.accepted_are refl;
@@ -311,9 +311,9 @@ At-complete credits run n at later =
     let m = complete (suc n.done) in
     record {
       up_sent = keep (wrote the_link Initiator) run m (upward credits n.sent_up) at.up_sent refl;
-      up_got = keep (fed the_link Responder) run m (upward credits n.came) at.up_got refl;
+      up_got = keep (fed the_link Responder) run m (upward credits n.received_calls) at.up_got refl;
       down_sent = keep (wrote the_link Responder) run m (downward credits n.sent_down) at.down_sent refl;
-      down_got = keep (fed the_link Initiator) run m (downward credits n.heard) at.down_got refl;
+      down_got = keep (fed the_link Initiator) run m (downward credits n.received_messages) at.down_got refl;
       up_owed = owed_up-kept (drill_opened credits) run m (upward credits n.asked) at.up_owed refl;
       down_owed = owed_down-kept (drill_opened credits) run m (downward credits n.served) at.down_owed refl;
       accepted_are = keep (accepted_at the_link) run m (each accepted_call n.asked) at.accepted_are refl;

@@ -38,7 +38,7 @@ open_marks =
     ∷ marks.Wrote the_link Responder (own_hello Responder) ∷ marks.Fed the_link Initiator (own_hello Responder) ∷ []
 
 abbrev no_counts : Counts
-no_counts = record { asked = 0; sent_up = 0; came = 0; served = 0; sent_down = 0; heard = 0; done = 0 }
+no_counts = record { asked = 0; sent_up = 0; received_calls = 0; served = 0; sent_down = 0; received_messages = 0; done = 0 }
 
 -- the server's hello is due after the client's
 called : (b c : Bool) (bytes : List ℕ) → b ≡ false → c ≡ true → cond (not b && c) bytes [] ≡ bytes

@@ -7,7 +7,7 @@ use Rattle.nr_outside.specs.Pipe.{PipeState}
 use Rattle.nr_wire.specs.declared.hello.Side.TheVariants.{Initiator, Responder}
 use Rattle.nr_world.specs.declared.call.Outcome.TheVariants as outcomes
 use Rattle.nr_world.specs.declared.mark.Mark.{Mark}
-use Rattle.nr_world.specs.declared.mark.Opened.{Opened}
+use Rattle.nr_world.specs.declared.mark.LinkParameters.{LinkParameters}
 use Rattle.nr_world.specs.declared.report.CallState.{CallState}
 use Rattle.nr_world.specs.declared.report.CallState.TheVariants as call_states
 use Rattle.nr_world.specs.declared.report.LinkState.TheVariants as links
@@ -40,7 +40,7 @@ complete-is s st quiet a held kept =
     (completed_call k, subst (λ (xs : List Completed). Contains xs (completed_call k)) (sym st.at.completed_are) there, ap (λ (x : Accepted). x.xid) of.3)
 
 -- calls are executed until none is left
-none_left : (opened : Opened) (count : ℕ) (old new : Drill) → WorksAll drill_server opened the_link count old new → next_call the_link new.marks ≡ None
+none_left : (opened : LinkParameters) (count : ℕ) (old new : Drill) → WorksAll drill_server opened the_link count old new → next_call the_link new.marks ≡ None
 none_left opened zero old new w = ap (λ (d : Drill). next_call the_link d.marks) w.1 ∙ w.0
 none_left opened (suc count) old new w = none_left opened count w.0 new w.2
 
@@ -48,14 +48,14 @@ none_left opened (suc count) old new w = none_left opened count w.0 new w.2
 settled-is : (s : State) → Stands s → IsQuiet s → IsSettled the_link s.marks
 settled-is s st quiet =
     let c = s.credits in
-    let came : (counts_of s).came ≡ s.asked = omega (arith, st.came_asked, st.heard_served, quiet) in
+    let received_calls : (counts_of s).received_calls ≡ s.asked = omega (arith, st.came_asked, st.heard_served, quiet) in
     let reports : length s.reports ≡ s.served = omega (arith, st.came_asked, st.heard_served, quiet) in
     let w = works s st in
     let none = none_left (drill_opened c) w.count (drill_of s) (drill_of (worked s)) w.works in
     record {
-      up = st.at.up_got ∙ ap (upward c) came ∙ sym st.at.up_sent;
+      up = st.at.up_got ∙ ap (upward c) received_calls ∙ sym st.at.up_sent;
       down = st.at.down_got ∙ ap (downward c) reports ∙ sym st.at.down_sent;
-      executed = ap (λ (t : State). next_call the_link t.marks) (sym (w.still (omega (arith, came, reports, quiet)))) ∙ none;
+      executed = ap (λ (t : State). next_call the_link t.marks) (sym (w.still (omega (arith, received_calls, reports, quiet)))) ∙ none;
     }
 
 -- the promise holds for the link of a drill at its end

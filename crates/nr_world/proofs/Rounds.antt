@@ -10,8 +10,8 @@ use Rattle.nr_world.specs.Observed.{completed, links_of}
 use Rattle.nr_world.specs.Plain.{drill_server}
 use Rattle.nr_world.specs.Script.{Line, null_call, turns}
 use Rattle.nr_world.specs.Script.Line.{Drain}
-use Rattle.nr_world.specs.Follows.{Drill, drill_opened, start, openings, all_up, all_down, MovesLink, Moves, todo, Fell, Drains, Makes, MakeAll, WorksAll}
-use Rattle.nr_world.specs.Driver.{State, the_link, came, worked, heard, waits, works_on, asked_one}
+use Rattle.nr_world.specs.Follows.{Drill, drill_opened, start, openings, all_up, all_down, MovesLink, Moves, work_left, IsLess, Drains, Makes, MakeAll, WorksAll}
+use Rattle.nr_world.specs.Driver.{State, the_link, received_calls, worked, received_messages, waits, works_on, asked_one}
 use Rattle.nr_world.specs.Stands.{completed_call, counts_of, Stands, IsQuiet, drill_of, Round, Drained, Called, Played}
 use Rattle.nr_world.proofs.Runs.{length-each}
 use Rattle.nr_world.proofs.Standing.{asks, comes}
@@ -33,16 +33,16 @@ either-moves a u e h he eu =
           ∙ ap (λ (b : Bool). false || b || ltb h a) (le-ltb e a (omega arith))
     ]
 
-pub round_of : (s : State) → Stands s → Round s (heard (worked (came s))) (waits s.up || works_on (came s).arrived || waits (worked (came s)).down)
+pub round_of : (s : State) → Stands s → Round s (received_messages (worked (received_calls s))) (waits s.up || works_on (received_calls s).arrived || waits (worked (received_calls s)).down)
 round_of s st =
-    let t = came s in
+    let t = received_calls s in
     let up = comes s st in
     let u = worked t in
     let work = works t up.stands in
-    let v = heard u in
+    let v = received_messages u in
     let down = hears u work.stands work.none_left in
     let o = drill_opened s.credits in
-    let came_all : (counts_of t).came ≡ s.asked = up.all in
+    let came_all : (counts_of t).received_calls ≡ s.asked = up.all in
     let u_served : u.served ≡ s.asked = work.all ∙ came_all in
     let u_reports : u.reports ≡ s.reports = work.report_is ∙ up.report_is in
     let u_credits : u.credits ≡ s.credits = work.credits_are ∙ up.credits_are in
@@ -58,7 +58,7 @@ round_of s st =
       works = works_here;
       new_is = down.makes ∙ ap (λ (c : ℕ). all_down (drill_opened c) the_link (drill_of u)) u_credits;
     } in
-    let moved_work : works_on t.arrived ≡ ltb s.served s.asked = work.moved ∙ ap (λ (k : ℕ). ltb k (counts_of t).came) up.served_is ∙ ap (ltb s.served) came_all in
+    let moved_work : works_on t.arrived ≡ ltb s.served s.asked = work.moved ∙ ap (λ (k : ℕ). ltb k (counts_of t).received_calls) up.served_is ∙ ap (ltb s.served) came_all in
     let moved_down : waits u.down ≡ ltb (length s.reports) s.asked = down.moved ∙ ap (λ (xs : List CallReport). ltb (length xs) u.served) u_reports ∙ ap (ltb (length s.reports)) u_served in
     record {
       stands = down.stands;
@@ -68,9 +68,9 @@ round_of s st =
       makes = (drill_of v, one, refl);
       moved_is =
           ap (λ (b : Bool). b || works_on t.arrived || waits u.down) up.moved
-          ∙ ap (λ (b : Bool). ltb (counts_of s).came s.asked || b || waits u.down) moved_work
-          ∙ ap (λ (b : Bool). ltb (counts_of s).came s.asked || ltb s.served s.asked || b) moved_down
-          ∙ either-moves s.asked (counts_of s).came s.served (length s.reports) st.heard_served (omega arith);
+          ∙ ap (λ (b : Bool). ltb (counts_of s).received_calls s.asked || b || waits u.down) moved_work
+          ∙ ap (λ (b : Bool). ltb (counts_of s).received_calls s.asked || ltb s.served s.asked || b) moved_down
+          ∙ either-moves s.asked (counts_of s).received_calls s.served (length s.reports) st.heard_served (omega arith);
       still = λ quiet.
           let first : t ≡ s = up.still (omega (arith, quiet, st.heard_served, st.came_asked)) in
           let second : u ≡ t = work.still (omega (arith, up.served_is, came_all, quiet, st.heard_served, st.came_asked)) in
@@ -87,15 +87,15 @@ moved-marks s v moved st r e same =
     absurd (omega (arith, more, now, before, ap (λ (run : List Mark). length (completed the_link run)) same, r.quiet, r.asked_is))
 
 -- on the one link
-fell-links : (s v : State) → Fell (todo (drill_opened s.credits) (drill_of v) the_link) (todo (drill_opened s.credits) (drill_of s) the_link) → Fell (flat_map (todo (drill_opened s.credits) (drill_of v)) (links_of 1)) (flat_map (todo (drill_opened s.credits) (drill_of s)) (links_of 1))
-fell-links s v fell = rw (append-nil (todo (drill_opened s.credits) (drill_of v) the_link), append-nil (todo (drill_opened s.credits) (drill_of s) the_link)) fell
+fell-links : (s v : State) → IsLess (work_left (drill_opened s.credits) (drill_of v) the_link) (work_left (drill_opened s.credits) (drill_of s) the_link) → IsLess (flat_map (work_left (drill_opened s.credits) (drill_of v)) (links_of 1)) (flat_map (work_left (drill_opened s.credits) (drill_of s)) (links_of 1))
+fell-links s v fell = rw (append-nil (work_left (drill_opened s.credits) (drill_of v) the_link), append-nil (work_left (drill_opened s.credits) (drill_of s) the_link)) fell
 
 -- how far a drain is: nothing moved yet, or one round moved something
 pub record Draining (start now : State) : Type 0 where
   pub stands : Stands now
   pub asked_is : now.asked ≡ start.asked
   pub credits_are : now.credits ≡ start.credits
-  pub so_far : (now ≡ start) ⊎ (IsQuiet now × Moves drill_server (drill_opened start.credits) (links_of 1) (drill_of start) (drill_of now) × (now.marks ≢ start.marks) × Fell (flat_map (todo (drill_opened start.credits) (drill_of now)) (links_of 1)) (flat_map (todo (drill_opened start.credits) (drill_of start)) (links_of 1)))
+  pub so_far : (now ≡ start) ⊎ (IsQuiet now × Moves drill_server (drill_opened start.credits) (links_of 1) (drill_of start) (drill_of now) × (now.marks ≢ start.marks) × IsLess (flat_map (work_left (drill_opened start.credits) (drill_of now)) (links_of 1)) (flat_map (work_left (drill_opened start.credits) (drill_of start)) (links_of 1)))
 
 pub draining_none : (s : State) → Stands s → Draining s s
 draining_none s st = record { stands = st; asked_is = refl; credits_are = refl; so_far = inl refl }
@@ -113,7 +113,7 @@ draining_more start now new d r =
         r.quiet,
         subst (λ (s : State). Moves drill_server (drill_opened s.credits) (links_of 1) (drill_of s) (drill_of new)) first r.makes,
         (λ same. moved-marks now new true d.stands r refl (same ∙ ap (λ (s : State). s.marks) (sym first))),
-        subst (λ (s : State). Fell (flat_map (todo (drill_opened s.credits) (drill_of new)) (links_of 1)) (flat_map (todo (drill_opened s.credits) (drill_of s)) (links_of 1))) first
+        subst (λ (s : State). IsLess (flat_map (work_left (drill_opened s.credits) (drill_of new)) (links_of 1)) (flat_map (work_left (drill_opened s.credits) (drill_of s)) (links_of 1))) first
             (fell-links now new (fell-is now new d.stands r.stands r.credits_are r.asked_is r.quiet out)),
       );
     }

@@ -9,7 +9,7 @@ use Rattle.nr_world.specs.declared.mark.Mark.TheVariants as marks
 use Rattle.nr_world.specs.declared.mark.Conveyed.{Conveyed}
 use Rattle.nr_world.specs.Observed.{executed}
 use Rattle.nr_world.specs.Messages.{call_in, conveyed, messages, send, inline_message}
-use Rattle.nr_world.specs.Served.{came, next_call}
+use Rattle.nr_world.specs.Served.{received_calls, next_call}
 use Rattle.nr_world.specs.Plain.{null_reply, drill_server}
 use Rattle.nr_world.specs.Follows.{Drill, drill_opened, with_mark, settled, Works, WorksAll}
 use Rattle.nr_world.specs.Driver.{State, the_link, asked_payload, answer, written, answered_with, worked_on, worked, works_on, is_answered, wrote_down, executed_one}
@@ -30,27 +30,27 @@ pub record Worked (s : State) (new : State) : Type 0 where
   pub credits_are : new.credits ≡ s.credits
   pub count : ℕ
   pub works : WorksAll drill_server (drill_opened s.credits) the_link count (drill_of s) (drill_of new)
-  pub all : new.served ≡ (counts_of s).came
+  pub all : new.served ≡ (counts_of s).received_calls
   pub none_left : new.arrived ≡ None
-  pub moved : works_on s.arrived ≡ ltb s.served (counts_of s).came
-  pub still : s.served ≡ (counts_of s).came → new ≡ s
+  pub moved : works_on s.arrived ≡ ltb s.served (counts_of s).received_calls
+  pub still : s.served ≡ (counts_of s).received_calls → new ≡ s
 
 -- every call that was received is executed
-no_call : (credits : ℕ) (run : List Mark) (n : Counts) → At credits run n → n.came ≡ n.served → n.came < 2 ^ 32 → credits < 2 ^ 32 → next_call the_link run ≡ None
+no_call : (credits : ℕ) (run : List Mark) (n : Counts) → At credits run n → n.received_calls ≡ n.served → n.received_calls < 2 ^ 32 → credits < 2 ^ 32 → next_call the_link run ≡ None
 unfolding next_call
 no_call credits run n at all small few =
-    let calls : came the_link run ≡ each conveyed_call n.came =
-    ap (λ (xs : List ℕ). conveyed call_in (messages Initiator xs)) at.up_got ∙ calls-upward credits n.came small few in
-    slice_get_past (came the_link run) (length (executed the_link run))
-    (omega (arith, ap length calls, length-each conveyed_call n.came, ap length at.executed_are, length-each executed_call n.served))
+    let calls : received_calls the_link run ≡ each conveyed_call n.received_calls =
+    ap (λ (xs : List ℕ). conveyed call_in (messages Initiator xs)) at.up_got ∙ calls-upward credits n.received_calls small few in
+    slice_get_past (received_calls the_link run) (length (executed the_link run))
+    (omega (arith, ap length calls, length-each conveyed_call n.received_calls, ap length at.executed_are, length-each executed_call n.served))
 
 worked_none : (s : State) → s.arrived ≡ None → Stands s → Worked s (worked s)
 unfolding worked
 worked_none s none st =
     let w = words_of s st in
-    let all : (counts_of s).came ≡ s.served = ap (λ (a : Option Conveyed). s.served + arrived_one a) none ∙ add-zero s.served in
+    let all : (counts_of s).received_calls ≡ s.served = ap (λ (a : Option Conveyed). s.served + arrived_one a) none ∙ add-zero s.served in
     let same : worked_on s s.arrived ≡ s = ap (worked_on s) none in
-    let small : (counts_of s).came < 2 ^ 32 = omega (arith, w.small, st.came_asked) in
+    let small : (counts_of s).received_calls < 2 ^ 32 = omega (arith, w.small, st.came_asked) in
     subst (λ (t : State). Worked s t) (sym same) (record {
       stands = st;
       asked_is = refl;
@@ -60,7 +60,7 @@ worked_none s none st =
       works = (no_call s.credits s.marks (counts_of s) st.at all small w.few, refl);
       all = sym all;
       none_left = none;
-      moved = ap works_on none ∙ sym (le-ltb s.served (counts_of s).came (omega (arith, all)));
+      moved = ap works_on none ∙ sym (le-ltb s.served (counts_of s).received_calls (omega (arith, all)));
       still = λ e. refl;
     })
 
@@ -93,10 +93,10 @@ worked_one s call arrived is st =
     let c = s.credits in
     let n = counts_of s in
     let k = suc s.served in
-    let came_is : n.came ≡ k = ap (λ (a : Option Conveyed). s.served + arrived_one a) arrived ∙ add-one s.served in
-    let small : n.came < 2 ^ 32 = omega (arith, w.small, st.came_asked) in
+    let came_is : n.received_calls ≡ k = ap (λ (a : Option Conveyed). s.served + arrived_one a) arrived ∙ add-one s.served in
+    let small : n.received_calls < 2 ^ 32 = omega (arith, w.small, st.came_asked) in
     let small_k : k < 2 ^ 32 = omega (arith, small, came_is) in
-    let later : s.served < n.came = omega (arith, came_is) in
+    let later : s.served < n.received_calls = omega (arith, came_is) in
     let new = after_work s k 0 in
     let same : worked s ≡ new = worked-is s call arrived is small_k ∙ ap (after_work s k) st.no_entries in
     let run = s.marks ++ execute k ∷ [] in
@@ -105,9 +105,9 @@ worked_one s call arrived is st =
     let laws1 = Laws-execute c s.marks n st.at st.laws later small w.few in
     let at2 = At-write_down c run n1 at1 in
     let laws2 = Laws-write_down c run n1 at1 laws1 refl in
-    let counts_now : n.came ≡ k + 0 = came_is ∙ sym (add-zero k) in
+    let counts_now : n.received_calls ≡ k + 0 = came_is ∙ sym (add-zero k) in
     let n2 : Counts = record n { served = k; sent_down = k } in
-    let at3 : At c (run ++ write_down c k ∷ []) (record n2 { came = k + 0 }) = subst (λ (j : ℕ). At c (run ++ write_down c k ∷ []) (record n2 { came = j })) counts_now at2 in
+    let at3 : At c (run ++ write_down c k ∷ []) (record n2 { received_calls = k + 0 }) = subst (λ (j : ℕ). At c (run ++ write_down c k ∷ []) (record n2 { received_calls = j })) counts_now at2 in
     let log : s.down.log ≡ downward c s.served = ap (λ (p : PipeState). p.log) st.down_is in
     let place : s.down.place ≡ length (downward c (length s.reports)) = ap (λ (p : PipeState). p.place) st.down_is in
     let longer : s.down.log ++ answer c k ≡ downward c k = ap (λ (xs : List ℕ). xs ++ answer c k) log ∙ sym (downward-more c s.served) in
@@ -147,10 +147,10 @@ worked_one s call arrived is st =
       report_is = refl;
       credits_are = refl;
       count = 1;
-      works = (drill_of new, one, (no_call c (run ++ write_down c k ∷ []) (record n2 { came = k + 0 }) at3 (add-zero k) (omega (arith, small_k)) w.few, refl));
+      works = (drill_of new, one, (no_call c (run ++ write_down c k ∷ []) (record n2 { received_calls = k + 0 }) at3 (add-zero k) (omega (arith, small_k)) w.few, refl));
       all = sym came_is;
       none_left = refl;
-      moved = ap works_on (arrived ∙ ap (λ (x : Conveyed). Some x) is) ∙ ap is_answered (plain_reply-asked k small_k) ∙ sym (lt-ltb s.served n.came later);
+      moved = ap works_on (arrived ∙ ap (λ (x : Conveyed). Some x) is) ∙ ap is_answered (plain_reply-asked k small_k) ∙ sym (lt-ltb s.served n.received_calls later);
       still = λ e. absurd (omega (arith, e, came_is));
     })
 

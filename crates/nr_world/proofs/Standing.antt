@@ -17,7 +17,7 @@ use Rattle.nr_world.specs.Messages.{call_in}
 use Rattle.nr_world.specs.Ending.{ended_by}
 use Rattle.nr_world.specs.Window.{out_of, grant_of}
 use Rattle.nr_world.specs.Follows.{Drill, drill_opened, with_mark, settled, feeding, up_by, all_up, answer_of}
-use Rattle.nr_world.specs.Driver.{State, the_link, null, ask, written, all_read, asked_one, came_by, came, fed_up, is_some_byte, waits}
+use Rattle.nr_world.specs.Driver.{State, the_link, null, ask, written, all_read, asked_one, came_by, received_calls, fed_up, is_some_byte, waits}
 use Rattle.nr_world.specs.Stands.{upward, accepted_call, Counts, counts_of, arrived_one, At, Laws, Stands, IsQuiet, drill_of}
 use Rattle.nr_world.proofs.Runs.{length-each}
 use Rattle.nr_world.proofs.Frames.{conveyed_call, ask-conveys}
@@ -43,7 +43,7 @@ behind_part log front rest e = ap (drop (length front)) e ∙ drop_at front rest
 
 -- ---- a call goes out
 
-answer_of-is : (credits : ℕ) (run : List Mark) (n : Counts) → At credits run n → n.asked ≡ n.heard → n.heard < 2 ^ 32 → credits < 2 ^ 32 → answer_of (drill_opened credits) the_link run ≡ submissions.Accepted (suc n.asked)
+answer_of-is : (credits : ℕ) (run : List Mark) (n : Counts) → At credits run n → n.asked ≡ n.received_messages → n.received_messages < 2 ^ 32 → credits < 2 ^ 32 → answer_of (drill_opened credits) the_link run ≡ submissions.Accepted (suc n.asked)
 unfolding answer_of
 answer_of-is credits run n at all small few =
     let none = out_of-none credits run n at all small few in
@@ -86,14 +86,14 @@ asks_next s st quiet room =
     let c = s.credits in
     let k = suc s.asked in
     let n = counts_of s in
-    let small : n.heard < 2 ^ 32 = omega (arith, w.small, quiet) in
-    let all : n.came ≡ s.asked = omega (arith, st.came_asked, st.heard_served, quiet) in
+    let small : n.received_messages < 2 ^ 32 = omega (arith, w.small, quiet) in
+    let all : n.received_calls ≡ s.asked = omega (arith, st.came_asked, st.heard_served, quiet) in
     let at1 = At-submit c s.marks n st.at (omega (arith, st.came_asked)) (omega (arith, st.heard_served, st.came_asked)) in
     let n1 : Counts = record n { asked = k } in
     let laws1 = Laws-submit c s.marks n st.at st.laws quiet small w.few in
     let d : Drill = with_mark (submit k) (drill_of s) in
     let log : s.up.log ≡ upward c s.asked = ap (λ (p : PipeState). p.log) st.up_is in
-    let place : s.up.place ≡ length (upward c n.came) = ap (λ (p : PipeState). p.place) st.up_is in
+    let place : s.up.place ≡ length (upward c n.received_calls) = ap (λ (p : PipeState). p.place) st.up_is in
     let longer : s.up.log ++ ask c k ≡ upward c k = ap (λ (xs : List ℕ). xs ++ ask c k) log ∙ sym (upward-more c s.asked) in
     let within : s.up.place ≤ length s.up.log = omega (arith, place, ap length log, ap (λ (j : ℕ). length (upward c j)) all) in
     let way = waiting-written s.up (ask c k) within in
@@ -102,7 +102,7 @@ asks_next s st quiet room =
         at = At-write_up c (s.marks ++ submit k ∷ []) n1 at1;
         laws = Laws-write_up c (s.marks ++ submit k ∷ []) n1 at1 laws1 refl;
         arrived_is = st.arrived_is;
-        up_is = pipe_is (written s.up (ask c k)) (upward c k) (length (upward c n.came)) longer place (ap (λ (p : PipeState). p.faults) st.up_is);
+        up_is = pipe_is (written s.up (ask c k)) (upward c k) (length (upward c n.received_calls)) longer place (ap (λ (p : PipeState). p.faults) st.up_is);
         down_is = st.down_is;
         report_is = st.report_is;
         no_entries = st.no_entries;
@@ -136,9 +136,9 @@ pub record Comes (s : State) (new : State) : Type 0 where
   pub makes : drill_of new ≡ all_up (drill_opened s.credits) the_link (drill_of s)
   pub credits_are : new.credits ≡ s.credits
   pub served_is : new.served ≡ s.served
-  pub all : (counts_of new).came ≡ s.asked
-  pub moved : waits s.up ≡ ltb (counts_of s).came s.asked
-  pub still : s.asked ≡ (counts_of s).came → new ≡ s
+  pub all : (counts_of new).received_calls ≡ s.asked
+  pub moved : waits s.up ≡ ltb (counts_of s).received_calls s.asked
+  pub still : s.asked ≡ (counts_of s).received_calls → new ≡ s
 
 pub some_bytes : (xs : List ℕ) → 0 < length xs → is_some_byte xs ≡ true
 some_bytes [] lt = absurd (omega arith)
@@ -152,17 +152,17 @@ came_by-some s [] lt = absurd (omega arith)
 came_by-some s (b ∷ bytes) lt = refl
 
 -- no bytes wait for the server
-up-none : (s : State) → Stands s → s.asked ≡ (counts_of s).came → waiting_bytes s.up ≡ []
+up-none : (s : State) → Stands s → s.asked ≡ (counts_of s).received_calls → waiting_bytes s.up ≡ []
 up-none s st all =
     let log : s.up.log ≡ upward s.credits s.asked = ap (λ (p : PipeState). p.log) st.up_is in
-    let place : s.up.place ≡ length (upward s.credits (counts_of s).came) = ap (λ (p : PipeState). p.place) st.up_is in
+    let place : s.up.place ≡ length (upward s.credits (counts_of s).received_calls) = ap (λ (p : PipeState). p.place) st.up_is in
     drop_all s.up.place s.up.log (omega (arith, place, ap length log, ap (λ (k : ℕ). length (upward s.credits k)) all))
 
 -- one call waits for it
-up-one : (s : State) (k : ℕ) → Stands s → s.asked ≡ suc k → (counts_of s).came ≡ k → waiting_bytes s.up ≡ ask s.credits (suc k)
-up-one s k st next came =
+up-one : (s : State) (k : ℕ) → Stands s → s.asked ≡ suc k → (counts_of s).received_calls ≡ k → waiting_bytes s.up ≡ ask s.credits (suc k)
+up-one s k st next received_calls =
     let log : s.up.log ≡ upward s.credits k ++ ask s.credits (suc k) = ap (λ (p : PipeState). p.log) st.up_is ∙ ap (upward s.credits) next ∙ upward-more s.credits k in
-    let place : s.up.place ≡ length (upward s.credits k) = ap (λ (p : PipeState). p.place) st.up_is ∙ ap (λ (j : ℕ). length (upward s.credits j)) came in
+    let place : s.up.place ≡ length (upward s.credits k) = ap (λ (p : PipeState). p.place) st.up_is ∙ ap (λ (j : ℕ). length (upward s.credits j)) received_calls in
     ap (λ (j : ℕ). drop j s.up.log) place ∙ behind_part s.up.log (upward s.credits k) (ask s.credits (suc k)) log
 
 -- all the bytes under way are fed
@@ -172,12 +172,12 @@ take_length xs = take_all (length xs) xs (omega arith)
 pub drop_length : (xs : List ℕ) → drop (length xs) xs ≡ []
 drop_length xs = drop_all (length xs) xs (omega arith)
 
-comes_none : (s : State) → Stands s → s.asked ≡ (counts_of s).came → Comes s (came s)
-unfolding came up_by
+comes_none : (s : State) → Stands s → s.asked ≡ (counts_of s).received_calls → Comes s (received_calls s)
+unfolding received_calls up_by
 comes_none s st all =
     let c = s.credits in
     let none = up-none s st all in
-    let same : came s ≡ s = came_by-none s (waiting_bytes s.up) none in
+    let same : received_calls s ≡ s = came_by-none s (waiting_bytes s.up) none in
     let d = drill_of s in
     let fed = feeding-none Responder (take (length (waiting_bytes s.up)) (waiting_bytes s.up)) (record { up = drop (length (waiting_bytes s.up)) (waiting_bytes s.up); down = waiting_bytes s.down }) d (take_length (waiting_bytes s.up) ∙ none) in
     let makes : all_up (drill_opened c) the_link d ≡ d = ap (settled (drill_opened c) the_link) fed ∙ settled-none c d (counts_of s) st.at refl refl in
@@ -189,7 +189,7 @@ comes_none s st all =
       credits_are = refl;
       served_is = refl;
       all = sym all;
-      moved = ap is_some_byte none ∙ sym (le-ltb (counts_of s).came s.asked (omega arith));
+      moved = ap is_some_byte none ∙ sym (le-ltb (counts_of s).received_calls s.asked (omega arith));
       still = λ e. refl;
     })
 
@@ -222,29 +222,29 @@ fed_with s bytes call = record {
   reports = s.reports;
 }
 
-came-is : (s : State) (k : ℕ) → Stands s → waiting_bytes s.up ≡ ask s.credits k → k < 2 ^ 32 → s.credits < 2 ^ 32 → came s ≡ after_came s k
-unfolding came
-came-is s k st waits small few =
+received_calls-is : (s : State) (k : ℕ) → Stands s → waiting_bytes s.up ≡ ask s.credits k → k < 2 ^ 32 → s.credits < 2 ^ 32 → received_calls s ≡ after_came s k
+unfolding received_calls
+received_calls-is s k st waits small few =
     let some : 0 < length (waiting_bytes s.up) = omega (arith, some_ask s.credits k small, ap length waits) in
     let first : came_by s (waiting_bytes s.up) ≡ fed_with s (waiting_bytes s.up) (option_and_then call_in (ended_by (segment_in (waiting_bytes s.up)))) = came_by-some s (waiting_bytes s.up) some in
     first
     ∙ ap (λ (bytes : List ℕ). fed_with s bytes (option_and_then call_in (ended_by (segment_in bytes)))) waits
     ∙ ap (fed_with s (ask s.credits k)) (ask-conveys s.credits k small few)
 
-comes_one : (s : State) → Stands s → s.arrived ≡ None → s.asked ≡ suc s.served → Comes s (came s)
+comes_one : (s : State) → Stands s → s.arrived ≡ None → s.asked ≡ suc s.served → Comes s (received_calls s)
 unfolding up_by
 comes_one s st none next =
     let w = words_of s st in
     let c = s.credits in
     let n = counts_of s in
     let k = suc s.served in
-    let came_is : n.came ≡ s.served = ap (λ (a : Option Conveyed). s.served + arrived_one a) none ∙ add-zero s.served in
+    let came_is : n.received_calls ≡ s.served = ap (λ (a : Option Conveyed). s.served + arrived_one a) none ∙ add-zero s.served in
     let small : k < 2 ^ 32 = omega (arith, w.small, next) in
     let waits = up-one s s.served st next came_is in
     let new = after_came s k in
-    let same : came s ≡ new = came-is s k st waits small w.few in
-    let at1 : At c (s.marks ++ feed_up c k ∷ []) (record n { came = k }) =
-    subst (λ (j : ℕ). At c (s.marks ++ feed_up c (suc j) ∷ []) (record n { came = suc j })) came_is (At-feed_up c s.marks n st.at) in
+    let same : received_calls s ≡ new = received_calls-is s k st waits small w.few in
+    let at1 : At c (s.marks ++ feed_up c k ∷ []) (record n { received_calls = k }) =
+    subst (λ (j : ℕ). At c (s.marks ++ feed_up c (suc j) ∷ []) (record n { received_calls = suc j })) came_is (At-feed_up c s.marks n st.at) in
     let laws1 : Laws c (s.marks ++ feed_up c k ∷ []) =
     subst (λ (j : ℕ). Laws c (s.marks ++ feed_up c (suc j) ∷ [])) came_is (Laws-feed_up c s.marks n st.at st.laws (omega (arith, next, came_is))) in
     let log : s.up.log ≡ upward c s.asked = ap (λ (p : PipeState). p.log) st.up_is in
@@ -257,12 +257,12 @@ comes_one s st none next =
     ∙ ap (λ (xs : List ℕ). feeding the_link Responder (waiting_bytes s.up) (record { up = xs; down = down }) d) (drop_length (waiting_bytes s.up))
     ∙ feeding-some Responder (waiting_bytes s.up) (record { up = []; down = down }) d some
     ∙ ap (λ (xs : List ℕ). record { marks = s.marks ++ marks.Fed the_link Responder xs ∷ []; ways = record { up = []; down = down } ∷ []; seconds = 0 }) waits in
-    let makes : all_up (drill_opened c) the_link d ≡ fed_drill = ap (settled (drill_opened c) the_link) fed ∙ settled-none c fed_drill (record n { came = k }) at1 refl refl in
+    let makes : all_up (drill_opened c) the_link d ≡ fed_drill = ap (settled (drill_opened c) the_link) fed ∙ settled-none c fed_drill (record n { received_calls = k }) at1 refl refl in
     let read : waiting_bytes (all_read s.up) ≡ [] = drop_all (length s.up.log) s.up.log (omega arith) in
     let came_now : k ≡ s.served + 1 = sym (add-one s.served) in
     subst (λ (t : State). Comes s t) (sym same) (record {
       stands = record {
-        at = subst (λ (j : ℕ). At c (s.marks ++ feed_up c k ∷ []) (record n { came = j })) came_now at1;
+        at = subst (λ (j : ℕ). At c (s.marks ++ feed_up c k ∷ []) (record n { received_calls = j })) came_now at1;
         laws = laws1;
         arrived_is = ap conveyed_call came_now;
         up_is = pipe_is (all_read s.up) (upward c s.asked) (length (upward c (s.served + 1))) log (ap length log ∙ ap (λ (j : ℕ). length (upward c j)) (next ∙ came_now)) (ap (λ (p : PipeState). p.faults) st.up_is);
@@ -283,12 +283,12 @@ comes_one s st none next =
       credits_are = refl;
       served_is = refl;
       all = sym (next ∙ came_now);
-      moved = some_bytes (waiting_bytes s.up) some ∙ sym (lt-ltb n.came s.asked (omega (arith, next, came_is)));
+      moved = some_bytes (waiting_bytes s.up) some ∙ sym (lt-ltb n.received_calls s.asked (omega (arith, next, came_is)));
       still = λ e. absurd (omega (arith, e, came_is, next));
     })
 
 -- the counts say whether a call waits
-comes_by : (s : State) (a : Option Conveyed) → s.arrived ≡ a → Stands s → Comes s (came s)
+comes_by : (s : State) (a : Option Conveyed) → s.arrived ≡ a → Stands s → Comes s (received_calls s)
 comes_by s (Some call) e st =
     let one : arrived_one s.arrived ≡ 1 = ap arrived_one e in
     comes_none s st (omega (arith, one, st.came_asked, st.one_out, st.heard_served))
@@ -299,5 +299,5 @@ comes_by s None e st =
       | inr all ↦ comes_none s st (omega (arith, all, none, st.came_asked))
     ]
 
-pub comes : (s : State) → Stands s → Comes s (came s)
+pub comes : (s : State) → Stands s → Comes s (received_calls s)
 comes s st = comes_by s s.arrived refl st

@@ -15,14 +15,14 @@ use Rattle.nr_rpc.specs.Reading.{call_of, reply_of}
 use Rattle.nr_rpc.proofs.Replies.{reply_written}
 use Rattle.nr_world.specs.declared.mark.Conveyed.{Conveyed}
 use Rattle.nr_world.specs.declared.mark.Mark.{Mark}
-use Rattle.nr_world.specs.declared.mark.Opened.{Opened}
+use Rattle.nr_world.specs.declared.mark.LinkParameters.{LinkParameters}
 use Rattle.nr_world.specs.Observed.{PlainServer, Accepted, Executed, Completed, got, accepted, executed, completed}
 use Rattle.nr_world.specs.Messages.{is_greeted, conveyed, messages, call_in, reply_in, call_xid, reply_xid}
 use Rattle.nr_world.specs.Constants.{send_max}
 use Rattle.nr_world.specs.Owed.{own_hello}
-use Rattle.nr_world.specs.Window.{heard, has_words}
+use Rattle.nr_world.specs.Window.{received_messages, has_words}
 use Rattle.nr_world.specs.Asked.{Asked, AskedMark, done_with}
-use Rattle.nr_world.specs.Served.{Served, came, next_call}
+use Rattle.nr_world.specs.Served.{Served, received_calls, next_call}
 use Rattle.nr_world.specs.Completion.{IsComplete}
 use Rattle.nr_world.specs.Plain.{success, null_reply, is_null, reply_to, plain_reply, drill_server}
 use Rattle.nr_world.specs.Staying.{AreWords, IsSettled, IsHandedOver, AllReplied}
@@ -39,7 +39,7 @@ no_done : (link xid : ℕ) (o : Option Conveyed) (reply : Conveyed) → o ≡ So
 no_done link xid None reply is none = let wrong : ◌≡◌ {A = Option Conveyed} None (Some reply) = is in cc
 no_done link xid (Some r) reply is none = cc
 
-module _ (plain : PlainServer) (opened : Opened) (link : ℕ) (run : List Mark) (inline : AnswersInline plain) (words : AreWords opened link run)
+module _ (plain : PlainServer) (opened : LinkParameters) (link : ℕ) (run : List Mark) (inline : AnswersInline plain) (words : AreWords opened link run)
     (asked : Asked opened link run) (served : Served plain opened link run) (settled : IsSettled link run) where
   abbrev asks : List Accepted
   asks = accepted link run
@@ -70,7 +70,7 @@ module _ (plain : PlainServer) (opened : Opened) (link : ℕ) (run : List Mark) 
   asks_read = accepted_read opened link run words asked.each
 
   -- every accepted call was received
-  all_came : came link run ≡ map call_of_accepted asks
+  all_came : received_calls link run ≡ map call_of_accepted asks
   all_came =
       let few : length (map (ask_message opened) asks) < 2 ^ 32 = omega (arith, length-map asks (ask_message opened), asks_read.few) in
       let short : AreShort (map (ask_message opened) asks) =
@@ -103,7 +103,7 @@ module _ (plain : PlainServer) (opened : Opened) (link : ℕ) (run : List Mark) 
       all_both (IsReplied plain) (λ e. IsCall (call_of_executed e)) (IsAnswered opened) (λ e r c. is_answered plain opened e inline words.granted r c) done first.replied of_done
 
   -- every reply was received
-  all_heard : conveyed reply_in (heard link run) ≡ map reply_of_executed done
+  all_heard : conveyed reply_in (received_messages link run) ≡ map reply_of_executed done
   all_heard =
       let few : length (map (reply_message opened) done) < 2 ^ 32 =
       omega (arith, length-map done (reply_message opened), length-map done call_of_executed, ap length all_executed, length-map asks call_of_accepted, asks_read.few) in
@@ -118,19 +118,19 @@ module _ (plain : PlainServer) (opened : Opened) (link : ℕ) (run : List Mark) 
   pub reply_came : AllReplied link run
   reply_came a held =
       let own = λ (c : Conveyed). eqb c.xid a.xid in
-      let there : list_any own (conveyed reply_in (heard link run)) ≡ true =
+      let there : list_any own (conveyed reply_in (received_messages link run)) ≡ true =
       ap (list_any own) all_heard
       ∙ list_any-map own reply_of_executed done
       ∙ sym (list_any-map own call_of_executed done)
       ∙ ap (list_any own) all_executed
       ∙ list_any-map own call_of_accepted asks
       ∙ list_any_at (λ (b : Accepted). eqb b.xid a.xid) asks held.0 a held.1 (eq-eqb _ a.xid (ap (λ (b : Accepted). b.xid) held.2)) in
-      found own (conveyed reply_in (heard link run)) there
+      found own (conveyed reply_in (received_messages link run)) there
 
   pub completes : IsHandedOver link run → IsComplete link run
   completes handed a held kept =
       let of = λ (c : Completed). eqb c.xid a.xid in
-      let replied = find (λ reply. eqb reply.xid a.xid) (conveyed reply_in (heard link run)) in
+      let replied = find (λ reply. eqb reply.xid a.xid) (conveyed reply_in (received_messages link run)) in
       let came_back = reply_came a held in
       elim (cases_Bool (list_any of (completed link run))) [
         | inl there ↦

@@ -13,12 +13,12 @@ use Rattle.nr_world.specs.declared.mark.Conveyed.{Conveyed}
 use Rattle.nr_world.specs.declared.mark.Entry.{Entry}
 use Rattle.nr_world.specs.declared.mark.Mark.{Mark}
 use Rattle.nr_world.specs.declared.mark.Mark.TheVariants as marks
-use Rattle.nr_world.specs.declared.mark.Opened.{Opened}
+use Rattle.nr_world.specs.declared.mark.LinkParameters.{LinkParameters}
 use Rattle.nr_world.specs.Observed.{PlainServer, Executed, fed, got, executed_at, executed, journal}
 use Rattle.nr_world.specs.Messages.{has_hello, call_in, conveyed, messages, send, inline_message}
 use Rattle.nr_world.specs.Owed.{own_hello, answer_to, called_from, called_server, owed}
 use Rattle.nr_world.specs.Along.{Along}
-use Rattle.nr_world.specs.Served.{ServedMark, came, next_call}
+use Rattle.nr_world.specs.Served.{ServedMark, received_calls, next_call}
 use Rattle.nr_world.proofs.Runs.{called_from-more}
 use Rattle.nr_world.proofs.Streams.{hello_in-own, has_hello-own}
 use Rattle.nr_world.proofs.StayingLists.{Begins, slice_get-more, next_of, all_push}
@@ -28,22 +28,22 @@ use Rattle.nr_world.proofs.StayingRuns.Executing.{NoneDone, OneDone}
 use Rattle.nr_world.proofs.StayingOwed.{sends-push, other_side}
 
 -- the message of a reply
-abbrev pub reply_message : Opened → Executed → List ℕ
+abbrev pub reply_message : LinkParameters → Executed → List ℕ
 reply_message opened e = inline_message e.xid opened.granted e.reply
 
 -- the server's hello and the Sends of these replies, where the server has the client's hello
-abbrev pub replies : Opened → Bool → List Executed → List ℕ
+abbrev pub replies : LinkParameters → Bool → List Executed → List ℕ
 replies opened greeted es = cond greeted (own_hello Responder ++ sends 1 (map (reply_message opened) es)) []
 
-abbrev pub all_replies : Opened → ℕ → List Mark → List ℕ
+abbrev pub all_replies : LinkParameters → ℕ → List Mark → List ℕ
 all_replies opened link before = replies opened (has_hello Initiator (got link Responder before)) (executed link before)
 
 -- the output for a mark, by what the mark brings
-abbrev AddsReplies : Opened → List ℕ → List Executed → List ℕ → List ℕ → List Executed → Type 0
+abbrev AddsReplies : LinkParameters → List ℕ → List Executed → List ℕ → List ℕ → List Executed → Type 0
 AddsReplies opened before es called bytes new =
     replies opened (has_hello Initiator before) es ++ called ≡ replies opened (has_hello Initiator (before ++ bytes)) (es ++ new)
 
-replies_quiet : (opened : Opened) (before : List ℕ) (es : List Executed) (bytes : List ℕ) → bytes ≡ [] → AddsReplies opened before es [] bytes []
+replies_quiet : (opened : LinkParameters) (before : List ℕ) (es : List Executed) (bytes : List ℕ) → bytes ≡ [] → AddsReplies opened before es [] bytes []
 replies_quiet opened before es bytes none =
     let same : before ++ bytes ≡ before = ap (λ (xs : List ℕ). before ++ xs) none ∙ append-nil before in
     append-nil (replies opened (has_hello Initiator before) es)
@@ -51,7 +51,7 @@ replies_quiet opened before es bytes none =
     ∙ ap (replies opened (has_hello Initiator (before ++ bytes))) (sym (append-nil es))
 
 -- after the mark that makes the hello whole; before it no call was executed
-replies_greeted : (opened : Opened) (es : List Executed) (answer : List ℕ) (old new : Bool) → (old ≡ true → new ≡ true) → (old ≡ false → es ≡ []) → (new ≡ true → answer ≡ own_hello Responder)
+replies_greeted : (opened : LinkParameters) (es : List Executed) (answer : List ℕ) (old new : Bool) → (old ≡ true → new ≡ true) → (old ≡ false → es ≡ []) → (new ≡ true → answer ≡ own_hello Responder)
     → replies opened old es ++ cond (not old && new) answer [] ≡ replies opened new es
 replies_greeted opened es answer true true kept closed is = append-nil (replies opened true es)
 replies_greeted opened es answer true false kept closed is = absurd (let wrong : false ≡ true = kept refl in cc)
@@ -60,7 +60,7 @@ replies_greeted opened es answer false true kept closed is =
     ∙ ap (λ (xs : List Executed). own_hello Responder ++ sends 1 (map (reply_message opened) xs)) (sym (closed refl))
 replies_greeted opened es answer false false kept closed is = refl
 
-replies_fed : (opened : Opened) (before : List ℕ) (es : List Executed) (bytes : List ℕ) (here : Bool)
+replies_fed : (opened : LinkParameters) (before : List ℕ) (es : List Executed) (bytes : List ℕ) (here : Bool)
     → (has_hello Initiator before ≡ false → es ≡ []) → (here ≡ true → has_hello Initiator (before ++ bytes) ≡ true → answer_to (hello_in Initiator (before ++ bytes)) ≡ own_hello Responder)
     → AddsReplies opened before es (cond (here && (not (has_hello Initiator before) && has_hello Initiator (before ++ bytes))) (answer_to (hello_in Initiator (before ++ bytes))) []) (cond (here && true) bytes []) []
 replies_fed opened before es bytes true closed is =
@@ -68,7 +68,7 @@ replies_fed opened before es bytes true closed is =
     ∙ ap (replies opened (has_hello Initiator (before ++ bytes))) (sym (append-nil es))
 replies_fed opened before es bytes false closed is = replies_quiet opened before es [] refl
 
-replies_executed : (opened : Opened) (before : List ℕ) (es : List Executed) (e : Executed) (here : Bool) → (here ≡ true → has_hello Initiator before ≡ true)
+replies_executed : (opened : LinkParameters) (before : List ℕ) (es : List Executed) (e : Executed) (here : Bool) → (here ≡ true → has_hello Initiator before ≡ true)
     → AddsReplies opened before es (cond here (send (length es + 1) (reply_message opened e)) []) [] (cond here (e ∷ []) [])
 replies_executed opened before es e true whole =
     let there = whole refl in
@@ -102,7 +102,7 @@ own_answer x y more is there =
     ∙ hello_in-own Initiator in
     ap answer_to found
 
-module _ (plain : PlainServer) (opened : Opened) (link : ℕ) (run : List Mark) (client : Client link run) where
+module _ (plain : PlainServer) (opened : LinkParameters) (link : ℕ) (run : List Mark) (client : Client link run) where
   -- the answer to the hello that is whole after this mark
   answered : (before : List Mark) (mark : Mark) (rest : List Mark) (bytes : List ℕ) → before ++ mark ∷ rest ≡ run → fed link Responder mark ≡ bytes → has_hello Initiator (got link Responder before ++ bytes) ≡ true
       → answer_to (hello_in Initiator (got link Responder before ++ bytes)) ≡ own_hello Responder
@@ -146,15 +146,15 @@ stays_closed plain link before bytes new (OneDone x is h) closed e =
     absurd (both_ways _ (still_closed (got link Responder before) bytes e) (hello_came link before (record { xid = x.xid; payload = x.payload }) h.is_next))
 
 -- the output for a prefix of the run, and that no call is executed before the hello
-record Owes (opened : Opened) (link : ℕ) (before : List Mark) : Type 0 where
+record Owes (opened : LinkParameters) (link : ℕ) (before : List Mark) : Type 0 where
   called : called_from (called_server opened link) [] before ≡ all_replies opened link before
   closed : has_hello Initiator (got link Responder before) ≡ false → executed link before ≡ []
 
-owes_none : (opened : Opened) (link : ℕ) → Owes opened link []
+owes_none : (opened : LinkParameters) (link : ℕ) → Owes opened link []
 unfolding got executed
 owes_none opened link = record { called = ap (λ (b : Bool). replies opened b []) (sym (has_hello-none Initiator)); closed = λ e. refl }
 
-owes_more : (plain : PlainServer) (opened : Opened) (link : ℕ) (run : List Mark) → Client link run → (before : List Mark) (mark : Mark) (rest : List Mark) → before ++ mark ∷ rest ≡ run
+owes_more : (plain : PlainServer) (opened : LinkParameters) (link : ℕ) (run : List Mark) → Client link run → (before : List Mark) (mark : Mark) (rest : List Mark) → before ++ mark ∷ rest ≡ run
     → ServedMark plain opened link before mark → Owes opened link before → Owes opened link (before ++ mark ∷ [])
 owes_more plain opened link run client before mark rest parts h o =
     let called = called_server opened link in
@@ -170,7 +170,7 @@ owes_more plain opened link run client before mark rest parts h o =
     }
 
 -- all output of the server is its hello and the Sends of all replies so far
-pub owed_server : (plain : PlainServer) (opened : Opened) (link : ℕ) (run : List Mark) → Client link run → Along (ServedMark plain opened link) [] run
+pub owed_server : (plain : PlainServer) (opened : LinkParameters) (link : ℕ) (run : List Mark) → Client link run → Along (ServedMark plain opened link) [] run
     → owed opened link Responder run ≡ own_hello Responder ++ sends 1 (map (reply_message opened) (executed link run))
 unfolding owed
 owed_server plain opened link run client along =
@@ -181,8 +181,8 @@ owed_server plain opened link run client along =
 -- ---- the calls that were executed
 
 -- the calls that were received before are a prefix of those received
-pub came-beyond : (link : ℕ) (before rest : List Mark) → Begins (came link before) (came link (before ++ rest))
-came-beyond link before rest =
+pub received_calls-beyond : (link : ℕ) (before rest : List Mark) → Begins (received_calls link before) (received_calls link (before ++ rest))
+received_calls-beyond link before rest =
     let longer = messages-more Initiator (got link Responder before) (got link Responder rest) in (
       conveyed call_in longer.0,
       sym (filter_map-append call_in (messages Initiator (got link Responder before)) longer.0)
@@ -199,47 +199,47 @@ IsReplied plain e = (entries : List Entry) × plain.Replies entries e.moment e.p
 
 -- the executed calls are the first that were received, and each has such a reply
 pub record AreFirst (plain : PlainServer) (link : ℕ) (run before : List Mark) : Type 0 where
-  pub calls : Begins (map call_of_executed (executed link before)) (came link run)
+  pub calls : Begins (map call_of_executed (executed link before)) (received_calls link run)
   pub replied : AllByRecursion (IsReplied plain) (executed link before)
 
 first_none : (plain : PlainServer) (link : ℕ) (run : List Mark) → AreFirst plain link run []
 unfolding executed
-first_none plain link run = record { calls = (came link run, refl); replied = tt }
+first_none plain link run = record { calls = (received_calls link run, refl); replied = tt }
 
 first_more : (plain : PlainServer) (link : ℕ) (run before rest : List Mark) (new : List Executed) → before ++ rest ≡ run → Executing plain link before new → AreFirst plain link run before
-    → Begins (map call_of_executed (executed link before ++ new)) (came link run) × AllByRecursion (IsReplied plain) (executed link before ++ new)
+    → Begins (map call_of_executed (executed link before ++ new)) (received_calls link run) × AllByRecursion (IsReplied plain) (executed link before ++ new)
 unfolding next_call
 first_more plain link run before rest new parts (NoneDone none) f =
     let same : executed link before ≡ executed link before ++ new = sym (ap (λ (xs : List Executed). executed link before ++ xs) none ∙ append-nil (executed link before)) in
-    (subst (λ (es : List Executed). Begins (map call_of_executed es) (came link run)) same f.calls, subst (AllByRecursion (IsReplied plain)) same f.replied)
+    (subst (λ (es : List Executed). Begins (map call_of_executed es) (received_calls link run)) same f.calls, subst (AllByRecursion (IsReplied plain)) same f.replied)
 first_more plain link run before rest new parts (OneDone e is h) f =
     let es = executed link before in
     let call = call_of_executed e in
     let firsts = map call_of_executed es in
-    let here = came-beyond link before rest in
-    let all : came link before ++ here.0 ≡ firsts ++ f.calls.0 = here.1 ∙ ap (came link) parts ∙ sym f.calls.1 in
+    let here = received_calls-beyond link before rest in
+    let all : received_calls link before ++ here.0 ≡ firsts ++ f.calls.0 = here.1 ∙ ap (received_calls link) parts ∙ sym f.calls.1 in
     let at : slice_get (firsts ++ f.calls.0) (length firsts) ≡ Some call =
     ap (slice_get (firsts ++ f.calls.0)) (length-map es call_of_executed)
     ∙ ap (λ (cs : List Conveyed). slice_get cs (length es)) (sym all)
-    ∙ slice_get-more (came link before) here.0 (length es) call h.is_next in
+    ∙ slice_get-more (received_calls link before) here.0 (length es) call h.is_next in
     let next = next_of firsts f.calls.0 call at in
     let one : executed link before ++ e ∷ [] ≡ executed link before ++ new = ap (λ (xs : List Executed). es ++ xs) (sym is) in
-    let longer : map call_of_executed (es ++ e ∷ []) ++ next.0 ≡ came link run =
+    let longer : map call_of_executed (es ++ e ∷ []) ++ next.0 ≡ received_calls link run =
     ap (λ (cs : List Conveyed). cs ++ next.0) (map-append call_of_executed es (e ∷ []))
     ∙ append_assoc firsts (call ∷ []) next.0
     ∙ ap (λ (cs : List Conveyed). firsts ++ cs) (sym next.1)
     ∙ f.calls.1 in (
-      subst (λ (xs : List Executed). Begins (map call_of_executed xs) (came link run)) one (next.0, longer),
+      subst (λ (xs : List Executed). Begins (map call_of_executed xs) (received_calls link run)) one (next.0, longer),
       subst (AllByRecursion (IsReplied plain)) one (all_push (IsReplied plain) es e f.replied (journal plain before, h.replied)),
     )
 
-pub executed_first : (plain : PlainServer) (opened : Opened) (link : ℕ) (run : List Mark) → Along (ServedMark plain opened link) [] run → AreFirst plain link run run
+pub executed_first : (plain : PlainServer) (opened : LinkParameters) (link : ℕ) (run : List Mark) → Along (ServedMark plain opened link) [] run → AreFirst plain link run run
 executed_first plain opened link run along =
     each_keeps (ServedMark plain opened link) (AreFirst plain link run) run
     (λ before mark rest parts h f.
     let more = first_more plain link run before (mark ∷ rest) (executed_at link mark) parts (executing plain opened link before mark h) f in
     record {
-      calls = subst (λ (es : List Executed). Begins (map call_of_executed es) (came link run)) (sym (executed-more link before mark)) more.0;
+      calls = subst (λ (es : List Executed). Begins (map call_of_executed es) (received_calls link run)) (sym (executed-more link before mark)) more.0;
       replied = subst (AllByRecursion (IsReplied plain)) (sym (executed-more link before mark)) more.1;
     })
     [] run refl along (first_none plain link run)

@@ -12,7 +12,7 @@ use Rattle.nr_world.specs.declared.mark.Conveyed.{Conveyed}
 use Rattle.nr_world.specs.declared.mark.Entry.{Entry}
 use Rattle.nr_world.specs.declared.mark.Mark.{Mark}
 use Rattle.nr_world.specs.declared.mark.Moment.{Moment}
-use Rattle.nr_world.specs.declared.mark.Opened.{Opened}
+use Rattle.nr_world.specs.declared.mark.LinkParameters.{LinkParameters}
 use Rattle.nr_world.specs.Observed.{PlainServer, Accepted, Executed, accepted_at, accepted}
 use Rattle.nr_world.specs.Messages.{call_xid, call_in, reply_in}
 use Rattle.nr_world.specs.Owed.{call_payload}
@@ -28,10 +28,10 @@ use Rattle.nr_world.proofs.StayingAnswers.{reply_message, call_of_executed, IsRe
 
 -- ---- number and length of the calls
 
-abbrev FitsCall : Opened → Accepted → Type 0
+abbrev FitsCall : LinkParameters → Accepted → Type 0
 FitsCall opened a = Fits opened a.xid a.call
 
-record AreFew (opened : Opened) (calls : List Accepted) : Type 0 where
+record AreFew (opened : LinkParameters) (calls : List Accepted) : Type 0 where
   fit : AllByRecursion (FitsCall opened) calls
   few : length calls < 2 ^ 32
 
@@ -43,7 +43,7 @@ accepted_there link run before rest mark a parts is =
     (ap (λ (new : List Accepted). (calls ++ new) ++ accepted link rest) (sym is) ∙ sym (accepted-around link before mark rest) ∙ ap (accepted link) parts)
     (Contains-append_left (calls ++ a ∷ []) (accepted link rest) a (Contains-push calls a))
 
-few_more : (opened : Opened) (link : ℕ) (before : List Mark) (new : List Accepted) → 1 ≤ opened.first_xid → ((a : Accepted) → new ≡ a ∷ [] → a.xid < 2 ^ 32)
+few_more : (opened : LinkParameters) (link : ℕ) (before : List Mark) (new : List Accepted) → 1 ≤ opened.first_xid → ((a : Accepted) → new ≡ a ∷ [] → a.xid < 2 ^ 32)
     → Accepting opened link before new → AreFew opened (accepted link before) → AreFew opened (accepted link before ++ new)
 few_more opened link before new first small (NoneNew none) f =
     subst (AreFew opened) (sym (ap (λ (xs : List Accepted). accepted link before ++ xs) none ∙ append-nil (accepted link before))) f
@@ -54,11 +54,11 @@ few_more opened link before new first small (OneNew a is xid fits) f =
       few = omega (arith, length_push (accepted link before) a, xid, small a is, first);
     })
 
-few_none : (opened : Opened) (link : ℕ) → AreFew opened (accepted link [])
+few_none : (opened : LinkParameters) (link : ℕ) → AreFew opened (accepted link [])
 unfolding accepted
 few_none opened link = record { fit = tt; few = lit< tt }
 
-accepted_few : (opened : Opened) (link : ℕ) (run : List Mark) → AreWords opened link run → Along (AskedMark opened link) [] run → AreFew opened (accepted link run)
+accepted_few : (opened : LinkParameters) (link : ℕ) (run : List Mark) → AreWords opened link run → Along (AskedMark opened link) [] run → AreFew opened (accepted link run)
 accepted_few opened link run words along =
     each_keeps (AskedMark opened link) (λ (before : List Mark). AreFew opened (accepted link before)) run
     (λ before mark rest parts h f.
@@ -79,7 +79,7 @@ pub record IsCall (call : Conveyed) : Type 0 where
   pub small : call.xid < 2 ^ 32
   pub own : call_xid (call_of call.payload) ≡ Some call.xid
 
-pub record IsRead (opened : Opened) (a : Accepted) : Type 0 where
+pub record IsRead (opened : LinkParameters) (a : Accepted) : Type 0 where
   pub call : IsCall (call_of_accepted a)
   pub short : length (ask_message opened a) ≤ send_max
   pub read : call_in (ask_message opened a) ≡ Some (call_of_accepted a)
@@ -88,7 +88,7 @@ own_xid : (a : Accepted) → CanWriteCall (head_of a) → CallFits (head_of a) �
 unfolding call_payload
 own_xid a can fits = ap call_xid (call_written (head_of a) a.call.args can fits)
 
-is_read : (opened : Opened) (a : Accepted) → opened.wished < 2 ^ 32 → FitsCall opened a → CanWriteCall (head_of a) × CallFits (head_of a) → IsRead opened a
+is_read : (opened : LinkParameters) (a : Accepted) → opened.wished < 2 ^ 32 → FitsCall opened a → CanWriteCall (head_of a) × CallFits (head_of a) → IsRead opened a
 is_read opened a few short encoded =
     let payload = call_payload a.xid a.call in
     let own = own_xid a encoded.0 encoded.1 in
@@ -99,11 +99,11 @@ is_read opened a few short encoded =
       read = call_in-message a.xid opened.wished payload encoded.1.0 few (omega (arith, len, short)) own;
     }
 
-pub record AreRead (opened : Opened) (calls : List Accepted) : Type 0 where
+pub record AreRead (opened : LinkParameters) (calls : List Accepted) : Type 0 where
   pub each : AllByRecursion (IsRead opened) calls
   pub few : length calls < 2 ^ 32
 
-pub accepted_read : (opened : Opened) (link : ℕ) (run : List Mark) → AreWords opened link run → Along (AskedMark opened link) [] run → AreRead opened (accepted link run)
+pub accepted_read : (opened : LinkParameters) (link : ℕ) (run : List Mark) → AreWords opened link run → Along (AskedMark opened link) [] run → AreRead opened (accepted link run)
 accepted_read opened link run words along =
     let calls = accepted link run in
     let f = accepted_few opened link run words along in
@@ -125,11 +125,11 @@ reply_of_executed e = record { xid = e.xid; payload = e.reply }
 abbrev pub AnswersInline : PlainServer → Type 0
 AnswersInline plain = (entries : List Entry) (moment : Moment) (payload reply : List ℕ) → plain.Replies entries moment payload reply → IsInline payload reply
 
-pub record IsAnswered (opened : Opened) (e : Executed) : Type 0 where
+pub record IsAnswered (opened : LinkParameters) (e : Executed) : Type 0 where
   pub short : length (reply_message opened e) ≤ send_max
   pub read : reply_in (reply_message opened e) ≡ Some (reply_of_executed e)
 
-pub is_answered : (plain : PlainServer) (opened : Opened) (e : Executed) → AnswersInline plain → opened.granted < 2 ^ 32 → IsReplied plain e → IsCall (call_of_executed e) → IsAnswered opened e
+pub is_answered : (plain : PlainServer) (opened : LinkParameters) (e : Executed) → AnswersInline plain → opened.granted < 2 ^ 32 → IsReplied plain e → IsCall (call_of_executed e) → IsAnswered opened e
 is_answered plain opened e inline few replied call =
     let goes = inline replied.0 e.moment e.payload e.reply replied.1 in
     let len = length-inline_message e.xid opened.granted e.reply in

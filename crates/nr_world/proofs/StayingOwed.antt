@@ -5,7 +5,7 @@ use Rattle.nr_wire.specs.declared.hello.Side.TheVariants.{Initiator, Responder}
 use Rattle.nr_world.specs.declared.call.Submission.TheVariants as submissions
 use Rattle.nr_world.specs.declared.mark.Mark.{Mark}
 use Rattle.nr_world.specs.declared.mark.Mark.TheVariants as marks
-use Rattle.nr_world.specs.declared.mark.Opened.{Opened}
+use Rattle.nr_world.specs.declared.mark.LinkParameters.{LinkParameters}
 use Rattle.nr_world.specs.Observed.{Accepted, fed, got, accepted_at, accepted}
 use Rattle.nr_world.specs.Messages.{is_greeted, send, inline_message}
 use Rattle.nr_world.specs.Owed.{own_hello, call_payload, asking, asking_each, called_from, called_client, owed}
@@ -15,10 +15,10 @@ use Rattle.nr_world.proofs.StayingStreams.{sends, sends-more, is_greeted-more}
 use Rattle.nr_world.proofs.StayingRuns.{each_keeps, got-more, accepted-more}
 
 -- the message of an accepted call
-abbrev pub ask_message : Opened → Accepted → List ℕ
+abbrev pub ask_message : LinkParameters → Accepted → List ℕ
 ask_message opened a = inline_message a.xid opened.wished (call_payload a.xid a.call)
 
-pub asking_each-sends : (opened : Opened) (msn : ℕ) (calls : List Accepted) → asking_each opened msn calls ≡ sends msn (map (ask_message opened) calls)
+pub asking_each-sends : (opened : LinkParameters) (msn : ℕ) (calls : List Accepted) → asking_each opened msn calls ≡ sends msn (map (ask_message opened) calls)
 asking_each-sends opened msn [] = refl
 asking_each-sends opened msn (a ∷ calls) = ap (λ (xs : List ℕ). asking opened msn a ++ xs) (asking_each-sends opened (msn + 1) calls)
 
@@ -30,20 +30,20 @@ sends-push f xs x =
     ∙ ap (λ (n : ℕ). sends 1 (map f xs) ++ send (n + 1) (f x)) (length-map xs f)
 
 -- the Sends of these calls, where the client has the server's hello
-abbrev asks : Opened → Bool → List Accepted → List ℕ
+abbrev asks : LinkParameters → Bool → List Accepted → List ℕ
 asks opened greeted calls = cond greeted (sends 1 (map (ask_message opened) calls)) []
 
 -- the output for all calls of the client so far
-abbrev pub all_asks : Opened → ℕ → List Mark → List ℕ
+abbrev pub all_asks : LinkParameters → ℕ → List Mark → List ℕ
 all_asks opened link before = asks opened (is_greeted Responder (got link Initiator before)) (accepted link before)
 
-asks_submit : (opened : Opened) (calls : List Accepted) (a : Accepted) (here greeted : Bool)
+asks_submit : (opened : LinkParameters) (calls : List Accepted) (a : Accepted) (here greeted : Bool)
     → asks opened greeted calls ++ cond (here && greeted) (asking opened (length calls + 1) a) [] ≡ asks opened greeted (calls ++ cond here (a ∷ []) [])
 asks_submit opened calls a true true = sym (sends-push (ask_message opened) calls a)
 asks_submit opened calls a true false = refl
 asks_submit opened calls a false greeted = append-nil (asks opened greeted calls) ∙ ap (asks opened greeted) (sym (append-nil calls))
 
-asks_greeted : (opened : Opened) (calls : List Accepted) (old new : Bool) → (old ≡ true → new ≡ true)
+asks_greeted : (opened : LinkParameters) (calls : List Accepted) (old new : Bool) → (old ≡ true → new ≡ true)
     → asks opened old calls ++ cond (not old && new) (asking_each opened 1 calls) [] ≡ asks opened new calls
 asks_greeted opened calls true true kept = append-nil (asks opened true calls)
 asks_greeted opened calls true false kept = absurd (let wrong : false ≡ true = kept refl in cc)
@@ -51,18 +51,18 @@ asks_greeted opened calls false true kept = asking_each-sends opened 1 calls
 asks_greeted opened calls false false kept = refl
 
 -- the output for a mark, by what the mark brings
-abbrev AddsAsks : Opened → List ℕ → List Accepted → List ℕ → List ℕ → List Accepted → Type 0
+abbrev AddsAsks : LinkParameters → List ℕ → List Accepted → List ℕ → List ℕ → List Accepted → Type 0
 AddsAsks opened before calls called bytes new =
     asks opened (is_greeted Responder before) calls ++ called ≡ asks opened (is_greeted Responder (before ++ bytes)) (calls ++ new)
 
-asks_quiet : (opened : Opened) (before : List ℕ) (calls : List Accepted) (bytes : List ℕ) → bytes ≡ [] → AddsAsks opened before calls [] bytes []
+asks_quiet : (opened : LinkParameters) (before : List ℕ) (calls : List Accepted) (bytes : List ℕ) → bytes ≡ [] → AddsAsks opened before calls [] bytes []
 asks_quiet opened before calls bytes none =
     let same : before ++ bytes ≡ before = ap (λ (xs : List ℕ). before ++ xs) none ∙ append-nil before in
     append-nil (asks opened (is_greeted Responder before) calls)
     ∙ ap (λ (xs : List ℕ). asks opened (is_greeted Responder xs) calls) (sym same)
     ∙ ap (asks opened (is_greeted Responder (before ++ bytes))) (sym (append-nil calls))
 
-asks_fed : (opened : Opened) (before : List ℕ) (calls : List Accepted) (bytes : List ℕ) (here : Bool)
+asks_fed : (opened : LinkParameters) (before : List ℕ) (calls : List Accepted) (bytes : List ℕ) (here : Bool)
     → AddsAsks opened before calls (cond (here && (not (is_greeted Responder before) && is_greeted Responder (before ++ bytes))) (asking_each opened 1 calls) []) (cond (here && true) bytes []) []
 asks_fed opened before calls bytes true =
     asks_greeted opened calls (is_greeted Responder before) (is_greeted Responder (before ++ bytes)) (is_greeted-more Responder before bytes)
@@ -73,11 +73,11 @@ pub other_side : (here : Bool) (bytes : List ℕ) → cond (here && false) bytes
 other_side true bytes = refl
 other_side false bytes = refl
 
-asks_refused : (opened : Opened) (before : List ℕ) (calls : List Accepted) (here : Bool) → AddsAsks opened before calls [] [] (cond here [] [])
+asks_refused : (opened : LinkParameters) (before : List ℕ) (calls : List Accepted) (here : Bool) → AddsAsks opened before calls [] [] (cond here [] [])
 asks_refused opened before calls true = asks_quiet opened before calls [] refl
 asks_refused opened before calls false = asks_quiet opened before calls [] refl
 
-adds_asks : (opened : Opened) (link : ℕ) (before : List Mark) (mark : Mark)
+adds_asks : (opened : LinkParameters) (link : ℕ) (before : List Mark) (mark : Mark)
     → AddsAsks opened (got link Initiator before) (accepted link before) (called_client opened link before mark) (fed link Initiator mark) (accepted_at link mark)
 adds_asks opened link before (marks.Submit l call form (submissions.Accepted xid)) =
     let a : Accepted = record { xid = xid; call = call; form = form } in
@@ -97,13 +97,13 @@ adds_asks opened link before (marks.Forget l xid) = asks_quiet opened (got link 
 adds_asks opened link before (marks.Revoke l xid bytes) = asks_quiet opened (got link Initiator before) (accepted link before) [] refl
 adds_asks opened link before (marks.Drop l) = asks_quiet opened (got link Initiator before) (accepted link before) [] refl
 
-one_more_ask : (opened : Opened) (link : ℕ) (before : List Mark) (mark : Mark) → all_asks opened link before ++ called_client opened link before mark ≡ all_asks opened link (before ++ mark ∷ [])
+one_more_ask : (opened : LinkParameters) (link : ℕ) (before : List Mark) (mark : Mark) → all_asks opened link before ++ called_client opened link before mark ≡ all_asks opened link (before ++ mark ∷ [])
 one_more_ask opened link before mark =
     adds_asks opened link before mark
     ∙ ap (λ (xs : List ℕ). asks opened (is_greeted Responder xs) (accepted link before ++ accepted_at link mark)) (sym (got-more link Initiator before mark))
     ∙ ap (asks opened (is_greeted Responder (got link Initiator (before ++ mark ∷ [])))) (sym (accepted-more link before mark))
 
-none_asked : (opened : Opened) (link : ℕ) → [] ≡ all_asks opened link []
+none_asked : (opened : LinkParameters) (link : ℕ) → [] ≡ all_asks opened link []
 unfolding accepted
 none_asked opened link = nothing (is_greeted Responder (got link Initiator []))
   where
@@ -112,7 +112,7 @@ none_asked opened link = nothing (is_greeted Responder (got link Initiator []))
     nothing false = refl
 
 -- all output of the client is its hello, and the Sends of all calls so far once it has the server's hello
-pub owed_client : (P : List Mark → Mark → Type 0) (opened : Opened) (link : ℕ) (run : List Mark) → Along P [] run → owed opened link Initiator run ≡ own_hello Initiator ++ all_asks opened link run
+pub owed_client : (P : List Mark → Mark → Type 0) (opened : LinkParameters) (link : ℕ) (run : List Mark) → Along P [] run → owed opened link Initiator run ≡ own_hello Initiator ++ all_asks opened link run
 unfolding owed
 owed_client P opened link run along =
     let called = called_client opened link in

@@ -9,7 +9,7 @@ use Rattle.nr_wire.specs.declared.hello.Side.{Side}
 use Rattle.nr_world.specs.declared.call.Submission.TheVariants as submissions
 use Rattle.nr_world.specs.declared.mark.Mark.{Mark}
 use Rattle.nr_world.specs.declared.mark.Mark.TheVariants as marks
-use Rattle.nr_world.specs.declared.mark.Opened.{Opened}
+use Rattle.nr_world.specs.declared.mark.LinkParameters.{LinkParameters}
 use Rattle.nr_world.specs.Observed.{PlainServer, Accepted, Executed, fed, got, accepted_at, accepted, executed_at, executed}
 use Rattle.nr_world.specs.Along.{Along}
 use Rattle.nr_world.specs.Asked.{AskedMark, Fits}
@@ -57,20 +57,20 @@ got-beyond link side before rest = flat_map-append (fed link side) before rest
 -- ---- the calls of a mark
 
 -- a mark that accepts no call, or this call
-pub data Accepting (opened : Opened) (link : ℕ) (before : List Mark) (new : List Accepted) : Type 0 where
+pub data Accepting (opened : LinkParameters) (link : ℕ) (before : List Mark) (new : List Accepted) : Type 0 where
   NoneNew : new ≡ [] → Accepting opened link before new
   OneNew : (a : Accepted) → new ≡ a ∷ [] → a.xid ≡ opened.first_xid + length (accepted link before) → Fits opened a.xid a.call → Accepting opened link before new
 
-accepting_here : (opened : Opened) (link : ℕ) (before : List Mark) (l : ℕ) (a : Accepted) (here : Bool) → eqb l link ≡ here
+accepting_here : (opened : LinkParameters) (link : ℕ) (before : List Mark) (l : ℕ) (a : Accepted) (here : Bool) → eqb l link ≡ here
     → (l ≡ link → (a.xid ≡ opened.first_xid + length (accepted link before)) × Fits opened a.xid a.call) → Accepting opened link before (cond here (a ∷ []) [])
 accepting_here opened link before l a true e h = let own = h (eqb-true l link e) in OneNew a refl own.0 own.1
 accepting_here opened link before l a false e h = NoneNew refl
 
-no_accept : {opened : Opened} {link : ℕ} {before : List Mark} (here : Bool) → Accepting opened link before (cond here [] [])
+no_accept : {opened : LinkParameters} {link : ℕ} {before : List Mark} (here : Bool) → Accepting opened link before (cond here [] [])
 no_accept true = NoneNew refl
 no_accept false = NoneNew refl
 
-pub accepting : (opened : Opened) (link : ℕ) (before : List Mark) (mark : Mark) → AskedMark opened link before mark → Accepting opened link before (accepted_at link mark)
+pub accepting : (opened : LinkParameters) (link : ℕ) (before : List Mark) (mark : Mark) → AskedMark opened link before mark → Accepting opened link before (accepted_at link mark)
 accepting opened link before (marks.Submit l call form (submissions.Accepted xid)) h =
     accepting_here opened link before l (record { xid = xid; call = call; form = form }) (eqb l link) refl h
 accepting opened link before (marks.Submit l call form (submissions.Refused why)) h = no_accept (eqb l link)
@@ -93,7 +93,7 @@ executing_here : (plain : PlainServer) (link : ℕ) (before : List Mark) (l : �
 executing_here plain link before l e true is h = OneDone e refl (h (eqb-true l link is))
 executing_here plain link before l e false is h = NoneDone refl
 
-pub executing : (plain : PlainServer) (opened : Opened) (link : ℕ) (before : List Mark) (mark : Mark) → ServedMark plain opened link before mark → Executing plain link before (executed_at link mark)
+pub executing : (plain : PlainServer) (opened : LinkParameters) (link : ℕ) (before : List Mark) (mark : Mark) → ServedMark plain opened link before mark → Executing plain link before (executed_at link mark)
 executing plain opened link before (marks.Execute l xid moment payload place reply) h =
     executing_here plain link before l (record { xid = xid; moment = moment; payload = payload; place = place; reply = reply }) (eqb l link) refl h
 executing plain opened link before (marks.Submit l call form answer) h = NoneDone refl

@@ -179,8 +179,8 @@ abbrev pub came_by : State → List ℕ → State
 came_by s [] = s
 came_by s (b ∷ bytes) = fed_up s (option_and_then call_in (ended_by (segment_in (b ∷ bytes))))
 
-unfoldable pub came : State → State
-came s = came_by s (waiting_bytes s.up)
+unfoldable pub received_calls : State → State
+received_calls s = came_by s (waiting_bytes s.up)
 
 -- after the client is fed, and hands over the completed calls
 abbrev pub done_one : State → Conveyed → State
@@ -205,8 +205,8 @@ abbrev pub heard_by : State → List ℕ → State
 heard_by s [] = s
 heard_by s (b ∷ bytes) = done_by (fed_down s) (option_and_then reply_in (ended_by (segment_in (b ∷ bytes))))
 
-unfoldable pub heard : State → State
-heard s = heard_by s (waiting_bytes s.down)
+unfoldable pub received_messages : State → State
+received_messages s = heard_by s (waiting_bytes s.down)
 
 -- a link that is open
 unfoldable pub opened_state : ℕ → State

@@ -12,7 +12,7 @@ use Rattle.nr_world.specs.declared.call.Call.{Call}
 use Rattle.nr_world.specs.declared.call.Submission.TheVariants as submissions
 use Rattle.nr_world.specs.declared.mark.Mark.{Mark}
 use Rattle.nr_world.specs.declared.mark.Mark.TheVariants as marks
-use Rattle.nr_world.specs.declared.mark.Opened.{Opened}
+use Rattle.nr_world.specs.declared.mark.LinkParameters.{LinkParameters}
 use Rattle.nr_world.specs.Observed.{Accepted, sent, got, accepted, executed}
 use Rattle.nr_world.specs.Messages.{has_hello, is_greeted, send, inline_message}
 
@@ -37,16 +37,16 @@ call_payload xid call = call_encoding (Version2 xid call.prog call.vers call.pro
 
 -- The Sends of some accepted calls, the first of which is Send number msn of the link. These calls go without chunk
 -- lists.
-abbrev pub asking : Opened → ℕ → Accepted → List ℕ
+abbrev pub asking : LinkParameters → ℕ → Accepted → List ℕ
 asking opened msn a = send msn (inline_message a.xid opened.wished (call_payload a.xid a.call))
 
-abbrev pub asking_each : Opened → ℕ → List Accepted → List ℕ
+abbrev pub asking_each : LinkParameters → ℕ → List Accepted → List ℕ
 asking_each opened msn [] = []
 asking_each opened msn (a ∷ others) = asking opened msn a ++ asking_each opened (msn + 1) others
 
 -- The client's output for a mark: a Send of each call that it accepts, once it has the server's hello. (RFC 5044
 -- section 7.1)
-abbrev pub called_client : Opened → ℕ → List Mark → Mark → List ℕ
+abbrev pub called_client : LinkParameters → ℕ → List Mark → Mark → List ℕ
 called_client opened link before (marks.Submit l call form (submissions.Accepted xid)) =
     if l == link && is_greeted Responder (got link Initiator before)
     then asking opened (length (accepted link before) + 1) (record { xid = xid; call = call; form = form }) else []
@@ -60,7 +60,7 @@ abbrev pub answered : ℕ → List Mark → ℕ
 answered link run = length (executed link run)
 
 -- The server's output for a mark: its answer to the client's hello once that is whole, and a Send of each reply.
-abbrev pub called_server : Opened → ℕ → List Mark → Mark → List ℕ
+abbrev pub called_server : LinkParameters → ℕ → List Mark → Mark → List ℕ
 called_server opened link before (marks.Fed l Responder bytes) =
     if l == link && (not (has_hello Initiator (got link Responder before)) && has_hello Initiator (got link Responder before ++ bytes))
     then answer_to (hello_in Initiator (got link Responder before ++ bytes)) else []
@@ -74,10 +74,10 @@ called_from called before [] = []
 called_from called before (mark ∷ run) = called before mark ++ called_from called (before ++ mark ∷ []) run
 
 -- All output of a side by these marks. The client begins with its hello.
-unfoldable pub owed : Opened → ℕ → Side → List Mark → List ℕ
+unfoldable pub owed : LinkParameters → ℕ → Side → List Mark → List ℕ
 owed opened link Initiator run = own_hello Initiator ++ called_from (called_client opened link) [] run
 owed opened link Responder run = called_from (called_server opened link) [] run
 
 -- a side wrote all of its output
-abbrev pub HasWritten : Opened → ℕ → Side → List Mark → Type 0
+abbrev pub HasWritten : LinkParameters → ℕ → Side → List Mark → Type 0
 HasWritten opened link side run = sent link side run ≡ owed opened link side run

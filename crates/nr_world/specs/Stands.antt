@@ -59,10 +59,10 @@ report_call k = record { client = the_link; number = k; state = call_states.Answ
 pub record Counts : Type 0 where
   pub asked : ℕ
   pub sent_up : ℕ
-  pub came : ℕ
+  pub received_calls : ℕ
   pub served : ℕ
   pub sent_down : ℕ
-  pub heard : ℕ
+  pub received_messages : ℕ
   pub done : ℕ
 
 -- what the marks say of the k-th call by then
@@ -96,9 +96,9 @@ report_over before (mark ∷ run) rest = report_at drill_server stays_up before 
 -- what the marks of a drill say by these counts
 pub record At (credits : ℕ) (run : List Mark) (n : Counts) : Type 0 where
   pub up_sent : sent the_link Initiator run ≡ upward credits n.sent_up
-  pub up_got : got the_link Responder run ≡ upward credits n.came
+  pub up_got : got the_link Responder run ≡ upward credits n.received_calls
   pub down_sent : sent the_link Responder run ≡ downward credits n.sent_down
-  pub down_got : got the_link Initiator run ≡ downward credits n.heard
+  pub down_got : got the_link Initiator run ≡ downward credits n.received_messages
   pub up_owed : owed (drill_opened credits) the_link Initiator run ≡ upward credits n.asked
   pub down_owed : owed (drill_opened credits) the_link Responder run ≡ downward credits n.served
   pub accepted_are : accepted the_link run ≡ each accepted_call n.asked
@@ -128,10 +128,10 @@ abbrev pub counts_of : State → Counts
 counts_of s = record {
   asked = s.asked;
   sent_up = s.asked;
-  came = s.served + arrived_one s.arrived;
+  received_calls = s.served + arrived_one s.arrived;
   served = s.served;
   sent_down = s.served;
-  heard = length s.reports;
+  received_messages = length s.reports;
   done = length s.reports;
 }
 

@@ -9,12 +9,12 @@ use Rattle.nr_world.specs.declared.mark.Conveyed.{Conveyed}
 use Rattle.nr_world.specs.declared.mark.Entry.{Entry}
 use Rattle.nr_world.specs.declared.mark.Mark.{Mark}
 use Rattle.nr_world.specs.declared.mark.Moment.{Moment}
-use Rattle.nr_world.specs.declared.mark.Opened.{Opened}
+use Rattle.nr_world.specs.declared.mark.LinkParameters.{LinkParameters}
 use Rattle.nr_world.specs.Observed.{PlainServer, Accepted, sent, got, accepted, is_given_up}
 use Rattle.nr_world.specs.Messages.{inline_message, conveyed, reply_in, call_xid, reply_xid}
 use Rattle.nr_world.specs.Asked.{done_for}
 use Rattle.nr_world.specs.Served.{next_call}
-use Rattle.nr_world.specs.Window.{heard}
+use Rattle.nr_world.specs.Window.{received_messages}
 use Rattle.nr_world.specs.Constants.{send_max}
 
 -- Nothing is under way on a link: each side got all that the other sent, and every received call is executed.
@@ -30,7 +30,7 @@ IsHandedOver link run = (a : Accepted) → Contains (accepted link run) a → is
 -- the reply to every accepted call was received by its client
 abbrev pub AllReplied : ℕ → List Mark → Type 0
 AllReplied link run = (a : Accepted) → Contains (accepted link run) a →
-    (reply : Conveyed) × (find (λ reply. reply.xid == a.xid) (conveyed reply_in (heard link run)) ≡ Some reply)
+    (reply : Conveyed) × (find (λ reply. reply.xid == a.xid) (conveyed reply_in (received_messages link run)) ≡ Some reply)
 
 -- the head of an accepted call (RFC 5531 section 9)
 abbrev pub head_of : Accepted → CallHead
@@ -38,7 +38,7 @@ head_of a = Version2 a.xid a.call.prog a.call.vers a.call.proc a.call.cred 0
 
 -- The credits with which the ends of a link were opened are words, its xids don't begin at 0, and each call that it
 -- accepted has an encoding under its xid.
-pub record AreWords (opened : Opened) (link : ℕ) (run : List Mark) : Type 0 where
+pub record AreWords (opened : LinkParameters) (link : ℕ) (run : List Mark) : Type 0 where
   pub wished : opened.wished < 2 ^ 32
   pub granted : opened.granted < 2 ^ 32
   pub first : 1 ≤ opened.first_xid

@@ -16,15 +16,15 @@ abbrev pub has_words : List ℕ → Bool
 has_words message = not (nat_lt (length message) FIXED_LEN)
 
 -- the messages that the client of a link received, without those that are shorter
-abbrev pub heard : ℕ → List Mark → List (List ℕ)
-heard link run = filter has_words (messages Responder (got link Initiator run))
+abbrev pub received_messages : ℕ → List Mark → List (List ℕ)
+received_messages link run = filter has_words (messages Responder (got link Initiator run))
 
 abbrev pub is_heard : List (List ℕ) → Accepted → Bool
 is_heard whole a = list_any (λ message. xid_in message == a.xid) whole
 
 -- how many accepted calls have no whole message of their xid yet
 unfoldable pub out_of : ℕ → List Mark → ℕ
-out_of link run = count_by (λ a. not (is_heard (heard link run) a)) (accepted link run)
+out_of link run = count_by (λ a. not (is_heard (received_messages link run) a)) (accepted link run)
 
 -- the credits of a credit word: 0 counts as 1, and more than the maximum as the maximum
 abbrev pub credits_by : ℕ → ℕ
@@ -36,7 +36,7 @@ granted_by [] granted = granted
 granted_by (message ∷ others) granted = granted_by others (credits_by (credit_in message))
 
 unfoldable pub grant_of : ℕ → List Mark → ℕ
-grant_of link run = granted_by (heard link run) 1
+grant_of link run = granted_by (received_messages link run) 1
 
 -- a call goes out only while fewer are out than are granted
 abbrev pub WithinGrant : ℕ → List Mark → Mark → Type 0

@@ -4,7 +4,7 @@ ghost use Rattle.std.specs.Prelude.{◌≡◌, ℕ, List};
 ghost use Rattle.nr_world.specs.declared.mark.Entry.{Entry};
 ghost use Rattle.nr_world.specs.declared.mark.Mark.{Mark};
 ghost use Rattle.nr_world.specs.declared.mark.Moment.{Moment};
-ghost use Rattle.nr_world.specs.declared.mark.Opened.{Opened};
+ghost use Rattle.nr_world.specs.declared.mark.LinkParameters.{LinkParameters};
 ghost use Rattle.nr_world.specs.Asked.{Asked};
 ghost use Rattle.nr_world.specs.Completion.{IsComplete};
 ghost use Rattle.nr_world.specs.Plain.{drill_server};
@@ -19,14 +19,14 @@ use crate::script::{MOST_CREDITS, SCRIPT_MAX};
 /// handed over.
 pub fn link_that_stays()
     // For any server whose replies go without chunk lists.
-    ensures replied { (adds : Moment → List ℕ → List ℕ → List Entry) (opened : Opened) (link : ℕ) (run : List Mark) →
+    ensures replied { (adds : Moment → List ℕ → List ℕ → List Entry) (opened : LinkParameters) (link : ℕ) (run : List Mark) →
         AreWords opened link run → Asked opened link run → Served (inline_server adds) opened link run →
         IsSettled link run → AllReplied link run }
-    ensures completes { (adds : Moment → List ℕ → List ℕ → List Entry) (opened : Opened) (link : ℕ) (run : List Mark) →
+    ensures completes { (adds : Moment → List ℕ → List ℕ → List Entry) (opened : LinkParameters) (link : ℕ) (run : List Mark) →
         AreWords opened link run → Asked opened link run → Served (inline_server adds) opened link run →
         IsSettled link run → IsHandedOver link run → IsComplete link run }
     // For the server of these drills, which is one of those.
-    ensures drill { (opened : Opened) (link : ℕ) (run : List Mark) → AreWords opened link run → Asked opened link run →
+    ensures drill { (opened : LinkParameters) (link : ℕ) (run : List Mark) → AreWords opened link run → Asked opened link run →
         Served drill_server opened link run → IsSettled link run → IsHandedOver link run → IsComplete link run }
 {}
 

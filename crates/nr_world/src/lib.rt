@@ -19,7 +19,7 @@ mod world;
 
 pub use call::{Call, End, Form, Lack, Lengths, Offer, Outcome, Refused, Submission};
 pub use laws::{link_that_stays, script_limits};
-pub use mark::{Entry, Mark, Marks, Moment, Opened};
+pub use mark::{Entry, LinkParameters, Mark, Marks, Moment};
 pub use printing::shown;
 pub use reading::read_script;
 pub use report::{

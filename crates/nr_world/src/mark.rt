@@ -16,7 +16,7 @@ pub struct Moment {
 /// What the two ends of a link were opened with: the client's first xid and first STag, the credits that it asks for,
 /// and the credits that the server grants.
 #[derive(Clone, Copy, Debug, PartialEq, Eq)]
-pub struct Opened {
+pub struct LinkParameters {
     pub first_xid: u32,
     pub first_stag: u32,
     pub wished: u32,

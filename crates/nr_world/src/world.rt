@@ -17,7 +17,7 @@ ghost use Rattle.nr_world.specs.Owed.{own_hello};
 ghost use Rattle.nr_world.specs.Plain.{plain_reply};
 ghost use Rattle.nr_world.specs.Headline.{Reports};
 ghost use Rattle.nr_world.specs.Stands.{Stands, IsQuiet, Round, Drained, Called, Played, Tells};
-ghost use Rattle.nr_world.specs.Driver.{null, ask, wrote_up, wrote_down, fed_up, fed_down, opened_state, asked_one, waits, came, works_on, worked, done_one, heard};
+ghost use Rattle.nr_world.specs.Driver.{null, ask, wrote_up, wrote_down, fed_up, fed_down, opened_state, asked_one, waits, received_calls, works_on, worked, done_one, received_messages};
 
 use crate::call::{Call, Form, Outcome, Submission};
 use crate::mark::{Conveyed, Entry, Mark, Moment};
@@ -266,10 +266,10 @@ impl World {
     }
 
     /// The server is fed all the bytes that wait for it. Says whether any waited.
-    #[tactic(auto, unfolding(crate::specs::Driver::came))]
+    #[tactic(auto, unfolding(crate::specs::Driver::received_calls))]
     fn feed_up(&mut self) -> Result<bool, Memory>
         ensures moves { IfOk result (λ moved. moved ≡ waits self.old.up) }
-        ensures state { OnOk result (self.new ≡ came self.old) }
+        ensures state { OnOk result (self.new ≡ received_calls self.old) }
     {
         let waiting = self.up.waiting();
         if waiting == 0 {
@@ -357,11 +357,11 @@ impl World {
 
     /// The client is fed all the bytes that wait for it, and hands over the completed calls. Says whether any bytes
     /// waited.
-    #[tactic(auto, unfolding(crate::specs::Driver::heard))]
+    #[tactic(auto, unfolding(crate::specs::Driver::received_messages))]
     fn feed_down(&mut self) -> Result<bool, Memory>
         requires { length self.old.reports ≤ most_lines }
         ensures moves { IfOk result (λ moved. moved ≡ waits self.old.down) }
-        ensures state { OnOk result (self.new ≡ heard self.old) }
+        ensures state { OnOk result (self.new ≡ received_messages self.old) }
     {
         let waiting = self.down.waiting();
         if waiting == 0 {

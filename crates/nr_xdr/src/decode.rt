@@ -1,6 +1,6 @@
 //! Readings of several items: where the first item that fails begins, and nothing else about it.
 
-ghost use Rattle.std.specs.Prelude.{◌≡◌, ◌+◌, ◌≤◌, length};
+ghost use Rattle.std.specs.Prelude.{◌≡◌, ◌+◌, ◌≤◌, length, OnErr};
 ghost use Rattle.nr_xdr.specs.Fields.{word_at};
 ghost use Rattle.nr_xdr.specs.Matching.{MatchesRead};
 ghost use Rattle.nr_xdr.specs.Reading.{place_of};
@@ -29,7 +29,8 @@ impl From<ItemFault> for DecodeError {
 
 /// Reads an unsigned integer.
 pub fn number(reader: &mut Reader<'_>) -> Result<u32, DecodeError>
-    ensures { MatchesRead (λ n. n) result reader.new (number_at reader.old) }
+    ensures exact { MatchesRead (λ n. n) result reader.new (number_at reader.old) }
+    ensures err { OnErr result (reader.new ≡ reader.old) }
 {
     Ok(reader.u32()?)
 }

@@ -3,8 +3,6 @@
 ghost use Rattle.std.specs.Prelude.{◌≡◌};
 
 use std::alloc::{AllocError, AllocFailed};
-use std::fmt;
-use std::fmt::{Display, Formatter};
 use thiserror::Error;
 
 /// Memory ran out. Writing has no other fault.
@@ -48,20 +46,4 @@ impl ItemFault {
             ItemFault::Short { at } | ItemFault::Long { at, .. } | ItemFault::BadBool { at } => at,
         }
     }
-
-    fn text(self) -> &'static str {
-        match self {
-            ItemFault::Short { .. } => "runs past the end",
-            ItemFault::Long { .. } => "is longer than its maximum",
-            ItemFault::BadBool { .. } => "is a boolean that is neither 0 nor 1",
-        }
-    }
 }
-
-impl Display for ItemFault {
-    fn fmt<W: fmt::Write>(&self, f: &mut Formatter<W>) -> fmt::Result {
-        write!(f, "the item at byte {} {}", self.at(), self.text())
-    }
-}
-
-impl std::error::Error for ItemFault {}

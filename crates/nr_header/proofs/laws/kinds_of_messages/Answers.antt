@@ -1,4 +1,4 @@
-use Rattle.nr_header.proofs.KindsOfMessages.{short_is, other_version, msg_is, nomsg_is, msgp_is, done_is, error_is, versions_are, bad_chunk_is, above_is}
+use Rattle.nr_header.proofs.KindsOfMessages.{short_is, other_version, msg_is, nomsg_is, msgp_is, done_is, error_is, versions_are, bad_chunk_is, above_is, lists_are, msg_fine, nomsg_bad}
 use Rattle.nr_header.proofs.laws.kinds_of_messages.Goals as goal
 
 pub returns-clause-short : goal.returns-clause-short
@@ -30,3 +30,12 @@ returns-clause-chunk c = bad_chunk_is
 
 pub returns-clause-above : goal.returns-clause-above
 returns-clause-above c = above_is
+
+pub returns-clause-lists : goal.returns-clause-lists
+returns-clause-lists c = lists_are
+
+pub returns-clause-msg_read : goal.returns-clause-msg_read
+returns-clause-msg_read c = msg_fine
+
+pub returns-clause-nomsg_read : goal.returns-clause-nomsg_read
+returns-clause-nomsg_read c = nomsg_bad

@@ -8,12 +8,12 @@ use Rattle.nr_rpc.proofs.sys.numbers.Goals as goal
 pub returns-in_err-number : goal.returns-in_err-number
 returns-in_err-number c =
     let p = err_from_is_err_and c.from_residual.result c.from_residual.ensures.1 in
-    rw (p.1, p.2) (ends c.in_err-number.field-0.0.at c.loop.gids c.args.count c.loop.counter c.loop.reader (numbers_at c.args.count c.args.reader.now) c.loop-test.true c.in_err-number.ensures c.loop.invariant.1)
+    rw (p.1, p.2) (ends c.in_err-number.field-0.0.at c.loop.gids c.args.count c.loop.counter c.loop.reader (numbers_at c.args.count c.args.reader.now) c.loop-test.true c.in_err-number.ensures.exact c.loop.invariant.1)
 
 pub loop-preserved : goal.loop-preserved
 loop-preserved c =
     let n = c.in_ok-number.field-0 in
-    let more = goes_on c.loop.gids c.args.count c.loop.counter c.loop.reader n c.number.new.reader (numbers_at c.args.count c.args.reader.now) c.loop-test.true c.in_ok-number.ensures c.loop.invariant.1 in
+    let more = goes_on c.loop.gids c.args.count c.loop.counter c.loop.reader n c.number.new.reader (numbers_at c.args.count c.args.reader.now) c.loop-test.true c.in_ok-number.ensures.exact c.loop.invariant.1 in
     rw c.push.ensures (omega (arith, length_push c.loop.gids n, c.loop.invariant.0), more)
 
 pub returns : goal.returns
