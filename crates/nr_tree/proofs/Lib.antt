@@ -21,3 +21,6 @@ pub mod RemovalReady
 pub mod StepLemmas
 pub mod ListingLemmas
 pub mod DrillLemmas
+pub mod LastPlace
+pub mod NodeChanges
+pub mod RenameLemmas

@@ -103,7 +103,7 @@ undone m k v none =
     (λ q. get-remove nat_cmp_total (insert m k v) k q ∙ ap (cond (eq_by_cmp nat_cmp q k) None) (get-insert nat_cmp_total m k v q)
     ∙ undo_at m k q v (eq_by_cmp nat_cmp q k) refl none)
 
-other_by : (m : FinMap nat_cmp Node) (k : ℕ) (change : Node → Node) (q : ℕ) (o : Option Node) → (q ≡ k → ⊥) → get (option_map_or (λ node. insert m k (change node)) o m) q ≡ get m q
+pub other_by : (m : FinMap nat_cmp Node) (k : ℕ) (change : Node → Node) (q : ℕ) (o : Option Node) → (q ≡ k → ⊥) → get (option_map_or (λ node. insert m k (change node)) o m) q ≡ get m q
 other_by m k change q None ne = refl
 other_by m k change q (Some v) ne = get-insert nat_cmp_total m k (change v) q ∙ ap (λ b. cond b (Some (change v)) (get m q)) (other_key q k ne)
 
@@ -124,7 +124,7 @@ get_by m k f q (Some v) b e t = get-insert nat_cmp_total m k (f v) q ∙ ap (λ 
 pub get_changed : (m : FinMap nat_cmp Node) (k : ℕ) (f : Node → Node) (q : ℕ) → get (nodes_with_change m k f) q ≡ cond (eq_by_cmp nat_cmp q k) (option_map f (get m k)) (get m q)
 get_changed m k f q = get_by m k f q (get m k) (eq_by_cmp nat_cmp q k) refl refl
 
-turn : (x y : Bool) (p q r : Option Node) → (x ≡ true → y ≡ true → ⊥) → cond x p (cond y q r) ≡ cond y q (cond x p r)
+pub turn : (x y : Bool) (p q r : Option Node) → (x ≡ true → y ≡ true → ⊥) → cond x p (cond y q r) ≡ cond y q (cond x p r)
 turn true true p q r ne = absurd (ne refl refl)
 turn true false p q r ne = refl
 turn false true p q r ne = refl

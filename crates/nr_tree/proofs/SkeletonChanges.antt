@@ -51,7 +51,7 @@ value_at-metadata f z nodes k v w e same = value_at-insert f z nodes k w ∙ set
 pub with_change-at : (nodes : Nodes) (k : ℕ) (v : Node) (change : Node → Node) → get nodes k ≡ Some v → nodes_with_change nodes k change ≡ insert nodes k (change v)
 with_change-at nodes k v change e = ap (λ o. option_map_or (λ node. insert nodes k (change node)) o nodes) e
 
-same_kind : (change : Entries → Entries) (c : Content) → is_directory (on_entries change c) ≡ is_directory c
+pub same_kind : (change : Entries → Entries) (c : Content) → is_directory (on_entries change c) ≡ is_directory c
 same_kind change (Regular bytes) = refl
 same_kind change (Directory entries) = refl
 same_kind change (Block device) = refl
@@ -72,7 +72,7 @@ one_more now name n b v (Link path) e t = absurd cc
 one_more now name n b v Socket e t = absurd cc
 one_more now name n b v Fifo e t = absurd cc
 
-one_less : (now : Time) (name : List ℕ) (b : Bool) (v : Node) (c : Content) → v.content ≡ c → is_directory c ≡ true → entries_in (node_without_entry now name b v) ≡ list_without name (entries_in v)
+pub one_less : (now : Time) (name : List ℕ) (b : Bool) (v : Node) (c : Content) → v.content ≡ c → is_directory c ≡ true → entries_in (node_without_entry now name b v) ≡ list_without name (entries_in v)
 one_less now name b v (Directory entries) e t = rw (e) refl
 one_less now name b v (Regular bytes) e t = absurd cc
 one_less now name b v (Block device) e t = absurd cc

@@ -106,7 +106,7 @@ directory_may_leave t d name e sane found dir bare =
       linked = subst (λ (o : Option Node). IfSome o (λ x. 0 < x.metadata.links)) (sym w.1) (omega (arith, some, same));
     }
 
-may_leave : (t : Tree) (d : ℕ) (name : List ℕ) (e : Entry) → IsSane t → entry_at t d name ≡ Some e → (is_dir_at t e.number ≡ true → entries_at t e.number ≡ []) → IsRemovable t d e.number
+pub may_leave : (t : Tree) (d : ℕ) (name : List ℕ) (e : Entry) → IsSane t → entry_at t d name ≡ Some e → (is_dir_at t e.number ≡ true → entries_at t e.number ≡ []) → IsRemovable t d e.number
 may_leave t d name e sane found bare = by (cases_Bool (is_dir_at t e.number)) where
   by : (is_dir_at t e.number ≡ true) ⊎ (is_dir_at t e.number ≡ false) → IsRemovable t d e.number
   by (inl dir) = directory_may_leave t d name e sane found dir (bare dir)

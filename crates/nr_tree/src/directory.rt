@@ -1,6 +1,6 @@
 //! The entries of a directory, in the order in which they were made.
 
-ghost use Rattle.std.specs.Prelude.{◌≡◌, ◌+◌, ◌<◌, ◌^◌, [], ◌∷◌, ◌++◌, None, Some, slice_get, length, map, OnOk, OnErr, IsOk};
+ghost use Rattle.std.specs.Prelude.{◌≡◌, ◌+◌, ◌<◌, ◌^◌, [], ◌∷◌, ◌++◌, None, Some, slice_get, length, map, OnOk, OnErr, IsOk, is_some, true};
 ghost use Rattle.std.specs.Option.{option_map, option_copied};
 
 use indexmap::IndexMap;
@@ -74,6 +74,17 @@ impl Directory {
         Ok(())
     }
 
+    /// Takes the entry of a name out, and puts one for another number last, under the next cookie. Takes no memory.
+    pub fn replace(&mut self, name: Vec<u8>, number: u64)
+        requires found { is_some (entry_of_name name.items self.old.list) ≡ true }
+        requires cookies { self.old.next_cookie < 2 ^ 63 }
+        ensures { self.new ≡ entries_with (entries_without self.old name.items) name.items number }
+    {
+        let cookie = self.next_cookie;
+        put_last(&mut self.slots, name, Slot { cookie, number });
+        self.next_cookie = cookie + 1;
+    }
+
     /// Takes the entry of a name out; the others keep their order and their cookies. Takes no memory.
     pub fn remove(&mut self, name: &[u8])
         ensures { self.new ≡ entries_without self.old name.now }
@@ -120,6 +131,18 @@ fn append(slots: &mut IndexMap<Vec<u8>, Slot>, name: Vec<u8>, slot: Slot) -> Res
 {
     slots.insert(name, slot)?;
     Ok(())
+}
+
+/// The slot goes last, in place of the one under its name.
+fn put_last(slots: &mut IndexMap<Vec<u8>, Slot>, name: Vec<u8>, slot: Slot)
+    requires { is_some (entry_of_name name.items (entries_of slots.old.entries)) ≡ true }
+    ensures { entries_of slots.new.entries ≡ list_without name.items (entries_of slots.old.entries) ++ record { cookie = slot.cookie; name = name.items; number = slot.number } ∷ [] }
+{
+    let last = slots.len() - 1;
+    match slots.shift_insert(last, name, slot) {
+        Ok(_) => {}
+        Err(_) => unreachable!(),
+    }
 }
 
 #[tactic(auto, using(crate::proofs::Slots::slots_without))]

@@ -45,8 +45,8 @@ ghost use Rattle.std.specs.Option.{option_map};
 ghost use Rattle.nr_tree.specs.Entries.{entry_of_name};
 ghost use Rattle.nr_tree.specs.Skeleton.{one_if};
 ghost use Rattle.nr_tree.specs.Tree.{is_dir as is_directory_node, is_regular as is_regular_node, entries_in, type_of, bytes_of, device_of, attributes_of};
-ghost use Rattle.nr_tree.specs.Changes.{node_with_entry, node_without_entry, node_with_link, node_without_link, node_with_bytes, node_with_size, node_with_metadata};
-ghost use Rattle.nr_tree.specs.Room.{HasRoomFor};
+ghost use Rattle.nr_tree.specs.Changes.{node_with_entry, node_without_entry, node_with_link, node_without_link, node_with_bytes, node_with_size, node_with_metadata, node_with_new_name};
+ghost use Rattle.nr_tree.specs.Room.{HasRoomFor, HasEntryFor};
 
 impl Node {
     pub fn is_dir(&self) -> bool
@@ -95,6 +95,36 @@ impl Node {
         }
         self.metadata.links -= is_subdirectory as u32;
         self.metadata.mtime = now;
+        self.metadata.ctime = now;
+    }
+
+    /// The entry of a name taken out and one for another node put last, in a directory that is changed now. Takes no memory.
+    pub fn replace_entry(
+        &mut self,
+        name: Vec<u8>,
+        number: u64,
+        was_subdirectory: bool,
+        is_subdirectory: bool,
+        now: Time,
+    )
+        requires { HasEntryFor name.items was_subdirectory self.old }
+        ensures { self.new ≡ node_with_entry now name.items number is_subdirectory (node_without_entry now name.items was_subdirectory self.old) }
+    {
+        match &mut self.content {
+            Content::Directory(entries) => entries.replace(name, number),
+            _ => unreachable!(),
+        }
+        self.metadata.links = self.metadata.links - was_subdirectory as u32
+            + is_subdirectory as u32;
+        self.metadata.mtime = now;
+        self.metadata.ctime = now;
+    }
+
+    /// A node under another name, in this directory. Takes no memory.
+    pub fn set_parent(&mut self, dir: u64, now: Time)
+        ensures { self.new ≡ node_with_new_name now dir self.old }
+    {
+        self.parent = dir;
         self.metadata.ctime = now;
     }
 

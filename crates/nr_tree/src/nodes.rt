@@ -5,9 +5,13 @@ ghost use Rattle.std.specs.Option.{option_copied};
 ghost use Rattle.std.specs.FinMap as map;
 ghost use Rattle.nr_tree.specs.Tree.{nodes_of, nodes_with_change, value_at, is_dir as is_directory, is_regular as is_regular_file};
 ghost use Rattle.std.specs.Prelude.{false};
-ghost use Rattle.nr_tree.specs.Changes.{node_with_entry, node_without_entry, node_without_link, nodes_with_name_dropped, node_with_bytes, node_with_size, node_with_link, node_with_metadata};
+ghost use Rattle.nr_tree.specs.Changes.{node_with_entry, node_without_entry, node_without_link, nodes_with_name_dropped, node_with_bytes, node_with_size, node_with_link, node_with_metadata, node_with_new_name};
 ghost use Rattle.nr_tree.specs.Skeleton.{one_if};
-ghost use Rattle.nr_tree.specs.Room.{HasRoomFor};
+ghost use Rattle.nr_tree.specs.Room.{HasRoomFor, HasEntryFor, IsSource};
+ghost use Rattle.nr_tree.specs.Entries.{entry_of_name};
+ghost use Rattle.nr_tree.specs.Tree.{entries_in};
+ghost use Rattle.std.specs.Prelude.{[]};
+ghost use Rattle.std.specs.Option.{option_map};
 
 use crate::node::{Metadata, Node};
 use nr_nfs_base::Time;
@@ -190,4 +194,108 @@ pub(crate) fn set_metadata_of(nodes: &mut BTreeMap<u64, Node>, number: u64, meta
         Some(node) => node.set_metadata(metadata),
         None => {}
     }
+}
+
+pub(crate) fn replace_entry_in(
+    nodes: &mut BTreeMap<u64, Node>,
+    dir: u64,
+    name: Vec<u8>,
+    number: u64,
+    was_subdirectory: bool,
+    is_subdirectory: bool,
+    now: Time,
+)
+    requires { IfSome (map.get (nodes_of nodes.old.entries) dir) (λ n. HasEntryFor name.items was_subdirectory n) }
+    ensures { nodes_of nodes.new.entries ≡ nodes_with_change (nodes_of nodes.old.entries) dir (λ n. node_with_entry now name.items number is_subdirectory (node_without_entry now name.items was_subdirectory n)) }
+{
+    match nodes.get_mut(&dir) {
+        Some(node) => node.replace_entry(name, number, was_subdirectory, is_subdirectory, now),
+        None => {}
+    }
+}
+
+pub(crate) fn set_parent_of(nodes: &mut BTreeMap<u64, Node>, number: u64, dir: u64, now: Time)
+    ensures { nodes_of nodes.new.entries ≡ nodes_with_change (nodes_of nodes.old.entries) number (node_with_new_name now dir) }
+{
+    match nodes.get_mut(&number) {
+        Some(node) => node.set_parent(dir, now),
+        None => {}
+    }
+}
+
+/// The number that a directory has under a name.
+#[tactic(auto, using(crate::proofs::NodeMaps::get_node))]
+pub(crate) fn number_in(nodes: &BTreeMap<u64, Node>, dir: u64, name: &[u8]) -> Option<u64>
+    ensures { result ≡ option_map (λ e. e.number) (entry_of_name name.now (value_at entries_in [] (nodes_of nodes.now.entries) dir)) }
+{
+    match find(nodes, dir) {
+        Some(node) => node.lookup(name),
+        None => None,
+    }
+}
+
+/// A node that gets another name: its directory before and after, its number, whether it is a directory, and the moment.
+#[derive(Clone, Copy)]
+pub(crate) struct Move {
+    pub(crate) from: u64,
+    pub(crate) to: u64,
+    pub(crate) number: u64,
+    pub(crate) is_subdirectory: bool,
+    pub(crate) now: Time,
+}
+
+/// A new name that is free. The new entry is put first, since only that takes memory.
+pub(crate) fn rename_to_free(
+    nodes: &mut BTreeMap<u64, Node>,
+    step: Move,
+    name: &[u8],
+    name_to: Vec<u8>,
+) -> Result<(), Memory>
+    requires free { IfSome (map.get (nodes_of nodes.old.entries) step.to) (λ n. HasRoomFor name_to.items n) }
+    requires source { IfSome (map.get (nodes_of nodes.old.entries) step.from) (IsSource name.now) }
+    ensures ok { OnOk result (nodes_of nodes.new.entries ≡ nodes_with_change (nodes_with_change (nodes_with_change (nodes_of nodes.old.entries) step.from (node_without_entry step.now name.now step.is_subdirectory)) step.to (node_with_entry step.now name_to.items step.number step.is_subdirectory)) step.number (node_with_new_name step.now step.to)) }
+    ensures err { OnErr result (nodes_of nodes.new.entries ≡ nodes_of nodes.old.entries) }
+{
+    add_entry_to(
+        nodes,
+        step.to,
+        name_to,
+        step.number,
+        step.is_subdirectory,
+        step.now,
+    )?;
+    remove_entry_from(nodes, step.from, name, step.is_subdirectory, step.now);
+    set_parent_of(nodes, step.number, step.to, step.now);
+    Ok(())
+}
+
+/// A new name that another node has: its entry goes, and its link or itself. Takes no memory.
+pub(crate) fn rename_over(
+    nodes: &mut BTreeMap<u64, Node>,
+    step: Move,
+    name: &[u8],
+    name_to: Vec<u8>,
+    target: u64,
+)
+    requires to { step.to ≢ target }
+    requires from { step.from ≢ target }
+    requires counted { IfSome (map.get (nodes_of nodes.old.entries) target) (λ n. 0 < n.metadata.links) }
+    requires source { IfSome (map.get (nodes_of nodes.old.entries) step.from) (IsSource name.now) }
+    requires entry { IfSome (map.get (nodes_of nodes.old.entries) step.to) (HasEntryFor name_to.items (value_at is_directory false (nodes_of nodes.old.entries) target)) }
+    requires rest { step.to ≡ step.from → IfSome (map.get (nodes_of nodes.old.entries) step.to) (λ n. HasEntryFor name_to.items (value_at is_directory false (nodes_of nodes.old.entries) target) (node_without_entry step.now name.now step.is_subdirectory n)) }
+    ensures { nodes_of nodes.new.entries ≡ nodes_with_change (nodes_with_change (nodes_with_change (nodes_with_name_dropped (nodes_with_change (nodes_of nodes.old.entries) step.to (node_without_entry step.now name_to.items (value_at is_directory false (nodes_of nodes.old.entries) target))) step.now target) step.from (node_without_entry step.now name.now step.is_subdirectory)) step.to (node_with_entry step.now name_to.items step.number step.is_subdirectory)) step.number (node_with_new_name step.now step.to) }
+{
+    let was_subdirectory = is_dir_at(nodes, target);
+    drop_name_of(nodes, target, step.now);
+    remove_entry_from(nodes, step.from, name, step.is_subdirectory, step.now);
+    replace_entry_in(
+        nodes,
+        step.to,
+        name_to,
+        step.number,
+        was_subdirectory,
+        step.is_subdirectory,
+        step.now,
+    );
+    set_parent_of(nodes, step.number, step.to, step.now);
 }

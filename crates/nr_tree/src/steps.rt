@@ -9,8 +9,8 @@ use nr_xdr::Memory;
 
 impl Tree {
     ghost use Rattle.nr_tree.specs.Sane.{IsSane, largest_file};
-    ghost use Rattle.nr_tree.specs.Steps.{IsBounded, CanAddNode, CanAddLink, CanRemoveEntry, is_regular_at, links_at};
-    ghost use Rattle.nr_tree.specs.Changes.{tree_with_node, tree_without_entry, tree_with_link, tree_with_bytes, tree_with_size, tree_with_metadata};
+    ghost use Rattle.nr_tree.specs.Steps.{IsBounded, CanAddNode, CanAddLink, CanRemoveEntry, CanRename, is_regular_at, links_at};
+    ghost use Rattle.nr_tree.specs.Changes.{tree_with_node, tree_without_entry, tree_with_link, tree_with_bytes, tree_with_size, tree_with_metadata, tree_with_new_name};
 
     /// Puts a new node under the next number, and an entry for it last into a directory, which is changed now (CREATE,
     /// MKDIR, SYMLINK and MKNOD, RFC 1813 sections 3.3.8 to 3.3.11). Gives the number. After an `Err` the tree is as before.
@@ -60,6 +60,27 @@ impl Tree {
         ensures sane { IsSane self.new }
     {
         self.remove_entry_inner(dir, name, number, now);
+    }
+
+    /// Gives a node another name (RENAME, section 3.3.14). An old node under the new name loses its entry; the entry of the old
+    /// name goes, and one of the new name is put last. After an `Err` the tree is as before.
+    pub fn rename(
+        &mut self,
+        from: u64,
+        name: &[u8],
+        to: u64,
+        name_to: Vec<u8>,
+        number: u64,
+        now: Time,
+    ) -> Result<(), Memory>
+        requires sane { IsSane self.old }
+        requires bounded { IsBounded self.old }
+        requires allowed { CanRename self.old from name.now to name_to.items number }
+        ensures ok { OnOk result (self.new ≡ tree_with_new_name self.old now from name.now to name_to.items number) }
+        ensures err { OnErr result (self.new ≡ self.old) }
+        ensures sane { IsSane self.new }
+    {
+        self.rename_inner(from, name, to, name_to, number, now)
     }
 
     /// Writes over the bytes of a regular file from an offset on; a gap before it becomes zeros (WRITE, section 3.3.7).

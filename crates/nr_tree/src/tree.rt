@@ -8,8 +8,9 @@ ghost use Rattle.std.specs.FinMap as map;
 use crate::directory::Directory;
 use crate::node::{Content, Metadata, Node};
 use crate::nodes::{
-    add_entry_to, add_link_to, drop_name_of, find, insert, insert_with_entry, is_dir_at,
-    remove_entry_from, set_metadata_of, size_node, write_node,
+    Move, add_entry_to, add_link_to, drop_name_of, find, insert, insert_with_entry, is_dir_at,
+    number_in, remove_entry_from, rename_over, rename_to_free, set_metadata_of, size_node,
+    write_node,
 };
 use nr_nfs_base::Time;
 use nr_xdr::Memory;
@@ -38,10 +39,11 @@ impl Model for Tree {
 
 impl Tree {
     ghost use Rattle.nr_tree.specs.Tree.{Tree, is_dir as is_directory, is_regular as is_regular_file};
-    ghost use Rattle.nr_tree.specs.Changes.{tree_with_node, tree_without_entry, tree_with_link, tree_with_bytes, tree_with_size, tree_with_metadata};
+    ghost use Rattle.nr_tree.specs.Changes.{tree_with_node, tree_without_entry, tree_with_link, tree_with_bytes, tree_with_size, tree_with_metadata, tree_with_new_name};
     ghost use Rattle.nr_tree.specs.Room.{HasRoomFor};
     ghost use Rattle.nr_tree.specs.Roots.{root_only as root_alone};
     ghost use Rattle.nr_tree.specs.Sane.{IsSane};
+    ghost use Rattle.nr_tree.specs.Steps.{IsBounded, CanRename};
 
     /// The tree with a root alone, which is made now: number 1, mode 0777, uid 0, gid 0. The next number is 2.
     pub fn root_only(alloc: Global, now: Time) -> Result<Tree, Memory>
@@ -144,6 +146,39 @@ impl Tree {
         add_entry_to(&mut self.nodes, dir, name, number, false, now)?;
         add_link_to(&mut self.nodes, number, dir, now);
         Ok(())
+    }
+
+    /// A node under another name. After an `Err` the tree is as before.
+    pub(crate) fn rename_inner(
+        &mut self,
+        from: u64,
+        name: &[u8],
+        to: u64,
+        name_to: Vec<u8>,
+        number: u64,
+        now: Time,
+    ) -> Result<(), Memory>
+        requires sane { IsSane self.old }
+        requires bounded { IsBounded self.old }
+        requires allowed { CanRename self.old from name.now to name_to.items number }
+        ensures ok { OnOk result (self.new ≡ tree_with_new_name self.old now from name.now to name_to.items number) }
+        ensures err { OnErr result (self.new ≡ self.old) }
+    {
+        let is_subdirectory = is_dir_at(&self.nodes, number);
+        let step = Move {
+            from,
+            to,
+            number,
+            is_subdirectory,
+            now,
+        };
+        match number_in(&self.nodes, to, name_to.as_slice()) {
+            None => rename_to_free(&mut self.nodes, step, name, name_to),
+            Some(target) => {
+                rename_over(&mut self.nodes, step, name, name_to, target);
+                Ok(())
+            }
+        }
     }
 
     /// The node under a number with other attributes. Takes no memory.

@@ -1,0 +1,10 @@
+use Rattle.std.proofs.Common.{◌≡◌, ap, ◌∙◌, refl, arith, ◌-◌, length}
+use Rattle.nr_tree.specs.Slots.{entries_of}
+use Rattle.nr_tree.proofs.LastPlace.{put_last, has_slot, some_slots}
+use Rattle.nr_tree.proofs.directory.put_last.Goals as goal
+
+pub unreachable-requires : goal.unreachable-requires
+unreachable-requires c = has_slot c.args.slots.now.entries c.args.name.items c.requires c.in-Err.ensures.absent
+
+pub returns : goal.returns
+returns c = ap entries_of c.in-Ok.ensures.entries ∙ put_last c.args.slots.now.entries c.args.name c.args.slot _ (ap (λ n. n - 1) c.len-last.ensures.len) c.requires

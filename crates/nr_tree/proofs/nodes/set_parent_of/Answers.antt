@@ -1,0 +1,16 @@
+use Rattle.std.proofs.Common.{ap, refl, sym, ◌∙◌, subst, IsSome, Some, cond}
+use Rattle.std.specs.Ordering.{nat_cmp}
+use Rattle.std.specs.BTreeMap.{is_at}
+use Rattle.std.specs.Map.{lookup}
+use Rattle.nr_tree.specs.Changes.{node_with_new_name}
+use Rattle.nr_tree.specs.Room.{HasEntryFor}
+use Rattle.nr_tree.proofs.NodeMaps.{nodes_changed, nodes_absent, known}
+use Rattle.nr_tree.proofs.nodes.set_parent_of.Goals as goal
+
+pub returns-in-Some : goal.returns-in-Some
+returns-in-Some c = nodes_changed c.args.nodes.now.entries _ c.args.number (node_with_new_name c.args.now c.args.dir) c.in-Some.node.now (sym c.in-Some.ensures.value)
+    (λ q. ((c.get_mut.follows.holds c.set_parent.new.self).3 (subst IsSome c.in-Some.ensures.value refl)).0 q
+    ∙ ap (λ v. cond (is_at (nat_cmp c.args.number) q) (Some v) (lookup (is_at (nat_cmp q)) c.args.nodes.now.entries)) c.set_parent.ensures)
+
+pub returns-in-None : goal.returns-in-None
+returns-in-None c = nodes_absent c.args.nodes.now.entries _ c.args.number _ (sym c.in-None.ensures.value) (ap (λ m. m.entries) c.get_mut.follows.holds-at-none)
