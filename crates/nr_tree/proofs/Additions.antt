@@ -1,26 +1,23 @@
 -- Each change of a tree keeps it sane.
-use Rattle.std.proofs.Common.{◌≡◌, ◌≢◌, ℕ, zero, suc, ◌+◌, ◌-◌, ◌<◌, ◌≤◌, Bool, true, false, cond, eqb, leb, ◌||◌, List, [], ◌∷◌, ◌++◌, length, Option, None, Some, refl, ap, sym, ◌∙◌, subst, arith, inl, inr, ◌⊎◌}
-use Rattle.std.proofs.lemmas.Bool.{cases_eq, cases_Bool, both_ways, cond-true, cond-false, leb-true, leb-false, or_cases, or_parts}
-use Rattle.std.specs.Option.{option_map_or}
-use Rattle.std.specs.Ordering.{nat_cmp, eq_by_cmp}
-use Rattle.std.specs.FinMap.{FinMap, get, insert, remove, get-insert, get-remove}
+use Rattle.std.proofs.Common.{◌≡◌, ℕ, ◌+◌, ◌<◌, Bool, true, false, List, [], ◌∷◌, ◌++◌, None, Some, refl, ap, sym, ◌∙◌, subst, arith}
+use Rattle.std.specs.Ordering.{nat_cmp}
+use Rattle.std.specs.FinMap.{FinMap, get, insert}
 use Rattle.nr_nfs_base.specs.declared.time.Time.{Time}
-use Rattle.nr_tree.specs.Entries.{Entry, Entries, entry_of_name, list_without}
-use Rattle.nr_tree.specs.Skeleton.{Skeleton, set, one_if, node_added, link_added, link_dropped, node_removed, entry_added, entry_removed, IsSound, LiesBelow, IsConnected, name_count, detached_count, expected_links}
-use Rattle.nr_tree.specs.Tree.{Tree, value_at, nodes_with_change, is_dir, entries_in}
-use Rattle.nr_tree.specs.Sane.{IsSane, IsFitContent, skeleton_of, skeleton}
-use Rattle.nr_tree.specs.Changes.{node_with_entry, node_without_entry, node_with_link, node_without_link, node_with_new_name, tree_with_node, tree_without_entry, nodes_with_name_dropped, tree_with_link, tree_with_entry_moved, tree_with_new_name, tree_without_target, entry_at}
+use Rattle.nr_tree.specs.Entries.{Entry, entry_of_name}
+use Rattle.nr_tree.specs.Skeleton.{Skeleton, set, one_if, node_added, link_added, entry_added, IsSound, LiesBelow}
+use Rattle.nr_tree.specs.Tree.{Tree, nodes_with_change, is_dir, entries_in}
+use Rattle.nr_tree.specs.Sane.{IsSane, skeleton_of, skeleton}
+use Rattle.nr_tree.specs.Changes.{node_with_entry, node_with_link, tree_with_node, tree_with_link}
 use Rattle.nr_tree.specs.Steps.{IsFree, IsNew}
 use Rattle.nr_tree.specs.declared.node.Node.{Node}
-use Rattle.nr_tree.proofs.Lists.{set-here, set-other, set-same, set-all, Each-found}
-use Rattle.nr_tree.proofs.SkeletonChanges.{skeleton_of-node_with_entry, skeleton_of-node_without_entry, skeleton_of-node_with_link, skeleton_of-node_without_link, skeleton_of-remove, skeleton_of-node_with_new_name, skeleton_of-new, new_entry, value_at-at, value_at-insert, with_change-at}
-use Rattle.nr_tree.proofs.Paths.{differ, detached_unnamed, none_below, detached_count-self}
+use Rattle.nr_tree.proofs.Lists.{set-here, set-other, set-same}
+use Rattle.nr_tree.proofs.SkeletonChanges.{skeleton_of-node_with_entry, skeleton_of-node_with_link, skeleton_of-new, new_entry, value_at-at}
+use Rattle.nr_tree.proofs.Paths.{differ, none_below}
 use Rattle.nr_tree.proofs.EntryAdded.{sound-entry_added}
-use Rattle.nr_tree.proofs.EntryRemoved.{sound-entry_removed, has_entries}
 use Rattle.nr_tree.proofs.NodeAdded.{sound-node_added, not_dir}
-use Rattle.nr_tree.proofs.LinkDropped.{sound-link_dropped, sound-link_added, sound-node_removed}
+use Rattle.nr_tree.proofs.LinkDropped.{sound-link_added}
 use Rattle.nr_tree.proofs.Files.{parent-free}
-use Rattle.nr_tree.proofs.Contents.{Fit, fit-insert, fit-remove, fit-with_change, fit-node_with_entry, fit-node_without_entry, directory_at, node_at, Named}
+use Rattle.nr_tree.proofs.Contents.{Fit, fit-insert, fit-with_change, fit-node_with_entry, directory_at, node_at, Named}
 
 abbrev Nodes : Type 0
 Nodes = FinMap nat_cmp Node

@@ -9,14 +9,12 @@ use Rattle.std.specs.Ordering.{nat_cmp, eq_by_cmp}
 use Rattle.std.specs.Cmp.{nat_cmp_total}
 use Rattle.std.specs.FinMap.{FinMap, get, insert, empty, get-insert, get-empty}
 use Rattle.nr_nfs_base.specs.declared.time.Time.{Time}
-use Rattle.nr_tree.specs.Entries.{Entry, entry_of_name, is_name}
-use Rattle.nr_tree.specs.Skeleton.{Skeleton}
-use Rattle.nr_tree.specs.Tree.{Tree, value_at, nodes_with_change, is_dir, entries_in}
-use Rattle.nr_tree.specs.Sane.{IsFitContent, skeleton}
-use Rattle.nr_tree.specs.Steps.{IsBelow, IsFree, IsNew, CanAddNode, is_dir_at, entries_at, links_at}
-use Rattle.nr_tree.specs.Changes.{next_cookie_of, on_entries, node_with_entry, tree_with_node}
+use Rattle.nr_tree.specs.Entries.{Entry, entry_of_name}
+use Rattle.nr_tree.specs.Tree.{Tree, is_dir, entries_in}
+use Rattle.nr_tree.specs.Steps.{IsBelow, IsNew, CanAddNode}
+use Rattle.nr_tree.specs.Changes.{next_cookie_of, node_with_entry, tree_with_node}
 use Rattle.nr_tree.specs.Roots.{root_node, root_only}
-use Rattle.nr_tree.specs.Drill.{time_zero, drill_node, mode_777, mode_666, hello, link, many, file_name, root_entries, many_entries, IsDrillWith}
+use Rattle.nr_tree.specs.Drill.{time_zero, drill_node, mode_777, mode_666, hello, link, many, file_name, many_entries, IsDrillWith}
 use Rattle.nr_tree.specs.declared.node.Node.{Node}
 use Rattle.nr_tree.specs.declared.node.Content.{Content}
 use Rattle.nr_tree.specs.declared.node.Content.TheVariants.{Regular, Directory, Block, Character, Link, Socket, Fifo}

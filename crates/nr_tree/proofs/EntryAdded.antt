@@ -1,10 +1,10 @@
 -- An entry for the detached node keeps the skeleton sound.
-use Rattle.std.proofs.Common.{◌≡◌, ◌≢◌, ℕ, zero, suc, ◌+◌, ◌-◌, ◌<◌, ◌≤◌, Bool, true, false, cond, eqb, List, [], ◌∷◌, ◌++◌, Option, None, Some, refl, ap, sym, ◌∙◌, subst, arith, inl, inr, ◌⊎◌}
-use Rattle.std.proofs.lemmas.Bool.{cases_eq, cases_Bool, eq-eqb, ne_eqb, both_ways, cond-true, cond-false}
-use Rattle.nr_tree.specs.Entries.{Entry, Each, count, entry_of_name, list_without}
-use Rattle.nr_tree.specs.Skeleton.{Skeleton, sum_below, set, one_if, name_count_in, name_count, detached_count, IsPathUp, LiesBelow, IsConnected, IsSound, subdirectory_count, expected_links, entry_added}
+use Rattle.std.proofs.Common.{◌≡◌, ℕ, ◌+◌, ◌<◌, ◌≤◌, Bool, true, false, eqb, List, [], ◌∷◌, ◌++◌, None, Some, refl, ap, sym, ◌∙◌, subst, arith, inl, inr, ◌⊎◌}
+use Rattle.std.proofs.lemmas.Bool.{cases_eq, cases_Bool, cond-true, cond-false}
+use Rattle.nr_tree.specs.Entries.{Entry, Each, count}
+use Rattle.nr_tree.specs.Skeleton.{Skeleton, set, one_if, name_count, detached_count, LiesBelow, IsConnected, IsSound, subdirectory_count, expected_links, entry_added}
 use Rattle.nr_tree.proofs.Lists.{set-here, set-other, set-all, Each-map, Each-both, Each-append, count-append}
-use Rattle.nr_tree.proofs.Paths.{IsPathUp-same, IsPathUp-append, SameSteps, detached_count-self, not_detached, not_root, differ, dir_below, unnamed, detached_unnamed, name_count-set}
+use Rattle.nr_tree.proofs.Paths.{IsPathUp-same, IsPathUp-append, SameSteps, not_detached, not_root, differ, dir_below, unnamed, detached_unnamed, name_count-set}
 
 module _ (s : Skeleton) (d : ℕ) (e : Entry) (sound : IsSound s (Some e.number)) (is : s.dir d ≡ true)
     (room : s.dir e.number ≡ true → s.links d < 65535) (apart : s.dir e.number ≡ true → LiesBelow s (Some e.number) d e.number → ⊥) where

@@ -1,8 +1,8 @@
 -- An entry taken out, its node then being detached, keeps the skeleton sound.
-use Rattle.std.proofs.Common.{◌≡◌, ◌≢◌, ℕ, zero, suc, ◌+◌, ◌-◌, ◌<◌, ◌≤◌, Bool, true, false, cond, eqb, List, [], ◌∷◌, ◌++◌, Option, None, Some, refl, ap, sym, ◌∙◌, subst, arith, inl, inr, ◌⊎◌}
-use Rattle.std.proofs.lemmas.Bool.{cases_eq, cases_Bool, eq-eqb, ne_eqb, both_ways, cond-true, cond-false}
+use Rattle.std.proofs.Common.{◌≡◌, ◌≢◌, ℕ, ◌+◌, ◌-◌, ◌≤◌, true, false, eqb, List, [], ◌∷◌, None, Some, refl, ap, sym, ◌∙◌, subst, arith, inl, inr, ◌⊎◌}
+use Rattle.std.proofs.lemmas.Bool.{cases_eq, cases_Bool, cond-true, cond-false}
 use Rattle.nr_tree.specs.Entries.{Entry, Each, count, entry_of_name, list_without}
-use Rattle.nr_tree.specs.Skeleton.{Skeleton, sum_below, set, one_if, name_count_in, name_count, detached_count, IsPathUp, LiesBelow, IsConnected, IsSound, subdirectory_count, expected_links, entry_removed}
+use Rattle.nr_tree.specs.Skeleton.{Skeleton, one_if, name_count, detached_count, IsPathUp, IsConnected, IsSound, subdirectory_count, expected_links, entry_removed}
 use Rattle.nr_tree.proofs.Lists.{set-here, set-other, set-all, Each-list_without, Each-found, count-list_without}
 use Rattle.nr_tree.proofs.Paths.{detached_count-other, differ, dir_below, name_count-set}
 

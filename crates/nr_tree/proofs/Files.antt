@@ -1,7 +1,6 @@
 -- What a file has as its parent means nothing.
-use Rattle.std.proofs.Common.{◌≡◌, ◌≢◌, ℕ, ◌+◌, ◌-◌, ◌<◌, ◌≤◌, Bool, true, false, List, Option, None, Some, refl, ap, sym, ◌∙◌, subst, arith, inl, inr, ◌⊎◌}
-use Rattle.nr_tree.specs.Entries.{Entry, Each}
-use Rattle.nr_tree.specs.Skeleton.{Skeleton, set, IsSound, LiesBelow, IsConnected, detached_count}
+use Rattle.std.proofs.Common.{◌≡◌, ℕ, true, false, Option, ◌∙◌, inl, inr}
+use Rattle.nr_tree.specs.Skeleton.{Skeleton, set, IsSound, IsConnected}
 use Rattle.nr_tree.proofs.Lists.{set-other, Each-map}
 use Rattle.nr_tree.proofs.Paths.{IsPathUp-same, SameSteps, differ}
 

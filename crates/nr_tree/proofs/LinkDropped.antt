@@ -1,10 +1,10 @@
 -- A detached file that has more links, or a node that is removed, leaves the skeleton sound.
-use Rattle.std.proofs.Common.{◌≡◌, ◌≢◌, ℕ, zero, suc, ◌+◌, ◌-◌, ◌<◌, ◌≤◌, Bool, true, false, cond, eqb, List, [], ◌∷◌, ◌++◌, Option, None, Some, refl, ap, sym, ◌∙◌, subst, arith, inl, inr, ◌⊎◌}
-use Rattle.std.proofs.lemmas.Bool.{cases_eq, cases_Bool, eq-eqb, ne_eqb, both_ways, cond-true, cond-false, true_from_ne_false}
-use Rattle.nr_tree.specs.Entries.{Entry, Each, count, entry_of_name, list_without}
-use Rattle.nr_tree.specs.Skeleton.{Skeleton, sum_below, set, one_if, name_count_in, name_count, detached_count, IsPathUp, LiesBelow, IsConnected, IsSound, subdirectory_count, expected_links, link_dropped, node_removed, link_added}
+use Rattle.std.proofs.Common.{◌≡◌, ℕ, ◌+◌, ◌-◌, ◌<◌, ◌≤◌, Bool, true, false, cond, List, [], None, Some, refl, ap, sym, ◌∙◌, subst, arith, inl, inr, ◌⊎◌}
+use Rattle.std.proofs.lemmas.Bool.{cases_eq, both_ways, cond-false}
+use Rattle.nr_tree.specs.Entries.{Entry, Each, count}
+use Rattle.nr_tree.specs.Skeleton.{Skeleton, sum_below, set, name_count_in, name_count, detached_count, LiesBelow, IsConnected, IsSound, subdirectory_count, expected_links, link_dropped, node_removed, link_added}
 use Rattle.nr_tree.proofs.Lists.{set-here, set-other, set-all, set-same, Each-map, Each-both, count-same}
-use Rattle.nr_tree.proofs.Paths.{IsPathUp-same, SameSteps, detached_count-self, detached_count-other, not_detached, not_root, differ, dir_below, unnamed, none_below}
+use Rattle.nr_tree.proofs.Paths.{IsPathUp-same, SameSteps, detached_count-self, detached_count-other, not_detached, not_root, differ, unnamed, none_below}
 
 -- ===== one link less
 

@@ -1,7 +1,7 @@
 -- Lists of entries, sums below a number, and functions with another value at one number.
-use Rattle.std.proofs.Common.{◌≡◌, ◌≢◌, ℕ, zero, suc, ◌+◌, ◌-◌, ◌<◌, ◌≤◌, Bool, true, false, cond, eqb, not, List, [], ◌∷◌, ◌++◌, length, Option, None, Some, refl, ap, sym, ◌∙◌, subst, arith, inl, inr, ◌⊎◌}
-use Rattle.std.proofs.lemmas.Bool.{cases_eq, cases_Bool, eq-eqb, ne_eqb, eqb-true, eqb-false, cond-true, cond-false, true≢false, false≢true}
-use Rattle.nr_tree.specs.Entries.{Entry, Each, count, entry_of_name, is_name, list_without, CookiesAscend, NamesAreValid}
+use Rattle.std.proofs.Common.{◌≡◌, ℕ, zero, suc, ◌+◌, ◌<◌, Bool, true, false, cond, eqb, List, [], ◌∷◌, ◌++◌, Option, Some, refl, ap, sym, ◌∙◌, subst, arith, inl, inr, ◌⊎◌}
+use Rattle.std.proofs.lemmas.Bool.{cases_eq, eq-eqb, ne_eqb, eqb-true, eqb-false, cond-true, cond-false}
+use Rattle.nr_tree.specs.Entries.{Entry, Each, count, entry_of_name, is_name, list_without}
 use Rattle.nr_tree.specs.Skeleton.{sum_below, set, one_if, name_count_in}
 
 pub set-here : {A : Type 0} (k : ℕ) (v : A) (f : ℕ → A) → set k v f k ≡ v

@@ -1,10 +1,10 @@
 -- A new detached node keeps the skeleton sound.
-use Rattle.std.proofs.Common.{◌≡◌, ◌≢◌, ℕ, zero, suc, ◌+◌, ◌-◌, ◌<◌, ◌≤◌, Bool, true, false, cond, eqb, List, [], ◌∷◌, ◌++◌, Option, None, Some, refl, ap, sym, ◌∙◌, subst, arith, inl, inr, ◌⊎◌}
-use Rattle.std.proofs.lemmas.Bool.{cases_eq, cases_Bool, eq-eqb, ne_eqb, both_ways, cond-true, cond-false, false_from_ne_true}
-use Rattle.nr_tree.specs.Entries.{Entry, Each, count, entry_of_name, list_without}
-use Rattle.nr_tree.specs.Skeleton.{Skeleton, sum_below, set, one_if, name_count_in, name_count, detached_count, IsPathUp, LiesBelow, IsConnected, IsSound, subdirectory_count, expected_links, node_added}
-use Rattle.nr_tree.proofs.Lists.{set-here, set-other, set-all, set-same, Each-map, Each-both, count-same, sum_below-same}
-use Rattle.nr_tree.proofs.Paths.{IsPathUp-same, SameSteps, detached_count-self, detached_count-other, not_detached, differ, dir_below}
+use Rattle.std.proofs.Common.{◌≡◌, ◌≢◌, ℕ, zero, suc, ◌+◌, ◌<◌, ◌≤◌, Bool, true, false, cond, List, [], ◌∷◌, None, Some, refl, ap, sym, ◌∙◌, subst, arith, inl, inr, ◌⊎◌}
+use Rattle.std.proofs.lemmas.Bool.{cases_eq, ne_eqb, cond-true, cond-false, false_from_ne_true}
+use Rattle.nr_tree.specs.Entries.{Entry, Each, count}
+use Rattle.nr_tree.specs.Skeleton.{Skeleton, sum_below, one_if, name_count_in, name_count, detached_count, IsConnected, IsSound, subdirectory_count, expected_links, node_added}
+use Rattle.nr_tree.proofs.Lists.{set-here, set-other, set-all, set-same, Each-map, Each-both, count-same}
+use Rattle.nr_tree.proofs.Paths.{IsPathUp-same, SameSteps, detached_count-self, detached_count-other, dir_below}
 
 count-absent : (n : ℕ) (es : List Entry) → Each (λ e. e.number ≡ n → ⊥) es → name_count_in es n ≡ 0
 count-absent n [] h = refl

@@ -1,5 +1,5 @@
 -- Changes of nodes that may come in either order, and what they leave of other nodes.
-use Rattle.std.proofs.Common.{◌≡◌, ℕ, zero, suc, ◌+◌, ◌-◌, ◌<◌, ◌≤◌, ◌^◌, Bool, true, false, cond, ◌||◌, leb, List, [], ◌∷◌, ◌++◌, Option, None, Some, IfSome, IsTrue, refl, ap, sym, ◌∙◌, subst, arith, inl, inr, ◌⊎◌}
+use Rattle.std.proofs.Common.{◌≡◌, ℕ, ◌+◌, ◌-◌, ◌≤◌, Bool, true, false, cond, ◌||◌, leb, List, [], ◌∷◌, ◌++◌, Option, None, Some, IfSome, IsTrue, refl, ap, sym, ◌∙◌, subst, arith, inl, inr, ◌⊎◌}
 use Rattle.std.proofs.lemmas.Bool.{cases_eq}
 use Rattle.std.proofs.lemmas.Bool.Decides.{nat_tests}
 use Rattle.std.specs.Prelude.{is_some}
@@ -8,9 +8,9 @@ use Rattle.std.specs.Ordering.{nat_cmp, eq_by_cmp}
 use Rattle.std.specs.Cmp.{nat_cmp_total}
 use Rattle.std.specs.FinMap.{FinMap, get, insert, remove, get-insert, get-remove, same_map, nat_cmp-IsAntisymmetric}
 use Rattle.nr_nfs_base.specs.declared.time.Time.{Time}
-use Rattle.nr_tree.specs.Entries.{Entry, Entries, is_name, entry_of_name, list_without, entries_with, entries_without, next_entry}
+use Rattle.nr_tree.specs.Entries.{Entry, is_name, entry_of_name, list_without, entries_with, entries_without, next_entry}
 use Rattle.nr_tree.specs.Skeleton.{one_if}
-use Rattle.nr_tree.specs.Tree.{Tree, nodes_with_change, is_dir, is_directory, entries_in, entries_of}
+use Rattle.nr_tree.specs.Tree.{nodes_with_change, is_dir, is_directory, entries_in, entries_of}
 use Rattle.nr_tree.specs.Room.{IsSource, HasEntryFor}
 use Rattle.nr_tree.proofs.LastPlace.{same_list}
 use Rattle.nr_tree.specs.Changes.{on_entries, node_with_entry, node_without_entry, node_without_link, nodes_with_name_dropped}

@@ -1,9 +1,9 @@
-use Rattle.std.proofs.Common.{◌≡◌, ℕ, Bool, true, false, arith, List, [], ◌∷◌, Option, None, Some, cond, IfSome, IsTrue, Result, Ok, Err, OnOk, OnErr, length, ◌+◌, ◌≤◌, subst, refl, ap, sym, ◌∙◌}
+use Rattle.std.proofs.Common.{◌≡◌, ℕ, Bool, true, false, arith, List, [], ◌∷◌, Option, None, Some, cond, IfSome, IsTrue, Result, Ok, Err, OnOk, OnErr, ◌≤◌, subst, refl, ap, sym, ◌∙◌}
 use Rattle.std.specs.Ordering.{nat_cmp, eq_by_cmp}
 use Rattle.std.specs.Cmp.{nat_cmp_total, eq_by_cmp_equiv}
 use Rattle.std.specs.BTreeMap.{is_at}
 use Rattle.std.specs.Map.{lookup}
-use Rattle.std.specs.FinMap.{FinMap, find, get, insert, remove, from_entries, get-from_entries, get-insert, get-remove, same_map, nat_cmp-IsAntisymmetric}
+use Rattle.std.specs.FinMap.{FinMap, find, get, insert, remove, get-from_entries, get-insert, get-remove, same_map, nat_cmp-IsAntisymmetric}
 use Rattle.nr_tree.specs.declared.node.Node.{Node}
 use Rattle.nr_tree.specs.Tree.{nodes_of, nodes_with_change}
 use Rattle.std.specs.Option.{option_map_or, option_map}

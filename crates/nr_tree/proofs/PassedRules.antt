@@ -1,14 +1,14 @@
 -- What a call that no rule refuses is known to be.
-use Rattle.std.proofs.Common.{◌≡◌, ℕ, ◌+◌, ◌<◌, ◌≤◌, Bool, true, false, cond, not, ◌&&◌, ◌||◌, eqb, leb, ltb, List, [], ◌∷◌, length, Option, None, Some, refl, ap, sym, ◌∙◌, subst, arith, inl, inr, ◌⊎◌}
+use Rattle.std.proofs.Common.{◌≡◌, ℕ, ◌<◌, ◌≤◌, Bool, true, false, cond, not, eqb, ltb, List, [], ◌∷◌, length, Option, None, Some, refl, ◌∙◌, subst, arith}
 use Rattle.std.specs.Prelude.{is_none, is_some}
-use Rattle.std.proofs.lemmas.Bool.{both_ways, or_parts, leb-false, eqb-true, eqb-false, ltb-false, cases_Bool}
+use Rattle.std.proofs.lemmas.Bool.{eqb-false, ltb-false}
 use Rattle.std.specs.FinMap.{get}
 use Rattle.nr_nfs_base.specs.declared.status.Status.{Status}
 use Rattle.nr_nfs_base.specs.declared.status.Status.TheVariants.{Stale, Badhandle, Notdir, Acces, Nametoolong}
 use Rattle.nr_nfs_base.specs.declared.caller.Caller.{Caller}
 use Rattle.nr_tree.specs.Tree.{Tree, value_at, is_dir}
 use Rattle.nr_tree.specs.Sane.{IsSane}
-use Rattle.nr_tree.specs.Rules.{first, or_else, ◌⇒◌, on, after, node_of_handle, number_of_handle, was_given, handle_rule, name_rules, change_rules, has_byte}
+use Rattle.nr_tree.specs.Rules.{first, or_else, ◌⇒◌, on, after, node_of_handle, number_of_handle, was_given, handle_rule, name_rules, change_rules}
 use Rattle.nr_tree.specs.declared.node.Node.{Node}
 use Rattle.nr_tree.proofs.SkeletonChanges.{value_at-at}
 
@@ -44,7 +44,7 @@ given_by : (b : Bool) (t : Tree) (h : List ℕ) → cond b (is_none (node_of_han
 given_by true t h p = there (node_of_handle t h) (clear (is_none (node_of_handle t h)) Stale p)
 given_by false t h p = absurd cc
 
--- H
+-- the rule of a handle
 pub handled : (t : Tree) (h : List ℕ) → handle_rule t h ≡ None → (v : Node) × (node_of_handle t h ≡ Some v)
 handled t h p = given_by (was_given t h) t h p
 
@@ -59,13 +59,13 @@ is_dir_by : (b : Bool) → not b ≡ false → b ≡ true
 is_dir_by true e = refl
 is_dir_by false e = absurd cc
 
--- Dir
+-- the rules of a directory that is changed
 pub is_changeable : (t : Tree) (c : Caller) (h : List ℕ) (v : Node) → node_of_handle t h ≡ Some v → first (change_rules c v) ≡ None → value_at is_dir false t.nodes (number_of_handle h) ≡ true
 is_changeable t c h v e p =
     let all : AllClear (change_rules c v) = all_clear (change_rules c v) p in
     value_at-at is_dir false t.nodes (number_of_handle h) v (got t h v e) ∙ is_dir_by (is_dir v) (clear (not (is_dir v)) Notdir all.0)
 
--- N
+-- the rules of a name
 pub is_name : (name : List ℕ) → first (name_rules name) ≡ None → (0 < length name) × (length name ≤ 255)
 is_name name p =
     let all : AllClear (name_rules name) = all_clear (name_rules name) p in

@@ -1,9 +1,9 @@
 -- What every step needs: paths of one skeleton as those of another, who names a number, and sums after a change of one directory.
-use Rattle.std.proofs.Common.{◌≡◌, ◌≢◌, ℕ, zero, suc, ◌+◌, ◌-◌, ◌<◌, ◌≤◌, Bool, true, false, cond, eqb, List, [], ◌∷◌, ◌++◌, Option, None, Some, refl, ap, sym, ◌∙◌, subst, arith, inl, inr, ◌⊎◌}
-use Rattle.std.proofs.lemmas.Bool.{cases_eq, cases_Bool, eq-eqb, ne_eqb, both_ways}
-use Rattle.nr_tree.specs.Entries.{Entry, Each, count, entry_of_name, list_without}
-use Rattle.nr_tree.specs.Skeleton.{Skeleton, sum_below, set, one_if, name_count_in, name_count, detached_count, IsPathUp, LiesBelow, IsConnected, IsSound}
-use Rattle.nr_tree.proofs.Lists.{set-here, set-other, sum_below-one_if, sum_below-zero, sum_below-some, Each-map, Each-both, count-append, count-list_without, count-none, count-some}
+use Rattle.std.proofs.Common.{◌≡◌, ◌≢◌, ℕ, ◌+◌, ◌<◌, Bool, true, false, List, [], ◌∷◌, ◌++◌, Option, Some, refl, ap, sym, ◌∙◌, subst, arith, inl, inr, ◌⊎◌}
+use Rattle.std.proofs.lemmas.Bool.{cases_Bool, eq-eqb, ne_eqb, both_ways}
+use Rattle.nr_tree.specs.Entries.{Entry, Each}
+use Rattle.nr_tree.specs.Skeleton.{Skeleton, sum_below, set, one_if, name_count_in, name_count, detached_count, IsPathUp, LiesBelow, IsSound}
+use Rattle.nr_tree.proofs.Lists.{set-here, set-other, sum_below-one_if, sum_below-zero, sum_below-some, count-none, count-some}
 
 -- at a directory of one skeleton that a path may leave, the other has the same step
 abbrev pub SameSteps : Skeleton → Option ℕ → Skeleton → Option ℕ → Type 0

@@ -1,8 +1,8 @@
 -- What a sane tree promises of an entry that is to be taken out.
-use Rattle.std.proofs.Common.{◌≡◌, ℕ, zero, suc, ◌+◌, ◌<◌, ◌≤◌, Bool, true, false, cond, eqb, List, [], ◌∷◌, Option, None, Some, IfSome, IsTrue, refl, ap, sym, ◌∙◌, subst, arith, inl, inr, ◌⊎◌}
-use Rattle.std.proofs.lemmas.Bool.{cases_eq, cases_Bool, both_ways, cond-false, eq-eqb}
+use Rattle.std.proofs.Common.{◌≡◌, ℕ, zero, suc, ◌+◌, ◌<◌, ◌≤◌, Bool, true, false, eqb, List, Option, None, Some, IfSome, IsTrue, refl, ap, sym, ◌∙◌, subst, arith, inl, inr, ◌⊎◌}
+use Rattle.std.proofs.lemmas.Bool.{cases_eq, cond-false, eq-eqb}
 use Rattle.std.specs.FinMap.{get}
-use Rattle.nr_tree.specs.Entries.{Entry, entry_of_name, count, list_without}
+use Rattle.nr_tree.specs.Entries.{Entry, entry_of_name}
 use Rattle.nr_tree.specs.Skeleton.{Skeleton, sum_below, name_count, name_count_in, one_if, IsSound}
 use Rattle.nr_tree.specs.Tree.{Tree, value_at, is_dir}
 use Rattle.nr_tree.specs.Sane.{IsSane, skeleton}

@@ -1,19 +1,19 @@
 -- REMOVE, RMDIR and the old target of RENAME keep a tree sane.
-use Rattle.std.proofs.Common.{◌≡◌, ◌≢◌, ℕ, zero, suc, ◌+◌, ◌-◌, ◌<◌, ◌≤◌, Bool, true, false, cond, eqb, leb, ◌||◌, List, [], ◌∷◌, ◌++◌, length, Option, None, Some, refl, ap, sym, ◌∙◌, subst, arith, inl, inr, ◌⊎◌}
-use Rattle.std.proofs.lemmas.Bool.{cases_eq, cases_Bool, both_ways, cond-true, cond-false, leb-true, leb-false, or_cases, or_parts}
+use Rattle.std.proofs.Common.{◌≡◌, ℕ, ◌+◌, ◌-◌, ◌≤◌, Bool, true, false, cond, leb, ◌||◌, List, [], None, Some, refl, ap, sym, ◌∙◌, subst, arith, inl, inr, ◌⊎◌}
+use Rattle.std.proofs.lemmas.Bool.{cases_Bool, both_ways, cond-false, leb-true, or_cases, or_parts}
 use Rattle.std.specs.Option.{option_map_or}
 use Rattle.std.specs.Ordering.{nat_cmp}
 use Rattle.std.specs.FinMap.{FinMap, get, insert, remove}
 use Rattle.nr_nfs_base.specs.declared.time.Time.{Time}
-use Rattle.nr_tree.specs.Entries.{Entry, entry_of_name, list_without}
-use Rattle.nr_tree.specs.Skeleton.{Skeleton, set, one_if, link_dropped, node_removed, entry_removed, IsSound, name_count, detached_count, expected_links, subdirectory_count}
-use Rattle.nr_tree.specs.Tree.{Tree, value_at, nodes_with_change, is_dir, entries_in}
-use Rattle.nr_tree.specs.Sane.{IsSane, IsFitContent, skeleton_of, skeleton}
+use Rattle.nr_tree.specs.Entries.{Entry, list_without}
+use Rattle.nr_tree.specs.Skeleton.{Skeleton, entry_removed, IsSound, name_count, detached_count}
+use Rattle.nr_tree.specs.Tree.{Tree, value_at, nodes_with_change, is_dir}
+use Rattle.nr_tree.specs.Sane.{IsSane, skeleton_of, skeleton}
 use Rattle.nr_tree.specs.Changes.{node_without_entry, node_without_link, tree_without_entry, nodes_with_name_dropped, entry_at}
 use Rattle.nr_tree.specs.declared.node.Node.{Node}
 use Rattle.nr_tree.proofs.Lists.{set-here, set-other, set-all}
 use Rattle.nr_tree.proofs.SkeletonChanges.{skeleton_of-node_without_entry, skeleton_of-node_without_link, skeleton_of-remove, value_at-at}
-use Rattle.nr_tree.proofs.Paths.{detached_unnamed, detached_count-self, differ}
+use Rattle.nr_tree.proofs.Paths.{detached_unnamed, detached_count-self}
 use Rattle.nr_tree.proofs.EntryRemoved.{sound-entry_removed, has_entries}
 use Rattle.nr_tree.proofs.LinkDropped.{sound-link_dropped, sound-node_removed}
 use Rattle.nr_tree.proofs.Contents.{Fit, fit-insert, fit-remove, fit-with_change, fit-node_without_entry, directory_at, node_at, Named}

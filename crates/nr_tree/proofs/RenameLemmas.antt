@@ -1,17 +1,17 @@
 -- What a sane tree promises before a RENAME, and what the code makes of it.
-use Rattle.std.proofs.Common.{◌≡◌, ℕ, zero, suc, ◌+◌, ◌-◌, ◌<◌, ◌≤◌, ◌^◌, Bool, true, false, List, [], ◌∷◌, ◌++◌, length, Option, None, Some, IfSome, IsTrue, refl, ap, sym, ◌∙◌, subst, arith}
+use Rattle.std.proofs.Common.{◌≡◌, ℕ, ◌-◌, ◌<◌, ◌≤◌, ◌^◌, Bool, true, false, List, [], Option, None, Some, IfSome, refl, ap, sym, ◌∙◌, subst, arith}
 use Rattle.std.specs.Prelude.{is_some}
 use Rattle.std.specs.Option.{option_map, option_map_or}
 use Rattle.std.specs.Ordering.{nat_cmp}
 use Rattle.std.specs.FinMap.{FinMap, get}
 use Rattle.nr_nfs_base.specs.declared.time.Time.{Time}
-use Rattle.nr_tree.specs.Entries.{Entry, Entries, entry_of_name, list_without, entries_without}
-use Rattle.nr_tree.specs.Skeleton.{Skeleton, one_if}
+use Rattle.nr_tree.specs.Entries.{Entry, entry_of_name, list_without, entries_without}
+use Rattle.nr_tree.specs.Skeleton.{one_if}
 use Rattle.nr_tree.specs.Tree.{Tree, value_at, nodes_with_change, is_dir, is_directory, entries_in}
 use Rattle.nr_tree.specs.Sane.{IsSane, skeleton}
 use Rattle.nr_tree.specs.Room.{HasRoomFor, HasEntryIn, HasEntryFor, IsSource}
-use Rattle.nr_tree.specs.Steps.{IsBounded, IsFree, IsFreeTarget, CanRename, is_dir_at, entries_at, links_at}
-use Rattle.nr_tree.specs.Changes.{next_cookie_of, on_entries, node_with_entry, node_without_entry, node_with_new_name, nodes_with_name_dropped, entry_at, tree_without_entry, tree_without_target, tree_with_entry_moved, tree_with_new_name}
+use Rattle.nr_tree.specs.Steps.{IsBounded, IsFreeTarget, CanRename, is_dir_at, entries_at, links_at}
+use Rattle.nr_tree.specs.Changes.{next_cookie_of, on_entries, node_with_entry, node_without_entry, node_with_new_name, nodes_with_name_dropped, entry_at, tree_without_entry, tree_with_entry_moved, tree_with_new_name}
 use Rattle.nr_tree.specs.declared.node.Node.{Node}
 use Rattle.nr_tree.specs.declared.node.Content.{Content}
 use Rattle.nr_tree.specs.declared.node.Content.TheVariants.{Regular, Directory, Block, Character, Link, Socket, Fifo}

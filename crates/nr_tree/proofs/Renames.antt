@@ -1,24 +1,24 @@
 -- RENAME keeps a tree sane: the old target goes, the source entry is taken out, a new one put last.
-use Rattle.std.proofs.Common.{◌≡◌, ◌≢◌, ℕ, zero, suc, ◌+◌, ◌-◌, ◌<◌, ◌≤◌, Bool, true, false, cond, eqb, List, [], ◌∷◌, ◌++◌, length, Option, None, Some, refl, ap, sym, ◌∙◌, subst, arith, inl, inr, ◌⊎◌}
-use Rattle.std.proofs.lemmas.Bool.{cases_eq, cases_Bool, both_ways, cond-true, cond-false}
+use Rattle.std.proofs.Common.{◌≡◌, ℕ, ◌-◌, ◌<◌, ◌≤◌, Bool, true, false, cond, List, [], ◌∷◌, Option, None, Some, refl, ap, sym, ◌∙◌, subst, arith}
+use Rattle.std.proofs.lemmas.Bool.{cond-true}
 use Rattle.std.specs.Option.{option_map_or}
 use Rattle.std.specs.Ordering.{nat_cmp}
-use Rattle.std.specs.FinMap.{FinMap, get, insert, remove}
+use Rattle.std.specs.FinMap.{FinMap, get}
 use Rattle.nr_nfs_base.specs.declared.time.Time.{Time}
 use Rattle.nr_tree.specs.Entries.{Entry, entry_of_name, is_name, list_without}
-use Rattle.nr_tree.specs.Skeleton.{Skeleton, set, one_if, entry_removed, IsSound, LiesBelow, IsPathUp, detached_count}
-use Rattle.nr_tree.specs.Tree.{Tree, value_at, nodes_with_change, is_dir, entries_in}
-use Rattle.nr_tree.specs.Sane.{IsSane, IsFitContent, skeleton_of, skeleton}
-use Rattle.nr_tree.specs.Changes.{node_with_entry, node_without_entry, node_with_new_name, tree_without_entry, tree_with_entry_moved, tree_with_new_name, tree_without_target, entry_at}
+use Rattle.nr_tree.specs.Skeleton.{Skeleton, set, one_if, entry_removed, IsSound, LiesBelow}
+use Rattle.nr_tree.specs.Tree.{Tree, value_at, nodes_with_change, is_dir}
+use Rattle.nr_tree.specs.Sane.{IsSane, skeleton_of, skeleton}
+use Rattle.nr_tree.specs.Changes.{node_with_entry, node_without_entry, node_with_new_name, tree_without_entry, tree_with_entry_moved, tree_with_new_name, entry_at}
 use Rattle.nr_tree.specs.Steps.{IsFree, IsFreeTarget, CanRename}
 use Rattle.nr_tree.specs.declared.node.Node.{Node}
-use Rattle.nr_tree.proofs.Lists.{set-here, set-other, set-all}
-use Rattle.nr_tree.proofs.SkeletonChanges.{skeleton_of-node_without_entry, skeleton_of-node_with_new_name, value_at-at}
+use Rattle.nr_tree.proofs.Lists.{set-here, set-all}
+use Rattle.nr_tree.proofs.SkeletonChanges.{skeleton_of-node_without_entry, skeleton_of-node_with_new_name}
 use Rattle.nr_tree.proofs.Paths.{IsPathUp-same, differ}
 use Rattle.nr_tree.proofs.EntryRemoved.{sound-entry_removed, has_entries}
-use Rattle.nr_tree.proofs.Contents.{Fit, fit-with_change, fit-node_without_entry, none_without, gone_without, names-at, found_none, directory_at, node_at, Named}
+use Rattle.nr_tree.proofs.Contents.{Fit, fit-with_change, fit-node_without_entry, none_without, gone_without, names-at, directory_at, node_at, Named}
 use Rattle.nr_tree.proofs.Additions.{add_entry_to, add_entry_to-fit, add_entry_to-live}
-use Rattle.nr_tree.proofs.Removals.{IsLeft, IsRemoval, removal}
+use Rattle.nr_tree.proofs.Removals.{IsRemoval, removal}
 
 abbrev Nodes : Type 0
 Nodes = FinMap nat_cmp Node

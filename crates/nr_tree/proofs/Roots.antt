@@ -1,18 +1,16 @@
 -- A root alone is a sane tree.
-use Rattle.std.proofs.Common.{◌≡◌, ◌≢◌, ℕ, zero, suc, ◌+◌, ◌<◌, ◌≤◌, Bool, true, false, cond, eqb, List, [], ◌∷◌, Option, None, Some, refl, ap, sym, ◌∙◌, subst, arith, inl, inr, ◌⊎◌}
-use Rattle.std.proofs.lemmas.Bool.{cases_eq, both_ways, cond-true}
+use Rattle.std.proofs.Common.{◌≡◌, ℕ, ◌≤◌, true, false, [], Option, None, Some, refl, ap, sym, ◌∙◌, subst, arith, inl, inr, ◌⊎◌}
+use Rattle.std.proofs.lemmas.Bool.{cases_eq, both_ways}
 use Rattle.std.specs.Option.{option_map_or}
-use Rattle.std.specs.Ordering.{nat_cmp, eq_by_cmp}
-use Rattle.std.specs.Cmp.{nat_cmp_total}
-use Rattle.std.specs.FinMap.{FinMap, get, insert, empty, get-insert, get-empty}
+use Rattle.std.specs.Ordering.{nat_cmp}
+use Rattle.std.specs.FinMap.{FinMap, empty, get-empty}
 use Rattle.nr_nfs_base.specs.declared.time.Time.{Time}
-use Rattle.nr_tree.specs.Entries.{Entry, Each, count}
-use Rattle.nr_tree.specs.Skeleton.{Skeleton, set, sum_below, name_count_in, name_count, detached_count, expected_links, subdirectory_count, IsSound}
-use Rattle.nr_tree.specs.Tree.{Tree, value_at, is_dir, entries_in}
-use Rattle.nr_tree.specs.Sane.{IsSane, IsFitContent, skeleton_of, skeleton}
+use Rattle.nr_tree.specs.Skeleton.{Skeleton, set, expected_links, IsSound}
+use Rattle.nr_tree.specs.Tree.{value_at, is_dir, entries_in}
+use Rattle.nr_tree.specs.Sane.{IsSane, skeleton}
 use Rattle.nr_tree.specs.Roots.{root_node, root_only}
 use Rattle.nr_tree.specs.declared.node.Node.{Node}
-use Rattle.nr_tree.proofs.Lists.{set-here, set-other, set-all, set-same}
+use Rattle.nr_tree.proofs.Lists.{set-other, set-same}
 use Rattle.nr_tree.proofs.SkeletonChanges.{value_at-insert}
 use Rattle.nr_tree.proofs.Contents.{Fit, fit-insert}
 

@@ -1,13 +1,12 @@
 -- What leaves the skeleton alone keeps a tree sane: WRITE, and SETATTR.
-use Rattle.std.proofs.Common.{◌≡◌, ℕ, Bool, true, false, List, [], Option, None, Some, refl, ap, sym, ◌∙◌, subst}
-use Rattle.std.specs.Ordering.{nat_cmp}
-use Rattle.std.specs.FinMap.{FinMap, get, insert}
+use Rattle.std.proofs.Common.{◌≡◌, ℕ, true, false, [], None, Some, refl, ap, sym, ◌∙◌, subst}
+use Rattle.std.specs.FinMap.{get}
 use Rattle.nr_tree.specs.Skeleton.{Skeleton, IsSound}
-use Rattle.nr_tree.specs.Tree.{Tree, value_at, nodes_with_change, is_dir, entries_in}
-use Rattle.nr_tree.specs.Sane.{IsSane, IsFitContent, skeleton_of, skeleton}
+use Rattle.nr_tree.specs.Tree.{Tree, nodes_with_change, is_dir, entries_in}
+use Rattle.nr_tree.specs.Sane.{IsSane, IsFitContent, skeleton_of}
 use Rattle.nr_tree.specs.declared.node.Node.{Node}
 use Rattle.nr_tree.proofs.SkeletonChanges.{value_at-metadata, with_change-at}
-use Rattle.nr_tree.proofs.Contents.{Fit, fit-with_change}
+use Rattle.nr_tree.proofs.Contents.{fit-with_change}
 
 -- as another node sees it, the node is the same
 pub record IsSameInSkeleton (v w : Node) : Type 0 where

@@ -1,20 +1,20 @@
 -- What a change of one node does to the skeleton.
-use Rattle.std.proofs.Common.{◌≡◌, ◌≢◌, ℕ, zero, suc, ◌+◌, ◌-◌, ◌<◌, ◌≤◌, Bool, true, false, cond, eqb, List, [], ◌∷◌, ◌++◌, Option, None, Some, refl, ap, sym, ◌∙◌, subst, arith, inl, inr, ◌⊎◌}
+use Rattle.std.proofs.Common.{◌≡◌, ℕ, ◌+◌, ◌-◌, Bool, true, false, cond, eqb, List, [], ◌∷◌, ◌++◌, Option, None, Some, refl, ap, sym, ◌∙◌, arith}
 use Rattle.std.specs.Option.{option_map_or}
 use Rattle.std.specs.Ordering.{nat_cmp, eq_by_cmp}
 use Rattle.std.specs.Cmp.{nat_cmp_total}
 use Rattle.std.specs.FinMap.{FinMap, get, insert, remove, get-insert, get-remove}
 use Rattle.std.proofs.lemmas.Bool.Decides.{nat_tests}
 use Rattle.nr_nfs_base.specs.declared.time.Time.{Time}
-use Rattle.nr_tree.specs.Entries.{Entry, Entries, entry_of_name, list_without, next_entry}
-use Rattle.nr_tree.specs.Skeleton.{Skeleton, set, one_if, node_added, link_added, link_dropped, node_removed, entry_added, entry_removed}
-use Rattle.nr_tree.specs.Tree.{Tree, value_at, nodes_with_change, is_dir, is_directory, entries_in, entries_of}
+use Rattle.nr_tree.specs.Entries.{Entry, Entries, list_without}
+use Rattle.nr_tree.specs.Skeleton.{Skeleton, set, one_if, node_added, link_added, link_dropped, node_removed, entry_removed}
+use Rattle.nr_tree.specs.Tree.{value_at, nodes_with_change, is_dir, is_directory, entries_in}
 use Rattle.nr_tree.specs.Sane.{skeleton_of}
 use Rattle.nr_tree.specs.Changes.{next_cookie_of, on_entries, node_with_entry, node_without_entry, node_with_link, node_without_link, node_with_new_name}
 use Rattle.nr_tree.specs.declared.node.Node.{Node}
 use Rattle.nr_tree.specs.declared.node.Content.{Content}
 use Rattle.nr_tree.specs.declared.node.Content.TheVariants.{Regular, Directory, Block, Character, Link, Socket, Fifo}
-use Rattle.nr_tree.proofs.Lists.{set-here, set-other, set-same}
+use Rattle.nr_tree.proofs.Lists.{set-same}
 
 abbrev Nodes : Type 0
 Nodes = FinMap nat_cmp Node

@@ -1,17 +1,17 @@
 -- What a sane tree promises before each step, and that each step leaves it sane.
-use Rattle.std.proofs.Common.{◌≡◌, ℕ, zero, suc, ◌+◌, ◌-◌, ◌<◌, ◌≤◌, ◌^◌, Bool, true, false, List, [], ◌∷◌, ◌++◌, length, take, drop, replicate, Option, None, Some, IfSome, IsTrue, Result, Ok, Err, OnOk, OnErr, refl, ap, sym, ◌∙◌, subst, arith, inl, inr, ◌⊎◌}
+use Rattle.std.proofs.Common.{◌≡◌, ℕ, ◌+◌, ◌-◌, ◌<◌, ◌≤◌, ◌^◌, true, false, List, [], ◌++◌, length, take, drop, replicate, Option, None, Some, IfSome, IsTrue, Result, Ok, Err, OnOk, OnErr, refl, ap, sym, ◌∙◌, subst, arith, inl, inr, ◌⊎◌}
 use Rattle.std.proofs.lemmas.Bool.{cases_Bool, false_from_ne_true}
 use Rattle.std.proofs.lemmas.List.{length-append, length-take, length-drop, length-replicate}
 use Rattle.std.specs.Option.{option_map, option_map_or}
 use Rattle.std.specs.FinMap.{get, insert}
 use Rattle.nr_nfs_base.specs.declared.time.Time.{Time}
 use Rattle.nr_tree.specs.Bytes.{with_length, with_bytes_at}
-use Rattle.nr_tree.specs.Entries.{Entry, Entries, entry_of_name}
-use Rattle.nr_tree.specs.Skeleton.{Skeleton, one_if, IsSound}
-use Rattle.nr_tree.specs.Tree.{Tree, value_at, is_dir, is_regular, is_directory, is_regular_content, entries_in}
+use Rattle.nr_tree.specs.Entries.{Entry, entry_of_name}
+use Rattle.nr_tree.specs.Skeleton.{Skeleton}
+use Rattle.nr_tree.specs.Tree.{Tree, is_dir, is_regular, is_directory, is_regular_content, entries_in}
 use Rattle.nr_tree.specs.Sane.{IsSane, IsFitContent, skeleton, largest_file}
 use Rattle.nr_tree.specs.Room.{HasRoomIn, HasRoomFor}
-use Rattle.nr_tree.specs.Steps.{IsBounded, IsFree, IsNew, CanAddNode, CanAddLink, CanRemoveEntry, is_live_at, is_dir_at, is_regular_at, entries_at, links_at}
+use Rattle.nr_tree.specs.Steps.{IsBounded, IsFree, CanAddNode, CanAddLink, CanRemoveEntry, is_live_at, is_dir_at, is_regular_at, entries_at, links_at}
 use Rattle.nr_tree.specs.Changes.{next_cookie_of, on_bytes, node_with_bytes, node_with_size, node_with_metadata, entry_at, tree_with_node, tree_without_entry, tree_with_link, tree_with_bytes, tree_with_size, tree_with_metadata}
 use Rattle.nr_tree.specs.declared.node.Node.{Node}
 use Rattle.nr_tree.specs.declared.node.Metadata.{Metadata}

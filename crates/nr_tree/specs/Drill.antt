@@ -1,5 +1,5 @@
 -- The tree that a drill begins with: below a root a file, a symbolic link and a directory of a hundred empty files.
-use Rattle.std.specs.Prelude.{◌≡◌, ℕ, zero, suc, ◌+◌, ◌/◌, ◌%◌, ◌<◌, ◌≤◌, List, [], ◌∷◌, ◌++◌, Option, None, Some, ◌⊎◌}
+use Rattle.std.specs.Prelude.{◌≡◌, ℕ, zero, suc, ◌+◌, ◌/◌, ◌%◌, ◌<◌, ◌≤◌, List, [], ◌∷◌, ◌++◌, None, Some, ◌⊎◌}
 use Rattle.std.specs.FinMap.{get}
 use Rattle.nr_nfs_base.specs.declared.time.Time.{Time}
 use Rattle.nr_tree.specs.Entries.{Entry}

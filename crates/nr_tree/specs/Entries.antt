@@ -1,5 +1,5 @@
 -- A directory's entries, in the order in which they were made.
-use Rattle.std.specs.Prelude.{ℕ, zero, suc, ◌+◌, ◌<◌, ◌≤◌, ◌++◌, ◌≡◌, Bool, if◌then◌else◌, List, [], ◌∷◌, length, Option, None, Some, nat_eq, refl}
+use Rattle.std.specs.Prelude.{ℕ, ◌+◌, ◌<◌, ◌≤◌, ◌++◌, ◌≡◌, Bool, if◌then◌else◌, List, [], ◌∷◌, length, Option, None, Some, nat_eq, refl}
 use Rattle.std.specs.Cmp.Lexicographic.{pointwise}
 use Rattle.std.specs.Coded.{Coded, code_by, coded×, coded_ℕ, coded_list}
 
@@ -62,7 +62,11 @@ abbrev pub CookiesAscend : ℕ → List Entry → ℕ → Type 0
 CookiesAscend from [] next = from ≤ next
 CookiesAscend from (e ∷ es) next = (from ≤ e.cookie) × CookiesAscend (e.cookie + 1) es next
 
+-- the most bytes of a name
+abbrev pub longest_name : ℕ
+longest_name = 255
+
 -- names differ, and have 1 to 255 bytes
 abbrev pub NamesAreValid : List Entry → Type 0
 NamesAreValid [] = Unit {0}
-NamesAreValid (e ∷ es) = (0 < length e.name) × (length e.name ≤ 255) × (entry_of_name e.name es ≡ None) × NamesAreValid es
+NamesAreValid (e ∷ es) = (0 < length e.name) × (length e.name ≤ longest_name) × (entry_of_name e.name es ≡ None) × NamesAreValid es

@@ -1,5 +1,5 @@
 -- The tree with a root alone: mode 0777, uid 0, gid 0.
-use Rattle.std.specs.Prelude.{ℕ, List, [], Option, None}
+use Rattle.std.specs.Prelude.{[], None}
 use Rattle.std.specs.FinMap.{empty, insert}
 use Rattle.nr_nfs_base.specs.declared.time.Time.{Time}
 use Rattle.nr_tree.specs.Tree.{Tree}

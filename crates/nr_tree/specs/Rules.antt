@@ -1,13 +1,14 @@
--- The rules by which a call is refused. A row of the table is a list of rules, and the first that holds is the answer.
-use Rattle.std.specs.Prelude.{ℕ, ◌+◌, ◌/◌, ◌%◌, ◌==◌, nat_lt, nat_le, nat_eq, Bool, true, false, not, ◌&&◌, ◌||◌, if◌then◌else◌, List, [], ◌∷◌, ◌++◌, length, Option, None, Some, is_none, is_some}
+-- The rules by which a call is refused. What a procedure tests is a list of rules in their order, and the first that holds is the answer.
+use Rattle.std.specs.Prelude.{ℕ, ◌+◌, ◌/◌, ◌%◌, ◌==◌, nat_lt, nat_eq, Bool, not, ◌&&◌, ◌||◌, if◌then◌else◌, List, [], ◌∷◌, length, Option, None, Some, is_none}
 use Rattle.std.specs.List.{list_any}
 use Rattle.std.specs.Int.{w64, from_be_bytes, to_be_bytes}
 use Rattle.std.specs.Cmp.Lexicographic.{pointwise}
 use Rattle.std.specs.FinMap.{get}
 use Rattle.nr_nfs_base.specs.declared.caller.Caller.{Caller}
 use Rattle.nr_nfs_base.specs.declared.status.Status.{Status}
-use Rattle.nr_nfs_base.specs.declared.status.Status.TheVariants.{Perm, Noent, Acces, Exist, Notdir, Isdir, Inval, Fbig, Nospc, Mlink, Nametoolong, Notempty, Stale, Badhandle}
-use Rattle.nr_tree.specs.Tree.{Tree, is_dir, is_regular}
+use Rattle.nr_nfs_base.specs.declared.status.Status.TheVariants.{Acces, Notdir, Nospc, Nametoolong, Stale, Badhandle}
+use Rattle.nr_tree.specs.Entries.{longest_name}
+use Rattle.nr_tree.specs.Tree.{Tree, is_dir}
 use Rattle.nr_tree.specs.declared.node.Node.{Node}
 
 -- the first refusal that holds
@@ -50,7 +51,7 @@ handle_of number = to_be_bytes w64 number
 abbrev pub node_of_handle : Tree → List ℕ → Option Node
 node_of_handle t h = if length h == 8 then get t.nodes (number_of_handle h) else None
 
--- H: no handle of this server, or of a number never given; then, of a node that is gone
+-- no handle of this server, or of a number never given; then, of a node that is gone (RFC 1813 section 2.6)
 abbrev pub was_given : Tree → List ℕ → Bool
 was_given t h = (length h == 8) && (nat_lt 0 (number_of_handle h) && nat_lt (number_of_handle h) t.next)
 
@@ -80,14 +81,14 @@ class_of c node =
 abbrev pub may : Caller → ℕ → Node → Bool
 may c right node = (c.uid == 0) || ((class_of c node / right) % 2 == 1)
 
--- Dir(w, x)
+-- what is asked of a directory that gets or loses an entry
 abbrev pub change_rules : Caller → Node → List (Option Status)
 change_rules c node =
     (not (is_dir node) ⇒ Notdir) ∷
     (not (may c write_right node) ⇒ Acces) ∷
     (not (may c execute_right node) ⇒ Acces) ∷ []
 
--- N: a name that no entry may have
+-- a name that no entry may have (RFC 1813 section 2.4)
 abbrev pub has_byte : ℕ → List ℕ → Bool
 has_byte b bytes = list_any (λ x. x == b) bytes
 
@@ -95,7 +96,7 @@ abbrev pub name_rules : List ℕ → List (Option Status)
 name_rules name =
     (length name == 0 ⇒ Acces) ∷
     ((has_byte 0 name || has_byte 47 name) ⇒ Acces) ∷
-    (nat_lt 255 (length name) ⇒ Nametoolong) ∷ []
+    (nat_lt longest_name (length name) ⇒ Nametoolong) ∷ []
 
 abbrev pub same_name : List ℕ → List ℕ → Bool
 same_name a b = pointwise nat_eq a b

@@ -1,9 +1,8 @@
 -- What holds of every tree.
-use Rattle.std.specs.Prelude.{◌≡◌, ℕ, ◌+◌, ◌<◌, ◌≤◌, Bool, true, false, List, [], length, Option, None, Some, is_some}
-use Rattle.std.specs.Option.{option_map_or}
+use Rattle.std.specs.Prelude.{◌≡◌, ℕ, ◌<◌, ◌≤◌, true, false, [], length, None, Some}
 use Rattle.std.specs.Ordering.{nat_cmp}
 use Rattle.std.specs.FinMap.{FinMap, get}
-use Rattle.nr_tree.specs.Entries.{Entry, Entries, CookiesAscend, NamesAreValid}
+use Rattle.nr_tree.specs.Entries.{CookiesAscend, NamesAreValid}
 use Rattle.nr_tree.specs.Skeleton.{Skeleton, IsSound}
 use Rattle.nr_tree.specs.Tree.{Tree, value_at, is_dir, entries_in}
 use Rattle.nr_tree.specs.declared.node.Node.{Node}

@@ -47,6 +47,10 @@ IsConnected s detached n = LiesBelow s detached n 1 ⊎ ((h : ℕ) × (detached 
 abbrev pub expected_links : Skeleton → Option ℕ → ℕ → ℕ
 expected_links s detached n = if s.dir n then 2 + subdirectory_count s n else name_count s n + detached_count detached n
 
+-- the most links of a node
+abbrev pub most_links : ℕ
+most_links = 65535
+
 pub record IsSound (s : Skeleton) (detached : Option ℕ) : Type 0 where
   pub root : s.dir 1 ≡ true
   pub root_parent : s.parent 1 ≡ 1
@@ -60,7 +64,7 @@ pub record IsSound (s : Skeleton) (detached : Option ℕ) : Type 0 where
   pub once : (n : ℕ) → s.dir n ≡ true → n ≢ 1 → name_count s n + detached_count detached n ≡ 1
   pub below : (n : ℕ) → s.dir n ≡ true → IsConnected s detached n
   pub links : (n : ℕ) → s.live n ≡ true → s.links n ≡ expected_links s detached n
-  pub few : (n : ℕ) → s.live n ≡ true → s.links n ≤ 65535
+  pub few : (n : ℕ) → s.live n ≡ true → s.links n ≤ most_links
 
 -- ===== the six steps that every change is made of
 

@@ -2,16 +2,12 @@
 use Rattle.std.specs.Prelude.{◌≡◌, ℕ, ◌+◌, ◌<◌, ◌≤◌, ◌^◌, Bool, true, false, List, [], length, Option, None, Some}
 use Rattle.std.specs.Option.{option_map}
 use Rattle.std.specs.FinMap.{get}
-use Rattle.nr_tree.specs.Entries.{Entry, entry_of_name}
-use Rattle.nr_tree.specs.Skeleton.{Skeleton, one_if, LiesBelow}
+use Rattle.nr_tree.specs.Entries.{Entry, entry_of_name, longest_name}
+use Rattle.nr_tree.specs.Skeleton.{Skeleton, one_if, LiesBelow, most_links}
 use Rattle.nr_tree.specs.Tree.{Tree, value_at, is_dir, is_regular, entries_in}
 use Rattle.nr_tree.specs.Sane.{IsFitContent, skeleton}
 use Rattle.nr_tree.specs.Changes.{entry_at, next_cookie_of}
 use Rattle.nr_tree.specs.declared.node.Node.{Node}
-
--- the most links of a node
-abbrev pub most_links : ℕ
-most_links = 65535
 
 abbrev pub is_live_at : Tree → ℕ → Bool
 is_live_at t n = value_at (λ node. true) false t.nodes n
@@ -41,7 +37,7 @@ IsBounded t = IsBelow (2 ^ 63) t
 pub record IsFree (s : Skeleton) (d : ℕ) (name : List ℕ) : Type 0 where
   pub free : entry_of_name name (s.entries d) ≡ None
   pub some : 0 < length name
-  pub few : length name ≤ 255
+  pub few : length name ≤ longest_name
 
 -- a node as it is made in a directory: empty, with the links that it has once it is named there
 pub record IsNew (node : Node) (d : ℕ) : Type 0 where
@@ -77,7 +73,7 @@ pub record CanRename (t : Tree) (from : ℕ) (name : List ℕ) (to : ℕ) (name_
   pub entry : option_map (λ (e : Entry). e.number) (entry_at t from name) ≡ Some h
   pub dir : is_dir_at t to ≡ true
   pub some : 0 < length name_to
-  pub few : length name_to ≤ 255
+  pub few : length name_to ≤ longest_name
   pub target : IsFreeTarget (skeleton t) h (entry_at t to name_to)
   pub room : is_dir_at t h ≡ true → (to ≡ from → ⊥) → links_at t to < most_links
   pub apart : is_dir_at t h ≡ true → LiesBelow (skeleton t) None to h → ⊥

@@ -1,16 +1,14 @@
 -- A tree of files: a node under each number, and the next number to be given.
-use Rattle.std.specs.Prelude.{ℕ, ◌+◌, ◌==◌, Bool, true, false, if◌then◌else◌, List, [], length, Option, None, Some}
-use Rattle.std.specs.Option.{option_map, option_map_or, option_and_then}
-use Rattle.std.specs.Int.{w64, from_be_bytes, to_be_bytes}
+use Rattle.std.specs.Prelude.{ℕ, Bool, true, false, List, [], length}
+use Rattle.std.specs.Option.{option_map_or}
 use Rattle.std.specs.Ordering.{nat_cmp}
-use Rattle.std.specs.FinMap.{FinMap, get, insert, remove, from_entries}
+use Rattle.std.specs.FinMap.{FinMap, get, insert, from_entries}
 use Rattle.nr_nfs_base.specs.declared.attributes.Attributes.{Attributes}
 use Rattle.nr_nfs_base.specs.declared.attributes.SpecialData.{SpecialData}
 use Rattle.nr_nfs_base.specs.declared.file_type.FileType.{FileType}
 use Rattle.nr_nfs_base.specs.declared.file_type.FileType.TheVariants as types
-use Rattle.nr_tree.specs.Entries.{Entry, Entries, entry_of_name}
+use Rattle.nr_tree.specs.Entries.{Entry}
 use Rattle.nr_tree.specs.declared.node.Node.{Node}
-use Rattle.nr_tree.specs.declared.node.Metadata.{Metadata}
 use Rattle.nr_tree.specs.declared.node.Content.{Content}
 use Rattle.nr_tree.specs.declared.node.Content.TheVariants.{Regular, Directory, Block, Character, Link, Socket, Fifo}
 

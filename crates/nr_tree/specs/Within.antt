@@ -1,5 +1,5 @@
 -- Whether a directory is another one or lies below it, as a test: a walk from each to its parent, as many steps as there are numbers.
-use Rattle.std.specs.Prelude.{ℕ, zero, suc, ◌==◌, Bool, true, false, ◌||◌, ◌&&◌, not}
+use Rattle.std.specs.Prelude.{ℕ, zero, suc, ◌==◌, Bool, ◌||◌, ◌&&◌, not}
 use Rattle.nr_tree.specs.Skeleton.{Skeleton}
 
 abbrev pub walks_to : ℕ → Skeleton → ℕ → ℕ → Bool

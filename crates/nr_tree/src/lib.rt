@@ -1,4 +1,15 @@
-//! A tree of files: nodes by number, and directories that name them.
+//! The tree of files that the plain server keeps (RFC 1813 section 2.6): nodes by number, and directories that name them.
+//!
+//! [`Tree`] has a node under each number and the next number to be given. Contracts see it as a finite map; `specs/Sane.antt`
+//! says what holds of every tree, and each step of `steps.rt` asks for such a tree and leaves one: a node or a link added, an
+//! entry removed, a node renamed, bytes written or cut, attributes set. What a step makes of a tree stands in
+//! `specs/Changes.antt`, when it may be taken in `specs/Steps.antt`. A step that may want memory takes it before the tree
+//! changes, so after want of memory the tree is as before.
+//!
+//! [`File`] and [`Directory`] hide how bytes and entries are kept: contracts see a list of bytes, and a list of entries with
+//! the next cookie. `rules.rt` has the tests of handles, names, rights and of the journal's room that the procedures share.
+//! The procedures themselves, with the order of their rules and their replies, stand above. docs/TREE.md tells the idea of the
+//! proof.
 #![tactic(auto)]
 
 mod directory;
@@ -14,6 +25,7 @@ pub use directory::{Directory, Slot};
 pub use file::File;
 pub use node::{Content, Metadata, Node};
 pub use rules::{
-    Room, check_changeable, check_name, check_room, handle_number, is_own, live_node, may,
+    EXECUTE, READ, Room, WRITE, check_changeable, check_name, check_room, entry_number,
+    handle_number, is_own, live_node, may,
 };
 pub use tree::Tree;

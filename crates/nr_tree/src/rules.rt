@@ -12,6 +12,18 @@ use crate::node::Node;
 use crate::tree::Tree;
 use nr_nfs_base::{Caller, Status};
 
+/// The right to read, as a bit of a class (RFC 1813 section 2.5, the mode of `fattr3`).
+pub const READ: u32 = 4;
+
+/// The right to write.
+pub const WRITE: u32 = 2;
+
+/// The right to execute, and to search a directory.
+pub const EXECUTE: u32 = 1;
+
+/// The most bytes of a name.
+const LONGEST_NAME: usize = 255;
+
 fn is_among(gids: &[u32], gid: u32) -> bool
     ensures { result ≡ list_any (λ g. g == gid) gids.now }
 {
@@ -63,7 +75,7 @@ pub fn check_name(name: &[u8]) -> Result<(), Status>
     if contains_byte(name, 0) || contains_byte(name, b'/') {
         return Err(Status::Acces);
     }
-    if name.len() > 255 {
+    if name.len() > LONGEST_NAME {
         return Err(Status::Nametoolong);
     }
     Ok(())
@@ -76,10 +88,10 @@ pub fn check_changeable(caller: &Caller, node: &Node) -> Result<(), Status>
     if !node.is_dir() {
         return Err(Status::Notdir);
     }
-    if !may(caller, 2, node) {
+    if !may(caller, WRITE, node) {
         return Err(Status::Acces);
     }
-    if !may(caller, 1, node) {
+    if !may(caller, EXECUTE, node) {
         return Err(Status::Acces);
     }
     Ok(())
@@ -146,7 +158,7 @@ pub fn check_room(room: &Room) -> Result<(), Status>
 }
 
 /// The number that a directory's entry leads to.
-fn entry_number(tree: &Tree, directory: u64, dir: &Node, name: &[u8]) -> Option<u64>
+pub fn entry_number(tree: &Tree, directory: u64, dir: &Node, name: &[u8]) -> Option<u64>
     requires { map.get tree.now.nodes directory ≡ Some dir.now }
     ensures { result ≡ option_map (λ e. e.number) (entry_at tree.now directory name.now) }
 {

@@ -1,6 +1,5 @@
-use Rattle.std.proofs.Common.{◌≡◌, ◌+◌, ◌-◌, ◌/◌, ◌<◌, ◌≤◌, arith, ℕ}
+use Rattle.std.proofs.Common.{◌+◌, ◌-◌, ◌/◌, arith}
 use Rattle.nr_tree.specs.Slots.{entries_of}
-use Rattle.nr_tree.specs.Listing.{entries_after}
 use Rattle.nr_tree.proofs.ListingLemmas.{none_until, all_from, listed, middle_low, middle_high, same_place}
 use Rattle.nr_tree.proofs.directory.place_above.Goals as goal
 

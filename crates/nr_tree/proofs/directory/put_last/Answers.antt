@@ -1,6 +1,6 @@
-use Rattle.std.proofs.Common.{◌≡◌, ap, ◌∙◌, refl, arith, ◌-◌, length}
+use Rattle.std.proofs.Common.{ap, ◌∙◌, ◌-◌}
 use Rattle.nr_tree.specs.Slots.{entries_of}
-use Rattle.nr_tree.proofs.LastPlace.{put_last, has_slot, some_slots}
+use Rattle.nr_tree.proofs.LastPlace.{put_last, has_slot}
 use Rattle.nr_tree.proofs.directory.put_last.Goals as goal
 
 pub unreachable-requires : goal.unreachable-requires

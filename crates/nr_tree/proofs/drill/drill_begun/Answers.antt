@@ -1,8 +1,7 @@
-use Rattle.std.proofs.Common.{◌≡◌, arith, subst, sym, ap, ◌∙◌}
-use Rattle.nr_tree.specs.Tree.{Tree}
+use Rattle.std.proofs.Common.{arith, subst, sym}
 use Rattle.nr_tree.specs.Drill.{hello, link, many, IsDrillWith}
 use Rattle.nr_tree.specs.Steps.{IsBelow}
-use Rattle.nr_tree.proofs.DrillLemmas.{with_root, with_hello, with_link, with_many, bounded_as, allowed_as, added_as, below-root_only, below-hello, below-link, below-many, can_add_hello, can_add_link, can_add_many, drill_begins}
+use Rattle.nr_tree.proofs.DrillLemmas.{with_root, with_hello, with_link, bounded_as, allowed_as, added_as, below-root_only, below-hello, below-link, below-many, can_add_hello, can_add_link, can_add_many, drill_begins}
 use Rattle.nr_tree.proofs.drill.drill_begun.Goals as goal
 
 pub add-requires-clause-bounded : goal.add-requires-clause-bounded

@@ -1,4 +1,4 @@
-use Rattle.std.proofs.Common.{ap, ◌∙◌, subst, sym, IfSome, IsTrue, ◌≤◌, Bool, List, ℕ}
+use Rattle.std.proofs.Common.{ap, ◌∙◌, subst, sym, IfSome, IsTrue, ◌≤◌, Bool}
 use Rattle.std.specs.Ordering.{nat_cmp}
 use Rattle.std.specs.FinMap.{FinMap, get}
 use Rattle.nr_tree.specs.Room.{HasEntryFor}

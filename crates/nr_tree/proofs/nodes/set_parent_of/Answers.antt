@@ -3,8 +3,7 @@ use Rattle.std.specs.Ordering.{nat_cmp}
 use Rattle.std.specs.BTreeMap.{is_at}
 use Rattle.std.specs.Map.{lookup}
 use Rattle.nr_tree.specs.Changes.{node_with_new_name}
-use Rattle.nr_tree.specs.Room.{HasEntryFor}
-use Rattle.nr_tree.proofs.NodeMaps.{nodes_changed, nodes_absent, known}
+use Rattle.nr_tree.proofs.NodeMaps.{nodes_changed, nodes_absent}
 use Rattle.nr_tree.proofs.nodes.set_parent_of.Goals as goal
 
 pub returns-in-Some : goal.returns-in-Some

@@ -4,7 +4,7 @@ use Rattle.std.specs.BTreeMap.{is_at}
 use Rattle.std.specs.Map.{lookup}
 use Rattle.nr_tree.specs.Tree.{is_regular}
 use Rattle.nr_tree.specs.Changes.{node_with_size}
-use Rattle.nr_tree.proofs.NodeMaps.{nodes_changed, nodes_same, nodes_absent, there, known, on_ok, on_err}
+use Rattle.nr_tree.proofs.NodeMaps.{nodes_changed, nodes_same, nodes_absent, there, on_ok, on_err}
 use Rattle.nr_tree.proofs.nodes.size_node.Goals as goal
 
 pub set_size-requires-clause-regular : goal.set_size-requires-clause-regular

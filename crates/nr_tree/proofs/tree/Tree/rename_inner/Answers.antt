@@ -1,4 +1,4 @@
-use Rattle.std.proofs.Common.{◌≡◌, ◌<◌, ℕ, List, Option, None, Some, IfSome, ap, sym, ◌∙◌, subst, refl, false}
+use Rattle.std.proofs.Common.{ℕ, List, ap, sym, ◌∙◌, subst, false}
 use Rattle.std.specs.Option.{option_map}
 use Rattle.nr_tree.specs.Entries.{Entry}
 use Rattle.nr_tree.specs.Tree.{Tree, nodes_of, value_at, is_dir}

@@ -1,8 +1,7 @@
-use Rattle.std.proofs.Common.{subst, sym, ap, ◌∙◌, ℕ, List}
+use Rattle.std.proofs.Common.{subst, sym, ap, ◌∙◌}
 use Rattle.std.specs.FinMap as map
 use Rattle.nr_tree.specs.Sane.{IsSane}
-use Rattle.nr_tree.specs.Tree.{Tree, nodes_of}
-use Rattle.nr_tree.specs.declared.node.Node.{Node}
+use Rattle.nr_tree.specs.Tree.{nodes_of}
 use Rattle.nr_tree.proofs.Roots.{sane-root_only}
 use Rattle.nr_tree.proofs.tree.Tree.root_only.Goals as goal
 
