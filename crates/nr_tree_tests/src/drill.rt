@@ -5,7 +5,7 @@ use nr_nfs_base::{Attributes, FileType, SpecialData, Time};
 use nr_tree::{Content, Tree};
 
 /// Type, mode, links, size and parent.
-type Seen = (FileType, u32, u32, u64, u64);
+pub type Seen = (FileType, u32, u32, u64, u64);
 
 /// What stands under a number.
 static NODES: [(u64, Option<Seen>); 9] = [
@@ -48,7 +48,7 @@ static LISTINGS: [(u64, u64, Option<(usize, u64, u64)>); 10] = [
     (4, u64::MAX, None),
 ];
 
-fn seen(tree: &Tree, number: u64) -> Option<Seen> {
+pub fn seen(tree: &Tree, number: u64) -> Option<Seen> {
     let node = tree.get(number)?;
     let told = node.attributes(number);
     Some((
@@ -60,11 +60,11 @@ fn seen(tree: &Tree, number: u64) -> Option<Seen> {
     ))
 }
 
-fn looked_up(tree: &Tree, dir: u64, name: &[u8]) -> Option<u64> {
+pub fn looked_up(tree: &Tree, dir: u64, name: &[u8]) -> Option<u64> {
     tree.get(dir)?.lookup(name)
 }
 
-fn listed(tree: &Tree, dir: u64, cookie: u64) -> Option<(usize, u64, u64)> {
+pub fn listed(tree: &Tree, dir: u64, cookie: u64) -> Option<(usize, u64, u64)> {
     match &tree.get(dir)?.content {
         Content::Directory(entries) => {
             let place = entries.place_after(cookie);
