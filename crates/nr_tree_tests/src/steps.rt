@@ -6,8 +6,8 @@ ghost use Rattle.nr_tree.specs.Steps.{IsBounded};
 ghost use Rattle.nr_tree.specs.Drill.{IsDrill};
 
 use crate::compare::same;
-use crate::drill::{listed, looked_up, seen};
-use nr_nfs_base::{FileType, Time};
+use crate::drill::{REG, Seen, listed, looked_up, seen};
+use nr_nfs_base::Time;
 use nr_tree::Tree;
 use std::alloc::Global;
 use std::process::Abort;
@@ -65,7 +65,7 @@ type Row = (
     u8,
     Option<u64>,
     Option<u64>,
-    Option<(FileType, u32, u32, u64, u64)>,
+    Option<Seen>,
     Option<(usize, u64, u64)>,
 );
 
@@ -74,14 +74,14 @@ static ROWS: [Row; 4] = [
         0,
         None,
         Some(2),
-        Some((FileType::Reg, 0o666, 1, 5, 1)),
+        Some((REG, 0o666, 1, 5, 1)),
         Some((0, 2, 3)),
     ),
     (
         1,
         Some(2),
         Some(2),
-        Some((FileType::Reg, 0o666, 2, 5, 1)),
+        Some((REG, 0o666, 2, 5, 1)),
         Some((0, 1, 2)),
     ),
     (2, None, None, None, Some((0, 2, 3))),
@@ -89,7 +89,7 @@ static ROWS: [Row; 4] = [
         3,
         Some(2),
         None,
-        Some((FileType::Reg, 0o666, 1, 9, 1)),
+        Some((REG, 0o666, 1, 9, 1)),
         Some((0, 1, 2)),
     ),
 ];
