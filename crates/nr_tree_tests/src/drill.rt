@@ -1,21 +1,27 @@
 //! The drill's tree, number by number, its look-ups and its listings.
 
 use crate::compare::same;
-use nr_nfs_base::{Attributes, FileType, SpecialData, Time};
+use nr_nfs_base::{FileType, Time};
 use nr_tree::{Content, Tree};
 
-/// Type, mode, links, size and parent.
-type Seen = (FileType, u32, u32, u64, u64);
+/// The number of the type (RFC 1813 section 2.5, `ftype3`), mode, links, size and parent.
+pub type Seen = (u32, u32, u32, u64, u64);
+
+pub const REG: u32 = 1;
+
+const DIR: u32 = 2;
+
+const LNK: u32 = 5;
 
 /// What stands under a number.
 static NODES: [(u64, Option<Seen>); 9] = [
     (0, None),
-    (1, Some((FileType::Dir, 0o777, 3, 0, 1))),
-    (2, Some((FileType::Reg, 0o666, 1, 5, 1))),
-    (3, Some((FileType::Lnk, 0o777, 1, 5, 1))),
-    (4, Some((FileType::Dir, 0o777, 2, 0, 1))),
-    (5, Some((FileType::Reg, 0o666, 1, 0, 4))),
-    (104, Some((FileType::Reg, 0o666, 1, 0, 4))),
+    (1, Some((DIR, 0o777, 3, 0, 1))),
+    (2, Some((REG, 0o666, 1, 5, 1))),
+    (3, Some((LNK, 0o777, 1, 5, 1))),
+    (4, Some((DIR, 0o777, 2, 0, 1))),
+    (5, Some((REG, 0o666, 1, 0, 4))),
+    (104, Some((REG, 0o666, 1, 0, 4))),
     (105, None),
     (u64::MAX, None),
 ];
@@ -48,11 +54,23 @@ static LISTINGS: [(u64, u64, Option<(usize, u64, u64)>); 10] = [
     (4, u64::MAX, None),
 ];
 
-fn seen(tree: &Tree, number: u64) -> Option<Seen> {
+fn number_of(file_type: FileType) -> u32 {
+    match file_type {
+        FileType::Reg => 1,
+        FileType::Dir => 2,
+        FileType::Blk => 3,
+        FileType::Chr => 4,
+        FileType::Lnk => 5,
+        FileType::Sock => 6,
+        FileType::Fifo => 7,
+    }
+}
+
+pub fn seen(tree: &Tree, number: u64) -> Option<Seen> {
     let node = tree.get(number)?;
     let told = node.attributes(number);
     Some((
-        told.file_type,
+        number_of(told.file_type),
         told.mode,
         told.nlink,
         told.size,
@@ -60,11 +78,11 @@ fn seen(tree: &Tree, number: u64) -> Option<Seen> {
     ))
 }
 
-fn looked_up(tree: &Tree, dir: u64, name: &[u8]) -> Option<u64> {
+pub fn looked_up(tree: &Tree, dir: u64, name: &[u8]) -> Option<u64> {
     tree.get(dir)?.lookup(name)
 }
 
-fn listed(tree: &Tree, dir: u64, cookie: u64) -> Option<(usize, u64, u64)> {
+pub fn listed(tree: &Tree, dir: u64, cookie: u64) -> Option<(usize, u64, u64)> {
     match &tree.get(dir)?.content {
         Content::Directory(entries) => {
             let place = entries.place_after(cookie);
@@ -101,24 +119,23 @@ fn root_alone(rt: HostRuntime) {
     };
     let tree = Tree::root_only(rt.alloc(), now).expect(&rt, "memory");
     same(&rt, 0, tree.next(), 2);
-    let told = match tree.get(1) {
-        Some(node) => Some(node.attributes(1)),
-        None => None,
-    };
-    let want = Attributes {
-        file_type: FileType::Dir,
-        mode: 0o777,
-        nlink: 2,
-        uid: 0,
-        gid: 0,
-        size: 0,
-        used: 0,
-        rdev: SpecialData { major: 0, minor: 0 },
-        fsid: 1,
-        fileid: 1,
-        atime: now,
-        mtime: now,
-        ctime: now,
-    };
-    same(&rt, 1, told, Some(want));
+    same(&rt, 1, seen(&tree, 1), Some((DIR, 0o777, 2, 0, 1)));
+    same(&rt, 2, owned(&tree, 1), Some((0, 0, 1, 1)));
+    same(&rt, 3, moments(&tree, 1), Some(((7, 9), (7, 9), (7, 9))));
+}
+
+/// Uid, gid, file system and file number.
+fn owned(tree: &Tree, number: u64) -> Option<(u32, u32, u64, u64)> {
+    let told = tree.get(number)?.attributes(number);
+    Some((told.uid, told.gid, told.fsid, told.fileid))
+}
+
+/// When it was read, written and changed.
+fn moments(tree: &Tree, number: u64) -> Option<((u32, u32), (u32, u32), (u32, u32))> {
+    let told = tree.get(number)?.attributes(number);
+    Some((pair(told.atime), pair(told.mtime), pair(told.ctime)))
+}
+
+fn pair(time: Time) -> (u32, u32) {
+    (time.seconds, time.nanoseconds)
 }

@@ -10,3 +10,5 @@ mod compare;
 mod drill;
 #[cfg(test)]
 mod files;
+#[cfg(test)]
+mod steps;

@@ -1,0 +1,56 @@
+-- Which steps the drill's tree lets.
+use Rattle.std.proofs.Common.{◌≡◌, ℕ, ◌<◌, ◌≤◌, Bool, true, false, List, [], ◌∷◌, length, Option, None, Some, refl, ap, sym, ◌∙◌, subst, arith}
+use Rattle.std.proofs.lemmas.Bool.{both_ways}
+use Rattle.std.specs.Option.{option_map, option_map_or}
+use Rattle.nr_tree.specs.Entries.{Entry, entry_of_name}
+use Rattle.nr_tree.specs.Tree.{Tree, is_dir, is_regular, entries_in}
+use Rattle.nr_tree.specs.Sane.{skeleton}
+use Rattle.nr_tree.specs.Steps.{IsFreeTarget, CanAddLink, CanRemoveEntry, CanRename, is_dir_at, is_regular_at}
+use Rattle.nr_tree.specs.Changes.{entry_at}
+use Rattle.nr_tree.specs.Drill.{IsDrill, hello}
+use Rattle.nr_tree.specs.declared.node.Node.{Node}
+
+abbrev bye : List ℕ
+bye = 98 ∷ 121 ∷ 101 ∷ []
+
+module _ (t : Tree) (is : IsDrill t) where
+  file : is_dir_at t 2 ≡ false
+  file = ap (λ (o : Option Node). option_map_or is_dir o false) is.hello_file
+
+  directory : is_dir_at t 1 ≡ true
+  directory = ap (λ (o : Option Node). option_map_or is_dir o false) is.root
+
+  named : option_map (λ (e : Entry). e.number) (entry_at t 1 hello) ≡ Some 2
+  named = ap (λ (o : Option Node). option_map (λ (e : Entry). e.number) (entry_of_name hello (option_map_or entries_in o []))) is.root
+
+  free : entry_at t 1 bye ≡ None
+  free = ap (λ (o : Option Node). entry_of_name bye (option_map_or entries_in o [])) is.root
+
+  no_dir : {A : Type 0} → is_dir_at t 2 ≡ true → A
+  no_dir d = absurd (both_ways (is_dir_at t 2) file d)
+
+  pub can_remove : CanRemoveEntry t 1 hello 2
+  can_remove = record { entry = named; bare = λ d. no_dir d }
+
+  pub can_rename : CanRename t 1 hello 1 bye 2
+  can_rename = record {
+    entry = named;
+    dir = directory;
+    some = omega arith;
+    few = omega arith;
+    target = subst (IsFreeTarget (skeleton t) 2) (sym free) tt;
+    room = λ d. no_dir d;
+    apart = λ d. no_dir d;
+  }
+
+  pub can_link : CanAddLink t 1 bye 2
+  can_link = record {
+    directory = directory;
+    free = record { free = free; some = omega arith; few = omega arith };
+    live = ap (λ (o : Option Node). option_map_or (λ (node : Node). true) o false) is.hello_file;
+    file = file;
+    links = subst (λ (k : ℕ). k < 65535) (sym (ap (λ (o : Option Node). option_map_or (λ (node : Node). node.metadata.links) o 0) is.hello_file)) (omega arith);
+  }
+
+  pub can_write : is_regular_at t 2 ≡ true
+  can_write = ap (λ (o : Option Node). option_map_or is_regular o false) is.hello_file
