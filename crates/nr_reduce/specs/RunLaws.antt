@@ -29,7 +29,7 @@ use Rattle.nr_reduce.specs.Events.{Event, events_at}
 use Rattle.nr_reduce.specs.EndRules.{EndState, end_state_after, output_for_all}
 use Rattle.nr_reduce.specs.OfferedRegions.{region_grants}
 use Rattle.nr_reduce.specs.declared.outline.Plan.{Plan}
-use Rattle.nr_reduce.specs.Plans.{call_message, lists_of}
+use Rattle.nr_reduce.specs.Plans.{call_message, lists_of, inline_stream}
 use Rattle.nr_reduce.specs.ClientState.{ClientState}
 use Rattle.nr_reduce.specs.Client.{client_rules, client_end, client_output, calls_output, initial_client}
 use Rattle.nr_reduce.specs.ServerState.{ServerState, ReadyCall, is_pending, down_max}
@@ -50,14 +50,6 @@ use Rattle.nr_reduce.specs.SoFar.{SoFar, InFull}
 use Rattle.nr_reduce.specs.Standing.{input_events, ClientStandsFor, ServerStandsFor}
 use Rattle.nr_reduce.specs.PayloadLaws.{IsPlanned}
 use Rattle.nr_xdr.specs.Fields.{word_at}
-
--- the stream of a plan, where it is in the message
-abbrev pub inline_at : Option ℕ → List ℕ → Option (List ℕ)
-inline_at None stream = Some stream
-inline_at (Some position) stream = if position == 0 then None else Some stream
-
-abbrev pub inline_stream : Plan → Option (List ℕ)
-inline_stream p = inline_at p.read_at p.inline
 
 -- for a frame just this message is due, and no call becomes pending or ready
 pub record IsOnlyAnswered (opened : Opened) (k : ServerState) (f : Frame) (answer : List ℕ) : Type 0 where
