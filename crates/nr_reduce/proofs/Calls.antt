@@ -32,7 +32,7 @@ use Rattle.nr_reduce.specs.Plans.{TooLarge, call_message}
 use Rattle.nr_reduce.specs.Chunks.{suits}
 use Rattle.nr_reduce.specs.Holds.{Answer, answer_writes, answer_message, chunk_error, version_error}
 use Rattle.nr_reduce.specs.ClientState.{ClientState, call_payload, plan_for}
-use Rattle.nr_reduce.specs.Client.{client_rules, client_end, client_output, plan_or, outstanding_of, call_output, calls_output, response_output, segment_request}
+use Rattle.nr_reduce.specs.Client.{client_rules, client_end, client_output, client_state_after, with_segment, plan_or, outstanding_of, call_output, calls_output, response_output, segment_request}
 use Rattle.nr_reduce.specs.ServerState.{ServerState, ReadyCall, PendingCall, PendingRead, down_max}
 use Rattle.nr_reduce.specs.ServerReads.{open_reads, is_read, regions_of, reads_of}
 use Rattle.nr_reduce.specs.ServerMessages.{Verdict, CallVerdict, verdict, by_payload, by_head, payload_of, call_xid, chunk_bytes}
@@ -88,10 +88,16 @@ submit-sent opened link run call form xid h =
       λ none. all ∙ ap (λ (b : Bool). due ++ cond b one []) none ∙ append-nil due,
     )
 
-pub hello-sends : (opened : Opened) (k : ClientState) (f : Frame) → is_hello f ≡ true → client_output opened k (FrameReceived f) ≡ calls_output opened 1 k.outstanding
-unfolding client_output
-hello-sends opened k f hello =
-    ap (λ (b : Bool). cond b (calls_output opened 1 k.outstanding) (response_output k f.end (segment_request (frame_segment f)))) hello
+pub hello-sends : (opened : Opened) (k : ClientState) (f : Frame) → is_hello f ≡ true → client_end k (FrameReceived f) ≡ None →
+    (output_for (client_rules opened) (live k) (FrameReceived f) ≡ calls_output opened 1 k.outstanding)
+    × ((next_end_state (client_rules opened) (live k) (FrameReceived f)).state.has_hello ≡ true)
+unfolding client_output client_state_after
+hello-sends opened k f hello none = (
+  ap (λ (o : Option Stop). output_for_by (client_rules opened) k (FrameReceived f) o) none
+      ∙ ap (λ (b : Bool). cond b (calls_output opened 1 k.outstanding) (response_output k f.end (segment_request (frame_segment f)))) hello,
+  ap (λ (o : Option Stop). (next_end_state_by (client_rules opened) k (FrameReceived f) o).state.has_hello) none
+      ∙ ap (λ (b : Bool). (cond b (record k { has_hello = true }) (with_segment k f (frame_segment f))).has_hello) hello,
+)
 
 -- ---- An Execute
 

@@ -15,7 +15,9 @@ use Rattle.nr_rpc.specs.declared.head.CallHead.{CallHead}
 use Rattle.nr_rpc.specs.Reading.{call_of, target_of}
 use Rattle.nr_reduce.specs.Holds.{Answer, answer_writes, answer_message, chunk_error, version_error}
 use Rattle.nr_link.specs.Input.{InputState, initial_input, input_of, input_after}
-use Rattle.nr_link.specs.Ending.{frame_segment, missing_access}
+use Rattle.nr_link.specs.Ending.{frame_segment, access_of}
+use Rattle.nr_regions.specs.Access.{Allowed, HaveOwnStags}
+use Rattle.nr_regions.specs.RegisteredMemory.{Access}
 use Rattle.nr_reduce.specs.declared.call.Form.{Form}
 use Rattle.nr_reduce.specs.declared.call.Call.{Call}
 use Rattle.nr_reduce.specs.declared.call.Outcome.{Outcome}
@@ -34,7 +36,7 @@ use Rattle.nr_reduce.specs.OfferedRegions.{region_grants}
 use Rattle.nr_reduce.specs.declared.outline.Plan.{Plan}
 use Rattle.nr_reduce.specs.Plans.{call_message, lists_of, inline_stream}
 use Rattle.nr_reduce.specs.ClientState.{ClientState}
-use Rattle.nr_reduce.specs.Client.{client_rules, client_end, client_output, calls_output, initial_client}
+use Rattle.nr_reduce.specs.Client.{client_rules, client_end, calls_output, initial_client}
 use Rattle.nr_reduce.specs.ServerState.{ServerState, ReadyCall, PendingCall, PendingRead, is_pending, down_max}
 use Rattle.nr_reduce.specs.ServerReads.{open_reads}
 use Rattle.nr_reduce.specs.ServerMessages.{verdict, by_need, call_xid, chunk_bytes}
@@ -43,7 +45,8 @@ use Rattle.nr_reduce.specs.Chunks.{suits}
 use Rattle.nr_reduce.specs.ServerMessages.Verdict.{BadChunks, OtherVersion}
 use Rattle.nr_reduce.specs.Server.{server_rules, server_end, server_state_after, initial_server, offer_of, answer_of_target, newly_open_reads, sends_from, requests_from}
 use Rattle.nr_reduce.specs.Events.Event.{FrameReceived}
-use Rattle.nr_reduce.specs.Run.{client, server, output_due}
+use Rattle.nr_reduce.specs.Run.{client, server, output_due, grants_of}
+use Rattle.nr_reduce.specs.Opening.{IsOpened}
 use Rattle.nr_rpc.specs.Credential.{CanWriteCred}
 use Rattle.nr_reduce.specs.Limits.{numbers_end}
 use Rattle.nr_reduce.specs.Credits.{calls_outstanding, credits_granted}
@@ -191,22 +194,32 @@ ServerQueueIsDue = (opened : Opened) (link : ℕ) (end : EndState ServerState) (
 
 -- ---- Memory
 
--- A frame that doesn't end a side lacks nothing of what the side offers where the frame ends. So each access before a side's end is
--- allowed, and the first that isn't ends it.
+-- No two regions that a side offers have one STag.
+abbrev pub GrantsHaveOwnStags : Type 0
+GrantsHaveOwnStags = (opened : Opened) (link : ℕ) (side : Side) (run : List Mark) → HaveOwnStags (grants_of opened link side run)
+
+-- The access of a frame that doesn't end a side is allowed by what the side offers as the frame is received: after any events, where
+-- the frame is the next one. So each access before a side's end is allowed, and the first that isn't ends it.
 abbrev pub ClientAllows : Type 0
-ClientAllows = (k : ClientState) (f : Frame) (segment : Segment) → is_hello f ≡ false → frame_segment f ≡ Ok segment →
-    client_end k (FrameReceived f) ≡ None → missing_access (region_grants f.end k.regions) f segment ≡ None
+ClientAllows = (opened : Opened) (events : List Event) (f : Frame) (segment : Segment) (access : Access) → is_hello f ≡ false → frame_segment f ≡ Ok segment → access_of segment ≡ Some access →
+    client_end (end_state_after (client_rules opened) (initial_client opened) events).state (FrameReceived f) ≡ None →
+    Allowed (region_grants f.end (end_state_after (client_rules opened) (initial_client opened) events).state.regions) access f.end
 
 abbrev pub ServerAllows : Type 0
-ServerAllows = (opened : Opened) (k : ServerState) (f : Frame) (segment : Segment) → is_hello f ≡ false → frame_segment f ≡ Ok segment →
-    server_end opened k (FrameReceived f) ≡ None → missing_access (region_grants f.end k.regions) f segment ≡ None
+ServerAllows = (opened : Opened) (events : List Event) (f : Frame) (segment : Segment) (access : Access) → is_hello f ≡ false → frame_segment f ≡ Ok segment → access_of segment ≡ Some access →
+    server_end opened (end_state_after (server_rules opened) (initial_server opened) events).state (FrameReceived f) ≡ None →
+    Allowed (region_grants f.end (end_state_after (server_rules opened) (initial_server opened) events).state.regions) access f.end
 
 -- ---- Calls
+
+-- The STag that a client gives next is at most numbers_end, while it keeps its law: so the next one is left or none is.
+abbrev pub StagsAreNumbers : Type 0
+StagsAreNumbers = (opened : Opened) (link : ℕ) (run : List Mark) → IsOpened opened → AskedSoFar opened link run → (client opened link run).state.stag ≤ numbers_end
 
 -- A call that a client accepts keeps the law of its side, and fewer calls are outstanding than are granted.
 abbrev pub AcceptedKeepsLaw : Type 0
 AcceptedKeepsLaw = (opened : Opened) (link : ℕ) (run : List Mark) (call : Call) (form : Form) (xid : ℕ) →
-    submit_answer opened (client opened link run) call form ≡ submissions.Accepted xid → (client opened link run).state.stag ≤ numbers_end → CanWriteCred call.cred →
+    submit_answer opened (client opened link run) call form ≡ submissions.Accepted xid → IsOpened opened → AskedSoFar opened link run → CanWriteCred call.cred →
     IsAccepted opened link run call form xid × (calls_outstanding opened link run < credits_granted opened link run)
 
 -- The Send of an accepted call is due at its Submit, by its plan, once the server's hello was received. Before, nothing is due.
@@ -218,9 +231,12 @@ SubmitIsSent = (opened : Opened) (link : ℕ) (run : List Mark) (call : Call) (f
     × ((client opened link run).state.has_hello ≡ false →
     output_due opened link Initiator (run ++ marks.Submit link call form (submissions.Accepted xid) ∷ []) ≡ output_due opened link Initiator run)
 
--- With the server's hello the Sends of all calls that are outstanding are due, in the order of their Submits, numbered from 1 on.
+-- For the server's hello, where it doesn't end the client, the Sends of all calls that are outstanding are due, in the order of their
+-- Submits, numbered from 1 on. From then on the client has the hello.
 abbrev pub HelloSendsCalls : Type 0
-HelloSendsCalls = (opened : Opened) (k : ClientState) (f : Frame) → is_hello f ≡ true → client_output opened k (FrameReceived f) ≡ calls_output opened 1 k.outstanding
+HelloSendsCalls = (opened : Opened) (k : ClientState) (f : Frame) → is_hello f ≡ true → client_end k (FrameReceived f) ≡ None →
+    (output_for (client_rules opened) (live k) (FrameReceived f) ≡ calls_output opened 1 k.outstanding)
+    × ((next_end_state (client_rules opened) (live k) (FrameReceived f)).state.has_hello ≡ true)
 
 -- An executed call's payload begins with the head of a call under its xid.
 abbrev pub PayloadHasItsXid : Type 0
