@@ -1,9 +1,9 @@
 -- What is sent for a call, and for what a client sends: the sentences on asking and answering, one event at a time.
-use Rattle.std.proofs.Common.{◌≡◌, ℕ, ◌+◌, ◌-◌, ◌≤◌, Bool, true, false, cond, not, ◌&&◌, eqb, List, [], ◌∷◌, ◌++◌, length, take, drop, Option, None, Some, Result, Ok, Err, refl, sym, ap, subst, ◌∙◌, arith, append-nil}
+use Rattle.std.proofs.Common.{◌≡◌, ℕ, ◌+◌, ◌-◌, ◌<◌, ◌≤◌, Bool, true, false, cond, not, ◌&&◌, eqb, List, [], ◌∷◌, ◌++◌, length, take, drop, Option, None, Some, Result, Ok, Err, refl, sym, ap, subst, ◌∙◌, arith, append-nil, length-append}
 use Rattle.std.proofs.lemmas.Bool.{eqb-true}
-use Rattle.std.proofs.lemmas.List.{length-take}
+use Rattle.std.proofs.lemmas.List.{length-take, length-drop, take_all}
 use Rattle.std.proofs.Math.Seq.{drop-length}
-use Rattle.std.specs.List.{list_any}
+use Rattle.std.specs.List.{list_any, filter}
 use Rattle.std.specs.Prelude.{slice_get}
 use Rattle.nr_wire.specs.declared.hello.Side.TheVariants.{Initiator, Responder}
 use Rattle.nr_wire.specs.Segment.{Segment}
@@ -26,15 +26,15 @@ use Rattle.nr_reduce.specs.declared.mark.Opened.{Opened}
 use Rattle.nr_reduce.specs.History.{AcceptedCall, ExecutedCall, bytes_received}
 use Rattle.nr_reduce.specs.Events.{Event, if_own, events_at, events}
 use Rattle.nr_reduce.specs.Events.Event.{FrameReceived, CallSubmitted, MemoryRevoked, CallExecuted, QueueWritten}
-use Rattle.nr_reduce.specs.EndRules.{EndState, next_end_state, next_end_state_by, next_end_state_in, end_state_after, output_for_all, output_for_in}
+use Rattle.nr_reduce.specs.EndRules.{EndState, next_end_state, next_end_state_by, next_end_state_in, end_state_after, output_for, output_for_by, output_for_all, output_for_in, live}
 use Rattle.nr_reduce.specs.declared.outline.Plan.{Plan}
 use Rattle.nr_reduce.specs.Plans.{TooLarge, call_message}
 use Rattle.nr_reduce.specs.Chunks.{suits}
 use Rattle.nr_reduce.specs.Holds.{Answer, answer_writes, answer_message, chunk_error, version_error}
 use Rattle.nr_reduce.specs.ClientState.{ClientState, call_payload, plan_for}
-use Rattle.nr_reduce.specs.Client.{client_rules, client_end, client_output, plan_or, outstanding_of, call_output, calls_output, response_output, segment_request}
+use Rattle.nr_reduce.specs.Client.{client_rules, client_end, client_output, client_state_after, with_segment, plan_or, outstanding_of, call_output, calls_output, response_output, segment_request}
 use Rattle.nr_reduce.specs.ServerState.{ServerState, ReadyCall, PendingCall, PendingRead, down_max}
-use Rattle.nr_reduce.specs.ServerReads.{open_reads, is_read}
+use Rattle.nr_reduce.specs.ServerReads.{open_reads, is_read, regions_of, reads_of}
 use Rattle.nr_reduce.specs.ServerMessages.{Verdict, CallVerdict, verdict, by_payload, by_head, payload_of, call_xid, chunk_bytes}
 use Rattle.nr_reduce.specs.ServerMessages.Verdict.{EndsLink, OtherVersion, BadChunks, MakesPending}
 use Rattle.nr_reduce.specs.ServerMessages.CallVerdict.{Refuses, IsReady}
@@ -43,7 +43,7 @@ use Rattle.nr_reduce.specs.Server.{server_rules, server_end, server_output, serv
 use Rattle.nr_reduce.specs.Run.{client, server, output_due}
 use Rattle.nr_reduce.specs.Asked.{IsAccepted}
 use Rattle.nr_reduce.specs.Served.{IsExecuted, next_call, first_ready}
-use Rattle.nr_reduce.specs.RunLaws.{IsOnlyAnswered}
+use Rattle.nr_reduce.specs.RunLaws.{IsOnlyAnswered, ends_response, IsStreamRefused, IsRefusedCall, OpensReads}
 use Rattle.nr_reduce.proofs.Steps.{output_due_up-one, output_due_down-one}
 use Rattle.nr_reduce.proofs.Standing.{itself}
 use Rattle.nr_xdr.specs.Fields.{word_at}
@@ -88,10 +88,16 @@ submit-sent opened link run call form xid h =
       λ none. all ∙ ap (λ (b : Bool). due ++ cond b one []) none ∙ append-nil due,
     )
 
-pub hello-sends : (opened : Opened) (k : ClientState) (f : Frame) → is_hello f ≡ true → client_output opened k (FrameReceived f) ≡ calls_output opened 1 k.outstanding
-unfolding client_output
-hello-sends opened k f hello =
-    ap (λ (b : Bool). cond b (calls_output opened 1 k.outstanding) (response_output k f.end (segment_request (frame_segment f)))) hello
+pub hello-sends : (opened : Opened) (k : ClientState) (f : Frame) → is_hello f ≡ true → client_end k (FrameReceived f) ≡ None →
+    (output_for (client_rules opened) (live k) (FrameReceived f) ≡ calls_output opened 1 k.outstanding)
+    × ((next_end_state (client_rules opened) (live k) (FrameReceived f)).state.has_hello ≡ true)
+unfolding client_output client_state_after
+hello-sends opened k f hello none = (
+  ap (λ (o : Option Stop). output_for_by (client_rules opened) k (FrameReceived f) o) none
+      ∙ ap (λ (b : Bool). cond b (calls_output opened 1 k.outstanding) (response_output k f.end (segment_request (frame_segment f)))) hello,
+  ap (λ (o : Option Stop). (next_end_state_by (client_rules opened) k (FrameReceived f) o).state.has_hello) none
+      ∙ ap (λ (b : Bool). (cond b (record k { has_hello = true }) (with_segment k f (frame_segment f))).has_hello) hello,
+)
 
 -- ---- An Execute
 
@@ -246,18 +252,27 @@ executed-head opened link run xid payload h =
 open-none : (k : ServerState) (s : FrameEffect) → s.reads ≡ k.reads → s.kept ≡ length (open_reads k) → newly_open_reads s ≡ []
 open-none k s same kept = (λ i. drop (kept i) (take 8 (same i))) ∙ drop-length (take 8 k.reads)
 
-only-answered : (opened : Opened) (k : ServerState) (f : Frame) (answer : List ℕ) → is_hello f ≡ false → frame_effect k f ≡ record (no_effect k) { errors = answer ∷ [] } → IsOnlyAnswered opened k f answer
+stays-output : (opened : Opened) (k : ServerState) (event : Event) → server_end opened k event ≡ None → output_for (server_rules opened) (live k) event ≡ server_output opened k event
+stays-output opened k event e = ap (λ (o : Option Stop). output_for_by (server_rules opened) k event o) e
+
+stays-state : (opened : Opened) (k : ServerState) (event : Event) → server_end opened k event ≡ None → next_end_state (server_rules opened) (live k) event ≡ live (server_state_after opened k event)
+stays-state opened k event e = ap (λ (o : Option Stop). next_end_state_by (server_rules opened) k event o) e
+
+only-answered : (opened : Opened) (k : ServerState) (f : Frame) (answer : List ℕ) → is_hello f ≡ false → server_end opened k (FrameReceived f) ≡ None → frame_effect k f ≡ record (no_effect k) { errors = answer ∷ [] } → IsOnlyAnswered opened k f answer
 unfolding server_output server_state_after
-only-answered opened k f answer later is =
+only-answered opened k f answer later none is =
     let s : FrameEffect = record (no_effect k) { errors = answer ∷ [] } in
+    let after = stays-state opened k (FrameReceived f) none in
     record {
       output =
-          (λ i. cond (later i) (own_hello Responder) (effect_output k (is i)))
+          stays-output opened k (FrameReceived f) none
+          ∙ (λ i. cond (later i) (own_hello Responder) (effect_output k (is i)))
           ∙ ap (λ (xs : List PendingRead). (send (k.messages_queued + 1) answer ++ []) ++ requests_from (k.requests_sent + 1) xs) (open-none k s refl refl)
           ∙ append-nil (send (k.messages_queued + 1) answer ++ [])
           ∙ append-nil (send (k.messages_queued + 1) answer);
-      calls = λ i. (cond (later i) k (with_effect k f (is i))).calls;
-      ready = (λ i. (cond (later i) k (with_effect k f (is i))).ready) ∙ append-nil k.ready;
+      stays = ap (λ (r : EndState ServerState). r.ended) after;
+      calls = ap (λ (r : EndState ServerState). r.state.calls) after ∙ (λ i. (cond (later i) k (with_effect k f (is i))).calls);
+      ready = ap (λ (r : EndState ServerState). r.state.ready) after ∙ (λ i. (cond (later i) k (with_effect k f (is i))).ready) ∙ append-nil k.ready;
     }
 
 refused-effect : (k : ServerState) (f : Frame) (segment : Segment) (message : List ℕ) (v : Verdict) → frame_segment f ≡ Ok segment → message_completed k.received segment ≡ Some message → verdict k message ≡ v → frame_effect k f ≡ message_effect k f.end message v
@@ -269,13 +284,154 @@ refused-effect k f (Untagged last opcode w queue msn offset payload) message v i
     ∙ ap (λ (v : Verdict). message_effect k f.end message v) e
 
 pub refused-answered : (opened : Opened) (k : ServerState) (f : Frame) (segment : Segment) (message : List ℕ) → is_hello f ≡ false → frame_segment f ≡ Ok segment →
-    message_completed k.received segment ≡ Some message →
+    message_completed k.received segment ≡ Some message → server_end opened k (FrameReceived f) ≡ None →
     (verdict k message ≡ BadChunks → IsOnlyAnswered opened k f (chunk_error (word_at 0 message) k.credit))
     × (verdict k message ≡ OtherVersion → IsOnlyAnswered opened k f (version_error (word_at 0 message) (word_at 4 message) k.credit))
-refused-answered opened k f segment message later is whole = (
-  (λ e. only-answered opened k f (chunk_error (word_at 0 message) k.credit) later (refused-effect k f segment message BadChunks is whole e)),
-  λ e. only-answered opened k f (version_error (word_at 0 message) (word_at 4 message) k.credit) later (refused-effect k f segment message OtherVersion is whole e),
+refused-answered opened k f segment message later is whole none = (
+  (λ e. only-answered opened k f (chunk_error (word_at 0 message) k.credit) later none (refused-effect k f segment message BadChunks is whole e)),
+  λ e. only-answered opened k f (version_error (word_at 0 message) (word_at 4 message) k.credit) later none (refused-effect k f segment message OtherVersion is whole e),
 )
 
-pub open-few : (k : ServerState) → length (open_reads k) ≤ open_reads_max
-open-few k = (let a = length-take 8 k.reads in omega (arith, a))
+-- ---- A refused call
+
+tagged-effect-is : (k : ServerState) (f : Frame) (segment : Segment) → frame_segment f ≡ Ok segment → ends_response segment ≡ true → frame_effect k f ≡ response_effect (with_reach k f segment) f.end k.reads
+unfolding frame_effect
+tagged-effect-is k f (Tagged last opcode stag to payload) is e =
+    let t : ServerState = with_reach k f (Tagged last opcode stag to payload) in
+    ap (λ (r : Result Segment ℕ). effect_in k f r) is
+    ∙ ap (λ (b : Bool). cond b (response_effect t f.end k.reads) (no_effect t)) e
+tagged-effect-is k f (Untagged last opcode w queue msn offset payload) is e = absurd cc
+
+refused-call-effect : (k : ServerState) (f : Frame) (segment : Segment) (c : PendingCall) → frame_segment f ≡ Ok segment → (h : IsStreamRefused k f segment c) →
+    frame_effect k f ≡ with_refused_call (with_reach k f segment) c (record (no_effect (with_reach k f segment)) { reads = h.others; kept = length (open_reads k) - 1 })
+refused-call-effect k f segment c is h =
+    let t : ServerState = with_reach k f segment in
+    let s : FrameEffect = record (no_effect t) { reads = h.others; kept = length (open_reads k) - 1 } in
+    tagged-effect-is k f segment is h.is_last
+    ∙ ap (λ (reads : List PendingRead). response_effect t f.end reads) h.reads
+    ∙ ap (λ (o : Option PendingCall). read_effect t f.end h.read o s) h.call
+    ∙ ap (λ (b : Bool). cond (b && not (suits (chunk_bytes t f.end c 0) c.lists.read)) (with_refused_call t c s) (ready_if_whole t f.end c s)) h.stream
+    ∙ ap (λ (b : Bool). cond (not b) (with_refused_call t c s) (ready_if_whole t f.end c s)) h.unsuited
+
+pub refused-call : (opened : Opened) (k : ServerState) (f : Frame) (segment : Segment) (c : PendingCall) → is_hello f ≡ false → frame_segment f ≡ Ok segment →
+    IsStreamRefused k f segment c → server_end opened k (FrameReceived f) ≡ None → IsRefusedCall opened k f c
+unfolding server_output server_state_after
+refused-call opened k f segment c later is h none =
+    let after = stays-state opened k (FrameReceived f) none in
+    let effect = refused-call-effect k f segment c is h in
+    record {
+      output =
+          stays-output opened k (FrameReceived f) none
+          ∙ ap (λ (b : Bool). cond b (own_hello Responder) (effect_output k (frame_effect k f))) later
+          ∙ ap (λ (s : FrameEffect). sends_from (k.messages_queued + 1) s.errors ++ requests_from (k.requests_sent + 1) (newly_open_reads (frame_effect k f))) effect
+          ∙ ap (λ (xs : List ℕ). xs ++ requests_from (k.requests_sent + 1) (newly_open_reads (frame_effect k f))) (append-nil (send (k.messages_queued + 1) (chunk_error c.xid k.credit)));
+      stays = ap (λ (r : EndState ServerState). r.ended) after;
+      calls = ap (λ (r : EndState ServerState). r.state.calls) after ∙ (λ i. (cond (later i) k (with_effect k f (effect i))).calls);
+      ready = ap (λ (r : EndState ServerState). r.state.ready) after ∙ (λ i. (cond (later i) k (with_effect k f (effect i))).ready) ∙ append-nil k.ready;
+    }
+
+-- ---- Open reads
+
+-- what is kept of the open reads, and that it is still open
+record Keeps (s : FrameEffect) (kept : ℕ) : Type 0 where
+  is : s.kept ≡ kept
+  fits : s.kept ≤ length (take 8 s.reads)
+
+keeps-if : (b : Bool) (s t : FrameEffect) (kept : ℕ) → Keeps s kept → Keeps t kept → Keeps (cond b s t) kept
+keeps-if true s t kept h g = h
+keeps-if false s t kept h g = g
+
+keeps-none : (k : ServerState) → Keeps (no_effect k) (length (open_reads k))
+keeps-none k = record { is = refl; fits = omega arith }
+
+keeps-verdict : (v : CallVerdict) (s : FrameEffect) (kept : ℕ) → Keeps s kept → Keeps (with_verdict v s) kept
+keeps-verdict (Refuses reason) s kept h = record { is = h.is; fits = h.fits }
+keeps-verdict (IsReady r) s kept h = record { is = h.is; fits = h.fits }
+
+keeps-whole : (k : ServerState) (place : ℕ) (c : PendingCall) (s : FrameEffect) (kept : ℕ) → Keeps s kept → Keeps (ready_if_whole k place c s) kept
+keeps-whole k place c s kept h = keeps-if (is_read s.reads c.number) _ s kept (keeps-verdict (by_payload c (payload_of k place c)) s kept h) h
+
+keeps-message : (k : ServerState) (place : ℕ) (message : List ℕ) (v : Verdict) → Keeps (message_effect k place message v) (length (open_reads k))
+keeps-message k place message (EndsLink reason) = record { is = refl; fits = omega arith }
+keeps-message k place message OtherVersion = record { is = refl; fits = omega arith }
+keeps-message k place message BadChunks = record { is = refl; fits = omega arith }
+keeps-message k place message (MakesPending c) =
+    let regions = k.regions ++ regions_of k place c in
+    let more = reads_of regions c in
+    keeps-whole k place c _ (length (open_reads k)) (record {
+      is = refl;
+      fits = (let a = length-take 8 k.reads in let b = length-take 8 (k.reads ++ more) in let d = length-append k.reads more in omega (arith, a, b, d));
+    })
+
+keeps-refused : (k : ServerState) (c : PendingCall) (s : FrameEffect) (kept : ℕ) → Keeps s kept → Keeps (with_refused_call k c s) kept
+keeps-refused k c s kept h =
+    let first = take s.kept s.reads in
+    let rest = filter (λ (r : PendingRead). not (eqb r.number c.number)) (drop s.kept s.reads) in
+    record {
+      is = h.is;
+      fits = (
+        let a = length-take 8 (first ++ rest) in let b = length-append first rest in let d = length-take s.kept s.reads in let e = length-take 8 s.reads in let g = h.fits in
+        omega (arith, a, b, d, e, g)
+      );
+    }
+
+keeps-read : (k : ServerState) (place : ℕ) (r : PendingRead) (o : Option PendingCall) (s : FrameEffect) (kept : ℕ) → Keeps s kept → Keeps (read_effect k place r o s) kept
+keeps-read k place r None s kept h = h
+keeps-read k place r (Some c) s kept h =
+    keeps-if (is_stream_read c r s.reads && not (suits (chunk_bytes k place c 0) c.lists.read)) (with_refused_call k c s) (ready_if_whole k place c s) kept
+    (keeps-refused k c s kept h) (keeps-whole k place c s kept h)
+
+keeps-response : (k : ServerState) (place : ℕ) (reads : List PendingRead) → reads ≡ k.reads → Keeps (response_effect k place reads) (length (open_reads k) - 1)
+keeps-response k place [] e = record {
+  is = (let a = ap (λ (xs : List PendingRead). length (take 8 xs)) e in omega (arith, a));
+  fits = omega arith;
+}
+keeps-response k place (r ∷ reads) e = keeps-read k place r (call_of_number k r.number) _ (length (open_reads k) - 1) (record {
+  is = refl;
+  fits = (
+    let a = ap (λ (xs : List PendingRead). length (take 8 xs)) e in let b = length-take 8 (r ∷ reads) in let d = length-take 8 reads in
+    omega (arith, a, b, d)
+  );
+})
+
+abbrev kept_by : ServerState → Segment → ℕ
+kept_by k segment = cond (ends_response segment) (length (open_reads k) - 1) (length (open_reads k))
+
+keeps-by : (k : ServerState) (f : Frame) (segment : Segment) → Keeps (effect_by k f segment) (kept_by k segment)
+keeps-by k f (Tagged last opcode stag to payload) = by (eqb opcode 2 && last)
+  where
+    t : ServerState
+    t = with_reach k f (Tagged last opcode stag to payload)
+
+    by : (b : Bool) → Keeps (cond b (response_effect t f.end k.reads) (no_effect t)) (cond b (length (open_reads k) - 1) (length (open_reads k)))
+    by true = keeps-response t f.end k.reads refl
+    by false = keeps-none t
+keeps-by k f (Untagged last opcode w queue msn offset payload) = by (message_completed k.received (Untagged last opcode w queue msn offset payload))
+  where
+    by : (o : Option (List ℕ)) → Keeps (by_message k f.end o) (length (open_reads k))
+    by None = keeps-none k
+    by (Some message) = keeps-message k f.end message (verdict k message)
+
+keeps-frame : (k : ServerState) (f : Frame) (segment : Segment) → frame_segment f ≡ Ok segment → Keeps (frame_effect k f) (kept_by k segment)
+unfolding frame_effect
+keeps-frame k f segment is = subst (λ (r : Result Segment ℕ). Keeps (effect_in k f r) (kept_by k segment)) (sym is) (keeps-by k f segment)
+
+all-open : (n : ℕ) (xs : List PendingRead) → length (take n xs) < n → take n xs ≡ xs
+all-open n xs lt = take_all n xs (let a = length-take n xs in omega (arith, a, lt))
+
+pub opens-reads : (opened : Opened) (k : ServerState) (f : Frame) (segment : Segment) → is_hello f ≡ false → frame_segment f ≡ Ok segment →
+    server_end opened k (FrameReceived f) ≡ None → OpensReads opened k f segment
+unfolding server_output server_state_after
+opens-reads opened k f segment later is none =
+    let s : FrameEffect = frame_effect k f in
+    let keeps = keeps-frame k f segment is in
+    let after : ServerState = server_state_after opened k (FrameReceived f) in
+    let reads : after.reads ≡ s.reads = ap (λ (b : Bool). (cond b k (with_effect k f s)).reads) later in
+    let same : length (open_reads after) ≡ length (take 8 s.reads) = ap (λ (xs : List PendingRead). length (take 8 xs)) reads in
+    record {
+      kept = keeps.is;
+      count = (let a = length-drop s.kept (take 8 s.reads) in let b = keeps.fits in omega (arith, a, b, same));
+      requests = stays-output opened k (FrameReceived f) none ∙ ap (λ (b : Bool). cond b (own_hello Responder) (effect_output k s)) later;
+      few = (let a = length-take 8 after.reads in omega (arith, a));
+      none_waits = λ lt. all-open 8 after.reads lt;
+    }

@@ -17,6 +17,10 @@ pub mod Steps
 pub mod Undone
 pub mod Touches
 pub mod Sizes
+pub mod OwnStags
+pub mod StagsLeft
+pub mod Readings
+pub mod AnswerMessages
 pub mod Submitting
 pub mod Calls
 pub mod OfferedMemory

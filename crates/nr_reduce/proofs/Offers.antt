@@ -13,10 +13,10 @@ use Rattle.nr_reduce.specs.declared.call.Form.TheVariants as forms
 use Rattle.nr_reduce.specs.declared.call.Offer.{Offer}
 use Rattle.nr_reduce.specs.declared.item.Of.TheVariants.{Call}
 use Rattle.nr_reduce.specs.declared.outline.Plan.{Plan}
-use Rattle.nr_reduce.specs.Plans.{TooLarge, plan_size, given_total, given_region, given_read, given_plan, within, plan_of, read_stag, entries_from, read_list, lists_of}
+use Rattle.nr_reduce.specs.Plans.{TooLarge, plan_size, given_total, given_region, given_read, given_plan, within, plan_of, read_stag, entries_from, read_list, lists_of, inline_at, inline_stream}
 use Rattle.nr_reduce.specs.Limits.{given_max}
 use Rattle.nr_reduce.specs.Chunks.{Bytes, position_of, item_position, at_position, entry_bytes, read_bytes, call_moved, whole, call_conveyed}
-use Rattle.nr_reduce.specs.PayloadLaws.{moved_by, given_conveyed, stream_by, stream_of_plan}
+use Rattle.nr_reduce.specs.PayloadLaws.{moved_by, given_conveyed}
 
 -- ---- The plan is that of the offer
 
@@ -94,7 +94,7 @@ elsewhere payload memory at stag (n ∷ lengths) apart holds =
     ∙ ap (λ (xs : List ℕ). whole Call (take at payload) (Some xs)) (brought payload memory at stag (n ∷ lengths) holds)
 
 by_position : (payload : List ℕ) (memory : Bytes) (at stag : ℕ) (lengths : List ℕ) → memory stag ≡ given_region payload at (sum lengths)
-    → call_conveyed (stream_by (take at payload) (Some at)) (entries_from at stag 0 lengths) (read_bytes memory (entries_from at stag 0 lengths)) ≡ given_conveyed payload at (Some lengths)
+    → call_conveyed (inline_at (Some at) (take at payload)) (entries_from at stag 0 lengths) (read_bytes memory (entries_from at stag 0 lengths)) ≡ given_conveyed payload at (Some lengths)
 by_position payload memory zero stag lengths holds = at_zero payload memory stag lengths holds
 by_position payload memory (suc k) stag lengths holds =
     let apart : eqb (suc k) 0 ≡ false = ne_eqb (suc k) 0 (λ e. omega (arith, e)) in
@@ -104,13 +104,13 @@ by_position payload memory (suc k) stag lengths holds =
 
 by_read : (payload : List ℕ) (at : ℕ) (w r : Option (List ℕ)) (o : Option (List ℕ)) (stag : ℕ) (memory : Bytes)
     → (let q : Plan = given_read payload at o (record { inline = payload; read_at = None; read = []; region = []; write = w; reply = r }) in
-    memory (read_stag stag q) ≡ q.region → call_conveyed (stream_of_plan q) (lists_of stag q).read (read_bytes memory (lists_of stag q).read) ≡ given_conveyed payload at o)
+    memory (read_stag stag q) ≡ q.region → call_conveyed (inline_stream q) (lists_of stag q).read (read_bytes memory (lists_of stag q).read) ≡ given_conveyed payload at o)
 unfolding lists_of call_conveyed item_position
 by_read payload at w r None stag memory holds = refl
 by_read payload at w r (Some lengths) stag memory holds = by_position payload memory at stag lengths holds
 
 pub offer_conveys : (payload : List ℕ) (offer : Offer) (up down stag : ℕ) (p : Plan) (memory : Bytes) → plan_of payload (forms.Given offer) up down ≡ Ok p → memory (read_stag stag p) ≡ p.region
-    → call_conveyed (stream_of_plan p) (lists_of stag p).read (read_bytes memory (lists_of stag p).read) ≡ given_conveyed payload offer.read_at offer.read
+    → call_conveyed (inline_stream p) (lists_of stag p).read (read_bytes memory (lists_of stag p).read) ≡ given_conveyed payload offer.read_at offer.read
 offer_conveys payload offer up down stag p memory e holds =
-    let law = λ (q : Plan). memory (read_stag stag q) ≡ q.region → call_conveyed (stream_of_plan q) (lists_of stag q).read (read_bytes memory (lists_of stag q).read) ≡ given_conveyed payload offer.read_at offer.read in
+    let law = λ (q : Plan). memory (read_stag stag q) ≡ q.region → call_conveyed (inline_stream q) (lists_of stag q).read (read_bytes memory (lists_of stag q).read) ≡ given_conveyed payload offer.read_at offer.read in
     subst law (is_given payload offer up down p e) (λ h. by_read payload offer.read_at offer.write offer.reply offer.read stag memory h) holds

@@ -21,8 +21,7 @@ use Rattle.nr_reduce.specs.declared.item.Of.{Of}
 use Rattle.nr_reduce.specs.Items.{item_of, stream_of}
 use Rattle.nr_reduce.specs.declared.item.Of.TheVariants.{Call}
 use Rattle.nr_reduce.specs.declared.outline.Plan.{Plan}
-use Rattle.nr_reduce.specs.Plans.{plan_of, regions_needed, lists_of, call_message}
-use Rattle.nr_reduce.specs.RunLaws.{inline_stream}
+use Rattle.nr_reduce.specs.Plans.{plan_of, regions_needed, lists_of, inline_stream, call_message}
 use Rattle.nr_reduce.specs.Chunks.{suits, suits_at, is_item, item_position, position_of, total_at}
 use Rattle.nr_reduce.specs.Undone.{IsOwn}
 use Rattle.nr_reduce.specs.ServerState.{ServerState, PendingCall, is_pending}

@@ -216,7 +216,7 @@ shaped payload (forms.Given offer) up down own = absurd own
 
 -- ---- A plan that there is
 
-within-ok : {A : Type 0} (need room : ℕ) (answer : Result A TooLarge) (x : A) → within need room answer ≡ Ok x → (need ≤ room) × (answer ≡ Ok x)
+pub within-ok : {A : Type 0} (need room : ℕ) (answer : Result A TooLarge) (x : A) → within need room answer ≡ Ok x → (need ≤ room) × (answer ≡ Ok x)
 within-ok {A} need room answer x e =
     elim (chosen (ltb room need) (Err (record { need = need; room = room })) answer (Ok x) e) [
       | inl h ↦ absurd (let wrong = h.1 in cc)

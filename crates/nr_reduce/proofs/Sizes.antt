@@ -1,21 +1,25 @@
--- A plan's message has the plan's size: so what was planned is never too long for a Send.
-use Rattle.std.proofs.Common.{◌≡◌, ℕ, ◌+◌, ◌*◌, ◌^◌, ◌<◌, ◌≤◌, Bool, true, false, List, [], ◌∷◌, ◌++◌, length, take, Option, Some, None, Result, Ok, refl, sym, ap, subst, ◌∙◌, arith, length-append}
-use Rattle.nr_xdr.specs.Item.{Item as XdrItem, IsBytes, word, hyper, bit}
+-- The size of a message: that of its header's lists, and of its stream.
+use Rattle.std.proofs.Common.{◌≡◌, ℕ, ◌+◌, ◌*◌, ◌≤◌, Bool, true, false, cond, eqb, List, [], ◌∷◌, ◌++◌, length, sum_by, Option, Some, None, Result, Ok, Err, refl, sym, ap, subst, ◌∙◌, arith, length-append}
+use Rattle.std.proofs.lemmas.List.Sums.{sum_by-cons}
+use Rattle.nr_xdr.specs.Item.{Item as XdrItem, word, hyper}
 use Rattle.nr_xdr.specs.Items.{encodings}
 use Rattle.nr_xdr.proofs.WordBytes.{length-word, length-hyper}
+use Rattle.nr_header.specs.Constants.{PAYLOAD_MAX}
 use Rattle.nr_header.specs.declared.header.RdmaSegment.{RdmaSegment}
 use Rattle.nr_header.specs.declared.header.ReadSegment.{ReadSegment}
 use Rattle.nr_header.specs.declared.header.ChunkLists.{ChunkLists}
+use Rattle.nr_header.specs.declared.header.Body.{Body}
+use Rattle.nr_header.specs.declared.header.Body.TheVariants.{Msg, Nomsg}
 use Rattle.nr_header.specs.declared.header.Header.{Header}
-use Rattle.nr_header.specs.Header.{read_items, write_items, reply_items, lists_items, fixed_items, header_encoding}
+use Rattle.nr_header.specs.Header.{segments_items, chunk_items, read_items, write_items, reply_items, lists_items, fixed_items, header_encoding}
 use Rattle.nr_reduce.specs.declared.call.Form.{Form}
+use Rattle.nr_reduce.specs.declared.call.Form.TheVariants as forms
+use Rattle.nr_reduce.specs.declared.call.Offer.{Offer}
 use Rattle.nr_reduce.specs.declared.outline.Plan.{Plan}
-use Rattle.nr_reduce.specs.Plans.{write_list, reply_chunk, write_size, reply_size, plan_size, regions_needed, call_message, plan_of}
-use Rattle.nr_reduce.specs.Undone.{IsOwn}
-use Rattle.nr_reduce.proofs.Shapes.{Offering, offered, Way, shape, IsWay, Shaped, IsPlan, is_plan}
-use Rattle.nr_reduce.proofs.Shapes.Offering.{Nothing, One}
+use Rattle.nr_reduce.specs.Limits.{given_max}
+use Rattle.nr_reduce.specs.Plans.{TooLarge, segments_from, entries_from, read_list, write_list, reply_chunk, write_size, reply_size, plan_size, write_stag, reply_stag, read_stag, given_read, given_plan, given_total, given_within, formed, within, lists_of, body_by, call_message, plan_of}
+use Rattle.nr_reduce.proofs.Shapes.{Offering, offered, Way, shape, Shaped, shaped, within-ok}
 use Rattle.nr_reduce.proofs.Shapes.Way.{Inline, Reduced, Long}
-use Rattle.nr_reduce.proofs.Asking.{entries, write_from, reply_from, lists, body_of, stream_in, reads-shape}
 
 word_len : (n : ℕ) (xs : List ℕ) → length (word n ++ xs) ≡ 4 + length xs
 word_len n xs = (let a = length-append (word n) xs in let b = length-word n in omega (arith, a, b))
@@ -27,70 +31,163 @@ segment_len : (handle len offset : ℕ) (xs : List ℕ) → length (word handle 
 segment_len handle len offset xs =
     (let a = word_len handle (word len ++ (hyper offset ++ xs)) in let b = word_len len (hyper offset ++ xs) in let c = hyper_len offset xs in omega (arith, a, b, c))
 
-reply_len : (r : Offering) (stag : ℕ) → length (encodings (reply_items (reply_chunk stag (offered r)) [])) ≡ 4 + reply_size (offered r)
-reply_len Nothing stag = word_len 0 []
-reply_len (One n) stag =
-    (let a = segment_len stag n 0 [] in let b = word_len 1 (word stag ++ (word n ++ (hyper 0 ++ []))) in let c = word_len 1 (word 1 ++ (word stag ++ (word n ++ (hyper 0 ++ [])))) in omega (arith, a, b, c))
+-- ---- Lists
 
-write_len : (w : Offering) (stag : ℕ) (more : List XdrItem) → length (encodings (write_items (write_list stag (offered w)) more)) ≡ 4 + write_size (offered w) + length (encodings more)
-write_len Nothing stag more = (let a = word_len 0 (encodings more) in omega (arith, a))
-write_len (One n) stag more =
-    let end = word 0 ++ encodings more in
-    (let z = word_len 0 (encodings more) in let a = segment_len stag n 0 end in let b = word_len 1 (word stag ++ (word n ++ (hyper 0 ++ end))) in let c = word_len 1 (word 1 ++ (word stag ++ (word n ++ (hyper 0 ++ end)))) in omega (arith, z, a, b, c))
+segments_len : (chunk : List RdmaSegment) (more : List XdrItem) → length (encodings (segments_items chunk more)) ≡ 16 * length chunk + length (encodings more)
+segments_len [] more = omega arith
+segments_len (s ∷ chunk) more =
+    (let a = segment_len s.handle s.length s.offset (encodings (segments_items chunk more)) in let b = segments_len chunk more in omega (arith, a, b))
 
-entry_len : (position handle len : ℕ) (more : List XdrItem) → length (encodings (read_items (record { position = position; handle = handle; length = len; offset = 0 } ∷ []) more)) ≡ 28 + length (encodings more)
-entry_len position handle len more =
-    let end = word 0 ++ encodings more in
-    (let z = word_len 0 (encodings more) in let a = segment_len handle len 0 end in let b = word_len position (word handle ++ (word len ++ (hyper 0 ++ end))) in let c = word_len 1 (word position ++ (word handle ++ (word len ++ (hyper 0 ++ end)))) in omega (arith, z, a, b, c))
+chunk_len : (chunk : List RdmaSegment) (more : List XdrItem) → length (encodings (chunk_items chunk more)) ≡ 4 + 16 * length chunk + length (encodings more)
+chunk_len chunk more =
+    (let a = word_len (length chunk) (encodings (segments_items chunk more)) in let b = segments_len chunk more in omega (arith, a, b))
 
-read_len : (payload : List ℕ) (way : Way) (stag : ℕ) (more : List XdrItem) → length (encodings (read_items (entries payload way stag) more)) ≡ 4 + 24 * length (entries payload way stag) + length (encodings more)
-read_len payload Inline stag more = (let a = word_len 0 (encodings more) in omega (arith, a))
-read_len payload (Reduced i) stag more = (let a = entry_len i.pos stag i.len more in omega (arith, a))
-read_len payload Long stag more = (let a = entry_len 0 stag (length payload) more in omega (arith, a))
+read_len : (read : List ReadSegment) (more : List XdrItem) → length (encodings (read_items read more)) ≡ 4 + 24 * length read + length (encodings more)
+read_len [] more = word_len 0 (encodings more)
+read_len (r ∷ read) more =
+    let rest = encodings (read_items read more) in
+    let a = word_len 1 (word r.position ++ (word r.handle ++ (word r.length ++ (hyper r.offset ++ rest)))) in
+    let b = word_len r.position (word r.handle ++ (word r.length ++ (hyper r.offset ++ rest))) in
+    let c = segment_len r.handle r.length r.offset rest in
+    let d = read_len read more in
+    omega (arith, a, b, c, d)
+
+abbrev pub chunk_size : List RdmaSegment → ℕ
+chunk_size chunk = 8 + 16 * length chunk
+
+write_len : (chunks : List (List RdmaSegment)) (more : List XdrItem) → length (encodings (write_items chunks more)) ≡ 4 + sum_by chunk_size chunks + length (encodings more)
+write_len [] more = word_len 0 (encodings more)
+write_len (chunk ∷ chunks) more =
+    let rest = write_items chunks more in
+    let a = word_len 1 (encodings (chunk_items chunk rest)) in
+    let b = chunk_len chunk rest in
+    let c = write_len chunks more in
+    let d = sum_by-cons chunk_size chunk chunks in
+    omega (arith, a, b, c, d)
+
+abbrev pub reply_bytes : Option (List RdmaSegment) → ℕ
+reply_bytes None = 0
+reply_bytes (Some chunk) = 4 + 16 * length chunk
+
+reply_len : (reply : Option (List RdmaSegment)) → length (encodings (reply_items reply [])) ≡ 4 + reply_bytes reply
+reply_len None = word_len 0 []
+reply_len (Some chunk) = (let a = word_len 1 (encodings (chunk_items chunk [])) in let b = chunk_len chunk [] in omega (arith, a, b))
 
 fixed_len : (a b c d : ℕ) (more : List XdrItem) → length (encodings (fixed_items a b c d more)) ≡ 16 + length (encodings more)
 fixed_len a b c d more =
     let xs = encodings more in
     (let p = word_len a (word b ++ (word c ++ (word d ++ xs))) in let q = word_len b (word c ++ (word d ++ xs)) in let r = word_len c (word d ++ xs) in let s = word_len d xs in omega (arith, p, q, r, s))
 
-head_len : (xid credit : ℕ) (way : Way) (ls : ChunkLists) → length (header_encoding (record { xid = xid; credit = credit; body = body_of way ls })) ≡ 16 + length (encodings (lists_items ls))
-head_len xid credit Inline ls = fixed_len xid 1 credit 0 (lists_items ls)
-head_len xid credit (Reduced i) ls = fixed_len xid 1 credit 0 (lists_items ls)
-head_len xid credit Long ls = fixed_len xid 1 credit 1 (lists_items ls)
-
-lists_len : (payload : List ℕ) (way : Way) (w r : Offering) (stag : ℕ) → length (encodings (lists_items (lists payload way w r stag))) ≡ 12 + 24 * length (entries payload way stag) + write_size (offered w) + reply_size (offered r)
-lists_len payload way w r stag =
-    let ls : ChunkLists = lists payload way w r stag in
-    let a = read_len payload way stag (write_items ls.write (reply_items ls.reply [])) in
-    let b = write_len w (write_from payload way stag) (reply_items ls.reply []) in
-    let c = reply_len r (reply_from payload way w stag) in
+pub lists_len : (ls : ChunkLists) → length (encodings (lists_items ls)) ≡ 12 + 24 * length ls.read + sum_by chunk_size ls.write + reply_bytes ls.reply
+lists_len ls =
+    let a = read_len ls.read (write_items ls.write (reply_items ls.reply [])) in
+    let b = write_len ls.write (reply_items ls.reply []) in
+    let c = reply_len ls.reply in
     omega (arith, a, b, c)
 
-size-shape : (payload : List ℕ) (way : Way) (w r : Offering) (stag : ℕ) → plan_size (shape payload way (offered w) (offered r)) ≡ 28 + 24 * length (entries payload way stag) + write_size (offered w) + reply_size (offered r) + length (stream_in payload way)
-unfolding plan_size
-size-shape payload Inline w r stag = refl
-size-shape payload (Reduced i) w r stag = refl
-size-shape payload Long w r stag = refl
+pub msg_len : (xid credit at : ℕ) (ls : ChunkLists) → length (header_encoding (record { xid = xid; credit = credit; body = Msg ls at })) ≡ 16 + length (encodings (lists_items ls))
+msg_len xid credit at ls = fixed_len xid 1 credit 0 (lists_items ls)
 
--- The message of a plan has its size, which is at most that of a Send.
-pub message_size : (payload : List ℕ) (form : Form) (up down xid credit stag : ℕ) (p : Plan) → IsBytes payload → IsOwn form → plan_of payload form up down ≡ Ok p → xid < 2 ^ 32 → credit < 2 ^ 32 → stag + regions_needed p ≤ 2 ^ 32
-    → (length (call_message xid credit stag p) ≡ plan_size p) × (length (call_message xid credit stag p) ≤ up)
-message_size payload form up down xid credit stag p fits own e fits_x fits_c room =
-    let is = is_plan payload form up down p own e in
-    let s = is.shaped in
-    let law = λ (q : Plan). stag + regions_needed q ≤ 2 ^ 32 → length (call_message xid credit stag q) ≡ plan_size q in
-    let equal = subst law (sym s.is) (λ room. by_shape s is room) room in
-    let small = is.size_fits in
-    (equal, omega (arith, equal, small))
+pub nomsg_len : (xid credit : ℕ) (ls : ChunkLists) → length (header_encoding (record { xid = xid; credit = credit; body = Nomsg ls })) ≡ 16 + length (encodings (lists_items ls))
+nomsg_len xid credit ls = fixed_len xid 1 credit 1 (lists_items ls)
+
+-- ---- The message of a plan
+
+entries_count : (position handle offset : ℕ) (lengths : List ℕ) → length (entries_from position handle offset lengths) ≡ length lengths
+entries_count position handle offset [] = refl
+entries_count position handle offset (n ∷ lengths) = (let a = entries_count position handle (offset + n) lengths in omega (arith, a))
+
+segments_count : (handle offset : ℕ) (lengths : List ℕ) → length (segments_from handle offset lengths) ≡ length lengths
+segments_count handle offset [] = refl
+segments_count handle offset (n ∷ lengths) = (let a = segments_count handle (offset + n) lengths in omega (arith, a))
+
+write_is : (stag : ℕ) (w : Option (List ℕ)) → sum_by chunk_size (write_list stag w) ≡ write_size w
+write_is stag None = refl
+write_is stag (Some lengths) =
+    let a = sum_by-cons chunk_size (segments_from stag 0 lengths) [] in
+    let b = segments_count stag 0 lengths in
+    omega (arith, a, b)
+
+reply_is : (stag : ℕ) (r : Option (List ℕ)) → reply_bytes (reply_chunk stag r) ≡ reply_size r
+reply_is stag None = refl
+reply_is stag (Some lengths) = (let b = segments_count stag 0 lengths in omega (arith, b))
+
+-- without a position there are no entries
+abbrev HasEntriesAt : Plan → Type 0
+HasEntriesAt p = p.read_at ≡ None → p.read ≡ []
+
+read_is : (stag : ℕ) (p : Plan) (o : Option ℕ) → (o ≡ None → p.read ≡ []) → length (read_list stag p o) ≡ length p.read
+read_is stag p None h = sym (ap (λ (xs : List ℕ). length xs) (h refl))
+read_is stag p (Some position) h = entries_count position (read_stag stag p) 0 p.read
+
+body_len : (xid credit : ℕ) (o : Option ℕ) (ls : ChunkLists) → length (header_encoding (record { xid = xid; credit = credit; body = body_by o ls })) ≡ 16 + length (encodings (lists_items ls))
+body_len xid credit None ls = msg_len xid credit 0 ls
+body_len xid credit (Some position) ls = by (eqb position 0)
   where
-    by_shape : (s : Shaped payload p) → IsPlan payload form up down p → stag + regions_needed (shape payload s.way (offered s.write) (offered s.reply)) ≤ 2 ^ 32
-        → length (call_message xid credit stag (shape payload s.way (offered s.write) (offered s.reply))) ≡ plan_size (shape payload s.way (offered s.write) (offered s.reply))
-    by_shape s is room =
-        let m = reads-shape payload s.way s.write s.reply xid credit stag fits s.is_way is.payload_fits s.write_small s.reply_small fits_x fits_c room in
-        let ls : ChunkLists = lists payload s.way s.write s.reply stag in
-        let h : Header = record { xid = xid; credit = credit; body = body_of s.way ls } in
-        let a = ap (λ (xs : List ℕ). length xs) m.0 ∙ length-append (header_encoding h) (stream_in payload s.way) in
-        let b = head_len xid credit s.way ls in
-        let c = lists_len payload s.way s.write s.reply stag in
-        let d = size-shape payload s.way s.write s.reply stag in
-        omega (arith, a, b, c, d)
+    by : (b : Bool) → length (header_encoding (record { xid = xid; credit = credit; body = cond b (Nomsg ls) (Msg ls 0) })) ≡ 16 + length (encodings (lists_items ls))
+    by true = nomsg_len xid credit ls
+    by false = msg_len xid credit 0 ls
+
+message_len : (xid credit stag : ℕ) (p : Plan) → HasEntriesAt p → length (call_message xid credit stag p) ≡ plan_size p
+unfolding call_message plan_size lists_of
+message_len xid credit stag p h =
+    let ls : ChunkLists = lists_of stag p in
+    let a = length-append (header_encoding (record { xid = xid; credit = credit; body = body_by p.read_at ls })) p.inline in
+    let b = body_len xid credit p.read_at ls in
+    let c = lists_len ls in
+    let d = read_is stag p p.read_at h in
+    let e = write_is (write_stag stag p) p.write in
+    let f = reply_is (reply_stag stag p) p.reply in
+    omega (arith, a, b, c, d, e, f)
+
+-- ---- Plans of every form
+
+shape_entries : (payload : List ℕ) (way : Way) (w r : Option (List ℕ)) → HasEntriesAt (shape payload way w r)
+shape_entries payload Inline w r = λ e. refl
+shape_entries payload (Reduced i) w r = λ e. absurd cc
+shape_entries payload Long w r = λ e. absurd cc
+
+shaped_entries : (payload : List ℕ) (p : Plan) → Shaped payload p → HasEntriesAt p
+shaped_entries payload p s = subst HasEntriesAt (sym s.is) (shape_entries payload s.way (offered s.write) (offered s.reply))
+
+given_entries : (payload : List ℕ) (at : ℕ) (read : Option (List ℕ)) (w r : Option (List ℕ)) → HasEntriesAt (given_read payload at read (record { inline = payload; read_at = None; read = []; region = []; write = w; reply = r }))
+given_entries payload at None w r = λ e. refl
+given_entries payload at (Some lengths) w r = λ e. absurd cc
+
+formed_entries : (payload : List ℕ) (form : Form) (up down : ℕ) → HasEntriesAt (formed payload form up down)
+formed_entries payload forms.Auto up down = shaped_entries payload _ (shaped payload forms.Auto up down tt)
+formed_entries payload forms.Inline up down = shaped_entries payload _ (shaped payload forms.Inline up down tt)
+formed_entries payload forms.Chunk up down = shaped_entries payload _ (shaped payload forms.Chunk up down tt)
+formed_entries payload forms.Long up down = shaped_entries payload _ (shaped payload forms.Long up down tt)
+formed_entries payload (forms.Given offer) up down = given_entries payload offer.read_at offer.read offer.write offer.reply
+
+given_ok : (form : Form) (answer : Result Plan TooLarge) (p : Plan) → given_within form answer ≡ Ok p → answer ≡ Ok p
+given_ok forms.Auto answer p e = e
+given_ok forms.Inline answer p e = e
+given_ok forms.Chunk answer p e = e
+given_ok forms.Long answer p e = e
+given_ok (forms.Given offer) answer p e = (within-ok (given_total offer) given_max answer p e).1
+
+-- a plan is that of its form, and its size is at most that of a Send
+pub record IsFormed (payload : List ℕ) (form : Form) (up down : ℕ) (p : Plan) : Type 0 where
+  pub is : formed payload form up down ≡ p
+  pub fits : plan_size p ≤ up
+
+pub is_formed : (payload : List ℕ) (form : Form) (up down : ℕ) (p : Plan) → plan_of payload form up down ≡ Ok p → IsFormed payload form up down p
+unfolding plan_of
+is_formed payload form up down p e =
+    let q : Plan = formed payload form up down in
+    let sent : Result Plan TooLarge = within (plan_size q) up (Ok q) in
+    let a = within-ok (length payload) PAYLOAD_MAX (given_within form sent) p e in
+    let b = within-ok (plan_size q) up (Ok q) p (given_ok form sent p a.1) in
+    let same : q ≡ p = (let s : Ok q ≡ Ok p = b.1 in cc) in
+    record { is = same; fits = subst (λ (r : Plan). plan_size r ≤ up) same b.0 }
+
+-- The message of a plan of any form has its size, which is at most that of a Send.
+pub message_size : (payload : List ℕ) (form : Form) (up down xid credit stag : ℕ) (p : Plan) → plan_of payload form up down ≡ Ok p →
+    (length (call_message xid credit stag p) ≡ plan_size p) × (length (call_message xid credit stag p) ≤ up)
+message_size payload form up down xid credit stag p e =
+    let is = is_formed payload form up down p e in
+    let equal = message_len xid credit stag p (subst HasEntriesAt is.is (formed_entries payload form up down)) in
+    let small = is.fits in
+    (equal, omega (arith, equal, small))

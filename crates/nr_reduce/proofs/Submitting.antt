@@ -17,7 +17,9 @@ use Rattle.nr_reduce.specs.ClientState.{ClientState, plan_for}
 use Rattle.nr_reduce.specs.Run.{client}
 use Rattle.nr_reduce.specs.Credits.{calls_outstanding, credits_granted}
 use Rattle.nr_reduce.specs.SubmitAnswer.{next_xid, unless_spent, by_plan, answer_by, submit_answer}
-use Rattle.nr_reduce.specs.Asked.{IsAccepted}
+use Rattle.nr_reduce.specs.Asked.{IsAccepted, AskedSoFar}
+use Rattle.nr_reduce.specs.Opening.{IsOpened}
+use Rattle.nr_reduce.proofs.StagsLeft.{stags-left}
 
 -- what an accepted call met
 record Met (opened : Opened) (k : ClientState) (call : Call) (form : Form) (ended : Option Stop) (xid : ℕ) : Type 0 where
@@ -69,10 +71,11 @@ met opened k call form None xid e = by_result (plan_for k (next_xid opened k) ca
     by_result (Err large) is e = absurd cc
 
 pub accepted_keeps : (opened : Opened) (link : ℕ) (run : List Mark) (call : Call) (form : Form) (xid : ℕ) →
-    submit_answer opened (client opened link run) call form ≡ submissions.Accepted xid → (client opened link run).state.stag ≤ numbers_end → CanWriteCred call.cred →
+    submit_answer opened (client opened link run) call form ≡ submissions.Accepted xid → IsOpened opened → AskedSoFar opened link run → CanWriteCred call.cred →
     IsAccepted opened link run call form xid × (calls_outstanding opened link run < credits_granted opened link run)
 unfolding submit_answer calls_outstanding credits_granted
-accepted_keeps opened link run call form xid e below writable =
+accepted_keeps opened link run call form xid e numbers asked writable =
+    let below = stags-left opened link run numbers asked in
     let k : ClientState = (client opened link run).state in
     let m = met opened k call form (client opened link run).ended xid e in (
       record {

@@ -13,13 +13,20 @@ use Rattle.nr_link.specs.SegmentFaults.{SegmentFault, Readiness, first_fault, mi
 use Rattle.nr_link.specs.ReceiveState.{is_send, message_completed}
 use Rattle.nr_link.specs.Reasons.{REASON_MSN, REASON_OFFSET, REASON_FORM, REASON_RESPONSE, REASON_REQUESTS, REASON_SHORT, REASON_LONG}
 use Rattle.nr_link.specs.SegmentFaults.SegmentFault.{Reason, NoBuffer, AccessDenied, PeerTerminated}
-use Rattle.nr_link.specs.Ending.{missing_access, end_of_fault, frame_segment, frame_end, frame_end_by, hello_end}
+use Rattle.nr_link.specs.Ending.{missing_access, end_of_fault, frame_segment, frame_end, frame_end_by, hello_end, access_of}
 use Rattle.nr_reduce.specs.OfferedRegions.{region_grants}
+use Rattle.nr_reduce.specs.Events.{Event}
 use Rattle.nr_reduce.specs.Events.Event.{FrameReceived}
-use Rattle.nr_reduce.specs.Client.{client_end, or_message_end, readiness as client_ready}
+use Rattle.nr_reduce.specs.Client.{client_end, or_message_end, readiness as client_ready, client_rules, initial_client}
 use Rattle.nr_reduce.specs.ClientState.{ClientState}
-use Rattle.nr_reduce.specs.Server.{server_end, or_refusal, readiness as server_ready}
+use Rattle.nr_reduce.specs.Server.{server_end, or_refusal, readiness as server_ready, server_rules, initial_server}
 use Rattle.nr_reduce.specs.ServerState.{ServerState}
+use Rattle.std.specs.Prelude.{option_and_then}
+use Rattle.nr_regions.specs.RegisteredMemory.{Access}
+use Rattle.nr_regions.specs.Access.{Allowed, HaveOwnStags, grant_denial}
+use Rattle.nr_regions.proofs.Contents.{allowed-iff}
+use Rattle.nr_reduce.specs.EndRules.{end_state_after}
+use Rattle.nr_reduce.proofs.OwnStags.{own-stags, client-numbers, server-numbers}
 
 -- where none stands, none of them does
 abbrev AreNone : {X : Type 0} → List (Option X) → Type 0
@@ -94,3 +101,23 @@ server_touched opened k f segment later is e =
     by_end : (o : Option Stop) → or_refusal k f o ≡ None → o ≡ None
     by_end None e = refl
     by_end (Some end) e = absurd cc
+
+-- ---- Allowed accesses
+
+allowed : (grants : List Grant) (f : Frame) (segment : Segment) (access : Access) → HaveOwnStags grants → access_of segment ≡ Some access → missing_access grants f segment ≡ None → Allowed grants access f.end
+allowed grants f segment access own is none =
+    (allowed-iff grants access f.end own).1 (ap (λ (o : Option Access). option_and_then (λ (a : Access). grant_denial grants a f.end) o) (sym is) ∙ none)
+
+pub client_allows : (opened : Opened) (events : List Event) (f : Frame) (segment : Segment) (access : Access) → is_hello f ≡ false → frame_segment f ≡ Ok segment → access_of segment ≡ Some access →
+    client_end (end_state_after (client_rules opened) (initial_client opened) events).state (FrameReceived f) ≡ None →
+    Allowed (region_grants f.end (end_state_after (client_rules opened) (initial_client opened) events).state.regions) access f.end
+client_allows opened events f segment access later is reaches e =
+    let k : ClientState = (end_state_after (client_rules opened) (initial_client opened) events).state in
+    allowed (region_grants f.end k.regions) f segment access (own-stags f.end opened.first_stag k.regions (client-numbers opened events).regions) reaches (client_touched k f segment later is e)
+
+pub server_allows : (opened : Opened) (events : List Event) (f : Frame) (segment : Segment) (access : Access) → is_hello f ≡ false → frame_segment f ≡ Ok segment → access_of segment ≡ Some access →
+    server_end opened (end_state_after (server_rules opened) (initial_server opened) events).state (FrameReceived f) ≡ None →
+    Allowed (region_grants f.end (end_state_after (server_rules opened) (initial_server opened) events).state.regions) access f.end
+server_allows opened events f segment access later is reaches e =
+    let k : ServerState = (end_state_after (server_rules opened) (initial_server opened) events).state in
+    allowed (region_grants f.end k.regions) f segment access (own-stags f.end 1 k.regions (server-numbers opened events)) reaches (server_touched opened k f segment later is e)

@@ -16,6 +16,10 @@ pub record EndState (S : Type 0) : Type 0 where
   pub state : S
   pub ended : Option End
 
+-- an end that hasn't ended
+abbrev pub live : {S : Type 0} → S → EndState S
+live s = record { state = s; ended = None }
+
 module _ {S : Type 0} (rules : Rules S) where
   abbrev pub next_end_state_by : S → Event → Option End → EndState S
   next_end_state_by s event None = record { state = rules.state_after s event; ended = None }

@@ -6,6 +6,7 @@ use Rattle.nr_reduce.specs.Limits.{numbers_end, most_credits}
 -- no first number is 0, and credits are from 1 to most_credits
 pub record IsOpened (opened : Opened) : Type 0 where
   pub xid : 0 < opened.first_xid
+  pub xid_fits : opened.first_xid < numbers_end
   pub stag : 0 < opened.first_stag
   pub stag_fits : opened.first_stag < numbers_end
   pub wished : 0 < opened.wished

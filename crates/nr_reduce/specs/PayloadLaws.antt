@@ -1,10 +1,13 @@
 -- Both ways of a payload undo each other: what is cut is rebuilt, what is planned is conveyed, what is answered is conveyed.
-use Rattle.std.specs.Prelude.{◌≡◌, ℕ, ◌+◌, ◌^◌, ◌<◌, ◌≤◌, true, ◌==◌, List, [], ◌∷◌, length, take, sum, Option, None, Some, Ok, if◌then◌else◌}
+use Rattle.std.specs.Prelude.{◌≡◌, ℕ, ◌+◌, ◌*◌, ◌^◌, ◌<◌, ◌≤◌, true, false, ◌==◌, List, [], ◌∷◌, length, take, sum, Option, None, Some, Ok, if◌then◌else◌}
 use Rattle.std.specs.List.{flat_map}
 use Rattle.nr_xdr.specs.Item.{IsBytes}
 use Rattle.nr_wire.specs.Segment.{encoding}
 use Rattle.nr_header.specs.declared.header.ReadSegment.{ReadSegment}
 use Rattle.nr_header.specs.declared.header.ChunkLists.{ChunkLists}
+use Rattle.nr_header.specs.Constants.{PAYLOAD_MAX}
+use Rattle.nr_header.specs.Header.{HeaderFits}
+use Rattle.nr_header.specs.WithinLimits.{CanRead}
 use Rattle.nr_reduce.specs.declared.call.Form.{Form}
 use Rattle.nr_reduce.specs.declared.call.Form.TheVariants as forms
 use Rattle.nr_reduce.specs.declared.call.Offer.{Offer}
@@ -15,10 +18,10 @@ use Rattle.nr_reduce.specs.Items.{reducible_item, stream_of, moved_of}
 use Rattle.nr_reduce.specs.declared.item.Cut.{Cut}
 use Rattle.nr_reduce.specs.Cuts.{cut_of, rebuilt_of}
 use Rattle.nr_reduce.specs.declared.outline.Plan.{Plan}
-use Rattle.nr_reduce.specs.Plans.{given_region, plan_of, plan_size, regions_needed, call_message, lists_of, read_stag}
+use Rattle.nr_reduce.specs.Plans.{given_region, plan_of, plan_size, regions_needed, call_header, call_message, lists_of, inline_stream, read_stag}
 use Rattle.nr_reduce.specs.Chunks.{Bytes, whole, call_conveyed, read_bytes, reply_conveyed, answers_offer}
-use Rattle.nr_reduce.specs.Holds.{Answer, answer_for, answer_lists, answer_writes}
-use Rattle.nr_reduce.specs.Undone.{IsOwn, Asks, Brings, Backs, offering, after, answer_segments}
+use Rattle.nr_reduce.specs.Holds.{Answer, answer_for, answer_lists, answer_writes, answer_size, answer_message, no_segments}
+use Rattle.nr_reduce.specs.Undone.{IsOwn, Asks, Brings, ReadsAsPlan, inline_by, lists_by, Backs, IsOffer, ReadsAsAnswer, offering, after, answer_segments}
 
 -- What was cut of a payload is put together to that payload again.
 abbrev pub CutIsRebuilt : Type 0
@@ -44,10 +47,15 @@ abbrev pub PlanReadsBack : Type 0
 PlanReadsBack = (payload : List ℕ) (form : Form) (up down xid credit stag : ℕ) (p : Plan) → IsPlanned payload form up down xid credit stag p →
     Asks payload p xid credit stag (call_message xid credit stag p)
 
--- It has the size that was tested, which is at most that of a Send.
+-- The message of a plan of any form has the size that was tested, which is at most that of a Send.
 abbrev pub PlanHasItsSize : Type 0
-PlanHasItsSize = (payload : List ℕ) (form : Form) (up down xid credit stag : ℕ) (p : Plan) → IsPlanned payload form up down xid credit stag p →
+PlanHasItsSize = (payload : List ℕ) (form : Form) (up down xid credit stag : ℕ) (p : Plan) → plan_of payload form up down ≡ Ok p →
     (length (call_message xid credit stag p) ≡ plan_size p) × (length (call_message xid credit stag p) ≤ up)
+
+-- The message of any plan reads back as its lists and its stream, where its header's numbers fit and its lists are within the limits.
+abbrev pub MessageReadsBack : Type 0
+MessageReadsBack = (xid credit stag : ℕ) (p : Plan) → HeaderFits (call_header xid credit stag p) → CanRead (call_header xid credit stag p).body p.inline →
+    ReadsAsPlan p xid credit stag (call_message xid credit stag p)
 
 -- A memory that holds the plan's region under its STag brings its chunks.
 abbrev pub RegionBringsChunks : Type 0
@@ -66,19 +74,18 @@ given_conveyed payload at (Some lengths) =
     if at == 0 then Some (given_region payload at (sum lengths))
     else whole Call (take at payload) (moved_by lengths (given_region payload at (sum lengths)))
 
--- the stream that goes behind the header of a plan
-abbrev pub stream_by : List ℕ → Option ℕ → Option (List ℕ)
-stream_by inline None = Some inline
-stream_by inline (Some position) = if position == 0 then None else Some inline
-
-abbrev pub stream_of_plan : Plan → Option (List ℕ)
-stream_of_plan p = stream_by p.inline p.read_at
-
 -- A plan of an offer that is given conveys what the offer conveys, by a memory that holds its region.
 abbrev pub OfferConveys : Type 0
 OfferConveys = (payload : List ℕ) (offer : Offer) (up down stag : ℕ) (p : Plan) (memory : Bytes) → plan_of payload (forms.Given offer) up down ≡ Ok p →
     memory (read_stag stag p) ≡ p.region →
-    call_conveyed (stream_of_plan p) (lists_of stag p).read (read_bytes memory (lists_of stag p).read) ≡ given_conveyed payload offer.read_at offer.read
+    call_conveyed (inline_stream p) (lists_of stag p).read (read_bytes memory (lists_of stag p).read) ≡ given_conveyed payload offer.read_at offer.read
+
+-- So does what is read of its message, where its lists are within the limits of a header.
+abbrev pub OfferMessageConveys : Type 0
+OfferMessageConveys = (payload : List ℕ) (offer : Offer) (up down xid credit stag : ℕ) (p : Plan) (memory : Bytes) → plan_of payload (forms.Given offer) up down ≡ Ok p →
+    HeaderFits (call_header xid credit stag p) → CanRead (call_header xid credit stag p).body p.inline → memory (read_stag stag p) ≡ p.region →
+    (m : ReadsAsPlan p xid credit stag (call_message xid credit stag p))
+    × (call_conveyed (inline_by (call_message xid credit stag p) m.body) (lists_by m.body).read (read_bytes memory (lists_by m.body).read) ≡ given_conveyed payload offer.read_at offer.read)
 
 -- An answer for an offer that holds a reply conveys that reply, by what its Writes leave in the offered regions.
 abbrev pub AnswerConveysReply : Type 0
@@ -95,3 +102,18 @@ abbrev pub AnswerSuitsOffer : Type 0
 AnswerSuitsOffer = (read : List ReadSegment) (ws rs : ℕ) (w r : Option (List ℕ)) (down prog vers proc : ℕ) (reply : List ℕ) (a : Answer) →
     IsBytes reply → answer_for (offering read ws rs w r) down prog vers proc reply ≡ Some a →
     answers_offer a.long (offering read ws rs w r) (answer_lists (offering read ws rs w r) a) ≡ true
+
+-- Its message has the size that was tested, which is at most that of a Send; where the stream goes in the reply chunk, the size of
+-- its header alone.
+abbrev pub AnswerHasItsSize : Type 0
+AnswerHasItsSize = (offer : ChunkLists) (down prog vers proc xid credit : ℕ) (reply : List ℕ) (a : Answer) → answer_for offer down prog vers proc reply ≡ Some a →
+    (a.long ≡ false →
+    (length (answer_message xid credit offer a) ≡ answer_size offer.write + length a.stream) × (length (answer_message xid credit offer a) ≤ down))
+    × (a.long ≡ true → length (answer_message xid credit offer a) ≡ answer_size offer.write + (4 + 16 * length (no_segments offer.reply)))
+
+-- It reads back as the lists of the answer and its stream.
+abbrev pub AnswerReadsBack : Type 0
+AnswerReadsBack = (read : List ReadSegment) (ws rs : ℕ) (w r : Option (List ℕ)) (down prog vers proc xid credit : ℕ) (reply : List ℕ) (a : Answer) →
+    IsBytes reply → IsOffer (offering read ws rs w r) → answer_for (offering read ws rs w r) down prog vers proc reply ≡ Some a →
+    down ≤ PAYLOAD_MAX → xid < 2 ^ 32 → credit < 2 ^ 32 →
+    ReadsAsAnswer (offering read ws rs w r) a xid credit (answer_message xid credit (offering read ws rs w r) a)

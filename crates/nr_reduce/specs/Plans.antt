@@ -230,6 +230,17 @@ abbrev pub body_by : Option ℕ → ChunkLists → Body
 body_by None lists = Msg lists 0
 body_by (Some position) lists = if position == 0 then Nomsg lists else Msg lists 0
 
+-- the stream of a plan, where it is in the message
+abbrev pub inline_at : Option ℕ → List ℕ → Option (List ℕ)
+inline_at None stream = Some stream
+inline_at (Some position) stream = if position == 0 then None else Some stream
+
+abbrev pub inline_stream : Plan → Option (List ℕ)
+inline_stream p = inline_at p.read_at p.inline
+
+abbrev pub call_header : (xid credit stag : ℕ) → Plan → Header
+call_header xid credit stag p = record { xid = xid; credit = credit; body = body_by p.read_at (lists_of stag p) }
+
 unfoldable pub call_message : (xid credit stag : ℕ) → Plan → List ℕ
 call_message xid credit stag p = header_encoding (record { xid = xid; credit = credit; body = body_by p.read_at (lists_of stag p) }) ++ p.inline
 

@@ -1,8 +1,11 @@
 -- What follows from the definitions of a run, for every run.
-use Rattle.std.specs.Prelude.{◌≡◌, ◌≢◌, ℕ, ◌+◌, ◌^◌, ◌<◌, ◌≤◌, ◌==◌, if◌then◌else◌, true, false, List, [], ◌∷◌, ◌++◌, length, Option, None, Some, Ok, Contains}
+use Rattle.std.specs.Prelude.{◌≡◌, ◌≢◌, ℕ, ◌+◌, ◌-◌, ◌^◌, ◌<◌, ◌≤◌, ◌==◌, ◌&&◌, not, Bool, if◌then◌else◌, true, false, List, [], ◌∷◌, ◌++◌, length, Option, None, Some, Ok, Contains}
+use Rattle.std.specs.List.{filter}
 use Rattle.nr_wire.specs.declared.hello.Side.{Side}
 use Rattle.nr_wire.specs.declared.hello.Side.TheVariants.{Initiator, Responder}
+use Rattle.nr_wire.specs.Constants.{OPCODE_READ_RESPONSE}
 use Rattle.nr_wire.specs.Segment.{Segment}
+use Rattle.nr_wire.specs.Segment.Segment.{Tagged, Untagged}
 use Rattle.nr_link.specs.declared.end.End.{End}
 use Rattle.nr_link.specs.Frames.{Frame, is_hello}
 use Rattle.nr_link.specs.Output.{own_hello, send}
@@ -12,7 +15,9 @@ use Rattle.nr_rpc.specs.declared.head.CallHead.{CallHead}
 use Rattle.nr_rpc.specs.Reading.{call_of, target_of}
 use Rattle.nr_reduce.specs.Holds.{Answer, answer_writes, answer_message, chunk_error, version_error}
 use Rattle.nr_link.specs.Input.{InputState, initial_input, input_of, input_after}
-use Rattle.nr_link.specs.Ending.{frame_segment, missing_access}
+use Rattle.nr_link.specs.Ending.{frame_segment, access_of}
+use Rattle.nr_regions.specs.Access.{Allowed, HaveOwnStags}
+use Rattle.nr_regions.specs.RegisteredMemory.{Access}
 use Rattle.nr_reduce.specs.declared.call.Form.{Form}
 use Rattle.nr_reduce.specs.declared.call.Call.{Call}
 use Rattle.nr_reduce.specs.declared.call.Outcome.{Outcome}
@@ -26,19 +31,22 @@ use Rattle.nr_reduce.specs.PlainJournal.{any_that_adds}
 use Rattle.nr_reduce.specs.Journal.{Journaled}
 use Rattle.nr_reduce.specs.History.{CompletedCall, completed_calls, bytes_sent, bytes_received, written_at, fed_at, other}
 use Rattle.nr_reduce.specs.Events.{Event, events_at}
-use Rattle.nr_reduce.specs.EndRules.{EndState, end_state_after, output_for_all}
+use Rattle.nr_reduce.specs.EndRules.{EndState, next_end_state, end_state_after, output_for, output_for_all, live}
 use Rattle.nr_reduce.specs.OfferedRegions.{region_grants}
 use Rattle.nr_reduce.specs.declared.outline.Plan.{Plan}
-use Rattle.nr_reduce.specs.Plans.{call_message, lists_of}
+use Rattle.nr_reduce.specs.Plans.{call_message, lists_of, inline_stream}
 use Rattle.nr_reduce.specs.ClientState.{ClientState}
-use Rattle.nr_reduce.specs.Client.{client_rules, client_end, client_output, calls_output, initial_client}
-use Rattle.nr_reduce.specs.ServerState.{ServerState, ReadyCall, is_pending, down_max}
+use Rattle.nr_reduce.specs.Client.{client_rules, client_end, calls_output, initial_client}
+use Rattle.nr_reduce.specs.ServerState.{ServerState, ReadyCall, PendingCall, PendingRead, is_pending, down_max}
 use Rattle.nr_reduce.specs.ServerReads.{open_reads}
-use Rattle.nr_reduce.specs.ServerMessages.{verdict, by_need, call_xid}
+use Rattle.nr_reduce.specs.ServerMessages.{verdict, by_need, call_xid, chunk_bytes}
+use Rattle.nr_reduce.specs.ServerFrames.{frame_effect, call_of_number, is_stream_read, with_reach}
+use Rattle.nr_reduce.specs.Chunks.{suits}
 use Rattle.nr_reduce.specs.ServerMessages.Verdict.{BadChunks, OtherVersion}
-use Rattle.nr_reduce.specs.Server.{server_rules, server_end, server_output, server_state_after, initial_server, offer_of, answer_of_target}
+use Rattle.nr_reduce.specs.Server.{server_rules, server_end, server_state_after, initial_server, offer_of, answer_of_target, newly_open_reads, sends_from, requests_from}
 use Rattle.nr_reduce.specs.Events.Event.{FrameReceived}
-use Rattle.nr_reduce.specs.Run.{client, server, output_due}
+use Rattle.nr_reduce.specs.Run.{client, server, output_due, grants_of}
+use Rattle.nr_reduce.specs.Opening.{IsOpened}
 use Rattle.nr_rpc.specs.Credential.{CanWriteCred}
 use Rattle.nr_reduce.specs.Limits.{numbers_end}
 use Rattle.nr_reduce.specs.Credits.{calls_outstanding, credits_granted}
@@ -51,19 +59,46 @@ use Rattle.nr_reduce.specs.Standing.{input_events, ClientStandsFor, ServerStands
 use Rattle.nr_reduce.specs.PayloadLaws.{IsPlanned}
 use Rattle.nr_xdr.specs.Fields.{word_at}
 
--- the stream of a plan, where it is in the message
-abbrev pub inline_at : Option ℕ → List ℕ → Option (List ℕ)
-inline_at None stream = Some stream
-inline_at (Some position) stream = if position == 0 then None else Some stream
-
-abbrev pub inline_stream : Plan → Option (List ℕ)
-inline_stream p = inline_at p.read_at p.inline
-
--- for a frame just this message is due, and no call becomes pending or ready
+-- A frame doesn't end the server; just this message is due for it, and no call becomes pending or ready.
 pub record IsOnlyAnswered (opened : Opened) (k : ServerState) (f : Frame) (answer : List ℕ) : Type 0 where
-  pub output : server_output opened k (FrameReceived f) ≡ send (k.messages_queued + 1) answer
-  pub calls : (server_state_after opened k (FrameReceived f)).calls ≡ k.calls
-  pub ready : (server_state_after opened k (FrameReceived f)).ready ≡ k.ready
+  pub output : output_for (server_rules opened) (live k) (FrameReceived f) ≡ send (k.messages_queued + 1) answer
+  pub stays : (next_end_state (server_rules opened) (live k) (FrameReceived f)).ended ≡ None
+  pub calls : (next_end_state (server_rules opened) (live k) (FrameReceived f)).state.calls ≡ k.calls
+  pub ready : (next_end_state (server_rules opened) (live k) (FrameReceived f)).state.ready ≡ k.ready
+
+-- The read of which a segment is the last one: the oldest, where it is the last segment of a Read Response.
+abbrev pub ends_response : Segment → Bool
+ends_response (Tagged last opcode stag to payload) = opcode == OPCODE_READ_RESPONSE && last
+ends_response (Untagged last opcode w queue msn offset payload) = false
+
+-- The last segment of a Read Response is the end of the stream of a call whose read chunk isn't its item's.
+pub record IsStreamRefused (k : ServerState) (f : Frame) (segment : Segment) (c : PendingCall) : Type 0 where
+  pub is_last : ends_response segment ≡ true
+  pub read : PendingRead
+  pub others : List PendingRead
+  pub reads : k.reads ≡ read ∷ others
+  pub call : call_of_number k read.number ≡ Some c
+  pub stream : is_stream_read c read others ≡ true
+  pub unsuited : suits (chunk_bytes (with_reach k f segment) f.end c 0) c.lists.read ≡ false
+
+-- ERR_CHUNK is due for it, before the Read Requests of reads that are newly open; the call is no longer pending, and isn't ready.
+pub record IsRefusedCall (opened : Opened) (k : ServerState) (f : Frame) (c : PendingCall) : Type 0 where
+  pub output : output_for (server_rules opened) (live k) (FrameReceived f)
+    ≡ send (k.messages_queued + 1) (chunk_error c.xid k.credit) ++ requests_from (k.requests_sent + 1) (newly_open_reads (frame_effect k f))
+  pub stays : (next_end_state (server_rules opened) (live k) (FrameReceived f)).ended ≡ None
+  pub calls : (next_end_state (server_rules opened) (live k) (FrameReceived f)).state.calls ≡ filter (λ other. not (other.number == c.number)) k.calls
+  pub ready : (next_end_state (server_rules opened) (live k) (FrameReceived f)).state.ready ≡ k.ready
+
+-- Which reads are open after a frame: those that were, less one at the last segment of a Read Response, and those whose Read
+-- Requests are due for the frame. At most open_reads_max are open, and while fewer are, none waits.
+pub record OpensReads (opened : Opened) (k : ServerState) (f : Frame) (segment : Segment) : Type 0 where
+  pub kept : (frame_effect k f).kept ≡ (if ends_response segment then length (open_reads k) - 1 else length (open_reads k))
+  pub count : (frame_effect k f).kept + length (newly_open_reads (frame_effect k f)) ≡ length (open_reads (server_state_after opened k (FrameReceived f)))
+  pub requests : output_for (server_rules opened) (live k) (FrameReceived f)
+    ≡ sends_from (k.messages_queued + 1) (frame_effect k f).errors ++ requests_from (k.requests_sent + 1) (newly_open_reads (frame_effect k f))
+  pub few : length (open_reads (server_state_after opened k (FrameReceived f))) ≤ open_reads_max
+  pub none_waits : length (open_reads (server_state_after opened k (FrameReceived f))) < open_reads_max →
+    open_reads (server_state_after opened k (FrameReceived f)) ≡ (server_state_after opened k (FrameReceived f)).reads
 
 -- ---- One mark more
 
@@ -159,22 +194,32 @@ ServerQueueIsDue = (opened : Opened) (link : ℕ) (end : EndState ServerState) (
 
 -- ---- Memory
 
--- A frame that doesn't end a side lacks nothing of what the side offers where the frame ends. So each access before a side's end is
--- allowed, and the first that isn't ends it.
+-- No two regions that a side offers have one STag.
+abbrev pub GrantsHaveOwnStags : Type 0
+GrantsHaveOwnStags = (opened : Opened) (link : ℕ) (side : Side) (run : List Mark) → HaveOwnStags (grants_of opened link side run)
+
+-- The access of a frame that doesn't end a side is allowed by what the side offers as the frame is received: after any events, where
+-- the frame is the next one. So each access before a side's end is allowed, and the first that isn't ends it.
 abbrev pub ClientAllows : Type 0
-ClientAllows = (k : ClientState) (f : Frame) (segment : Segment) → is_hello f ≡ false → frame_segment f ≡ Ok segment →
-    client_end k (FrameReceived f) ≡ None → missing_access (region_grants f.end k.regions) f segment ≡ None
+ClientAllows = (opened : Opened) (events : List Event) (f : Frame) (segment : Segment) (access : Access) → is_hello f ≡ false → frame_segment f ≡ Ok segment → access_of segment ≡ Some access →
+    client_end (end_state_after (client_rules opened) (initial_client opened) events).state (FrameReceived f) ≡ None →
+    Allowed (region_grants f.end (end_state_after (client_rules opened) (initial_client opened) events).state.regions) access f.end
 
 abbrev pub ServerAllows : Type 0
-ServerAllows = (opened : Opened) (k : ServerState) (f : Frame) (segment : Segment) → is_hello f ≡ false → frame_segment f ≡ Ok segment →
-    server_end opened k (FrameReceived f) ≡ None → missing_access (region_grants f.end k.regions) f segment ≡ None
+ServerAllows = (opened : Opened) (events : List Event) (f : Frame) (segment : Segment) (access : Access) → is_hello f ≡ false → frame_segment f ≡ Ok segment → access_of segment ≡ Some access →
+    server_end opened (end_state_after (server_rules opened) (initial_server opened) events).state (FrameReceived f) ≡ None →
+    Allowed (region_grants f.end (end_state_after (server_rules opened) (initial_server opened) events).state.regions) access f.end
 
 -- ---- Calls
+
+-- The STag that a client gives next is at most numbers_end, while it keeps its law: so the next one is left or none is.
+abbrev pub StagsAreNumbers : Type 0
+StagsAreNumbers = (opened : Opened) (link : ℕ) (run : List Mark) → IsOpened opened → AskedSoFar opened link run → (client opened link run).state.stag ≤ numbers_end
 
 -- A call that a client accepts keeps the law of its side, and fewer calls are outstanding than are granted.
 abbrev pub AcceptedKeepsLaw : Type 0
 AcceptedKeepsLaw = (opened : Opened) (link : ℕ) (run : List Mark) (call : Call) (form : Form) (xid : ℕ) →
-    submit_answer opened (client opened link run) call form ≡ submissions.Accepted xid → (client opened link run).state.stag ≤ numbers_end → CanWriteCred call.cred →
+    submit_answer opened (client opened link run) call form ≡ submissions.Accepted xid → IsOpened opened → AskedSoFar opened link run → CanWriteCred call.cred →
     IsAccepted opened link run call form xid × (calls_outstanding opened link run < credits_granted opened link run)
 
 -- The Send of an accepted call is due at its Submit, by its plan, once the server's hello was received. Before, nothing is due.
@@ -186,9 +231,12 @@ SubmitIsSent = (opened : Opened) (link : ℕ) (run : List Mark) (call : Call) (f
     × ((client opened link run).state.has_hello ≡ false →
     output_due opened link Initiator (run ++ marks.Submit link call form (submissions.Accepted xid) ∷ []) ≡ output_due opened link Initiator run)
 
--- With the server's hello the Sends of all calls that are outstanding are due, in the order of their Submits, numbered from 1 on.
+-- For the server's hello, where it doesn't end the client, the Sends of all calls that are outstanding are due, in the order of their
+-- Submits, numbered from 1 on. From then on the client has the hello.
 abbrev pub HelloSendsCalls : Type 0
-HelloSendsCalls = (opened : Opened) (k : ClientState) (f : Frame) → is_hello f ≡ true → client_output opened k (FrameReceived f) ≡ calls_output opened 1 k.outstanding
+HelloSendsCalls = (opened : Opened) (k : ClientState) (f : Frame) → is_hello f ≡ true → client_end k (FrameReceived f) ≡ None →
+    (output_for (client_rules opened) (live k) (FrameReceived f) ≡ calls_output opened 1 k.outstanding)
+    × ((next_end_state (client_rules opened) (live k) (FrameReceived f)).state.has_hello ≡ true)
 
 -- An executed call's payload begins with the head of a call under its xid.
 abbrev pub PayloadHasItsXid : Type 0
@@ -208,16 +256,22 @@ ExecuteIsAnswered = (opened : Opened) (link : ℕ) (run : List Mark) (xid : ℕ)
     ≡ output_due opened link Responder run
     ++ send ((server opened link run).state.messages_queued + 1) (chunk_error xid (server opened link run).state.credit))
 
--- A Send that is refused is answered by one error message, and makes no call pending or ready.
+-- A Send that is refused is answered by one error message, where its frame doesn't end the server, and makes no call pending or ready.
 abbrev pub RefusedSendIsAnswered : Type 0
 RefusedSendIsAnswered = (opened : Opened) (k : ServerState) (f : Frame) (segment : Segment) (message : List ℕ) → is_hello f ≡ false → frame_segment f ≡ Ok segment →
-    message_completed k.received segment ≡ Some message →
+    message_completed k.received segment ≡ Some message → server_end opened k (FrameReceived f) ≡ None →
     (verdict k message ≡ BadChunks → IsOnlyAnswered opened k f (chunk_error (word_at 0 message) k.credit))
     × (verdict k message ≡ OtherVersion → IsOnlyAnswered opened k f (version_error (word_at 0 message) (word_at 4 message) k.credit))
 
--- At most open_reads_max Read Requests are open.
+-- So is a call whose stream had to be read, and whose read chunk isn't its item's.
+abbrev pub RefusedCallIsAnswered : Type 0
+RefusedCallIsAnswered = (opened : Opened) (k : ServerState) (f : Frame) (segment : Segment) (c : PendingCall) → is_hello f ≡ false → frame_segment f ≡ Ok segment →
+    IsStreamRefused k f segment c → server_end opened k (FrameReceived f) ≡ None → IsRefusedCall opened k f c
+
+-- At most open_reads_max Read Requests are open, and a read waits only while so many are.
 abbrev pub OpenReadsAreFew : Type 0
-OpenReadsAreFew = (k : ServerState) → length (open_reads k) ≤ open_reads_max
+OpenReadsAreFew = (opened : Opened) (k : ServerState) (f : Frame) (segment : Segment) → is_hello f ≡ false → frame_segment f ≡ Ok segment →
+    server_end opened k (FrameReceived f) ≡ None → OpensReads opened k f segment
 
 -- A server never refuses the message of a plan whose form isn't given: the call is pending, with the plan's lists and stream, where
 -- its xid wasn't and STags are left for its reads.

@@ -7,7 +7,10 @@ use Rattle.nr_header.specs.declared.header.ChunkLists.{ChunkLists}
 use Rattle.nr_header.specs.declared.header.Body.{Body}
 use Rattle.nr_header.specs.declared.header.Body.TheVariants.{Msg, Nomsg, ErrVers, ErrChunk}
 use Rattle.nr_header.specs.declared.header.Header.{Header}
+use Rattle.nr_header.specs.Header.{lists_items}
+use Rattle.nr_header.specs.WithinLimits.{ListsWithin}
 use Rattle.nr_header.specs.Reading.{header_of}
+use Rattle.nr_xdr.specs.Items.{AllFit}
 use Rattle.nr_regions.specs.RegisteredMemory.{bytes_after_write}
 use Rattle.nr_wire.specs.Constants.{OPCODE_WRITE}
 use Rattle.nr_wire.specs.Segment.{Segment as WireSegment}
@@ -16,10 +19,10 @@ use Rattle.nr_reduce.specs.declared.call.Form.{Form}
 use Rattle.nr_reduce.specs.declared.call.Form.TheVariants as forms
 use Rattle.nr_link.specs.Limits.{segment_max}
 use Rattle.nr_reduce.specs.declared.outline.Plan.{Plan}
-use Rattle.nr_reduce.specs.Plans.{total, has_segment, lists_of, write_list, reply_chunk}
+use Rattle.nr_reduce.specs.Plans.{total, has_segment, lists_of, inline_stream, write_list, reply_chunk}
 use Rattle.nr_reduce.specs.Chunks.{Bytes, call_conveyed}
 use Rattle.nr_link.specs.Output.{segment_count, segment_payload}
-use Rattle.nr_reduce.specs.Holds.{Answer, first_chunk, no_segments}
+use Rattle.nr_reduce.specs.Holds.{Answer, answer_lists, first_chunk, no_segments}
 
 -- the forms whose offers aren't given
 abbrev pub IsOwn : Form → Type 0
@@ -52,6 +55,13 @@ pub record Asks (payload : List ℕ) (p : Plan) (xid credit stag : ℕ) (message
   pub reads : header_of message ≡ Ok (record { xid = xid; credit = credit; body = body })
   pub lists : lists_by body ≡ lists_of stag p
   pub conveys : (chunk : ℕ → List ℕ) → Brings chunk p → call_conveyed (inline_by message body) (lists_of stag p).read chunk ≡ Some payload
+
+-- A message is read under this xid, with these credits, with the lists of its plan and its stream.
+pub record ReadsAsPlan (p : Plan) (xid credit stag : ℕ) (message : List ℕ) : Type 0 where
+  pub body : Body
+  pub reads : header_of message ≡ Ok (record { xid = xid; credit = credit; body = body })
+  pub lists : lists_by body ≡ lists_of stag p
+  pub stream : inline_by message body ≡ inline_stream p
 
 -- ---- Writes
 
@@ -90,6 +100,18 @@ pub record Backs (initial : Bytes) (ws rs : ℕ) (w r : Option (List ℕ)) : Typ
   pub write : has_segment w ≡ true → length (initial ws) ≡ total w
   pub reply : has_segment r ≡ true → length (initial rs) ≡ total r
   pub apart : has_segment w ≡ true → ws ≢ rs
+
+-- an offer as it was read: its numbers are words, and it is within the limits of a header
+pub record IsOffer (offer : ChunkLists) : Type 0 where
+  pub fits : AllFit (lists_items offer)
+  pub within : ListsWithin offer
+
+-- A message is read under this xid, with these credits, with the lists of an answer and its stream.
+pub record ReadsAsAnswer (offer : ChunkLists) (a : Answer) (xid credit : ℕ) (message : List ℕ) : Type 0 where
+  pub body : Body
+  pub reads : header_of message ≡ Ok (record { xid = xid; credit = credit; body = body })
+  pub lists : lists_by body ≡ answer_lists offer a
+  pub stream : inline_by message body ≡ (if a.long then None else Some a.stream)
 
 -- what a memory holds after an answer's Writes
 abbrev pub after : Bytes → ChunkLists → Answer → Bytes

@@ -1,6 +1,6 @@
 //! Laws of payloads: what is cut, planned and answered conveys what it was made of.
 
-ghost use Rattle.nr_reduce.specs.PayloadLaws.{CutIsRebuilt, CutConveys, PlanReadsBack, PlanHasItsSize, RegionBringsChunks, OfferConveys, AnswerConveysReply, AnswerWritesSegments, AnswerSuitsOffer};
+ghost use Rattle.nr_reduce.specs.PayloadLaws.{CutIsRebuilt, CutConveys, PlanReadsBack, PlanHasItsSize, MessageReadsBack, RegionBringsChunks, OfferConveys, OfferMessageConveys, AnswerConveysReply, AnswerWritesSegments, AnswerSuitsOffer, AnswerHasItsSize, AnswerReadsBack};
 
 /// What is cut of a payload is put together to that payload again, and conveys it (RFC 8166 section 3.4).
 pub fn rebuild_undoes_cut()
@@ -8,19 +8,26 @@ pub fn rebuild_undoes_cut()
     ensures conveys { CutConveys }
 {}
 
-/// A plan of form Auto, Inline, Chunk or Long: its message reads back as its header and stream, has the size that was
-/// tested, and conveys the payload over the plan's region. A plan of form Given conveys what its offer conveys, if anything.
+/// The message of a plan of any form has the size that was tested. For Auto, Inline, Chunk and Long it reads back as its
+/// header and stream, and conveys the payload over the plan's region. For Given, where its lists are within the limits of a
+/// header, it reads back so and conveys what its offer conveys, if anything.
 pub fn plans_are_undone()
     ensures message { PlanReadsBack }
     ensures size { PlanHasItsSize }
     ensures memory { RegionBringsChunks }
+    ensures lists { MessageReadsBack }
     ensures given { OfferConveys }
+    ensures given_message { OfferMessageConveys }
 {}
 
-/// An answer for an offer that holds the reply: what its Writes leave in the offered regions, its lists and its stream
-/// convey that reply. The Writes are segments in the order of the lists, and the lists are those offered.
+/// An answer for an offer that holds the reply, of at most one write chunk, with one region for each chunk, of the chunk's
+/// length: what its Writes leave in these regions, its lists and its stream convey that reply. The Writes are segments in
+/// the order of the lists, and the lists are those offered. The message has the size that was tested, and reads back as
+/// the lists and the stream.
 pub fn answers_are_undone()
     ensures conveys { AnswerConveysReply }
     ensures writes { AnswerWritesSegments }
     ensures lists { AnswerSuitsOffer }
+    ensures size { AnswerHasItsSize }
+    ensures message { AnswerReadsBack }
 {}

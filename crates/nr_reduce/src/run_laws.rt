@@ -1,6 +1,6 @@
 //! Laws of runs: what both ends of a link cite, and what holds of every run.
 
-ghost use Rattle.nr_reduce.specs.RunLaws.{ClientAfterMark, ServerAfterMark, ClientOutputAfterMark, ServerOutputAfterMark, EndedClientStays, EndedServerStays, FullHoldsSoFar, SoFarHoldsBefore, AskedWithMark, ServedWithMark, ClientBegins, ServerBegins, EventsOfInput, ClientStandsOn, ServerStandsOn, ClientQueueIsDue, ServerQueueIsDue, ClientAllows, ServerAllows, AcceptedKeepsLaw, SubmitIsSent, HelloSendsCalls, PayloadHasItsXid, ExecuteIsAnswered, RefusedSendIsAnswered, OpenReadsAreFew, PlanIsAccepted, SendIsExecutedOnce, CallCompletesOnce, XidsRise, PlacesRise};
+ghost use Rattle.nr_reduce.specs.RunLaws.{ClientAfterMark, ServerAfterMark, ClientOutputAfterMark, ServerOutputAfterMark, EndedClientStays, EndedServerStays, FullHoldsSoFar, SoFarHoldsBefore, AskedWithMark, ServedWithMark, ClientBegins, ServerBegins, EventsOfInput, ClientStandsOn, ServerStandsOn, ClientQueueIsDue, ServerQueueIsDue, GrantsHaveOwnStags, ClientAllows, ServerAllows, StagsAreNumbers, AcceptedKeepsLaw, SubmitIsSent, HelloSendsCalls, PayloadHasItsXid, ExecuteIsAnswered, RefusedSendIsAnswered, RefusedCallIsAnswered, OpenReadsAreFew, PlanIsAccepted, SendIsExecutedOnce, CallCompletesOnce, XidsRise, PlacesRise};
 
 /// One mark more: the state of an end, and the output due, are those before with the events of the mark.
 pub fn one_mark_more()
@@ -37,17 +37,20 @@ pub fn ends_stand_for_marks()
     ensures server_queue { ServerQueueIsDue }
 {}
 
-/// Whatever bytes a peer sends, an access that isn't allowed ends the side that it reaches: a frame that doesn't end it
-/// lacks nothing of what the side offers there.
+/// No two regions that a side offers have one STag. Whatever bytes a peer sends, an access that isn't allowed ends the
+/// side: a frame that doesn't end it accesses only what the side offers as the frame is received.
 pub fn accesses_are_allowed()
+    ensures stags { GrantsHaveOwnStags }
     ensures client { ClientAllows }
     ensures server { ServerAllows }
 {}
 
-/// A call that a client accepts keeps the law of its side: it goes under the next xid by its plan, with numbers that are
-/// left, while fewer calls are outstanding than are granted.
+/// Of a client that was opened with numbers in range and kept its law so far: the STag that it gives next is at most
+/// 2 ^ 32, and a call that it accepts keeps the law. It goes under the next xid by its plan, with numbers that are left,
+/// while fewer calls are outstanding than are granted.
 pub fn accepted_calls_keep_the_law()
-    ensures { AcceptedKeepsLaw }
+    ensures stags { StagsAreNumbers }
+    ensures accepted { AcceptedKeepsLaw }
 {}
 
 /// An accepted call is sent by its plan: at its Submit, once the server's hello was received, else with that hello.
@@ -58,11 +61,14 @@ pub fn submits_are_sent()
 
 /// An executed call's payload begins with a call head of its xid. It is answered by RDMA Writes into what it offered and
 /// then one Send, or by ERR_CHUNK where its offer doesn't hold the reply. A Send that is refused is answered by one error
-/// message, and never executed. At most eight Read Requests are open.
+/// message, and makes no call pending or ready; a call whose stream is read and whose read chunk isn't its item's is
+/// answered by ERR_CHUNK, and is pending no longer. At most eight Read Requests are open, and a read waits only while
+/// eight are.
 pub fn sends_are_answered()
     ensures head { PayloadHasItsXid }
     ensures executed_call { ExecuteIsAnswered }
     ensures refused_send { RefusedSendIsAnswered }
+    ensures refused_call { RefusedCallIsAnswered }
     ensures open_reads { OpenReadsAreFew }
 {}
 

@@ -1,4 +1,4 @@
-use Rattle.nr_reduce.proofs.Calls.{executed-head, execute-answered, refused-answered, open-few}
+use Rattle.nr_reduce.proofs.Calls.{executed-head, execute-answered, refused-answered, refused-call, opens-reads}
 use Rattle.nr_reduce.proofs.run_laws.sends_are_answered.Goals as goal
 
 pub returns-clause-head : goal.returns-clause-head
@@ -11,4 +11,7 @@ pub returns-clause-refused_send : goal.returns-clause-refused_send
 returns-clause-refused_send c = refused-answered
 
 pub returns-clause-open_reads : goal.returns-clause-open_reads
-returns-clause-open_reads c = open-few
+returns-clause-open_reads c = opens-reads
+
+pub returns-clause-refused_call : goal.returns-clause-refused_call
+returns-clause-refused_call c = refused-call
