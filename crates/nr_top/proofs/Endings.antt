@@ -1,5 +1,5 @@
 -- What a cause, and what is written for it, say of the status.
-use Rattle.std.proofs.Common.{◌≡◌, ℕ, ◌<◌, ◌≤◌, true, List, length, codes, Option, Some, IfSome, Err, refl, sym, ap, subst, ◌∙◌, arith, inl, inr, le-ltb, lt-ltb}
+use Rattle.std.proofs.Common.{◌≡◌, ℕ, ◌<◌, ◌≤◌, true, List, length, codes, Option, Some, IfSome, Result, Ok, Err, IfOk, refl, sym, ap, subst, ◌∙◌, arith, inl, inr, le-ltb, lt-ltb}
 use Rattle.nr_world.specs.declared.report.Report.{Report}
 use Rattle.nr_world.specs.Constants.{script_max}
 use Rattle.nr_world.specs.Script.{ScriptLines, script_of}
@@ -8,7 +8,7 @@ use Rattle.nr_world.specs.Shown.{shown, text_of}
 use Rattle.nr_top.specs.Ends.Cause.{BadArguments, NoMemory, InputFault, OutputFault, BadScript, OverBudget}
 use Rattle.nr_top.specs.Statuses as statuses
 use Rattle.nr_top.specs.Arguments.{is_drill, due_status}
-use Rattle.nr_top.specs.Ends.{InputAt, SinkAt, Wrote, BadLine, TooLong, Cause, FaultReport, printed, memory_text, bad_line_text, budget_text, Ends, Stopped, Spoke, Says}
+use Rattle.nr_top.specs.Ends.{InputAt, IsPrinted, SinkAt, Wrote, BadLine, TooLong, Cause, FaultReport, printed, memory_text, bad_line_text, budget_text, Ends, Stopped, Spoke, Says}
 
 -- what is printed of a report is what is shown of its marks
 pub printed_is : (script : ScriptLines) (report : Report) (text : List ℕ) → Reports script report → text ≡ text_of report.calls report.links (length report.journal) → text ≡ printed script report.marks
@@ -138,3 +138,8 @@ ends_of (BadScript number) arguments status input input' out out' err err' stopp
     said_or (BadScript number) arguments status input input' out out' err err' stopped (inr said) said (no_memory arguments status input input' out out' err err' (without_text number arguments input input' out out' stopped))
 ends_of OverBudget arguments status input input' out out' err err' stopped said =
     said_or OverBudget arguments status input input' out out' err err' stopped said said (over_budget arguments status input input' out out' err err' stopped)
+
+-- a text of a report is what is printed of a run of the script
+pub printed_text : {E : Type 0} (r : Result (List ℕ) E) (script : ScriptLines) (report : Report) → Reports script report → IfOk r (λ text. text ≡ text_of report.calls report.links (length report.journal)) → IfOk r (λ text. IsPrinted script text)
+printed_text (Ok text) script report reports is = (report.marks, reports.drill, printed_is script report text reports is)
+printed_text (Err error) script report reports is = tt

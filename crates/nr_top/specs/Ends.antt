@@ -135,6 +135,26 @@ bad_line_text number = codes "bad line " ++ decimal number ++ codes "\n"
 abbrev pub Spoke : ℕ → List ℕ → ℕ → SinkAt → SinkAt → Type 0
 Spoke due text status err err' = ((status ≡ due) × Wrote err err' text) ⊎ ((status ≡ statuses.fault) × CutOff err err' text)
 
+-- the input was read, and it says this script
+pub record ReadsScript (input input' : InputAt) (script : ScriptLines) : Type 0 where
+  pub text : List ℕ
+  pub whole : Whole input input' text
+  pub reads : script_of text ≡ Ok script
+
+-- what is so where the input was read and gave no script
+abbrev pub StoppedReading : Cause → InputAt → InputAt → Type 0
+StoppedReading BadArguments input input' = ⊥
+StoppedReading NoMemory input input' = Took input input' × (input'.faults ≡ input.faults)
+StoppedReading InputFault input input' = Took input input' × Rises input.faults input'.faults
+StoppedReading OutputFault input input' = ⊥
+StoppedReading (BadScript number) input input' = (text : List ℕ) × Whole input input' text × (script_of text ≡ Err number)
+StoppedReading OverBudget input input' =
+    IfSome input.left (λ left. script_max < length left) × TookTooMuch input input' × (input'.faults ≡ input.faults)
+
+-- the text is what is printed of a run of the script that keeps the promise of a drill
+abbrev pub IsPrinted : ScriptLines → List ℕ → Type 0
+IsPrinted script text = (run : List Mark) × IsDrill script run × (text ≡ printed script run)
+
 -- What is written for a cause. The text with the number of a line needs memory; where there is none, that is written.
 abbrev pub Says : Cause → ℕ → SinkAt → SinkAt → Type 0
 Says BadArguments status err err' = Spoke statuses.bad_arguments (codes "bad words\n") status err err'

@@ -1,16 +1,16 @@
 //! The command: from the arguments to what is printed, and the status.
 
-ghost use Rattle.std.specs.Prelude.{◌≡◌, true, false, map, MatchResult};
+ghost use Rattle.std.specs.Prelude.{◌≡◌, true, false, map, IfOk, MatchResult};
 ghost use Rattle.std.specs.String.{string_bytes};
 ghost use Rattle.nr_top.specs.Arguments.{is_drill};
 ghost use Rattle.nr_top.specs.Causes.{cause_of};
-ghost use Rattle.nr_top.specs.Ends.{Ends, Done, Stopped, Spoke, Says, input_at, sink_at};
-ghost use Rattle.nr_top.specs.Ends.Cause.{NoMemory, BadArguments};
+ghost use Rattle.nr_top.specs.Ends.{Ends, Done, IsPrinted, ReadsScript, Stopped, StoppedReading, Spoke, Says, input_at, sink_at};
+ghost use Rattle.nr_top.specs.Ends.Cause.{NoMemory, BadArguments, BadScript};
 
 use crate::status::{BAD_ARGUMENTS, BAD_SCRIPT, DONE, FAULT, NO_MEMORY, OVER_BUDGET};
 use nr_outside::{ReadEnd, Sink, Source, read_whole, write_whole};
-use nr_world::{SCRIPT_MAX, ScriptFault, read_script, run_world, shown};
-use nr_xdr::Memory;
+use nr_world::{SCRIPT_MAX, Script, ScriptFault, read_script, run_world, shown};
+use nr_xdr::{Memory, Octets};
 use std::alloc::Global;
 
 /// Why a command wasn't done.
@@ -68,6 +68,27 @@ fn is_drill(arguments: &[String]) -> bool
     arguments.len() == 2 && arguments[1].as_str() == "drill"
 }
 
+/// Reads a script.
+fn read_drill<I: Source>(alloc: Global, input: &mut I) -> Result<Script, Stop>
+    ensures { MatchResult result
+        (λ script. ReadsScript (input_at (I.left input.old) (I.given input.old) (I.faults input.old))
+        (input_at (I.left input.new) (I.given input.new) (I.faults input.new)) script)
+        (λ stop. StoppedReading (cause_of stop) (input_at (I.left input.old) (I.given input.old) (I.faults input.old))
+        (input_at (I.left input.new) (I.given input.new) (I.faults input.new))) }
+{
+    let text = read_whole(alloc, input, SCRIPT_MAX)?;
+    let script = read_script(alloc, text.as_slice())?;
+    Ok(script)
+}
+
+/// Runs a script, and gives what is printed of that.
+fn printed_drill(alloc: Global, script: &Script) -> Result<Octets, Memory>
+    ensures { IfOk result (λ text. IsPrinted script.now text) }
+{
+    let report = run_world(alloc, script)?;
+    shown(alloc, &report)
+}
+
 /// Reads a script, runs it, and prints what happened.
 fn drill<I: Source, O: Sink>(
     alloc: Global,
@@ -86,10 +107,8 @@ fn drill<I: Source, O: Sink>(
     if !is_drill(arguments) {
         return Err(Stop::Arguments);
     }
-    let text = read_whole(alloc, input, SCRIPT_MAX)?;
-    let script = read_script(alloc, text.as_slice())?;
-    let report = run_world(alloc, &script)?;
-    let printed = shown(alloc, &report)?;
+    let script = read_drill(alloc, input)?;
+    let printed = printed_drill(alloc, &script)?;
     match write_whole(out, printed.as_slice()) {
         Ok(()) => Ok(()),
         Err(_) => Err(Stop::Output),
@@ -106,9 +125,18 @@ fn speak<E: Sink>(err: &mut E, text: &[u8], status: u8) -> u8
     }
 }
 
-/// Reports on `err` why the command wasn't done, and gives the status. Where there is no memory for the text, that is
-/// reported.
+/// Reports the first bad line on `err`, and gives the status. Where there is no memory for the text, that is reported.
 #[tactic(auto, unfolding(crate::specs::Ends::bad_line_text))]
+fn say_bad_line<E: Sink>(alloc: Global, line: u64, err: &mut E) -> u8
+    ensures { Says (BadScript line) result (sink_at (E.taken err.old) (E.faults err.old)) (sink_at (E.taken err.new) (E.faults err.new)) }
+{
+    match format!(in alloc; "bad line {line}\n") {
+        Ok(text) => speak(err, text.as_bytes(), BAD_SCRIPT),
+        Err(_) => speak(err, b"memory\n", NO_MEMORY),
+    }
+}
+
+/// Reports on `err` why the command wasn't done, and gives the status.
 fn say<E: Sink>(alloc: Global, stop: Stop, err: &mut E) -> u8
     ensures { Says (cause_of stop) result (sink_at (E.taken err.old) (E.faults err.old)) (sink_at (E.taken err.new) (E.faults err.new)) }
 {
@@ -118,10 +146,7 @@ fn say<E: Sink>(alloc: Global, stop: Stop, err: &mut E) -> u8
         Stop::Input => speak(err, b"input fault\n", FAULT),
         Stop::Output => speak(err, b"output fault\n", FAULT),
         Stop::Budget => speak(err, b"budget 16777216\n", OVER_BUDGET),
-        Stop::Script { line } => match format!(in alloc; "bad line {line}\n") {
-            Ok(text) => speak(err, text.as_bytes(), BAD_SCRIPT),
-            Err(_) => speak(err, b"memory\n", NO_MEMORY),
-        },
+        Stop::Script { line } => say_bad_line(alloc, line, err),
     }
 }
 

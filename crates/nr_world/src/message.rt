@@ -1,11 +1,11 @@
 //! Messages without chunk lists: the transport header (RFC 8166 section 4.2) and the payload of a call or reply, in one
 //! Send.
 
-ghost use Rattle.std.specs.Prelude.{◌≡◌, ◌≤◌, length, None, Some, IfOk, MatchOption, option_and_then};
+ghost use Rattle.std.specs.Prelude.{◌≡◌, ◌≤◌, drop, length, None, Some, IfOk, MatchOption, option_and_then};
 ghost use Rattle.std.specs.Option.{option_copied};
 ghost use Rattle.nr_wire.specs.Next.{segment_in};
 ghost use Rattle.nr_rpc.specs.Reading.{call_of, reply_of};
-ghost use Rattle.nr_world.specs.Messages.{send, inline_message, payload_at, inline_in, under_xid, call_xid, reply_xid, call_in, reply_in};
+ghost use Rattle.nr_world.specs.Messages.{send, inline_header, inline_message, payload_at, inline_in, under_xid, call_xid, reply_xid, call_in, reply_in};
 ghost use Rattle.nr_world.specs.Ending.{ended_by};
 ghost use Rattle.nr_world.specs.Constants.{send_max};
 
@@ -17,8 +17,24 @@ use nr_wire::{NextSegment, Segment, next_segment, write_segment};
 use nr_xdr::{Memory, Octets};
 use std::alloc::Global;
 
-/// An RDMA_MSG message without chunk lists: the header, and the payload behind it.
+/// The header of an RDMA_MSG message without chunk lists.
 #[tactic(auto, unfolding(crate::specs::Messages::inline_header))]
+fn inline_header(alloc: Global, xid: u32, credit: u32) -> Result<Octets, Memory>
+    ensures { IfOk result (λ header. header ≡ inline_header xid credit) }
+{
+    let lists = ChunkLists {
+        read: InlineVec::new(),
+        write: InlineVec::new(),
+        reply: None,
+    };
+    let body = Body::Msg {
+        lists,
+        stream_at: 0,
+    };
+    write_header(alloc, &Header { xid, credit, body })
+}
+
+/// An RDMA_MSG message without chunk lists: the header, and the payload behind it.
 pub fn inline_message(
     alloc: Global,
     xid: u32,
@@ -27,20 +43,7 @@ pub fn inline_message(
 ) -> Result<Octets, Memory>
     ensures { IfOk result (λ message. message ≡ inline_message xid credit payload.now) }
 {
-    let lists = ChunkLists {
-        read: InlineVec::new(),
-        write: InlineVec::new(),
-        reply: None,
-    };
-    let header = Header {
-        xid,
-        credit,
-        body: Body::Msg {
-            lists,
-            stream_at: 0,
-        },
-    };
-    let mut message = write_header(alloc, &header)?;
+    let mut message = inline_header(alloc, xid, credit)?;
     message.extend_from_slice(payload)?;
     Ok(message)
 }
@@ -94,17 +97,41 @@ fn payload_at(body: &Body) -> Option<usize>
     }
 }
 
-/// The xid and the payload of a message without chunk lists.
+/// The xid of a header, and the place of the payload in its message, where it has three empty lists.
+fn xid_and_place(header: &Header) -> Option<(u32, usize)>
+    ensures { MatchOption result (payload_at header.now.body ≡ None)
+        (λ found. (found.0 ≡ header.now.xid) × (payload_at header.now.body ≡ Some found.1)) }
+{
+    match payload_at(&header.body) {
+        Some(place) => Some((header.xid, place)),
+        None => None,
+    }
+}
+
+/// The xid of a message without chunk lists, and the place of its payload.
 #[tactic(auto, unfolding(crate::specs::Messages::inline_in))]
+fn payload_place(message: &[u8]) -> Option<(u32, usize)>
+    ensures { MatchOption result (inline_in message.now ≡ None)
+        (λ found. (inline_in message.now ≡ Some (record { xid = found.0; payload = drop found.1 message.now }))
+        × (found.1 ≤ length message.now)) }
+{
+    match read_header(message) {
+        Ok(header) => match xid_and_place(&header) {
+            Some((xid, place)) => Some((xid, place)),
+            None => None,
+        },
+        Err(_) => None,
+    }
+}
+
+/// The xid and the payload of a message without chunk lists.
 fn inline_in(message: &[u8]) -> Option<(u32, &[u8])>
     ensures { MatchOption result (inline_in message.now ≡ None)
         (λ found. inline_in message.now ≡ Some (record { xid = found.0; payload = found.1.now })) }
 {
-    let Ok(header) = read_header(message) else {
-        return None;
-    };
-    let place = payload_at(&header.body)?;
-    Some((header.xid, &message[place..]))
+    let (xid, place) = payload_place(message)?;
+    let (_, payload) = message.split_at(place);
+    Some((xid, payload))
 }
 
 /// The payload with its xid, where the head has the same xid as the header.
