@@ -19,6 +19,7 @@ pub mod Touches
 pub mod Sizes
 pub mod OwnStags
 pub mod StagsLeft
+pub mod ReadChunks
 pub mod Readings
 pub mod AnswerMessages
 pub mod Submitting

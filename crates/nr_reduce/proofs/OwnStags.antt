@@ -42,7 +42,7 @@ numbered-append : (n m : ℕ) (xs ys : List Region) → AreNumbered n xs → m �
 numbered-append n m [] ys h e k = subst (λ (i : ℕ). AreNumbered i ys) (let s : m ≡ n = omega (arith, e) in s) k
 numbered-append n m (x ∷ xs) ys h e k = (h.0, numbered-append (n + 1) m xs ys h.1 (omega (arith, e)) k)
 
-closed-stag : (b : Bool) (place : ℕ) (r : Region) → (closed_if b place r).stag ≡ r.stag
+pub closed-stag : (b : Bool) (place : ℕ) (r : Region) → (closed_if b place r).stag ≡ r.stag
 closed-stag true place r = refl
 closed-stag false place r = refl
 
@@ -80,7 +80,7 @@ last-buffer : (xid place n : ℕ) (b : Bool) (right : Right) (bytes : List ℕ) 
 last-buffer xid place n true right bytes = (refl, tt)
 last-buffer xid place n false right bytes = tt
 
-numbered-buffers : (xid place stag : ℕ) (p : Plan) → AreNumbered stag (map (region_of xid place) (buffers stag p))
+pub numbered-buffers : (xid place stag : ℕ) (p : Plan) → AreNumbered stag (map (region_of xid place) (buffers stag p))
 unfolding buffers
 numbered-buffers xid place stag p =
     buffers-if xid place stag (has_segment (Some p.read)) _ _ _ (buffers-if xid place (write_stag stag p) (has_segment p.write) _ _ _ (last-buffer xid place (reply_stag stag p) (has_segment p.reply) _ _))
@@ -174,6 +174,10 @@ kept-after rules P keeps r (event ∷ es) h = kept-after rules P keeps (next_end
 pub client-numbers : (opened : Opened) (es : List Event) → ClientNumbers opened (end_state_after (client_rules opened) (initial_client opened) es).state
 client-numbers opened es =
     kept-after (client_rules opened) (ClientNumbers opened) (numbers-after opened) (initial_client opened) es (record { regions = tt; next = (let s : opened.first_stag ≡ opened.first_stag + 0 = omega arith in s) })
+
+pub client-known : (opened : Opened) (link : ℕ) (run : List Mark) → ClientNumbers opened (client opened link run).state
+unfolding client
+client-known opened link run = client-numbers opened (events link Initiator run)
 
 -- ---- A server
 

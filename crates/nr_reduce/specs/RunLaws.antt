@@ -34,7 +34,7 @@ use Rattle.nr_reduce.specs.Events.{Event, events_at}
 use Rattle.nr_reduce.specs.EndRules.{EndState, next_end_state, end_state_after, output_for, output_for_all, live}
 use Rattle.nr_reduce.specs.OfferedRegions.{region_grants}
 use Rattle.nr_reduce.specs.declared.outline.Plan.{Plan}
-use Rattle.nr_reduce.specs.Plans.{call_message, lists_of, inline_stream}
+use Rattle.nr_reduce.specs.Plans.{call_message, lists_of, inline_stream, has_segment, read_stag}
 use Rattle.nr_reduce.specs.ClientState.{ClientState}
 use Rattle.nr_reduce.specs.Client.{client_rules, client_end, calls_output, initial_client}
 use Rattle.nr_reduce.specs.ServerState.{ServerState, ReadyCall, PendingCall, PendingRead, is_pending, down_max}
@@ -45,7 +45,7 @@ use Rattle.nr_reduce.specs.Chunks.{suits}
 use Rattle.nr_reduce.specs.ServerMessages.Verdict.{BadChunks, OtherVersion}
 use Rattle.nr_reduce.specs.Server.{server_rules, server_end, server_state_after, initial_server, offer_of, answer_of_target, newly_open_reads, sends_from, requests_from}
 use Rattle.nr_reduce.specs.Events.Event.{FrameReceived}
-use Rattle.nr_reduce.specs.Run.{client, server, output_due, grants_of}
+use Rattle.nr_reduce.specs.Run.{client, server, output_due, grants_of, placed_bytes}
 use Rattle.nr_reduce.specs.Opening.{IsOpened}
 use Rattle.nr_rpc.specs.Credential.{CanWriteCred}
 use Rattle.nr_reduce.specs.Limits.{numbers_end}
@@ -230,6 +230,12 @@ SubmitIsSent = (opened : Opened) (link : ℕ) (run : List Mark) (call : Call) (f
     ≡ output_due opened link Initiator run ++ send ((client opened link run).state.calls_accepted + 1) (call_message xid opened.wished (client opened link run).state.stag h.plan))
     × ((client opened link run).state.has_hello ≡ false →
     output_due opened link Initiator (run ++ marks.Submit link call form (submissions.Accepted xid) ∷ []) ≡ output_due opened link Initiator run)
+
+-- From its Submit on the region of a call's read chunk holds what its plan put there, whatever the peer sends: so the Send of the
+-- call conveys its payload over its regions.
+abbrev pub ReadChunkStays : Type 0
+ReadChunkStays = (opened : Opened) (link : ℕ) (run more : List Mark) (call : Call) (form : Form) (xid : ℕ) → (h : IsAccepted opened link run call form xid) → has_segment (Some h.plan.read) ≡ true →
+    placed_bytes opened link Initiator (run ++ marks.Submit link call form (submissions.Accepted xid) ∷ more) (read_stag (client opened link run).state.stag h.plan) ≡ h.plan.region
 
 -- For the server's hello, where it doesn't end the client, the Sends of all calls that are outstanding are due, in the order of their
 -- Submits, numbered from 1 on. From then on the client has the hello.

@@ -1,6 +1,6 @@
 //! Laws of runs: what both ends of a link cite, and what holds of every run.
 
-ghost use Rattle.nr_reduce.specs.RunLaws.{ClientAfterMark, ServerAfterMark, ClientOutputAfterMark, ServerOutputAfterMark, EndedClientStays, EndedServerStays, FullHoldsSoFar, SoFarHoldsBefore, AskedWithMark, ServedWithMark, ClientBegins, ServerBegins, EventsOfInput, ClientStandsOn, ServerStandsOn, ClientQueueIsDue, ServerQueueIsDue, GrantsHaveOwnStags, ClientAllows, ServerAllows, StagsAreNumbers, AcceptedKeepsLaw, SubmitIsSent, HelloSendsCalls, PayloadHasItsXid, ExecuteIsAnswered, RefusedSendIsAnswered, RefusedCallIsAnswered, OpenReadsAreFew, PlanIsAccepted, SendIsExecutedOnce, CallCompletesOnce, XidsRise, PlacesRise};
+ghost use Rattle.nr_reduce.specs.RunLaws.{ClientAfterMark, ServerAfterMark, ClientOutputAfterMark, ServerOutputAfterMark, EndedClientStays, EndedServerStays, FullHoldsSoFar, SoFarHoldsBefore, AskedWithMark, ServedWithMark, ClientBegins, ServerBegins, EventsOfInput, ClientStandsOn, ServerStandsOn, ClientQueueIsDue, ServerQueueIsDue, GrantsHaveOwnStags, ClientAllows, ServerAllows, StagsAreNumbers, AcceptedKeepsLaw, SubmitIsSent, HelloSendsCalls, ReadChunkStays, PayloadHasItsXid, ExecuteIsAnswered, RefusedSendIsAnswered, RefusedCallIsAnswered, OpenReadsAreFew, PlanIsAccepted, SendIsExecutedOnce, CallCompletesOnce, XidsRise, PlacesRise};
 
 /// One mark more: the state of an end, and the output due, are those before with the events of the mark.
 pub fn one_mark_more()
@@ -54,9 +54,11 @@ pub fn accepted_calls_keep_the_law()
 {}
 
 /// An accepted call is sent by its plan: at its Submit, once the server's hello was received, else with that hello.
+/// From its Submit on the region of its read chunk holds what the plan put there.
 pub fn submits_are_sent()
     ensures submit { SubmitIsSent }
     ensures hello { HelloSendsCalls }
+    ensures chunk { ReadChunkStays }
 {}
 
 /// An executed call's payload begins with a call head of its xid. It is answered by RDMA Writes into what it offered and
