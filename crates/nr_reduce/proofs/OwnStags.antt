@@ -28,7 +28,7 @@ use Rattle.nr_reduce.specs.ServerReads.{regions_from, regions_of, chunks_of, is_
 use Rattle.nr_reduce.specs.ServerMessages.{Verdict, CallVerdict, verdict, by_payload, payload_of}
 use Rattle.nr_reduce.specs.ServerMessages.Verdict.{EndsLink, OtherVersion, BadChunks, MakesPending}
 use Rattle.nr_reduce.specs.ServerMessages.CallVerdict.{Refuses, IsReady}
-use Rattle.nr_reduce.specs.ServerFrames.{FrameEffect, no_effect, with_verdict, ready_if_whole, message_effect, with_refused_call, is_stream_read, read_effect, call_of_number, response_effect, tagged_effect, by_message, with_reach, effect_by, effect_in, frame_effect}
+use Rattle.nr_reduce.specs.ServerFrames.{FrameEffect, no_effect, with_verdict, ready_if_whole, message_effect, with_refused_call, is_stream_read, read_effect, call_of_number, response_effect, tagged_effect, by_message, with_access, effect_by, effect_in, frame_effect}
 use Rattle.nr_reduce.specs.Server.{server_rules, server_end, server_state_after, initial_server, with_effect}
 use Rattle.nr_reduce.specs.Run.{client, server, grants_of}
 
@@ -221,7 +221,7 @@ effect-by_message k place (Some message) h = effect-message k place message (ver
 effect-in : (k : ServerState) (f : Frame) (r : Result Segment ℕ) → ServerNumbers k → AreNumbered 1 (effect_in k f r).regions
 effect-in k f (Err reason) h = h
 effect-in k f (Ok (Tagged last opcode stag to payload)) h =
-    let t : ServerState = with_reach k f (Tagged last opcode stag to payload) in
+    let t : ServerState = with_access k f (Tagged last opcode stag to payload) in
     effect-if (eqb opcode 2 && last) (response_effect t f.end k.reads) (no_effect t) (effect-response t f.end k.reads h) h
 effect-in k f (Ok (Untagged last opcode w queue msn offset payload)) h = effect-by_message k f.end (message_completed k.received (Untagged last opcode w queue msn offset payload)) h
 

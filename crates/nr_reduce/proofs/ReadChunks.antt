@@ -267,4 +267,4 @@ chunk-stays opened link run more call form xid h some =
     let all : List Mark = run ++ mark ∷ more in
     let t : ClientState = (client opened link all).state in
     let now = length (bytes_received link Initiator all) in
-    chunk-bytes (region_grants now t.regions) k.stag h.plan.region t.regions t.reaches (only-grants now k.stag h.plan.region t.regions last.only) last.only last.there
+    chunk-bytes (region_grants now t.regions) k.stag h.plan.region t.regions t.accesses_received (only-grants now k.stag h.plan.region t.regions last.only) last.only last.there

@@ -40,8 +40,8 @@ use Rattle.nr_reduce.specs.Client.{client_rules, client_end, calls_output, initi
 use Rattle.nr_reduce.specs.ServerState.{ServerState, ReadyCall, PendingCall, PendingRead, is_pending, down_max}
 use Rattle.nr_reduce.specs.ServerReads.{open_reads}
 use Rattle.nr_reduce.specs.ServerMessages.{verdict, by_need, call_xid, chunk_bytes}
-use Rattle.nr_reduce.specs.ServerFrames.{frame_effect, call_of_number, is_stream_read, with_reach}
-use Rattle.nr_reduce.specs.Chunks.{suits}
+use Rattle.nr_reduce.specs.ServerFrames.{frame_effect, call_of_number, is_stream_read, with_access}
+use Rattle.nr_reduce.specs.Chunks.{is_read_chunk_of_item}
 use Rattle.nr_reduce.specs.ServerMessages.Verdict.{BadChunks, OtherVersion}
 use Rattle.nr_reduce.specs.Server.{server_rules, server_end, server_state_after, initial_server, offer_of, answer_of_target, newly_open_reads, sends_from, requests_from}
 use Rattle.nr_reduce.specs.Events.Event.{FrameReceived}
@@ -79,7 +79,7 @@ pub record IsStreamRefused (k : ServerState) (f : Frame) (segment : Segment) (c 
   pub reads : k.reads ≡ read ∷ others
   pub call : call_of_number k read.number ≡ Some c
   pub stream : is_stream_read c read others ≡ true
-  pub unsuited : suits (chunk_bytes (with_reach k f segment) f.end c 0) c.lists.read ≡ false
+  pub unsuited : is_read_chunk_of_item (chunk_bytes (with_access k f segment) f.end c 0) c.lists.read ≡ false
 
 -- ERR_CHUNK is due for it, before the Read Requests of reads that are newly open; the call is no longer pending, and isn't ready.
 pub record IsRefusedCall (opened : Opened) (k : ServerState) (f : Frame) (c : PendingCall) : Type 0 where
@@ -279,8 +279,8 @@ abbrev pub OpenReadsAreFew : Type 0
 OpenReadsAreFew = (opened : Opened) (k : ServerState) (f : Frame) (segment : Segment) → is_hello f ≡ false → frame_segment f ≡ Ok segment →
     server_end opened k (FrameReceived f) ≡ None → OpensReads opened k f segment
 
--- A server never refuses the message of a plan whose form isn't given: the call is pending, with the plan's lists and stream, where
--- its xid wasn't and STags are left for its reads.
+-- The message of a plan whose form isn't given, of a payload that isn't empty, is judged by the STags that its reads need, where its
+-- xid isn't pending: its call is pending, with the plan's lists and stream, or the link ends because too few STags are left.
 abbrev pub PlanIsAccepted : Type 0
 PlanIsAccepted = (k : ServerState) (payload : List ℕ) (form : Form) (up down xid credit stag : ℕ) (p : Plan) → IsPlanned payload form up down xid credit stag p →
     0 < length payload → is_pending k xid ≡ false →

@@ -74,9 +74,10 @@ pub fn sends_are_answered()
     ensures open_reads { OpenReadsAreFew }
 {}
 
-/// The message of a plan whose form isn't given is never refused by a server: it makes its call pending, with the lists
-/// of the plan.
-pub fn plans_are_opened()
+/// The message of a plan whose form isn't given, of a payload that isn't empty, makes its call pending at a server to which
+/// its xid isn't pending, with the lists of the plan; or it ends the link, with reason 30, where too few STags are left for
+/// its reads.
+pub fn plans_are_accepted()
     ensures { PlanIsAccepted }
 {}
 
