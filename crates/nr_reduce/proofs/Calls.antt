@@ -370,9 +370,9 @@ keeps-refused k c s kept h =
     record {
       is = h.is;
       fits = (
-        let a = length-take 8 (first ++ rest) in let b = length-append first rest in let d = length-take s.kept s.reads in let e = length-take 8 s.reads in let g = h.fits in
-        omega (arith, a, b, d, e, g)
-      );
+          let a = length-take 8 (first ++ rest) in let b = length-append first rest in let d = length-take s.kept s.reads in let e = length-take 8 s.reads in let g = h.fits in
+          omega (arith, a, b, d, e, g)
+          );
     }
 
 keeps-read : (k : ServerState) (place : ℕ) (r : PendingRead) (o : Option PendingCall) (s : FrameEffect) (kept : ℕ) → Keeps s kept → Keeps (read_effect k place r o s) kept
@@ -389,9 +389,9 @@ keeps-response k place [] e = record {
 keeps-response k place (r ∷ reads) e = keeps-read k place r (call_of_number k r.number) _ (length (open_reads k) - 1) (record {
   is = refl;
   fits = (
-    let a = ap (λ (xs : List PendingRead). length (take 8 xs)) e in let b = length-take 8 (r ∷ reads) in let d = length-take 8 reads in
-    omega (arith, a, b, d)
-  );
+      let a = ap (λ (xs : List PendingRead). length (take 8 xs)) e in let b = length-take 8 (r ∷ reads) in let d = length-take 8 reads in
+      omega (arith, a, b, d)
+      );
 })
 
 abbrev kept_by : ServerState → Segment → ℕ

@@ -20,6 +20,7 @@ pub mod Sizes
 pub mod OwnStags
 pub mod StagsLeft
 pub mod ReadChunks
+pub mod BadMessages
 pub mod Readings
 pub mod AnswerMessages
 pub mod Submitting
