@@ -21,6 +21,7 @@ pub mod OwnStags
 pub mod StagsLeft
 pub mod ReadChunks
 pub mod BadMessages
+pub mod ReadyCalls
 pub mod Readings
 pub mod AnswerMessages
 pub mod Submitting

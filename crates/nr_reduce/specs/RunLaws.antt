@@ -45,10 +45,10 @@ use Rattle.nr_reduce.specs.ClientState.{ClientState}
 use Rattle.nr_reduce.specs.Client.{client_rules, client_end, calls_output, initial_client}
 use Rattle.nr_reduce.specs.ServerState.{ServerState, ReadyCall, PendingCall, PendingRead, is_pending, down_max}
 use Rattle.nr_reduce.specs.ServerReads.{open_reads}
-use Rattle.nr_reduce.specs.ServerMessages.{verdict, by_need, no_stream, call_xid, chunk_bytes}
+use Rattle.nr_reduce.specs.ServerMessages.{verdict, by_need, no_stream, call_xid, chunk_bytes, payload_of}
 use Rattle.nr_reduce.specs.ServerFrames.{frame_effect, call_of_number, is_stream_read, with_access}
 use Rattle.nr_reduce.specs.Chunks.{is_read_chunk_of_item}
-use Rattle.nr_reduce.specs.ServerMessages.Verdict.{BadChunks, OtherVersion}
+use Rattle.nr_reduce.specs.ServerMessages.Verdict.{BadChunks, OtherVersion, MakesPending}
 use Rattle.nr_reduce.specs.Server.{server_rules, server_end, server_state_after, initial_server, offer_of, answer_of_target, newly_open_reads, sends_from, requests_from}
 use Rattle.nr_reduce.specs.Events.Event.{FrameReceived}
 use Rattle.nr_reduce.specs.Run.{client, server, output_due, grants_of, placed_bytes}
@@ -88,6 +88,20 @@ OtherChunk lists (Some stream) = is_read_chunk_of_item stream lists.read ≡ fal
 abbrev pub HasOtherChunk : List ℕ → Result Header HeaderFault → Type 0
 HasOtherChunk message (Ok h) = OtherChunk (lists_by h.body) (known_stream message h.body)
 HasOtherChunk message (Err fault) = ⊥
+
+-- a call that was pending, or that the message of a segment makes pending
+abbrev pub IsCallOf : ServerState → Segment → PendingCall → Type 0
+IsCallOf k segment c =
+    ((number : ℕ) × (call_of_number k number ≡ Some c))
+    ⊎ ((message : List ℕ) × ((message_completed k.received segment ≡ Some message) × (verdict k message ≡ MakesPending c)))
+
+-- the payload of a ready call is conveyed by such a call and the server's memory, with the access of this frame's own segment
+pub record IsConveyed (k : ServerState) (f : Frame) (segment : Segment) (r : ReadyCall) : Type 0 where
+  pub call : PendingCall
+  pub own : IsCallOf k segment call
+  pub payload : payload_of (with_access k f segment) f.end call ≡ Some r.payload
+  pub number : r.number ≡ call.number
+  pub xid : r.xid ≡ call.xid
 
 -- The read of which a segment is the last one: the oldest, where it is the last segment of a Read Response.
 abbrev pub ends_response : Segment → Bool
@@ -271,6 +285,11 @@ HelloSendsCalls = (opened : Opened) (k : ClientState) (f : Frame) → is_hello f
 abbrev pub PayloadHasItsXid : Type 0
 PayloadHasItsXid = (opened : Opened) (link : ℕ) (run : List Mark) (xid : ℕ) (payload : List ℕ) → IsExecuted opened link run xid payload →
     (head : CallHead) × ((call_of payload ≡ Ok head) × (call_xid head ≡ xid))
+
+-- A call that a frame makes ready has the payload that is conveyed, as the frame is received, by the lists and the stream of a call
+-- that was pending or that the frame's message makes pending, and by the server's memory. It has that call's number and xid.
+abbrev pub ReadyIsConveyed : Type 0
+ReadyIsConveyed = (k : ServerState) (f : Frame) (segment : Segment) (r : ReadyCall) → frame_segment f ≡ Ok segment → (frame_effect k f).ready ≡ r ∷ [] → IsConveyed k f segment r
 
 -- It is answered by RDMA Writes and then one Send where the offer of the pending call of its xid holds the reply, else by ERR_CHUNK.
 abbrev pub ExecuteIsAnswered : Type 0

@@ -1,6 +1,6 @@
 //! Laws of runs: what both ends of a link cite, and what holds of every run.
 
-ghost use Rattle.nr_reduce.specs.RunLaws.{ClientAfterMark, ServerAfterMark, ClientOutputAfterMark, ServerOutputAfterMark, EndedClientStays, EndedServerStays, FullHoldsSoFar, SoFarHoldsBefore, AskedWithMark, ServedWithMark, ClientBegins, ServerBegins, EventsOfInput, ClientStandsOn, ServerStandsOn, ClientQueueIsDue, ServerQueueIsDue, GrantsHaveOwnStags, ClientAllows, ServerAllows, StagsAreNumbers, AcceptedKeepsLaw, SubmitIsSent, HelloSendsCalls, ReadChunkStays, PayloadHasItsXid, ExecuteIsAnswered, RefusedSendIsAnswered, BadMessageIsRefused, RefusedCallIsAnswered, OpenReadsAreFew, PlanIsAccepted, SendIsExecutedOnce, CallCompletesOnce, XidsRise, PlacesRise};
+ghost use Rattle.nr_reduce.specs.RunLaws.{ClientAfterMark, ServerAfterMark, ClientOutputAfterMark, ServerOutputAfterMark, EndedClientStays, EndedServerStays, FullHoldsSoFar, SoFarHoldsBefore, AskedWithMark, ServedWithMark, ClientBegins, ServerBegins, EventsOfInput, ClientStandsOn, ServerStandsOn, ClientQueueIsDue, ServerQueueIsDue, GrantsHaveOwnStags, ClientAllows, ServerAllows, StagsAreNumbers, AcceptedKeepsLaw, SubmitIsSent, HelloSendsCalls, ReadChunkStays, PayloadHasItsXid, ReadyIsConveyed, ExecuteIsAnswered, RefusedSendIsAnswered, BadMessageIsRefused, RefusedCallIsAnswered, OpenReadsAreFew, PlanIsAccepted, SendIsExecutedOnce, CallCompletesOnce, XidsRise, PlacesRise};
 
 /// One mark more: the state of an end, and the output due, are those before with the events of the mark.
 pub fn one_mark_more()
@@ -61,7 +61,8 @@ pub fn submits_are_sent()
     ensures chunk { ReadChunkStays }
 {}
 
-/// An executed call's payload begins with a call head of its xid. It is answered by RDMA Writes into what it offered and
+/// An executed call's payload begins with a call head of its xid. A call becomes ready with the payload that its lists, its
+/// stream and the server's memory convey at that frame. An executed call is answered by RDMA Writes into what it offered and
 /// then one Send, or by ERR_CHUNK where its offer doesn't hold the reply. A Send that is refused is answered by one error
 /// message, and makes no call pending or ready: by ERR_CHUNK exactly where its header is bad, or where its stream is there
 /// and its read chunk isn't its item's. A call whose stream is read and whose read chunk isn't its item's is
@@ -69,6 +70,7 @@ pub fn submits_are_sent()
 /// eight are.
 pub fn sends_are_answered()
     ensures head { PayloadHasItsXid }
+    ensures ready { ReadyIsConveyed }
     ensures executed_call { ExecuteIsAnswered }
     ensures refused_send { RefusedSendIsAnswered }
     ensures bad_message { BadMessageIsRefused }
