@@ -24,10 +24,10 @@ abbrev pub kind_of : ℕ → Kind
 kind_of opcode = if opcode == OPCODE_READ_RESPONSE then Response else Write
 
 -- the tagged segment of a frame as an access to memory, with the place at which the frame ends
-abbrev pub reach_of : Frame → Segment → List TaggedSegment
-reach_of f (Tagged last opcode stag to payload) =
+abbrev pub tagged_access : Frame → Segment → List TaggedSegment
+tagged_access f (Tagged last opcode stag to payload) =
     record { kind = kind_of opcode; stag = stag; to = to; payload = payload; end = f.end } ∷ []
-reach_of f (Untagged last opcode w queue msn offset payload) = []
+tagged_access f (Untagged last opcode w queue msn offset payload) = []
 
 -- the access of a segment to the memory of the side that receives it: a Write and a Read Response fill it, a Read Request reads it
 abbrev pub access_of : Segment → Option Access

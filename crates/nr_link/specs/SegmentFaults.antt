@@ -92,13 +92,13 @@ has_length test (Some message) = test (length message)
 abbrev pub terminate_fault : {D : Type 0} → ℕ → List ℕ → Option (SegmentFault D)
 terminate_fault opcode payload = if opcode == OPCODE_TERMINATE then Some (PeerTerminated (word_at 0 payload)) else None
 
--- the first fault that stands
+-- the first fault that applies
 abbrev pub first_fault : {X : Type 0} → List (Option X) → Option X
 first_fault [] = None
 first_fault (None ∷ others) = first_fault others
 first_fault (Some x ∷ others) = Some x
 
--- Why a segment ends the link: the first fault that stands, in this order. The reasons of a frame alone go before (nr_wire), and
+-- Why a segment ends the link: the first fault that applies, in this order. The reasons of a frame alone go before (nr_wire), and
 -- what an end makes of a whole message comes behind.
 unfoldable pub segment_fault : {D : Type 0} → Readiness D → Segment → Option (SegmentFault D)
 segment_fault r (Tagged last opcode stag to payload) = first_fault (

@@ -7,7 +7,7 @@ use nr_regions::Denied;
 pub enum End {
     /// The hello or FPDU at byte `at` of the stream is refused, for a reason of the link's table.
     Bad { at: u64, reason: u32 },
-    /// A tagged segment reaches memory that it may not reach.
+    /// An access to registered memory isn't allowed: a Write or Read Response into it, or a Read Request out of it.
     Denied { stag: u32, offset: u64, why: Denied },
     /// A Send found no receive buffer.
     NoBuffer { msn: u32 },

@@ -21,18 +21,18 @@ use Rattle.nr_header.specs.Reading.{header_of}
 use Rattle.nr_header.proofs.Messages.{header_written}
 use Rattle.nr_reduce.specs.Undone.{IsOffer, ReadsAsAnswer, offering}
 use Rattle.nr_reduce.specs.Plans.{segments_from, write_list, reply_chunk}
-use Rattle.nr_reduce.specs.Chunks.{filled}
+use Rattle.nr_reduce.specs.Chunks.{filled_chunk}
 use Rattle.nr_reduce.specs.declared.item.Of.TheVariants.{Reply}
-use Rattle.nr_reduce.specs.Holds.{Answer, Parts, parts_in, answer_size, answer_with, answer_for, fits_reply, emptied, written_chunks, no_segments, answer_lists, answer_body, answer_message}
+use Rattle.nr_reduce.specs.Holds.{Answer, Parts, parts_in, answer_size, answer_with, answer_for, fits_reply, empty_chunks, written_chunks, no_segments, answer_lists, answer_body, answer_message}
 use Rattle.nr_reduce.proofs.Asking.{all_one}
 use Rattle.nr_reduce.proofs.Answering.{Answered, answered}
 use Rattle.nr_reduce.proofs.Sizes.{chunk_size, reply_bytes, lists_len, msg_len, nomsg_len}
 
-length-filled : (chunk : List RdmaSegment) (n : ℕ) → length (filled chunk n) ≡ length chunk
+length-filled : (chunk : List RdmaSegment) (n : ℕ) → length (filled_chunk chunk n) ≡ length chunk
 length-filled [] n = refl
 length-filled (s ∷ chunk) n = ap (λ (k : ℕ). suc k) (length-filled chunk (n - min s.length n))
 
-segments_fit : (chunk : List RdmaSegment) (n : ℕ) (more others : List XdrItem) → AllFit (segments_items chunk more) → AllFit others → AllFit (segments_items (filled chunk n) others)
+segments_fit : (chunk : List RdmaSegment) (n : ℕ) (more others : List XdrItem) → AllFit (segments_items chunk more) → AllFit others → AllFit (segments_items (filled_chunk chunk n) others)
 segments_fit [] n more others h k = k
 segments_fit (s ∷ chunk) n more others h k = (h.0, (let l = h.1.0 in omega (arith, l), (h.1.1.0, segments_fit chunk (n - min s.length n) more others h.1.1.1 k)))
 
@@ -48,14 +48,14 @@ write_tail : (ws : ℕ) (w : Option (List ℕ)) (more : List XdrItem) → AllFit
 write_tail ws None more h = h.1
 write_tail ws (Some ns) more h = (segments_tail (segments_from ws 0 ns) _ h.1.1).1
 
-chunk_fit : (chunk : List RdmaSegment) (n : ℕ) (more others : List XdrItem) → length chunk < 2 ^ 32 → AllFit (segments_items chunk more) → AllFit others → AllFit (chunk_items (filled chunk n) others)
+chunk_fit : (chunk : List RdmaSegment) (n : ℕ) (more others : List XdrItem) → length chunk < 2 ^ 32 → AllFit (segments_items chunk more) → AllFit others → AllFit (chunk_items (filled_chunk chunk n) others)
 chunk_fit chunk n more others count h k = (let l = length-filled chunk n in omega (arith, l, count), segments_fit chunk n more others h k)
 
 written_fit : (ws : ℕ) (w : Option (List ℕ)) (n : ℕ) (more others : List XdrItem) → AllFit (write_items (write_list ws w) more) → AllFit others → AllFit (write_items (written_chunks (write_list ws w) n) others)
 written_fit ws None n more others h k = (tt, k)
 written_fit ws (Some ns) n more others h k = (tt, chunk_fit (segments_from ws 0 ns) n _ _ h.1.0 h.1.1 (tt, k))
 
-returned_fit : (rs : ℕ) (r : Option (List ℕ)) (b : Bool) (n : ℕ) → AllFit (reply_items (reply_chunk rs r) []) → AllFit (reply_items (cond b (Some (filled (no_segments (reply_chunk rs r)) n)) None) [])
+returned_fit : (rs : ℕ) (r : Option (List ℕ)) (b : Bool) (n : ℕ) → AllFit (reply_items (reply_chunk rs r) []) → AllFit (reply_items (cond b (Some (filled_chunk (no_segments (reply_chunk rs r)) n)) None) [])
 returned_fit rs r false n h = (tt, tt)
 returned_fit rs None true n h = (tt, (omega arith, tt))
 returned_fit rs (Some ns) true n h = (tt, chunk_fit (segments_from rs 0 ns) n _ _ h.1.0 h.1.1 tt)
@@ -67,11 +67,11 @@ lists_fit read ws rs w r a h =
 
 -- ---- Within the limits
 
-ends_by : (chunk : List RdmaSegment) (n : ℕ) → AllByRecursion (λ s. Ends s.offset s.length) chunk → AllByRecursion (λ s. Ends s.offset s.length) (filled chunk n)
+ends_by : (chunk : List RdmaSegment) (n : ℕ) → AllByRecursion (λ s. Ends s.offset s.length) chunk → AllByRecursion (λ s. Ends s.offset s.length) (filled_chunk chunk n)
 ends_by [] n h = tt
 ends_by (s ∷ chunk) n h = (let e = h.0 in omega (arith, e), ends_by chunk (n - min s.length n) h.1)
 
-filled_ends : (chunk : List RdmaSegment) (n : ℕ) → SegmentsEnd chunk → SegmentsEnd (filled chunk n)
+filled_ends : (chunk : List RdmaSegment) (n : ℕ) → SegmentsEnd chunk → SegmentsEnd (filled_chunk chunk n)
 filled_ends chunk n h = All-from_recursion _ _ (ends_by chunk n (recursion_from_All _ chunk h))
 
 first_of_one : {X : Type 0} (P : X → Type 0) (x : X) → All P (x ∷ []) → P x
@@ -95,12 +95,12 @@ written_within ws (Some ns) n h =
       ends = all_one SegmentsEnd _ (filled_ends chunk n (first_of_one SegmentsEnd chunk h.ends));
     }
 
-returned_count : (rs : ℕ) (r : Option (List ℕ)) (b : Bool) (n : ℕ) → IfSome (reply_chunk rs r) (λ chunk. length chunk ≤ 16) → IfSome (cond b (Some (filled (no_segments (reply_chunk rs r)) n)) None) (λ chunk. length chunk ≤ 16)
+returned_count : (rs : ℕ) (r : Option (List ℕ)) (b : Bool) (n : ℕ) → IfSome (reply_chunk rs r) (λ chunk. length chunk ≤ 16) → IfSome (cond b (Some (filled_chunk (no_segments (reply_chunk rs r)) n)) None) (λ chunk. length chunk ≤ 16)
 returned_count rs r false n h = tt
 returned_count rs None true n h = omega arith
 returned_count rs (Some ns) true n h = (let l = length-filled (segments_from rs 0 ns) n in omega (arith, l, h))
 
-returned_ends : (rs : ℕ) (r : Option (List ℕ)) (b : Bool) (n : ℕ) → IfSome (reply_chunk rs r) SegmentsEnd → IfSome (cond b (Some (filled (no_segments (reply_chunk rs r)) n)) None) SegmentsEnd
+returned_ends : (rs : ℕ) (r : Option (List ℕ)) (b : Bool) (n : ℕ) → IfSome (reply_chunk rs r) SegmentsEnd → IfSome (cond b (Some (filled_chunk (no_segments (reply_chunk rs r)) n)) None) SegmentsEnd
 returned_ends rs r false n h = tt
 returned_ends rs None true n h = All-nil _
 returned_ends rs (Some ns) true n h = filled_ends (segments_from rs 0 ns) n h
@@ -164,10 +164,10 @@ answer_again read ws rs w r down prog vers proc xid credit reply a bytes offer e
 
 -- ---- Its size
 
-emptied_total : (chunks : List (List RdmaSegment)) → sum_by chunk_size (emptied chunks) ≡ sum_by chunk_size chunks
+emptied_total : (chunks : List (List RdmaSegment)) → sum_by chunk_size (empty_chunks chunks) ≡ sum_by chunk_size chunks
 emptied_total [] = refl
 emptied_total (chunk ∷ chunks) =
-    let a = sum_by-cons chunk_size (filled chunk 0) (emptied chunks) in
+    let a = sum_by-cons chunk_size (filled_chunk chunk 0) (empty_chunks chunks) in
     let b = sum_by-cons chunk_size chunk chunks in
     let c = length-filled chunk 0 in
     let d = emptied_total chunks in
@@ -176,7 +176,7 @@ emptied_total (chunk ∷ chunks) =
 written_total : (chunks : List (List RdmaSegment)) (n : ℕ) → sum_by chunk_size (written_chunks chunks n) ≡ sum_by chunk_size chunks
 written_total [] n = refl
 written_total (chunk ∷ chunks) n =
-    let a = sum_by-cons chunk_size (filled chunk n) (emptied chunks) in
+    let a = sum_by-cons chunk_size (filled_chunk chunk n) (empty_chunks chunks) in
     let b = sum_by-cons chunk_size chunk chunks in
     let c = length-filled chunk n in
     let d = emptied_total chunks in
@@ -222,7 +222,7 @@ answer_length offer down prog vers proc xid credit reply a e = (
       let equal : length (message a.long) ≡ answer_size offer.write + length a.stream = omega (arith, h, b, c, d, f) in
       (equal, omega (arith, equal, short))),
   λ yes.
-      let chunk = filled (no_segments offer.reply) (length a.stream) in
+      let chunk = filled_chunk (no_segments offer.reply) (length a.stream) in
       let back : ChunkLists = record { read = []; write = written_chunks offer.write (length a.moved); reply = Some chunk } in
       let same : message a.long ≡ header_encoding (record { xid = xid; credit = credit; body = Nomsg back }) ++ [] = ap message yes in
       let h = ap (λ (xs : List ℕ). length xs) same in
@@ -239,6 +239,6 @@ answer_length offer down prog vers proc xid credit reply a e = (
         let back : ChunkLists = record {
           read = [];
           write = written_chunks offer.write (length a.moved);
-          reply = cond long (Some (filled (no_segments offer.reply) (length a.stream))) None;
+          reply = cond long (Some (filled_chunk (no_segments offer.reply) (length a.stream))) None;
         } in
         header_encoding (record { xid = xid; credit = credit; body = cond long (Nomsg back) (Msg back 0) }) ++ cond long [] a.stream

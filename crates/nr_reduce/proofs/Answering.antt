@@ -11,14 +11,14 @@ use Rattle.nr_header.specs.declared.header.ReadSegment.{ReadSegment}
 use Rattle.nr_header.specs.declared.header.ChunkLists.{ChunkLists}
 use Rattle.nr_regions.specs.RegisteredMemory.{bytes_after_write}
 use Rattle.nr_wire.specs.Segment.{Segment as WireSegment, encoding}
-use Rattle.nr_reduce.specs.Undone.{laid, chunk_segments, answer_segments, lengths, offering, Backs, after}
+use Rattle.nr_reduce.specs.Undone.{bytes_after_segments, chunk_segments, answer_segments, lengths, offering, RegionsHaveLengths, after}
 use Rattle.nr_reduce.specs.declared.item.Item.{Item}
 use Rattle.nr_reduce.specs.declared.item.Of.{Of}
 use Rattle.nr_reduce.specs.Items.{reducible_item, stream_of, moved_of}
 use Rattle.nr_reduce.specs.declared.item.Of.TheVariants.{Reply}
 use Rattle.nr_reduce.specs.Plans.{total, has_segment, segments_from, write_list, reply_chunk}
-use Rattle.nr_reduce.specs.Chunks.{Bytes, joined, chunk_total, filled, whole, some_bytes, reply_moved, reply_stream, reply_conveyed, are_empty, returns, returns_each, fills_first, returns_none, returns_stream, answers_offer}
-use Rattle.nr_reduce.specs.Holds.{Answer, Parts, parts_by, parts_in, answer_size, fits_reply, answer_with, answer_for, emptied, written_chunks, first_chunk, no_segments, writes_into, answer_writes, answer_lists}
+use Rattle.nr_reduce.specs.Chunks.{Bytes, joined_bytes, chunk_total, filled_chunk, whole, some_bytes, reply_moved, reply_stream, reply_conveyed, are_empty, returns, returns_each, fills_first, returns_none, returns_stream, answers_offer}
+use Rattle.nr_reduce.specs.Holds.{Answer, Parts, parts_by, parts_in, answer_size, fits_reply, answer_with, answer_for, empty_chunks, written_chunks, first_chunk, no_segments, writes_into, answer_writes, answer_lists}
 use Rattle.nr_reduce.proofs.Undone.{Reducible, reducible, moved-length, rebuilt}
 use Rattle.nr_reduce.proofs.Laid.{laid-append, laid-chunk, laid-other, chunk_spells, joined-filled, chunk-added, added_up, sum-added}
 
@@ -142,8 +142,8 @@ answered read ws rs w r down prog vers proc reply a fits e =
 front-written : (old bytes : List ℕ) → take (length bytes) (bytes_after_write old 0 bytes) ≡ bytes
 front-written old bytes = take_at bytes (drop (0 + length bytes) old) (length bytes) refl
 
-moved-left : (read : List ReadSegment) (ws rs : ℕ) (w r : Option (List ℕ)) (a : Answer) (initial : Bytes) → Backs initial ws rs w r → length a.moved ≤ added_up (lengths w)
-    → joined (after initial (offering read ws rs w r) a) (filled (segments_from ws 0 (lengths w)) (length a.moved)) ≡ a.moved
+moved-left : (read : List ReadSegment) (ws rs : ℕ) (w r : Option (List ℕ)) (a : Answer) (initial : Bytes) → RegionsHaveLengths initial ws rs w r → length a.moved ≤ added_up (lengths w)
+    → joined_bytes (after initial (offering read ws rs w r) a) (filled_chunk (segments_from ws 0 (lengths w)) (length a.moved)) ≡ a.moved
 moved-left read ws rs w r a initial backs room =
     joined-filled (after initial (offering read ws rs w r) a) ws 0 (lengths w) (length a.moved) room ∙ by_write w backs room
   where
@@ -151,12 +151,12 @@ moved-left read ws rs w r a initial backs room =
     none [] xs h = refl
     none (b ∷ bytes) xs h = absurd (omega (arith, h))
 
-    by_reply : (old : List ℕ) (r : Option (List ℕ)) (b : Bool) → ws ≢ rs → laid ws old (cond b (chunk_segments (no_segments (reply_chunk rs r)) a.stream) []) ≡ old
+    by_reply : (old : List ℕ) (r : Option (List ℕ)) (b : Bool) → ws ≢ rs → bytes_after_segments ws old (cond b (chunk_segments (no_segments (reply_chunk rs r)) a.stream) []) ≡ old
     by_reply old r false ne = refl
     by_reply old None true ne = refl
     by_reply old (Some ns) true ne = laid-other ws rs 0 ns a.stream old ne
 
-    by_write : (w : Option (List ℕ)) → Backs initial ws rs w r → length a.moved ≤ added_up (lengths w) → take (length a.moved) (after initial (offering read ws rs w r) a ws) ≡ a.moved
+    by_write : (w : Option (List ℕ)) → RegionsHaveLengths initial ws rs w r → length a.moved ≤ added_up (lengths w) → take (length a.moved) (after initial (offering read ws rs w r) a ws) ≡ a.moved
     by_write None backs room = none a.moved _ room
     by_write (Some []) backs room = none a.moved _ room
     by_write (Some (n ∷ ns)) backs room =
@@ -164,12 +164,12 @@ moved-left read ws rs w r a initial backs room =
         let added = sum-added (n ∷ ns) in
         ap (λ (xs : List ℕ). take (length a.moved) xs)
         (laid-append ws (initial ws) (chunk_segments (segments_from ws 0 (n ∷ ns)) a.moved) (cond a.long (chunk_segments (no_segments (reply_chunk rs r)) a.stream) [])
-        ∙ by_reply (laid ws (initial ws) (chunk_segments (segments_from ws 0 (n ∷ ns)) a.moved)) r a.long (backs.apart refl)
+        ∙ by_reply (bytes_after_segments ws (initial ws) (chunk_segments (segments_from ws 0 (n ∷ ns)) a.moved)) r a.long (backs.apart refl)
         ∙ laid-chunk ws 0 (n ∷ ns) a.moved (initial ws) room (omega (arith, sized, added)))
         ∙ front-written (initial ws) a.moved
 
-stream-left : (read : List ReadSegment) (ws rs : ℕ) (w r : Option (List ℕ)) (a : Answer) (initial : Bytes) → Backs initial ws rs w r → a.long ≡ true → fits_reply (reply_chunk rs r) (length a.stream) ≡ true
-    → joined (after initial (offering read ws rs w r) a) (filled (no_segments (reply_chunk rs r)) (length a.stream)) ≡ a.stream
+stream-left : (read : List ReadSegment) (ws rs : ℕ) (w r : Option (List ℕ)) (a : Answer) (initial : Bytes) → RegionsHaveLengths initial ws rs w r → a.long ≡ true → fits_reply (reply_chunk rs r) (length a.stream) ≡ true
+    → joined_bytes (after initial (offering read ws rs w r) a) (filled_chunk (no_segments (reply_chunk rs r)) (length a.stream)) ≡ a.stream
 stream-left read ws rs w None a initial backs long fits = absurd cc
 stream-left read ws rs w (Some ns) a initial backs long fits =
     let low = leb-true (length a.stream) (chunk_total (segments_from rs 0 ns)) fits in
@@ -180,12 +180,12 @@ stream-left read ws rs w (Some ns) a initial backs long fits =
     none [] xs h = refl
     none (b ∷ bytes) xs h = absurd (omega (arith, h))
 
-    by_write : (old : List ℕ) (w : Option (List ℕ)) → (has_segment w ≡ true → ws ≢ rs) → laid rs old (chunk_segments (first_chunk (write_list ws w)) a.moved) ≡ old
+    by_write : (old : List ℕ) (w : Option (List ℕ)) → (has_segment w ≡ true → ws ≢ rs) → bytes_after_segments rs old (chunk_segments (first_chunk (write_list ws w)) a.moved) ≡ old
     by_write old None ne = refl
     by_write old (Some []) ne = refl
     by_write old (Some (n ∷ ns)) ne = laid-other rs ws 0 (n ∷ ns) a.moved old (λ e. ne refl (sym e))
 
-    by_reply : (ns : List ℕ) → Backs initial ws rs w (Some ns) → length a.stream ≤ added_up ns → take (length a.stream) (after initial (offering read ws rs w (Some ns)) a rs) ≡ a.stream
+    by_reply : (ns : List ℕ) → RegionsHaveLengths initial ws rs w (Some ns) → length a.stream ≤ added_up ns → take (length a.stream) (after initial (offering read ws rs w (Some ns)) a rs) ≡ a.stream
     by_reply [] backs low = none a.stream _ low
     by_reply (n ∷ ns) backs low =
         let sized = backs.reply refl in
@@ -193,17 +193,17 @@ stream-left read ws rs w (Some ns) a initial backs long fits =
         let mine = chunk_segments (segments_from rs 0 (n ∷ ns)) a.stream in
         let first = chunk_segments (first_chunk (write_list ws w)) a.moved in
         ap (λ (xs : List ℕ). take (length a.stream) xs)
-        (ap (λ (b : Bool). laid rs (initial rs) (first ++ cond b mine [])) long
+        (ap (λ (b : Bool). bytes_after_segments rs (initial rs) (first ++ cond b mine [])) long
         ∙ laid-append rs (initial rs) first mine
-        ∙ ap (λ (xs : List ℕ). laid rs xs mine) (by_write (initial rs) w backs.apart)
+        ∙ ap (λ (xs : List ℕ). bytes_after_segments rs xs mine) (by_write (initial rs) w backs.apart)
         ∙ laid-chunk rs 0 (n ∷ ns) a.stream (initial rs) low (omega (arith, sized, added)))
         ∙ front-written (initial rs) a.stream
 
 -- An answer for an offer that holds the reply conveys it to the client, by the memory that its Writes leave.
-pub conveyed : (read : List ReadSegment) (ws rs : ℕ) (w r : Option (List ℕ)) (down prog vers proc : ℕ) (reply : List ℕ) (a : Answer) (initial : Bytes) → IsBytes reply → Backs initial ws rs w r
+pub conveyed : (read : List ReadSegment) (ws rs : ℕ) (w r : Option (List ℕ)) (down prog vers proc : ℕ) (reply : List ℕ) (a : Answer) (initial : Bytes) → IsBytes reply → RegionsHaveLengths initial ws rs w r
     → answer_for (offering read ws rs w r) down prog vers proc reply ≡ Some a
     → reply_conveyed prog vers proc (cond a.long None (Some a.stream)) (answer_lists (offering read ws rs w r) a) (after initial (offering read ws rs w r) a) ≡ Some reply
-unfolding reply_conveyed joined
+unfolding reply_conveyed joined_bytes
 conveyed read ws rs w r down prog vers proc reply a initial fits backs e =
     let made = answered read ws rs w r down prog vers proc reply a fits e in
     let memory = after initial (offering read ws rs w r) a in
@@ -213,11 +213,11 @@ conveyed read ws rs w r down prog vers proc reply a initial fits backs e =
     memory = after initial (offering read ws rs w r) a
 
     stream_is : (b : Bool) → a.long ≡ b → Answered (offering read ws rs w r) down prog vers proc w reply a
-        → reply_stream memory (cond b None (Some a.stream)) (cond b (Some (filled (no_segments (reply_chunk rs r)) (length a.stream))) None) ≡ a.stream
+        → reply_stream memory (cond b None (Some a.stream)) (cond b (Some (filled_chunk (no_segments (reply_chunk rs r)) (length a.stream))) None) ≡ a.stream
     stream_is false long made = refl
     stream_is true long made = stream-left read ws rs w r a initial backs long (made.long long)
 
-    chunks_are : (w : Option (List ℕ)) (m : Bytes) (n : ℕ) → reply_moved m (written_chunks (write_list ws w) n) ≡ some_bytes (joined m (filled (segments_from ws 0 (lengths w)) n))
+    chunks_are : (w : Option (List ℕ)) (m : Bytes) (n : ℕ) → reply_moved m (written_chunks (write_list ws w) n) ≡ some_bytes (joined_bytes m (filled_chunk (segments_from ws 0 (lengths w)) n))
     chunks_are None m n = refl
     chunks_are (Some ns) m n = refl
 
@@ -226,13 +226,13 @@ conveyed read ws rs w r down prog vers proc reply a initial fits backs e =
 
 -- ---- The lists that come back are those that were offered
 
-filled-empty : (chunk : List RdmaSegment) (n : ℕ) → n ≡ 0 → are_empty (filled chunk n) ≡ true
+filled-empty : (chunk : List RdmaSegment) (n : ℕ) → n ≡ 0 → are_empty (filled_chunk chunk n) ≡ true
 filled-empty [] n e = refl
 filled-empty (s ∷ chunk) n e =
     let none : min s.length n ≡ 0 = omega (arith, e) in
     (λ k. eq-eqb (min s.length n) 0 none k && filled-empty chunk (n - min s.length n) (omega (arith, e)) k)
 
-filled-returns : (chunk : List RdmaSegment) (n : ℕ) → returns chunk (filled chunk n) ≡ true
+filled-returns : (chunk : List RdmaSegment) (n : ℕ) → returns chunk (filled_chunk chunk n) ≡ true
 filled-returns [] n = refl
 filled-returns (s ∷ chunk) n =
     let others = filled-returns chunk (n - min s.length n) in
@@ -242,10 +242,10 @@ filled-returns (s ∷ chunk) n =
     or_true true b e = refl
     or_true false b e = e
 
-    full : (eqb (min s.length n) s.length || are_empty (filled chunk (n - min s.length n))) ≡ true
+    full : (eqb (min s.length n) s.length || are_empty (filled_chunk chunk (n - min s.length n))) ≡ true
     full = elim (cases_lt n s.length) [
       | inl lt ↦ or_true (eqb (min s.length n) s.length) _ (filled-empty chunk (n - min s.length n) (omega (arith, lt)))
-      | inr le ↦ ap (λ (b : Bool). b || are_empty (filled chunk (n - min s.length n))) (eq-eqb (min s.length n) s.length (omega (arith, le)))
+      | inr le ↦ ap (λ (b : Bool). b || are_empty (filled_chunk chunk (n - min s.length n))) (eq-eqb (min s.length n) s.length (omega (arith, le)))
     ]
 
 pub suits_offer : (read : List ReadSegment) (ws rs : ℕ) (w r : Option (List ℕ)) (down prog vers proc : ℕ) (reply : List ℕ) (a : Answer) → Answered (offering read ws rs w r) down prog vers proc w reply a
@@ -263,7 +263,7 @@ suits_offer read ws rs w r down prog vers proc reply a made =
     first (Some ns) = refl
 
     by_reply : (b : Bool) (r : Option (List ℕ)) → a.long ≡ b → (a.long ≡ true → fits_reply (reply_chunk rs r) (length a.stream) ≡ true)
-        → cond b (returns_stream (reply_chunk rs r) (cond b (Some (filled (no_segments (reply_chunk rs r)) (length a.stream))) None)) (returns_none (reply_chunk rs r) (cond b (Some (filled (no_segments (reply_chunk rs r)) (length a.stream))) None)) ≡ true
+        → cond b (returns_stream (reply_chunk rs r) (cond b (Some (filled_chunk (no_segments (reply_chunk rs r)) (length a.stream))) None)) (returns_none (reply_chunk rs r) (cond b (Some (filled_chunk (no_segments (reply_chunk rs r)) (length a.stream))) None)) ≡ true
     by_reply false r is h = refl
     by_reply true None is h = absurd (let wrong = h is in cc)
     by_reply true (Some ns) is h = filled-returns (segments_from rs 0 ns) (length a.stream)

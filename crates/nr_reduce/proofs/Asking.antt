@@ -17,7 +17,7 @@ use Rattle.nr_header.specs.Header.{read_items, write_items, reply_items, lists_i
 use Rattle.nr_header.specs.WithinLimits.{SegmentsEnd, OnePosition, ListsWithin, CanRead, body_again, header_again, read_total, Ends}
 use Rattle.nr_header.specs.Reading.{header_of}
 use Rattle.nr_header.proofs.Messages.{header_written}
-use Rattle.nr_reduce.specs.Undone.{IsOwn, inline_by, lists_by, Brings, Asks}
+use Rattle.nr_reduce.specs.Undone.{IsNotGiven, inline_by, lists_by, ChunkHolds, MessageConveys}
 use Rattle.nr_reduce.specs.declared.call.Form.{Form}
 use Rattle.nr_reduce.specs.declared.item.Item.{Item}
 use Rattle.nr_reduce.specs.declared.item.Of.{Of}
@@ -218,7 +218,7 @@ head_fits xid credit Long ls x c k = (x, (omega arith, (c, (omega arith, k))))
 -- ---- The law
 
 conveys-way : (payload : List ℕ) (way : Way) (stag : ℕ) (head : List ℕ) (ls : ChunkLists) (chunk : ℕ → List ℕ) (w r : Offering) → IsBytes payload → IsWay payload way
-    → Brings chunk (shape payload way (offered w) (offered r))
+    → ChunkHolds chunk (shape payload way (offered w) (offered r))
     → call_conveyed (inline_by (head ++ stream_in payload way) (body_again (body_of way ls) (length head))) (entries payload way stag) chunk ≡ Some payload
 unfolding call_conveyed item_position
 conveys-way payload Inline stag head ls chunk w r fits is brings = ap Some (drop_at head payload (length head) refl)
@@ -254,7 +254,7 @@ reads-shape payload way w r xid credit stag fits is size small_w small_r fits_x 
 
 asks-shape : (payload : List ℕ) (way : Way) (w r : Offering) (xid credit stag : ℕ) → IsBytes payload → IsWay payload way → length payload ≤ PAYLOAD_MAX → IsSmall w → IsSmall r → xid < 2 ^ 32 → credit < 2 ^ 32
     → stag + regions_needed (shape payload way (offered w) (offered r)) ≤ 2 ^ 32
-    → Asks payload (shape payload way (offered w) (offered r)) xid credit stag (call_message xid credit stag (shape payload way (offered w) (offered r)))
+    → MessageConveys payload (shape payload way (offered w) (offered r)) xid credit stag (call_message xid credit stag (shape payload way (offered w) (offered r)))
 unfolding call_message
 asks-shape payload way w r xid credit stag fits is size small_w small_r fits_x fits_c room =
     let p : Plan = shape payload way (offered w) (offered r) in
@@ -266,7 +266,7 @@ asks-shape payload way w r xid credit stag fits is size small_w small_r fits_x f
     let message_same : call_message xid credit stag p ≡ header_encoding h ++ stream_in payload way =
     (λ k. header_encoding (record { xid = xid; credit = credit; body = body_same k }) ++ inline-shape payload way w r k) in
     let read = header_written h (stream_in payload way) (head_fits xid credit way ls fits_x fits_c (lists_fit payload way w r stag fits is size small_w small_r room2)) (can_read payload way w r stag fits is size small_w small_r) in
-    subst (λ (m : List ℕ). Asks payload p xid credit stag m) (sym message_same) (record {
+    subst (λ (m : List ℕ). MessageConveys payload p xid credit stag m) (sym message_same) (record {
       body = body_again (body_of way ls) (length (header_encoding h));
       reads = read;
       lists = lists-again way ls (length (header_encoding h)) ∙ sym (lists-shape payload way w r stag);
@@ -286,16 +286,16 @@ asks-shape payload way w r xid credit stag fits is size small_w small_r fits_x f
     lists-again Long ls n = refl
 
 -- The message of a plan whose form isn't given reads back as its header and its stream, and conveys its payload by its chunks.
-pub asks : (payload : List ℕ) (form : Form) (up down xid credit stag : ℕ) (p : Plan) → IsBytes payload → IsOwn form → plan_of payload form up down ≡ Ok p → xid < 2 ^ 32 → credit < 2 ^ 32
-    → stag + regions_needed p ≤ 2 ^ 32 → Asks payload p xid credit stag (call_message xid credit stag p)
+pub asks : (payload : List ℕ) (form : Form) (up down xid credit stag : ℕ) (p : Plan) → IsBytes payload → IsNotGiven form → plan_of payload form up down ≡ Ok p → xid < 2 ^ 32 → credit < 2 ^ 32
+    → stag + regions_needed p ≤ 2 ^ 32 → MessageConveys payload p xid credit stag (call_message xid credit stag p)
 asks payload form up down xid credit stag p fits own e fits_x fits_c room =
     let is = is_plan payload form up down p own e in
     let s = is.shaped in
-    let law = λ (q : Plan). stag + regions_needed q ≤ 2 ^ 32 → Asks payload q xid credit stag (call_message xid credit stag q) in
+    let law = λ (q : Plan). stag + regions_needed q ≤ 2 ^ 32 → MessageConveys payload q xid credit stag (call_message xid credit stag q) in
     subst law (sym s.is) (λ room. asks-shape payload s.way s.write s.reply xid credit stag fits s.is_way is.payload_fits s.write_small s.reply_small fits_x fits_c room) room
 
 brings-way : (payload : List ℕ) (memory : Bytes) (stag : ℕ) (way : Way) (w r : Offering) → IsWay payload way → memory (read_stag stag (shape payload way (offered w) (offered r))) ≡ (shape payload way (offered w) (offered r)).region
-    → Brings (read_bytes memory (lists_of stag (shape payload way (offered w) (offered r))).read) (shape payload way (offered w) (offered r))
+    → ChunkHolds (read_bytes memory (lists_of stag (shape payload way (offered w) (offered r))).read) (shape payload way (offered w) (offered r))
 unfolding lists_of read_bytes
 brings-way payload memory stag Inline w r is holds = tt
 brings-way payload memory stag (Reduced i) w r is holds =
@@ -309,10 +309,10 @@ brings-way payload memory stag Long w r is holds =
     ∙ take_all (length payload) payload (omega arith)
 
 -- The same by its own memory: where the STag of its read chunk holds its region.
-pub asks_from : (payload : List ℕ) (form : Form) (up down stag : ℕ) (p : Plan) (memory : Bytes) → IsBytes payload → IsOwn form → plan_of payload form up down ≡ Ok p → memory (read_stag stag p) ≡ p.region
-    → Brings (read_bytes memory (lists_of stag p).read) p
+pub asks_from : (payload : List ℕ) (form : Form) (up down stag : ℕ) (p : Plan) (memory : Bytes) → IsBytes payload → IsNotGiven form → plan_of payload form up down ≡ Ok p → memory (read_stag stag p) ≡ p.region
+    → ChunkHolds (read_bytes memory (lists_of stag p).read) p
 asks_from payload form up down stag p memory fits own e holds =
     let is = is_plan payload form up down p own e in
     let s = is.shaped in
-    let law = λ (q : Plan). memory (read_stag stag q) ≡ q.region → Brings (read_bytes memory (lists_of stag q).read) q in
+    let law = λ (q : Plan). memory (read_stag stag q) ≡ q.region → ChunkHolds (read_bytes memory (lists_of stag q).read) q in
     subst law (sym s.is) (λ holds. brings-way payload memory stag s.way s.write s.reply s.is_way holds) holds

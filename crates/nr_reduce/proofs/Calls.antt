@@ -29,7 +29,7 @@ use Rattle.nr_reduce.specs.Events.Event.{FrameReceived, CallSubmitted, MemoryRev
 use Rattle.nr_reduce.specs.EndRules.{EndState, next_end_state, next_end_state_by, next_end_state_in, end_state_after, output_for, output_for_by, output_for_all, output_for_in, live}
 use Rattle.nr_reduce.specs.declared.outline.Plan.{Plan}
 use Rattle.nr_reduce.specs.Plans.{TooLarge, call_message}
-use Rattle.nr_reduce.specs.Chunks.{suits}
+use Rattle.nr_reduce.specs.Chunks.{is_read_chunk_of_item}
 use Rattle.nr_reduce.specs.Holds.{Answer, answer_writes, answer_message, chunk_error, version_error}
 use Rattle.nr_reduce.specs.ClientState.{ClientState, call_payload, plan_for}
 use Rattle.nr_reduce.specs.Client.{client_rules, client_end, client_output, client_state_after, with_segment, plan_or, outstanding_of, call_output, calls_output, response_output, segment_request}
@@ -38,7 +38,7 @@ use Rattle.nr_reduce.specs.ServerReads.{open_reads, is_read, regions_of, reads_o
 use Rattle.nr_reduce.specs.ServerMessages.{Verdict, CallVerdict, verdict, by_payload, by_head, payload_of, call_xid, chunk_bytes}
 use Rattle.nr_reduce.specs.ServerMessages.Verdict.{EndsLink, OtherVersion, BadChunks, MakesPending}
 use Rattle.nr_reduce.specs.ServerMessages.CallVerdict.{Refuses, IsReady}
-use Rattle.nr_reduce.specs.ServerFrames.{FrameEffect, no_effect, with_verdict, ready_if_whole, with_pending_call, message_effect, with_refused_call, is_stream_read, read_effect, call_of_number, response_effect, tagged_effect, by_message, with_reach, effect_by, effect_in, frame_effect}
+use Rattle.nr_reduce.specs.ServerFrames.{FrameEffect, no_effect, with_verdict, ready_if_whole, with_pending_call, message_effect, with_refused_call, is_stream_read, read_effect, call_of_number, response_effect, tagged_effect, by_message, with_access, effect_by, effect_in, frame_effect}
 use Rattle.nr_reduce.specs.Server.{server_rules, server_end, server_output, server_state_after, initial_server, offer_of, answer_of_target, answer_output, execution_output, effect_output, newly_open_reads, sends_from, requests_from, with_effect}
 use Rattle.nr_reduce.specs.Run.{client, server, output_due}
 use Rattle.nr_reduce.specs.Asked.{IsAccepted}
@@ -187,7 +187,7 @@ message-heads k place message (MakesPending c) = whole-heads k place c _ tt
 read-heads : (k : ServerState) (place : ℕ) (r : PendingRead) (o : Option PendingCall) (s : FrameEffect) → AreHeads s.ready → AreHeads (read_effect k place r o s).ready
 read-heads k place r None s h = h
 read-heads k place r (Some c) s h =
-    heads-if (is_stream_read c r s.reads && not (suits (chunk_bytes k place c 0) c.lists.read)) (with_refused_call k c s) (ready_if_whole k place c s) h (whole-heads k place c s h)
+    heads-if (is_stream_read c r s.reads && not (is_read_chunk_of_item (chunk_bytes k place c 0) c.lists.read)) (with_refused_call k c s) (ready_if_whole k place c s) h (whole-heads k place c s h)
 
 response-heads : (k : ServerState) (place : ℕ) (reads : List PendingRead) → AreHeads (response_effect k place reads).ready
 response-heads k place [] = tt
@@ -202,7 +202,7 @@ by_message-heads k place (Some message) = message-heads k place message (verdict
 
 effect-heads : (k : ServerState) (f : Frame) (r : Result Segment ℕ) → AreHeads (effect_in k f r).ready
 effect-heads k f (Err reason) = tt
-effect-heads k f (Ok (Tagged last opcode stag to payload)) = tagged-heads (with_reach k f (Tagged last opcode stag to payload)) f.end opcode last
+effect-heads k f (Ok (Tagged last opcode stag to payload)) = tagged-heads (with_access k f (Tagged last opcode stag to payload)) f.end opcode last
 effect-heads k f (Ok (Untagged last opcode w queue msn offset payload)) = by_message-heads k f.end (message_completed k.received (Untagged last opcode w queue msn offset payload))
 
 frame-heads : (k : ServerState) (f : Frame) → AreHeads (frame_effect k f).ready
@@ -294,23 +294,23 @@ refused-answered opened k f segment message later is whole none = (
 
 -- ---- A refused call
 
-tagged-effect-is : (k : ServerState) (f : Frame) (segment : Segment) → frame_segment f ≡ Ok segment → ends_response segment ≡ true → frame_effect k f ≡ response_effect (with_reach k f segment) f.end k.reads
+tagged-effect-is : (k : ServerState) (f : Frame) (segment : Segment) → frame_segment f ≡ Ok segment → ends_response segment ≡ true → frame_effect k f ≡ response_effect (with_access k f segment) f.end k.reads
 unfolding frame_effect
 tagged-effect-is k f (Tagged last opcode stag to payload) is e =
-    let t : ServerState = with_reach k f (Tagged last opcode stag to payload) in
+    let t : ServerState = with_access k f (Tagged last opcode stag to payload) in
     ap (λ (r : Result Segment ℕ). effect_in k f r) is
     ∙ ap (λ (b : Bool). cond b (response_effect t f.end k.reads) (no_effect t)) e
 tagged-effect-is k f (Untagged last opcode w queue msn offset payload) is e = absurd cc
 
 refused-call-effect : (k : ServerState) (f : Frame) (segment : Segment) (c : PendingCall) → frame_segment f ≡ Ok segment → (h : IsStreamRefused k f segment c) →
-    frame_effect k f ≡ with_refused_call (with_reach k f segment) c (record (no_effect (with_reach k f segment)) { reads = h.others; kept = length (open_reads k) - 1 })
+    frame_effect k f ≡ with_refused_call (with_access k f segment) c (record (no_effect (with_access k f segment)) { reads = h.others; kept = length (open_reads k) - 1 })
 refused-call-effect k f segment c is h =
-    let t : ServerState = with_reach k f segment in
+    let t : ServerState = with_access k f segment in
     let s : FrameEffect = record (no_effect t) { reads = h.others; kept = length (open_reads k) - 1 } in
     tagged-effect-is k f segment is h.is_last
     ∙ ap (λ (reads : List PendingRead). response_effect t f.end reads) h.reads
     ∙ ap (λ (o : Option PendingCall). read_effect t f.end h.read o s) h.call
-    ∙ ap (λ (b : Bool). cond (b && not (suits (chunk_bytes t f.end c 0) c.lists.read)) (with_refused_call t c s) (ready_if_whole t f.end c s)) h.stream
+    ∙ ap (λ (b : Bool). cond (b && not (is_read_chunk_of_item (chunk_bytes t f.end c 0) c.lists.read)) (with_refused_call t c s) (ready_if_whole t f.end c s)) h.stream
     ∙ ap (λ (b : Bool). cond (not b) (with_refused_call t c s) (ready_if_whole t f.end c s)) h.unsuited
 
 pub refused-call : (opened : Opened) (k : ServerState) (f : Frame) (segment : Segment) (c : PendingCall) → is_hello f ≡ false → frame_segment f ≡ Ok segment →
@@ -370,15 +370,15 @@ keeps-refused k c s kept h =
     record {
       is = h.is;
       fits = (
-        let a = length-take 8 (first ++ rest) in let b = length-append first rest in let d = length-take s.kept s.reads in let e = length-take 8 s.reads in let g = h.fits in
-        omega (arith, a, b, d, e, g)
-      );
+          let a = length-take 8 (first ++ rest) in let b = length-append first rest in let d = length-take s.kept s.reads in let e = length-take 8 s.reads in let g = h.fits in
+          omega (arith, a, b, d, e, g)
+          );
     }
 
 keeps-read : (k : ServerState) (place : ℕ) (r : PendingRead) (o : Option PendingCall) (s : FrameEffect) (kept : ℕ) → Keeps s kept → Keeps (read_effect k place r o s) kept
 keeps-read k place r None s kept h = h
 keeps-read k place r (Some c) s kept h =
-    keeps-if (is_stream_read c r s.reads && not (suits (chunk_bytes k place c 0) c.lists.read)) (with_refused_call k c s) (ready_if_whole k place c s) kept
+    keeps-if (is_stream_read c r s.reads && not (is_read_chunk_of_item (chunk_bytes k place c 0) c.lists.read)) (with_refused_call k c s) (ready_if_whole k place c s) kept
     (keeps-refused k c s kept h) (keeps-whole k place c s kept h)
 
 keeps-response : (k : ServerState) (place : ℕ) (reads : List PendingRead) → reads ≡ k.reads → Keeps (response_effect k place reads) (length (open_reads k) - 1)
@@ -389,9 +389,9 @@ keeps-response k place [] e = record {
 keeps-response k place (r ∷ reads) e = keeps-read k place r (call_of_number k r.number) _ (length (open_reads k) - 1) (record {
   is = refl;
   fits = (
-    let a = ap (λ (xs : List PendingRead). length (take 8 xs)) e in let b = length-take 8 (r ∷ reads) in let d = length-take 8 reads in
-    omega (arith, a, b, d)
-  );
+      let a = ap (λ (xs : List PendingRead). length (take 8 xs)) e in let b = length-take 8 (r ∷ reads) in let d = length-take 8 reads in
+      omega (arith, a, b, d)
+      );
 })
 
 abbrev kept_by : ServerState → Segment → ℕ
@@ -401,7 +401,7 @@ keeps-by : (k : ServerState) (f : Frame) (segment : Segment) → Keeps (effect_b
 keeps-by k f (Tagged last opcode stag to payload) = by (eqb opcode 2 && last)
   where
     t : ServerState
-    t = with_reach k f (Tagged last opcode stag to payload)
+    t = with_access k f (Tagged last opcode stag to payload)
 
     by : (b : Bool) → Keeps (cond b (response_effect t f.end k.reads) (no_effect t)) (cond b (length (open_reads k) - 1) (length (open_reads k)))
     by true = keeps-response t f.end k.reads refl

@@ -10,10 +10,10 @@ use Rattle.nr_regions.specs.RegisteredMemory.{bytes_after_write}
 use Rattle.nr_wire.specs.Constants.{OPCODE_WRITE}
 use Rattle.nr_wire.specs.Segment.{Segment as WireSegment, encoding}
 use Rattle.nr_wire.specs.Segment.Segment.{Tagged, Untagged}
-use Rattle.nr_reduce.specs.Undone.{laid, one_write, write_segments, chunk_segments}
+use Rattle.nr_reduce.specs.Undone.{bytes_after_segments, one_write, write_segments, chunk_segments}
 use Rattle.nr_link.specs.Limits.{segment_max}
 use Rattle.nr_reduce.specs.Plans.{segments_from}
-use Rattle.nr_reduce.specs.Chunks.{Bytes, segment_bytes, joined, chunk_total, filled}
+use Rattle.nr_reduce.specs.Chunks.{Bytes, segment_bytes, joined_bytes, chunk_total, filled_chunk}
 use Rattle.nr_link.specs.Output.{segment_count, segment_payload, cut, write}
 use Rattle.nr_reduce.specs.Holds.{writes_into}
 
@@ -57,7 +57,7 @@ written-length old xs at fits =
 
 -- ---- Segments
 
-pub laid-append : (stag : ℕ) (bytes : List ℕ) (xs ys : List WireSegment) → laid stag bytes (xs ++ ys) ≡ laid stag (laid stag bytes xs) ys
+pub laid-append : (stag : ℕ) (bytes : List ℕ) (xs ys : List WireSegment) → bytes_after_segments stag bytes (xs ++ ys) ≡ bytes_after_segments stag (bytes_after_segments stag bytes xs) ys
 laid-append stag bytes [] ys = refl
 laid-append stag bytes (Tagged last opcode s to payload ∷ xs) ys = laid-append stag (cond (eqb s stag) (bytes_after_write bytes to payload) bytes) xs ys
 laid-append stag bytes (Untagged last opcode w queue msn offset payload ∷ xs) ys = laid-append stag bytes xs ys
@@ -77,28 +77,28 @@ all_pieces : (n : ℕ) → n ≤ 4096 * max 1 ((n + 4095) / 4096)
 all_pieces n = omega arith
 
 laid-segment_count : (stag to : ℕ) (bytes old : List ℕ) (k i : ℕ) → to + length bytes ≤ length old → i + k ≡ segment_count bytes →
-    laid stag (bytes_after_write old to (take (segment_max * i) bytes)) (map (one_write stag to bytes) (range_with_len i k)) ≡ bytes_after_write old to bytes
+    bytes_after_segments stag (bytes_after_write old to (take (segment_max * i) bytes)) (map (one_write stag to bytes) (range_with_len i k)) ≡ bytes_after_write old to bytes
 laid-segment_count stag to bytes old zero i fits all =
     ap (λ (xs : List ℕ). bytes_after_write old to xs) (take_all (4096 * i) bytes (let h = all_pieces (length bytes) in omega (arith, h, all)))
 laid-segment_count stag to bytes old (suc k) i fits all =
     let low : 4096 * i ≤ length bytes = low_piece i (length bytes) (omega (arith, all)) in
     let len : length (take (4096 * i) bytes) ≡ 4096 * i = length-take-le (4096 * i) bytes low in
-    ap (λ (b : Bool). laid stag (cond b (bytes_after_write (bytes_after_write old to (take (4096 * i) bytes)) (to + 4096 * i) (segment_payload bytes i)) (bytes_after_write old to (take (4096 * i) bytes))) (map (one_write stag to bytes) (range_with_len (i + 1) k))) (eq-eqb stag stag refl)
-    ∙ ap (λ (xs : List ℕ). laid stag xs (map (one_write stag to bytes) (range_with_len (i + 1) k)))
+    ap (λ (b : Bool). bytes_after_segments stag (cond b (bytes_after_write (bytes_after_write old to (take (4096 * i) bytes)) (to + 4096 * i) (segment_payload bytes i)) (bytes_after_write old to (take (4096 * i) bytes))) (map (one_write stag to bytes) (range_with_len (i + 1) k))) (eq-eqb stag stag refl)
+    ∙ ap (λ (xs : List ℕ). bytes_after_segments stag xs (map (one_write stag to bytes) (range_with_len (i + 1) k)))
     (ap (λ (n : ℕ). bytes_after_write (bytes_after_write old to (take (4096 * i) bytes)) (to + n) (segment_payload bytes i)) (sym len)
     ∙ written-more old (take (4096 * i) bytes) (segment_payload bytes i) to (omega (arith, len, low, fits))
     ∙ ap (λ (xs : List ℕ). bytes_after_write old to xs) (take-split (4096 * i) 4096 bytes ∙ ap (λ (n : ℕ). take n bytes) (let s : 4096 * i + 4096 ≡ 4096 * (i + 1) = omega arith in s)))
     ∙ laid-segment_count stag to bytes old k (i + 1) fits (omega (arith, all))
 
-pub laid-write : (stag to : ℕ) (bytes old : List ℕ) → to + length bytes ≤ length old → laid stag old (write_segments stag to bytes) ≡ bytes_after_write old to bytes
+pub laid-write : (stag to : ℕ) (bytes old : List ℕ) → to + length bytes ≤ length old → bytes_after_segments stag old (write_segments stag to bytes) ≡ bytes_after_write old to bytes
 laid-write stag to bytes old fits =
-    ap (λ (xs : List ℕ). laid stag xs (write_segments stag to bytes)) (sym (written-none old to))
+    ap (λ (xs : List ℕ). bytes_after_segments stag xs (write_segments stag to bytes)) (sym (written-none old to))
     ∙ laid-segment_count stag to bytes old (segment_count bytes) 0 fits (omega arith)
 
-laid-others : (stag other to : ℕ) (bytes old : List ℕ) (is : List ℕ) → stag ≢ other → laid stag old (map (one_write other to bytes) is) ≡ old
+laid-others : (stag other to : ℕ) (bytes old : List ℕ) (is : List ℕ) → stag ≢ other → bytes_after_segments stag old (map (one_write other to bytes) is) ≡ old
 laid-others stag other to bytes old [] ne = refl
 laid-others stag other to bytes old (i ∷ is) ne =
-    ap (λ (b : Bool). laid stag (cond b (bytes_after_write old (to + segment_max * i) (segment_payload bytes i)) old) (map (one_write other to bytes) is)) (ne_eqb other stag (λ e. ne (sym e)))
+    ap (λ (b : Bool). bytes_after_segments stag (cond b (bytes_after_write old (to + segment_max * i) (segment_payload bytes i)) old) (map (one_write other to bytes) is)) (ne_eqb other stag (λ e. ne (sym e)))
     ∙ laid-others stag other to bytes old is ne
 
 -- ---- A chunk whose segments lie one behind another
@@ -119,8 +119,8 @@ chunk-added stag at (n ∷ ns) =
     ∙ ap (λ (k : ℕ). n + k) (chunk-added stag (at + n) ns)
 
 -- so many bytes are read out of it again
-pub joined-filled : (memory : Bytes) (stag at : ℕ) (ns : List ℕ) (n : ℕ) → n ≤ added_up ns → joined memory (filled (segments_from stag at ns) n) ≡ take n (drop at (memory stag))
-unfolding joined
+pub joined-filled : (memory : Bytes) (stag at : ℕ) (ns : List ℕ) (n : ℕ) → n ≤ added_up ns → joined_bytes memory (filled_chunk (segments_from stag at ns) n) ≡ take n (drop at (memory stag))
+unfolding joined_bytes
 joined-filled memory stag at [] n h = ap (λ (k : ℕ). take k (drop at (memory stag))) (let s : 0 ≡ n = omega (arith, h) in s)
 joined-filled memory stag at (m ∷ ms) n h =
     let d = drop at (memory stag) in
@@ -154,7 +154,7 @@ none_left (suc n) (b ∷ bytes) e = absurd (omega (arith, e))
 
 -- one more write of a chunk, or none
 laid-one : (stag at n : ℕ) (ns bytes old : List ℕ) (z : Bool) → eqb (min n (length bytes)) 0 ≡ z → at + length bytes ≤ length old
-    → laid stag old (cond z [] (write_segments stag at (take n bytes))) ≡ bytes_after_write old at (take n bytes)
+    → bytes_after_segments stag old (cond z [] (write_segments stag at (take n bytes))) ≡ bytes_after_write old at (take n bytes)
 laid-one stag at n ns bytes old true e fits =
     sym (written-none old at) ∙ ap (λ (xs : List ℕ). bytes_after_write old at xs) (sym (nothing (none_left n bytes (eqb-true (min n (length bytes)) 0 e))))
   where
@@ -177,7 +177,7 @@ rest_at n at bytes old fits = elim (cases_lt n (length bytes)) [
       ∙ ap (λ (xs : List ℕ). bytes_after_write old at xs) (take_all n bytes le)
 ]
 
-pub laid-chunk : (stag at : ℕ) (ns bytes old : List ℕ) → length bytes ≤ added_up ns → at + added_up ns ≤ length old → laid stag old (chunk_segments (segments_from stag at ns) bytes) ≡ bytes_after_write old at bytes
+pub laid-chunk : (stag at : ℕ) (ns bytes old : List ℕ) → length bytes ≤ added_up ns → at + added_up ns ≤ length old → bytes_after_segments stag old (chunk_segments (segments_from stag at ns) bytes) ≡ bytes_after_write old at bytes
 laid-chunk stag at [] [] old low fits = sym (written-none old at)
 laid-chunk stag at [] (b ∷ bytes) old low fits = absurd (omega (arith, low))
 laid-chunk stag at (n ∷ ns) bytes old low fits =
@@ -188,19 +188,19 @@ laid-chunk stag at (n ∷ ns) bytes old low fits =
     let old2 = bytes_after_write old at (take n bytes) in
     let same = written-length old (take n bytes) at (omega (arith, taken, low, fits)) in
     laid-append stag old first others
-    ∙ ap (λ (xs : List ℕ). laid stag xs others) (laid-one stag at n ns bytes old (eqb (min n (length bytes)) 0) refl (omega (arith, low, fits)))
+    ∙ ap (λ (xs : List ℕ). bytes_after_segments stag xs others) (laid-one stag at n ns bytes old (eqb (min n (length bytes)) 0) refl (omega (arith, low, fits)))
     ∙ laid-chunk stag (at + n) ns (drop n bytes) old2 (omega (arith, dropped, low)) (omega (arith, same, fits))
     ∙ rest_at n at bytes old (omega (arith, low, fits))
 
 -- a chunk of another STag leaves it alone
-pub laid-other : (stag other at : ℕ) (ns bytes old : List ℕ) → stag ≢ other → laid stag old (chunk_segments (segments_from other at ns) bytes) ≡ old
+pub laid-other : (stag other at : ℕ) (ns bytes old : List ℕ) → stag ≢ other → bytes_after_segments stag old (chunk_segments (segments_from other at ns) bytes) ≡ old
 laid-other stag other at [] bytes old ne = refl
 laid-other stag other at (n ∷ ns) bytes old ne =
     let others = chunk_segments (segments_from other (at + n) ns) (drop n bytes) in
     laid-append stag old (cond (eqb (min n (length bytes)) 0) [] (write_segments other at (take n bytes))) others
-    ∙ ap (λ (xs : List ℕ). laid stag xs others) (one (eqb (min n (length bytes)) 0))
+    ∙ ap (λ (xs : List ℕ). bytes_after_segments stag xs others) (one (eqb (min n (length bytes)) 0))
     ∙ laid-other stag other (at + n) ns (drop n bytes) old ne
   where
-    one : (b : Bool) → laid stag old (cond b [] (write_segments other at (take n bytes))) ≡ old
+    one : (b : Bool) → bytes_after_segments stag old (cond b [] (write_segments other at (take n bytes))) ≡ old
     one true = refl
     one false = laid-others stag other at (take n bytes) old (range_with_len 0 (segment_count (take n bytes))) ne

@@ -19,6 +19,9 @@ pub mod Touches
 pub mod Sizes
 pub mod OwnStags
 pub mod StagsLeft
+pub mod ReadChunks
+pub mod BadMessages
+pub mod ReadyCalls
 pub mod Readings
 pub mod AnswerMessages
 pub mod Submitting

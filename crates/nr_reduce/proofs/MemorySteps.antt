@@ -49,18 +49,18 @@ sized-found place now end stag (x ∷ regions) r h e = by (eqb x.stag stag) refl
     by false is e later =
         subst (λ (b : Bool). sized_by (grant_offer (cond (b && rest) (Some (region_grant now x)) others)) (length r.bytes)) (sym is) (later e)
 
-region-length : (place now stag : ℕ) (regions : List Region) (reaches : List TaggedSegment) (r : Region) → AreOffered place regions → region_at regions stag ≡ Some r → length (contents (region_grants now regions) r.stag r.bytes reaches) ≡ length r.bytes
+region-length : (place now stag : ℕ) (regions : List Region) (accesses_received : List TaggedSegment) (r : Region) → AreOffered place regions → region_at regions stag ≡ Some r → length (contents (region_grants now regions) r.stag r.bytes accesses_received) ≡ length r.bytes
 unfolding region_grants
-region-length place now stag regions reaches r h e =
+region-length place now stag regions accesses_received r h e =
     let same = stag-found regions stag r e in
-    contents-length (grants_from now regions) r.stag r.bytes reaches (length r.bytes) refl
+    contents-length (grants_from now regions) r.stag r.bytes accesses_received (length r.bytes) refl
     (λ end. subst (λ (s : ℕ). sized_by (grant_offer (found s end (grants_from now regions))) (length r.bytes)) (sym same) (sized-found place now end stag regions r h e))
 
 -- an end denies what its grants deny
-pub denied_alike : (regions : List Region) (reaches : List TaggedSegment) (place end : ℕ) (m : RegisteredMemory) (access : Access) → AreOffered place regions → HoldsRegions regions reaches place m → place < end →
+pub denied_alike : (regions : List Region) (accesses_received : List TaggedSegment) (place end : ℕ) (m : RegisteredMemory) (access : Access) → AreOffered place regions → HoldsRegions regions accesses_received place m → place < end →
     denial m access ≡ grant_denial (region_grants end regions) access end
-denied_alike regions reaches place end m access fits holds lt =
-    judged regions reaches place end m access fits holds lt (λ r e. region-length place place access.stag regions reaches r fits e)
+denied_alike regions accesses_received place end m access fits holds lt =
+    judged regions accesses_received place end m access fits holds lt (λ r e. region-length place place access.stag regions accesses_received r fits e)
 
 -- ---- A later place
 
@@ -73,23 +73,23 @@ self-alike place now later (r ∷ regions) low high =
     by None end le = le-leb end now (omega (arith, le, low)) ∙ sym (le-leb end later (omega (arith, le, high)))
     by (Some until) end le = refl
 
-held-alike : (place now later : ℕ) (regions others : List Region) (reaches : List TaggedSegment) (o : Option Region) → AreAlike place now later regions others → AreReceived place reaches →
-    registered_region (region_grants now regions) reaches o ≡ registered_region (region_grants later others) reaches o
+held-alike : (place now later : ℕ) (regions others : List Region) (accesses_received : List TaggedSegment) (o : Option Region) → AreAlike place now later regions others → AreReceived place accesses_received →
+    registered_region (region_grants now regions) accesses_received o ≡ registered_region (region_grants later others) accesses_received o
 unfolding region_grants
-held-alike place now later regions others reaches None alike received = refl
-held-alike place now later regions others reaches (Some r) alike received =
+held-alike place now later regions others accesses_received None alike received = refl
+held-alike place now later regions others accesses_received (Some r) alike received =
     ap (λ (b : List ℕ). held_if_open r.until (record { right = r.right; buf = b }))
-    (contents-same place (grants_from now regions) (grants_from later others) r.stag r.bytes reaches (λ end le. alike-offers place now later r.stag end regions others alike le) received)
+    (contents-same place (grants_from now regions) (grants_from later others) r.stag r.bytes accesses_received (λ end le. alike-offers place now later r.stag end regions others alike le) received)
 
-pub holds-later : (regions : List Region) (reaches : List TaggedSegment) (place later : ℕ) (m : RegisteredMemory) → place ≤ later → AreReceived place reaches → HoldsRegions regions reaches place m → HoldsRegions regions reaches later m
-holds-later regions reaches place later m le received holds stag =
-    holds stag ∙ held-alike place place later regions regions reaches (region_at regions stag) (self-alike place place later regions (omega arith) le) received
+pub holds-later : (regions : List Region) (accesses_received : List TaggedSegment) (place later : ℕ) (m : RegisteredMemory) → place ≤ later → AreReceived place accesses_received → HoldsRegions regions accesses_received place m → HoldsRegions regions accesses_received later m
+holds-later regions accesses_received place later m le received holds stag =
+    holds stag ∙ held-alike place place later regions regions accesses_received (region_at regions stag) (self-alike place place later regions (omega arith) le) received
 
 -- ---- An access
 
-contents-append : (gs : List Grant) (stag : ℕ) (bytes : List ℕ) (reaches : List TaggedSegment) (r : TaggedSegment) → contents gs stag bytes (reaches ++ r ∷ []) ≡ after_segment gs stag (contents gs stag bytes reaches) r
+contents-append : (gs : List Grant) (stag : ℕ) (bytes : List ℕ) (accesses_received : List TaggedSegment) (r : TaggedSegment) → contents gs stag bytes (accesses_received ++ r ∷ []) ≡ after_segment gs stag (contents gs stag bytes accesses_received) r
 contents-append gs stag bytes [] r = refl
-contents-append gs stag bytes (x ∷ reaches) r = contents-append gs stag (after_segment gs stag bytes x) reaches r
+contents-append gs stag bytes (x ∷ accesses_received) r = contents-append gs stag (after_segment gs stag bytes x) accesses_received r
 
 dead-stays : (m : RegisteredMemory) (r : TaggedSegment) (stag : ℕ) → live_region m stag ≡ None → live_region (after_event m (Arrive r)) stag ≡ None
 unfolding after_event denial
@@ -100,33 +100,33 @@ dead-stays m r stag none = elim (cases_eq stag r.stag) [
   | inr ne ↦ live-held (after_event m (Arrive r)) stag ∙ arrive_other m r stag ne ∙ sym (live-held m stag) ∙ none
 ]
 
-pub holds-access : (regions : List Region) (reaches : List TaggedSegment) (place : ℕ) (m : RegisteredMemory) (r : TaggedSegment) → AreOffered place regions → AreReceived place reaches →
-    ((stag : ℕ) (x : Region) → region_at regions stag ≡ Some x → stag < m.next) → place < r.end → HoldsRegions regions reaches place m →
-    HoldsRegions regions (reaches ++ r ∷ []) r.end (after_event m (Arrive r))
+pub holds-access : (regions : List Region) (accesses_received : List TaggedSegment) (place : ℕ) (m : RegisteredMemory) (r : TaggedSegment) → AreOffered place regions → AreReceived place accesses_received →
+    ((stag : ℕ) (x : Region) → region_at regions stag ≡ Some x → stag < m.next) → place < r.end → HoldsRegions regions accesses_received place m →
+    HoldsRegions regions (accesses_received ++ r ∷ []) r.end (after_event m (Arrive r))
 unfolding region_grants grant_at
-holds-access regions reaches place m r fits received below lt holds stag =
-    by (region_at regions stag) refl (holds-later regions reaches place r.end m (omega (arith, lt)) received holds stag)
+holds-access regions accesses_received place m r fits received below lt holds stag =
+    by (region_at regions stag) refl (holds-later regions accesses_received place r.end m (omega (arith, lt)) received holds stag)
   where
     gs : List Grant
     gs = grants_from r.end regions
 
-    by_until : (x : Region) (u : Option ℕ) → x.until ≡ u → region_at regions stag ≡ Some x → live_region m stag ≡ held_if_open u (record { right = x.right; buf = contents gs x.stag x.bytes reaches })
-        → live_region (after_event m (Arrive r)) stag ≡ held_if_open u (record { right = x.right; buf = contents gs x.stag x.bytes (reaches ++ r ∷ []) })
+    by_until : (x : Region) (u : Option ℕ) → x.until ≡ u → region_at regions stag ≡ Some x → live_region m stag ≡ held_if_open u (record { right = x.right; buf = contents gs x.stag x.bytes accesses_received })
+        → live_region (after_event m (Arrive r)) stag ≡ held_if_open u (record { right = x.right; buf = contents gs x.stag x.bytes (accesses_received ++ r ∷ []) })
     by_until x (Some until) u_is is live = dead-stays m r stag live
     by_until x None u_is is live =
         let same : x.stag ≡ stag = stag-found regions stag x is in
-        let buf : List ℕ = contents gs stag x.bytes reaches in
+        let buf : List ℕ = contents gs stag x.bytes accesses_received in
         let there : held_region m stag ≡ Some (record { right = x.right; buf = buf }) =
-        sym (live-held m stag) ∙ live ∙ ap (λ (s : ℕ). Some (record { right = x.right; buf = contents gs s x.bytes reaches })) same in
+        sym (live-held m stag) ∙ live ∙ ap (λ (s : ℕ). Some (record { right = x.right; buf = contents gs s x.bytes accesses_received })) same in
         let offers : grant_offer (found stag r.end gs) ≡ Some (x.right, length x.bytes) =
         granted place r.end stag regions fits lt ∙ ap offer_of is ∙ ap (λ (u : Option ℕ). offer_if_open u x.right (length x.bytes)) u_is in
-        let sized : length buf ≡ length x.bytes = ap (λ (s : ℕ). length (contents gs s x.bytes reaches)) (sym same) ∙ region-length place r.end stag regions reaches x fits is in
+        let sized : length buf ≡ length x.bytes = ap (λ (s : ℕ). length (contents gs s x.bytes accesses_received)) (sym same) ∙ region-length place r.end stag regions accesses_received x fits is in
         live-held (after_event m (Arrive r)) stag
         ∙ contents_are gs stag x.right (length x.bytes) (Arrive r ∷ []) m buf sized (below stag x is) there (tt, (λ e. offers), tt)
-        ∙ ap (λ (b : List ℕ). Some (record { right = x.right; buf = b })) (sym (contents-append gs stag x.bytes reaches r))
-        ∙ ap (λ (s : ℕ). Some (record { right = x.right; buf = contents gs s x.bytes (reaches ++ r ∷ []) })) (sym same)
+        ∙ ap (λ (b : List ℕ). Some (record { right = x.right; buf = b })) (sym (contents-append gs stag x.bytes accesses_received r))
+        ∙ ap (λ (s : ℕ). Some (record { right = x.right; buf = contents gs s x.bytes (accesses_received ++ r ∷ []) })) (sym same)
 
-    by : (o : Option Region) → region_at regions stag ≡ o → live_region m stag ≡ registered_region gs reaches o → live_region (after_event m (Arrive r)) stag ≡ registered_region gs (reaches ++ r ∷ []) o
+    by : (o : Option Region) → region_at regions stag ≡ o → live_region m stag ≡ registered_region gs accesses_received o → live_region (after_event m (Arrive r)) stag ≡ registered_region gs (accesses_received ++ r ∷ []) o
     by None is live = dead-stays m r stag live
     by (Some x) is live = by_until x x.until refl is live
 
@@ -180,38 +180,38 @@ closed-alike test place later (r ∷ regions) le = (by (test r), closed-alike te
     by true = record { stag = refl; right = refl; bytes = refl; from = refl; until = until_alike r.until }
     by false = record { stag = refl; right = refl; bytes = refl; from = refl; until = open_alike r.until }
 
-pub holds-closed : (test : Region → Bool) (regions : List Region) (reaches : List TaggedSegment) (place later : ℕ) (m after : RegisteredMemory) → place ≤ later → AreReceived place reaches → ReleasesClosed test regions m after →
-    HoldsRegions regions reaches place m → HoldsRegions (regions_closed test later regions) reaches later after
+pub holds-closed : (test : Region → Bool) (regions : List Region) (accesses_received : List TaggedSegment) (place later : ℕ) (m after : RegisteredMemory) → place ≤ later → AreReceived place accesses_received → ReleasesClosed test regions m after →
+    HoldsRegions regions accesses_received place m → HoldsRegions (regions_closed test later regions) accesses_received later after
 unfolding regions_closed
-holds-closed test regions reaches place later m after le received releases holds stag =
+holds-closed test regions accesses_received place later m after le received releases holds stag =
     by (region_at regions stag) refl (releases stag) (holds stag)
   where
     closed : List Region
     closed = closed_list test later regions
 
-    by_test : (x : Region) (b : Bool) → live_region after stag ≡ cond b None (live_region m stag) → live_region m stag ≡ registered_region (region_grants place regions) reaches (Some x)
-        → live_region after stag ≡ registered_region (region_grants later closed) reaches (Some (closed_if b later x))
+    by_test : (x : Region) (b : Bool) → live_region after stag ≡ cond b None (live_region m stag) → live_region m stag ≡ registered_region (region_grants place regions) accesses_received (Some x)
+        → live_region after stag ≡ registered_region (region_grants later closed) accesses_received (Some (closed_if b later x))
     by_test x true is live = is ∙ dead x.until
       where
-        dead : (u : Option ℕ) → None ≡ held_if_open (until_at later u) (record { right = x.right; buf = contents (region_grants later closed) x.stag x.bytes reaches })
+        dead : (u : Option ℕ) → None ≡ held_if_open (until_at later u) (record { right = x.right; buf = contents (region_grants later closed) x.stag x.bytes accesses_received })
         dead None = refl
         dead (Some until) = refl
     by_test x false is live =
-        is ∙ live ∙ held-alike place place later regions closed reaches (Some x) (closed-alike test place later regions le) received
+        is ∙ live ∙ held-alike place place later regions closed accesses_received (Some x) (closed-alike test place later regions le) received
 
-    by : (o : Option Region) → region_at regions stag ≡ o → live_region after stag ≡ cond (is_closed_by test (region_at regions stag)) None (live_region m stag) → live_region m stag ≡ registered_region (region_grants place regions) reaches (region_at regions stag)
-        → live_region after stag ≡ registered_region (region_grants later closed) reaches (region_at closed stag)
+    by : (o : Option Region) → region_at regions stag ≡ o → live_region after stag ≡ cond (is_closed_by test (region_at regions stag)) None (live_region m stag) → live_region m stag ≡ registered_region (region_grants place regions) accesses_received (region_at regions stag)
+        → live_region after stag ≡ registered_region (region_grants later closed) accesses_received (region_at closed stag)
     by None is released live =
         released
         ∙ ap (λ (o : Option Region). cond (is_closed_by test o) None (live_region m stag)) is
         ∙ live
-        ∙ ap (λ (o : Option Region). registered_region (region_grants place regions) reaches o) is
-        ∙ ap (λ (o : Option Region). registered_region (region_grants later closed) reaches o) (sym (closed-at test later stag regions None is))
+        ∙ ap (λ (o : Option Region). registered_region (region_grants place regions) accesses_received o) is
+        ∙ ap (λ (o : Option Region). registered_region (region_grants later closed) accesses_received o) (sym (closed-at test later stag regions None is))
     by (Some x) is released live =
         by_test x (test x)
         (released ∙ ap (λ (o : Option Region). cond (is_closed_by test o) None (live_region m stag)) is)
-        (live ∙ ap (λ (o : Option Region). registered_region (region_grants place regions) reaches o) is)
-        ∙ ap (λ (o : Option Region). registered_region (region_grants later closed) reaches o) (sym (closed-at test later stag regions (Some x) is))
+        (live ∙ ap (λ (o : Option Region). registered_region (region_grants place regions) accesses_received o) is)
+        ∙ ap (λ (o : Option Region). registered_region (region_grants later closed) accesses_received o) (sym (closed-at test later stag regions (Some x) is))
 
 -- ---- One more region
 
@@ -259,19 +259,19 @@ after-empty stag bytes r = by (eqb r.stag stag)
     by true = refl
     by false = refl
 
-contents-empty : (stag : ℕ) (bytes : List ℕ) (reaches : List TaggedSegment) → contents [] stag bytes reaches ≡ bytes
+contents-empty : (stag : ℕ) (bytes : List ℕ) (accesses_received : List TaggedSegment) → contents [] stag bytes accesses_received ≡ bytes
 contents-empty stag bytes [] = refl
-contents-empty stag bytes (r ∷ reaches) =
-    ap (λ (b : List ℕ). contents [] stag b reaches) (after-empty stag bytes r) ∙ contents-empty stag bytes reaches
+contents-empty stag bytes (r ∷ accesses_received) =
+    ap (λ (b : List ℕ). contents [] stag b accesses_received) (after-empty stag bytes r) ∙ contents-empty stag bytes accesses_received
 
-contents-none : (place : ℕ) (gs : List Grant) (stag : ℕ) (bytes : List ℕ) (reaches : List TaggedSegment) → ((end : ℕ) → end ≤ place → grant_offer (found stag end gs) ≡ None) → AreReceived place reaches → contents gs stag bytes reaches ≡ bytes
-contents-none place gs stag bytes reaches none received =
-    contents-same place gs [] stag bytes reaches (λ end le. none end le) received ∙ contents-empty stag bytes reaches
+contents-none : (place : ℕ) (gs : List Grant) (stag : ℕ) (bytes : List ℕ) (accesses_received : List TaggedSegment) → ((end : ℕ) → end ≤ place → grant_offer (found stag end gs) ≡ None) → AreReceived place accesses_received → contents gs stag bytes accesses_received ≡ bytes
+contents-none place gs stag bytes accesses_received none received =
+    contents-same place gs [] stag bytes accesses_received (λ end le. none end le) received ∙ contents-empty stag bytes accesses_received
 
-pub holds-registered : (regions : List Region) (reaches : List TaggedSegment) (place : ℕ) (m : RegisteredMemory) (r : Region) → AreReceived place reaches → region_at regions m.next ≡ None →
-    r.stag ≡ m.next → r.from ≡ place → r.until ≡ None → HoldsRegions regions reaches place m → HoldsRegions (regions ++ r ∷ []) reaches place (after_register m r.right r.bytes)
+pub holds-registered : (regions : List Region) (accesses_received : List TaggedSegment) (place : ℕ) (m : RegisteredMemory) (r : Region) → AreReceived place accesses_received → region_at regions m.next ≡ None →
+    r.stag ≡ m.next → r.from ≡ place → r.until ≡ None → HoldsRegions regions accesses_received place m → HoldsRegions (regions ++ r ∷ []) accesses_received place (after_register m r.right r.bytes)
 unfolding region_grants
-holds-registered regions reaches place m r received fresh is_next from is_open holds stag =
+holds-registered regions accesses_received place m r received fresh is_next from is_open holds stag =
     by (region_at regions stag) refl (holds stag)
   where
     gs : List Grant
@@ -286,14 +286,14 @@ holds-registered regions reaches place m r received fresh is_next from is_open h
     old : stag ≢ m.next → live_region after stag ≡ live_region m stag
     old ne = live-held after stag ∙ register_other m r.right r.bytes stag ne ∙ sym (live-held m stag)
 
-    by : (o : Option Region) → region_at regions stag ≡ o → live_region m stag ≡ registered_region gs reaches (region_at regions stag) → live_region after stag ≡ registered_region hs reaches (region_at (regions ++ r ∷ []) stag)
+    by : (o : Option Region) → region_at regions stag ≡ o → live_region m stag ≡ registered_region gs accesses_received (region_at regions stag) → live_region after stag ≡ registered_region hs accesses_received (region_at (regions ++ r ∷ []) stag)
     by (Some x) is live =
         old (λ e. (let wrong : Some x ≡ None = sym is ∙ ap (λ (s : ℕ). region_at regions s) e ∙ fresh in cc))
         ∙ live
-        ∙ ap (λ (o : Option Region). registered_region gs reaches o) is
+        ∙ ap (λ (o : Option Region). registered_region gs accesses_received o) is
         ∙ ap (λ (b : List ℕ). held_if_open x.until (record { right = x.right; buf = b }))
-        (contents-same place gs hs x.stag x.bytes reaches (λ end le. append-offers place place x.stag end regions r from le) received)
-        ∙ ap (λ (o : Option Region). registered_region hs reaches o) (sym (at-append regions r stag (Some x) is))
+        (contents-same place gs hs x.stag x.bytes accesses_received (λ end le. append-offers place place x.stag end regions r from le) received)
+        ∙ ap (λ (o : Option Region). registered_region hs accesses_received o) (sym (at-append regions r stag (Some x) is))
     by None is live = elim (cases_eq stag m.next) [
       | inl e ↦
           let same : r.stag ≡ stag = is_next ∙ sym e in
@@ -301,27 +301,27 @@ holds-registered regions reaches place m r received fresh is_next from is_open h
           live-held after stag
           ∙ ap (λ (s : ℕ). held_region after s) e
           ∙ register_here m r.right r.bytes
-          ∙ ap (λ (b : List ℕ). Some (record { right = r.right; buf = b })) (sym (contents-none place hs r.stag r.bytes reaches (λ end le. none-offered place place end r.stag regions r none from le) received))
-          ∙ ap (λ (u : Option ℕ). held_if_open u (record { right = r.right; buf = contents hs r.stag r.bytes reaches })) (sym is_open)
-          ∙ ap (λ (b : Bool). registered_region hs reaches (cond b (Some r) None)) (sym (eq-eqb r.stag stag same))
-          ∙ ap (λ (o : Option Region). registered_region hs reaches o) (sym (at-append regions r stag None is))
+          ∙ ap (λ (b : List ℕ). Some (record { right = r.right; buf = b })) (sym (contents-none place hs r.stag r.bytes accesses_received (λ end le. none-offered place place end r.stag regions r none from le) received))
+          ∙ ap (λ (u : Option ℕ). held_if_open u (record { right = r.right; buf = contents hs r.stag r.bytes accesses_received })) (sym is_open)
+          ∙ ap (λ (b : Bool). registered_region hs accesses_received (cond b (Some r) None)) (sym (eq-eqb r.stag stag same))
+          ∙ ap (λ (o : Option Region). registered_region hs accesses_received o) (sym (at-append regions r stag None is))
       | inr ne ↦
           old ne
           ∙ live
-          ∙ ap (λ (o : Option Region). registered_region gs reaches o) is
-          ∙ ap (λ (b : Bool). registered_region hs reaches (cond b (Some r) None)) (sym (ne_eqb r.stag stag (λ e. ne (sym e ∙ is_next))))
-          ∙ ap (λ (o : Option Region). registered_region hs reaches o) (sym (at-append regions r stag None is))
+          ∙ ap (λ (o : Option Region). registered_region gs accesses_received o) is
+          ∙ ap (λ (b : Bool). registered_region hs accesses_received (cond b (Some r) None)) (sym (ne_eqb r.stag stag (λ e. ne (sym e ∙ is_next))))
+          ∙ ap (λ (o : Option Region). registered_region hs accesses_received o) (sym (at-append regions r stag None is))
     ]
 
 -- ---- Regions and accesses along a after_events
 
-pub received-later : (place later : ℕ) (reaches : List TaggedSegment) → place ≤ later → AreReceived place reaches → AreReceived later reaches
+pub received-later : (place later : ℕ) (accesses_received : List TaggedSegment) → place ≤ later → AreReceived place accesses_received → AreReceived later accesses_received
 received-later place later [] le h = tt
-received-later place later (r ∷ reaches) le h = ((let a = h.0 in omega (arith, a, le)), received-later place later reaches le h.1)
+received-later place later (r ∷ accesses_received) le h = ((let a = h.0 in omega (arith, a, le)), received-later place later accesses_received le h.1)
 
-pub received-one : (place : ℕ) (reaches : List TaggedSegment) (r : TaggedSegment) → place ≤ r.end → AreReceived place reaches → AreReceived r.end (reaches ++ r ∷ [])
+pub received-one : (place : ℕ) (accesses_received : List TaggedSegment) (r : TaggedSegment) → place ≤ r.end → AreReceived place accesses_received → AreReceived r.end (accesses_received ++ r ∷ [])
 received-one place [] r le h = (omega arith, tt)
-received-one place (x ∷ reaches) r le h = ((let a = h.0 in omega (arith, a, le)), received-one place reaches r le h.1)
+received-one place (x ∷ accesses_received) r le h = ((let a = h.0 in omega (arith, a, le)), received-one place accesses_received r le h.1)
 
 some-later : (u : Option ℕ) (place later : ℕ) → place ≤ later → IfSome u (λ until. until ≤ place) → IfSome u (λ until. until ≤ later)
 some-later None place later le h = tt

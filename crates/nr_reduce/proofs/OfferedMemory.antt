@@ -89,12 +89,12 @@ after-same gs hs stag bytes r same = by (eqb r.stag stag) refl
         ap (λ (b : Bool). cond (b && is_none (denial_in (grant_offer (found r.stag r.end gs)) (access_of r))) (bytes_after_write bytes r.to r.payload) bytes) is
         ∙ ap (λ (b : Bool). cond (b && is_none (denial_in (grant_offer (found r.stag r.end hs)) (access_of r))) (bytes_after_write bytes r.to r.payload) bytes) (sym is)
 
-pub contents-same : (place : ℕ) (gs hs : List Grant) (stag : ℕ) (bytes : List ℕ) (reaches : List TaggedSegment) → ((end : ℕ) → end ≤ place → grant_offer (found stag end gs) ≡ grant_offer (found stag end hs)) → AreReceived place reaches →
-    contents gs stag bytes reaches ≡ contents hs stag bytes reaches
+pub contents-same : (place : ℕ) (gs hs : List Grant) (stag : ℕ) (bytes : List ℕ) (accesses_received : List TaggedSegment) → ((end : ℕ) → end ≤ place → grant_offer (found stag end gs) ≡ grant_offer (found stag end hs)) → AreReceived place accesses_received →
+    contents gs stag bytes accesses_received ≡ contents hs stag bytes accesses_received
 contents-same place gs hs stag bytes [] same h = refl
-contents-same place gs hs stag bytes (r ∷ reaches) same h =
-    ap (λ (b : List ℕ). contents gs stag b reaches) (after-same gs hs stag bytes r (same r.end h.0))
-    ∙ contents-same place gs hs stag (after_segment hs stag bytes r) reaches same h.1
+contents-same place gs hs stag bytes (r ∷ accesses_received) same h =
+    ap (λ (b : List ℕ). contents gs stag b accesses_received) (after-same gs hs stag bytes r (same r.end h.0))
+    ∙ contents-same place gs hs stag (after_segment hs stag bytes r) accesses_received same h.1
 
 -- regions that are alike for frames up to a place: only their ends may differ, and those not before it
 pub record IsAlike (place one two : ℕ) (r s : Region) : Type 0 where
@@ -129,11 +129,11 @@ alike-offers place one two stag end (r ∷ rs) (s ∷ ss) h le =
 -- ---- Access by access
 
 -- to a frame that ends later an end offers what its grants region_offer, and so it denies what they deny
-pub judged : (regions : List Region) (reaches : List TaggedSegment) (place end : ℕ) (m : RegisteredMemory) (access : Access) → AreOffered place regions → HoldsRegions regions reaches place m → place < end →
-    ((r : Region) → region_at regions access.stag ≡ Some r → length (contents (region_grants place regions) r.stag r.bytes reaches) ≡ length r.bytes) →
+pub judged : (regions : List Region) (accesses_received : List TaggedSegment) (place end : ℕ) (m : RegisteredMemory) (access : Access) → AreOffered place regions → HoldsRegions regions accesses_received place m → place < end →
+    ((r : Region) → region_at regions access.stag ≡ Some r → length (contents (region_grants place regions) r.stag r.bytes accesses_received) ≡ length r.bytes) →
     denial m access ≡ grant_denial (region_grants end regions) access end
 unfolding grant_at region_grants
-judged regions reaches place end m access fits holds lt sized =
+judged regions accesses_received place end m access fits holds lt sized =
     same_denial (region_grants end regions) m access end
     (ap region_offer (holds access.stag) ∙ by (region_at regions access.stag) refl ∙ sym (granted place end access.stag regions fits lt))
   where
@@ -141,9 +141,9 @@ judged regions reaches place end m access fits holds lt sized =
     by_until None r n buf e = ap (λ (k : ℕ). Some (r.right, k)) e
     by_until (Some until) r n buf e = refl
 
-    by : (o : Option Region) → region_at regions access.stag ≡ o → region_offer (registered_region (region_grants place regions) reaches o) ≡ offer_of o
+    by : (o : Option Region) → region_at regions access.stag ≡ o → region_offer (registered_region (region_grants place regions) accesses_received o) ≡ offer_of o
     by None is = refl
-    by (Some r) is = by_until r.until r (length r.bytes) (contents (region_grants place regions) r.stag r.bytes reaches) (sized r is)
+    by (Some r) is = by_until r.until r (length r.bytes) (contents (region_grants place regions) r.stag r.bytes accesses_received) (sized r is)
 
 -- a region's contents have its length
 abbrev pub sized_by : (o : Option (Right × ℕ)) (n : ℕ) → Type 0
@@ -170,6 +170,6 @@ after-length gs stag bytes r n is sized = elim (cases_eq r.stag stag) [
         (λ i. length (cond (eq-eqb r.stag stag e i && is_none (denial_in (o_is i) (access_of r))) (bytes_after_write bytes r.to r.payload) bytes))
         ∙ by x.0 x.1 low (denial_in (Some (x.0, x.1)) (access_of r)) refl
 
-pub contents-length : (gs : List Grant) (stag : ℕ) (bytes : List ℕ) (reaches : List TaggedSegment) (n : ℕ) → length bytes ≡ n → ((end : ℕ) → sized_by (grant_offer (found stag end gs)) n) → length (contents gs stag bytes reaches) ≡ n
+pub contents-length : (gs : List Grant) (stag : ℕ) (bytes : List ℕ) (accesses_received : List TaggedSegment) (n : ℕ) → length bytes ≡ n → ((end : ℕ) → sized_by (grant_offer (found stag end gs)) n) → length (contents gs stag bytes accesses_received) ≡ n
 contents-length gs stag bytes [] n is sized = is
-contents-length gs stag bytes (r ∷ reaches) n is sized = contents-length gs stag (after_segment gs stag bytes r) reaches n (after-length gs stag bytes r n is (sized r.end)) sized
+contents-length gs stag bytes (r ∷ accesses_received) n is sized = contents-length gs stag (after_segment gs stag bytes r) accesses_received n (after-length gs stag bytes r n is (sized r.end)) sized

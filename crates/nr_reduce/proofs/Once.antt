@@ -35,11 +35,11 @@ use Rattle.nr_reduce.specs.Events.Event.{FrameReceived, CallSubmitted, MemoryRev
 use Rattle.nr_reduce.specs.ServerState.{ServerState, initial_state, ReadyCall, PendingRead, PendingCall, one_if, next_stag, is_pending}
 use Rattle.nr_reduce.specs.ServerReads.{is_read, reads_of, reads_from, read_of, chunks_of, regions_of}
 use Rattle.nr_reduce.specs.ServerMessages.{Verdict, CallVerdict, chunk_bytes, verdict, by_header, by_body, by_stream, by_need, has_position, no_stream, by_payload, by_head, payload_of, call_xid}
-use Rattle.nr_reduce.specs.ServerFrames.{FrameEffect, no_effect, with_verdict, ready_if_whole, with_pending_call, with_refused_call, read_effect, response_effect, call_of_number, is_stream_read, tagged_effect, message_effect, by_message, with_reach, effect_by, effect_in, frame_effect}
+use Rattle.nr_reduce.specs.ServerFrames.{FrameEffect, no_effect, with_verdict, ready_if_whole, with_pending_call, with_refused_call, read_effect, response_effect, call_of_number, is_stream_read, tagged_effect, message_effect, by_message, with_access, effect_by, effect_in, frame_effect}
 use Rattle.nr_reduce.specs.Server.{with_effect, received_by, server_state_after, server_end, server_rules, initial_server}
 use Rattle.nr_reduce.specs.ServerMessages.Verdict.{EndsLink, OtherVersion, BadChunks, MakesPending}
 use Rattle.nr_reduce.specs.ServerMessages.CallVerdict.{Refuses, IsReady}
-use Rattle.nr_reduce.specs.Chunks.{suits, total_at}
+use Rattle.nr_reduce.specs.Chunks.{is_read_chunk_of_item, total_at}
 use Rattle.nr_reduce.specs.Run.{server}
 use Rattle.nr_reduce.specs.Served.{ServedMark, IsExecuted, next_call, first_ready}
 use Rattle.nr_reduce.proofs.Steps.{server-one}
@@ -195,7 +195,7 @@ refused-adds k c reads kept n =
 read-adds : (k : ServerState) (place : ℕ) (r : PendingRead) (reads : List PendingRead) (kept : ℕ) (o : Option PendingCall) → ((c : PendingCall) → o ≡ Some c → c.number ≡ r.number) → (n : ℕ)
     → times_ready n (read_effect k place r o (less k reads kept)).ready + one_if (read_for n (read_effect k place r o (less k reads kept)).reads) ≤ one_if (eqb r.number n || read_for n reads)
 read-adds k place r reads kept None h n = (let a = or-more (eqb r.number n) (read_for n reads) in omega (arith, a))
-read-adds k place r reads kept (Some c) h n = by (is_stream_read c r reads && not (suits (chunk_bytes k place c 0) c.lists.read))
+read-adds k place r reads kept (Some c) h n = by (is_stream_read c r reads && not (is_read_chunk_of_item (chunk_bytes k place c 0) c.lists.read))
   where
     more : one_if (read_for n reads) ≤ one_if (eqb r.number n || read_for n reads)
     more = or-more (eqb r.number n) (read_for n reads)
@@ -275,7 +275,7 @@ need-number k c m e = if-number (ltb 4294967296 (next_stag k + length (chunks_of
 
 stream-number : (k : ServerState) (lists : ChunkLists) (xid : ℕ) (o : Option (List ℕ)) → NumberIs (k.received.sends + 1) (by_stream k lists xid o)
 stream-number k lists xid None = need-number k _ (k.received.sends + 1) refl
-stream-number k lists xid (Some stream) = if-number (suits stream lists.read) _ BadChunks (k.received.sends + 1) (need-number k _ (k.received.sends + 1) refl) tt
+stream-number k lists xid (Some stream) = if-number (is_read_chunk_of_item stream lists.read) _ BadChunks (k.received.sends + 1) (need-number k _ (k.received.sends + 1) refl) tt
 
 body-number : (k : ServerState) (xid : ℕ) (message : List ℕ) (b : Body) → NumberIs (k.received.sends + 1) (by_body k xid message b)
 body-number k xid message (Msg lists stream_at) = stream-number k lists xid (Some (drop stream_at message))
@@ -368,9 +368,9 @@ frame-goes : (k : ServerState) (f : Frame) (r : Result Segment ℕ) → frame_se
 frame-goes k f (Err reason) e = goes-none k f (no_effect k) (let a = ap (λ (q : Result Segment ℕ). (received_by k.received q).sends) e in omega (arith, a)) (quiet k (no_effect k) refl refl)
 frame-goes k f (Ok (Tagged last opcode stag to payload)) e =
     let segment : Segment = Tagged last opcode stag to payload in
-    goes-none k f (tagged_effect (with_reach k f segment) f.end opcode last)
+    goes-none k f (tagged_effect (with_access k f segment) f.end opcode last)
     (let a = ap (λ (q : Result Segment ℕ). (received_by k.received q).sends) e in omega (arith, a))
-    (tagged-adds (with_reach k f segment) f.end opcode last)
+    (tagged-adds (with_access k f segment) f.end opcode last)
 frame-goes k f (Ok (Untagged last opcode w queue msn offset payload)) e =
     let segment : Segment = Untagged last opcode w queue msn offset payload in
     let same = ap (λ (q : Result Segment ℕ). (received_by k.received q).sends) e in
@@ -479,11 +479,11 @@ settled-one opened link run xid moment payload place reply r is =
     (subst (λ (q : ServerState). Settled r.number q) (sym (executes-one opened k (server opened link run).ended e f.0)) there))
 
 -- On every link: no Send is executed twice.
-pub executes_once : (Fills : List ℕ → List ℕ → Type 0) (opened : Opened) (link : ℕ) (run before between after : List Mark) (xid yid : ℕ) (moment now : Moment) (payload asked : List ℕ) (place later : ℕ) (reply answer : List ℕ) →
-    run ≡ before ++ marks.Execute link xid moment payload place reply ∷ (between ++ marks.Execute link yid now asked later answer ∷ after) → AtEachMark (ServedMark Fills opened link) [] run
+pub executes_once : (Relates : List ℕ → List ℕ → Type 0) (opened : Opened) (link : ℕ) (run before between after : List Mark) (xid yid : ℕ) (moment now : Moment) (payload asked : List ℕ) (place later : ℕ) (reply answer : List ℕ) →
+    run ≡ before ++ marks.Execute link xid moment payload place reply ∷ (between ++ marks.Execute link yid now asked later answer ∷ after) → AtEachMark (ServedMark Relates opened link) [] run
     → (first second : ReadyCall) → next_call opened link before ≡ Some first → next_call opened link (before ++ marks.Execute link xid moment payload place reply ∷ between) ≡ Some second → first.number ≢ second.number
 unfolding next_call
-executes_once Fills opened link run before between after xid yid moment now payload asked place later reply answer is h first second one two same =
+executes_once Relates opened link run before between after xid yid moment now payload asked place later reply answer is h first second one two same =
     let mark = marks.Execute link xid moment payload place reply in
     let run2 : List Mark = before ++ mark ∷ between in
     let s : Settled first.number (server opened link run2).state =

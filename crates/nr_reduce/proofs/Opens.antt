@@ -22,8 +22,8 @@ use Rattle.nr_reduce.specs.Items.{item_of, stream_of}
 use Rattle.nr_reduce.specs.declared.item.Of.TheVariants.{Call}
 use Rattle.nr_reduce.specs.declared.outline.Plan.{Plan}
 use Rattle.nr_reduce.specs.Plans.{plan_of, regions_needed, lists_of, inline_stream, call_message}
-use Rattle.nr_reduce.specs.Chunks.{suits, suits_at, is_item, item_position, position_of, total_at}
-use Rattle.nr_reduce.specs.Undone.{IsOwn}
+use Rattle.nr_reduce.specs.Chunks.{is_read_chunk_of_item, is_read_chunk_at, is_item, item_position, position_of, total_at}
+use Rattle.nr_reduce.specs.Undone.{IsNotGiven}
 use Rattle.nr_reduce.specs.ServerState.{ServerState, PendingCall, is_pending}
 use Rattle.nr_reduce.specs.ServerMessages.{Verdict, verdict, by_header, by_body, by_stream, by_need}
 use Rattle.nr_reduce.specs.ServerMessages.Verdict.{BadChunks}
@@ -132,7 +132,7 @@ inline-shape payload Long w r fits is = refl
 opens_way : (k : ServerState) (xid : ℕ) (payload : List ℕ) (way : Way) (w r : Offering) (stag : ℕ) (head : List ℕ) → IsBytes payload → IsWay payload way → 0 < length payload
     → by_body k xid (head ++ stream_in payload way) (body_again (body_of way (lists payload way w r stag)) (length head))
     ≡ by_need k (record { number = k.received.sends + 1; xid = xid; lists = lists payload way w r stag; inline = inline_of payload way })
-unfolding suits item_position total_at
+unfolding is_read_chunk_of_item item_position total_at
 opens_way k xid payload Inline w r stag head fits is some =
     ap (λ (xs : List ℕ). by_need k (record { number = k.received.sends + 1; xid = xid; lists = lists payload Inline w r stag; inline = Some xs })) (drop_at head payload (length head) refl)
 opens_way k xid payload (Reduced i) w r stag head fits is some =
@@ -145,7 +145,7 @@ opens_way k xid payload (Reduced i) w r stag head fits is some =
     let stream : drop (length head) (head ++ stream_of payload i) ≡ stream_of payload i = drop_at head (stream_of payload i) (length head) refl in
     let whole : Verdict = by_need k (record { number = k.received.sends + 1; xid = xid; lists = ls; inline = Some (stream_of payload i) }) in
     (λ j. by_stream k ls xid (Some (stream j)))
-    ∙ ap (λ (b : Bool). cond (suits_at (stream_of payload i) (entry ∷ []) (position_of (cond (not b) (Some entry) None))) whole BadChunks) here
+    ∙ ap (λ (b : Bool). cond (is_read_chunk_at (stream_of payload i) (entry ∷ []) (position_of (cond (not b) (Some entry) None))) whole BadChunks) here
     ∙ ap (λ (o : Option Item). cond (is_item o i.pos (sum_by (λ r. r.length) (cond (eqb i.pos i.pos) (entry ∷ []) []))) whole BadChunks) stands.again
     ∙ ap (λ (b : Bool). cond (b && (eqb (sum_by (λ r. r.length) (cond b (entry ∷ []) [])) i.len || eqb (sum_by (λ r. r.length) (cond b (entry ∷ []) [])) (i.len + pad_len i.len))) whole BadChunks) (eq-eqb i.pos i.pos refl)
     ∙ ap (λ (b : Bool). cond (b || eqb (0 + i.len) (i.len + pad_len i.len)) whole BadChunks) (eq-eqb (0 + i.len) i.len (omega arith))
@@ -153,7 +153,7 @@ opens_way k xid payload Long w r stag head fits is some =
     ap (λ (b : Bool). by_stream k (lists payload Long w r stag) xid (cond b (Some []) None)) (ne_eqb (0 + length payload) 0 (λ e. omega (arith, e, some)))
 
 -- A server gets the message of a plan whose form isn't given as a call, with the plan's lists and stream: it is never refused.
-pub opens_call : (k : ServerState) (payload : List ℕ) (form : Form) (up down xid credit stag : ℕ) (p : Plan) → IsBytes payload → IsOwn form → plan_of payload form up down ≡ Ok p → 0 < length payload → xid < 2 ^ 32 → credit < 2 ^ 32
+pub opens_call : (k : ServerState) (payload : List ℕ) (form : Form) (up down xid credit stag : ℕ) (p : Plan) → IsBytes payload → IsNotGiven form → plan_of payload form up down ≡ Ok p → 0 < length payload → xid < 2 ^ 32 → credit < 2 ^ 32
     → stag + regions_needed p ≤ 2 ^ 32 → is_pending k xid ≡ false
     → verdict k (call_message xid credit stag p) ≡ by_need k (record { number = k.received.sends + 1; xid = xid; lists = lists_of stag p; inline = inline_stream p })
 unfolding call_message

@@ -28,7 +28,7 @@ use Rattle.nr_reduce.specs.ServerReads.{regions_from, regions_of, chunks_of, is_
 use Rattle.nr_reduce.specs.ServerMessages.{Verdict, CallVerdict, verdict, by_payload, payload_of}
 use Rattle.nr_reduce.specs.ServerMessages.Verdict.{EndsLink, OtherVersion, BadChunks, MakesPending}
 use Rattle.nr_reduce.specs.ServerMessages.CallVerdict.{Refuses, IsReady}
-use Rattle.nr_reduce.specs.ServerFrames.{FrameEffect, no_effect, with_verdict, ready_if_whole, message_effect, with_refused_call, is_stream_read, read_effect, call_of_number, response_effect, tagged_effect, by_message, with_reach, effect_by, effect_in, frame_effect}
+use Rattle.nr_reduce.specs.ServerFrames.{FrameEffect, no_effect, with_verdict, ready_if_whole, message_effect, with_refused_call, is_stream_read, read_effect, call_of_number, response_effect, tagged_effect, by_message, with_access, effect_by, effect_in, frame_effect}
 use Rattle.nr_reduce.specs.Server.{server_rules, server_end, server_state_after, initial_server, with_effect}
 use Rattle.nr_reduce.specs.Run.{client, server, grants_of}
 
@@ -42,7 +42,7 @@ numbered-append : (n m : ℕ) (xs ys : List Region) → AreNumbered n xs → m �
 numbered-append n m [] ys h e k = subst (λ (i : ℕ). AreNumbered i ys) (let s : m ≡ n = omega (arith, e) in s) k
 numbered-append n m (x ∷ xs) ys h e k = (h.0, numbered-append (n + 1) m xs ys h.1 (omega (arith, e)) k)
 
-closed-stag : (b : Bool) (place : ℕ) (r : Region) → (closed_if b place r).stag ≡ r.stag
+pub closed-stag : (b : Bool) (place : ℕ) (r : Region) → (closed_if b place r).stag ≡ r.stag
 closed-stag true place r = refl
 closed-stag false place r = refl
 
@@ -80,7 +80,7 @@ last-buffer : (xid place n : ℕ) (b : Bool) (right : Right) (bytes : List ℕ) 
 last-buffer xid place n true right bytes = (refl, tt)
 last-buffer xid place n false right bytes = tt
 
-numbered-buffers : (xid place stag : ℕ) (p : Plan) → AreNumbered stag (map (region_of xid place) (buffers stag p))
+pub numbered-buffers : (xid place stag : ℕ) (p : Plan) → AreNumbered stag (map (region_of xid place) (buffers stag p))
 unfolding buffers
 numbered-buffers xid place stag p =
     buffers-if xid place stag (has_segment (Some p.read)) _ _ _ (buffers-if xid place (write_stag stag p) (has_segment p.write) _ _ _ (last-buffer xid place (reply_stag stag p) (has_segment p.reply) _ _))
@@ -175,6 +175,10 @@ pub client-numbers : (opened : Opened) (es : List Event) → ClientNumbers opene
 client-numbers opened es =
     kept-after (client_rules opened) (ClientNumbers opened) (numbers-after opened) (initial_client opened) es (record { regions = tt; next = (let s : opened.first_stag ≡ opened.first_stag + 0 = omega arith in s) })
 
+pub client-known : (opened : Opened) (link : ℕ) (run : List Mark) → ClientNumbers opened (client opened link run).state
+unfolding client
+client-known opened link run = client-numbers opened (events link Initiator run)
+
 -- ---- A server
 
 abbrev ServerNumbers : ServerState → Type 0
@@ -217,7 +221,7 @@ effect-by_message k place (Some message) h = effect-message k place message (ver
 effect-in : (k : ServerState) (f : Frame) (r : Result Segment ℕ) → ServerNumbers k → AreNumbered 1 (effect_in k f r).regions
 effect-in k f (Err reason) h = h
 effect-in k f (Ok (Tagged last opcode stag to payload)) h =
-    let t : ServerState = with_reach k f (Tagged last opcode stag to payload) in
+    let t : ServerState = with_access k f (Tagged last opcode stag to payload) in
     effect-if (eqb opcode 2 && last) (response_effect t f.end k.reads) (no_effect t) (effect-response t f.end k.reads h) h
 effect-in k f (Ok (Untagged last opcode w queue msn offset payload)) h = effect-by_message k f.end (message_completed k.received (Untagged last opcode w queue msn offset payload)) h
 

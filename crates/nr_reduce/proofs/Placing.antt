@@ -79,11 +79,11 @@ at_place plain J run before after l xid moment payload place reply is h replied 
 -- ---- Once
 
 -- A call that completes didn't complete before.
-pub completes_once : (Fills : List ℕ → List ℕ → Type 0) (opened : Opened) (link xid : ℕ) (outcome : Outcome) (run before after : List Mark) → run ≡ before ++ marks.Done link xid outcome ∷ after
-    → AtEachMark (AskedMark Fills opened link) [] run → (c : CompletedCall) → Contains (completed_calls link before) c → c.xid ≢ xid
-completes_once Fills opened link xid outcome run before after is h c there =
-    let asked : AtEachMark (AskedMark Fills opened link) [] (before ++ marks.Done link xid outcome ∷ after) = subst (λ (r : List Mark). AtEachMark (AskedMark Fills opened link) [] r) is h in
-    (AtEachMark-at (AskedMark Fills opened link) [] before (marks.Done link xid outcome) after asked refl).awaited.first c there
+pub completes_once : (Relates : List ℕ → List ℕ → Type 0) (opened : Opened) (link xid : ℕ) (outcome : Outcome) (run before after : List Mark) → run ≡ before ++ marks.Done link xid outcome ∷ after
+    → AtEachMark (AskedMark Relates opened link) [] run → (c : CompletedCall) → Contains (completed_calls link before) c → c.xid ≢ xid
+completes_once Relates opened link xid outcome run before after is h c there =
+    let asked : AtEachMark (AskedMark Relates opened link) [] (before ++ marks.Done link xid outcome ∷ after) = subst (λ (r : List Mark). AtEachMark (AskedMark Relates opened link) [] r) is h in
+    (AtEachMark-at (AskedMark Relates opened link) [] before (marks.Done link xid outcome) after asked refl).awaited.first c there
 
 -- ---- Xids
 
@@ -156,13 +156,13 @@ accepted_calls-one opened link run call form xid stays =
     ∙ accepts_one opened r.state r.ended (length (bytes_received link Initiator run)) a stays
 
 -- No xid is given twice on a link.
-pub xids_differ : (Fills : List ℕ → List ℕ → Type 0) (opened : Opened) (link : ℕ) (run before between after : List Mark) (call other : Call) (form way : Form) (xid yid : ℕ)
+pub xids_differ : (Relates : List ℕ → List ℕ → Type 0) (opened : Opened) (link : ℕ) (run before between after : List Mark) (call other : Call) (form way : Form) (xid yid : ℕ)
     → run ≡ before ++ marks.Submit link call form (submissions.Accepted xid) ∷ (between ++ marks.Submit link other way (submissions.Accepted yid) ∷ after)
-    → AtEachMark (AskedMark Fills opened link) [] run → xid < yid
-xids_differ Fills opened link run before between after call other form way xid yid is h =
+    → AtEachMark (AskedMark Relates opened link) [] run → xid < yid
+xids_differ Relates opened link run before between after call other form way xid yid is h =
     let first = marks.Submit link call form (submissions.Accepted xid) in
     let second = marks.Submit link other way (submissions.Accepted yid) in
-    let P = AskedMark Fills opened link in
+    let P = AskedMark Relates opened link in
     let asked : AtEachMark P [] (before ++ first ∷ (between ++ second ∷ after)) = subst (λ (r : List Mark). AtEachMark P [] r) is h in
     let one : IsAccepted opened link before call form xid = AtEachMark-at P [] before first (between ++ second ∷ after) asked refl in
     let two : IsAccepted opened link (before ++ first ∷ between) other way yid =

@@ -6,7 +6,7 @@ use Rattle.nr_reduce.specs.declared.item.Item.{Item}
 use Rattle.nr_reduce.specs.declared.item.Of.{Of}
 use Rattle.nr_reduce.specs.declared.item.Cut.{Cut}
 use Rattle.nr_reduce.specs.declared.fault.Mismatch.TheVariants as mismatches
-use Rattle.nr_reduce.specs.Items.{reducible_item, stream_of, moved_of, restored}
+use Rattle.nr_reduce.specs.Items.{reducible_item, stream_of, moved_of, restored_payload}
 use Rattle.nr_reduce.specs.Cuts.{cut_at, cut_of, joined_by, rebuilt_of}
 use Rattle.nr_reduce.proofs.Looks.{item_stands}
 use Rattle.nr_reduce.proofs.Undone.{reducible, restored-moved, moved-length, right_length}

@@ -10,7 +10,7 @@ use Rattle.nr_xdr.proofs.SequencingSteps.{chosen}
 use Rattle.nr_rpc.specs.Reading.{call_of, target_of}
 use Rattle.nr_rpc.specs.declared.head.CallTarget.{CallTarget}
 use Rattle.nr_header.specs.Constants.{PAYLOAD_MAX}
-use Rattle.nr_reduce.specs.Undone.{IsOwn}
+use Rattle.nr_reduce.specs.Undone.{IsNotGiven}
 use Rattle.nr_reduce.specs.declared.call.Form.{Form}
 use Rattle.nr_reduce.specs.declared.call.Form.TheVariants as forms
 use Rattle.nr_reduce.specs.Limits.{moved_max, readdir_max, link_max}
@@ -18,9 +18,9 @@ use Rattle.nr_reduce.specs.declared.item.Item.{Item}
 use Rattle.nr_reduce.specs.declared.item.Of.{Of}
 use Rattle.nr_reduce.specs.Items.{reducible_item, stream_of, moved_of, READ, READLINK, is_nfs, from_place}
 use Rattle.nr_reduce.specs.declared.item.Of.TheVariants.{Call}
-use Rattle.nr_reduce.specs.Largest.{largest_reply, least_reply, target_reply_max, by_count, nfs_reply_max, read_reply_max, readdir_reply_max, rounded, limit_of, limited, read_count, readdir_count, readdirplus_count, READDIR, READDIRPLUS, MOUNT_PROGRAM, MOUNT_VERSION, MNT}
+use Rattle.nr_reduce.specs.Largest.{largest_reply, least_reply, target_reply_max, by_count, nfs_reply_max, read_reply_max, readdir_reply_max, padded_length, limit_of, reply_limits, read_count, readdir_count, readdirplus_count, READDIR, READDIRPLUS, MOUNT_PROGRAM, MOUNT_VERSION, MNT}
 use Rattle.nr_reduce.specs.declared.outline.Plan.{Plan}
-use Rattle.nr_reduce.specs.Plans.{TooLarge, inline_plan, moved_offer, target_offer, write_offer, chunk_for, plan_size, reduced_by, reduced, lengthened, first_within, offering, auto_offer, auto_plan, formed, within, given_within, plan_of}
+use Rattle.nr_reduce.specs.Plans.{TooLarge, inline_plan, moved_offer, target_offer, write_offer, chunk_for, plan_size, reduced_plan_by, reduced_plan, long_plan, first_within, offering, auto_offer, auto_plan, plan_in_form, within, given_within, plan_of}
 
 -- ---- How long a reply may be
 
@@ -56,7 +56,7 @@ nfs_small proc c =
     choose (eqb proc READ) _ _ (or_least (read_count c) read_reply_max (λ n. let p = pad_small (min n moved_max) in omega (arith, p)))
     (choose (eqb proc READDIR) _ _ (or_least (readdir_count c) readdir_reply_max (λ n. omega arith))
     (choose (eqb proc READDIRPLUS) _ _ (or_least (readdirplus_count c) readdir_reply_max (λ n. omega arith))
-    (rows_small limited proc refl)))
+    (rows_small reply_limits proc refl)))
 
 pub largest_small : (payload : List ℕ) → largest_reply payload ≤ most
 unfolding largest_reply
@@ -144,11 +144,11 @@ pub record Plainly (payload : List ℕ) (p : Plan) : Type 0 where
 shaped-plain : (payload : List ℕ) (p : Plan) → Plainly payload p → Shaped payload p
 shaped-plain payload p h = record { way = Inline; is_way = tt; write = h.write; write_small = h.write_small; reply = h.reply; reply_small = h.reply_small; is = h.is }
 
-shaped-reduced : (payload : List ℕ) (p : Plan) → Plainly payload p → Shaped payload (reduced payload p)
-unfolding reduced
+shaped-reduced : (payload : List ℕ) (p : Plan) → Plainly payload p → Shaped payload (reduced_plan payload p)
+unfolding reduced_plan
 shaped-reduced payload p h = by_item (reducible_item Call payload) refl
   where
-    by_item : (o : Option Item) → reducible_item Call payload ≡ o → Shaped payload (reduced_by payload p o)
+    by_item : (o : Option Item) → reducible_item Call payload ≡ o → Shaped payload (reduced_plan_by payload p o)
     by_item None e = shaped-plain payload p h
     by_item (Some i) e = record {
       way = Reduced i;
@@ -157,10 +157,10 @@ shaped-reduced payload p h = by_item (reducible_item Call payload) refl
       write_small = h.write_small;
       reply = h.reply;
       reply_small = h.reply_small;
-      is = ap (λ (q : Plan). reduced_by payload q (Some i)) h.is;
+      is = ap (λ (q : Plan). reduced_plan_by payload q (Some i)) h.is;
     }
 
-shaped-long : (payload : List ℕ) (p : Plan) → Plainly payload p → Shaped payload (lengthened payload p)
+shaped-long : (payload : List ℕ) (p : Plan) → Plainly payload p → Shaped payload (long_plan payload p)
 shaped-long payload p h = record {
   way = Long;
   is_way = tt;
@@ -168,7 +168,7 @@ shaped-long payload p h = record {
   write_small = h.write_small;
   reply = h.reply;
   reply_small = h.reply_small;
-  is = ap (λ (q : Plan). lengthened payload q) h.is;
+  is = ap (λ (q : Plan). long_plan payload q) h.is;
 }
 
 shaped-if : (payload : List ℕ) (b : Bool) (p q : Plan) → Shaped payload p → Shaped payload q → Shaped payload (cond b p q)
@@ -203,12 +203,12 @@ plain-if : (payload : List ℕ) (b : Bool) (p q : Plan) → Plainly payload p �
 plain-if payload true p q h k = h
 plain-if payload false p q h k = k
 
-pub shaped : (payload : List ℕ) (form : Form) (up down : ℕ) → IsOwn form → Shaped payload (formed payload form up down)
+pub shaped : (payload : List ℕ) (form : Form) (up down : ℕ) → IsNotGiven form → Shaped payload (plan_in_form payload form up down)
 shaped payload forms.Auto up down own =
     let p : Plan = auto_offer payload down (inline_plan payload) in
     let plain : Plainly payload p = plain-if payload (leb (28 + largest_reply payload) down) _ _ (plain_none payload) (plain_offering payload) in
     shaped-if payload (leb (plan_size p) up) _ _ (shaped-plain payload p plain)
-    (shaped-if payload (not (eqb (length (reduced payload p).read) 0) && leb (plan_size (reduced payload p)) up) _ _ (shaped-reduced payload p plain) (shaped-long payload p plain))
+    (shaped-if payload (not (eqb (length (reduced_plan payload p).read) 0) && leb (plan_size (reduced_plan payload p)) up) _ _ (shaped-reduced payload p plain) (shaped-long payload p plain))
 shaped payload forms.Inline up down own = shaped-plain payload _ (plain_none payload)
 shaped payload forms.Chunk up down own = shaped-reduced payload _ (plain_write payload)
 shaped payload forms.Long up down own = shaped-long payload _ (plain_reply payload)
@@ -228,17 +228,17 @@ pub record IsPlan (payload : List ℕ) (form : Form) (up down : ℕ) (p : Plan) 
   pub size_fits : plan_size p ≤ up
   pub shaped : Shaped payload p
 
-given-ok : (form : Form) (answer : Result Plan TooLarge) → IsOwn form → given_within form answer ≡ answer
+given-ok : (form : Form) (answer : Result Plan TooLarge) → IsNotGiven form → given_within form answer ≡ answer
 given-ok forms.Auto answer own = refl
 given-ok forms.Inline answer own = refl
 given-ok forms.Chunk answer own = refl
 given-ok forms.Long answer own = refl
 given-ok (forms.Given offer) answer own = absurd own
 
-pub is_plan : (payload : List ℕ) (form : Form) (up down : ℕ) (p : Plan) → IsOwn form → plan_of payload form up down ≡ Ok p → IsPlan payload form up down p
+pub is_plan : (payload : List ℕ) (form : Form) (up down : ℕ) (p : Plan) → IsNotGiven form → plan_of payload form up down ≡ Ok p → IsPlan payload form up down p
 unfolding plan_of
 is_plan payload form up down p own e =
-    let q : Plan = formed payload form up down in
+    let q : Plan = plan_in_form payload form up down in
     let a = within-ok (length payload) PAYLOAD_MAX _ p e in
     let b = within-ok (plan_size q) up (Ok q) p (sym (given-ok form (within (plan_size q) up (Ok q)) own) ∙ a.1) in
     let same : q ≡ p = (let s : Ok q ≡ Ok p = b.1 in cc) in record {

@@ -17,7 +17,7 @@ use Rattle.nr_reduce.specs.declared.call.Form.TheVariants as forms
 use Rattle.nr_reduce.specs.declared.call.Offer.{Offer}
 use Rattle.nr_reduce.specs.declared.outline.Plan.{Plan}
 use Rattle.nr_reduce.specs.Limits.{given_max}
-use Rattle.nr_reduce.specs.Plans.{TooLarge, segments_from, entries_from, read_list, write_list, reply_chunk, write_size, reply_size, plan_size, write_stag, reply_stag, read_stag, given_read, given_plan, given_total, given_within, formed, within, lists_of, body_by, call_message, plan_of}
+use Rattle.nr_reduce.specs.Plans.{TooLarge, segments_from, entries_from, read_list, write_list, reply_chunk, write_size, reply_size, plan_size, write_stag, reply_stag, read_stag, given_read, given_plan, given_total, given_within, plan_in_form, within, lists_of, body_by, call_message, plan_of}
 use Rattle.nr_reduce.proofs.Shapes.{Offering, offered, Way, shape, Shaped, shaped, within-ok}
 use Rattle.nr_reduce.proofs.Shapes.Way.{Inline, Reduced, Long}
 
@@ -154,7 +154,7 @@ given_entries : (payload : List ℕ) (at : ℕ) (read : Option (List ℕ)) (w r 
 given_entries payload at None w r = λ e. refl
 given_entries payload at (Some lengths) w r = λ e. absurd cc
 
-formed_entries : (payload : List ℕ) (form : Form) (up down : ℕ) → HasEntriesAt (formed payload form up down)
+formed_entries : (payload : List ℕ) (form : Form) (up down : ℕ) → HasEntriesAt (plan_in_form payload form up down)
 formed_entries payload forms.Auto up down = shaped_entries payload _ (shaped payload forms.Auto up down tt)
 formed_entries payload forms.Inline up down = shaped_entries payload _ (shaped payload forms.Inline up down tt)
 formed_entries payload forms.Chunk up down = shaped_entries payload _ (shaped payload forms.Chunk up down tt)
@@ -170,13 +170,13 @@ given_ok (forms.Given offer) answer p e = (within-ok (given_total offer) given_m
 
 -- a plan is that of its form, and its size is at most that of a Send
 pub record IsFormed (payload : List ℕ) (form : Form) (up down : ℕ) (p : Plan) : Type 0 where
-  pub is : formed payload form up down ≡ p
+  pub is : plan_in_form payload form up down ≡ p
   pub fits : plan_size p ≤ up
 
 pub is_formed : (payload : List ℕ) (form : Form) (up down : ℕ) (p : Plan) → plan_of payload form up down ≡ Ok p → IsFormed payload form up down p
 unfolding plan_of
 is_formed payload form up down p e =
-    let q : Plan = formed payload form up down in
+    let q : Plan = plan_in_form payload form up down in
     let sent : Result Plan TooLarge = within (plan_size q) up (Ok q) in
     let a = within-ok (length payload) PAYLOAD_MAX (given_within form sent) p e in
     let b = within-ok (plan_size q) up (Ok q) p (given_ok form sent p a.1) in

@@ -111,13 +111,13 @@ allowed grants f segment access own is none =
 pub client_allows : (opened : Opened) (events : List Event) (f : Frame) (segment : Segment) (access : Access) → is_hello f ≡ false → frame_segment f ≡ Ok segment → access_of segment ≡ Some access →
     client_end (end_state_after (client_rules opened) (initial_client opened) events).state (FrameReceived f) ≡ None →
     Allowed (region_grants f.end (end_state_after (client_rules opened) (initial_client opened) events).state.regions) access f.end
-client_allows opened events f segment access later is reaches e =
+client_allows opened events f segment access later is accesses_received e =
     let k : ClientState = (end_state_after (client_rules opened) (initial_client opened) events).state in
-    allowed (region_grants f.end k.regions) f segment access (own-stags f.end opened.first_stag k.regions (client-numbers opened events).regions) reaches (client_touched k f segment later is e)
+    allowed (region_grants f.end k.regions) f segment access (own-stags f.end opened.first_stag k.regions (client-numbers opened events).regions) accesses_received (client_touched k f segment later is e)
 
 pub server_allows : (opened : Opened) (events : List Event) (f : Frame) (segment : Segment) (access : Access) → is_hello f ≡ false → frame_segment f ≡ Ok segment → access_of segment ≡ Some access →
     server_end opened (end_state_after (server_rules opened) (initial_server opened) events).state (FrameReceived f) ≡ None →
     Allowed (region_grants f.end (end_state_after (server_rules opened) (initial_server opened) events).state.regions) access f.end
-server_allows opened events f segment access later is reaches e =
+server_allows opened events f segment access later is accesses_received e =
     let k : ServerState = (end_state_after (server_rules opened) (initial_server opened) events).state in
-    allowed (region_grants f.end k.regions) f segment access (own-stags f.end 1 k.regions (server-numbers opened events)) reaches (server_touched opened k f segment later is e)
+    allowed (region_grants f.end k.regions) f segment access (own-stags f.end 1 k.regions (server-numbers opened events)) accesses_received (server_touched opened k f segment later is e)

@@ -7,7 +7,7 @@ use Rattle.nr_xdr.specs.Item.{IsBytes, pad_len}
 use Rattle.nr_xdr.proofs.SequencingSteps.{chosen}
 use Rattle.nr_reduce.specs.declared.item.Item.{Item}
 use Rattle.nr_reduce.specs.declared.item.Of.{Of}
-use Rattle.nr_reduce.specs.Items.{item_of, ends_with_item, if_ends, reducible_item, stream_of, moved_of, restored}
+use Rattle.nr_reduce.specs.Items.{item_of, ends_with_item, if_ends, reducible_item, stream_of, moved_of, restored_payload}
 use Rattle.nr_reduce.specs.Chunks.{whole, whole_by, has_length}
 use Rattle.nr_reduce.proofs.Looks.{Stands, item_stands}
 
@@ -51,8 +51,8 @@ unfolding reducible_item
 reducible of payload i e = ending of payload i (item_of of payload) refl e
 
 -- The payload is its stream with its item's content put back.
-pub restored-moved : (of : Of) (payload : List ℕ) (i : Item) → Reducible of payload i → restored i (stream_of payload i) (moved_of payload i) ≡ payload
-unfolding restored
+pub restored-moved : (of : Of) (payload : List ℕ) (i : Item) → Reducible of payload i → restored_payload i (stream_of payload i) (moved_of payload i) ≡ payload
+unfolding restored_payload
 restored-moved of payload i r =
     let enough : i.pos ≤ length payload = omega (arith, r.size) in
     let padded : replicate (pad_len i.len) 0 ≡ drop (i.pos + i.len) payload = sym r.pad in
@@ -81,5 +81,5 @@ rebuilt of payload i fits e =
     let r = reducible of payload i e in
     let s = item_stands of payload i fits r.item in
     ap (λ (o : Option Item). whole_by of (stream_of payload i) (moved_of payload i) o) s.again
-    ∙ ap (λ (b : Bool). cond b (Some (restored i (stream_of payload i) (moved_of payload i))) None) (right_length of i (moved_of payload i) (moved-length of payload i r))
+    ∙ ap (λ (b : Bool). cond b (Some (restored_payload i (stream_of payload i) (moved_of payload i))) None) (right_length of i (moved_of payload i) (moved-length of payload i r))
     ∙ ap Some (restored-moved of payload i r)

@@ -6,15 +6,15 @@ use Rattle.nr_reduce.specs.declared.item.Of.TheVariants.{Call}
 use Rattle.nr_reduce.specs.declared.outline.Plan.{Plan}
 use Rattle.nr_reduce.specs.declared.outline.Way.TheVariants.{Inline, Reduced, Long}
 use Rattle.nr_reduce.specs.Items.{reducible_item}
-use Rattle.nr_reduce.specs.Plans.{plan_size, reduced_by, reduced, lengthened, first_within, auto_plan}
+use Rattle.nr_reduce.specs.Plans.{plan_size, reduced_plan_by, reduced_plan, long_plan, first_within, auto_plan}
 use Rattle.nr_reduce.specs.Outlines.{plan_by}
 
 picked : (up : ℕ) (p q r : Plan) (a b : Bool) → leb (plan_size p) up ≡ a → (not (eqb (length q.read) 0) && leb (plan_size q) up) ≡ b → cond a p (cond b q r) ≡ first_within up p q r
 picked up p q r a b e f = λ i. cond (sym e i) p (cond (sym f i) q r)
 
-by_item : (payload : List ℕ) (up : ℕ) (p : Plan) (o : Option Item) → o ≡ reducible_item Call payload → first_within up p (reduced_by payload p o) (lengthened payload p) ≡ auto_plan payload up p
-unfolding reduced
-by_item payload up p o e = ap (λ (o : Option Item). first_within up p (reduced_by payload p o) (lengthened payload p)) e
+by_item : (payload : List ℕ) (up : ℕ) (p : Plan) (o : Option Item) → o ≡ reducible_item Call payload → first_within up p (reduced_plan_by payload p o) (long_plan payload p) ≡ auto_plan payload up p
+unfolding reduced_plan
+by_item payload up p o e = ap (λ (o : Option Item). first_within up p (reduced_plan_by payload p o) (long_plan payload p)) e
 
 pub takes_reduced : (payload : List ℕ) (up inline_size reduced_size : ℕ) (w r : Option ℕ) (i : Item) → Some i ≡ reducible_item Call payload
     → inline_size ≡ plan_size (plan_by payload Inline w r) → up < inline_size → reduced_size ≡ plan_size (plan_by payload (Reduced i) w r) → reduced_size ≤ up

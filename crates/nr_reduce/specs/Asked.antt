@@ -65,18 +65,18 @@ pub record IsRevoked (opened : Opened) (link : ℕ) (before : List Mark) (xid : 
 
 -- The law of each mark. `Fills` says how what was written with this Wrote relates to the output due.
 abbrev pub AskedMark : (List ℕ → List ℕ → Type 0) → Opened → ℕ → List Mark → Mark → Type 0
-AskedMark Fills opened link before (marks.Submit l call form (submissions.Accepted xid)) = l ≡ link → IsAccepted opened link before call form xid
-AskedMark Fills opened link before (marks.Submit l call form (submissions.Refused why)) = Unit {0}
-AskedMark Fills opened link before (marks.Submit l call form submissions.Dropped) = Unit {0}
-AskedMark Fills opened link before (marks.Wrote l Initiator bytes) = l ≡ link → Fills (bytes_sent link Initiator before ++ bytes) (output_due opened link Initiator before)
-AskedMark Fills opened link before (marks.Wrote l Responder bytes) = Unit {0}
-AskedMark Fills opened link before (marks.Fed l side bytes) = Unit {0}
-AskedMark Fills opened link before (marks.Execute l xid moment payload place reply) = Unit {0}
-AskedMark Fills opened link before (marks.Done l xid outcome) = l ≡ link → IsCompleted opened link before xid outcome
-AskedMark Fills opened link before (marks.Lost l xid) = l ≡ link → IsLost opened link before xid
-AskedMark Fills opened link before (marks.Forget l xid) = l ≡ link → IsAwaited link before xid
-AskedMark Fills opened link before (marks.Revoke l xid bytes) = l ≡ link → IsRevoked opened link before xid bytes
-AskedMark Fills opened link before (marks.Drop l) = Unit {0}
+AskedMark Relates opened link before (marks.Submit l call form (submissions.Accepted xid)) = l ≡ link → IsAccepted opened link before call form xid
+AskedMark Relates opened link before (marks.Submit l call form (submissions.Refused why)) = Unit {0}
+AskedMark Relates opened link before (marks.Submit l call form submissions.Dropped) = Unit {0}
+AskedMark Relates opened link before (marks.Wrote l Initiator bytes) = l ≡ link → Relates (bytes_sent link Initiator before ++ bytes) (output_due opened link Initiator before)
+AskedMark Relates opened link before (marks.Wrote l Responder bytes) = Unit {0}
+AskedMark Relates opened link before (marks.Fed l side bytes) = Unit {0}
+AskedMark Relates opened link before (marks.Execute l xid moment payload place reply) = Unit {0}
+AskedMark Relates opened link before (marks.Done l xid outcome) = l ≡ link → IsCompleted opened link before xid outcome
+AskedMark Relates opened link before (marks.Lost l xid) = l ≡ link → IsLost opened link before xid
+AskedMark Relates opened link before (marks.Forget l xid) = l ≡ link → IsAwaited link before xid
+AskedMark Relates opened link before (marks.Revoke l xid bytes) = l ≡ link → IsRevoked opened link before xid bytes
+AskedMark Relates opened link before (marks.Drop l) = Unit {0}
 
 -- in full: each Wrote writes all output that is due by then, and in the end all is written
 abbrev pub IsAll : List ℕ → List ℕ → Type 0

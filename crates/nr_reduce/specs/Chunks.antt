@@ -8,7 +8,7 @@ use Rattle.nr_header.specs.declared.header.ReadSegment.{ReadSegment}
 use Rattle.nr_header.specs.declared.header.ChunkLists.{ChunkLists}
 use Rattle.nr_reduce.specs.declared.item.Item.{Item}
 use Rattle.nr_reduce.specs.declared.item.Of.{Of}
-use Rattle.nr_reduce.specs.Items.{item_of, restored}
+use Rattle.nr_reduce.specs.Items.{item_of, restored_payload}
 use Rattle.nr_reduce.specs.declared.item.Of.TheVariants.{Call, Reply}
 
 -- the bytes under an STag
@@ -19,20 +19,20 @@ abbrev pub segment_bytes : Bytes → RdmaSegment → List ℕ
 segment_bytes memory s = take s.length (drop s.offset (memory s.handle))
 
 -- the bytes of segments, joined in the order of the list
-unfoldable pub joined : Bytes → List RdmaSegment → List ℕ
-joined memory chunk = flat_map (segment_bytes memory) chunk
+unfoldable pub joined_bytes : Bytes → List RdmaSegment → List ℕ
+joined_bytes memory chunk = flat_map (segment_bytes memory) chunk
 
 unfoldable pub chunk_total : List RdmaSegment → ℕ
 chunk_total chunk = sum_by (λ s. s.length) chunk
 
 -- so many bytes fall into segments in the order of the list: each with the length that it gets
-abbrev pub filled : List RdmaSegment → ℕ → List RdmaSegment
-filled [] n = []
-filled (s ∷ chunk) n = record { handle = s.handle; length = min s.length n; offset = s.offset } ∷ filled chunk (n - min s.length n)
+abbrev pub filled_chunk : List RdmaSegment → ℕ → List RdmaSegment
+filled_chunk [] n = []
+filled_chunk (s ∷ chunk) n = record { handle = s.handle; length = min s.length n; offset = s.offset } ∷ filled_chunk chunk (n - min s.length n)
 
 -- ---- Read lists
 
--- the other position of a read list than 0, where it has one (RFC 8166 section 3.4.4)
+-- the other position of a read list than 0, where it has one (RFC 8166 section 3.4.5)
 abbrev pub position_of : Option ReadSegment → Option ℕ
 position_of None = None
 position_of (Some r) = Some r.position
@@ -56,12 +56,12 @@ abbrev pub is_item : Option Item → ℕ → ℕ → Bool
 is_item None position n = false
 is_item (Some i) position n = i.pos == position && (n == i.len || n == i.len + pad_len i.len)
 
-abbrev pub suits_at : List ℕ → List ReadSegment → Option ℕ → Bool
-suits_at stream read None = true
-suits_at stream read (Some position) = is_item (item_of Call stream) position (total_at position read)
+abbrev pub is_read_chunk_at : List ℕ → List ReadSegment → Option ℕ → Bool
+is_read_chunk_at stream read None = true
+is_read_chunk_at stream read (Some position) = is_item (item_of Call stream) position (total_at position read)
 
-unfoldable pub suits : List ℕ → List ReadSegment → Bool
-suits stream read = suits_at stream read (item_position read)
+unfoldable pub is_read_chunk_of_item : List ℕ → List ReadSegment → Bool
+is_read_chunk_of_item stream read = is_read_chunk_at stream read (item_position read)
 
 -- ---- Payloads
 
@@ -73,7 +73,7 @@ has_length (Reply prog vers proc) i moved = length moved == i.len
 
 abbrev pub whole_by : Of → List ℕ → List ℕ → Option Item → Option (List ℕ)
 whole_by of stream moved None = None
-whole_by of stream moved (Some i) = if has_length of i moved then Some (restored i stream moved) else None
+whole_by of stream moved (Some i) = if has_length of i moved then Some (restored_payload i stream moved) else None
 
 abbrev pub whole : Of → List ℕ → Option (List ℕ) → Option (List ℕ)
 whole of stream None = Some stream
@@ -113,12 +113,12 @@ some_bytes (b ∷ bytes) = Some (b ∷ bytes)
 
 abbrev pub reply_moved : Bytes → List (List RdmaSegment) → Option (List ℕ)
 reply_moved memory [] = None
-reply_moved memory (chunk ∷ chunks) = some_bytes (joined memory chunk)
+reply_moved memory (chunk ∷ chunks) = some_bytes (joined_bytes memory chunk)
 
 abbrev pub reply_stream : Bytes → Option (List ℕ) → Option (List RdmaSegment) → List ℕ
 reply_stream memory (Some inline) reply = inline
 reply_stream memory None None = []
-reply_stream memory None (Some chunk) = joined memory chunk
+reply_stream memory None (Some chunk) = joined_bytes memory chunk
 
 -- The payload of a reply: its inline stream, or the reply chunk, and the first write chunk.
 unfoldable pub reply_conveyed : (prog vers proc : ℕ) → Option (List ℕ) → ChunkLists → Bytes → Option (List ℕ)

@@ -15,7 +15,7 @@ use Rattle.nr_link.specs.Output.{send, read_response}
 use Rattle.nr_link.specs.Frames.{Frame, is_hello}
 use Rattle.nr_link.specs.ReceiveState.{received_after, message_completed, ReadRequest, read_request_of}
 use Rattle.nr_link.specs.SegmentFaults.{Readiness}
-use Rattle.nr_link.specs.Ending.{reach_of, frame_segment, frame_end, hello_end, final_output}
+use Rattle.nr_link.specs.Ending.{tagged_access, frame_segment, frame_end, hello_end, final_output}
 use Rattle.nr_regions.specs.declared.denied.Denied.{Denied}
 use Rattle.nr_reduce.specs.OfferedRegions.{Region, region_grants, regions_closed}
 use Rattle.nr_reduce.specs.Events.{Event}
@@ -135,12 +135,12 @@ abbrev pub with_request : ClientState → Option ReadRequest → ClientState
 with_request k None = k
 with_request k (Some r) = record k { responses = k.responses + 1 }
 
--- message and Read Request meet the memory as it stood before the frame
+-- a message and a Read Request are judged by the memory before the frame
 abbrev pub with_segment : ClientState → Frame → Result Segment ℕ → ClientState
 with_segment k f (Err reason) = k
 with_segment k f (Ok segment) =
     let m : ClientState = with_request (with_message k f.end (message_completed k.received segment)) (read_request_of segment) in
-    record m { received = received_after k.received segment; reaches = k.reaches ++ reach_of f segment }
+    record m { received = received_after k.received segment; accesses_received = k.accesses_received ++ tagged_access f segment }
 
 abbrev pub revoked_call : ℕ → OutstandingCall → OutstandingCall
 revoked_call xid o = if o.xid == xid then record o { is_revoked = true } else o

@@ -18,7 +18,8 @@ use Rattle.nr_reduce.specs.Plans.{lists_of}
 use Rattle.nr_reduce.specs.Chunks.{answers_offer, reply_conveyed}
 use Rattle.nr_reduce.specs.ClientState.{OutstandingCall, ClientState, memory_at}
 
--- What the client makes of a message: a reason to end, or the outcome of an xid's call, which is none where its memory was revoked.
+-- What the client makes of a message: a reason to end, or the outcome of an xid's call. That is none
+-- where the call's memory was revoked, unless the message is an error message.
 pub data Verdict : Type 0 where
   EndsLink : (reason : ℕ) → Verdict
   GivesOutcome : (xid : ℕ) → (outcome : Option Outcome) → Verdict

@@ -34,7 +34,7 @@ pub record ClientState : Type 0 where
   pub stag : ℕ
   pub outstanding : List OutstandingCall
   pub regions : List Region
-  pub reaches : List TaggedSegment
+  pub accesses_received : List TaggedSegment
   pub responses : ℕ
   pub outcomes : List CompletedCall
   pub grant : ℕ
@@ -47,7 +47,7 @@ initial_state opened = record {
   stag = opened.first_stag;
   outstanding = [];
   regions = [];
-  reaches = [];
+  accesses_received = [];
   responses = 0;
   outcomes = [];
   grant = 1;
@@ -70,4 +70,4 @@ plan_for k xid call form = plan_of (call_payload xid call) form (up_max k) (down
 
 -- what its regions hold, by STag, where so many bytes were received
 abbrev pub memory_at : ClientState → ℕ → ℕ → List ℕ
-memory_at k place stag = region_bytes (region_grants place k.regions) k.regions k.reaches stag
+memory_at k place stag = region_bytes (region_grants place k.regions) k.regions k.accesses_received stag

@@ -1,4 +1,4 @@
--- A payload cut at its item, and a payload put together again (RFC 8166 section 3.4.4).
+-- A payload cut at its item, and a payload put together again (RFC 8166 section 3.4.1).
 use Rattle.std.specs.Prelude.{◌≡◌, ℕ, ◌==◌, not, if◌then◌else◌, List, Option, None, Some, Result, Ok, Err}
 use Rattle.nr_reduce.specs.declared.item.Item.{Item}
 use Rattle.nr_reduce.specs.declared.item.Of.{Of}
@@ -7,7 +7,7 @@ use Rattle.nr_reduce.specs.declared.fault.PayloadFault.TheVariants as faults
 use Rattle.nr_reduce.specs.declared.fault.Mismatch.{Mismatch}
 use Rattle.nr_reduce.specs.declared.fault.Mismatch.TheVariants as mismatches
 use Rattle.nr_reduce.specs.declared.item.Cut.{Cut}
-use Rattle.nr_reduce.specs.Items.{item_of, reducible_item, stream_of, moved_of, restored}
+use Rattle.nr_reduce.specs.Items.{item_of, reducible_item, stream_of, moved_of, restored_payload}
 use Rattle.nr_reduce.specs.Chunks.{has_length}
 
 -- what is cut of a payload: its item, the stream without it, and its content
@@ -24,7 +24,7 @@ joined_by of stream pos moved None = Err mismatches.NoItem
 joined_by of stream pos moved (Some i) =
     if not (i.pos == pos) then Err mismatches.Position
     else (if not (has_length of i moved) then Err mismatches.Length
-    else Ok (restored i stream moved))
+    else Ok (restored_payload i stream moved))
 
 unfoldable pub rebuilt_of : Of → List ℕ → ℕ → List ℕ → Result (List ℕ) Mismatch
 rebuilt_of of stream pos moved = joined_by of stream pos moved (item_of of stream)

@@ -11,7 +11,7 @@ use Rattle.nr_reduce.specs.declared.item.Item.{Item}
 use Rattle.nr_reduce.specs.declared.item.Of.{Of}
 use Rattle.nr_reduce.specs.Items.{reducible_item, stream_of, moved_of}
 use Rattle.nr_reduce.specs.declared.item.Of.TheVariants.{Reply}
-use Rattle.nr_reduce.specs.Chunks.{chunk_total, filled}
+use Rattle.nr_reduce.specs.Chunks.{chunk_total, filled_chunk}
 use Rattle.nr_link.specs.Output.{write}
 
 -- what goes as the stream, what moves into the first write chunk, and whether the stream goes in the reply chunk
@@ -61,13 +61,13 @@ Holds offer down prog vers proc reply = answer_for offer down prog vers proc rep
 -- ---- What is written for it
 
 -- the chunks of an answer: the first is filled, the others come back empty
-abbrev pub emptied : List (List RdmaSegment) → List (List RdmaSegment)
-emptied [] = []
-emptied (chunk ∷ chunks) = filled chunk 0 ∷ emptied chunks
+abbrev pub empty_chunks : List (List RdmaSegment) → List (List RdmaSegment)
+empty_chunks [] = []
+empty_chunks (chunk ∷ chunks) = filled_chunk chunk 0 ∷ empty_chunks chunks
 
 abbrev pub written_chunks : List (List RdmaSegment) → ℕ → List (List RdmaSegment)
 written_chunks [] n = []
-written_chunks (chunk ∷ chunks) n = filled chunk n ∷ emptied chunks
+written_chunks (chunk ∷ chunks) n = filled_chunk chunk n ∷ empty_chunks chunks
 
 abbrev pub first_chunk : List (List RdmaSegment) → List RdmaSegment
 first_chunk [] = []
@@ -92,7 +92,7 @@ abbrev pub answer_lists : ChunkLists → Answer → ChunkLists
 answer_lists offer a = record {
   read = [];
   write = written_chunks offer.write (length a.moved);
-  reply = if a.long then Some (filled (no_segments offer.reply) (length a.stream)) else None;
+  reply = if a.long then Some (filled_chunk (no_segments offer.reply) (length a.stream)) else None;
 }
 
 abbrev pub answer_body : ChunkLists → Answer → Body

@@ -50,23 +50,23 @@ readdirplus_count c = count_behind readdirplus_args_front c
 abbrev pub least_reply : ℕ
 least_reply = 32
 
-abbrev pub rounded : ℕ → ℕ
-rounded n = n + pad_len n
+abbrev pub padded_length : ℕ → ℕ
+padded_length n = n + pad_len n
 
 -- READ: the data is at most moved_max bytes. READDIR and READDIRPLUS: the results without their status are at most that count
 abbrev pub read_reply_max : ℕ → ℕ
-read_reply_max count = 128 + rounded (min count moved_max)
+read_reply_max count = 128 + padded_length (min count moved_max)
 
 abbrev pub readdir_reply_max : ℕ → ℕ
 readdir_reply_max count = max 116 (28 + min count readdir_max)
 
 -- the procedures whose replies have one limit
-abbrev pub limited : List (ℕ × ℕ)
-limited = (1, 112) ∷ (2, 144) ∷ (3, 272) ∷ (4, 120) ∷ (5, 1144) ∷ (7, 160) ∷ (8, 304) ∷ (9, 304) ∷ (10, 304) ∷ (11, 304)
+abbrev pub reply_limits : List (ℕ × ℕ)
+reply_limits = (1, 112) ∷ (2, 144) ∷ (3, 272) ∷ (4, 120) ∷ (5, 1144) ∷ (7, 160) ∷ (8, 304) ∷ (9, 304) ∷ (10, 304) ∷ (11, 304)
     ∷ (12, 144) ∷ (13, 144) ∷ (14, 260) ∷ (15, 232) ∷ (18, 168) ∷ (19, 164) ∷ (20, 140) ∷ (21, 152) ∷ []
 
 unfoldable pub limit_of : ℕ → ℕ
-limit_of proc = unwrap_or (option_map (λ row. row.1) (find (λ row. row.0 == proc) limited)) least_reply
+limit_of proc = unwrap_or (option_map (λ row. row.1) (find (λ row. row.0 == proc) reply_limits)) least_reply
 
 abbrev pub by_count : (ℕ → ℕ) → Option ℕ → ℕ
 by_count most None = least_reply

@@ -9,34 +9,34 @@ use Rattle.nr_reduce.specs.OfferedMemory.{region_at, AreOffered, AreReceived, Ho
 
 -- What an access to this memory lacks is what it lacks of the grants, for every frame that ends later.
 abbrev pub MemoryDeniesAlike : Type 0
-MemoryDeniesAlike = (regions : List Region) (reaches : List TaggedSegment) (place end : ℕ) (m : RegisteredMemory) (access : Access) →
-    AreOffered place regions → HoldsRegions regions reaches place m → place < end → denial m access ≡ grant_denial (region_grants end regions) access end
+MemoryDeniesAlike = (regions : List Region) (accesses_received : List TaggedSegment) (place end : ℕ) (m : RegisteredMemory) (access : Access) →
+    AreOffered place regions → HoldsRegions regions accesses_received place m → place < end → denial m access ≡ grant_denial (region_grants end regions) access end
 
 -- It stands as it is while more bytes are received.
 abbrev pub MemoryStands : Type 0
-MemoryStands = (regions : List Region) (reaches : List TaggedSegment) (place later : ℕ) (m : RegisteredMemory) → place ≤ later → AreReceived place reaches →
-    HoldsRegions regions reaches place m → HoldsRegions regions reaches later m
+MemoryStands = (regions : List Region) (accesses_received : List TaggedSegment) (place later : ℕ) (m : RegisteredMemory) → place ≤ later → AreReceived place accesses_received →
+    HoldsRegions regions accesses_received place m → HoldsRegions regions accesses_received later m
 
 -- A tagged segment is placed where it lacks nothing.
 abbrev pub MemoryTakesAccess : Type 0
-MemoryTakesAccess = (regions : List Region) (reaches : List TaggedSegment) (place : ℕ) (m : RegisteredMemory) (reach : TaggedSegment) → AreOffered place regions → AreReceived place reaches →
-    ((stag : ℕ) (r : Region) → region_at regions stag ≡ Some r → stag < m.next) → place < reach.end → HoldsRegions regions reaches place m →
-    HoldsRegions regions (reaches ++ reach ∷ []) reach.end (after_event m (Arrive reach))
+MemoryTakesAccess = (regions : List Region) (accesses_received : List TaggedSegment) (place : ℕ) (m : RegisteredMemory) (received_access : TaggedSegment) → AreOffered place regions → AreReceived place accesses_received →
+    ((stag : ℕ) (r : Region) → region_at regions stag ≡ Some r → stag < m.next) → place < received_access.end → HoldsRegions regions accesses_received place m →
+    HoldsRegions regions (accesses_received ++ received_access ∷ []) received_access.end (after_event m (Arrive received_access))
 
 -- Regions are closed where they are released.
 abbrev pub MemoryClosesRegions : Type 0
-MemoryClosesRegions = (test : Region → Bool) (regions : List Region) (reaches : List TaggedSegment) (place later : ℕ) (m after : RegisteredMemory) → place ≤ later → AreReceived place reaches →
-    ReleasesClosed test regions m after → HoldsRegions regions reaches place m → HoldsRegions (regions_closed test later regions) reaches later after
+MemoryClosesRegions = (test : Region → Bool) (regions : List Region) (accesses_received : List TaggedSegment) (place later : ℕ) (m after : RegisteredMemory) → place ≤ later → AreReceived place accesses_received →
+    ReleasesClosed test regions m after → HoldsRegions regions accesses_received place m → HoldsRegions (regions_closed test later regions) accesses_received later after
 
 -- A region is offered where it is after_register, from the bytes on that were received.
 abbrev pub MemoryRegisters : Type 0
-MemoryRegisters = (regions : List Region) (reaches : List TaggedSegment) (place : ℕ) (m : RegisteredMemory) (r : Region) → AreReceived place reaches → region_at regions m.next ≡ None →
-    r.stag ≡ m.next → r.from ≡ place → r.until ≡ None → HoldsRegions regions reaches place m → HoldsRegions (regions ++ r ∷ []) reaches place (after_register m r.right r.bytes)
+MemoryRegisters = (regions : List Region) (accesses_received : List TaggedSegment) (place : ℕ) (m : RegisteredMemory) (r : Region) → AreReceived place accesses_received → region_at regions m.next ≡ None →
+    r.stag ≡ m.next → r.from ≡ place → r.until ≡ None → HoldsRegions regions accesses_received place m → HoldsRegions (regions ++ r ∷ []) accesses_received place (after_register m r.right r.bytes)
 
 -- ---- The regions and accesses themselves
 
 abbrev pub AccessesGoOn : Type 0
-AccessesGoOn = (place : ℕ) (reaches : List TaggedSegment) (reach : TaggedSegment) → place ≤ reach.end → AreReceived place reaches → AreReceived reach.end (reaches ++ reach ∷ [])
+AccessesGoOn = (place : ℕ) (accesses_received : List TaggedSegment) (received_access : TaggedSegment) → place ≤ received_access.end → AreReceived place accesses_received → AreReceived received_access.end (accesses_received ++ received_access ∷ [])
 
 abbrev pub RegionsGoOn : Type 0
 RegionsGoOn = (place later : ℕ) (regions : List Region) → place ≤ later → AreOffered place regions → AreOffered later regions

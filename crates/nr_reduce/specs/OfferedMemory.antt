@@ -19,7 +19,7 @@ AreOffered place (r ∷ regions) = (r.from ≤ place) × (IfSome r.until (λ unt
 -- the peer's tagged segments, where so many bytes were received
 abbrev pub AreReceived : ℕ → List TaggedSegment → Type 0
 AreReceived place [] = Unit {0}
-AreReceived place (reach ∷ reaches) = (reach.end ≤ place) × AreReceived place reaches
+AreReceived place (received_access ∷ accesses_received) = (received_access.end ≤ place) × AreReceived place accesses_received
 
 -- a region as it is held: with its right, and with what the peer's accesses left in it; one that is closed is not
 abbrev pub held_if_open : Option ℕ → HeldRegion → Option HeldRegion
@@ -27,12 +27,12 @@ held_if_open None region = Some region
 held_if_open (Some until) region = None
 
 abbrev pub registered_region : List Grant → List TaggedSegment → Option Region → Option HeldRegion
-registered_region grants reaches None = None
-registered_region grants reaches (Some r) = held_if_open r.until (record { right = r.right; buf = contents grants r.stag r.bytes reaches })
+registered_region grants accesses_received None = None
+registered_region grants accesses_received (Some r) = held_if_open r.until (record { right = r.right; buf = contents grants r.stag r.bytes accesses_received })
 
 -- The memory of an end holds just its open regions, where so many bytes were received.
 abbrev pub HoldsRegions : List Region → List TaggedSegment → ℕ → RegisteredMemory → Type 0
-HoldsRegions regions reaches place m = (stag : ℕ) → live_region m stag ≡ registered_region (region_grants place regions) reaches (region_at regions stag)
+HoldsRegions regions accesses_received place m = (stag : ℕ) → live_region m stag ≡ registered_region (region_grants place regions) accesses_received (region_at regions stag)
 
 -- whether the region under an STag is closed by a test
 abbrev pub is_closed_by : (Region → Bool) → Option Region → Bool

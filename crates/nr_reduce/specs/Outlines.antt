@@ -28,7 +28,7 @@ WayFits payload Inline = Unit {0}
 WayFits payload (Reduced i) = i.pos + i.len ≤ length payload
 WayFits payload Long = Unit {0}
 
--- The answer is that plan, or the first room that is passed, unless memory ran out.
+-- The answer is that plan, or the first limit that it exceeds, unless memory ran out.
 abbrev pub PlanAnswers : Result Plan PayloadFault → Result Plan TooLarge → Type 0
 PlanAnswers (Ok plan) planned = planned ≡ Ok plan
 PlanAnswers (Err (faults.TooLarge need room)) planned = planned ≡ Err (record { need = need; room = room })

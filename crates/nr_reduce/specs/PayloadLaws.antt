@@ -21,7 +21,7 @@ use Rattle.nr_reduce.specs.declared.outline.Plan.{Plan}
 use Rattle.nr_reduce.specs.Plans.{given_region, plan_of, plan_size, regions_needed, call_header, call_message, lists_of, inline_stream, read_stag}
 use Rattle.nr_reduce.specs.Chunks.{Bytes, whole, call_conveyed, read_bytes, reply_conveyed, answers_offer}
 use Rattle.nr_reduce.specs.Holds.{Answer, answer_for, answer_lists, answer_writes, answer_size, answer_message, no_segments}
-use Rattle.nr_reduce.specs.Undone.{IsOwn, Asks, Brings, ReadsAsPlan, inline_by, lists_by, Backs, IsOffer, ReadsAsAnswer, offering, after, answer_segments}
+use Rattle.nr_reduce.specs.Undone.{IsNotGiven, MessageConveys, ChunkHolds, ReadsAsPlan, inline_by, lists_by, RegionsHaveLengths, IsOffer, ReadsAsAnswer, offering, after, answer_segments}
 
 -- What was cut of a payload is put together to that payload again.
 abbrev pub CutIsRebuilt : Type 0
@@ -36,7 +36,7 @@ CutConveys = (of : Of) (payload : List ℕ) (i : Item) → IsBytes payload → r
 -- A plan of a form whose offer isn't given: the numbers of its call fit, and its STags are below 2 ^ 32.
 pub record IsPlanned (payload : List ℕ) (form : Form) (up down xid credit stag : ℕ) (p : Plan) : Type 0 where
   pub bytes : IsBytes payload
-  pub own : IsOwn form
+  pub own : IsNotGiven form
   pub plan : plan_of payload form up down ≡ Ok p
   pub xid_fits : xid < 2 ^ 32
   pub credit_fits : credit < 2 ^ 32
@@ -45,7 +45,7 @@ pub record IsPlanned (payload : List ℕ) (form : Form) (up down xid credit stag
 -- The message of such a plan reads back, and with what its chunks bring it conveys the payload.
 abbrev pub PlanReadsBack : Type 0
 PlanReadsBack = (payload : List ℕ) (form : Form) (up down xid credit stag : ℕ) (p : Plan) → IsPlanned payload form up down xid credit stag p →
-    Asks payload p xid credit stag (call_message xid credit stag p)
+    MessageConveys payload p xid credit stag (call_message xid credit stag p)
 
 -- The message of a plan of any form has the size that was tested, which is at most that of a Send.
 abbrev pub PlanHasItsSize : Type 0
@@ -59,8 +59,8 @@ MessageReadsBack = (xid credit stag : ℕ) (p : Plan) → HeaderFits (call_heade
 
 -- A memory that holds the plan's region under its STag brings its chunks.
 abbrev pub RegionBringsChunks : Type 0
-RegionBringsChunks = (payload : List ℕ) (form : Form) (up down stag : ℕ) (p : Plan) (memory : Bytes) → IsBytes payload → IsOwn form →
-    plan_of payload form up down ≡ Ok p → memory (read_stag stag p) ≡ p.region → Brings (read_bytes memory (lists_of stag p).read) p
+RegionBringsChunks = (payload : List ℕ) (form : Form) (up down stag : ℕ) (p : Plan) (memory : Bytes) → IsBytes payload → IsNotGiven form →
+    plan_of payload form up down ≡ Ok p → memory (read_stag stag p) ≡ p.region → ChunkHolds (read_bytes memory (lists_of stag p).read) p
 
 -- What an offer that is given conveys of a payload, if anything: by a read chunk at position 0 its region; by another its
 -- region, put back into what stands before its position; without one the payload.
@@ -90,7 +90,7 @@ OfferMessageConveys = (payload : List ℕ) (offer : Offer) (up down xid credit s
 -- An answer for an offer that holds a reply conveys that reply, by what its Writes leave in the offered regions.
 abbrev pub AnswerConveysReply : Type 0
 AnswerConveysReply = (read : List ReadSegment) (ws rs : ℕ) (w r : Option (List ℕ)) (down prog vers proc : ℕ) (reply : List ℕ) (a : Answer) (initial : Bytes) →
-    IsBytes reply → Backs initial ws rs w r → answer_for (offering read ws rs w r) down prog vers proc reply ≡ Some a →
+    IsBytes reply → RegionsHaveLengths initial ws rs w r → answer_for (offering read ws rs w r) down prog vers proc reply ≡ Some a →
     reply_conveyed prog vers proc (if a.long then None else Some a.stream) (answer_lists (offering read ws rs w r) a) (after initial (offering read ws rs w r) a) ≡ Some reply
 
 -- What is written for an answer are the segments of its Writes, in order.

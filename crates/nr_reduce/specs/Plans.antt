@@ -75,24 +75,24 @@ unfoldable pub plan_size : Plan → ℕ
 plan_size p = header_size p + length p.inline
 
 -- the call's item in a read chunk, where it has one; else the plan as it is
-abbrev pub reduced_by : List ℕ → Plan → Option Item → Plan
-reduced_by payload p None = p
-reduced_by payload p (Some i) =
+abbrev pub reduced_plan_by : List ℕ → Plan → Option Item → Plan
+reduced_plan_by payload p None = p
+reduced_plan_by payload p (Some i) =
     record { inline = stream_of payload i; read_at = Some i.pos; read = segments_for i.len; region = moved_of payload i; write = p.write; reply = p.reply }
 
-unfoldable pub reduced : List ℕ → Plan → Plan
-reduced payload p = reduced_by payload p (reducible_item Call payload)
+unfoldable pub reduced_plan : List ℕ → Plan → Plan
+reduced_plan payload p = reduced_plan_by payload p (reducible_item Call payload)
 
 -- the whole payload in a chunk at position 0
-abbrev pub lengthened : List ℕ → Plan → Plan
-lengthened payload p =
+abbrev pub long_plan : List ℕ → Plan → Plan
+long_plan payload p =
     record { inline = []; read_at = Some 0; read = segments_for (length payload); region = payload; write = p.write; reply = p.reply }
 
 -- the first of these plans whose Send is no longer than it may be, or the last
 abbrev pub first_within : ℕ → Plan → Plan → Plan → Plan
-first_within up inline reduced long =
+first_within up inline reduced_plan long =
     if nat_le (plan_size inline) up then inline
-    else (if not (length reduced.read == 0) && nat_le (plan_size reduced) up then reduced
+    else (if not (length reduced_plan.read == 0) && nat_le (plan_size reduced_plan) up then reduced_plan
     else long)
 
 -- what a call offers for its reply, where its form is left open
@@ -104,7 +104,7 @@ abbrev pub auto_offer : List ℕ → ℕ → Plan → Plan
 auto_offer payload down p = if nat_le (28 + largest_reply payload) down then p else offering payload (write_offer payload) p
 
 abbrev pub auto_plan : List ℕ → ℕ → Plan → Plan
-auto_plan payload up p = first_within up p (reduced payload p) (lengthened payload p)
+auto_plan payload up p = first_within up p (reduced_plan payload p) (long_plan payload p)
 
 -- an offer that is given, right or wrong
 abbrev pub total : Option (List ℕ) → ℕ
@@ -127,13 +127,13 @@ abbrev pub given_total : Offer → ℕ
 given_total offer = total offer.read + total offer.write + total offer.reply
 
 -- a plan by the form
-abbrev pub formed : List ℕ → Form → (up down : ℕ) → Plan
-formed payload forms.Auto up down = auto_plan payload up (auto_offer payload down (inline_plan payload))
-formed payload forms.Inline up down = inline_plan payload
-formed payload forms.Chunk up down = reduced payload (record (inline_plan payload) { write = chunk_for (write_offer payload) })
-formed payload forms.Long up down =
-    lengthened payload (record (inline_plan payload) { reply = Some (segments_for (largest_reply payload)) })
-formed payload (forms.Given offer) up down = given_plan payload offer
+abbrev pub plan_in_form : List ℕ → Form → (up down : ℕ) → Plan
+plan_in_form payload forms.Auto up down = auto_plan payload up (auto_offer payload down (inline_plan payload))
+plan_in_form payload forms.Inline up down = inline_plan payload
+plan_in_form payload forms.Chunk up down = reduced_plan payload (record (inline_plan payload) { write = chunk_for (write_offer payload) })
+plan_in_form payload forms.Long up down =
+    long_plan payload (record (inline_plan payload) { reply = Some (segments_for (largest_reply payload)) })
+plan_in_form payload (forms.Given offer) up down = given_plan payload offer
 
 -- a number within its room
 abbrev pub within : {A : Type 0} → ℕ → ℕ → Result A TooLarge → Result A TooLarge
@@ -147,13 +147,13 @@ given_within forms.Long answer = answer
 given_within (forms.Given offer) answer = within (given_total offer) given_max answer
 
 -- The plan of a payload in a form, where a Send has at most `up` bytes towards the server and `down` from it; or the first
--- room that it passes: that of a payload, that of an offer that is given, that of its Send.
+-- limit that it exceeds: that of a payload, that of an offer that is given, that of its Send.
 unfoldable pub plan_of : List ℕ → Form → (up down : ℕ) → Result Plan TooLarge
 plan_of payload form up down =
     within (length payload) PAYLOAD_MAX
     (given_within form
-    (within (plan_size (formed payload form up down)) up
-    (Ok (formed payload form up down))))
+    (within (plan_size (plan_in_form payload form up down)) up
+    (Ok (plan_in_form payload form up down))))
 
 -- ---- What a plan registers, under STags from one on, and the message that it makes
 

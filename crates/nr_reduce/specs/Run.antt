@@ -42,9 +42,9 @@ grants_of opened link Responder run = region_grants (length (bytes_received link
 -- what the region under an STag of a side holds
 unfoldable pub placed_bytes : Opened → ℕ → Side → List Mark → ℕ → List ℕ
 placed_bytes opened link Initiator run stag =
-    region_bytes (grants_of opened link Initiator run) (client opened link run).state.regions (client opened link run).state.reaches stag
+    region_bytes (grants_of opened link Initiator run) (client opened link run).state.regions (client opened link run).state.accesses_received stag
 placed_bytes opened link Responder run stag =
-    region_bytes (grants_of opened link Responder run) (server opened link run).state.regions (server opened link run).state.reaches stag
+    region_bytes (grants_of opened link Responder run) (server opened link run).state.regions (server opened link run).state.accesses_received stag
 
 -- whether a side wrote all of its output
 abbrev pub HasWritten : Opened → ℕ → Side → List Mark → Type 0

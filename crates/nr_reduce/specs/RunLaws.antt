@@ -1,5 +1,5 @@
 -- What follows from the definitions of a run, for every run.
-use Rattle.std.specs.Prelude.{◌≡◌, ◌≢◌, ℕ, ◌+◌, ◌-◌, ◌^◌, ◌<◌, ◌≤◌, ◌==◌, ◌&&◌, not, Bool, if◌then◌else◌, true, false, List, [], ◌∷◌, ◌++◌, length, Option, None, Some, Ok, Contains}
+use Rattle.std.specs.Prelude.{◌≡◌, ◌≢◌, ℕ, ◌+◌, ◌-◌, ◌^◌, ◌<◌, ◌≤◌, ◌==◌, ◌&&◌, not, Bool, if◌then◌else◌, true, false, List, [], ◌∷◌, ◌++◌, length, drop, Option, None, Some, Result, Ok, Err, Contains, ◌⊎◌, ◌↔◌}
 use Rattle.std.specs.List.{filter}
 use Rattle.nr_wire.specs.declared.hello.Side.{Side}
 use Rattle.nr_wire.specs.declared.hello.Side.TheVariants.{Initiator, Responder}
@@ -11,6 +11,12 @@ use Rattle.nr_link.specs.Frames.{Frame, is_hello}
 use Rattle.nr_link.specs.Output.{own_hello, send}
 use Rattle.nr_link.specs.Limits.{open_reads_max}
 use Rattle.nr_link.specs.ReceiveState.{message_completed}
+use Rattle.nr_header.specs.declared.header.ChunkLists.{ChunkLists}
+use Rattle.nr_header.specs.declared.header.Body.{Body}
+use Rattle.nr_header.specs.declared.header.Body.TheVariants.{Msg, Nomsg, ErrVers, ErrChunk}
+use Rattle.nr_header.specs.declared.header.Header.{Header}
+use Rattle.nr_header.specs.declared.fault.HeaderFault.{HeaderFault}
+use Rattle.nr_header.specs.Reading.{header_of, HeaderBad}
 use Rattle.nr_rpc.specs.declared.head.CallHead.{CallHead}
 use Rattle.nr_rpc.specs.Reading.{call_of, target_of}
 use Rattle.nr_reduce.specs.Holds.{Answer, answer_writes, answer_message, chunk_error, version_error}
@@ -34,18 +40,18 @@ use Rattle.nr_reduce.specs.Events.{Event, events_at}
 use Rattle.nr_reduce.specs.EndRules.{EndState, next_end_state, end_state_after, output_for, output_for_all, live}
 use Rattle.nr_reduce.specs.OfferedRegions.{region_grants}
 use Rattle.nr_reduce.specs.declared.outline.Plan.{Plan}
-use Rattle.nr_reduce.specs.Plans.{call_message, lists_of, inline_stream}
+use Rattle.nr_reduce.specs.Plans.{call_message, lists_of, inline_stream, has_segment, read_stag}
 use Rattle.nr_reduce.specs.ClientState.{ClientState}
 use Rattle.nr_reduce.specs.Client.{client_rules, client_end, calls_output, initial_client}
 use Rattle.nr_reduce.specs.ServerState.{ServerState, ReadyCall, PendingCall, PendingRead, is_pending, down_max}
 use Rattle.nr_reduce.specs.ServerReads.{open_reads}
-use Rattle.nr_reduce.specs.ServerMessages.{verdict, by_need, call_xid, chunk_bytes}
-use Rattle.nr_reduce.specs.ServerFrames.{frame_effect, call_of_number, is_stream_read, with_reach}
-use Rattle.nr_reduce.specs.Chunks.{suits}
-use Rattle.nr_reduce.specs.ServerMessages.Verdict.{BadChunks, OtherVersion}
+use Rattle.nr_reduce.specs.ServerMessages.{verdict, by_need, no_stream, call_xid, chunk_bytes, payload_of}
+use Rattle.nr_reduce.specs.ServerFrames.{frame_effect, call_of_number, is_stream_read, with_access}
+use Rattle.nr_reduce.specs.Chunks.{is_read_chunk_of_item}
+use Rattle.nr_reduce.specs.ServerMessages.Verdict.{BadChunks, OtherVersion, MakesPending}
 use Rattle.nr_reduce.specs.Server.{server_rules, server_end, server_state_after, initial_server, offer_of, answer_of_target, newly_open_reads, sends_from, requests_from}
 use Rattle.nr_reduce.specs.Events.Event.{FrameReceived}
-use Rattle.nr_reduce.specs.Run.{client, server, output_due, grants_of}
+use Rattle.nr_reduce.specs.Run.{client, server, output_due, grants_of, placed_bytes}
 use Rattle.nr_reduce.specs.Opening.{IsOpened}
 use Rattle.nr_rpc.specs.Credential.{CanWriteCred}
 use Rattle.nr_reduce.specs.Limits.{numbers_end}
@@ -57,6 +63,7 @@ use Rattle.nr_reduce.specs.Matched.{IsPrefixOf}
 use Rattle.nr_reduce.specs.SoFar.{SoFar, InFull}
 use Rattle.nr_reduce.specs.Standing.{input_events, ClientStandsFor, ServerStandsFor}
 use Rattle.nr_reduce.specs.PayloadLaws.{IsPlanned}
+use Rattle.nr_reduce.specs.Undone.{lists_by}
 use Rattle.nr_xdr.specs.Fields.{word_at}
 
 -- A frame doesn't end the server; just this message is due for it, and no call becomes pending or ready.
@@ -65,6 +72,36 @@ pub record IsOnlyAnswered (opened : Opened) (k : ServerState) (f : Frame) (answe
   pub stays : (next_end_state (server_rules opened) (live k) (FrameReceived f)).ended ≡ None
   pub calls : (next_end_state (server_rules opened) (live k) (FrameReceived f)).state.calls ≡ k.calls
   pub ready : (next_end_state (server_rules opened) (live k) (FrameReceived f)).state.ready ≡ k.ready
+
+-- the stream of a message, where it is there before anything is read
+abbrev pub known_stream : List ℕ → Body → Option (List ℕ)
+known_stream message (Msg lists stream_at) = Some (drop stream_at message)
+known_stream message (Nomsg lists) = no_stream lists.read
+known_stream message (ErrVers version low high) = None
+known_stream message (ErrChunk version) = None
+
+-- that stream is there, and the read chunk isn't that of its item
+abbrev pub OtherChunk : ChunkLists → Option (List ℕ) → Type 0
+OtherChunk lists None = ⊥
+OtherChunk lists (Some stream) = is_read_chunk_of_item stream lists.read ≡ false
+
+abbrev pub HasOtherChunk : List ℕ → Result Header HeaderFault → Type 0
+HasOtherChunk message (Ok h) = OtherChunk (lists_by h.body) (known_stream message h.body)
+HasOtherChunk message (Err fault) = ⊥
+
+-- a call that was pending, or that the message of a segment makes pending
+abbrev pub IsCallOf : ServerState → Segment → PendingCall → Type 0
+IsCallOf k segment c =
+    ((number : ℕ) × (call_of_number k number ≡ Some c))
+    ⊎ ((message : List ℕ) × ((message_completed k.received segment ≡ Some message) × (verdict k message ≡ MakesPending c)))
+
+-- the payload of a ready call is conveyed by such a call and the server's memory, with the access of this frame's own segment
+pub record IsConveyed (k : ServerState) (f : Frame) (segment : Segment) (r : ReadyCall) : Type 0 where
+  pub call : PendingCall
+  pub own : IsCallOf k segment call
+  pub payload : payload_of (with_access k f segment) f.end call ≡ Some r.payload
+  pub number : r.number ≡ call.number
+  pub xid : r.xid ≡ call.xid
 
 -- The read of which a segment is the last one: the oldest, where it is the last segment of a Read Response.
 abbrev pub ends_response : Segment → Bool
@@ -79,12 +116,12 @@ pub record IsStreamRefused (k : ServerState) (f : Frame) (segment : Segment) (c 
   pub reads : k.reads ≡ read ∷ others
   pub call : call_of_number k read.number ≡ Some c
   pub stream : is_stream_read c read others ≡ true
-  pub unsuited : suits (chunk_bytes (with_reach k f segment) f.end c 0) c.lists.read ≡ false
+  pub unsuited : is_read_chunk_of_item (chunk_bytes (with_access k f segment) f.end c 0) c.lists.read ≡ false
 
 -- ERR_CHUNK is due for it, before the Read Requests of reads that are newly open; the call is no longer pending, and isn't ready.
 pub record IsRefusedCall (opened : Opened) (k : ServerState) (f : Frame) (c : PendingCall) : Type 0 where
   pub output : output_for (server_rules opened) (live k) (FrameReceived f)
-    ≡ send (k.messages_queued + 1) (chunk_error c.xid k.credit) ++ requests_from (k.requests_sent + 1) (newly_open_reads (frame_effect k f))
+      ≡ send (k.messages_queued + 1) (chunk_error c.xid k.credit) ++ requests_from (k.requests_sent + 1) (newly_open_reads (frame_effect k f))
   pub stays : (next_end_state (server_rules opened) (live k) (FrameReceived f)).ended ≡ None
   pub calls : (next_end_state (server_rules opened) (live k) (FrameReceived f)).state.calls ≡ filter (λ other. not (other.number == c.number)) k.calls
   pub ready : (next_end_state (server_rules opened) (live k) (FrameReceived f)).state.ready ≡ k.ready
@@ -95,10 +132,10 @@ pub record OpensReads (opened : Opened) (k : ServerState) (f : Frame) (segment :
   pub kept : (frame_effect k f).kept ≡ (if ends_response segment then length (open_reads k) - 1 else length (open_reads k))
   pub count : (frame_effect k f).kept + length (newly_open_reads (frame_effect k f)) ≡ length (open_reads (server_state_after opened k (FrameReceived f)))
   pub requests : output_for (server_rules opened) (live k) (FrameReceived f)
-    ≡ sends_from (k.messages_queued + 1) (frame_effect k f).errors ++ requests_from (k.requests_sent + 1) (newly_open_reads (frame_effect k f))
+      ≡ sends_from (k.messages_queued + 1) (frame_effect k f).errors ++ requests_from (k.requests_sent + 1) (newly_open_reads (frame_effect k f))
   pub few : length (open_reads (server_state_after opened k (FrameReceived f))) ≤ open_reads_max
   pub none_waits : length (open_reads (server_state_after opened k (FrameReceived f))) < open_reads_max →
-    open_reads (server_state_after opened k (FrameReceived f)) ≡ (server_state_after opened k (FrameReceived f)).reads
+      open_reads (server_state_after opened k (FrameReceived f)) ≡ (server_state_after opened k (FrameReceived f)).reads
 
 -- ---- One mark more
 
@@ -231,6 +268,12 @@ SubmitIsSent = (opened : Opened) (link : ℕ) (run : List Mark) (call : Call) (f
     × ((client opened link run).state.has_hello ≡ false →
     output_due opened link Initiator (run ++ marks.Submit link call form (submissions.Accepted xid) ∷ []) ≡ output_due opened link Initiator run)
 
+-- From its Submit on the region of a call's read chunk holds what its plan put there, whatever the peer sends: so the Send of the
+-- call conveys its payload over its regions.
+abbrev pub ReadChunkStays : Type 0
+ReadChunkStays = (opened : Opened) (link : ℕ) (run more : List Mark) (call : Call) (form : Form) (xid : ℕ) → (h : IsAccepted opened link run call form xid) → has_segment (Some h.plan.read) ≡ true →
+    placed_bytes opened link Initiator (run ++ marks.Submit link call form (submissions.Accepted xid) ∷ more) (read_stag (client opened link run).state.stag h.plan) ≡ h.plan.region
+
 -- For the server's hello, where it doesn't end the client, the Sends of all calls that are outstanding are due, in the order of their
 -- Submits, numbered from 1 on. From then on the client has the hello.
 abbrev pub HelloSendsCalls : Type 0
@@ -242,6 +285,11 @@ HelloSendsCalls = (opened : Opened) (k : ClientState) (f : Frame) → is_hello f
 abbrev pub PayloadHasItsXid : Type 0
 PayloadHasItsXid = (opened : Opened) (link : ℕ) (run : List Mark) (xid : ℕ) (payload : List ℕ) → IsExecuted opened link run xid payload →
     (head : CallHead) × ((call_of payload ≡ Ok head) × (call_xid head ≡ xid))
+
+-- A call that a frame makes ready has the payload that is conveyed, as the frame is received, by the lists and the stream of a call
+-- that was pending or that the frame's message makes pending, and by the server's memory. It has that call's number and xid.
+abbrev pub ReadyIsConveyed : Type 0
+ReadyIsConveyed = (k : ServerState) (f : Frame) (segment : Segment) (r : ReadyCall) → frame_segment f ≡ Ok segment → (frame_effect k f).ready ≡ r ∷ [] → IsConveyed k f segment r
 
 -- It is answered by RDMA Writes and then one Send where the offer of the pending call of its xid holds the reply, else by ERR_CHUNK.
 abbrev pub ExecuteIsAnswered : Type 0
@@ -263,6 +311,12 @@ RefusedSendIsAnswered = (opened : Opened) (k : ServerState) (f : Frame) (segment
     (verdict k message ≡ BadChunks → IsOnlyAnswered opened k f (chunk_error (word_at 0 message) k.credit))
     × (verdict k message ≡ OtherVersion → IsOnlyAnswered opened k f (version_error (word_at 0 message) (word_at 4 message) k.credit))
 
+-- Of a message with the fixed words, version 1 and another kind than RDMA_DONE and RDMA_ERROR, whose xid isn't pending, ERR_CHUNK is
+-- due exactly where its header is bad, or its stream is there and its read chunk isn't that of its item.
+abbrev pub BadMessageIsRefused : Type 0
+BadMessageIsRefused = (k : ServerState) (message : List ℕ) → 16 ≤ length message → word_at 4 message ≡ 1 → word_at 12 message ≢ 3 → word_at 12 message ≢ 4 → is_pending k (word_at 0 message) ≡ false →
+    verdict k message ≡ BadChunks ↔ (HeaderBad message ⊎ HasOtherChunk message (header_of message))
+
 -- So is a call whose stream had to be read, and whose read chunk isn't its item's.
 abbrev pub RefusedCallIsAnswered : Type 0
 RefusedCallIsAnswered = (opened : Opened) (k : ServerState) (f : Frame) (segment : Segment) (c : PendingCall) → is_hello f ≡ false → frame_segment f ≡ Ok segment →
@@ -273,8 +327,8 @@ abbrev pub OpenReadsAreFew : Type 0
 OpenReadsAreFew = (opened : Opened) (k : ServerState) (f : Frame) (segment : Segment) → is_hello f ≡ false → frame_segment f ≡ Ok segment →
     server_end opened k (FrameReceived f) ≡ None → OpensReads opened k f segment
 
--- A server never refuses the message of a plan whose form isn't given: the call is pending, with the plan's lists and stream, where
--- its xid wasn't and STags are left for its reads.
+-- The message of a plan whose form isn't given, of a payload that isn't empty, is judged by the STags that its reads need, where its
+-- xid isn't pending: its call is pending, with the plan's lists and stream, or the link ends because too few STags are left.
 abbrev pub PlanIsAccepted : Type 0
 PlanIsAccepted = (k : ServerState) (payload : List ℕ) (form : Form) (up down xid credit stag : ℕ) (p : Plan) → IsPlanned payload form up down xid credit stag p →
     0 < length payload → is_pending k xid ≡ false →

@@ -31,18 +31,18 @@ pub record IsExecuted (opened : Opened) (link : ℕ) (before : List Mark) (xid :
 
 -- The law of each mark: calls are executed in the order in which they became whole, none twice and none passed over.
 abbrev pub ServedMark : (List ℕ → List ℕ → Type 0) → Opened → ℕ → List Mark → Mark → Type 0
-ServedMark Fills opened link before (marks.Submit l call form answer) = Unit {0}
-ServedMark Fills opened link before (marks.Wrote l Initiator bytes) = Unit {0}
-ServedMark Fills opened link before (marks.Wrote l Responder bytes) =
-    l ≡ link → Fills (bytes_sent link Responder before ++ bytes) (output_due opened link Responder before)
-ServedMark Fills opened link before (marks.Fed l side bytes) = Unit {0}
-ServedMark Fills opened link before (marks.Execute l xid moment payload place reply) =
+ServedMark Relates opened link before (marks.Submit l call form answer) = Unit {0}
+ServedMark Relates opened link before (marks.Wrote l Initiator bytes) = Unit {0}
+ServedMark Relates opened link before (marks.Wrote l Responder bytes) =
+    l ≡ link → Relates (bytes_sent link Responder before ++ bytes) (output_due opened link Responder before)
+ServedMark Relates opened link before (marks.Fed l side bytes) = Unit {0}
+ServedMark Relates opened link before (marks.Execute l xid moment payload place reply) =
     l ≡ link → IsExecuted opened link before xid payload
-ServedMark Fills opened link before (marks.Done l xid outcome) = Unit {0}
-ServedMark Fills opened link before (marks.Lost l xid) = Unit {0}
-ServedMark Fills opened link before (marks.Forget l xid) = Unit {0}
-ServedMark Fills opened link before (marks.Revoke l xid bytes) = Unit {0}
-ServedMark Fills opened link before (marks.Drop l) = Unit {0}
+ServedMark Relates opened link before (marks.Done l xid outcome) = Unit {0}
+ServedMark Relates opened link before (marks.Lost l xid) = Unit {0}
+ServedMark Relates opened link before (marks.Forget l xid) = Unit {0}
+ServedMark Relates opened link before (marks.Revoke l xid bytes) = Unit {0}
+ServedMark Relates opened link before (marks.Drop l) = Unit {0}
 
 pub record Served (opened : Opened) (link : ℕ) (run : List Mark) : Type 0 where
   pub each : AtEachMark (ServedMark IsAll opened link) [] run

@@ -20,7 +20,7 @@ use Rattle.nr_link.specs.Output.{send, read_request, own_hello, refusing_hello}
 use Rattle.nr_link.specs.Frames.{Frame, is_hello}
 use Rattle.nr_link.specs.ReceiveState.{ReceiveState, received_after}
 use Rattle.nr_link.specs.SegmentFaults.{Readiness}
-use Rattle.nr_link.specs.Ending.{reach_of, frame_segment, frame_end, hello_end, final_output}
+use Rattle.nr_link.specs.Ending.{tagged_access, frame_segment, frame_end, hello_end, final_output}
 use Rattle.nr_regions.specs.declared.denied.Denied.{Denied}
 use Rattle.nr_reduce.specs.OfferedRegions.{region_grants, regions_closed}
 use Rattle.nr_reduce.specs.Events.{Event}
@@ -128,9 +128,9 @@ response_bytes_after k (Ok (Tagged last opcode stag to payload)) = if last then 
 response_bytes_after k (Ok (Untagged last opcode w queue msn offset payload)) = k.response_bytes
 response_bytes_after k (Err reason) = k.response_bytes
 
-abbrev pub reaches_by : Frame → Result Segment ℕ → List TaggedSegment
-reaches_by f (Ok segment) = reach_of f segment
-reaches_by f (Err reason) = []
+abbrev pub tagged_accesses : Frame → Result Segment ℕ → List TaggedSegment
+tagged_accesses f (Ok segment) = tagged_access f segment
+tagged_accesses f (Err reason) = []
 
 abbrev pub with_effect : ServerState → Frame → FrameEffect → ServerState
 with_effect k f s = record {
@@ -140,7 +140,7 @@ with_effect k f s = record {
   response_bytes = response_bytes_after k (frame_segment f);
   requests_sent = k.requests_sent + length (newly_open_reads s);
   regions = regions_closed (is_over s.calls s.reads) f.end s.regions;
-  reaches = k.reaches ++ reaches_by f (frame_segment f);
+  accesses_received = k.accesses_received ++ tagged_accesses f (frame_segment f);
   messages_queued = k.messages_queued + length s.errors;
   messages_written = k.messages_written;
   ready = k.ready ++ s.ready;

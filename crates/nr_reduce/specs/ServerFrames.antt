@@ -4,11 +4,11 @@ use Rattle.std.specs.List.{filter, find}
 use Rattle.nr_wire.specs.Constants.{OPCODE_READ_RESPONSE}
 use Rattle.nr_wire.specs.Segment.{Segment}
 use Rattle.nr_wire.specs.Segment.Segment.{Tagged, Untagged}
-use Rattle.nr_reduce.specs.Chunks.{suits}
+use Rattle.nr_reduce.specs.Chunks.{is_read_chunk_of_item}
 use Rattle.nr_reduce.specs.Holds.{chunk_error, version_error}
 use Rattle.nr_link.specs.Frames.{Frame}
 use Rattle.nr_link.specs.ReceiveState.{message_completed}
-use Rattle.nr_link.specs.Ending.{reach_of, frame_segment}
+use Rattle.nr_link.specs.Ending.{tagged_access, frame_segment}
 use Rattle.nr_reduce.specs.OfferedRegions.{Region}
 use Rattle.nr_reduce.specs.ServerState.{PendingCall, PendingRead, ReadyCall, ServerState, credit_word}
 use Rattle.nr_reduce.specs.ServerReads.{open_reads, regions_of, reads_of, is_read, is_read_at}
@@ -75,7 +75,7 @@ is_stream_read c r reads = r.position == 0 && is_read_at reads c.number 0
 abbrev pub read_effect : ServerState → ℕ → PendingRead → Option PendingCall → FrameEffect → FrameEffect
 read_effect k place r None s = s
 read_effect k place r (Some c) s =
-    if is_stream_read c r s.reads && not (suits (chunk_bytes k place c 0) c.lists.read) then with_refused_call k c s
+    if is_stream_read c r s.reads && not (is_read_chunk_of_item (chunk_bytes k place c 0) c.lists.read) then with_refused_call k c s
     else ready_if_whole k place c s
 
 abbrev pub call_of_number : ServerState → ℕ → Option PendingCall
@@ -95,11 +95,11 @@ by_message k place None = no_effect k
 by_message k place (Some message) = message_effect k place message (verdict k message)
 
 -- with the access of this frame's own segment
-abbrev pub with_reach : ServerState → Frame → Segment → ServerState
-with_reach k f segment = record k { reaches = k.reaches ++ reach_of f segment }
+abbrev pub with_access : ServerState → Frame → Segment → ServerState
+with_access k f segment = record k { accesses_received = k.accesses_received ++ tagged_access f segment }
 
 abbrev pub effect_by : ServerState → Frame → Segment → FrameEffect
-effect_by k f (Tagged last opcode stag to payload) = tagged_effect (with_reach k f (Tagged last opcode stag to payload)) f.end opcode last
+effect_by k f (Tagged last opcode stag to payload) = tagged_effect (with_access k f (Tagged last opcode stag to payload)) f.end opcode last
 effect_by k f (Untagged last opcode w queue msn offset payload) =
     by_message k f.end (message_completed k.received (Untagged last opcode w queue msn offset payload))
 

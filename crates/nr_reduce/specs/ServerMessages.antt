@@ -14,7 +14,7 @@ use Rattle.nr_rpc.specs.declared.head.CallHead.TheVariants as calls
 use Rattle.nr_rpc.specs.Reading.{call_of}
 use Rattle.nr_reduce.specs.Limits.{numbers_end}
 use Rattle.nr_link.specs.Reasons.{REASON_KIND, REASON_HEAD, REASON_XID, REASON_CALL, REASON_STAGS}
-use Rattle.nr_reduce.specs.Chunks.{total_at, suits, call_conveyed}
+use Rattle.nr_reduce.specs.Chunks.{total_at, is_read_chunk_of_item, call_conveyed}
 use Rattle.nr_reduce.specs.ServerState.{PendingCall, ReadyCall, ServerState, next_stag, is_pending, memory_at}
 use Rattle.nr_reduce.specs.ServerReads.{chunks_of, sink_of}
 use Rattle.nr_xdr.specs.Fields.{word_at}
@@ -60,7 +60,7 @@ by_need k c = if nat_lt numbers_end (next_stag k + length (chunks_of c.lists)) t
 abbrev pub by_stream : ServerState → ChunkLists → ℕ → Option (List ℕ) → Verdict
 by_stream k lists xid None = by_need k (record { number = k.received.sends + 1; xid = xid; lists = lists; inline = None })
 by_stream k lists xid (Some stream) =
-    if suits stream lists.read then by_need k (record { number = k.received.sends + 1; xid = xid; lists = lists; inline = Some stream }) else BadChunks
+    if is_read_chunk_of_item stream lists.read then by_need k (record { number = k.received.sends + 1; xid = xid; lists = lists; inline = Some stream }) else BadChunks
 
 -- RDMA_NOMSG has its stream in the read chunk at position 0, which may have no bytes (RFC 8166 section 3.5.3)
 abbrev pub has_position : List ReadSegment → Bool

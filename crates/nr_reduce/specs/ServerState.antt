@@ -44,7 +44,7 @@ pub record ServerState : Type 0 where
   pub response_bytes : ℕ
   pub requests_sent : ℕ
   pub regions : List Region
-  pub reaches : List TaggedSegment
+  pub accesses_received : List TaggedSegment
   pub messages_queued : ℕ
   pub messages_written : ℕ
   pub ready : List ReadyCall
@@ -58,7 +58,7 @@ initial_state opened = record {
   response_bytes = 0;
   requests_sent = 0;
   regions = [];
-  reaches = [];
+  accesses_received = [];
   messages_queued = 0;
   messages_written = 0;
   ready = [];
@@ -94,4 +94,4 @@ is_pending k xid = list_any (λ c. c.xid == xid) k.calls
 
 -- what its regions hold, by STag, where so many bytes were received
 abbrev pub memory_at : ServerState → ℕ → ℕ → List ℕ
-memory_at k place stag = region_bytes (region_grants place k.regions) k.regions k.reaches stag
+memory_at k place stag = region_bytes (region_grants place k.regions) k.regions k.accesses_received stag

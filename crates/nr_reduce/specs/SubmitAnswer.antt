@@ -16,7 +16,7 @@ use Rattle.nr_reduce.specs.ClientState.{ClientState, plan_for}
 use Rattle.nr_reduce.specs.Run.{client}
 use Rattle.nr_reduce.specs.History.{is_dropped}
 
--- The first of these that stands: it has ended; the call needs more room than there is; no credit is left; too few xids or STags
+-- The first of these that applies: it has ended; the call needs more room than there is; no credit is left; too few xids or STags
 -- are left. Else the call is accepted under the next xid.
 abbrev pub next_xid : Opened → ClientState → ℕ
 next_xid opened k = opened.first_xid + k.calls_accepted

@@ -25,12 +25,12 @@ use Rattle.nr_link.specs.Output.{segment_count, segment_payload}
 use Rattle.nr_reduce.specs.Holds.{Answer, answer_lists, first_chunk, no_segments}
 
 -- the forms whose offers aren't given
-abbrev pub IsOwn : Form → Type 0
-IsOwn forms.Auto = Unit {0}
-IsOwn forms.Inline = Unit {0}
-IsOwn forms.Chunk = Unit {0}
-IsOwn forms.Long = Unit {0}
-IsOwn (forms.Given offer) = ⊥
+abbrev pub IsNotGiven : Form → Type 0
+IsNotGiven forms.Auto = Unit {0}
+IsNotGiven forms.Inline = Unit {0}
+IsNotGiven forms.Chunk = Unit {0}
+IsNotGiven forms.Long = Unit {0}
+IsNotGiven (forms.Given offer) = ⊥
 
 -- the stream that comes with a message
 abbrev pub inline_by : List ℕ → Body → Option (List ℕ)
@@ -46,15 +46,15 @@ lists_by (ErrVers version low high) = record { read = []; write = []; reply = No
 lists_by (ErrChunk version) = record { read = []; write = []; reply = None }
 
 -- a chunk of the plan's read list brings its region
-abbrev pub Brings : (ℕ → List ℕ) → Plan → Type 0
-Brings chunk p = IfSome p.read_at (λ position. chunk position ≡ p.region)
+abbrev pub ChunkHolds : (ℕ → List ℕ) → Plan → Type 0
+ChunkHolds chunk p = IfSome p.read_at (λ position. chunk position ≡ p.region)
 
 -- A message is read under this xid, with these credits, and with the chunks of its plan it conveys the payload.
-pub record Asks (payload : List ℕ) (p : Plan) (xid credit stag : ℕ) (message : List ℕ) : Type 0 where
+pub record MessageConveys (payload : List ℕ) (p : Plan) (xid credit stag : ℕ) (message : List ℕ) : Type 0 where
   pub body : Body
   pub reads : header_of message ≡ Ok (record { xid = xid; credit = credit; body = body })
   pub lists : lists_by body ≡ lists_of stag p
-  pub conveys : (chunk : ℕ → List ℕ) → Brings chunk p → call_conveyed (inline_by message body) (lists_of stag p).read chunk ≡ Some payload
+  pub conveys : (chunk : ℕ → List ℕ) → ChunkHolds chunk p → call_conveyed (inline_by message body) (lists_of stag p).read chunk ≡ Some payload
 
 -- A message is read under this xid, with these credits, with the lists of its plan and its stream.
 pub record ReadsAsPlan (p : Plan) (xid credit stag : ℕ) (message : List ℕ) : Type 0 where
@@ -66,10 +66,10 @@ pub record ReadsAsPlan (p : Plan) (xid credit stag : ℕ) (message : List ℕ) :
 -- ---- Writes
 
 -- tagged segments for an STag lay their payloads over its bytes, the later over the earlier
-abbrev pub laid : ℕ → List ℕ → List WireSegment → List ℕ
-laid stag bytes [] = bytes
-laid stag bytes (Tagged last opcode s to payload ∷ segments) = laid stag (if s == stag then bytes_after_write bytes to payload else bytes) segments
-laid stag bytes (Untagged last opcode w queue msn offset payload ∷ segments) = laid stag bytes segments
+abbrev pub bytes_after_segments : ℕ → List ℕ → List WireSegment → List ℕ
+bytes_after_segments stag bytes [] = bytes
+bytes_after_segments stag bytes (Tagged last opcode s to payload ∷ segments) = bytes_after_segments stag (if s == stag then bytes_after_write bytes to payload else bytes) segments
+bytes_after_segments stag bytes (Untagged last opcode w queue msn offset payload ∷ segments) = bytes_after_segments stag bytes segments
 
 -- the segments of one RDMA Write
 abbrev pub one_write : ℕ → ℕ → List ℕ → ℕ → WireSegment
@@ -96,7 +96,7 @@ abbrev pub offering : List ReadSegment → (ws rs : ℕ) → (w r : Option (List
 offering read ws rs w r = record { read = read; write = write_list ws w; reply = reply_chunk rs r }
 
 -- the regions have the lengths of their chunks, and are two
-pub record Backs (initial : Bytes) (ws rs : ℕ) (w r : Option (List ℕ)) : Type 0 where
+pub record RegionsHaveLengths (initial : Bytes) (ws rs : ℕ) (w r : Option (List ℕ)) : Type 0 where
   pub write : has_segment w ≡ true → length (initial ws) ≡ total w
   pub reply : has_segment r ≡ true → length (initial rs) ≡ total r
   pub apart : has_segment w ≡ true → ws ≢ rs
@@ -115,4 +115,4 @@ pub record ReadsAsAnswer (offer : ChunkLists) (a : Answer) (xid credit : ℕ) (m
 
 -- what a memory holds after an answer's Writes
 abbrev pub after : Bytes → ChunkLists → Answer → Bytes
-after initial offer a stag = laid stag (initial stag) (answer_segments offer a)
+after initial offer a stag = bytes_after_segments stag (initial stag) (answer_segments offer a)

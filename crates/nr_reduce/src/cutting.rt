@@ -1,9 +1,9 @@
-//! A payload cut at its item, and put together again (RFC 8166 section 3.4.4).
+//! A payload cut at its item, and put together again (RFC 8166 section 3.4.1).
 
 ghost use Rattle.std.specs.Prelude.{◌≡◌, ◌+◌, ◌==◌, ◌<◌, ◌≤◌, ◌++◌, length, replicate, Some, IfOk, IfErr, IfSome};
 ghost use Rattle.std.specs.List.{list_all};
 ghost use Rattle.nr_xdr.specs.Item.{pad_len};
-ghost use Rattle.nr_reduce.specs.Items.{ends_with_item, reducible_item, stream_of, moved_of, restored};
+ghost use Rattle.nr_reduce.specs.Items.{ends_with_item, reducible_item, stream_of, moved_of, restored_payload};
 ghost use Rattle.nr_reduce.specs.Chunks.{has_length, IsWhole};
 ghost use Rattle.nr_reduce.specs.Cuts.{cut_of, rebuilt_of, Rebuilds};
 
@@ -116,11 +116,11 @@ fn joined(alloc: Global, front: &[u8], behind: &[u8]) -> Result<Octets, Memory>
     Ok(octets)
 }
 
-#[tactic(auto, unfolding(crate::specs::Items::restored))]
+#[tactic(auto, unfolding(crate::specs::Items::restored_payload))]
 fn restored(alloc: Global, stream: &[u8], item: &Item, moved: &[u8]) -> Result<Octets, Memory>
     requires place { item.now.pos ≤ length stream.now }
     requires content { item.now.len ≤ length moved.now }
-    ensures { IfOk result (λ p. p ≡ restored item.now stream.now moved.now) }
+    ensures { IfOk result (λ p. p ≡ restored_payload item.now stream.now moved.now) }
 {
     let len = item.len as usize;
     let (front, behind) = stream.split_at(item.pos);

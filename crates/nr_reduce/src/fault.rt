@@ -6,7 +6,7 @@ ghost use Rattle.nr_reduce.specs.declared.fault.PayloadFault.TheVariants as faul
 use nr_xdr::Memory;
 use thiserror::Error;
 
-/// In which way a stream and a chunk of its own don't belong together (RFC 8166 section 3.4.4).
+/// In which way a stream and a chunk of its own don't belong together (RFC 8166 section 3.4.1).
 #[derive(Clone, Copy, Debug, PartialEq, Eq, Error)]
 pub enum Mismatch {
     /// The stream has no item.

@@ -14,7 +14,7 @@ use nr_nfs_base::{
 use nr_rpc::{ReplyHead, call_target, read_reply};
 use nr_xdr::{Octets, Reader};
 
-/// An item (RFC 8166 section 3.4.4): `pos` is the place of its first byte in the payload, `len` the number of its bytes,
+/// An item (RFC 8166 section 3.4.2): `pos` is the place of its first byte in the payload, `len` the number of its bytes,
 /// which its length word says.
 #[derive(Clone, Copy, Debug, PartialEq, Eq)]
 pub struct Item {
@@ -107,7 +107,7 @@ fn result_item(prog: u32, vers: u32, proc: u32, results: Reader<'_>) -> Option<I
     }
 }
 
-/// The item of a call (RFC 8267 section 2): the data of WRITE or the path of SYMLINK, where the call's head and its
+/// The item of a call (RFC 8267 section 3): the data of WRITE or the path of SYMLINK, where the call's head and its
 /// arguments can be read up to the length word. What follows that word isn't looked at. Takes no memory.
 pub fn call_item(payload: &[u8]) -> Option<Item>
     ensures exact { result ≡ call_item payload.now }
@@ -145,7 +145,7 @@ fn results_of(payload: &[u8]) -> Option<usize>
     }
 }
 
-/// The item of a reply to a call of this program, version and procedure (RFC 8267 section 2): the data of READ or the path
+/// The item of a reply to a call of this program, version and procedure (RFC 8267 section 3): the data of READ or the path
 /// of READLINK, where the call was accepted with status 0 and the results can be read up to the length word. What follows
 /// that word isn't looked at. Takes no memory.
 pub fn reply_item(prog: u32, vers: u32, proc: u32, payload: &[u8]) -> Option<Item>

@@ -2,7 +2,7 @@
 
 ghost use Rattle.std.specs.Prelude.{◌≡◌, ◌+◌, ◌<◌, ◌≤◌};
 ghost use Rattle.nr_reduce.specs.Behind.{number_behind};
-ghost use Rattle.nr_reduce.specs.Largest.{rounded, by_count, read_reply_max, readdir_reply_max, limit_of, nfs_reply_max, program_reply_max, largest_reply};
+ghost use Rattle.nr_reduce.specs.Largest.{padded_length, by_count, read_reply_max, readdir_reply_max, limit_of, nfs_reply_max, program_reply_max, largest_reply};
 
 use crate::cutting::pad_len;
 use crate::item::{is_nfs, reader_at};
@@ -34,7 +34,7 @@ pub(crate) fn number_behind(front: Option<Reader<'_>>) -> Option<u32>
 /// So many bytes and their pad.
 fn rounded(len: u32) -> u32
     requires { len ≤ 4294967292 }
-    ensures is { result ≡ rounded len }
+    ensures is { result ≡ padded_length len }
     ensures small { result < len + 4 }
 {
     len + pad_len(len as usize) as u32

@@ -11,7 +11,7 @@ pub fn rebuild_undoes_cut()
 /// The message of a plan of any form has the size that was tested. For Auto, Inline, Chunk and Long it reads back as its
 /// header and stream, and conveys the payload over the plan's region. For Given, where its lists are within the limits of a
 /// header, it reads back so and conveys what its offer conveys, if anything.
-pub fn plans_are_undone()
+pub fn plans_convey_payloads()
     ensures message { PlanReadsBack }
     ensures size { PlanHasItsSize }
     ensures memory { RegionBringsChunks }
@@ -24,7 +24,7 @@ pub fn plans_are_undone()
 /// length: what its Writes leave in these regions, its lists and its stream convey that reply. The Writes are segments in
 /// the order of the lists, and the lists are those offered. The message has the size that was tested, and reads back as
 /// the lists and the stream.
-pub fn answers_are_undone()
+pub fn answers_convey_replies()
     ensures conveys { AnswerConveysReply }
     ensures writes { AnswerWritesSegments }
     ensures lists { AnswerSuitsOffer }

@@ -5,8 +5,8 @@
 //!
 //! The functions take a payload apart and put it together: its item ([`call_item`], [`reply_item`]), the stream that is
 //! left without it ([`cut`], [`rebuild`]), how a call is sent in each form ([`plan`]), and whether an offer holds a reply
-//! ([`holds`]). The laws say that each way back undoes its way out ([`rebuild_undoes_cut`], [`plans_are_undone`],
-//! [`answers_are_undone`]).
+//! ([`holds`]). The laws say that each way back undoes its way out ([`rebuild_undoes_cut`], [`plans_convey_payloads`],
+//! [`answers_convey_replies`]).
 //!
 //! The rest is definitions, in `specs/`, over plain data: [`Mark`]s, what an end of a link makes of them, and the laws that
 //! a run keeps. `docs/RUNS.md` explains them. What both ends cite of them stands in contracts of functions:
@@ -34,7 +34,7 @@ pub use fault::{Mismatch, PayloadFault};
 pub use holding::{Answer, answer_for, holds};
 pub use item::{Cut, Item, Of, call_item, item_of, reply_item};
 pub use largest::largest_reply;
-pub use laws::{answers_are_undone, plans_are_undone, rebuild_undoes_cut};
+pub use laws::{answers_convey_replies, plans_convey_payloads, rebuild_undoes_cut};
 pub use limits::{GIVEN_MAX, LINK_MAX, MOVED_MAX, READDIR_MAX};
 pub use mark::{Entry, Mark, Marks, Moment, Opened};
 pub use memory_laws::{memory_follows_regions, regions_go_on};
@@ -42,7 +42,7 @@ pub use outline::Plan;
 pub use planning::plan;
 pub use run_laws::{
     accepted_calls_keep_the_law, accesses_are_allowed, ended_ends_stay, ends_stand_for_marks,
-    laws_so_far, nothing_twice, one_mark_more, places_rise, plans_are_opened, sends_are_answered,
+    laws_so_far, nothing_twice, one_mark_more, places_rise, plans_are_accepted, sends_are_answered,
     submits_are_sent,
 };
 pub use sequence::Sequence;

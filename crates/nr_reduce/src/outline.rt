@@ -2,7 +2,7 @@
 
 ghost use Rattle.std.specs.Prelude.{◌≡◌, ℕ, ◌+◌, ◌*◌, ◌^◌, ◌<◌, ◌≤◌, Option, None, Some, length};
 ghost use Rattle.nr_reduce.specs.Largest.{largest_reply};
-ghost use Rattle.nr_reduce.specs.Plans.{segments_for, chunk_for, moved_offer, argument_offer, write_offer, write_size, reply_size, plan_size, inline_plan, reduced, lengthened, auto_offer, auto_plan};
+ghost use Rattle.nr_reduce.specs.Plans.{segments_for, chunk_for, moved_offer, argument_offer, write_offer, write_size, reply_size, plan_size, inline_plan, reduced_plan, long_plan, auto_offer, auto_plan};
 ghost use Rattle.nr_reduce.specs.Outlines.{plan_by, outlined, WayFits};
 
 use crate::call::Lengths;
@@ -196,9 +196,9 @@ pub(crate) fn inline_outline() -> Outline
 }
 
 /// The item in a chunk, and a write chunk for that of the reply, where there are such.
-#[tactic(auto, unfolding(crate::specs::Plans::reduced))]
+#[tactic(auto, unfolding(crate::specs::Plans::reduced_plan))]
 pub(crate) fn chunk_outline(payload: &[u8]) -> Outline
-    ensures plan { outlined payload.now result ≡ reduced payload.now (record (inline_plan payload.now) { write = chunk_for (write_offer payload.now) }) }
+    ensures plan { outlined payload.now result ≡ reduced_plan payload.now (record (inline_plan payload.now) { write = chunk_for (write_offer payload.now) }) }
     ensures fits { WayFits payload.now result.way }
 {
     let way = match reducible_item(&Of::Call, payload) {
@@ -214,7 +214,7 @@ pub(crate) fn chunk_outline(payload: &[u8]) -> Outline
 
 /// All in chunks.
 pub(crate) fn long_outline(payload: &[u8]) -> Outline
-    ensures plan { outlined payload.now result ≡ lengthened payload.now (record (inline_plan payload.now) { reply = chunk_for (Some (largest_reply payload.now)) }) }
+    ensures plan { outlined payload.now result ≡ long_plan payload.now (record (inline_plan payload.now) { reply = chunk_for (Some (largest_reply payload.now)) }) }
     ensures fits { WayFits payload.now result.way }
 {
     Outline {

@@ -306,7 +306,7 @@ fn offer_plan(alloc: Global, payload: &[u8], offer: &Offer, up: u32) -> Result<P
 }
 
 /// How a call is sent in a form (RFC 8166 section 3.5), where a Send has at most `up` bytes and one that comes back at most
-/// `down`. `TooLarge` with the first room that is passed: that of a payload, that of an offer that is given, `up`. The
+/// `down`. `TooLarge` with the first limit that it exceeds: that of a payload, that of an offer that is given, `up`. The
 /// payload is copied at most once.
 #[tactic(auto, unfolding(crate::specs::Plans::plan_of))]
 pub fn plan(

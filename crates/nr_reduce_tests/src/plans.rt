@@ -4,7 +4,7 @@ use crate::Payload::{Getattr, Mnt, Read, Readlink, Symlink, Write, Zeros};
 use crate::Way::{Auto, Chunk, Inline, Long, Offer};
 use crate::compare::same;
 use crate::{Given, Payload, Way, form_of, payload_of};
-use nr_reduce::{Lengths, PayloadFault, Plan, plan, plans_are_undone};
+use nr_reduce::{Lengths, PayloadFault, Plan, plan, plans_convey_payloads};
 use std::alloc::{AllocError, Global};
 
 /// What a plan has: the length of its inline stream, the place and the segments of its read chunk and the length of its
@@ -368,7 +368,7 @@ fn seen(plan: &Result<Plan, PayloadFault>) -> Want<'_> {
 
 #[test]
 fn each_row_is_planned(rt: HostRuntime) -> Result<(), AllocError> {
-    plans_are_undone();
+    plans_convey_payloads();
     for (row, Row(payload, way, up, down, want)) in TABLE.iter().enumerate() {
         let got = planned(rt.alloc(), *payload, *way, *up, *down)?;
         same(&rt, row, seen(&got), *want);

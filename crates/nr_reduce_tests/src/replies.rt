@@ -2,7 +2,7 @@
 
 use crate::compare::same;
 use crate::{NFS, lists_of, put_text, put_words};
-use nr_reduce::{answer_for, answers_are_undone, holds};
+use nr_reduce::{answer_for, answers_convey_replies, holds};
 use std::alloc::{AllocError, Global};
 
 /// A reply to READ with so many bytes of data and no attributes: 24 bytes of head, status, flag, count, end, length: 44
@@ -65,7 +65,7 @@ fn answered(
 
 #[test]
 fn each_row_is_answered(rt: HostRuntime) -> Result<(), AllocError> {
-    answers_are_undone();
+    answers_convey_replies();
     for (number, row) in TABLE.iter().enumerate() {
         let got = answered(rt.alloc(), 6, row, 1024)?;
         same(&rt, number, got, (row.3, row.3.is_some()));

@@ -1,3 +1,5 @@
+use Rattle.nr_reduce.proofs.ReadyCalls.{ready-conveyed}
+use Rattle.nr_reduce.proofs.BadMessages.{bad-refused}
 use Rattle.nr_reduce.proofs.Calls.{executed-head, execute-answered, refused-answered, refused-call, opens-reads}
 use Rattle.nr_reduce.proofs.run_laws.sends_are_answered.Goals as goal
 
@@ -15,3 +17,9 @@ returns-clause-open_reads c = opens-reads
 
 pub returns-clause-refused_call : goal.returns-clause-refused_call
 returns-clause-refused_call c = refused-call
+
+pub returns-clause-bad_message : goal.returns-clause-bad_message
+returns-clause-bad_message c = bad-refused
+
+pub returns-clause-ready : goal.returns-clause-ready
+returns-clause-ready c = ready-conveyed

@@ -1,5 +1,5 @@
 use Rattle.nr_reduce.proofs.Opens.{opens_call}
-use Rattle.nr_reduce.proofs.run_laws.plans_are_opened.Goals as goal
+use Rattle.nr_reduce.proofs.run_laws.plans_are_accepted.Goals as goal
 
 pub returns : goal.returns
 returns c = λ k payload form up down xid credit stag p h some free.

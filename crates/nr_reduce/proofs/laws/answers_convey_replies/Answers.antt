@@ -1,6 +1,6 @@
 use Rattle.nr_reduce.proofs.AnswerMessages.{answer_again, answer_length}
 use Rattle.nr_reduce.proofs.Answering.{conveyed, answer_spells, answered, suits_offer}
-use Rattle.nr_reduce.proofs.laws.answers_are_undone.Goals as goal
+use Rattle.nr_reduce.proofs.laws.answers_convey_replies.Goals as goal
 
 pub returns-clause-conveys : goal.returns-clause-conveys
 returns-clause-conveys c = conveyed

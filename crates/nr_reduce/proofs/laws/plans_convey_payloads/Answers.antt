@@ -2,7 +2,7 @@ use Rattle.nr_reduce.proofs.Asking.{asks, asks_from}
 use Rattle.nr_reduce.proofs.Offers.{offer_conveys}
 use Rattle.nr_reduce.proofs.Readings.{message_again, offer_message}
 use Rattle.nr_reduce.proofs.Sizes.{message_size}
-use Rattle.nr_reduce.proofs.laws.plans_are_undone.Goals as goal
+use Rattle.nr_reduce.proofs.laws.plans_convey_payloads.Goals as goal
 
 pub returns-clause-message : goal.returns-clause-message
 returns-clause-message c = λ payload form up down xid credit stag p h.
