@@ -1,5 +1,5 @@
 -- The message of a plan whose form isn't given is never refused: it opens its call, with the plan's lists and its stream.
-use Rattle.std.proofs.Common.{◌≡◌, ◌≢◌, ℕ, ◌+◌, ◌^◌, ◌<◌, ◌≤◌, Bool, true, false, cond, not, ◌&&◌, ◌||◌, eqb, ltb, List, [], ◌∷◌, ◌++◌, length, take, drop, Option, Some, None, Result, Ok, Err, refl, sym, ap, subst, ◌∙◌, arith}
+use Rattle.std.proofs.Common.{◌≡◌, ℕ, ◌+◌, ◌^◌, ◌<◌, ◌≤◌, Bool, true, false, cond, not, ◌&&◌, ◌||◌, eqb, ltb, List, [], ◌∷◌, ◌++◌, length, drop, Option, Some, None, Result, Ok, Err, refl, sym, ap, subst, ◌∙◌, arith}
 use Rattle.std.proofs.lemmas.Bool.{eq-eqb, ne_eqb, eqb-true}
 use Rattle.nr_header.specs.declared.header.ChunkLists.{ChunkLists}
 use Rattle.nr_header.specs.declared.header.Body.{Body}
@@ -7,7 +7,7 @@ use Rattle.nr_header.specs.declared.header.Body.TheVariants.{Msg, Nomsg, ErrVers
 use Rattle.nr_header.specs.declared.header.Header.{Header}
 use Rattle.nr_header.specs.declared.fault.HeaderFault.{HeaderFault}
 use Rattle.nr_header.specs.declared.fault.HeaderFault.TheVariants as faults
-use Rattle.nr_header.specs.Reading.{header_of, body_by, error_by, error_of, version1_of, header_by}
+use Rattle.nr_header.specs.Reading.{header_of, body_by, error_by, version1_of, header_by}
 use Rattle.std.proofs.Common.{sum_by}
 use Rattle.std.proofs.lemmas.List.{drop_at}
 use Rattle.nr_xdr.specs.Item.{IsBytes, pad_len}
@@ -17,19 +17,18 @@ use Rattle.nr_header.specs.Header.{header_encoding}
 use Rattle.nr_header.specs.WithinLimits.{body_again, header_again}
 use Rattle.nr_reduce.specs.declared.call.Form.{Form}
 use Rattle.nr_reduce.specs.declared.item.Item.{Item}
-use Rattle.nr_reduce.specs.declared.item.Of.{Of}
-use Rattle.nr_reduce.specs.Items.{item_of, stream_of}
+use Rattle.nr_reduce.specs.Items.{stream_of}
 use Rattle.nr_reduce.specs.declared.item.Of.TheVariants.{Call}
 use Rattle.nr_reduce.specs.declared.outline.Plan.{Plan}
 use Rattle.nr_reduce.specs.Plans.{plan_of, regions_needed, lists_of, inline_stream, call_message}
 use Rattle.nr_reduce.specs.Chunks.{is_read_chunk_of_item, is_read_chunk_at, is_item, item_position, position_of, total_at}
 use Rattle.nr_reduce.specs.Undone.{IsNotGiven}
-use Rattle.nr_reduce.specs.ServerState.{ServerState, PendingCall, is_pending}
+use Rattle.nr_reduce.specs.ServerState.{ServerState, is_pending}
 use Rattle.nr_reduce.specs.ServerMessages.{Verdict, verdict, by_header, by_body, by_stream, by_need}
 use Rattle.nr_reduce.specs.ServerMessages.Verdict.{BadChunks}
 use Rattle.nr_reduce.proofs.Looks.{item_stands}
 use Rattle.nr_reduce.proofs.Undone.{reducible}
-use Rattle.nr_reduce.proofs.Shapes.{Offering, offered, IsSmall, Way, shape, IsWay, Shaped, is_plan}
+use Rattle.nr_reduce.proofs.Shapes.{Offering, offered, IsSmall, Way, shape, IsWay, is_plan}
 use Rattle.nr_reduce.proofs.Shapes.Way.{Inline, Reduced, Long}
 use Rattle.nr_reduce.proofs.Asking.{lists, lists-shape, body_of, stream_in, reads-shape}
 use Rattle.nr_xdr.specs.Fields.{word_at}

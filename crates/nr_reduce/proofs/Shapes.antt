@@ -1,10 +1,9 @@
 -- The plans of the forms that aren't given have three shapes: all inline, the item in a chunk, all in a chunk; and they offer one
 -- segment at most for each way back.
-use Rattle.std.proofs.Common.{◌≡◌, ◌≢◌, ℕ, zero, suc, ◌+◌, ◌-◌, ◌%◌, ◌^◌, ◌<◌, ◌≤◌, min, max, Bool, true, false, cond, ◌&&◌, eqb, ltb, leb, not, List, [], ◌∷◌, ◌++◌, length, take, drop, replicate, Option, Some, None, Result, Ok, Err, refl, sym, ap, subst, ◌∙◌, arith, inl, inr}
+use Rattle.std.proofs.Common.{◌≡◌, ℕ, ◌+◌, ◌≤◌, min, Bool, true, false, cond, ◌&&◌, eqb, ltb, leb, not, List, [], ◌∷◌, length, Option, Some, None, Result, Ok, Err, refl, sym, ap, subst, ◌∙◌, arith, inl, inr}
 use Rattle.std.specs.Prelude.{find, option_map, unwrap_or}
 use Rattle.std.specs.List.{list_all}
-use Rattle.std.proofs.lemmas.Bool.{eqb-true, eq-eqb}
-use Rattle.nr_xdr.specs.Item.{IsBytes, pad_len}
+use Rattle.nr_xdr.specs.Item.{pad_len}
 use Rattle.nr_xdr.specs.Reading.{Cursor}
 use Rattle.nr_xdr.proofs.SequencingSteps.{chosen}
 use Rattle.nr_rpc.specs.Reading.{call_of, target_of}
@@ -13,14 +12,13 @@ use Rattle.nr_header.specs.Constants.{PAYLOAD_MAX}
 use Rattle.nr_reduce.specs.Undone.{IsNotGiven}
 use Rattle.nr_reduce.specs.declared.call.Form.{Form}
 use Rattle.nr_reduce.specs.declared.call.Form.TheVariants as forms
-use Rattle.nr_reduce.specs.Limits.{moved_max, readdir_max, link_max}
+use Rattle.nr_reduce.specs.Limits.{moved_max, link_max}
 use Rattle.nr_reduce.specs.declared.item.Item.{Item}
-use Rattle.nr_reduce.specs.declared.item.Of.{Of}
 use Rattle.nr_reduce.specs.Items.{reducible_item, stream_of, moved_of, READ, READLINK, is_nfs, from_place}
 use Rattle.nr_reduce.specs.declared.item.Of.TheVariants.{Call}
-use Rattle.nr_reduce.specs.Largest.{largest_reply, least_reply, target_reply_max, by_count, nfs_reply_max, read_reply_max, readdir_reply_max, padded_length, limit_of, reply_limits, read_count, readdir_count, readdirplus_count, READDIR, READDIRPLUS, MOUNT_PROGRAM, MOUNT_VERSION, MNT}
+use Rattle.nr_reduce.specs.Largest.{largest_reply, least_reply, target_reply_max, by_count, nfs_reply_max, read_reply_max, readdir_reply_max, limit_of, reply_limits, read_count, readdir_count, readdirplus_count, READDIR, READDIRPLUS, MOUNT_PROGRAM, MOUNT_VERSION, MNT}
 use Rattle.nr_reduce.specs.declared.outline.Plan.{Plan}
-use Rattle.nr_reduce.specs.Plans.{TooLarge, inline_plan, moved_offer, target_offer, write_offer, chunk_for, plan_size, reduced_plan_by, reduced_plan, long_plan, first_within, offering, auto_offer, auto_plan, plan_in_form, within, given_within, plan_of}
+use Rattle.nr_reduce.specs.Plans.{TooLarge, inline_plan, moved_offer, target_offer, write_offer, chunk_for, plan_size, reduced_plan_by, reduced_plan, long_plan, offering, auto_offer, plan_in_form, within, given_within, plan_of}
 
 -- ---- How long a reply may be
 

@@ -1,5 +1,5 @@
 -- The size of a message: that of its header's lists, and of its stream.
-use Rattle.std.proofs.Common.{◌≡◌, ℕ, ◌+◌, ◌*◌, ◌≤◌, Bool, true, false, cond, eqb, List, [], ◌∷◌, ◌++◌, length, sum_by, Option, Some, None, Result, Ok, Err, refl, sym, ap, subst, ◌∙◌, arith, length-append}
+use Rattle.std.proofs.Common.{◌≡◌, ℕ, ◌+◌, ◌*◌, ◌≤◌, Bool, true, false, cond, eqb, List, [], ◌∷◌, ◌++◌, length, sum_by, Option, Some, None, Result, Ok, refl, sym, ap, subst, arith, length-append}
 use Rattle.std.proofs.lemmas.List.Sums.{sum_by-cons}
 use Rattle.nr_xdr.specs.Item.{Item as XdrItem, word, hyper}
 use Rattle.nr_xdr.specs.Items.{encodings}
@@ -8,17 +8,14 @@ use Rattle.nr_header.specs.Constants.{PAYLOAD_MAX}
 use Rattle.nr_header.specs.declared.header.RdmaSegment.{RdmaSegment}
 use Rattle.nr_header.specs.declared.header.ReadSegment.{ReadSegment}
 use Rattle.nr_header.specs.declared.header.ChunkLists.{ChunkLists}
-use Rattle.nr_header.specs.declared.header.Body.{Body}
 use Rattle.nr_header.specs.declared.header.Body.TheVariants.{Msg, Nomsg}
-use Rattle.nr_header.specs.declared.header.Header.{Header}
 use Rattle.nr_header.specs.Header.{segments_items, chunk_items, read_items, write_items, reply_items, lists_items, fixed_items, header_encoding}
 use Rattle.nr_reduce.specs.declared.call.Form.{Form}
 use Rattle.nr_reduce.specs.declared.call.Form.TheVariants as forms
-use Rattle.nr_reduce.specs.declared.call.Offer.{Offer}
 use Rattle.nr_reduce.specs.declared.outline.Plan.{Plan}
 use Rattle.nr_reduce.specs.Limits.{given_max}
-use Rattle.nr_reduce.specs.Plans.{TooLarge, segments_from, entries_from, read_list, write_list, reply_chunk, write_size, reply_size, plan_size, write_stag, reply_stag, read_stag, given_read, given_plan, given_total, given_within, plan_in_form, within, lists_of, body_by, call_message, plan_of}
-use Rattle.nr_reduce.proofs.Shapes.{Offering, offered, Way, shape, Shaped, shaped, within-ok}
+use Rattle.nr_reduce.specs.Plans.{TooLarge, segments_from, entries_from, read_list, write_list, reply_chunk, write_size, reply_size, plan_size, write_stag, reply_stag, read_stag, given_read, given_total, given_within, plan_in_form, within, lists_of, body_by, call_message, plan_of}
+use Rattle.nr_reduce.proofs.Shapes.{offered, Way, shape, Shaped, shaped, within-ok}
 use Rattle.nr_reduce.proofs.Shapes.Way.{Inline, Reduced, Long}
 
 word_len : (n : ℕ) (xs : List ℕ) → length (word n ++ xs) ≡ 4 + length xs

@@ -1,6 +1,5 @@
 -- A plan before it owns bytes, in the terms of the definitions.
 use Rattle.std.specs.Prelude.{◌≡◌, ℕ, ◌+◌, ◌≤◌, List, [], length, Option, None, Some, Result, Ok, Err}
-use Rattle.nr_reduce.specs.declared.item.Item.{Item}
 use Rattle.nr_reduce.specs.declared.outline.Plan.{Plan}
 use Rattle.nr_reduce.specs.declared.outline.Way.{Way}
 use Rattle.nr_reduce.specs.declared.outline.Way.TheVariants.{Inline, Reduced, Long}

@@ -1,5 +1,5 @@
 -- What the server of a link knows: the calls that it has not answered, the Read Requests for them, and what was received.
-use Rattle.std.specs.Prelude.{ℕ, ◌+◌, ◌-◌, Bool, true, false, ◌==◌, List, [], length, Option}
+use Rattle.std.specs.Prelude.{ℕ, ◌+◌, ◌-◌, Bool, ◌==◌, List, [], length, Option}
 use Rattle.std.specs.List.{list_any}
 use Rattle.nr_header.specs.declared.header.ChunkLists.{ChunkLists}
 use Rattle.nr_regions.specs.Access.{TaggedSegment}
