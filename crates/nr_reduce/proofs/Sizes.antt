@@ -15,8 +15,8 @@ use Rattle.nr_reduce.specs.declared.call.Form.TheVariants as forms
 use Rattle.nr_reduce.specs.declared.outline.Plan.{Plan}
 use Rattle.nr_reduce.specs.Limits.{given_max}
 use Rattle.nr_reduce.specs.Plans.{TooLarge, segments_from, entries_from, read_list, write_list, reply_chunk, write_size, reply_size, plan_size, write_stag, reply_stag, read_stag, given_read, given_total, given_within, plan_in_form, within, lists_of, body_by, call_message, plan_of}
-use Rattle.nr_reduce.proofs.Shapes.{offered, Way, shape, Shaped, shaped, within-ok}
-use Rattle.nr_reduce.proofs.Shapes.Way.{Inline, Reduced, Long}
+use Rattle.nr_reduce.proofs.Shapes.{offered, MessageKind, shape, Shaped, shaped, within-ok}
+use Rattle.nr_reduce.proofs.Shapes.MessageKind.{Short, Chunked, Long}
 
 word_len : (n : ℕ) (xs : List ℕ) → length (word n ++ xs) ≡ 4 + length xs
 word_len n xs = (let a = length-append (word n) xs in let b = length-word n in omega (arith, a, b))
@@ -139,13 +139,13 @@ message_len xid credit stag p h =
 
 -- ---- Plans of every form
 
-shape_entries : (payload : List ℕ) (way : Way) (w r : Option (List ℕ)) → HasEntriesAt (shape payload way w r)
-shape_entries payload Inline w r = λ e. refl
-shape_entries payload (Reduced i) w r = λ e. absurd cc
+shape_entries : (payload : List ℕ) (way : MessageKind) (w r : Option (List ℕ)) → HasEntriesAt (shape payload way w r)
+shape_entries payload Short w r = λ e. refl
+shape_entries payload (Chunked i) w r = λ e. absurd cc
 shape_entries payload Long w r = λ e. absurd cc
 
 shaped_entries : (payload : List ℕ) (p : Plan) → Shaped payload p → HasEntriesAt p
-shaped_entries payload p s = subst HasEntriesAt (sym s.is) (shape_entries payload s.way (offered s.write) (offered s.reply))
+shaped_entries payload p s = subst HasEntriesAt (sym s.is) (shape_entries payload s.kind (offered s.write) (offered s.reply))
 
 given_entries : (payload : List ℕ) (at : ℕ) (read : Option (List ℕ)) (w r : Option (List ℕ)) → HasEntriesAt (given_read payload at read (record { inline = payload; read_at = None; read = []; region = []; write = w; reply = r }))
 given_entries payload at None w r = λ e. refl
