@@ -1,10 +1,10 @@
 -- The message of an answer reads back as its lists and its stream, and has the size that was tested.
-use Rattle.std.proofs.Common.{◌≡◌, ◌≢◌, ℕ, zero, suc, ◌+◌, ◌-◌, ◌*◌, ◌^◌, ◌<◌, ◌≤◌, min, Bool, true, false, cond, ◌&&◌, ◌||◌, eqb, leb, not, List, [], ◌∷◌, ◌++◌, length, take, drop, sum_by, All, IfSome, Option, Some, None, Result, Ok, Err, refl, sym, ap, subst, ◌∙◌, arith, append-nil, length-append, inl, inr}
+use Rattle.std.proofs.Common.{◌≡◌, ℕ, suc, ◌+◌, ◌-◌, ◌*◌, ◌^◌, ◌<◌, ◌≤◌, min, Bool, true, false, cond, leb, List, [], ◌∷◌, ◌++◌, length, sum_by, All, IfSome, Option, Some, None, refl, sym, ap, subst, ◌∙◌, arith, length-append, inl, inr}
 use Rattle.std.proofs.lemmas.Bool.{leb-true}
 use Rattle.std.proofs.lemmas.List.Sums.{sum_by-cons}
 use Rattle.nr_xdr.proofs.SequencingSteps.{chosen}
 use Rattle.std.proofs.lemmas.List.{drop_at}
-use Rattle.std.proofs.lemmas.List.Elements.{All-nil, All-cons, recursion_from_All, All-from_recursion}
+use Rattle.std.proofs.lemmas.List.Elements.{All-nil, recursion_from_All, All-from_recursion}
 use Rattle.std.specs.List.{AllByRecursion}
 use Rattle.nr_xdr.specs.Item.{Item as XdrItem, IsBytes}
 use Rattle.nr_xdr.specs.Items.{AllFit}
@@ -12,21 +12,19 @@ use Rattle.nr_header.specs.Constants.{PAYLOAD_MAX}
 use Rattle.nr_header.specs.declared.header.RdmaSegment.{RdmaSegment}
 use Rattle.nr_header.specs.declared.header.ReadSegment.{ReadSegment}
 use Rattle.nr_header.specs.declared.header.ChunkLists.{ChunkLists}
-use Rattle.nr_header.specs.declared.header.Body.{Body}
 use Rattle.nr_header.specs.declared.header.Body.TheVariants.{Msg, Nomsg}
 use Rattle.nr_header.specs.declared.header.Header.{Header}
-use Rattle.nr_header.specs.Header.{segments_items, chunk_items, read_items, write_items, reply_items, lists_items, header_encoding, HeaderFits}
-use Rattle.nr_header.specs.WithinLimits.{SegmentsEnd, Ends, ListsWithin, CanRead, body_again, header_again}
-use Rattle.nr_header.specs.Reading.{header_of}
+use Rattle.nr_header.specs.Header.{segments_items, chunk_items, read_items, write_items, reply_items, lists_items, header_encoding}
+use Rattle.nr_header.specs.WithinLimits.{SegmentsEnd, Ends, ListsWithin}
 use Rattle.nr_header.proofs.Messages.{header_written}
 use Rattle.nr_reduce.specs.Undone.{IsOffer, ReadsAsAnswer, offering}
 use Rattle.nr_reduce.specs.Plans.{segments_from, write_list, reply_chunk}
 use Rattle.nr_reduce.specs.Chunks.{filled_chunk}
 use Rattle.nr_reduce.specs.declared.item.Of.TheVariants.{Reply}
-use Rattle.nr_reduce.specs.Holds.{Answer, Parts, parts_in, answer_size, answer_with, answer_for, fits_reply, empty_chunks, written_chunks, no_segments, answer_lists, answer_body, answer_message}
+use Rattle.nr_reduce.specs.Holds.{Answer, Parts, parts_in, answer_size, answer_with, answer_for, fits_reply, empty_chunks, written_chunks, no_segments, answer_lists, answer_message}
 use Rattle.nr_reduce.proofs.Asking.{all_one}
 use Rattle.nr_reduce.proofs.Answering.{Answered, answered}
-use Rattle.nr_reduce.proofs.Sizes.{chunk_size, reply_bytes, lists_len, msg_len, nomsg_len}
+use Rattle.nr_reduce.proofs.Sizes.{chunk_size, lists_len, msg_len, nomsg_len}
 
 length-filled : (chunk : List RdmaSegment) (n : ℕ) → length (filled_chunk chunk n) ≡ length chunk
 length-filled [] n = refl

@@ -1,8 +1,8 @@
 -- An answer for an offer that holds a reply, filled by its Writes, conveys that reply, and it is what the client takes.
-use Rattle.std.proofs.Common.{◌≡◌, ◌≢◌, ℕ, zero, suc, ◌+◌, ◌-◌, ◌^◌, ◌<◌, ◌≤◌, min, Bool, true, false, cond, ◌&&◌, ◌||◌, eqb, leb, not, List, [], ◌∷◌, ◌++◌, length, take, drop, sum_by, All, IfSome, Option, Some, None, Result, Ok, Err, refl, sym, ap, subst, ◌∙◌, arith, append-nil, inl, inr}
-use Rattle.std.proofs.lemmas.Bool.{eq-eqb, ne_eqb, cases_lt, eqb-true, leb-true, le-leb}
-use Rattle.std.proofs.lemmas.List.{take_at, take_all, drop_at, length-take-le}
-use Rattle.std.specs.List.{flat_map, list_all}
+use Rattle.std.proofs.Common.{◌≡◌, ◌≢◌, ℕ, ◌+◌, ◌-◌, ◌≤◌, min, Bool, true, false, cond, ◌&&◌, ◌||◌, eqb, leb, List, [], ◌∷◌, ◌++◌, length, take, drop, Option, Some, None, refl, sym, ap, subst, ◌∙◌, arith, inl, inr}
+use Rattle.std.proofs.lemmas.Bool.{eq-eqb, cases_lt, leb-true, le-leb}
+use Rattle.std.proofs.lemmas.List.{take_at, take_all}
+use Rattle.std.specs.List.{flat_map}
 use Rattle.std.proofs.lemmas.Grind.{flat_map-append}
 use Rattle.nr_xdr.specs.Item.{IsBytes, pad_len}
 use Rattle.nr_xdr.proofs.SequencingSteps.{chosen}
@@ -10,16 +10,15 @@ use Rattle.nr_header.specs.declared.header.RdmaSegment.{RdmaSegment}
 use Rattle.nr_header.specs.declared.header.ReadSegment.{ReadSegment}
 use Rattle.nr_header.specs.declared.header.ChunkLists.{ChunkLists}
 use Rattle.nr_regions.specs.RegisteredMemory.{bytes_after_write}
-use Rattle.nr_wire.specs.Segment.{Segment as WireSegment, encoding}
+use Rattle.nr_wire.specs.Segment.{encoding}
 use Rattle.nr_reduce.specs.Undone.{bytes_after_segments, chunk_segments, answer_segments, lengths, offering, RegionsHaveLengths, after}
 use Rattle.nr_reduce.specs.declared.item.Item.{Item}
-use Rattle.nr_reduce.specs.declared.item.Of.{Of}
 use Rattle.nr_reduce.specs.Items.{reducible_item, stream_of, moved_of}
 use Rattle.nr_reduce.specs.declared.item.Of.TheVariants.{Reply}
-use Rattle.nr_reduce.specs.Plans.{total, has_segment, segments_from, write_list, reply_chunk}
+use Rattle.nr_reduce.specs.Plans.{has_segment, segments_from, write_list, reply_chunk}
 use Rattle.nr_reduce.specs.Chunks.{Bytes, joined_bytes, chunk_total, filled_chunk, whole, some_bytes, reply_moved, reply_stream, reply_conveyed, are_empty, returns, returns_each, fills_first, returns_none, returns_stream, answers_offer}
-use Rattle.nr_reduce.specs.Holds.{Answer, Parts, parts_by, parts_in, answer_size, fits_reply, answer_with, answer_for, empty_chunks, written_chunks, first_chunk, no_segments, writes_into, answer_writes, answer_lists}
-use Rattle.nr_reduce.proofs.Undone.{Reducible, reducible, moved-length, rebuilt}
+use Rattle.nr_reduce.specs.Holds.{Answer, Parts, parts_by, parts_in, answer_size, fits_reply, answer_with, answer_for, written_chunks, first_chunk, no_segments, writes_into, answer_writes, answer_lists}
+use Rattle.nr_reduce.proofs.Undone.{reducible, moved-length, rebuilt}
 use Rattle.nr_reduce.proofs.Laid.{laid-append, laid-chunk, laid-other, chunk_spells, joined-filled, chunk-added, added_up, sum-added}
 
 pub answer_spells : (offer : ChunkLists) (a : Answer) → answer_writes offer a ≡ flat_map encoding (answer_segments offer a)

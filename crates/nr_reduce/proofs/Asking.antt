@@ -1,83 +1,82 @@
 -- The message of a plan reads back as its header and its stream, and with its memory it conveys the payload.
-use Rattle.std.proofs.Common.{◌≡◌, ◌≢◌, ℕ, zero, suc, ◌+◌, ◌^◌, ◌<◌, ◌≤◌, Bool, true, false, cond, ◌&&◌, eqb, not, List, [], ◌∷◌, ◌++◌, length, take, drop, sum_by, All, IfSome, Option, Some, None, Result, Ok, Err, refl, sym, ap, subst, ◌∙◌, arith, append-nil}
+use Rattle.std.proofs.Common.{◌≡◌, ◌≢◌, ℕ, ◌+◌, ◌^◌, ◌<◌, ◌≤◌, Bool, false, cond, eqb, not, List, [], ◌∷◌, ◌++◌, length, take, drop, sum_by, All, IfSome, Some, None, Ok, refl, sym, ap, subst, ◌∙◌, arith, append-nil}
 use Rattle.std.proofs.lemmas.Bool.{eq-eqb, ne_eqb}
 use Rattle.std.proofs.lemmas.List.{take_all, drop_at, length-take-le}
 use Rattle.std.proofs.lemmas.List.Elements.{All-nil, All-cons}
 use Rattle.std.specs.List.{flat_map}
 use Rattle.nr_xdr.specs.Item.{Item as XdrItem, IsBytes}
 use Rattle.nr_xdr.specs.Items.{AllFit}
-use Rattle.nr_header.specs.Constants.{VERSION, MSG, NOMSG, PAYLOAD_MAX}
+use Rattle.nr_header.specs.Constants.{PAYLOAD_MAX}
 use Rattle.nr_header.specs.declared.header.RdmaSegment.{RdmaSegment}
 use Rattle.nr_header.specs.declared.header.ReadSegment.{ReadSegment}
 use Rattle.nr_header.specs.declared.header.ChunkLists.{ChunkLists}
 use Rattle.nr_header.specs.declared.header.Body.{Body}
-use Rattle.nr_header.specs.declared.header.Body.TheVariants.{Msg, Nomsg, ErrVers, ErrChunk}
+use Rattle.nr_header.specs.declared.header.Body.TheVariants.{Msg, Nomsg}
 use Rattle.nr_header.specs.declared.header.Header.{Header}
-use Rattle.nr_header.specs.Header.{read_items, write_items, reply_items, lists_items, fixed_items, header_encoding, HeaderFits}
+use Rattle.nr_header.specs.Header.{read_items, write_items, reply_items, lists_items, header_encoding, HeaderFits}
 use Rattle.nr_header.specs.WithinLimits.{SegmentsEnd, OnePosition, ListsWithin, CanRead, body_again, header_again, read_total, Ends}
 use Rattle.nr_header.specs.Reading.{header_of}
 use Rattle.nr_header.proofs.Messages.{header_written}
 use Rattle.nr_reduce.specs.Undone.{IsNotGiven, inline_by, lists_by, ChunkHolds, MessageConveys}
 use Rattle.nr_reduce.specs.declared.call.Form.{Form}
 use Rattle.nr_reduce.specs.declared.item.Item.{Item}
-use Rattle.nr_reduce.specs.declared.item.Of.{Of}
 use Rattle.nr_reduce.specs.Items.{stream_of, moved_of}
 use Rattle.nr_reduce.specs.declared.item.Of.TheVariants.{Call}
 use Rattle.nr_reduce.specs.declared.outline.Plan.{Plan}
-use Rattle.nr_reduce.specs.Plans.{has_segment, one_if, read_stag, write_stag, reply_stag, regions_needed, write_list, reply_chunk, lists_of, body_by, call_message, plan_of}
-use Rattle.nr_reduce.specs.Chunks.{Bytes, item_position, position_of, call_moved, whole, call_conveyed, read_bytes, ConveysCall}
+use Rattle.nr_reduce.specs.Plans.{has_segment, one_if, read_stag, regions_needed, write_list, reply_chunk, lists_of, body_by, call_message, plan_of}
+use Rattle.nr_reduce.specs.Chunks.{Bytes, item_position, position_of, call_moved, whole, call_conveyed, read_bytes}
 use Rattle.nr_reduce.proofs.Looks.{item_stands}
-use Rattle.nr_reduce.proofs.Undone.{Reducible, reducible, moved-length, rebuilt}
-use Rattle.nr_reduce.proofs.Shapes.{Offering, offered, IsSmall, Way, shape, IsWay, Shaped, IsPlan, is_plan}
+use Rattle.nr_reduce.proofs.Undone.{reducible, moved-length, rebuilt}
+use Rattle.nr_reduce.proofs.Shapes.{Offering, offered, IsSmall, MessageKind, shape, IsKind, is_plan}
 use Rattle.nr_reduce.proofs.Shapes.Offering.{Nothing, One}
-use Rattle.nr_reduce.proofs.Shapes.Way.{Inline, Reduced, Long}
+use Rattle.nr_reduce.proofs.Shapes.MessageKind.{Short, Chunked, Long}
 
 -- ---- The lists of a shape
 
-abbrev pub entries : List ℕ → Way → ℕ → List ReadSegment
-entries payload Inline stag = []
-entries payload (Reduced i) stag = record { position = i.pos; handle = stag; length = i.len; offset = 0 } ∷ []
+abbrev pub entries : List ℕ → MessageKind → ℕ → List ReadSegment
+entries payload Short stag = []
+entries payload (Chunked i) stag = record { position = i.pos; handle = stag; length = i.len; offset = 0 } ∷ []
 entries payload Long stag = record { position = 0; handle = stag; length = length payload; offset = 0 } ∷ []
 
-abbrev pub read_lengths : List ℕ → Way → List ℕ
-read_lengths payload Inline = []
-read_lengths payload (Reduced i) = i.len ∷ []
+abbrev pub read_lengths : List ℕ → MessageKind → List ℕ
+read_lengths payload Short = []
+read_lengths payload (Chunked i) = i.len ∷ []
 read_lengths payload Long = length payload ∷ []
 
-abbrev pub write_from : List ℕ → Way → ℕ → ℕ
+abbrev pub write_from : List ℕ → MessageKind → ℕ → ℕ
 write_from payload way stag = stag + one_if (has_segment (Some (read_lengths payload way)))
 
-abbrev pub reply_from : List ℕ → Way → Offering → ℕ → ℕ
+abbrev pub reply_from : List ℕ → MessageKind → Offering → ℕ → ℕ
 reply_from payload way w stag = write_from payload way stag + one_if (has_segment (offered w))
 
-abbrev pub lists : List ℕ → Way → Offering → Offering → ℕ → ChunkLists
+abbrev pub lists : List ℕ → MessageKind → Offering → Offering → ℕ → ChunkLists
 lists payload way w r stag = record {
   read = entries payload way stag;
   write = write_list (write_from payload way stag) (offered w);
   reply = reply_chunk (reply_from payload way w stag) (offered r);
 }
 
-pub lists-shape : (payload : List ℕ) (way : Way) (w r : Offering) (stag : ℕ) → lists_of stag (shape payload way (offered w) (offered r)) ≡ lists payload way w r stag
+pub lists-shape : (payload : List ℕ) (way : MessageKind) (w r : Offering) (stag : ℕ) → lists_of stag (shape payload way (offered w) (offered r)) ≡ lists payload way w r stag
 unfolding lists_of
-lists-shape payload Inline w r stag = refl
-lists-shape payload (Reduced i) w r stag = refl
+lists-shape payload Short w r stag = refl
+lists-shape payload (Chunked i) w r stag = refl
 lists-shape payload Long w r stag = refl
 
-needed-shape : (payload : List ℕ) (way : Way) (w r : Offering) →
+needed-shape : (payload : List ℕ) (way : MessageKind) (w r : Offering) →
     regions_needed (shape payload way (offered w) (offered r)) ≡ one_if (has_segment (Some (read_lengths payload way))) + one_if (has_segment (offered w)) + one_if (has_segment (offered r))
 unfolding regions_needed
-needed-shape payload Inline w r = refl
-needed-shape payload (Reduced i) w r = refl
+needed-shape payload Short w r = refl
+needed-shape payload (Chunked i) w r = refl
 needed-shape payload Long w r = refl
 
-abbrev pub body_of : Way → ChunkLists → Body
-body_of Inline ls = Msg ls 0
-body_of (Reduced i) ls = Msg ls 0
+abbrev pub body_of : MessageKind → ChunkLists → Body
+body_of Short ls = Msg ls 0
+body_of (Chunked i) ls = Msg ls 0
 body_of Long ls = Nomsg ls
 
-abbrev pub stream_in : List ℕ → Way → List ℕ
-stream_in payload Inline = payload
-stream_in payload (Reduced i) = stream_of payload i
+abbrev pub stream_in : List ℕ → MessageKind → List ℕ
+stream_in payload Short = payload
+stream_in payload (Chunked i) = stream_of payload i
 stream_in payload Long = []
 
 -- where an item stands in a payload that fits
@@ -85,9 +84,9 @@ pub record Placed (payload : List ℕ) (i : Item) : Type 0 where
   pub least : 4 ≤ i.pos
   pub size : i.pos + i.len ≤ length payload
 
-placed : (payload : List ℕ) (way : Way) (i : Item) → IsBytes payload → IsWay payload way → way ≡ Reduced i → Placed payload i
-placed payload Inline i fits is same = absurd cc
-placed payload (Reduced j) i fits is same =
+placed : (payload : List ℕ) (way : MessageKind) (i : Item) → IsBytes payload → IsKind payload way → way ≡ Chunked i → Placed payload i
+placed payload Short i fits is same = absurd cc
+placed payload (Chunked j) i fits is same =
     let r = reducible Call payload j is in
     let s = item_stands Call payload j fits r.item in
     let e : j ≡ i = cc in
@@ -97,9 +96,9 @@ placed payload Long i fits is same = absurd cc
 positive : (n : ℕ) → 4 ≤ n → eqb n 0 ≡ false
 positive n h = ne_eqb n 0 (λ e. omega (arith, e, h))
 
-body-shape : (payload : List ℕ) (way : Way) (w r : Offering) (ls : ChunkLists) → IsBytes payload → IsWay payload way → body_by (shape payload way (offered w) (offered r)).read_at ls ≡ body_of way ls
-body-shape payload Inline w r ls fits is = refl
-body-shape payload (Reduced i) w r ls fits is = ap (λ (b : Bool). cond b (Nomsg ls) (Msg ls 0)) (positive i.pos (placed payload (Reduced i) i fits is refl).least)
+body-shape : (payload : List ℕ) (way : MessageKind) (w r : Offering) (ls : ChunkLists) → IsBytes payload → IsKind payload way → body_by (shape payload way (offered w) (offered r)).read_at ls ≡ body_of way ls
+body-shape payload Short w r ls fits is = refl
+body-shape payload (Chunked i) w r ls fits is = ap (λ (b : Bool). cond b (Nomsg ls) (Msg ls 0)) (positive i.pos (placed payload (Chunked i) i fits is refl).least)
 body-shape payload Long w r ls fits is = refl
 
 -- ---- Its numbers fit, and it is within the limits
@@ -112,15 +111,15 @@ reply_fit : (r : Offering) (stag : ℕ) → IsSmall r → stag + one_if (has_seg
 reply_fit Nothing stag small room = (tt, tt)
 reply_fit (One n) stag small room = (tt, (omega arith, (omega (arith, room), (omega (arith, small), (omega arith, tt)))))
 
-read_fit : (payload : List ℕ) (way : Way) (stag : ℕ) (more : List XdrItem) → IsBytes payload → IsWay payload way → length payload ≤ PAYLOAD_MAX → write_from payload way stag ≤ 2 ^ 32 → AllFit more
+read_fit : (payload : List ℕ) (way : MessageKind) (stag : ℕ) (more : List XdrItem) → IsBytes payload → IsKind payload way → length payload ≤ PAYLOAD_MAX → write_from payload way stag ≤ 2 ^ 32 → AllFit more
     → AllFit (read_items (entries payload way stag) more)
-read_fit payload Inline stag more fits is size room k = (tt, k)
-read_fit payload (Reduced i) stag more fits is size room k =
-    let p = placed payload (Reduced i) i fits is refl in
+read_fit payload Short stag more fits is size room k = (tt, k)
+read_fit payload (Chunked i) stag more fits is size room k =
+    let p = placed payload (Chunked i) i fits is refl in
     (tt, (omega (arith, p.size, size), (omega (arith, room), (omega (arith, p.size, size), (omega arith, (tt, k))))))
 read_fit payload Long stag more fits is size room k = (tt, (omega arith, (omega (arith, room), (omega (arith, size), (omega arith, (tt, k))))))
 
-lists_fit : (payload : List ℕ) (way : Way) (w r : Offering) (stag : ℕ) → IsBytes payload → IsWay payload way → length payload ≤ PAYLOAD_MAX → IsSmall w → IsSmall r
+lists_fit : (payload : List ℕ) (way : MessageKind) (w r : Offering) (stag : ℕ) → IsBytes payload → IsKind payload way → length payload ≤ PAYLOAD_MAX → IsSmall w → IsSmall r
     → reply_from payload way w stag + one_if (has_segment (offered r)) ≤ 2 ^ 32 → AllFit (lists_items (lists payload way w r stag))
 lists_fit payload way w r stag fits is size small_w small_r room =
     read_fit payload way stag _ fits is size (omega (arith, room))
@@ -160,15 +159,15 @@ record ReadWithin (read : List ReadSegment) (total : ℕ) : Type 0 where
   one : OnePosition read
   total_is : read_total read ≡ total
 
-abbrev moved_total : List ℕ → Way → ℕ
-moved_total payload Inline = 0
-moved_total payload (Reduced i) = i.len
+abbrev moved_total : List ℕ → MessageKind → ℕ
+moved_total payload Short = 0
+moved_total payload (Chunked i) = i.len
 moved_total payload Long = length payload
 
-read_within : (payload : List ℕ) (way : Way) (stag : ℕ) → IsBytes payload → IsWay payload way → length payload ≤ PAYLOAD_MAX → ReadWithin (entries payload way stag) (moved_total payload way)
-read_within payload Inline stag fits is size = record { entries = omega arith; ends = All-nil _; one = (0, All-nil _); total_is = refl }
-read_within payload (Reduced i) stag fits is size =
-    let p = placed payload (Reduced i) i fits is refl in record {
+read_within : (payload : List ℕ) (way : MessageKind) (stag : ℕ) → IsBytes payload → IsKind payload way → length payload ≤ PAYLOAD_MAX → ReadWithin (entries payload way stag) (moved_total payload way)
+read_within payload Short stag fits is size = record { entries = omega arith; ends = All-nil _; one = (0, All-nil _); total_is = refl }
+read_within payload (Chunked i) stag fits is size =
+    let p = placed payload (Chunked i) i fits is refl in record {
       entries = omega arith;
       ends = all_one (λ (r : ReadSegment). Ends r.offset r.length) _ (omega (arith, p.size, size));
       one = (i.pos, all_one (λ (r : ReadSegment). r.position ≢ 0 → r.position ≡ i.pos) _ (λ h. refl));
@@ -181,7 +180,7 @@ read_within payload Long stag fits is size = record {
   total_is = omega arith;
 }
 
-lists_within : (payload : List ℕ) (way : Way) (w r : Offering) (stag : ℕ) → IsBytes payload → IsWay payload way → length payload ≤ PAYLOAD_MAX → IsSmall w → IsSmall r → ListsWithin (lists payload way w r stag)
+lists_within : (payload : List ℕ) (way : MessageKind) (w r : Offering) (stag : ℕ) → IsBytes payload → IsKind payload way → length payload ≤ PAYLOAD_MAX → IsSmall w → IsSmall r → ListsWithin (lists payload way w r stag)
 lists_within payload way w r stag fits is size small_w small_r =
     let rd = read_within payload way stag fits is size in
     let wr = write_within w (write_from payload way stag) small_w in record {
@@ -196,41 +195,41 @@ lists_within payload way w r stag fits is size small_w small_r =
       reply_ends = reply_ends r (reply_from payload way w stag) small_r;
     }
 
-can_read : (payload : List ℕ) (way : Way) (w r : Offering) (stag : ℕ) → IsBytes payload → IsWay payload way → length payload ≤ PAYLOAD_MAX → IsSmall w → IsSmall r
+can_read : (payload : List ℕ) (way : MessageKind) (w r : Offering) (stag : ℕ) → IsBytes payload → IsKind payload way → length payload ≤ PAYLOAD_MAX → IsSmall w → IsSmall r
     → CanRead (body_of way (lists payload way w r stag)) (stream_in payload way)
-can_read payload Inline w r stag fits is size small_w small_r =
-    (lists_within payload Inline w r stag fits is size small_w small_r, All-nil _, omega (arith, size))
-can_read payload (Reduced i) w r stag fits is size small_w small_r =
-    let p = placed payload (Reduced i) i fits is refl in
+can_read payload Short w r stag fits is size small_w small_r =
+    (lists_within payload Short w r stag fits is size small_w small_r, All-nil _, omega (arith, size))
+can_read payload (Chunked i) w r stag fits is size small_w small_r =
+    let p = placed payload (Chunked i) i fits is refl in
     let len = length-take-le i.pos payload (omega (arith, p.size)) in (
-      lists_within payload (Reduced i) w r stag fits is size small_w small_r,
+      lists_within payload (Chunked i) w r stag fits is size small_w small_r,
       all_one (λ (r : ReadSegment). r.position ≢ 0) _ (λ e. omega (arith, e, p.least)),
       omega (arith, size, p.size, len),
     )
 can_read payload Long w r stag fits is size small_w small_r =
     (refl, lists_within payload Long w r stag fits is size small_w small_r, omega (arith, size))
 
-head_fits : (xid credit : ℕ) (way : Way) (ls : ChunkLists) → xid < 2 ^ 32 → credit < 2 ^ 32 → AllFit (lists_items ls) → HeaderFits (record { xid = xid; credit = credit; body = body_of way ls })
-head_fits xid credit Inline ls x c k = (x, (omega arith, (c, (omega arith, k))))
-head_fits xid credit (Reduced i) ls x c k = (x, (omega arith, (c, (omega arith, k))))
+head_fits : (xid credit : ℕ) (way : MessageKind) (ls : ChunkLists) → xid < 2 ^ 32 → credit < 2 ^ 32 → AllFit (lists_items ls) → HeaderFits (record { xid = xid; credit = credit; body = body_of way ls })
+head_fits xid credit Short ls x c k = (x, (omega arith, (c, (omega arith, k))))
+head_fits xid credit (Chunked i) ls x c k = (x, (omega arith, (c, (omega arith, k))))
 head_fits xid credit Long ls x c k = (x, (omega arith, (c, (omega arith, k))))
 
 -- ---- The law
 
-conveys-way : (payload : List ℕ) (way : Way) (stag : ℕ) (head : List ℕ) (ls : ChunkLists) (chunk : ℕ → List ℕ) (w r : Offering) → IsBytes payload → IsWay payload way
+conveys-way : (payload : List ℕ) (way : MessageKind) (stag : ℕ) (head : List ℕ) (ls : ChunkLists) (chunk : ℕ → List ℕ) (w r : Offering) → IsBytes payload → IsKind payload way
     → ChunkHolds chunk (shape payload way (offered w) (offered r))
     → call_conveyed (inline_by (head ++ stream_in payload way) (body_again (body_of way ls) (length head))) (entries payload way stag) chunk ≡ Some payload
 unfolding call_conveyed item_position
-conveys-way payload Inline stag head ls chunk w r fits is brings = ap Some (drop_at head payload (length head) refl)
-conveys-way payload (Reduced i) stag head ls chunk w r fits is brings =
-    let p = placed payload (Reduced i) i fits is refl in
+conveys-way payload Short stag head ls chunk w r fits is brings = ap Some (drop_at head payload (length head) refl)
+conveys-way payload (Chunked i) stag head ls chunk w r fits is brings =
+    let p = placed payload (Chunked i) i fits is refl in
     ap (λ (b : Bool). whole Call (drop (length head) (head ++ stream_of payload i)) (call_moved (position_of (cond (not b) (Some (record { position = i.pos; handle = stag; length = i.len; offset = 0 })) None)) chunk)) (positive i.pos p.least)
     ∙ (λ k. whole Call (drop_at head (stream_of payload i) (length head) refl k) (Some (brings k)))
     ∙ rebuilt Call payload i fits is
 conveys-way payload Long stag head ls chunk w r fits is brings = ap Some brings
 
 -- the message of a shape is its header and its stream, and reads so
-pub reads-shape : (payload : List ℕ) (way : Way) (w r : Offering) (xid credit stag : ℕ) → IsBytes payload → IsWay payload way → length payload ≤ PAYLOAD_MAX → IsSmall w → IsSmall r → xid < 2 ^ 32 → credit < 2 ^ 32
+pub reads-shape : (payload : List ℕ) (way : MessageKind) (w r : Offering) (xid credit stag : ℕ) → IsBytes payload → IsKind payload way → length payload ≤ PAYLOAD_MAX → IsSmall w → IsSmall r → xid < 2 ^ 32 → credit < 2 ^ 32
     → stag + regions_needed (shape payload way (offered w) (offered r)) ≤ 2 ^ 32
     → (let h : Header = record { xid = xid; credit = credit; body = body_of way (lists payload way w r stag) } in
     (call_message xid credit stag (shape payload way (offered w) (offered r)) ≡ header_encoding h ++ stream_in payload way)
@@ -247,12 +246,12 @@ reads-shape payload way w r xid credit stag fits is size small_w small_r fits_x 
           (head_fits xid credit way ls fits_x fits_c (lists_fit payload way w r stag fits is size small_w small_r room2)) (can_read payload way w r stag fits is size small_w small_r),
     )
   where
-    inline-shape : (way : Way) → (shape payload way (offered w) (offered r)).inline ≡ stream_in payload way
-    inline-shape Inline = refl
-    inline-shape (Reduced i) = refl
+    inline-shape : (way : MessageKind) → (shape payload way (offered w) (offered r)).inline ≡ stream_in payload way
+    inline-shape Short = refl
+    inline-shape (Chunked i) = refl
     inline-shape Long = refl
 
-asks-shape : (payload : List ℕ) (way : Way) (w r : Offering) (xid credit stag : ℕ) → IsBytes payload → IsWay payload way → length payload ≤ PAYLOAD_MAX → IsSmall w → IsSmall r → xid < 2 ^ 32 → credit < 2 ^ 32
+asks-shape : (payload : List ℕ) (way : MessageKind) (w r : Offering) (xid credit stag : ℕ) → IsBytes payload → IsKind payload way → length payload ≤ PAYLOAD_MAX → IsSmall w → IsSmall r → xid < 2 ^ 32 → credit < 2 ^ 32
     → stag + regions_needed (shape payload way (offered w) (offered r)) ≤ 2 ^ 32
     → MessageConveys payload (shape payload way (offered w) (offered r)) xid credit stag (call_message xid credit stag (shape payload way (offered w) (offered r)))
 unfolding call_message
@@ -275,14 +274,14 @@ asks-shape payload way w r xid credit stag fits is size small_w small_r fits_x f
           ∙ conveys-way payload way stag (header_encoding h) ls chunk w r fits is brings;
     })
   where
-    inline-shape : (payload : List ℕ) (way : Way) (w r : Offering) → (shape payload way (offered w) (offered r)).inline ≡ stream_in payload way
-    inline-shape payload Inline w r = refl
-    inline-shape payload (Reduced i) w r = refl
+    inline-shape : (payload : List ℕ) (way : MessageKind) (w r : Offering) → (shape payload way (offered w) (offered r)).inline ≡ stream_in payload way
+    inline-shape payload Short w r = refl
+    inline-shape payload (Chunked i) w r = refl
     inline-shape payload Long w r = refl
 
-    lists-again : (way : Way) (ls : ChunkLists) (n : ℕ) → lists_by (body_again (body_of way ls) n) ≡ ls
-    lists-again Inline ls n = refl
-    lists-again (Reduced i) ls n = refl
+    lists-again : (way : MessageKind) (ls : ChunkLists) (n : ℕ) → lists_by (body_again (body_of way ls) n) ≡ ls
+    lists-again Short ls n = refl
+    lists-again (Chunked i) ls n = refl
     lists-again Long ls n = refl
 
 -- The message of a plan whose form isn't given reads back as its header and its stream, and conveys its payload by its chunks.
@@ -292,13 +291,13 @@ asks payload form up down xid credit stag p fits own e fits_x fits_c room =
     let is = is_plan payload form up down p own e in
     let s = is.shaped in
     let law = λ (q : Plan). stag + regions_needed q ≤ 2 ^ 32 → MessageConveys payload q xid credit stag (call_message xid credit stag q) in
-    subst law (sym s.is) (λ room. asks-shape payload s.way s.write s.reply xid credit stag fits s.is_way is.payload_fits s.write_small s.reply_small fits_x fits_c room) room
+    subst law (sym s.is) (λ room. asks-shape payload s.kind s.write s.reply xid credit stag fits s.is_kind is.payload_fits s.write_small s.reply_small fits_x fits_c room) room
 
-brings-way : (payload : List ℕ) (memory : Bytes) (stag : ℕ) (way : Way) (w r : Offering) → IsWay payload way → memory (read_stag stag (shape payload way (offered w) (offered r))) ≡ (shape payload way (offered w) (offered r)).region
+brings-way : (payload : List ℕ) (memory : Bytes) (stag : ℕ) (way : MessageKind) (w r : Offering) → IsKind payload way → memory (read_stag stag (shape payload way (offered w) (offered r))) ≡ (shape payload way (offered w) (offered r)).region
     → ChunkHolds (read_bytes memory (lists_of stag (shape payload way (offered w) (offered r))).read) (shape payload way (offered w) (offered r))
 unfolding lists_of read_bytes
-brings-way payload memory stag Inline w r is holds = tt
-brings-way payload memory stag (Reduced i) w r is holds =
+brings-way payload memory stag Short w r is holds = tt
+brings-way payload memory stag (Chunked i) w r is holds =
     ap (λ (b : Bool). flat_map (λ (e : ReadSegment). take e.length (drop e.offset (memory e.handle))) (cond b (record { position = i.pos; handle = stag; length = i.len; offset = 0 } ∷ []) [])) (eq-eqb i.pos i.pos refl)
     ∙ append-nil (take i.len (memory stag))
     ∙ ap (λ (xs : List ℕ). take i.len xs) holds
@@ -315,4 +314,4 @@ asks_from payload form up down stag p memory fits own e holds =
     let is = is_plan payload form up down p own e in
     let s = is.shaped in
     let law = λ (q : Plan). memory (read_stag stag q) ≡ q.region → ChunkHolds (read_bytes memory (lists_of stag q).read) q in
-    subst law (sym s.is) (λ holds. brings-way payload memory stag s.way s.write s.reply s.is_way holds) holds
+    subst law (sym s.is) (λ holds. brings-way payload memory stag s.kind s.write s.reply s.is_kind holds) holds

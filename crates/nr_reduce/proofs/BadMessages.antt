@@ -1,8 +1,8 @@
 -- For which messages ERR_CHUNK is due: those whose header is bad, and those whose read chunk isn't that of their stream's item.
-use Rattle.std.proofs.Common.{◌≡◌, ◌≢◌, ℕ, zero, suc, ◌+◌, ◌≤◌, ◌<◌, Bool, true, false, cond, not, ◌&&◌, ◌||◌, eqb, ltb, List, [], ◌∷◌, ◌++◌, length, drop, All, Option, Some, None, Result, Ok, Err, refl, sym, ap, subst, ◌∙◌, arith, inl, inr, ◌⊎◌, ◌↔◌}
+use Rattle.std.proofs.Common.{◌≡◌, ◌≢◌, ℕ, zero, suc, ◌+◌, ◌≤◌, Bool, true, false, cond, not, ◌||◌, eqb, ltb, List, [], ◌∷◌, length, drop, Option, Some, None, Result, Ok, Err, refl, sym, ap, subst, ◌∙◌, arith, inl, inr, ◌⊎◌, ◌↔◌}
 use Rattle.std.specs.List.{list_any}
 use Rattle.std.proofs.lemmas.Bool.{eq-eqb, ne_eqb, eqb-true}
-use Rattle.std.proofs.lemmas.List.Elements.{All-nil, All-cons, recursion_from_All, All-from_recursion}
+use Rattle.std.proofs.lemmas.List.Elements.{recursion_from_All, All-from_recursion}
 use Rattle.std.specs.List.{AllByRecursion}
 use Rattle.nr_xdr.specs.Fields.{word_at}
 use Rattle.nr_xdr.specs.Reading.{Cursor}
@@ -13,7 +13,7 @@ use Rattle.nr_header.specs.declared.header.Body.TheVariants.{Msg, Nomsg, ErrVers
 use Rattle.nr_header.specs.declared.header.Header.{Header}
 use Rattle.nr_header.specs.declared.fault.HeaderFault.{HeaderFault}
 use Rattle.nr_header.specs.declared.fault.HeaderFault.TheVariants as faults
-use Rattle.nr_header.specs.Reading.{header_of, header_by, body_by, error_by, error_of, version1_of, in_lists, lists_at, msg_at, nomsg_at, msg_body, nomsg_body, sums_pass, IsBad, HeaderBad, HasNoStream}
+use Rattle.nr_header.specs.Reading.{header_of, header_by, in_lists, lists_at, msg_at, nomsg_at, sums_pass, IsBad, HeaderBad, HasNoStream}
 use Rattle.nr_header.specs.Kinds.{HasFixedWords}
 use Rattle.nr_header.proofs.KindsOfMessages.{msg_is, nomsg_is, msgp_is, above_is}
 use Rattle.nr_xdr.proofs.SequencingSteps.{bind_ok, chosen, done, ok_is}

@@ -1,5 +1,5 @@
 -- What RDMA Writes leave in memory: the bytes of an answer, in the segments of a chunk that lie one behind another.
-use Rattle.std.proofs.Common.{◌≡◌, ◌≢◌, ℕ, zero, suc, ◌+◌, ◌-◌, ◌*◌, ◌/◌, ◌^◌, ◌<◌, ◌≤◌, min, max, Bool, true, false, cond, ◌&&◌, eqb, not, List, [], ◌∷◌, ◌++◌, length, take, drop, map, sum_by, Option, Some, None, refl, sym, ap, subst, ◌∙◌, arith, append-nil, append_assoc, length-append, inl, inr, ◌⊎◌}
+use Rattle.std.proofs.Common.{◌≡◌, ◌≢◌, ℕ, zero, suc, ◌+◌, ◌-◌, ◌*◌, ◌/◌, ◌<◌, ◌≤◌, min, max, Bool, true, false, cond, eqb, List, [], ◌∷◌, ◌++◌, length, take, drop, map, sum_by, refl, sym, ap, ◌∙◌, arith, append-nil, append_assoc, length-append, inl, inr, ◌⊎◌}
 use Rattle.std.proofs.lemmas.Bool.{eq-eqb, ne_eqb, cases_lt, eqb-true}
 use Rattle.std.proofs.lemmas.List.{take_all, drop_all, take_at, drop_at, length-take-le, length-take, length-drop, drop-drop, take-append-drop}
 use Rattle.std.proofs.lemmas.List.Sums.{sum_by-cons}
@@ -7,13 +7,12 @@ use Rattle.std.specs.List.{flat_map, range_with_len}
 use Rattle.std.proofs.lemmas.Grind.{flat_map-append}
 use Rattle.nr_header.specs.declared.header.RdmaSegment.{RdmaSegment}
 use Rattle.nr_regions.specs.RegisteredMemory.{bytes_after_write}
-use Rattle.nr_wire.specs.Constants.{OPCODE_WRITE}
 use Rattle.nr_wire.specs.Segment.{Segment as WireSegment, encoding}
 use Rattle.nr_wire.specs.Segment.Segment.{Tagged, Untagged}
 use Rattle.nr_reduce.specs.Undone.{bytes_after_segments, one_write, write_segments, chunk_segments}
 use Rattle.nr_link.specs.Limits.{segment_max}
 use Rattle.nr_reduce.specs.Plans.{segments_from}
-use Rattle.nr_reduce.specs.Chunks.{Bytes, segment_bytes, joined_bytes, chunk_total, filled_chunk}
+use Rattle.nr_reduce.specs.Chunks.{Bytes, joined_bytes, chunk_total, filled_chunk}
 use Rattle.nr_link.specs.Output.{segment_count, segment_payload, cut, write}
 use Rattle.nr_reduce.specs.Holds.{writes_into}
 

@@ -1,5 +1,5 @@
 -- An item is found by what stands before it: the stream that is cut off at the item's place has the same item.
-use Rattle.std.proofs.Common.{◌≡◌, ℕ, ◌+◌, ◌≤◌, Bool, true, false, cond, ◌&&◌, eqb, List, [], ◌∷◌, ◌++◌, length, take, drop, Option, Some, None, Result, Ok, Err, refl, sym, ap, subst, ◌∙◌, arith, append_assoc, append-nil, length-append, inl, inr}
+use Rattle.std.proofs.Common.{◌≡◌, ℕ, ◌+◌, ◌≤◌, Bool, cond, ◌&&◌, eqb, List, [], ◌∷◌, ◌++◌, length, take, drop, Option, Some, None, Result, Ok, Err, refl, sym, ap, subst, ◌∙◌, arith, append_assoc, append-nil, length-append, inl, inr}
 use Rattle.std.proofs.lemmas.List.{take-append-drop, take_at, drop_at}
 use Rattle.nr_xdr.specs.Item.{Item as XdrItem, IsBytes}
 use Rattle.nr_xdr.specs.Item.Item.{Unsigned}
@@ -15,8 +15,6 @@ use Rattle.nr_rpc.specs.declared.head.CallHead.TheVariants as calls
 use Rattle.nr_rpc.specs.declared.head.CallTarget.{CallTarget}
 use Rattle.nr_rpc.specs.declared.head.ReplyHead.{ReplyHead}
 use Rattle.nr_rpc.specs.declared.head.ReplyHead.TheVariants as replies
-use Rattle.nr_rpc.specs.Call.{BeginsCall}
-use Rattle.nr_rpc.specs.Reply.{BeginsReply}
 use Rattle.nr_rpc.proofs.Calls.{call_begins, begins_call}
 use Rattle.nr_rpc.proofs.Replies.{reply_begins, begins_reply}
 use Rattle.nr_nfs_base.specs.Codec.{Codec, Lawful}

@@ -1,14 +1,12 @@
 -- Memory that holds the open regions of an end holds them from event to event: at a later place, after an access, where regions are
 -- closed, and where one more is after_register.
-use Rattle.std.proofs.Common.{◌≡◌, ◌≢◌, ℕ, ◌+◌, ◌<◌, ◌≤◌, Bool, true, false, cond, ◌&&◌, eqb, leb, ltb, List, [], ◌∷◌, ◌++◌, length, map, Option, None, Some, refl, sym, ap, subst, ◌∙◌, arith, inl, inr}
-use Rattle.std.specs.Prelude.{IfSome, is_none}
+use Rattle.std.proofs.Common.{◌≡◌, ◌≢◌, ℕ, ◌<◌, ◌≤◌, Bool, true, false, cond, ◌&&◌, eqb, leb, ltb, List, [], ◌∷◌, ◌++◌, length, map, Option, None, Some, refl, sym, ap, subst, ◌∙◌, arith, inl, inr}
+use Rattle.std.specs.Prelude.{IfSome}
 use Rattle.std.proofs.lemmas.Bool.{eqb-true, eq-eqb, ne_eqb, cases_eq, le-leb, le-ltb}
-use Rattle.nr_regions.specs.declared.right.Right.{Right}
-use Rattle.nr_regions.specs.declared.denied.Denied.{Denied}
 use Rattle.nr_regions.specs.declared.region.Region.{Region as HeldRegion}
 use Rattle.nr_regions.specs.RegisteredMemory.{RegisteredMemory, Access, held_region, live_region, denial_in, region_offer, denial, after_register, bytes_after_write}
 use Rattle.nr_regions.specs.Access.{Grant, TaggedSegment, applies, grant_at, grant_offer, grant_denial, access_of, after_segment, contents}
-use Rattle.nr_regions.specs.Events.{Event, after_event, after_arrival, after_events}
+use Rattle.nr_regions.specs.Events.{after_event, after_arrival}
 use Rattle.nr_regions.specs.Events.Event.{Arrive}
 use Rattle.nr_regions.proofs.Holding.{live-held, register_here, register_other, arrive_other}
 use Rattle.nr_regions.proofs.Contents.{contents_are}

@@ -1,19 +1,16 @@
 -- The after_register memory of an end holds its open regions from event to event, and denies what the grants deny.
-use Rattle.std.proofs.Common.{◌≡◌, ◌≢◌, ℕ, ◌+◌, ◌<◌, ◌≤◌, Bool, true, false, cond, ◌&&◌, eqb, leb, ltb, List, [], ◌∷◌, ◌++◌, length, map, Option, None, Some, refl, sym, ap, subst, ◌∙◌, arith, inl, inr, length-append}
+use Rattle.std.proofs.Common.{◌≡◌, ℕ, ◌<◌, ◌≤◌, Bool, true, false, cond, ◌&&◌, eqb, leb, ltb, List, [], ◌∷◌, length, map, Option, None, Some, refl, sym, ap, subst, ◌∙◌, arith, inl, inr}
 use Rattle.std.specs.Prelude.{IfSome, is_none}
 use Rattle.std.specs.List.{find}
-use Rattle.std.proofs.lemmas.Bool.{eqb-true, eq-eqb, ne_eqb, cases_eq, lt-ltb, le-leb, lt-leb, ltb-false, leb-false}
+use Rattle.std.proofs.lemmas.Bool.{eqb-true, eq-eqb, cases_eq, lt-ltb, le-leb, lt-leb}
 use Rattle.nr_regions.specs.declared.right.Right.{Right}
 use Rattle.nr_regions.specs.declared.denied.Denied.{Denied}
-use Rattle.nr_regions.specs.declared.region.Region.{Region as HeldRegion}
-use Rattle.nr_regions.specs.RegisteredMemory.{RegisteredMemory, Access, held_region, live_region, denial_in, region_offer, denial, after_register, bytes_after_write}
+use Rattle.nr_regions.specs.RegisteredMemory.{RegisteredMemory, Access, denial_in, region_offer, denial, bytes_after_write}
 use Rattle.nr_regions.specs.Access.{Grant, TaggedSegment, applies, grant_at, grant_offer, grant_denial, access_of, after_segment, contents}
-use Rattle.nr_regions.specs.Events.{Event, after_event, after_events, IsGranted}
-use Rattle.nr_regions.specs.Events.Event.{Arrive}
-use Rattle.nr_regions.proofs.Holding.{live-held, register_here, register_other, arrive_other, length-bytes_after_write, within}
-use Rattle.nr_regions.proofs.Contents.{same_denial, contents_are, after_other}
-use Rattle.nr_reduce.specs.OfferedRegions.{Region, until_or, region_grant, region_grants, until_at, closed_if, regions_closed}
-use Rattle.nr_reduce.specs.OfferedMemory.{region_at, AreOffered, AreReceived, held_if_open, registered_region, HoldsRegions, is_closed_by, ReleasesClosed}
+use Rattle.nr_regions.proofs.Holding.{length-bytes_after_write, within}
+use Rattle.nr_regions.proofs.Contents.{same_denial, after_other}
+use Rattle.nr_reduce.specs.OfferedRegions.{Region, until_or, region_grant, region_grants}
+use Rattle.nr_reduce.specs.OfferedMemory.{region_at, AreOffered, AreReceived, held_if_open, registered_region, HoldsRegions}
 
 -- ---- What is granted where a frame ends
 

@@ -1,7 +1,7 @@
 -- A plan of an offer that is given conveys what the offer conveys.
-use Rattle.std.proofs.Common.{◌≡◌, ◌≢◌, ℕ, zero, suc, ◌+◌, ◌-◌, ◌<◌, ◌≤◌, Bool, true, false, cond, eqb, ltb, not, List, [], ◌∷◌, ◌++◌, length, take, drop, replicate, Option, Some, None, Result, Ok, Err, refl, sym, ap, subst, ◌∙◌, arith, length-append}
+use Rattle.std.proofs.Common.{◌≡◌, ℕ, zero, suc, ◌+◌, ◌-◌, Bool, true, false, cond, eqb, ltb, not, List, [], ◌∷◌, ◌++◌, length, take, drop, replicate, Option, Some, None, Result, Ok, Err, refl, sym, ap, subst, ◌∙◌, arith, length-append}
 use Rattle.std.specs.Prelude.{sum, find}
-use Rattle.std.specs.List.{flat_map, filter}
+use Rattle.std.specs.List.{flat_map}
 use Rattle.std.proofs.Math.Seq.{take-add}
 use Rattle.std.proofs.lemmas.Bool.{eq-eqb, ne_eqb}
 use Rattle.std.proofs.lemmas.List.{take_all, drop-drop, length-take, length-replicate}
@@ -13,7 +13,7 @@ use Rattle.nr_reduce.specs.declared.call.Form.TheVariants as forms
 use Rattle.nr_reduce.specs.declared.call.Offer.{Offer}
 use Rattle.nr_reduce.specs.declared.item.Of.TheVariants.{Call}
 use Rattle.nr_reduce.specs.declared.outline.Plan.{Plan}
-use Rattle.nr_reduce.specs.Plans.{TooLarge, plan_size, given_total, given_region, given_read, given_plan, within, plan_of, read_stag, entries_from, read_list, lists_of, inline_at, inline_stream}
+use Rattle.nr_reduce.specs.Plans.{TooLarge, plan_size, given_total, given_region, given_read, given_plan, within, plan_of, read_stag, entries_from, lists_of, inline_at, inline_stream}
 use Rattle.nr_reduce.specs.Limits.{given_max}
 use Rattle.nr_reduce.specs.Chunks.{Bytes, position_of, item_position, at_position, entry_bytes, read_bytes, call_moved, whole, call_conveyed}
 use Rattle.nr_reduce.specs.PayloadLaws.{moved_by, given_conveyed}

@@ -1,5 +1,5 @@
 -- The message of a plan whose form isn't given is never refused: it opens its call, with the plan's lists and its stream.
-use Rattle.std.proofs.Common.{◌≡◌, ◌≢◌, ℕ, ◌+◌, ◌^◌, ◌<◌, ◌≤◌, Bool, true, false, cond, not, ◌&&◌, ◌||◌, eqb, ltb, List, [], ◌∷◌, ◌++◌, length, take, drop, Option, Some, None, Result, Ok, Err, refl, sym, ap, subst, ◌∙◌, arith}
+use Rattle.std.proofs.Common.{◌≡◌, ℕ, ◌+◌, ◌^◌, ◌<◌, ◌≤◌, Bool, true, false, cond, not, ◌&&◌, ◌||◌, eqb, ltb, List, [], ◌∷◌, ◌++◌, length, drop, Option, Some, None, Result, Ok, Err, refl, sym, ap, subst, ◌∙◌, arith}
 use Rattle.std.proofs.lemmas.Bool.{eq-eqb, ne_eqb, eqb-true}
 use Rattle.nr_header.specs.declared.header.ChunkLists.{ChunkLists}
 use Rattle.nr_header.specs.declared.header.Body.{Body}
@@ -7,7 +7,7 @@ use Rattle.nr_header.specs.declared.header.Body.TheVariants.{Msg, Nomsg, ErrVers
 use Rattle.nr_header.specs.declared.header.Header.{Header}
 use Rattle.nr_header.specs.declared.fault.HeaderFault.{HeaderFault}
 use Rattle.nr_header.specs.declared.fault.HeaderFault.TheVariants as faults
-use Rattle.nr_header.specs.Reading.{header_of, body_by, error_by, error_of, version1_of, header_by}
+use Rattle.nr_header.specs.Reading.{header_of, body_by, error_by, version1_of, header_by}
 use Rattle.std.proofs.Common.{sum_by}
 use Rattle.std.proofs.lemmas.List.{drop_at}
 use Rattle.nr_xdr.specs.Item.{IsBytes, pad_len}
@@ -17,20 +17,19 @@ use Rattle.nr_header.specs.Header.{header_encoding}
 use Rattle.nr_header.specs.WithinLimits.{body_again, header_again}
 use Rattle.nr_reduce.specs.declared.call.Form.{Form}
 use Rattle.nr_reduce.specs.declared.item.Item.{Item}
-use Rattle.nr_reduce.specs.declared.item.Of.{Of}
-use Rattle.nr_reduce.specs.Items.{item_of, stream_of}
+use Rattle.nr_reduce.specs.Items.{stream_of}
 use Rattle.nr_reduce.specs.declared.item.Of.TheVariants.{Call}
 use Rattle.nr_reduce.specs.declared.outline.Plan.{Plan}
 use Rattle.nr_reduce.specs.Plans.{plan_of, regions_needed, lists_of, inline_stream, call_message}
 use Rattle.nr_reduce.specs.Chunks.{is_read_chunk_of_item, is_read_chunk_at, is_item, item_position, position_of, total_at}
 use Rattle.nr_reduce.specs.Undone.{IsNotGiven}
-use Rattle.nr_reduce.specs.ServerState.{ServerState, PendingCall, is_pending}
+use Rattle.nr_reduce.specs.ServerState.{ServerState, is_pending}
 use Rattle.nr_reduce.specs.ServerMessages.{Verdict, verdict, by_header, by_body, by_stream, by_need}
 use Rattle.nr_reduce.specs.ServerMessages.Verdict.{BadChunks}
 use Rattle.nr_reduce.proofs.Looks.{item_stands}
 use Rattle.nr_reduce.proofs.Undone.{reducible}
-use Rattle.nr_reduce.proofs.Shapes.{Offering, offered, IsSmall, Way, shape, IsWay, Shaped, is_plan}
-use Rattle.nr_reduce.proofs.Shapes.Way.{Inline, Reduced, Long}
+use Rattle.nr_reduce.proofs.Shapes.{Offering, offered, IsSmall, MessageKind, shape, IsKind, is_plan}
+use Rattle.nr_reduce.proofs.Shapes.MessageKind.{Short, Chunked, Long}
 use Rattle.nr_reduce.proofs.Asking.{lists, lists-shape, body_of, stream_in, reads-shape}
 use Rattle.nr_xdr.specs.Fields.{word_at}
 
@@ -115,30 +114,30 @@ judged_call k message h e is free =
 
 -- ---- The message of a plan
 
-abbrev pub inline_of : List ℕ → Way → Option (List ℕ)
-inline_of payload Inline = Some payload
-inline_of payload (Reduced i) = Some (stream_of payload i)
+abbrev pub inline_of : List ℕ → MessageKind → Option (List ℕ)
+inline_of payload Short = Some payload
+inline_of payload (Chunked i) = Some (stream_of payload i)
 inline_of payload Long = None
 
-inline-shape : (payload : List ℕ) (way : Way) (w r : Offering) → IsBytes payload → IsWay payload way → inline_of payload way ≡ inline_stream (shape payload way (offered w) (offered r))
-inline-shape payload Inline w r fits is = refl
-inline-shape payload (Reduced i) w r fits is =
+inline-shape : (payload : List ℕ) (way : MessageKind) (w r : Offering) → IsBytes payload → IsKind payload way → inline_of payload way ≡ inline_stream (shape payload way (offered w) (offered r))
+inline-shape payload Short w r fits is = refl
+inline-shape payload (Chunked i) w r fits is =
     let stands = item_stands Call payload i fits (reducible Call payload i is).item in
     let least = stands.least in
     ap (λ (b : Bool). cond b None (Some (stream_of payload i))) (sym (ne_eqb i.pos 0 (λ e. omega (arith, e, least))))
 inline-shape payload Long w r fits is = refl
 
 -- A stream suits its read list, and a call in one chunk waits for it.
-opens_way : (k : ServerState) (xid : ℕ) (payload : List ℕ) (way : Way) (w r : Offering) (stag : ℕ) (head : List ℕ) → IsBytes payload → IsWay payload way → 0 < length payload
+opens_way : (k : ServerState) (xid : ℕ) (payload : List ℕ) (way : MessageKind) (w r : Offering) (stag : ℕ) (head : List ℕ) → IsBytes payload → IsKind payload way → 0 < length payload
     → by_body k xid (head ++ stream_in payload way) (body_again (body_of way (lists payload way w r stag)) (length head))
     ≡ by_need k (record { number = k.received.sends + 1; xid = xid; lists = lists payload way w r stag; inline = inline_of payload way })
 unfolding is_read_chunk_of_item item_position total_at
-opens_way k xid payload Inline w r stag head fits is some =
-    ap (λ (xs : List ℕ). by_need k (record { number = k.received.sends + 1; xid = xid; lists = lists payload Inline w r stag; inline = Some xs })) (drop_at head payload (length head) refl)
-opens_way k xid payload (Reduced i) w r stag head fits is some =
+opens_way k xid payload Short w r stag head fits is some =
+    ap (λ (xs : List ℕ). by_need k (record { number = k.received.sends + 1; xid = xid; lists = lists payload Short w r stag; inline = Some xs })) (drop_at head payload (length head) refl)
+opens_way k xid payload (Chunked i) w r stag head fits is some =
     let red = reducible Call payload i is in
     let stands = item_stands Call payload i fits red.item in
-    let ls : ChunkLists = lists payload (Reduced i) w r stag in
+    let ls : ChunkLists = lists payload (Chunked i) w r stag in
     let entry : ReadSegment = record { position = i.pos; handle = stag; length = i.len; offset = 0 } in
     let least = stands.least in
     let here : eqb i.pos 0 ≡ false = ne_eqb i.pos 0 (λ e. omega (arith, e, least)) in
@@ -162,19 +161,19 @@ opens_call k payload form up down xid credit stag p fits own e some fits_x fits_
     let s = is.shaped in
     let law = λ (q : Plan). stag + regions_needed q ≤ 2 ^ 32
     → verdict k (call_message xid credit stag q) ≡ by_need k (record { number = k.received.sends + 1; xid = xid; lists = lists_of stag q; inline = inline_stream q }) in
-    subst law (sym s.is) (λ room. by_shape s.way s.write s.reply s.is_way s.write_small s.reply_small is.payload_fits room) room
+    subst law (sym s.is) (λ room. by_shape s.kind s.write s.reply s.is_kind s.write_small s.reply_small is.payload_fits room) room
   where
-    is_call : (way : Way) (ls : ChunkLists) (n : ℕ) → IsCall (body_again (body_of way ls) n)
-    is_call Inline ls n = tt
-    is_call (Reduced i) ls n = tt
+    is_call : (way : MessageKind) (ls : ChunkLists) (n : ℕ) → IsCall (body_again (body_of way ls) n)
+    is_call Short ls n = tt
+    is_call (Chunked i) ls n = tt
     is_call Long ls n = tt
 
-    by_shape : (way : Way) (w r : Offering) → IsWay payload way → IsSmall w → IsSmall r → length payload ≤ PAYLOAD_MAX → stag + regions_needed (shape payload way (offered w) (offered r)) ≤ 2 ^ 32
+    by_shape : (way : MessageKind) (w r : Offering) → IsKind payload way → IsSmall w → IsSmall r → length payload ≤ PAYLOAD_MAX → stag + regions_needed (shape payload way (offered w) (offered r)) ≤ 2 ^ 32
         → verdict k (call_message xid credit stag (shape payload way (offered w) (offered r))) ≡ by_need k (record { number = k.received.sends + 1; xid = xid; lists = lists_of stag (shape payload way (offered w) (offered r)); inline = inline_stream (shape payload way (offered w) (offered r)) })
-    by_shape way w r is_way small_w small_r size room =
-        let m = reads-shape payload way w r xid credit stag fits is_way size small_w small_r fits_x fits_c room in
+    by_shape way w r is_kind small_w small_r size room =
+        let m = reads-shape payload way w r xid credit stag fits is_kind size small_w small_r fits_x fits_c room in
         let h : Header = record { xid = xid; credit = credit; body = body_of way (lists payload way w r stag) } in
         ap (λ (bytes : List ℕ). verdict k bytes) m.0
         ∙ judged_call k (header_encoding h ++ stream_in payload way) (header_again h) m.1 (is_call way (lists payload way w r stag) (length (header_encoding h))) free
-        ∙ opens_way k xid payload way w r stag (header_encoding h) fits is_way some
-        ∙ (λ i. by_need k (record { number = k.received.sends + 1; xid = xid; lists = sym (lists-shape payload way w r stag) i; inline = inline-shape payload way w r fits is_way i }))
+        ∙ opens_way k xid payload way w r stag (header_encoding h) fits is_kind some
+        ∙ (λ i. by_need k (record { number = k.received.sends + 1; xid = xid; lists = sym (lists-shape payload way w r stag) i; inline = inline-shape payload way w r fits is_kind i }))

@@ -1,5 +1,5 @@
 -- A reader at a place, and where the heads of calls and replies end.
-use Rattle.std.proofs.Common.{◌≡◌, ℕ, zero, suc, ◌+◌, ◌-◌, ◌*◌, ◌/◌, ◌%◌, ◌<◌, ◌≤◌, Bool, true, false, cond, eqb, ltb, List, [], ◌∷◌, ◌++◌, length, take, drop, Option, Some, None, Result, Ok, Err, refl, sym, ap, subst, ◌∙◌, arith, length-append, zero-add, inl, inr}
+use Rattle.std.proofs.Common.{◌≡◌, ℕ, ◌+◌, ◌*◌, ◌/◌, ◌≤◌, eqb, List, [], ◌∷◌, ◌++◌, length, take, drop, Option, Some, None, Result, Ok, Err, refl, sym, ap, subst, ◌∙◌, arith, length-append, zero-add, inl, inr}
 use Rattle.std.proofs.lemmas.Bool.{le-ltb}
 use Rattle.nr_xdr.specs.declared.fault.ItemFault.{ItemFault}
 use Rattle.nr_xdr.specs.Item.{Item as XdrItem, IsBytes, Reads, pad_len}
@@ -23,7 +23,6 @@ use Rattle.nr_rpc.proofs.Replies.{reply_begins}
 use Rattle.std.specs.Prelude.{IfSome}
 use Rattle.nr_reduce.specs.declared.item.Item.{Item}
 use Rattle.nr_reduce.specs.declared.item.Of.{Of}
-use Rattle.nr_reduce.specs.declared.item.Of.TheVariants.{Call, Reply}
 use Rattle.nr_xdr.specs.Reading.{unsigned_at}
 use Rattle.nr_xdr.specs.Sequencing.{◌>>=◌, or_place, number_at}
 use Rattle.nr_nfs_base.specs.Codec.{cursor_behind}

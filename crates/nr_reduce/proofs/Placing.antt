@@ -1,11 +1,9 @@
 -- Laws of marks: places rise along a run, each call has its place in the journal, none completes twice, and xids are not given twice.
-use Rattle.std.proofs.Common.{◌≡◌, ◌≢◌, ℕ, ◌+◌, ◌<◌, ◌≤◌, Bool, true, false, cond, ◌&&◌, eqb, List, [], ◌∷◌, ◌++◌, length, take, drop, Option, Some, None, Result, Ok, Err, refl, sym, ap, subst, ◌∙◌, arith, append_assoc, append-nil, length-append, inl, inr, ◌⊎◌}
-use Rattle.std.proofs.lemmas.Bool.{eq-eqb}
+use Rattle.std.proofs.Common.{◌≡◌, ◌≢◌, ℕ, ◌+◌, ◌<◌, ◌≤◌, Bool, true, false, cond, ◌&&◌, List, [], ◌∷◌, ◌++◌, length, take, drop, Option, Some, None, Result, Ok, Err, refl, sym, ap, subst, ◌∙◌, arith, append_assoc, append-nil, length-append}
 use Rattle.std.proofs.lemmas.List.{take_at, drop_at}
 use Rattle.std.specs.Prelude.{Contains}
-use Rattle.std.specs.List.{flat_map}
 use Rattle.std.proofs.lemmas.Grind.{flat_map-append}
-use Rattle.nr_wire.specs.declared.hello.Side.TheVariants.{Initiator, Responder}
+use Rattle.nr_wire.specs.declared.hello.Side.TheVariants.{Initiator}
 use Rattle.nr_wire.specs.Segment.{Segment}
 use Rattle.nr_reduce.specs.declared.call.Call.{Call}
 use Rattle.nr_link.specs.declared.end.End.{End as Stop}
@@ -29,9 +27,8 @@ use Rattle.nr_reduce.specs.Events.Event.{FrameReceived, CallSubmitted, MemoryRev
 use Rattle.nr_reduce.specs.ClientState.{ClientState}
 use Rattle.nr_reduce.specs.Client.{client_state_after, client_end, client_rules, with_message, with_request, with_segment}
 use Rattle.nr_reduce.specs.Run.{client}
-use Rattle.nr_reduce.specs.SubmitAnswer.{next_xid}
 use Rattle.nr_reduce.specs.Asked.{AskedMark, IsAccepted}
-use Rattle.nr_reduce.specs.Journal.{AtPlace, AtPlaceMark, AtPlaces, PlacedMark, Journaled}
+use Rattle.nr_reduce.specs.Journal.{AtPlace, PlacedMark, Journaled}
 use Rattle.nr_reduce.proofs.Steps.{client-one}
 use Rattle.nr_reduce.proofs.Standing.{itself}
 

@@ -8,7 +8,7 @@ use Rattle.nr_wire.specs.Segment.{Segment}
 use Rattle.nr_regions.specs.Access.{Grant, TaggedSegment, applies, grant_at, grant_offer, grant_denial, access_of, after_segment, contents}
 use Rattle.nr_regions.specs.RegisteredMemory.{Access, denial_in, right_for, same_right, bytes_after_write}
 use Rattle.nr_regions.specs.declared.right.Right.{Right}
-use Rattle.nr_regions.specs.declared.right.Right.TheVariants.{Fetch, Fill, Sink}
+use Rattle.nr_regions.specs.declared.right.Right.TheVariants.{Fetch, Fill}
 use Rattle.nr_regions.specs.declared.denied.Denied.TheVariants.{Bounds, Right as WrongRight}
 use Rattle.nr_regions.specs.declared.right.Kind.{Kind}
 use Rattle.nr_regions.specs.declared.right.Kind.TheVariants.{Write, Response}
@@ -25,8 +25,8 @@ use Rattle.nr_reduce.specs.declared.mark.Opened.{Opened}
 use Rattle.nr_reduce.specs.declared.outline.Plan.{Plan}
 use Rattle.nr_reduce.specs.Plans.{TooLarge, Buffer, one_if, buffer_if, buffers, has_segment, read_stag, write_stag, reply_stag, regions_needed, total}
 use Rattle.nr_reduce.specs.History.{AcceptedCall, bytes_received}
-use Rattle.nr_reduce.specs.OfferedRegions.{Region, region_grant, region_grants, closed_if, regions_closed, region_bytes, region_bytes_by}
-use Rattle.nr_reduce.specs.Events.{Event, if_own, events_at, events}
+use Rattle.nr_reduce.specs.OfferedRegions.{Region, region_grants, closed_if, regions_closed, region_bytes, region_bytes_by}
+use Rattle.nr_reduce.specs.Events.{Event, if_own, events_at}
 use Rattle.nr_reduce.specs.Events.Event.{FrameReceived, CallSubmitted, MemoryRevoked, CallExecuted, QueueWritten}
 use Rattle.nr_reduce.specs.EndRules.{EndState, next_end_state_in, end_state_after}
 use Rattle.nr_reduce.specs.ClientState.{ClientState, call_payload, plan_for}

@@ -1,5 +1,5 @@
 -- The message of any plan reads back as its lists and its stream.
-use Rattle.std.proofs.Common.{◌≡◌, ℕ, Bool, true, false, cond, eqb, List, ◌++◌, length, drop, Option, Some, None, Result, Ok, refl, ap, ◌∙◌}
+use Rattle.std.proofs.Common.{◌≡◌, ℕ, Bool, true, false, cond, eqb, List, ◌++◌, length, Option, Some, None, Ok, refl, ap, ◌∙◌}
 use Rattle.std.proofs.lemmas.List.{drop_at}
 use Rattle.nr_header.specs.declared.header.ChunkLists.{ChunkLists}
 use Rattle.nr_header.specs.declared.header.Body.TheVariants.{Msg, Nomsg}
@@ -9,7 +9,7 @@ use Rattle.nr_header.proofs.Messages.{header_written}
 use Rattle.nr_reduce.specs.declared.call.Form.TheVariants as forms
 use Rattle.nr_reduce.specs.declared.call.Offer.{Offer}
 use Rattle.nr_reduce.specs.declared.outline.Plan.{Plan}
-use Rattle.nr_reduce.specs.Plans.{body_by, lists_of, inline_at, inline_stream, read_stag, call_header, call_message, plan_of}
+use Rattle.nr_reduce.specs.Plans.{body_by, lists_of, inline_at, read_stag, call_header, call_message, plan_of}
 use Rattle.nr_reduce.specs.Chunks.{Bytes, call_conveyed, read_bytes}
 use Rattle.nr_reduce.specs.Undone.{inline_by, lists_by, ReadsAsPlan}
 use Rattle.nr_reduce.specs.PayloadLaws.{given_conveyed}

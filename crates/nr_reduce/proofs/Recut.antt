@@ -1,12 +1,12 @@
 -- What was cut is put together again.
-use Rattle.std.proofs.Common.{◌≡◌, ℕ, Bool, true, false, cond, eqb, not, List, Option, Some, None, Result, Ok, Err, refl, sym, ap, subst, ◌∙◌}
+use Rattle.std.proofs.Common.{◌≡◌, ℕ, cond, not, List, Option, Some, None, Ok, Err, refl, ap, subst, ◌∙◌}
 use Rattle.std.proofs.lemmas.Bool.{eq-eqb}
 use Rattle.nr_xdr.specs.Item.{IsBytes}
 use Rattle.nr_reduce.specs.declared.item.Item.{Item}
 use Rattle.nr_reduce.specs.declared.item.Of.{Of}
 use Rattle.nr_reduce.specs.declared.item.Cut.{Cut}
 use Rattle.nr_reduce.specs.declared.fault.Mismatch.TheVariants as mismatches
-use Rattle.nr_reduce.specs.Items.{reducible_item, stream_of, moved_of, restored_payload}
+use Rattle.nr_reduce.specs.Items.{reducible_item, stream_of, moved_of}
 use Rattle.nr_reduce.specs.Cuts.{cut_at, cut_of, joined_by, rebuilt_of}
 use Rattle.nr_reduce.proofs.Looks.{item_stands}
 use Rattle.nr_reduce.proofs.Undone.{reducible, restored-moved, moved-length, right_length}

@@ -1,5 +1,5 @@
 -- Sums over chunks, as far as a loop has come.
-use Rattle.std.proofs.Common.{◌≡◌, ℕ, suc, ◌+◌, ◌*◌, ◌^◌, ◌<◌, ◌≤◌, Bool, true, false, leb, List, [], ◌∷◌, ◌++◌, length, take, drop, Option, Some, None, refl, sym, ap, ◌∙◌, arith}
+use Rattle.std.proofs.Common.{◌≡◌, ℕ, ◌+◌, ◌*◌, ◌<◌, false, leb, List, [], ◌∷◌, length, take, Option, Some, None, refl, sym, arith}
 use Rattle.std.specs.Prelude.{sum_by}
 use Rattle.std.proofs.lemmas.Bool.{lt-leb}
 use Rattle.std.proofs.lemmas.List.Sums.{sum_by-take-le}
@@ -8,7 +8,7 @@ use Rattle.nr_reduce.specs.declared.item.Item.{Item}
 use Rattle.nr_reduce.specs.declared.item.Of.{Of}
 use Rattle.nr_reduce.specs.Chunks.{chunk_total}
 use Rattle.nr_reduce.specs.Items.{reducible_item}
-use Rattle.nr_reduce.specs.Holds.{Parts, parts_by, parts_in, answer_size}
+use Rattle.nr_reduce.specs.Holds.{parts_by, parts_in, answer_size}
 use Rattle.nr_reduce.specs.Views.{first_total, parts_for, parts_of}
 
 pub parts_by_total : (of : Of) (chunks : List (List RdmaSegment)) (reply : List ℕ) → parts_in of chunks reply ≡ parts_of of (first_total chunks) reply

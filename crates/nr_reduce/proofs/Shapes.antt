@@ -1,10 +1,9 @@
 -- The plans of the forms that aren't given have three shapes: all inline, the item in a chunk, all in a chunk; and they offer one
 -- segment at most for each way back.
-use Rattle.std.proofs.Common.{◌≡◌, ◌≢◌, ℕ, zero, suc, ◌+◌, ◌-◌, ◌%◌, ◌^◌, ◌<◌, ◌≤◌, min, max, Bool, true, false, cond, ◌&&◌, eqb, ltb, leb, not, List, [], ◌∷◌, ◌++◌, length, take, drop, replicate, Option, Some, None, Result, Ok, Err, refl, sym, ap, subst, ◌∙◌, arith, inl, inr}
+use Rattle.std.proofs.Common.{◌≡◌, ℕ, ◌+◌, ◌≤◌, min, Bool, true, false, cond, ◌&&◌, eqb, ltb, leb, not, List, [], ◌∷◌, length, Option, Some, None, Result, Ok, Err, refl, sym, ap, subst, ◌∙◌, arith, inl, inr}
 use Rattle.std.specs.Prelude.{find, option_map, unwrap_or}
 use Rattle.std.specs.List.{list_all}
-use Rattle.std.proofs.lemmas.Bool.{eqb-true, eq-eqb}
-use Rattle.nr_xdr.specs.Item.{IsBytes, pad_len}
+use Rattle.nr_xdr.specs.Item.{pad_len}
 use Rattle.nr_xdr.specs.Reading.{Cursor}
 use Rattle.nr_xdr.proofs.SequencingSteps.{chosen}
 use Rattle.nr_rpc.specs.Reading.{call_of, target_of}
@@ -13,14 +12,13 @@ use Rattle.nr_header.specs.Constants.{PAYLOAD_MAX}
 use Rattle.nr_reduce.specs.Undone.{IsNotGiven}
 use Rattle.nr_reduce.specs.declared.call.Form.{Form}
 use Rattle.nr_reduce.specs.declared.call.Form.TheVariants as forms
-use Rattle.nr_reduce.specs.Limits.{moved_max, readdir_max, link_max}
+use Rattle.nr_reduce.specs.Limits.{moved_max, link_max}
 use Rattle.nr_reduce.specs.declared.item.Item.{Item}
-use Rattle.nr_reduce.specs.declared.item.Of.{Of}
 use Rattle.nr_reduce.specs.Items.{reducible_item, stream_of, moved_of, READ, READLINK, is_nfs, from_place}
 use Rattle.nr_reduce.specs.declared.item.Of.TheVariants.{Call}
-use Rattle.nr_reduce.specs.Largest.{largest_reply, least_reply, target_reply_max, by_count, nfs_reply_max, read_reply_max, readdir_reply_max, padded_length, limit_of, reply_limits, read_count, readdir_count, readdirplus_count, READDIR, READDIRPLUS, MOUNT_PROGRAM, MOUNT_VERSION, MNT}
+use Rattle.nr_reduce.specs.Largest.{largest_reply, least_reply, target_reply_max, by_count, nfs_reply_max, read_reply_max, readdir_reply_max, limit_of, reply_limits, read_count, readdir_count, readdirplus_count, READDIR, READDIRPLUS, MOUNT_PROGRAM, MOUNT_VERSION, MNT}
 use Rattle.nr_reduce.specs.declared.outline.Plan.{Plan}
-use Rattle.nr_reduce.specs.Plans.{TooLarge, inline_plan, moved_offer, target_offer, write_offer, chunk_for, plan_size, reduced_plan_by, reduced_plan, long_plan, first_within, offering, auto_offer, auto_plan, plan_in_form, within, given_within, plan_of}
+use Rattle.nr_reduce.specs.Plans.{TooLarge, inline_plan, moved_offer, target_offer, write_offer, chunk_for, plan_size, reduced_plan_by, reduced_plan, long_plan, offering, auto_offer, plan_in_form, within, given_within, plan_of}
 
 -- ---- How long a reply may be
 
@@ -109,29 +107,29 @@ write_offering payload = by_target (target_of (call_of payload))
 
 -- ---- The three shapes
 
-pub data Way : Type 0 where
-  Inline : Way
-  Reduced : (i : Item) → Way
-  Long : Way
+pub data MessageKind : Type 0 where
+  Short : MessageKind
+  Chunked : (i : Item) → MessageKind
+  Long : MessageKind
 
-abbrev pub shape : List ℕ → Way → Option (List ℕ) → Option (List ℕ) → Plan
-shape payload Inline w r = record { inline = payload; read_at = None; read = []; region = []; write = w; reply = r }
-shape payload (Reduced i) w r = record { inline = stream_of payload i; read_at = Some i.pos; read = i.len ∷ []; region = moved_of payload i; write = w; reply = r }
+abbrev pub shape : List ℕ → MessageKind → Option (List ℕ) → Option (List ℕ) → Plan
+shape payload Short w r = record { inline = payload; read_at = None; read = []; region = []; write = w; reply = r }
+shape payload (Chunked i) w r = record { inline = stream_of payload i; read_at = Some i.pos; read = i.len ∷ []; region = moved_of payload i; write = w; reply = r }
 shape payload Long w r = record { inline = []; read_at = Some 0; read = length payload ∷ []; region = payload; write = w; reply = r }
 
-abbrev pub IsWay : List ℕ → Way → Type 0
-IsWay payload Inline = Unit {0}
-IsWay payload (Reduced i) = reducible_item Call payload ≡ Some i
-IsWay payload Long = Unit {0}
+abbrev pub IsKind : List ℕ → MessageKind → Type 0
+IsKind payload Short = Unit {0}
+IsKind payload (Chunked i) = reducible_item Call payload ≡ Some i
+IsKind payload Long = Unit {0}
 
 pub record Shaped (payload : List ℕ) (p : Plan) : Type 0 where
-  pub way : Way
-  pub is_way : IsWay payload way
+  pub kind : MessageKind
+  pub is_kind : IsKind payload kind
   pub write : Offering
   pub write_small : IsSmall write
   pub reply : Offering
   pub reply_small : IsSmall reply
-  pub is : p ≡ shape payload way (offered write) (offered reply)
+  pub is : p ≡ shape payload kind (offered write) (offered reply)
 
 -- a plan with nothing in a read chunk
 pub record Plainly (payload : List ℕ) (p : Plan) : Type 0 where
@@ -139,10 +137,10 @@ pub record Plainly (payload : List ℕ) (p : Plan) : Type 0 where
   pub write_small : IsSmall write
   pub reply : Offering
   pub reply_small : IsSmall reply
-  pub is : p ≡ shape payload Inline (offered write) (offered reply)
+  pub is : p ≡ shape payload Short (offered write) (offered reply)
 
 shaped-plain : (payload : List ℕ) (p : Plan) → Plainly payload p → Shaped payload p
-shaped-plain payload p h = record { way = Inline; is_way = tt; write = h.write; write_small = h.write_small; reply = h.reply; reply_small = h.reply_small; is = h.is }
+shaped-plain payload p h = record { kind = Short; is_kind = tt; write = h.write; write_small = h.write_small; reply = h.reply; reply_small = h.reply_small; is = h.is }
 
 shaped-reduced : (payload : List ℕ) (p : Plan) → Plainly payload p → Shaped payload (reduced_plan payload p)
 unfolding reduced_plan
@@ -151,8 +149,8 @@ shaped-reduced payload p h = by_item (reducible_item Call payload) refl
     by_item : (o : Option Item) → reducible_item Call payload ≡ o → Shaped payload (reduced_plan_by payload p o)
     by_item None e = shaped-plain payload p h
     by_item (Some i) e = record {
-      way = Reduced i;
-      is_way = e;
+      kind = Chunked i;
+      is_kind = e;
       write = h.write;
       write_small = h.write_small;
       reply = h.reply;
@@ -162,8 +160,8 @@ shaped-reduced payload p h = by_item (reducible_item Call payload) refl
 
 shaped-long : (payload : List ℕ) (p : Plan) → Plainly payload p → Shaped payload (long_plan payload p)
 shaped-long payload p h = record {
-  way = Long;
-  is_way = tt;
+  kind = Long;
+  is_kind = tt;
   write = h.write;
   write_small = h.write_small;
   reply = h.reply;
@@ -189,7 +187,7 @@ plain_write payload =
       write_small = o.small;
       reply = Nothing;
       reply_small = tt;
-      is = ap (λ (w : Option (List ℕ)). shape payload Inline w None) o.is;
+      is = ap (λ (w : Option (List ℕ)). shape payload Short w None) o.is;
     }
 
 plain_offering : (payload : List ℕ) → Plainly payload (offering payload (write_offer payload) (inline_plan payload))
@@ -197,7 +195,7 @@ plain_offering payload = by_offer (write_offer payload) refl
   where
     by_offer : (o : Option ℕ) → write_offer payload ≡ o → Plainly payload (offering payload o (inline_plan payload))
     by_offer None e = plain_reply payload
-    by_offer (Some n) e = subst (λ (w : Option ℕ). Plainly payload (shape payload Inline (chunk_for w) None)) e (plain_write payload)
+    by_offer (Some n) e = subst (λ (w : Option ℕ). Plainly payload (shape payload Short (chunk_for w) None)) e (plain_write payload)
 
 plain-if : (payload : List ℕ) (b : Bool) (p q : Plan) → Plainly payload p → Plainly payload q → Plainly payload (cond b p q)
 plain-if payload true p q h k = h

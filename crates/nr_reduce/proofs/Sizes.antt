@@ -1,5 +1,5 @@
 -- The size of a message: that of its header's lists, and of its stream.
-use Rattle.std.proofs.Common.{◌≡◌, ℕ, ◌+◌, ◌*◌, ◌≤◌, Bool, true, false, cond, eqb, List, [], ◌∷◌, ◌++◌, length, sum_by, Option, Some, None, Result, Ok, Err, refl, sym, ap, subst, ◌∙◌, arith, length-append}
+use Rattle.std.proofs.Common.{◌≡◌, ℕ, ◌+◌, ◌*◌, ◌≤◌, Bool, true, false, cond, eqb, List, [], ◌∷◌, ◌++◌, length, sum_by, Option, Some, None, Result, Ok, refl, sym, ap, subst, arith, length-append}
 use Rattle.std.proofs.lemmas.List.Sums.{sum_by-cons}
 use Rattle.nr_xdr.specs.Item.{Item as XdrItem, word, hyper}
 use Rattle.nr_xdr.specs.Items.{encodings}
@@ -8,18 +8,15 @@ use Rattle.nr_header.specs.Constants.{PAYLOAD_MAX}
 use Rattle.nr_header.specs.declared.header.RdmaSegment.{RdmaSegment}
 use Rattle.nr_header.specs.declared.header.ReadSegment.{ReadSegment}
 use Rattle.nr_header.specs.declared.header.ChunkLists.{ChunkLists}
-use Rattle.nr_header.specs.declared.header.Body.{Body}
 use Rattle.nr_header.specs.declared.header.Body.TheVariants.{Msg, Nomsg}
-use Rattle.nr_header.specs.declared.header.Header.{Header}
 use Rattle.nr_header.specs.Header.{segments_items, chunk_items, read_items, write_items, reply_items, lists_items, fixed_items, header_encoding}
 use Rattle.nr_reduce.specs.declared.call.Form.{Form}
 use Rattle.nr_reduce.specs.declared.call.Form.TheVariants as forms
-use Rattle.nr_reduce.specs.declared.call.Offer.{Offer}
 use Rattle.nr_reduce.specs.declared.outline.Plan.{Plan}
 use Rattle.nr_reduce.specs.Limits.{given_max}
-use Rattle.nr_reduce.specs.Plans.{TooLarge, segments_from, entries_from, read_list, write_list, reply_chunk, write_size, reply_size, plan_size, write_stag, reply_stag, read_stag, given_read, given_plan, given_total, given_within, plan_in_form, within, lists_of, body_by, call_message, plan_of}
-use Rattle.nr_reduce.proofs.Shapes.{Offering, offered, Way, shape, Shaped, shaped, within-ok}
-use Rattle.nr_reduce.proofs.Shapes.Way.{Inline, Reduced, Long}
+use Rattle.nr_reduce.specs.Plans.{TooLarge, segments_from, entries_from, read_list, write_list, reply_chunk, write_size, reply_size, plan_size, write_stag, reply_stag, read_stag, given_read, given_total, given_within, plan_in_form, within, lists_of, body_by, call_message, plan_of}
+use Rattle.nr_reduce.proofs.Shapes.{offered, MessageKind, shape, Shaped, shaped, within-ok}
+use Rattle.nr_reduce.proofs.Shapes.MessageKind.{Short, Chunked, Long}
 
 word_len : (n : ℕ) (xs : List ℕ) → length (word n ++ xs) ≡ 4 + length xs
 word_len n xs = (let a = length-append (word n) xs in let b = length-word n in omega (arith, a, b))
@@ -142,13 +139,13 @@ message_len xid credit stag p h =
 
 -- ---- Plans of every form
 
-shape_entries : (payload : List ℕ) (way : Way) (w r : Option (List ℕ)) → HasEntriesAt (shape payload way w r)
-shape_entries payload Inline w r = λ e. refl
-shape_entries payload (Reduced i) w r = λ e. absurd cc
+shape_entries : (payload : List ℕ) (way : MessageKind) (w r : Option (List ℕ)) → HasEntriesAt (shape payload way w r)
+shape_entries payload Short w r = λ e. refl
+shape_entries payload (Chunked i) w r = λ e. absurd cc
 shape_entries payload Long w r = λ e. absurd cc
 
 shaped_entries : (payload : List ℕ) (p : Plan) → Shaped payload p → HasEntriesAt p
-shaped_entries payload p s = subst HasEntriesAt (sym s.is) (shape_entries payload s.way (offered s.write) (offered s.reply))
+shaped_entries payload p s = subst HasEntriesAt (sym s.is) (shape_entries payload s.kind (offered s.write) (offered s.reply))
 
 given_entries : (payload : List ℕ) (at : ℕ) (read : Option (List ℕ)) (w r : Option (List ℕ)) → HasEntriesAt (given_read payload at read (record { inline = payload; read_at = None; read = []; region = []; write = w; reply = r }))
 given_entries payload at None w r = λ e. refl

@@ -1,5 +1,5 @@
 -- A run of which the laws hold in full has them so far at each of its first parts.
-use Rattle.std.proofs.Common.{◌≡◌, ℕ, List, [], ◌∷◌, ◌++◌, refl, sym, ap, ◌∙◌, append-nil}
+use Rattle.std.proofs.Common.{◌≡◌, ℕ, List, [], ◌∷◌, ◌++◌, ◌∙◌, append-nil}
 use Rattle.nr_wire.specs.declared.hello.Side.TheVariants.{Initiator, Responder}
 use Rattle.nr_reduce.specs.declared.call.Submission.TheVariants as submissions
 use Rattle.nr_reduce.specs.declared.mark.Mark.{Mark}
@@ -7,9 +7,8 @@ use Rattle.nr_reduce.specs.declared.mark.Mark.TheVariants as marks
 use Rattle.nr_reduce.specs.declared.mark.Opened.{Opened}
 use Rattle.nr_reduce.specs.AtEachMark.{AtEachMark}
 use Rattle.nr_reduce.specs.Matched.{IsPrefixOf}
-use Rattle.nr_reduce.specs.Asked.{IsAll, AskedMark, Asked, AskedSoFar}
-use Rattle.nr_reduce.specs.Served.{ServedMark, Served, ServedSoFar}
-use Rattle.nr_reduce.specs.Credits.{KeepsGrant}
+use Rattle.nr_reduce.specs.Asked.{IsAll, AskedMark}
+use Rattle.nr_reduce.specs.Served.{ServedMark}
 use Rattle.nr_reduce.specs.SoFar.{SoFar, InFull}
 use Rattle.nr_reduce.proofs.Steps.{AtEachMark-first}
 

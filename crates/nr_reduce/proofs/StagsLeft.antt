@@ -1,16 +1,13 @@
 -- The STags that a client gives are numbers, while it keeps its law.
-use Rattle.std.proofs.Common.{◌≡◌, ℕ, ◌+◌, ◌<◌, ◌≤◌, Bool, true, false, cond, ◌&&◌, eqb, List, [], ◌∷◌, ◌++◌, length, Option, Some, None, Result, Ok, Err, refl, sym, ap, subst, ◌∙◌, arith, append_assoc, append-nil}
+use Rattle.std.proofs.Common.{◌≡◌, ℕ, ◌+◌, ◌≤◌, Bool, true, false, cond, ◌&&◌, eqb, List, [], ◌∷◌, ◌++◌, length, Option, Some, None, Result, Ok, Err, refl, sym, ap, subst, ◌∙◌, arith, append_assoc, append-nil}
 use Rattle.std.specs.Prelude.{map}
 use Rattle.std.proofs.lemmas.Bool.{eqb-true}
-use Rattle.nr_wire.specs.declared.hello.Side.{Side}
 use Rattle.nr_wire.specs.declared.hello.Side.TheVariants.{Initiator, Responder}
 use Rattle.nr_wire.specs.Segment.{Segment}
 use Rattle.nr_link.specs.declared.end.End.{End as Stop}
 use Rattle.nr_link.specs.Frames.{Frame, is_hello, frames_completed}
 use Rattle.nr_link.specs.Ending.{frame_segment}
 use Rattle.nr_link.specs.ReceiveState.{ReadRequest, message_completed, read_request_of}
-use Rattle.nr_reduce.specs.declared.call.Call.{Call}
-use Rattle.nr_reduce.specs.declared.call.Form.{Form}
 use Rattle.nr_reduce.specs.declared.call.Submission.TheVariants as submissions
 use Rattle.nr_reduce.specs.declared.mark.Mark.{Mark}
 use Rattle.nr_reduce.specs.declared.mark.Mark.TheVariants as marks
@@ -28,7 +25,7 @@ use Rattle.nr_reduce.specs.EndRules.{EndState, next_end_state, next_end_state_by
 use Rattle.nr_reduce.specs.ClientState.{ClientState, call_payload, plan_for}
 use Rattle.nr_reduce.specs.Client.{client_rules, client_end, client_state_after, plan_or, with_message, with_request, with_segment}
 use Rattle.nr_reduce.specs.Run.{client}
-use Rattle.nr_reduce.specs.Asked.{AskedSoFar, AskedMark, IsAccepted}
+use Rattle.nr_reduce.specs.Asked.{AskedSoFar, AskedMark}
 use Rattle.nr_reduce.proofs.Steps.{client-one}
 
 abbrev next_stag_after : Opened → ℕ → List Mark → ℕ

@@ -1,19 +1,17 @@
 -- An end that stands for some marks stands for one mark more, if it goes along: a piece, a drain, or a mark of another kind.
-use Rattle.std.proofs.Common.{◌≡◌, ℕ, Bool, eqb, List, [], ◌∷◌, ◌++◌, length, refl, sym, ap, ◌∙◌, append_assoc, append-nil, true}
+use Rattle.std.proofs.Common.{◌≡◌, ℕ, eqb, List, [], ◌∷◌, ◌++◌, refl, sym, ap, ◌∙◌, append_assoc, append-nil, true}
 use Rattle.std.proofs.lemmas.Bool.{eq-eqb}
 use Rattle.std.specs.List.{flat_map}
 use Rattle.std.proofs.lemmas.Grind.{flat_map-append}
-use Rattle.nr_wire.specs.Stream.{split}
 use Rattle.nr_wire.specs.declared.hello.Side.{Side}
 use Rattle.nr_wire.specs.declared.hello.Side.TheVariants.{Initiator, Responder}
-use Rattle.nr_link.specs.Frames.{Frame}
 use Rattle.nr_link.specs.Output.{own_hello}
-use Rattle.nr_link.specs.Input.{InputState, input_of, initial_input, input_count, input_frames, input_after}
+use Rattle.nr_link.specs.Input.{InputState, input_of, initial_input, input_after}
 use Rattle.nr_link.proofs.Inputs.{input_of-append, input_of-count, input_of-frames, input_of-none}
 use Rattle.nr_reduce.specs.declared.mark.Mark.{Mark}
 use Rattle.nr_reduce.specs.declared.mark.Opened.{Opened}
 use Rattle.nr_reduce.specs.History.{bytes_sent, bytes_received, written_at, fed_at, other}
-use Rattle.nr_reduce.specs.Events.{Event, mark_events, events_at, events}
+use Rattle.nr_reduce.specs.Events.{mark_events, events_at, events}
 use Rattle.nr_reduce.specs.EndRules.{Rules, EndState, end_state_after, output_for_all}
 use Rattle.nr_reduce.specs.ClientState.{ClientState}
 use Rattle.nr_reduce.specs.ServerState.{ServerState}

@@ -1,7 +1,7 @@
 -- Chunks as a payload's way (RFC 8166 section 3.4): how bytes fall into segments, what is joined out of memory, and which
 -- payload a header, its inline bytes and memory convey.
-use Rattle.std.specs.Prelude.{◌≡◌, ℕ, ◌+◌, ◌-◌, min, Bool, true, false, nat_le, ◌&&◌, ◌||◌, ◌==◌, not, if◌then◌else◌, List, [], ◌∷◌, ◌++◌, length, take, drop, sum_by, Option, None, Some, Result, Ok, Err}
-use Rattle.std.specs.List.{flat_map, filter, find, list_all, list_any}
+use Rattle.std.specs.Prelude.{◌≡◌, ℕ, ◌+◌, ◌-◌, min, Bool, true, false, nat_le, ◌&&◌, ◌||◌, ◌==◌, not, if◌then◌else◌, List, [], ◌∷◌, length, take, drop, sum_by, Option, None, Some}
+use Rattle.std.specs.List.{flat_map, filter, find, list_all}
 use Rattle.nr_xdr.specs.Item.{pad_len}
 use Rattle.nr_header.specs.declared.header.RdmaSegment.{RdmaSegment}
 use Rattle.nr_header.specs.declared.header.ReadSegment.{ReadSegment}

@@ -1,5 +1,5 @@
 -- An end of a link as a machine over its events.
-use Rattle.std.specs.Prelude.{ℕ, ◌+◌, List, [], ◌∷◌, ◌++◌, Option, None, Some}
+use Rattle.std.specs.Prelude.{ℕ, List, [], ◌∷◌, ◌++◌, Option, None, Some}
 use Rattle.nr_link.specs.declared.end.End.{End}
 use Rattle.nr_reduce.specs.Events.{Event, events}
 

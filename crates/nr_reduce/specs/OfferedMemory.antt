@@ -1,5 +1,5 @@
 -- The registered memory of an end, and the regions that it offered.
-use Rattle.std.specs.Prelude.{◌≡◌, ℕ, ◌<◌, ◌≤◌, Bool, false, ◌==◌, if◌then◌else◌, List, [], ◌∷◌, ◌++◌, Option, None, Some, IfSome}
+use Rattle.std.specs.Prelude.{◌≡◌, ℕ, ◌≤◌, Bool, false, ◌==◌, if◌then◌else◌, List, [], ◌∷◌, Option, None, Some, IfSome}
 use Rattle.std.specs.List.{find}
 use Rattle.nr_regions.specs.declared.region.Region.{Region as HeldRegion}
 use Rattle.nr_regions.specs.RegisteredMemory.{RegisteredMemory, live_region}

@@ -19,7 +19,6 @@ use Rattle.nr_reduce.specs.declared.call.Offer.{Offer}
 use Rattle.nr_reduce.specs.Limits.{moved_max, link_max, given_max}
 use Rattle.nr_reduce.specs.declared.outline.Plan.{Plan}
 use Rattle.nr_reduce.specs.declared.item.Item.{Item}
-use Rattle.nr_reduce.specs.declared.item.Of.{Of}
 use Rattle.nr_reduce.specs.Items.{READ, READLINK, is_nfs, from_place, reducible_item, stream_of, moved_of}
 use Rattle.nr_reduce.specs.declared.item.Of.TheVariants.{Call}
 use Rattle.nr_reduce.specs.Largest.{largest_reply, read_count}

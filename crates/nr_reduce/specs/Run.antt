@@ -1,6 +1,6 @@
 -- Both ends of a link after the marks of a run: their state, why they ended, the output due, what they offered, and what their
 -- memory holds.
-use Rattle.std.specs.Prelude.{◌≡◌, ℕ, List, [], ◌++◌, length, Option}
+use Rattle.std.specs.Prelude.{◌≡◌, ℕ, List, ◌++◌, length, Option}
 use Rattle.nr_wire.specs.declared.hello.Side.{Side}
 use Rattle.nr_wire.specs.declared.hello.Side.TheVariants.{Initiator, Responder}
 use Rattle.nr_regions.specs.Access.{Grant}

@@ -1,9 +1,10 @@
 -- What the server of a link knows: the calls that it has not answered, the Read Requests for them, and what was received.
-use Rattle.std.specs.Prelude.{ℕ, ◌+◌, ◌-◌, Bool, true, false, ◌==◌, List, [], length, Option}
+use Rattle.std.specs.Prelude.{ℕ, ◌+◌, ◌-◌, Bool, ◌==◌, List, [], length, Option}
 use Rattle.std.specs.List.{list_any}
 use Rattle.nr_header.specs.declared.header.ChunkLists.{ChunkLists}
 use Rattle.nr_regions.specs.Access.{TaggedSegment}
 use Rattle.nr_reduce.specs.declared.mark.Opened.{Opened}
+use Rattle.nr_reduce.specs.Plans.{one_if}
 use Rattle.nr_reduce.specs.Limits.{send_max}
 use Rattle.nr_link.specs.ReceiveState.{ReceiveState, nothing_received}
 use Rattle.nr_link.specs.SegmentFaults.{is_begun}
@@ -81,10 +82,6 @@ abbrev pub next_stag : ServerState → ℕ
 next_stag k = 1 + length k.regions
 
 -- The receives in use: one for each Send that is begun, until its answer is written. A whole Send is pending or answered.
-abbrev pub one_if : Bool → ℕ
-one_if true = 1
-one_if false = 0
-
 unfoldable pub receives_in_use : ServerState → ℕ
 receives_in_use k = (k.messages_queued + length k.calls + one_if (is_begun k.received.begun)) - k.messages_written
 

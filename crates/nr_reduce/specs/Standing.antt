@@ -1,6 +1,6 @@
 -- What an end of a link keeps, and the marks that it stands for. An end keeps neither marks nor bytes of the past: it keeps its
 -- state, the input that isn't a whole frame yet, and the queue that isn't written yet.
-use Rattle.std.specs.Prelude.{◌≡◌, ℕ, ◌<◌, Some, List, ◌++◌}
+use Rattle.std.specs.Prelude.{◌≡◌, ℕ, List, ◌++◌}
 use Rattle.nr_wire.specs.declared.hello.Side.{Side}
 use Rattle.nr_wire.specs.declared.hello.Side.TheVariants.{Initiator, Responder}
 use Rattle.nr_link.specs.Input.{InputState, input_of, input_count, input_frames}

@@ -1,12 +1,11 @@
 -- What both ways of a payload undo: the message of a plan and its chunks, and the Writes of an answer.
-use Rattle.std.specs.Prelude.{◌≡◌, ◌≢◌, ℕ, ◌+◌, ◌*◌, min, Bool, true, false, ◌==◌, if◌then◌else◌, List, [], ◌∷◌, ◌++◌, length, take, drop, map, Option, None, Some, IfSome, Result, Ok, Err}
+use Rattle.std.specs.Prelude.{◌≡◌, ◌≢◌, ℕ, ◌+◌, ◌*◌, min, true, ◌==◌, if◌then◌else◌, List, [], ◌∷◌, ◌++◌, length, take, drop, map, Option, None, Some, IfSome, Ok}
 use Rattle.std.specs.List.{range_with_len}
 use Rattle.nr_header.specs.declared.header.RdmaSegment.{RdmaSegment}
 use Rattle.nr_header.specs.declared.header.ReadSegment.{ReadSegment}
 use Rattle.nr_header.specs.declared.header.ChunkLists.{ChunkLists}
 use Rattle.nr_header.specs.declared.header.Body.{Body}
 use Rattle.nr_header.specs.declared.header.Body.TheVariants.{Msg, Nomsg, ErrVers, ErrChunk}
-use Rattle.nr_header.specs.declared.header.Header.{Header}
 use Rattle.nr_header.specs.Header.{lists_items}
 use Rattle.nr_header.specs.WithinLimits.{ListsWithin}
 use Rattle.nr_header.specs.Reading.{header_of}

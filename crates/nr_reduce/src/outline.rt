@@ -1,9 +1,9 @@
-//! How a call is sent: which of its bytes go in which way, and what it offers for the reply.
+//! How a call is sent: which of its bytes go in a chunk, and what it offers for the reply.
 
 ghost use Rattle.std.specs.Prelude.{◌≡◌, ℕ, ◌+◌, ◌*◌, ◌^◌, ◌<◌, ◌≤◌, Option, None, Some, length};
 ghost use Rattle.nr_reduce.specs.Largest.{largest_reply};
 ghost use Rattle.nr_reduce.specs.Plans.{segments_for, chunk_for, moved_offer, argument_offer, write_offer, write_size, reply_size, plan_size, inline_plan, reduced_plan, long_plan, auto_offer, auto_plan};
-ghost use Rattle.nr_reduce.specs.Outlines.{plan_by, outlined, WayFits};
+ghost use Rattle.nr_reduce.specs.Outlines.{plan_by, plan_of_sizes, KindFits};
 
 use crate::call::Lengths;
 use crate::cutting::reducible_item;
@@ -26,18 +26,19 @@ pub struct Plan {
     pub reply: Option<Lengths>,
 }
 
-/// Which bytes of a payload go in a read chunk: none, its item, or all.
+/// The kind of a message: none of the payload's bytes goes in a read chunk, or its item, or all of them (RFC 8166 section
+/// 3.5).
 #[derive(Clone, Copy)]
-pub(crate) enum Way {
-    Inline,
-    Reduced(Item),
+pub(crate) enum MessageKind {
+    Short,
+    Chunked(Item),
     Long,
 }
 
 /// A plan before it owns bytes: how many bytes the write chunk and the reply chunk have, where they are offered.
 #[derive(Clone, Copy)]
-pub(crate) struct Outline {
-    pub(crate) way: Way,
+pub(crate) struct PlanSizes {
+    pub(crate) kind: MessageKind,
     pub(crate) write: Option<u32>,
     pub(crate) reply: Option<u32>,
 }
@@ -72,18 +73,18 @@ fn reply_size(len: Option<u32>) -> u128
     }
 }
 
-/// The size of the Send of an outline.
+/// The size of the Send of a plan of these sizes.
 #[tactic(auto, unfolding(crate::specs::Plans::plan_size))]
-pub(crate) fn send_size(payload: &[u8], outline: Outline) -> u128
-    requires { WayFits payload.now outline.way }
-    ensures { result ≡ plan_size (outlined payload.now outline) }
+pub(crate) fn send_size(payload: &[u8], sizes: PlanSizes) -> u128
+    requires { KindFits payload.now sizes.kind }
+    ensures { result ≡ plan_size (plan_of_sizes payload.now sizes) }
 {
-    let (entries, inline) = match outline.way {
-        Way::Inline => (0, payload.len()),
-        Way::Reduced(item) => (segment_count(item.len as usize), item.pos),
-        Way::Long => (segment_count(payload.len()), 0),
+    let (entries, inline) = match sizes.kind {
+        MessageKind::Short => (0, payload.len()),
+        MessageKind::Chunked(item) => (segment_count(item.len as usize), item.pos),
+        MessageKind::Long => (segment_count(payload.len()), 0),
     };
-    let lists = 24 * entries as u128 + write_size(outline.write) + reply_size(outline.reply);
+    let lists = 24 * entries as u128 + write_size(sizes.write) + reply_size(sizes.reply);
     28 + lists + inline as u128
 }
 
@@ -127,7 +128,7 @@ fn write_offer(payload: &[u8]) -> Option<u32>
 /// What a call offers where its form is left open: nothing where each reply to it fits a message of `down` bytes, else a
 /// write chunk where it may, else a reply chunk.
 fn auto_offer(payload: &[u8], down: u32) -> (Option<u32>, Option<u32>)
-    ensures { plan_by payload.now Way.Inline result.0 result.1 ≡ auto_offer payload.now down (inline_plan payload.now) }
+    ensures { plan_by payload.now MessageKind.Short result.0 result.1 ≡ auto_offer payload.now down (inline_plan payload.now) }
 {
     let largest = largest_reply(payload);
     if 28 + u64::from(largest) <= u64::from(down) {
@@ -139,57 +140,57 @@ fn auto_offer(payload: &[u8], down: u32) -> (Option<u32>, Option<u32>)
     }
 }
 
-/// The first way in which the Send has at most `up` bytes: inline, with the item in a chunk, all in a chunk.
-fn auto_way(payload: &[u8], write: Option<u32>, reply: Option<u32>, up: u32) -> Way
-    ensures plan { plan_by payload.now result write reply ≡ auto_plan payload.now up (plan_by payload.now Way.Inline write reply) }
-    ensures fits { WayFits payload.now result }
+/// The first kind of message of which the Send has at most `up` bytes: inline, with the item in a chunk, all in a chunk.
+fn auto_kind(payload: &[u8], write: Option<u32>, reply: Option<u32>, up: u32) -> MessageKind
+    ensures plan { plan_by payload.now result write reply ≡ auto_plan payload.now up (plan_by payload.now MessageKind.Short write reply) }
+    ensures fits { KindFits payload.now result }
 {
-    let inline = Outline {
-        way: Way::Inline,
+    let inline = PlanSizes {
+        kind: MessageKind::Short,
         write,
         reply,
     };
     let inline_size = send_size(payload, inline);
     if inline_size <= u128::from(up) {
-        return Way::Inline;
+        return MessageKind::Short;
     }
     match reducible_item(&Of::Call, payload) {
         Some(item) => {
-            let reduced = Outline {
-                way: Way::Reduced(item),
+            let reduced = PlanSizes {
+                kind: MessageKind::Chunked(item),
                 write,
                 reply,
             };
             let reduced_size = send_size(payload, reduced);
             if reduced_size <= u128::from(up) {
-                Way::Reduced(item)
+                MessageKind::Chunked(item)
             } else {
-                Way::Long
+                MessageKind::Long
             }
         }
-        None => Way::Long,
+        None => MessageKind::Long,
     }
 }
 
 /// The form that is left open.
-pub(crate) fn auto_outline(payload: &[u8], up: u32, down: u32) -> Outline
-    ensures plan { outlined payload.now result ≡ auto_plan payload.now up (auto_offer payload.now down (inline_plan payload.now)) }
-    ensures fits { WayFits payload.now result.way }
+pub(crate) fn auto_sizes(payload: &[u8], up: u32, down: u32) -> PlanSizes
+    ensures plan { plan_of_sizes payload.now result ≡ auto_plan payload.now up (auto_offer payload.now down (inline_plan payload.now)) }
+    ensures fits { KindFits payload.now result.kind }
 {
     let (write, reply) = auto_offer(payload, down);
-    Outline {
-        way: auto_way(payload, write, reply, up),
+    PlanSizes {
+        kind: auto_kind(payload, write, reply, up),
         write,
         reply,
     }
 }
 
 /// Nothing in chunks.
-pub(crate) fn inline_outline() -> Outline
-    ensures { result ≡ record { way = Way.Inline; write = None; reply = None } }
+pub(crate) fn inline_sizes() -> PlanSizes
+    ensures { result ≡ record { kind = MessageKind.Short; write = None; reply = None } }
 {
-    Outline {
-        way: Way::Inline,
+    PlanSizes {
+        kind: MessageKind::Short,
         write: None,
         reply: None,
     }
@@ -197,28 +198,28 @@ pub(crate) fn inline_outline() -> Outline
 
 /// The item in a chunk, and a write chunk for that of the reply, where there are such.
 #[tactic(auto, unfolding(crate::specs::Plans::reduced_plan))]
-pub(crate) fn chunk_outline(payload: &[u8]) -> Outline
-    ensures plan { outlined payload.now result ≡ reduced_plan payload.now (record (inline_plan payload.now) { write = chunk_for (write_offer payload.now) }) }
-    ensures fits { WayFits payload.now result.way }
+pub(crate) fn chunk_sizes(payload: &[u8]) -> PlanSizes
+    ensures plan { plan_of_sizes payload.now result ≡ reduced_plan payload.now (record (inline_plan payload.now) { write = chunk_for (write_offer payload.now) }) }
+    ensures fits { KindFits payload.now result.kind }
 {
-    let way = match reducible_item(&Of::Call, payload) {
-        Some(item) => Way::Reduced(item),
-        None => Way::Inline,
+    let kind = match reducible_item(&Of::Call, payload) {
+        Some(item) => MessageKind::Chunked(item),
+        None => MessageKind::Short,
     };
-    Outline {
-        way,
+    PlanSizes {
+        kind,
         write: write_offer(payload),
         reply: None,
     }
 }
 
 /// All in chunks.
-pub(crate) fn long_outline(payload: &[u8]) -> Outline
-    ensures plan { outlined payload.now result ≡ long_plan payload.now (record (inline_plan payload.now) { reply = chunk_for (Some (largest_reply payload.now)) }) }
-    ensures fits { WayFits payload.now result.way }
+pub(crate) fn long_sizes(payload: &[u8]) -> PlanSizes
+    ensures plan { plan_of_sizes payload.now result ≡ long_plan payload.now (record (inline_plan payload.now) { reply = chunk_for (Some (largest_reply payload.now)) }) }
+    ensures fits { KindFits payload.now result.kind }
 {
-    Outline {
-        way: Way::Long,
+    PlanSizes {
+        kind: MessageKind::Long,
         write: None,
         reply: Some(largest_reply(payload)),
     }

@@ -4,14 +4,14 @@ ghost use Rattle.std.specs.Prelude.{◌≡◌, ◌+◌, ◌*◌, ◌^◌, ◌<�
 ghost use Rattle.nr_reduce.specs.Plans.{segments_for, chunk_for, total, given_total, given_region, given_plan, write_size, reply_size, plan_size, within, plan_of};
 ghost use Rattle.nr_reduce.specs.Items.{stream_of, moved_of};
 ghost use Rattle.nr_reduce.specs.Limits.{given_max};
-ghost use Rattle.nr_reduce.specs.Outlines.{outlined, WayFits, PlanAnswers};
+ghost use Rattle.nr_reduce.specs.Outlines.{plan_of_sizes, KindFits, PlanAnswers};
 
 use crate::call::{Form, Lengths, Offer};
 use crate::fault::PayloadFault;
 use crate::item::Item;
 use crate::limits::GIVEN_MAX;
 use crate::outline::{
-    Outline, Plan, Way, auto_outline, chunk_outline, inline_outline, long_outline, send_size,
+    MessageKind, Plan, PlanSizes, auto_sizes, chunk_sizes, inline_sizes, long_sizes, send_size,
 };
 use nr_header::PAYLOAD_MAX;
 use nr_xdr::{Memory, Octets};
@@ -99,15 +99,15 @@ fn read_chunk(alloc: Global, position: u32, region: &[u8]) -> Result<ReadChunk, 
     })
 }
 
-fn reply_chunks(alloc: Global, outline: Outline) -> Result<ReplyChunks, Memory>
-    ensures { IfOk result (λ c. c ≡ record { write = chunk_for outline.write; reply = chunk_for outline.reply }) }
+fn reply_chunks(alloc: Global, sizes: PlanSizes) -> Result<ReplyChunks, Memory>
+    ensures { IfOk result (λ c. c ≡ record { write = chunk_for sizes.write; reply = chunk_for sizes.reply }) }
 {
-    let write = chunk_for(alloc, outline.write)?;
-    let reply = chunk_for(alloc, outline.reply)?;
+    let write = chunk_for(alloc, sizes.write)?;
+    let reply = chunk_for(alloc, sizes.reply)?;
     Ok(ReplyChunks { write, reply })
 }
 
-/// The plan of an outline whose item is in a chunk.
+/// The plan whose item is in a chunk.
 fn reduced_plan(
     alloc: Global,
     payload: &[u8],
@@ -124,34 +124,34 @@ fn reduced_plan(
     assembled(alloc, stream, chunk, chunks)
 }
 
-/// The plan of an outline. The payload is copied once.
-fn filled(alloc: Global, payload: &[u8], outline: Outline) -> Result<Plan, Memory>
-    requires fits { WayFits payload.now outline.way }
+/// The plan of these sizes. The payload is copied once.
+fn filled(alloc: Global, payload: &[u8], sizes: PlanSizes) -> Result<Plan, Memory>
+    requires fits { KindFits payload.now sizes.kind }
     requires small { length payload.now < 2 ^ 32 }
-    ensures { IfOk result (λ p. p ≡ outlined payload.now outline) }
+    ensures { IfOk result (λ p. p ≡ plan_of_sizes payload.now sizes) }
 {
-    let chunks = reply_chunks(alloc, outline)?;
-    match outline.way {
-        Way::Inline => assembled(alloc, payload, no_read_chunk(alloc), chunks),
-        Way::Reduced(item) => reduced_plan(alloc, payload, item, chunks),
-        Way::Long => {
+    let chunks = reply_chunks(alloc, sizes)?;
+    match sizes.kind {
+        MessageKind::Short => assembled(alloc, payload, no_read_chunk(alloc), chunks),
+        MessageKind::Chunked(item) => reduced_plan(alloc, payload, item, chunks),
+        MessageKind::Long => {
             let chunk = read_chunk(alloc, 0, payload)?;
             assembled(alloc, &[], chunk, chunks)
         }
     }
 }
 
-/// The plan of an outline, where its Send has at most `up` bytes.
-fn own_plan(alloc: Global, payload: &[u8], outline: Outline, up: u32) -> Result<Plan, PayloadFault>
-    requires fits { WayFits payload.now outline.way }
+/// The plan of these sizes, where its Send has at most `up` bytes.
+fn own_plan(alloc: Global, payload: &[u8], sizes: PlanSizes, up: u32) -> Result<Plan, PayloadFault>
+    requires fits { KindFits payload.now sizes.kind }
     requires small { length payload.now < 2 ^ 32 }
-    ensures { PlanAnswers result (within (plan_size (outlined payload.now outline)) up (Ok (outlined payload.now outline))) }
+    ensures { PlanAnswers result (within (plan_size (plan_of_sizes payload.now sizes)) up (Ok (plan_of_sizes payload.now sizes))) }
 {
-    let need = send_size(payload, outline);
+    let need = send_size(payload, sizes);
     if need > u128::from(up) {
         return Err(PayloadFault::TooLarge { need, room: up });
     }
-    Ok(filled(alloc, payload, outline)?)
+    Ok(filled(alloc, payload, sizes)?)
 }
 
 // ---- Plans whose offers are given
@@ -325,10 +325,10 @@ pub fn plan(
         });
     }
     match form {
-        Form::Auto => own_plan(alloc, payload, auto_outline(payload, up, down), up),
-        Form::Inline => own_plan(alloc, payload, inline_outline(), up),
-        Form::Chunk => own_plan(alloc, payload, chunk_outline(payload), up),
-        Form::Long => own_plan(alloc, payload, long_outline(payload), up),
+        Form::Auto => own_plan(alloc, payload, auto_sizes(payload, up, down), up),
+        Form::Inline => own_plan(alloc, payload, inline_sizes(), up),
+        Form::Chunk => own_plan(alloc, payload, chunk_sizes(payload), up),
+        Form::Long => own_plan(alloc, payload, long_sizes(payload), up),
         Form::Given(offer) => offer_plan(alloc, payload, offer, up),
     }
 }

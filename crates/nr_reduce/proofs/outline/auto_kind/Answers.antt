@@ -1,6 +1,6 @@
 use Rattle.std.proofs.Common.{arith}
 use Rattle.nr_reduce.proofs.Ways.{takes_reduced, takes_long, takes_long_whole}
-use Rattle.nr_reduce.proofs.outline.auto_way.Goals as goal
+use Rattle.nr_reduce.proofs.outline.auto_kind.Goals as goal
 
 pub returns-in-None-clause-plan : goal.returns-in-None-clause-plan
 returns-in-None-clause-plan c =
