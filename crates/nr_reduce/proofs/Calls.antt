@@ -20,7 +20,7 @@ use Rattle.nr_reduce.specs.declared.call.Submission.TheVariants as submissions
 use Rattle.nr_reduce.specs.declared.mark.Moment.{Moment}
 use Rattle.nr_reduce.specs.declared.mark.Mark.{Mark}
 use Rattle.nr_reduce.specs.declared.mark.Mark.TheVariants as marks
-use Rattle.nr_reduce.specs.declared.mark.Opened.{Opened}
+use Rattle.nr_reduce.specs.declared.mark.LinkParameters.{LinkParameters}
 use Rattle.nr_reduce.specs.History.{AcceptedCall, ExecutedCall, bytes_received}
 use Rattle.nr_reduce.specs.Events.{Event, if_own, events}
 use Rattle.nr_reduce.specs.Events.Event.{FrameReceived, CallSubmitted, MemoryRevoked, CallExecuted, QueueWritten}
@@ -51,12 +51,12 @@ use Rattle.nr_xdr.specs.Fields.{word_at}
 plan-is : (k : ClientState) (xid : ℕ) (call : Call) (form : Form) (r : Result Plan TooLarge) (plan : Plan) → r ≡ Ok plan → plan_or (call_payload xid call) r ≡ plan
 plan-is k xid call form r plan e = ap (λ (q : Result Plan TooLarge). plan_or (call_payload xid call) q) e
 
-submit-output : (opened : Opened) (k : ClientState) (ended : Option Stop) (place : ℕ) (a : AcceptedCall) → ended ≡ None → output_for_all (client_rules opened) (record { state = k; ended = ended }) (CallSubmitted place a ∷ []) ≡ client_output opened k (CallSubmitted place a)
+submit-output : (opened : LinkParameters) (k : ClientState) (ended : Option Stop) (place : ℕ) (a : AcceptedCall) → ended ≡ None → output_for_all (client_rules opened) (record { state = k; ended = ended }) (CallSubmitted place a ∷ []) ≡ client_output opened k (CallSubmitted place a)
 unfolding client_end
 submit-output opened k None place a e = append-nil (client_output opened k (CallSubmitted place a))
 submit-output opened k (Some end) place a e = absurd cc
 
-submit-due : (opened : Opened) (link : ℕ) (run : List Mark) (call : Call) (form : Form) (xid : ℕ) → (client opened link run).ended ≡ None →
+submit-due : (opened : LinkParameters) (link : ℕ) (run : List Mark) (call : Call) (form : Form) (xid : ℕ) → (client opened link run).ended ≡ None →
     output_due opened link Initiator (run ++ marks.Submit link call form (submissions.Accepted xid) ∷ [])
     ≡ output_due opened link Initiator run ++ client_output opened (client opened link run).state (CallSubmitted (length (bytes_received link Initiator run)) (record { xid = xid; call = call; form = form }))
 submit-due opened link run call form xid stays =
@@ -67,7 +67,7 @@ submit-due opened link run call form xid stays =
     ∙ ap (λ (b : Bool). output_due opened link Initiator run ++ output_for_all (client_rules opened) r (if_own (b && true) (CallSubmitted place a ∷ []))) (itself link)
     ∙ ap (λ (xs : List ℕ). output_due opened link Initiator run ++ xs) (submit-output opened r.state r.ended place a stays)
 
-pub submit-sent : (opened : Opened) (link : ℕ) (run : List Mark) (call : Call) (form : Form) (xid : ℕ) → (h : IsAccepted opened link run call form xid) →
+pub submit-sent : (opened : LinkParameters) (link : ℕ) (run : List Mark) (call : Call) (form : Form) (xid : ℕ) → (h : IsAccepted opened link run call form xid) →
     ((client opened link run).state.has_hello ≡ true →
     output_due opened link Initiator (run ++ marks.Submit link call form (submissions.Accepted xid) ∷ [])
     ≡ output_due opened link Initiator run ++ send ((client opened link run).state.calls_accepted + 1) (call_message xid opened.wished (client opened link run).state.stag h.plan))
@@ -86,7 +86,7 @@ submit-sent opened link run call form xid h =
       λ none. all ∙ ap (λ (b : Bool). due ++ cond b one []) none ∙ append-nil due,
     )
 
-pub hello-sends : (opened : Opened) (k : ClientState) (f : Frame) → is_hello f ≡ true → client_end k (FrameReceived f) ≡ None →
+pub hello-sends : (opened : LinkParameters) (k : ClientState) (f : Frame) → is_hello f ≡ true → client_end k (FrameReceived f) ≡ None →
     (output_for (client_rules opened) (live k) (FrameReceived f) ≡ calls_output opened 1 k.outstanding)
     × ((next_end_state (client_rules opened) (live k) (FrameReceived f)).state.has_hello ≡ true)
 unfolding client_output client_state_after
@@ -99,7 +99,7 @@ hello-sends opened k f hello none = (
 
 -- ---- An Execute
 
-execute-output : (opened : Opened) (k : ServerState) (ended : Option Stop) (e : ExecutedCall) → ended ≡ None → output_for_all (server_rules opened) (record { state = k; ended = ended }) (CallExecuted e ∷ []) ≡ execution_output k e
+execute-output : (opened : LinkParameters) (k : ServerState) (ended : Option Stop) (e : ExecutedCall) → ended ≡ None → output_for_all (server_rules opened) (record { state = k; ended = ended }) (CallExecuted e ∷ []) ≡ execution_output k e
 unfolding server_end server_output
 execute-output opened k None e is = append-nil (execution_output k e)
 execute-output opened k (Some end) e is = absurd cc
@@ -108,7 +108,7 @@ not_ended : (ready : List ReadyCall) (ended : Option Stop) (r : ReadyCall) → f
 not_ended ready None r e = refl
 not_ended ready (Some end) r e = absurd cc
 
-execute-due : (opened : Opened) (link : ℕ) (run : List Mark) (xid : ℕ) (moment : Moment) (payload : List ℕ) (place : ℕ) (reply : List ℕ) → IsExecuted opened link run xid payload →
+execute-due : (opened : LinkParameters) (link : ℕ) (run : List Mark) (xid : ℕ) (moment : Moment) (payload : List ℕ) (place : ℕ) (reply : List ℕ) → IsExecuted opened link run xid payload →
     output_due opened link Responder (run ++ marks.Execute link xid moment payload place reply ∷ [])
     ≡ output_due opened link Responder run ++ execution_output (server opened link run).state (record { xid = xid; moment = moment; payload = payload; place = place; reply = reply })
 unfolding next_call
@@ -119,7 +119,7 @@ execute-due opened link run xid moment payload place reply h =
     ∙ ap (λ (b : Bool). output_due opened link Responder run ++ output_for_all (server_rules opened) r (if_own (b && true) (CallExecuted e ∷ []))) (itself link)
     ∙ ap (λ (xs : List ℕ). output_due opened link Responder run ++ xs) (execute-output opened r.state r.ended e (not_ended r.state.ready r.ended h.call h.is_next))
 
-pub execute-answered : (opened : Opened) (link : ℕ) (run : List Mark) (xid : ℕ) (moment : Moment) (payload : List ℕ) (place : ℕ) (reply : List ℕ) → IsExecuted opened link run xid payload →
+pub execute-answered : (opened : LinkParameters) (link : ℕ) (run : List Mark) (xid : ℕ) (moment : Moment) (payload : List ℕ) (place : ℕ) (reply : List ℕ) → IsExecuted opened link run xid payload →
     ((a : Answer) → answer_of_target (offer_of (server opened link run).state xid) (down_max (server opened link run).state) reply (target_of (call_of payload)) ≡ Some a →
     output_due opened link Responder (run ++ marks.Execute link xid moment payload place reply ∷ [])
     ≡ output_due opened link Responder run
@@ -207,7 +207,7 @@ frame-heads : (k : ServerState) (f : Frame) → AreHeads (frame_effect k f).read
 unfolding frame_effect
 frame-heads k f = effect-heads k f (frame_segment f)
 
-after-heads : (opened : Opened) (k : ServerState) (event : Event) → AreHeads k.ready → AreHeads (server_state_after opened k event).ready
+after-heads : (opened : LinkParameters) (k : ServerState) (event : Event) → AreHeads k.ready → AreHeads (server_state_after opened k event).ready
 unfolding server_state_after
 after-heads opened k (FrameReceived f) h = by (is_hello f)
   where
@@ -219,7 +219,7 @@ after-heads opened k (MemoryRevoked place xid) h = h
 after-heads opened k (CallExecuted e) h = heads-drop k.ready h
 after-heads opened k QueueWritten h = h
 
-events-heads : (opened : Opened) (r : EndState ServerState) (es : List Event) → AreHeads r.state.ready → AreHeads (end_state_after (server_rules opened) r es).state.ready
+events-heads : (opened : LinkParameters) (r : EndState ServerState) (es : List Event) → AreHeads r.state.ready → AreHeads (end_state_after (server_rules opened) r es).state.ready
 events-heads opened r [] h = h
 events-heads opened r (event ∷ es) h = events-heads opened (next_end_state (server_rules opened) r event) es (one r.state r.ended h)
   where
@@ -236,7 +236,7 @@ first-head ready (Some end) r h e = absurd cc
 first-head [] None r h e = absurd cc
 first-head (x ∷ ready) None r h e = subst HasHead (let s : Some x ≡ Some r = e in cc) h.0
 
-pub executed-head : (opened : Opened) (link : ℕ) (run : List Mark) (xid : ℕ) (payload : List ℕ) → IsExecuted opened link run xid payload →
+pub executed-head : (opened : LinkParameters) (link : ℕ) (run : List Mark) (xid : ℕ) (payload : List ℕ) → IsExecuted opened link run xid payload →
     (head : CallHead) × ((call_of payload ≡ Ok head) × (call_xid head ≡ xid))
 unfolding next_call server
 executed-head opened link run xid payload h =
@@ -250,13 +250,13 @@ executed-head opened link run xid payload h =
 open-none : (k : ServerState) (s : FrameEffect) → s.reads ≡ k.reads → s.kept ≡ length (open_reads k) → newly_open_reads s ≡ []
 open-none k s same kept = (λ i. drop (kept i) (take 8 (same i))) ∙ drop-length (take 8 k.reads)
 
-stays-output : (opened : Opened) (k : ServerState) (event : Event) → server_end opened k event ≡ None → output_for (server_rules opened) (live k) event ≡ server_output opened k event
+stays-output : (opened : LinkParameters) (k : ServerState) (event : Event) → server_end opened k event ≡ None → output_for (server_rules opened) (live k) event ≡ server_output opened k event
 stays-output opened k event e = ap (λ (o : Option Stop). output_for_by (server_rules opened) k event o) e
 
-stays-state : (opened : Opened) (k : ServerState) (event : Event) → server_end opened k event ≡ None → next_end_state (server_rules opened) (live k) event ≡ live (server_state_after opened k event)
+stays-state : (opened : LinkParameters) (k : ServerState) (event : Event) → server_end opened k event ≡ None → next_end_state (server_rules opened) (live k) event ≡ live (server_state_after opened k event)
 stays-state opened k event e = ap (λ (o : Option Stop). next_end_state_by (server_rules opened) k event o) e
 
-only-answered : (opened : Opened) (k : ServerState) (f : Frame) (answer : List ℕ) → is_hello f ≡ false → server_end opened k (FrameReceived f) ≡ None → frame_effect k f ≡ record (no_effect k) { errors = answer ∷ [] } → IsOnlyAnswered opened k f answer
+only-answered : (opened : LinkParameters) (k : ServerState) (f : Frame) (answer : List ℕ) → is_hello f ≡ false → server_end opened k (FrameReceived f) ≡ None → frame_effect k f ≡ record (no_effect k) { errors = answer ∷ [] } → IsOnlyAnswered opened k f answer
 unfolding server_output server_state_after
 only-answered opened k f answer later none is =
     let s : FrameEffect = record (no_effect k) { errors = answer ∷ [] } in
@@ -281,7 +281,7 @@ refused-effect k f (Untagged last opcode w queue msn offset payload) message v i
     ∙ ap (λ (o : Option (List ℕ)). by_message k f.end o) whole
     ∙ ap (λ (v : Verdict). message_effect k f.end message v) e
 
-pub refused-answered : (opened : Opened) (k : ServerState) (f : Frame) (segment : Segment) (message : List ℕ) → is_hello f ≡ false → frame_segment f ≡ Ok segment →
+pub refused-answered : (opened : LinkParameters) (k : ServerState) (f : Frame) (segment : Segment) (message : List ℕ) → is_hello f ≡ false → frame_segment f ≡ Ok segment →
     message_completed k.received segment ≡ Some message → server_end opened k (FrameReceived f) ≡ None →
     (verdict k message ≡ BadChunks → IsOnlyAnswered opened k f (chunk_error (word_at 0 message) k.credit))
     × (verdict k message ≡ OtherVersion → IsOnlyAnswered opened k f (version_error (word_at 0 message) (word_at 4 message) k.credit))
@@ -311,7 +311,7 @@ refused-call-effect k f segment c is h =
     ∙ ap (λ (b : Bool). cond (b && not (is_read_chunk_of_item (chunk_bytes t f.end c 0) c.lists.read)) (with_refused_call t c s) (ready_if_whole t f.end c s)) h.stream
     ∙ ap (λ (b : Bool). cond (not b) (with_refused_call t c s) (ready_if_whole t f.end c s)) h.unsuited
 
-pub refused-call : (opened : Opened) (k : ServerState) (f : Frame) (segment : Segment) (c : PendingCall) → is_hello f ≡ false → frame_segment f ≡ Ok segment →
+pub refused-call : (opened : LinkParameters) (k : ServerState) (f : Frame) (segment : Segment) (c : PendingCall) → is_hello f ≡ false → frame_segment f ≡ Ok segment →
     IsStreamRefused k f segment c → server_end opened k (FrameReceived f) ≡ None → IsRefusedCall opened k f c
 unfolding server_output server_state_after
 refused-call opened k f segment c later is h none =
@@ -417,7 +417,7 @@ keeps-frame k f segment is = subst (λ (r : Result Segment ℕ). Keeps (effect_i
 all-open : (n : ℕ) (xs : List PendingRead) → length (take n xs) < n → take n xs ≡ xs
 all-open n xs lt = take_all n xs (let a = length-take n xs in omega (arith, a, lt))
 
-pub opens-reads : (opened : Opened) (k : ServerState) (f : Frame) (segment : Segment) → is_hello f ≡ false → frame_segment f ≡ Ok segment →
+pub opens-reads : (opened : LinkParameters) (k : ServerState) (f : Frame) (segment : Segment) → is_hello f ≡ false → frame_segment f ≡ Ok segment →
     server_end opened k (FrameReceived f) ≡ None → OpensReads opened k f segment
 unfolding server_output server_state_after
 opens-reads opened k f segment later is none =

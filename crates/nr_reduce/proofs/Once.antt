@@ -21,7 +21,7 @@ use Rattle.nr_link.specs.declared.end.End.{End as Stop}
 use Rattle.nr_reduce.specs.declared.mark.Moment.{Moment}
 use Rattle.nr_reduce.specs.declared.mark.Mark.{Mark}
 use Rattle.nr_reduce.specs.declared.mark.Mark.TheVariants as marks
-use Rattle.nr_reduce.specs.declared.mark.Opened.{Opened}
+use Rattle.nr_reduce.specs.declared.mark.LinkParameters.{LinkParameters}
 use Rattle.nr_reduce.specs.History.{ExecutedCall}
 use Rattle.nr_reduce.specs.AtEachMark.{AtEachMark}
 use Rattle.nr_link.specs.Frames.{Frame, is_hello}
@@ -380,7 +380,7 @@ frame_effect-goes : (k : ServerState) (f : Frame) → Goes k (with_effect k f (f
 unfolding frame_effect
 frame_effect-goes k f = frame-goes k f (frame_segment f) refl
 
-after-goes : (opened : Opened) (k : ServerState) (event : Event) → Goes k (server_state_after opened k event)
+after-goes : (opened : LinkParameters) (k : ServerState) (event : Event) → Goes k (server_state_after opened k event)
 unfolding server_state_after
 after-goes opened k (FrameReceived f) = by (is_hello f)
   where
@@ -420,7 +420,7 @@ settled-goes n k after g s = record {
 }
 
 -- what is kept by each event is kept by all
-kept : (opened : Opened) (P : ServerState → Type 0) → ((k after : ServerState) → Goes k after → P k → P after) → (r : EndState ServerState) (events : List Event) → P r.state → P (end_state_after (server_rules opened) r events).state
+kept : (opened : LinkParameters) (P : ServerState → Type 0) → ((k after : ServerState) → Goes k after → P k → P after) → (r : EndState ServerState) (events : List Event) → P r.state → P (end_state_after (server_rules opened) r events).state
 kept opened P goes r [] p = p
 kept opened P goes r (event ∷ events) p = kept opened P goes (next_end_state (server_rules opened) r event) events (one r.state r.ended p)
   where
@@ -432,11 +432,11 @@ kept opened P goes r (event ∷ events) p = kept opened P goes (next_end_state (
     one k None p = by_why k (server_end opened k event) p
     one k (Some end) p = p
 
-pub sound : (opened : Opened) (link : ℕ) (run : List Mark) → Sound (server opened link run).state
+pub sound : (opened : LinkParameters) (link : ℕ) (run : List Mark) → Sound (server opened link run).state
 unfolding server
 sound opened link run = kept opened Sound sound-goes (initial_server opened) (events link Responder run) (record { once = λ n. omega arith; number_sent = λ n lt. omega arith })
 
-settled-later : (opened : Opened) (link n : ℕ) (run more : List Mark) → Settled n (server opened link run).state → Settled n (server opened link (run ++ more)).state
+settled-later : (opened : LinkParameters) (link n : ℕ) (run more : List Mark) → Settled n (server opened link run).state → Settled n (server opened link (run ++ more)).state
 settled-later opened link n run [] s = subst (λ (r : List Mark). Settled n (server opened link r).state) (sym (append-nil run)) s
 settled-later opened link n run (mark ∷ more) s =
     let next : Settled n (server opened link (run ++ mark ∷ [])).state =
@@ -452,12 +452,12 @@ first-times_ready (x ∷ ready) None r e =
     let a = ap one_if (eq-eqb x.number r.number (ap (λ (q : ReadyCall). q.number) same)) in
     (refl, omega (arith, a), omega (arith, a))
 
-executes-one : (opened : Opened) (k : ServerState) (ended : Option Stop) (e : ExecutedCall) → ended ≡ None → (next_end_state_in (server_rules opened) k (CallExecuted e) ended).state ≡ server_state_after opened k (CallExecuted e)
+executes-one : (opened : LinkParameters) (k : ServerState) (ended : Option Stop) (e : ExecutedCall) → ended ≡ None → (next_end_state_in (server_rules opened) k (CallExecuted e) ended).state ≡ server_state_after opened k (CallExecuted e)
 unfolding server_end
 executes-one opened k None e is = refl
 executes-one opened k (Some end) e is = absurd cc
 
-settled-one : (opened : Opened) (link : ℕ) (run : List Mark) (xid : ℕ) (moment : Moment) (payload : List ℕ) (place : ℕ) (reply : List ℕ) (r : ReadyCall) → next_call opened link run ≡ Some r
+settled-one : (opened : LinkParameters) (link : ℕ) (run : List Mark) (xid : ℕ) (moment : Moment) (payload : List ℕ) (place : ℕ) (reply : List ℕ) (r : ReadyCall) → next_call opened link run ≡ Some r
     → Settled r.number (server opened link (run ++ marks.Execute link xid moment payload place reply ∷ [])).state
 unfolding next_call server_state_after
 settled-one opened link run xid moment payload place reply r is =
@@ -478,7 +478,7 @@ settled-one opened link run xid moment payload place reply r is =
     (subst (λ (q : ServerState). Settled r.number q) (sym (executes-one opened k (server opened link run).ended e f.0)) there))
 
 -- On every link: no Send is executed twice.
-pub executes_once : (Relates : List ℕ → List ℕ → Type 0) (opened : Opened) (link : ℕ) (run before between after : List Mark) (xid yid : ℕ) (moment now : Moment) (payload asked : List ℕ) (place later : ℕ) (reply answer : List ℕ) →
+pub executes_once : (Relates : List ℕ → List ℕ → Type 0) (opened : LinkParameters) (link : ℕ) (run before between after : List Mark) (xid yid : ℕ) (moment now : Moment) (payload asked : List ℕ) (place later : ℕ) (reply answer : List ℕ) →
     run ≡ before ++ marks.Execute link xid moment payload place reply ∷ (between ++ marks.Execute link yid now asked later answer ∷ after) → AtEachMark (ServedMark Relates opened link) [] run
     → (first second : ReadyCall) → next_call opened link before ≡ Some first → next_call opened link (before ++ marks.Execute link xid moment payload place reply ∷ between) ≡ Some second → first.number ≢ second.number
 unfolding next_call

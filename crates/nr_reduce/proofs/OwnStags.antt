@@ -14,7 +14,7 @@ use Rattle.nr_link.specs.Frames.{Frame, is_hello}
 use Rattle.nr_link.specs.Ending.{frame_segment}
 use Rattle.nr_link.specs.ReceiveState.{ReadRequest, message_completed, read_request_of}
 use Rattle.nr_reduce.specs.declared.mark.Mark.{Mark}
-use Rattle.nr_reduce.specs.declared.mark.Opened.{Opened}
+use Rattle.nr_reduce.specs.declared.mark.LinkParameters.{LinkParameters}
 use Rattle.nr_reduce.specs.declared.outline.Plan.{Plan}
 use Rattle.nr_reduce.specs.Plans.{Buffer, buffer_if, buffers, one_if, has_segment, read_stag, write_stag, reply_stag, regions_needed, total}
 use Rattle.nr_reduce.specs.OfferedRegions.{Region, region_grant, region_grants, closed_if, regions_closed}
@@ -68,7 +68,7 @@ own-stags place n (r ∷ regions) h = (own-above place n (n + 1) (region_grant p
 
 -- ---- A client
 
-pub record ClientNumbers (opened : Opened) (k : ClientState) : Type 0 where
+pub record ClientNumbers (opened : LinkParameters) (k : ClientState) : Type 0 where
   pub regions : AreNumbered opened.first_stag k.regions
   pub next : k.stag ≡ opened.first_stag + length k.regions
 
@@ -110,34 +110,34 @@ buffers-length xid place stag p =
         let e = length-append write reply in
         omega (arith, a, b, c, d, e)
 
-numbers-same : (opened : Opened) (k t : ClientState) → t.regions ≡ k.regions → t.stag ≡ k.stag → ClientNumbers opened k → ClientNumbers opened t
+numbers-same : (opened : LinkParameters) (k t : ClientState) → t.regions ≡ k.regions → t.stag ≡ k.stag → ClientNumbers opened k → ClientNumbers opened t
 numbers-same opened k t regions stag h = record {
   regions = subst (λ (rs : List Region). AreNumbered opened.first_stag rs) (sym regions) h.regions;
   next = stag ∙ h.next ∙ ap (λ (rs : List Region). opened.first_stag + length rs) (sym regions);
 }
 
-numbers-closed : (opened : Opened) (k t : ClientState) (test : Region → Bool) (place : ℕ) → t.regions ≡ regions_closed test place k.regions → t.stag ≡ k.stag → ClientNumbers opened k → ClientNumbers opened t
+numbers-closed : (opened : LinkParameters) (k t : ClientState) (test : Region → Bool) (place : ℕ) → t.regions ≡ regions_closed test place k.regions → t.stag ≡ k.stag → ClientNumbers opened k → ClientNumbers opened t
 numbers-closed opened k t test place regions stag h = record {
   regions = subst (λ (rs : List Region). AreNumbered opened.first_stag rs) (sym regions) (numbered-closed test place opened.first_stag k.regions h.regions);
   next = (let a = ap (λ (rs : List Region). length rs) regions ∙ closed-length test place k.regions in let b = h.next in omega (arith, a, b, stag));
 }
 
-numbers-request : (opened : Opened) (k : ClientState) (r : Option ReadRequest) → ClientNumbers opened k → ClientNumbers opened (with_request k r)
+numbers-request : (opened : LinkParameters) (k : ClientState) (r : Option ReadRequest) → ClientNumbers opened k → ClientNumbers opened (with_request k r)
 numbers-request opened k None h = h
 numbers-request opened k (Some r) h = numbers-same opened k (with_request k (Some r)) refl refl h
 
-numbers-message : (opened : Opened) (k : ClientState) (place : ℕ) (m : Option (List ℕ)) → ClientNumbers opened k → ClientNumbers opened (with_message k place m)
+numbers-message : (opened : LinkParameters) (k : ClientState) (place : ℕ) (m : Option (List ℕ)) → ClientNumbers opened k → ClientNumbers opened (with_message k place m)
 numbers-message opened k place None h = h
 numbers-message opened k place (Some m) h = numbers-closed opened k (with_message k place (Some m)) _ place refl refl h
 
-numbers-segment : (opened : Opened) (k : ClientState) (f : Frame) (r : Result Segment ℕ) → ClientNumbers opened k → ClientNumbers opened (with_segment k f r)
+numbers-segment : (opened : LinkParameters) (k : ClientState) (f : Frame) (r : Result Segment ℕ) → ClientNumbers opened k → ClientNumbers opened (with_segment k f r)
 numbers-segment opened k f (Err reason) h = h
 numbers-segment opened k f (Ok segment) h =
     let m : ClientState = with_request (with_message k f.end (message_completed k.received segment)) (read_request_of segment) in
     numbers-same opened m (with_segment k f (Ok segment)) refl refl
     (numbers-request opened (with_message k f.end (message_completed k.received segment)) (read_request_of segment) (numbers-message opened k f.end (message_completed k.received segment) h))
 
-numbers-after : (opened : Opened) (k : ClientState) (event : Event) → ClientNumbers opened k → ClientNumbers opened (client_state_after opened k event)
+numbers-after : (opened : LinkParameters) (k : ClientState) (event : Event) → ClientNumbers opened k → ClientNumbers opened (client_state_after opened k event)
 unfolding client_state_after
 numbers-after opened k (FrameReceived f) h = by (is_hello f)
   where
@@ -171,11 +171,11 @@ pub kept-after : {S : Type 0} (rules : Rules S) (P : S → Type 0) → ((s : S) 
 kept-after rules P keeps r [] h = h
 kept-after rules P keeps r (event ∷ es) h = kept-after rules P keeps (next_end_state rules r event) es (kept-next rules P keeps r event h)
 
-pub client-numbers : (opened : Opened) (es : List Event) → ClientNumbers opened (end_state_after (client_rules opened) (initial_client opened) es).state
+pub client-numbers : (opened : LinkParameters) (es : List Event) → ClientNumbers opened (end_state_after (client_rules opened) (initial_client opened) es).state
 client-numbers opened es =
     kept-after (client_rules opened) (ClientNumbers opened) (numbers-after opened) (initial_client opened) es (record { regions = tt; next = (let s : opened.first_stag ≡ opened.first_stag + 0 = omega arith in s) })
 
-pub client-known : (opened : Opened) (link : ℕ) (run : List Mark) → ClientNumbers opened (client opened link run).state
+pub client-known : (opened : LinkParameters) (link : ℕ) (run : List Mark) → ClientNumbers opened (client opened link run).state
 unfolding client
 client-known opened link run = client-numbers opened (events link Initiator run)
 
@@ -229,7 +229,7 @@ effect-frame : (k : ServerState) (f : Frame) → ServerNumbers k → AreNumbered
 unfolding frame_effect
 effect-frame k f h = effect-in k f (frame_segment f) h
 
-server-after : (opened : Opened) (k : ServerState) (event : Event) → ServerNumbers k → ServerNumbers (server_state_after opened k event)
+server-after : (opened : LinkParameters) (k : ServerState) (event : Event) → ServerNumbers k → ServerNumbers (server_state_after opened k event)
 unfolding server_state_after
 server-after opened k (FrameReceived f) h = by (is_hello f)
   where
@@ -241,12 +241,12 @@ server-after opened k (MemoryRevoked place xid) h = h
 server-after opened k (CallExecuted e) h = h
 server-after opened k QueueWritten h = h
 
-pub server-numbers : (opened : Opened) (es : List Event) → ServerNumbers (end_state_after (server_rules opened) (initial_server opened) es).state
+pub server-numbers : (opened : LinkParameters) (es : List Event) → ServerNumbers (end_state_after (server_rules opened) (initial_server opened) es).state
 server-numbers opened es = kept-after (server_rules opened) ServerNumbers (server-after opened) (initial_server opened) es tt
 
 -- ---- Grants
 
-pub grants-own : (opened : Opened) (link : ℕ) (side : Side) (run : List Mark) → HaveOwnStags (grants_of opened link side run)
+pub grants-own : (opened : LinkParameters) (link : ℕ) (side : Side) (run : List Mark) → HaveOwnStags (grants_of opened link side run)
 unfolding grants_of client server
 grants-own opened link Initiator run = own-stags _ opened.first_stag _ (client-numbers opened (events link Initiator run)).regions
 grants-own opened link Responder run = own-stags _ 1 _ (server-numbers opened (events link Responder run))

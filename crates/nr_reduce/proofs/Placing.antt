@@ -14,7 +14,7 @@ use Rattle.nr_reduce.specs.declared.mark.Moment.{Moment}
 use Rattle.nr_reduce.specs.declared.mark.Mark.{Mark}
 use Rattle.nr_reduce.specs.declared.mark.Mark.TheVariants as marks
 use Rattle.nr_reduce.specs.declared.mark.Entry.{Entry}
-use Rattle.nr_reduce.specs.declared.mark.Opened.{Opened}
+use Rattle.nr_reduce.specs.declared.mark.LinkParameters.{LinkParameters}
 use Rattle.nr_reduce.specs.History.{AcceptedCall, CompletedCall, completed_calls, bytes_received}
 use Rattle.nr_reduce.specs.PlainJournal.{PlainServer, entries_added, journal}
 use Rattle.nr_reduce.specs.AtEachMark.{AtEachMark}
@@ -76,7 +76,7 @@ at_place plain J run before after l xid moment payload place reply is h replied 
 -- ---- Once
 
 -- A call that completes didn't complete before.
-pub completes_once : (Relates : List ℕ → List ℕ → Type 0) (opened : Opened) (link xid : ℕ) (outcome : Outcome) (run before after : List Mark) → run ≡ before ++ marks.Done link xid outcome ∷ after
+pub completes_once : (Relates : List ℕ → List ℕ → Type 0) (opened : LinkParameters) (link xid : ℕ) (outcome : Outcome) (run before after : List Mark) → run ≡ before ++ marks.Done link xid outcome ∷ after
     → AtEachMark (AskedMark Relates opened link) [] run → (c : CompletedCall) → Contains (completed_calls link before) c → c.xid ≢ xid
 completes_once Relates opened link xid outcome run before after is h c there =
     let asked : AtEachMark (AskedMark Relates opened link) [] (before ++ marks.Done link xid outcome ∷ after) = subst (λ (r : List Mark). AtEachMark (AskedMark Relates opened link) [] r) is h in
@@ -101,7 +101,7 @@ by_frame : (k : ClientState) (f : Frame) (b : Bool) → k.calls_accepted ≤ (co
 by_frame k f true = omega arith
 by_frame k f false = (let e = by_segment k f (frame_segment f) in omega (arith, e))
 
-accepted_calls-after : (opened : Opened) (k : ClientState) (event : Event) → k.calls_accepted ≤ (client_state_after opened k event).calls_accepted
+accepted_calls-after : (opened : LinkParameters) (k : ClientState) (event : Event) → k.calls_accepted ≤ (client_state_after opened k event).calls_accepted
 unfolding client_state_after
 accepted_calls-after opened k (FrameReceived f) = by_frame k f (is_hello f)
 accepted_calls-after opened k (CallSubmitted place a) = omega arith
@@ -109,7 +109,7 @@ accepted_calls-after opened k (MemoryRevoked place xid) = omega arith
 accepted_calls-after opened k (CallExecuted call) = omega arith
 accepted_calls-after opened k QueueWritten = omega arith
 
-accepted_calls-next_end_state : (opened : Opened) (r : EndState ClientState) (event : Event) → r.state.calls_accepted ≤ (next_end_state (client_rules opened) r event).state.calls_accepted
+accepted_calls-next_end_state : (opened : LinkParameters) (r : EndState ClientState) (event : Event) → r.state.calls_accepted ≤ (next_end_state (client_rules opened) r event).state.calls_accepted
 accepted_calls-next_end_state opened r event = by_end r.state r.ended
   where
     by_why : (k : ClientState) (why : Option Stop) → k.calls_accepted ≤ (next_end_state_by (client_rules opened) k event why).state.calls_accepted
@@ -120,15 +120,15 @@ accepted_calls-next_end_state opened r event = by_end r.state r.ended
     by_end k None = by_why k (client_end k event)
     by_end k (Some end) = omega arith
 
-accepted_calls-reached : (opened : Opened) (r : EndState ClientState) (events : List Event) → r.state.calls_accepted ≤ (end_state_after (client_rules opened) r events).state.calls_accepted
+accepted_calls-reached : (opened : LinkParameters) (r : EndState ClientState) (events : List Event) → r.state.calls_accepted ≤ (end_state_after (client_rules opened) r events).state.calls_accepted
 accepted_calls-reached opened r [] = omega arith
 accepted_calls-reached opened r (event ∷ events) =
     (let a = accepted_calls-next_end_state opened r event in let b = accepted_calls-reached opened (next_end_state (client_rules opened) r event) events in omega (arith, a, b))
 
-abbrev accepted_so_far : Opened → ℕ → List Mark → ℕ
+abbrev accepted_so_far : LinkParameters → ℕ → List Mark → ℕ
 accepted_so_far opened link run = (client opened link run).state.calls_accepted
 
-accepted_calls-rises : (opened : Opened) (link : ℕ) (run more : List Mark) → accepted_so_far opened link run ≤ accepted_so_far opened link (run ++ more)
+accepted_calls-rises : (opened : LinkParameters) (link : ℕ) (run more : List Mark) → accepted_so_far opened link run ≤ accepted_so_far opened link (run ++ more)
 accepted_calls-rises opened link run [] = (let e = ap (λ (r : List Mark). (client opened link r).state.calls_accepted) (append-nil run) in omega (arith, e))
 accepted_calls-rises opened link run (mark ∷ more) =
     let one = ap (λ (r : EndState ClientState). r.state.calls_accepted) (client-one opened link run mark) in
@@ -137,13 +137,13 @@ accepted_calls-rises opened link run (mark ∷ more) =
     let same = ap (λ (r : List Mark). (client opened link r).state.calls_accepted) (append_assoc run (mark ∷ []) more) in
     omega (arith, one, frame_effect, rest, same)
 
-accepts_one : (opened : Opened) (k : ClientState) (ended : Option Stop) (place : ℕ) (a : AcceptedCall) → ended ≡ None → (next_end_state_in (client_rules opened) k (CallSubmitted place a) ended).state.calls_accepted ≡ k.calls_accepted + 1
+accepts_one : (opened : LinkParameters) (k : ClientState) (ended : Option Stop) (place : ℕ) (a : AcceptedCall) → ended ≡ None → (next_end_state_in (client_rules opened) k (CallSubmitted place a) ended).state.calls_accepted ≡ k.calls_accepted + 1
 unfolding client_state_after client_end
 accepts_one opened k None place a e = refl
 accepts_one opened k (Some end) place a e = absurd cc
 
 -- an accepted call counts
-pub accepted_calls-one : (opened : Opened) (link : ℕ) (run : List Mark) (call : Call) (form : Form) (xid : ℕ) → (client opened link run).ended ≡ None
+pub accepted_calls-one : (opened : LinkParameters) (link : ℕ) (run : List Mark) (call : Call) (form : Form) (xid : ℕ) → (client opened link run).ended ≡ None
     → accepted_so_far opened link (run ++ marks.Submit link call form (submissions.Accepted xid) ∷ []) ≡ accepted_so_far opened link run + 1
 accepted_calls-one opened link run call form xid stays =
     let a : AcceptedCall = record { xid = xid; call = call; form = form } in
@@ -153,7 +153,7 @@ accepted_calls-one opened link run call form xid stays =
     ∙ accepts_one opened r.state r.ended (length (bytes_received link Initiator run)) a stays
 
 -- No xid is given twice on a link.
-pub xids_differ : (Relates : List ℕ → List ℕ → Type 0) (opened : Opened) (link : ℕ) (run before between after : List Mark) (call other : Call) (form way : Form) (xid yid : ℕ)
+pub xids_differ : (Relates : List ℕ → List ℕ → Type 0) (opened : LinkParameters) (link : ℕ) (run before between after : List Mark) (call other : Call) (form way : Form) (xid yid : ℕ)
     → run ≡ before ++ marks.Submit link call form (submissions.Accepted xid) ∷ (between ++ marks.Submit link other way (submissions.Accepted yid) ∷ after)
     → AtEachMark (AskedMark Relates opened link) [] run → xid < yid
 xids_differ Relates opened link run before between after call other form way xid yid is h =

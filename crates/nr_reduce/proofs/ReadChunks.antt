@@ -21,7 +21,7 @@ use Rattle.nr_reduce.specs.declared.call.Form.{Form}
 use Rattle.nr_reduce.specs.declared.call.Submission.TheVariants as submissions
 use Rattle.nr_reduce.specs.declared.mark.Mark.{Mark}
 use Rattle.nr_reduce.specs.declared.mark.Mark.TheVariants as marks
-use Rattle.nr_reduce.specs.declared.mark.Opened.{Opened}
+use Rattle.nr_reduce.specs.declared.mark.LinkParameters.{LinkParameters}
 use Rattle.nr_reduce.specs.declared.outline.Plan.{Plan}
 use Rattle.nr_reduce.specs.Plans.{TooLarge, Buffer, one_if, buffer_if, buffers, has_segment, read_stag, write_stag, reply_stag, regions_needed, total}
 use Rattle.nr_reduce.specs.History.{AcceptedCall, bytes_received}
@@ -123,7 +123,7 @@ chunk-segment stag bytes k f (Ok segment) h =
     chunk-same stag bytes m (with_segment k f (Ok segment)) refl refl
     (chunk-request stag bytes (with_message k f.end (message_completed k.received segment)) (read_request_of segment) (chunk-message stag bytes k f.end (message_completed k.received segment) h))
 
-chunk-after : (opened : Opened) (stag : ℕ) (bytes : List ℕ) (k : ClientState) (event : Event) → KeepsChunk stag bytes k → KeepsChunk stag bytes (client_state_after opened k event)
+chunk-after : (opened : LinkParameters) (stag : ℕ) (bytes : List ℕ) (k : ClientState) (event : Event) → KeepsChunk stag bytes k → KeepsChunk stag bytes (client_state_after opened k event)
 unfolding client_state_after
 chunk-after opened stag bytes k (FrameReceived f) h = by (is_hello f)
   where
@@ -141,7 +141,7 @@ chunk-after opened stag bytes k (MemoryRevoked place xid) h = chunk-closed stag 
 chunk-after opened stag bytes k (CallExecuted call) h = h
 chunk-after opened stag bytes k QueueWritten h = chunk-same stag bytes k (client_state_after opened k QueueWritten) refl refl h
 
-chunk-more : (opened : Opened) (link stag : ℕ) (bytes : List ℕ) (run more : List Mark) → KeepsChunk stag bytes (client opened link run).state → KeepsChunk stag bytes (client opened link (run ++ more)).state
+chunk-more : (opened : LinkParameters) (link stag : ℕ) (bytes : List ℕ) (run more : List Mark) → KeepsChunk stag bytes (client opened link run).state → KeepsChunk stag bytes (client opened link (run ++ more)).state
 chunk-more opened link stag bytes run [] h = subst (λ (r : List Mark). KeepsChunk stag bytes (client opened link r).state) (sym (append-nil run)) h
 chunk-more opened link stag bytes run (mark ∷ more) h =
     let one = kept-after (client_rules opened) (KeepsChunk stag bytes) (chunk-after opened stag bytes) (client opened link run) (events_at link Initiator run mark) h in
@@ -165,7 +165,7 @@ needs-one : (p : Plan) → has_segment (Some p.read) ≡ true → 1 ≤ regions_
 unfolding regions_needed
 needs-one p some = (let e = ap one_if some in omega (arith, e))
 
-offered : (opened : Opened) (k t : ClientState) (xid place : ℕ) (p : Plan) → ClientNumbers opened k → has_segment (Some p.read) ≡ true
+offered : (opened : LinkParameters) (k t : ClientState) (xid place : ℕ) (p : Plan) → ClientNumbers opened k → has_segment (Some p.read) ≡ true
     → t.regions ≡ k.regions ++ map (region_of xid place) (buffers k.stag p) → t.stag ≡ k.stag + regions_needed p → KeepsChunk k.stag p.region t
 offered opened k t xid place p numbers some regions next =
     let stag : ℕ = k.stag in
@@ -182,7 +182,7 @@ offered opened k t xid place p numbers some regions next =
       below = (let n = needs-one p some in omega (arith, n, next));
     }
 
-submitted : (opened : Opened) (k : ClientState) (ended : Option Stop) (place : ℕ) (a : AcceptedCall) (plan : Plan) → ClientNumbers opened k → ended ≡ None
+submitted : (opened : LinkParameters) (k : ClientState) (ended : Option Stop) (place : ℕ) (a : AcceptedCall) (plan : Plan) → ClientNumbers opened k → ended ≡ None
     → plan_for k a.xid a.call a.form ≡ Ok plan → has_segment (Some plan.read) ≡ true
     → KeepsChunk k.stag plan.region (next_end_state_in (client_rules opened) k (CallSubmitted place a) ended).state
 unfolding client_state_after client_end
@@ -249,7 +249,7 @@ chunk-bytes grants stag bytes (r ∷ regions) segments g h there = by (eqb r.sta
     by false is there rest = rest there
 
 -- From its Submit on the region of a call's read chunk holds what its plan put there.
-pub chunk-stays : (opened : Opened) (link : ℕ) (run more : List Mark) (call : Call) (form : Form) (xid : ℕ) → (h : IsAccepted opened link run call form xid) → has_segment (Some h.plan.read) ≡ true →
+pub chunk-stays : (opened : LinkParameters) (link : ℕ) (run more : List Mark) (call : Call) (form : Form) (xid : ℕ) → (h : IsAccepted opened link run call form xid) → has_segment (Some h.plan.read) ≡ true →
     placed_bytes opened link Initiator (run ++ marks.Submit link call form (submissions.Accepted xid) ∷ more) (read_stag (client opened link run).state.stag h.plan) ≡ h.plan.region
 unfolding placed_bytes region_bytes grants_of
 chunk-stays opened link run more call form xid h some =

@@ -4,7 +4,7 @@ use Rattle.nr_wire.specs.declared.hello.Side.TheVariants.{Initiator, Responder}
 use Rattle.nr_reduce.specs.declared.call.Submission.TheVariants as submissions
 use Rattle.nr_reduce.specs.declared.mark.Mark.{Mark}
 use Rattle.nr_reduce.specs.declared.mark.Mark.TheVariants as marks
-use Rattle.nr_reduce.specs.declared.mark.Opened.{Opened}
+use Rattle.nr_reduce.specs.declared.mark.LinkParameters.{LinkParameters}
 use Rattle.nr_reduce.specs.AtEachMark.{AtEachMark}
 use Rattle.nr_reduce.specs.Matched.{IsPrefixOf}
 use Rattle.nr_reduce.specs.Asked.{IsAll, AskedMark}
@@ -19,7 +19,7 @@ AtEachMark-each P Q before (m ∷ run) f h = (f before m h.0, AtEachMark-each P 
 all-first : (xs ys : List ℕ) → xs ≡ ys → IsPrefixOf xs ys
 all-first xs ys is = ([], append-nil xs ∙ is)
 
-asked-mark : (opened : Opened) (link : ℕ) (before : List Mark) (mark : Mark) → AskedMark IsAll opened link before mark → AskedMark IsPrefixOf opened link before mark
+asked-mark : (opened : LinkParameters) (link : ℕ) (before : List Mark) (mark : Mark) → AskedMark IsAll opened link before mark → AskedMark IsPrefixOf opened link before mark
 asked-mark opened link before (marks.Submit l call form (submissions.Accepted xid)) h = h
 asked-mark opened link before (marks.Submit l call form (submissions.Refused why)) h = h
 asked-mark opened link before (marks.Submit l call form submissions.Dropped) h = h
@@ -33,7 +33,7 @@ asked-mark opened link before (marks.Forget l xid) h = h
 asked-mark opened link before (marks.Revoke l xid bytes) h = h
 asked-mark opened link before (marks.Drop l) h = h
 
-served-mark : (opened : Opened) (link : ℕ) (before : List Mark) (mark : Mark) → ServedMark IsAll opened link before mark → ServedMark IsPrefixOf opened link before mark
+served-mark : (opened : LinkParameters) (link : ℕ) (before : List Mark) (mark : Mark) → ServedMark IsAll opened link before mark → ServedMark IsPrefixOf opened link before mark
 served-mark opened link before (marks.Submit l call form answer) h = h
 served-mark opened link before (marks.Wrote l Initiator bytes) h = h
 served-mark opened link before (marks.Wrote l Responder bytes) h = λ same. all-first _ _ (h same)
@@ -45,7 +45,7 @@ served-mark opened link before (marks.Forget l xid) h = h
 served-mark opened link before (marks.Revoke l xid bytes) h = h
 served-mark opened link before (marks.Drop l) h = h
 
-pub so_far : (opened : Opened) (link : ℕ) (run more : List Mark) → InFull opened link (run ++ more) → SoFar opened link run
+pub so_far : (opened : LinkParameters) (link : ℕ) (run more : List Mark) → InFull opened link (run ++ more) → SoFar opened link run
 so_far opened link run more full = record {
   asked = AtEachMark-first _ [] run more (AtEachMark-each _ _ [] (run ++ more) (asked-mark opened link) full.asked.each);
   served = AtEachMark-first _ [] run more (AtEachMark-each _ _ [] (run ++ more) (served-mark opened link) full.served.each);
@@ -53,7 +53,7 @@ so_far opened link run more full = record {
   grant = AtEachMark-first _ [] run more full.grant;
 }
 
-pub first_part : (opened : Opened) (link : ℕ) (run more : List Mark) → SoFar opened link (run ++ more) → SoFar opened link run
+pub first_part : (opened : LinkParameters) (link : ℕ) (run more : List Mark) → SoFar opened link (run ++ more) → SoFar opened link run
 first_part opened link run more h = record {
   asked = AtEachMark-first _ [] run more h.asked;
   served = AtEachMark-first _ [] run more h.served;

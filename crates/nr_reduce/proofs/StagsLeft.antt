@@ -11,7 +11,7 @@ use Rattle.nr_link.specs.ReceiveState.{ReadRequest, message_completed, read_requ
 use Rattle.nr_reduce.specs.declared.call.Submission.TheVariants as submissions
 use Rattle.nr_reduce.specs.declared.mark.Mark.{Mark}
 use Rattle.nr_reduce.specs.declared.mark.Mark.TheVariants as marks
-use Rattle.nr_reduce.specs.declared.mark.Opened.{Opened}
+use Rattle.nr_reduce.specs.declared.mark.LinkParameters.{LinkParameters}
 use Rattle.nr_reduce.specs.declared.outline.Plan.{Plan}
 use Rattle.nr_reduce.specs.Limits.{numbers_end}
 use Rattle.nr_reduce.specs.Plans.{TooLarge, regions_needed}
@@ -28,7 +28,7 @@ use Rattle.nr_reduce.specs.Run.{client}
 use Rattle.nr_reduce.specs.Asked.{AskedSoFar, AskedMark}
 use Rattle.nr_reduce.proofs.Steps.{client-one}
 
-abbrev next_stag_after : Opened → ℕ → List Mark → ℕ
+abbrev next_stag_after : LinkParameters → ℕ → List Mark → ℕ
 next_stag_after opened link run = (client opened link run).state.stag
 
 -- ---- Events that offer nothing
@@ -57,7 +57,7 @@ by_segment k f (Err reason) = refl
 by_segment k f (Ok segment) =
     by_request (with_message k f.end (message_completed k.received segment)) (read_request_of segment) ∙ by_message k f.end (message_completed k.received segment)
 
-stag-after : (opened : Opened) (k : ClientState) (event : Event) → OffersNothing event → (client_state_after opened k event).stag ≡ k.stag
+stag-after : (opened : LinkParameters) (k : ClientState) (event : Event) → OffersNothing event → (client_state_after opened k event).stag ≡ k.stag
 unfolding client_state_after
 stag-after opened k (FrameReceived f) h = by (is_hello f)
   where
@@ -69,7 +69,7 @@ stag-after opened k (MemoryRevoked place xid) h = refl
 stag-after opened k (CallExecuted call) h = refl
 stag-after opened k QueueWritten h = refl
 
-stag-next : (opened : Opened) (r : EndState ClientState) (event : Event) → OffersNothing event → (next_end_state (client_rules opened) r event).state.stag ≡ r.state.stag
+stag-next : (opened : LinkParameters) (r : EndState ClientState) (event : Event) → OffersNothing event → (next_end_state (client_rules opened) r event).state.stag ≡ r.state.stag
 stag-next opened r event h = by_end r.state r.ended
   where
     by_why : (k : ClientState) (why : Option Stop) → (next_end_state_by (client_rules opened) k event why).state.stag ≡ k.stag
@@ -80,7 +80,7 @@ stag-next opened r event h = by_end r.state r.ended
     by_end k None = by_why k (client_end k event)
     by_end k (Some end) = refl
 
-stag-all : (opened : Opened) (r : EndState ClientState) (es : List Event) → OfferNothing es → (end_state_after (client_rules opened) r es).state.stag ≡ r.state.stag
+stag-all : (opened : LinkParameters) (r : EndState ClientState) (es : List Event) → OfferNothing es → (end_state_after (client_rules opened) r es).state.stag ≡ r.state.stag
 stag-all opened r [] h = refl
 stag-all opened r (event ∷ es) h = stag-all opened (next_end_state (client_rules opened) r event) es h.1 ∙ stag-next opened r event h.0
 
@@ -94,19 +94,19 @@ nothing-frames (f ∷ fs) = (tt, nothing-frames fs)
 
 -- ---- One mark
 
-abbrev IsLeft : Opened → ℕ → List Mark → Mark → Type 0
+abbrev IsLeft : LinkParameters → ℕ → List Mark → Mark → Type 0
 IsLeft opened link before mark = (end_state_after (client_rules opened) (client opened link before) (events_at link Initiator before mark)).state.stag ≤ numbers_end
 
-left-nothing : (opened : Opened) (link : ℕ) (before : List Mark) (mark : Mark) → next_stag_after opened link before ≤ numbers_end → OfferNothing (events_at link Initiator before mark) → IsLeft opened link before mark
+left-nothing : (opened : LinkParameters) (link : ℕ) (before : List Mark) (mark : Mark) → next_stag_after opened link before ≤ numbers_end → OfferNothing (events_at link Initiator before mark) → IsLeft opened link before mark
 left-nothing opened link before mark low h = (let e = stag-all opened (client opened link before) (events_at link Initiator before mark) h in omega (arith, e, low))
 
-submit-one : (opened : Opened) (k : ClientState) (ended : Option Stop) (place : ℕ) (a : AcceptedCall) (plan : Plan) → ended ≡ None → plan_for k a.xid a.call a.form ≡ Ok plan
+submit-one : (opened : LinkParameters) (k : ClientState) (ended : Option Stop) (place : ℕ) (a : AcceptedCall) (plan : Plan) → ended ≡ None → plan_for k a.xid a.call a.form ≡ Ok plan
     → (next_end_state_in (client_rules opened) k (CallSubmitted place a) ended).state.stag ≡ k.stag + regions_needed plan
 unfolding client_state_after client_end
 submit-one opened k None place a plan stays e = ap (λ (r : Result Plan TooLarge). k.stag + regions_needed (plan_or (call_payload a.xid a.call) r)) e
 submit-one opened k (Some end) place a plan stays e = absurd cc
 
-left-mark : (opened : Opened) (link : ℕ) (before : List Mark) (mark : Mark) → next_stag_after opened link before ≤ numbers_end → AskedMark IsPrefixOf opened link before mark → IsLeft opened link before mark
+left-mark : (opened : LinkParameters) (link : ℕ) (before : List Mark) (mark : Mark) → next_stag_after opened link before ≤ numbers_end → AskedMark IsPrefixOf opened link before mark → IsLeft opened link before mark
 left-mark opened link before (marks.Submit l call form (submissions.Accepted xid)) low h = by (eqb l link) refl
   where
     a : AcceptedCall
@@ -134,7 +134,7 @@ left-mark opened link before (marks.Forget l xid) low h = low
 left-mark opened link before (marks.Revoke l xid bytes) low h = left-nothing opened link before (marks.Revoke l xid bytes) low (nothing-if _ (MemoryRevoked (length (bytes_received link Initiator before)) xid ∷ []) (tt, tt))
 left-mark opened link before (marks.Drop l) low h = low
 
-left-from : (opened : Opened) (link : ℕ) (before run : List Mark) → next_stag_after opened link before ≤ numbers_end → AtEachMark (AskedMark IsPrefixOf opened link) before run → next_stag_after opened link (before ++ run) ≤ numbers_end
+left-from : (opened : LinkParameters) (link : ℕ) (before run : List Mark) → next_stag_after opened link before ≤ numbers_end → AtEachMark (AskedMark IsPrefixOf opened link) before run → next_stag_after opened link (before ++ run) ≤ numbers_end
 left-from opened link before [] low h = subst (λ (r : List Mark). next_stag_after opened link r ≤ numbers_end) (sym (append-nil before)) low
 left-from opened link before (mark ∷ run) low h =
     let one = ap (λ (r : EndState ClientState). r.state.stag) (client-one opened link before mark) in
@@ -142,6 +142,6 @@ left-from opened link before (mark ∷ run) low h =
     subst (λ (r : List Mark). next_stag_after opened link r ≤ numbers_end) (append_assoc before (mark ∷ []) run)
     (left-from opened link (before ++ mark ∷ []) run (omega (arith, one, left)) h.1)
 
-pub stags-left : (opened : Opened) (link : ℕ) (run : List Mark) → IsOpened opened → AskedSoFar opened link run → (client opened link run).state.stag ≤ numbers_end
+pub stags-left : (opened : LinkParameters) (link : ℕ) (run : List Mark) → IsOpened opened → AskedSoFar opened link run → (client opened link run).state.stag ≤ numbers_end
 unfolding client events
 stags-left opened link run numbers asked = left-from opened link [] run (let f = numbers.stag_fits in omega (arith, f)) asked

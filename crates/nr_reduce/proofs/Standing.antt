@@ -9,7 +9,7 @@ use Rattle.nr_link.specs.Output.{own_hello}
 use Rattle.nr_link.specs.Input.{InputState, input_of, initial_input, input_after}
 use Rattle.nr_link.proofs.Inputs.{input_of-append, input_of-count, input_of-frames, input_of-none}
 use Rattle.nr_reduce.specs.declared.mark.Mark.{Mark}
-use Rattle.nr_reduce.specs.declared.mark.Opened.{Opened}
+use Rattle.nr_reduce.specs.declared.mark.LinkParameters.{LinkParameters}
 use Rattle.nr_reduce.specs.History.{bytes_sent, bytes_received, written_at, fed_at, other}
 use Rattle.nr_reduce.specs.Events.{mark_events, events_at, events}
 use Rattle.nr_reduce.specs.EndRules.{Rules, EndState, end_state_after, output_for_all}
@@ -75,21 +75,21 @@ stands-one rules link side state_of due end input queue left run mark state_one 
           ∙ sym due_one;
     }
 
-pub client-stands : (opened : Opened) (link : ℕ) (end : EndState ClientState) (input : InputState) (queue left : List ℕ) (run : List Mark) (mark : Mark) →
+pub client-stands : (opened : LinkParameters) (link : ℕ) (end : EndState ClientState) (input : InputState) (queue left : List ℕ) (run : List Mark) (mark : Mark) →
     ClientStandsFor opened link end input queue run →
     written_at link Initiator mark ++ left ≡ queue ++ output_for_all (client_rules opened) end (input_events link Initiator input mark) →
     ClientStandsFor opened link (end_state_after (client_rules opened) end (input_events link Initiator input mark)) (input_after input (fed_at link Initiator mark)) left (run ++ mark ∷ [])
 client-stands opened link end input queue left run mark s queued =
     stands-one (client_rules opened) link Initiator (client opened link) (output_due opened link Initiator) end input queue left run mark (client-one opened link run mark) (output_due_up-one opened link run mark) s queued
 
-pub server-stands : (opened : Opened) (link : ℕ) (end : EndState ServerState) (input : InputState) (queue left : List ℕ) (run : List Mark) (mark : Mark) →
+pub server-stands : (opened : LinkParameters) (link : ℕ) (end : EndState ServerState) (input : InputState) (queue left : List ℕ) (run : List Mark) (mark : Mark) →
     ServerStandsFor opened link end input queue run →
     written_at link Responder mark ++ left ≡ queue ++ output_for_all (server_rules opened) end (input_events link Responder input mark) →
     ServerStandsFor opened link (end_state_after (server_rules opened) end (input_events link Responder input mark)) (input_after input (fed_at link Responder mark)) left (run ++ mark ∷ [])
 server-stands opened link end input queue left run mark s queued =
     stands-one (server_rules opened) link Responder (server opened link) (output_due opened link Responder) end input queue left run mark (server-one opened link run mark) (output_due_down-one opened link run mark) s queued
 
-pub client-begins : (opened : Opened) (link : ℕ) → ClientStandsFor opened link (initial_client opened) (initial_input Responder) (own_hello Initiator) []
+pub client-begins : (opened : LinkParameters) (link : ℕ) → ClientStandsFor opened link (initial_client opened) (initial_input Responder) (own_hello Initiator) []
 unfolding client events bytes_received bytes_sent output_due
 client-begins opened link = record {
   state = refl;
@@ -97,7 +97,7 @@ client-begins opened link = record {
   output = sym (append-nil (own_hello Initiator));
 }
 
-pub server-begins : (opened : Opened) (link : ℕ) → ServerStandsFor opened link (initial_server opened) (initial_input Initiator) [] []
+pub server-begins : (opened : LinkParameters) (link : ℕ) → ServerStandsFor opened link (initial_server opened) (initial_input Initiator) [] []
 unfolding server events bytes_received bytes_sent output_due
 server-begins opened link = record {
   state = refl;
@@ -112,14 +112,14 @@ due-queue sent taken left due is = (
 )
 
 -- what is written from a queue is due, and all of it where nothing is left
-pub client-queue : (opened : Opened) (link : ℕ) (end : EndState ClientState) (input : InputState) (taken left : List ℕ) (run : List Mark) →
+pub client-queue : (opened : LinkParameters) (link : ℕ) (end : EndState ClientState) (input : InputState) (taken left : List ℕ) (run : List Mark) →
     ClientStandsFor opened link end input (taken ++ left) run →
     IsPrefixOf (bytes_sent link Initiator run ++ taken) (output_due opened link Initiator run)
     × (left ≡ [] → IsAll (bytes_sent link Initiator run ++ taken) (output_due opened link Initiator run))
 client-queue opened link end input taken left run s =
     due-queue (bytes_sent link Initiator run) taken left (output_due opened link Initiator run) s.output
 
-pub server-queue : (opened : Opened) (link : ℕ) (end : EndState ServerState) (input : InputState) (taken left : List ℕ) (run : List Mark) →
+pub server-queue : (opened : LinkParameters) (link : ℕ) (end : EndState ServerState) (input : InputState) (taken left : List ℕ) (run : List Mark) →
     ServerStandsFor opened link end input (taken ++ left) run →
     IsPrefixOf (bytes_sent link Responder run ++ taken) (output_due opened link Responder run)
     × (left ≡ [] → IsAll (bytes_sent link Responder run ++ taken) (output_due opened link Responder run))

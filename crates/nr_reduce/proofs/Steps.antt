@@ -5,7 +5,7 @@ use Rattle.nr_wire.specs.declared.hello.Side.{Side}
 use Rattle.nr_wire.specs.declared.hello.Side.TheVariants.{Initiator, Responder}
 use Rattle.nr_reduce.specs.declared.mark.Mark.{Mark}
 use Rattle.nr_link.specs.declared.end.End.{End}
-use Rattle.nr_reduce.specs.declared.mark.Opened.{Opened}
+use Rattle.nr_reduce.specs.declared.mark.LinkParameters.{LinkParameters}
 use Rattle.nr_reduce.specs.AtEachMark.{AtEachMark}
 use Rattle.nr_link.specs.Output.{own_hello}
 use Rattle.nr_reduce.specs.Events.{Event, events_at, events_from, events}
@@ -44,14 +44,14 @@ unfolding events
 events-one link side run mark = events_from-one link side [] run mark
 
 -- after one more mark a client is where its events of that mark bring it, and it has to write what they call for
-pub client-one : (opened : Opened) (link : ℕ) (run : List Mark) (mark : Mark) →
+pub client-one : (opened : LinkParameters) (link : ℕ) (run : List Mark) (mark : Mark) →
     client opened link (run ++ mark ∷ []) ≡ end_state_after (client_rules opened) (client opened link run) (events_at link Initiator run mark)
 unfolding client
 client-one opened link run mark =
     ap (λ (es : List Event). end_state_after (client_rules opened) (initial_client opened) es) (events-one link Initiator run mark)
     ∙ end_state_after-append (client_rules opened) (initial_client opened) (events link Initiator run) (events_at link Initiator run mark)
 
-pub output_due_up-one : (opened : Opened) (link : ℕ) (run : List Mark) (mark : Mark) →
+pub output_due_up-one : (opened : LinkParameters) (link : ℕ) (run : List Mark) (mark : Mark) →
     output_due opened link Initiator (run ++ mark ∷ []) ≡ output_due opened link Initiator run ++ output_for_all (client_rules opened) (client opened link run) (events_at link Initiator run mark)
 unfolding output_due client
 output_due_up-one opened link run mark =
@@ -64,14 +64,14 @@ output_due_up-one opened link run mark =
     ∙ sym (append_assoc (own_hello Initiator) (output_for_all rules (initial_client opened) es) (output_for_all rules (end_state_after rules (initial_client opened) es) more))
 
 -- and the same of a server
-pub server-one : (opened : Opened) (link : ℕ) (run : List Mark) (mark : Mark) →
+pub server-one : (opened : LinkParameters) (link : ℕ) (run : List Mark) (mark : Mark) →
     server opened link (run ++ mark ∷ []) ≡ end_state_after (server_rules opened) (server opened link run) (events_at link Responder run mark)
 unfolding server
 server-one opened link run mark =
     ap (λ (es : List Event). end_state_after (server_rules opened) (initial_server opened) es) (events-one link Responder run mark)
     ∙ end_state_after-append (server_rules opened) (initial_server opened) (events link Responder run) (events_at link Responder run mark)
 
-pub output_due_down-one : (opened : Opened) (link : ℕ) (run : List Mark) (mark : Mark) →
+pub output_due_down-one : (opened : LinkParameters) (link : ℕ) (run : List Mark) (mark : Mark) →
     output_due opened link Responder (run ++ mark ∷ []) ≡ output_due opened link Responder run ++ output_for_all (server_rules opened) (server opened link run) (events_at link Responder run mark)
 unfolding output_due server
 output_due_down-one opened link run mark =

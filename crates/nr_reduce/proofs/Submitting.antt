@@ -9,7 +9,7 @@ use Rattle.nr_reduce.specs.declared.call.Refused.TheVariants as refusals
 use Rattle.nr_reduce.specs.declared.call.Submission.{Submission}
 use Rattle.nr_reduce.specs.declared.call.Submission.TheVariants as submissions
 use Rattle.nr_reduce.specs.declared.mark.Mark.{Mark}
-use Rattle.nr_reduce.specs.declared.mark.Opened.{Opened}
+use Rattle.nr_reduce.specs.declared.mark.LinkParameters.{LinkParameters}
 use Rattle.nr_reduce.specs.Limits.{numbers_end}
 use Rattle.nr_reduce.specs.declared.outline.Plan.{Plan}
 use Rattle.nr_reduce.specs.Plans.{TooLarge, regions_needed}
@@ -22,7 +22,7 @@ use Rattle.nr_reduce.specs.Opening.{IsOpened}
 use Rattle.nr_reduce.proofs.StagsLeft.{stags-left}
 
 -- what an accepted call met
-record Met (opened : Opened) (k : ClientState) (call : Call) (form : Form) (ended : Option Stop) (xid : ℕ) : Type 0 where
+record Met (opened : LinkParameters) (k : ClientState) (call : Call) (form : Form) (ended : Option Stop) (xid : ℕ) : Type 0 where
   pub stays : ended ≡ None
   pub plan : Plan
   pub planned : plan_for k (next_xid opened k) call form ≡ Ok plan
@@ -43,7 +43,7 @@ not_spent left need xid answer e = by (ltb left need) refl e
     by true is e = absurd cc
     by false is e = (ltb-false left need is, e)
 
-met : (opened : Opened) (k : ClientState) (call : Call) (form : Form) (ended : Option Stop) (xid : ℕ) → answer_by opened k call form ended ≡ submissions.Accepted xid → Met opened k call form ended xid
+met : (opened : LinkParameters) (k : ClientState) (call : Call) (form : Form) (ended : Option Stop) (xid : ℕ) → answer_by opened k call form ended ≡ submissions.Accepted xid → Met opened k call form ended xid
 met opened k call form (Some end) xid e = absurd cc
 met opened k call form None xid e = by_result (plan_for k (next_xid opened k) call form) refl e
   where
@@ -70,7 +70,7 @@ met opened k call form None xid e = by_result (plan_for k (next_xid opened k) ca
     by_result (Ok plan) is e = by_grant plan is (leb k.grant (length k.outstanding)) refl e
     by_result (Err large) is e = absurd cc
 
-pub accepted_keeps : (opened : Opened) (link : ℕ) (run : List Mark) (call : Call) (form : Form) (xid : ℕ) →
+pub accepted_keeps : (opened : LinkParameters) (link : ℕ) (run : List Mark) (call : Call) (form : Form) (xid : ℕ) →
     submit_answer opened (client opened link run) call form ≡ submissions.Accepted xid → IsOpened opened → AskedSoFar opened link run → CanWriteCred call.cred →
     IsAccepted opened link run call form xid × (calls_outstanding opened link run < credits_granted opened link run)
 unfolding submit_answer calls_outstanding credits_granted

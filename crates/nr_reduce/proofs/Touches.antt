@@ -7,7 +7,7 @@ use Rattle.nr_wire.specs.Segment.Segment.{Tagged, Untagged}
 use Rattle.nr_regions.specs.Access.{Grant}
 use Rattle.nr_regions.specs.declared.denied.Denied.{Denied}
 use Rattle.nr_link.specs.declared.end.End.{End as Stop}
-use Rattle.nr_reduce.specs.declared.mark.Opened.{Opened}
+use Rattle.nr_reduce.specs.declared.mark.LinkParameters.{LinkParameters}
 use Rattle.nr_link.specs.Frames.{Frame, is_hello}
 use Rattle.nr_link.specs.SegmentFaults.{SegmentFault, Readiness, first_fault, missing_fault, segment_fault, reason_if, next_msn, next_offset, no_buffer, is_malformed, is_too_many, has_length, terminate_fault, is_unexpected}
 use Rattle.nr_link.specs.ReceiveState.{is_send, message_completed}
@@ -91,7 +91,7 @@ client_touched k f segment later is e =
     by_end (Some end) e = absurd cc
 
 -- and a server's
-pub server_touched : (opened : Opened) (k : ServerState) (f : Frame) (segment : Segment) → is_hello f ≡ false → frame_segment f ≡ Ok segment → server_end opened k (FrameReceived f) ≡ None → missing_access (region_grants f.end k.regions) f segment ≡ None
+pub server_touched : (opened : LinkParameters) (k : ServerState) (f : Frame) (segment : Segment) → is_hello f ≡ false → frame_segment f ≡ Ok segment → server_end opened k (FrameReceived f) ≡ None → missing_access (region_grants f.end k.regions) f segment ≡ None
 unfolding server_end
 server_touched opened k f segment later is e =
     let others : or_refusal k f (frame_end (server_ready opened k) (region_grants f.end k.regions) f) ≡ None =
@@ -108,14 +108,14 @@ allowed : (grants : List Grant) (f : Frame) (segment : Segment) (access : Access
 allowed grants f segment access own is none =
     (allowed-iff grants access f.end own).1 (ap (λ (o : Option Access). option_and_then (λ (a : Access). grant_denial grants a f.end) o) (sym is) ∙ none)
 
-pub client_allows : (opened : Opened) (events : List Event) (f : Frame) (segment : Segment) (access : Access) → is_hello f ≡ false → frame_segment f ≡ Ok segment → access_of segment ≡ Some access →
+pub client_allows : (opened : LinkParameters) (events : List Event) (f : Frame) (segment : Segment) (access : Access) → is_hello f ≡ false → frame_segment f ≡ Ok segment → access_of segment ≡ Some access →
     client_end (end_state_after (client_rules opened) (initial_client opened) events).state (FrameReceived f) ≡ None →
     Allowed (region_grants f.end (end_state_after (client_rules opened) (initial_client opened) events).state.regions) access f.end
 client_allows opened events f segment access later is accesses_received e =
     let k : ClientState = (end_state_after (client_rules opened) (initial_client opened) events).state in
     allowed (region_grants f.end k.regions) f segment access (own-stags f.end opened.first_stag k.regions (client-numbers opened events).regions) accesses_received (client_touched k f segment later is e)
 
-pub server_allows : (opened : Opened) (events : List Event) (f : Frame) (segment : Segment) (access : Access) → is_hello f ≡ false → frame_segment f ≡ Ok segment → access_of segment ≡ Some access →
+pub server_allows : (opened : LinkParameters) (events : List Event) (f : Frame) (segment : Segment) (access : Access) → is_hello f ≡ false → frame_segment f ≡ Ok segment → access_of segment ≡ Some access →
     server_end opened (end_state_after (server_rules opened) (initial_server opened) events).state (FrameReceived f) ≡ None →
     Allowed (region_grants f.end (end_state_after (server_rules opened) (initial_server opened) events).state.regions) access f.end
 server_allows opened events f segment access later is accesses_received e =

@@ -9,7 +9,7 @@ use Rattle.nr_reduce.specs.declared.call.Submission.TheVariants as submissions
 use Rattle.nr_reduce.specs.declared.call.Outcome.{Outcome}
 use Rattle.nr_reduce.specs.declared.mark.Mark.{Mark}
 use Rattle.nr_reduce.specs.declared.mark.Mark.TheVariants as marks
-use Rattle.nr_reduce.specs.declared.mark.Opened.{Opened}
+use Rattle.nr_reduce.specs.declared.mark.LinkParameters.{LinkParameters}
 use Rattle.nr_reduce.specs.History.{AcceptedCall, CompletedCall, accepted_calls, completed_calls, bytes_sent, is_abandoned}
 use Rattle.nr_rpc.specs.Credential.{CanWriteCred}
 use Rattle.nr_reduce.specs.Limits.{numbers_end}
@@ -23,7 +23,7 @@ use Rattle.nr_reduce.specs.AtEachMark.{AtEachMark}
 
 -- A call is accepted under the next xid, with a plan, on a link that hasn't ended, while xids and STags are left for it. Its
 -- credential can be encoded.
-pub record IsAccepted (opened : Opened) (link : ℕ) (before : List Mark) (call : Call) (form : Form) (xid : ℕ) : Type 0 where
+pub record IsAccepted (opened : LinkParameters) (link : ℕ) (before : List Mark) (call : Call) (form : Form) (xid : ℕ) : Type 0 where
   pub stays : (client opened link before).ended ≡ None
   pub next : xid ≡ next_xid opened (client opened link before).state
   pub plan : Plan
@@ -41,28 +41,28 @@ pub record IsAwaited (link : ℕ) (before : List Mark) (xid : ℕ) : Type 0 wher
   pub kept : is_abandoned link xid before ≡ false
 
 -- its outcome is handed over: one that a message of its xid brought
-pub record IsCompleted (opened : Opened) (link : ℕ) (before : List Mark) (xid : ℕ) (outcome : Outcome) : Type 0 where
+pub record IsCompleted (opened : LinkParameters) (link : ℕ) (before : List Mark) (xid : ℕ) (outcome : Outcome) : Type 0 where
   pub awaited : IsAwaited link before xid
   pub is_received : Contains (client opened link before).state.outcomes (record { xid = xid; outcome = outcome })
 
 -- it is lost: the client ended, and no message brought an outcome of it
-pub record IsLost (opened : Opened) (link : ℕ) (before : List Mark) (xid : ℕ) : Type 0 where
+pub record IsLost (opened : LinkParameters) (link : ℕ) (before : List Mark) (xid : ℕ) : Type 0 where
   pub awaited : IsAwaited link before xid
   pub ended : End
   pub is_ended : (client opened link before).ended ≡ Some ended
   pub none : (c : CompletedCall) → Contains (client opened link before).state.outcomes c → c.xid ≢ xid
 
 -- its memory is revoked: the bytes handed back are what its regions hold, in the order in which they were offered
-abbrev pub revoked_bytes : Opened → ℕ → List Mark → ℕ → List ℕ
+abbrev pub revoked_bytes : LinkParameters → ℕ → List Mark → ℕ → List ℕ
 revoked_bytes opened link before xid =
     flat_map (λ r. placed_bytes opened link Initiator before r.stag) (filter (λ r. r.call == xid) (client opened link before).state.regions)
 
-pub record IsRevoked (opened : Opened) (link : ℕ) (before : List Mark) (xid : ℕ) (bytes : List ℕ) : Type 0 where
+pub record IsRevoked (opened : LinkParameters) (link : ℕ) (before : List Mark) (xid : ℕ) (bytes : List ℕ) : Type 0 where
   pub awaited : IsAwaited link before xid
   pub bytes_are : bytes ≡ revoked_bytes opened link before xid
 
 -- The law of each mark. `Fills` says how what was written with this Wrote relates to the output due.
-abbrev pub AskedMark : (List ℕ → List ℕ → Type 0) → Opened → ℕ → List Mark → Mark → Type 0
+abbrev pub AskedMark : (List ℕ → List ℕ → Type 0) → LinkParameters → ℕ → List Mark → Mark → Type 0
 AskedMark Relates opened link before (marks.Submit l call form (submissions.Accepted xid)) = l ≡ link → IsAccepted opened link before call form xid
 AskedMark Relates opened link before (marks.Submit l call form (submissions.Refused why)) = Unit {0}
 AskedMark Relates opened link before (marks.Submit l call form submissions.Dropped) = Unit {0}
@@ -80,10 +80,10 @@ AskedMark Relates opened link before (marks.Drop l) = Unit {0}
 abbrev pub IsAll : List ℕ → List ℕ → Type 0
 IsAll written due = written ≡ due
 
-pub record Asked (opened : Opened) (link : ℕ) (run : List Mark) : Type 0 where
+pub record Asked (opened : LinkParameters) (link : ℕ) (run : List Mark) : Type 0 where
   pub each : AtEachMark (AskedMark IsAll opened link) [] run
   pub written : HasWritten opened link Initiator run
 
 -- so far: what is written is a prefix of the output due
-abbrev pub AskedSoFar : Opened → ℕ → List Mark → Type 0
+abbrev pub AskedSoFar : LinkParameters → ℕ → List Mark → Type 0
 AskedSoFar opened link run = AtEachMark (AskedMark IsPrefixOf opened link) [] run

@@ -6,7 +6,7 @@ use Rattle.nr_wire.specs.Hello.{hello_of}
 use Rattle.nr_wire.specs.Segment.{Segment}
 use Rattle.nr_link.specs.declared.end.End.{End}
 use Rattle.nr_link.specs.declared.end.End.TheVariants as ends
-use Rattle.nr_reduce.specs.declared.mark.Opened.{Opened}
+use Rattle.nr_reduce.specs.declared.mark.LinkParameters.{LinkParameters}
 use Rattle.nr_reduce.specs.Limits.{most_credits}
 use Rattle.nr_reduce.specs.History.{AcceptedCall, CompletedCall}
 use Rattle.nr_reduce.specs.declared.outline.Plan.{Plan}
@@ -66,10 +66,10 @@ client_end k QueueWritten = None
 -- ---- What the client writes
 
 -- the Send of a call, with its number
-abbrev pub call_output : Opened → ℕ → OutstandingCall → List ℕ
+abbrev pub call_output : LinkParameters → ℕ → OutstandingCall → List ℕ
 call_output opened msn o = send msn (call_message o.xid opened.wished o.stag o.plan)
 
-abbrev pub calls_output : Opened → ℕ → List OutstandingCall → List ℕ
+abbrev pub calls_output : LinkParameters → ℕ → List OutstandingCall → List ℕ
 calls_output opened msn [] = []
 calls_output opened msn (o ∷ others) = call_output opened msn o ++ calls_output opened (msn + 1) others
 
@@ -99,7 +99,7 @@ outstanding_of k a = record {
 
 -- The output that is due for an event. A client sends no FPDU before the server's hello; the calls that were accepted before it
 -- are sent then (RFC 5044 section 7.1).
-unfoldable pub client_output : Opened → ClientState → Event → List ℕ
+unfoldable pub client_output : LinkParameters → ClientState → Event → List ℕ
 client_output opened k (FrameReceived f) = if is_hello f then calls_output opened 1 k.outstanding else response_output k f.end (segment_request (frame_segment f))
 client_output opened k (CallSubmitted place a) = if k.has_hello then call_output opened (k.calls_accepted + 1) (outstanding_of k a) else []
 client_output opened k (MemoryRevoked place xid) = []
@@ -148,7 +148,7 @@ revoked_call xid o = if o.xid == xid then record o { is_revoked = true } else o
 abbrev pub written_call : Bool → OutstandingCall → OutstandingCall
 written_call has_hello o = record o { is_written = o.is_written || has_hello }
 
-unfoldable pub client_state_after : Opened → ClientState → Event → ClientState
+unfoldable pub client_state_after : LinkParameters → ClientState → Event → ClientState
 client_state_after opened k (FrameReceived f) = if is_hello f then record k { has_hello = true } else with_segment k f (frame_segment f)
 client_state_after opened k (CallSubmitted place a) = record k {
   calls_accepted = k.calls_accepted + 1;
@@ -163,7 +163,7 @@ client_state_after opened k (MemoryRevoked place xid) = record k {
 client_state_after opened k (CallExecuted call) = k
 client_state_after opened k QueueWritten = record k { outstanding = map (written_call k.has_hello) k.outstanding; responses = 0 }
 
-abbrev pub client_rules : Opened → Rules ClientState
+abbrev pub client_rules : LinkParameters → Rules ClientState
 client_rules opened = record {
   end_at = client_end;
   output_at = client_output opened;
@@ -172,5 +172,5 @@ client_rules opened = record {
 }
 
 -- a client to which nothing has happened
-abbrev pub initial_client : Opened → EndState ClientState
+abbrev pub initial_client : LinkParameters → EndState ClientState
 initial_client opened = record { state = initial_state opened; ended = None }

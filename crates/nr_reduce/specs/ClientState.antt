@@ -5,7 +5,7 @@ use Rattle.nr_rpc.specs.Call.{call_encoding}
 use Rattle.nr_regions.specs.Access.{TaggedSegment}
 use Rattle.nr_reduce.specs.declared.call.Call.{Call}
 use Rattle.nr_reduce.specs.declared.call.Form.{Form}
-use Rattle.nr_reduce.specs.declared.mark.Opened.{Opened}
+use Rattle.nr_reduce.specs.declared.mark.LinkParameters.{LinkParameters}
 use Rattle.nr_reduce.specs.Limits.{send_max}
 use Rattle.nr_reduce.specs.History.{CompletedCall}
 use Rattle.nr_reduce.specs.declared.outline.Plan.{Plan}
@@ -39,7 +39,7 @@ pub record ClientState : Type 0 where
   pub outcomes : List CompletedCall
   pub grant : ℕ
 
-abbrev pub initial_state : Opened → ClientState
+abbrev pub initial_state : LinkParameters → ClientState
 initial_state opened = record {
   received = nothing_received;
   has_hello = false;

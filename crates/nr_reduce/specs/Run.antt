@@ -6,7 +6,7 @@ use Rattle.nr_wire.specs.declared.hello.Side.TheVariants.{Initiator, Responder}
 use Rattle.nr_regions.specs.Access.{Grant}
 use Rattle.nr_link.specs.declared.end.End.{End}
 use Rattle.nr_reduce.specs.declared.mark.Mark.{Mark}
-use Rattle.nr_reduce.specs.declared.mark.Opened.{Opened}
+use Rattle.nr_reduce.specs.declared.mark.LinkParameters.{LinkParameters}
 use Rattle.nr_reduce.specs.History.{bytes_sent, bytes_received}
 use Rattle.nr_link.specs.Output.{own_hello}
 use Rattle.nr_reduce.specs.OfferedRegions.{region_grants, region_bytes}
@@ -18,34 +18,34 @@ use Rattle.nr_reduce.specs.ServerState.{ServerState}
 use Rattle.nr_reduce.specs.Server.{server_rules, initial_server}
 
 -- the client end and the server end
-unfoldable pub client : Opened → ℕ → List Mark → EndState ClientState
+unfoldable pub client : LinkParameters → ℕ → List Mark → EndState ClientState
 client opened link run = end_state_after (client_rules opened) (initial_client opened) (events link Initiator run)
 
-unfoldable pub server : Opened → ℕ → List Mark → EndState ServerState
+unfoldable pub server : LinkParameters → ℕ → List Mark → EndState ServerState
 server opened link run = end_state_after (server_rules opened) (initial_server opened) (events link Responder run)
 
 -- why a side takes no more input, where it has ended
-unfoldable pub end_of_side : Opened → ℕ → Side → List Mark → Option End
+unfoldable pub end_of_side : LinkParameters → ℕ → Side → List Mark → Option End
 end_of_side opened link Initiator run = (client opened link run).ended
 end_of_side opened link Responder run = (server opened link run).ended
 
 -- All output of a side that is due by these marks, in order. The client begins with its hello (RFC 5044 section 7.1).
-unfoldable pub output_due : Opened → ℕ → Side → List Mark → List ℕ
+unfoldable pub output_due : LinkParameters → ℕ → Side → List Mark → List ℕ
 output_due opened link Initiator run = own_hello Initiator ++ output_for_all (client_rules opened) (initial_client opened) (events link Initiator run)
 output_due opened link Responder run = output_for_all (server_rules opened) (initial_server opened) (events link Responder run)
 
 -- what a side offered to its peer, with lifetimes
-unfoldable pub grants_of : Opened → ℕ → Side → List Mark → List Grant
+unfoldable pub grants_of : LinkParameters → ℕ → Side → List Mark → List Grant
 grants_of opened link Initiator run = region_grants (length (bytes_received link Initiator run)) (client opened link run).state.regions
 grants_of opened link Responder run = region_grants (length (bytes_received link Responder run)) (server opened link run).state.regions
 
 -- what the region under an STag of a side holds
-unfoldable pub placed_bytes : Opened → ℕ → Side → List Mark → ℕ → List ℕ
+unfoldable pub placed_bytes : LinkParameters → ℕ → Side → List Mark → ℕ → List ℕ
 placed_bytes opened link Initiator run stag =
     region_bytes (grants_of opened link Initiator run) (client opened link run).state.regions (client opened link run).state.accesses_received stag
 placed_bytes opened link Responder run stag =
     region_bytes (grants_of opened link Responder run) (server opened link run).state.regions (server opened link run).state.accesses_received stag
 
 -- whether a side wrote all of its output
-abbrev pub HasWritten : Opened → ℕ → Side → List Mark → Type 0
+abbrev pub HasWritten : LinkParameters → ℕ → Side → List Mark → Type 0
 HasWritten opened link side run = bytes_sent link side run ≡ output_due opened link side run

@@ -31,7 +31,7 @@ use Rattle.nr_reduce.specs.declared.call.Submission.TheVariants as submissions
 use Rattle.nr_reduce.specs.declared.mark.Moment.{Moment}
 use Rattle.nr_reduce.specs.declared.mark.Mark.{Mark}
 use Rattle.nr_reduce.specs.declared.mark.Mark.TheVariants as marks
-use Rattle.nr_reduce.specs.declared.mark.Opened.{Opened}
+use Rattle.nr_reduce.specs.declared.mark.LinkParameters.{LinkParameters}
 use Rattle.nr_reduce.specs.declared.mark.Entry.{Entry}
 use Rattle.nr_reduce.specs.PlainJournal.{any_that_adds}
 use Rattle.nr_reduce.specs.Journal.{Journaled}
@@ -67,7 +67,7 @@ use Rattle.nr_reduce.specs.Undone.{lists_by}
 use Rattle.nr_xdr.specs.Fields.{word_at}
 
 -- A frame doesn't end the server; just this message is due for it, and no call becomes pending or ready.
-pub record IsOnlyAnswered (opened : Opened) (k : ServerState) (f : Frame) (answer : List ℕ) : Type 0 where
+pub record IsOnlyAnswered (opened : LinkParameters) (k : ServerState) (f : Frame) (answer : List ℕ) : Type 0 where
   pub output : output_for (server_rules opened) (live k) (FrameReceived f) ≡ send (k.messages_queued + 1) answer
   pub stays : (next_end_state (server_rules opened) (live k) (FrameReceived f)).ended ≡ None
   pub calls : (next_end_state (server_rules opened) (live k) (FrameReceived f)).state.calls ≡ k.calls
@@ -119,7 +119,7 @@ pub record IsStreamRefused (k : ServerState) (f : Frame) (segment : Segment) (c 
   pub unsuited : is_read_chunk_of_item (chunk_bytes (with_access k f segment) f.end c 0) c.lists.read ≡ false
 
 -- ERR_CHUNK is due for it, before the Read Requests of reads that are newly open; the call is no longer pending, and isn't ready.
-pub record IsRefusedCall (opened : Opened) (k : ServerState) (f : Frame) (c : PendingCall) : Type 0 where
+pub record IsRefusedCall (opened : LinkParameters) (k : ServerState) (f : Frame) (c : PendingCall) : Type 0 where
   pub output : output_for (server_rules opened) (live k) (FrameReceived f)
       ≡ send (k.messages_queued + 1) (chunk_error c.xid k.credit) ++ requests_from (k.requests_sent + 1) (newly_open_reads (frame_effect k f))
   pub stays : (next_end_state (server_rules opened) (live k) (FrameReceived f)).ended ≡ None
@@ -128,7 +128,7 @@ pub record IsRefusedCall (opened : Opened) (k : ServerState) (f : Frame) (c : Pe
 
 -- Which reads are open after a frame: those that were, less one at the last segment of a Read Response, and those whose Read
 -- Requests are due for the frame. At most open_reads_max are open, and while fewer are, none waits.
-pub record OpensReads (opened : Opened) (k : ServerState) (f : Frame) (segment : Segment) : Type 0 where
+pub record OpensReads (opened : LinkParameters) (k : ServerState) (f : Frame) (segment : Segment) : Type 0 where
   pub kept : (frame_effect k f).kept ≡ (if ends_response segment then length (open_reads k) - 1 else length (open_reads k))
   pub count : (frame_effect k f).kept + length (newly_open_reads (frame_effect k f)) ≡ length (open_reads (server_state_after opened k (FrameReceived f)))
   pub requests : output_for (server_rules opened) (live k) (FrameReceived f)
@@ -141,32 +141,32 @@ pub record OpensReads (opened : Opened) (k : ServerState) (f : Frame) (segment :
 
 -- After one more mark an end is in the state to which the events of that mark bring it.
 abbrev pub ClientAfterMark : Type 0
-ClientAfterMark = (opened : Opened) (link : ℕ) (run : List Mark) (mark : Mark) →
+ClientAfterMark = (opened : LinkParameters) (link : ℕ) (run : List Mark) (mark : Mark) →
     client opened link (run ++ mark ∷ []) ≡ end_state_after (client_rules opened) (client opened link run) (events_at link Initiator run mark)
 
 abbrev pub ServerAfterMark : Type 0
-ServerAfterMark = (opened : Opened) (link : ℕ) (run : List Mark) (mark : Mark) →
+ServerAfterMark = (opened : LinkParameters) (link : ℕ) (run : List Mark) (mark : Mark) →
     server opened link (run ++ mark ∷ []) ≡ end_state_after (server_rules opened) (server opened link run) (events_at link Responder run mark)
 
 -- The output due is what was due before and what is due for those events.
 abbrev pub ClientOutputAfterMark : Type 0
-ClientOutputAfterMark = (opened : Opened) (link : ℕ) (run : List Mark) (mark : Mark) →
+ClientOutputAfterMark = (opened : LinkParameters) (link : ℕ) (run : List Mark) (mark : Mark) →
     output_due opened link Initiator (run ++ mark ∷ [])
     ≡ output_due opened link Initiator run ++ output_for_all (client_rules opened) (client opened link run) (events_at link Initiator run mark)
 
 abbrev pub ServerOutputAfterMark : Type 0
-ServerOutputAfterMark = (opened : Opened) (link : ℕ) (run : List Mark) (mark : Mark) →
+ServerOutputAfterMark = (opened : LinkParameters) (link : ℕ) (run : List Mark) (mark : Mark) →
     output_due opened link Responder (run ++ mark ∷ [])
     ≡ output_due opened link Responder run ++ output_for_all (server_rules opened) (server opened link run) (events_at link Responder run mark)
 
 -- An end that has ended stays as it is, and no output is due.
 abbrev pub EndedClientStays : Type 0
-EndedClientStays = (opened : Opened) (k : ClientState) (end : End) (events : List Event) →
+EndedClientStays = (opened : LinkParameters) (k : ClientState) (end : End) (events : List Event) →
     (end_state_after (client_rules opened) (record { state = k; ended = Some end }) events ≡ record { state = k; ended = Some end })
     × (output_for_all (client_rules opened) (record { state = k; ended = Some end }) events ≡ [])
 
 abbrev pub EndedServerStays : Type 0
-EndedServerStays = (opened : Opened) (k : ServerState) (end : End) (events : List Event) →
+EndedServerStays = (opened : LinkParameters) (k : ServerState) (end : End) (events : List Event) →
     (end_state_after (server_rules opened) (record { state = k; ended = Some end }) events ≡ record { state = k; ended = Some end })
     × (output_for_all (server_rules opened) (record { state = k; ended = Some end }) events ≡ [])
 
@@ -174,28 +174,28 @@ EndedServerStays = (opened : Opened) (k : ServerState) (end : End) (events : Lis
 
 -- A run of which the laws hold in full, or so far, has them so far at each of its first parts.
 abbrev pub FullHoldsSoFar : Type 0
-FullHoldsSoFar = (opened : Opened) (link : ℕ) (run more : List Mark) → InFull opened link (run ++ more) → SoFar opened link run
+FullHoldsSoFar = (opened : LinkParameters) (link : ℕ) (run more : List Mark) → InFull opened link (run ++ more) → SoFar opened link run
 
 abbrev pub SoFarHoldsBefore : Type 0
-SoFarHoldsBefore = (opened : Opened) (link : ℕ) (run more : List Mark) → SoFar opened link (run ++ more) → SoFar opened link run
+SoFarHoldsBefore = (opened : LinkParameters) (link : ℕ) (run more : List Mark) → SoFar opened link (run ++ more) → SoFar opened link run
 
 -- The law of a side holds of one mark more where that mark keeps it.
 abbrev pub AskedWithMark : Type 0
-AskedWithMark = (opened : Opened) (link : ℕ) (run : List Mark) (mark : Mark) → AskedSoFar opened link run → AskedMark IsPrefixOf opened link run mark →
+AskedWithMark = (opened : LinkParameters) (link : ℕ) (run : List Mark) (mark : Mark) → AskedSoFar opened link run → AskedMark IsPrefixOf opened link run mark →
     AskedSoFar opened link (run ++ mark ∷ [])
 
 abbrev pub ServedWithMark : Type 0
-ServedWithMark = (opened : Opened) (link : ℕ) (run : List Mark) (mark : Mark) → ServedSoFar opened link run → ServedMark IsPrefixOf opened link run mark →
+ServedWithMark = (opened : LinkParameters) (link : ℕ) (run : List Mark) (mark : Mark) → ServedSoFar opened link run → ServedMark IsPrefixOf opened link run mark →
     ServedSoFar opened link (run ++ mark ∷ [])
 
 -- ---- What an end stands for
 
 -- An end stands for no marks as it is opened: a client's queue has its hello.
 abbrev pub ClientBegins : Type 0
-ClientBegins = (opened : Opened) (link : ℕ) → ClientStandsFor opened link (initial_client opened) (initial_input Responder) (own_hello Initiator) []
+ClientBegins = (opened : LinkParameters) (link : ℕ) → ClientStandsFor opened link (initial_client opened) (initial_input Responder) (own_hello Initiator) []
 
 abbrev pub ServerBegins : Type 0
-ServerBegins = (opened : Opened) (link : ℕ) → ServerStandsFor opened link (initial_server opened) (initial_input Initiator) [] []
+ServerBegins = (opened : LinkParameters) (link : ℕ) → ServerStandsFor opened link (initial_server opened) (initial_input Initiator) [] []
 
 -- The events of a mark follow from the input that an end keeps.
 abbrev pub EventsOfInput : Type 0
@@ -205,26 +205,26 @@ EventsOfInput = (link : ℕ) (side : Side) (run : List Mark) (mark : Mark) →
 -- One mark more: the end goes on by the events of the mark, and what is written and what is left are the queue and the output that
 -- is due for them.
 abbrev pub ClientStandsOn : Type 0
-ClientStandsOn = (opened : Opened) (link : ℕ) (end : EndState ClientState) (input : InputState) (queue left : List ℕ) (run : List Mark) (mark : Mark) →
+ClientStandsOn = (opened : LinkParameters) (link : ℕ) (end : EndState ClientState) (input : InputState) (queue left : List ℕ) (run : List Mark) (mark : Mark) →
     ClientStandsFor opened link end input queue run →
     written_at link Initiator mark ++ left ≡ queue ++ output_for_all (client_rules opened) end (input_events link Initiator input mark) →
     ClientStandsFor opened link (end_state_after (client_rules opened) end (input_events link Initiator input mark)) (input_after input (fed_at link Initiator mark)) left (run ++ mark ∷ [])
 
 abbrev pub ServerStandsOn : Type 0
-ServerStandsOn = (opened : Opened) (link : ℕ) (end : EndState ServerState) (input : InputState) (queue left : List ℕ) (run : List Mark) (mark : Mark) →
+ServerStandsOn = (opened : LinkParameters) (link : ℕ) (end : EndState ServerState) (input : InputState) (queue left : List ℕ) (run : List Mark) (mark : Mark) →
     ServerStandsFor opened link end input queue run →
     written_at link Responder mark ++ left ≡ queue ++ output_for_all (server_rules opened) end (input_events link Responder input mark) →
     ServerStandsFor opened link (end_state_after (server_rules opened) end (input_events link Responder input mark)) (input_after input (fed_at link Responder mark)) left (run ++ mark ∷ [])
 
 -- A prefix of the queue that is written keeps the law so far, and the whole queue keeps it in full.
 abbrev pub ClientQueueIsDue : Type 0
-ClientQueueIsDue = (opened : Opened) (link : ℕ) (end : EndState ClientState) (input : InputState) (taken left : List ℕ) (run : List Mark) →
+ClientQueueIsDue = (opened : LinkParameters) (link : ℕ) (end : EndState ClientState) (input : InputState) (taken left : List ℕ) (run : List Mark) →
     ClientStandsFor opened link end input (taken ++ left) run →
     IsPrefixOf (bytes_sent link Initiator run ++ taken) (output_due opened link Initiator run)
     × (left ≡ [] → IsAll (bytes_sent link Initiator run ++ taken) (output_due opened link Initiator run))
 
 abbrev pub ServerQueueIsDue : Type 0
-ServerQueueIsDue = (opened : Opened) (link : ℕ) (end : EndState ServerState) (input : InputState) (taken left : List ℕ) (run : List Mark) →
+ServerQueueIsDue = (opened : LinkParameters) (link : ℕ) (end : EndState ServerState) (input : InputState) (taken left : List ℕ) (run : List Mark) →
     ServerStandsFor opened link end input (taken ++ left) run →
     IsPrefixOf (bytes_sent link Responder run ++ taken) (output_due opened link Responder run)
     × (left ≡ [] → IsAll (bytes_sent link Responder run ++ taken) (output_due opened link Responder run))
@@ -233,17 +233,17 @@ ServerQueueIsDue = (opened : Opened) (link : ℕ) (end : EndState ServerState) (
 
 -- No two regions that a side offers have one STag.
 abbrev pub GrantsHaveOwnStags : Type 0
-GrantsHaveOwnStags = (opened : Opened) (link : ℕ) (side : Side) (run : List Mark) → HaveOwnStags (grants_of opened link side run)
+GrantsHaveOwnStags = (opened : LinkParameters) (link : ℕ) (side : Side) (run : List Mark) → HaveOwnStags (grants_of opened link side run)
 
 -- The access of a frame that doesn't end a side is allowed by what the side offers as the frame is received: after any events, where
 -- the frame is the next one. So each access before a side's end is allowed, and the first that isn't ends it.
 abbrev pub ClientAllows : Type 0
-ClientAllows = (opened : Opened) (events : List Event) (f : Frame) (segment : Segment) (access : Access) → is_hello f ≡ false → frame_segment f ≡ Ok segment → access_of segment ≡ Some access →
+ClientAllows = (opened : LinkParameters) (events : List Event) (f : Frame) (segment : Segment) (access : Access) → is_hello f ≡ false → frame_segment f ≡ Ok segment → access_of segment ≡ Some access →
     client_end (end_state_after (client_rules opened) (initial_client opened) events).state (FrameReceived f) ≡ None →
     Allowed (region_grants f.end (end_state_after (client_rules opened) (initial_client opened) events).state.regions) access f.end
 
 abbrev pub ServerAllows : Type 0
-ServerAllows = (opened : Opened) (events : List Event) (f : Frame) (segment : Segment) (access : Access) → is_hello f ≡ false → frame_segment f ≡ Ok segment → access_of segment ≡ Some access →
+ServerAllows = (opened : LinkParameters) (events : List Event) (f : Frame) (segment : Segment) (access : Access) → is_hello f ≡ false → frame_segment f ≡ Ok segment → access_of segment ≡ Some access →
     server_end opened (end_state_after (server_rules opened) (initial_server opened) events).state (FrameReceived f) ≡ None →
     Allowed (region_grants f.end (end_state_after (server_rules opened) (initial_server opened) events).state.regions) access f.end
 
@@ -251,17 +251,17 @@ ServerAllows = (opened : Opened) (events : List Event) (f : Frame) (segment : Se
 
 -- The STag that a client gives next is at most numbers_end, while it keeps its law: so the next one is left or none is.
 abbrev pub StagsAreNumbers : Type 0
-StagsAreNumbers = (opened : Opened) (link : ℕ) (run : List Mark) → IsOpened opened → AskedSoFar opened link run → (client opened link run).state.stag ≤ numbers_end
+StagsAreNumbers = (opened : LinkParameters) (link : ℕ) (run : List Mark) → IsOpened opened → AskedSoFar opened link run → (client opened link run).state.stag ≤ numbers_end
 
 -- A call that a client accepts keeps the law of its side, and fewer calls are outstanding than are granted.
 abbrev pub AcceptedKeepsLaw : Type 0
-AcceptedKeepsLaw = (opened : Opened) (link : ℕ) (run : List Mark) (call : Call) (form : Form) (xid : ℕ) →
+AcceptedKeepsLaw = (opened : LinkParameters) (link : ℕ) (run : List Mark) (call : Call) (form : Form) (xid : ℕ) →
     submit_answer opened (client opened link run) call form ≡ submissions.Accepted xid → IsOpened opened → AskedSoFar opened link run → CanWriteCred call.cred →
     IsAccepted opened link run call form xid × (calls_outstanding opened link run < credits_granted opened link run)
 
 -- The Send of an accepted call is due at its Submit, by its plan, once the server's hello was received. Before, nothing is due.
 abbrev pub SubmitIsSent : Type 0
-SubmitIsSent = (opened : Opened) (link : ℕ) (run : List Mark) (call : Call) (form : Form) (xid : ℕ) → (h : IsAccepted opened link run call form xid) →
+SubmitIsSent = (opened : LinkParameters) (link : ℕ) (run : List Mark) (call : Call) (form : Form) (xid : ℕ) → (h : IsAccepted opened link run call form xid) →
     ((client opened link run).state.has_hello ≡ true →
     output_due opened link Initiator (run ++ marks.Submit link call form (submissions.Accepted xid) ∷ [])
     ≡ output_due opened link Initiator run ++ send ((client opened link run).state.calls_accepted + 1) (call_message xid opened.wished (client opened link run).state.stag h.plan))
@@ -271,19 +271,19 @@ SubmitIsSent = (opened : Opened) (link : ℕ) (run : List Mark) (call : Call) (f
 -- From its Submit on the region of a call's read chunk holds what its plan put there, whatever the peer sends: so the Send of the
 -- call conveys its payload over its regions.
 abbrev pub ReadChunkStays : Type 0
-ReadChunkStays = (opened : Opened) (link : ℕ) (run more : List Mark) (call : Call) (form : Form) (xid : ℕ) → (h : IsAccepted opened link run call form xid) → has_segment (Some h.plan.read) ≡ true →
+ReadChunkStays = (opened : LinkParameters) (link : ℕ) (run more : List Mark) (call : Call) (form : Form) (xid : ℕ) → (h : IsAccepted opened link run call form xid) → has_segment (Some h.plan.read) ≡ true →
     placed_bytes opened link Initiator (run ++ marks.Submit link call form (submissions.Accepted xid) ∷ more) (read_stag (client opened link run).state.stag h.plan) ≡ h.plan.region
 
 -- For the server's hello, where it doesn't end the client, the Sends of all calls that are outstanding are due, in the order of their
 -- Submits, numbered from 1 on. From then on the client has the hello.
 abbrev pub HelloSendsCalls : Type 0
-HelloSendsCalls = (opened : Opened) (k : ClientState) (f : Frame) → is_hello f ≡ true → client_end k (FrameReceived f) ≡ None →
+HelloSendsCalls = (opened : LinkParameters) (k : ClientState) (f : Frame) → is_hello f ≡ true → client_end k (FrameReceived f) ≡ None →
     (output_for (client_rules opened) (live k) (FrameReceived f) ≡ calls_output opened 1 k.outstanding)
     × ((next_end_state (client_rules opened) (live k) (FrameReceived f)).state.has_hello ≡ true)
 
 -- An executed call's payload begins with the head of a call under its xid.
 abbrev pub PayloadHasItsXid : Type 0
-PayloadHasItsXid = (opened : Opened) (link : ℕ) (run : List Mark) (xid : ℕ) (payload : List ℕ) → IsExecuted opened link run xid payload →
+PayloadHasItsXid = (opened : LinkParameters) (link : ℕ) (run : List Mark) (xid : ℕ) (payload : List ℕ) → IsExecuted opened link run xid payload →
     (head : CallHead) × ((call_of payload ≡ Ok head) × (call_xid head ≡ xid))
 
 -- A call that a frame makes ready has the payload that is conveyed, as the frame is received, by the lists and the stream of a call
@@ -293,7 +293,7 @@ ReadyIsConveyed = (k : ServerState) (f : Frame) (segment : Segment) (r : ReadyCa
 
 -- It is answered by RDMA Writes and then one Send where the offer of the pending call of its xid holds the reply, else by ERR_CHUNK.
 abbrev pub ExecuteIsAnswered : Type 0
-ExecuteIsAnswered = (opened : Opened) (link : ℕ) (run : List Mark) (xid : ℕ) (moment : Moment) (payload : List ℕ) (place : ℕ) (reply : List ℕ) → IsExecuted opened link run xid payload →
+ExecuteIsAnswered = (opened : LinkParameters) (link : ℕ) (run : List Mark) (xid : ℕ) (moment : Moment) (payload : List ℕ) (place : ℕ) (reply : List ℕ) → IsExecuted opened link run xid payload →
     ((a : Answer) → answer_of_target (offer_of (server opened link run).state xid) (down_max (server opened link run).state) reply (target_of (call_of payload)) ≡ Some a →
     output_due opened link Responder (run ++ marks.Execute link xid moment payload place reply ∷ [])
     ≡ output_due opened link Responder run
@@ -306,7 +306,7 @@ ExecuteIsAnswered = (opened : Opened) (link : ℕ) (run : List Mark) (xid : ℕ)
 
 -- A Send that is refused is answered by one error message, where its frame doesn't end the server, and makes no call pending or ready.
 abbrev pub RefusedSendIsAnswered : Type 0
-RefusedSendIsAnswered = (opened : Opened) (k : ServerState) (f : Frame) (segment : Segment) (message : List ℕ) → is_hello f ≡ false → frame_segment f ≡ Ok segment →
+RefusedSendIsAnswered = (opened : LinkParameters) (k : ServerState) (f : Frame) (segment : Segment) (message : List ℕ) → is_hello f ≡ false → frame_segment f ≡ Ok segment →
     message_completed k.received segment ≡ Some message → server_end opened k (FrameReceived f) ≡ None →
     (verdict k message ≡ BadChunks → IsOnlyAnswered opened k f (chunk_error (word_at 0 message) k.credit))
     × (verdict k message ≡ OtherVersion → IsOnlyAnswered opened k f (version_error (word_at 0 message) (word_at 4 message) k.credit))
@@ -319,12 +319,12 @@ BadMessageIsRefused = (k : ServerState) (message : List ℕ) → 16 ≤ length m
 
 -- So is a call whose stream had to be read, and whose read chunk isn't its item's.
 abbrev pub RefusedCallIsAnswered : Type 0
-RefusedCallIsAnswered = (opened : Opened) (k : ServerState) (f : Frame) (segment : Segment) (c : PendingCall) → is_hello f ≡ false → frame_segment f ≡ Ok segment →
+RefusedCallIsAnswered = (opened : LinkParameters) (k : ServerState) (f : Frame) (segment : Segment) (c : PendingCall) → is_hello f ≡ false → frame_segment f ≡ Ok segment →
     IsStreamRefused k f segment c → server_end opened k (FrameReceived f) ≡ None → IsRefusedCall opened k f c
 
 -- At most open_reads_max Read Requests are open, and a read waits only while so many are.
 abbrev pub OpenReadsAreFew : Type 0
-OpenReadsAreFew = (opened : Opened) (k : ServerState) (f : Frame) (segment : Segment) → is_hello f ≡ false → frame_segment f ≡ Ok segment →
+OpenReadsAreFew = (opened : LinkParameters) (k : ServerState) (f : Frame) (segment : Segment) → is_hello f ≡ false → frame_segment f ≡ Ok segment →
     server_end opened k (FrameReceived f) ≡ None → OpensReads opened k f segment
 
 -- The message of a plan whose form isn't given, of a payload that isn't empty, is judged by the STags that its reads need, where its
@@ -336,19 +336,19 @@ PlanIsAccepted = (k : ServerState) (payload : List ℕ) (form : Form) (up down x
 
 -- No Send is executed twice, whatever the peer sends.
 abbrev pub SendIsExecutedOnce : Type 0
-SendIsExecutedOnce = (opened : Opened) (link : ℕ) (run before between behind : List Mark) (xid yid : ℕ) (moment now : Moment) (payload asked : List ℕ) (place later : ℕ) (reply answer : List ℕ) →
+SendIsExecutedOnce = (opened : LinkParameters) (link : ℕ) (run before between behind : List Mark) (xid yid : ℕ) (moment now : Moment) (payload asked : List ℕ) (place later : ℕ) (reply answer : List ℕ) →
     run ≡ before ++ marks.Execute link xid moment payload place reply ∷ (between ++ marks.Execute link yid now asked later answer ∷ behind) → ServedSoFar opened link run →
     (first second : ReadyCall) → next_call opened link before ≡ Some first →
     next_call opened link (before ++ marks.Execute link xid moment payload place reply ∷ between) ≡ Some second → first.number ≢ second.number
 
 -- No call completes twice.
 abbrev pub CallCompletesOnce : Type 0
-CallCompletesOnce = (opened : Opened) (link xid : ℕ) (outcome : Outcome) (run before behind : List Mark) → run ≡ before ++ marks.Done link xid outcome ∷ behind →
+CallCompletesOnce = (opened : LinkParameters) (link xid : ℕ) (outcome : Outcome) (run before behind : List Mark) → run ≡ before ++ marks.Done link xid outcome ∷ behind →
     AskedSoFar opened link run → (c : CompletedCall) → Contains (completed_calls link before) c → c.xid ≢ xid
 
 -- No xid is given twice: xids rise.
 abbrev pub XidsRise : Type 0
-XidsRise = (opened : Opened) (link : ℕ) (run before between behind : List Mark) (call other : Call) (form way : Form) (xid yid : ℕ) →
+XidsRise = (opened : LinkParameters) (link : ℕ) (run before between behind : List Mark) (call other : Call) (form way : Form) (xid yid : ℕ) →
     run ≡ before ++ marks.Submit link call form (submissions.Accepted xid) ∷ (between ++ marks.Submit link other way (submissions.Accepted yid) ∷ behind) →
     AskedSoFar opened link run → xid < yid
 

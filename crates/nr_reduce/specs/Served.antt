@@ -4,7 +4,7 @@ use Rattle.nr_wire.specs.declared.hello.Side.TheVariants.{Initiator, Responder}
 use Rattle.nr_link.specs.declared.end.End.{End}
 use Rattle.nr_reduce.specs.declared.mark.Mark.{Mark}
 use Rattle.nr_reduce.specs.declared.mark.Mark.TheVariants as marks
-use Rattle.nr_reduce.specs.declared.mark.Opened.{Opened}
+use Rattle.nr_reduce.specs.declared.mark.LinkParameters.{LinkParameters}
 use Rattle.nr_reduce.specs.History.{bytes_sent}
 use Rattle.nr_reduce.specs.ServerState.{ReadyCall}
 use Rattle.nr_reduce.specs.Run.{server, output_due, HasWritten}
@@ -17,18 +17,18 @@ abbrev pub first_ready : List ReadyCall → Option End → Option ReadyCall
 first_ready ready (Some end) = None
 first_ready ready None = slice_get ready 0
 
-unfoldable pub next_call : Opened → ℕ → List Mark → Option ReadyCall
+unfoldable pub next_call : LinkParameters → ℕ → List Mark → Option ReadyCall
 next_call opened link run = first_ready (server opened link run).state.ready (server opened link run).ended
 
 -- A call is executed: the next one, with the payload that its Send conveyed.
-pub record IsExecuted (opened : Opened) (link : ℕ) (before : List Mark) (xid : ℕ) (payload : List ℕ) : Type 0 where
+pub record IsExecuted (opened : LinkParameters) (link : ℕ) (before : List Mark) (xid : ℕ) (payload : List ℕ) : Type 0 where
   pub call : ReadyCall
   pub is_next : next_call opened link before ≡ Some call
   pub own : xid ≡ call.xid
   pub conveyed : payload ≡ call.payload
 
 -- The law of each mark: calls are executed in the order in which they became whole, none twice and none passed over.
-abbrev pub ServedMark : (List ℕ → List ℕ → Type 0) → Opened → ℕ → List Mark → Mark → Type 0
+abbrev pub ServedMark : (List ℕ → List ℕ → Type 0) → LinkParameters → ℕ → List Mark → Mark → Type 0
 ServedMark Relates opened link before (marks.Submit l call form answer) = Unit {0}
 ServedMark Relates opened link before (marks.Wrote l Initiator bytes) = Unit {0}
 ServedMark Relates opened link before (marks.Wrote l Responder bytes) =
@@ -42,10 +42,10 @@ ServedMark Relates opened link before (marks.Forget l xid) = Unit {0}
 ServedMark Relates opened link before (marks.Revoke l xid bytes) = Unit {0}
 ServedMark Relates opened link before (marks.Drop l) = Unit {0}
 
-pub record Served (opened : Opened) (link : ℕ) (run : List Mark) : Type 0 where
+pub record Served (opened : LinkParameters) (link : ℕ) (run : List Mark) : Type 0 where
   pub each : AtEachMark (ServedMark IsAll opened link) [] run
   pub written : HasWritten opened link Responder run
 
 -- so far: what is written is a prefix of the output due
-abbrev pub ServedSoFar : Opened → ℕ → List Mark → Type 0
+abbrev pub ServedSoFar : LinkParameters → ℕ → List Mark → Type 0
 ServedSoFar opened link run = AtEachMark (ServedMark IsPrefixOf opened link) [] run

@@ -12,7 +12,7 @@ use Rattle.nr_wire.specs.Segment.{Segment}
 use Rattle.nr_wire.specs.Segment.Segment.{Tagged, Untagged}
 use Rattle.nr_link.specs.declared.end.End.{End}
 use Rattle.nr_link.specs.declared.end.End.TheVariants as ends
-use Rattle.nr_reduce.specs.declared.mark.Opened.{Opened}
+use Rattle.nr_reduce.specs.declared.mark.LinkParameters.{LinkParameters}
 use Rattle.nr_link.specs.Limits.{open_reads_max}
 use Rattle.nr_reduce.specs.History.{ExecutedCall}
 use Rattle.nr_reduce.specs.Holds.{Answer, answer_for, answer_writes, answer_message, chunk_error}
@@ -32,7 +32,7 @@ use Rattle.nr_reduce.specs.ServerFrames.{FrameEffect, frame_effect}
 
 -- ---- What ends the server
 
-abbrev pub readiness : Opened → ServerState → Option Denied → Readiness Denied
+abbrev pub readiness : LinkParameters → ServerState → Option Denied → Readiness Denied
 readiness opened k missing = record {
   received = k.received;
   has_receive = nat_lt (receives_in_use k) opened.granted;
@@ -50,7 +50,7 @@ abbrev pub or_refusal : ServerState → Frame → Option End → Option End
 or_refusal k f (Some end) = Some end
 or_refusal k f None = refusal_end f (frame_effect k f).refusal
 
-unfoldable pub server_end : Opened → ServerState → Event → Option End
+unfoldable pub server_end : LinkParameters → ServerState → Event → Option End
 server_end opened k (FrameReceived f) =
     if is_hello f then hello_end (hello_of Initiator f.bytes) else or_refusal k f (frame_end (readiness opened k) (region_grants f.end k.regions) f)
 server_end opened k (CallSubmitted place a) = None
@@ -109,7 +109,7 @@ execution_output k e =
     answer_output k e.xid (offer_of k e.xid)
     (answer_of_target (offer_of k e.xid) (down_max k) e.reply (target_of (call_of e.payload)))
 
-unfoldable pub server_output : Opened → ServerState → Event → List ℕ
+unfoldable pub server_output : LinkParameters → ServerState → Event → List ℕ
 server_output opened k (FrameReceived f) = if is_hello f then own_hello Responder else effect_output k (frame_effect k f)
 server_output opened k (CallSubmitted place a) = []
 server_output opened k (MemoryRevoked place xid) = []
@@ -147,7 +147,7 @@ with_effect k f s = record {
   credit = k.credit;
 }
 
-unfoldable pub server_state_after : Opened → ServerState → Event → ServerState
+unfoldable pub server_state_after : LinkParameters → ServerState → Event → ServerState
 server_state_after opened k (FrameReceived f) = if is_hello f then k else with_effect k f (frame_effect k f)
 server_state_after opened k (CallSubmitted place a) = k
 server_state_after opened k (MemoryRevoked place xid) = k
@@ -158,7 +158,7 @@ server_state_after opened k (CallExecuted e) = record k {
 }
 server_state_after opened k QueueWritten = record k { messages_written = k.messages_queued }
 
-abbrev pub server_rules : Opened → Rules ServerState
+abbrev pub server_rules : LinkParameters → Rules ServerState
 server_rules opened = record {
   end_at = server_end opened;
   output_at = server_output opened;
@@ -166,5 +166,5 @@ server_rules opened = record {
   final_output = server_final_output;
 }
 
-abbrev pub initial_server : Opened → EndState ServerState
+abbrev pub initial_server : LinkParameters → EndState ServerState
 initial_server opened = record { state = initial_state opened; ended = None }

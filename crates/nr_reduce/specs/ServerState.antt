@@ -3,7 +3,7 @@ use Rattle.std.specs.Prelude.{ℕ, ◌+◌, ◌-◌, Bool, ◌==◌, List, [], l
 use Rattle.std.specs.List.{list_any}
 use Rattle.nr_header.specs.declared.header.ChunkLists.{ChunkLists}
 use Rattle.nr_regions.specs.Access.{TaggedSegment}
-use Rattle.nr_reduce.specs.declared.mark.Opened.{Opened}
+use Rattle.nr_reduce.specs.declared.mark.LinkParameters.{LinkParameters}
 use Rattle.nr_reduce.specs.Plans.{one_if}
 use Rattle.nr_reduce.specs.Limits.{send_max}
 use Rattle.nr_link.specs.ReceiveState.{ReceiveState, nothing_received}
@@ -51,7 +51,7 @@ pub record ServerState : Type 0 where
   pub ready : List ReadyCall
   pub credit : ℕ
 
-abbrev pub initial_state : Opened → ServerState
+abbrev pub initial_state : LinkParameters → ServerState
 initial_state opened = record {
   received = nothing_received;
   calls = [];

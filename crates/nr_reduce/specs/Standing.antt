@@ -5,7 +5,7 @@ use Rattle.nr_wire.specs.declared.hello.Side.{Side}
 use Rattle.nr_wire.specs.declared.hello.Side.TheVariants.{Initiator, Responder}
 use Rattle.nr_link.specs.Input.{InputState, input_of, input_count, input_frames}
 use Rattle.nr_reduce.specs.declared.mark.Mark.{Mark}
-use Rattle.nr_reduce.specs.declared.mark.Opened.{Opened}
+use Rattle.nr_reduce.specs.declared.mark.LinkParameters.{LinkParameters}
 use Rattle.nr_reduce.specs.History.{bytes_sent, bytes_received, other}
 use Rattle.nr_reduce.specs.Events.{Event, mark_events}
 use Rattle.nr_reduce.specs.EndRules.{EndState}
@@ -24,8 +24,8 @@ pub record StandsFor {S : Type 0} (link : ℕ) (side : Side) (state_of : List Ma
   pub received : input ≡ input_of (other side) (bytes_received link side run)
   pub output : bytes_sent link side run ++ queue ≡ due run
 
-abbrev pub ClientStandsFor : Opened → ℕ → EndState ClientState → InputState → List ℕ → List Mark → Type 0
+abbrev pub ClientStandsFor : LinkParameters → ℕ → EndState ClientState → InputState → List ℕ → List Mark → Type 0
 ClientStandsFor opened link end input queue run = StandsFor link Initiator (client opened link) (output_due opened link Initiator) end input queue run
 
-abbrev pub ServerStandsFor : Opened → ℕ → EndState ServerState → InputState → List ℕ → List Mark → Type 0
+abbrev pub ServerStandsFor : LinkParameters → ℕ → EndState ServerState → InputState → List ℕ → List Mark → Type 0
 ServerStandsFor opened link end input queue run = StandsFor link Responder (server opened link) (output_due opened link Responder) end input queue run

@@ -7,7 +7,7 @@ use Rattle.nr_reduce.specs.declared.call.Refused.TheVariants as refusals
 use Rattle.nr_reduce.specs.declared.call.Submission.{Submission}
 use Rattle.nr_reduce.specs.declared.call.Submission.TheVariants as submissions
 use Rattle.nr_reduce.specs.declared.mark.Mark.{Mark}
-use Rattle.nr_reduce.specs.declared.mark.Opened.{Opened}
+use Rattle.nr_reduce.specs.declared.mark.LinkParameters.{LinkParameters}
 use Rattle.nr_reduce.specs.Limits.{numbers_end}
 use Rattle.nr_reduce.specs.declared.outline.Plan.{Plan}
 use Rattle.nr_reduce.specs.Plans.{TooLarge, regions_needed}
@@ -18,24 +18,24 @@ use Rattle.nr_reduce.specs.History.{is_dropped}
 
 -- The first of these that applies: it has ended; the call needs more room than there is; no credit is left; too few xids or STags
 -- are left. Else the call is accepted under the next xid.
-abbrev pub next_xid : Opened → ClientState → ℕ
+abbrev pub next_xid : LinkParameters → ClientState → ℕ
 next_xid opened k = opened.first_xid + k.calls_accepted
 
 abbrev pub unless_spent : (left need : ℕ) → Submission → Submission
 unless_spent left need answer = if nat_lt left need then submissions.Refused (refusals.Spent left need) else answer
 
-abbrev pub by_plan : Opened → ClientState → Result Plan TooLarge → Submission
+abbrev pub by_plan : LinkParameters → ClientState → Result Plan TooLarge → Submission
 by_plan opened k (Err large) = submissions.Refused (refusals.TooLarge large.need large.room)
 by_plan opened k (Ok plan) =
     if nat_le k.grant (length k.outstanding) then submissions.Refused (refusals.NoCredit (length k.outstanding) k.grant)
     else unless_spent (numbers_end - next_xid opened k) 1
     (unless_spent (numbers_end - k.stag) (regions_needed plan) (submissions.Accepted (next_xid opened k)))
 
-abbrev pub answer_by : Opened → ClientState → Call → Form → Option End → Submission
+abbrev pub answer_by : LinkParameters → ClientState → Call → Form → Option End → Submission
 answer_by opened k call form (Some end) = submissions.Refused (refusals.Ended end)
 answer_by opened k call form None = by_plan opened k (plan_for k (next_xid opened k) call form)
 
-unfoldable pub submit_answer : Opened → EndState ClientState → Call → Form → Submission
+unfoldable pub submit_answer : LinkParameters → EndState ClientState → Call → Form → Submission
 submit_answer opened r call form = answer_by opened r.state call form r.ended
 
 -- on a dropped link a call is refused as one on a link that has ended, and there is no End to tell
@@ -44,5 +44,5 @@ unless_dropped true answer = submissions.Dropped
 unless_dropped false answer = answer
 
 -- the answer to a Submit after these marks
-unfoldable pub submit_answer_after : Opened → ℕ → List Mark → Call → Form → Submission
+unfoldable pub submit_answer_after : LinkParameters → ℕ → List Mark → Call → Form → Submission
 submit_answer_after opened link run call form = unless_dropped (is_dropped link run) (submit_answer opened (client opened link run) call form)

@@ -36,7 +36,7 @@ pub use item::{Cut, Item, Of, call_item, item_of, reply_item};
 pub use largest::largest_reply;
 pub use laws::{answers_convey_replies, plans_convey_payloads, rebuild_undoes_cut};
 pub use limits::{GIVEN_MAX, LINK_MAX, MOVED_MAX, READDIR_MAX};
-pub use mark::{Entry, Mark, Marks, Moment, Opened};
+pub use mark::{Entry, LinkParameters, Mark, Marks, Moment};
 pub use memory_laws::{memory_follows_regions, regions_go_on};
 pub use outline::Plan;
 pub use planning::plan;
