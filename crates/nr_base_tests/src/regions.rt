@@ -40,11 +40,11 @@ fn three_regions(alloc: Global, first_stag: u32) -> Result<(Regions, Registratio
 #[test]
 fn registered_without_room(rt: HostRuntime) -> Result<(), Fail> {
     let mut regions = Regions::new(rt.alloc(), 1);
-    let stag = match regions.register(Octets::new(rt.alloc()), Right::Fill) {
-        Ok(registration) => registration.stag(),
-        Err(_) => 0,
+    let buf = Octets::from_slice(rt.alloc(), b"more")?;
+    let Ok(registration) = regions.register(buf, Right::Fill) else {
+        panic!(rt; "no memory");
     };
-    same(&rt, 0, stag, 1);
+    same(&rt, 0, (registration.stag(), registration.len()), (1, 4));
     Ok(())
 }
 
