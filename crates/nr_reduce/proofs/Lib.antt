@@ -15,6 +15,7 @@ pub mod Shapes
 pub mod Standing
 pub mod Steps
 pub mod Undone
+pub mod Waiting
 pub mod Touches
 pub mod Sizes
 pub mod OwnStags

@@ -1,5 +1,5 @@
 -- What follows from the definitions of a run, for every run.
-use Rattle.std.specs.Prelude.{◌≡◌, ◌≢◌, ℕ, ◌+◌, ◌-◌, ◌<◌, ◌≤◌, ◌==◌, ◌&&◌, not, Bool, if◌then◌else◌, true, false, List, [], ◌∷◌, ◌++◌, length, drop, Option, None, Some, Result, Ok, Err, Contains, ◌⊎◌, ◌↔◌}
+use Rattle.std.specs.Prelude.{◌≡◌, ◌≢◌, ℕ, ◌+◌, ◌-◌, ◌<◌, ◌≤◌, ◌==◌, ◌&&◌, not, Bool, if◌then◌else◌, true, false, List, [], ◌∷◌, ◌++◌, length, drop, map, Option, None, Some, Result, Ok, Err, Contains, ◌⊎◌, ◌↔◌}
 use Rattle.std.specs.List.{filter}
 use Rattle.nr_wire.specs.declared.hello.Side.{Side}
 use Rattle.nr_wire.specs.declared.hello.Side.TheVariants.{Initiator, Responder}
@@ -35,14 +35,14 @@ use Rattle.nr_reduce.specs.declared.mark.LinkParameters.{LinkParameters}
 use Rattle.nr_reduce.specs.declared.mark.Entry.{Entry}
 use Rattle.nr_reduce.specs.PlainJournal.{any_that_adds}
 use Rattle.nr_reduce.specs.Journal.{Journaled}
-use Rattle.nr_reduce.specs.History.{CompletedCall, completed_calls, bytes_sent, bytes_received, written_at, fed_at, other}
+use Rattle.nr_reduce.specs.History.{AcceptedCall, CompletedCall, accepted_calls, completed_calls, bytes_sent, bytes_received, written_at, fed_at, other}
 use Rattle.nr_reduce.specs.Events.{Event, events_at}
 use Rattle.nr_reduce.specs.EndRules.{EndState, next_end_state, end_state_after, output_for, output_for_all, live}
 use Rattle.nr_reduce.specs.OfferedRegions.{region_grants}
 use Rattle.nr_reduce.specs.declared.outline.Plan.{Plan}
-use Rattle.nr_reduce.specs.Plans.{call_message, lists_of, inline_stream, has_segment, read_stag}
-use Rattle.nr_reduce.specs.ClientState.{ClientState}
-use Rattle.nr_reduce.specs.Client.{client_rules, client_end, calls_output, initial_client}
+use Rattle.nr_reduce.specs.Plans.{regions_needed, call_message, lists_of, inline_stream, has_segment, read_stag}
+use Rattle.nr_reduce.specs.ClientState.{OutstandingCall, ClientState}
+use Rattle.nr_reduce.specs.Client.{client_rules, client_end, outstanding_of, calls_output, initial_client}
 use Rattle.nr_reduce.specs.ServerState.{ServerState, ReadyCall, PendingCall, PendingRead, is_pending, down_max}
 use Rattle.nr_reduce.specs.ServerReads.{open_reads}
 use Rattle.nr_reduce.specs.ServerMessages.{verdict, by_need, no_stream, call_xid, chunk_bytes, payload_of}
@@ -280,6 +280,25 @@ abbrev pub HelloSendsCalls : Type 0
 HelloSendsCalls = (opened : LinkParameters) (k : ClientState) (f : Frame) → is_hello f ≡ true → client_end k (FrameReceived f) ≡ None →
     (output_for (client_rules opened) (live k) (FrameReceived f) ≡ calls_output opened 1 k.outstanding)
     × ((next_end_state (client_rules opened) (live k) (FrameReceived f)).state.has_hello ≡ true)
+
+-- These calls as a client has them outstanding, in their order: each with the plan of its form, and with STags from this one on.
+abbrev pub outstanding_from : ClientState → ℕ → List AcceptedCall → List OutstandingCall
+outstanding_from k stag [] = []
+outstanding_from k stag (a ∷ accepted) =
+    outstanding_of (record k { stag = stag }) a ∷ outstanding_from k (stag + regions_needed (outstanding_of (record k { stag = stag }) a).plan) accepted
+
+-- a call that is outstanding, whether or not its memory was revoked
+abbrev pub as_submitted : OutstandingCall → OutstandingCall
+as_submitted o = record o { is_revoked = false }
+
+-- Until the server's hello is received, the calls that are outstanding are all that were accepted, in the order of their Submits, and
+-- no Send of them is written. So for the hello, where it doesn't end the client, a Send of each accepted call is due, in this order.
+abbrev pub AcceptedCallsWait : Type 0
+AcceptedCallsWait = (opened : LinkParameters) (link : ℕ) (run : List Mark) → AskedSoFar opened link run → (client opened link run).state.has_hello ≡ false →
+    (map as_submitted (client opened link run).state.outstanding ≡ outstanding_from (initial_client opened).state opened.first_stag (accepted_calls link run))
+    × ((f : Frame) → is_hello f ≡ true → (next_end_state (client_rules opened) (client opened link run) (FrameReceived f)).ended ≡ None →
+    output_for (client_rules opened) (client opened link run) (FrameReceived f)
+    ≡ calls_output opened 1 (outstanding_from (initial_client opened).state opened.first_stag (accepted_calls link run)))
 
 -- An executed call's payload begins with the head of a call under its xid.
 abbrev pub PayloadHasItsXid : Type 0

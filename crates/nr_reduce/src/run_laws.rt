@@ -1,6 +1,6 @@
 //! Laws of runs: what both ends of a link cite, and what holds of every run.
 
-ghost use Rattle.nr_reduce.specs.RunLaws.{ClientAfterMark, ServerAfterMark, ClientOutputAfterMark, ServerOutputAfterMark, EndedClientStays, EndedServerStays, FullHoldsSoFar, SoFarHoldsBefore, AskedWithMark, ServedWithMark, ClientBegins, ServerBegins, EventsOfInput, ClientStandsOn, ServerStandsOn, ClientQueueIsDue, ServerQueueIsDue, GrantsHaveOwnStags, ClientAllows, ServerAllows, StagsAreNumbers, AcceptedKeepsLaw, SubmitIsSent, HelloSendsCalls, ReadChunkStays, PayloadHasItsXid, ReadyIsConveyed, ExecuteIsAnswered, RefusedSendIsAnswered, BadMessageIsRefused, RefusedCallIsAnswered, OpenReadsAreFew, PlanIsAccepted, SendIsExecutedOnce, CallCompletesOnce, XidsRise, PlacesRise};
+ghost use Rattle.nr_reduce.specs.RunLaws.{ClientAfterMark, ServerAfterMark, ClientOutputAfterMark, ServerOutputAfterMark, EndedClientStays, EndedServerStays, FullHoldsSoFar, SoFarHoldsBefore, AskedWithMark, ServedWithMark, ClientBegins, ServerBegins, EventsOfInput, ClientStandsOn, ServerStandsOn, ClientQueueIsDue, ServerQueueIsDue, GrantsHaveOwnStags, ClientAllows, ServerAllows, StagsAreNumbers, AcceptedKeepsLaw, SubmitIsSent, HelloSendsCalls, AcceptedCallsWait, ReadChunkStays, PayloadHasItsXid, ReadyIsConveyed, ExecuteIsAnswered, RefusedSendIsAnswered, BadMessageIsRefused, RefusedCallIsAnswered, OpenReadsAreFew, PlanIsAccepted, SendIsExecutedOnce, CallCompletesOnce, XidsRise, PlacesRise};
 
 /// One mark more: the state of an end, and the output due, are those before with the events of the mark.
 pub fn one_mark_more()
@@ -53,11 +53,13 @@ pub fn accepted_calls_keep_the_law()
     ensures accepted { AcceptedKeepsLaw }
 {}
 
-/// An accepted call is sent by its plan: at its Submit, once the server's hello was received, else with that hello.
+/// An accepted call is sent by its plan: at its Submit, once the server's hello was received, else with that hello. Until
+/// that hello is received, all calls that were accepted are outstanding, in order; then a Send of each is due.
 /// From its Submit on the region of its read chunk holds what the plan put there.
 pub fn submits_are_sent()
     ensures submit { SubmitIsSent }
     ensures hello { HelloSendsCalls }
+    ensures waiting { AcceptedCallsWait }
     ensures chunk { ReadChunkStays }
 {}
 
