@@ -36,7 +36,7 @@ use Rattle.nr_reduce.specs.declared.mark.Entry.{Entry}
 use Rattle.nr_reduce.specs.PlainJournal.{any_that_adds}
 use Rattle.nr_reduce.specs.Journal.{Journaled}
 use Rattle.nr_reduce.specs.History.{AcceptedCall, CompletedCall, accepted_calls, completed_calls, bytes_sent, bytes_received, written_at, fed_at, other}
-use Rattle.nr_reduce.specs.Events.{Event, events_at}
+use Rattle.nr_reduce.specs.Events.{Event, events_at, events}
 use Rattle.nr_reduce.specs.EndRules.{EndState, next_end_state, end_state_after, output_for, output_for_all, live}
 use Rattle.nr_reduce.specs.OfferedRegions.{region_grants}
 use Rattle.nr_reduce.specs.declared.outline.Plan.{Plan}
@@ -340,6 +340,21 @@ BadMessageIsRefused = (k : ServerState) (message : List ℕ) → 16 ≤ length m
 abbrev pub RefusedCallIsAnswered : Type 0
 RefusedCallIsAnswered = (opened : LinkParameters) (k : ServerState) (f : Frame) (segment : Segment) (c : PendingCall) → is_hello f ≡ false → frame_segment f ≡ Ok segment →
     IsStreamRefused k f segment c → server_end opened k (FrameReceived f) ≡ None → IsRefusedCall opened k f c
+
+-- A frame refuses the Send of this number: the message that it makes whole, or the call whose stream it ends.
+abbrev pub RefusesSend : ServerState → Frame → Segment → ℕ → Type 0
+RefusesSend k f segment number =
+    ((message : List ℕ) × ((message_completed k.received segment ≡ Some message)
+    × ((number ≡ k.received.sends + 1) × ((verdict k message ≡ BadChunks) ⊎ (verdict k message ≡ OtherVersion)))))
+    ⊎ ((c : PendingCall) × (IsStreamRefused k f segment c × (number ≡ c.number)))
+
+-- A Send that is refused is never executed, whatever the peer sends: no call that is executed after the frame that refuses it has its
+-- number.
+abbrev pub RefusedIsNotExecuted : Type 0
+RefusedIsNotExecuted = (opened : LinkParameters) (link : ℕ) (before : List Mark) (earlier later : List Event) (f : Frame) (segment : Segment) (number : ℕ) →
+    events link Responder before ≡ earlier ++ FrameReceived f ∷ later → is_hello f ≡ false → frame_segment f ≡ Ok segment →
+    RefusesSend (end_state_after (server_rules opened) (initial_server opened) earlier).state f segment number →
+    (xid : ℕ) (payload : List ℕ) (h : IsExecuted opened link before xid payload) → h.call.number ≢ number
 
 -- At most open_reads_max Read Requests are open, and a read waits only while so many are.
 abbrev pub OpenReadsAreFew : Type 0

@@ -1,6 +1,6 @@
 //! Laws of runs: what both ends of a link cite, and what holds of every run.
 
-ghost use Rattle.nr_reduce.specs.RunLaws.{ClientAfterMark, ServerAfterMark, ClientOutputAfterMark, ServerOutputAfterMark, EndedClientStays, EndedServerStays, FullHoldsSoFar, SoFarHoldsBefore, AskedWithMark, ServedWithMark, ClientBegins, ServerBegins, EventsOfInput, ClientStandsOn, ServerStandsOn, ClientQueueIsDue, ServerQueueIsDue, GrantsHaveOwnStags, ClientAllows, ServerAllows, StagsAreNumbers, AcceptedKeepsLaw, SubmitIsSent, HelloSendsCalls, AcceptedCallsWait, ReadChunkStays, PayloadHasItsXid, ReadyIsConveyed, ExecuteIsAnswered, RefusedSendIsAnswered, BadMessageIsRefused, RefusedCallIsAnswered, OpenReadsAreFew, PlanIsAccepted, SendIsExecutedOnce, CallCompletesOnce, XidsRise, PlacesRise};
+ghost use Rattle.nr_reduce.specs.RunLaws.{ClientAfterMark, ServerAfterMark, ClientOutputAfterMark, ServerOutputAfterMark, EndedClientStays, EndedServerStays, FullHoldsSoFar, SoFarHoldsBefore, AskedWithMark, ServedWithMark, ClientBegins, ServerBegins, EventsOfInput, ClientStandsOn, ServerStandsOn, ClientQueueIsDue, ServerQueueIsDue, GrantsHaveOwnStags, ClientAllows, ServerAllows, StagsAreNumbers, AcceptedKeepsLaw, SubmitIsSent, HelloSendsCalls, AcceptedCallsWait, ReadChunkStays, PayloadHasItsXid, ReadyIsConveyed, ExecuteIsAnswered, RefusedSendIsAnswered, BadMessageIsRefused, RefusedCallIsAnswered, RefusedIsNotExecuted, OpenReadsAreFew, PlanIsAccepted, SendIsExecutedOnce, CallCompletesOnce, XidsRise, PlacesRise};
 
 /// One mark more: the state of an end, and the output due, are those before with the events of the mark.
 pub fn one_mark_more()
@@ -68,8 +68,8 @@ pub fn submits_are_sent()
 /// then one Send, or by ERR_CHUNK where its offer doesn't hold the reply. A Send that is refused is answered by one error
 /// message, and makes no call pending or ready: by ERR_CHUNK exactly where its header is bad, or where its stream is there
 /// and its read chunk isn't its item's. A call whose stream is read and whose read chunk isn't its item's is
-/// answered by ERR_CHUNK, and is pending no longer. At most eight Read Requests are open, and a read waits only while
-/// eight are.
+/// answered by ERR_CHUNK, and is pending no longer. Neither is ever executed. At most eight Read Requests are open, and a
+/// read waits only while eight are.
 pub fn sends_are_answered()
     ensures head { PayloadHasItsXid }
     ensures ready { ReadyIsConveyed }
@@ -77,6 +77,7 @@ pub fn sends_are_answered()
     ensures refused_send { RefusedSendIsAnswered }
     ensures bad_message { BadMessageIsRefused }
     ensures refused_call { RefusedCallIsAnswered }
+    ensures refused { RefusedIsNotExecuted }
     ensures open_reads { OpenReadsAreFew }
 {}
 
