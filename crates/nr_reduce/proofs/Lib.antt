@@ -16,6 +16,7 @@ pub mod Standing
 pub mod Steps
 pub mod Undone
 pub mod Waiting
+pub mod Conveyed
 pub mod Refusals
 pub mod Touches
 pub mod Sizes

@@ -310,6 +310,50 @@ PayloadHasItsXid = (opened : LinkParameters) (link : ℕ) (run : List Mark) (xid
 abbrev pub ReadyIsConveyed : Type 0
 ReadyIsConveyed = (k : ServerState) (f : Frame) (segment : Segment) (r : ReadyCall) → frame_segment f ≡ Ok segment → (frame_effect k f).ready ≡ r ∷ [] → IsConveyed k f segment r
 
+-- a server after these events
+abbrev pub server_by : LinkParameters → List Event → ServerState
+server_by opened es = (end_state_after (server_rules opened) (initial_server opened) es).state
+
+-- A message that was received is that of this call: a frame among these events makes it whole. The call has the number of its Send,
+-- its xid and lists, and its stream where that is in the message.
+pub record IsReceivedCall (opened : LinkParameters) (es : List Event) (c : PendingCall) : Type 0 where
+  pub earlier : List Event
+  pub later : List Event
+  pub frame : Frame
+  pub segment : Segment
+  pub message : List ℕ
+  pub header : Header
+  pub is_received : es ≡ earlier ++ FrameReceived frame ∷ later
+  pub behind_hello : is_hello frame ≡ false
+  pub is_segment : frame_segment frame ≡ Ok segment
+  pub whole : message_completed (server_by opened earlier).received segment ≡ Some message
+  pub is_header : header_of message ≡ Ok header
+  pub number : c.number ≡ (server_by opened earlier).received.sends + 1
+  pub xid : c.xid ≡ header.xid
+  pub lists : c.lists ≡ lists_by header.body
+  pub stream : c.inline ≡ known_stream message header.body
+
+-- The payload of a ready call is conveyed by the lists and the stream of a message that was received, and by the bytes that the
+-- call's sink regions held as a frame of these events was received: the one by which the call became whole.
+pub record WasConveyed (opened : LinkParameters) (es : List Event) (r : ReadyCall) : Type 0 where
+  pub earlier : List Event
+  pub later : List Event
+  pub frame : Frame
+  pub segment : Segment
+  pub call : PendingCall
+  pub is_received : es ≡ earlier ++ FrameReceived frame ∷ later
+  pub behind_hello : is_hello frame ≡ false
+  pub is_segment : frame_segment frame ≡ Ok segment
+  pub own : IsReceivedCall opened (earlier ++ FrameReceived frame ∷ []) call
+  pub payload : payload_of (with_access (server_by opened earlier) frame segment) frame.end call ≡ Some r.payload
+  pub number : r.number ≡ call.number
+  pub xid : r.xid ≡ call.xid
+
+-- The payload of an executed call is what a message that was received before conveys.
+abbrev pub PayloadIsConveyed : Type 0
+PayloadIsConveyed = (opened : LinkParameters) (link : ℕ) (before : List Mark) (xid : ℕ) (payload : List ℕ) → (h : IsExecuted opened link before xid payload) →
+    WasConveyed opened (events link Responder before) (record { number = h.call.number; xid = xid; payload = payload })
+
 -- It is answered by RDMA Writes and then one Send where the offer of the pending call of its xid holds the reply, else by ERR_CHUNK.
 abbrev pub ExecuteIsAnswered : Type 0
 ExecuteIsAnswered = (opened : LinkParameters) (link : ℕ) (run : List Mark) (xid : ℕ) (moment : Moment) (payload : List ℕ) (place : ℕ) (reply : List ℕ) → IsExecuted opened link run xid payload →

@@ -1,6 +1,6 @@
 //! Laws of runs: what both ends of a link cite, and what holds of every run.
 
-ghost use Rattle.nr_reduce.specs.RunLaws.{ClientAfterMark, ServerAfterMark, ClientOutputAfterMark, ServerOutputAfterMark, EndedClientStays, EndedServerStays, FullHoldsSoFar, SoFarHoldsBefore, AskedWithMark, ServedWithMark, ClientBegins, ServerBegins, EventsOfInput, ClientStandsOn, ServerStandsOn, ClientQueueIsDue, ServerQueueIsDue, GrantsHaveOwnStags, ClientAllows, ServerAllows, StagsAreNumbers, AcceptedKeepsLaw, SubmitIsSent, HelloSendsCalls, AcceptedCallsWait, ReadChunkStays, PayloadHasItsXid, ReadyIsConveyed, ExecuteIsAnswered, RefusedSendIsAnswered, BadMessageIsRefused, RefusedCallIsAnswered, RefusedIsNotExecuted, OpenReadsAreFew, PlanIsAccepted, SendIsExecutedOnce, CallCompletesOnce, XidsRise, PlacesRise};
+ghost use Rattle.nr_reduce.specs.RunLaws.{ClientAfterMark, ServerAfterMark, ClientOutputAfterMark, ServerOutputAfterMark, EndedClientStays, EndedServerStays, FullHoldsSoFar, SoFarHoldsBefore, AskedWithMark, ServedWithMark, ClientBegins, ServerBegins, EventsOfInput, ClientStandsOn, ServerStandsOn, ClientQueueIsDue, ServerQueueIsDue, GrantsHaveOwnStags, ClientAllows, ServerAllows, StagsAreNumbers, AcceptedKeepsLaw, SubmitIsSent, HelloSendsCalls, AcceptedCallsWait, ReadChunkStays, PayloadHasItsXid, ReadyIsConveyed, PayloadIsConveyed, ExecuteIsAnswered, RefusedSendIsAnswered, BadMessageIsRefused, RefusedCallIsAnswered, RefusedIsNotExecuted, OpenReadsAreFew, PlanIsAccepted, SendIsExecutedOnce, CallCompletesOnce, XidsRise, PlacesRise};
 
 /// One mark more: the state of an end, and the output due, are those before with the events of the mark.
 pub fn one_mark_more()
@@ -64,7 +64,8 @@ pub fn submits_are_sent()
 {}
 
 /// An executed call's payload begins with a call head of its xid. A call becomes ready with the payload that its lists, its
-/// stream and the server's memory convey at that frame. An executed call is answered by RDMA Writes into what it offered and
+/// stream and the server's memory convey at that frame; so the payload of an executed call is what a message that was
+/// received before conveys, by its lists, its stream and the bytes that were placed into the call's sink regions. An executed call is answered by RDMA Writes into what it offered and
 /// then one Send, or by ERR_CHUNK where its offer doesn't hold the reply. A Send that is refused is answered by one error
 /// message, and makes no call pending or ready: by ERR_CHUNK exactly where its header is bad, or where its stream is there
 /// and its read chunk isn't its item's. A call whose stream is read and whose read chunk isn't its item's is
@@ -73,6 +74,7 @@ pub fn submits_are_sent()
 pub fn sends_are_answered()
     ensures head { PayloadHasItsXid }
     ensures ready { ReadyIsConveyed }
+    ensures conveyed { PayloadIsConveyed }
     ensures executed_call { ExecuteIsAnswered }
     ensures refused_send { RefusedSendIsAnswered }
     ensures bad_message { BadMessageIsRefused }

@@ -1,4 +1,5 @@
 use Rattle.nr_reduce.proofs.ReadyCalls.{ready-conveyed}
+use Rattle.nr_reduce.proofs.Conveyed.{payload-conveyed}
 use Rattle.nr_reduce.proofs.Refusals.{refused-never}
 use Rattle.nr_reduce.proofs.BadMessages.{bad-refused}
 use Rattle.nr_reduce.proofs.Calls.{executed-head, execute-answered, refused-answered, refused-call, opens-reads}
@@ -27,3 +28,6 @@ returns-clause-bad_message c = bad-refused
 
 pub returns-clause-ready : goal.returns-clause-ready
 returns-clause-ready c = ready-conveyed
+
+pub returns-clause-conveyed : goal.returns-clause-conveyed
+returns-clause-conveyed c = payload-conveyed
