@@ -1,14 +1,14 @@
 -- A Send that is refused is never executed: nothing of it is ready, and no call of its number is pending, from the frame on that
 -- refuses it.
-use Rattle.std.proofs.Common.{◌≡◌, ◌≢◌, ℕ, ◌+◌, ◌-◌, ◌<◌, ◌≤◌, Bool, true, false, cond, not, ◌&&◌, ◌||◌, eqb, List, [], ◌∷◌, ◌++◌, length, take, drop, Option, Some, None, Result, Ok, Err, refl, sym, ap, subst, ◌∙◌, arith, ◌⊎◌, inl, inr}
-use Rattle.std.proofs.lemmas.Bool.{eq-eqb, ne_eqb, eqb-true, cases_lt}
+use Rattle.std.proofs.Common.{◌≡◌, ◌≢◌, ℕ, ◌+◌, ◌-◌, ◌≤◌, Bool, true, false, cond, not, ◌&&◌, ◌||◌, eqb, List, [], ◌∷◌, ◌++◌, length, Option, Some, None, Result, Ok, Err, refl, sym, ap, subst, ◌∙◌, arith, inl, inr}
+use Rattle.std.proofs.lemmas.Bool.{eq-eqb, ne_eqb, cases_lt}
 use Rattle.std.specs.List.{list_any, filter, find}
 use Rattle.nr_wire.specs.declared.hello.Side.TheVariants.{Responder}
 use Rattle.nr_wire.specs.Segment.{Segment}
 use Rattle.nr_wire.specs.Segment.Segment.{Tagged, Untagged}
 use Rattle.nr_link.specs.declared.end.End.{End as Stop}
 use Rattle.nr_link.specs.Frames.{Frame, is_hello}
-use Rattle.nr_link.specs.ReceiveState.{ReceiveState, message_completed}
+use Rattle.nr_link.specs.ReceiveState.{message_completed}
 use Rattle.nr_link.specs.Ending.{frame_segment}
 use Rattle.nr_reduce.specs.declared.mark.Mark.{Mark}
 use Rattle.nr_reduce.specs.declared.mark.LinkParameters.{LinkParameters}
@@ -21,15 +21,15 @@ use Rattle.nr_reduce.specs.ServerReads.{is_read, open_reads}
 use Rattle.nr_reduce.specs.ServerMessages.{Verdict, CallVerdict, chunk_bytes, verdict, by_payload, payload_of}
 use Rattle.nr_reduce.specs.ServerMessages.Verdict.{EndsLink, OtherVersion, BadChunks, MakesPending}
 use Rattle.nr_reduce.specs.ServerMessages.CallVerdict.{Refuses, IsReady}
-use Rattle.nr_reduce.specs.ServerFrames.{FrameEffect, no_effect, with_verdict, ready_if_whole, with_pending_call, with_refused_call, read_effect, response_effect, call_of_number, is_stream_read, tagged_effect, message_effect, by_message, with_access, effect_in, frame_effect}
+use Rattle.nr_reduce.specs.ServerFrames.{FrameEffect, no_effect, with_verdict, ready_if_whole, with_refused_call, read_effect, response_effect, call_of_number, is_stream_read, message_effect, by_message, with_access, effect_in, frame_effect}
 use Rattle.nr_reduce.specs.Chunks.{is_read_chunk_of_item}
 use Rattle.nr_reduce.specs.Server.{with_effect, received_by, server_state_after, server_end, server_rules, initial_server}
 use Rattle.nr_reduce.specs.Run.{server}
-use Rattle.nr_reduce.specs.Served.{IsExecuted, next_call, first_ready}
+use Rattle.nr_reduce.specs.Served.{IsExecuted, next_call}
 use Rattle.nr_reduce.specs.RunLaws.{IsStreamRefused, RefusesSend}
 use Rattle.nr_reduce.proofs.Steps.{end_state_after-append, ended-stays}
 use Rattle.nr_reduce.proofs.Calls.{refused-effect, refused-call-effect}
-use Rattle.nr_reduce.proofs.Once.{times_ready, read_for, tokens, times_ready-append, times_ready-drop, ready-times_ready, payload-number, found-number, NumberIs, verdict-number, whole-with, after-goes, Sound, Settled, sound-goes, settled-goes, kept, first-times_ready}
+use Rattle.nr_reduce.proofs.Once.{times_ready, read_for, times_ready-append, times_ready-drop, ready-times_ready, payload-number, found-number, NumberIs, verdict-number, whole-with, after-goes, Sound, Settled, sound-goes, settled-goes, kept, first-times_ready}
 
 -- ---- A number that no pending call has
 

@@ -1,5 +1,5 @@
 -- Until the server's hello is received, the calls that are outstanding are all that were accepted, in order.
-use Rattle.std.proofs.Common.{◌≡◌, ℕ, ◌+◌, Bool, true, false, cond, ◌&&◌, ◌||◌, eqb, List, [], ◌∷◌, ◌++◌, length, Option, Some, None, Result, Ok, Err, refl, sym, ap, subst, ◌∙◌, arith, append_assoc, append-nil}
+use Rattle.std.proofs.Common.{◌≡◌, ℕ, ◌+◌, Bool, true, false, cond, ◌&&◌, ◌||◌, eqb, List, [], ◌∷◌, ◌++◌, length, Option, Some, None, Result, Ok, Err, refl, sym, ap, subst, ◌∙◌, append_assoc, append-nil}
 use Rattle.std.specs.Prelude.{map}
 use Rattle.std.specs.List.{find}
 use Rattle.std.proofs.lemmas.Bool.{eqb-true}
@@ -28,7 +28,7 @@ use Rattle.nr_reduce.specs.Events.Event.{FrameReceived, CallSubmitted, MemoryRev
 use Rattle.nr_reduce.specs.EndRules.{EndState, next_end_state, next_end_state_by, next_end_state_in, end_state_after, output_for, output_for_by, output_for_in}
 use Rattle.nr_reduce.specs.OfferedRegions.{region_grants}
 use Rattle.nr_reduce.specs.ClientState.{OutstandingCall, ClientState, plan_for}
-use Rattle.nr_reduce.specs.ClientMessages.{Verdict, verdict, by_header, by_call, answered_call}
+use Rattle.nr_reduce.specs.ClientMessages.{Verdict, verdict, by_header, by_call}
 use Rattle.nr_reduce.specs.ClientMessages.Verdict.{EndsLink, GivesOutcome}
 use Rattle.nr_reduce.specs.Client.{client_rules, client_end, client_output, client_state_after, initial_client, readiness, or_message_end, message_end, end_of_verdict, segment_message, outstanding_of, call_output, calls_output, response_output, segment_request, revoked_call, written_call, with_message, with_request, with_segment}
 use Rattle.nr_reduce.specs.Run.{client}
