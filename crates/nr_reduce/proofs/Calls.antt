@@ -273,7 +273,7 @@ only-answered opened k f answer later none is =
       ready = ap (λ (r : EndState ServerState). r.state.ready) after ∙ (λ i. (cond (later i) k (with_effect k f (is i))).ready) ∙ append-nil k.ready;
     }
 
-refused-effect : (k : ServerState) (f : Frame) (segment : Segment) (message : List ℕ) (v : Verdict) → frame_segment f ≡ Ok segment → message_completed k.received segment ≡ Some message → verdict k message ≡ v → frame_effect k f ≡ message_effect k f.end message v
+pub refused-effect : (k : ServerState) (f : Frame) (segment : Segment) (message : List ℕ) (v : Verdict) → frame_segment f ≡ Ok segment → message_completed k.received segment ≡ Some message → verdict k message ≡ v → frame_effect k f ≡ message_effect k f.end message v
 unfolding frame_effect
 refused-effect k f (Tagged last opcode stag to payload) message v is whole e = absurd cc
 refused-effect k f (Untagged last opcode w queue msn offset payload) message v is whole e =
@@ -300,7 +300,7 @@ tagged-effect-is k f (Tagged last opcode stag to payload) is e =
     ∙ ap (λ (b : Bool). cond b (response_effect t f.end k.reads) (no_effect t)) e
 tagged-effect-is k f (Untagged last opcode w queue msn offset payload) is e = absurd cc
 
-refused-call-effect : (k : ServerState) (f : Frame) (segment : Segment) (c : PendingCall) → frame_segment f ≡ Ok segment → (h : IsStreamRefused k f segment c) →
+pub refused-call-effect : (k : ServerState) (f : Frame) (segment : Segment) (c : PendingCall) → frame_segment f ≡ Ok segment → (h : IsStreamRefused k f segment c) →
     frame_effect k f ≡ with_refused_call (with_access k f segment) c (record (no_effect (with_access k f segment)) { reads = h.others; kept = length (open_reads k) - 1 })
 refused-call-effect k f segment c is h =
     let t : ServerState = with_access k f segment in

@@ -15,6 +15,9 @@ pub mod Shapes
 pub mod Standing
 pub mod Steps
 pub mod Undone
+pub mod Waiting
+pub mod Conveyed
+pub mod Refusals
 pub mod Touches
 pub mod Sizes
 pub mod OwnStags

@@ -58,11 +58,11 @@ read_for n reads = list_any (λ r. eqb r.number n) reads
 abbrev pub tokens : ServerState → ℕ → ℕ
 tokens k n = times_ready n k.ready + one_if (read_for n k.reads)
 
-times_ready-append : (n : ℕ) (xs ys : List ReadyCall) → times_ready n (xs ++ ys) ≡ times_ready n xs + times_ready n ys
+pub times_ready-append : (n : ℕ) (xs ys : List ReadyCall) → times_ready n (xs ++ ys) ≡ times_ready n xs + times_ready n ys
 times_ready-append n [] ys = omega arith
 times_ready-append n (x ∷ xs) ys = (let h = times_ready-append n xs ys in omega (arith, h))
 
-times_ready-drop : (n : ℕ) (xs : List ReadyCall) → times_ready n (drop 1 xs) ≤ times_ready n xs
+pub times_ready-drop : (n : ℕ) (xs : List ReadyCall) → times_ready n (drop 1 xs) ≤ times_ready n xs
 times_ready-drop n [] = omega arith
 times_ready-drop n (x ∷ xs) = omega arith
 
@@ -117,7 +117,7 @@ not-true true e = absurd cc
 not-true false e = refl
 
 -- a call becomes ready once, where nothing of it is left to be read
-ready-times_ready : (n number : ℕ) (o : CallVerdict) (s : FrameEffect) → s.ready ≡ [] → ((r : ReadyCall) → o ≡ IsReady r → r.number ≡ number) → times_ready n (with_verdict o s).ready ≤ one_if (eqb number n)
+pub ready-times_ready : (n number : ℕ) (o : CallVerdict) (s : FrameEffect) → s.ready ≡ [] → ((r : ReadyCall) → o ≡ IsReady r → r.number ≡ number) → times_ready n (with_verdict o s).ready ≤ one_if (eqb number n)
 ready-times_ready n number (Refuses reason) s e h = (let a = ap (λ (xs : List ReadyCall). times_ready n xs) e in omega (arith, a))
 ready-times_ready n number (IsReady r) s e h = (let a = ap (λ (m : ℕ). one_if (eqb m n)) (h r refl) in omega (arith, a))
 
@@ -133,7 +133,7 @@ head-number c payload (Ok head) r e = by (eqb (call_xid head) c.xid) e
     by true e = (let s : record { number = c.number; xid = c.xid; payload = payload } ≡ r = cc in ap (λ (q : ReadyCall). q.number) (sym s))
     by false e = absurd cc
 
-payload-number : (c : PendingCall) (p : Option (List ℕ)) (r : ReadyCall) → by_payload c p ≡ IsReady r → r.number ≡ c.number
+pub payload-number : (c : PendingCall) (p : Option (List ℕ)) (r : ReadyCall) → by_payload c p ≡ IsReady r → r.number ≡ c.number
 payload-number c None r e = absurd cc
 payload-number c (Some payload) r e = head-number c payload (call_of payload) r e
 
@@ -171,7 +171,7 @@ whole-adds k place c s n e = by (eqb c.number n) refl (is_read s.reads c.number)
 
 -- ---- A response
 
-found-number : (number : ℕ) (calls : List PendingCall) (c : PendingCall) → find (λ c. eqb c.number number) calls ≡ Some c → c.number ≡ number
+pub found-number : (number : ℕ) (calls : List PendingCall) (c : PendingCall) → find (λ c. eqb c.number number) calls ≡ Some c → c.number ≡ number
 found-number number [] c e = absurd cc
 found-number number (d ∷ calls) c e = by (eqb d.number number) refl e (λ f. found-number number calls c f)
   where
@@ -259,7 +259,7 @@ opened-adds k place c is n =
         omega (arith, a, b)
 
 -- a call that opens has the number of its Send
-abbrev NumberIs : ℕ → Verdict → Type 0
+abbrev pub NumberIs : ℕ → Verdict → Type 0
 NumberIs m (EndsLink reason) = Unit {0}
 NumberIs m OtherVersion = Unit {0}
 NumberIs m BadChunks = Unit {0}
@@ -286,7 +286,7 @@ header-number : (k : ServerState) (message : List ℕ) (r : Result Header Header
 header-number k message (Ok header) = body-number k header.xid message header.body
 header-number k message (Err fault) = tt
 
-verdict-number : (k : ServerState) (message : List ℕ) → NumberIs (k.received.sends + 1) (verdict k message)
+pub verdict-number : (k : ServerState) (message : List ℕ) → NumberIs (k.received.sends + 1) (verdict k message)
 unfolding verdict
 verdict-number k message =
     if-number (not (eqb (word_at 4 message) 1)) OtherVersion _ (k.received.sends + 1) tt
@@ -346,7 +346,7 @@ rises-with h (Untagged last opcode w queue msn offset payload) = by (is_send opc
     by false true = omega arith
     by false false = omega arith
 
-whole-with : (h : ReceiveState) (segment : Segment) (message : List ℕ) → message_completed h segment ≡ Some message → (received_after h segment).sends ≡ h.sends + 1
+pub whole-with : (h : ReceiveState) (segment : Segment) (message : List ℕ) → message_completed h segment ≡ Some message → (received_after h segment).sends ≡ h.sends + 1
 whole-with h (Tagged last opcode stag to payload) message e = absurd cc
 whole-with h (Untagged last opcode w queue msn offset payload) message e = by (is_send opcode) last (eqb opcode OPCODE_READ_REQUEST) e
   where
@@ -380,7 +380,7 @@ frame_effect-goes : (k : ServerState) (f : Frame) → Goes k (with_effect k f (f
 unfolding frame_effect
 frame_effect-goes k f = frame-goes k f (frame_segment f) refl
 
-after-goes : (opened : LinkParameters) (k : ServerState) (event : Event) → Goes k (server_state_after opened k event)
+pub after-goes : (opened : LinkParameters) (k : ServerState) (event : Event) → Goes k (server_state_after opened k event)
 unfolding server_state_after
 after-goes opened k (FrameReceived f) = by (is_hello f)
   where
@@ -404,7 +404,7 @@ pub record Settled (n : ℕ) (k : ServerState) : Type 0 where
   pub number_sent : n ≤ k.received.sends
   pub none : tokens k n ≡ 0
 
-sound-goes : (k after : ServerState) → Goes k after → Sound k → Sound after
+pub sound-goes : (k after : ServerState) → Goes k after → Sound k → Sound after
 sound-goes k after g s = record {
   once = λ n. elim (cases_lt k.received.sends n) [
     | inl lt ↦ (let a = g.new n in let b = s.number_sent n lt in omega (arith, a, b))
@@ -413,14 +413,14 @@ sound-goes k after g s = record {
   number_sent = λ n lt. (let a = g.beyond n lt in let r = g.rises in let b = s.number_sent n (omega (arith, r, lt)) in omega (arith, a, b));
 }
 
-settled-goes : (n : ℕ) (k after : ServerState) → Goes k after → Settled n k → Settled n after
+pub settled-goes : (n : ℕ) (k after : ServerState) → Goes k after → Settled n k → Settled n after
 settled-goes n k after g s = record {
   number_sent = (let a = s.number_sent in let r = g.rises in omega (arith, a, r));
   none = (let a = g.known n s.number_sent in let b = s.none in omega (arith, a, b));
 }
 
 -- what is kept by each event is kept by all
-kept : (opened : LinkParameters) (P : ServerState → Type 0) → ((k after : ServerState) → Goes k after → P k → P after) → (r : EndState ServerState) (events : List Event) → P r.state → P (end_state_after (server_rules opened) r events).state
+pub kept : (opened : LinkParameters) (P : ServerState → Type 0) → ((k after : ServerState) → Goes k after → P k → P after) → (r : EndState ServerState) (events : List Event) → P r.state → P (end_state_after (server_rules opened) r events).state
 kept opened P goes r [] p = p
 kept opened P goes r (event ∷ events) p = kept opened P goes (next_end_state (server_rules opened) r event) events (one r.state r.ended p)
   where
@@ -444,7 +444,7 @@ settled-later opened link n run (mark ∷ more) s =
     subst (λ (r : List Mark). Settled n (server opened link r).state) (append_assoc run (mark ∷ []) more) (settled-later opened link n (run ++ mark ∷ []) more next)
 
 -- the first that is ready is told, and executed it is settled
-first-times_ready : (ready : List ReadyCall) (ended : Option Stop) (r : ReadyCall) → first_ready ready ended ≡ Some r → (ended ≡ None) × (1 ≤ times_ready r.number ready) × (times_ready r.number (drop 1 ready) + 1 ≤ times_ready r.number ready)
+pub first-times_ready : (ready : List ReadyCall) (ended : Option Stop) (r : ReadyCall) → first_ready ready ended ≡ Some r → (ended ≡ None) × (1 ≤ times_ready r.number ready) × (times_ready r.number (drop 1 ready) + 1 ≤ times_ready r.number ready)
 first-times_ready ready (Some end) r e = absurd cc
 first-times_ready [] None r e = absurd cc
 first-times_ready (x ∷ ready) None r e =

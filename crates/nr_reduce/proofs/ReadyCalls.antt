@@ -19,14 +19,14 @@ use Rattle.nr_reduce.specs.ServerFrames.{FrameEffect, no_effect, with_verdict, r
 use Rattle.nr_reduce.specs.RunLaws.{IsCallOf, IsConveyed}
 
 -- what is ready was conveyed by a call of this kind
-record Conveys (k : ServerState) (place : ℕ) (Own : PendingCall → Type 0) (r : ReadyCall) : Type 0 where
-  call : PendingCall
-  own : Own call
-  payload : payload_of k place call ≡ Some r.payload
-  number : r.number ≡ call.number
-  xid : r.xid ≡ call.xid
+pub record Conveys (k : ServerState) (place : ℕ) (Own : PendingCall → Type 0) (r : ReadyCall) : Type 0 where
+  pub call : PendingCall
+  pub own : Own call
+  pub payload : payload_of k place call ≡ Some r.payload
+  pub number : r.number ≡ call.number
+  pub xid : r.xid ≡ call.xid
 
-abbrev AllConveyed : ServerState → ℕ → (PendingCall → Type 0) → List ReadyCall → Type 0
+abbrev pub AllConveyed : ServerState → ℕ → (PendingCall → Type 0) → List ReadyCall → Type 0
 AllConveyed k place Own [] = Unit {0}
 AllConveyed k place Own (r ∷ ready) = Conveys k place Own r × AllConveyed k place Own ready
 
@@ -72,7 +72,7 @@ conveyed-response k t f segment [] same = tt
 conveyed-response k t f segment (r ∷ reads) same =
     conveyed-read k t f segment r (call_of_number t r.number) _ (ap (λ (cs : List PendingCall). find (λ (c : PendingCall). eqb c.number r.number) cs) (sym same)) refl
 
-conveyed-by : (k : ServerState) (f : Frame) (segment : Segment) → AllConveyed (with_access k f segment) f.end (IsCallOf k segment) (effect_by k f segment).ready
+pub conveyed-by : (k : ServerState) (f : Frame) (segment : Segment) → AllConveyed (with_access k f segment) f.end (IsCallOf k segment) (effect_by k f segment).ready
 conveyed-by k f (Tagged last opcode stag to payload) =
     let segment : Segment = Tagged last opcode stag to payload in
     let t : ServerState = with_access k f segment in

@@ -1,5 +1,5 @@
 -- What follows from the definitions of a run, for every run.
-use Rattle.std.specs.Prelude.{◌≡◌, ◌≢◌, ℕ, ◌+◌, ◌-◌, ◌<◌, ◌≤◌, ◌==◌, ◌&&◌, not, Bool, if◌then◌else◌, true, false, List, [], ◌∷◌, ◌++◌, length, drop, Option, None, Some, Result, Ok, Err, Contains, ◌⊎◌, ◌↔◌}
+use Rattle.std.specs.Prelude.{◌≡◌, ◌≢◌, ℕ, ◌+◌, ◌-◌, ◌<◌, ◌≤◌, ◌==◌, ◌&&◌, not, Bool, if◌then◌else◌, true, false, List, [], ◌∷◌, ◌++◌, length, drop, map, Option, None, Some, Result, Ok, Err, Contains, ◌⊎◌, ◌↔◌}
 use Rattle.std.specs.List.{filter}
 use Rattle.nr_wire.specs.declared.hello.Side.{Side}
 use Rattle.nr_wire.specs.declared.hello.Side.TheVariants.{Initiator, Responder}
@@ -35,14 +35,14 @@ use Rattle.nr_reduce.specs.declared.mark.LinkParameters.{LinkParameters}
 use Rattle.nr_reduce.specs.declared.mark.Entry.{Entry}
 use Rattle.nr_reduce.specs.PlainJournal.{any_that_adds}
 use Rattle.nr_reduce.specs.Journal.{Journaled}
-use Rattle.nr_reduce.specs.History.{CompletedCall, completed_calls, bytes_sent, bytes_received, written_at, fed_at, other}
-use Rattle.nr_reduce.specs.Events.{Event, events_at}
+use Rattle.nr_reduce.specs.History.{AcceptedCall, CompletedCall, accepted_calls, completed_calls, bytes_sent, bytes_received, written_at, fed_at, other}
+use Rattle.nr_reduce.specs.Events.{Event, events_at, events}
 use Rattle.nr_reduce.specs.EndRules.{EndState, next_end_state, end_state_after, output_for, output_for_all, live}
 use Rattle.nr_reduce.specs.OfferedRegions.{region_grants}
 use Rattle.nr_reduce.specs.declared.outline.Plan.{Plan}
-use Rattle.nr_reduce.specs.Plans.{call_message, lists_of, inline_stream, has_segment, read_stag}
-use Rattle.nr_reduce.specs.ClientState.{ClientState}
-use Rattle.nr_reduce.specs.Client.{client_rules, client_end, calls_output, initial_client}
+use Rattle.nr_reduce.specs.Plans.{regions_needed, call_message, lists_of, inline_stream, has_segment, read_stag}
+use Rattle.nr_reduce.specs.ClientState.{OutstandingCall, ClientState}
+use Rattle.nr_reduce.specs.Client.{client_rules, client_end, outstanding_of, calls_output, initial_client}
 use Rattle.nr_reduce.specs.ServerState.{ServerState, ReadyCall, PendingCall, PendingRead, is_pending, down_max}
 use Rattle.nr_reduce.specs.ServerReads.{open_reads}
 use Rattle.nr_reduce.specs.ServerMessages.{verdict, by_need, no_stream, call_xid, chunk_bytes, payload_of}
@@ -281,6 +281,25 @@ HelloSendsCalls = (opened : LinkParameters) (k : ClientState) (f : Frame) → is
     (output_for (client_rules opened) (live k) (FrameReceived f) ≡ calls_output opened 1 k.outstanding)
     × ((next_end_state (client_rules opened) (live k) (FrameReceived f)).state.has_hello ≡ true)
 
+-- These calls as a client has them outstanding, in their order: each with the plan of its form, and with STags from this one on.
+abbrev pub outstanding_from : ClientState → ℕ → List AcceptedCall → List OutstandingCall
+outstanding_from k stag [] = []
+outstanding_from k stag (a ∷ accepted) =
+    outstanding_of (record k { stag = stag }) a ∷ outstanding_from k (stag + regions_needed (outstanding_of (record k { stag = stag }) a).plan) accepted
+
+-- a call that is outstanding, whether or not its memory was revoked
+abbrev pub as_submitted : OutstandingCall → OutstandingCall
+as_submitted o = record o { is_revoked = false }
+
+-- Until the server's hello is received, the calls that are outstanding are all that were accepted, in the order of their Submits, and
+-- no Send of them is written. So for the hello, where it doesn't end the client, a Send of each accepted call is due, in this order.
+abbrev pub AcceptedCallsWait : Type 0
+AcceptedCallsWait = (opened : LinkParameters) (link : ℕ) (run : List Mark) → AskedSoFar opened link run → (client opened link run).state.has_hello ≡ false →
+    (map as_submitted (client opened link run).state.outstanding ≡ outstanding_from (initial_client opened).state opened.first_stag (accepted_calls link run))
+    × ((f : Frame) → is_hello f ≡ true → (next_end_state (client_rules opened) (client opened link run) (FrameReceived f)).ended ≡ None →
+    output_for (client_rules opened) (client opened link run) (FrameReceived f)
+    ≡ calls_output opened 1 (outstanding_from (initial_client opened).state opened.first_stag (accepted_calls link run)))
+
 -- An executed call's payload begins with the head of a call under its xid.
 abbrev pub PayloadHasItsXid : Type 0
 PayloadHasItsXid = (opened : LinkParameters) (link : ℕ) (run : List Mark) (xid : ℕ) (payload : List ℕ) → IsExecuted opened link run xid payload →
@@ -290,6 +309,50 @@ PayloadHasItsXid = (opened : LinkParameters) (link : ℕ) (run : List Mark) (xid
 -- that was pending or that the frame's message makes pending, and by the server's memory. It has that call's number and xid.
 abbrev pub ReadyIsConveyed : Type 0
 ReadyIsConveyed = (k : ServerState) (f : Frame) (segment : Segment) (r : ReadyCall) → frame_segment f ≡ Ok segment → (frame_effect k f).ready ≡ r ∷ [] → IsConveyed k f segment r
+
+-- a server after these events
+abbrev pub server_by : LinkParameters → List Event → ServerState
+server_by opened es = (end_state_after (server_rules opened) (initial_server opened) es).state
+
+-- A message that was received is that of this call: a frame among these events makes it whole. The call has the number of its Send,
+-- its xid and lists, and its stream where that is in the message.
+pub record IsReceivedCall (opened : LinkParameters) (es : List Event) (c : PendingCall) : Type 0 where
+  pub earlier : List Event
+  pub later : List Event
+  pub frame : Frame
+  pub segment : Segment
+  pub message : List ℕ
+  pub header : Header
+  pub is_received : es ≡ earlier ++ FrameReceived frame ∷ later
+  pub behind_hello : is_hello frame ≡ false
+  pub is_segment : frame_segment frame ≡ Ok segment
+  pub whole : message_completed (server_by opened earlier).received segment ≡ Some message
+  pub is_header : header_of message ≡ Ok header
+  pub number : c.number ≡ (server_by opened earlier).received.sends + 1
+  pub xid : c.xid ≡ header.xid
+  pub lists : c.lists ≡ lists_by header.body
+  pub stream : c.inline ≡ known_stream message header.body
+
+-- The payload of a ready call is conveyed by the lists and the stream of a message that was received, and by the bytes that the
+-- call's sink regions held as a frame of these events was received: the one by which the call became whole.
+pub record WasConveyed (opened : LinkParameters) (es : List Event) (r : ReadyCall) : Type 0 where
+  pub earlier : List Event
+  pub later : List Event
+  pub frame : Frame
+  pub segment : Segment
+  pub call : PendingCall
+  pub is_received : es ≡ earlier ++ FrameReceived frame ∷ later
+  pub behind_hello : is_hello frame ≡ false
+  pub is_segment : frame_segment frame ≡ Ok segment
+  pub own : IsReceivedCall opened (earlier ++ FrameReceived frame ∷ []) call
+  pub payload : payload_of (with_access (server_by opened earlier) frame segment) frame.end call ≡ Some r.payload
+  pub number : r.number ≡ call.number
+  pub xid : r.xid ≡ call.xid
+
+-- The payload of an executed call is what a message that was received before conveys.
+abbrev pub PayloadIsConveyed : Type 0
+PayloadIsConveyed = (opened : LinkParameters) (link : ℕ) (before : List Mark) (xid : ℕ) (payload : List ℕ) → (h : IsExecuted opened link before xid payload) →
+    WasConveyed opened (events link Responder before) (record { number = h.call.number; xid = xid; payload = payload })
 
 -- It is answered by RDMA Writes and then one Send where the offer of the pending call of its xid holds the reply, else by ERR_CHUNK.
 abbrev pub ExecuteIsAnswered : Type 0
@@ -321,6 +384,21 @@ BadMessageIsRefused = (k : ServerState) (message : List ℕ) → 16 ≤ length m
 abbrev pub RefusedCallIsAnswered : Type 0
 RefusedCallIsAnswered = (opened : LinkParameters) (k : ServerState) (f : Frame) (segment : Segment) (c : PendingCall) → is_hello f ≡ false → frame_segment f ≡ Ok segment →
     IsStreamRefused k f segment c → server_end opened k (FrameReceived f) ≡ None → IsRefusedCall opened k f c
+
+-- A frame refuses the Send of this number: the message that it makes whole, or the call whose stream it ends.
+abbrev pub RefusesSend : ServerState → Frame → Segment → ℕ → Type 0
+RefusesSend k f segment number =
+    ((message : List ℕ) × ((message_completed k.received segment ≡ Some message)
+    × ((number ≡ k.received.sends + 1) × ((verdict k message ≡ BadChunks) ⊎ (verdict k message ≡ OtherVersion)))))
+    ⊎ ((c : PendingCall) × (IsStreamRefused k f segment c × (number ≡ c.number)))
+
+-- A Send that is refused is never executed, whatever the peer sends: no call that is executed after the frame that refuses it has its
+-- number.
+abbrev pub RefusedIsNotExecuted : Type 0
+RefusedIsNotExecuted = (opened : LinkParameters) (link : ℕ) (before : List Mark) (earlier later : List Event) (f : Frame) (segment : Segment) (number : ℕ) →
+    events link Responder before ≡ earlier ++ FrameReceived f ∷ later → is_hello f ≡ false → frame_segment f ≡ Ok segment →
+    RefusesSend (end_state_after (server_rules opened) (initial_server opened) earlier).state f segment number →
+    (xid : ℕ) (payload : List ℕ) (h : IsExecuted opened link before xid payload) → h.call.number ≢ number
 
 -- At most open_reads_max Read Requests are open, and a read waits only while so many are.
 abbrev pub OpenReadsAreFew : Type 0

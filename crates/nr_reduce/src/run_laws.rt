@@ -1,6 +1,6 @@
 //! Laws of runs: what both ends of a link cite, and what holds of every run.
 
-ghost use Rattle.nr_reduce.specs.RunLaws.{ClientAfterMark, ServerAfterMark, ClientOutputAfterMark, ServerOutputAfterMark, EndedClientStays, EndedServerStays, FullHoldsSoFar, SoFarHoldsBefore, AskedWithMark, ServedWithMark, ClientBegins, ServerBegins, EventsOfInput, ClientStandsOn, ServerStandsOn, ClientQueueIsDue, ServerQueueIsDue, GrantsHaveOwnStags, ClientAllows, ServerAllows, StagsAreNumbers, AcceptedKeepsLaw, SubmitIsSent, HelloSendsCalls, ReadChunkStays, PayloadHasItsXid, ReadyIsConveyed, ExecuteIsAnswered, RefusedSendIsAnswered, BadMessageIsRefused, RefusedCallIsAnswered, OpenReadsAreFew, PlanIsAccepted, SendIsExecutedOnce, CallCompletesOnce, XidsRise, PlacesRise};
+ghost use Rattle.nr_reduce.specs.RunLaws.{ClientAfterMark, ServerAfterMark, ClientOutputAfterMark, ServerOutputAfterMark, EndedClientStays, EndedServerStays, FullHoldsSoFar, SoFarHoldsBefore, AskedWithMark, ServedWithMark, ClientBegins, ServerBegins, EventsOfInput, ClientStandsOn, ServerStandsOn, ClientQueueIsDue, ServerQueueIsDue, GrantsHaveOwnStags, ClientAllows, ServerAllows, StagsAreNumbers, AcceptedKeepsLaw, SubmitIsSent, HelloSendsCalls, AcceptedCallsWait, ReadChunkStays, PayloadHasItsXid, ReadyIsConveyed, PayloadIsConveyed, ExecuteIsAnswered, RefusedSendIsAnswered, BadMessageIsRefused, RefusedCallIsAnswered, RefusedIsNotExecuted, OpenReadsAreFew, PlanIsAccepted, SendIsExecutedOnce, CallCompletesOnce, XidsRise, PlacesRise};
 
 /// One mark more: the state of an end, and the output due, are those before with the events of the mark.
 pub fn one_mark_more()
@@ -53,28 +53,33 @@ pub fn accepted_calls_keep_the_law()
     ensures accepted { AcceptedKeepsLaw }
 {}
 
-/// An accepted call is sent by its plan: at its Submit, once the server's hello was received, else with that hello.
+/// An accepted call is sent by its plan: at its Submit, once the server's hello was received, else with that hello. Until
+/// that hello is received, all calls that were accepted are outstanding, in order; then a Send of each is due.
 /// From its Submit on the region of its read chunk holds what the plan put there.
 pub fn submits_are_sent()
     ensures submit { SubmitIsSent }
     ensures hello { HelloSendsCalls }
+    ensures waiting { AcceptedCallsWait }
     ensures chunk { ReadChunkStays }
 {}
 
 /// An executed call's payload begins with a call head of its xid. A call becomes ready with the payload that its lists, its
-/// stream and the server's memory convey at that frame. An executed call is answered by RDMA Writes into what it offered and
+/// stream and the server's memory convey at that frame; so the payload of an executed call is what a message that was
+/// received before conveys, by its lists, its stream and the bytes that were placed into the call's sink regions. An executed call is answered by RDMA Writes into what it offered and
 /// then one Send, or by ERR_CHUNK where its offer doesn't hold the reply. A Send that is refused is answered by one error
 /// message, and makes no call pending or ready: by ERR_CHUNK exactly where its header is bad, or where its stream is there
 /// and its read chunk isn't its item's. A call whose stream is read and whose read chunk isn't its item's is
-/// answered by ERR_CHUNK, and is pending no longer. At most eight Read Requests are open, and a read waits only while
-/// eight are.
+/// answered by ERR_CHUNK, and is pending no longer. Neither is ever executed. At most eight Read Requests are open, and a
+/// read waits only while eight are.
 pub fn sends_are_answered()
     ensures head { PayloadHasItsXid }
     ensures ready { ReadyIsConveyed }
+    ensures conveyed { PayloadIsConveyed }
     ensures executed_call { ExecuteIsAnswered }
     ensures refused_send { RefusedSendIsAnswered }
     ensures bad_message { BadMessageIsRefused }
     ensures refused_call { RefusedCallIsAnswered }
+    ensures refused { RefusedIsNotExecuted }
     ensures open_reads { OpenReadsAreFew }
 {}
 

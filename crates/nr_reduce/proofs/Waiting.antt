@@ -1,0 +1,337 @@
+-- Until the server's hello is received, the calls that are outstanding are all that were accepted, in order.
+use Rattle.std.proofs.Common.{◌≡◌, ℕ, ◌+◌, Bool, true, false, cond, ◌&&◌, ◌||◌, eqb, List, [], ◌∷◌, ◌++◌, length, Option, Some, None, Result, Ok, Err, refl, sym, ap, subst, ◌∙◌, append_assoc, append-nil}
+use Rattle.std.specs.Prelude.{map}
+use Rattle.std.specs.List.{find}
+use Rattle.std.proofs.lemmas.Bool.{eqb-true}
+use Rattle.std.proofs.lemmas.Grind.{flat_map-append}
+use Rattle.nr_header.specs.declared.header.Header.{Header}
+use Rattle.nr_header.specs.declared.fault.HeaderFault.{HeaderFault}
+use Rattle.nr_header.specs.declared.fault.HeaderFault.TheVariants as faults
+use Rattle.nr_header.specs.Reading.{header_of}
+use Rattle.nr_wire.specs.declared.hello.Side.TheVariants.{Initiator, Responder}
+use Rattle.nr_wire.specs.Hello.{hello_of}
+use Rattle.nr_wire.specs.Segment.{Segment}
+use Rattle.nr_link.specs.declared.end.End.{End as Stop}
+use Rattle.nr_link.specs.Frames.{Frame, is_hello, frames_completed}
+use Rattle.nr_link.specs.Ending.{frame_segment, frame_end, hello_end}
+use Rattle.nr_link.specs.ReceiveState.{ReadRequest, message_completed, read_request_of}
+use Rattle.nr_reduce.specs.declared.call.Submission.TheVariants as submissions
+use Rattle.nr_reduce.specs.declared.mark.Mark.{Mark}
+use Rattle.nr_reduce.specs.declared.mark.Mark.TheVariants as marks
+use Rattle.nr_reduce.specs.declared.mark.LinkParameters.{LinkParameters}
+use Rattle.nr_reduce.specs.Plans.{regions_needed}
+use Rattle.nr_reduce.specs.History.{AcceptedCall, accepted_calls, accepted_at, bytes_received}
+use Rattle.nr_reduce.specs.AtEachMark.{AtEachMark}
+use Rattle.nr_reduce.specs.Matched.{IsPrefixOf}
+use Rattle.nr_reduce.specs.Events.{Event, if_own, events_at, events}
+use Rattle.nr_reduce.specs.Events.Event.{FrameReceived, CallSubmitted, MemoryRevoked, CallExecuted, QueueWritten}
+use Rattle.nr_reduce.specs.EndRules.{EndState, next_end_state, next_end_state_by, next_end_state_in, end_state_after, output_for, output_for_by, output_for_in}
+use Rattle.nr_reduce.specs.OfferedRegions.{region_grants}
+use Rattle.nr_reduce.specs.ClientState.{OutstandingCall, ClientState, plan_for}
+use Rattle.nr_reduce.specs.ClientMessages.{Verdict, verdict, by_header, by_call}
+use Rattle.nr_reduce.specs.ClientMessages.Verdict.{EndsLink, GivesOutcome}
+use Rattle.nr_reduce.specs.Client.{client_rules, client_end, client_output, client_state_after, initial_client, readiness, or_message_end, message_end, end_of_verdict, segment_message, outstanding_of, call_output, calls_output, response_output, segment_request, revoked_call, written_call, with_message, with_request, with_segment}
+use Rattle.nr_reduce.specs.Run.{client}
+use Rattle.nr_reduce.specs.Asked.{AskedSoFar, AskedMark}
+use Rattle.nr_reduce.specs.RunLaws.{outstanding_from, as_submitted}
+use Rattle.nr_reduce.proofs.Steps.{client-one}
+
+abbrev start : LinkParameters → ClientState
+start opened = (initial_client opened).state
+
+-- the STag that is next after these calls
+abbrev stag_behind : ClientState → ℕ → List AcceptedCall → ℕ
+stag_behind k stag [] = stag
+stag_behind k stag (a ∷ accepted) = stag_behind k (stag + regions_needed (outstanding_of (record k { stag = stag }) a).plan) accepted
+
+record Waiting (opened : LinkParameters) (accepted : List AcceptedCall) (k : ClientState) : Type 0 where
+  pub calls : map as_submitted k.outstanding ≡ outstanding_from (start opened) opened.first_stag accepted
+  pub stag : k.stag ≡ stag_behind (start opened) opened.first_stag accepted
+
+abbrev Waits : LinkParameters → List AcceptedCall → ClientState → Type 0
+Waits opened accepted k = k.has_hello ≡ false → Waiting opened accepted k
+
+from-append : (k : ClientState) (stag : ℕ) (xs : List AcceptedCall) (a : AcceptedCall) → outstanding_from k stag (xs ++ a ∷ []) ≡ outstanding_from k stag xs ++ outstanding_of (record k { stag = stag_behind k stag xs }) a ∷ []
+from-append k stag [] a = refl
+from-append k stag (x ∷ xs) a = ap (λ (os : List OutstandingCall). outstanding_of (record k { stag = stag }) x ∷ os) (from-append k (stag + regions_needed (outstanding_of (record k { stag = stag }) x).plan) xs a)
+
+behind-append : (k : ClientState) (stag : ℕ) (xs : List AcceptedCall) (a : AcceptedCall)
+    → stag_behind k stag (xs ++ a ∷ []) ≡ stag_behind k stag xs + regions_needed (outstanding_of (record k { stag = stag_behind k stag xs }) a).plan
+behind-append k stag [] a = refl
+behind-append k stag (x ∷ xs) a = behind-append k (stag + regions_needed (outstanding_of (record k { stag = stag }) x).plan) xs a
+
+submitted-append : (xs ys : List OutstandingCall) → map as_submitted (xs ++ ys) ≡ map as_submitted xs ++ map as_submitted ys
+submitted-append [] ys = refl
+submitted-append (x ∷ xs) ys = ap (λ (os : List OutstandingCall). as_submitted x ∷ os) (submitted-append xs ys)
+
+-- ---- Each event
+
+revoked-same : (xid : ℕ) (os : List OutstandingCall) → map as_submitted (map (revoked_call xid) os) ≡ map as_submitted os
+revoked-same xid [] = refl
+revoked-same xid (o ∷ os) = ap (λ (x : OutstandingCall). x ∷ map as_submitted (map (revoked_call xid) os)) (by (eqb o.xid xid)) ∙ ap (λ (rest : List OutstandingCall). as_submitted o ∷ rest) (revoked-same xid os)
+  where
+    by : (b : Bool) → as_submitted (cond b (record o { is_revoked = true }) o) ≡ as_submitted o
+    by true = refl
+    by false = refl
+
+or-none : (b : Bool) → (b || false) ≡ b
+or-none true = refl
+or-none false = refl
+
+written-same : (hello : Bool) (os : List OutstandingCall) → hello ≡ false → map as_submitted (map (written_call hello) os) ≡ map as_submitted os
+written-same hello [] no_hello = refl
+written-same hello (o ∷ os) no_hello =
+    ap (λ (b : Bool). record o { is_written = b; is_revoked = false } ∷ map as_submitted (map (written_call hello) os)) (ap (λ (b : Bool). o.is_written || b) no_hello ∙ or-none o.is_written)
+    ∙ ap (λ (rest : List OutstandingCall). as_submitted o ∷ rest) (written-same hello os no_hello)
+
+-- no Send of these is written, so no message answers one
+abbrev AllUnwritten : List OutstandingCall → Type 0
+AllUnwritten [] = Unit {0}
+AllUnwritten (o ∷ os) = (o.is_written ≡ false) × AllUnwritten os
+
+from-unwritten : (k : ClientState) (stag : ℕ) (accepted : List AcceptedCall) → AllUnwritten (outstanding_from k stag accepted)
+from-unwritten k stag [] = tt
+from-unwritten k stag (a ∷ accepted) = (refl, from-unwritten k (stag + regions_needed (outstanding_of (record k { stag = stag }) a).plan) accepted)
+
+unwritten-back : (os : List OutstandingCall) → AllUnwritten (map as_submitted os) → AllUnwritten os
+unwritten-back [] h = tt
+unwritten-back (o ∷ os) h = (h.0, unwritten-back os h.1)
+
+and-none : (a b : Bool) → b ≡ false → (a && b) ≡ false
+and-none true b e = e
+and-none false b e = refl
+
+none-answered : (xid : ℕ) (os : List OutstandingCall) → AllUnwritten os → find (λ o. eqb o.xid xid && o.is_written) os ≡ None
+none-answered xid [] h = refl
+none-answered xid (o ∷ os) h = ap (λ (b : Bool). cond b (Some o) (find (λ o. eqb o.xid xid && o.is_written) os)) (and-none (eqb o.xid xid) o.is_written h.0) ∙ none-answered xid os h.1
+
+abbrev Ends : Verdict → Type 0
+Ends (EndsLink reason) = Unit {0}
+Ends (GivesOutcome xid outcome) = ⊥
+
+verdict-ends : (k : ClientState) (place : ℕ) (message : List ℕ) (r : Result Header HeaderFault) → AllUnwritten k.outstanding → Ends (by_header k place message r)
+verdict-ends k place message (Ok header) h = subst (λ (o : Option OutstandingCall). Ends (by_call k place message header.body o)) (sym (none-answered header.xid k.outstanding h)) tt
+verdict-ends k place message (Err faults.Short) h = tt
+verdict-ends k place message (Err (faults.Version version)) h = tt
+verdict-ends k place message (Err (faults.Kind kind)) h = tt
+verdict-ends k place message (Err (faults.BadChunks at)) h = tt
+
+end-some : (f : Frame) (v : Verdict) → Ends v → end_of_verdict f v ≡ None → ⊥
+end-some f (EndsLink reason) h e = absurd cc
+end-some f (GivesOutcome xid outcome) h e = h
+
+no-message : (k : ClientState) (f : Frame) (o : Option (List ℕ)) → AllUnwritten k.outstanding → message_end k f o ≡ None → o ≡ None
+unfolding verdict
+no-message k f None h e = refl
+no-message k f (Some message) h e = absurd (end-some f (verdict k f.end message) (verdict-ends k f.end message (header_of message) h) e)
+
+or-message : (k : ClientState) (f : Frame) (o : Option Stop) → or_message_end k f o ≡ None → message_end k f (segment_message k (frame_segment f)) ≡ None
+or-message k f (Some end) e = absurd cc
+or-message k f None e = e
+
+-- a frame that brings no message leaves the calls
+abbrev SameCalls : ClientState → ClientState → Type 0
+SameCalls k after = (after.outstanding ≡ k.outstanding) × (after.stag ≡ k.stag) × (after.has_hello ≡ k.has_hello)
+
+request-same : (k m : ClientState) (r : Option ReadRequest) → SameCalls k m → SameCalls k (with_request m r)
+request-same k m None h = h
+request-same k m (Some r) h = h
+
+segment-same : (k : ClientState) (f : Frame) (r : Result Segment ℕ) → segment_message k r ≡ None → SameCalls k (with_segment k f r)
+segment-same k f (Err reason) e = (refl, refl, refl)
+segment-same k f (Ok segment) e =
+    request-same k (with_message k f.end (message_completed k.received segment)) (read_request_of segment)
+    (subst (λ (o : Option (List ℕ)). SameCalls k (with_message k f.end o)) (sym e) (refl, refl, refl))
+
+same-waits : (opened : LinkParameters) (accepted : List AcceptedCall) (k after : ClientState) → SameCalls k after → Waits opened accepted k → Waits opened accepted after
+same-waits opened accepted k after s w hello =
+    let h = w (sym s.2 ∙ hello) in
+    record { calls = ap (λ (os : List OutstandingCall). map as_submitted os) s.0 ∙ h.calls; stag = s.1 ∙ h.stag }
+
+unwritten-of : (opened : LinkParameters) (accepted : List AcceptedCall) (k : ClientState) → Waiting opened accepted k → AllUnwritten k.outstanding
+unwritten-of opened accepted k w = unwritten-back k.outstanding (subst AllUnwritten (sym w.calls) (from-unwritten (start opened) opened.first_stag accepted))
+
+frame-waits : (opened : LinkParameters) (accepted : List AcceptedCall) (k : ClientState) (f : Frame) → client_end k (FrameReceived f) ≡ None → Waits opened accepted k → Waits opened accepted (client_state_after opened k (FrameReceived f))
+unfolding client_end client_state_after
+frame-waits opened accepted k f stays w = by (is_hello f) stays
+  where
+    by : (b : Bool) → cond b (hello_end (hello_of Responder f.bytes)) (or_message_end k f (frame_end (readiness k) (region_grants f.end k.regions) f)) ≡ None
+        → Waits opened accepted (cond b (record k { has_hello = true }) (with_segment k f (frame_segment f)))
+    by true e = λ hello. absurd cc
+    by false e = λ hello. by_hello k.has_hello refl hello
+      where
+        whole : AllUnwritten k.outstanding → SameCalls k (with_segment k f (frame_segment f))
+        whole h = segment-same k f (frame_segment f) (no-message k f (segment_message k (frame_segment f)) h (or-message k f (frame_end (readiness k) (region_grants f.end k.regions) f) e))
+
+        keeps : (r : Result Segment ℕ) → (with_segment k f r).has_hello ≡ k.has_hello
+        keeps (Err reason) = refl
+        keeps (Ok segment) = keeps_request (with_message k f.end (message_completed k.received segment)) (read_request_of segment) ∙ keeps_message (message_completed k.received segment)
+          where
+            keeps_request : (m : ClientState) (o : Option ReadRequest) → (with_request m o).has_hello ≡ m.has_hello
+            keeps_request m None = refl
+            keeps_request m (Some q) = refl
+
+            keeps_message : (o : Option (List ℕ)) → (with_message k f.end o).has_hello ≡ k.has_hello
+            keeps_message None = refl
+            keeps_message (Some message) = refl
+
+        by_hello : (b : Bool) → k.has_hello ≡ b → (with_segment k f (frame_segment f)).has_hello ≡ false → Waiting opened accepted (with_segment k f (frame_segment f))
+        by_hello true is hello = (let t : true ≡ false = sym is ∙ sym (keeps (frame_segment f)) ∙ hello in absurd cc)
+        by_hello false is hello = same-waits opened accepted k (with_segment k f (frame_segment f)) (whole (unwritten-of opened accepted k (w is))) w hello
+
+submit-waits : (opened : LinkParameters) (accepted : List AcceptedCall) (k : ClientState) (place : ℕ) (a : AcceptedCall) → Waits opened accepted k → Waits opened (accepted ++ a ∷ []) (client_state_after opened k (CallSubmitted place a))
+unfolding client_state_after plan_for
+submit-waits opened accepted k place a w hello =
+    let h = w hello in
+    let next : ℕ = stag_behind (start opened) opened.first_stag accepted in
+    let same : outstanding_of k a ≡ outstanding_of (record (start opened) { stag = next }) a = ap (λ (stag : ℕ). outstanding_of (record (start opened) { stag = stag }) a) h.stag in
+    record {
+      calls = submitted-append k.outstanding (outstanding_of k a ∷ [])
+          ∙ ap (λ (os : List OutstandingCall). os ++ outstanding_of k a ∷ []) h.calls
+          ∙ ap (λ (o : OutstandingCall). outstanding_from (start opened) opened.first_stag accepted ++ o ∷ []) same
+          ∙ sym (from-append (start opened) opened.first_stag accepted a);
+      stag = ap (λ (stag : ℕ). stag + regions_needed (outstanding_of (record (start opened) { stag = stag }) a).plan) h.stag
+          ∙ sym (behind-append (start opened) opened.first_stag accepted a);
+    }
+
+-- the events that submit nothing
+abbrev SubmitsNothing : Event → Type 0
+SubmitsNothing (FrameReceived f) = Unit {0}
+SubmitsNothing (CallSubmitted place a) = ⊥
+SubmitsNothing (MemoryRevoked place xid) = Unit {0}
+SubmitsNothing (CallExecuted call) = Unit {0}
+SubmitsNothing QueueWritten = Unit {0}
+
+after-waits : (opened : LinkParameters) (accepted : List AcceptedCall) (k : ClientState) (event : Event) → SubmitsNothing event → client_end k event ≡ None → Waits opened accepted k → Waits opened accepted (client_state_after opened k event)
+unfolding client_state_after
+after-waits opened accepted k (FrameReceived f) s stays w = frame-waits opened accepted k f stays w
+after-waits opened accepted k (CallSubmitted place a) s stays w = absurd s
+after-waits opened accepted k (MemoryRevoked place xid) s stays w = λ hello. (let h = w hello in record { calls = revoked-same xid k.outstanding ∙ h.calls; stag = h.stag })
+after-waits opened accepted k (CallExecuted call) s stays w = w
+after-waits opened accepted k QueueWritten s stays w = λ hello. (let h = w hello in record { calls = written-same k.has_hello k.outstanding hello ∙ h.calls; stag = h.stag })
+
+next-waits : (opened : LinkParameters) (accepted : List AcceptedCall) (r : EndState ClientState) (event : Event) → SubmitsNothing event → Waits opened accepted r.state → Waits opened accepted (next_end_state (client_rules opened) r event).state
+next-waits opened accepted r event s w = by_end r.state r.ended w
+  where
+    by_why : (k : ClientState) (why : Option Stop) → client_end k event ≡ why → Waits opened accepted k → Waits opened accepted (next_end_state_by (client_rules opened) k event why).state
+    by_why k None is w = after-waits opened accepted k event s is w
+    by_why k (Some end) is w = w
+
+    by_end : (k : ClientState) (ended : Option Stop) → Waits opened accepted k → Waits opened accepted (next_end_state_in (client_rules opened) k event ended).state
+    by_end k None w = by_why k (client_end k event) refl w
+    by_end k (Some end) w = w
+
+abbrev SubmitNothing : List Event → Type 0
+SubmitNothing [] = Unit {0}
+SubmitNothing (event ∷ es) = SubmitsNothing event × SubmitNothing es
+
+all-wait : (opened : LinkParameters) (accepted : List AcceptedCall) (r : EndState ClientState) (es : List Event) → SubmitNothing es → Waits opened accepted r.state → Waits opened accepted (end_state_after (client_rules opened) r es).state
+all-wait opened accepted r [] s w = w
+all-wait opened accepted r (event ∷ es) s w = all-wait opened accepted (next_end_state (client_rules opened) r event) es s.1 (next-waits opened accepted r event s.0 w)
+
+nothing-if : (b : Bool) (es : List Event) → SubmitNothing es → SubmitNothing (if_own b es)
+nothing-if true es h = h
+nothing-if false es h = tt
+
+nothing-frames : (fs : List Frame) → SubmitNothing (map FrameReceived fs)
+nothing-frames [] = tt
+nothing-frames (f ∷ fs) = (tt, nothing-frames fs)
+
+-- ---- Each mark
+
+submit-one : (opened : LinkParameters) (accepted : List AcceptedCall) (k : ClientState) (ended : Option Stop) (place : ℕ) (a : AcceptedCall) → ended ≡ None → Waits opened accepted k
+    → Waits opened (accepted ++ a ∷ []) (next_end_state_in (client_rules opened) k (CallSubmitted place a) ended).state
+unfolding client_end
+submit-one opened accepted k None place a stays w = submit-waits opened accepted k place a w
+submit-one opened accepted k (Some end) place a stays w = absurd cc
+
+abbrev WaitsAfter : LinkParameters → ℕ → List Mark → Mark → List AcceptedCall → Type 0
+WaitsAfter opened link before mark accepted = Waits opened accepted (end_state_after (client_rules opened) (client opened link before) (events_at link Initiator before mark)).state
+
+waits-nothing : (opened : LinkParameters) (link : ℕ) (before : List Mark) (mark : Mark) (accepted : List AcceptedCall) → Waits opened accepted (client opened link before).state
+    → SubmitNothing (events_at link Initiator before mark) → WaitsAfter opened link before mark (accepted ++ [])
+waits-nothing opened link before mark accepted w h =
+    subst (λ (all : List AcceptedCall). WaitsAfter opened link before mark all) (sym (append-nil accepted)) (all-wait opened accepted (client opened link before) (events_at link Initiator before mark) h w)
+
+waits-mark : (opened : LinkParameters) (link : ℕ) (before : List Mark) (mark : Mark) (accepted : List AcceptedCall) → Waits opened accepted (client opened link before).state → AskedMark IsPrefixOf opened link before mark
+    → WaitsAfter opened link before mark (accepted ++ accepted_at link mark)
+waits-mark opened link before (marks.Submit l call form (submissions.Accepted xid)) accepted w h = by (eqb l link) refl
+  where
+    a : AcceptedCall
+    a = record { xid = xid; call = call; form = form }
+
+    place : ℕ
+    place = length (bytes_received link Initiator before)
+
+    by : (b : Bool) → eqb l link ≡ b → Waits opened (accepted ++ cond b (a ∷ []) []) (end_state_after (client_rules opened) (client opened link before) (if_own (b && true) (CallSubmitted place a ∷ []))).state
+    by false is = subst (λ (all : List AcceptedCall). Waits opened all (client opened link before).state) (sym (append-nil accepted)) w
+    by true is = submit-one opened accepted (client opened link before).state (client opened link before).ended place a (h (eqb-true l link is)).stays w
+waits-mark opened link before (marks.Submit l call form (submissions.Refused why)) accepted w h = by (eqb l link)
+  where
+    by : (b : Bool) → Waits opened (accepted ++ cond b [] []) (client opened link before).state
+    by true = subst (λ (all : List AcceptedCall). Waits opened all (client opened link before).state) (sym (append-nil accepted)) w
+    by false = subst (λ (all : List AcceptedCall). Waits opened all (client opened link before).state) (sym (append-nil accepted)) w
+waits-mark opened link before (marks.Submit l call form submissions.Dropped) accepted w h = by (eqb l link)
+  where
+    by : (b : Bool) → Waits opened (accepted ++ cond b [] []) (client opened link before).state
+    by true = subst (λ (all : List AcceptedCall). Waits opened all (client opened link before).state) (sym (append-nil accepted)) w
+    by false = subst (λ (all : List AcceptedCall). Waits opened all (client opened link before).state) (sym (append-nil accepted)) w
+waits-mark opened link before (marks.Wrote l s bytes) accepted w h = waits-nothing opened link before (marks.Wrote l s bytes) accepted w (nothing-if _ (QueueWritten ∷ []) (tt, tt))
+waits-mark opened link before (marks.Fed l s bytes) accepted w h =
+    waits-nothing opened link before (marks.Fed l s bytes) accepted w (nothing-if _ (map FrameReceived (frames_completed Responder (bytes_received link Initiator before) bytes)) (nothing-frames _))
+waits-mark opened link before (marks.Execute l xid moment payload place reply) accepted w h = waits-nothing opened link before (marks.Execute l xid moment payload place reply) accepted w
+    (nothing-if _ (CallExecuted (record { xid = xid; moment = moment; payload = payload; place = place; reply = reply }) ∷ []) (tt, tt))
+waits-mark opened link before (marks.Done l xid outcome) accepted w h = waits-nothing opened link before (marks.Done l xid outcome) accepted w tt
+waits-mark opened link before (marks.Lost l xid) accepted w h = waits-nothing opened link before (marks.Lost l xid) accepted w tt
+waits-mark opened link before (marks.Forget l xid) accepted w h = waits-nothing opened link before (marks.Forget l xid) accepted w tt
+waits-mark opened link before (marks.Revoke l xid bytes) accepted w h = waits-nothing opened link before (marks.Revoke l xid bytes) accepted w (nothing-if _ (MemoryRevoked (length (bytes_received link Initiator before)) xid ∷ []) (tt, tt))
+waits-mark opened link before (marks.Drop l) accepted w h = waits-nothing opened link before (marks.Drop l) accepted w tt
+
+accepted-one : (link : ℕ) (before : List Mark) (mark : Mark) → accepted_calls link (before ++ mark ∷ []) ≡ accepted_calls link before ++ accepted_at link mark
+unfolding accepted_calls
+accepted-one link before mark = flat_map-append (accepted_at link) before (mark ∷ []) ∙ ap (λ (all : List AcceptedCall). accepted_calls link before ++ all) (append-nil (accepted_at link mark))
+
+waits-from : (opened : LinkParameters) (link : ℕ) (before run : List Mark) → Waits opened (accepted_calls link before) (client opened link before).state → AtEachMark (AskedMark IsPrefixOf opened link) before run
+    → Waits opened (accepted_calls link (before ++ run)) (client opened link (before ++ run)).state
+waits-from opened link before [] w h = subst (λ (r : List Mark). Waits opened (accepted_calls link r) (client opened link r).state) (sym (append-nil before)) w
+waits-from opened link before (mark ∷ run) w h =
+    let there = waits-mark opened link before mark (accepted_calls link before) w h.0 in
+    let next : Waits opened (accepted_calls link (before ++ mark ∷ [])) (client opened link (before ++ mark ∷ [])).state =
+    subst (λ (all : List AcceptedCall). Waits opened all (client opened link (before ++ mark ∷ [])).state) (sym (accepted-one link before mark))
+    (subst (λ (r : EndState ClientState). Waits opened (accepted_calls link before ++ accepted_at link mark) r.state) (sym (client-one opened link before mark)) there) in
+    subst (λ (r : List Mark). Waits opened (accepted_calls link r) (client opened link r).state) (append_assoc before (mark ∷ []) run)
+    (waits-from opened link (before ++ mark ∷ []) run next h.1)
+
+begins-waiting : (opened : LinkParameters) (link : ℕ) → Waits opened (accepted_calls link []) (client opened link []).state
+unfolding client events accepted_calls
+begins-waiting opened link hello = record { calls = refl; stag = refl }
+
+-- ---- What the hello sends
+
+submitted-output : (opened : LinkParameters) (msn : ℕ) (os : List OutstandingCall) → calls_output opened msn (map as_submitted os) ≡ calls_output opened msn os
+submitted-output opened msn [] = refl
+submitted-output opened msn (o ∷ os) = ap (λ (xs : List ℕ). call_output opened msn o ++ xs) (submitted-output opened (msn + 1) os)
+
+hello-output : (opened : LinkParameters) (k : ClientState) (ended : Option Stop) (f : Frame) → is_hello f ≡ true → (next_end_state_in (client_rules opened) k (FrameReceived f) ended).ended ≡ None
+    → output_for_in (client_rules opened) k (FrameReceived f) ended ≡ calls_output opened 1 k.outstanding
+unfolding client_output
+hello-output opened k (Some end) f hello e = absurd cc
+hello-output opened k None f hello e = by (client_end k (FrameReceived f)) e
+  where
+    by : (why : Option Stop) → (next_end_state_by (client_rules opened) k (FrameReceived f) why).ended ≡ None → output_for_by (client_rules opened) k (FrameReceived f) why ≡ calls_output opened 1 k.outstanding
+    by None e = ap (λ (b : Bool). cond b (calls_output opened 1 k.outstanding) (response_output k f.end (segment_request (frame_segment f)))) hello
+    by (Some end) e = absurd cc
+
+pub accepted-wait : (opened : LinkParameters) (link : ℕ) (run : List Mark) → AskedSoFar opened link run → (client opened link run).state.has_hello ≡ false →
+    (map as_submitted (client opened link run).state.outstanding ≡ outstanding_from (initial_client opened).state opened.first_stag (accepted_calls link run))
+    × ((f : Frame) → is_hello f ≡ true → (next_end_state (client_rules opened) (client opened link run) (FrameReceived f)).ended ≡ None →
+    output_for (client_rules opened) (client opened link run) (FrameReceived f)
+    ≡ calls_output opened 1 (outstanding_from (initial_client opened).state opened.first_stag (accepted_calls link run)))
+accepted-wait opened link run asked hello =
+    let w = waits-from opened link [] run (begins-waiting opened link) asked hello in
+    let k : ClientState = (client opened link run).state in (
+      w.calls,
+      λ f is stays. hello-output opened k (client opened link run).ended f is stays
+          ∙ sym (submitted-output opened 1 k.outstanding)
+          ∙ ap (λ (os : List OutstandingCall). calls_output opened 1 os) w.calls,
+    )
