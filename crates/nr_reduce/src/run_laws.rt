@@ -54,8 +54,9 @@ pub fn accepted_calls_keep_the_law()
 {}
 
 /// An accepted call is sent by its plan: at its Submit, once the server's hello was received, else with that hello. Until
-/// that hello is received, all calls that were accepted are outstanding, in order; then a Send of each is due.
-/// From its Submit on the region of its read chunk holds what the plan put there.
+/// that hello is received, a client that kept its law so far has outstanding all calls that it accepted, in order, and no
+/// Send of them is written; for the hello, where it doesn't end the client, a Send of each is due. From its Submit on the
+/// region of a call's read chunk holds what the plan put there.
 pub fn submits_are_sent()
     ensures submit { SubmitIsSent }
     ensures hello { HelloSendsCalls }
@@ -64,13 +65,14 @@ pub fn submits_are_sent()
 {}
 
 /// An executed call's payload begins with a call head of its xid. A call becomes ready with the payload that its lists, its
-/// stream and the server's memory convey at that frame; so the payload of an executed call is what a message that was
-/// received before conveys, by its lists, its stream and the bytes that were placed into the call's sink regions. An executed call is answered by RDMA Writes into what it offered and
-/// then one Send, or by ERR_CHUNK where its offer doesn't hold the reply. A Send that is refused is answered by one error
-/// message, and makes no call pending or ready: by ERR_CHUNK exactly where its header is bad, or where its stream is there
-/// and its read chunk isn't its item's. A call whose stream is read and whose read chunk isn't its item's is
-/// answered by ERR_CHUNK, and is pending no longer. Neither is ever executed. At most eight Read Requests are open, and a
-/// read waits only while eight are.
+/// stream and the server's memory convey at that frame. So the payload of an executed call is what a message that was
+/// received before conveys: by its lists, its stream, and the bytes that the call's sink regions held at that frame. An
+/// executed call is answered by RDMA Writes into what it offered and then one Send, or by ERR_CHUNK where its offer doesn't
+/// hold the reply. A Send that is refused is answered by one error message, and makes no call pending or ready: by
+/// ERR_CHUNK exactly where its header is bad, or where its stream is there and its read chunk isn't its item's. A call
+/// whose stream is read and whose read chunk isn't its item's is answered by ERR_CHUNK, and is pending no longer. A Send
+/// that is refused in either way is never executed. At most eight Read Requests are open, and a read waits only while eight
+/// are.
 pub fn sends_are_answered()
     ensures head { PayloadHasItsXid }
     ensures ready { ReadyIsConveyed }
