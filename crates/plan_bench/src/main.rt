@@ -1,10 +1,10 @@
-//! A benchmark, run by hand: plans a WRITE of N bytes in form Auto, or looks for its item, and prints a sum of the answers.
-//! The arguments are the number of rounds, N (at most 32768), and `plan` or `item`.
+//! A benchmark, run by hand: plans a WRITE of N bytes in form Auto, looks for its item, or asks whether an offer holds the reply
+//! of a READ of N bytes, and prints a sum of the answers. The arguments are the number of rounds, N (at most 32768), and `plan`,
+//! `item` or `holds`.
 #![tactic(auto)]
 
-ghost use Rattle.std.specs.Prelude.{◌≤◌, ◌<◌, ◌^◌, length};
-
-use nr_reduce::{Form, PayloadFault, call_item, plan};
+use nr_header::{Chunk, ChunkLists, InlineVec, RdmaSegment};
+use nr_reduce::{Form, PayloadFault, call_item, holds, plan};
 use std::alloc::{AllocError, Global};
 use std::env;
 use std::process::ExitCode;
@@ -12,19 +12,39 @@ use std::process::ExitCode;
 /// The most bytes that a message may have in either direction.
 const SEND_MAX: u32 = 1024;
 
-/// A WRITE of file 2 up to the length of its data (RFC 5531 section 9, RFC 1813 section 3.3.7), without its count and length.
-const FRONT: [u32; 16] = [1, 0, 2, 100_003, 3, 7, 0, 0, 0, 0, 8, 0, 2, 0, 0, 0];
+/// The words of a WRITE of file 2 (RFC 5531 section 9, RFC 1813 section 3.3.7) before its stable word and the length of its data.
+const WRITE: [u32; 16] = [1, 0, 2, 100_003, 3, 7, 0, 0, 0, 0, 8, 0, 2, 0, 0, 0];
 
-/// The payload of a WRITE of `len` bytes, which is a multiple of four.
-fn payload_of(alloc: Global, len: u32) -> Result<Vec<u8>, AllocError> {
+/// The words of the reply to a READ (RFC 1813 section 3.3.6) before its eof word and the length of its data.
+const READ: [u32; 9] = [1, 1, 0, 0, 0, 0, 0, 0, 0];
+
+/// A payload of these words, of one more, and of `len` bytes behind their length.
+fn payload_of(alloc: Global, words: &[u32], last: u32, len: u32) -> Result<Vec<u8>, AllocError> {
     let mut payload = Vec::new(alloc);
-    for word in FRONT {
+    for word in words {
         payload.extend_from_slice(&word.to_be_bytes())?;
     }
-    payload.extend_from_slice(&2u32.to_be_bytes())?;
+    payload.extend_from_slice(&last.to_be_bytes())?;
     payload.extend_from_slice(&len.to_be_bytes())?;
-    payload.resize(72 + len as usize, 0)?;
+    for _ in 0..len {
+        payload.push(0)?;
+    }
     Ok(payload)
+}
+
+/// An offer of one write chunk of 32768 bytes.
+fn offer(alloc: Global) -> Result<ChunkLists, AllocError> {
+    let segment = RdmaSegment {
+        handle: 1,
+        length: 32_768,
+        offset: 0,
+    };
+    let chunk = Chunk::from_vec(Vec::from_array(alloc, [segment])?);
+    Ok(ChunkLists {
+        read: InlineVec::new(),
+        write: InlineVec::from_vec(Vec::from_array(alloc, [chunk])?),
+        reply: None,
+    })
 }
 
 /// How many bytes the region of the payload's plan has.
@@ -41,17 +61,43 @@ fn item_place(payload: &[u8]) -> u64 {
     }
 }
 
-fn total(alloc: Global, payload: &[u8], rounds: u64, plans: bool) -> Option<u64> {
+fn plans(alloc: Global, payload: &[u8], rounds: u32) -> u64 {
     let mut total: u64 = 0;
     for _ in 0..rounds {
-        let more = if plans {
-            planned(alloc, payload).ok()?
-        } else {
-            item_place(payload)
-        };
-        total = total.wrapping_add(more);
+        total = total.wrapping_add(planned(alloc, payload).unwrap_or(0));
     }
-    Some(total)
+    total
+}
+
+fn items(payload: &[u8], rounds: u32) -> u64 {
+    let mut total: u64 = 0;
+    for _ in 0..rounds {
+        total = total.wrapping_add(item_place(payload));
+    }
+    total
+}
+
+fn held(offer: &ChunkLists, reply: &[u8], rounds: u32) -> u64 {
+    let mut total: u64 = 0;
+    for _ in 0..rounds {
+        total = total.wrapping_add(u64::from(holds(offer, 100_003, 3, 6, reply, SEND_MAX)));
+    }
+    total
+}
+
+/// The sum of the answers.
+fn total(alloc: Global, what: &str, len: u32, rounds: u32) -> Result<u64, AllocError> {
+    if what == "holds" {
+        let reply = payload_of(alloc, &READ, 1, len)?;
+        let offer = offer(alloc)?;
+        return Ok(held(&offer, reply.as_slice(), rounds));
+    }
+    let payload = payload_of(alloc, &WRITE, 2, len)?;
+    if what == "plan" {
+        Ok(plans(alloc, payload.as_slice(), rounds))
+    } else {
+        Ok(items(payload.as_slice(), rounds))
+    }
 }
 
 fn number(word: Option<String>) -> Option<u32> {
@@ -66,14 +112,10 @@ fn main(rt: HostRuntime) -> ExitCode {
     let (Some(rounds), Some(len)) = (number(words.next()), number(words.next())) else {
         return ExitCode::FAILURE;
     };
-    let plans = match words.next() {
-        Some(word) => word.as_str() == "plan",
-        None => false,
-    };
-    let Ok(payload) = payload_of(rt.alloc(), len % 32_769) else {
+    let Some(what) = words.next() else {
         return ExitCode::FAILURE;
     };
-    let Some(total) = total(rt.alloc(), payload.as_slice(), u64::from(rounds), plans) else {
+    let Ok(total) = total(rt.alloc(), what.as_str(), len % 32_769, rounds) else {
         return ExitCode::FAILURE;
     };
     match println!(rt; "{total}") {
