@@ -1,5 +1,5 @@
-//! Tests of the tree (`nr_tree`): the drill's tree number by number, look-ups, listings after a cookie, and the bytes of
-//! files. What is wanted was worked out by hand from RFC 1813.
+//! Tests of the tree (`nr_tree`): the drill's tree number by number, look-ups, listings after a cookie, the bytes of
+//! files, and steps. What is wanted was worked out by hand from RFC 1813.
 //!
 //! They stand in a crate of their own, above the crate that they test, since a crate with tests is proved twice.
 #![tactic(auto)]

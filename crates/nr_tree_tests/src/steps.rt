@@ -60,6 +60,14 @@ fn write(rt: &impl Abort, tree: &mut Tree)
     tree.write(2, 7, b"ab", NOW).expect(rt, "memory");
 }
 
+/// `hello` is cut to three bytes.
+fn cut(rt: &impl Abort, tree: &mut Tree)
+    requires drill { IsDrill tree.old }
+    requires sane { IsSane tree.old }
+{
+    tree.set_size(2, 3, NOW).expect(rt, "memory");
+}
+
 /// The step, and what comes of it: the look-ups of `hello` and `bye`, what stands under 2, and the first entry of the root.
 type Row = (
     u8,
@@ -69,7 +77,7 @@ type Row = (
     Option<(usize, u64, u64)>,
 );
 
-static ROWS: [Row; 4] = [
+static ROWS: [Row; 5] = [
     (
         0,
         None,
@@ -92,6 +100,13 @@ static ROWS: [Row; 4] = [
         Some((REG, 0o666, 1, 9, 1)),
         Some((0, 1, 2)),
     ),
+    (
+        4,
+        Some(2),
+        None,
+        Some((REG, 0o666, 1, 3, 1)),
+        Some((0, 1, 2)),
+    ),
 ];
 
 fn stepped(rt: &impl Abort, alloc: Global, step: u8) -> Tree {
@@ -100,7 +115,8 @@ fn stepped(rt: &impl Abort, alloc: Global, step: u8) -> Tree {
         0 => rename(rt, alloc, &mut tree),
         1 => link(rt, alloc, &mut tree),
         2 => remove(&mut tree),
-        _ => write(rt, &mut tree),
+        3 => write(rt, &mut tree),
+        _ => cut(rt, &mut tree),
     }
     tree
 }
@@ -115,5 +131,5 @@ fn steps(rt: HostRuntime) {
         same(&rt, row, listed(&tree, 1, 0), *entry);
     }
     let tree = stepped(&rt, rt.alloc(), 0);
-    same(&rt, 4, listed(&tree, 1, 3), Some((2, 4, 2)));
+    same(&rt, 5, listed(&tree, 1, 3), Some((2, 4, 2)));
 }
