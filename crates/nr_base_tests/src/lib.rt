@@ -62,11 +62,15 @@ mod compare;
 #[cfg(test)]
 mod header;
 #[cfg(test)]
+mod numbers;
+#[cfg(test)]
 mod outside;
 #[cfg(test)]
 mod regions;
 #[cfg(test)]
 mod res;
+#[cfg(test)]
+mod res_fields;
 #[cfg(test)]
 mod rpc;
 #[cfg(test)]
