@@ -47,7 +47,7 @@ module _ (next : ℕ) (nodes : Nodes) (h d : ℕ) (now : Time) (name : List ℕ)
   add_entry_to-fit is free =
       let v : (v : Node) × (get nodes d ≡ Some v) × (is_dir v ≡ true) = directory_at nodes d is in
       let none : entry_of_name name (entries_in v.0) ≡ None = ap (entry_of_name name) (sym (value_at-at entries_in [] nodes d v.0 v.1)) ∙ free.free in
-      fit-with_change nodes d v.0 (node_with_entry now name h b) v.1 fit (λ f. fit-node_with_entry now name h b v.0 v.0.content refl f none free.some free.few)
+      fit-with_change nodes d v.0 (node_with_entry now name h b) v.1 fit (λ f. fit-node_with_entry now name h b v.0 v.0.content refl f none free.not_empty free.not_too_long)
 
   pub add_entry_to-live : s.dir d ≡ true → (skeleton_of next after).live ≡ s.live
   add_entry_to-live is =
@@ -67,7 +67,7 @@ sane-tree_with_node t now d name node sane is free new room =
     let s : Skeleton = skeleton t in
     let nodes : Nodes = insert t.nodes t.next node in
     let S : Skeleton = skeleton_of (t.next + 1) nodes in
-    let way : S ≡ node_added s (is_dir node) node.parent = skeleton_of-new t.next t.nodes node new.bare new.links in
+    let way : S ≡ node_added s (is_dir node) node.parent = skeleton_of-new t.next t.nodes node new.empty new.links in
     let sound : IsSound S (Some t.next) = subst (λ (k : Skeleton). IsSound k (Some t.next)) (sym way) (sound-node_added s (is_dir node) node.parent sane.skeleton) in
     let fit : Fit nodes = fit-insert t.nodes t.next node sane.contents new.fit in
     let ne : d ≡ t.next → ⊥ = differ s.dir d t.next is (not_dir s (is_dir node) node.parent sane.skeleton) in
@@ -77,7 +77,7 @@ sane-tree_with_node t now d name node sane is free new room =
     let parent : S.parent t.next ≡ d = ap (λ (k : Skeleton). k.parent t.next) way ∙ set-here t.next node.parent s.parent ∙ new.parent in
     let bare : S.entries t.next ≡ [] = ap (λ (k : Skeleton). k.entries t.next) way ∙ set-here t.next [] s.entries in
     let same : S.entries d ≡ s.entries d = ap (λ (k : Skeleton). k.entries d) way ∙ set-other t.next [] s.entries d ne in
-    let ok : IsFree S d name = record { free = ap (entry_of_name name) same ∙ free.free; some = free.some; few = free.few } in
+    let ok : IsFree S d name = record { free = ap (entry_of_name name) same ∙ free.free; not_empty = free.not_empty; not_too_long = free.not_too_long } in
     let put : IsSound (record (skeleton_of (t.next + 1) (tree_with_node t now d name node).nodes) { parent = set t.next d (skeleton_of (t.next + 1) (tree_with_node t now d name node).nodes).parent }) None =
     add_entry_to (t.next + 1) nodes t.next d now name (is_dir node) sound fit dir kind (λ b. let less : s.links d < 65535 = room b in omega (arith, links, less)) (λ b below. none_below S t.next d sound bare ne below) in
     record {
@@ -102,7 +102,7 @@ sane-tree_with_link t now d name h sane is free live file room =
     let dir : S.dir d ≡ true = ap (λ (k : Skeleton). k.dir d) way ∙ is in
     let kind : false ≡ S.dir h = sym (ap (λ (k : Skeleton). k.dir h) way ∙ file) in
     let parent : S.parent h ≡ d = ap (λ (k : Skeleton). k.parent h) way ∙ set-here h d s.parent in
-    let ok : IsFree S d name = record { free = ap (λ (k : Skeleton). entry_of_name name (k.entries d)) way ∙ free.free; some = free.some; few = free.few } in
+    let ok : IsFree S d name = record { free = ap (λ (k : Skeleton). entry_of_name name (k.entries d)) way ∙ free.free; not_empty = free.not_empty; not_too_long = free.not_too_long } in
     let put : IsSound (record (skeleton_of t.next (tree_with_link t now d name h).nodes) { parent = set h d (skeleton_of t.next (tree_with_link t now d name h).nodes).parent }) None =
     add_entry_to t.next nodes h d now name false sound fit dir kind (λ b. absurd cc) (λ b. absurd cc) in
     record {

@@ -102,19 +102,19 @@ pub can_add : (t : Tree) (d : ℕ) (name : List ℕ) (mode links : ℕ) (content
     → 0 < length name → length name ≤ 255 → v.metadata.links < 65535 → IsNew (drill_node mode links d content) d → CanAddNode t d name (drill_node mode links d content)
 can_add t d name mode links content v e dir none some few room new = record {
   directory = ap (λ (o : Option Node). option_map_or is_dir o false) e ∙ dir;
-  free = record { free = ap (λ (o : Option Node). entry_of_name name (option_map_or entries_in o [])) e ∙ none; some = some; few = few };
+  free = record { free = ap (λ (o : Option Node). entry_of_name name (option_map_or entries_in o [])) e ∙ none; not_empty = some; not_too_long = few };
   new = new;
   links = λ b. subst (λ (k : ℕ). k < 65535) (sym (ap (λ (o : Option Node). option_map_or (λ (node : Node). node.metadata.links) o 0) e)) room;
 }
 
 pub new_file : (d : ℕ) (bytes : List ℕ) → length bytes ≤ 16777216 → IsNew (drill_node mode_666 1 d (Regular bytes)) d
-new_file d bytes le = record { fit = le; bare = refl; parent = refl; links = refl }
+new_file d bytes le = record { fit = le; empty = refl; first_cookie = omega arith; parent = refl; links = refl }
 
 pub new_link : (d : ℕ) (path : List ℕ) → 0 < length path → length path ≤ 1024 → IsNew (drill_node mode_777 1 d (Link path)) d
-new_link d path some few = record { fit = (some, few); bare = refl; parent = refl; links = refl }
+new_link d path some few = record { fit = (some, few); empty = refl; first_cookie = omega arith; parent = refl; links = refl }
 
 pub new_directory : (d : ℕ) → IsNew (drill_node mode_777 2 d (Directory (record { next_cookie = 1; list = [] }))) d
-new_directory d = record { fit = (omega arith, tt); bare = refl; parent = refl; links = refl }
+new_directory d = record { fit = (omega arith, tt); empty = refl; first_cookie = omega arith; parent = refl; links = refl }
 
 -- ===== names of the files differ
 

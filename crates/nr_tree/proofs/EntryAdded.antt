@@ -65,7 +65,7 @@ module _ (s : Skeleton) (d : ℕ) (e : Entry) (sound : IsSound s (Some e.number)
 
   room_for : (b : Bool) → s.dir e.number ≡ b → s.links d + one_if b ≤ 65535
   room_for true t = omega (arith, room t)
-  room_for false f = omega (arith, sound.few d (sound.dirs_live d is))
+  room_for false f = omega (arith, sound.links_limit d (sound.dirs_live d is))
 
   pub sound-entry_added : IsSound put None
   sound-entry_added = record {
@@ -85,5 +85,5 @@ module _ (s : Skeleton) (d : ℕ) (e : Entry) (sound : IsSound s (Some e.number)
     once = λ n dir ne. omega (arith, name_count-entry_added n, sound.once n dir ne);
     below = λ n dir. hangs n (sound.below n dir);
     links = λ n live. links_at n live (cases_Bool (s.dir n)) (cases_eq n d);
-    few = λ n live. set-all (λ l. l ≤ 65535) d (s.links d + one_if (s.dir e.number)) s.links n (λ z. room_for (s.dir e.number) refl) (λ ne. sound.few n live);
+    links_limit = λ n live. set-all (λ l. l ≤ 65535) d (s.links d + one_if (s.dir e.number)) s.links n (λ z. room_for (s.dir e.number) refl) (λ ne. sound.links_limit n live);
   }

@@ -74,5 +74,5 @@ module _ (s : Skeleton) (d : ℕ) (name : List ℕ) (e : Entry) (sound : IsSound
     once = λ n dir ne. omega (arith, name_count-entry_removed n, sound.once n dir ne);
     below = λ n dir. hangs n (sound.below n dir);
     links = λ n live. links_at n live (cases_Bool (s.dir n)) (cases_eq n d);
-    few = λ n live. set-all (λ l. l ≤ 65535) d (s.links d - one_if (s.dir e.number)) s.links n (λ z. omega (arith, sound.few d (sound.dirs_live d has_entries))) (λ ne. sound.few n live);
+    links_limit = λ n live. set-all (λ l. l ≤ 65535) d (s.links d - one_if (s.dir e.number)) s.links n (λ z. omega (arith, sound.links_limit d (sound.dirs_live d has_entries))) (λ ne. sound.links_limit n live);
   }

@@ -30,5 +30,5 @@ module _ (s : Skeleton) (detached : Option ℕ) (h d : ℕ) (sound : IsSound s d
     once = sound.once;
     below = λ n dir. hangs n (sound.below n dir);
     links = sound.links;
-    few = sound.few;
+    links_limit = sound.links_limit;
   }

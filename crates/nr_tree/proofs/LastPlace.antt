@@ -12,8 +12,8 @@ use Rattle.indexmap.specs.IndexMap.{insert_entry, move_index}
 use Rattle.indexmap.proofs.RemoveLemmas.{moved_last}
 use Rattle.nr_tree.specs.declared.directory.Slot.{Slot}
 use Rattle.nr_tree.specs.Entries.{Entry, entry_of_name, list_without}
-use Rattle.nr_tree.specs.Slots.{entries_of, entry_of}
-use Rattle.nr_tree.proofs.Slots.{entries_of-append, number_lookup}
+use Rattle.nr_tree.specs.Slots.{slot_entries, entry_of}
+use Rattle.nr_tree.proofs.Slots.{slot_entries-append, number_lookup}
 
 abbrev Key : Type 0
 Key = Vec ℕ Global
@@ -34,11 +34,11 @@ record IsPlaced (xs : List (Key × Slot)) (i : ℕ) (es : List Entry) (k : Key) 
   key : Key
   at : slice_get xs i ≡ Some (key, v)
   same : key.items ≡ k.items
-  rest : entries_of (remove xs i) ≡ es
+  rest : slot_entries (remove xs i) ≡ es
   len_is : length xs ≡ len
 
 placed_step : (b : Bool) (p : Key × Slot) (qs xs : List (Key × Slot)) (n : ℕ) (es : List Entry) (k : Key) (v : Slot) → same_key k p.0 ≡ b → (b ≡ false → IsPlaced xs n es k v (length qs))
-    → IsPlaced (cond b ((p.0, v) ∷ qs) (p ∷ xs)) (cond (not b) (1 + n) 0) (cond b (entries_of qs) (entry_of p ∷ es)) k v (suc (length qs))
+    → IsPlaced (cond b ((p.0, v) ∷ qs) (p ∷ xs)) (cond (not b) (1 + n) 0) (cond b (slot_entries qs) (entry_of p ∷ es)) k v (suc (length qs))
 placed_step true p qs xs n es k v t ih = record { key = p.0; at = refl; same = sym (same_list k.items p.0.items t); rest = refl; len_is = refl }
 placed_step false p qs xs n es k v t ih =
     let q : IsPlaced xs n es k v (length qs) = ih refl in
@@ -50,22 +50,22 @@ found_behind : (b : Bool) (x : Entry) (o : Option Entry) → is_some (cond b (So
 found_behind true x o t f = absurd cc
 found_behind false x o t f = t
 
-placed : (ps : List (Key × Slot)) (k : Key) (v : Slot) → is_some (entry_of_name k.items (entries_of ps)) ≡ true
-    → IsPlaced (insert_entry same_key ps k v) (position_or_len (same_key k) (keys_of ps)) (list_without k.items (entries_of ps)) k v (length ps)
+placed : (ps : List (Key × Slot)) (k : Key) (v : Slot) → is_some (entry_of_name k.items (slot_entries ps)) ≡ true
+    → IsPlaced (insert_entry same_key ps k v) (position_or_len (same_key k) (keys_of ps)) (list_without k.items (slot_entries ps)) k v (length ps)
 placed [] k v t = absurd cc
 placed (p ∷ ps) k v t =
-    placed_step (same_key k p.0) p ps (insert_entry same_key ps k v) (position_or_len (same_key k) (keys_of ps)) (list_without k.items (entries_of ps)) k v refl
-    (λ f. placed ps k v (found_behind (same_key k p.0) (entry_of p) (entry_of_name k.items (entries_of ps)) t f))
+    placed_step (same_key k p.0) p ps (insert_entry same_key ps k v) (position_or_len (same_key k) (keys_of ps)) (list_without k.items (slot_entries ps)) k v refl
+    (λ f. placed ps k v (found_behind (same_key k p.0) (entry_of p) (entry_of_name k.items (slot_entries ps)) t f))
 
-pub put_last : (ps : List (Key × Slot)) (k : Key) (v : Slot) (last : ℕ) → last ≡ length ps - 1 → is_some (entry_of_name k.items (entries_of ps)) ≡ true
-    → entries_of (move_index (insert_entry same_key ps k v) (position_or_len (same_key k) (keys_of ps)) last)
-    ≡ list_without k.items (entries_of ps) ++ record { cookie = v.cookie; name = k.items; number = v.number } ∷ []
+pub put_last : (ps : List (Key × Slot)) (k : Key) (v : Slot) (last : ℕ) → last ≡ length ps - 1 → is_some (entry_of_name k.items (slot_entries ps)) ≡ true
+    → slot_entries (move_index (insert_entry same_key ps k v) (position_or_len (same_key k) (keys_of ps)) last)
+    ≡ list_without k.items (slot_entries ps) ++ record { cookie = v.cookie; name = k.items; number = v.number } ∷ []
 put_last ps k v last is t =
-    let q : IsPlaced (insert_entry same_key ps k v) (position_or_len (same_key k) (keys_of ps)) (list_without k.items (entries_of ps)) k v (length ps) = placed ps k v t in
+    let q : IsPlaced (insert_entry same_key ps k v) (position_or_len (same_key k) (keys_of ps)) (list_without k.items (slot_entries ps)) k v (length ps) = placed ps k v t in
     let end : last ≡ length (insert_entry same_key ps k v) - 1 = omega (arith, is, q.len_is) in
-    ap (λ (n : ℕ). entries_of (move_index (insert_entry same_key ps k v) (position_or_len (same_key k) (keys_of ps)) n)) end
-    ∙ ap entries_of (moved_last (insert_entry same_key ps k v) (position_or_len (same_key k) (keys_of ps)) (q.key, v) q.at)
-    ∙ entries_of-append (remove (insert_entry same_key ps k v) (position_or_len (same_key k) (keys_of ps))) q.key v
+    ap (λ (n : ℕ). slot_entries (move_index (insert_entry same_key ps k v) (position_or_len (same_key k) (keys_of ps)) n)) end
+    ∙ ap slot_entries (moved_last (insert_entry same_key ps k v) (position_or_len (same_key k) (keys_of ps)) (q.key, v) q.at)
+    ∙ slot_entries-append (remove (insert_entry same_key ps k v) (position_or_len (same_key k) (keys_of ps))) q.key v
     ∙ (λ i. q.rest i ++ record { cookie = v.cookie; name = q.same i; number = v.number } ∷ [])
 
 no_slot : {A B : Type 0} (f : A → ℕ) (g : B → ℕ) (x : Option A) (y : Option B) → option_map f x ≡ option_map g y → is_some x ≡ true → y ≡ None → ⊥
@@ -74,9 +74,9 @@ no_slot f g (Some x) None e t n = absurd cc
 no_slot f g (Some x) (Some y) e t n = absurd cc
 
 -- a name that an entry has is the key of a slot
-pub has_slot : (ps : List (Key × Slot)) (name : List ℕ) → is_some (entry_of_name name (entries_of ps)) ≡ true → lookup (λ k. pointwise nat_eq name k.items) ps ≡ None → ⊥
-has_slot ps name t n = no_slot (λ (e : Entry). e.number) (λ (s : Slot). s.number) (entry_of_name name (entries_of ps)) (lookup (λ k. pointwise nat_eq name k.items) ps) (number_lookup ps name) t n
+pub has_slot : (ps : List (Key × Slot)) (name : List ℕ) → is_some (entry_of_name name (slot_entries ps)) ≡ true → lookup (λ k. pointwise nat_eq name k.items) ps ≡ None → ⊥
+has_slot ps name t n = no_slot (λ (e : Entry). e.number) (λ (s : Slot). s.number) (entry_of_name name (slot_entries ps)) (lookup (λ k. pointwise nat_eq name k.items) ps) (number_lookup ps name) t n
 
-pub some_slots : (ps : List (Key × Slot)) (name : List ℕ) → is_some (entry_of_name name (entries_of ps)) ≡ true → 0 < length ps
+pub some_slots : (ps : List (Key × Slot)) (name : List ℕ) → is_some (entry_of_name name (slot_entries ps)) ≡ true → 0 < length ps
 some_slots [] name t = absurd cc
 some_slots (p ∷ ps) name t = omega arith

@@ -41,7 +41,7 @@ module _ (s : Skeleton) (h : ℕ) (sound : IsSound s (Some h)) (file : s.dir h �
     once = λ n dir ne. omega (arith, sound.once n dir ne, detached_count-other h n (λ z. differ s.dir n h dir file (sym z)));
     below = λ n dir. hangs n (sound.below n dir);
     links = λ n live. links_at n live (cases_eq n h);
-    few = λ n live. set-all (λ l. l ≤ 65535) h (s.links h - 1) s.links n (λ z. omega (arith, sound.few h (sound.detached_live h refl))) (λ ne. sound.few n live);
+    links_limit = λ n live. set-all (λ l. l ≤ 65535) h (s.links h - 1) s.links n (λ z. omega (arith, sound.links_limit h (sound.detached_live h refl))) (λ ne. sound.links_limit n live);
   }
 
 -- ===== one link more
@@ -78,7 +78,7 @@ module _ (s : Skeleton) (h : ℕ) (sound : IsSound s None) (live : s.live h ≡ 
     once = λ n dir ne. omega (arith, sound.once n dir ne, detached_count-other h n (λ z. differ s.dir n h dir file (sym z)));
     below = λ n dir. hangs_more n (sound.below n dir);
     links = λ n at. links_more n at (cases_eq n h);
-    few = λ n at. set-all (λ l. l ≤ 65535) h (s.links h + 1) s.links n (λ z. omega (arith, room)) (λ ne. sound.few n at);
+    links_limit = λ n at. set-all (λ l. l ≤ 65535) h (s.links h + 1) s.links n (λ z. omega (arith, room)) (λ ne. sound.links_limit n at);
   }
 
 -- ===== the node is removed
@@ -145,5 +145,5 @@ module _ (s : Skeleton) (h : ℕ) (sound : IsSound s (Some h)) (alone : name_cou
         omega (arith, same_naming n, sound.once n at.1 ne, detached_count-other h n (λ z. at.0 (sym z)));
     below = λ n t. let at : (n ≡ h → ⊥) × (s.dir n ≡ true) = lives s.dir n t in hangs_on n at.0 (sound.below n at.1);
     links = λ n t. links_on n (lives s.live n t);
-    few = λ n t. set-all (λ l. l ≤ 65535) h 0 s.links n (λ z. omega arith) (λ ne. sound.few n (lives s.live n t).1);
+    links_limit = λ n t. set-all (λ l. l ≤ 65535) h 0 s.links n (λ z. omega arith) (λ ne. sound.links_limit n (lives s.live n t).1);
   }

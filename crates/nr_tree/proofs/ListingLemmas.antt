@@ -8,7 +8,7 @@ use Rattle.nr_tree.specs.Entries.{Entry, CookiesAscend}
 use Rattle.std.specs.declared.vec.Vec.{Vec}
 use Rattle.std.specs.declared.alloc.Global.{Global}
 use Rattle.nr_tree.specs.declared.directory.Slot.{Slot}
-use Rattle.nr_tree.specs.Slots.{entries_of}
+use Rattle.nr_tree.specs.Slots.{slot_entries}
 use Rattle.nr_tree.proofs.Slots.{entry_of_slot}
 use Rattle.nr_tree.specs.Listing.{entries_after}
 
@@ -72,5 +72,5 @@ pub same_place : (low high : ℕ) → low ≤ high → high ≤ low → low ≡ 
 same_place low high a b = omega (arith, a, b)
 
 -- the cookie of an entry is that of its slot
-pub cookie_of_slot : (ps : List (Vec ℕ Global × Slot)) (i : ℕ) (p : Vec ℕ Global × Slot) → slice_get ps i ≡ Some p → option_map (λ (e : Entry). e.cookie) (slice_get (entries_of ps) i) ≡ Some p.1.cookie
+pub cookie_of_slot : (ps : List (Vec ℕ Global × Slot)) (i : ℕ) (p : Vec ℕ Global × Slot) → slice_get ps i ≡ Some p → option_map (λ (e : Entry). e.cookie) (slice_get (slot_entries ps) i) ≡ Some p.1.cookie
 cookie_of_slot ps i p here = ap (option_map (λ (e : Entry). e.cookie)) (entry_of_slot ps i p here)

@@ -113,5 +113,5 @@ module _ (s : Skeleton) (b : Bool) (p : ℕ) (sound : IsSound s None) where
     once = λ n t ne. once_at n t ne (cases_eq n s.next);
     below = λ n t. hangs_at n t (cases_eq n s.next);
     links = λ n t. links_at n t (cases_eq n s.next);
-    few = λ n t. set-all (λ l. l ≤ 65535) s.next (1 + one_if b) s.links n (λ z. one_small b) (λ ne. sound.few n (sym (set-other s.next true s.live n ne) ∙ t));
+    links_limit = λ n t. set-all (λ l. l ≤ 65535) s.next (1 + one_if b) s.links n (λ z. one_small b) (λ ne. sound.links_limit n (sym (set-other s.next true s.live n ne) ∙ t));
   }

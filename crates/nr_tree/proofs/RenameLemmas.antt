@@ -70,7 +70,7 @@ module _ (t : Tree) (from : ℕ) (name : List ℕ) (to : ℕ) (name_to : List �
       subst (λ (o : Option Node). IfSome o (IsSource name)) (sym v.1) (v.2, omega (arith, two, links), here)
 
   pub free_room : IsBounded t → entry_at t to name_to ≡ None → IfSome (get t.nodes to) (λ n. HasRoomFor name_to n)
-  free_room bounded none = has_room t to name_to sane bounded can.dir (record { free = none; some = can.some; few = can.few })
+  free_room bounded none = has_room t to name_to sane bounded can.dir (record { free = none; not_empty = can.not_empty; not_too_long = can.not_too_long })
 
   pub sane-rename : (now : Time) → IsSane (tree_with_new_name t now from name to name_to h)
   sane-rename now =
@@ -99,7 +99,7 @@ module _ (t : Tree) (from : ℕ) (name : List ℕ) (to : ℕ) (name_to : List �
         let links : links_at t to ≡ v.0.metadata.links = value_at-at (λ (node : Node). node.metadata.links) 0 t.nodes to v.0 v.1 in
         let here : is_some (entry_of_name name_to (entries_in v.0)) ≡ true = ap is_some (ap (entry_of_name name_to) (sym (value_at-at entries_in [] t.nodes to v.0 v.1)) ∙ target) in
         let k : (one_if was ≤ v.0.metadata.links) × (v.0.metadata.links < 2 ^ 31) =
-        counted_by (links_at t to) v.0.metadata.links was links (two_links (skeleton t) to sane.skeleton can.dir) (sane.skeleton.few to (sane.skeleton.dirs_live to can.dir)) in
+        counted_by (links_at t to) v.0.metadata.links was links (two_links (skeleton t) to sane.skeleton can.dir) (sane.skeleton.links_limit to (sane.skeleton.dirs_live to can.dir)) in
         subst (λ (o : Option Node). IfSome o (HasEntryFor name_to was)) (sym v.1) (has_entry_by name_to v.0 v.0.content refl v.2 here (bounded.cookies to v.0 v.1), k.0, k.1)
 
     pub has_entry_left : (now : Time) (b was : Bool) → IsBounded t → to ≡ from → IfSome (get t.nodes to) (λ n. HasEntryFor name_to was (node_without_entry now name b n))
@@ -116,7 +116,7 @@ module _ (t : Tree) (from : ℕ) (name : List ℕ) (to : ℕ) (name_to : List �
         let low : next_cookie_of v.0.content < 2 ^ 63 = bounded.cookies to v.0 v.1 in
         subst (λ (o : Option Node). IfSome o (λ n. HasEntryFor name_to was (node_without_entry now name b n))) (sym v.1)
         (let k : (one_if was ≤ v.0.metadata.links - one_if b) × (v.0.metadata.links - one_if b < 2 ^ 31) =
-        counted_left (links_at t to) v.0.metadata.links b was links (two_links (skeleton t) to sane.skeleton can.dir) (sane.skeleton.few to (sane.skeleton.dirs_live to can.dir)) in
+        counted_left (links_at t to) v.0.metadata.links b was links (two_links (skeleton t) to sane.skeleton can.dir) (sane.skeleton.links_limit to (sane.skeleton.dirs_live to can.dir)) in
         (has_entry_by name_to w w.content refl (same_kind (λ d. entries_without d name) v.0.content ∙ v.2) here (subst (λ (k : ℕ). k < 2 ^ 63) (sym cookie) low), k.0, k.1))
 
     kind_stays : (now : Time) → value_at is_dir false (tree_without_entry t now to name_to g.number).nodes h ≡ value_at is_dir false t.nodes h

@@ -37,7 +37,7 @@ pub record IsFreePlace (s : Skeleton) (from to : ℕ) (name : List ℕ) (h : ℕ
 room_in : (s : Skeleton) (from to : ℕ) (name : List ℕ) (h : ℕ) → IsSound s None → s.dir from ≡ true → s.dir h ≡ true → ((to ≡ from → ⊥) → s.links to < 65535) → 2 ≤ s.links from → (entry_removed s from name h).links to < 65535
 room_in s from to name h sound is dir room two =
     set-all (λ l. l < 65535) from (s.links from - one_if (s.dir h)) s.links to
-    (λ z. omega (arith, ap one_if dir, two, sound.few from (sound.dirs_live from is))) room
+    (λ z. omega (arith, ap one_if dir, two, sound.links_limit from (sound.dirs_live from is))) room
 
 pub two_links : (s : Skeleton) (d : ℕ) → IsSound s None → s.dir d ≡ true → 2 ≤ s.links d
 two_links s d sound is = let at = sound.links d (sound.dirs_live d is) ∙ cond-true (s.dir d) _ _ is in omega (arith, at)
@@ -59,7 +59,7 @@ sane-tree_with_entry_moved t now from name to name_to e sane found welcome =
     let none : entry_of_name name_to ((entry_removed s from name h).entries to) ≡ None =
     set-all (λ es. entry_of_name name_to es ≡ None) from (list_without name (s.entries from)) s.entries to
     (λ z. none_without name_to name (s.entries from) (ap (λ (d : ℕ). entry_of_name name_to (s.entries d)) (sym z) ∙ welcome.free.free)) (λ ne. welcome.free.free) in
-    let ok : IsFree (skeleton_of t.next nodes) to name_to = record { free = ap (λ (k : Skeleton). entry_of_name name_to (k.entries to)) way ∙ none; some = welcome.free.some; few = welcome.free.few } in
+    let ok : IsFree (skeleton_of t.next nodes) to name_to = record { free = ap (λ (k : Skeleton). entry_of_name name_to (k.entries to)) way ∙ none; not_empty = welcome.free.not_empty; not_too_long = welcome.free.not_too_long } in
     let links : (skeleton_of t.next nodes).links to ≡ (entry_removed s from name h).links to = ap (λ (k : Skeleton). k.links to) way in
     let after : Nodes = nodes_with_change nodes to (node_with_entry now name_to h b) in
     let put : IsSound (record (skeleton_of t.next after) { parent = set h to (skeleton_of t.next after).parent }) None =
@@ -99,8 +99,8 @@ over_target : (t : Tree) (now : Time) (from : ℕ) (name : List ℕ) (to : ℕ) 
 over_target t now from name to name_to e None target sane found may go =
     sane-tree_with_entry_moved t now from name to name_to e sane found (record {
       dir = may.dir;
-      free = record { free = target; some = may.some; few = may.few };
-      room = may.room;
+      free = record { free = target; not_empty = may.not_empty; not_too_long = may.not_too_long };
+      room = may.links;
       apart = may.apart;
     })
 over_target t now from name to name_to e (Some g) target sane found may go =
@@ -123,8 +123,8 @@ over_target t now from name to name_to e (Some g) target sane found may go =
     let same : k.links to ≡ mid.links to = (out.left.other to to_stays).4 in
     sane-tree_with_entry_moved u now from name to name_to e out.sane at_from (record {
       dir = (out.left.other to to_stays).1 ∙ may.dir;
-      free = record { free = ap (entry_of_name name_to) at_to ∙ gone_without name_to (s.entries to) (names-at t.nodes to sane.contents may.dir); some = may.some; few = may.few };
-      room = λ d ne. (let less : s.links to < 65535 = may.room (old_dir d) ne in omega (arith, same, fewer, less));
+      free = record { free = ap (entry_of_name name_to) at_to ∙ gone_without name_to (s.entries to) (names-at t.nodes to sane.contents may.dir); not_empty = may.not_empty; not_too_long = may.not_too_long };
+      room = λ d ne. (let less : s.links to < 65535 = may.links (old_dir d) ne in omega (arith, same, fewer, less));
       apart = λ d way. may.apart (old_dir d) (
         way.0,
         IsPathUp-same k None s None

@@ -66,7 +66,7 @@ sound-lone = record {
   once = λ n t ne. absurd (ne (only n t));
   below = λ n t. inl ([], only n t);
   links = λ n t. links-lone n (only n t);
-  few = λ n t. subst (λ (k : ℕ). lone.links k ≤ 65535) (sym (only n t)) (omega arith);
+  links_limit = λ n t. subst (λ (k : ℕ). lone.links k ≤ 65535) (sym (only n t)) (omega arith);
 }
 
 none_fit : Fit empty

@@ -1,5 +1,5 @@
 -- What a sane tree promises before each step, and that each step leaves it sane.
-use Rattle.std.proofs.Common.{◌≡◌, ℕ, ◌+◌, ◌-◌, ◌<◌, ◌≤◌, ◌^◌, true, false, List, [], ◌++◌, length, take, drop, replicate, Option, None, Some, IfSome, IsTrue, Result, Ok, Err, OnOk, OnErr, refl, ap, sym, ◌∙◌, subst, arith, inl, inr, ◌⊎◌}
+use Rattle.std.proofs.Common.{◌≡◌, ℕ, ◌+◌, ◌-◌, ◌<◌, ◌≤◌, ◌^◌, ◌==◌, if◌then◌else◌, Bool, true, false, List, [], ◌++◌, length, take, drop, replicate, Option, None, Some, IfSome, IsTrue, Result, Ok, Err, OnOk, OnErr, refl, ap, sym, ◌∙◌, subst, arith, inl, inr, ◌⊎◌}
 use Rattle.std.proofs.lemmas.Bool.{cases_Bool, false_from_ne_true}
 use Rattle.std.proofs.lemmas.List.{length-append, length-take, length-drop, length-replicate}
 use Rattle.std.specs.Option.{option_map, option_map_or}
@@ -12,7 +12,7 @@ use Rattle.nr_tree.specs.Tree.{Tree, is_dir, is_regular, is_directory, is_regula
 use Rattle.nr_tree.specs.Sane.{IsSane, IsFitContent, skeleton, largest_file}
 use Rattle.nr_tree.specs.Room.{HasRoomIn, HasRoomFor}
 use Rattle.nr_tree.specs.Steps.{IsBounded, IsFree, CanAddNode, CanAddLink, CanRemoveEntry, is_live_at, is_dir_at, is_regular_at, entries_at, links_at}
-use Rattle.nr_tree.specs.Changes.{next_cookie_of, on_bytes, node_with_bytes, node_with_size, node_with_metadata, entry_at, tree_with_node, tree_without_entry, tree_with_link, tree_with_bytes, tree_with_size, tree_with_metadata}
+use Rattle.nr_tree.specs.Changes.{next_cookie_of, on_bytes, node_with_bytes, node_with_size, node_with_metadata, entry_at, tree_with_node, tree_without_entry, tree_with_link, tree_with_piece, tree_with_bytes, tree_with_size, tree_with_metadata}
 use Rattle.nr_tree.specs.declared.node.Node.{Node}
 use Rattle.nr_tree.specs.declared.node.Metadata.{Metadata}
 use Rattle.nr_tree.specs.declared.node.Content.{Content}
@@ -65,7 +65,7 @@ has_room t d name sane bounded is free =
     let none : entry_of_name name (entries_in v.0) ≡ None = ap (entry_of_name name) (sym (value_at-at entries_in [] t.nodes d v.0 v.1)) ∙ free.free in
     let links : links_at t d ≡ v.0.metadata.links = value_at-at (λ (node : Node). node.metadata.links) 0 t.nodes d v.0 v.1 in
     subst (λ (o : Option Node). IfSome o (λ n. HasRoomFor name n)) (sym v.1)
-    (room_by name v.0 v.0.content refl v.2 none (bounded.cookies d v.0 v.1), few_links (links_at t d) v.0.metadata.links links (sane.skeleton.few d (sane.skeleton.dirs_live d is)))
+    (room_by name v.0 v.0.content refl v.2 none (bounded.cookies d v.0 v.1), few_links (links_at t d) v.0.metadata.links links (sane.skeleton.links_limit d (sane.skeleton.dirs_live d is)))
 
 pub sane-add_node : (t : Tree) (now : Time) (d : ℕ) (name : List ℕ) (node : Node) → IsSane t → CanAddNode t d name node → IsSane (tree_with_node t now d name node)
 sane-add_node t now d name node sane can = sane-tree_with_node t now d name node sane can.directory can.free can.new can.links
@@ -79,7 +79,7 @@ pub links_left : (t : Tree) (d : ℕ) (name : List ℕ) (h : ℕ) → IsSane t �
 links_left t d name h sane can =
     let w : Named t.nodes h = node_at t.nodes h can.live in
     let links : links_at t h ≡ w.0.metadata.links = value_at-at (λ (node : Node). node.metadata.links) 0 t.nodes h w.0 w.1 in
-    subst (λ (o : Option Node). IfSome o (λ n. n.metadata.links < 2 ^ 31)) (sym w.1) (few_links (links_at t h) w.0.metadata.links links (sane.skeleton.few h can.live))
+    subst (λ (o : Option Node). IfSome o (λ n. n.metadata.links < 2 ^ 31)) (sym w.1) (few_links (links_at t h) w.0.metadata.links links (sane.skeleton.links_limit h can.live))
 
 pub sane-add_link : (t : Tree) (now : Time) (d : ℕ) (name : List ℕ) (h : ℕ) → IsSane t → CanAddLink t d name h → IsSane (tree_with_link t now d name h)
 sane-add_link t now d name h sane can = sane-tree_with_link t now d name h sane can.directory can.free can.live can.file can.links
@@ -117,7 +117,7 @@ module _ (t : Tree) (d : ℕ) (name : List ℕ) (h : ℕ) (sane : IsSane t) (can
   named = number_found (entry_at t d name) h can.entry
 
   empty : is_dir_at t named.0.number ≡ true → entries_at t named.0.number ≡ []
-  empty = subst (λ (k : ℕ). is_dir_at t k ≡ true → entries_at t k ≡ []) (sym named.2) can.bare
+  empty = subst (λ (k : ℕ). is_dir_at t k ≡ true → entries_at t k ≡ []) (sym named.2) can.empty
 
   pub removable : IsRemovable t d h
   removable = subst (λ (k : ℕ). IsRemovable t d k) named.2 (may_leave t d name named.0 sane named.1 empty)
@@ -178,11 +178,18 @@ sane-bytes t now n change sane is within =
     let v : (v : Node) × (get t.nodes n ≡ Some v) × (is_regular v ≡ true) = regular_node (get t.nodes n) is in
     (v.0, v.1, same_with_bytes now change v.0 v.0.content refl v.2 (sane.contents n v.0 v.1) within)
 
-pub sane-write : (t : Tree) (now : Time) (n offset : ℕ) (piece : List ℕ) → IsSane t → is_regular_at t n ≡ true → offset + length piece ≤ largest_file → IsSane (tree_with_bytes t now n offset piece)
-sane-write t now n offset piece sane is le =
+sane-piece : (t : Tree) (now : Time) (n offset : ℕ) (piece : List ℕ) → IsSane t → is_regular_at t n ≡ true → offset + length piece ≤ largest_file → IsSane (tree_with_piece t now n offset piece)
+sane-piece t now n offset piece sane is le =
     let q : (v : Node) × (get t.nodes n ≡ Some v) × IsSameInSkeleton v (bytes_changed now (λ bytes. with_bytes_at bytes offset piece) v) =
     sane-bytes t now n (λ bytes. with_bytes_at bytes offset piece) sane is (λ bytes fit. written_within offset piece bytes le fit) in
     sane-same_skeleton t n q.0 (node_with_bytes now offset piece) sane q.1 q.2
+
+sane-write_by : (b : Bool) (t done : Tree) → IsSane t → IsSane done → IsSane (if b then t else done)
+sane-write_by true t done sane good = sane
+sane-write_by false t done sane good = good
+
+pub sane-write : (t : Tree) (now : Time) (n offset : ℕ) (piece : List ℕ) → IsSane t → is_regular_at t n ≡ true → offset + length piece ≤ largest_file → IsSane (tree_with_bytes t now n offset piece)
+sane-write t now n offset piece sane is le = sane-write_by (length piece == 0) t (tree_with_piece t now n offset piece) sane (sane-piece t now n offset piece sane is le)
 
 pub sane-set_size : (t : Tree) (now : Time) (n size : ℕ) → IsSane t → is_regular_at t n ≡ true → size ≤ largest_file → IsSane (tree_with_size t now n size)
 sane-set_size t now n size sane is le =

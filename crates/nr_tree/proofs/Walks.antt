@@ -1,9 +1,12 @@
 -- The walk up finds a directory exactly where a path does: no path is longer than there are numbers.
-use Rattle.std.proofs.Common.{◌≡◌, ℕ, zero, suc, ◌+◌, ◌<◌, ◌≤◌, Bool, true, false, cond, eqb, not, ◌&&◌, List, [], ◌∷◌, length, None, Some, refl, ap, sym, ◌∙◌, subst, arith, inl, inr, ◌⊎◌}
+use Rattle.std.proofs.Common.{◌≡◌, ℕ, zero, suc, ◌+◌, ◌<◌, ◌≤◌, Bool, true, false, cond, eqb, not, ◌&&◌, List, [], ◌∷◌, length, None, Some, refl, ap, sym, ◌∙◌, subst, arith, inl, inr, ◌⊎◌, ◌||◌}
 use Rattle.std.proofs.lemmas.Bool.{cases_Bool, both_ways, eq-eqb, ne_eqb, eqb-true, eqb-false, or_cases, and_parts, or_left, or_right, and_from, not-true, not_from_false}
 use Rattle.nr_tree.specs.Entries.{Entry}
 use Rattle.nr_tree.specs.Skeleton.{Skeleton, IsPathUp, LiesBelow, IsConnected, IsSound, name_count_in}
 use Rattle.nr_tree.specs.Within.{walks_to, is_within}
+use Rattle.nr_tree.specs.Tree.{Tree}
+use Rattle.nr_tree.specs.Sane.{IsSane, skeleton}
+use Rattle.nr_tree.specs.Steps.{is_dir_at}
 use Rattle.nr_tree.proofs.Paths.{in_parent, dir_below}
 
 -- ===== as many different numbers below a bound as the bound, at most
@@ -158,3 +161,28 @@ module _ (s : Skeleton) where
 
     pub within : (n top : ℕ) → s.dir n ≡ true → is_within s n top ≡ true → LiesBelow s None n top
     within n top is w = found s.next n top is w
+
+-- ===== a step of the walk
+
+module _ (s : Skeleton) (n top m : ℕ) where
+  pub walk_ends : 0 < m → eqb n top ≡ true → walks_to m s n top ≡ true
+  walk_ends lt at = by m lt where
+    by : (k : ℕ) → 0 < k → walks_to k s n top ≡ true
+    by zero lt = at
+    by (suc k) lt = λ i. at i || (not (eqb n 1) && walks_to k s (s.parent n) top)
+
+  pub walk_fails : 0 < m → eqb n top ≡ false → eqb n 1 ≡ true → walks_to m s n top ≡ false
+  walk_fails lt ne root = by m lt where
+    by : (k : ℕ) → 0 < k → walks_to k s n top ≡ false
+    by zero lt = absurd (omega (arith, lt))
+    by (suc k) lt = λ i. ne i || (not (root i) && walks_to k s (s.parent n) top)
+
+  pub walk_goes_on : (k : ℕ) → m ≡ suc k → eqb n top ≡ false → eqb n 1 ≡ false → walks_to m s n top ≡ walks_to k s (s.parent n) top
+  walk_goes_on k e ne inner = ap (λ (j : ℕ). walks_to j s n top) e ∙ (λ i. ne i || (not (inner i) && walks_to k s (s.parent n) top))
+
+-- of a sane tree
+pub within_is : (t : Tree) (d top : ℕ) → IsSane t → is_dir_at t d ≡ true → (b : Bool) → b ≡ is_within (skeleton t) d top → b ≡ true → LiesBelow (skeleton t) None d top
+within_is t d top sane is b e yes_ = within (skeleton t) sane.skeleton d top is (sym e ∙ yes_)
+
+pub not_within_is : (t : Tree) (d top : ℕ) → IsSane t → is_dir_at t d ≡ true → (b : Bool) → b ≡ is_within (skeleton t) d top → b ≡ false → LiesBelow (skeleton t) None d top → ⊥
+not_within_is t d top sane is b e no_ = not_within (skeleton t) sane.skeleton d top is (sym e ∙ no_)

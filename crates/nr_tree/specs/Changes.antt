@@ -1,5 +1,5 @@
 -- What the changing procedures make of a tree. Each is for a moment, now.
-use Rattle.std.specs.Prelude.{ℕ, ◌+◌, ◌-◌, Bool, false, ◌||◌, if◌then◌else◌, nat_le, List, [], Option}
+use Rattle.std.specs.Prelude.{ℕ, ◌+◌, ◌-◌, ◌==◌, Bool, false, ◌||◌, if◌then◌else◌, nat_le, List, [], length, Option}
 use Rattle.std.specs.Option.{option_map_or}
 use Rattle.std.specs.Ordering.{nat_cmp}
 use Rattle.std.specs.FinMap.{FinMap, get, insert, remove}
@@ -78,9 +78,12 @@ node_with_bytes now offset piece node = record node { content = on_bytes (λ byt
 abbrev pub node_with_metadata : Metadata → Node → Node
 node_with_metadata metadata node = record node { metadata = metadata }
 
--- WRITE: a piece written over the bytes of a file
+-- WRITE: a piece written over the bytes of a file; no bytes leave the file as it is
+abbrev pub tree_with_piece : Tree → Time → ℕ → ℕ → List ℕ → Tree
+tree_with_piece t now n offset piece = record t { nodes = nodes_with_change t.nodes n (node_with_bytes now offset piece) }
+
 abbrev pub tree_with_bytes : Tree → Time → ℕ → ℕ → List ℕ → Tree
-tree_with_bytes t now n offset piece = record t { nodes = nodes_with_change t.nodes n (node_with_bytes now offset piece) }
+tree_with_bytes t now n offset piece = if length piece == 0 then t else tree_with_piece t now n offset piece
 
 -- SETATTR, CREATE of a file that is there: a file cut, or filled up with zeros
 abbrev pub tree_with_size : Tree → Time → ℕ → ℕ → Tree

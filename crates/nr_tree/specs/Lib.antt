@@ -13,4 +13,4 @@ pub mod Drill
 pub mod Listing
 pub mod Within
 pub mod Rules
-pub mod Places
+pub mod Replies

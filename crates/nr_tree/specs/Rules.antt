@@ -1,15 +1,23 @@
 -- The rules by which a call is refused. What a procedure tests is a list of rules in their order, and the first that holds is the answer.
-use Rattle.std.specs.Prelude.{ℕ, ◌+◌, ◌/◌, ◌%◌, ◌==◌, nat_lt, nat_eq, Bool, not, ◌&&◌, ◌||◌, if◌then◌else◌, List, [], ◌∷◌, length, Option, None, Some, is_none}
+use Rattle.std.specs.Prelude.{ℕ, ◌+◌, ◌/◌, ◌%◌, ◌^◌, ◌<◌, ◌≤◌, ◌==◌, nat_lt, nat_le, nat_eq, Bool, false, not, ◌&&◌, ◌||◌, if◌then◌else◌, List, [], ◌∷◌, length, Option, None, Some, is_none}
 use Rattle.std.specs.List.{list_any}
 use Rattle.std.specs.Int.{w64, from_be_bytes, to_be_bytes}
 use Rattle.std.specs.Cmp.Lexicographic.{pointwise}
 use Rattle.std.specs.FinMap.{get}
 use Rattle.nr_nfs_base.specs.declared.caller.Caller.{Caller}
 use Rattle.nr_nfs_base.specs.declared.status.Status.{Status}
-use Rattle.nr_nfs_base.specs.declared.status.Status.TheVariants.{Acces, Notdir, Nospc, Nametoolong, Stale, Badhandle}
+use Rattle.nr_nfs_base.specs.declared.time.Time.{Time}
+use Rattle.nr_nfs_base.specs.declared.set_attributes.SetAttributes.{SetAttributes}
+use Rattle.nr_nfs_base.specs.declared.set_attributes.SetTime.{SetTime}
+use Rattle.nr_nfs_base.specs.declared.set_attributes.SetTime.TheVariants.{Leave, ServerTime, ClientTime}
+use Rattle.nr_nfs_base.specs.declared.status.Status.TheVariants.{Acces, Notdir, Nospc, Nametoolong, Stale, Badhandle, Inval, Fbig}
 use Rattle.nr_tree.specs.Entries.{longest_name}
 use Rattle.nr_tree.specs.Tree.{Tree, is_dir}
+use Rattle.nr_tree.specs.Sane.{largest_file}
 use Rattle.nr_tree.specs.declared.node.Node.{Node}
+use Rattle.nr_tree.specs.declared.rules.Right.{Right}
+use Rattle.nr_tree.specs.declared.rules.Right.TheVariants.{Read, Write, Execute}
+use Rattle.nr_tree.specs.declared.rules.Space.{Space}
 
 -- the first refusal that holds
 abbrev pub or_else : Option Status → Option Status → Option Status
@@ -51,22 +59,18 @@ handle_of number = to_be_bytes w64 number
 abbrev pub node_of_handle : Tree → List ℕ → Option Node
 node_of_handle t h = if length h == 8 then get t.nodes (number_of_handle h) else None
 
--- no handle of this server, or of a number never given; then, of a node that is gone (RFC 1813 section 2.6)
+-- no handle of this server, or of a number never given; then, of a node that is gone (RFC 1813 section 2.6, NFS3ERR_BADHANDLE and NFS3ERR_STALE)
 abbrev pub was_given : Tree → List ℕ → Bool
 was_given t h = (length h == 8) && (nat_lt 0 (number_of_handle h) && nat_lt (number_of_handle h) t.next)
 
 abbrev pub handle_rule : Tree → List ℕ → Option Status
 handle_rule t h = if was_given t h then (is_none (node_of_handle t h) ⇒ Stale) else Some Badhandle
 
--- rights, as bits of a class
-abbrev pub read_right : ℕ
-read_right = 4
-
-abbrev pub write_right : ℕ
-write_right = 2
-
-abbrev pub execute_right : ℕ
-execute_right = 1
+-- a right, as a bit of a class (RFC 1813 section 2.5, the mode of fattr3)
+abbrev pub bit_of : Right → ℕ
+bit_of Read = 4
+bit_of Write = 2
+bit_of Execute = 1
 
 abbrev pub is_in_group : Caller → ℕ → Bool
 is_in_group c gid = (c.gid == gid) || list_any (λ g. g == gid) c.gids
@@ -78,17 +82,18 @@ class_of c node =
     else (if is_in_group c node.metadata.gid then node.metadata.mode / 8
     else node.metadata.mode)
 
-abbrev pub may : Caller → ℕ → Node → Bool
-may c right node = (c.uid == 0) || ((class_of c node / right) % 2 == 1)
+-- uid 0 has every right
+abbrev pub may : Caller → Right → Node → Bool
+may c right node = (c.uid == 0) || ((class_of c node / bit_of right) % 2 == 1)
 
 -- what is asked of a directory that gets or loses an entry
 abbrev pub change_rules : Caller → Node → List (Option Status)
 change_rules c node =
     (not (is_dir node) ⇒ Notdir) ∷
-    (not (may c write_right node) ⇒ Acces) ∷
-    (not (may c execute_right node) ⇒ Acces) ∷ []
+    (not (may c Write node) ⇒ Acces) ∷
+    (not (may c Execute node) ⇒ Acces) ∷ []
 
--- a name that no entry may have (RFC 1813 section 2.4)
+-- a name that no entry may have (RFC 1813 section 3.2)
 abbrev pub has_byte : ℕ → List ℕ → Bool
 has_byte b bytes = list_any (λ x. x == b) bytes
 
@@ -104,18 +109,48 @@ same_name a b = pointwise nat_eq a b
 abbrev pub is_dot : List ℕ → Bool
 is_dot name = same_name name (46 ∷ [])
 
-abbrev pub is_dots : List ℕ → Bool
-is_dots name = same_name name (46 ∷ 46 ∷ [])
+abbrev pub is_dot_dot : List ℕ → Bool
+is_dot_dot name = same_name name (46 ∷ 46 ∷ [])
 
-abbrev pub is_own : List ℕ → Bool
-is_own name = is_dot name || is_dots name
+abbrev pub is_dot_name : List ℕ → Bool
+is_dot_name name = is_dot name || is_dot_dot name
 
--- what the server may keep, what its journal costs so far, and the bytes of this call's arguments
-pub record Space : Type 0 where
-  pub capacity : ℕ
-  pub used : ℕ
-  pub arguments : ℕ
+-- what an entry of the journal costs, beside the bytes of its arguments
+abbrev pub entry_cost : ℕ
+entry_cost = 64
 
--- NOSPC: the call's entry would make the journal pass the capacity
+-- the call's entry would make the journal pass the capacity
 abbrev pub space_rule : Space → Option Status
-space_rule space = nat_lt space.capacity (space.used + 64 + space.arguments) ⇒ Nospc
+space_rule space = nat_lt space.capacity (space.used + entry_cost + space.arguments) ⇒ Nospc
+
+-- what a procedure asks of the space: the journal is within its capacity, which is far from the end of 64 bits
+abbrev pub IsWithinCapacity : Space → Type 0
+IsWithinCapacity space = (space.used ≤ space.capacity) × (space.capacity < 2 ^ 63)
+
+-- ===== attributes that a call sets (RFC 1813 section 2.5, sattr3)
+
+-- a client's time has fewer than 10^9 nanoseconds
+abbrev pub nanoseconds_of_a_second : ℕ
+nanoseconds_of_a_second = 1000000000
+
+abbrev pub is_invalid_time : SetTime → Bool
+is_invalid_time Leave = false
+is_invalid_time ServerTime = false
+is_invalid_time (ClientTime time) = nat_le nanoseconds_of_a_second time.nanoseconds
+
+abbrev pub time_rule : SetAttributes → Option Status
+time_rule a = (is_invalid_time a.atime || is_invalid_time a.mtime) ⇒ Inval
+
+-- a size above the most bytes of a file
+abbrev pub is_too_large : Option ℕ → Bool
+is_too_large None = false
+is_too_large (Some size) = nat_lt largest_file size
+
+abbrev pub size_rule : Option ℕ → Option Status
+size_rule size = is_too_large size ⇒ Fbig
+
+-- a time after the call: as it was, now, or the client's
+abbrev pub time_after : Time → Time → SetTime → Time
+time_after now before Leave = before
+time_after now before ServerTime = now
+time_after now before (ClientTime time) = time

@@ -64,7 +64,7 @@ pub record IsSound (s : Skeleton) (detached : Option ℕ) : Type 0 where
   pub once : (n : ℕ) → s.dir n ≡ true → n ≢ 1 → name_count s n + detached_count detached n ≡ 1
   pub below : (n : ℕ) → s.dir n ≡ true → IsConnected s detached n
   pub links : (n : ℕ) → s.live n ≡ true → s.links n ≡ expected_links s detached n
-  pub few : (n : ℕ) → s.live n ≡ true → s.links n ≤ most_links
+  pub links_limit : (n : ℕ) → s.live n ≡ true → s.links n ≤ most_links
 
 -- ===== the six steps that every change is made of
 

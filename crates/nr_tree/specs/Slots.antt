@@ -8,5 +8,5 @@ use Rattle.nr_tree.specs.Entries.{Entry}
 abbrev pub entry_of : Vec ℕ Global × Slot → Entry
 entry_of p = record { cookie = p.1.cookie; name = p.0.items; number = p.1.number }
 
-abbrev pub entries_of : List (Vec ℕ Global × Slot) → List Entry
-entries_of ps = map entry_of ps
+abbrev pub slot_entries : List (Vec ℕ Global × Slot) → List Entry
+slot_entries ps = map entry_of ps

@@ -36,13 +36,14 @@ IsBounded t = IsBelow (2 ^ 63) t
 -- a name that a directory may get: it is free there, and has 1 to 255 bytes
 pub record IsFree (s : Skeleton) (d : ℕ) (name : List ℕ) : Type 0 where
   pub free : entry_of_name name (s.entries d) ≡ None
-  pub some : 0 < length name
-  pub few : length name ≤ longest_name
+  pub not_empty : 0 < length name
+  pub not_too_long : length name ≤ longest_name
 
--- a node as it is made in a directory: empty, with the links that it has once it is named there
+-- a node as it is made in a directory: without entries, with the links that it has once it is named there; the first entry of a new directory gets cookie 1
 pub record IsNew (node : Node) (d : ℕ) : Type 0 where
   pub fit : IsFitContent node.content
-  pub bare : entries_in node ≡ []
+  pub empty : entries_in node ≡ []
+  pub first_cookie : next_cookie_of node.content ≤ 1
   pub parent : node.parent ≡ d
   pub links : node.metadata.links ≡ 1 + one_if (is_dir node)
 
@@ -62,7 +63,7 @@ pub record CanAddLink (t : Tree) (d : ℕ) (name : List ℕ) (h : ℕ) : Type 0 
 -- the entry is there, and leads to no directory with entries
 pub record CanRemoveEntry (t : Tree) (d : ℕ) (name : List ℕ) (h : ℕ) : Type 0 where
   pub entry : option_map (λ (e : Entry). e.number) (entry_at t d name) ≡ Some h
-  pub bare : is_dir_at t h ≡ true → entries_at t h ≡ []
+  pub empty : is_dir_at t h ≡ true → entries_at t h ≡ []
 
 -- the target of a RENAME: none, or another node that is no directory with entries
 abbrev pub IsFreeTarget : Skeleton → ℕ → Option Entry → Type 0
@@ -72,8 +73,8 @@ IsFreeTarget s h (Some g) = (g.number ≡ h → ⊥) × (s.dir g.number ≡ true
 pub record CanRename (t : Tree) (from : ℕ) (name : List ℕ) (to : ℕ) (name_to : List ℕ) (h : ℕ) : Type 0 where
   pub entry : option_map (λ (e : Entry). e.number) (entry_at t from name) ≡ Some h
   pub dir : is_dir_at t to ≡ true
-  pub some : 0 < length name_to
-  pub few : length name_to ≤ longest_name
+  pub not_empty : 0 < length name_to
+  pub not_too_long : length name_to ≤ longest_name
   pub target : IsFreeTarget (skeleton t) h (entry_at t to name_to)
-  pub room : is_dir_at t h ≡ true → (to ≡ from → ⊥) → links_at t to < most_links
+  pub links : is_dir_at t h ≡ true → (to ≡ from → ⊥) → links_at t to < most_links
   pub apart : is_dir_at t h ≡ true → LiesBelow (skeleton t) None to h → ⊥

@@ -24,16 +24,16 @@ pub struct Directory {
 
 impl Model for Directory {
     ghost use Rattle.nr_tree.specs.Entries.{Entries, CookiesAscend, entries_code};
-    ghost use Rattle.nr_tree.specs.Slots.{entries_of};
+    ghost use Rattle.nr_tree.specs.Slots.{slot_entries};
 
     ghost Value = { Entries };
 
     ghost coded = { entries_code };
 
-    ghost view = { λ d. record { next_cookie = d.next_cookie; list = entries_of d.slots.entries } };
+    ghost view = { λ d. record { next_cookie = d.next_cookie; list = slot_entries d.slots.entries } };
 
     // Cookies ascend from 1 on, and stay below the next one.
-    ghost invariant = { λ d. CookiesAscend 1 (entries_of d.slots.entries) d.next_cookie };
+    ghost invariant = { λ d. CookiesAscend 1 (slot_entries d.slots.entries) d.next_cookie };
 }
 
 impl Directory {
@@ -62,7 +62,7 @@ impl Directory {
     }
 
     /// Puts an entry last, under the next cookie. After an `Err` the directory is as before.
-    pub fn add(&mut self, name: Vec<u8>, number: u64) -> Result<(), Memory>
+    pub(crate) fn add(&mut self, name: Vec<u8>, number: u64) -> Result<(), Memory>
         requires absent { entry_of_name name.items self.old.list ≡ None }
         requires cookies { self.old.next_cookie < 2 ^ 63 }
         ensures ok { OnOk result (self.new ≡ entries_with self.old name.items number) }
@@ -75,7 +75,7 @@ impl Directory {
     }
 
     /// Takes the entry of a name out, and puts one for another number last, under the next cookie. Takes no memory.
-    pub fn replace(&mut self, name: Vec<u8>, number: u64)
+    pub(crate) fn replace(&mut self, name: Vec<u8>, number: u64)
         requires found { is_some (entry_of_name name.items self.old.list) ≡ true }
         requires cookies { self.old.next_cookie < 2 ^ 63 }
         ensures { self.new ≡ entries_with (entries_without self.old name.items) name.items number }
@@ -86,7 +86,7 @@ impl Directory {
     }
 
     /// Takes the entry of a name out; the others keep their order and their cookies. Takes no memory.
-    pub fn remove(&mut self, name: &[u8])
+    pub(crate) fn remove(&mut self, name: &[u8])
         ensures { self.new ≡ entries_without self.old name.now }
     {
         take_out(&mut self.slots, name);
@@ -122,12 +122,12 @@ impl Directory {
 }
 
 ghost use Rattle.nr_tree.specs.Entries.{entry_of_name, list_without};
-ghost use Rattle.nr_tree.specs.Slots.{entries_of};
+ghost use Rattle.nr_tree.specs.Slots.{slot_entries};
 
 fn append(slots: &mut IndexMap<Vec<u8>, Slot>, name: Vec<u8>, slot: Slot) -> Result<(), AllocError>
-    requires { entry_of_name name.items (entries_of slots.old.entries) ≡ None }
-    ensures ok { OnOk result (entries_of slots.new.entries ≡ entries_of slots.old.entries ++ record { cookie = slot.cookie; name = name.items; number = slot.number } ∷ []) }
-    ensures err { OnErr result (entries_of slots.new.entries ≡ entries_of slots.old.entries) }
+    requires { entry_of_name name.items (slot_entries slots.old.entries) ≡ None }
+    ensures ok { OnOk result (slot_entries slots.new.entries ≡ slot_entries slots.old.entries ++ record { cookie = slot.cookie; name = name.items; number = slot.number } ∷ []) }
+    ensures err { OnErr result (slot_entries slots.new.entries ≡ slot_entries slots.old.entries) }
 {
     slots.insert(name, slot)?;
     Ok(())
@@ -135,8 +135,8 @@ fn append(slots: &mut IndexMap<Vec<u8>, Slot>, name: Vec<u8>, slot: Slot) -> Res
 
 /// The slot goes last, in place of the one under its name.
 fn put_last(slots: &mut IndexMap<Vec<u8>, Slot>, name: Vec<u8>, slot: Slot)
-    requires { is_some (entry_of_name name.items (entries_of slots.old.entries)) ≡ true }
-    ensures { entries_of slots.new.entries ≡ list_without name.items (entries_of slots.old.entries) ++ record { cookie = slot.cookie; name = name.items; number = slot.number } ∷ [] }
+    requires { is_some (entry_of_name name.items (slot_entries slots.old.entries)) ≡ true }
+    ensures { slot_entries slots.new.entries ≡ list_without name.items (slot_entries slots.old.entries) ++ record { cookie = slot.cookie; name = name.items; number = slot.number } ∷ [] }
 {
     let last = slots.len() - 1;
     match slots.shift_insert(last, name, slot) {
@@ -147,7 +147,7 @@ fn put_last(slots: &mut IndexMap<Vec<u8>, Slot>, name: Vec<u8>, slot: Slot)
 
 #[tactic(auto, using(crate::proofs::Slots::slots_without))]
 fn take_out(slots: &mut IndexMap<Vec<u8>, Slot>, name: &[u8])
-    ensures { entries_of slots.new.entries ≡ list_without name.now (entries_of slots.old.entries) }
+    ensures { slot_entries slots.new.entries ≡ list_without name.now (slot_entries slots.old.entries) }
 {
     slots.shift_remove(name);
 }
@@ -160,7 +160,7 @@ ghost use Rattle.std.specs.Prelude.{drop, ◌≤◌};
 #[tactic(auto, using(crate::proofs::ListingLemmas::cookie_of_slot))]
 fn cookie_at(slots: &IndexMap<Vec<u8>, Slot>, index: usize) -> u64
     requires { index < length slots.now.entries }
-    ensures { option_map (λ e. e.cookie) (slice_get (entries_of slots.now.entries) index) ≡ Some result }
+    ensures { option_map (λ e. e.cookie) (slice_get (slot_entries slots.now.entries) index) ≡ Some result }
 {
     match slots.get_index(index) {
         Some((_, slot)) => slot.cookie,
@@ -170,9 +170,9 @@ fn cookie_at(slots: &IndexMap<Vec<u8>, Slot>, index: usize) -> u64
 
 /// The place of the first entry with a cookie above the given one.
 fn place_above(slots: &IndexMap<Vec<u8>, Slot>, next_cookie: u64, cookie: u64) -> usize
-    requires { CookiesAscend 1 (entries_of slots.now.entries) next_cookie }
+    requires { CookiesAscend 1 (slot_entries slots.now.entries) next_cookie }
     ensures within { result ≤ length slots.now.entries }
-    ensures entries { drop result (entries_of slots.now.entries) ≡ entries_after cookie (entries_of slots.now.entries) }
+    ensures entries { drop result (slot_entries slots.now.entries) ≡ entries_after cookie (slot_entries slots.now.entries) }
 {
     let mut low = 0;
     let mut high = slots.len();

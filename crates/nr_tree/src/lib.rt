@@ -3,20 +3,23 @@
 //! [`Tree`] has a node under each number and the next number to be given. Contracts see it as a finite map; `specs/Sane.antt`
 //! says what holds of every tree, and each step of `steps.rt` asks for such a tree and leaves one: a node or a link added, an
 //! entry removed, a node renamed, bytes written or cut, attributes set. What a step makes of a tree stands in
-//! `specs/Changes.antt`, when it may be taken in `specs/Steps.antt`. A step that may want memory takes it before the tree
-//! changes, so after want of memory the tree is as before.
+//! `specs/Changes.antt`, when it may be taken in `specs/Steps.antt`. After a step that
+//! wanted memory the tree is as before.
 //!
 //! [`File`] and [`Directory`] hide how bytes and entries are kept: contracts see a list of bytes, and a list of entries with
-//! the next cookie. `rules.rt` has the tests of handles, names, rights and of the journal's room that the procedures share.
+//! the next cookie. `rules.rt` has the tests of handles, names, rights, attributes and of the journal's space that the procedures share,
+//! and `replies.rt` what their replies say of nodes.
 //! The procedures themselves, with the order of their rules and their replies, stand above. docs/TREE.md tells the idea of the
 //! proof.
 #![tactic(auto)]
 
+mod ancestry;
 mod directory;
 mod drill;
 mod file;
 mod node;
 mod nodes;
+mod replies;
 mod rules;
 mod steps;
 mod tree;
@@ -24,8 +27,9 @@ mod tree;
 pub use directory::{Directory, Slot};
 pub use file::File;
 pub use node::{Content, Metadata, Node};
+pub use replies::{attributes_at, wcc_attributes_at, wcc_data};
 pub use rules::{
-    EXECUTE, READ, Room, WRITE, check_changeable, check_name, check_room, entry_number,
-    handle_number, is_own, live_node, may,
+    ENTRY_COST, LARGEST_FILE, Right, Space, check_changeable, check_name, check_size, check_space,
+    check_times, entry_number, handle_number, is_dot_name, live_node, may, time_after,
 };
 pub use tree::Tree;

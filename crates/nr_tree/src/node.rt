@@ -47,6 +47,7 @@ ghost use Rattle.nr_tree.specs.Skeleton.{one_if};
 ghost use Rattle.nr_tree.specs.Tree.{is_dir as is_directory_node, is_regular as is_regular_node, entries_in, type_of, bytes_of, device_of, attributes_of};
 ghost use Rattle.nr_tree.specs.Changes.{node_with_entry, node_without_entry, node_with_link, node_without_link, node_with_bytes, node_with_size, node_with_metadata, node_with_new_name};
 ghost use Rattle.nr_tree.specs.Room.{HasRoomFor, HasEntryFor};
+ghost use Rattle.nr_tree.specs.Replies.{size_of};
 
 impl Node {
     pub fn is_dir(&self) -> bool
@@ -62,7 +63,7 @@ impl Node {
     }
 
     /// One more entry, put last, in a directory that is changed now. After an `Err` the node is as before.
-    pub fn add_entry(
+    pub(crate) fn add_entry(
         &mut self,
         name: Vec<u8>,
         number: u64,
@@ -84,7 +85,7 @@ impl Node {
     }
 
     /// One entry less in a directory that is changed now. Takes no memory.
-    pub fn remove_entry(&mut self, name: &[u8], is_subdirectory: bool, now: Time)
+    pub(crate) fn remove_entry(&mut self, name: &[u8], is_subdirectory: bool, now: Time)
         requires is { IsTrue (is_directory_node self.old) }
         requires counted { one_if is_subdirectory ≤ self.old.metadata.links }
         ensures { self.new ≡ node_without_entry now name.now is_subdirectory self.old }
@@ -99,7 +100,7 @@ impl Node {
     }
 
     /// The entry of a name taken out and one for another node put last, in a directory that is changed now. Takes no memory.
-    pub fn replace_entry(
+    pub(crate) fn replace_entry(
         &mut self,
         name: Vec<u8>,
         number: u64,
@@ -121,7 +122,7 @@ impl Node {
     }
 
     /// A node under another name, in this directory. Takes no memory.
-    pub fn set_parent(&mut self, dir: u64, now: Time)
+    pub(crate) fn set_parent(&mut self, dir: u64, now: Time)
         ensures { self.new ≡ node_with_new_name now dir self.old }
     {
         self.parent = dir;
@@ -129,7 +130,7 @@ impl Node {
     }
 
     /// A file with one link less. Takes no memory.
-    pub fn remove_link(&mut self, now: Time)
+    pub(crate) fn remove_link(&mut self, now: Time)
         requires { 0 < self.old.metadata.links }
         ensures { self.new ≡ node_without_link now self.old }
     {
@@ -138,7 +139,7 @@ impl Node {
     }
 
     /// A file with one link more, from this directory.
-    pub fn add_link(&mut self, dir: u64, now: Time)
+    pub(crate) fn add_link(&mut self, dir: u64, now: Time)
         requires { self.old.metadata.links < 2 ^ 31 }
         ensures { self.new ≡ node_with_link now dir self.old }
     {
@@ -148,14 +149,14 @@ impl Node {
     }
 
     /// The same node with other attributes. Takes no memory.
-    pub fn set_metadata(&mut self, metadata: Metadata)
+    pub(crate) fn set_metadata(&mut self, metadata: Metadata)
         ensures { self.new ≡ node_with_metadata metadata self.old }
     {
         self.metadata = metadata;
     }
 
     /// Writes over the bytes of a regular file from a place on. After an `Err` the node is as before.
-    pub fn write(&mut self, offset: u64, bytes: &[u8], now: Time) -> Result<(), Memory>
+    pub(crate) fn write(&mut self, offset: u64, bytes: &[u8], now: Time) -> Result<(), Memory>
         requires regular { IsTrue (is_regular_node self.old) }
         requires room { offset + length bytes.now < 2 ^ 62 }
         ensures ok { OnOk result (self.new ≡ node_with_bytes now offset bytes.now self.old) }
@@ -171,7 +172,7 @@ impl Node {
     }
 
     /// Cuts a regular file, or adds zeros. After an `Err` the node is as before.
-    pub fn set_size(&mut self, size: u64, now: Time) -> Result<(), Memory>
+    pub(crate) fn set_size(&mut self, size: u64, now: Time) -> Result<(), Memory>
         requires regular { IsTrue (is_regular_node self.old) }
         requires room { size < 2 ^ 62 }
         ensures ok { OnOk result (self.new ≡ node_with_size now size self.old) }
@@ -196,11 +197,18 @@ impl Node {
         }
     }
 
-    /// What a caller is told of the node under this number (RFC 1813 section 2.6, `fattr3`). Takes no memory.
+    /// In bytes: of a regular file and of a link's path; nothing else has a size.
+    pub fn size(&self) -> u64
+        ensures { result ≡ size_of self.now }
+    {
+        self.content.size()
+    }
+
+    /// What a caller is told of the node under this number (RFC 1813 section 2.5, `fattr3`). Takes no memory.
     pub fn attributes(&self, number: u64) -> Attributes
         ensures { result ≡ attributes_of number self.now }
     {
-        let size = self.content.size();
+        let size = self.size();
         Attributes {
             file_type: self.content.file_type(),
             mode: self.metadata.mode,

@@ -2,27 +2,46 @@
 
 ghost use Rattle.std.specs.Prelude.{◌≡◌, ◌==◌, ◌<◌, ◌≤◌, ◌^◌, None, Some, SomeIff, length, MatchResult};
 ghost use Rattle.std.specs.Option.{option_map};
-ghost use Rattle.nr_tree.specs.Places.{space_of};
 ghost use Rattle.std.specs.List.{list_any};
-ghost use Rattle.nr_tree.specs.Rules.{first, name_rules, may as has_right, has_byte, is_in_group, class_of, change_rules, handle_rule, node_of_handle, number_of_handle, is_own as is_own_name, same_name, space_rule};
+ghost use Rattle.nr_tree.specs.Rules.{first, name_rules, bit_of, may as has_right, has_byte, is_in_group, class_of, change_rules, handle_rule, node_of_handle, number_of_handle, is_dot_name as is_dot_or_dot_dot, same_name, space_rule, IsWithinCapacity, is_invalid_time, time_rule, is_too_large, size_rule, time_after as time_set};
 ghost use Rattle.nr_tree.specs.Changes.{entry_at};
 ghost use Rattle.std.specs.FinMap as map;
 
 use crate::node::Node;
 use crate::tree::Tree;
-use nr_nfs_base::{Caller, Status};
+use nr_nfs_base::{Caller, SetAttributes, SetTime, Status, Time, Verifier};
 
-/// The right to read, as a bit of a class (RFC 1813 section 2.5, the mode of `fattr3`).
-pub const READ: u32 = 4;
+/// A right on a node (RFC 1813 section 2.5, the mode of `fattr3`).
+#[derive(Clone, Copy)]
+pub enum Right {
+    Read,
+    Write,
+    /// To execute a file, and to search a directory.
+    Execute,
+}
 
-/// The right to write.
-pub const WRITE: u32 = 2;
-
-/// The right to execute, and to search a directory.
-pub const EXECUTE: u32 = 1;
+impl Right {
+    /// The bit of the right within a class.
+    fn bit(self) -> u32
+        ensures value { result ≡ bit_of self }
+        ensures positive { 0 < result }
+    {
+        match self {
+            Right::Read => 4,
+            Right::Write => 2,
+            Right::Execute => 1,
+        }
+    }
+}
 
 /// The most bytes of a name.
 const LONGEST_NAME: usize = 255;
+
+/// The most bytes of a regular file.
+pub const LARGEST_FILE: u64 = 16_777_216;
+
+/// What an entry of the journal costs, beside the bytes of its arguments.
+pub const ENTRY_COST: u64 = 64;
 
 fn is_among(gids: &[u32], gid: u32) -> bool
     ensures { result ≡ list_any (λ g. g == gid) gids.now }
@@ -52,11 +71,10 @@ fn class(caller: &Caller, node: &Node) -> u32
 }
 
 /// Whether the caller has a right on the node.
-pub fn may(caller: &Caller, right: u32, node: &Node) -> bool
-    requires { 0 < right }
+pub fn may(caller: &Caller, right: Right, node: &Node) -> bool
     ensures { result ≡ has_right caller.now right node.now }
 {
-    caller.uid == 0 || (class(caller, node) / right) % 2 == 1
+    caller.uid == 0 || (class(caller, node) / right.bit()) % 2 == 1
 }
 
 fn contains_byte(bytes: &[u8], byte: u8) -> bool
@@ -88,10 +106,10 @@ pub fn check_changeable(caller: &Caller, node: &Node) -> Result<(), Status>
     if !node.is_dir() {
         return Err(Status::Notdir);
     }
-    if !may(caller, WRITE, node) {
+    if !may(caller, Right::Write, node) {
         return Err(Status::Acces);
     }
-    if !may(caller, EXECUTE, node) {
+    if !may(caller, Right::Execute, node) {
         return Err(Status::Acces);
     }
     Ok(())
@@ -131,30 +149,88 @@ fn same(a: &[u8], b: &[u8]) -> bool
 }
 
 /// `.` or `..`.
-pub fn is_own(name: &[u8]) -> bool
-    ensures { result ≡ is_own_name name.now }
+pub fn is_dot_name(name: &[u8]) -> bool
+    ensures { result ≡ is_dot_or_dot_dot name.now }
 {
     same(name, b".") || same(name, b"..")
 }
 
-/// What the server may keep, what its journal costs so far, and the bytes of this call's arguments.
+/// What a call finds of the server beside its tree.
 #[derive(Clone, Copy)]
-pub struct Room {
+pub struct Space {
+    /// What the journal may cost in all.
     pub capacity: u64,
+    /// What the journal costs so far.
     pub used: u64,
+    /// The bytes of this call's arguments.
     pub arguments: u64,
+    /// The write verifier of the server (RFC 1813 section 3.3.7).
+    pub verifier: Verifier,
 }
 
-/// Whether the journal has room for the call's entry.
-pub fn check_room(room: &Room) -> Result<(), Status>
-    requires used { room.now.used < 2 ^ 63 }
-    requires arguments { room.now.arguments < 2 ^ 32 }
-    ensures { MatchResult result (λ _. space_rule (space_of room.now) ≡ None) (λ s. space_rule (space_of room.now) ≡ Some s) }
+/// Whether the journal may have the call's entry.
+pub fn check_space(space: &Space) -> Result<(), Status>
+    requires { IsWithinCapacity space.now }
+    ensures { MatchResult result (λ _. space_rule space.now ≡ None) (λ s. space_rule space.now ≡ Some s) }
 {
-    if room.used + 64 + room.arguments > room.capacity {
+    let left = space.capacity - space.used;
+    if left < ENTRY_COST || left - ENTRY_COST < space.arguments {
         return Err(Status::Nospc);
     }
     Ok(())
+}
+
+/// Whether a time may be set: a client's time has fewer than 10^9 nanoseconds.
+fn is_invalid(time: SetTime) -> bool
+    ensures { result ≡ is_invalid_time time }
+{
+    match time {
+        SetTime::Leave => false,
+        SetTime::ServerTime => false,
+        SetTime::ClientTime(time) => time.nanoseconds >= NANOSECONDS_OF_A_SECOND,
+    }
+}
+
+const NANOSECONDS_OF_A_SECOND: u32 = 1_000_000_000;
+
+/// Whether the times that a call sets may be set.
+pub fn check_times(attributes: &SetAttributes) -> Result<(), Status>
+    ensures { MatchResult result (λ _. time_rule attributes.now ≡ None) (λ s. time_rule attributes.now ≡ Some s) }
+{
+    if is_invalid(attributes.atime) || is_invalid(attributes.mtime) {
+        return Err(Status::Inval);
+    }
+    Ok(())
+}
+
+fn is_above_limit(size: Option<u64>) -> bool
+    ensures { result ≡ is_too_large size }
+{
+    match size {
+        Some(size) => size > LARGEST_FILE,
+        None => false,
+    }
+}
+
+/// Whether a regular file may get the size, if one is set.
+pub fn check_size(size: Option<u64>) -> Result<(), Status>
+    ensures { MatchResult result (λ _. size_rule size ≡ None) (λ s. size_rule size ≡ Some s) }
+{
+    if is_above_limit(size) {
+        return Err(Status::Fbig);
+    }
+    Ok(())
+}
+
+/// A time after a call that sets it.
+pub fn time_after(now: Time, before: Time, how: SetTime) -> Time
+    ensures { result ≡ time_set now before how }
+{
+    match how {
+        SetTime::Leave => before,
+        SetTime::ServerTime => now,
+        SetTime::ClientTime(time) => time,
+    }
 }
 
 /// The number that a directory's entry leads to.

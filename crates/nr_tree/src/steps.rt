@@ -84,7 +84,7 @@ impl Tree {
     }
 
     /// Writes over the bytes of a regular file from an offset on; a gap before it becomes zeros (WRITE, section 3.3.7).
-    /// After an `Err` the tree is as before.
+    /// No bytes leave the file as it is, its size and its times too. After an `Err` the tree is as before.
     pub fn write(&mut self, number: u64, offset: u64, bytes: &[u8], now: Time) -> Result<(), Memory>
         requires sane { IsSane self.old }
         requires regular { is_regular_at self.old number ≡ true }

@@ -103,7 +103,7 @@ impl Tree {
         drop_name_of(&mut self.nodes, number, now);
     }
 
-    /// Writes over the bytes of a regular file from a place on. After an `Err` the tree is as before.
+    /// Writes over the bytes of a regular file from a place on; no bytes change nothing. After an `Err` the tree is as before.
     pub(crate) fn write_inner(
         &mut self,
         number: u64,
@@ -116,6 +116,9 @@ impl Tree {
         ensures ok { OnOk result (self.new ≡ tree_with_bytes self.old now number offset bytes.now) }
         ensures err { OnErr result (self.new ≡ self.old) }
     {
+        if bytes.is_empty() {
+            return Ok(());
+        }
         write_node(&mut self.nodes, number, offset, bytes, now)
     }
 

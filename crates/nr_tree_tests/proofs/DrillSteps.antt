@@ -30,23 +30,23 @@ module _ (t : Tree) (is : IsDrill t) where
   no_dir d = absurd (both_ways (is_dir_at t 2) file d)
 
   pub can_remove : CanRemoveEntry t 1 hello 2
-  can_remove = record { entry = named; bare = λ d. no_dir d }
+  can_remove = record { entry = named; empty = λ d. no_dir d }
 
   pub can_rename : CanRename t 1 hello 1 bye 2
   can_rename = record {
     entry = named;
     dir = directory;
-    some = omega arith;
-    few = omega arith;
+    not_empty = omega arith;
+    not_too_long = omega arith;
     target = subst (IsFreeTarget (skeleton t) 2) (sym free) tt;
-    room = λ d. no_dir d;
+    links = λ d. no_dir d;
     apart = λ d. no_dir d;
   }
 
   pub can_link : CanAddLink t 1 bye 2
   can_link = record {
     directory = directory;
-    free = record { free = free; some = omega arith; few = omega arith };
+    free = record { free = free; not_empty = omega arith; not_too_long = omega arith };
     live = ap (λ (o : Option Node). option_map_or (λ (node : Node). true) o false) is.hello_file;
     file = file;
     links = subst (λ (k : ℕ). k < 65535) (sym (ap (λ (o : Option Node). option_map_or (λ (node : Node). node.metadata.links) o 0) is.hello_file)) (omega arith);
