@@ -7,7 +7,7 @@ use Rattle.nr_tree.specs.Tree.{Tree, is_dir, is_regular, entries_in}
 use Rattle.nr_tree.specs.Sane.{skeleton}
 use Rattle.nr_tree.specs.Steps.{IsFreeTarget, CanAddLink, CanRemoveEntry, CanRename, is_dir_at, is_regular_at}
 use Rattle.nr_tree.specs.Changes.{entry_at}
-use Rattle.nr_tree.specs.Drill.{IsDrill, hello}
+use Rattle.nr_tree.specs.Drill.{IsDrill, hello, link}
 use Rattle.nr_tree.specs.declared.node.Node.{Node}
 
 abbrev bye : List ℕ
@@ -17,8 +17,11 @@ module _ (t : Tree) (is : IsDrill t) where
   file : is_dir_at t 2 ≡ false
   file = ap (λ (o : Option Node). option_map_or is_dir o false) is.hello_file
 
-  directory : is_dir_at t 1 ≡ true
+  pub directory : is_dir_at t 1 ≡ true
   directory = ap (λ (o : Option Node). option_map_or is_dir o false) is.root
+
+  pub many : is_dir_at t 4 ≡ true
+  many = ap (λ (o : Option Node). option_map_or is_dir o false) is.many_directory
 
   named : option_map (λ (e : Entry). e.number) (entry_at t 1 hello) ≡ Some 2
   named = ap (λ (o : Option Node). option_map (λ (e : Entry). e.number) (entry_of_name hello (option_map_or entries_in o []))) is.root
@@ -39,6 +42,23 @@ module _ (t : Tree) (is : IsDrill t) where
     not_empty = omega arith;
     not_too_long = omega arith;
     target = subst (IsFreeTarget (skeleton t) 2) (sym free) tt;
+    links = λ d. no_dir d;
+    apart = λ d. no_dir d;
+  }
+
+  taken : entry_at t 1 link ≡ Some (record { cookie = 2; name = link; number = 3 })
+  taken = ap (λ (o : Option Node). entry_of_name link (option_map_or entries_in o [])) is.root
+
+  other : is_dir_at t 3 ≡ false
+  other = ap (λ (o : Option Node). option_map_or is_dir o false) is.link_node
+
+  pub can_rename_over : CanRename t 1 hello 1 link 2
+  can_rename_over = record {
+    entry = named;
+    dir = directory;
+    not_empty = omega arith;
+    not_too_long = omega arith;
+    target = subst (IsFreeTarget (skeleton t) 2) (sym taken) (λ z. absurd (omega (arith, z)), λ d. absurd (both_ways (is_dir_at t 3) other d));
     links = λ d. no_dir d;
     apart = λ d. no_dir d;
   }

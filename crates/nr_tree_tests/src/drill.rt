@@ -1,5 +1,9 @@
 //! The drill's tree, number by number, its look-ups and its listings.
 
+ghost use Rattle.std.specs.Prelude.{◌≡◌};
+ghost use Rattle.nr_tree.specs.Sane.{IsSane};
+ghost use Rattle.nr_tree.specs.Drill.{IsDrill};
+
 use crate::compare::same;
 use nr_nfs_base::{FileType, Time};
 use nr_tree::{Content, Tree};
@@ -109,6 +113,17 @@ fn drill_tree(rt: HostRuntime) {
     for (row, (dir, cookie, want)) in LISTINGS.iter().enumerate() {
         same(&rt, row, listed(&tree, *dir, *cookie), *want);
     }
+    let (below, above) = within(&tree);
+    same(&rt, 1, below, true);
+    same(&rt, 2, above, false);
+}
+
+/// Whether `many` lies within the root, and the root within `many`.
+fn within(tree: &Tree) -> (bool, bool)
+    requires drill { IsDrill tree.now }
+    requires sane { IsSane tree.now }
+{
+    (tree.is_within(4, 1), tree.is_within(1, 4))
 }
 
 #[test]

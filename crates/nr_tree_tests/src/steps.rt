@@ -34,6 +34,17 @@ fn rename(rt: &impl Abort, alloc: Global, tree: &mut Tree)
         .expect(rt, "memory");
 }
 
+/// `hello` in the root becomes `link`, which is taken.
+fn rename_over(rt: &impl Abort, alloc: Global, tree: &mut Tree)
+    requires drill { IsDrill tree.old }
+    requires sane { IsSane tree.old }
+    requires bounded { IsBounded tree.old }
+{
+    let link = name(rt, alloc, b"link");
+    tree.rename(1, b"hello", 1, link, 2, NOW)
+        .expect(rt, "memory");
+}
+
 /// `bye` in the root becomes another name of `hello`.
 fn link(rt: &impl Abort, alloc: Global, tree: &mut Tree)
     requires drill { IsDrill tree.old }
@@ -77,7 +88,7 @@ type Row = (
     Option<(usize, u64, u64)>,
 );
 
-static ROWS: [Row; 5] = [
+static ROWS: [Row; 6] = [
     (
         0,
         None,
@@ -107,6 +118,7 @@ static ROWS: [Row; 5] = [
         Some((REG, 0o666, 1, 3, 1)),
         Some((0, 1, 2)),
     ),
+    (5, None, None, Some((REG, 0o666, 1, 5, 1)), Some((0, 3, 4))),
 ];
 
 fn stepped(rt: &impl Abort, alloc: Global, step: u8) -> Tree {
@@ -116,7 +128,8 @@ fn stepped(rt: &impl Abort, alloc: Global, step: u8) -> Tree {
         1 => link(rt, alloc, &mut tree),
         2 => remove(&mut tree),
         3 => write(rt, &mut tree),
-        _ => cut(rt, &mut tree),
+        4 => cut(rt, &mut tree),
+        _ => rename_over(rt, alloc, &mut tree),
     }
     tree
 }
@@ -131,5 +144,9 @@ fn steps(rt: HostRuntime) {
         same(&rt, row, listed(&tree, 1, 0), *entry);
     }
     let tree = stepped(&rt, rt.alloc(), 0);
-    same(&rt, 5, listed(&tree, 1, 3), Some((2, 4, 2)));
+    same(&rt, 6, listed(&tree, 1, 3), Some((2, 4, 2)));
+    let tree = stepped(&rt, rt.alloc(), 5);
+    same(&rt, 7, listed(&tree, 1, 3), Some((1, 4, 2)));
+    same(&rt, 8, looked_up(&tree, 1, b"link"), Some(2));
+    same(&rt, 9, seen(&tree, 3), None);
 }

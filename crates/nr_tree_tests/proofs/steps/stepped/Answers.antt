@@ -8,3 +8,6 @@ rename-requires-clause-bounded g c = bounded_by 106 c.expect-tree.result (omega 
 
 pub link-requires-clause-bounded : goal.link-requires-clause-bounded
 link-requires-clause-bounded g c = bounded_by 106 c.expect-tree.result (omega arith) (subst (λ r. IfOk r (IsBelow 106)) c.expect-tree.ensures c.drill.ensures.below)
+
+pub rename_over-requires-clause-bounded : goal.rename_over-requires-clause-bounded
+rename_over-requires-clause-bounded g c = bounded_by 106 c.expect-tree.result (omega arith) (subst (λ r. IfOk r (IsBelow 106)) c.expect-tree.ensures c.drill.ensures.below)
