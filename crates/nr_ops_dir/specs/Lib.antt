@@ -1,0 +1,4 @@
+pub mod Nodes
+pub mod Lookup
+pub mod Readdir
+pub mod Sizes

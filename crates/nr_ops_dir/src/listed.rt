@@ -1,0 +1,111 @@
+//! The entries of a listing as they are sent.
+
+ghost use Rattle.std.specs.Prelude.{◌≡◌, ◌+◌, ◌-◌, ◌++◌, ◌∷◌, [], ◌<◌, ◌≤◌, ◌^◌, take, drop, length, map, IfOk, OnOk};
+ghost use Rattle.nr_tree.specs.Entries.{NamesAreValid};
+ghost use Rattle.nr_ops_dir.specs.Nodes.{handle_under as handle_of_number};
+ghost use Rattle.nr_ops_dir.specs.Readdir.{listed, listed_plus};
+
+use crate::listings::Range;
+use crate::nodes::{attributes_under, new_handle};
+use nr_nfs_base::{Handle, Name};
+use nr_nfs_res::{Entry, EntryPlus};
+use nr_tree::{Slot, Tree};
+use nr_xdr::Memory;
+use std::alloc::Global;
+
+fn entry(alloc: Global, name: &[u8], slot: Slot) -> Result<Entry, Memory>
+    requires { length name.now < 2 ^ 32 }
+    ensures { IfOk result (λ e. e ≡ listed (record { cookie = slot.cookie; name = name.now; number = slot.number })) }
+{
+    Ok(Entry {
+        fileid: slot.number,
+        name: Name::from_slice(alloc, name)?,
+        cookie: slot.cookie,
+    })
+}
+
+fn push_names(alloc: Global, range: &Range, entries: &mut Vec<Entry>) -> Result<(), Memory>
+    requires none { entries.old.items ≡ [] }
+    requires rises { range.now.start ≤ range.now.end }
+    requires bounded { range.now.end ≤ length range.now.dir.now.list }
+    requires names { NamesAreValid range.now.dir.now.list }
+    ensures { OnOk result (entries.new.items ≡ map listed (take (range.now.end - range.now.start) (drop range.now.start range.now.dir.now.list))) }
+{
+    for place in range.start..range.end {
+        let (name, slot) = range.dir.entry_at(place);
+        entries.push(entry(alloc, name, slot)?)?;
+    }
+    Ok(())
+}
+
+/// The entries of READDIR.
+pub(crate) fn list_names(alloc: Global, range: &Range) -> Result<Vec<Entry>, Memory>
+    requires rises { range.now.start ≤ range.now.end }
+    requires bounded { range.now.end ≤ length range.now.dir.now.list }
+    requires names { NamesAreValid range.now.dir.now.list }
+    ensures { IfOk result (λ v. v.items ≡ map listed (take (range.now.end - range.now.start) (drop range.now.start range.now.dir.now.list))) }
+{
+    let mut entries = Vec::new(alloc);
+    push_names(alloc, range, &mut entries)?;
+    Ok(entries)
+}
+
+/// The handle of a node, if it is live.
+fn handle_under(alloc: Global, tree: &Tree, number: u64) -> Result<Option<Handle>, Memory>
+    ensures { IfOk result (λ h. h ≡ handle_of_number tree.now number) }
+{
+    match tree.get(number) {
+        Some(_) => Ok(Some(new_handle(alloc, number)?)),
+        None => Ok(None),
+    }
+}
+
+fn entry_plus(alloc: Global, tree: &Tree, name: &[u8], slot: Slot) -> Result<EntryPlus, Memory>
+    requires { length name.now < 2 ^ 32 }
+    ensures { IfOk result (λ e. e ≡ listed_plus tree.now (record { cookie = slot.cookie; name = name.now; number = slot.number })) }
+{
+    let name = Name::from_slice(alloc, name)?;
+    let handle = handle_under(alloc, tree, slot.number)?;
+    Ok(EntryPlus {
+        fileid: slot.number,
+        name,
+        cookie: slot.cookie,
+        attributes: attributes_under(tree, slot.number),
+        handle,
+    })
+}
+
+fn push_nodes(
+    alloc: Global,
+    tree: &Tree,
+    range: &Range,
+    entries: &mut Vec<EntryPlus>,
+) -> Result<(), Memory>
+    requires none { entries.old.items ≡ [] }
+    requires rises { range.now.start ≤ range.now.end }
+    requires bounded { range.now.end ≤ length range.now.dir.now.list }
+    requires names { NamesAreValid range.now.dir.now.list }
+    ensures { OnOk result (entries.new.items ≡ map (listed_plus tree.now) (take (range.now.end - range.now.start) (drop range.now.start range.now.dir.now.list))) }
+{
+    for place in range.start..range.end {
+        let (name, slot) = range.dir.entry_at(place);
+        entries.push(entry_plus(alloc, tree, name, slot)?)?;
+    }
+    Ok(())
+}
+
+/// The entries of READDIRPLUS.
+pub(crate) fn list_nodes(
+    alloc: Global,
+    tree: &Tree,
+    range: &Range,
+) -> Result<Vec<EntryPlus>, Memory>
+    requires rises { range.now.start ≤ range.now.end }
+    requires bounded { range.now.end ≤ length range.now.dir.now.list }
+    requires names { NamesAreValid range.now.dir.now.list }
+    ensures { IfOk result (λ v. v.items ≡ map (listed_plus tree.now) (take (range.now.end - range.now.start) (drop range.now.start range.now.dir.now.list))) }
+{
+    let mut entries = Vec::new(alloc);
+    push_nodes(alloc, tree, range, &mut entries)?;
+    Ok(entries)
+}

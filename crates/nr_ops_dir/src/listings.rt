@@ -1,0 +1,169 @@
+//! Which entries of a directory a listing has.
+
+ghost use Rattle.std.specs.Prelude.{◌≡◌, ◌==◌, ◌+◌, ◌-◌, ◌<◌, ◌≤◌, ◌^◌, ℕ, false, None, Some, [], take, drop, length, min, SomeIff, MatchResult};
+ghost use Rattle.nr_tree.specs.Rules.{first};
+ghost use Rattle.nr_tree.specs.Listing.{entries_after};
+ghost use Rattle.nr_tree.specs.declared.node.Content.TheVariants.{Directory as DirectoryNode};
+ghost use Rattle.nr_nfs_base.specs.declared.status.Status.TheVariants.{Toosmall as TooSmall};
+ghost use Rattle.nr_tree.specs.Tree.{attributes_of};
+ghost use Rattle.nr_xdr.specs.Item.{pad_len};
+ghost use Rattle.nr_ops_dir.specs.Readdir.{longest, goes_on, listing_rules, largest_listing, name_size as size_of_name};
+ghost use Rattle.nr_ops_dir.specs.Sizes.{node_size as size_of_node, size_in, within, empty_size, IsRange};
+
+use nr_nfs_base::{Caller, Status, Verifier};
+use nr_tree::{Content, Directory, Node, Right, Tree, may};
+
+/// What a listing tells of each entry.
+#[derive(Clone, Copy)]
+pub(crate) enum Listing {
+    /// Its name and number (READDIR).
+    Names,
+    /// Its node too (READDIRPLUS).
+    Nodes,
+}
+
+/// What a listing may have, in bytes.
+#[derive(Clone, Copy)]
+pub(crate) struct Limits {
+    pub(crate) listing: Listing,
+    /// All entries.
+    pub(crate) entries: u32,
+    /// Their numbers, cookies and names.
+    pub(crate) names: u32,
+}
+
+/// The attributes and the handle of a node, each behind a flag.
+fn node_size(tree: &Tree, number: u64) -> u64
+    ensures { result ≡ size_of_node tree.now number }
+{
+    match tree.get(number) {
+        Some(_) => 104,
+        None => 8,
+    }
+}
+
+/// The bytes of a name in a listing, with its length and its pad bytes.
+fn padded_size(name: &[u8]) -> u64
+    ensures size { result ≡ 4 + (length name.now + pad_len (length name.now)) }
+    ensures bounded { result ≤ 2 ^ 63 + 8 }
+{
+    let len = name.len() as u64;
+    4 + len + (4 - len % 4) % 4
+}
+
+fn entry_size(tree: &Tree, listing: Listing, name: &[u8], number: u64) -> u64
+    ensures size { (cookie : ℕ) → result ≡ size_in tree.now listing (record { cookie = cookie; name = name.now; number = number }) }
+    ensures bounded { result ≤ 2 ^ 63 + 256 }
+{
+    let size = 20 + padded_size(name);
+    match listing {
+        Listing::Names => size,
+        Listing::Nodes => size + node_size(tree, number),
+    }
+}
+
+/// How many entries from a place on are within the limits. Takes no memory.
+pub(crate) fn count_within(tree: &Tree, dir: &Directory, place: usize, limits: &Limits) -> usize
+    requires { place ≤ length dir.now.list }
+    ensures bounded { place + result ≤ length dir.now.list }
+    ensures entries { take result (drop place dir.now.list) ≡ longest (within tree.now limits.now) [] (drop place dir.now.list) }
+{
+    let len = dir.len();
+    let mut entries = 0;
+    let mut names = 0;
+    let mut count = 0;
+    while place + count < len {
+        let (name, slot) = dir.entry_at(place + count);
+        entries += entry_size(tree, limits.listing, name, slot.number);
+        names += 16 + padded_size(name);
+        if entries > limits.entries as u64 || names > limits.names as u64 {
+            return count;
+        }
+        count += 1;
+    }
+    count
+}
+
+/// The most bytes of a listing: a count above works as this one.
+const LARGEST_LISTING: u32 = 32_768;
+
+/// The bytes of the results without entries: the attributes of the directory, the verifier, the end of the list, and eof.
+const EMPTY_SIZE: u32 = 104;
+
+/// The limits of a listing of at most `count` bytes, whose entries have at most `names` bytes of numbers, cookies and names;
+/// none where the results without entries are larger.
+pub(crate) fn limits_of(listing: Listing, count: u32, names: u32) -> Option<Limits>
+    ensures { SomeIff result (empty_size ≤ min count largest_listing) (record { listing = listing; entries = min count largest_listing - empty_size; names = names }) }
+{
+    let most = count.min(LARGEST_LISTING);
+    if most < EMPTY_SIZE {
+        return None;
+    }
+    Some(Limits {
+        listing,
+        entries: most - EMPTY_SIZE,
+        names,
+    })
+}
+
+/// The directory that a node is, if the caller may list it with this cookie.
+pub(crate) fn directory_to_list<'a>(
+    caller: &Caller,
+    cookie: u64,
+    verifier: Verifier,
+    node: &'a Node,
+) -> Result<&'a Directory, Status>
+    ensures { MatchResult result
+        (λ dir. (first (listing_rules caller.now cookie verifier node.now) ≡ None) × (node.now.content ≡ DirectoryNode dir.now))
+        (λ s. first (listing_rules caller.now cookie verifier node.now) ≡ Some s) }
+{
+    let dir = match &node.content {
+        Content::Directory(dir) => dir,
+        _ => return Err(Status::Notdir),
+    };
+    if !may(caller, Right::Read, node) {
+        return Err(Status::Acces);
+    }
+    if cookie != 0 && verifier.number != 0 {
+        return Err(Status::BadCookie);
+    }
+    Ok(dir)
+}
+
+/// Entries of a directory, from one place up to another.
+#[derive(Clone, Copy)]
+pub(crate) struct Range<'a> {
+    pub(crate) dir: &'a Directory,
+    pub(crate) start: usize,
+    pub(crate) end: usize,
+}
+
+impl Range<'_> {
+    /// Whether no entry follows these.
+    pub(crate) fn is_last(&self) -> bool
+        ensures { result ≡ (self.now.end == length self.now.dir.now.list) }
+    {
+        self.end == self.dir.len()
+    }
+}
+
+/// The entries behind a cookie that are within the limits, or want of room for the first one.
+pub(crate) fn range_within<'a>(
+    tree: &Tree,
+    dir: &'a Directory,
+    cookie: u64,
+    limits: &Limits,
+) -> Result<Range<'a>, Status>
+    ensures { MatchResult result
+        (λ r. (r.dir.now ≡ dir.now) × IsRange dir.now.list r.start r.end (longest (within tree.now limits.now) [] (entries_after cookie dir.now.list)) (entries_after cookie dir.now.list))
+        (λ s. (s ≡ TooSmall) × (goes_on (longest (within tree.now limits.now) [] (entries_after cookie dir.now.list)) (entries_after cookie dir.now.list) ≡ false)) }
+{
+    let len = dir.len();
+    let start = dir.place_after(cookie);
+    let count = count_within(tree, dir, start, limits);
+    if count == 0 && start < len {
+        return Err(Status::Toosmall);
+    }
+    let end = start + count;
+    Ok(Range { dir, start, end })
+}
