@@ -73,6 +73,7 @@ needs_owner a = is_some a.mode || (is_client_time a.atime || is_client_time a.mt
 abbrev pub sets_server_time : SetAttributes → Bool
 sets_server_time a = is_server_time a.atime || is_server_time a.mtime
 
+-- uid 0 counts as the owner
 abbrev pub is_owner : Caller → Node → Bool
 is_owner c node = (c.uid == 0) || (c.uid == node.metadata.uid)
 

@@ -1,4 +1,4 @@
--- FSSTAT, FSINFO and PATHCONF (RFC 1813 sections 3.3.18 to 3.3.20): of each the handle alone is tested.
+-- FSSTAT, FSINFO and PATHCONF (RFC 1813 sections 3.3.18 to 3.3.20). The handle alone is tested.
 use Rattle.std.specs.Prelude.{ℕ, ◌+◌, ◌-◌, ◌/◌, true, false, List, [], ◌∷◌, Option}
 use Rattle.nr_nfs_base.specs.declared.attributes.Attributes.{Attributes}
 use Rattle.nr_nfs_base.specs.declared.status.Status.{Status}
@@ -20,10 +20,6 @@ use Rattle.nr_tree.specs.Skeleton.{most_links}
 use Rattle.nr_tree.specs.Tree.{Tree}
 use Rattle.nr_tree.specs.declared.rules.Space.{Space}
 
--- a reply in which the attributes alone depend on the tree
-abbrev pub reply_at : {R : Type 0} → Tree → List ℕ → (Option Attributes → R) → StatusUnion R (Option Attributes) Status
-reply_at t h done = answer (first (handle_rule t h ∷ [])) (λ s. Failed s (attributes_at t h)) (Done (done (attributes_at t h)))
-
 -- ===== FSSTAT (section 3.3.18)
 
 -- what the journal may still cost
@@ -43,8 +39,11 @@ fsstat_ok space attributes = record {
   invarsec = 0;
 }
 
+abbrev pub fsstat_rules : Tree → FsstatArgs → List (Option Status)
+fsstat_rules t a = handle_rule t a.fsroot ∷ []
+
 abbrev pub fsstat_reply : Tree → Space → FsstatArgs → StatusUnion FsstatOk (Option Attributes) Status
-fsstat_reply t space a = reply_at t a.fsroot (fsstat_ok space)
+fsstat_reply t space a = answer (first (fsstat_rules t a)) (λ s. Failed s (attributes_at t a.fsroot)) (Done (fsstat_ok space (attributes_at t a.fsroot)))
 
 -- ===== FSINFO (section 3.3.19)
 
@@ -75,8 +74,11 @@ fsinfo_ok attributes = record {
   properties = properties_of_server;
 }
 
+abbrev pub fsinfo_rules : Tree → FsinfoArgs → List (Option Status)
+fsinfo_rules t a = handle_rule t a.fsroot ∷ []
+
 abbrev pub fsinfo_reply : Tree → FsinfoArgs → StatusUnion FsinfoOk (Option Attributes) Status
-fsinfo_reply t a = reply_at t a.fsroot fsinfo_ok
+fsinfo_reply t a = answer (first (fsinfo_rules t a)) (λ s. Failed s (attributes_at t a.fsroot)) (Done (fsinfo_ok (attributes_at t a.fsroot)))
 
 -- ===== PATHCONF (section 3.3.20)
 
@@ -91,5 +93,8 @@ pathconf_ok attributes = record {
   case_preserving = true;
 }
 
+abbrev pub pathconf_rules : Tree → PathconfArgs → List (Option Status)
+pathconf_rules t a = handle_rule t a.object ∷ []
+
 abbrev pub pathconf_reply : Tree → PathconfArgs → StatusUnion PathconfOk (Option Attributes) Status
-pathconf_reply t a = reply_at t a.object pathconf_ok
+pathconf_reply t a = answer (first (pathconf_rules t a)) (λ s. Failed s (attributes_at t a.object)) (Done (pathconf_ok (attributes_at t a.object)))

@@ -3,10 +3,11 @@
 ghost use Rattle.std.specs.Prelude.{◌≡◌, ◌≤◌, true, None, Some, is_some, IfSome, IfOk, OnOk, OnErr, MatchResult};
 ghost use Rattle.std.specs.Option.{option_map};
 ghost use Rattle.std.specs.FinMap.{get};
-ghost use Rattle.nr_ops_file.specs.Attributes.{getattr_reply, same_time as same_times, guard_differs, is_other as is_other_number, changes_owner as changes_owner_of, is_client_time, is_server_time, needs_owner as needs_owner_for, sets_server_time as sets_the_server_time, is_owner as is_owner_of, permission_rules, value_rules, setattr_rules, mode_after as mode_set, mtime_of_size as mtime_of, metadata_after as metadata_set, tree_with_size_given, tree_with_attributes, setattr_tree, setattr_reply, bit_if as bit_where, access_granted, access_reply};
+ghost use Rattle.nr_ops_file.specs.Attributes.{getattr_reply, same_time as same_times, guard_differs, is_other as is_other_number, changes_owner as changes_owner_of, is_client_time, is_server_time, needs_owner as needs_owner_for, sets_server_time as sets_the_server_time, is_owner as is_owner_of, permission_rules, value_rules, setattr_of, setattr_rules, mode_after as mode_set, mtime_of_size as mtime_of, metadata_after as metadata_set, tree_with_size_given, tree_with_attributes, setattr_tree, setattr_reply, bit_if as bit_where, access_granted, access_reply};
 ghost use Rattle.nr_tree.specs.Rules.{first, node_of_handle, number_of_handle, IsWithinCapacity};
 ghost use Rattle.nr_tree.specs.Sane.{IsSane, largest_file};
 ghost use Rattle.nr_tree.specs.Steps.{is_regular_at, links_at};
+ghost use Rattle.nr_tree.specs.Tree.{is_regular};
 ghost use Rattle.nr_tree.specs.declared.node.Node.{Node};
 
 use nr_nfs_args::{AccessArgs, GetattrArgs, SetattrArgs};
@@ -97,9 +98,27 @@ pub fn setattr(
     ensures err { OnErr result (tree.new ≡ tree.old) }
     ensures sane { IsSane tree.new }
 {
+    setattr_inner(tree, now, caller, space, &args)
+}
+
+/// The same, of borrowed arguments.
+fn setattr_inner(
+    tree: &mut Tree,
+    now: Time,
+    caller: &Caller,
+    space: &Space,
+    args: &SetattrArgs,
+) -> Result<SetattrRes, Memory>
+    requires sane { IsSane tree.old }
+    requires space { IsWithinCapacity space.now }
+    ensures result { IfOk result (λ r. r ≡ setattr_reply tree.old caller.now space.now now args.now) }
+    ensures tree { OnOk result (tree.new ≡ setattr_tree tree.old caller.now space.now now args.now) }
+    ensures err { OnErr result (tree.new ≡ tree.old) }
+    ensures sane { IsSane tree.new }
+{
     let handle = args.object.as_slice();
     let before = wcc_attributes_at(tree, handle);
-    match settable(tree, caller, space, &args) {
+    match node_to_set(tree, caller, space, args) {
         Ok((number, metadata)) => {
             set_attributes(tree, now, number, args.attributes, metadata)?;
             Ok(StatusUnion::Done(wcc_data(before, tree, handle)))
@@ -112,7 +131,7 @@ pub fn setattr(
 }
 
 /// The number of the node whose attributes the call may set, and what they are.
-fn settable(
+fn node_to_set(
     tree: &Tree,
     caller: &Caller,
     space: &Space,
@@ -124,13 +143,21 @@ fn settable(
         (λ s. first (setattr_rules tree.now caller.now space.now args.now) ≡ Some s) }
 {
     let (number, node) = live_node(tree, args.object.as_slice())?;
+    check_attributes(caller, args, node)?;
+    check_space(space)?;
+    Ok((number, node.metadata))
+}
+
+/// Whether the call may set its attributes of this node.
+fn check_attributes(caller: &Caller, args: &SetattrArgs, node: &Node) -> Result<(), Status>
+    ensures { MatchResult result (λ _. (first (setattr_of caller.now args.now node.now) ≡ None) × IfSome args.now.attributes.size (λ size. (is_regular node.now ≡ true) × (size ≤ largest_file)))
+        (λ s. first (setattr_of caller.now args.now node.now) ≡ Some s) }
+{
     if differs(args.guard, node) {
         return Err(Status::NotSync);
     }
     check_permission(caller, args.attributes, node)?;
-    check_values(args.attributes, node)?;
-    check_space(space)?;
-    Ok((number, node.metadata))
+    check_values(args.attributes, node)
 }
 
 fn same_time(a: Time, b: Time) -> bool
@@ -210,7 +237,8 @@ fn check_permission(caller: &Caller, attributes: SetAttributes, node: &Node) -> 
 
 /// Whether the node can have these attributes.
 fn check_values(attributes: SetAttributes, node: &Node) -> Result<(), Status>
-    ensures { MatchResult result (λ _. (first (value_rules attributes node.now) ≡ None)) (λ s. first (value_rules attributes node.now) ≡ Some s) }
+    ensures { MatchResult result (λ _. (first (value_rules attributes node.now) ≡ None) × IfSome attributes.size (λ size. (is_regular node.now ≡ true) × (size ≤ largest_file)))
+        (λ s. first (value_rules attributes node.now) ≡ Some s) }
 {
     if attributes.size.is_some() && node.is_dir() {
         return Err(Status::Isdir);
@@ -258,11 +286,13 @@ fn set_size(tree: &mut Tree, now: Time, number: u64, size: Option<u64>) -> Resul
 }
 
 /// A mode has twelve bits.
+const MODES: u32 = 0o10000;
+
 fn mode_after(asked: Option<u32>, present: u32) -> u32
     ensures { result ≡ mode_set asked present }
 {
     match asked {
-        Some(mode) => mode % 4096,
+        Some(mode) => mode % MODES,
         None => present,
     }
 }

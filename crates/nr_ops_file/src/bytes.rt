@@ -5,10 +5,11 @@ ghost use Rattle.nr_ops_file.specs.Bytes.{most_bytes_moved, bytes_at, regular_ru
 ghost use Rattle.nr_tree.specs.Rules.{first, node_of_handle, number_of_handle, IsWithinCapacity};
 ghost use Rattle.nr_tree.specs.Sane.{IsSane, largest_file};
 ghost use Rattle.nr_tree.specs.Steps.{is_regular_at};
+ghost use Rattle.nr_nfs_base.specs.declared.stable.StableHow.TheVariants.{FileSync};
 ghost use Rattle.nr_tree.specs.Tree.{is_regular, bytes_of};
 
 use nr_nfs_args::{CommitArgs, ReadArgs, WriteArgs};
-use nr_nfs_base::{Attributes, Caller, Data, StableHow, Status, StatusUnion, Time};
+use nr_nfs_base::{Attributes, Caller, Data, StableHow, Status, StatusUnion, Time, WccData};
 use nr_nfs_res::{CommitOk, CommitRes, ReadOk, ReadRes, WriteOk, WriteRes};
 use nr_tree::{
     Content, LARGEST_FILE, Node, Right, Space, Tree, attributes_at, check_space, live_node, may,
@@ -39,7 +40,7 @@ pub fn read(alloc: Global, tree: &Tree, caller: &Caller, args: ReadArgs) -> Resu
     ensures { IfOk result (λ r. r ≡ read_reply tree.now caller.now args) }
 {
     let attributes = attributes_at(tree, args.file.as_slice());
-    match readable(tree, caller, &args) {
+    match file_to_read(tree, caller, &args) {
         Ok(node) => {
             let piece = read_piece(alloc, node, args.offset, args.count)?;
             Ok(StatusUnion::Done(read_results(piece, node.size(), attributes, args.offset)))
@@ -52,7 +53,7 @@ pub fn read(alloc: Global, tree: &Tree, caller: &Caller, args: ReadArgs) -> Resu
 }
 
 /// The regular file that the caller may read.
-fn readable<'a>(tree: &'a Tree, caller: &Caller, args: &ReadArgs) -> Result<&'a Node, Status>
+fn file_to_read<'a>(tree: &'a Tree, caller: &Caller, args: &ReadArgs) -> Result<&'a Node, Status>
     ensures { MatchResult result (λ node. (first (read_rules tree.now caller.now args.now) ≡ None) × (node_of_handle tree.now args.now.file ≡ Some node.now) × (is_regular node.now ≡ true))
         (λ s. first (read_rules tree.now caller.now args.now) ≡ Some s) }
 {
@@ -112,23 +113,49 @@ pub fn write(
     ensures err { OnErr result (tree.new ≡ tree.old) }
     ensures sane { IsSane tree.new }
 {
+    write_inner(tree, now, caller, space, &args)
+}
+
+/// The same, of borrowed arguments.
+fn write_inner(
+    tree: &mut Tree,
+    now: Time,
+    caller: &Caller,
+    space: &Space,
+    args: &WriteArgs,
+) -> Result<WriteRes, Memory>
+    requires sane { IsSane tree.old }
+    requires space { IsWithinCapacity space.now }
+    ensures result { IfOk result (λ r. r ≡ write_reply tree.old caller.now space.now now args.now) }
+    ensures tree { OnOk result (tree.new ≡ write_tree tree.old caller.now space.now now args.now) }
+    ensures err { OnErr result (tree.new ≡ tree.old) }
+    ensures sane { IsSane tree.new }
+{
     let handle = args.file.as_slice();
     let before = wcc_attributes_at(tree, handle);
-    match writable(tree, caller, space, &args) {
+    match file_to_write(tree, caller, space, args) {
         Ok(number) => {
             let piece = piece_of(args.bytes.as_slice());
             tree.write(number, args.offset, piece, now)?;
-            Ok(StatusUnion::Done(WriteOk {
-                wcc: wcc_data(before, tree, handle),
-                count: piece.len() as u32,
-                committed: StableHow::FileSync,
-                verifier: space.verifier,
-            }))
+            let wcc = wcc_data(before, tree, handle);
+            Ok(StatusUnion::Done(write_results(wcc, piece.len() as u32, space)))
         }
         Err(status) => Ok(StatusUnion::Failed {
             status,
             part: wcc_data(before, tree, handle),
         }),
+    }
+}
+
+/// What is written is on stable storage at once.
+fn write_results(wcc: WccData, count: u32, space: &Space) -> WriteOk
+    ensures { result ≡ record { wcc = wcc; count = count; committed = FileSync; verifier = space.now.verifier } }
+{
+    WriteOk {
+        wcc,
+        count,
+        committed: StableHow::FileSync,
+        verifier: space.verifier,
     }
 }
 
@@ -156,7 +183,12 @@ fn check_piece(args: &WriteArgs) -> Result<(), Status>
 }
 
 /// The number of the regular file that the call may write.
-fn writable(tree: &Tree, caller: &Caller, space: &Space, args: &WriteArgs) -> Result<u64, Status>
+fn file_to_write(
+    tree: &Tree,
+    caller: &Caller,
+    space: &Space,
+    args: &WriteArgs,
+) -> Result<u64, Status>
     requires { IsWithinCapacity space.now }
     ensures { MatchResult result (λ n. (first (write_rules tree.now caller.now space.now args.now) ≡ None) × (n ≡ number_of_handle args.now.file) × (is_regular_at tree.now n ≡ true) × (args.now.offset + length (piece_written args.now) ≤ largest_file))
         (λ s. first (write_rules tree.now caller.now space.now args.now) ≡ Some s) }
@@ -178,7 +210,7 @@ pub fn commit(tree: &Tree, space: &Space, args: CommitArgs) -> CommitRes
 {
     let handle = args.file.as_slice();
     let wcc = wcc_data(wcc_attributes_at(tree, handle), tree, handle);
-    match committable(tree, &args) {
+    match check_commit(tree, &args) {
         Ok(()) => StatusUnion::Done(CommitOk {
             wcc,
             verifier: space.verifier,
@@ -188,7 +220,7 @@ pub fn commit(tree: &Tree, space: &Space, args: CommitArgs) -> CommitRes
 }
 
 /// Whether the call names a regular file.
-fn committable(tree: &Tree, args: &CommitArgs) -> Result<(), Status>
+fn check_commit(tree: &Tree, args: &CommitArgs) -> Result<(), Status>
     ensures { MatchResult result (λ _. first (commit_rules tree.now args.now) ≡ None) (λ s. first (commit_rules tree.now args.now) ≡ Some s) }
 {
     let (_, node) = live_node(tree, args.file.as_slice())?;
