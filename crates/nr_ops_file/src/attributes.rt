@@ -2,8 +2,7 @@
 
 ghost use Rattle.std.specs.Prelude.{◌≡◌, ◌≤◌, true, None, Some, is_some, IfSome, IfOk, OnOk, OnErr, MatchResult};
 ghost use Rattle.std.specs.Option.{option_map};
-ghost use Rattle.std.specs.FinMap.{get};
-ghost use Rattle.nr_ops_file.specs.Attributes.{getattr_reply, same_time as same_times, guard_differs, is_other as is_other_number, changes_owner as changes_owner_of, is_client_time, is_server_time, needs_owner as needs_owner_for, sets_server_time as sets_the_server_time, is_owner as is_owner_of, permission_rules, value_rules, setattr_of, setattr_rules, mode_after as mode_set, mtime_of_size as mtime_of, metadata_after as metadata_set, tree_with_size_given, tree_with_attributes, setattr_tree, setattr_reply, bit_if as bit_where, access_granted, access_reply};
+ghost use Rattle.nr_ops_file.specs.Attributes.{getattr_reply, same_time as same_times, guard_differs, is_other as is_other_number, changes_owner as changes_owner_of, needs_owner as needs_owner_for, sets_server_time as sets_the_server_time, is_owner as is_owner_of, permission_rules, value_rules, setattr_of, setattr_rules, mode_after as mode_set, mtime_of_size as mtime_of, metadata_after as metadata_set, tree_with_size_given, tree_with_attributes, setattr_tree, setattr_reply, bit_if as bit_where, access_granted, access_reply};
 ghost use Rattle.nr_tree.specs.Rules.{first, node_of_handle, number_of_handle, IsWithinCapacity};
 ghost use Rattle.nr_tree.specs.Sane.{IsSane, largest_file};
 ghost use Rattle.nr_tree.specs.Steps.{is_regular_at, links_at};
@@ -50,7 +49,7 @@ pub fn access(tree: &Tree, caller: &Caller, args: AccessArgs) -> AccessRes
     match live_node(tree, handle) {
         Ok((_, node)) => StatusUnion::Done(AccessOk {
             attributes,
-            access: args.access & granted(caller, node),
+            access: args.access & granted_access(caller, node),
         }),
         Err(status) => StatusUnion::Failed {
             status,
@@ -67,7 +66,7 @@ fn bit_if(granted: bool, bit: u32) -> u32
 }
 
 /// A bit for each right of the caller on the node.
-fn granted(caller: &Caller, node: &Node) -> u32
+fn granted_access(caller: &Caller, node: &Node) -> u32
     ensures { result ≡ access_granted caller.now node.now }
 {
     let is_dir = node.is_dir();
@@ -285,7 +284,7 @@ fn set_size(tree: &mut Tree, now: Time, number: u64, size: Option<u64>) -> Resul
     }
 }
 
-/// A mode has twelve bits.
+/// Modes are taken modulo this, since they have twelve bits.
 const MODES: u32 = 0o10000;
 
 fn mode_after(asked: Option<u32>, present: u32) -> u32

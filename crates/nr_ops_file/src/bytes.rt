@@ -1,7 +1,7 @@
 //! READ, WRITE and COMMIT.
 
 ghost use Rattle.std.specs.Prelude.{◌≡◌, ◌+◌, ◌≤◌, nat_le, take, true, None, Some, length, IfOk, OnOk, OnErr, MatchResult};
-ghost use Rattle.nr_ops_file.specs.Bytes.{most_bytes_moved, bytes_at, regular_rules, read_rules, read_ok, piece_read, read_reply, piece_rules, piece_written, write_rules, write_tree, write_reply, commit_rules, commit_reply};
+ghost use Rattle.nr_ops_file.specs.Bytes.{most_bytes_moved, regular_rules, read_rules, piece_read, read_reply, piece_rules, piece_written, write_rules, write_tree, write_reply, commit_rules, commit_reply};
 ghost use Rattle.nr_tree.specs.Rules.{first, node_of_handle, number_of_handle, IsWithinCapacity};
 ghost use Rattle.nr_tree.specs.Sane.{IsSane, largest_file};
 ghost use Rattle.nr_tree.specs.Steps.{is_regular_at};
@@ -77,7 +77,7 @@ fn read_piece(alloc: Global, node: &Node, offset: u64, count: u32) -> Result<Oct
 }
 
 /// Whether a piece reaches the end of a file, or its offset is past it.
-fn is_end(size: u64, offset: u64, count: u32) -> bool
+fn reaches_end(size: u64, offset: u64, count: u32) -> bool
     ensures { result ≡ nat_le size (offset + count) }
 {
     size.saturating_sub(offset) <= count as u64
@@ -92,7 +92,7 @@ fn read_results(piece: Octets, size: u64, attributes: Option<Attributes>, offset
     ReadOk {
         attributes,
         count,
-        eof: is_end(size, offset, count),
+        eof: reaches_end(size, offset, count),
         bytes: Data::new(piece),
     }
 }
