@@ -31,7 +31,7 @@ use Rattle.nr_tree.specs.declared.rules.Space.{Space}
 abbrev pub getattr_rules : Tree → GetattrArgs → List (Option Status)
 getattr_rules t a = handle_rule t a.object ∷ []
 
--- the attributes; a handle that its rule lets through names a live node, so SERVERFAULT is never answered
+-- the attributes; a handle that its rule lets through names a live node, so SERVERFAULT is never answered (the clause `live` of getattr)
 abbrev pub getattr_done : Option Attributes → StatusUnion Attributes (Unit {0}) Status
 getattr_done attributes = option_map_or Done attributes (Failed Serverfault tt)
 

@@ -1,8 +1,9 @@
 //! GETATTR, SETATTR and ACCESS.
 
-ghost use Rattle.std.specs.Prelude.{◌≡◌, ◌≤◌, true, None, Some, is_some, IfSome, IfOk, OnOk, OnErr, MatchResult};
+ghost use Rattle.std.specs.Prelude.{◌≡◌, ◌≤◌, true, None, Some, IsSome, IfSome, IfOk, OnOk, OnErr, MatchResult};
 ghost use Rattle.std.specs.Option.{option_map};
-ghost use Rattle.nr_ops_file.specs.Attributes.{getattr_reply, same_time as same_times, guard_differs, is_other as is_other_number, changes_owner as changes_owner_of, needs_owner as needs_owner_for, sets_server_time as sets_the_server_time, is_owner as is_owner_of, permission_rules, value_rules, setattr_of, setattr_rules, mode_after as mode_set, mtime_of_size as mtime_of, metadata_after as metadata_set, tree_with_size_given, tree_with_attributes, setattr_tree, setattr_reply, bit_if as bit_where, access_granted, access_reply};
+ghost use Rattle.nr_ops_file.specs.Attributes.{getattr_rules, getattr_reply, same_time as same_times, guard_differs, is_other as is_other_number, changes_owner as changes_owner_of, needs_owner as needs_owner_for, sets_server_time as sets_the_server_time, is_owner as is_owner_of, permission_rules, value_rules, setattr_of, setattr_rules, mode_after as mode_set, mtime_of_size as mtime_of, metadata_after as metadata_set, tree_with_size_given, tree_with_attributes, setattr_tree, setattr_reply, bit_if as bit_where, access_granted, access_reply};
+ghost use Rattle.nr_tree.specs.Replies.{attributes_at as attributes_of_handle};
 ghost use Rattle.nr_tree.specs.Rules.{first, node_of_handle, number_of_handle, IsWithinCapacity};
 ghost use Rattle.nr_tree.specs.Sane.{IsSane, largest_file};
 ghost use Rattle.nr_tree.specs.Steps.{is_regular_at, links_at};
@@ -20,7 +21,9 @@ use nr_xdr::Memory;
 
 /// The attributes of the node that the handle names (RFC 1813 section 3.3.1). Takes no memory.
 pub fn getattr(tree: &Tree, args: GetattrArgs) -> GetattrRes
-    ensures { result ≡ getattr_reply tree.now args }
+    ensures result { result ≡ getattr_reply tree.now args }
+    // Where no rule refuses there are attributes, so SERVERFAULT is never answered.
+    ensures live { first (getattr_rules tree.now args) ≡ None → IsSome (attributes_of_handle tree.now args.object) }
 {
     match live_node(tree, args.object.as_slice()) {
         Ok((number, node)) => StatusUnion::Done(node.attributes(number)),
