@@ -1,0 +1,4 @@
+pub mod Attributes
+pub mod Bytes
+pub mod Links
+pub mod FileSystem

@@ -1,0 +1,228 @@
+//! READ, WRITE and COMMIT.
+
+ghost use Rattle.std.specs.Prelude.{◌≡◌, ◌+◌, ◌≤◌, nat_le, take, true, None, Some, length, IfOk, OnOk, OnErr, MatchResult};
+ghost use Rattle.nr_ops_file.specs.Bytes.{most_bytes_moved, regular_rules, read_rules, piece_read, read_reply, piece_rules, piece_written, write_rules, write_tree, write_reply, commit_rules, commit_reply};
+ghost use Rattle.nr_tree.specs.Rules.{first, node_of_handle, number_of_handle, IsWithinCapacity};
+ghost use Rattle.nr_tree.specs.Sane.{IsSane, largest_file};
+ghost use Rattle.nr_tree.specs.Steps.{is_regular_at};
+ghost use Rattle.nr_nfs_base.specs.declared.stable.StableHow.TheVariants.{FileSync};
+ghost use Rattle.nr_tree.specs.Tree.{is_regular, bytes_of};
+
+use nr_nfs_args::{CommitArgs, ReadArgs, WriteArgs};
+use nr_nfs_base::{Attributes, Caller, Data, StableHow, Status, StatusUnion, Time, WccData};
+use nr_nfs_res::{CommitOk, CommitRes, ReadOk, ReadRes, WriteOk, WriteRes};
+use nr_tree::{
+    Content, LARGEST_FILE, Node, Right, Space, Tree, attributes_at, check_space, live_node, may,
+    wcc_attributes_at, wcc_data,
+};
+use nr_xdr::{Memory, Octets};
+use std::alloc::Global;
+
+/// The most bytes that one READ gives, or one WRITE writes.
+pub(crate) const MOST_BYTES_MOVED: u32 = 32_768;
+
+/// Whether the node has bytes to be read and written.
+fn check_regular(node: &Node) -> Result<(), Status>
+    ensures { MatchResult result (λ _. (first (regular_rules node.now) ≡ None) × (is_regular node.now ≡ true)) (λ s. first (regular_rules node.now) ≡ Some s) }
+{
+    if node.is_dir() {
+        return Err(Status::Isdir);
+    }
+    if !node.is_regular() {
+        return Err(Status::Inval);
+    }
+    Ok(())
+}
+
+/// Bytes of a regular file from an offset on, as many as are asked for, may be moved and are there (RFC 1813 section
+/// 3.3.6). An `Err` wanted memory.
+pub fn read(alloc: Global, tree: &Tree, caller: &Caller, args: ReadArgs) -> Result<ReadRes, Memory>
+    ensures { IfOk result (λ r. r ≡ read_reply tree.now caller.now args) }
+{
+    let attributes = attributes_at(tree, args.file.as_slice());
+    match file_to_read(tree, caller, &args) {
+        Ok(node) => {
+            let piece = read_piece(alloc, node, args.offset, args.count)?;
+            Ok(StatusUnion::Done(read_results(piece, node.size(), attributes, args.offset)))
+        }
+        Err(status) => Ok(StatusUnion::Failed {
+            status,
+            part: attributes,
+        }),
+    }
+}
+
+/// The regular file that the caller may read.
+fn file_to_read<'a>(tree: &'a Tree, caller: &Caller, args: &ReadArgs) -> Result<&'a Node, Status>
+    ensures { MatchResult result (λ node. (first (read_rules tree.now caller.now args.now) ≡ None) × (node_of_handle tree.now args.now.file ≡ Some node.now) × (is_regular node.now ≡ true))
+        (λ s. first (read_rules tree.now caller.now args.now) ≡ Some s) }
+{
+    let (_, node) = live_node(tree, args.file.as_slice())?;
+    check_regular(node)?;
+    if !may(caller, Right::Read, node) {
+        return Err(Status::Acces);
+    }
+    Ok(node)
+}
+
+fn read_piece(alloc: Global, node: &Node, offset: u64, count: u32) -> Result<Octets, Memory>
+    requires { is_regular node.now ≡ true }
+    ensures value { IfOk result (λ piece. piece ≡ piece_read (bytes_of node.now.content) offset count) }
+    ensures bounded { IfOk result (λ piece. length piece ≤ most_bytes_moved) }
+{
+    match &node.content {
+        Content::Regular(file) => file.read(alloc, offset, count.min(MOST_BYTES_MOVED)),
+        _ => unreachable!(),
+    }
+}
+
+/// Whether a piece reaches the end of a file, or its offset is past it.
+fn reaches_end(size: u64, offset: u64, count: u32) -> bool
+    ensures { result ≡ nat_le size (offset + count) }
+{
+    size.saturating_sub(offset) <= count as u64
+}
+
+/// The piece that was read of a file of this size.
+fn read_results(piece: Octets, size: u64, attributes: Option<Attributes>, offset: u64) -> ReadOk
+    requires { length piece ≤ most_bytes_moved }
+    ensures { result ≡ record { attributes = attributes; count = length piece; eof = nat_le size (offset + length piece); bytes = piece } }
+{
+    let count = piece.len() as u32;
+    ReadOk {
+        attributes,
+        count,
+        eof: reaches_end(size, offset, count),
+        bytes: Data::new(piece),
+    }
+}
+
+/// Writes over the bytes of a regular file from an offset on, as many of the data as may be moved; a gap becomes zeros
+/// (RFC 1813 section 3.3.7). After an `Err` the tree is as before.
+pub fn write(
+    tree: &mut Tree,
+    now: Time,
+    caller: &Caller,
+    space: &Space,
+    args: WriteArgs,
+) -> Result<WriteRes, Memory>
+    requires sane { IsSane tree.old }
+    requires space { IsWithinCapacity space.now }
+    ensures result { IfOk result (λ r. r ≡ write_reply tree.old caller.now space.now now args) }
+    ensures tree { OnOk result (tree.new ≡ write_tree tree.old caller.now space.now now args) }
+    ensures err { OnErr result (tree.new ≡ tree.old) }
+    ensures sane { IsSane tree.new }
+{
+    write_inner(tree, now, caller, space, &args)
+}
+
+/// The same, of borrowed arguments.
+fn write_inner(
+    tree: &mut Tree,
+    now: Time,
+    caller: &Caller,
+    space: &Space,
+    args: &WriteArgs,
+) -> Result<WriteRes, Memory>
+    requires sane { IsSane tree.old }
+    requires space { IsWithinCapacity space.now }
+    ensures result { IfOk result (λ r. r ≡ write_reply tree.old caller.now space.now now args.now) }
+    ensures tree { OnOk result (tree.new ≡ write_tree tree.old caller.now space.now now args.now) }
+    ensures err { OnErr result (tree.new ≡ tree.old) }
+    ensures sane { IsSane tree.new }
+{
+    let handle = args.file.as_slice();
+    let before = wcc_attributes_at(tree, handle);
+    match file_to_write(tree, caller, space, args) {
+        Ok(number) => {
+            let piece = piece_of(args.bytes.as_slice());
+            tree.write(number, args.offset, piece, now)?;
+            let wcc = wcc_data(before, tree, handle);
+            Ok(StatusUnion::Done(write_results(wcc, piece.len() as u32, space)))
+        }
+        Err(status) => Ok(StatusUnion::Failed {
+            status,
+            part: wcc_data(before, tree, handle),
+        }),
+    }
+}
+
+/// What is written is on stable storage at once.
+fn write_results(wcc: WccData, count: u32, space: &Space) -> WriteOk
+    ensures { result ≡ record { wcc = wcc; count = count; committed = FileSync; verifier = space.now.verifier } }
+{
+    WriteOk {
+        wcc,
+        count,
+        committed: StableHow::FileSync,
+        verifier: space.verifier,
+    }
+}
+
+/// As many of the data as may be moved.
+fn piece_of(bytes: &[u8]) -> &[u8]
+    ensures value { result.now ≡ take most_bytes_moved bytes.now }
+    ensures bounded { length result.now ≤ most_bytes_moved }
+{
+    let (piece, _) = bytes.split_at((MOST_BYTES_MOVED as usize).min(bytes.len()));
+    piece
+}
+
+/// Whether the count is the data's, and the piece lies within the most bytes of a file.
+fn check_piece(args: &WriteArgs) -> Result<(), Status>
+    ensures { MatchResult result (λ _. (first (piece_rules args.now) ≡ None) × (args.now.offset + length (piece_written args.now) ≤ largest_file)) (λ s. first (piece_rules args.now) ≡ Some s) }
+{
+    let bytes = args.bytes.as_slice();
+    if args.count as usize != bytes.len() {
+        return Err(Status::Inval);
+    }
+    if args.offset > LARGEST_FILE - piece_of(bytes).len() as u64 {
+        return Err(Status::Fbig);
+    }
+    Ok(())
+}
+
+/// The number of the regular file that the call may write.
+fn file_to_write(
+    tree: &Tree,
+    caller: &Caller,
+    space: &Space,
+    args: &WriteArgs,
+) -> Result<u64, Status>
+    requires { IsWithinCapacity space.now }
+    ensures { MatchResult result (λ n. (first (write_rules tree.now caller.now space.now args.now) ≡ None) × (n ≡ number_of_handle args.now.file) × (is_regular_at tree.now n ≡ true) × (args.now.offset + length (piece_written args.now) ≤ largest_file))
+        (λ s. first (write_rules tree.now caller.now space.now args.now) ≡ Some s) }
+{
+    let (number, node) = live_node(tree, args.file.as_slice())?;
+    check_regular(node)?;
+    if !may(caller, Right::Write, node) {
+        return Err(Status::Acces);
+    }
+    check_piece(args)?;
+    check_space(space)?;
+    Ok(number)
+}
+
+/// Whether all that was written of a regular file is on stable storage, which it always is (RFC 1813 section 3.3.21).
+/// Takes no memory.
+pub fn commit(tree: &Tree, space: &Space, args: CommitArgs) -> CommitRes
+    ensures { result ≡ commit_reply tree.now space.now args }
+{
+    let handle = args.file.as_slice();
+    let wcc = wcc_data(wcc_attributes_at(tree, handle), tree, handle);
+    match check_commit(tree, &args) {
+        Ok(()) => StatusUnion::Done(CommitOk {
+            wcc,
+            verifier: space.verifier,
+        }),
+        Err(status) => StatusUnion::Failed { status, part: wcc },
+    }
+}
+
+/// Whether the call names a regular file.
+fn check_commit(tree: &Tree, args: &CommitArgs) -> Result<(), Status>
+    ensures { MatchResult result (λ _. first (commit_rules tree.now args.now) ≡ None) (λ s. first (commit_rules tree.now args.now) ≡ Some s) }
+{
+    let (_, node) = live_node(tree, args.file.as_slice())?;
+    check_regular(node)
+}

@@ -1,0 +1,122 @@
+//! FSSTAT, FSINFO and PATHCONF.
+
+ghost use Rattle.std.specs.Prelude.{◌≡◌};
+ghost use Rattle.nr_ops_file.specs.FileSystem.{fsstat_ok, fsstat_reply, fsinfo_ok, fsinfo_reply, pathconf_ok, pathconf_reply};
+
+use crate::bytes::MOST_BYTES_MOVED;
+use nr_nfs_args::{FsinfoArgs, FsstatArgs, PathconfArgs};
+use nr_nfs_base::{Attributes, StatusUnion, Time};
+use nr_nfs_res::{FsinfoOk, FsinfoRes, FsstatOk, FsstatRes, PathconfOk, PathconfRes};
+use nr_tree::{ENTRY_COST, LARGEST_FILE, Space, Tree, attributes_at, live_node};
+
+/// What the bytes of a READ and of a WRITE should be a multiple of.
+const MULTIPLE_OF_BYTES: u32 = 4096;
+
+/// Times are told apart by a nanosecond.
+const TIME_STEP: Time = Time {
+    seconds: 0,
+    nanoseconds: 1,
+};
+
+/// Hard links, symbolic links, PATHCONF the same everywhere, times that can be set (RFC 1813 section 3.3.19).
+const PROPERTIES: u32 = 0x01 + 0x02 + 0x08 + 0x10;
+
+/// The most hard links of a file.
+const MOST_LINKS: u32 = 65_535;
+
+/// The most bytes of a name.
+const LONGEST_NAME: u32 = 255;
+
+/// How much of the journal's capacity there is and is left, in bytes and in files (RFC 1813 section 3.3.18). Takes no
+/// memory.
+pub fn fsstat(tree: &Tree, space: &Space, args: FsstatArgs) -> FsstatRes
+    ensures { result ≡ fsstat_reply tree.now space.now args }
+{
+    let handle = args.fsroot.as_slice();
+    let attributes = attributes_at(tree, handle);
+    match live_node(tree, handle) {
+        Ok(_) => StatusUnion::Done(fsstat_results(space, attributes)),
+        Err(status) => StatusUnion::Failed {
+            status,
+            part: attributes,
+        },
+    }
+}
+
+fn fsstat_results(space: &Space, attributes: Option<Attributes>) -> FsstatOk
+    ensures { result ≡ fsstat_ok space.now attributes }
+{
+    let free = space.capacity.saturating_sub(space.used);
+    FsstatOk {
+        attributes,
+        tbytes: space.capacity,
+        fbytes: free,
+        abytes: free,
+        tfiles: space.capacity / ENTRY_COST,
+        ffiles: free / ENTRY_COST,
+        afiles: free / ENTRY_COST,
+        invarsec: 0,
+    }
+}
+
+/// The sizes that the server takes and prefers (RFC 1813 section 3.3.19). Takes no memory.
+pub fn fsinfo(tree: &Tree, args: FsinfoArgs) -> FsinfoRes
+    ensures { result ≡ fsinfo_reply tree.now args }
+{
+    let handle = args.fsroot.as_slice();
+    let attributes = attributes_at(tree, handle);
+    match live_node(tree, handle) {
+        Ok(_) => StatusUnion::Done(fsinfo_results(attributes)),
+        Err(status) => StatusUnion::Failed {
+            status,
+            part: attributes,
+        },
+    }
+}
+
+fn fsinfo_results(attributes: Option<Attributes>) -> FsinfoOk
+    ensures { result ≡ fsinfo_ok attributes }
+{
+    FsinfoOk {
+        attributes,
+        rtmax: MOST_BYTES_MOVED,
+        rtpref: MOST_BYTES_MOVED,
+        rtmult: MULTIPLE_OF_BYTES,
+        wtmax: MOST_BYTES_MOVED,
+        wtpref: MOST_BYTES_MOVED,
+        wtmult: MULTIPLE_OF_BYTES,
+        dtpref: MOST_BYTES_MOVED,
+        maxfilesize: LARGEST_FILE,
+        time_delta: TIME_STEP,
+        properties: PROPERTIES,
+    }
+}
+
+/// The limits of names and links (RFC 1813 section 3.3.20). Takes no memory.
+pub fn pathconf(tree: &Tree, args: PathconfArgs) -> PathconfRes
+    ensures { result ≡ pathconf_reply tree.now args }
+{
+    let handle = args.object.as_slice();
+    let attributes = attributes_at(tree, handle);
+    match live_node(tree, handle) {
+        Ok(_) => StatusUnion::Done(pathconf_results(attributes)),
+        Err(status) => StatusUnion::Failed {
+            status,
+            part: attributes,
+        },
+    }
+}
+
+fn pathconf_results(attributes: Option<Attributes>) -> PathconfOk
+    ensures { result ≡ pathconf_ok attributes }
+{
+    PathconfOk {
+        attributes,
+        linkmax: MOST_LINKS,
+        name_max: LONGEST_NAME,
+        no_trunc: true,
+        chown_restricted: true,
+        case_insensitive: false,
+        case_preserving: true,
+    }
+}
