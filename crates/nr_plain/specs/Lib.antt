@@ -1,0 +1,5 @@
+pub mod Setup
+pub mod Programs
+pub mod Journal
+pub mod Replies
+pub mod Stands

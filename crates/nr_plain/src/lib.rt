@@ -1,0 +1,2 @@
+//! The plain server (draft).
+#![tactic(auto)]
