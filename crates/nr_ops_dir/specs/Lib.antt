@@ -1,0 +1,6 @@
+pub mod Numbers
+pub mod Removal
+pub mod Links
+pub mod Renaming
+pub mod Creation
+pub mod Create
