@@ -1,5 +1,5 @@
 -- RENAME (RFC 1813 section 3.3.14).
-use Rattle.std.specs.Prelude.{ℕ, ◌==◌, Bool, false, not, ◌&&◌, ◌||◌, if◌then◌else◌, List, [], ◌∷◌, Option, None, Some, is_none}
+use Rattle.std.specs.Prelude.{◌≡◌, ℕ, ◌==◌, Bool, false, not, ◌&&◌, ◌||◌, if◌then◌else◌, List, [], ◌∷◌, Option, None, Some, is_none}
 use Rattle.std.specs.Option.{option_map_or}
 use Rattle.nr_nfs_base.specs.declared.time.Time.{Time}
 use Rattle.nr_nfs_base.specs.declared.caller.Caller.{Caller}
@@ -17,6 +17,7 @@ use Rattle.nr_tree.specs.Steps.{is_dir_at}
 use Rattle.nr_tree.specs.Changes.{tree_with_new_name}
 use Rattle.nr_tree.specs.Rules.{first, ◌⇒◌, on, after, answer, number_of_handle, handle_rule, name_rules, is_dot_name, space_rule}
 use Rattle.nr_tree.specs.Replies.{wcc_data}
+use Rattle.nr_ops_dir.specs.declared.renaming.Move.{Move}
 use Rattle.nr_ops_dir.specs.Numbers.{number_of_entry, has_entries, directory_rule, links_rule}
 
 -- the target is there, and is the same node
@@ -64,6 +65,13 @@ rename_rules t c space args =
     ((is_dot_name args.from_name || is_dot_name args.to_name) ⇒ Inval) ∷
     (is_none (number_of_entry t (number_of_handle args.from_dir) args.from_name) ⇒ Noent) ∷
     on (number_of_entry t (number_of_handle args.from_dir) args.from_name) (rename_of t space args)
+
+-- what was found of the node that moves
+pub record IsMoveOf (t : Tree) (args : RenameArgs) (m : Move) : Type 0 where
+  pub source : m.from ≡ number_of_handle args.from_dir
+  pub target : m.to ≡ number_of_handle args.to_dir
+  pub node : number_of_entry t (number_of_handle args.from_dir) args.from_name ≡ Some m.number
+  pub done : m.is_done ≡ is_same_node (number_of_entry t (number_of_handle args.to_dir) args.to_name) m.number
 
 abbrev pub tree_with_move : Tree → Time → RenameArgs → ℕ → Tree
 tree_with_move t now args n =

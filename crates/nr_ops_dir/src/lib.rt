@@ -4,6 +4,8 @@
 mod links;
 mod lookups;
 mod removal;
+mod renaming;
 
 pub use links::link;
 pub use removal::{remove, rmdir};
+pub use renaming::rename;
