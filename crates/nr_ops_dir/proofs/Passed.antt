@@ -5,8 +5,12 @@ use Rattle.std.specs.Option.{option_map}
 use Rattle.std.proofs.lemmas.Bool.{or_parts, leb-false, eqb-false, ltb-false, ne_eqb}
 use Rattle.std.specs.FinMap.{get}
 use Rattle.nr_nfs_base.specs.declared.caller.Caller.{Caller}
+use Rattle.nr_nfs_base.specs.declared.set_attributes.SetAttributes.{SetAttributes}
+use Rattle.nr_nfs_base.specs.declared.time.Time.{Time}
 use Rattle.nr_nfs_base.specs.declared.status.Status.{Status}
-use Rattle.nr_nfs_base.specs.declared.status.Status.TheVariants.{Exist, Isdir, Inval, Mlink}
+use Rattle.nr_nfs_args.specs.declared.create.MkdirArgs.{MkdirArgs}
+use Rattle.nr_nfs_args.specs.declared.special.SymlinkArgs.{SymlinkArgs}
+use Rattle.nr_nfs_base.specs.declared.status.Status.TheVariants.{Exist, Isdir, Inval, Mlink, Nametoolong}
 use Rattle.nr_nfs_args.specs.declared.remove.LinkArgs.{LinkArgs}
 use Rattle.nr_tree.specs.declared.node.Node.{Node}
 use Rattle.nr_tree.specs.declared.rules.Space.{Space}
@@ -23,10 +27,11 @@ use Rattle.nr_ops_dir.specs.Links.{link_place_rules, link_rules}
 use Rattle.nr_nfs_args.specs.declared.remove.RenameArgs.{RenameArgs}
 use Rattle.nr_tree.specs.Sane.{IsSane}
 use Rattle.nr_tree.specs.Within.{is_within}
-use Rattle.nr_tree.specs.Steps.{CanRename, IsFreeTarget, entries_at}
+use Rattle.nr_tree.specs.Steps.{IsNew, CanAddNode, CanRename, IsFreeTarget, entries_at}
 use Rattle.nr_tree.proofs.Walks.{not_within_is}
 use Rattle.nr_ops_dir.specs.declared.renaming.Move.{Move}
 use Rattle.nr_ops_dir.specs.Renaming.{IsMoveOf, is_same_node, differ, target_rule, move_rule, rename_of, both_rules, rename_rules}
+use Rattle.nr_ops_dir.specs.Creation.{new_name_rules, mkdir_rules, new_directory, symlink_rules, new_link}
 
 directory_by : (t : Tree) (c : Caller) (h : List ℕ) (v : Node) → node_of_handle t h ≡ Some v → (o : Option Node) → o ≡ Some v → first (on o (change_rules c)) ≡ None → is_dir_at t (number_of_handle h) ≡ true
 directory_by t c h v e None q p = absurd cc
@@ -125,3 +130,47 @@ can_rename t c space args m sane none step other =
       apart = λ dir. not_within_is t d_to n sane dir_to (is_within (skeleton t) d_to n) refl (second (is_dir_at t n) (is_within (skeleton t) d_to n) (clear (is_dir_at t n && is_within (skeleton t) d_to n) Inval of.0) dir);
     } in
     subst (λ (k : ℕ). CanRename t k args.from_name m.to args.to_name n) (sym step.source) (subst (λ (k : ℕ). CanRename t d args.from_name k args.to_name n) (sym step.target) can)
+
+-- ===== MKDIR, SYMLINK and MKNOD
+
+record IsPlace (t : Tree) (h name : List ℕ) : Type 0 where
+  directory : is_dir_at t (number_of_handle h) ≡ true
+  free : IsFree (skeleton t) (number_of_handle h) name
+
+place_passed : (t : Tree) (c : Caller) (h name : List ℕ) (a : SetAttributes) → first (new_name_rules t c h name a) ≡ None → IsPlace t h name
+place_passed t c h name a none =
+    let all : AllClear (new_name_rules t c h name a) = all_clear (new_name_rules t c h name a) none in
+    let entry : AllClear (entry_rules t c h name) = all_clear (entry_rules t c h name) all.0 in
+    record {
+      directory = directory_passed t c h entry.0 entry.1.1.0;
+      free = free_name t (number_of_handle h) name entry.1.0 (clear (is_taken t (number_of_handle h) name) Exist all.1.0);
+    }
+
+pub can_add : (t : Tree) (d k : ℕ) (name : List ℕ) (node made : Node) → d ≡ k → node ≡ made → CanAddNode t k name made → CanAddNode t d name node
+can_add t d k name node made e f can = subst (λ (x : ℕ). CanAddNode t x name node) (sym e) (subst (λ (x : Node). CanAddNode t k name x) (sym f) can)
+
+pub can_make_directory : (t : Tree) (c : Caller) (space : Space) (now : Time) (args : MkdirArgs) → first (mkdir_rules t c space args) ≡ None
+    → CanAddNode t (number_of_handle args.dir) args.name (new_directory c now args)
+can_make_directory t c space now args none =
+    let all : AllClear (mkdir_rules t c space args) = all_clear (mkdir_rules t c space args) none in
+    let place : IsPlace t args.dir args.name = place_passed t c args.dir args.name args.attributes all.0 in
+    record {
+      directory = place.directory;
+      free = place.free;
+      new = record { fit = (omega arith, tt); empty = refl; first_cookie = omega arith; parent = refl; links = refl };
+      links = λ dir. links_passed t (number_of_handle args.dir) all.1.0;
+    }
+
+pub can_make_link : (t : Tree) (c : Caller) (space : Space) (now : Time) (args : SymlinkArgs) → first (symlink_rules t c space args) ≡ None
+    → CanAddNode t (number_of_handle args.dir) args.name (new_link c now args)
+can_make_link t c space now args none =
+    let all : AllClear (symlink_rules t c space args) = all_clear (symlink_rules t c space args) none in
+    let place : IsPlace t args.dir args.name = place_passed t c args.dir args.name args.attributes all.0 in
+    let some : length args.path ≡ 0 → ⊥ = eqb-false (length args.path) 0 (clear (eqb (length args.path) 0) Inval all.1.0) in
+    let few : length args.path ≤ 1024 = ltb-false 1024 (length args.path) (clear (ltb 1024 (length args.path)) Nametoolong all.1.1.0) in
+    record {
+      directory = place.directory;
+      free = place.free;
+      new = record { fit = (omega (arith, some), few); empty = refl; first_cookie = omega arith; parent = refl; links = refl };
+      links = λ dir. absurd cc;
+    }
