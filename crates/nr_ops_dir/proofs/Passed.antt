@@ -1,8 +1,8 @@
 -- What a call that no rule refuses is known to be.
-use Rattle.std.proofs.Common.{◌≡◌, ℕ, ◌<◌, ◌≤◌, Bool, true, false, not, cond, ◌&&◌, ◌||◌, eqb, leb, ltb, List, [], ◌∷◌, length, Option, None, Some, refl, ap, sym, ◌∙◌, subst, arith, inl, inr, ◌⊎◌}
+use Rattle.std.proofs.Common.{◌≡◌, ℕ, ◌<◌, ◌≤◌, Bool, true, false, not, cond, ◌&&◌, ◌||◌, eqb, leb, ltb, List, [], ◌∷◌, length, Option, None, Some, unwrap_or, refl, ap, sym, ◌∙◌, subst, arith, inl, inr, ◌⊎◌}
 use Rattle.std.specs.Prelude.{is_some}
 use Rattle.std.specs.Option.{option_map}
-use Rattle.std.proofs.lemmas.Bool.{or_parts, leb-false, eqb-false, ltb-false, ne_eqb}
+use Rattle.std.proofs.lemmas.Bool.{both_ways, or_parts, leb-false, eqb-false, ltb-false, ne_eqb}
 use Rattle.std.specs.FinMap.{get}
 use Rattle.nr_nfs_base.specs.declared.caller.Caller.{Caller}
 use Rattle.nr_nfs_base.specs.declared.set_attributes.SetAttributes.{SetAttributes}
@@ -10,12 +10,17 @@ use Rattle.nr_nfs_base.specs.declared.time.Time.{Time}
 use Rattle.nr_nfs_base.specs.declared.status.Status.{Status}
 use Rattle.nr_nfs_args.specs.declared.create.MkdirArgs.{MkdirArgs}
 use Rattle.nr_nfs_args.specs.declared.special.SymlinkArgs.{SymlinkArgs}
+use Rattle.nr_nfs_args.specs.declared.special.MknodArgs.{MknodArgs}
+use Rattle.nr_nfs_args.specs.declared.special.MknodData.{MknodData}
+use Rattle.nr_nfs_args.specs.declared.special.MknodData.TheVariants as data_of
+use Rattle.nr_tree.specs.declared.node.Content.{Content}
+use Rattle.nr_tree.specs.declared.node.Content.TheVariants.{Block, Character, Socket, Fifo}
 use Rattle.nr_nfs_base.specs.declared.status.Status.TheVariants.{Exist, Isdir, Inval, Mlink, Nametoolong}
 use Rattle.nr_nfs_args.specs.declared.remove.LinkArgs.{LinkArgs}
 use Rattle.nr_tree.specs.declared.node.Node.{Node}
 use Rattle.nr_tree.specs.declared.rules.Space.{Space}
 use Rattle.nr_tree.specs.Entries.{Entry}
-use Rattle.nr_tree.specs.Tree.{Tree}
+use Rattle.nr_tree.specs.Tree.{Tree, is_directory}
 use Rattle.nr_tree.specs.Sane.{skeleton}
 use Rattle.nr_tree.specs.Steps.{IsFree, CanAddLink, is_dir_at, is_live_at, links_at}
 use Rattle.nr_tree.specs.Changes.{entry_at}
@@ -31,7 +36,7 @@ use Rattle.nr_tree.specs.Steps.{IsNew, CanAddNode, CanRename, IsFreeTarget, entr
 use Rattle.nr_tree.proofs.Walks.{not_within_is}
 use Rattle.nr_ops_dir.specs.declared.renaming.Move.{Move}
 use Rattle.nr_ops_dir.specs.Renaming.{IsMoveOf, is_same_node, differ, target_rule, move_rule, rename_of, both_rules, rename_rules}
-use Rattle.nr_ops_dir.specs.Creation.{new_name_rules, mkdir_rules, new_directory, symlink_rules, new_link}
+use Rattle.nr_ops_dir.specs.Creation.{new_name_rules, mkdir_rules, new_directory, symlink_rules, new_link, special_content, special_attributes, mknod_rules, new_special}
 
 directory_by : (t : Tree) (c : Caller) (h : List ℕ) (v : Node) → node_of_handle t h ≡ Some v → (o : Option Node) → o ≡ Some v → first (on o (change_rules c)) ≡ None → is_dir_at t (number_of_handle h) ≡ true
 directory_by t c h v e None q p = absurd cc
@@ -173,4 +178,30 @@ can_make_link t c space now args none =
       free = place.free;
       new = record { fit = (omega (arith, some), few); empty = refl; first_cookie = omega arith; parent = refl; links = refl };
       links = λ dir. absurd cc;
+    }
+
+some_is : (a b : Content) → Some a ≡ Some b → a ≡ b
+some_is a b e = ap (λ (o : Option Content). unwrap_or o a) e
+
+special_is_new : (c : Caller) (now : Time) (args : MknodArgs) (what : MknodData) (content : Content) → special_content what ≡ Some content
+    → IsNew (new_special c now args content) (number_of_handle args.dir) × (is_directory content ≡ false)
+special_is_new c now args data_of.Reg content e = absurd cc
+special_is_new c now args data_of.Dir content e = absurd cc
+special_is_new c now args (data_of.Blk d) content e = rw (sym (some_is (Block d.device) content e)) (record { fit = tt; empty = refl; first_cookie = omega arith; parent = refl; links = refl }, refl)
+special_is_new c now args (data_of.Chr d) content e = rw (sym (some_is (Character d.device) content e)) (record { fit = tt; empty = refl; first_cookie = omega arith; parent = refl; links = refl }, refl)
+special_is_new c now args data_of.Lnk content e = absurd cc
+special_is_new c now args (data_of.Sock a) content e = rw (sym (some_is Socket content e)) (record { fit = tt; empty = refl; first_cookie = omega arith; parent = refl; links = refl }, refl)
+special_is_new c now args (data_of.Fifo a) content e = rw (sym (some_is Fifo content e)) (record { fit = tt; empty = refl; first_cookie = omega arith; parent = refl; links = refl }, refl)
+
+pub can_make_special : (t : Tree) (c : Caller) (space : Space) (now : Time) (args : MknodArgs) (content : Content) → first (mknod_rules t c space args) ≡ None → special_content args.what ≡ Some content
+    → CanAddNode t (number_of_handle args.dir) args.name (new_special c now args content)
+can_make_special t c space now args content none e =
+    let all : AllClear (mknod_rules t c space args) = all_clear (mknod_rules t c space args) none in
+    let place : IsPlace t args.dir args.name = place_passed t c args.dir args.name (special_attributes args.what) all.1.1.0 in
+    let new : IsNew (new_special c now args content) (number_of_handle args.dir) × (is_directory content ≡ false) = special_is_new c now args args.what content e in
+    record {
+      directory = place.directory;
+      free = place.free;
+      new = new.0;
+      links = λ dir. absurd (both_ways (is_directory content) new.1 dir);
     }

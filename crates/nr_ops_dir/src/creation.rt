@@ -7,12 +7,12 @@ ghost use Rattle.nr_tree.specs.Steps.{IsBounded, CanAddNode};
 ghost use Rattle.nr_tree.specs.Changes.{tree_with_node};
 ghost use Rattle.nr_tree.specs.Rules.{first, number_of_handle, handle_of as handle_of_number};
 ghost use Rattle.nr_tree.specs.Replies.{wcc_data as wcc_of, attributes_at as attributes_of_handle};
-ghost use Rattle.nr_ops_dir.specs.Creation.{is_other as is_another, owner_rule, new_node as node_of, attributes_of_number as attributes_of_node, created as created_by, new_name_rules};
+ghost use Rattle.nr_ops_dir.specs.Creation.{nothing_given as no_attributes, is_other as is_another, owner_rule, new_node as node_of, attributes_of_number as attributes_of_node, created as created_by, new_name_rules};
 
 use crate::lookups::{check_entry, is_taken};
 use nr_nfs_base::{
-    Attributes, Caller, Handle, Name, SetAttributes, Status, StatusUnion, Time, WccAttributes,
-    WccData,
+    Attributes, Caller, Handle, Name, SetAttributes, SetTime, Status, StatusUnion, Time,
+    WccAttributes, WccData,
 };
 use nr_nfs_res::CreateOk;
 use nr_tree::{
@@ -35,7 +35,8 @@ fn is_other(given: Option<u32>, own: u32) -> bool
 pub(crate) fn check_owner(caller: &Caller, attributes: &SetAttributes) -> Result<(), Status>
     ensures { MatchResult result (λ _. owner_rule caller.now attributes.now ≡ None) (λ s. owner_rule caller.now attributes.now ≡ Some s) }
 {
-    let is_given_away = is_other(attributes.uid, caller.uid) || is_other(attributes.gid, caller.gid);
+    let is_given_away = is_other(attributes.uid, caller.uid)
+        || is_other(attributes.gid, caller.gid);
     if caller.uid != 0 && is_given_away {
         return Err(Status::Perm);
     }
@@ -67,6 +68,23 @@ pub(crate) fn check_new_name(
     check_times(attributes)?;
     Ok(directory)
 }
+
+/// What is given of a node where a call gives nothing.
+pub(crate) fn nothing_given() -> SetAttributes
+    ensures { result ≡ no_attributes }
+{
+    SetAttributes {
+        mode: None,
+        uid: None,
+        gid: None,
+        size: None,
+        atime: SetTime::Leave,
+        mtime: SetTime::Leave,
+    }
+}
+
+/// The mode of a node that is no directory and no symbolic link, where none is given.
+pub(crate) const FILE_MODE: u32 = 0o644;
 
 /// How many modes there are: the permission bits are twelve (RFC 1813 section 2.5, `mode3`).
 const MODES: u32 = 0o10000;
@@ -128,9 +146,9 @@ pub(crate) fn created(
     number: u64,
 ) -> CreateOk
     ensures { result ≡ record {
-        object = Some object;
-        attributes = attributes_of_node tree.now number;
-        dir_wcc = record { before = before; after = attributes_of_handle tree.now dir.now };
+      object = Some object;
+      attributes = attributes_of_node tree.now number;
+      dir_wcc = record { before = before; after = attributes_of_handle tree.now dir.now };
     } }
 {
     CreateOk {
@@ -141,11 +159,7 @@ pub(crate) fn created(
 }
 
 /// The results of a call that is refused. Takes no memory.
-pub(crate) fn refused(
-    status: Status,
-    tree: &Tree,
-    dir: &[u8],
-) -> StatusUnion<CreateOk, WccData>
+pub(crate) fn refused(status: Status, tree: &Tree, dir: &[u8]) -> StatusUnion<CreateOk, WccData>
     ensures { result ≡ Failed status (wcc_of tree.now tree.now dir.now) }
 {
     let before = wcc_attributes_at(tree, dir);
@@ -179,9 +193,7 @@ fn add_with_handle(
 {
     let before = wcc_attributes_at(tree, dir);
     let number = tree.add_node(directory, name.into_octets().into_vec(), node, now)?;
-    Ok(StatusUnion::Done(created(
-        before, tree, dir, object, number,
-    )))
+    Ok(StatusUnion::Done(created(before, tree, dir, object, number)))
 }
 
 /// Puts a new node and its entry into a directory, and says what the reply tells. After an `Err` the tree is as before.

@@ -44,12 +44,12 @@ fn new_directory(
     caller: &Caller,
     now: Time,
     directory: u64,
-    attributes: &SetAttributes,
+    attributes: SetAttributes,
 ) -> Node
-    ensures { result ≡ node_of caller.now now directory directory_mode attributes.now empty_directory }
+    ensures { result ≡ node_of caller.now now directory directory_mode attributes empty_directory }
 {
     let content = Content::Directory(Directory::new(alloc));
-    new_node(caller, now, directory, DIRECTORY_MODE, attributes, content)
+    new_node(caller, now, directory, DIRECTORY_MODE, &attributes, content)
 }
 
 /// Makes a directory (RFC 1813 section 3.3.9). After an `Err` the tree is as before.
@@ -71,13 +71,9 @@ pub fn mkdir(
 {
     match place_of_directory(tree, caller, space, &args) {
         Ok(directory) => {
-            let MkdirArgs {
-                dir,
-                name,
-                attributes,
-            } = args;
-            let node = new_directory(alloc, caller, now, directory, &attributes);
-            add_node(alloc, tree, now, dir.as_slice(), name, directory, node)
+            let node = new_directory(alloc, caller, now, directory, args.attributes);
+            let name = args.name;
+            add_node(alloc, tree, now, args.dir.as_slice(), name, directory, node)
         }
         Err(status) => Ok(refused(status, tree, args.dir.as_slice())),
     }

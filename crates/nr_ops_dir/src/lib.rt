@@ -7,10 +7,12 @@ mod links;
 mod lookups;
 mod removal;
 mod renaming;
+mod special_files;
 mod symbolic_links;
 
 pub use directories::mkdir;
 pub use links::link;
 pub use removal::{remove, rmdir};
 pub use renaming::rename;
+pub use special_files::mknod;
 pub use symbolic_links::symlink;

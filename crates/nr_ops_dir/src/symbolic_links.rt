@@ -52,13 +52,13 @@ fn new_link(
     caller: &Caller,
     now: Time,
     directory: u64,
-    attributes: &SetAttributes,
+    attributes: SetAttributes,
     path: Path,
 ) -> Node
-    ensures { result ≡ node_of caller.now now directory link_mode attributes.now (Link path) }
+    ensures { result ≡ node_of caller.now now directory link_mode attributes (Link path) }
 {
     let content = Content::Link(path.into_octets());
-    new_node(caller, now, directory, LINK_MODE, attributes, content)
+    new_node(caller, now, directory, LINK_MODE, &attributes, content)
 }
 
 /// Makes a symbolic link (RFC 1813 section 3.3.10). After an `Err` the tree is as before.
@@ -80,14 +80,9 @@ pub fn symlink(
 {
     match place_of_link(tree, caller, space, &args) {
         Ok(directory) => {
-            let SymlinkArgs {
-                dir,
-                name,
-                attributes,
-                path,
-            } = args;
-            let node = new_link(caller, now, directory, &attributes, path);
-            add_node(alloc, tree, now, dir.as_slice(), name, directory, node)
+            let node = new_link(caller, now, directory, args.attributes, args.path);
+            let name = args.name;
+            add_node(alloc, tree, now, args.dir.as_slice(), name, directory, node)
         }
         Err(status) => Ok(refused(status, tree, args.dir.as_slice())),
     }
