@@ -1,3 +1,5 @@
+pub mod Named
+pub mod Passed
 pub mod Sizes
 pub mod Counting
 pub mod Rooms

@@ -1,4 +1,10 @@
 pub mod Nodes
+pub mod Numbers
 pub mod Lookup
+pub mod Removal
+pub mod Links
+pub mod Renaming
+pub mod Creation
+pub mod Create
 pub mod Readdir
 pub mod Sizes

@@ -1,75 +1,125 @@
-//! LOOKUP.
+//! What the procedures look up in a tree, and what they ask of a directory that gets or loses an entry.
 
-ghost use Rattle.std.specs.Prelude.{◌≡◌, None, Some, IfOk, MatchResult};
-ghost use Rattle.nr_tree.specs.Rules.{first};
-ghost use Rattle.nr_ops_dir.specs.Lookup.{number_of_name as number_by_name, lookup_rules, found_by, lookup_reply};
+ghost use Rattle.std.specs.Prelude.{◌≡◌, nat_lt, length, None, Some, MatchResult};
+ghost use Rattle.nr_tree.specs.Rules.{first, answer, handle_rule, number_of_handle};
+ghost use Rattle.nr_tree.specs.Steps.{is_dir_at as is_directory_at, links_at as links_of_number};
+ghost use Rattle.nr_tree.specs.Tree.{entries_in};
+ghost use Rattle.nr_nfs_base.specs.declared.status_union.StatusUnion.TheVariants.{Done, Failed};
+ghost use Rattle.nr_ops_dir.specs.Numbers.{number_of_entry as number_of_name, has_entries as has_entries_at, is_taken as is_taken_name, directory_rule, entry_rules, links_rule};
 
-use crate::names::{is_dot, is_dot_dot};
-use crate::nodes::{attributes_under, new_handle};
-use nr_nfs_args::LookupArgs;
 use nr_nfs_base::{Caller, Status, StatusUnion};
-use nr_nfs_res::{LookupOk, LookupRes};
-use nr_tree::{Node, Right, Tree, attributes_at, check_name, live_node, may};
-use nr_xdr::Memory;
-use std::alloc::Global;
+use nr_tree::{Content, Node, Tree, check_changeable, check_name, is_dot_name, live_node};
 
-/// Finds what a name in a directory leads to (RFC 1813 section 3.3.3).
-pub fn lookup(
-    alloc: Global,
+/// Whether the node under a number is a directory.
+pub(crate) fn is_dir_at(tree: &Tree, number: u64) -> bool
+    ensures { result ≡ is_directory_at tree.now number }
+{
+    match tree.get(number) {
+        Some(node) => node.is_dir(),
+        None => false,
+    }
+}
+
+fn node_has_entries(node: &Node) -> bool
+    ensures { result ≡ nat_lt 0 (length (entries_in node.now)) }
+{
+    match &node.content {
+        Content::Directory(entries) => entries.len() > 0,
+        _ => false,
+    }
+}
+
+/// Whether the node under a number is a directory with entries.
+pub(crate) fn has_entries(tree: &Tree, number: u64) -> bool
+    ensures { result ≡ has_entries_at tree.now number }
+{
+    match tree.get(number) {
+        Some(node) => node_has_entries(node),
+        None => false,
+    }
+}
+
+/// The number of the node that a directory has under a name.
+pub(crate) fn number_of_entry(tree: &Tree, directory: u64, name: &[u8]) -> Option<u64>
+    ensures { result ≡ number_of_name tree.now directory name.now }
+{
+    match tree.get(directory) {
+        Some(dir) => dir.lookup(name),
+        None => None,
+    }
+}
+
+/// Whether a new entry of a directory cannot have the name: it is `.` or `..`, or is there.
+pub(crate) fn is_taken(tree: &Tree, directory: u64, name: &[u8]) -> bool
+    ensures { result ≡ is_taken_name tree.now directory name.now }
+{
+    is_dot_name(name) || number_of_entry(tree, directory, name).is_some()
+}
+
+/// The number of the live node that a handle names.
+pub(crate) fn live_number(tree: &Tree, handle: &[u8]) -> Result<u64, Status>
+    ensures { MatchResult result (λ n. (handle_rule tree.now handle.now ≡ None) × (n ≡ number_of_handle handle.now)) (λ s. handle_rule tree.now handle.now ≡ Some s) }
+{
+    let (number, _) = live_node(tree, handle)?;
+    Ok(number)
+}
+
+/// Whether the caller may change a directory.
+pub(crate) fn check_directory(tree: &Tree, caller: &Caller, directory: u64) -> Result<(), Status>
+    ensures { MatchResult result (λ _. directory_rule tree.now caller.now directory ≡ None) (λ s. directory_rule tree.now caller.now directory ≡ Some s) }
+{
+    match tree.get(directory) {
+        Some(dir) => check_changeable(caller, dir),
+        None => Ok(()),
+    }
+}
+
+/// The number of the directory that a handle names, where an entry of the name may be put in or taken out.
+#[tactic(auto, unfolding(crate::specs::Numbers::entry_rules))]
+pub(crate) fn check_entry(
     tree: &Tree,
     caller: &Caller,
-    args: LookupArgs,
-) -> Result<LookupRes, Memory>
-    ensures { IfOk result (λ r. r ≡ lookup_reply tree.now caller.now args) }
+    handle: &[u8],
+    name: &[u8],
+) -> Result<u64, Status>
+    ensures { MatchResult result
+        (λ d. (first (entry_rules tree.now caller.now handle.now name.now) ≡ None) × (d ≡ number_of_handle handle.now))
+        (λ s. first (entry_rules tree.now caller.now handle.now name.now) ≡ Some s) }
 {
-    let dir_attributes = attributes_at(tree, args.dir.as_slice());
-    match found(tree, caller, &args) {
-        Err(status) => {
-            Ok(StatusUnion::Failed {
-                status,
-                part: dir_attributes,
-            })
-        }
-        Ok(number) => {
-            let object = new_handle(alloc, number)?;
-            Ok(StatusUnion::Done(LookupOk {
-                object,
-                attributes: attributes_under(tree, number),
-                dir_attributes,
-            }))
-        }
-    }
-}
-
-/// The number of the node, or the first refusal.
-#[tactic(auto, unfolding(crate::specs::Lookup::lookup_rules, crate::specs::Lookup::lookup_in, crate::specs::Lookup::found_by))]
-fn found(tree: &Tree, caller: &Caller, args: &LookupArgs) -> Result<u64, Status>
-    ensures { MatchResult result (λ n. (first (lookup_rules tree.now caller.now args.now) ≡ None) × (found_by tree.now args.now ≡ Some n))
-        (λ s. first (lookup_rules tree.now caller.now args.now) ≡ Some s) }
-{
-    let (number, dir) = live_node(tree, args.dir.as_slice())?;
-    if !dir.is_dir() {
-        return Err(Status::Notdir);
-    }
-    if !may(caller, Right::Execute, dir) {
-        return Err(Status::Acces);
-    }
-    let name = args.name.as_slice();
+    let directory = live_number(tree, handle)?;
     check_name(name)?;
-    match number_of_name(number, name, dir) {
-        Some(number) => Ok(number),
-        None => Err(Status::Noent),
+    check_directory(tree, caller, directory)?;
+    Ok(directory)
+}
+
+/// The most links of a node.
+const MOST_LINKS: u32 = 65_535;
+
+fn links_at(tree: &Tree, number: u64) -> u32
+    ensures { result ≡ links_of_number tree.now number }
+{
+    match tree.get(number) {
+        Some(node) => node.metadata.links,
+        None => 0,
     }
 }
 
-fn number_of_name(number: u64, name: &[u8], dir: &Node) -> Option<u64>
-    ensures { result ≡ number_by_name number name.now dir.now }
+/// Whether a node may get another link.
+pub(crate) fn check_links(tree: &Tree, number: u64) -> Result<(), Status>
+    ensures { MatchResult result (λ _. links_rule tree.now number ≡ None) (λ s. links_rule tree.now number ≡ Some s) }
 {
-    if is_dot(name) {
-        Some(number)
-    } else if is_dot_dot(name) {
-        Some(dir.parent)
-    } else {
-        dir.lookup(name)
+    if links_at(tree, number) >= MOST_LINKS {
+        return Err(Status::Mlink);
+    }
+    Ok(())
+}
+
+/// The results of a call: those of a refusal, or of success.
+pub(crate) fn reply<T>(refusal: Option<Status>, part: T) -> StatusUnion<T, T>
+    ensures { result ≡ answer refusal (λ s. Failed s part) (Done part) }
+{
+    match refusal {
+        Some(status) => StatusUnion::Failed { status, part },
+        None => StatusUnion::Done(part),
     }
 }

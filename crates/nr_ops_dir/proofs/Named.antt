@@ -1,0 +1,73 @@
+-- What a name leads to after a change.
+use Rattle.std.proofs.Common.{◌≡◌, ℕ, ◌+◌, Bool, true, false, cond, List, [], ◌∷◌, ◌++◌, Option, None, Some, refl, ap, sym, ◌∙◌}
+use Rattle.std.specs.Option.{option_map, option_map_or}
+use Rattle.std.specs.Cmp.Lexicographic.{nat_list_eq_equiv}
+use Rattle.std.specs.Ordering.{nat_cmp}
+use Rattle.std.specs.FinMap.{FinMap, get, insert}
+use Rattle.nr_nfs_base.specs.declared.time.Time.{Time}
+use Rattle.nr_nfs_res.specs.declared.create.CreateOk.{CreateOk}
+use Rattle.nr_tree.specs.declared.node.Node.{Node}
+use Rattle.nr_tree.specs.declared.node.Content.{Content}
+use Rattle.nr_tree.specs.declared.node.Content.TheVariants.{Regular, Directory, Block, Character, Link, Socket, Fifo}
+use Rattle.nr_tree.specs.Entries.{Entry, is_name, entry_of_name}
+use Rattle.nr_tree.specs.Skeleton.{Skeleton, set}
+use Rattle.nr_tree.specs.Tree.{Tree, value_at, nodes_with_change, is_dir, entries_in, entries_of}
+use Rattle.nr_tree.specs.Sane.{IsSane}
+use Rattle.nr_tree.specs.Steps.{CanAddNode, entries_at}
+use Rattle.nr_tree.specs.Changes.{on_bytes, node_with_size, tree_with_node, tree_with_size}
+use Rattle.nr_tree.specs.Rules.{number_of_handle, handle_of}
+use Rattle.nr_tree.specs.Replies.{wcc_data}
+use Rattle.nr_tree.proofs.Lists.{set-here, set-other}
+use Rattle.nr_tree.proofs.SkeletonChanges.{value_at-insert, value_at-metadata, with_change-at, new_entry, skeleton_of-node_with_entry}
+use Rattle.nr_tree.proofs.Contents.{directory_at, found_none}
+use Rattle.nr_tree.proofs.StepLemmas.{not_next}
+use Rattle.nr_ops_dir.specs.Numbers.{number_of_entry}
+use Rattle.nr_ops_dir.specs.Creation.{attributes_of_number, created}
+
+-- what a reply tells where the name leads to a node
+pub created_is : (old new : Tree) (h name : List ℕ) (n : ℕ) → number_of_entry new (number_of_handle h) name ≡ Some n
+    → created old new h name ≡ record { object = Some (handle_of n); attributes = attributes_of_number new n; dir_wcc = wcc_data old new h }
+created_is old new h name n e =
+    ap (λ (o : Option ℕ). record { object = option_map handle_of o; attributes = option_map_or (attributes_of_number new) o None; dir_wcc = wcc_data old new h }) e
+
+last_found : (name : List ℕ) (es : List Entry) (e : Entry) → entry_of_name name es ≡ None → is_name name e ≡ true → entry_of_name name (es ++ e ∷ []) ≡ Some e
+last_found name [] e z t = ap (λ (b : Bool). cond b (Some e) None) t
+last_found name (x ∷ es) e z t =
+    let p : (is_name name x ≡ false) × (entry_of_name name es ≡ None) = found_none (is_name name x) x (entry_of_name name es) z in
+    ap (λ (b : Bool). cond b (Some x) (entry_of_name name (es ++ e ∷ []))) p.0 ∙ last_found name es e p.1 t
+
+-- a new node is found under its name
+pub named_after_addition : (t : Tree) (now : Time) (d : ℕ) (name : List ℕ) (node : Node) → IsSane t → CanAddNode t d name node → number_of_entry (tree_with_node t now d name node) d name ≡ Some t.next
+named_after_addition t now d name node sane can =
+    let nodes : FinMap nat_cmp Node = insert t.nodes t.next node in
+    let ne : d ≡ t.next → ⊥ = not_next t d sane can.directory in
+    let is : value_at is_dir false nodes d ≡ true =
+    ap (λ (f : ℕ → Bool). f d) (value_at-insert is_dir false t.nodes t.next node) ∙ set-other t.next (is_dir node) (value_at is_dir false t.nodes) d ne ∙ can.directory in
+    let v : (v : Node) × (get nodes d ≡ Some v) × (is_dir v ≡ true) = directory_at nodes d is in
+    let es : value_at entries_in [] nodes d ≡ entries_at t d =
+    ap (λ (f : ℕ → List Entry). f d) (value_at-insert entries_in [] t.nodes t.next node) ∙ set-other t.next (entries_in node) (value_at entries_in [] t.nodes) d ne in
+    let e : Entry = new_entry v.0 name t.next in
+    let after : value_at entries_in [] (tree_with_node t now d name node).nodes d ≡ value_at entries_in [] nodes d ++ e ∷ [] =
+    ap (λ (k : Skeleton). k.entries d) (skeleton_of-node_with_entry (t.next + 1) nodes d v.0 now name t.next (is_dir node) v.1 v.2)
+    ∙ set-here d (value_at entries_in [] nodes d ++ e ∷ []) (value_at entries_in [] nodes) in
+    ap (λ (l : List Entry). option_map (λ (x : Entry). x.number) (entry_of_name name l)) (after ∙ ap (λ (l : List Entry). l ++ e ∷ []) es)
+    ∙ ap (option_map (λ (x : Entry). x.number)) (last_found name (entries_at t d) e can.free.free (nat_list_eq_equiv.refl name))
+
+same_entries : (change : List ℕ → List ℕ) (c : Content) → entries_of (on_bytes change c) ≡ entries_of c
+same_entries change (Regular bytes) = refl
+same_entries change (Directory entries) = refl
+same_entries change (Block device) = refl
+same_entries change (Character device) = refl
+same_entries change (Link path) = refl
+same_entries change Socket = refl
+same_entries change Fifo = refl
+
+same_after_size : (nodes : FinMap nat_cmp Node) (now : Time) (n size : ℕ) (o : Option Node) → get nodes n ≡ o → value_at entries_in [] (nodes_with_change nodes n (node_with_size now size)) ≡ value_at entries_in [] nodes
+same_after_size nodes now n size None e = ap (λ (p : Option Node). value_at entries_in [] (option_map_or (λ node. insert nodes n (node_with_size now size node)) p nodes)) e
+same_after_size nodes now n size (Some v) e =
+    ap (value_at entries_in []) (with_change-at nodes n v (node_with_size now size) e) ∙ value_at-metadata entries_in [] nodes n v (node_with_size now size v) e (same_entries _ v.content)
+
+-- names lead where they did before
+pub named_after_size : (t : Tree) (now : Time) (n size d : ℕ) (name : List ℕ) → number_of_entry (tree_with_size t now n size) d name ≡ number_of_entry t d name
+named_after_size t now n size d name =
+    ap (λ (f : ℕ → List Entry). option_map (λ (x : Entry). x.number) (entry_of_name name (f d))) (same_after_size t.nodes now n size (get t.nodes n) refl)
