@@ -3,6 +3,7 @@
 
 mod creation;
 mod directories;
+mod files;
 mod links;
 mod lookups;
 mod removal;
@@ -11,6 +12,7 @@ mod special_files;
 mod symbolic_links;
 
 pub use directories::mkdir;
+pub use files::create;
 pub use links::link;
 pub use removal::{remove, rmdir};
 pub use renaming::rename;
