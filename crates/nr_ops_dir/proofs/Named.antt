@@ -1,5 +1,5 @@
 -- What a name leads to after a change.
-use Rattle.std.proofs.Common.{◌≡◌, ℕ, ◌+◌, Bool, true, false, cond, List, [], ◌∷◌, ◌++◌, Option, None, Some, refl, ap, sym, ◌∙◌}
+use Rattle.std.proofs.Common.{◌≡◌, ℕ, ◌+◌, Bool, true, false, cond, List, [], ◌∷◌, ◌++◌, Option, None, Some, Result, Ok, Err, IfOk, refl, ap, sym, ◌∙◌}
 use Rattle.std.specs.Option.{option_map, option_map_or}
 use Rattle.std.specs.Cmp.Lexicographic.{nat_list_eq_equiv}
 use Rattle.std.specs.Ordering.{nat_cmp}
@@ -23,6 +23,16 @@ use Rattle.nr_tree.proofs.Contents.{directory_at, found_none}
 use Rattle.nr_tree.proofs.StepLemmas.{not_next}
 use Rattle.nr_ops_dir.specs.Numbers.{number_of_entry}
 use Rattle.nr_ops_dir.specs.Creation.{attributes_of_number, created}
+use Rattle.nr_nfs_args.specs.declared.create.CreateHow.{CreateHow}
+use Rattle.nr_nfs_args.specs.declared.create.CreateArgs.{CreateArgs}
+use Rattle.nr_nfs_base.specs.declared.caller.Caller.{Caller}
+use Rattle.nr_nfs_base.specs.declared.status.Status.{Status}
+use Rattle.nr_nfs_base.specs.declared.status_union.StatusUnion.{StatusUnion}
+use Rattle.nr_nfs_base.specs.declared.status_union.StatusUnion.TheVariants.{Done, Failed}
+use Rattle.nr_nfs_base.specs.declared.weak_cache.WccData.{WccData}
+use Rattle.nr_tree.specs.declared.rules.Space.{Space}
+use Rattle.nr_tree.specs.Rules.{first, after, answer}
+use Rattle.nr_ops_dir.specs.Create.{size_to_set, tree_with_existing_file, tree_with_file, create_rules, create_reply}
 
 -- what a reply tells where the name leads to a node
 pub created_is : (old new : Tree) (h name : List ℕ) (n : ℕ) → number_of_entry new (number_of_handle h) name ≡ Some n
@@ -71,3 +81,29 @@ same_after_size nodes now n size (Some v) e =
 pub named_after_size : (t : Tree) (now : Time) (n size d : ℕ) (name : List ℕ) → number_of_entry (tree_with_size t now n size) d name ≡ number_of_entry t d name
 named_after_size t now n size d name =
     ap (λ (f : ℕ → List Entry). option_map (λ (x : Entry). x.number) (entry_of_name name (f d))) (same_after_size t.nodes now n size (get t.nodes n) refl)
+
+by_size : (t : Tree) (now : Time) (n d : ℕ) (name : List ℕ) (o : Option ℕ) → number_of_entry (option_map_or (λ size. tree_with_size t now n size) o t) d name ≡ number_of_entry t d name
+by_size t now n d name None = refl
+by_size t now n d name (Some size) = named_after_size t now n size d name
+
+pub named_after_create : (t : Tree) (now : Time) (how : CreateHow) (n d : ℕ) (name : List ℕ) → number_of_entry (tree_with_existing_file t now how n) d name ≡ number_of_entry t d name
+named_after_create t now how n d name = by_size t now n d name (size_to_set how)
+
+-- the reply of a CREATE of a file that is there
+pub existing_reply : {E : Type 0} (t : Tree) (c : Caller) (space : Space) (now : Time) (args : CreateArgs) (n : ℕ) (dir : List ℕ) (r : Result (StatusUnion CreateOk WccData Status) E)
+    → first (create_rules t c space args) ≡ None → number_of_entry t (number_of_handle args.dir) args.name ≡ Some n → dir ≡ args.dir
+    → IfOk r (λ x. x ≡ Done (record {
+      object = Some (handle_of n);
+      attributes = attributes_of_number (tree_with_existing_file t now args.how n) n;
+      dir_wcc = wcc_data t (tree_with_existing_file t now args.how n) dir;
+    }))
+    → IfOk r (λ x. x ≡ create_reply t c space now args)
+existing_reply t c space now args n dir (Err e) none found same p = tt
+existing_reply t c space now args n dir (Ok x) none found same p =
+    let u : Tree = tree_with_existing_file t now args.how n in
+    p
+    ∙ ap (λ (h : List ℕ). Done (record { object = Some (handle_of n); attributes = attributes_of_number u n; dir_wcc = wcc_data t u h })) same
+    ∙ sym (ap Done (created_is t u args.dir args.name n (named_after_create t now args.how n (number_of_handle args.dir) args.name ∙ found)))
+    ∙ sym (ap (λ (o : Option ℕ). Done (created t (tree_with_file t c now args o) args.dir args.name)) found)
+    ∙ sym (ap (λ (o : Option Status). answer o (λ s. Failed s (wcc_data t t args.dir))
+    (Done (created t (after o t (tree_with_file t c now args (number_of_entry t (number_of_handle args.dir) args.name))) args.dir args.name))) none)

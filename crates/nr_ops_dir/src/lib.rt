@@ -11,7 +11,7 @@
 
 mod creation;
 mod directories;
-// mod files;
+mod files;
 mod find;
 mod links;
 mod listed;
@@ -26,7 +26,7 @@ mod special_files;
 mod symbolic_links;
 
 pub use directories::mkdir;
-// pub use files::create;
+pub use files::create;
 pub use find::lookup;
 pub use links::link;
 pub use readdirs::{readdir, readdirplus};
