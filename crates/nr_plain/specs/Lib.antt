@@ -2,4 +2,5 @@ pub mod Setup
 pub mod Programs
 pub mod Journal
 pub mod Replies
+pub mod Code
 pub mod Stands

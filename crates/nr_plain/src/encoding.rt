@@ -1,0 +1,85 @@
+//! Arguments read, and results written behind the head of a reply.
+
+ghost use Rattle.std.specs.Prelude.{◌≡◌, ◌≢◌, [], IfOk};
+ghost use Rattle.nr_nfs_base.specs.Codec.{read_all, read_or_none};
+ghost use Rattle.nr_rpc.specs.Constants.{PROG_MISMATCH};
+ghost use Rattle.nr_rpc.specs.Reply.{reply_head, reply_encoding, CanWriteReply};
+ghost use Rattle.nr_plain.specs.Replies.{accepted as accepted_head, SUCCESS as success, GARBAGE_ARGS as garbage_args, refusal, results_reply};
+
+use nr_nfs_base::{ValueFault, Xdr};
+use nr_rpc::{HeadFault, ReplyHead, write_reply};
+use nr_xdr::{Memory, Octets, Writer};
+use std::alloc::Global;
+
+/// The arguments that all of the bytes are read as; none where they are no encoding of the type.
+pub(crate) fn read_arguments<A: Xdr>(alloc: Global, arguments: &[u8]) -> Result<Option<A>, Memory>
+    ensures { IfOk result (λ o. o ≡ read_or_none (read_all A.codec arguments.now)) }
+{
+    match A::read(alloc, arguments) {
+        Ok(value) => Ok(Some(value)),
+        Err(ValueFault::Bad { .. }) => Ok(None),
+        Err(ValueFault::Memory) => Err(Memory),
+    }
+}
+
+/// The message type of a reply (RFC 5531 section 9).
+const REPLY: u32 = 1;
+
+/// The reply status of a call that was accepted (RFC 5531 section 9).
+const MSG_ACCEPTED: u32 = 0;
+
+/// The flavor of the verifier, which has no body (RFC 5531 section 8.2).
+const AUTH_NONE: u32 = 0;
+
+/// The accept status of a call whose procedure was executed (RFC 5531 section 9).
+const SUCCESS: u32 = 0;
+
+/// The accept status of a call whose arguments can't be read.
+const GARBAGE_ARGS: u32 = 4;
+
+/// A writer behind the head of a reply to a call that was accepted with status 0.
+fn accepted_writer(alloc: Global, xid: u32) -> Result<Writer, Memory>
+    ensures { IfOk result (λ w. w ≡ reply_head (accepted_head xid success)) }
+{
+    let mut writer = Writer::new(alloc);
+    writer.u32(xid)?;
+    writer.u32(REPLY)?;
+    writer.u32(MSG_ACCEPTED)?;
+    writer.u32(AUTH_NONE)?;
+    writer.opaque(&[])?;
+    writer.u32(SUCCESS)?;
+    Ok(writer)
+}
+
+/// The reply to a call that was accepted with status 0, with its results.
+pub(crate) fn accepted<R: Xdr>(alloc: Global, xid: u32, results: &R) -> Result<Octets, Memory>
+    ensures { IfOk result (λ o. o ≡ results_reply xid R.codec results.now) }
+{
+    let writer = accepted_writer(alloc, xid)?;
+    Ok(results.write_to(writer)?.finish())
+}
+
+/// The reply to a call that reaches no procedure.
+pub(crate) fn refused(alloc: Global, head: ReplyHead) -> Result<Octets, Memory>
+    requires { CanWriteReply head }
+    ensures { IfOk result (λ o. o ≡ (refusal head).reply) }
+{
+    match write_reply(alloc, &head, &[]) {
+        Ok(reply) => Ok(reply),
+        Err(_) => Err(Memory),
+    }
+}
+
+/// The reply to a call whose arguments are no encoding of their type.
+pub(crate) fn garbage(alloc: Global, xid: u32) -> Result<Octets, Memory>
+    ensures { IfOk result (λ o. o ≡ (refusal (accepted_head xid garbage_args)).reply) }
+{
+    refused(
+        alloc,
+        ReplyHead::Accepted {
+            xid,
+            stat: GARBAGE_ARGS,
+            results_at: 0,
+        },
+    )
+}
