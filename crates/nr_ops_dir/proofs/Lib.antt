@@ -3,3 +3,4 @@ pub mod Passed
 pub mod Sizes
 pub mod Counting
 pub mod Rooms
+pub mod Laws

@@ -24,3 +24,4 @@ pub mod DrillLemmas
 pub mod LastPlace
 pub mod NodeChanges
 pub mod RenameLemmas
+pub mod Bounds
