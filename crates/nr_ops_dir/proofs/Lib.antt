@@ -1,2 +1,5 @@
 pub mod Passed
-pub mod Named
+pub mod CanRename
+pub mod CanMake
+pub mod CanCreate
+pub mod NamesAfter

@@ -1,4 +1,4 @@
-pub mod Numbers
+pub mod Entries
 pub mod Removal
 pub mod Links
 pub mod Renaming
