@@ -25,7 +25,7 @@ use Rattle.nr_tree.specs.Rules.{first, on, number_of_handle, space_rule}
 use Rattle.nr_tree.specs.Steps.{IsBelow}
 use Rattle.nr_tree.proofs.PassedRules.{AllClear, all_clear, clear, there, on_some}
 use Rattle.nr_tree.proofs.Bounds.{below-next, below-after, below-handled, below-tree_with_node, below-tree_with_size, below-tree_without_entry, below-tree_with_link, below-tree_with_new_name}
-use Rattle.nr_ops_dir.specs.Numbers.{number_of_entry, entry_rules}
+use Rattle.nr_ops_dir.specs.Entries.{number_of_entry, entry_rules}
 use Rattle.nr_ops_dir.specs.Create.{create_rules, create_tree, new_file, size_to_set, tree_with_existing_file, tree_with_file}
 use Rattle.nr_ops_dir.specs.Creation.{new_name_rules, mkdir_rules, mkdir_tree, new_directory, symlink_rules, symlink_tree, new_link, mknod_rules, mknod_tree, new_special, special_content}
 use Rattle.nr_ops_dir.specs.Links.{link_rules, link_tree}

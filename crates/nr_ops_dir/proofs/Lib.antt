@@ -1,6 +1,9 @@
-pub mod Named
 pub mod Passed
+pub mod CanRename
+pub mod CanMake
+pub mod CanCreate
+pub mod NamesAfter
+pub mod Laws
 pub mod Sizes
 pub mod Counting
 pub mod Rooms
-pub mod Laws

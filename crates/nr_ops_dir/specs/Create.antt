@@ -23,8 +23,8 @@ use Rattle.nr_tree.specs.Tree.{Tree, is_regular}
 use Rattle.nr_tree.specs.Changes.{tree_with_node, tree_with_size}
 use Rattle.nr_tree.specs.Rules.{first, ◌⇒◌, on, after, answer, number_of_handle, is_dot_name, may, space_rule, time_rule, size_rule}
 use Rattle.nr_tree.specs.Replies.{wcc_data}
-use Rattle.nr_ops_dir.specs.Numbers.{number_of_entry, entry_rules}
-use Rattle.nr_ops_dir.specs.Creation.{owner_rule, new_node, file_mode, nothing_given, created}
+use Rattle.nr_ops_dir.specs.Entries.{number_of_entry, entry_rules}
+use Rattle.nr_ops_dir.specs.Creation.{owner_rule, new_node, file_mode, nothing_given, create_ok}
 
 -- ===== a name that is free: PERM; INVAL for a time; FBIG. An exclusive CREATE gives no attributes, and its verifier is stored
 
@@ -93,4 +93,4 @@ create_tree t c space now args =
 
 abbrev pub create_reply : Tree → Caller → Space → Time → CreateArgs → StatusUnion CreateOk WccData Status
 create_reply t c space now args =
-    answer (first (create_rules t c space args)) (λ s. Failed s (wcc_data t t args.dir)) (Done (created t (create_tree t c space now args) args.dir args.name))
+    answer (first (create_rules t c space args)) (λ s. Failed s (wcc_data t t args.dir)) (Done (create_ok t (create_tree t c space now args) args.dir args.name))

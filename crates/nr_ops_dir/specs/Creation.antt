@@ -28,7 +28,7 @@ use Rattle.nr_tree.specs.Sane.{longest_path}
 use Rattle.nr_tree.specs.Changes.{tree_with_node}
 use Rattle.nr_tree.specs.Rules.{first, ◌⇒◌, after, answer, number_of_handle, handle_of, handle_rule, space_rule, time_rule, time_after}
 use Rattle.nr_tree.specs.Replies.{wcc_data}
-use Rattle.nr_ops_dir.specs.Numbers.{number_of_entry, is_taken, entry_rules, links_rule}
+use Rattle.nr_ops_dir.specs.Entries.{number_of_entry, is_taken, entry_rules, links_rule}
 
 -- ===== a new node
 
@@ -80,8 +80,8 @@ nothing_given = record { mode = None; uid = None; gid = None; size = None; atime
 abbrev pub attributes_of_number : Tree → ℕ → Option Attributes
 attributes_of_number t n = option_map (attributes_of n) (get t.nodes n)
 
-abbrev pub created : Tree → Tree → List ℕ → List ℕ → CreateOk
-created old new h name = record {
+abbrev pub create_ok : Tree → Tree → List ℕ → List ℕ → CreateOk
+create_ok old new h name = record {
   object = option_map handle_of (number_of_entry new (number_of_handle h) name);
   attributes = option_map_or (attributes_of_number new) (number_of_entry new (number_of_handle h) name) None;
   dir_wcc = wcc_data old new h;
@@ -117,7 +117,7 @@ mkdir_tree t c space now args =
 
 abbrev pub mkdir_reply : Tree → Caller → Space → Time → MkdirArgs → StatusUnion CreateOk WccData Status
 mkdir_reply t c space now args =
-    answer (first (mkdir_rules t c space args)) (λ s. Failed s (wcc_data t t args.dir)) (Done (created t (mkdir_tree t c space now args) args.dir args.name))
+    answer (first (mkdir_rules t c space args)) (λ s. Failed s (wcc_data t t args.dir)) (Done (create_ok t (mkdir_tree t c space now args) args.dir args.name))
 
 -- ===== SYMLINK: as above; INVAL for an empty path; NAMETOOLONG; NOSPC
 
@@ -137,7 +137,7 @@ symlink_tree t c space now args =
 
 abbrev pub symlink_reply : Tree → Caller → Space → Time → SymlinkArgs → StatusUnion CreateOk WccData Status
 symlink_reply t c space now args =
-    answer (first (symlink_rules t c space args)) (λ s. Failed s (wcc_data t t args.dir)) (Done (created t (symlink_tree t c space now args) args.dir args.name))
+    answer (first (symlink_rules t c space args)) (λ s. Failed s (wcc_data t t args.dir)) (Done (create_ok t (symlink_tree t c space now args) args.dir args.name))
 
 -- ===== MKNOD: the handle; BADTYPE; as above; PERM for a device; NOSPC
 
@@ -187,4 +187,4 @@ mknod_tree t c space now args =
 
 abbrev pub mknod_reply : Tree → Caller → Space → Time → MknodArgs → StatusUnion CreateOk WccData Status
 mknod_reply t c space now args =
-    answer (first (mknod_rules t c space args)) (λ s. Failed s (wcc_data t t args.dir)) (Done (created t (mknod_tree t c space now args) args.dir args.name))
+    answer (first (mknod_rules t c space args)) (λ s. Failed s (wcc_data t t args.dir)) (Done (create_ok t (mknod_tree t c space now args) args.dir args.name))

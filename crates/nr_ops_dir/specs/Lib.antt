@@ -1,5 +1,5 @@
 pub mod Nodes
-pub mod Numbers
+pub mod Entries
 pub mod Lookup
 pub mod Removal
 pub mod Links

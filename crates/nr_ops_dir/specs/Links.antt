@@ -14,7 +14,7 @@ use Rattle.nr_tree.specs.Steps.{is_dir_at}
 use Rattle.nr_tree.specs.Changes.{tree_with_link}
 use Rattle.nr_tree.specs.Rules.{first, ◌⇒◌, after, answer, number_of_handle, handle_rule, name_rules, space_rule}
 use Rattle.nr_tree.specs.Replies.{attributes_at, wcc_data}
-use Rattle.nr_ops_dir.specs.Numbers.{is_taken, directory_rule, links_rule}
+use Rattle.nr_ops_dir.specs.Entries.{is_taken, directory_rule, links_rule}
 
 -- what is asked of the file, the directory and the name
 abbrev pub link_place_rules : Tree → Caller → LinkArgs → List (Option Status)

@@ -16,7 +16,7 @@ use Rattle.nr_tree.specs.Steps.{is_dir_at}
 use Rattle.nr_tree.specs.Changes.{tree_without_entry}
 use Rattle.nr_tree.specs.Rules.{first, ◌⇒◌, on, after, answer, number_of_handle, is_dot, is_dot_dot, is_dot_name, space_rule}
 use Rattle.nr_tree.specs.Replies.{wcc_data}
-use Rattle.nr_ops_dir.specs.Numbers.{number_of_entry, has_entries, entry_rules}
+use Rattle.nr_ops_dir.specs.Entries.{number_of_entry, has_entries, entry_rules}
 
 -- an entry taken out of the directory that a handle names
 abbrev pub tree_without_name : Tree → Time → List ℕ → List ℕ → Tree

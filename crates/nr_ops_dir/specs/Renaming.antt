@@ -18,33 +18,33 @@ use Rattle.nr_tree.specs.Changes.{tree_with_new_name}
 use Rattle.nr_tree.specs.Rules.{first, ◌⇒◌, on, after, answer, number_of_handle, handle_rule, name_rules, is_dot_name, space_rule}
 use Rattle.nr_tree.specs.Replies.{wcc_data}
 use Rattle.nr_ops_dir.specs.declared.renaming.Move.{Move}
-use Rattle.nr_ops_dir.specs.Numbers.{number_of_entry, has_entries, directory_rule, links_rule}
+use Rattle.nr_ops_dir.specs.Entries.{number_of_entry, has_entries, directory_rule, links_rule}
 
 -- the target is there, and is the same node
 abbrev pub is_same_node : Option ℕ → ℕ → Bool
 is_same_node target n = option_map_or (λ g. g == n) target false
 
 -- exactly one of both
-abbrev pub differ : Bool → Bool → Bool
-differ a b = (a && not b) || (not a && b)
+abbrev pub exactly_one : Bool → Bool → Bool
+exactly_one a b = (a && not b) || (not a && b)
 
 -- a target that is not replaced: a directory where the node is none, none where it is one, or a directory with entries
 abbrev pub target_rule : Tree → ℕ → Option ℕ → Option Status
 target_rule t n None = None
-target_rule t n (Some g) = (differ (is_dir_at t n) (is_dir_at t g) || has_entries t g) ⇒ Exist
+target_rule t n (Some g) = (exactly_one (is_dir_at t n) (is_dir_at t g) || has_entries t g) ⇒ Exist
 
 -- a directory that moves into another one is a link more there
 abbrev pub move_rule : Tree → ℕ → ℕ → ℕ → Option Status
 move_rule t d d_to n = if is_dir_at t n && not (d == d_to) then links_rule t d_to else None
 
 -- nothing changes where the target is the same node
-abbrev pub change_rule : Tree → ℕ → ℕ → ℕ → Option ℕ → Option Status
-change_rule t d d_to n target = if is_same_node target n then None else first (target_rule t n target ∷ move_rule t d d_to n ∷ [])
+abbrev pub replacement_rule : Tree → ℕ → ℕ → ℕ → Option ℕ → Option Status
+replacement_rule t d d_to n target = if is_same_node target n then None else first (target_rule t n target ∷ move_rule t d d_to n ∷ [])
 
 abbrev pub rename_of : Tree → Space → RenameArgs → ℕ → List (Option Status)
 rename_of t space args n =
     ((is_dir_at t n && is_within (skeleton t) (number_of_handle args.to_dir) n) ⇒ Inval) ∷
-    change_rule t (number_of_handle args.from_dir) (number_of_handle args.to_dir) n (number_of_entry t (number_of_handle args.to_dir) args.to_name) ∷
+    replacement_rule t (number_of_handle args.from_dir) (number_of_handle args.to_dir) n (number_of_entry t (number_of_handle args.to_dir) args.to_name) ∷
     space_rule space ∷ []
 
 -- what is asked of both handles, names and directories

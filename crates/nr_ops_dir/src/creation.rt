@@ -7,9 +7,9 @@ ghost use Rattle.nr_tree.specs.Steps.{IsBounded, CanAddNode};
 ghost use Rattle.nr_tree.specs.Changes.{tree_with_node};
 ghost use Rattle.nr_tree.specs.Rules.{first, number_of_handle, handle_of as handle_of_number};
 ghost use Rattle.nr_tree.specs.Replies.{wcc_data as wcc_of, attributes_at as attributes_of_handle};
-ghost use Rattle.nr_ops_dir.specs.Creation.{nothing_given as no_attributes, is_other as is_another, owner_rule, new_node as node_of, attributes_of_number as attributes_of_node, created as created_by, new_name_rules};
+ghost use Rattle.nr_ops_dir.specs.Creation.{nothing_given as no_attributes, is_other as is_another, owner_rule, new_node as node_of, attributes_of_number as attributes_of_node, create_ok as ok_of, new_name_rules};
 
-use crate::lookups::{check_entry, is_taken};
+use crate::entries::{check_entry, is_taken};
 use nr_nfs_base::{
     Attributes, Caller, Handle, Name, SetAttributes, SetTime, Status, StatusUnion, Time,
     WccAttributes, WccData,
@@ -138,7 +138,7 @@ fn attributes_of_number(tree: &Tree, number: u64) -> Option<Attributes>
 }
 
 /// What a reply tells of the node that a name leads to. Takes no memory.
-pub(crate) fn created(
+pub(crate) fn create_ok(
     before: Option<WccAttributes>,
     tree: &Tree,
     dir: &[u8],
@@ -159,7 +159,11 @@ pub(crate) fn created(
 }
 
 /// The results of a call that is refused. Takes no memory.
-pub(crate) fn refused(status: Status, tree: &Tree, dir: &[u8]) -> StatusUnion<CreateOk, WccData>
+pub(crate) fn create_failure(
+    status: Status,
+    tree: &Tree,
+    dir: &[u8],
+) -> StatusUnion<CreateOk, WccData>
     ensures { result ≡ Failed status (wcc_of tree.now tree.now dir.now) }
 {
     let before = wcc_attributes_at(tree, dir);
@@ -171,7 +175,7 @@ pub(crate) fn refused(status: Status, tree: &Tree, dir: &[u8]) -> StatusUnion<Cr
 
 /// Puts a new node and its entry into a directory, and says what the reply tells. The handle is that of the node. After an
 /// `Err` the tree is as before.
-#[tactic(auto, using(crate::proofs::Named::created_is, crate::proofs::Named::named_after_addition))]
+#[tactic(auto, using(crate::proofs::NamesAfter::create_ok_is, crate::proofs::NamesAfter::named_after_addition))]
 fn add_with_handle(
     tree: &mut Tree,
     now: Time,
@@ -186,14 +190,14 @@ fn add_with_handle(
     requires directory { directory ≡ number_of_handle dir.now }
     requires allowed { CanAddNode tree.old directory name node }
     requires object { object ≡ handle_of_number tree.old.next }
-    ensures result { IfOk result (λ r. r ≡ Done (created_by tree.old (tree_with_node tree.old now directory name node) dir.now name)) }
+    ensures result { IfOk result (λ r. r ≡ Done (ok_of tree.old (tree_with_node tree.old now directory name node) dir.now name)) }
     ensures tree { OnOk result (tree.new ≡ tree_with_node tree.old now directory name node) }
     ensures err { OnErr result (tree.new ≡ tree.old) }
     ensures sane { IsSane tree.new }
 {
     let before = wcc_attributes_at(tree, dir);
     let number = tree.add_node(directory, name.into_octets().into_vec(), node, now)?;
-    Ok(StatusUnion::Done(created(before, tree, dir, object, number)))
+    Ok(StatusUnion::Done(create_ok(before, tree, dir, object, number)))
 }
 
 /// Puts a new node and its entry into a directory, and says what the reply tells. After an `Err` the tree is as before.
@@ -210,7 +214,7 @@ pub(crate) fn add_node(
     requires bounded { IsBounded tree.old }
     requires directory { directory ≡ number_of_handle dir.now }
     requires allowed { CanAddNode tree.old directory name node }
-    ensures result { IfOk result (λ r. r ≡ Done (created_by tree.old (tree_with_node tree.old now directory name node) dir.now name)) }
+    ensures result { IfOk result (λ r. r ≡ Done (ok_of tree.old (tree_with_node tree.old now directory name node) dir.now name)) }
     ensures tree { OnOk result (tree.new ≡ tree_with_node tree.old now directory name node) }
     ensures err { OnErr result (tree.new ≡ tree.old) }
     ensures sane { IsSane tree.new }

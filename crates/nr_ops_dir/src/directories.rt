@@ -6,8 +6,8 @@ ghost use Rattle.nr_tree.specs.Steps.{IsBounded};
 ghost use Rattle.nr_tree.specs.Rules.{first, number_of_handle, IsWithinCapacity};
 ghost use Rattle.nr_ops_dir.specs.Creation.{new_node as node_of, directory_mode, empty_directory, mkdir_rules, mkdir_tree, mkdir_reply};
 
-use crate::creation::{add_node, check_new_name, new_node, refused};
-use crate::lookups::check_links;
+use crate::creation::{add_node, check_new_name, create_failure, new_node};
+use crate::entries::check_links;
 use nr_nfs_args::MkdirArgs;
 use nr_nfs_base::{Caller, SetAttributes, Status, Time};
 use nr_nfs_res::MkdirRes;
@@ -75,6 +75,6 @@ pub fn mkdir(
             let name = args.name;
             add_node(alloc, tree, now, args.dir.as_slice(), name, directory, node)
         }
-        Err(status) => Ok(refused(status, tree, args.dir.as_slice())),
+        Err(status) => Ok(create_failure(status, tree, args.dir.as_slice())),
     }
 }

@@ -8,14 +8,14 @@ ghost use Rattle.nr_tree.specs.Steps.{IsBounded, CanAddNode, is_regular_at};
 ghost use Rattle.nr_tree.specs.Rules.{first, number_of_handle, handle_of as handle_of_number, IsWithinCapacity};
 ghost use Rattle.nr_tree.specs.Changes.{tree_with_node};
 ghost use Rattle.nr_tree.specs.Replies.{wcc_data as wcc_of};
-ghost use Rattle.nr_ops_dir.specs.Numbers.{number_of_entry as number_of_name};
-ghost use Rattle.nr_ops_dir.specs.Creation.{attributes_of_number, created as created_by};
+ghost use Rattle.nr_ops_dir.specs.Entries.{number_of_entry as number_of_name};
+ghost use Rattle.nr_ops_dir.specs.Creation.{attributes_of_number, create_ok as ok_of};
 ghost use Rattle.nr_ops_dir.specs.Create.{given_attributes as attributes_given, given_verifier as verifier_given, new_file_rules, new_file as file_of, is_made_by as is_made_with, existing_file_rules, size_to_set as size_given, tree_with_existing_file, file_rules, create_rules, create_tree, create_reply};
 
 use crate::creation::{
-    FILE_MODE, add_node, check_owner, created, handle_of, new_node, nothing_given, refused,
+    FILE_MODE, add_node, check_owner, create_failure, create_ok, handle_of, new_node, nothing_given,
 };
-use crate::lookups::{check_entry, number_of_entry};
+use crate::entries::{check_entry, number_of_entry};
 use nr_nfs_args::{CreateArgs, CreateHow};
 use nr_nfs_base::{Caller, SetAttributes, Status, StatusUnion, Time, Verifier};
 use nr_nfs_res::CreateRes;
@@ -191,7 +191,7 @@ fn add_file(
     requires bounded { IsBounded tree.old }
     requires directory { directory ≡ number_of_handle args.dir }
     requires allowed { CanAddNode tree.old directory args.name (file_of caller.now now directory args.how) }
-    ensures result { IfOk result (λ r. r ≡ Done (created_by tree.old (tree_with_node tree.old now directory args.name (file_of caller.now now directory args.how)) args.dir args.name)) }
+    ensures result { IfOk result (λ r. r ≡ Done (ok_of tree.old (tree_with_node tree.old now directory args.name (file_of caller.now now directory args.how)) args.dir args.name)) }
     ensures tree { OnOk result (tree.new ≡ tree_with_node tree.old now directory args.name (file_of caller.now now directory args.how)) }
     ensures err { OnErr result (tree.new ≡ tree.old) }
     ensures sane { IsSane tree.new }
@@ -240,7 +240,7 @@ fn use_existing_file(
     let before = wcc_attributes_at(tree, dir);
     let object = handle_of(alloc, number)?;
     set_given_size(tree, now, number, how)?;
-    Ok(StatusUnion::Done(created(before, tree, dir, object, number)))
+    Ok(StatusUnion::Done(create_ok(before, tree, dir, object, number)))
 }
 
 /// Makes a regular file, or answers with the one that is there (RFC 1813 section 3.3.8). After an `Err` the tree is as
@@ -266,6 +266,6 @@ pub fn create(
         Ok((_, Some(number))) => {
             use_existing_file(alloc, tree, now, args.dir.as_slice(), number, args.how)
         }
-        Err(status) => Ok(refused(status, tree, args.dir.as_slice())),
+        Err(status) => Ok(create_failure(status, tree, args.dir.as_slice())),
     }
 }

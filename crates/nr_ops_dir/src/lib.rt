@@ -1,22 +1,26 @@
-//! The procedures of NFS version 3 on directories (RFC 1813 section 3.3): LOOKUP; CREATE, MKDIR, SYMLINK, MKNOD; REMOVE, RMDIR;
-//! RENAME, LINK; READDIR, READDIRPLUS.
+//! The procedures of NFS version 3 on directories (RFC 1813 section 3.3), over the tree of files of `nr_tree`: LOOKUP ([`lookup`]);
+//! CREATE ([`create`]), MKDIR ([`mkdir`]), SYMLINK ([`symlink`]), MKNOD ([`mknod`]); REMOVE ([`remove`]), RMDIR ([`rmdir`]);
+//! RENAME ([`rename`]), LINK ([`link`]); READDIR ([`readdir`]), READDIRPLUS ([`readdirplus`]).
 //!
-//! Each procedure is a function of a tree, its caller and its arguments. `specs/` has for each the list of its refusals in their
-//! order, the tree after it, and its results. The function of a procedure is exact by these. One that changes the tree asks for
-//! a sane tree and leaves a sane one; after want of memory, or a status other than 0, the tree is as before. Memory is taken before the
-//! tree changes.
+//! Each takes a tree, the caller and the arguments, and one that changes the tree the time and the space of the journal too. `specs/`
+//! has for each a list of rules in the order in which they are asked: the first that holds refuses the call, and a refused call
+//! changes nothing. The tree after a call and its reply are defined there too, and each clause is an equation with these
+//! definitions. A procedure that changes the tree asks for a sane tree and leaves one; after an `Err` of memory the tree is as before.
 //!
-//! The steps of a tree are those of `nr_tree`, the crate below. What a call is, and where the journal is kept, is for the crate above.
+//! `entries.rt` has what the changing ones share: what a name leads to, and the test of the handle, the name and the directory.
+//! `creation.rt` has new nodes with their entries and replies, `listings.rt` which entries fit into a listing. The values of arguments
+//! and results are those of `nr_nfs_args` and `nr_nfs_res`. The server, which decides on the order of calls and keeps the journal,
+//! stands above.
 #![tactic(auto)]
 
 mod creation;
 mod directories;
+mod entries;
 mod files;
 mod find;
 mod links;
 mod listed;
 mod listings;
-mod lookups;
 mod names;
 mod nodes;
 mod readdirs;

@@ -9,7 +9,7 @@ ghost use Rattle.nr_tree.specs.Rules.{first, number_of_handle, IsWithinCapacity}
 ghost use Rattle.nr_tree.specs.Replies.{attributes_at as attributes_of_handle};
 ghost use Rattle.nr_ops_dir.specs.Links.{link_place_rules, link_rules, link_tree, link_reply, link_wcc as wcc_of_link};
 
-use crate::lookups::{check_directory, check_links, is_dir_at, is_taken, live_number};
+use crate::entries::{check_directory, check_links, is_dir_at, is_taken, live_number};
 use nr_nfs_args::LinkArgs;
 use nr_nfs_base::{Caller, Status, StatusUnion, Time, WccAttributes};
 use nr_nfs_res::{LinkRes, LinkWcc};

@@ -1,16 +1,27 @@
 //! REMOVE and RMDIR.
 
 ghost use Rattle.std.specs.Prelude.{◌≡◌, None, Some, MatchResult};
+ghost use Rattle.nr_nfs_base.specs.declared.status_union.StatusUnion.TheVariants.{Done, Failed};
 ghost use Rattle.nr_tree.specs.Sane.{IsSane};
-ghost use Rattle.nr_tree.specs.Rules.{first, number_of_handle, IsWithinCapacity, is_dot as is_dot_name_alone};
-ghost use Rattle.nr_ops_dir.specs.Numbers.{number_of_entry as number_of_name};
+ghost use Rattle.nr_tree.specs.Rules.{first, answer, number_of_handle, IsWithinCapacity, is_dot as is_dot_name_alone};
+ghost use Rattle.nr_ops_dir.specs.Entries.{number_of_entry as number_of_name};
 ghost use Rattle.nr_ops_dir.specs.Removal.{remove_rules, remove_tree, remove_reply, rmdir_rules, rmdir_tree, rmdir_reply};
 
-use crate::lookups::{check_entry, has_entries, is_dir_at, number_of_entry, reply};
+use crate::entries::{check_entry, has_entries, is_dir_at, number_of_entry};
 use nr_nfs_args::{RemoveArgs, RmdirArgs};
-use nr_nfs_base::{Caller, Status, Time};
+use nr_nfs_base::{Caller, Status, StatusUnion, Time};
 use nr_nfs_res::{RemoveRes, RmdirRes};
 use nr_tree::{Space, Tree, check_space, is_dot_name, wcc_attributes_at, wcc_data};
+
+/// The results of a call: those of a refusal, or of success.
+fn reply<T>(refusal: Option<Status>, part: T) -> StatusUnion<T, T>
+    ensures { result ≡ answer refusal (λ s. Failed s part) (Done part) }
+{
+    match refusal {
+        Some(status) => StatusUnion::Failed { status, part },
+        None => StatusUnion::Done(part),
+    }
+}
 
 /// The numbers of the directory and of the node that REMOVE takes out, or the first refusal.
 #[tactic(auto, unfolding(crate::specs::Removal::remove_rules, crate::specs::Removal::remove_of))]

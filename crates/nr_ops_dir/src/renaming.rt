@@ -8,10 +8,10 @@ ghost use Rattle.nr_tree.specs.Steps.{IsBounded, CanRename, is_dir_at as is_dire
 ghost use Rattle.nr_tree.specs.Changes.{tree_with_new_name};
 ghost use Rattle.nr_tree.specs.Rules.{first, or_else, name_rules, number_of_handle, IsWithinCapacity};
 ghost use Rattle.nr_tree.specs.Replies.{attributes_at as attributes_of_handle, wcc_attributes_at as wcc_attributes_of_handle};
-ghost use Rattle.nr_ops_dir.specs.Numbers.{number_of_entry as number_of_name, directory_rule};
-ghost use Rattle.nr_ops_dir.specs.Renaming.{IsMoveOf, is_same_node as leads_to, target_rule, move_rule, change_rule, rename_of, both_rules, rename_rules, tree_with_move, rename_tree, rename_reply, rename_wcc as wcc_of_rename};
+ghost use Rattle.nr_ops_dir.specs.Entries.{number_of_entry as number_of_name, directory_rule};
+ghost use Rattle.nr_ops_dir.specs.Renaming.{IsMoveOf, is_same_node as leads_to, target_rule, move_rule, replacement_rule, rename_of, both_rules, rename_rules, tree_with_move, rename_tree, rename_reply, rename_wcc as wcc_of_rename};
 
-use crate::lookups::{
+use crate::entries::{
     check_directory, check_links, has_entries, is_dir_at, live_number, number_of_entry,
 };
 use nr_nfs_args::RenameArgs;
@@ -56,15 +56,15 @@ fn check_move(tree: &Tree, from: u64, to: u64, number: u64) -> Result<(), Status
 }
 
 /// What is asked where the target is another node, or none.
-#[tactic(auto, unfolding(crate::specs::Renaming::change_rule))]
-fn check_change(
+#[tactic(auto, unfolding(crate::specs::Renaming::replacement_rule))]
+fn check_replacement(
     tree: &Tree,
     from: u64,
     to: u64,
     number: u64,
     target: Option<u64>,
 ) -> Result<(), Status>
-    ensures { MatchResult result (λ _. change_rule tree.now from to number target ≡ None) (λ s. change_rule tree.now from to number target ≡ Some s) }
+    ensures { MatchResult result (λ _. replacement_rule tree.now from to number target ≡ None) (λ s. replacement_rule tree.now from to number target ≡ Some s) }
 {
     if is_same_node(target, number) {
         return Ok(());
@@ -82,7 +82,7 @@ fn is_moved_below_itself(tree: &Tree, to: u64, number: u64) -> bool
     is_dir_at(tree, number) && tree.is_within(to, number)
 }
 
-/// Whether the node may be renamed, and to a target of this number.
+/// Whether the target is the node already, or the refusal of the node or of the target.
 #[tactic(auto, unfolding(crate::specs::Renaming::rename_of))]
 fn check_node(
     tree: &Tree,
@@ -105,7 +105,7 @@ fn check_node(
         return Err(Status::Inval);
     }
     let target = number_of_entry(tree, to, args.to_name.as_slice());
-    check_change(tree, from, to, number, target)?;
+    check_replacement(tree, from, to, number, target)?;
     check_space(space)?;
     Ok(is_same_node(target, number))
 }
@@ -154,7 +154,7 @@ struct Move {
 }
 
 /// What RENAME moves, or the first refusal.
-#[tactic(auto, unfolding(crate::specs::Renaming::rename_rules), using(crate::proofs::Passed::both_passed))]
+#[tactic(auto, unfolding(crate::specs::Renaming::rename_rules), using(crate::proofs::CanRename::both_passed))]
 fn node_to_move(
     tree: &Tree,
     caller: &Caller,
@@ -265,7 +265,6 @@ fn renamed(tree: &mut Tree, now: Time, args: RenameArgs, step: Move) -> Result<R
 
 /// Gives a node another name, in the same directory or in another one (RFC 1813 section 3.3.14). A target that may be
 /// replaced is taken out. After an `Err` the tree is as before.
-#[tactic(auto, using(crate::proofs::Passed::can_rename))]
 pub fn rename(
     tree: &mut Tree,
     now: Time,

@@ -6,8 +6,10 @@ ghost use Rattle.nr_tree.specs.Steps.{IsBounded};
 ghost use Rattle.nr_tree.specs.Rules.{first, number_of_handle, IsWithinCapacity};
 ghost use Rattle.nr_ops_dir.specs.Creation.{new_node as node_of, file_mode, special_content as content_of_data, special_attributes as attributes_of_data, is_device as is_device_data, mknod_rules, mknod_tree, mknod_reply};
 
-use crate::creation::{FILE_MODE, add_node, check_new_name, new_node, nothing_given, refused};
-use crate::lookups::live_number;
+use crate::creation::{
+    FILE_MODE, add_node, check_new_name, create_failure, new_node, nothing_given,
+};
+use crate::entries::live_number;
 use nr_nfs_args::{MknodArgs, MknodData};
 use nr_nfs_base::{Caller, SetAttributes, Status, Time};
 use nr_nfs_res::MknodRes;
@@ -117,6 +119,6 @@ pub fn mknod(
             let name = args.name;
             add_node(alloc, tree, now, args.dir.as_slice(), name, directory, node)
         }
-        Err(status) => Ok(refused(status, tree, args.dir.as_slice())),
+        Err(status) => Ok(create_failure(status, tree, args.dir.as_slice())),
     }
 }

@@ -7,7 +7,7 @@ ghost use Rattle.nr_tree.specs.Steps.{IsBounded};
 ghost use Rattle.nr_tree.specs.Rules.{first, number_of_handle, IsWithinCapacity};
 ghost use Rattle.nr_ops_dir.specs.Creation.{new_node as node_of, link_mode, symlink_rules, symlink_tree, symlink_reply};
 
-use crate::creation::{add_node, check_new_name, new_node, refused};
+use crate::creation::{add_node, check_new_name, create_failure, new_node};
 use nr_nfs_args::SymlinkArgs;
 use nr_nfs_base::{Caller, Path, SetAttributes, Status, Time};
 use nr_nfs_res::SymlinkRes;
@@ -84,6 +84,6 @@ pub fn symlink(
             let name = args.name;
             add_node(alloc, tree, now, args.dir.as_slice(), name, directory, node)
         }
-        Err(status) => Ok(refused(status, tree, args.dir.as_slice())),
+        Err(status) => Ok(create_failure(status, tree, args.dir.as_slice())),
     }
 }

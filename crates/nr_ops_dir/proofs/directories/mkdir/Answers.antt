@@ -1,7 +1,7 @@
 use Rattle.std.proofs.Common.{ℕ, ap, ◌∙◌}
 use Rattle.nr_tree.specs.Rules.{number_of_handle}
 use Rattle.nr_ops_dir.specs.Creation.{new_node, directory_mode, empty_directory, new_directory}
-use Rattle.nr_ops_dir.proofs.Passed.{can_add, can_make_directory}
+use Rattle.nr_ops_dir.proofs.CanMake.{can_add, can_make_directory}
 use Rattle.nr_ops_dir.proofs.directories.mkdir.Goals as goal
 
 pub add_node-requires-clause-allowed : goal.add_node-requires-clause-allowed

@@ -1,9 +1,8 @@
-use Rattle.std.proofs.Common.{ℕ, Some, refl, ap, sym, ◌∙◌, subst}
-use Rattle.nr_tree.specs.Rules.{number_of_handle}
+use Rattle.std.proofs.Common.{ℕ, sym, ◌∙◌, subst}
 use Rattle.nr_tree.specs.Steps.{CanAddNode}
 use Rattle.nr_ops_dir.specs.Create.{new_file}
-use Rattle.nr_ops_dir.proofs.Passed.{can_make_file, can_set_size}
-use Rattle.nr_ops_dir.proofs.Named.{existing_reply}
+use Rattle.nr_ops_dir.proofs.CanCreate.{can_make_file, can_set_size}
+use Rattle.nr_ops_dir.proofs.NamesAfter.{existing_reply}
 use Rattle.nr_ops_dir.proofs.files.create.Goals as goal
 
 pub add_file-requires-clause-allowed : goal.add_file-requires-clause-allowed

@@ -1,4 +1,4 @@
-use Rattle.nr_ops_dir.proofs.Passed.{can_rename}
+use Rattle.nr_ops_dir.proofs.CanRename.{can_rename}
 use Rattle.nr_ops_dir.proofs.renaming.rename.Goals as goal
 
 pub renamed-requires-clause-allowed : goal.renamed-requires-clause-allowed

@@ -1,7 +1,7 @@
 use Rattle.std.proofs.Common.{ℕ, ap, ◌∙◌}
 use Rattle.nr_tree.specs.Rules.{number_of_handle}
 use Rattle.nr_ops_dir.specs.Creation.{new_node, file_mode, special_attributes, new_special}
-use Rattle.nr_ops_dir.proofs.Passed.{can_add, can_make_special}
+use Rattle.nr_ops_dir.proofs.CanMake.{can_add, can_make_special}
 use Rattle.nr_ops_dir.proofs.special_files.mknod.Goals as goal
 
 pub add_node-requires-clause-allowed : goal.add_node-requires-clause-allowed

@@ -2,7 +2,7 @@ use Rattle.std.proofs.Common.{ℕ, ap, ◌∙◌}
 use Rattle.nr_tree.specs.declared.node.Content.TheVariants.{Link}
 use Rattle.nr_tree.specs.Rules.{number_of_handle}
 use Rattle.nr_ops_dir.specs.Creation.{new_node, link_mode, new_link}
-use Rattle.nr_ops_dir.proofs.Passed.{can_add, can_make_link}
+use Rattle.nr_ops_dir.proofs.CanMake.{can_add, can_make_link}
 use Rattle.nr_ops_dir.proofs.symbolic_links.symlink.Goals as goal
 
 pub add_node-requires-clause-allowed : goal.add_node-requires-clause-allowed

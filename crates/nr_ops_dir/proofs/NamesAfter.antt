@@ -5,39 +5,38 @@ use Rattle.std.specs.Cmp.Lexicographic.{nat_list_eq_equiv}
 use Rattle.std.specs.Ordering.{nat_cmp}
 use Rattle.std.specs.FinMap.{FinMap, get, insert}
 use Rattle.nr_nfs_base.specs.declared.time.Time.{Time}
-use Rattle.nr_nfs_res.specs.declared.create.CreateOk.{CreateOk}
-use Rattle.nr_tree.specs.declared.node.Node.{Node}
-use Rattle.nr_tree.specs.declared.node.Content.{Content}
-use Rattle.nr_tree.specs.declared.node.Content.TheVariants.{Regular, Directory, Block, Character, Link, Socket, Fifo}
-use Rattle.nr_tree.specs.Entries.{Entry, is_name, entry_of_name}
-use Rattle.nr_tree.specs.Skeleton.{Skeleton, set}
-use Rattle.nr_tree.specs.Tree.{Tree, value_at, nodes_with_change, is_dir, entries_in, entries_of}
-use Rattle.nr_tree.specs.Sane.{IsSane}
-use Rattle.nr_tree.specs.Steps.{CanAddNode, entries_at}
-use Rattle.nr_tree.specs.Changes.{on_bytes, node_with_size, tree_with_node, tree_with_size}
-use Rattle.nr_tree.specs.Rules.{number_of_handle, handle_of}
-use Rattle.nr_tree.specs.Replies.{wcc_data}
-use Rattle.nr_tree.proofs.Lists.{set-here, set-other}
-use Rattle.nr_tree.proofs.SkeletonChanges.{value_at-insert, value_at-metadata, with_change-at, new_entry, skeleton_of-node_with_entry}
-use Rattle.nr_tree.proofs.Contents.{directory_at, found_none}
-use Rattle.nr_tree.proofs.StepLemmas.{not_next}
-use Rattle.nr_ops_dir.specs.Numbers.{number_of_entry}
-use Rattle.nr_ops_dir.specs.Creation.{attributes_of_number, created}
-use Rattle.nr_nfs_args.specs.declared.create.CreateHow.{CreateHow}
-use Rattle.nr_nfs_args.specs.declared.create.CreateArgs.{CreateArgs}
 use Rattle.nr_nfs_base.specs.declared.caller.Caller.{Caller}
 use Rattle.nr_nfs_base.specs.declared.status.Status.{Status}
 use Rattle.nr_nfs_base.specs.declared.status_union.StatusUnion.{StatusUnion}
 use Rattle.nr_nfs_base.specs.declared.status_union.StatusUnion.TheVariants.{Done, Failed}
 use Rattle.nr_nfs_base.specs.declared.weak_cache.WccData.{WccData}
+use Rattle.nr_nfs_args.specs.declared.create.CreateHow.{CreateHow}
+use Rattle.nr_nfs_args.specs.declared.create.CreateArgs.{CreateArgs}
+use Rattle.nr_nfs_res.specs.declared.create.CreateOk.{CreateOk}
+use Rattle.nr_tree.specs.declared.node.Node.{Node}
+use Rattle.nr_tree.specs.declared.node.Content.{Content}
+use Rattle.nr_tree.specs.declared.node.Content.TheVariants.{Regular, Directory, Block, Character, Link, Socket, Fifo}
+use Rattle.nr_tree.specs.Entries.{Entry, is_name, entry_of_name}
+use Rattle.nr_tree.specs.Skeleton.{Skeleton}
+use Rattle.nr_tree.specs.Tree.{Tree, value_at, nodes_with_change, is_dir, entries_in, entries_of}
+use Rattle.nr_tree.specs.Sane.{IsSane}
+use Rattle.nr_tree.specs.Steps.{CanAddNode, entries_at}
+use Rattle.nr_tree.specs.Changes.{on_bytes, node_with_size, tree_with_node, tree_with_size}
+use Rattle.nr_tree.specs.Rules.{number_of_handle, handle_of, first, after, answer}
+use Rattle.nr_tree.specs.Replies.{wcc_data}
+use Rattle.nr_tree.proofs.Lists.{set-here, set-other}
+use Rattle.nr_tree.proofs.SkeletonChanges.{value_at-insert, value_at-metadata, with_change-at, new_entry, skeleton_of-node_with_entry}
+use Rattle.nr_tree.proofs.Contents.{directory_at, found_none}
+use Rattle.nr_tree.proofs.StepLemmas.{not_next}
 use Rattle.nr_tree.specs.declared.rules.Space.{Space}
-use Rattle.nr_tree.specs.Rules.{first, after, answer}
+use Rattle.nr_ops_dir.specs.Entries.{number_of_entry}
+use Rattle.nr_ops_dir.specs.Creation.{attributes_of_number, create_ok}
 use Rattle.nr_ops_dir.specs.Create.{size_to_set, tree_with_existing_file, tree_with_file, create_rules, create_reply}
 
 -- what a reply tells where the name leads to a node
-pub created_is : (old new : Tree) (h name : List ℕ) (n : ℕ) → number_of_entry new (number_of_handle h) name ≡ Some n
-    → created old new h name ≡ record { object = Some (handle_of n); attributes = attributes_of_number new n; dir_wcc = wcc_data old new h }
-created_is old new h name n e =
+pub create_ok_is : (old new : Tree) (h name : List ℕ) (n : ℕ) → number_of_entry new (number_of_handle h) name ≡ Some n
+    → create_ok old new h name ≡ record { object = Some (handle_of n); attributes = attributes_of_number new n; dir_wcc = wcc_data old new h }
+create_ok_is old new h name n e =
     ap (λ (o : Option ℕ). record { object = option_map handle_of o; attributes = option_map_or (attributes_of_number new) o None; dir_wcc = wcc_data old new h }) e
 
 last_found : (name : List ℕ) (es : List Entry) (e : Entry) → entry_of_name name es ≡ None → is_name name e ≡ true → entry_of_name name (es ++ e ∷ []) ≡ Some e
@@ -103,7 +102,7 @@ existing_reply t c space now args n dir (Ok x) none found same p =
     let u : Tree = tree_with_existing_file t now args.how n in
     p
     ∙ ap (λ (h : List ℕ). Done (record { object = Some (handle_of n); attributes = attributes_of_number u n; dir_wcc = wcc_data t u h })) same
-    ∙ sym (ap Done (created_is t u args.dir args.name n (named_after_create t now args.how n (number_of_handle args.dir) args.name ∙ found)))
-    ∙ sym (ap (λ (o : Option ℕ). Done (created t (tree_with_file t c now args o) args.dir args.name)) found)
+    ∙ sym (ap Done (create_ok_is t u args.dir args.name n (named_after_create t now args.how n (number_of_handle args.dir) args.name ∙ found)))
+    ∙ sym (ap (λ (o : Option ℕ). Done (create_ok t (tree_with_file t c now args o) args.dir args.name)) found)
     ∙ sym (ap (λ (o : Option Status). answer o (λ s. Failed s (wcc_data t t args.dir))
-    (Done (created t (after o t (tree_with_file t c now args (number_of_entry t (number_of_handle args.dir) args.name))) args.dir args.name))) none)
+    (Done (create_ok t (after o t (tree_with_file t c now args (number_of_entry t (number_of_handle args.dir) args.name))) args.dir args.name))) none)

@@ -1,13 +1,12 @@
 //! What the procedures look up in a tree, and what they ask of a directory that gets or loses an entry.
 
 ghost use Rattle.std.specs.Prelude.{◌≡◌, nat_lt, length, None, Some, MatchResult};
-ghost use Rattle.nr_tree.specs.Rules.{first, answer, handle_rule, number_of_handle};
+ghost use Rattle.nr_tree.specs.Rules.{first, handle_rule, number_of_handle};
 ghost use Rattle.nr_tree.specs.Steps.{is_dir_at as is_directory_at, links_at as links_of_number};
 ghost use Rattle.nr_tree.specs.Tree.{entries_in};
-ghost use Rattle.nr_nfs_base.specs.declared.status_union.StatusUnion.TheVariants.{Done, Failed};
-ghost use Rattle.nr_ops_dir.specs.Numbers.{number_of_entry as number_of_name, has_entries as has_entries_at, is_taken as is_taken_name, directory_rule, entry_rules, links_rule};
+ghost use Rattle.nr_ops_dir.specs.Entries.{number_of_entry as number_of_name, has_entries as has_entries_at, is_taken as is_taken_name, directory_rule, entry_rules, links_rule};
 
-use nr_nfs_base::{Caller, Status, StatusUnion};
+use nr_nfs_base::{Caller, Status};
 use nr_tree::{Content, Node, Tree, check_changeable, check_name, is_dot_name, live_node};
 
 /// Whether the node under a number is a directory.
@@ -75,7 +74,7 @@ pub(crate) fn check_directory(tree: &Tree, caller: &Caller, directory: u64) -> R
 }
 
 /// The number of the directory that a handle names, where an entry of the name may be put in or taken out.
-#[tactic(auto, unfolding(crate::specs::Numbers::entry_rules))]
+#[tactic(auto, unfolding(crate::specs::Entries::entry_rules))]
 pub(crate) fn check_entry(
     tree: &Tree,
     caller: &Caller,
@@ -112,14 +111,4 @@ pub(crate) fn check_links(tree: &Tree, number: u64) -> Result<(), Status>
         return Err(Status::Mlink);
     }
     Ok(())
-}
-
-/// The results of a call: those of a refusal, or of success.
-pub(crate) fn reply<T>(refusal: Option<Status>, part: T) -> StatusUnion<T, T>
-    ensures { result ≡ answer refusal (λ s. Failed s part) (Done part) }
-{
-    match refusal {
-        Some(status) => StatusUnion::Failed { status, part },
-        None => StatusUnion::Done(part),
-    }
 }
