@@ -1,0 +1,2 @@
+pub mod ReplyRoom
+pub mod ReplySizes
