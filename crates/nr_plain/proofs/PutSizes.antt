@@ -1,5 +1,5 @@
 -- How many bytes the results have of the procedures that change files.
-use Rattle.std.proofs.Common.{◌≡◌, ℕ, ◌+◌, ◌≤◌, List, [], ◌∷◌, ◌++◌, length, Option, None, Some, refl, arith, length-append}
+use Rattle.std.proofs.Common.{◌≡◌, ℕ, ◌+◌, ◌≤◌, List, [], ◌∷◌, ◌++◌, length, Option, None, Some, refl, ap, arith, length-append}
 use Rattle.std.proofs.lemmas.List.{length-replicate}
 use Rattle.std.specs.Prelude.{replicate}
 use Rattle.nr_xdr.specs.Item.{Item, word, pad_len, encoding, bit}
@@ -175,6 +175,8 @@ accepted_size : (xid : ℕ) → length (reply_head (Accepted xid 0 0)) ≡ head_
 unfolding word pad_len
 accepted_size xid = refl
 
--- a room of most_reply bytes has room for the whole reply
-pub reply_has_room : (room : ReplyRoom) (xid : ℕ) (results : List ℕ) → room.left ≡ most_reply → length results ≤ most_results → HasRoom room (reply_encoding (Accepted xid 0 0) results)
-reply_has_room room xid results e le = omega (arith, length-append (reply_head (Accepted xid 0 0)) results, accepted_size xid, e, le)
+-- a new room of that many bytes has room for the whole reply
+pub reply_has_room : (room : ReplyRoom) (xid : ℕ) (results : List ℕ) → room ≡ record { bytes = []; left = most_reply } → length results ≤ most_results → HasRoom room (reply_encoding (Accepted xid 0 0) results)
+reply_has_room room xid results e le =
+    let left : room.left ≡ most_reply = ap (λ (r : ReplyRoom). r.left) e in
+    omega (arith, length-append (reply_head (Accepted xid 0 0)) results, accepted_size xid, left, le)

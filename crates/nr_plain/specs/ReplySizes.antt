@@ -19,12 +19,16 @@ most_results = 280
 abbrev pub most_reply : ℕ
 most_reply = head_size + most_results
 
--- a handle, if there is one, has at most 64 bytes (RFC 1813 section 2.4, NFS3_FHSIZE)
+-- the most bytes of a handle (RFC 1813 section 2.4, NFS3_FHSIZE)
+abbrev pub longest_handle : ℕ
+longest_handle = 64
+
+-- a handle, if there is one, is no longer than that
 abbrev pub HandleFits : Option (List ℕ) → Type 0
 HandleFits None = Unit {0}
-HandleFits (Some handle) = length handle ≤ 64
+HandleFits (Some handle) = length handle ≤ longest_handle
 
--- so does the handle in the results of a procedure that creates a file
+-- so is the handle in the results of a procedure that creates a file
 abbrev pub ObjectFits : StatusUnion CreateOk WccData Status → Type 0
 ObjectFits (Done ok) = HandleFits ok.object
 ObjectFits (Failed status wcc) = Unit {0}

@@ -1,4 +1,4 @@
-//! Results that are put into the room of a reply.
+//! The results of the procedures that change files (RFC 1813 sections 3.3.2, 3.3.7 to 3.3.15), put into the room of a reply.
 
 ghost use Rattle.std.specs.Prelude.{◌≡◌, [], ◌++◌};
 ghost use Rattle.nr_xdr.specs.Items.{encodings};
@@ -15,7 +15,7 @@ use nr_nfs_base::{
 use nr_nfs_res::{CreateOk, LinkWcc, RenameWcc, WriteOk};
 use nr_xdr::Octets;
 
-/// A value that is put into the room of a reply without memory.
+/// A value that is put into the room of a reply. This takes no memory, so it can't fail.
 pub(crate) trait Put: Xdr {
     /// Puts the encoding of the value last.
     fn put(&self, room: &mut ReplyRoom)
@@ -228,14 +228,16 @@ impl Put for LinkWcc {
 
 // ---- Replies
 
-/// The message type of a reply, the status of a call that was accepted, the flavor of a verifier without a body, and the
-/// accept status of a call that was carried out (RFC 5531 sections 8.2 and 9).
+/// The message type of a reply (RFC 5531 section 9).
 const REPLY: u32 = 1;
 
+/// The reply status of a call that was accepted (RFC 5531 section 9).
 const MSG_ACCEPTED: u32 = 0;
 
+/// The flavor of a verifier without a body (RFC 5531 section 8.2).
 const AUTH_NONE: u32 = 0;
 
+/// The accept status of a call that was carried out (RFC 5531 section 9).
 const SUCCESS: u32 = 0;
 
 /// Puts the head of a reply to a call that was accepted, with the status 0, last (RFC 5531 section 9).
@@ -243,6 +245,7 @@ fn put_accepted(room: &mut ReplyRoom, xid: u32)
     requires { HasRoom room.old (reply_head (Accepted xid 0 0)) }
     ensures { room.new ≡ room_with room.old (reply_head (Accepted xid 0 0)) }
 {
+    // Its body has no bytes.
     let verifier = (AUTH_NONE, 0u32);
     let head = (xid, (REPLY, (MSG_ACCEPTED, (verifier, SUCCESS))));
     head.put(room);

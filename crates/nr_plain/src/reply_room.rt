@@ -10,14 +10,14 @@ use nr_xdr::{Memory, Octets};
 use std::alloc::Global;
 use std::marker::Model;
 
-/// The bytes of the head of a reply to a call that was accepted (RFC 5531 section 9), and the most bytes of the results of
-/// a procedure that changes files (RFC 1813 section 3.3.8).
+/// The bytes of the head of a reply to a call that was accepted (RFC 5531 section 9).
 const HEAD_SIZE: usize = 24;
 
+/// The most bytes of the results of a procedure that changes files, which are those of CREATE (RFC 1813 section 3.3.8).
 const MOST_RESULTS: usize = 280;
 
-/// The bytes of a reply, with room for more. Contracts see the bytes so far, and how many more have room. Only `new` takes
-/// memory.
+/// The bytes of a reply, with room for more. Contracts see the bytes so far, and how many more have room. Only `new` and
+/// `for_results` take memory.
 #[derive(Drop)]
 pub(crate) struct ReplyRoom {
     bytes: Vec<u8>,
