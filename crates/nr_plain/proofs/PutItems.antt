@@ -13,24 +13,24 @@ use Rattle.nr_rpc.specs.Reply.{reply_head}
 use Rattle.nr_rpc.specs.declared.head.ReplyHead.TheVariants.{Accepted}
 use Rattle.nr_plain.specs.ReplyRoom.{ReplyRoom, HasRoom, room_with}
 
-pub one_item : (item : Item) → encodings (item ∷ []) ≡ encoding item
+one_item : (item : Item) → encodings (item ∷ []) ≡ encoding item
 one_item item = append-nil (encoding item)
 
-pub encodings-append : (xs ys : List Item) → encodings (xs ++ ys) ≡ encodings xs ++ encodings ys
+encodings-append : (xs ys : List Item) → encodings (xs ++ ys) ≡ encodings xs ++ encodings ys
 encodings-append [] ys = refl
 encodings-append (x ∷ xs) ys = ap (λ (b : List ℕ). encoding x ++ b) (encodings-append xs ys) ∙ sym (append_assoc (encoding x) (encodings xs) (encodings ys))
 
 -- what has room has room without what follows it, and behind what precedes it
-pub room_first : (room : ReplyRoom) (a b : List ℕ) → HasRoom room (a ++ b) → HasRoom room a
+room_first : (room : ReplyRoom) (a b : List ℕ) → HasRoom room (a ++ b) → HasRoom room a
 room_first room a b h = omega (arith, length-append a b, h)
 
-pub room_second : (room : ReplyRoom) (a b : List ℕ) → HasRoom room (a ++ b) → HasRoom (room_with room a) b
+room_second : (room : ReplyRoom) (a b : List ℕ) → HasRoom room (a ++ b) → HasRoom (room_with room a) b
 room_second room a b h = omega (arith, length-append a b, h)
 
-pub left_after : (n : ℕ) (a b : List ℕ) → (n - length a) - length b ≡ n - length (a ++ b)
+left_after : (n : ℕ) (a b : List ℕ) → (n - length a) - length b ≡ n - length (a ++ b)
 left_after n a b = omega (arith, length-append a b)
 
-pub room_with-append : (room : ReplyRoom) (a b : List ℕ) → room_with (room_with room a) b ≡ room_with room (a ++ b)
+room_with-append : (room : ReplyRoom) (a b : List ℕ) → room_with (room_with room a) b ≡ room_with room (a ++ b)
 room_with-append room a b = λ i. record { bytes = append_assoc room.bytes a b i; left = left_after room.left a b i }
 
 -- the same of items
@@ -48,9 +48,6 @@ items_both old mid new xs ys p q =
 -- one item alone
 pub put_one : (old new : ReplyRoom) (item : Item) → new ≡ room_with old (encoding item) → new ≡ room_with old (encodings (item ∷ []))
 put_one old new item e = e ∙ ap (λ (b : List ℕ). room_with old b) (sym (one_item item))
-
-pub room_of_one : (old : ReplyRoom) (item : Item) → HasRoom old (encodings (item ∷ [])) → HasRoom old (encoding item)
-room_of_one old item h = subst (λ (b : List ℕ). HasRoom old b) (one_item item) h
 
 -- ---- Opaque data
 

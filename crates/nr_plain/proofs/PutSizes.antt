@@ -36,14 +36,14 @@ use Rattle.nr_plain.specs.ReplySizes.{HandleFits, ObjectFits, head_size, most_re
 
 -- ---- Items
 
-abbrev pub item_size : Item → ℕ
+abbrev item_size : Item → ℕ
 item_size (Unsigned n) = 4
 item_size (Hyper n) = 8
 item_size (Boolean b) = 4
 item_size (Opaque bytes) = 4 + (length bytes + pad_len (length bytes))
 item_size (Fixed bytes) = length bytes + pad_len (length bytes)
 
-abbrev pub items_size : List Item → ℕ
+abbrev items_size : List Item → ℕ
 items_size [] = 0
 items_size (x ∷ xs) = item_size x + items_size xs
 
@@ -61,11 +61,11 @@ length-encoding (Opaque bytes) =
     omega (arith, length-append (word (length bytes)) (bytes ++ replicate (pad_len (length bytes)) 0), length-word (length bytes), padded_size bytes (pad_len (length bytes)))
 length-encoding (Fixed bytes) = padded_size bytes (pad_len (length bytes))
 
-pub length-encodings : (xs : List Item) → length (encodings xs) ≡ items_size xs
+length-encodings : (xs : List Item) → length (encodings xs) ≡ items_size xs
 length-encodings [] = refl
 length-encodings (x ∷ xs) = omega (arith, length-append (encoding x) (encodings xs), length-encoding x, length-encodings xs)
 
-pub items_size-append : (xs ys : List Item) → items_size (xs ++ ys) ≡ items_size xs + items_size ys
+items_size-append : (xs ys : List Item) → items_size (xs ++ ys) ≡ items_size xs + items_size ys
 items_size-append [] ys = omega arith
 items_size-append (x ∷ xs) ys = omega (arith, items_size-append xs ys)
 
