@@ -4,3 +4,5 @@ pub mod Journal
 pub mod Replies
 pub mod Code
 pub mod Stands
+pub mod ReplyRoom
+pub mod ReplySizes

@@ -2,6 +2,7 @@
 
 use nr_nfs_base::{Caller, Time};
 use nr_tree::Space;
+use nr_xdr::Octets;
 
 /// What the server has of a call, beside its tree.
 #[derive(Clone, Copy)]
@@ -12,4 +13,11 @@ pub(crate) struct Call<'a> {
     pub(crate) caller: &'a Caller,
     pub(crate) space: Space,
     pub(crate) arguments: &'a [u8],
+}
+
+/// The reply to a call of a procedure that may change the tree, and whether the call is an entry of the journal.
+#[derive(Drop)]
+pub(crate) struct Change {
+    pub(crate) reply: Octets,
+    pub(crate) is_entry: bool,
 }

@@ -3,8 +3,11 @@
 
 mod call;
 mod caller;
+mod changing;
 mod encoding;
 mod fault;
+mod put;
 mod reading;
+mod reply_room;
 
 pub use fault::Fault;

@@ -1,0 +1,8 @@
+use Rattle.nr_plain.proofs.PutItems.{accepted_room, accepted_put}
+use Rattle.nr_plain.proofs.put.put_accepted.Goals as goal
+
+pub put-requires : goal.put-requires
+put-requires c = accepted_room c.args.xid c.args.room.now c.requires
+
+pub returns : goal.returns
+returns c = accepted_put c.args.xid c.args.room.now c.put.new.room c.put.ensures

@@ -1,0 +1,34 @@
+-- How many bytes the replies have of the procedures that change files.
+use Rattle.std.specs.Prelude.{ℕ, ◌+◌, ◌≤◌, List, length, Option, Some, None}
+use Rattle.nr_nfs_base.specs.declared.status.Status.{Status}
+use Rattle.nr_nfs_base.specs.declared.status_union.StatusUnion.{StatusUnion}
+use Rattle.nr_nfs_base.specs.declared.status_union.StatusUnion.TheVariants.{Done, Failed}
+use Rattle.nr_nfs_base.specs.declared.weak_cache.WccData.{WccData}
+use Rattle.nr_nfs_res.specs.declared.create.CreateOk.{CreateOk}
+
+-- the bytes of the head of a reply to a call that was accepted (RFC 5531 section 9)
+abbrev pub head_size : ℕ
+head_size = 24
+
+-- The most bytes of the results of a procedure that changes files, which are those of CREATE on success (RFC 1813 section
+-- 3.3.8): the status, a handle of 64 bytes, the attributes of the object, and those of the directory before and after.
+abbrev pub most_results : ℕ
+most_results = 280
+
+-- the most bytes of a reply with such results
+abbrev pub most_reply : ℕ
+most_reply = head_size + most_results
+
+-- the most bytes of a handle (RFC 1813 section 2.4, NFS3_FHSIZE)
+abbrev pub longest_handle : ℕ
+longest_handle = 64
+
+-- a handle, if there is one, is no longer than that
+abbrev pub HandleFits : Option (List ℕ) → Type 0
+HandleFits None = Unit {0}
+HandleFits (Some handle) = length handle ≤ longest_handle
+
+-- so is the handle in the results of a procedure that creates a file
+abbrev pub ObjectFits : StatusUnion CreateOk WccData Status → Type 0
+ObjectFits (Done ok) = HandleFits ok.object
+ObjectFits (Failed status wcc) = Unit {0}
