@@ -1,14 +1,20 @@
 -- For the code: what a call of a procedure comes to, by the tree and what the code has of the call.
-use Rattle.std.specs.Prelude.{◌≡◌, ℕ, Bool, false, List, Result, Ok, Err}
+use Rattle.std.specs.Prelude.{◌≡◌, ℕ, ◌≤◌, Bool, true, false, List, length, Result, Ok, Err}
 use Rattle.nr_nfs_base.specs.Codec.{read_all}
 use Rattle.nr_nfs_base.specs.declared.procedure.NfsProcedure.{NfsProcedure}
-use Rattle.nr_nfs_args.specs.Arguments.{NfsArguments, nfs_arguments_codec}
-use Rattle.nr_nfs_res.specs.Results.{nfs_results_codec}
+use Rattle.nr_nfs_base.specs.declared.procedure.NfsProcedure.TheVariants as nfs
+use Rattle.nr_nfs_base.specs.declared.procedure.MountProcedure.{MountProcedure}
+use Rattle.nr_rpc.specs.declared.head.CallHead.{CallHead}
+use Rattle.nr_rpc.specs.declared.head.CallHead.TheVariants as calls
+use Rattle.nr_nfs_args.specs.Arguments.{NfsArguments, MountArguments, nfs_arguments_codec, mount_arguments_codec}
+use Rattle.nr_nfs_res.specs.Results.{nfs_results_codec, mount_results_codec}
 use Rattle.nr_tree.specs.Tree.{Tree}
-use Rattle.nr_plain.specs.Programs.{nfs_results, nfs_tree, is_change}
+use Rattle.nr_plain.specs.Programs.{nfs_results, nfs_tree, is_change, mount_results}
 use Rattle.nr_plain.specs.Replies.{results_reply, refusal, accepted, GARBAGE_ARGS}
 use Rattle.nr_plain.specs.declared.call.Call.{Call}
 use Rattle.nr_plain.specs.declared.call.Change.{Change}
+use Rattle.nr_plain.specs.declared.call.Request.{Request}
+use Rattle.nr_reduce.specs.declared.mark.Entry.{Entry}
 
 abbrev pub reply_by : Tree → Call → (p : NfsProcedure) → Result (NfsArguments p) ℕ → List ℕ
 reply_by t call p (Ok a) = results_reply call.xid (nfs_results_codec p) (nfs_results t call.caller.now call.space call.time p a)
@@ -34,3 +40,45 @@ tree_of t call p = tree_by t call p (read_all (nfs_arguments_codec p) call.argum
 -- the code's answer is the reply, and says whether the call is an entry
 abbrev pub IsChange : Tree → Call → NfsProcedure → Change → Type 0
 IsChange t call p r = (r.reply ≡ reply_of t call p) × (r.is_entry ≡ changes_of t call p)
+
+-- the entry of a call, and its answers
+abbrev pub entry_of : Request → Entry
+entry_of r = record { moment = r.moment; cred = r.cred.now; proc = r.proc; args = r.arguments.now }
+
+-- the procedures that change no tree
+abbrev pub only_reads : NfsProcedure → Bool
+only_reads nfs.Null = true
+only_reads nfs.Getattr = true
+only_reads nfs.Setattr = false
+only_reads nfs.Lookup = true
+only_reads nfs.Access = true
+only_reads nfs.Readlink = true
+only_reads nfs.Read = true
+only_reads nfs.Write = false
+only_reads nfs.Create = false
+only_reads nfs.Mkdir = false
+only_reads nfs.Symlink = false
+only_reads nfs.Mknod = false
+only_reads nfs.Remove = false
+only_reads nfs.Rmdir = false
+only_reads nfs.Rename = false
+only_reads nfs.Link = false
+only_reads nfs.Readdir = true
+only_reads nfs.Readdirplus = true
+only_reads nfs.Fsstat = true
+only_reads nfs.Fsinfo = true
+only_reads nfs.Pathconf = true
+only_reads nfs.Commit = true
+
+-- the reply of a procedure of MOUNT
+abbrev pub mount_reply_by : ℕ → List ℕ → (p : MountProcedure) → Result (MountArguments p) ℕ → List ℕ
+mount_reply_by xid export p (Ok a) = results_reply xid (mount_results_codec p) (mount_results export p a)
+mount_reply_by xid export p (Err at) = (refusal (accepted xid GARBAGE_ARGS)).reply
+
+abbrev pub mount_reply : ℕ → List ℕ → MountProcedure → List ℕ → List ℕ
+mount_reply xid export p args = mount_reply_by xid export p (read_all (mount_arguments_codec p) args)
+
+-- a head ends within the payload
+abbrev pub IsWithin : List ℕ → CallHead → Type 0
+IsWithin payload (calls.Version2 xid prog vers proc cred args_at) = args_at ≤ length payload
+IsWithin payload (calls.Other xid rpcvers) = Unit {0}

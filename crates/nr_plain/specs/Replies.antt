@@ -21,7 +21,7 @@ use Rattle.nr_nfs_args.specs.Arguments.{NfsArguments, MountArguments, nfs_argume
 use Rattle.nr_nfs_res.specs.Results.{NfsResults, nfs_results_codec, mount_results_codec}
 use Rattle.nr_reduce.specs.declared.mark.Moment.{Moment}
 use Rattle.nr_reduce.specs.declared.mark.Entry.{Entry}
-use Rattle.nr_plain.specs.Setup.{Setup, State, caller_of, time_of, space_of}
+use Rattle.nr_plain.specs.Setup.{Parameters, Setup, State, caller_of, time_of, space_of}
 use Rattle.nr_plain.specs.Programs.{nfs_results, is_change, mount_results}
 use Rattle.nr_plain.specs.Journal.{nfs_procedure_of, state_of}
 
@@ -71,21 +71,21 @@ abbrev pub nfs_answer : ℕ → Entry → (p : NfsProcedure) → NfsResults p �
 nfs_answer xid e p results = record { reply = results_reply xid (nfs_results_codec p) results; entries = entries_if (is_change p results) e }
 
 -- the entry is that of the call, if it changes something
-abbrev pub nfs_by_arguments : Setup → State → ℕ → Entry → (p : NfsProcedure) → Result (NfsArguments p) ℕ → Answer
+abbrev pub nfs_by_arguments : Parameters → State → ℕ → Entry → (p : NfsProcedure) → Result (NfsArguments p) ℕ → Answer
 nfs_by_arguments s st xid e p (Ok a) = nfs_answer xid e p (nfs_results st.tree (caller_of e.cred) (space_of s st e.args) (time_of e.moment) p a)
 nfs_by_arguments s st xid e p (Err at) = refusal (accepted xid GARBAGE_ARGS)
 
-abbrev pub nfs_by_procedure : Setup → State → ℕ → Entry → Option NfsProcedure → Answer
+abbrev pub nfs_by_procedure : Parameters → State → ℕ → Entry → Option NfsProcedure → Answer
 nfs_by_procedure s st xid e None = refusal (accepted xid PROC_UNAVAIL)
 nfs_by_procedure s st xid e (Some p) = nfs_by_arguments s st xid e p (read_all (nfs_arguments_codec p) e.args)
 
 -- ===== MOUNT
 
-abbrev pub mount_by_arguments : Setup → ℕ → (p : MountProcedure) → Result (MountArguments p) ℕ → Answer
+abbrev pub mount_by_arguments : Parameters → ℕ → (p : MountProcedure) → Result (MountArguments p) ℕ → Answer
 mount_by_arguments s xid p (Ok a) = record { reply = results_reply xid (mount_results_codec p) (mount_results s.export p a); entries = [] }
 mount_by_arguments s xid p (Err at) = refusal (accepted xid GARBAGE_ARGS)
 
-abbrev pub mount_by_procedure : Setup → ℕ → List ℕ → Option MountProcedure → Answer
+abbrev pub mount_by_procedure : Parameters → ℕ → List ℕ → Option MountProcedure → Answer
 mount_by_procedure s xid args None = refusal (accepted xid PROC_UNAVAIL)
 mount_by_procedure s xid args (Some p) = mount_by_arguments s xid p (read_all (mount_arguments_codec p) args)
 
@@ -100,13 +100,13 @@ cred_refusal creds.None = None
 cred_refusal (creds.Sys stamp machine uid gid gids) = None
 cred_refusal (creds.Other flavor) = Some (if flavor == AUTH_SYS then AUTH_BADCRED else AUTH_TOOWEAK)
 
-unfoldable pub nfs_call : Setup → State → ℕ → ℕ → Entry → Answer
+unfoldable pub nfs_call : Parameters → State → ℕ → ℕ → Entry → Answer
 nfs_call s st xid vers e = if vers == nfs_version then nfs_by_procedure s st xid e (nfs_procedure_of e.proc) else refusal (replies.ProgMismatch xid nfs_version nfs_version)
 
-unfoldable pub mount_call : Setup → ℕ → ℕ → Entry → Answer
+unfoldable pub mount_call : Parameters → ℕ → ℕ → Entry → Answer
 mount_call s xid vers e = if vers == mount_version then mount_by_procedure s xid e.args (mount_procedure_of e.proc) else refusal (replies.ProgMismatch xid mount_version mount_version)
 
-abbrev pub program_call : Setup → State → ℕ → ℕ → ℕ → Entry → Answer
+abbrev pub program_call : Parameters → State → ℕ → ℕ → ℕ → Entry → Answer
 program_call s st xid prog vers e =
     if prog == nfs_program then nfs_call s st xid vers e
     else (if prog == mount_program then mount_call s xid vers e
@@ -116,19 +116,19 @@ abbrev pub call_by_cred : Option ℕ → ℕ → Answer → Answer
 call_by_cred None xid answer = answer
 call_by_cred (Some stat) xid answer = refusal (replies.AuthError xid stat)
 
-abbrev pub answer_to : Setup → State → Moment → List ℕ → CallHead → Answer
+abbrev pub answer_to : Parameters → State → Moment → List ℕ → CallHead → Answer
 answer_to s st m payload (calls.Version2 xid prog vers proc cred args_at) =
     call_by_cred (cred_refusal cred) xid (program_call s st xid prog vers (record { moment = m; cred = cred; proc = proc; args = drop args_at payload }))
 answer_to s st m payload (calls.Other xid rpcvers) = refusal (replies.RpcMismatch xid RPC_VERSION RPC_VERSION)
 
 -- none to a payload that begins with no call head
-abbrev pub answer_by : Setup → State → Moment → List ℕ → Result CallHead ℕ → Option Answer
+abbrev pub answer_by : Parameters → State → Moment → List ℕ → Result CallHead ℕ → Option Answer
 answer_by s st m payload (Ok head) = Some (answer_to s st m payload head)
 answer_by s st m payload (Err at) = None
 
-abbrev pub plain_answer : Setup → State → Moment → List ℕ → Option Answer
+abbrev pub plain_answer : Parameters → State → Moment → List ℕ → Option Answer
 plain_answer s st m payload = answer_by s st m payload (call_of payload)
 
 -- the reply of the plain server over the first k entries of a journal
 abbrev pub plain_reply : Setup → List Entry → ℕ → Moment → List ℕ → Option (List ℕ)
-plain_reply s J k m payload = option_map (λ (a : Answer). a.reply) (plain_answer s (state_of s (take k J)) m payload)
+plain_reply s J k m payload = option_map (λ (a : Answer). a.reply) (plain_answer s.parameters (state_of s (take k J)) m payload)

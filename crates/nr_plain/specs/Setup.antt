@@ -9,12 +9,16 @@ use Rattle.nr_reduce.specs.declared.mark.Moment.{Moment}
 use Rattle.nr_tree.specs.Tree.{Tree}
 use Rattle.nr_tree.specs.declared.rules.Space.{Space}
 
--- the first tree, what the journal may cost, the write verifier, and the path that may be mounted
-pub record Setup : Type 0 where
-  pub tree : Tree
+-- what the journal may cost, the write verifier, and the path that may be mounted
+pub record Parameters : Type 0 where
   pub capacity : ℕ
   pub verifier : Verifier
   pub export : List ℕ
+
+-- the first tree, and these
+pub record Setup : Type 0 where
+  pub tree : Tree
+  pub parameters : Parameters
 
 -- the tree after some entries of the journal, and their cost
 pub record State : Type 0 where
@@ -35,5 +39,5 @@ abbrev pub time_of : Moment → Time
 time_of m = record { seconds = m.seconds; nanoseconds = m.nanos }
 
 -- what a call with these arguments finds beside the tree
-abbrev pub space_of : Setup → State → List ℕ → Space
+abbrev pub space_of : Parameters → State → List ℕ → Space
 space_of s st args = record { capacity = s.capacity; used = st.cost; arguments = length args; verifier = s.verifier }

@@ -1,25 +1,75 @@
 -- The journal that a server stands for.
-use Rattle.std.specs.Prelude.{◌≡◌, ℕ, List, length}
+use Rattle.std.specs.Prelude.{◌≡◌, ℕ, ◌+◌, ◌*◌, ◌<◌, ◌≤◌, ◌^◌, List, ◌++◌, length, Option, Some, Result, Err, refl}
+use Rattle.std.specs.Coded.{Coded, code_by, coded×, coded_ℕ, coded_list}
+use Rattle.nr_rpc.specs.declared.head.CallHead.{CallHead}
 use Rattle.nr_nfs_base.specs.declared.verifier.Verifier.{Verifier}
 use Rattle.nr_reduce.specs.declared.mark.Entry.{Entry}
+use Rattle.nr_reduce.specs.declared.mark.Moment.{Moment}
+use Rattle.nr_tree.specs.Code.{tree_code}
+use Rattle.nr_tree.specs.Rules.{entry_cost}
+use Rattle.nr_tree.specs.Sane.{IsSane}
+use Rattle.nr_tree.specs.Steps.{IsBelow}
 use Rattle.nr_tree.specs.Tree.{Tree}
-use Rattle.nr_plain.specs.Setup.{Setup}
-use Rattle.nr_plain.specs.Journal.{state_of}
+use Rattle.nr_plain.specs.Setup.{Parameters, Setup, State}
+use Rattle.nr_plain.specs.Journal.{state_after, state_of}
+use Rattle.nr_plain.specs.Replies.{Answer, plain_answer}
+use Rattle.nr_plain.specs.declared.fault.Fault.{Fault}
+use Rattle.nr_plain.specs.declared.fault.Fault.TheVariants as faults
 
 -- what a server keeps: the tree, the length and the cost of the journal, and what it was opened with but for the first tree
 pub record Kept : Type 0 where
   pub tree : Tree
   pub count : ℕ
   pub cost : ℕ
-  pub capacity : ℕ
-  pub verifier : Verifier
-  pub export : List ℕ
+  pub parameters : Parameters
 
 -- opened with this setup, and after these entries
 pub record StandsFor (s : Setup) (J : List Entry) (kept : Kept) : Type 0 where
   pub tree : kept.tree ≡ (state_of s J).tree
   pub cost : kept.cost ≡ (state_of s J).cost
   pub count : kept.count ≡ length J
-  pub capacity : kept.capacity ≡ s.capacity
-  pub verifier : kept.verifier ≡ s.verifier
-  pub export : kept.export ≡ s.export
+  pub parameters : kept.parameters ≡ s.parameters
+
+-- a call was executed: it has the reply of the plain server over the journal, its place is behind all entries, and then the server
+-- stands for the journal with what the call added
+pub record IsExecuted (s : Setup) (J : List Entry) (m : Moment) (payload reply : List ℕ) (place : ℕ) (kept : Kept) : Type 0 where
+  pub answer : Answer
+  pub plain : plain_answer s.parameters (state_of s J) m payload ≡ Some answer
+  pub reply_is : reply ≡ answer.reply
+  pub place_is : place ≡ length J
+  pub stands : StandsFor s (J ++ answer.entries) kept
+
+-- NotCall at the first item that fails of a payload without a call head; want of memory has no cause
+abbrev pub IsCause : Fault → Result CallHead ℕ → Type 0
+IsCause (faults.NotCall at) read = read ≡ Err at
+IsCause faults.Memory read = Unit {0}
+
+-- far from the end of 64 bits: each entry raises the next number and each next cookie by one at most, and costs at least entry_cost
+pub record IsServing (kept : Kept) : Type 0 where
+  pub sane : IsSane kept.tree
+  pub below : IsBelow (2 ^ 62 + kept.count) kept.tree
+  pub counted : entry_cost * kept.count ≤ kept.cost
+  pub within : kept.cost ≤ kept.parameters.capacity
+  pub capacity : kept.parameters.capacity < 2 ^ 63
+
+-- ===== for the code
+
+abbrev pub state_kept : Kept → State
+state_kept kept = record { tree = kept.tree; cost = kept.cost }
+
+-- what is kept after some more entries
+abbrev pub kept_with_state : Kept → ℕ → State → Kept
+kept_with_state kept more st = record { tree = st.tree; count = kept.count + more; cost = st.cost; parameters = kept.parameters }
+
+abbrev pub kept_after : Kept → List Entry → Kept
+kept_after kept es = kept_with_state kept (length es) (state_after kept.parameters (state_kept kept) es)
+
+abbrev pub parameters_code : Coded Parameters
+parameters_code =
+    code_by (ℕ × (ℕ × List ℕ)) (coded× coded_ℕ (coded× coded_ℕ (coded_list coded_ℕ))) (λ p. (p.capacity, (p.verifier.number, p.export)))
+    (λ p. record { capacity = p.0; verifier = record { number = p.1.0 }; export = p.1.1 }) (λ _. refl)
+
+abbrev pub kept_code : Coded Kept
+kept_code =
+    code_by (Tree × (ℕ × (ℕ × Parameters))) (coded× tree_code (coded× coded_ℕ (coded× coded_ℕ parameters_code))) (λ k. (k.tree, (k.count, (k.cost, k.parameters))))
+    (λ p. record { tree = p.0; count = p.1.0; cost = p.1.1.0; parameters = p.1.1.1 }) (λ _. refl)

@@ -1,6 +1,8 @@
 //! A call of a procedure.
 
 use nr_nfs_base::{Caller, Time};
+use nr_reduce::Moment;
+use nr_rpc::Cred;
 use nr_tree::Space;
 use nr_xdr::Octets;
 
@@ -20,4 +22,15 @@ pub(crate) struct Call<'a> {
 pub(crate) struct Change {
     pub(crate) reply: Octets,
     pub(crate) is_entry: bool,
+}
+
+/// A call, as its head and its arguments say it.
+#[derive(Clone, Copy)]
+pub(crate) struct Request<'a> {
+    pub(crate) xid: u32,
+    /// When the call is executed.
+    pub(crate) moment: Moment,
+    pub(crate) cred: &'a Cred,
+    pub(crate) proc: u32,
+    pub(crate) arguments: &'a [u8],
 }

@@ -1,13 +1,30 @@
-//! The plain server (draft).
+//! The plain server: a serial RPC server of NFS version 3 and MOUNT version 3 (RFC 1813) over a tree in memory.
+//!
+//! [`Server::execute`] takes the payload of a call and gives the payload of its reply. What it answers is defined in `specs/`: the
+//! procedures in `Programs.antt`, the journal in `Journal.antt`, the order of refusals and the replies in `Replies.antt`. The journal
+//! has an entry for each change that succeeded, and the tree is what the entries make of the first one. The server doesn't keep the
+//! journal: `Stands.antt` says for which journals it stands, and each call says for every such journal what it answers and for which
+//! journal it stands then.
+//!
+//! `reading.rt` and `changing.rt` have a function for each procedure of NFS, `mount.rt` those of MOUNT, `dispatch.rt` and `server.rt` the
+//! way to them. A procedure that changes the tree first takes the room of its reply (`reply_room.rt`, `put.rt`), so that want of memory leaves
+//! the server as before.
+//!
+//! Below stand the procedures (`nr_ops_file`, `nr_ops_dir`), the heads (`nr_rpc`) and the entries of a journal (`nr_reduce`). Above, the
+//! ends of links hand calls in and send replies.
 #![tactic(auto)]
 
 mod call;
 mod caller;
 mod changing;
+mod dispatch;
 mod encoding;
 mod fault;
+mod mount;
 mod put;
 mod reading;
 mod reply_room;
+mod server;
 
 pub use fault::Fault;
+pub use server::{Reply, Server};

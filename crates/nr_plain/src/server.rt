@@ -1,0 +1,343 @@
+//! The server.
+
+ghost use Rattle.std.specs.Prelude.{◌≡◌, ◌+◌, ◌<◌, ◌≤◌, ◌^◌, [], List, ℕ, length, None, Some, Ok, Err, IfOk, IfErr, OnOk, OnErr, IsOk};
+ghost use Rattle.nr_nfs_base.specs.Procedures.{nfs_version, mount_version};
+ghost use Rattle.nr_reduce.specs.declared.mark.Entry.{Entry};
+ghost use Rattle.nr_rpc.specs.Reading.{call_of};
+ghost use Rattle.nr_tree.specs.Sane.{IsSane};
+ghost use Rattle.nr_tree.specs.Steps.{IsBelow};
+ghost use Rattle.nr_plain.specs.Setup.{Setup, Parameters, space_of};
+ghost use Rattle.nr_plain.specs.Code.{entry_of, mount_reply};
+ghost use Rattle.nr_plain.specs.Journal.{nfs_procedure_of};
+ghost use Rattle.nr_plain.specs.Replies.{nfs_by_procedure, nfs_call, mount_call, program_call, answer_to};
+ghost use Rattle.nr_plain.specs.Stands.{StandsFor, IsExecuted, IsCause, state_kept, kept_after};
+
+use crate::call::{Call, Request};
+use crate::caller::{caller, time};
+use crate::dispatch::run;
+use crate::encoding::refused;
+use crate::fault::Fault;
+use crate::mount;
+use nr_nfs_base::{
+    MOUNT_PROGRAM, MOUNT_VERSION, MountProcedure, NFS_PROGRAM, NFS_VERSION, NfsProcedure, Numbered,
+    Verifier,
+};
+use nr_reduce::Moment;
+use nr_rpc::{AUTH_SYS, CallHead, Cred, HeadFault, RPC_VERSION, ReplyHead, read_call};
+use nr_tree::{ENTRY_COST, Space, Tree};
+use nr_xdr::{Memory, Octets};
+use std::alloc::Global;
+use std::marker::Model;
+
+/// A serial RPC server of NFS and MOUNT. It stands for its journal and does not keep it: what it keeps is the tree, and the
+/// length and the cost of the journal.
+#[derive(Drop)]
+pub struct Server {
+    tree: Tree,
+    count: u64,
+    cost: u64,
+    capacity: u64,
+    verifier: Verifier,
+    export: Octets,
+}
+
+impl Model for Server {
+    ghost use Rattle.nr_plain.specs.Stands.{Kept, kept_code, IsServing};
+
+    ghost Value = { Kept };
+
+    ghost coded = { kept_code };
+
+    ghost view = { λ s. record { tree = s.tree; count = s.count; cost = s.cost; parameters = record { capacity = s.capacity; verifier = s.verifier; export = s.export } } };
+
+    ghost invariant = { λ s. IsServing (record { tree = s.tree; count = s.count; cost = s.cost; parameters = record { capacity = s.capacity; verifier = s.verifier; export = s.export } }) };
+}
+
+/// The reply to a call that was executed.
+#[derive(Drop)]
+pub struct Reply {
+    pub payload: Octets,
+    /// How many entries the journal had before the call.
+    pub place: u64,
+}
+
+/// The accept status of a call of another program (RFC 5531 section 9).
+const PROG_UNAVAIL: u32 = 1;
+
+/// The accept status of a call of another procedure.
+const PROC_UNAVAIL: u32 = 3;
+
+/// The status of AUTH_SYS whose body can't be read (RFC 5531 section 9, `auth_stat`).
+const AUTH_BADCRED: u32 = 1;
+
+/// The status of another flavor.
+const AUTH_TOOWEAK: u32 = 5;
+
+impl Server {
+    /// A server of a tree, with an empty journal. `capacity` is what the journal may cost, `export` the path that may be mounted.
+    pub fn open(tree: Tree, capacity: u64, verifier: Verifier, export: Octets) -> Server
+        requires sane { IsSane tree }
+        requires below { IsBelow (2 ^ 62) tree }
+        requires capacity { capacity < 2 ^ 63 }
+        ensures kept { result ≡ record { tree = tree; count = 0; cost = 0; parameters = record { capacity = capacity; verifier = verifier; export = export } } }
+        ensures stands { StandsFor (record { tree = tree; parameters = record { capacity = capacity; verifier = verifier; export = export } }) [] result }
+    {
+        Server {
+            tree,
+            count: 0,
+            cost: 0,
+            capacity,
+            verifier,
+            export,
+        }
+    }
+
+    /// How many entries the journal has.
+    pub fn journal_len(&self) -> u64
+        ensures { (s : Setup) (J : List Entry) → StandsFor s J self.now → result ≡ length J }
+    {
+        self.count
+    }
+
+    /// What the journal costs: 64 for each entry, and the bytes of its arguments.
+    pub fn journal_cost(&self) -> u64
+        ensures { (s : Setup) (J : List Entry) → StandsFor s J self.now → result ≡ (state_of s J).cost }
+    {
+        self.cost
+    }
+
+    /// Executes a call. The reply is that of the plain server over the journal; a change that succeeds is then its next entry. After
+    /// an `Err` the server is as before.
+    pub fn execute(&mut self, alloc: Global, now: Moment, payload: &[u8]) -> Result<Reply, Fault>
+        ensures executed { IfOk result (λ r. (s : Setup) (J : List Entry) → StandsFor s J self.old → IsExecuted s J now payload.now r.payload r.place self.new) }
+        ensures call { IfOk result (λ _. IsOk (call_of payload.now)) }
+        ensures cause { IfErr result (λ e. IsCause e (call_of payload.now)) }
+        ensures err { OnErr result (self.new ≡ self.old) }
+    {
+        let place = self.count;
+        let head = match read_call(alloc, payload) {
+            Ok(head) => head,
+            Err(HeadFault::NotCall { at }) => return Err(Fault::NotCall { at }),
+            Err(_) => return Err(Fault::Memory),
+        };
+        let reply = self.answer(alloc, now, payload, &head)?;
+        Ok(Reply {
+            payload: reply,
+            place,
+        })
+    }
+
+    /// What a call finds beside the tree.
+    fn space(&self, arguments: &[u8]) -> Space
+        ensures { result ≡ space_of self.now.parameters (state_kept self.now) arguments.now }
+    {
+        Space {
+            capacity: self.capacity,
+            used: self.cost,
+            arguments: arguments.len() as u64,
+            verifier: self.verifier,
+        }
+    }
+
+    /// Executes a procedure of NFS.
+    fn nfs_procedure(
+        &mut self,
+        alloc: Global,
+        request: &Request,
+        p: NfsProcedure,
+    ) -> Result<Octets, Memory>
+        requires { nfs_procedure_of request.now.proc ≡ Some p }
+        ensures reply { IfOk result (λ o. o ≡ (nfs_by_procedure self.old.parameters (state_kept self.old) request.now.xid (entry_of request.now) (Some p)).reply) }
+        ensures kept { OnOk result (self.new ≡ kept_after self.old (nfs_by_procedure self.old.parameters (state_kept self.old) request.now.xid (entry_of request.now) (Some p)).entries) }
+        ensures err { OnErr result (self.new ≡ self.old) }
+    {
+        let caller = caller(alloc, request.cred)?;
+        let call = Call {
+            xid: request.xid,
+            time: time(request.moment),
+            caller: &caller,
+            space: self.space(request.arguments),
+            arguments: request.arguments,
+        };
+        let change = run(alloc, &mut self.tree, p, &call)?;
+        if change.is_entry {
+            self.count += 1;
+            self.cost += ENTRY_COST + request.arguments.len() as u64;
+        }
+        Ok(change.reply)
+    }
+
+    /// Answers a call of NFS.
+    fn nfs(&mut self, alloc: Global, request: &Request, vers: u32) -> Result<Octets, Memory>
+        ensures reply { IfOk result (λ o. o ≡ (nfs_call self.old.parameters (state_kept self.old) request.now.xid vers (entry_of request.now)).reply) }
+        ensures kept { OnOk result (self.new ≡ kept_after self.old (nfs_call self.old.parameters (state_kept self.old) request.now.xid vers (entry_of request.now)).entries) }
+        ensures err { OnErr result (self.new ≡ self.old) }
+    {
+        let xid = request.xid;
+        if vers != NFS_VERSION {
+            return refused(
+                alloc,
+                ReplyHead::ProgMismatch {
+                    xid,
+                    low: NFS_VERSION,
+                    high: NFS_VERSION,
+                },
+            );
+        }
+        match NfsProcedure::from_number(request.proc) {
+            Some(p) => self.nfs_procedure(alloc, request, p),
+            None => refused(alloc, unavailable(xid, PROC_UNAVAIL)),
+        }
+    }
+
+    /// Answers a call of MOUNT.
+    fn mount(&self, alloc: Global, request: &Request, vers: u32) -> Result<Octets, Memory>
+        ensures { IfOk result (λ o. o ≡ (mount_call self.now.parameters request.now.xid vers (entry_of request.now)).reply) }
+    {
+        let xid = request.xid;
+        if vers != MOUNT_VERSION {
+            return refused(
+                alloc,
+                ReplyHead::ProgMismatch {
+                    xid,
+                    low: MOUNT_VERSION,
+                    high: MOUNT_VERSION,
+                },
+            );
+        }
+        match MountProcedure::from_number(request.proc) {
+            Some(p) => mount::reply(alloc, xid, self.export.as_slice(), p, request.arguments),
+            None => refused(alloc, unavailable(xid, PROC_UNAVAIL)),
+        }
+    }
+
+    /// Answers a call whose credential is accepted.
+    fn program(
+        &mut self,
+        alloc: Global,
+        request: &Request,
+        prog: u32,
+        vers: u32,
+    ) -> Result<Octets, Memory>
+        ensures reply { IfOk result (λ o. o ≡ (program_call self.old.parameters (state_kept self.old) request.now.xid prog vers (entry_of request.now)).reply) }
+        ensures kept { OnOk result (self.new ≡ kept_after self.old (program_call self.old.parameters (state_kept self.old) request.now.xid prog vers (entry_of request.now)).entries) }
+        ensures err { OnErr result (self.new ≡ self.old) }
+    {
+        if prog == NFS_PROGRAM {
+            self.nfs(alloc, request, vers)
+        } else if prog == MOUNT_PROGRAM {
+            self.mount(alloc, request, vers)
+        } else {
+            refused(alloc, unavailable(request.xid, PROG_UNAVAIL))
+        }
+    }
+
+    /// Answers a call with this head.
+    fn answer(
+        &mut self,
+        alloc: Global,
+        now: Moment,
+        payload: &[u8],
+        head: &CallHead,
+    ) -> Result<Octets, Memory>
+        requires { IsWithin payload.now head.now }
+        ensures reply { IfOk result (λ o. o ≡ (answer_to self.old.parameters (state_kept self.old) now payload.now head.now).reply) }
+        ensures kept { OnOk result (self.new ≡ kept_after self.old (answer_to self.old.parameters (state_kept self.old) now payload.now head.now).entries) }
+        ensures err { OnErr result (self.new ≡ self.old) }
+    {
+        match head {
+            CallHead::Other { xid, .. } => refused(
+                alloc,
+                ReplyHead::RpcMismatch {
+                    xid: *xid,
+                    low: RPC_VERSION,
+                    high: RPC_VERSION,
+                },
+            ),
+            CallHead::Version2 {
+                xid,
+                prog,
+                vers,
+                proc,
+                cred,
+                args_at,
+            } => {
+                let request = Request {
+                    xid: *xid,
+                    moment: now,
+                    cred,
+                    proc: *proc,
+                    arguments: rest(payload, *args_at),
+                };
+                self.version2(alloc, &request, *prog, *vers)
+            }
+        }
+    }
+
+    /// Answers a call of RPC version 2.
+    fn version2(
+        &mut self,
+        alloc: Global,
+        request: &Request,
+        prog: u32,
+        vers: u32,
+    ) -> Result<Octets, Memory>
+        ensures reply { IfOk result (λ o. o ≡ (call_by_cred (cred_refusal request.now.cred.now) request.now.xid (program_call self.old.parameters (state_kept self.old) request.now.xid prog vers (entry_of request.now))).reply) }
+        ensures kept { OnOk result (self.new ≡ kept_after self.old (call_by_cred (cred_refusal request.now.cred.now) request.now.xid (program_call self.old.parameters (state_kept self.old) request.now.xid prog vers (entry_of request.now))).entries) }
+        ensures err { OnErr result (self.new ≡ self.old) }
+    {
+        match cred_status(request.cred) {
+            None => self.program(alloc, request, prog, vers),
+            Some(stat) => refused(
+                alloc,
+                ReplyHead::AuthError {
+                    xid: request.xid,
+                    stat,
+                },
+            ),
+        }
+    }
+}
+
+ghost use Rattle.nr_plain.specs.Journal.{state_of};
+ghost use Rattle.nr_plain.specs.Code.{IsWithin};
+ghost use Rattle.nr_plain.specs.Replies.{call_by_cred, cred_refusal, accepted as accepted_head};
+ghost use Rattle.nr_rpc.specs.Constants.{PROG_MISMATCH};
+ghost use Rattle.std.specs.Prelude.{drop, ◌≢◌};
+
+/// The bytes from a place on.
+fn rest(payload: &[u8], at: usize) -> &[u8]
+    requires { at ≤ length payload.now }
+    ensures { result.now ≡ drop at payload.now }
+{
+    let (_, rest) = payload.split_at(at);
+    rest
+}
+
+/// The head of a reply to a call that reaches no procedure.
+fn unavailable(xid: u32, stat: u32) -> ReplyHead
+    ensures { result ≡ accepted_head xid stat }
+{
+    ReplyHead::Accepted {
+        xid,
+        stat,
+        results_at: 0,
+    }
+}
+
+/// Why a credential is refused, if it is (RFC 5531 section 9, `auth_stat`).
+fn cred_status(cred: &Cred) -> Option<u32>
+    ensures { result ≡ cred_refusal cred.now }
+{
+    match cred {
+        Cred::None => None,
+        Cred::Sys { .. } => None,
+        Cred::Other { flavor } => {
+            if *flavor == AUTH_SYS {
+                Some(AUTH_BADCRED)
+            } else {
+                Some(AUTH_TOOWEAK)
+            }
+        }
+    }
+}
