@@ -121,11 +121,15 @@ mkdir_reply t c space now args =
 
 -- ===== SYMLINK: as above; INVAL for an empty path; NAMETOOLONG; NOSPC
 
+abbrev pub path_rules : List ℕ → List (Option Status)
+path_rules path =
+    (length path == 0 ⇒ Inval) ∷
+    (nat_lt longest_path (length path) ⇒ Nametoolong) ∷ []
+
 abbrev pub symlink_rules : Tree → Caller → Space → SymlinkArgs → List (Option Status)
 symlink_rules t c space args =
     first (new_name_rules t c args.dir args.name args.attributes) ∷
-    (length args.path == 0 ⇒ Inval) ∷
-    (nat_lt longest_path (length args.path) ⇒ Nametoolong) ∷
+    first (path_rules args.path) ∷
     space_rule space ∷ []
 
 abbrev pub new_link : Caller → Time → SymlinkArgs → Node
