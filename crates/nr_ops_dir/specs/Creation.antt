@@ -97,7 +97,7 @@ new_name_rules t c h name a =
     owner_rule c a ∷
     time_rule a ∷ []
 
--- ===== MKDIR: as above; MLINK of the directory; NOSPC
+-- ===== MKDIR (section 3.3.9): as above; MLINK of the directory; NOSPC
 
 abbrev pub mkdir_rules : Tree → Caller → Space → MkdirArgs → List (Option Status)
 mkdir_rules t c space args =
@@ -119,13 +119,17 @@ abbrev pub mkdir_reply : Tree → Caller → Space → Time → MkdirArgs → St
 mkdir_reply t c space now args =
     answer (first (mkdir_rules t c space args)) (λ s. Failed s (wcc_data t t args.dir)) (Done (create_ok t (mkdir_tree t c space now args) args.dir args.name))
 
--- ===== SYMLINK: as above; INVAL for an empty path; NAMETOOLONG; NOSPC
+-- ===== SYMLINK (section 3.3.10): as above; INVAL for an empty path; NAMETOOLONG; NOSPC
+
+abbrev pub path_rules : List ℕ → List (Option Status)
+path_rules path =
+    (length path == 0 ⇒ Inval) ∷
+    (nat_lt longest_path (length path) ⇒ Nametoolong) ∷ []
 
 abbrev pub symlink_rules : Tree → Caller → Space → SymlinkArgs → List (Option Status)
 symlink_rules t c space args =
     first (new_name_rules t c args.dir args.name args.attributes) ∷
-    (length args.path == 0 ⇒ Inval) ∷
-    (nat_lt longest_path (length args.path) ⇒ Nametoolong) ∷
+    first (path_rules args.path) ∷
     space_rule space ∷ []
 
 abbrev pub new_link : Caller → Time → SymlinkArgs → Node
@@ -139,7 +143,7 @@ abbrev pub symlink_reply : Tree → Caller → Space → Time → SymlinkArgs �
 symlink_reply t c space now args =
     answer (first (symlink_rules t c space args)) (λ s. Failed s (wcc_data t t args.dir)) (Done (create_ok t (symlink_tree t c space now args) args.dir args.name))
 
--- ===== MKNOD: the handle; BADTYPE; as above; PERM for a device; NOSPC
+-- ===== MKNOD (section 3.3.11): the handle; BADTYPE; as above; PERM for a device; NOSPC
 
 -- what MKNOD makes: devices, sockets and pipes, and no other type
 abbrev pub special_content : MknodData → Option Content
