@@ -15,9 +15,7 @@ use Rattle.nr_nfs_base.specs.Time.{time_codec}
 use Rattle.nr_nfs_base.specs.Verifier.{verifier_codec}
 use Rattle.nr_nfs_base.specs.Names.{handle_codec, text_codec}
 use Rattle.nr_nfs_base.specs.declared.attributes.Attributes.{Attributes}
-use Rattle.nr_nfs_res.specs.Readdir.{entry_codec, entry_plus_codec, readdir_ok_codec, readdirplus_ok_codec}
-use Rattle.nr_nfs_res.specs.declared.readdir.ReaddirOk.{ReaddirOk}
-use Rattle.nr_nfs_res.specs.declared.readdir.ReaddirplusOk.{ReaddirplusOk}
+use Rattle.nr_nfs_res.specs.Readdir.{ReaddirOk, ReaddirplusOk, entry_codec, entry_plus_codec, listing_codec, readdir_ok_codec, readdirplus_ok_codec}
 use Rattle.nr_tree.specs.Entries.{Entry}
 use Rattle.nr_tree.specs.Tree.{Tree, attributes_of}
 use Rattle.nr_tree.specs.Rules.{handle_of, number_of_handle, node_of_handle}
@@ -132,7 +130,7 @@ plus_list t (e ∷ es) = omega (arith, items_size-append ((optional entry_plus_c
 readdir_items : (a : Option Attributes) (es : List Entry) (eof : Bool)
     → items_size (readdir_ok_codec.items (record { dir_attributes = a; verifier = cookie_verifier; entries = map listed es; eof = eof }))
     ≡ items_size ((optional attributes_codec).items a ++ (Hyper 0 ∷ ((linked_list entry_codec).items (map listed es) ++ Boolean eof ∷ [])))
-unfolding readdir_ok_codec verifier_codec hyper_codec boolean
+unfolding listing_codec verifier_codec hyper_codec boolean
 readdir_items a es eof = refl
 
 readdir_parts : (a : Option Attributes) (es : List Entry) (eof : Bool)
@@ -157,7 +155,7 @@ readdir_size t h v es eof e =
 readdirplus_items : (t : Tree) (a : Option Attributes) (es : List Entry) (eof : Bool)
     → items_size (readdirplus_ok_codec.items (record { dir_attributes = a; verifier = cookie_verifier; entries = map (listed_plus t) es; eof = eof }))
     ≡ items_size ((optional attributes_codec).items a ++ (Hyper 0 ∷ ((linked_list entry_plus_codec).items (map (listed_plus t) es) ++ Boolean eof ∷ [])))
-unfolding readdirplus_ok_codec verifier_codec hyper_codec boolean
+unfolding listing_codec verifier_codec hyper_codec boolean
 readdirplus_items t a es eof = refl
 
 readdirplus_parts : (t : Tree) (a : Option Attributes) (es : List Entry) (eof : Bool)

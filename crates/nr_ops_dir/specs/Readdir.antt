@@ -13,11 +13,9 @@ use Rattle.nr_nfs_base.specs.declared.status_union.StatusUnion.{StatusUnion}
 use Rattle.nr_nfs_base.specs.declared.status_union.StatusUnion.TheVariants.{Done, Failed}
 use Rattle.nr_nfs_args.specs.declared.readdir.ReaddirArgs.{ReaddirArgs}
 use Rattle.nr_nfs_args.specs.declared.readdir.ReaddirplusArgs.{ReaddirplusArgs}
-use Rattle.nr_nfs_res.specs.Readdir.{readdir_ok_codec, readdirplus_ok_codec}
+use Rattle.nr_nfs_res.specs.Readdir.{ReaddirOk, readdir_ok_codec, ReaddirplusOk, readdirplus_ok_codec}
 use Rattle.nr_nfs_res.specs.declared.readdir.Entry.{Entry as ListedEntry}
 use Rattle.nr_nfs_res.specs.declared.readdir.EntryPlus.{EntryPlus}
-use Rattle.nr_nfs_res.specs.declared.readdir.ReaddirOk.{ReaddirOk}
-use Rattle.nr_nfs_res.specs.declared.readdir.ReaddirplusOk.{ReaddirplusOk}
 use Rattle.nr_tree.specs.Entries.{Entry}
 use Rattle.nr_tree.specs.Listing.{entries_after}
 use Rattle.nr_tree.specs.Tree.{Tree, is_dir, entries_in}
