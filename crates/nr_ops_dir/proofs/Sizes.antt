@@ -21,10 +21,10 @@ use Rattle.nr_tree.specs.Tree.{Tree, attributes_of}
 use Rattle.nr_tree.specs.Rules.{handle_of, number_of_handle, node_of_handle}
 use Rattle.nr_tree.specs.Replies.{attributes_at}
 use Rattle.nr_tree.specs.declared.node.Node.{Node}
-use Rattle.nr_ops_dir.specs.Nodes.{attributes_under, handle_under}
+use Rattle.nr_ops_dir.specs.Nodes.{attributes_of_number, handle_of_live}
 use Rattle.nr_ops_dir.specs.Readdir.{listed, listed_plus, readdir_ok, readdirplus_ok, cookie_verifier, total}
 use Rattle.nr_ops_dir.specs.Sizes.{entry_size, node_size, size_in, empty_size}
-use Rattle.nr_ops_dir.specs.declared.listings.Listing.TheVariants.{Names, Nodes}
+use Rattle.nr_ops_dir.specs.declared.listings.Detail.TheVariants.{Names, Nodes}
 
 -- ===== items
 
@@ -118,7 +118,7 @@ plus_parts : (e : Entry) (a : Option Attributes) (h : Option (List ℕ))
 plus_parts e a h = omega (arith, plus_items e a h, items_size-append ((optional attributes_codec).items a) ((optional handle_codec).items h))
 
 plus_entry : (t : Tree) (e : Entry) → items_size ((optional entry_plus_codec).items (Some (listed_plus t e))) ≡ entry_size e + node_size t e.number
-plus_entry t e = omega (arith, plus_parts e (attributes_under t e.number) (handle_under t e.number), node_part_by e.number (get t.nodes e.number))
+plus_entry t e = omega (arith, plus_parts e (attributes_of_number t e.number) (handle_of_live t e.number), node_part_by e.number (get t.nodes e.number))
 
 pub plus_list : (t : Tree) (es : List Entry) → items_size ((linked_list entry_plus_codec).items (map (listed_plus t) es)) ≡ total (size_in t Nodes) es + 4
 unfolding linked_list optional boolean

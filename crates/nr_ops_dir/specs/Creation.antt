@@ -28,6 +28,7 @@ use Rattle.nr_tree.specs.Sane.{longest_path}
 use Rattle.nr_tree.specs.Changes.{tree_with_node}
 use Rattle.nr_tree.specs.Rules.{first, ◌⇒◌, after, answer, number_of_handle, handle_of, handle_rule, space_rule, time_rule, time_after}
 use Rattle.nr_tree.specs.Replies.{wcc_data}
+use Rattle.nr_ops_dir.specs.Nodes.{attributes_of_number}
 use Rattle.nr_ops_dir.specs.Entries.{number_of_entry, is_taken, entry_rules, links_rule}
 
 -- ===== a new node
@@ -76,9 +77,6 @@ abbrev pub nothing_given : SetAttributes
 nothing_given = record { mode = None; uid = None; gid = None; size = None; atime = Leave; mtime = Leave }
 
 -- ===== the reply: the handle and the attributes of what the name leads to afterwards
-
-abbrev pub attributes_of_number : Tree → ℕ → Option Attributes
-attributes_of_number t n = option_map (attributes_of n) (get t.nodes n)
 
 abbrev pub create_ok : Tree → Tree → List ℕ → List ℕ → CreateOk
 create_ok old new h name = record {
