@@ -20,6 +20,7 @@ mod changing;
 mod dispatch;
 mod encoding;
 mod fault;
+mod laws;
 mod mount;
 mod put;
 mod reading;
@@ -27,4 +28,5 @@ mod reply_room;
 mod server;
 
 pub use fault::Fault;
+pub use laws::replies_begin_with_the_xid;
 pub use server::{Reply, Server};

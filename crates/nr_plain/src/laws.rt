@@ -1,0 +1,8 @@
+//! Laws of replies: whose they are, and how long they may be.
+
+ghost use Rattle.nr_plain.specs.ReplyLaws.{RepliesBeginWithTheXid};
+
+/// A reply begins with a reply head whose xid is that of its call (RFC 5531 section 9).
+pub fn replies_begin_with_the_xid()
+    ensures { RepliesBeginWithTheXid }
+{}
