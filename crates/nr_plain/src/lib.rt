@@ -28,5 +28,5 @@ mod reply_room;
 mod server;
 
 pub use fault::Fault;
-pub use laws::replies_begin_with_the_xid;
+pub use laws::{replies_are_within_their_limit, replies_begin_with_the_xid};
 pub use server::{Reply, Server};
