@@ -168,12 +168,19 @@ mnt_fits true =
     omega (arith, length-handle 1, mounted_size (record { handle = handle_of 1; flavors = 1 ∷ 0 ∷ [] }), mount_size (handle_of 1) (omega (arith, length-handle 1)))
 mnt_fits false = omega (arith, not_mounted_size Noent tt)
 
+pub wcc_part : (n : ℕ) → 120 ≤ n → (d : WccData) → 4 + items_size (wcc_data_codec.items d) ≤ n
+wcc_part n le d = omega (arith, le, wcc_size d)
+
+-- the objects that CREATE, MKDIR, SYMLINK and MKNOD make
+pub make_fits : (o : Option Status) (wcc : WccData) (t u : Tree) (dir name : List ℕ)
+    → length (encodings ((nfs_results_codec nfs.Create).items (answer o (λ s. Failed s wcc) (Done (create_ok t u dir name))))) ≤ 280
+make_fits o wcc t u dir name =
+    answer_fits create_ok_codec wcc_data_codec o wcc (create_ok t u dir name) 280 (wcc_part 280 (omega arith) wcc)
+    (λ none. omega (arith, create_size (create_ok t u dir name) (made_handle (number_of_entry u (number_of_handle dir) name))))
+
 module _ (t : Tree) (c : Caller) (space : Space) (now : Time) (sane : IsSane t) where
   abbrev Fits : (p : NfsProcedure) → NfsArguments p → ℕ → Type 0
   Fits p a n = length (encodings ((nfs_results_codec p).items (nfs_results t c space now p a))) ≤ n
-
-  wcc_part : (n : ℕ) → 120 ≤ n → (d : WccData) → 4 + items_size (wcc_data_codec.items d) ≤ n
-  wcc_part n le d = omega (arith, le, wcc_size d)
 
   attributes_part : (n : ℕ) → 92 ≤ n → (d : Option Attributes) → 4 + items_size ((optional attributes_codec).items d) ≤ n
   attributes_part n le d = omega (arith, le, some_attributes d)
@@ -181,13 +188,6 @@ module _ (t : Tree) (c : Caller) (space : Space) (now : Time) (sane : IsSane t) 
   null_fits : (a : NfsArguments nfs.Null) → Fits nfs.Null a 0
   unfolding null_res_codec
   null_fits a = omega arith
-
-  -- the objects that CREATE, MKDIR, SYMLINK and MKNOD make
-  make_fits : (o : Option Status) (wcc : WccData) (u : Tree) (dir name : List ℕ)
-      → length (encodings ((nfs_results_codec nfs.Create).items (answer o (λ s. Failed s wcc) (Done (create_ok t u dir name))))) ≤ 280
-  make_fits o wcc u dir name =
-      answer_fits create_ok_codec wcc_data_codec o wcc (create_ok t u dir name) 280 (wcc_part 280 (omega arith) wcc)
-      (λ none. omega (arith, create_size (create_ok t u dir name) (made_handle (number_of_entry u (number_of_handle dir) name))))
 
   read_fits : (a : ReadArgs) → Fits nfs.Read a (104 + (min a.count 32768 + pad_len (min a.count 32768)))
   read_fits a =
@@ -253,10 +253,10 @@ module _ (t : Tree) (c : Caller) (space : Space) (now : Time) (sane : IsSane t) 
     results_within nfs.Read a e =
         counted nfs.Read a (104 + (min a.count 32768 + pad_len (min a.count 32768))) read_reply_max (read_count (standing place args)) a.count (read_counted place args bytes a e) refl (read_fits a) (omega arith)
     results_within nfs.Write a e = one nfs.Write a 136 (union_fits write_ok_codec wcc_data_codec (write_reply t c space now a) 136 (wcc_part 136 (omega arith)) (λ d. omega (arith, write_size d))) (omega arith)
-    results_within nfs.Create a e = one nfs.Create a 280 (make_fits (first (create_rules t c space a)) _ (create_tree t c space now a) a.dir a.name) (omega arith)
-    results_within nfs.Mkdir a e = one nfs.Mkdir a 280 (make_fits (first (mkdir_rules t c space a)) _ (mkdir_tree t c space now a) a.dir a.name) (omega arith)
-    results_within nfs.Symlink a e = one nfs.Symlink a 280 (make_fits (first (symlink_rules t c space a)) _ (symlink_tree t c space now a) a.dir a.name) (omega arith)
-    results_within nfs.Mknod a e = one nfs.Mknod a 280 (make_fits (first (mknod_rules t c space a)) _ (mknod_tree t c space now a) a.dir a.name) (omega arith)
+    results_within nfs.Create a e = one nfs.Create a 280 (make_fits (first (create_rules t c space a)) _ t (create_tree t c space now a) a.dir a.name) (omega arith)
+    results_within nfs.Mkdir a e = one nfs.Mkdir a 280 (make_fits (first (mkdir_rules t c space a)) _ t (mkdir_tree t c space now a) a.dir a.name) (omega arith)
+    results_within nfs.Symlink a e = one nfs.Symlink a 280 (make_fits (first (symlink_rules t c space a)) _ t (symlink_tree t c space now a) a.dir a.name) (omega arith)
+    results_within nfs.Mknod a e = one nfs.Mknod a 280 (make_fits (first (mknod_rules t c space a)) _ t (mknod_tree t c space now a) a.dir a.name) (omega arith)
     results_within nfs.Remove a e = one nfs.Remove a 120 (union_fits wcc_data_codec wcc_data_codec (remove_reply t c space now a) 120 (wcc_part 120 (omega arith)) (wcc_part 120 (omega arith))) (omega arith)
     results_within nfs.Rmdir a e = one nfs.Rmdir a 120 (union_fits wcc_data_codec wcc_data_codec (rmdir_reply t c space now a) 120 (wcc_part 120 (omega arith)) (wcc_part 120 (omega arith))) (omega arith)
     results_within nfs.Rename a e = one nfs.Rename a 236 (union_fits rename_wcc_codec rename_wcc_codec (rename_reply t c space now a) 236 (λ d. omega (arith, rename_size d)) (λ d. omega (arith, rename_size d))) (omega arith)

@@ -1,14 +1,19 @@
 -- The laws of the plain server's replies.
-use Rattle.std.specs.Prelude.{◌≡◌, ℕ, ◌≤◌, List, length, Option, None, Some, Result, Ok, Err}
+use Rattle.std.specs.Prelude.{◌≡◌, ◌≢◌, ℕ, ◌≤◌, List, [], length, Option, None, Some, Result, Ok, Err}
 use Rattle.nr_xdr.specs.Item.{IsBytes}
-use Rattle.nr_rpc.specs.Reading.{call_of, reply_of, xid_of_call}
+use Rattle.nr_header.specs.WithinLimits.{ListsWithin}
+use Rattle.nr_header.specs.declared.header.ChunkLists.{ChunkLists}
+use Rattle.nr_rpc.specs.Reading.{call_of, reply_of, target_of, xid_of_call}
 use Rattle.nr_rpc.specs.declared.head.ReplyHead.{ReplyHead}
 use Rattle.nr_reduce.specs.ClientMessages.{reply_xid}
 use Rattle.nr_reduce.specs.declared.mark.Moment.{Moment}
 use Rattle.nr_reduce.specs.Largest.{largest_reply}
+use Rattle.nr_reduce.specs.Limits.{send_max}
+use Rattle.nr_reduce.specs.Server.{answer_of_target}
 use Rattle.nr_tree.specs.Sane.{IsSane}
 use Rattle.nr_plain.specs.Setup.{Parameters, State}
 use Rattle.nr_plain.specs.Replies.{Answer, plain_answer}
+use Rattle.nr_plain.specs.ReplySizes.{most_reply}
 
 -- the transaction's number of the reply head that was read, if one was
 abbrev pub xid_of_reply : Result ReplyHead ℕ → Option ℕ
@@ -24,3 +29,14 @@ RepliesBeginWithTheXid = (s : Parameters) (st : State) (m : Moment) (payload : L
 abbrev pub RepliesAreWithinTheirLimit : Type 0
 RepliesAreWithinTheirLimit = (s : Parameters) (st : State) (m : Moment) (payload : List ℕ) (a : Answer) → IsBytes payload → IsSane st.tree →
     plain_answer s st m payload ≡ Some a → length a.reply ≤ largest_reply payload
+
+-- The reply of a call that adds an entry to the journal has at most most_reply bytes.
+abbrev pub ChangesAreShort : Type 0
+ChangesAreShort = (s : Parameters) (st : State) (m : Moment) (payload : List ℕ) (a : Answer) → plain_answer s st m payload ≡ Some a →
+    a.entries ≢ [] → length a.reply ≤ most_reply
+
+-- So every offer within the limits of a header holds it, where a Send back has at most send_max bytes or more.
+abbrev pub ChangesFitEveryOffer : Type 0
+ChangesFitEveryOffer = (s : Parameters) (st : State) (m : Moment) (payload : List ℕ) (a : Answer) (offer : ChunkLists) (down : ℕ) →
+    plain_answer s st m payload ≡ Some a → a.entries ≢ [] → ListsWithin offer → send_max ≤ down →
+    answer_of_target offer down a.reply (target_of (call_of payload)) ≢ None

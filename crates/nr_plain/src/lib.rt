@@ -28,5 +28,7 @@ mod reply_room;
 mod server;
 
 pub use fault::Fault;
-pub use laws::{replies_are_within_their_limit, replies_begin_with_the_xid};
+pub use laws::{
+    changes_fit_every_offer, replies_are_within_their_limit, replies_begin_with_the_xid,
+};
 pub use server::{Reply, Server};
