@@ -89,7 +89,7 @@ refusal_size (replies.ProgMismatch xid low high) = omega arith
 refusal_size (replies.RpcMismatch xid low high) = omega arith
 refusal_size (replies.AuthError xid stat) = omega arith
 
-head_size : (xid : ℕ) → length (reply_head (accepted xid 0)) ≡ 24
+pub head_size : (xid : ℕ) → length (reply_head (accepted xid 0)) ≡ 24
 unfolding word pad_len
 head_size xid = refl
 

@@ -7,6 +7,9 @@ use Rattle.nr_rpc.specs.Reading.{call_of, reply_of, target_of, xid_of_call}
 use Rattle.nr_rpc.specs.declared.head.ReplyHead.{ReplyHead}
 use Rattle.nr_reduce.specs.ClientMessages.{reply_xid}
 use Rattle.nr_reduce.specs.declared.mark.Moment.{Moment}
+use Rattle.nr_reduce.specs.declared.call.Form.TheVariants as forms
+use Rattle.nr_reduce.specs.declared.outline.Plan.{Plan}
+use Rattle.nr_reduce.specs.Plans.{plan_of, lists_of}
 use Rattle.nr_reduce.specs.Largest.{largest_reply}
 use Rattle.nr_reduce.specs.Limits.{send_max}
 use Rattle.nr_reduce.specs.Server.{answer_of_target}
@@ -40,3 +43,9 @@ abbrev pub ChangesFitEveryOffer : Type 0
 ChangesFitEveryOffer = (s : Parameters) (st : State) (m : Moment) (payload : List ℕ) (a : Answer) (offer : ChunkLists) (down : ℕ) →
     plain_answer s st m payload ≡ Some a → a.entries ≢ [] → ListsWithin offer → send_max ≤ down →
     answer_of_target offer down a.reply (target_of (call_of payload)) ≢ None
+
+-- What a call offers in the form Auto holds its reply over a sane tree.
+abbrev pub AutoOffersHoldTheirReplies : Type 0
+AutoOffersHoldTheirReplies = (s : Parameters) (st : State) (m : Moment) (payload : List ℕ) (a : Answer) (up down stag : ℕ) (p : Plan) → IsBytes payload →
+    IsSane st.tree → plain_answer s st m payload ≡ Some a → send_max ≤ down → plan_of payload forms.Auto up down ≡ Ok p →
+    answer_of_target (lists_of stag p) down a.reply (target_of (call_of payload)) ≢ None

@@ -1,6 +1,6 @@
 //! Laws of replies: whose they are, and how long they may be.
 
-ghost use Rattle.nr_plain.specs.ReplyLaws.{RepliesBeginWithTheXid, RepliesAreWithinTheirLimit, ChangesAreShort, ChangesFitEveryOffer};
+ghost use Rattle.nr_plain.specs.ReplyLaws.{RepliesBeginWithTheXid, RepliesAreWithinTheirLimit, ChangesAreShort, ChangesFitEveryOffer, AutoOffersHoldTheirReplies};
 
 /// A reply begins with a reply head whose xid is that of its call (RFC 5531 section 9).
 pub fn replies_begin_with_the_xid()
@@ -17,4 +17,9 @@ pub fn replies_are_within_their_limit()
 pub fn changes_fit_every_offer()
     ensures short { ChangesAreShort }
     ensures holds { ChangesFitEveryOffer }
+{}
+
+/// A call in the form Auto offers enough: its offer holds its reply over a sane tree, whatever that is.
+pub fn auto_offers_hold_their_replies()
+    ensures { AutoOffersHoldTheirReplies }
 {}

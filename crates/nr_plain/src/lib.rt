@@ -29,6 +29,7 @@ mod server;
 
 pub use fault::Fault;
 pub use laws::{
-    changes_fit_every_offer, replies_are_within_their_limit, replies_begin_with_the_xid,
+    auto_offers_hold_their_replies, changes_fit_every_offer, replies_are_within_their_limit,
+    replies_begin_with_the_xid,
 };
 pub use server::{Reply, Server};
