@@ -1,18 +1,16 @@
 -- What a call offers in the form Auto holds its reply.
-use Rattle.std.proofs.Common.{◌≡◌, ◌≢◌, ℕ, ◌+◌, ◌≤◌, ◌<◌, ◌^◌, Bool, true, false, cond, eqb, leb, ltb, not, List, [], ◌∷◌, ◌++◌, length, take, drop, min, Option, None, Some, Result, Ok, Err, inl, inr, refl, ap, sym, ◌∙◌, subst, arith}
+use Rattle.std.proofs.Common.{◌≡◌, ◌≢◌, ℕ, ◌+◌, ◌≤◌, ◌<◌, ◌^◌, Bool, true, false, cond, eqb, leb, ltb, not, List, [], ◌∷◌, length, take, drop, min, Option, None, Some, Result, Ok, Err, inl, inr, refl, ap, sym, ◌∙◌, subst, arith}
 use Rattle.std.specs.Prelude.{◌&&◌}
 use Rattle.std.proofs.Math.Nat.{min-le_left, min-le_right}
 use Rattle.std.proofs.lemmas.Bool.{eqb-true, leb-true, le-leb}
 use Rattle.std.proofs.lemmas.List.{length-take}
 use Rattle.nr_xdr.specs.Item.{IsBytes}
-use Rattle.nr_xdr.specs.Reading.{Cursor}
 use Rattle.nr_xdr.proofs.Chains.{standing}
 use Rattle.nr_xdr.proofs.SequencingSteps.{chosen}
 use Rattle.nr_xdr.proofs.WordBytes.{IsBytes-drop}
 use Rattle.nr_header.specs.Constants.{PAYLOAD_MAX}
 use Rattle.nr_header.specs.declared.header.ChunkLists.{ChunkLists}
 use Rattle.nr_header.specs.declared.header.RdmaSegment.{RdmaSegment}
-use Rattle.nr_header.specs.declared.header.ReadSegment.{ReadSegment}
 use Rattle.nr_rpc.specs.Reading.{call_of, target_of, head_xid}
 use Rattle.nr_rpc.specs.declared.cred.Cred.{Cred}
 use Rattle.nr_rpc.specs.declared.cred.Cred.TheVariants as creds
@@ -38,18 +36,18 @@ use Rattle.nr_reduce.specs.Chunks.{chunk_total}
 use Rattle.nr_reduce.specs.Holds.{Parts, parts_by, parts_in, answer_size, fits_reply, answer_with, answer_for}
 use Rattle.nr_reduce.specs.Items.{is_nfs, from_place, reducible_item}
 use Rattle.nr_reduce.specs.Largest.{largest_reply, read_count}
-use Rattle.nr_reduce.specs.Plans.{TooLarge, inline_plan, moved_offer, argument_offer, target_offer, write_offer, reduced_plan_by, reduced_plan, long_plan, first_within, offering, auto_offer, auto_plan, within, plan_size, plan_of, write_list, reply_chunk, write_stag, reply_stag, read_list, lists_of}
+use Rattle.nr_reduce.specs.Plans.{TooLarge, inline_plan, moved_offer, argument_offer, target_offer, write_offer, reduced_plan_by, reduced_plan, long_plan, offering, auto_offer, auto_plan, within, plan_size, plan_of, write_list, reply_chunk, write_stag, reply_stag, lists_of}
 use Rattle.nr_reduce.specs.Server.{answer_of_target}
 use Rattle.nr_tree.specs.Rules.{answer, first}
 use Rattle.nr_tree.specs.Sane.{IsSane}
 use Rattle.nr_ops_file.specs.Bytes.{read_rules, read_done, bytes_at}
 use Rattle.nr_ops_file.specs.Links.{readlink_rules, readlink_done}
-use Rattle.nr_plain.specs.Setup.{Parameters, State, caller_of, time_of, space_of}
+use Rattle.nr_plain.specs.Setup.{Parameters, State, caller_of}
 use Rattle.nr_plain.specs.Replies.{Answer, refusal, accepted, nfs_by_arguments, nfs_call, program_call, cred_refusal, call_by_cred, answer_to, answer_by, plain_answer}
 use Rattle.nr_plain.proofs.Changes.{inline_held}
 use Rattle.nr_plain.proofs.Readings.{read_counted}
-use Rattle.nr_plain.proofs.ReplyHeads.{xid_fits}
-use Rattle.nr_plain.proofs.ReplyItems.{Suits, IsSuited, refused_suited, read_suited, readlink_suited}
+use Rattle.nr_plain.proofs.ReplyHeads.{same_answer, xid_fits}
+use Rattle.nr_plain.proofs.ReplyItems.{IsSuited, refused_suited, read_suited, readlink_suited}
 use Rattle.nr_plain.proofs.ReplyLimits.{within_limit}
 use Rattle.nr_plain.proofs.ResultLimits.{path_short, piece_short}
 
@@ -292,9 +290,6 @@ module _ (s : Parameters) (st : State) (m : Moment) (payload : List ℕ) (bytes 
         let q : Plan = auto_offer payload down (inline_plan payload) in
         let kept : Keeps q p = subst (Keeps q) (planned payload up down p e) (auto_keeps payload up q) in
         auto_holds (lists_of stag p) (write_stag stag p) (reply_stag stag p) (ap (write_list (write_stag stag p)) kept.0) (ap (reply_chunk (reply_stag stag p)) kept.1)
-
-same_answer : (a b : Answer) → Some a ≡ Some b → a ≡ b
-same_answer a b e = cc
 
 pub auto_held : (s : Parameters) (st : State) (m : Moment) (payload : List ℕ) (a : Answer) (up down stag : ℕ) (p : Plan) → IsBytes payload → IsSane st.tree → plain_answer s st m payload ≡ Some a → 1024 ≤ down → plan_of payload forms.Auto up down ≡ Ok p
     → answer_of_target (lists_of stag p) down a.reply (target_of (call_of payload)) ≢ None

@@ -1,5 +1,5 @@
 -- The replies of calls that add an entry are short, and every offer holds them.
-use Rattle.std.proofs.Common.{◌≡◌, ◌≢◌, ℕ, ◌+◌, ◌*◌, ◌≤◌, Bool, true, false, cond, eqb, leb, List, [], ◌∷◌, ◌++◌, length, drop, Option, None, Some, Result, Ok, Err, refl, ap, sym, ◌∙◌, subst, arith}
+use Rattle.std.proofs.Common.{◌≡◌, ◌≢◌, ℕ, ◌+◌, ◌*◌, ◌≤◌, Bool, true, false, cond, eqb, List, [], ◌∷◌, length, drop, Option, None, Some, Result, Ok, Err, refl, ap, sym, ◌∙◌, subst, arith}
 use Rattle.std.specs.Prelude.{sum_by, ◌&&◌}
 use Rattle.std.proofs.lemmas.Bool.{le-leb}
 use Rattle.std.proofs.lemmas.List.Sums.{sum_by-cons}
@@ -16,25 +16,19 @@ use Rattle.nr_rpc.specs.declared.head.ReplyHead.TheVariants as replies
 use Rattle.nr_nfs_base.specs.Codec.{read_all}
 use Rattle.nr_nfs_base.specs.Procedures.{nfs_procedure_number, nfs_procedures}
 use Rattle.nr_nfs_base.specs.WeakCache.{wcc_data_codec}
-use Rattle.nr_nfs_base.specs.declared.caller.Caller.{Caller}
 use Rattle.nr_nfs_base.specs.declared.procedure.NfsProcedure.{NfsProcedure}
 use Rattle.nr_nfs_base.specs.declared.procedure.NfsProcedure.TheVariants as nfs
-use Rattle.nr_nfs_base.specs.declared.time.Time.{Time}
 use Rattle.nr_nfs_args.specs.Arguments.{NfsArguments, nfs_arguments_codec}
 use Rattle.nr_nfs_res.specs.Bytes.{write_ok_codec}
 use Rattle.nr_nfs_res.specs.Remove.{link_wcc_codec, rename_wcc_codec}
 use Rattle.nr_nfs_res.specs.Results.{nfs_results_codec}
-use Rattle.nr_reduce.specs.Chunks.{chunk_total}
-use Rattle.nr_reduce.specs.Holds.{Parts, parts_by, parts_in, answer_size, fits_reply, answer_with, answer_for, Answer as SentAnswer}
-use Rattle.nr_reduce.specs.Items.{if_ends, item_of, item_at, before_read, before_target, result_item, results_item, results_of, reply_item, reducible_item, from_place, is_nfs}
+use Rattle.nr_reduce.specs.Holds.{Parts, parts_by, parts_in, answer_size, fits_reply, answer_with, answer_for}
+use Rattle.nr_reduce.specs.Items.{if_ends, item_at, before_read, before_target, results_item, results_of, reply_item, reducible_item, from_place, is_nfs}
 use Rattle.nr_reduce.specs.Server.{answer_of_target}
-use Rattle.nr_reduce.specs.declared.item.Item.{Item}
 use Rattle.nr_reduce.specs.declared.item.Of.TheVariants.{Reply}
 use Rattle.nr_reduce.specs.declared.mark.Entry.{Entry}
 use Rattle.nr_reduce.specs.declared.mark.Moment.{Moment}
 use Rattle.nr_tree.specs.Rules.{first}
-use Rattle.nr_tree.specs.Tree.{Tree}
-use Rattle.nr_tree.specs.declared.rules.Space.{Space}
 use Rattle.nr_ops_file.specs.Attributes.{setattr_reply}
 use Rattle.nr_ops_file.specs.Bytes.{write_reply}
 use Rattle.nr_ops_dir.specs.Create.{create_rules, create_tree}
@@ -43,10 +37,11 @@ use Rattle.nr_ops_dir.specs.Links.{link_reply}
 use Rattle.nr_ops_dir.specs.Removal.{remove_reply, rmdir_reply}
 use Rattle.nr_ops_dir.specs.Renaming.{rename_reply}
 use Rattle.nr_plain.specs.Setup.{Parameters, State, caller_of, time_of, space_of}
-use Rattle.nr_plain.specs.Programs.{nfs_results, is_change}
+use Rattle.nr_plain.specs.Programs.{nfs_results}
 use Rattle.nr_plain.specs.Journal.{nfs_procedure_of}
 use Rattle.nr_plain.specs.Replies.{Answer, refusal, accepted, nfs_by_arguments, nfs_by_procedure, nfs_call, mount_call, program_call, cred_refusal, call_by_cred, answer_to, answer_by, plain_answer}
 use Rattle.nr_plain.proofs.Lengths.{union_fits, write_size, rename_size, link_size}
+use Rattle.nr_plain.proofs.ReplyHeads.{either, same_answer}
 use Rattle.nr_plain.proofs.ReplyLimits.{results_size, numbered}
 use Rattle.nr_plain.proofs.ResultLimits.{wcc_part, make_fits}
 use Rattle.nr_plain.proofs.Serving.{mount-none}
@@ -103,10 +98,6 @@ IsChange proc a = a.entries ≢ [] → (length a.reply ≤ 304) × Plain proc
 
 none_added : (proc : ℕ) (a : Answer) → a.entries ≡ [] → IsChange proc a
 none_added proc a none some = absurd (some none)
-
-either : (P : Answer → Type 0) (b : Bool) (x y : Answer) → P x → P y → P (cond b x y)
-either P true x y p q = p
-either P false x y p q = q
 
 module _ (s : Parameters) (st : State) (xid : ℕ) (e : Entry) where
   abbrev Done : (p : NfsProcedure) → NfsArguments p → Type 0
@@ -178,9 +169,6 @@ answer_held s st m payload (calls.Version2 xid prog vers proc cred args_at) some
     let h : (length (answer_to s st m payload (calls.Version2 xid prog vers proc cred args_at)).reply ≤ 304) × Plain proc = cred_change s st xid e cred (program_call s st xid prog vers e) (program_change s st xid e prog vers) some in
     (h.0, λ offer down within room. short_held offer down prog vers proc (answer_to s st m payload (calls.Version2 xid prog vers proc cred args_at)).reply within room h.0 h.1)
 answer_held s st m payload (calls.Other xid rpcvers) some = absurd (some refl)
-
-same_answer : (a b : Answer) → Some a ≡ Some b → a ≡ b
-same_answer a b e = cc
 
 held : (s : Parameters) (st : State) (m : Moment) (payload : List ℕ) (a : Answer) (r : Result CallHead ℕ) → answer_by s st m payload r ≡ Some a → IsHeld payload r a
 held s st m payload a (Ok head) found = subst (IsHeld payload (Ok head)) (same_answer (answer_to s st m payload head) a found) (answer_held s st m payload head)

@@ -1,8 +1,8 @@
 -- What was encoded is read, also of numbers that don't fit: other numbers are read of them then.
-use Rattle.std.proofs.Common.{◌≡◌, ℕ, ◌+◌, ◌<◌, ◌^◌, Bool, true, false, cond, eqb, ltb, List, [], ◌∷◌, ◌++◌, length, drop, take, Option, None, Some, is_some, Result, Ok, Err, refl, sym, ap, subst, ◌∙◌, append_assoc, arith}
+use Rattle.std.proofs.Common.{◌≡◌, ℕ, ◌+◌, ◌<◌, ◌^◌, Bool, true, false, cond, eqb, ltb, List, [], ◌∷◌, ◌++◌, length, drop, take, Option, None, Some, Result, Ok, Err, refl, sym, ap, ◌∙◌, append_assoc, arith}
 use Rattle.std.proofs.lemmas.Bool.{le-ltb}
 use Rattle.std.proofs.lemmas.List.{append-nil, length-append, drop_at}
-use Rattle.nr_xdr.specs.Item.{Item, Fits, encoding, word, hyper, word_of, hyper_of}
+use Rattle.nr_xdr.specs.Item.{Item, Fits, encoding, word_of, hyper_of}
 use Rattle.nr_xdr.specs.Item.Item.{Unsigned, Hyper, Boolean}
 use Rattle.nr_xdr.specs.Items.{encodings}
 use Rattle.nr_xdr.specs.declared.fault.ItemFault.TheVariants.{Short}
@@ -10,9 +10,8 @@ use Rattle.nr_xdr.specs.Reading.{Cursor, Takes, unsigned_at, hyper_at, cursor_pa
 use Rattle.nr_xdr.specs.Sequencing.{◌>>=◌, or_place}
 use Rattle.nr_xdr.proofs.Chains.{standing, encoding_reads}
 use Rattle.nr_xdr.proofs.SequencingSteps.{number_again, boolean_placed}
-use Rattle.nr_xdr.proofs.WordBytes.{length-word, length-hyper}
 use Rattle.nr_nfs_base.specs.Attributes.{attributes_codec, special_data_codec}
-use Rattle.nr_nfs_base.specs.Codec.{Codec, ◌⊗◌, structure, optional, enumeration, value_with_number, value_or_fault, boolean, value_items, value_read, word as word_codec, hyper as hyper_codec}
+use Rattle.nr_nfs_base.specs.Codec.{Codec, ◌⊗◌, structure, optional, enumeration, value_with_number, value_or_fault, boolean, value_read, word as word_codec, hyper as hyper_codec}
 use Rattle.nr_nfs_base.specs.Fronts.{success, success_number, successes, each_success, success_codec, read_ok_front, read_res_front, readlink_res_front}
 use Rattle.nr_nfs_base.specs.Laws.{done}
 use Rattle.nr_nfs_base.specs.FileType.{file_type_codec, file_type_number, file_types, each_file_type}

@@ -1,13 +1,10 @@
 -- How many bytes the parts of results have.
-use Rattle.std.proofs.Common.{◌≡◌, ℕ, ◌+◌, ◌≤◌, List, [], ◌∷◌, ◌++◌, length, Option, None, Some, refl, subst, sym, arith}
-use Rattle.nr_xdr.specs.Item.{Item, pad_len, hyper}
-use Rattle.nr_xdr.specs.Item.Item.{Opaque}
+use Rattle.std.proofs.Common.{◌≡◌, ℕ, ◌+◌, ◌≤◌, List, [], ◌∷◌, ◌++◌, length, Option, None, Some, refl, arith}
+use Rattle.nr_xdr.specs.Item.{pad_len, hyper}
 use Rattle.nr_xdr.specs.Items.{encodings}
 use Rattle.nr_xdr.proofs.WordBytes.{length-hyper}
-use Rattle.nr_nfs_base.specs.Codec.{Codec, optional, enumeration, void, array, word as word_codec, hyper as hyper_codec, boolean, opaque}
+use Rattle.nr_nfs_base.specs.Codec.{Codec, optional, enumeration, array, word as word_codec, hyper as hyper_codec, boolean, opaque}
 use Rattle.nr_nfs_base.specs.Attributes.{attributes_codec}
-use Rattle.nr_nfs_base.specs.FileType.{file_type_codec}
-use Rattle.nr_nfs_base.specs.MountStatus.{mount_status_number, mount_statuses}
 use Rattle.nr_nfs_base.specs.Names.{handle_codec, text_codec}
 use Rattle.nr_nfs_base.specs.Stable.{stable_how_codec}
 use Rattle.nr_nfs_base.specs.StatusUnion.{status_union_codec}
@@ -43,7 +40,7 @@ use Rattle.nr_nfs_res.specs.declared.mount.MountOk.{MountOk}
 use Rattle.nr_nfs_res.specs.declared.remove.LinkWcc.{LinkWcc}
 use Rattle.nr_nfs_res.specs.declared.remove.RenameWcc.{RenameWcc}
 use Rattle.nr_tree.specs.Rules.{answer, handle_of}
-use Rattle.nr_ops_dir.proofs.Sizes.{item_size, items_size, items_size-append, length-encodings, attributes_size}
+use Rattle.nr_ops_dir.proofs.Sizes.{items_size, items_size-append, length-encodings, attributes_size}
 use Rattle.nr_plain.specs.ReplySizes.{HandleFits}
 
 -- ===== attributes and handles

@@ -1,12 +1,12 @@
 -- Arguments that are read whole: also at another place, and so is the count behind the fields before it.
-use Rattle.std.proofs.Common.{◌≡◌, ℕ, ◌+◌, List, [], ◌++◌, length, Option, None, Some, Result, Ok, Err, refl, sym, ap, ◌∙◌, subst}
+use Rattle.std.proofs.Common.{◌≡◌, ℕ, ◌+◌, List, [], length, Some, Result, Ok, refl, sym, ap, ◌∙◌}
 use Rattle.std.proofs.lemmas.List.{append-nil}
 use Rattle.nr_xdr.specs.Item.{IsBytes}
 use Rattle.nr_xdr.specs.Reading.{Cursor, unsigned_at}
 use Rattle.nr_xdr.specs.Sequencing.{◌>>=◌, or_place, number_at}
 use Rattle.nr_xdr.proofs.Chains.{standing, each_takes}
 use Rattle.nr_nfs_base.specs.Codec.{Codec, Lawful, ReadsAs, read_all, ◌⊗◌, word}
-use Rattle.nr_nfs_base.specs.Laws.{done, ok_is, bind_ok}
+use Rattle.nr_nfs_base.specs.Laws.{ok_is, bind_ok}
 use Rattle.nr_nfs_base.specs.Fronts.{read_args_front, readdir_args_front, readdirplus_args_front}
 use Rattle.nr_nfs_base.proofs.ReadingAll.{found_all}
 use Rattle.nr_nfs_args.specs.Bytes.{read_args_codec, read_args_lawful}

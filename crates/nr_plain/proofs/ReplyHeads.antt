@@ -43,7 +43,7 @@ written head results can fits = ap xid_of_reply (reply_written head results can 
 abbrev Begins : ℕ → Answer → Type 0
 Begins xid a = xid_of_reply (reply_of a.reply) ≡ Some xid
 
-either : (P : Answer → Type 0) (b : Bool) (x y : Answer) → P x → P y → P (cond b x y)
+pub either : (P : Answer → Type 0) (b : Bool) (x y : Answer) → P x → P y → P (cond b x y)
 either P true x y p q = p
 either P false x y p q = q
 
@@ -123,7 +123,7 @@ answer_begins s st m payload (calls.Version2 xid prog vers proc cred args_at) fi
     by_cred xid fits cred (program_call s st xid prog vers e) (program_begins xid fits s st e prog vers)
 answer_begins s st m payload (calls.Other xid rpcvers) fits = written (replies.RpcMismatch xid 2 2) [] tt (fits, omega arith, omega arith)
 
-same_answer : (a b : Answer) → Some a ≡ Some b → a ≡ b
+pub same_answer : (a b : Answer) → Some a ≡ Some b → a ≡ b
 same_answer a b e = cc
 
 pub begins_with_xid : (s : Parameters) (st : State) (m : Moment) (payload : List ℕ) (a : Answer) → IsBytes payload → plain_answer s st m payload ≡ Some a → xid_of_reply (reply_of a.reply) ≡ xid_of_call (call_of payload)

@@ -1,12 +1,11 @@
 -- The items of replies to READ and to READLINK: what stands before them is short, and so are they.
-use Rattle.std.proofs.Common.{◌≡◌, ℕ, zero, suc, ◌+◌, ◌≤◌, ◌<◌, ◌^◌, Bool, true, false, cond, eqb, List, [], ◌∷◌, ◌++◌, length, drop, min, replicate, Option, None, Some, Result, Ok, Err, refl, ap, sym, ◌∙◌, subst, append_assoc, arith}
+use Rattle.std.proofs.Common.{◌≡◌, ℕ, zero, suc, ◌+◌, ◌≤◌, ◌<◌, ◌^◌, Bool, true, false, cond, eqb, List, [], ◌∷◌, ◌++◌, length, drop, replicate, Option, None, Some, Result, Ok, refl, ap, sym, ◌∙◌, subst, append_assoc, arith}
 use Rattle.std.specs.Prelude.{◌&&◌}
 use Rattle.std.specs.List.{list_all}
-use Rattle.std.proofs.Math.Nat.{min-le_right}
 use Rattle.std.proofs.Math.Seq.{drop-append_seam}
 use Rattle.std.proofs.lemmas.Bool.{eq-eqb}
 use Rattle.std.proofs.lemmas.List.{append-nil, drop_at, length-append, length-replicate}
-use Rattle.nr_xdr.specs.Item.{Item as XdrItem, IsBytes, encoding, word, pad_len}
+use Rattle.nr_xdr.specs.Item.{Item as XdrItem, word, pad_len}
 use Rattle.nr_xdr.specs.Item.Item.{Unsigned, Opaque}
 use Rattle.nr_xdr.specs.Items.{encodings}
 use Rattle.nr_xdr.specs.Reading.{Cursor}
@@ -14,21 +13,16 @@ use Rattle.nr_xdr.specs.Sequencing.{◌>>=◌, number_at}
 use Rattle.nr_xdr.proofs.Chains.{standing, encoding_reads}
 use Rattle.nr_xdr.proofs.SequencingSteps.{number_again}
 use Rattle.nr_xdr.proofs.WordBytes.{length-word}
-use Rattle.nr_rpc.specs.Reading.{reply_of}
 use Rattle.nr_rpc.specs.Reply.{CanWriteReply, ReplyFits, reply_head, reply_encoding, reply_again}
-use Rattle.nr_rpc.specs.declared.cred.Cred.{Cred}
-use Rattle.nr_rpc.specs.declared.cred.Cred.TheVariants as creds
 use Rattle.nr_rpc.specs.declared.head.ReplyHead.{ReplyHead}
-use Rattle.nr_rpc.specs.declared.head.ReplyHead.TheVariants as replies
 use Rattle.nr_rpc.proofs.Replies.{reply_written}
 use Rattle.nr_nfs_base.specs.Attributes.{attributes_codec}
-use Rattle.nr_nfs_base.specs.Codec.{Codec, ◌⊗◌, optional, enumeration, boolean, opaque, read_all, word as word_codec}
+use Rattle.nr_nfs_base.specs.Codec.{Codec, optional, enumeration, boolean, opaque, word as word_codec}
 use Rattle.nr_nfs_base.specs.Fronts.{success, success_codec, read_ok_front, readlink_ok_front, read_res_front, readlink_res_front}
 use Rattle.nr_nfs_base.specs.Status.{status_number, status_not_ok}
 use Rattle.nr_nfs_base.specs.StatusUnion.{status_union_codec}
 use Rattle.nr_nfs_base.specs.declared.attributes.Attributes.{Attributes}
 use Rattle.nr_nfs_base.specs.declared.fronts.Success.{Success}
-use Rattle.nr_nfs_base.specs.declared.procedure.NfsProcedure.TheVariants as nfs
 use Rattle.nr_nfs_base.specs.declared.status.Status.{Status}
 use Rattle.nr_nfs_base.specs.declared.status.Status.TheVariants.{Perm, Noent, Io, Nxio, Acces, Exist, Xdev, Nodev, Notdir, Isdir, Inval, Fbig, Nospc, Rofs, Mlink, Nametoolong, Notempty, Dquot, Stale, Remote, Badhandle, NotSync, BadCookie, Notsupp, Toosmall, Serverfault, Badtype, Jukebox}
 use Rattle.nr_nfs_base.specs.declared.status_union.StatusUnion.{StatusUnion}
@@ -41,7 +35,6 @@ use Rattle.nr_nfs_res.specs.declared.lookup.ReadlinkOk.{ReadlinkOk}
 use Rattle.nr_reduce.specs.Items.{item_by, item_at, before_read, before_target, result_item, results_item, results_of, reply_item, reducible_item, from_place, if_ends, ends_with_item}
 use Rattle.nr_reduce.specs.declared.item.Item.{Item}
 use Rattle.nr_reduce.specs.declared.item.Of.TheVariants.{Reply}
-use Rattle.nr_tree.specs.Rules.{answer}
 use Rattle.nr_ops_dir.proofs.Sizes.{items_size, items_size-append, length-encodings}
 use Rattle.nr_plain.specs.Replies.{refusal, accepted}
 use Rattle.nr_plain.proofs.FrontReads.{Readable, encodings-append, read_front_readable, readlink_front_readable, failure_unread}

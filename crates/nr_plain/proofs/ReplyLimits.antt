@@ -1,8 +1,7 @@
 -- Each reply is within the limit of its call.
-use Rattle.std.proofs.Common.{◌≡◌, ℕ, ◌+◌, ◌≤◌, Bool, true, false, cond, eqb, List, [], ◌∷◌, ◌++◌, length, drop, Option, None, Some, Result, Ok, Err, refl, ap, sym, ◌∙◌, subst, arith}
-use Rattle.std.specs.Prelude.{max, find, option_map, unwrap_or, nat_eq, ◌&&◌}
+use Rattle.std.proofs.Common.{◌≡◌, ℕ, ◌+◌, ◌≤◌, Bool, true, false, cond, eqb, List, [], ◌∷◌, length, drop, Option, None, Some, Result, Ok, Err, refl, ap, sym, ◌∙◌, subst, arith}
+use Rattle.std.specs.Prelude.{find, option_map, unwrap_or, nat_eq, ◌&&◌}
 use Rattle.std.specs.Cmp.Lexicographic.{pointwise}
-use Rattle.std.proofs.Math.Nat.{le-max_left}
 use Rattle.std.proofs.lemmas.Bool.{eqb-true}
 use Rattle.std.proofs.lemmas.List.{length-append}
 use Rattle.nr_xdr.specs.Item.{IsBytes, word, pad_len}
@@ -16,7 +15,6 @@ use Rattle.nr_rpc.specs.declared.cred.Cred.{Cred}
 use Rattle.nr_rpc.specs.declared.cred.Cred.TheVariants as creds
 use Rattle.nr_rpc.specs.declared.head.CallHead.{CallHead}
 use Rattle.nr_rpc.specs.declared.head.CallHead.TheVariants as calls
-use Rattle.nr_rpc.specs.declared.head.CallTarget.{CallTarget}
 use Rattle.nr_rpc.specs.declared.head.ReplyHead.{ReplyHead}
 use Rattle.nr_rpc.specs.declared.head.ReplyHead.TheVariants as replies
 use Rattle.nr_nfs_base.specs.Codec.{read_all, value_with_number}
@@ -28,7 +26,7 @@ use Rattle.nr_nfs_args.specs.Arguments.{NfsArguments, MountArguments, nfs_argume
 use Rattle.nr_nfs_res.specs.Mount.{umnt_res_codec, umntall_res_codec}
 use Rattle.nr_nfs_res.specs.Null.{null_res_codec}
 use Rattle.nr_nfs_res.specs.Results.{nfs_results_codec, mount_results_codec}
-use Rattle.nr_reduce.specs.Largest.{padded_length, read_reply_max, readdir_reply_max, by_count, read_count, readdir_count, readdirplus_count, reply_limits, limit_of, nfs_reply_max, program_reply_max, target_reply_max, largest_reply}
+use Rattle.nr_reduce.specs.Largest.{read_reply_max, readdir_reply_max, by_count, read_count, readdir_count, readdirplus_count, reply_limits, limit_of, nfs_reply_max, program_reply_max, target_reply_max, largest_reply}
 use Rattle.nr_reduce.specs.declared.mark.Entry.{Entry}
 use Rattle.nr_reduce.specs.declared.mark.Moment.{Moment}
 use Rattle.nr_tree.specs.Sane.{IsSane}
@@ -36,6 +34,7 @@ use Rattle.nr_plain.specs.Setup.{Parameters, State, caller_of, time_of, space_of
 use Rattle.nr_plain.specs.Programs.{nfs_results, mount_results}
 use Rattle.nr_plain.specs.Journal.{nfs_procedure_of}
 use Rattle.nr_plain.specs.Replies.{Answer, refusal, accepted, nfs_by_arguments, nfs_by_procedure, mount_by_arguments, mount_by_procedure, mount_procedure_of, nfs_call, mount_call, program_call, cred_refusal, call_by_cred, answer_to, answer_by, plain_answer}
+use Rattle.nr_plain.proofs.ReplyHeads.{same_answer}
 use Rattle.nr_plain.proofs.ResultLimits.{results_within, mnt_fits}
 
 -- ===== the least limit
@@ -111,9 +110,9 @@ numbered number (x ∷ xs) n v e = numbered_by number x v n (value_with_number n
 abbrev Short : ℕ → Answer → Type 0
 Short n a = length a.reply ≤ n
 
-either : (P : Answer → Type 0) (b : Bool) (x y : Answer) → (b ≡ true → P x) → P y → P (cond b x y)
-either P true x y p q = p refl
-either P false x y p q = q
+where_true : (P : Answer → Type 0) (b : Bool) (x y : Answer) → (b ≡ true → P x) → P y → P (cond b x y)
+where_true P true x y p q = p refl
+where_true P false x y p q = q
 
 mount_empty : (s : Parameters) (p : MountProcedure) (a : MountArguments p) (c : Cursor) → 24 + length (encodings ((mount_results_codec p).items (mount_results s.export p a))) ≤ program_reply_max 100005 3 (mount_procedure_number p) c
 unfolding null_res_codec umnt_res_codec umntall_res_codec
@@ -157,23 +156,23 @@ module _ (s : Parameters) (st : State) (sane : IsSane st.tree) (xid place : ℕ)
   nfs_short : (vers : ℕ) → Short (program_reply_max 100003 vers e.proc c) (nfs_call s st xid vers e)
   unfolding nfs_call
   nfs_short vers =
-      either (Short (program_reply_max 100003 vers e.proc c)) (eqb vers 3) (nfs_by_procedure s st xid e (nfs_procedure_of e.proc)) (refusal (replies.ProgMismatch xid 3 3))
+      where_true (Short (program_reply_max 100003 vers e.proc c)) (eqb vers 3) (nfs_by_procedure s st xid e (nfs_procedure_of e.proc)) (refusal (replies.ProgMismatch xid 3 3))
       (λ is. subst (λ (n : ℕ). Short (program_reply_max 100003 n e.proc c) (nfs_by_procedure s st xid e (nfs_procedure_of e.proc))) (sym (eqb-true vers 3 is)) (nfs_found e.proc (nfs_procedure_of e.proc) refl))
       (refused 100003 vers e.proc (replies.ProgMismatch xid 3 3))
 
   mount_short : (vers : ℕ) → Short (program_reply_max 100005 vers e.proc c) (mount_call s xid vers e)
   unfolding mount_call
   mount_short vers =
-      either (Short (program_reply_max 100005 vers e.proc c)) (eqb vers 3) (mount_by_procedure s xid e.args (mount_procedure_of e.proc)) (refusal (replies.ProgMismatch xid 3 3))
+      where_true (Short (program_reply_max 100005 vers e.proc c)) (eqb vers 3) (mount_by_procedure s xid e.args (mount_procedure_of e.proc)) (refusal (replies.ProgMismatch xid 3 3))
       (λ is. subst (λ (n : ℕ). Short (program_reply_max 100005 n e.proc c) (mount_by_procedure s xid e.args (mount_procedure_of e.proc))) (sym (eqb-true vers 3 is)) (mount_found e.proc (mount_procedure_of e.proc) refl))
       (refused 100005 vers e.proc (replies.ProgMismatch xid 3 3))
 
   program_short : (prog vers : ℕ) → Short (program_reply_max prog vers e.proc c) (program_call s st xid prog vers e)
   program_short prog vers =
       let P : Answer → Type 0 = Short (program_reply_max prog vers e.proc c) in
-      either P (eqb prog 100003) (nfs_call s st xid vers e) (cond (eqb prog 100005) (mount_call s xid vers e) (refusal (accepted xid 1)))
+      where_true P (eqb prog 100003) (nfs_call s st xid vers e) (cond (eqb prog 100005) (mount_call s xid vers e) (refusal (accepted xid 1)))
       (λ is. subst (λ (n : ℕ). Short (program_reply_max n vers e.proc c) (nfs_call s st xid vers e)) (sym (eqb-true prog 100003 is)) (nfs_short vers))
-      (either P (eqb prog 100005) (mount_call s xid vers e) (refusal (accepted xid 1))
+      (where_true P (eqb prog 100005) (mount_call s xid vers e) (refusal (accepted xid 1))
       (λ is. subst (λ (n : ℕ). Short (program_reply_max n vers e.proc c) (mount_call s xid vers e)) (sym (eqb-true prog 100005 is)) (mount_short vers))
       (refused prog vers e.proc (accepted xid 1)))
 
@@ -190,9 +189,6 @@ answer_short s st m payload (calls.Version2 xid prog vers proc cred args_at) byt
     let fits : IsBytes (drop args_at payload) = IsBytes-drop args_at payload bytes in
     cred_short s st sane xid args_at e fits prog vers cred (program_call s st xid prog vers e) (program_short s st sane xid args_at e fits prog vers)
 answer_short s st m payload (calls.Other xid rpcvers) bytes sane = refusal_size (replies.RpcMismatch xid 2 2)
-
-same_answer : (a b : Answer) → Some a ≡ Some b → a ≡ b
-same_answer a b e = cc
 
 pub within_limit : (s : Parameters) (st : State) (m : Moment) (payload : List ℕ) (a : Answer) → IsBytes payload → IsSane st.tree → plain_answer s st m payload ≡ Some a → length a.reply ≤ largest_reply payload
 unfolding largest_reply

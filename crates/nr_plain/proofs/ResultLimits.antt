@@ -1,5 +1,5 @@
 -- The results of each procedure are within the limit of its replies.
-use Rattle.std.proofs.Common.{◌≡◌, ℕ, ◌+◌, ◌≤◌, Bool, true, false, cond, not, leb, List, [], ◌∷◌, ◌++◌, length, take, drop, min, Option, None, Some, Result, Ok, Err, refl, ap, sym, ◌∙◌, subst, arith}
+use Rattle.std.proofs.Common.{◌≡◌, ℕ, ◌+◌, ◌≤◌, Bool, true, false, cond, not, List, [], ◌∷◌, ◌++◌, length, drop, min, Option, None, Some, Ok, refl, ap, sym, ◌∙◌, subst, arith}
 use Rattle.std.specs.Prelude.{max, ◌&&◌, unwrap_or}
 use Rattle.std.specs.Option.{option_map, option_map_or}
 use Rattle.std.proofs.Math.Nat.{min-le_left, le-max_left, le-max_right}
@@ -7,16 +7,13 @@ use Rattle.std.proofs.lemmas.List.{length-take}
 use Rattle.std.proofs.lemmas.Bool.{leb-true}
 use Rattle.nr_xdr.specs.Item.{IsBytes, pad_len}
 use Rattle.nr_xdr.specs.Items.{encodings}
-use Rattle.nr_xdr.specs.Reading.{Cursor}
 use Rattle.nr_xdr.proofs.Chains.{standing}
-use Rattle.nr_nfs_base.specs.Codec.{Codec, optional, void, read_all}
+use Rattle.nr_nfs_base.specs.Codec.{optional, void, read_all}
 use Rattle.nr_nfs_base.specs.Attributes.{attributes_codec}
-use Rattle.nr_nfs_base.specs.Procedures.{nfs_procedure_number, mount_procedure_number}
+use Rattle.nr_nfs_base.specs.Procedures.{nfs_procedure_number}
 use Rattle.nr_nfs_base.specs.WeakCache.{wcc_data_codec}
 use Rattle.nr_nfs_base.specs.declared.attributes.Attributes.{Attributes}
 use Rattle.nr_nfs_base.specs.declared.caller.Caller.{Caller}
-use Rattle.nr_nfs_base.specs.declared.procedure.MountProcedure.{MountProcedure}
-use Rattle.nr_nfs_base.specs.declared.procedure.MountProcedure.TheVariants as mount
 use Rattle.nr_nfs_base.specs.declared.procedure.NfsProcedure.{NfsProcedure}
 use Rattle.nr_nfs_base.specs.declared.procedure.NfsProcedure.TheVariants as nfs
 use Rattle.nr_nfs_base.specs.declared.status.Status.{Status}
@@ -26,7 +23,7 @@ use Rattle.nr_nfs_base.specs.declared.status_union.StatusUnion.{StatusUnion}
 use Rattle.nr_nfs_base.specs.declared.status_union.StatusUnion.TheVariants.{Done, Failed}
 use Rattle.nr_nfs_base.specs.declared.time.Time.{Time}
 use Rattle.nr_nfs_base.specs.declared.weak_cache.WccData.{WccData}
-use Rattle.nr_nfs_args.specs.Arguments.{NfsArguments, MountArguments, nfs_arguments_codec}
+use Rattle.nr_nfs_args.specs.Arguments.{NfsArguments, nfs_arguments_codec}
 use Rattle.nr_nfs_args.specs.declared.bytes.ReadArgs.{ReadArgs}
 use Rattle.nr_nfs_args.specs.declared.lookup.ReadlinkArgs.{ReadlinkArgs}
 use Rattle.nr_nfs_args.specs.declared.readdir.ReaddirArgs.{ReaddirArgs}
@@ -36,19 +33,17 @@ use Rattle.nr_nfs_res.specs.Bytes.{commit_ok_codec, read_ok_codec, write_ok_code
 use Rattle.nr_nfs_res.specs.Create.{create_ok_codec}
 use Rattle.nr_nfs_res.specs.FileSystem.{fsinfo_ok_codec, fsstat_ok_codec, pathconf_ok_codec}
 use Rattle.nr_nfs_res.specs.Lookup.{lookup_ok_codec, readlink_ok_codec}
-use Rattle.nr_nfs_res.specs.Mount.{mount_ok_codec, umnt_res_codec, umntall_res_codec}
 use Rattle.nr_nfs_res.specs.Null.{null_res_codec}
 use Rattle.nr_nfs_res.specs.Readdir.{readdir_ok_codec, readdirplus_ok_codec}
 use Rattle.nr_nfs_res.specs.Remove.{link_wcc_codec, rename_wcc_codec}
-use Rattle.nr_nfs_res.specs.Results.{getattr_res_codec, nfs_results_codec, mount_results_codec, mnt_res_codec}
-use Rattle.nr_nfs_res.specs.declared.create.CreateOk.{CreateOk}
+use Rattle.nr_nfs_res.specs.Results.{getattr_res_codec, nfs_results_codec, mnt_res_codec}
 use Rattle.nr_nfs_res.specs.declared.lookup.LookupOk.{LookupOk}
 use Rattle.nr_reduce.specs.Largest.{nfs_reply_max, by_count, read_reply_max, readdir_reply_max, limit_of, read_count, readdir_count, readdirplus_count}
 use Rattle.nr_tree.specs.Entries.{Entry}
-use Rattle.nr_tree.specs.Replies.{attributes_at, wcc_data}
-use Rattle.nr_tree.specs.Rules.{answer, first, on, ◌⇒◌, handle_rule, handle_of, node_of_handle, number_of_handle}
+use Rattle.nr_tree.specs.Replies.{attributes_at}
+use Rattle.nr_tree.specs.Rules.{answer, first, handle_of, node_of_handle, number_of_handle}
 use Rattle.nr_tree.specs.Sane.{IsSane, IsFitContent}
-use Rattle.nr_tree.specs.Tree.{Tree, bytes_of, is_dir}
+use Rattle.nr_tree.specs.Tree.{Tree, bytes_of}
 use Rattle.nr_tree.specs.declared.node.Node.{Node}
 use Rattle.nr_tree.specs.declared.node.Content.{Content}
 use Rattle.nr_tree.specs.declared.node.Content.TheVariants.{Regular, Directory, Block, Character, Link, Socket, Fifo}
@@ -63,12 +58,12 @@ use Rattle.nr_ops_dir.specs.Create.{create_rules, create_tree}
 use Rattle.nr_ops_dir.specs.Entries.{number_of_entry}
 use Rattle.nr_ops_dir.specs.Links.{link_reply}
 use Rattle.nr_ops_dir.specs.Lookup.{lookup_rules, lookup_ok, found_by}
-use Rattle.nr_ops_dir.specs.Readdir.{longest, goes_on, room_rules, listing_rules, readdir_ok, readdir_fits, readdir_left, readdir_taken, readdir_in, readdir_rules, readdirplus_ok, readdirplus_fits, readdirplus_left, readdirplus_taken, readdirplus_in, readdirplus_rules}
+use Rattle.nr_ops_dir.specs.Readdir.{longest, room_rules, readdir_ok, readdir_fits, readdir_left, readdir_taken, readdir_in, readdir_rules, readdirplus_ok, readdirplus_fits, readdirplus_left, readdirplus_taken, readdirplus_in, readdirplus_rules}
 use Rattle.nr_ops_dir.specs.Removal.{remove_reply, rmdir_reply}
 use Rattle.nr_ops_dir.specs.Renaming.{rename_reply}
 use Rattle.nr_ops_dir.proofs.Sizes.{items_size, length-encodings, attributes_size, readdir_size, readdirplus_size}
 use Rattle.nr_plain.specs.ReplySizes.{HandleFits}
-use Rattle.nr_plain.specs.Programs.{nfs_results, mount_results}
+use Rattle.nr_plain.specs.Programs.{nfs_results}
 use Rattle.nr_plain.proofs.Lengths.{some_attributes, wcc_size, padded_rises, length-handle, lookup_size, access_size, readlink_size, read_size, write_size, commit_size, create_size, rename_size, link_size, fsstat_size, fsinfo_size, pathconf_size, mount_size, answer_fits, union_fits, done_size, failed_size, mounted_size, not_mounted_size}
 use Rattle.nr_plain.proofs.Readings.{read_counted, readdir_counted, readdirplus_counted}
 

@@ -38,7 +38,7 @@ abbrev pub ChangesAreShort : Type 0
 ChangesAreShort = (s : Parameters) (st : State) (m : Moment) (payload : List ℕ) (a : Answer) → plain_answer s st m payload ≡ Some a →
     a.entries ≢ [] → length a.reply ≤ most_reply
 
--- So every offer within the limits of a header holds it, where a Send back has at most send_max bytes or more.
+-- So every offer within the limits of a header holds it, where a Send back may have send_max bytes or more.
 abbrev pub ChangesFitEveryOffer : Type 0
 ChangesFitEveryOffer = (s : Parameters) (st : State) (m : Moment) (payload : List ℕ) (a : Answer) (offer : ChunkLists) (down : ℕ) →
     plain_answer s st m payload ≡ Some a → a.entries ≢ [] → ListsWithin offer → send_max ≤ down →
