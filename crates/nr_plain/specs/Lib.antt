@@ -6,3 +6,4 @@ pub mod Code
 pub mod Stands
 pub mod ReplyRoom
 pub mod ReplySizes
+pub mod ReplyLaws

@@ -8,7 +8,9 @@
 //!
 //! `reading.rt` and `changing.rt` have a function for each procedure of NFS, `mount.rt` those of MOUNT, `dispatch.rt` and `server.rt` the
 //! way to them. A procedure that changes the tree first takes the room of its reply (`reply_room.rt`, `put.rt`), so that want of memory leaves
-//! the server as before.
+//! the server as before. The laws say whose a reply is ([`replies_begin_with_the_xid`]), how long it may be
+//! ([`replies_are_within_their_limit`]), and that it can be sent ([`changes_fit_every_offer`],
+//! [`auto_offers_hold_their_replies`]).
 //!
 //! Below stand the procedures (`nr_ops_file`, `nr_ops_dir`), the heads (`nr_rpc`) and the entries of a journal (`nr_reduce`). Above, the
 //! server's connections and the drill hand calls in and send replies.
@@ -20,6 +22,7 @@ mod changing;
 mod dispatch;
 mod encoding;
 mod fault;
+mod laws;
 mod mount;
 mod put;
 mod reading;
@@ -27,4 +30,8 @@ mod reply_room;
 mod server;
 
 pub use fault::Fault;
+pub use laws::{
+    auto_offers_hold_their_replies, changes_fit_every_offer, replies_are_within_their_limit,
+    replies_begin_with_the_xid,
+};
 pub use server::{Reply, Server};

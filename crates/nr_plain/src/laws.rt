@@ -1,0 +1,25 @@
+//! Laws of replies: whose they are, and how long they may be.
+
+ghost use Rattle.nr_plain.specs.ReplyLaws.{RepliesBeginWithTheXid, RepliesAreWithinTheirLimit, ChangesAreShort, ChangesFitEveryOffer, AutoOffersHoldTheirReplies};
+
+/// A reply begins with a reply head whose xid is that of its call (RFC 5531 section 9).
+pub fn replies_begin_with_the_xid()
+    ensures { RepliesBeginWithTheXid }
+{}
+
+/// A reply over a sane tree is at most as long as [`nr_reduce::largest_reply`] says of its call.
+pub fn replies_are_within_their_limit()
+    ensures { RepliesAreWithinTheirLimit }
+{}
+
+/// The reply of a call that adds an entry to the journal is short, so every offer within the limits of a header holds it: no
+/// change is made whose reply can't be sent.
+pub fn changes_fit_every_offer()
+    ensures short { ChangesAreShort }
+    ensures holds { ChangesFitEveryOffer }
+{}
+
+/// A call in the form Auto offers enough: its offer holds its reply over a sane tree, whatever that is.
+pub fn auto_offers_hold_their_replies()
+    ensures { AutoOffersHoldTheirReplies }
+{}
