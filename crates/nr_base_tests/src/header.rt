@@ -1,14 +1,14 @@
 //! Tests of nr_header. Rows are words, worked out by hand from RFC 8166 (sections 3.4 and 4), and the limits of this project.
 
+ghost use Rattle.std.specs.Prelude.{IfOk};
 ghost use Rattle.nr_header.specs.Header.{CanWriteHeader};
+ghost use Rattle.nr_header.specs.WithinLimits.{IsMessage};
 
-use crate::bytes_of;
-use crate::compare::same;
+use crate::compare::{bytes_of, joined, put_words, same};
 use nr_header::*;
 use nr_xdr::Octets;
 use std::alloc::Global;
 use std::process::Abort;
-use std::test::Fail;
 
 /// What is read: a header, or a fault with its number.
 #[derive(Clone, Copy, Debug, PartialEq)]
@@ -21,12 +21,12 @@ enum Read {
 }
 
 fn read_as(bytes: &[u8]) -> Read {
-    match read_header(bytes) {
-        Ok(_) => Read::Header,
-        Err(HeaderFault::Short) => Read::Short,
-        Err(HeaderFault::Version { version }) => Read::Version(version),
-        Err(HeaderFault::Kind { kind }) => Read::Kind(kind),
-        Err(HeaderFault::BadChunks { at }) => Read::BadChunks(at),
+    match read_header(bytes).err() {
+        None => Read::Header,
+        Some(HeaderFault::Short) => Read::Short,
+        Some(HeaderFault::Version { version }) => Read::Version(version),
+        Some(HeaderFault::Kind { kind }) => Read::Kind(kind),
+        Some(HeaderFault::BadChunks { at }) => Read::BadChunks(at),
     }
 }
 
@@ -134,48 +134,43 @@ static MESSAGES: [(&[u32], Read); 46] = [
 ];
 
 #[test]
-fn messages(rt: HostRuntime) -> Result<(), Fail> {
+fn messages(rt: HostRuntime) {
     header_round_trip();
     bad_messages();
     kinds_of_messages();
     for (row, (words, want)) in MESSAGES.iter().enumerate() {
-        let bytes = bytes_of(rt.alloc(), words)?;
+        let bytes = bytes_of(&rt, rt.alloc(), words);
         same(&rt, row, read_as(&bytes), *want);
     }
     same(&rt, 46, read_as(&[0; 15]), Read::Short);
-    Ok(())
 }
 
 /// Puts these words so many times at the end.
-fn put_times(bytes: &mut Vec<u8>, alloc: Global, words: &[u32], times: u32) -> Result<(), Fail> {
-    let once = bytes_of(alloc, words)?;
+fn put_times(rt: &impl Abort, bytes: &mut Vec<u8>, words: &[u32], times: u32) {
     for _ in 0..times {
-        bytes.extend_from_slice(&once)?;
+        put_words(rt, bytes, words);
     }
-    Ok(())
+}
+
+/// A list of so many segments behind a word that says that it is there.
+fn put_chunk(rt: &impl Abort, bytes: &mut Vec<u8>, count: u32) {
+    put_words(rt, bytes, &[1, count]);
+    put_times(rt, bytes, &[1, 1, 0, 0], count);
 }
 
 /// RDMA_MSG with so many read entries, two write chunks of so many segments each, a reply chunk of so many segments, and so
 /// many words of a stream.
-fn message(alloc: Global, counts: [u32; 5]) -> Result<Vec<u8>, Fail> {
+fn message(rt: &impl Abort, alloc: Global, counts: [u32; 5]) -> Vec<u8> {
     let [entries, first, second, reply, stream] = counts;
-    let segment: &[u32] = &[1, 1, 0, 0];
-    let parts: [(&[u32], u32); 9] = [
-        (&[1, 1, 16, 0], 1),
-        (&[1, 4, 1, 1, 0, 0], entries),
-        (&[0, 1, first], 1),
-        (segment, first),
-        (&[1, second], 1),
-        (segment, second),
-        (&[0, 1, reply], 1),
-        (segment, reply),
-        (&[7], stream),
-    ];
-    let mut bytes = Vec::new(alloc);
-    for (words, times) in parts {
-        put_times(&mut bytes, alloc, words, times)?;
-    }
-    Ok(bytes)
+    let mut bytes = bytes_of(rt, alloc, &[1, 1, 16, 0]);
+    put_times(rt, &mut bytes, &[1, 4, 1, 1, 0, 0], entries);
+    put_words(rt, &mut bytes, &[0]);
+    put_chunk(rt, &mut bytes, first);
+    put_chunk(rt, &mut bytes, second);
+    put_words(rt, &mut bytes, &[0]);
+    put_chunk(rt, &mut bytes, reply);
+    put_times(rt, &mut bytes, &[7], stream);
+    bytes
 }
 
 /// The counts of `message`.
@@ -192,12 +187,11 @@ static LIMITS: [([u32; 5], Read); 9] = [
 ];
 
 #[test]
-fn limits(rt: HostRuntime) -> Result<(), Fail> {
+fn limits(rt: HostRuntime) {
     for (row, (counts, want)) in LIMITS.iter().enumerate() {
-        let bytes = message(rt.alloc(), *counts)?;
+        let bytes = message(&rt, rt.alloc(), *counts);
         same(&rt, row, read_as(&bytes), *want);
     }
-    Ok(())
 }
 
 const FIRST: RdmaSegment = RdmaSegment {
@@ -221,96 +215,23 @@ fn entry(position: u32, handle: u32) -> ReadSegment {
     }
 }
 
-static MSG_WORDS: [u32; 41] = [
-    0x0102_0304,
-    1,
-    32,
-    0,
-    1,
-    8,
-    11,
-    12,
-    13,
-    14,
-    1,
-    8,
-    31,
-    12,
-    13,
-    14,
-    0,
-    1,
-    2,
-    21,
-    22,
-    23,
-    24,
-    25,
-    26,
-    MOST,
-    28,
-    1,
-    1,
-    25,
-    26,
-    MOST,
-    28,
-    0,
-    1,
-    1,
-    21,
-    22,
-    23,
-    24,
-    0x6869_686f,
+/// A write list of two chunks and a reply chunk.
+const WRITE_AND_REPLY: [u32; 23] = [
+    1, 2, 21, 22, 23, 24, 25, 26, MOST, 28, 1, 1, 25, 26, MOST, 28, 0, 1, 1, 21, 22, 23, 24,
 ];
 
-static NOMSG_WORDS: [u32; 40] = [
-    0x0102_0304,
-    1,
-    32,
-    1,
-    1,
-    0,
-    11,
-    12,
-    13,
-    14,
-    1,
-    0,
-    31,
-    12,
-    13,
-    14,
-    0,
-    1,
-    2,
-    21,
-    22,
-    23,
-    24,
-    25,
-    26,
-    MOST,
-    28,
-    1,
-    1,
-    25,
-    26,
-    MOST,
-    28,
-    0,
-    1,
-    1,
-    21,
-    22,
-    23,
-    24,
+const MSG_WORDS: [&[u32]; 4] = [
+    &[0x0102_0304, 1, 32, 0],
+    &[1, 8, 11, 12, 13, 14, 1, 8, 31, 12, 13, 14, 0],
+    &WRITE_AND_REPLY,
+    &[0x6869_686f],
 ];
 
-static ERR_VERS_WORDS: [u32; 7] = [0x0102_0304, 7, 32, 4, 1, 2, 5];
-
-static ERR_CHUNK_WORDS: [u32; 5] = [0x0102_0304, 3, 32, 4, 2];
+const NOMSG_WORDS: [&[u32]; 3] = [
+    &[0x0102_0304, 1, 32, 1],
+    &[1, 0, 11, 12, 13, 14, 1, 0, 31, 12, 13, 14, 0],
+    &WRITE_AND_REPLY,
+];
 
 /// The kind; of ERR_VERS the version word, the lowest and the highest version, of ERR_CHUNK the version word; and where the
 /// stream begins.
@@ -323,71 +244,138 @@ fn body_numbers(body: &Body) -> ([u32; 4], usize) {
     }
 }
 
-/// The xid and the credits of the header that the bytes begin with, its body's numbers, and its bytes as they are written.
-fn header_again(alloc: Global, bytes: &[u8]) -> Result<([u32; 2], [u32; 4], usize, Octets), Fail> {
-    let header = read_header(bytes)?;
-    let written = write_header(alloc, &header)?;
-    let (numbers, at) = body_numbers(&header.body);
-    Ok(([header.xid, header.credit], numbers, at, written))
+/// The xid and the credits of a header, and its body's numbers.
+fn header_numbers(header: &Header) -> ([u32; 2], ([u32; 4], usize)) {
+    ([header.xid, header.credit], body_numbers(&header.body))
 }
 
-#[test]
-fn headers_read(rt: HostRuntime) -> Result<(), Fail> {
-    let rows: [(&[u32], ([u32; 4], usize)); 4] = [
-        (&MSG_WORDS, ([0; 4], 160)),
-        (&NOMSG_WORDS, ([1, 0, 0, 0], 0)),
-        (&ERR_VERS_WORDS, ([2, 7, 2, 5], 0)),
-        (&ERR_CHUNK_WORDS, ([3, 3, 0, 0], 0)),
-    ];
-    for (row, (words, want)) in rows.iter().enumerate() {
-        let bytes = bytes_of(rt.alloc(), words)?;
-        let (fixed, numbers, at, again) = header_again(rt.alloc(), &bytes)?;
-        same(&rt, row, fixed, [0x0102_0304, 32]);
-        same(&rt, row, (numbers, at), *want);
-        let front = bytes.get(..again.len());
-        same(&rt, row, Some(again.as_slice()), front);
+fn written(rt: &impl Abort, alloc: Global, header: &Header) -> Octets
+    requires { CanWriteHeader header.now }
+{
+    write_header(alloc, header).expect(rt, "memory")
+}
+
+/// Ends the test where the header doesn't have these numbers, or isn't written as the front of the bytes.
+fn same_header(
+    rt: &impl Abort,
+    alloc: Global,
+    row: usize,
+    header: &Header,
+    bytes: &[u8],
+    want: ([u32; 4], usize),
+)
+    requires { CanWriteHeader header.now }
+{
+    let fixed = [0x0102_0304, 32];
+    same(rt, row, header_numbers(header), (fixed, want));
+    let again = written(rt, alloc, header);
+    let front = bytes.get(..again.len());
+    same(rt, row, Some(again.as_slice()), front);
+}
+
+/// The same of what is read of the bytes.
+fn same_read(
+    rt: &impl Abort,
+    alloc: Global,
+    row: usize,
+    read: &Result<Header, HeaderFault>,
+    bytes: &[u8],
+    want: ([u32; 4], usize),
+)
+    requires { IfOk read.now (λ header. IsMessage header bytes.now) }
+{
+    match read {
+        Ok(header) => same_header(rt, alloc, row, header, bytes, want),
+        Err(_) => panic!(rt; "a header"),
     }
-    Ok(())
+}
+
+/// Reads the header of the bytes, and compares it.
+fn header_again(rt: &impl Abort, alloc: Global, row: usize, bytes: &[u8], want: ([u32; 4], usize)) {
+    let read = read_header(bytes);
+    same_read(rt, alloc, row, &read, bytes, want);
+    drop(read);
+}
+
+static HEADERS: [(&[&[u32]], ([u32; 4], usize)); 4] = [
+    (&MSG_WORDS, ([0; 4], 160)),
+    (&NOMSG_WORDS, ([1, 0, 0, 0], 0)),
+    (&[&[0x0102_0304, 7, 32, 4, 1, 2, 5]], ([2, 7, 2, 5], 0)),
+    (&[&[0x0102_0304, 3, 32, 4, 2]], ([3, 3, 0, 0], 0)),
+];
+
+#[test]
+fn headers_read(rt: HostRuntime) {
+    for (row, (parts, want)) in HEADERS.iter().enumerate() {
+        let bytes = joined(&rt, rt.alloc(), parts);
+        header_again(&rt, rt.alloc(), row, &bytes, *want);
+    }
+}
+
+/// The write chunks of `MSG_WORDS` and of `NOMSG_WORDS`.
+fn same_write(rt: &impl Abort, write: &WriteList) {
+    let both: &[RdmaSegment] = &[FIRST, SECOND];
+    match write.as_slice() {
+        [first, second] => {
+            same(rt, 0, first.as_slice(), both);
+            same(rt, 1, second.as_slice(), &both[1..]);
+        }
+        _ => panic!(rt; "two write chunks"),
+    }
 }
 
 /// The lists of `MSG_WORDS` and of `NOMSG_WORDS`: entries at this position, two write chunks, a reply chunk.
 fn same_lists(rt: &impl Abort, lists: &ChunkLists, position: u32) {
     let entries: &[ReadSegment] = &[entry(position, 11), entry(position, 31)];
-    same(rt, 0, lists.read.as_slice(), entries);
+    same(rt, 2, lists.read.as_slice(), entries);
     let counts = (lists.read.is_empty(), lists.write.len());
-    same(rt, 1, counts, (false, 2));
-    let both: &[RdmaSegment] = &[FIRST, SECOND];
-    if let [first, second] = lists.write.as_slice() {
-        same(rt, 2, first.as_slice(), both);
-        same(rt, 3, second.as_slice(), &both[1..]);
+    same(rt, 3, counts, (false, 2));
+    same_write(rt, &lists.write);
+    match &lists.reply {
+        Some(reply) => same(rt, 4, reply.as_slice(), [FIRST].as_slice()),
+        None => panic!(rt; "a reply chunk"),
     }
-    same(rt, 4, lists.reply.is_some(), true);
-    if let Some(reply) = &lists.reply {
-        same(rt, 5, reply.as_slice(), &both[..1]);
+}
+
+/// The same of the lists of a body.
+fn same_body(rt: &impl Abort, body: &Body) {
+    match body {
+        Body::Msg { lists, .. } => same_lists(rt, lists, 8),
+        Body::Nomsg { lists } => same_lists(rt, lists, 0),
+        _ => panic!(rt; "no lists"),
+    }
+}
+
+/// The same of the header that is read.
+fn lists_in(rt: &impl Abort, read: &Result<Header, HeaderFault>) {
+    match read {
+        Ok(header) => same_body(rt, &header.body),
+        Err(_) => panic!(rt; "a header"),
     }
 }
 
 #[test]
-fn lists_read(rt: HostRuntime) -> Result<(), Fail> {
-    let bytes = bytes_of(rt.alloc(), &MSG_WORDS)?;
-    match read_header(&bytes)?.body {
-        Body::Msg { lists, .. } => same_lists(&rt, &lists, 8),
-        _ => panic!(rt; "RDMA_MSG"),
+fn lists_read(rt: HostRuntime) {
+    let messages: [&[&[u32]]; 2] = [&MSG_WORDS, &NOMSG_WORDS];
+    for parts in messages {
+        let bytes = joined(&rt, rt.alloc(), parts);
+        let read = read_header(&bytes);
+        lists_in(&rt, &read);
+        drop(read);
     }
-    let bytes = bytes_of(rt.alloc(), &NOMSG_WORDS)?;
-    match read_header(&bytes)?.body {
-        Body::Nomsg { lists } => same_lists(&rt, &lists, 0),
-        _ => panic!(rt; "RDMA_NOMSG"),
-    }
-    Ok(())
 }
 
-/// RDMA_MSG with a read list of 17 entries.
-fn long_header(entries: Vec<ReadSegment>) -> Header
+/// A read list of 17 entries.
+fn long_list(rt: &impl Abort, alloc: Global) -> ReadList {
+    InlineVec::from_vec(vec![in alloc; entry(4, 9); 17].expect(rt, "memory"))
+}
+
+/// RDMA_MSG with this read list.
+fn header_of(read: ReadList) -> Header
     ensures { CanWriteHeader result }
 {
     let lists = ChunkLists {
-        read: InlineVec::from_vec(entries),
+        read,
         write: InlineVec::new(),
         reply: None,
     };
@@ -401,27 +389,27 @@ fn long_header(entries: Vec<ReadSegment>) -> Header
     }
 }
 
-fn long_header_written(alloc: Global) -> Result<Octets, Fail> {
-    let header = long_header(vec![in alloc; entry(4, 9); 17]?);
-    Ok(write_header(alloc, &header)?)
+fn long_header_written(rt: &impl Abort, alloc: Global) -> Octets {
+    let header = header_of(long_list(rt, alloc));
+    let octets = written(rt, alloc, &header);
+    drop(header);
+    octets
 }
 
 /// The words of that header.
-fn long_header_words(alloc: Global) -> Result<Vec<u8>, Fail> {
-    let mut bytes = bytes_of(alloc, &[0x0102_0304, 1, 32, 0])?;
-    put_times(&mut bytes, alloc, &[1, 4, 9, 12, 13, 14], 17)?;
-    put_times(&mut bytes, alloc, &[0, 0, 0], 1)?;
-    Ok(bytes)
+fn long_header_words(rt: &impl Abort, alloc: Global) -> Vec<u8> {
+    let mut bytes = bytes_of(rt, alloc, &[0x0102_0304, 1, 32, 0]);
+    put_times(rt, &mut bytes, &[1, 4, 9, 12, 13, 14], 17);
+    put_words(rt, &mut bytes, &[0, 0, 0]);
+    bytes
 }
 
 /// A read list of 17 entries is written whole, and refused at its last one when it is read.
 #[test]
-fn written_above_the_limit(rt: HostRuntime) -> Result<(), Fail> {
-    let written = long_header_written(rt.alloc())?;
-    same(&rt, 0, read_as(written.as_slice()), Read::BadChunks(400));
-    let want = long_header_words(rt.alloc())?;
-    same(&rt, 1, written.as_slice(), want.as_slice());
-    Ok(())
+fn written_above_the_limit(rt: HostRuntime) {
+    let written = long_header_written(&rt, rt.alloc()).into_vec();
+    same(&rt, 0, read_as(&written), Read::BadChunks(400));
+    same(&rt, 1, written, long_header_words(&rt, rt.alloc()));
 }
 
 #[test]

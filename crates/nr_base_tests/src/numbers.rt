@@ -118,6 +118,10 @@ fn each_value_has_its_number(rt: HostRuntime) {
     numbered_as(&rt, &TIME_HOWS);
     numbered_as(&rt, &NFS_PROCEDURES);
     numbered_as(&rt, &MOUNT_PROCEDURES);
+}
+
+#[test]
+fn each_procedure_has_its_program_and_version(rt: HostRuntime) {
     same(&rt, 0, number_of(procedure_of(100_003, 3, 21)), Some(21));
     same(&rt, 1, number_of(procedure_of(100_005, 3, 4)), Some(104));
     same(&rt, 2, number_of(procedure_of(100_003, 2, 1)), None);

@@ -6,7 +6,6 @@ use std::alloc::Global;
 use std::io;
 use std::io::{ErrorKind, Read, Write};
 use std::process::Abort;
-use std::test::Fail;
 
 /// A reader and a writer whose every call fails.
 #[derive(Drop)]
@@ -109,123 +108,183 @@ fn writes<K: Sink>(
     }
 }
 
+/// A source of these bytes. The sizes are those of calls 0, 1 and so on, and a size of 0 means 1.
+fn mem_source(
+    rt: &impl Abort,
+    alloc: Global,
+    bytes: &[u8],
+    sizes: &[usize],
+    failing: &[usize],
+) -> MemSource {
+    let bytes = bytes.to_vec(alloc).expect(rt, "memory");
+    let sizes = sizes.to_vec(alloc).expect(rt, "memory");
+    MemSource::new(bytes, sizes, failing.to_vec(alloc).expect(rt, "memory"))
+}
+
 #[test]
-fn sources(rt: HostRuntime) -> Result<(), Fail> {
-    // Call number 1 is to fail. The sizes are those of calls 0, 1 and 2, and a size of 0 means 1.
-    let sizes = vec![in rt.alloc(); 2, 1, 0]?;
-    let mut memory = MemSource::new(
-        b"abcdefg".to_vec(rt.alloc())?,
-        sizes,
-        vec![in rt.alloc(); 1]?,
-    );
-    let in_memory = [
+fn memory_is_a_source(rt: HostRuntime) {
+    // Call number 1 is to fail.
+    let mut memory = mem_source(&rt, rt.alloc(), b"abcdefg", &[2, 1, 0], &[1]);
+    let wants = [
         (Ok(2), *b"ab--"),
         (Err(Failed), *b"----"),
         (Ok(1), *b"c---"),
         (Ok(4), *b"defg"),
         (Ok(0), *b"----"),
     ];
-    reads(&rt, 0, &mut memory, &in_memory);
+    reads(&rt, 0, &mut memory, &wants);
+}
+
+#[test]
+fn readers_are_sources(rt: HostRuntime) {
     let slice = [(Ok(4), *b"abcd"), (Ok(1), *b"e---"), (Ok(0), *b"----")];
     reads(&rt, 1, &mut StdSource::new(b"abcde".as_slice()), &slice);
     let broken = [(Err(Failed), *b"----"), (Err(Failed), *b"----")];
     reads(&rt, 2, &mut StdSource::new(Broken), &broken);
-    // The adapter answers the first error of any kind, and doesn't read again by itself.
-    let once = [(Err(Failed), *b"----"), (Ok(2), *b"ok--")];
+}
+
+/// The adapter answers the first error of any kind, and doesn't read or write again by itself.
+#[test]
+fn first_errors_are_answered(rt: HostRuntime) {
+    let read = [(Err(Failed), *b"----"), (Ok(2), *b"ok--")];
+    let written: [(&[u8], Result<usize, Failed>); 2] = [(b"abc", Err(Failed)), (b"abc", Ok(1))];
     for kind in [ErrorKind::Interrupted, ErrorKind::Other] {
-        let reader = FailsOnce {
-            failed: false,
-            kind,
-        };
-        reads(&rt, 3, &mut StdSource::new(reader), &once);
+        let failed = false;
+        reads(
+            &rt,
+            3,
+            &mut StdSource::new(FailsOnce { failed, kind }),
+            &read,
+        );
+        writes(
+            &rt,
+            4,
+            &mut StdSink::new(FailsOnce { failed, kind }),
+            &written,
+        );
     }
-    Ok(())
+}
+
+/// A sink in memory whose call number 1 is to fail.
+fn mem_sink(rt: &impl Abort, alloc: Global) -> MemSink {
+    MemSink::new(alloc, vec![in alloc; 1].expect(rt, "memory"))
 }
 
 #[test]
-fn sinks(rt: HostRuntime) -> Result<(), Fail> {
-    let mut memory = MemSink::new(rt.alloc(), vec![in rt.alloc(); 1]?);
-    let in_memory: [(&[u8], Result<usize, Failed>); 4] = [
+fn memory_is_a_sink(rt: HostRuntime) {
+    let mut memory = mem_sink(&rt, rt.alloc());
+    let wants: [(&[u8], Result<usize, Failed>); 4] = [
         (b"ab", Ok(2)),
         (b"cd", Err(Failed)),
         (b"ef", Ok(2)),
         (b"", Ok(0)),
     ];
-    writes(&rt, 0, &mut memory, &in_memory);
+    writes(&rt, 0, &mut memory, &wants);
     same(&rt, 0, memory.bytes(), b"abef".as_slice());
+}
+
+#[test]
+fn writers_are_sinks(rt: HostRuntime) {
     let broken: [(&[u8], Result<usize, Failed>); 2] = [(b"abc", Err(Failed)), (b"", Err(Failed))];
     writes(&rt, 1, &mut StdSink::new(Broken), &broken);
-    // The adapter answers the first error of any kind, and doesn't write again by itself.
-    let once: [(&[u8], Result<usize, Failed>); 2] = [(b"abc", Err(Failed)), (b"abc", Ok(1))];
-    for kind in [ErrorKind::Interrupted, ErrorKind::Other] {
-        let writer = FailsOnce {
-            failed: false,
-            kind,
-        };
-        writes(&rt, 2, &mut StdSink::new(writer), &once);
-    }
-    let narrow: [(&[u8], Result<usize, Failed>); 4] = [
+    // To take nothing of a piece is a fault.
+    let narrow: [(&[u8], Result<usize, Failed>); 5] = [
         (b"abc", Ok(2)),
         (b"", Ok(0)),
         (b"defg", Ok(2)),
         (b"h", Ok(1)),
+        (b"i", Err(Failed)),
     ];
-    let mut sink = StdSink::new(Narrow { room: 5 });
-    writes(&rt, 3, &mut sink, &narrow);
-    // To take nothing of a piece is a fault.
-    same(&rt, 3, sink.write(b"i"), Err(Failed));
-    Ok(())
+    writes(&rt, 3, &mut StdSink::new(Narrow { room: 5 }), &narrow);
+}
+
+/// Three bytes go in, and come out once.
+fn first_piece(rt: &impl Abort, pipe: &mut Pipe) {
+    same(rt, 0, pipe.write(b"abc"), Ok(3));
+    same(rt, 1, pipe.peek(2), b"ab".as_slice());
+    reads(rt, 2, pipe, &[(Ok(3), *b"abc-"), (Ok(0), *b"----")]);
+}
+
+/// Four more go in, and are skipped.
+fn second_piece(rt: &impl Abort, pipe: &mut Pipe) {
+    same(rt, 3, pipe.write(b"defg"), Ok(4));
+    pipe.skip(1);
+    let waiting = (pipe.waiting(), pipe.peek(9));
+    same(rt, 4, waiting, (3, b"efg".as_slice()));
+    pipe.skip(9);
+    same(rt, 5, pipe.waiting(), 0);
 }
 
 #[test]
 fn a_pipe_hands_out_each_byte_once_and_keeps_all(rt: HostRuntime) {
     let mut pipe = Pipe::new(rt.alloc());
-    same(&rt, 0, pipe.write(b"abc"), Ok(3));
-    same(&rt, 1, pipe.peek(2), b"ab".as_slice());
-    reads(&rt, 2, &mut pipe, &[(Ok(3), *b"abc-"), (Ok(0), *b"----")]);
-    same(&rt, 3, pipe.write(b"defg"), Ok(4));
-    pipe.skip(1);
-    same(
-        &rt,
-        4,
-        (pipe.waiting(), pipe.peek(9)),
-        (3, b"efg".as_slice()),
-    );
-    pipe.skip(9);
-    same(&rt, 5, pipe.waiting(), 0);
+    first_piece(&rt, &mut pipe);
+    second_piece(&rt, &mut pipe);
     same(&rt, 6, pipe.log(), b"abcdefg".as_slice());
 }
 
 /// What is read of "abcde", where the call of a number fails: how many bytes, or why none.
-fn read_five(alloc: Global, limit: usize, failing: usize) -> Result<Result<usize, ReadEnd>, Fail> {
-    let sizes = vec![in alloc; 2, 1]?;
-    let mut source = MemSource::new(b"abcde".to_vec(alloc)?, sizes, vec![in alloc; failing]?);
-    Ok(read_whole(alloc, &mut source, limit).map(|bytes| bytes.len()))
+fn read_five(
+    rt: &impl Abort,
+    alloc: Global,
+    limit: usize,
+    failing: usize,
+) -> Result<usize, ReadEnd> {
+    let mut source = mem_source(rt, alloc, b"abcde", &[2, 1], &[failing]);
+    read_whole(alloc, &mut source, limit).map(|bytes| bytes.len())
+}
+
+// The limit, the number of the call that fails, and the answer.
+static WHOLE: [(usize, usize, Result<usize, ReadEnd>); 6] = [
+    (9, 9, Ok(5)),
+    (5, 9, Ok(5)),
+    (4, 9, Err(ReadEnd::TooLong)),
+    (0, 9, Err(ReadEnd::TooLong)),
+    (9, 0, Err(ReadEnd::Failed)),
+    (9, 2, Err(ReadEnd::Failed)),
+];
+
+#[test]
+fn whole_inputs(rt: HostRuntime) {
+    for (row, (limit, failing, want)) in WHOLE.iter().enumerate() {
+        same(
+            &rt,
+            row,
+            read_five(&rt, rt.alloc(), *limit, *failing),
+            *want,
+        );
+    }
+}
+
+/// Writes each piece whole: what the call answers.
+fn whole_writes<K: Sink>(
+    rt: &impl Abort,
+    row: usize,
+    sink: &mut K,
+    wants: &[(&[u8], Result<(), Failed>)],
+) {
+    for (piece, want) in wants {
+        same(rt, row, write_whole(sink, piece), *want);
+    }
 }
 
 #[test]
-fn whole_inputs_and_outputs(rt: HostRuntime) -> Result<(), Fail> {
-    // The limit, the number of the call that fails, and the answer.
-    let rows = [
-        (9, 9, Ok(5)),
-        (5, 9, Ok(5)),
-        (4, 9, Err(ReadEnd::TooLong)),
-        (0, 9, Err(ReadEnd::TooLong)),
-        (9, 0, Err(ReadEnd::Failed)),
-        (9, 2, Err(ReadEnd::Failed)),
+fn whole_outputs(rt: HostRuntime) {
+    let mut memory = mem_sink(&rt, rt.alloc());
+    let wants: [(&[u8], Result<(), Failed>); 4] = [
+        (b"abc", Ok(())),
+        (b"def", Err(Failed)),
+        (b"", Ok(())),
+        (b"ghi", Ok(())),
     ];
-    for (row, (limit, failing, want)) in rows.into_iter().enumerate() {
-        same(&rt, row, read_five(rt.alloc(), limit, failing)?, want);
-    }
-    let mut sink = MemSink::new(rt.alloc(), vec![in rt.alloc(); 1]?);
-    same(&rt, 10, write_whole(&mut sink, b"abc"), Ok(()));
-    same(&rt, 11, write_whole(&mut sink, b"def"), Err(Failed));
-    same(&rt, 12, write_whole(&mut sink, b""), Ok(()));
-    same(&rt, 13, write_whole(&mut sink, b"ghi"), Ok(()));
-    same(&rt, 14, sink.bytes(), b"abcghi".as_slice());
+    whole_writes(&rt, 10, &mut memory, &wants);
+    same(&rt, 14, memory.bytes(), b"abcghi".as_slice());
+}
+
+#[test]
+fn whole_outputs_in_parts(rt: HostRuntime) {
     let mut narrow = StdSink::new(Narrow { room: 5 });
-    same(&rt, 15, write_whole(&mut narrow, b"abc"), Ok(()));
-    same(&rt, 16, write_whole(&mut narrow, b"defg"), Err(Failed));
+    let wants: [(&[u8], Result<(), Failed>); 2] = [(b"abc", Ok(())), (b"defg", Err(Failed))];
+    whole_writes(&rt, 15, &mut narrow, &wants);
     same(&rt, 17, narrow.into_inner().room, 0);
-    Ok(())
 }

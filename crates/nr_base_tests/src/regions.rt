@@ -1,131 +1,168 @@
 //! Tests of nr_regions.
 
-ghost use Rattle.std.specs.Prelude.{◌<◌, IfOk};
-ghost use Rattle.nr_regions.specs.RegisteredMemory.{IsHeld};
+ghost use Rattle.std.specs.Prelude.{◌≡◌, ◌+◌, ◌^◌, ◌<◌, ◌≤◌};
+ghost use Rattle.nr_regions.specs.RegisteredMemory.{IsHeld, Claim};
 
 use crate::compare::same;
 use nr_regions::*;
 use nr_xdr::Octets;
 use std::alloc::Global;
-use std::test::Fail;
+use std::process::Abort;
 
-/// Regions with three buffers, all registered or none: "shown" to be read, eight zeros to be written, and "sink" for
-/// Read Responses.
-fn three_regions(alloc: Global, first_stag: u32) -> Result<(Regions, Registration), Fail>
-    requires { 0 < first_stag }
-    ensures { IfOk result (λ made. IsHeld made.0.memory made.1) }
+/// Registers a buffer of these bytes. Within the room and the STags left, the answer is `Ok`.
+fn registered(
+    rt: &impl Abort,
+    alloc: Global,
+    regions: &mut Regions,
+    bytes: &[u8],
+    right: Right,
+) -> Registration
+    requires room { 0 < regions.old.room }
+    requires left { regions.old.memory.next < 2 ^ 32 }
+    ensures held { IsHeld regions.new.memory result }
+    ensures keeps { (claim : Claim) → IsHeld regions.old.memory claim → IsHeld regions.new.memory claim }
+    ensures next { regions.new.memory.next ≡ regions.old.memory.next + 1 }
+    ensures room { regions.old.room ≤ regions.new.room + 1 }
 {
-    let shown = Octets::from_slice(alloc, b"shown")?;
-    let filled = Octets::from_slice(alloc, &[0; 8])?;
-    let sink = Octets::from_slice(alloc, b"sink")?;
-    let mut regions = Regions::new(alloc, first_stag);
-    regions.make_room(3)?;
-    if regions.stags_left() < 3 {
-        return Err(Fail::from(Why::Spent));
+    let buf = Octets::from_slice(alloc, bytes).expect(rt, "memory");
+    let Ok(registration) = regions.register(buf, right) else {
+        unreachable!()
+    };
+    registration
+}
+
+/// Makes room for three regions.
+fn room_for_three(rt: &impl Abort, regions: &mut Regions)
+    ensures room { 3 ≤ regions.new.room }
+    ensures left { regions.new.memory.next + 3 ≤ 2 ^ 32 }
+{
+    if regions.make_room(3).is_err() || regions.stags_left() < 3 {
+        panic!(rt; "room and STags");
     }
-    // Within the room and the STags left, each answer is `Ok`.
-    let Ok(_) = regions.register(shown, Right::Fetch) else {
-        unreachable!()
-    };
-    let Ok(registration) = regions.register(filled, Right::Fill) else {
-        unreachable!()
-    };
-    let Ok(_) = regions.register(sink, Right::Sink) else {
-        unreachable!()
-    };
-    Ok((regions, registration))
+}
+
+/// Registers three buffers: "shown" to be read, eight zeros to be written, and "sink" for Read Responses. Gives the
+/// registration of the second.
+fn three_regions(rt: &impl Abort, alloc: Global, regions: &mut Regions) -> Registration
+    ensures { IsHeld regions.new.memory result }
+{
+    room_for_three(rt, regions);
+    registered(rt, alloc, regions, b"shown", Right::Fetch);
+    let registration = registered(rt, alloc, regions, &[0; 8], Right::Fill);
+    registered(rt, alloc, regions, b"sink", Right::Sink);
+    registration
+}
+
+/// What becomes of the four bytes "more", given to be written: the registration's STag and length, or why there is none.
+fn more_registered(
+    rt: &impl Abort,
+    alloc: Global,
+    regions: &mut Regions,
+) -> Result<(u32, u64), Why> {
+    let buf = Octets::from_slice(alloc, b"more").expect(rt, "memory");
+    match regions.register(buf, Right::Fill) {
+        Ok(registration) => Ok((registration.stag(), registration.len())),
+        Err((buf, why)) => {
+            same(rt, 0, buf.as_slice(), b"more".as_slice());
+            Err(why)
+        }
+    }
 }
 
 /// Without room made before, a registration takes its own memory.
 #[test]
-fn registered_without_room(rt: HostRuntime) -> Result<(), Fail> {
+fn registered_without_room(rt: HostRuntime) {
     let mut regions = Regions::new(rt.alloc(), 1);
-    let buf = Octets::from_slice(rt.alloc(), b"more")?;
-    let Ok(registration) = regions.register(buf, Right::Fill) else {
-        panic!(rt; "no memory");
-    };
-    same(&rt, 0, (registration.stag(), registration.len()), (1, 4));
-    Ok(())
+    let got = more_registered(&rt, rt.alloc(), &mut regions);
+    same(&rt, 0, got, Ok((1, 4)));
+}
+
+// The kind, the STag, the place, and the answer to a segment of four bytes.
+static PLACES: [(Kind, u32, u64, Result<(), Denied>); 13] = [
+    (Kind::Write, 2, 0xffff_ffff_ffff_fffe, Err(Denied::Bounds)),
+    (Kind::Write, 2, 0xffff_ffff_ffff_ffff, Err(Denied::Bounds)),
+    (Kind::Write, 2, 5, Err(Denied::Bounds)),
+    (Kind::Response, 2, 5, Err(Denied::Bounds)),
+    (Kind::Response, 2, 4, Err(Denied::Right)),
+    (Kind::Write, 4, 9, Err(Denied::NoStag)),
+    (Kind::Write, 0, 0, Err(Denied::NoStag)),
+    (Kind::Write, 1, 0, Err(Denied::Right)),
+    (Kind::Response, 1, 0, Err(Denied::Right)),
+    (Kind::Write, 3, 0, Err(Denied::Right)),
+    (Kind::Response, 3, 0, Ok(())),
+    (Kind::Write, 2, 4, Ok(())),
+    (Kind::Write, 2, 3, Ok(())),
+];
+
+/// Ends the test where the regions have not so many STags left, or hold not so many bytes.
+fn same_counts(rt: &impl Abort, row: usize, regions: &Regions, want: (u64, u128)) {
+    let counts = (regions.stags_left(), regions.bytes_held());
+    same(rt, row, counts, want);
+}
+
+/// The three regions before anything is placed: the second has STag 2 and eight bytes.
+fn before_placing(rt: &impl Abort, regions: &Regions, registration: &Registration) {
+    same(rt, 0, (registration.stag(), registration.len()), (2, 8));
+    same_counts(rt, 0, regions, (0xffff_fffc, 17));
+}
+
+/// Releases the region that holds the bytes placed by the rows above.
+fn released(rt: &impl Abort, mut regions: Regions, registration: Registration)
+    requires { IsHeld regions.memory registration }
+{
+    let buf = regions.release(registration);
+    same(rt, 20, buf.as_slice(), b"\0\0\0wiree".as_slice());
+    let placed = regions.place(Kind::Write, 2, 4, b"wire");
+    same(rt, 21, placed, Err(Denied::NoStag));
+    same_counts(rt, 22, &regions, (0xffff_fffc, 9));
 }
 
 #[test]
-fn placed_and_released(rt: HostRuntime) -> Result<(), Fail> {
+fn placed_and_released(rt: HostRuntime) {
+    let mut regions = Regions::new(rt.alloc(), 1);
+    let registration = three_regions(&rt, rt.alloc(), &mut regions);
+    before_placing(&rt, &regions, &registration);
+    for (row, (kind, stag, to, want)) in PLACES.iter().enumerate() {
+        same(&rt, row, regions.place(*kind, *stag, *to, b"wire"), *want);
+    }
+    released(&rt, regions, registration);
+}
+
+// The STag, the place, the length, and the answer.
+static FETCHES: [(u32, u64, u64, Result<&[u8], Denied>); 8] = [
+    (0xffff_fffd, 1, 4, Ok(b"hown")),
+    (0xffff_fffd, 5, 0, Ok(b"")),
+    (0xffff_fffd, 2, 4, Err(Denied::Bounds)),
+    (0xffff_fffd, 2, 0xffff_ffff_ffff_ffff, Err(Denied::Bounds)),
+    (0xffff_fffe, 0, 9, Err(Denied::Bounds)),
+    (0xffff_fffe, 0, 8, Err(Denied::Right)),
+    (0xffff_ffff, 0, 4, Err(Denied::Right)),
+    (1, 0, 0, Err(Denied::NoStag)),
+];
+
+#[test]
+fn fetched(rt: HostRuntime) {
+    let mut regions = Regions::new(rt.alloc(), 0xffff_fffd);
+    three_regions(&rt, rt.alloc(), &mut regions);
+    for (row, (stag, to, len, want)) in FETCHES.iter().enumerate() {
+        same(&rt, row, regions.fetch(*stag, *to, *len), *want);
+    }
+}
+
+/// STag 2^32 - 1 was given, so none is left; the buffer comes back.
+#[test]
+fn spent(rt: HostRuntime) {
+    let mut regions = Regions::new(rt.alloc(), 0xffff_fffd);
+    three_regions(&rt, rt.alloc(), &mut regions);
+    same(&rt, 0, regions.stags_left(), 0);
+    let got = more_registered(&rt, rt.alloc(), &mut regions);
+    same(&rt, 1, got, Err(Why::Spent));
+}
+
+#[test]
+fn laws_hold(_rt: HostRuntime) {
     held_until_release();
     allowed_accesses();
     contents_while_open();
     contents_at_release();
-    let (mut regions, registration) = three_regions(rt.alloc(), 1)?;
-    same(&rt, 0, (registration.stag(), registration.len()), (2, 8));
-    same(
-        &rt,
-        0,
-        (regions.stags_left(), regions.bytes_held()),
-        (0xffff_fffc, 17),
-    );
-    // The kind, the STag, the place, and the answer to a segment of four bytes.
-    let rows = [
-        (Kind::Write, 2, u64::MAX - 1, Err(Denied::Bounds)),
-        (Kind::Write, 2, u64::MAX, Err(Denied::Bounds)),
-        (Kind::Write, 2, 5, Err(Denied::Bounds)),
-        (Kind::Response, 2, 5, Err(Denied::Bounds)),
-        (Kind::Response, 2, 4, Err(Denied::Right)),
-        (Kind::Write, 4, 9, Err(Denied::NoStag)),
-        (Kind::Write, 0, 0, Err(Denied::NoStag)),
-        (Kind::Write, 1, 0, Err(Denied::Right)),
-        (Kind::Response, 1, 0, Err(Denied::Right)),
-        (Kind::Write, 3, 0, Err(Denied::Right)),
-        (Kind::Response, 3, 0, Ok(())),
-        (Kind::Write, 2, 4, Ok(())),
-        (Kind::Write, 2, 3, Ok(())),
-    ];
-    for (row, (kind, stag, to, want)) in rows.into_iter().enumerate() {
-        same(&rt, row, regions.place(kind, stag, to, b"wire"), want);
-    }
-    let buf = regions.release(registration);
-    same(&rt, 20, buf.as_slice(), b"\0\0\0wiree".as_slice());
-    same(
-        &rt,
-        21,
-        regions.place(Kind::Write, 2, 4, b"wire"),
-        Err(Denied::NoStag),
-    );
-    same(
-        &rt,
-        22,
-        (regions.stags_left(), regions.bytes_held()),
-        (0xffff_fffc, 9),
-    );
-    Ok(())
-}
-
-#[test]
-fn fetched(rt: HostRuntime) -> Result<(), Fail> {
-    let (mut regions, _) = three_regions(rt.alloc(), u32::MAX - 2)?;
-    // The STag, the place, the length, and the answer.
-    let rows = [
-        (u32::MAX - 2, 1, 4, Ok(b"hown".as_slice())),
-        (u32::MAX - 2, 5, 0, Ok(b"")),
-        (u32::MAX - 2, 2, 4, Err(Denied::Bounds)),
-        (u32::MAX - 2, 2, u64::MAX, Err(Denied::Bounds)),
-        (u32::MAX - 1, 0, 9, Err(Denied::Bounds)),
-        (u32::MAX - 1, 0, 8, Err(Denied::Right)),
-        (u32::MAX, 0, 4, Err(Denied::Right)),
-        (1, 0, 0, Err(Denied::NoStag)),
-    ];
-    for (row, (stag, to, len, want)) in rows.into_iter().enumerate() {
-        same(&rt, row, regions.fetch(stag, to, len), want);
-    }
-    // STag 2^32 - 1 was given, so none is left; the buffer comes back.
-    same(&rt, 20, regions.stags_left(), 0);
-    let more = Octets::from_slice(rt.alloc(), b"more")?;
-    match regions.register(more, Right::Fill) {
-        Ok(_) => panic!(rt; "an STag was left"),
-        Err((buf, why)) => same(
-            &rt,
-            21,
-            (buf.as_slice(), why),
-            (b"more".as_slice(), Why::Spent),
-        ),
-    }
-    Ok(())
 }

@@ -6,10 +6,11 @@ use nr_nfs_base::{
     Attributes, FileType, Handle, Name, SpecialData, StatusUnion, Time, WccAttributes, WccData,
 };
 use nr_nfs_res::*;
-use nr_xdr::Memory;
+use std::alloc::Global;
+use std::process::Abort;
 
 #[test]
-fn each_field_has_its_place(rt: HostRuntime) -> Result<(), Memory> {
+fn each_field_has_its_place(rt: HostRuntime) {
     // RFC 1813 section 3.3.18
     let fsstat = FsstatOk {
         attributes: None,
@@ -68,50 +69,54 @@ fn each_field_has_its_place(rt: HostRuntime) -> Result<(), Memory> {
             &[0, 1, 2, 1, 1, 0, 0],
             &[0, 1, 2, 1, 0, 1, 0],
         ],
-    )
+    );
+}
+
+// RFC 1813 section 2.5, fattr3: the fields of ATTRIBUTES
+const DIRECTORY: Attributes = Attributes {
+    file_type: FileType::Dir,
+    mode: 0o755,
+    nlink: 3,
+    uid: 1,
+    gid: 2,
+    size: 4096,
+    used: 8192,
+    rdev: SpecialData { major: 5, minor: 6 },
+    fsid: 1,
+    fileid: 9,
+    atime: Time {
+        seconds: 10,
+        nanoseconds: 11,
+    },
+    mtime: Time {
+        seconds: 12,
+        nanoseconds: 13,
+    },
+    ctime: Time {
+        seconds: 14,
+        nanoseconds: 15,
+    },
+};
+
+/// An object with its attributes, and a directory without (section 3.3.3).
+fn lookup_res(rt: &impl Abort, alloc: Global) -> LookupRes {
+    let object = Handle::from_slice(alloc, &[0, 0, 0, 0, 0, 0, 0, 1]).expect(rt, "memory");
+    StatusUnion::Done(LookupOk {
+        object,
+        attributes: Some(DIRECTORY),
+        dir_attributes: None,
+    })
 }
 
 #[test]
-fn a_lookup_has_the_attributes_of_the_object_first(rt: HostRuntime) -> Result<(), Memory> {
-    // RFC 1813 section 2.5, fattr3: the fields of ATTRIBUTES
-    let directory = Attributes {
-        file_type: FileType::Dir,
-        mode: 0o755,
-        nlink: 3,
-        uid: 1,
-        gid: 2,
-        size: 4096,
-        used: 8192,
-        rdev: SpecialData { major: 5, minor: 6 },
-        fsid: 1,
-        fileid: 9,
-        atime: Time {
-            seconds: 10,
-            nanoseconds: 11,
-        },
-        mtime: Time {
-            seconds: 12,
-            nanoseconds: 13,
-        },
-        ctime: Time {
-            seconds: 14,
-            nanoseconds: 15,
-        },
-    };
-    // section 3.3.3
-    let lookup = LookupOk {
-        object: Handle::from_slice(rt.alloc(), &[0, 0, 0, 0, 0, 0, 0, 1])?,
-        attributes: Some(directory),
-        dir_attributes: None,
-    };
-    let result: LookupRes = StatusUnion::Done(lookup);
+fn a_lookup_has_the_attributes_of_the_object_first(rt: HostRuntime) {
     encoded_as(
         &rt,
         rt.alloc(),
         0,
-        &result,
+        &lookup_res(&rt, rt.alloc()),
         &[&[0, 8, 0, 1], &ATTRIBUTES, &[0]],
-    )
+    );
 }
 
 /// What a directory had before, and nothing after (RFC 1813 section 2.6, wcc_data).
@@ -130,32 +135,50 @@ fn before(size: u64) -> WccData {
     }
 }
 
-#[test]
-fn entries_and_directories_have_their_places(rt: HostRuntime) -> Result<(), Memory> {
-    // section 3.3.16
-    let entry = Entry {
+/// The name `a`.
+fn name(rt: &impl Abort, alloc: Global) -> Name {
+    Name::from_slice(alloc, b"a").expect(rt, "memory")
+}
+
+fn entry(rt: &impl Abort, alloc: Global) -> Entry {
+    Entry {
         fileid: 0x1_0000_0002,
-        name: Name::from_slice(rt.alloc(), b"a")?,
+        name: name(rt, alloc),
         cookie: 0x3_0000_0004,
-    };
-    let words = [1, 2, 1, 0x6100_0000, 3, 4];
-    encoded_as(&rt, rt.alloc(), 0, &entry, &[&words])?;
-    // section 3.3.17
-    let plus = EntryPlus {
+    }
+}
+
+fn entry_plus(rt: &impl Abort, alloc: Global) -> EntryPlus {
+    EntryPlus {
         fileid: 0x1_0000_0002,
-        name: Name::from_slice(rt.alloc(), b"a")?,
+        name: name(rt, alloc),
         cookie: 0x3_0000_0004,
         attributes: None,
         handle: None,
-    };
-    let words = [1, 2, 1, 0x6100_0000, 3, 4, 0, 0];
-    encoded_as(&rt, rt.alloc(), 1, &plus, &[&words])?;
+    }
+}
+
+#[test]
+fn an_entry_has_its_fields(rt: HostRuntime) {
+    // section 3.3.16
+    let parts: [&[u32]; 1] = [&[1, 2, 1, 0x6100_0000, 3, 4]];
+    encoded_as(&rt, rt.alloc(), 0, &entry(&rt, rt.alloc()), &parts);
+}
+
+#[test]
+fn an_entry_with_attributes_has_its_fields(rt: HostRuntime) {
+    // section 3.3.17
+    let parts: [&[u32]; 1] = [&[1, 2, 1, 0x6100_0000, 3, 4, 0, 0]];
+    encoded_as(&rt, rt.alloc(), 0, &entry_plus(&rt, rt.alloc()), &parts);
+}
+
+#[test]
+fn directories_have_their_places(rt: HostRuntime) {
     // section 3.3.14
     let rename = RenameWcc {
         from_dir: before(0x1_0000_0002),
         to_dir: before(0x3_0000_0004),
     };
-    let from_dir = [1, 1, 2, 8, 9, 8, 9, 0];
-    let to_dir = [1, 3, 4, 8, 9, 8, 9, 0];
-    encoded_as(&rt, rt.alloc(), 2, &rename, &[&from_dir, &to_dir])
+    let parts: [&[u32]; 2] = [&[1, 1, 2, 8, 9, 8, 9, 0], &[1, 3, 4, 8, 9, 8, 9, 0]];
+    encoded_as(&rt, rt.alloc(), 0, &rename, &parts);
 }

@@ -1,15 +1,14 @@
 //! Tests of nr_rpc. Rows are words, worked out by hand from RFC 5531 (sections 8.2 and 9, appendix A).
 
-ghost use Rattle.std.specs.Prelude.{IfOk};
+ghost use Rattle.nr_rpc.specs.Call.{CanWriteCall};
 ghost use Rattle.nr_rpc.specs.Credential.{CanWriteCred};
 ghost use Rattle.nr_rpc.specs.Reply.{CanWriteReply};
 
-use crate::bytes_of;
-use crate::compare::same;
+use crate::compare::{bytes_of, put_words, same};
 use nr_rpc::*;
 use nr_xdr::Octets;
 use std::alloc::Global;
-use std::test::Fail;
+use std::process::Abort;
 
 /// What is read of a credential: its flavor and whether it is AUTH_SYS; then the stamp, the user, the group, the number of
 /// further groups and the first of them; and the length of the machine's name.
@@ -177,22 +176,32 @@ static CALLS: [(&[u32], Result<CallWords, usize>); 26] = [
 ];
 
 #[test]
-fn calls(rt: HostRuntime) -> Result<(), Fail> {
+fn calls(rt: HostRuntime) {
     call_round_trip();
     one_call_head();
     for (row, (words, want)) in CALLS.iter().enumerate() {
-        let bytes = bytes_of(rt.alloc(), words)?;
+        let bytes = bytes_of(&rt, rt.alloc(), words);
         same(&rt, row, call_answer(rt.alloc(), &bytes), *want);
-        let short = (call_xid(&bytes), call_target(&bytes).is_some());
-        same(&rt, row, short, short_want(*want));
     }
-    Ok(())
+}
+
+/// The xid of the call at the front, and whether it is of version 2.
+fn short_answer(bytes: &[u8]) -> (Option<u32>, bool) {
+    (call_xid(bytes), call_target(bytes).is_some())
 }
 
 #[test]
-fn targets(rt: HostRuntime) -> Result<(), Fail> {
+fn calls_in_short(rt: HostRuntime) {
+    for (row, (words, want)) in CALLS.iter().enumerate() {
+        let bytes = bytes_of(&rt, rt.alloc(), words);
+        same(&rt, row, short_answer(&bytes), short_want(*want));
+    }
+}
+
+#[test]
+fn targets(rt: HostRuntime) {
     let words = &[7, 0, 2, 100_005, 3, 1, 5, 4, 9, 6, 0, 8];
-    let bytes = bytes_of(rt.alloc(), words)?;
+    let bytes = bytes_of(&rt, rt.alloc(), words);
     let target = CallTarget {
         xid: 7,
         prog: 100_005,
@@ -201,15 +210,21 @@ fn targets(rt: HostRuntime) -> Result<(), Fail> {
         args_at: 44,
     };
     same(&rt, 0, call_target(&bytes), Some(target));
-    Ok(())
+}
+
+/// Puts so many zeros at the end.
+fn put_zeros(rt: &impl Abort, bytes: &mut Vec<u8>, count: u32) {
+    for _ in 0..count {
+        bytes.push(0).expect(rt, "memory");
+    }
 }
 
 /// These words, the count of a body, and 103 words of zeros: room for a body of up to 404 bytes.
-fn counted(alloc: Global, before: &[u32], count: u32) -> Result<Vec<u8>, Fail> {
-    let mut bytes = bytes_of(alloc, before)?;
-    bytes.extend_from_slice(&count.to_be_bytes())?;
-    bytes.extend_from_slice(&[0; 412])?;
-    Ok(bytes)
+fn counted(rt: &impl Abort, alloc: Global, before: &[u32], count: u32) -> Vec<u8> {
+    let mut bytes = bytes_of(rt, alloc, before);
+    put_words(rt, &mut bytes, &[count]);
+    put_zeros(rt, &mut bytes, 412);
+    bytes
 }
 
 /// The place of the arguments of the call at the front, or of the first item that fails.
@@ -217,87 +232,115 @@ fn args_at(alloc: Global, bytes: &[u8]) -> Result<usize, usize> {
     call_answer(alloc, bytes).map(|words| words.1)
 }
 
-/// Bodies whose bytes are all there: 400 are read, 401 are refused at their count.
+// Bodies whose bytes are all there: 400 are read, 401 are refused at their count.
+static CALL_BODIES: [(&[u32], u32, Result<usize, usize>); 4] = [
+    (&[1, 0, 2, 100_003, 3, 0, 5], 400, Ok(440)),
+    (&[1, 0, 2, 100_003, 3, 0, 5], 401, Err(28)),
+    (&[1, 0, 2, 100_003, 3, 0, 0, 0, 6], 400, Ok(440)),
+    (&[1, 0, 2, 100_003, 3, 0, 0, 0, 6], 401, Err(36)),
+];
+
 #[test]
-fn longest_bodies(rt: HostRuntime) -> Result<(), Fail> {
-    let calls: [(&[u32], u32, Result<usize, usize>); 4] = [
-        (&[1, 0, 2, 100_003, 3, 0, 5], 400, Ok(440)),
-        (&[1, 0, 2, 100_003, 3, 0, 5], 401, Err(28)),
-        (&[1, 0, 2, 100_003, 3, 0, 0, 0, 6], 400, Ok(440)),
-        (&[1, 0, 2, 100_003, 3, 0, 0, 0, 6], 401, Err(36)),
-    ];
-    for (row, (before, count, want)) in calls.iter().enumerate() {
-        let bytes = counted(rt.alloc(), before, *count)?;
+fn longest_bodies_of_calls(rt: HostRuntime) {
+    for (row, (before, count, want)) in CALL_BODIES.iter().enumerate() {
+        let bytes = counted(&rt, rt.alloc(), before, *count);
         same(&rt, row, args_at(rt.alloc(), &bytes), *want);
     }
-    let bytes = counted(rt.alloc(), &[1, 1, 0, 3], 400)?;
-    same(&rt, 4, reply_answer(&bytes), Ok(([0, 1, 0, 0], 424)));
-    let bytes = counted(rt.alloc(), &[1, 1, 0, 3], 401)?;
-    same(&rt, 5, reply_answer(&bytes), Err(16));
-    Ok(())
+}
+
+static REPLY_BODIES: [(u32, Result<([u32; 4], usize), usize>); 2] = [
+    (400, Ok(([0, 1, 0, 0], 424))),
+    (401, Err(16)),
+];
+
+#[test]
+fn longest_bodies_of_replies(rt: HostRuntime) {
+    for (row, (count, want)) in REPLY_BODIES.iter().enumerate() {
+        let bytes = counted(&rt, rt.alloc(), &[1, 1, 0, 3], *count);
+        same(&rt, row, reply_answer(&bytes), *want);
+    }
 }
 
 /// A call of AUTH_SYS with a body of so many bytes, whose machine's name has so many, in 64 words, and so many further
 /// groups.
-fn sys_call(alloc: Global, body: u32, machine: u32, groups: u32) -> Result<Vec<u8>, Fail> {
-    let mut bytes = bytes_of(alloc, &[1, 0, 2, 100_003, 3, 0, 1, body, 0, machine])?;
-    bytes.extend_from_slice(&[0; 256])?;
-    bytes.extend_from_slice(&bytes_of(alloc, &[7, 8, groups])?)?;
+fn sys_call(rt: &impl Abort, alloc: Global, body: u32, machine: u32, groups: u32) -> Vec<u8> {
+    let head = [1, 0, 2, 100_003, 3, 0, 1, body, 0, machine];
+    let mut bytes = bytes_of(rt, alloc, &head);
+    put_zeros(rt, &mut bytes, 256);
+    put_words(rt, &mut bytes, &[7, 8, groups]);
     for _ in 0..groups {
-        bytes.extend_from_slice(&[0, 0, 0, 9])?;
+        put_words(rt, &mut bytes, &[9]);
     }
-    bytes.extend_from_slice(&[0; 8])?;
-    Ok(bytes)
+    put_zeros(rt, &mut bytes, 8);
+    bytes
 }
+
+/// The lengths of a body and of a machine's name, the number of further groups, and the credential that is read.
+static SYS_LIMITS: [(u32, u32, u32, ([u32; 7], usize)); 3] = [
+    (340, 255, 16, ([1, 1, 0, 7, 8, 16, 9], 255)),
+    (340, 256, 16, ([1, 0, 0, 0, 0, 0, 0], 0)),
+    (344, 255, 17, ([1, 0, 0, 0, 0, 0, 0], 0)),
+];
 
 #[test]
-fn sys_limits(rt: HostRuntime) -> Result<(), Fail> {
-    let rows = [
-        (340, 255, 16, Ok(([1, 1, 0, 7, 8, 16, 9], 255))),
-        (340, 256, 16, Ok(([1, 0, 0, 0, 0, 0, 0], 0))),
-        (344, 255, 17, Ok(([1, 0, 0, 0, 0, 0, 0], 0))),
-    ];
-    for (row, (body, machine, groups, want)) in rows.iter().enumerate() {
-        let bytes = sys_call(rt.alloc(), *body, *machine, *groups)?;
+fn sys_limits(rt: HostRuntime) {
+    for (row, (body, machine, groups, want)) in SYS_LIMITS.iter().enumerate() {
+        let bytes = sys_call(&rt, rt.alloc(), *body, *machine, *groups);
         let cred = call_answer(rt.alloc(), &bytes).map(|words| words.2);
-        same(&rt, row, cred, *want);
+        same(&rt, row, cred, Ok(*want));
     }
-    Ok(())
 }
 
-/// A call of procedure 0 of NFS with this credential, and these arguments, as it is written.
-fn call_written(alloc: Global, cred: Cred, args: &[u8]) -> Result<Octets, Fail>
+/// A call of procedure 0 of NFS with this credential.
+fn call_head(cred: Cred) -> CallHead
     requires { CanWriteCred cred }
+    ensures { CanWriteCall result }
 {
-    let head = CallHead::Version2 {
+    CallHead::Version2 {
         xid: 1,
         prog: 100_003,
         vers: 3,
         proc: 0,
         cred,
         args_at: 0,
-    };
-    Ok(write_call(alloc, &head, args)?)
+    }
 }
 
 /// AUTH_SYS: stamp 5, machine `nfsrdma`, user 7, group 8, further groups 9 and 10.
-fn sys_cred(alloc: Global) -> Result<Cred, Fail>
-    ensures { IfOk result (λ cred. CanWriteCred cred) }
+fn sys_cred(rt: &impl Abort, alloc: Global) -> Cred
+    ensures { CanWriteCred result }
 {
     let mut gids = Gids::new();
     gids.push(9);
     gids.push(10);
-    Ok(Cred::Sys {
+    Cred::Sys {
         stamp: 5,
-        machine: Octets::from_slice(alloc, b"nfsrdma")?,
+        machine: Octets::from_slice(alloc, b"nfsrdma").expect(rt, "memory"),
         uid: 7,
         gid: 8,
         gids,
-    })
+    }
+}
+
+/// Ends the test where a call with these arguments is not written as these words.
+fn written_as(
+    rt: &impl Abort,
+    alloc: Global,
+    row: usize,
+    head: &CallHead,
+    args: &[u8],
+    words: &[u32],
+)
+    requires { CanWriteCall head.now }
+{
+    let written = write_call(alloc, head, args)
+        .expect(rt, "memory")
+        .into_vec();
+    same(rt, row, written, bytes_of(rt, alloc, words));
 }
 
 #[test]
-fn sys_call_written(rt: HostRuntime) -> Result<(), Fail> {
+fn sys_call_written(rt: HostRuntime) {
     let words = &[
         1,
         0,
@@ -320,43 +363,25 @@ fn sys_call_written(rt: HostRuntime) -> Result<(), Fail> {
         0,
         0x6869_686f,
     ];
-    let cred = sys_cred(rt.alloc())?;
-    let written = call_written(rt.alloc(), cred, b"hiho")?;
-    let want = bytes_of(rt.alloc(), words)?;
-    same(&rt, 0, written.as_slice(), want.as_slice());
+    let head = call_head(sys_cred(&rt, rt.alloc()));
+    written_as(&rt, rt.alloc(), 0, &head, b"hiho", words);
     same(&rt, 1, Gids::new().is_empty(), true);
-    Ok(())
-}
-
-/// Whether a call with this credential and no arguments is written as these words.
-fn is_written(alloc: Global, cred: Cred, words: &[u32]) -> Result<bool, Fail>
-    requires { CanWriteCred cred }
-{
-    let written = call_written(alloc, cred, &[])?;
-    let want = bytes_of(alloc, words)?;
-    Ok(written.as_slice() == want.as_slice())
 }
 
 #[test]
-fn other_calls_written(rt: HostRuntime) -> Result<(), Fail> {
-    let none = is_written(
-        rt.alloc(),
-        Cred::None,
-        &[1, 0, 2, 100_003, 3, 0, 0, 0, 0, 0],
-    )?;
-    let cred = Cred::Other { flavor: 6 };
-    let other = is_written(rt.alloc(), cred, &[1, 0, 2, 100_003, 3, 0, 6, 0, 0, 0])?;
-    same(&rt, 0, (none, other), (true, true));
-    Ok(())
+fn other_calls_written(rt: HostRuntime) {
+    let none = call_head(Cred::None);
+    let words = &[1, 0, 2, 100_003, 3, 0, 0, 0, 0, 0];
+    written_as(&rt, rt.alloc(), 0, &none, &[], words);
+    let other = call_head(Cred::Other { flavor: 6 });
+    let words = &[1, 0, 2, 100_003, 3, 0, 6, 0, 0, 0];
+    written_as(&rt, rt.alloc(), 1, &other, &[], words);
 }
 
 #[test]
-fn other_version_written(rt: HostRuntime) -> Result<(), Fail> {
+fn other_version_written(rt: HostRuntime) {
     let version = CallHead::Other { xid: 1, rpcvers: 3 };
-    let written = write_call(rt.alloc(), &version, &[])?;
-    let want: &[u8] = &[0, 0, 0, 1, 0, 0, 0, 0, 0, 0, 0, 3];
-    same(&rt, 0, written.as_slice(), want);
-    Ok(())
+    written_as(&rt, rt.alloc(), 0, &version, &[], &[1, 0, 3]);
 }
 
 /// What is read of a reply: 0, the xid, the accept status and 0; 1 (PROG_MISMATCH) or 2 (RPC_MISMATCH), the xid, the lowest
@@ -441,25 +466,29 @@ static REPLIES: [(&[u32], Result<([u32; 4], usize), usize>); 23] = [
 ];
 
 #[test]
-fn replies(rt: HostRuntime) -> Result<(), Fail> {
+fn replies(rt: HostRuntime) {
     reply_round_trip();
     one_reply_head();
     for (row, (words, want)) in REPLIES.iter().enumerate() {
-        let bytes = bytes_of(rt.alloc(), words)?;
+        let bytes = bytes_of(&rt, rt.alloc(), words);
         same(&rt, row, reply_answer(&bytes), *want);
     }
-    Ok(())
+}
+
+/// Ends the test where a reply head with these words, and two bytes of results, is not written as the words of its row.
+fn reply_written_as(rt: &impl Abort, alloc: Global, row: usize, head: [u32; 4], words: &[u32]) {
+    let mut want = bytes_of(rt, alloc, words);
+    want.extend_from_slice(b"hi").expect(rt, "memory");
+    let written = write_reply(alloc, &reply_head(head), b"hi").expect(rt, "memory");
+    same(rt, row, written.into_vec(), want);
 }
 
 #[test]
-fn replies_written(rt: HostRuntime) -> Result<(), Fail> {
+fn replies_written(rt: HostRuntime) {
     for (row, (words, want)) in REPLIES.iter().take(9).enumerate() {
-        let mut bytes = bytes_of(rt.alloc(), words)?;
-        bytes.extend_from_slice(b"hi")?;
         if let Ok(want) = want {
-            let written = write_reply(rt.alloc(), &reply_head(want.0), b"hi")?;
-            same(&rt, row, written.as_slice(), bytes.as_slice());
+            let head = want.0;
+            reply_written_as(&rt, rt.alloc(), row, head, words);
         }
     }
-    Ok(())
 }

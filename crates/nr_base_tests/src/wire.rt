@@ -4,7 +4,7 @@ use crate::compare::same;
 use nr_wire::*;
 use nr_xdr::{Memory, Octets};
 use std::alloc::Global;
-use std::test::Fail;
+use std::process::Abort;
 
 /// What an answer is: 0 for a whole frame, `MORE`, or the reason for which it is refused.
 const MORE: u32 = 100;
@@ -128,23 +128,43 @@ static SEGMENTS: [(&[u8], [u64; 8]); 14] = [
     ),
 ];
 
-/// The length of the segment that the bytes begin with, its numbers, and its bytes as they are written.
-fn segment_again(alloc: Global, bytes: &[u8]) -> Result<(usize, [u64; 8], Octets), Fail> {
-    let NextSegment::Whole { segment, len } = next_segment(bytes) else {
-        return Err(Fail::from("a whole segment"));
-    };
-    let written = write_segment(alloc, &segment)?;
-    Ok((len, numbers_of(&segment), written))
+/// The length of the segment that the bytes begin with, and its numbers.
+fn segment_read(bytes: &[u8]) -> Option<(usize, [u64; 8])> {
+    match next_segment(bytes) {
+        NextSegment::Whole { segment, len } => Some((len, numbers_of(&segment))),
+        NextSegment::More | NextSegment::Bad { .. } => None,
+    }
+}
+
+/// The bytes of the segment that these begin with as they are written.
+fn segment_written(rt: &impl Abort, alloc: Global, bytes: &[u8]) -> Octets {
+    match next_segment(bytes) {
+        NextSegment::Whole { segment, .. } => write_segment(alloc, &segment).expect(rt, "memory"),
+        NextSegment::More | NextSegment::Bad { .. } => Octets::new(alloc),
+    }
+}
+
+/// Ends the test where the segment that the bytes begin with doesn't have this length and these numbers, or is written as
+/// other bytes.
+fn segment_again(
+    rt: &impl Abort,
+    alloc: Global,
+    row: usize,
+    bytes: &[u8],
+    want: (usize, [u64; 8]),
+    plain: &[u8],
+) {
+    same(rt, row, segment_read(bytes), Some(want));
+    let written = segment_written(rt, alloc, bytes);
+    same(rt, row, written.as_slice(), plain);
 }
 
 #[test]
-fn segments_both_ways(rt: HostRuntime) -> Result<(), Fail> {
+fn segments_both_ways(rt: HostRuntime) {
     for (row, (bytes, numbers)) in SEGMENTS.iter().enumerate() {
-        let (len, got, written) = segment_again(rt.alloc(), bytes)?;
-        same(&rt, row, (len, got), (bytes.len(), *numbers));
-        same(&rt, row, written.as_slice(), *bytes);
+        let want = (bytes.len(), *numbers);
+        segment_again(&rt, rt.alloc(), row, bytes, want, bytes);
     }
-    Ok(())
 }
 
 /// Each row without its last byte is less than a frame, which needs one byte more.
@@ -177,30 +197,21 @@ fn partial_segments(rt: HostRuntime) {
 
 /// The longest FPDU has an ULPDU of 65535 bytes.
 #[test]
-fn longest_segment(rt: HostRuntime) -> Result<(), Fail> {
+fn longest_segment(rt: HostRuntime) {
     let mut frame = [0; 65544];
     frame[..4].copy_from_slice(b"\xff\xff\x41\x43");
     frame[15] = 1;
-    let (len, numbers, written) = segment_again(rt.alloc(), &frame)?;
-    same(
-        &rt,
-        0,
-        (len, numbers),
-        (65544, [0, 1, 3, 0, 0, 1, 0, 65517]),
-    );
-    same(&rt, 0, written.as_slice(), frame.as_slice());
-    Ok(())
+    let want = (65544, [0, 1, 3, 0, 0, 1, 0, 65517]);
+    segment_again(&rt, rt.alloc(), 0, &frame, want, &frame);
 }
 
 /// Every reserved bit, the pad and the CRC are set: they are ignored, and written as zeros.
 #[test]
-fn ignored_bits(rt: HostRuntime) -> Result<(), Fail> {
+fn ignored_bits(rt: HostRuntime) {
     let full = b"\x00\x0f\xfd\x70\0\0\0\x01\0\0\0\0\0\0\0\0A\xff\xff\xff\xff\xff\xff\xff";
     let plain: &[u8] = b"\x00\x0f\xc1\x40\0\0\0\x01\0\0\0\0\0\0\0\0A\0\0\0\0\0\0\0";
-    let (len, numbers, written) = segment_again(rt.alloc(), full)?;
-    same(&rt, 0, (len, numbers), (24, [1, 1, 0, 1, 0, 0, 0, 1]));
-    same(&rt, 0, written.as_slice(), plain);
-    Ok(())
+    let want = (24, [1, 1, 0, 1, 0, 0, 0, 1]);
+    segment_again(&rt, rt.alloc(), 0, full, want, plain);
 }
 
 /// The length of the ULPDU, the two control bytes, the queue, and the reason.
@@ -332,24 +343,35 @@ fn hello_bytes(key: u8, flags: u8, revision: u8, private: u16) -> [u8; 532] {
     bytes
 }
 
+/// Ends the test where one of these numbers of bytes more is not what the hello needs: of 19 bytes, and of 20.
+fn needs(rt: &impl Abort, row: usize, side: Side, bytes: &[u8; 532], rest: usize) {
+    let awaited = Awaited::Hello(side);
+    same(rt, row, bytes_needed(awaited, &bytes[..19]), 1);
+    same(rt, row, bytes_needed(awaited, &bytes[..20]), rest);
+}
+
+/// Ends the test where the hello of these bytes is not answered so, and its first 19 as a part of one.
+fn answers(rt: &impl Abort, row: usize, side: Side, bytes: &[u8; 532], want: Result<usize, u32>) {
+    same(
+        rt,
+        row,
+        hello_answer(&read_hello(side, &bytes[..19])),
+        Err(MORE),
+    );
+    same(rt, row, hello_answer(&read_hello(side, bytes)), want);
+}
+
 #[test]
 fn hellos(rt: HostRuntime) {
     for (row, (side, key, flags, revision, private, want)) in HELLOS.iter().enumerate() {
         let bytes = hello_bytes(*key, *flags, *revision, *private);
-        let begun = &bytes[..19];
-        same(&rt, row, hello_answer(&read_hello(*side, begun)), Err(MORE));
-        same(&rt, row, hello_answer(&read_hello(*side, &bytes)), *want);
-        let awaited = Awaited::Hello(*side);
-        let needed = (
-            bytes_needed(awaited, begun),
-            bytes_needed(awaited, &bytes[..20]),
-        );
+        answers(&rt, row, *side, &bytes, *want);
         let rest = if want.is_ok() {
             usize::from(*private)
         } else {
             0
         };
-        same(&rt, row, needed, (1, rest));
+        needs(&rt, row, *side, &bytes, rest);
     }
 }
 
@@ -371,13 +393,17 @@ fn hello_fields(rt: HostRuntime) {
     }
 }
 
+/// Ends the test where the hello of these bytes is written as others.
+fn hello_written(rt: &impl Abort, alloc: Global, row: usize, side: Side, bytes: &[u8], len: usize) {
+    let written = hello_again(alloc, side, bytes).expect(rt, "memory");
+    same(rt, row, Some(written.as_slice()), bytes.get(..len));
+}
+
 #[test]
-fn hellos_written(rt: HostRuntime) -> Result<(), Memory> {
+fn hellos_written(rt: HostRuntime) {
     for (row, (side, key, flags, revision, private, want)) in HELLOS.iter().enumerate() {
         let bytes = hello_bytes(*key, *flags, *revision, *private);
-        let written = hello_again(rt.alloc(), *side, &bytes)?;
-        let front = bytes.get(..want.unwrap_or(0));
-        same(&rt, row, Some(written.as_slice()), front);
+        let len = want.unwrap_or(0);
+        hello_written(&rt, rt.alloc(), row, *side, &bytes, len);
     }
-    Ok(())
 }

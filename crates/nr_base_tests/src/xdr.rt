@@ -2,7 +2,8 @@
 
 use crate::compare::same;
 use nr_xdr::*;
-use std::test::Fail;
+use std::alloc::Global;
+use std::process::Abort;
 
 /// The name `a.txt` as opaque data (RFC 4506 section 4.10), with a pad that isn't zero.
 const NAME_WITH_OTHER_PAD: [u8; 12] = [0, 0, 0, 5, 0x61, 0x2e, 0x74, 0x78, 0x74, 0, 0, 0xff];
@@ -13,94 +14,117 @@ const ITEMS: [u8; 36] = [
     0, 0, 0, 0x61, 0x62, 0x63, 0x64, 0x65, 0, 0, 0,
 ];
 
-#[test]
-fn items_are_written(rt: HostRuntime) -> Result<(), Fail> {
-    one_reading();
-    let mut writer = Writer::new(rt.alloc());
+/// The items of `ITEMS`, one behind the other.
+fn put_items(writer: &mut Writer) -> Result<(), Memory> {
     writer.u32(100_003)?;
     writer.u64(0x0102_0304_0506_0708)?;
     writer.boolean(true)?;
     writer.opaque(b"a.txt")?;
-    writer.fixed(b"abcde")?;
+    writer.fixed(b"abcde")
+}
+
+#[test]
+fn items_are_written(rt: HostRuntime) {
+    one_reading();
+    let mut writer = Writer::new(rt.alloc());
+    put_items(&mut writer).expect(&rt, "memory");
     same(&rt, 0, writer.finish().as_slice(), ITEMS.as_slice());
-    Ok(())
+}
+
+/// The numbers at the front.
+fn numbers(reader: &mut Reader<'_>) -> Result<(u32, u64, bool), ItemFault> {
+    Ok((reader.u32()?, reader.u64()?, reader.boolean()?))
 }
 
 #[test]
 fn items_are_read(rt: HostRuntime) {
     let mut reader = Reader::new(&ITEMS);
-    same(&rt, 0, reader.u32(), Ok(100_003));
-    same(&rt, 1, reader.u64(), Ok(0x0102_0304_0506_0708));
-    same(&rt, 2, reader.boolean(), Ok(true));
+    let want = Ok((100_003, 0x0102_0304_0506_0708, true));
+    same(&rt, 0, numbers(&mut reader), want);
     same(&rt, 3, reader.opaque(5), Ok(b"a.txt".as_slice()));
-    same(&rt, 4, (reader.at(), reader.rest().len()), (28, 8));
-    same(&rt, 5, reader.fixed(5), Ok(b"abcde".as_slice()));
-    same(&rt, 6, reader.at(), 36);
-    let mut other_pad = Reader::new(&NAME_WITH_OTHER_PAD);
-    same(&rt, 7, other_pad.opaque(255), Ok(b"a.txt".as_slice()));
-    same(&rt, 8, other_pad.at(), 12);
+    last_item(&rt, &mut reader);
 }
 
-/// What opaque data of at most this many bytes is read as.
-fn data_fault(bytes: &[u8], max: u32) -> Option<ItemFault> {
-    Reader::new(bytes).opaque(max).err()
+/// The last of these items, which ends the bytes.
+fn last_item(rt: &impl Abort, reader: &mut Reader<'_>) {
+    same(rt, 4, (reader.at(), reader.rest().len()), (28, 8));
+    same(rt, 5, reader.fixed(5), Ok(b"abcde".as_slice()));
+    same(rt, 6, reader.at(), 36);
 }
 
 #[test]
-fn faults(rt: HostRuntime) {
-    let bytes = &NAME_WITH_OTHER_PAD;
-    let long = ItemFault::Long {
-        at: 0,
-        len: 5,
-        max: 4,
-    };
-    // The count is compared with the maximum before the data is looked for.
-    same(&rt, 0, data_fault(bytes, 4), Some(long));
-    same(&rt, 1, data_fault(&bytes[..5], 4), Some(long));
-    same(
-        &rt,
-        2,
-        data_fault(&bytes[..5], 5),
-        Some(ItemFault::Short { at: 0 }),
-    );
-    same(
-        &rt,
-        3,
-        data_fault(&bytes[..11], 255),
-        Some(ItemFault::Short { at: 0 }),
-    );
-    same(
-        &rt,
-        4,
-        data_fault(&bytes[..3], 255),
-        Some(ItemFault::Short { at: 0 }),
-    );
-    let mut reader = Reader::new(bytes);
-    same(&rt, 5, reader.boolean(), Err(ItemFault::BadBool { at: 0 }));
-    same(&rt, 6, reader.fixed(13), Err(ItemFault::Short { at: 0 }));
-    same(&rt, 7, reader.u32(), Ok(5));
-    same(&rt, 8, reader.fixed(9), Err(ItemFault::Short { at: 4 }));
-    same(&rt, 9, reader.u64().is_ok(), true);
-    same(&rt, 10, reader.u32(), Err(ItemFault::Short { at: 12 }));
-    same(&rt, 11, reader.u64(), Err(ItemFault::Short { at: 12 }));
-    same(&rt, 12, reader.boolean(), Err(ItemFault::Short { at: 12 }));
-    same(
-        &rt,
-        13,
-        (long.at(), ItemFault::BadBool { at: 7 }.at()),
-        (0, 7),
-    );
+fn pads_are_any_bytes(rt: HostRuntime) {
+    let mut reader = Reader::new(&NAME_WITH_OTHER_PAD);
+    same(&rt, 0, reader.opaque(255), Ok(b"a.txt".as_slice()));
+    same(&rt, 1, reader.at(), 12);
+}
+
+const LONG: ItemFault = ItemFault::Long {
+    at: 0,
+    len: 5,
+    max: 4,
+};
+
+const SHORT: ItemFault = ItemFault::Short { at: 0 };
+
+// The front of the name above, the most bytes of its data, and the fault. The count is compared with the maximum before the
+// data is looked for.
+static DATA: [(&[u8], u32, ItemFault); 5] = [
+    (&NAME_WITH_OTHER_PAD, 4, LONG),
+    (&[0, 0, 0, 5, 0x61], 4, LONG),
+    (&[0, 0, 0, 5, 0x61], 5, SHORT),
+    (
+        &[0, 0, 0, 5, 0x61, 0x2e, 0x74, 0x78, 0x74, 0, 0],
+        255,
+        SHORT,
+    ),
+    (&[0, 0, 0], 255, SHORT),
+];
+
+#[test]
+fn data_faults(rt: HostRuntime) {
+    for (row, (bytes, max, want)) in DATA.iter().enumerate() {
+        let got = Reader::new(bytes).opaque(*max).err();
+        same(&rt, row, got, Some(*want));
+    }
+    let places = (LONG.at(), ItemFault::BadBool { at: 7 }.at());
+    same(&rt, 5, places, (0, 7));
 }
 
 #[test]
-fn octets(rt: HostRuntime) -> Result<(), Fail> {
-    let mut octets = Octets::from_slice(rt.alloc(), b"hello")?;
+fn faults_at_the_front(rt: HostRuntime) {
+    let mut reader = Reader::new(&NAME_WITH_OTHER_PAD);
+    same(&rt, 0, reader.boolean(), Err(ItemFault::BadBool { at: 0 }));
+    same(&rt, 1, reader.fixed(13), Err(SHORT));
+    same(&rt, 2, reader.u32(), Ok(5));
+    same(&rt, 3, reader.fixed(9), Err(ItemFault::Short { at: 4 }));
+    same(&rt, 4, reader.u64().is_ok(), true);
+}
+
+#[test]
+fn faults_at_the_end(rt: HostRuntime) {
+    let mut reader = Reader::new(&NAME_WITH_OTHER_PAD);
+    same(&rt, 0, reader.fixed(12).is_ok(), true);
+    let short = ItemFault::Short { at: 12 };
+    same(&rt, 1, reader.u32(), Err(short));
+    same(&rt, 2, reader.u64(), Err(short));
+    same(&rt, 3, reader.boolean(), Err(short));
+}
+
+/// The octets `hello`, with other bytes from the second on, and one more.
+fn hippos(rt: &impl Abort, alloc: Global) -> Octets {
+    let mut octets = Octets::from_slice(alloc, b"hello").expect(rt, "memory");
     octets.overwrite(1, b"ipp");
-    same(&rt, 0, octets.as_slice(), b"hippo".as_slice());
-    octets.extend_from_slice(b"s")?;
+    same(rt, 0, octets.as_slice(), b"hippo".as_slice());
+    octets.extend_from_slice(b"s").expect(rt, "memory");
+    octets
+}
+
+#[test]
+fn octets(rt: HostRuntime) {
+    let octets = hippos(&rt, rt.alloc());
     same(&rt, 1, (octets.len(), octets.is_empty()), (6, false));
     let octets = Octets::from_vec(octets.into_vec());
     same(&rt, 2, octets.as_slice(), b"hippos".as_slice());
     same(&rt, 3, Octets::new(rt.alloc()).is_empty(), true);
-    Ok(())
 }

@@ -7,8 +7,7 @@ use Rattle.nr_nfs_base.specs.Names.{handle_codec, handle_lawful, text_codec, tex
 use Rattle.nr_nfs_base.specs.Verifier.{verifier_codec, verifier_lawful}
 use Rattle.nr_nfs_res.specs.declared.readdir.Entry.{Entry}
 use Rattle.nr_nfs_res.specs.declared.readdir.EntryPlus.{EntryPlus}
-use Rattle.nr_nfs_res.specs.declared.readdir.ReaddirOk.{ReaddirOk}
-use Rattle.nr_nfs_res.specs.declared.readdir.ReaddirplusOk.{ReaddirplusOk}
+use Rattle.nr_nfs_res.specs.declared.readdir.Listing.{Listing}
 
 -- an entry of a directory (RFC 1813 section 3.3.16, entry3)
 unfoldable pub entry_codec : Codec Entry
@@ -23,19 +22,25 @@ entry_lawful =
     structure_lawful _ _ _ (λ _. refl) (λ _. refl)
     (hyper_lawful ⊠ text_lawful ⊠ hyper_lawful)
 
--- the results of READDIR on success (RFC 1813 section 3.3.16)
-unfoldable pub readdir_ok_codec : Codec ReaddirOk
-readdir_ok_codec =
+-- a part of a directory, with entries of a kind (RFC 1813 sections 3.3.16 and 3.3.17)
+unfoldable pub listing_codec : {E : Type 0} → Codec E → Codec (Listing E)
+listing_codec c =
     structure (λ p. record { dir_attributes = p.0; verifier = p.1.0; entries = p.1.1.0; eof = p.1.1.1 })
     (λ v. v.dir_attributes & v.verifier & v.entries & v.eof)
-    ((optional attributes_codec) ⊗ verifier_codec ⊗ (linked_list entry_codec) ⊗ boolean)
+    ((optional attributes_codec) ⊗ verifier_codec ⊗ (linked_list c) ⊗ boolean)
 
-pub readdir_ok_lawful : Lawful readdir_ok_codec
-unfolding readdir_ok_codec
-readdir_ok_lawful =
+pub listing_lawful : {E : Type 0} (c : Codec E) → Lawful c → Lawful (listing_codec c)
+unfolding listing_codec
+listing_lawful c l =
     structure_lawful _ _ _ (λ _. refl) (λ _. refl)
-    ((optional_lawful _ attributes_lawful) ⊠ verifier_lawful ⊠ (linked_list_lawful _ entry_lawful)
-    ⊠ boolean_lawful)
+    ((optional_lawful _ attributes_lawful) ⊠ verifier_lawful ⊠ (linked_list_lawful c l) ⊠ boolean_lawful)
+
+-- the results of READDIR on success (RFC 1813 section 3.3.16)
+abbrev pub ReaddirOk : Type 0
+ReaddirOk = Listing Entry
+
+abbrev pub readdir_ok_codec : Codec ReaddirOk
+readdir_ok_codec = listing_codec entry_codec
 
 -- an entry of a directory and what it names (RFC 1813 section 3.3.17, entryplus3)
 unfoldable pub entry_plus_codec : Codec EntryPlus
@@ -58,15 +63,8 @@ entry_plus_lawful =
     ⊠ (optional_lawful _ handle_lawful))
 
 -- the results of READDIRPLUS on success (RFC 1813 section 3.3.17)
-unfoldable pub readdirplus_ok_codec : Codec ReaddirplusOk
-readdirplus_ok_codec =
-    structure (λ p. record { dir_attributes = p.0; verifier = p.1.0; entries = p.1.1.0; eof = p.1.1.1 })
-    (λ v. v.dir_attributes & v.verifier & v.entries & v.eof)
-    ((optional attributes_codec) ⊗ verifier_codec ⊗ (linked_list entry_plus_codec) ⊗ boolean)
+abbrev pub ReaddirplusOk : Type 0
+ReaddirplusOk = Listing EntryPlus
 
-pub readdirplus_ok_lawful : Lawful readdirplus_ok_codec
-unfolding readdirplus_ok_codec
-readdirplus_ok_lawful =
-    structure_lawful _ _ _ (λ _. refl) (λ _. refl)
-    ((optional_lawful _ attributes_lawful) ⊠ verifier_lawful ⊠ (linked_list_lawful _ entry_plus_lawful)
-    ⊠ boolean_lawful)
+abbrev pub readdirplus_ok_codec : Codec ReaddirplusOk
+readdirplus_ok_codec = listing_codec entry_plus_codec

@@ -1,8 +1,8 @@
 -- The results of each procedure: the type of their values, and its codec (RFC 1813 sections 3.3 and 5.2). Most are a status,
 -- and then one part behind the status 0, another behind any other.
-use Rattle.std.specs.Prelude.{Bool, List, Option, ℕ}
+use Rattle.std.specs.Prelude.{Bool, Option, ℕ}
 use Rattle.nr_nfs_base.specs.Attributes.{attributes_codec}
-use Rattle.nr_nfs_base.specs.Codec.{Codec, void, optional, ReadsAs, ◌&◌}
+use Rattle.nr_nfs_base.specs.Codec.{Codec, void, optional, ◌&◌}
 use Rattle.nr_nfs_base.specs.Fronts.{success}
 use Rattle.nr_nfs_base.specs.MountStatus.{mount_status_number, mount_statuses}
 use Rattle.nr_nfs_base.specs.StatusUnion.{status_union_codec}
@@ -27,7 +27,7 @@ use Rattle.nr_nfs_res.specs.FileSystem.{fsinfo_ok_codec, fsstat_ok_codec, pathco
 use Rattle.nr_nfs_res.specs.Lookup.{lookup_ok_codec, readlink_ok_codec}
 use Rattle.nr_nfs_res.specs.Mount.{mount_ok_codec, umnt_res_codec, umntall_res_codec}
 use Rattle.nr_nfs_res.specs.Null.{null_res_codec}
-use Rattle.nr_nfs_res.specs.Readdir.{readdir_ok_codec, readdirplus_ok_codec}
+use Rattle.nr_nfs_res.specs.Readdir.{ReaddirOk, readdir_ok_codec, ReaddirplusOk, readdirplus_ok_codec}
 use Rattle.nr_nfs_res.specs.Remove.{link_wcc_codec, rename_wcc_codec}
 use Rattle.nr_nfs_res.specs.declared.attributes.AccessOk.{AccessOk}
 use Rattle.nr_nfs_res.specs.declared.bytes.CommitOk.{CommitOk}
@@ -43,8 +43,6 @@ use Rattle.nr_nfs_res.specs.declared.mount.MountOk.{MountOk}
 use Rattle.nr_nfs_res.specs.declared.mount.UmntRes.{UmntRes}
 use Rattle.nr_nfs_res.specs.declared.mount.UmntallRes.{UmntallRes}
 use Rattle.nr_nfs_res.specs.declared.null.NullRes.{NullRes}
-use Rattle.nr_nfs_res.specs.declared.readdir.ReaddirOk.{ReaddirOk}
-use Rattle.nr_nfs_res.specs.declared.readdir.ReaddirplusOk.{ReaddirplusOk}
 use Rattle.nr_nfs_res.specs.declared.remove.LinkWcc.{LinkWcc}
 use Rattle.nr_nfs_res.specs.declared.remove.RenameWcc.{RenameWcc}
 

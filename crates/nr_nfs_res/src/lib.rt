@@ -28,5 +28,7 @@ pub use laws::{fronts_of_results, results};
 pub use lookup::{LookupOk, LookupRes, ReadlinkOk, ReadlinkRes};
 pub use mount::{MntRes, MountOk, UmntRes, UmntallRes};
 pub use null::NullRes;
-pub use readdir::{Entry, EntryPlus, ReaddirOk, ReaddirRes, ReaddirplusOk, ReaddirplusRes};
+pub use readdir::{
+    Entry, EntryPlus, Listing, ReaddirOk, ReaddirRes, ReaddirplusOk, ReaddirplusRes,
+};
 pub use remove::{LinkRes, LinkWcc, RemoveRes, RenameRes, RenameWcc, RmdirRes};

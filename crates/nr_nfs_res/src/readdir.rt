@@ -1,6 +1,6 @@
 //! READDIR and READDIRPLUS.
 
-ghost use Rattle.nr_nfs_res.specs.Readdir.{entry_codec, entry_lawful, entry_plus_codec, entry_plus_lawful, readdir_ok_codec, readdir_ok_lawful, readdirplus_ok_codec, readdirplus_ok_lawful};
+ghost use Rattle.nr_nfs_res.specs.Readdir.{entry_codec, entry_lawful, entry_plus_codec, entry_plus_lawful, listing_codec, listing_lawful};
 
 use nr_nfs_base::{
     Attributes, Handle, LinkedList, Name, StatusUnion, ValueFault, Verifier, Xdr, write_four,
@@ -40,32 +40,32 @@ impl Xdr for Entry {
     }
 }
 
-/// The results of READDIR on success (RFC 1813 section 3.3.16).
+/// A part of a directory: the results of READDIR and READDIRPLUS on success (RFC 1813 sections 3.3.16 and 3.3.17).
 #[derive(Drop)]
-pub struct ReaddirOk {
+pub struct Listing<E> {
     pub dir_attributes: Option<Attributes>,
     pub verifier: Verifier,
-    pub entries: LinkedList<Entry>,
+    pub entries: LinkedList<E>,
     /// No entry follows these.
     pub eof: bool,
 }
 
-#[tactic(auto, unfolding(crate::specs::Readdir::readdir_ok_codec))]
-impl Xdr for ReaddirOk {
-    ghost codec = { readdir_ok_codec };
+#[tactic(auto, unfolding(crate::specs::Readdir::listing_codec))]
+impl<E: Xdr> Xdr for Listing<E> {
+    ghost codec = { listing_codec E.codec };
 
-    ghost lawful = { readdir_ok_lawful };
+    ghost lawful = { listing_lawful E.codec E.lawful };
 
     fn read_from<'a>(
         alloc: Global,
         reader: Reader<'a>,
-    ) -> Result<(ReaddirOk, Reader<'a>), ValueFault> {
+    ) -> Result<(Listing<E>, Reader<'a>), ValueFault> {
         let ((dir_attributes, (verifier, (entries, eof))), reader) = <(
             Option<Attributes>,
-            (Verifier, (LinkedList<Entry>, bool)),
+            (Verifier, (LinkedList<E>, bool)),
         )>::read_from(alloc, reader)?;
         Ok((
-            ReaddirOk {
+            Listing {
                 dir_attributes,
                 verifier,
                 entries,
@@ -85,6 +85,9 @@ impl Xdr for ReaddirOk {
         )
     }
 }
+
+/// The results of READDIR on success (RFC 1813 section 3.3.16).
+pub type ReaddirOk = Listing<Entry>;
 
 /// The results of READDIR (RFC 1813 section 3.3.16).
 pub type ReaddirRes = StatusUnion<ReaddirOk, Option<Attributes>>;
@@ -136,50 +139,7 @@ impl Xdr for EntryPlus {
 }
 
 /// The results of READDIRPLUS on success (RFC 1813 section 3.3.17).
-#[derive(Drop)]
-pub struct ReaddirplusOk {
-    pub dir_attributes: Option<Attributes>,
-    pub verifier: Verifier,
-    pub entries: LinkedList<EntryPlus>,
-    /// No entry follows these.
-    pub eof: bool,
-}
-
-#[tactic(auto, unfolding(crate::specs::Readdir::readdirplus_ok_codec))]
-impl Xdr for ReaddirplusOk {
-    ghost codec = { readdirplus_ok_codec };
-
-    ghost lawful = { readdirplus_ok_lawful };
-
-    fn read_from<'a>(
-        alloc: Global,
-        reader: Reader<'a>,
-    ) -> Result<(ReaddirplusOk, Reader<'a>), ValueFault> {
-        let ((dir_attributes, (verifier, (entries, eof))), reader) = <(
-            Option<Attributes>,
-            (Verifier, (LinkedList<EntryPlus>, bool)),
-        )>::read_from(alloc, reader)?;
-        Ok((
-            ReaddirplusOk {
-                dir_attributes,
-                verifier,
-                entries,
-                eof,
-            },
-            reader,
-        ))
-    }
-
-    fn write_to(&self, writer: Writer) -> Result<Writer, Memory> {
-        write_four(
-            &self.dir_attributes,
-            &self.verifier,
-            &self.entries,
-            &self.eof,
-            writer,
-        )
-    }
-}
+pub type ReaddirplusOk = Listing<EntryPlus>;
 
 /// The results of READDIRPLUS (RFC 1813 section 3.3.17).
 pub type ReaddirplusRes = StatusUnion<ReaddirplusOk, Option<Attributes>>;

@@ -19,7 +19,7 @@ use Rattle.nr_tree.specs.Steps.{IsFree, is_dir_at, IsNew, CanAddNode}
 use Rattle.nr_tree.specs.Rules.{first, number_of_handle}
 use Rattle.nr_tree.proofs.PassedRules.{AllClear, all_clear, clear}
 use Rattle.nr_ops_dir.specs.Entries.{is_taken, entry_rules}
-use Rattle.nr_ops_dir.specs.Creation.{new_name_rules, mkdir_rules, new_directory, symlink_rules, new_link, special_content, special_attributes, mknod_rules, new_special}
+use Rattle.nr_ops_dir.specs.Creation.{new_name_rules, mkdir_rules, new_directory, path_rules, symlink_rules, new_link, special_content, special_attributes, mknod_rules, new_special}
 use Rattle.nr_nfs_args.specs.declared.special.MknodData.TheVariants as data_of
 use Rattle.nr_ops_dir.proofs.Passed.{directory_passed, free_name, links_passed}
 
@@ -56,8 +56,9 @@ pub can_make_link : (t : Tree) (c : Caller) (space : Space) (now : Time) (args :
 can_make_link t c space now args none =
     let all : AllClear (symlink_rules t c space args) = all_clear (symlink_rules t c space args) none in
     let place : IsPlace t args.dir args.name = place_passed t c args.dir args.name args.attributes all.0 in
-    let some : length args.path ≡ 0 → ⊥ = eqb-false (length args.path) 0 (clear (eqb (length args.path) 0) Inval all.1.0) in
-    let few : length args.path ≤ 1024 = ltb-false 1024 (length args.path) (clear (ltb 1024 (length args.path)) Nametoolong all.1.1.0) in
+    let path : AllClear (path_rules args.path) = all_clear (path_rules args.path) all.1.0 in
+    let some : length args.path ≡ 0 → ⊥ = eqb-false (length args.path) 0 (clear (eqb (length args.path) 0) Inval path.0) in
+    let few : length args.path ≤ 1024 = ltb-false 1024 (length args.path) (clear (ltb 1024 (length args.path)) Nametoolong path.1.0) in
     record {
       directory = place.directory;
       free = place.free;

@@ -57,7 +57,7 @@ module _ (t : Tree) (limits : Limits) (list : List Entry) (place : ℕ) where
 
   pub record IsCounted (entries names count : ℕ) : Type 0 where
     pub bounded : place + count ≤ length list
-    pub entries_are : entries ≡ total (size_in t limits.listing) (taken count)
+    pub entries_are : entries ≡ total (size_in t limits.detail) (taken count)
     pub names_are : names ≡ total name_size (taken count)
     pub entries_within : entries ≤ limits.entries
     pub names_within : names ≤ limits.names
@@ -80,21 +80,21 @@ module _ (t : Tree) (limits : Limits) (list : List Entry) (place : ℕ) where
     one_more : taken (count + 1) ≡ taken count ++ e ∷ []
     one_more = take-add count 1 (drop place list) ∙ ap (λ (l : List Entry). taken count ++ take 1 l) (drop_drop place count list ∙ next)
 
-    entries_next : total (size_in t limits.listing) (taken count ++ e ∷ []) ≡ entries + size_in t limits.listing e
-    entries_next = omega (arith, total-append (size_in t limits.listing) (taken count) (e ∷ []), is.entries_are)
+    entries_next : total (size_in t limits.detail) (taken count ++ e ∷ []) ≡ entries + size_in t limits.detail e
+    entries_next = omega (arith, total-append (size_in t limits.detail) (taken count) (e ∷ []), is.entries_are)
 
     names_next : total name_size (taken count ++ e ∷ []) ≡ names + name_size e
     names_next = omega (arith, total-append name_size (taken count) (e ∷ []), is.names_are)
 
-    fits_by : (b c : Bool) → leb (total (size_in t limits.listing) (taken count ++ e ∷ [])) limits.entries ≡ b → leb (total name_size (taken count ++ e ∷ [])) limits.names ≡ c
+    fits_by : (b c : Bool) → leb (total (size_in t limits.detail) (taken count ++ e ∷ [])) limits.entries ≡ b → leb (total name_size (taken count ++ e ∷ [])) limits.names ≡ c
         → within t limits (taken count ++ e ∷ []) ≡ (b && c)
     fits_by b c p q = λ i. p i && q i
 
-    pub counted_more : entries + size_in t limits.listing e ≤ limits.entries → names + name_size e ≤ limits.names → place + count < length list
-        → IsCounted (entries + size_in t limits.listing e) (names + name_size e) (count + 1)
+    pub counted_more : entries + size_in t limits.detail e ≤ limits.entries → names + name_size e ≤ limits.names → place + count < length list
+        → IsCounted (entries + size_in t limits.detail e) (names + name_size e) (count + 1)
     counted_more le_entries le_names lt = record {
       bounded = omega (arith, lt);
-      entries_are = sym (ap (total (size_in t limits.listing)) one_more ∙ entries_next);
+      entries_are = sym (ap (total (size_in t limits.detail)) one_more ∙ entries_next);
       names_are = sym (ap (total name_size) one_more ∙ names_next);
       entries_within = le_entries;
       names_within = le_names;
@@ -108,25 +108,25 @@ module _ (t : Tree) (limits : Limits) (list : List Entry) (place : ℕ) where
           ∙ is.rest;
     }
 
-    no_fit : (limits.entries < entries + size_in t limits.listing e) ⊎ (limits.names < names + name_size e) → within t limits (taken count ++ e ∷ []) ≡ false
-    no_fit (inl lt) = λ i. lt-leb (total (size_in t limits.listing) (taken count ++ e ∷ [])) limits.entries (omega (arith, entries_next, lt)) i && leb (total name_size (taken count ++ e ∷ [])) limits.names
-    no_fit (inr lt) = by (leb (total (size_in t limits.listing) (taken count ++ e ∷ [])) limits.entries) (lt-leb (total name_size (taken count ++ e ∷ [])) limits.names (omega (arith, names_next, lt))) where
+    no_fit : (limits.entries < entries + size_in t limits.detail e) ⊎ (limits.names < names + name_size e) → within t limits (taken count ++ e ∷ []) ≡ false
+    no_fit (inl lt) = λ i. lt-leb (total (size_in t limits.detail) (taken count ++ e ∷ [])) limits.entries (omega (arith, entries_next, lt)) i && leb (total name_size (taken count ++ e ∷ [])) limits.names
+    no_fit (inr lt) = by (leb (total (size_in t limits.detail) (taken count ++ e ∷ [])) limits.entries) (lt-leb (total name_size (taken count ++ e ∷ [])) limits.names (omega (arith, names_next, lt))) where
       by : (b : Bool) → leb (total name_size (taken count ++ e ∷ [])) limits.names ≡ false → (b && leb (total name_size (taken count ++ e ∷ [])) limits.names) ≡ false
       by true p = p
       by false p = refl
 
-    pub counted_stops : (limits.entries < entries + size_in t limits.listing e) ⊎ (limits.names < names + name_size e) → taken count ≡ longest (within t limits) [] (drop place list)
+    pub counted_stops : (limits.entries < entries + size_in t limits.detail e) ⊎ (limits.names < names + name_size e) → taken count ≡ longest (within t limits) [] (drop place list)
     counted_stops over = sym (stops (within t limits) (taken count) e (drop (place + count + 1) list) (no_fit over)) ∙ ap (longest (within t limits) (taken count)) (sym next) ∙ is.rest
 
   pub counted_ends : (entries names count : ℕ) → IsCounted entries names count → length list ≤ place + count → taken count ≡ longest (within t limits) [] (drop place list)
   counted_ends entries names count is le = ap (longest (within t limits) (taken count)) (sym (past_end list (place + count) le)) ∙ is.rest
 
   -- the same by the sizes that the code found
-  pub is_counted : (entries names count : ℕ) (e : Entry) (size name : ℕ) → size_in t limits.listing e ≡ size → name_size e ≡ name → IsCounted entries names count → slice_get list (place + count) ≡ Some e
+  pub is_counted : (entries names count : ℕ) (e : Entry) (size name : ℕ) → size_in t limits.detail e ≡ size → name_size e ≡ name → IsCounted entries names count → slice_get list (place + count) ≡ Some e
       → entries + size ≤ limits.entries → names + name ≤ limits.names → place + count < length list → IsCounted (entries + size) (names + name) (count + 1)
   is_counted entries names count e size name same_size same_name is at le_entries le_names lt =
       subst (λ (s : ℕ). IsCounted (entries + s) (names + name) (count + 1)) same_size
-      (subst (λ (n : ℕ). IsCounted (entries + size_in t limits.listing e) (names + n) (count + 1)) same_name
+      (subst (λ (n : ℕ). IsCounted (entries + size_in t limits.detail e) (names + n) (count + 1)) same_name
       (counted_more entries names count e is at (omega (arith, same_size, le_entries)) (omega (arith, same_name, le_names)) lt))
 
 -- ===== the entries as they are sent

@@ -80,7 +80,7 @@ mkdir-below limit t c space now args below =
 -- ===== SYMLINK
 
 pub symlink-space : (t : Tree) (c : Caller) (space : Space) (args : SymlinkArgs) → first (symlink_rules t c space args) ≡ None → space_rule space ≡ None
-symlink-space t c space args none = let all : AllClear (symlink_rules t c space args) = all_clear (symlink_rules t c space args) none in all.1.1.1.0
+symlink-space t c space args none = let all : AllClear (symlink_rules t c space args) = all_clear (symlink_rules t c space args) none in all.1.1.0
 
 pub symlink-below : (limit : ℕ) (t : Tree) (c : Caller) (space : Space) (now : Time) (args : SymlinkArgs) → IsBelow limit t → IsBelow (limit + 1) (symlink_tree t c space now args)
 symlink-below limit t c space now args below =

@@ -30,7 +30,8 @@ use Rattle.nr_tree.proofs.Contents.{directory_at, found_none}
 use Rattle.nr_tree.proofs.StepLemmas.{not_next}
 use Rattle.nr_tree.specs.declared.rules.Space.{Space}
 use Rattle.nr_ops_dir.specs.Entries.{number_of_entry}
-use Rattle.nr_ops_dir.specs.Creation.{attributes_of_number, create_ok}
+use Rattle.nr_ops_dir.specs.Creation.{create_ok}
+use Rattle.nr_ops_dir.specs.Nodes.{attributes_of_number}
 use Rattle.nr_ops_dir.specs.Create.{size_to_set, tree_with_existing_file, tree_with_file, create_rules, create_reply}
 
 -- what a reply tells where the name leads to a node

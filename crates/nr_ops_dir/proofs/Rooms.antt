@@ -23,8 +23,8 @@ use Rattle.nr_ops_dir.specs.Readdir.{longest, goes_on, total, name_size, largest
 use Rattle.nr_ops_dir.specs.Sizes.{entry_size, size_in, empty_size, within, IsRange}
 use Rattle.nr_ops_dir.specs.declared.listings.Limits.{Limits}
 use Rattle.nr_ops_dir.specs.declared.listings.Range.{Range}
-use Rattle.nr_ops_dir.specs.declared.listings.Listing.{Listing}
-use Rattle.nr_ops_dir.specs.declared.listings.Listing.TheVariants.{Names, Nodes}
+use Rattle.nr_ops_dir.specs.declared.listings.Detail.{Detail}
+use Rattle.nr_ops_dir.specs.declared.listings.Detail.TheVariants.{Names, Nodes}
 use Rattle.nr_ops_dir.proofs.Sizes.{readdir_size, readdirplus_size}
 use Rattle.nr_ops_dir.proofs.Counting.{longest-same}
 
@@ -75,7 +75,7 @@ min_within n = omega arith
 
 module _ (t : Tree) (args : ReaddirArgs) (v : Node) (named : node_of_handle t args.dir ≡ Some v) where
   abbrev limits : Limits
-  limits = record { listing = Names; entries = min args.count largest_listing - empty_size; names = 4294967295 }
+  limits = record { detail = Names; entries = min args.count largest_listing - empty_size; names = 4294967295 }
 
   size_is : (es : List Entry) → readdir_fits t args es ≡ leb (empty_size + total entry_size es) (min args.count largest_listing)
   size_is es = ap (λ (n : ℕ). leb n (min args.count largest_listing)) (readdir_size t args.dir v es false named)
@@ -105,7 +105,7 @@ module _ (t : Tree) (args : ReaddirArgs) (v : Node) (named : node_of_handle t ar
 
 module _ (t : Tree) (args : ReaddirplusArgs) (v : Node) (named : node_of_handle t args.dir ≡ Some v) where
   abbrev limits_plus : Limits
-  limits_plus = record { listing = Nodes; entries = min args.maxcount largest_listing - empty_size; names = args.dircount }
+  limits_plus = record { detail = Nodes; entries = min args.maxcount largest_listing - empty_size; names = args.dircount }
 
   size_plus : (es : List Entry) → readdirplus_fits t args es ≡ (leb (empty_size + total (size_in t Nodes) es) (min args.maxcount largest_listing) && leb (total name_size es) args.dircount)
   size_plus es = ap (λ (n : ℕ). leb n (min args.maxcount largest_listing) && leb (total name_size es) args.dircount) (readdirplus_size t args.dir v es false named)
@@ -150,7 +150,7 @@ matched P R Q S (Err e) ok err m = err e m
 module _ (t : Tree) (c : Caller) (args : ReaddirArgs) (v : Node) (d : Entries) (sane : IsSane t) (handled : handle_rule t args.dir ≡ None) (named : node_of_handle t args.dir ≡ Some v)
     (passed : first (listing_rules c args.cookie args.verifier v) ≡ None) (is : v.content ≡ Directory d) (le : empty_size ≤ min args.count largest_listing) where
   abbrev limits_of_readdir : Limits
-  limits_of_readdir = record { listing = Names; entries = min args.count largest_listing - empty_size; names = 4294967295 }
+  limits_of_readdir = record { detail = Names; entries = min args.count largest_listing - empty_size; names = 4294967295 }
 
   left_of_readdir : readdir_left t args ≡ entries_after args.cookie d.list
   left_of_readdir = readdir-left t args v named d is
@@ -188,7 +188,7 @@ module _ (t : Tree) (c : Caller) (args : ReaddirArgs) (v : Node) (d : Entries) (
 module _ (t : Tree) (c : Caller) (args : ReaddirplusArgs) (v : Node) (d : Entries) (sane : IsSane t) (handled : handle_rule t args.dir ≡ None) (named : node_of_handle t args.dir ≡ Some v)
     (passed : first (listing_rules c args.cookie args.verifier v) ≡ None) (is : v.content ≡ Directory d) (le : empty_size ≤ min args.maxcount largest_listing) where
   abbrev limits_of_readdirplus : Limits
-  limits_of_readdirplus = record { listing = Nodes; entries = min args.maxcount largest_listing - empty_size; names = args.dircount }
+  limits_of_readdirplus = record { detail = Nodes; entries = min args.maxcount largest_listing - empty_size; names = args.dircount }
 
   left_of_readdirplus : readdirplus_left t args ≡ entries_after args.cookie d.list
   left_of_readdirplus = readdirplus-left t args v named d is

@@ -15,18 +15,16 @@ use Rattle.nr_nfs_base.specs.Time.{time_codec}
 use Rattle.nr_nfs_base.specs.Verifier.{verifier_codec}
 use Rattle.nr_nfs_base.specs.Names.{handle_codec, text_codec}
 use Rattle.nr_nfs_base.specs.declared.attributes.Attributes.{Attributes}
-use Rattle.nr_nfs_res.specs.Readdir.{entry_codec, entry_plus_codec, readdir_ok_codec, readdirplus_ok_codec}
-use Rattle.nr_nfs_res.specs.declared.readdir.ReaddirOk.{ReaddirOk}
-use Rattle.nr_nfs_res.specs.declared.readdir.ReaddirplusOk.{ReaddirplusOk}
+use Rattle.nr_nfs_res.specs.Readdir.{ReaddirOk, ReaddirplusOk, entry_codec, entry_plus_codec, listing_codec, readdir_ok_codec, readdirplus_ok_codec}
 use Rattle.nr_tree.specs.Entries.{Entry}
 use Rattle.nr_tree.specs.Tree.{Tree, attributes_of}
 use Rattle.nr_tree.specs.Rules.{handle_of, number_of_handle, node_of_handle}
 use Rattle.nr_tree.specs.Replies.{attributes_at}
 use Rattle.nr_tree.specs.declared.node.Node.{Node}
-use Rattle.nr_ops_dir.specs.Nodes.{attributes_under, handle_under}
+use Rattle.nr_ops_dir.specs.Nodes.{attributes_of_number, handle_of_live}
 use Rattle.nr_ops_dir.specs.Readdir.{listed, listed_plus, readdir_ok, readdirplus_ok, cookie_verifier, total}
 use Rattle.nr_ops_dir.specs.Sizes.{entry_size, node_size, size_in, empty_size}
-use Rattle.nr_ops_dir.specs.declared.listings.Listing.TheVariants.{Names, Nodes}
+use Rattle.nr_ops_dir.specs.declared.listings.Detail.TheVariants.{Names, Nodes}
 
 -- ===== items
 
@@ -120,7 +118,7 @@ plus_parts : (e : Entry) (a : Option Attributes) (h : Option (List ℕ))
 plus_parts e a h = omega (arith, plus_items e a h, items_size-append ((optional attributes_codec).items a) ((optional handle_codec).items h))
 
 plus_entry : (t : Tree) (e : Entry) → items_size ((optional entry_plus_codec).items (Some (listed_plus t e))) ≡ entry_size e + node_size t e.number
-plus_entry t e = omega (arith, plus_parts e (attributes_under t e.number) (handle_under t e.number), node_part_by e.number (get t.nodes e.number))
+plus_entry t e = omega (arith, plus_parts e (attributes_of_number t e.number) (handle_of_live t e.number), node_part_by e.number (get t.nodes e.number))
 
 pub plus_list : (t : Tree) (es : List Entry) → items_size ((linked_list entry_plus_codec).items (map (listed_plus t) es)) ≡ total (size_in t Nodes) es + 4
 unfolding linked_list optional boolean
@@ -132,7 +130,7 @@ plus_list t (e ∷ es) = omega (arith, items_size-append ((optional entry_plus_c
 readdir_items : (a : Option Attributes) (es : List Entry) (eof : Bool)
     → items_size (readdir_ok_codec.items (record { dir_attributes = a; verifier = cookie_verifier; entries = map listed es; eof = eof }))
     ≡ items_size ((optional attributes_codec).items a ++ (Hyper 0 ∷ ((linked_list entry_codec).items (map listed es) ++ Boolean eof ∷ [])))
-unfolding readdir_ok_codec verifier_codec hyper_codec boolean
+unfolding listing_codec verifier_codec hyper_codec boolean
 readdir_items a es eof = refl
 
 readdir_parts : (a : Option Attributes) (es : List Entry) (eof : Bool)
@@ -157,7 +155,7 @@ readdir_size t h v es eof e =
 readdirplus_items : (t : Tree) (a : Option Attributes) (es : List Entry) (eof : Bool)
     → items_size (readdirplus_ok_codec.items (record { dir_attributes = a; verifier = cookie_verifier; entries = map (listed_plus t) es; eof = eof }))
     ≡ items_size ((optional attributes_codec).items a ++ (Hyper 0 ∷ ((linked_list entry_plus_codec).items (map (listed_plus t) es) ++ Boolean eof ∷ [])))
-unfolding readdirplus_ok_codec verifier_codec hyper_codec boolean
+unfolding listing_codec verifier_codec hyper_codec boolean
 readdirplus_items t a es eof = refl
 
 readdirplus_parts : (t : Tree) (a : Option Attributes) (es : List Entry) (eof : Bool)

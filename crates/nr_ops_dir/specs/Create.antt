@@ -70,7 +70,7 @@ size_to_set (Exclusive verifier) = None
 abbrev pub tree_with_existing_file : Tree → Time → CreateHow → ℕ → Tree
 tree_with_existing_file t now how n = option_map_or (λ size. tree_with_size t now n size) (size_to_set how) t
 
--- ===== CREATE: the handle; the name; the directory's type and rights; EXIST for . and ..; as above; NOSPC
+-- ===== CREATE (section 3.3.8): the handle; the name; the directory's type and rights; EXIST for . and ..; as above; NOSPC
 
 abbrev pub file_rules : Tree → Caller → CreateHow → Option ℕ → List (Option Status)
 file_rules t c how None = new_file_rules c (given_attributes how)

@@ -28,6 +28,7 @@ use Rattle.nr_tree.specs.Sane.{longest_path}
 use Rattle.nr_tree.specs.Changes.{tree_with_node}
 use Rattle.nr_tree.specs.Rules.{first, ◌⇒◌, after, answer, number_of_handle, handle_of, handle_rule, space_rule, time_rule, time_after}
 use Rattle.nr_tree.specs.Replies.{wcc_data}
+use Rattle.nr_ops_dir.specs.Nodes.{attributes_of_number}
 use Rattle.nr_ops_dir.specs.Entries.{number_of_entry, is_taken, entry_rules, links_rule}
 
 -- ===== a new node
@@ -77,9 +78,6 @@ nothing_given = record { mode = None; uid = None; gid = None; size = None; atime
 
 -- ===== the reply: the handle and the attributes of what the name leads to afterwards
 
-abbrev pub attributes_of_number : Tree → ℕ → Option Attributes
-attributes_of_number t n = option_map (attributes_of n) (get t.nodes n)
-
 abbrev pub create_ok : Tree → Tree → List ℕ → List ℕ → CreateOk
 create_ok old new h name = record {
   object = option_map handle_of (number_of_entry new (number_of_handle h) name);
@@ -97,7 +95,7 @@ new_name_rules t c h name a =
     owner_rule c a ∷
     time_rule a ∷ []
 
--- ===== MKDIR: as above; MLINK of the directory; NOSPC
+-- ===== MKDIR (section 3.3.9): as above; MLINK of the directory; NOSPC
 
 abbrev pub mkdir_rules : Tree → Caller → Space → MkdirArgs → List (Option Status)
 mkdir_rules t c space args =
@@ -119,13 +117,17 @@ abbrev pub mkdir_reply : Tree → Caller → Space → Time → MkdirArgs → St
 mkdir_reply t c space now args =
     answer (first (mkdir_rules t c space args)) (λ s. Failed s (wcc_data t t args.dir)) (Done (create_ok t (mkdir_tree t c space now args) args.dir args.name))
 
--- ===== SYMLINK: as above; INVAL for an empty path; NAMETOOLONG; NOSPC
+-- ===== SYMLINK (section 3.3.10): as above; INVAL for an empty path; NAMETOOLONG; NOSPC
+
+abbrev pub path_rules : List ℕ → List (Option Status)
+path_rules path =
+    (length path == 0 ⇒ Inval) ∷
+    (nat_lt longest_path (length path) ⇒ Nametoolong) ∷ []
 
 abbrev pub symlink_rules : Tree → Caller → Space → SymlinkArgs → List (Option Status)
 symlink_rules t c space args =
     first (new_name_rules t c args.dir args.name args.attributes) ∷
-    (length args.path == 0 ⇒ Inval) ∷
-    (nat_lt longest_path (length args.path) ⇒ Nametoolong) ∷
+    first (path_rules args.path) ∷
     space_rule space ∷ []
 
 abbrev pub new_link : Caller → Time → SymlinkArgs → Node
@@ -139,7 +141,7 @@ abbrev pub symlink_reply : Tree → Caller → Space → Time → SymlinkArgs �
 symlink_reply t c space now args =
     answer (first (symlink_rules t c space args)) (λ s. Failed s (wcc_data t t args.dir)) (Done (create_ok t (symlink_tree t c space now args) args.dir args.name))
 
--- ===== MKNOD: the handle; BADTYPE; as above; PERM for a device; NOSPC
+-- ===== MKNOD (section 3.3.11): the handle; BADTYPE; as above; PERM for a device; NOSPC
 
 -- what MKNOD makes: devices, sockets and pipes, and no other type
 abbrev pub special_content : MknodData → Option Content

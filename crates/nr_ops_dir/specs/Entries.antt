@@ -28,7 +28,7 @@ has_entries t n = nat_lt 0 (length (entries_at t n))
 abbrev pub directory_rule : Tree → Caller → ℕ → Option Status
 directory_rule t c d = first (on (get t.nodes d) (change_rules c))
 
--- the handle of a directory, the name of an entry, the directory's type and rights
+-- in this order: BADHANDLE or STALE for a directory's handle; ACCES or NAMETOOLONG for an entry's name; NOTDIR, then ACCES without the rights to write and to search
 abbrev pub entry_rules : Tree → Caller → List ℕ → List ℕ → List (Option Status)
 entry_rules t c h name =
     handle_rule t h ∷

@@ -25,7 +25,7 @@ link_place_rules t c args =
     first (name_rules args.name) ∷
     directory_rule t c (number_of_handle args.dir) ∷ []
 
--- LINK: the file's handle; the directory's handle; ISDIR of the file; the name; the directory's type and rights; EXIST for a name that is there, . and ..; MLINK; NOSPC
+-- LINK (section 3.3.15): the file's handle; the directory's handle; ISDIR of the file; the name; the directory's type and rights; EXIST for a name that is there, . and ..; MLINK; NOSPC
 abbrev pub link_rules : Tree → Caller → Space → LinkArgs → List (Option Status)
 link_rules t c space args =
     first (link_place_rules t c args) ∷

@@ -16,7 +16,7 @@ use Rattle.nr_tree.specs.Rules.{first, ◌⇒◌, on, answer, handle_of, number_
 use Rattle.nr_tree.specs.Replies.{attributes_at}
 use Rattle.nr_tree.specs.declared.node.Node.{Node}
 use Rattle.nr_tree.specs.declared.rules.Right.TheVariants.{Execute}
-use Rattle.nr_ops_dir.specs.Nodes.{attributes_under}
+use Rattle.nr_ops_dir.specs.Nodes.{attributes_of_number}
 
 -- `.` is the directory, `..` the one that names it, and of the root the root; another name leads to its entry's node
 abbrev pub number_of_name : ℕ → List ℕ → Node → Option ℕ
@@ -40,7 +40,7 @@ abbrev pub found_by : Tree → LookupArgs → Option ℕ
 found_by t args = option_and_then (λ (dir : Node). number_of_name (number_of_handle args.dir) args.name dir) (node_of_handle t args.dir)
 
 abbrev pub lookup_ok : Tree → List ℕ → ℕ → LookupOk
-lookup_ok t h number = record { object = handle_of number; attributes = attributes_under t number; dir_attributes = attributes_at t h }
+lookup_ok t h number = record { object = handle_of number; attributes = attributes_of_number t number; dir_attributes = attributes_at t h }
 
 abbrev pub lookup_reply : Tree → Caller → LookupArgs → StatusUnion LookupOk (Option Attributes) Status
 lookup_reply t c args = answer (first (lookup_rules t c args)) (λ s. Failed s (attributes_at t args.dir)) (Done (lookup_ok t args.dir (unwrap_or (found_by t args) 0)))

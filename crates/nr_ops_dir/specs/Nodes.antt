@@ -7,8 +7,8 @@ use Rattle.nr_tree.specs.Tree.{Tree, attributes_of}
 use Rattle.nr_tree.specs.Rules.{handle_of}
 
 -- its attributes and its handle, if it is live
-abbrev pub attributes_under : Tree → ℕ → Option Attributes
-attributes_under t n = option_map (attributes_of n) (get t.nodes n)
+abbrev pub attributes_of_number : Tree → ℕ → Option Attributes
+attributes_of_number t n = option_map (attributes_of n) (get t.nodes n)
 
-abbrev pub handle_under : Tree → ℕ → Option (List ℕ)
-handle_under t n = option_map (λ node. handle_of n) (get t.nodes n)
+abbrev pub handle_of_live : Tree → ℕ → Option (List ℕ)
+handle_of_live t n = option_map (λ node. handle_of n) (get t.nodes n)

@@ -13,11 +13,9 @@ use Rattle.nr_nfs_base.specs.declared.status_union.StatusUnion.{StatusUnion}
 use Rattle.nr_nfs_base.specs.declared.status_union.StatusUnion.TheVariants.{Done, Failed}
 use Rattle.nr_nfs_args.specs.declared.readdir.ReaddirArgs.{ReaddirArgs}
 use Rattle.nr_nfs_args.specs.declared.readdir.ReaddirplusArgs.{ReaddirplusArgs}
-use Rattle.nr_nfs_res.specs.Readdir.{readdir_ok_codec, readdirplus_ok_codec}
+use Rattle.nr_nfs_res.specs.Readdir.{ReaddirOk, readdir_ok_codec, ReaddirplusOk, readdirplus_ok_codec}
 use Rattle.nr_nfs_res.specs.declared.readdir.Entry.{Entry as ListedEntry}
 use Rattle.nr_nfs_res.specs.declared.readdir.EntryPlus.{EntryPlus}
-use Rattle.nr_nfs_res.specs.declared.readdir.ReaddirOk.{ReaddirOk}
-use Rattle.nr_nfs_res.specs.declared.readdir.ReaddirplusOk.{ReaddirplusOk}
 use Rattle.nr_tree.specs.Entries.{Entry}
 use Rattle.nr_tree.specs.Listing.{entries_after}
 use Rattle.nr_tree.specs.Tree.{Tree, is_dir, entries_in}
@@ -25,7 +23,7 @@ use Rattle.nr_tree.specs.Rules.{first, ◌⇒◌, on, answer, node_of_handle, ha
 use Rattle.nr_tree.specs.Replies.{attributes_at}
 use Rattle.nr_tree.specs.declared.node.Node.{Node}
 use Rattle.nr_tree.specs.declared.rules.Right.TheVariants.{Read}
-use Rattle.nr_ops_dir.specs.Nodes.{attributes_under, handle_under}
+use Rattle.nr_ops_dir.specs.Nodes.{attributes_of_number, handle_of_live}
 
 -- the most bytes of a listing: a count above works as this one
 abbrev pub largest_listing : ℕ
@@ -95,7 +93,7 @@ readdir_reply t c args = answer (first (readdir_rules t c args)) (λ s. Failed s
 -- ===== READDIRPLUS
 
 abbrev pub listed_plus : Tree → Entry → EntryPlus
-listed_plus t e = record { fileid = e.number; name = e.name; cookie = e.cookie; attributes = attributes_under t e.number; handle = handle_under t e.number }
+listed_plus t e = record { fileid = e.number; name = e.name; cookie = e.cookie; attributes = attributes_of_number t e.number; handle = handle_of_live t e.number }
 
 abbrev pub readdirplus_ok : Tree → List ℕ → List Entry → Bool → ReaddirplusOk
 readdirplus_ok t h taken eof = record { dir_attributes = attributes_at t h; verifier = cookie_verifier; entries = map (listed_plus t) taken; eof = eof }

@@ -22,7 +22,7 @@ use Rattle.nr_ops_dir.specs.Entries.{number_of_entry, has_entries, entry_rules}
 abbrev pub tree_without_name : Tree → Time → List ℕ → List ℕ → Tree
 tree_without_name t now h name = option_map_or (λ n. tree_without_entry t now (number_of_handle h) name n) (number_of_entry t (number_of_handle h) name) t
 
--- ===== REMOVE: the handle; the name; the directory's type and rights; INVAL for . and ..; NOENT; ISDIR; NOSPC
+-- ===== REMOVE (RFC 1813 section 3.3.12): the handle; the name; the directory's type and rights; INVAL for . and ..; NOENT; ISDIR; NOSPC
 
 abbrev pub remove_of : Tree → Space → ℕ → List (Option Status)
 remove_of t space n =
@@ -43,7 +43,7 @@ abbrev pub remove_reply : Tree → Caller → Space → Time → RemoveArgs → 
 remove_reply t c space now args =
     answer (first (remove_rules t c space args)) (λ s. Failed s (wcc_data t t args.dir)) (Done (wcc_data t (remove_tree t c space now args) args.dir))
 
--- ===== RMDIR: the handle; the name; the directory's type and rights; INVAL for .; EXIST for ..; NOENT; NOTDIR; NOTEMPTY; NOSPC
+-- ===== RMDIR (section 3.3.13): the handle; the name; the directory's type and rights; INVAL for .; EXIST for ..; NOENT; NOTDIR; NOTEMPTY; NOSPC
 
 abbrev pub rmdir_of : Tree → Space → ℕ → List (Option Status)
 rmdir_of t space n =

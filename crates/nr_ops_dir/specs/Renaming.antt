@@ -57,7 +57,7 @@ both_rules t c args =
     directory_rule t c (number_of_handle args.from_dir) ∷
     directory_rule t c (number_of_handle args.to_dir) ∷ []
 
--- RENAME: both handles; both names; both directories' types and rights; INVAL for . and ..; NOENT; INVAL for a directory into itself or below;
+-- RENAME (section 3.3.14): both handles; both names; both directories' types and rights; INVAL for . and ..; NOENT; INVAL for a directory into itself or below;
 -- then, where the target is another node or none: EXIST, and MLINK for a directory into another directory; NOSPC
 abbrev pub rename_rules : Tree → Caller → Space → RenameArgs → List (Option Status)
 rename_rules t c space args =

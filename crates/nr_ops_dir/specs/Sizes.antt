@@ -6,8 +6,8 @@ use Rattle.nr_xdr.specs.Item.{pad_len}
 use Rattle.nr_tree.specs.Entries.{Entry}
 use Rattle.nr_tree.specs.Tree.{Tree}
 use Rattle.nr_ops_dir.specs.Readdir.{total, name_size, goes_on}
-use Rattle.nr_ops_dir.specs.declared.listings.Listing.{Listing}
-use Rattle.nr_ops_dir.specs.declared.listings.Listing.TheVariants.{Names, Nodes}
+use Rattle.nr_ops_dir.specs.declared.listings.Detail.{Detail}
+use Rattle.nr_ops_dir.specs.declared.listings.Detail.TheVariants.{Names, Nodes}
 use Rattle.nr_ops_dir.specs.declared.listings.Limits.{Limits}
 
 -- a 1, the number, the name with its length, and the cookie
@@ -18,7 +18,7 @@ entry_size e = 24 + (length e.name + pad_len (length e.name))
 abbrev pub node_size : Tree → ℕ → ℕ
 node_size t n = option_map_or (λ node. 104) (get t.nodes n) 8
 
-abbrev pub size_in : Tree → Listing → Entry → ℕ
+abbrev pub size_in : Tree → Detail → Entry → ℕ
 size_in t Names e = entry_size e
 size_in t Nodes e = entry_size e + node_size t e.number
 
@@ -27,7 +27,7 @@ abbrev pub empty_size : ℕ
 empty_size = 104
 
 abbrev pub within : Tree → Limits → List Entry → Bool
-within t limits taken = nat_le (total (size_in t limits.listing) taken) limits.entries && nat_le (total name_size taken) limits.names
+within t limits taken = nat_le (total (size_in t limits.detail) taken) limits.entries && nat_le (total name_size taken) limits.names
 
 -- the entries from one place up to another are those that are taken of what is left, and some are taken if some are left
 pub record IsRange (list : List Entry) (start end : ℕ) (taken left : List Entry) : Type 0 where

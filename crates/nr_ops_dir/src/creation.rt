@@ -7,9 +7,11 @@ ghost use Rattle.nr_tree.specs.Steps.{IsBounded, CanAddNode};
 ghost use Rattle.nr_tree.specs.Changes.{tree_with_node};
 ghost use Rattle.nr_tree.specs.Rules.{first, number_of_handle, handle_of as handle_of_number};
 ghost use Rattle.nr_tree.specs.Replies.{wcc_data as wcc_of, attributes_at as attributes_of_handle};
-ghost use Rattle.nr_ops_dir.specs.Creation.{nothing_given as no_attributes, is_other as is_another, owner_rule, new_node as node_of, attributes_of_number as attributes_of_node, create_ok as ok_of, new_name_rules};
+ghost use Rattle.nr_ops_dir.specs.Nodes.{attributes_of_number as attributes_of_node};
+ghost use Rattle.nr_ops_dir.specs.Creation.{nothing_given as no_attributes, is_other as is_another, owner_rule, new_node as node_of, create_ok as ok_of, new_name_rules};
 
 use crate::entries::{check_entry, is_taken};
+use crate::nodes::{attributes_of_number, handle_of};
 use nr_nfs_base::{
     Attributes, Caller, Handle, Name, SetAttributes, SetTime, Status, StatusUnion, Time,
     WccAttributes, WccData,
@@ -118,22 +120,6 @@ pub(crate) fn new_node(
         parent: directory,
         verifier: None,
         content,
-    }
-}
-
-/// The handle of a number.
-pub(crate) fn handle_of(alloc: Global, number: u64) -> Result<Handle, Memory>
-    ensures { IfOk result (λ h. h ≡ handle_of_number number) }
-{
-    Handle::from_slice(alloc, &number.to_be_bytes())
-}
-
-fn attributes_of_number(tree: &Tree, number: u64) -> Option<Attributes>
-    ensures { result ≡ attributes_of_node tree.now number }
-{
-    match tree.get(number) {
-        Some(node) => Some(node.attributes(number)),
-        None => None,
     }
 }
 

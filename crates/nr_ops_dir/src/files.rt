@@ -9,13 +9,15 @@ ghost use Rattle.nr_tree.specs.Rules.{first, number_of_handle, handle_of as hand
 ghost use Rattle.nr_tree.specs.Changes.{tree_with_node};
 ghost use Rattle.nr_tree.specs.Replies.{wcc_data as wcc_of};
 ghost use Rattle.nr_ops_dir.specs.Entries.{number_of_entry as number_of_name};
-ghost use Rattle.nr_ops_dir.specs.Creation.{attributes_of_number, create_ok as ok_of};
+ghost use Rattle.nr_ops_dir.specs.Creation.{create_ok as ok_of};
+ghost use Rattle.nr_ops_dir.specs.Nodes.{attributes_of_number};
 ghost use Rattle.nr_ops_dir.specs.Create.{given_attributes as attributes_given, given_verifier as verifier_given, new_file_rules, new_file as file_of, is_made_by as is_made_with, existing_file_rules, size_to_set as size_given, tree_with_existing_file, file_rules, create_rules, create_tree, create_reply};
 
 use crate::creation::{
-    FILE_MODE, add_node, check_owner, create_failure, create_ok, handle_of, new_node, nothing_given,
+    FILE_MODE, add_node, check_owner, create_failure, create_ok, new_node, nothing_given,
 };
 use crate::entries::{check_entry, number_of_entry};
+use crate::nodes::handle_of;
 use nr_nfs_args::{CreateArgs, CreateHow};
 use nr_nfs_base::{Caller, SetAttributes, Status, StatusUnion, Time, Verifier};
 use nr_nfs_res::CreateRes;

@@ -5,7 +5,7 @@ ghost use Rattle.nr_tree.specs.Rules.{first};
 ghost use Rattle.nr_ops_dir.specs.Lookup.{number_of_name as number_by_name, lookup_rules, found_by, lookup_reply};
 
 use crate::names::{is_dot, is_dot_dot};
-use crate::nodes::{attributes_under, new_handle};
+use crate::nodes::{attributes_of_number, handle_of};
 use nr_nfs_args::LookupArgs;
 use nr_nfs_base::{Caller, Status, StatusUnion};
 use nr_nfs_res::{LookupOk, LookupRes};
@@ -22,8 +22,20 @@ pub fn lookup(
 ) -> Result<LookupRes, Memory>
     ensures { IfOk result (λ r. r ≡ lookup_reply tree.now caller.now args) }
 {
+    lookup_inner(alloc, tree, caller, &args)
+}
+
+/// The same, of borrowed arguments.
+fn lookup_inner(
+    alloc: Global,
+    tree: &Tree,
+    caller: &Caller,
+    args: &LookupArgs,
+) -> Result<LookupRes, Memory>
+    ensures { IfOk result (λ r. r ≡ lookup_reply tree.now caller.now args.now) }
+{
     let dir_attributes = attributes_at(tree, args.dir.as_slice());
-    match found(tree, caller, &args) {
+    match found(tree, caller, args) {
         Err(status) => {
             Ok(StatusUnion::Failed {
                 status,
@@ -31,10 +43,10 @@ pub fn lookup(
             })
         }
         Ok(number) => {
-            let object = new_handle(alloc, number)?;
+            let object = handle_of(alloc, number)?;
             Ok(StatusUnion::Done(LookupOk {
                 object,
-                attributes: attributes_under(tree, number),
+                attributes: attributes_of_number(tree, number),
                 dir_attributes,
             }))
         }

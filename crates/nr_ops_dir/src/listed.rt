@@ -2,11 +2,11 @@
 
 ghost use Rattle.std.specs.Prelude.{◌≡◌, ◌+◌, ◌-◌, ◌++◌, ◌∷◌, [], ◌<◌, ◌≤◌, ◌^◌, take, drop, length, map, IfOk, OnOk};
 ghost use Rattle.nr_tree.specs.Entries.{NamesAreValid};
-ghost use Rattle.nr_ops_dir.specs.Nodes.{handle_under as handle_of_number};
+ghost use Rattle.nr_ops_dir.specs.Nodes.{handle_of_live as live_handle};
 ghost use Rattle.nr_ops_dir.specs.Readdir.{listed, listed_plus};
 
 use crate::listings::Range;
-use crate::nodes::{attributes_under, new_handle};
+use crate::nodes::{attributes_of_number, handle_of};
 use nr_nfs_base::{Handle, Name};
 use nr_nfs_res::{Entry, EntryPlus};
 use nr_tree::{Slot, Tree};
@@ -51,11 +51,11 @@ pub(crate) fn list_names(alloc: Global, range: &Range) -> Result<Vec<Entry>, Mem
 }
 
 /// The handle of a node, if it is live.
-fn handle_under(alloc: Global, tree: &Tree, number: u64) -> Result<Option<Handle>, Memory>
-    ensures { IfOk result (λ h. h ≡ handle_of_number tree.now number) }
+fn handle_of_live(alloc: Global, tree: &Tree, number: u64) -> Result<Option<Handle>, Memory>
+    ensures { IfOk result (λ h. h ≡ live_handle tree.now number) }
 {
     match tree.get(number) {
-        Some(_) => Ok(Some(new_handle(alloc, number)?)),
+        Some(_) => Ok(Some(handle_of(alloc, number)?)),
         None => Ok(None),
     }
 }
@@ -65,12 +65,12 @@ fn entry_plus(alloc: Global, tree: &Tree, name: &[u8], slot: Slot) -> Result<Ent
     ensures { IfOk result (λ e. e ≡ listed_plus tree.now (record { cookie = slot.cookie; name = name.now; number = slot.number })) }
 {
     let name = Name::from_slice(alloc, name)?;
-    let handle = handle_under(alloc, tree, slot.number)?;
+    let handle = handle_of_live(alloc, tree, slot.number)?;
     Ok(EntryPlus {
         fileid: slot.number,
         name,
         cookie: slot.cookie,
-        attributes: attributes_under(tree, slot.number),
+        attributes: attributes_of_number(tree, slot.number),
         handle,
     })
 }

@@ -15,7 +15,7 @@ use nr_tree::{Content, Directory, Node, Right, Tree, may};
 
 /// What a listing tells of each entry.
 #[derive(Clone, Copy)]
-pub(crate) enum Listing {
+pub(crate) enum Detail {
     /// Its name and number (READDIR).
     Names,
     /// Its node too (READDIRPLUS).
@@ -25,7 +25,7 @@ pub(crate) enum Listing {
 /// What a listing may have, in bytes.
 #[derive(Clone, Copy)]
 pub(crate) struct Limits {
-    pub(crate) listing: Listing,
+    pub(crate) detail: Detail,
     /// All entries.
     pub(crate) entries: u32,
     /// Their numbers, cookies and names.
@@ -51,14 +51,14 @@ fn padded_size(name: &[u8]) -> u64
     4 + len + (4 - len % 4) % 4
 }
 
-fn entry_size(tree: &Tree, listing: Listing, name: &[u8], number: u64) -> u64
-    ensures size { (cookie : ℕ) → result ≡ size_in tree.now listing (record { cookie = cookie; name = name.now; number = number }) }
+fn entry_size(tree: &Tree, detail: Detail, name: &[u8], number: u64) -> u64
+    ensures size { (cookie : ℕ) → result ≡ size_in tree.now detail (record { cookie = cookie; name = name.now; number = number }) }
     ensures bounded { result ≤ 2 ^ 63 + 256 }
 {
     let size = 20 + padded_size(name);
-    match listing {
-        Listing::Names => size,
-        Listing::Nodes => size + node_size(tree, number),
+    match detail {
+        Detail::Names => size,
+        Detail::Nodes => size + node_size(tree, number),
     }
 }
 
@@ -74,7 +74,7 @@ pub(crate) fn count_within(tree: &Tree, dir: &Directory, place: usize, limits: &
     let mut count = 0;
     while place + count < len {
         let (name, slot) = dir.entry_at(place + count);
-        entries += entry_size(tree, limits.listing, name, slot.number);
+        entries += entry_size(tree, limits.detail, name, slot.number);
         names += 16 + padded_size(name);
         if entries > limits.entries as u64 || names > limits.names as u64 {
             return count;
@@ -92,15 +92,15 @@ const EMPTY_SIZE: u32 = 104;
 
 /// The limits of a listing of at most `count` bytes, whose entries have at most `names` bytes of numbers, cookies and names;
 /// none where the results without entries are larger.
-pub(crate) fn limits_of(listing: Listing, count: u32, names: u32) -> Option<Limits>
-    ensures { SomeIff result (empty_size ≤ min count largest_listing) (record { listing = listing; entries = min count largest_listing - empty_size; names = names }) }
+pub(crate) fn limits_of(detail: Detail, count: u32, names: u32) -> Option<Limits>
+    ensures { SomeIff result (empty_size ≤ min count largest_listing) (record { detail = detail; entries = min count largest_listing - empty_size; names = names }) }
 {
     let most = count.min(LARGEST_LISTING);
     if most < EMPTY_SIZE {
         return None;
     }
     Some(Limits {
-        listing,
+        detail,
         entries: most - EMPTY_SIZE,
         names,
     })

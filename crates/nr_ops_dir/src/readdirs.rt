@@ -8,7 +8,7 @@ ghost use Rattle.nr_ops_dir.specs.Readdir.{readdir_rules, readdir_taken, readdir
 ghost use Rattle.nr_ops_dir.specs.Sizes.{IsRange};
 
 use crate::listed::{list_names, list_nodes};
-use crate::listings::{Listing, Range, directory_to_list, limits_of, range_within};
+use crate::listings::{Detail, Range, directory_to_list, limits_of, range_within};
 use nr_nfs_args::{ReaddirArgs, ReaddirplusArgs};
 use nr_nfs_base::{Caller, LinkedList, Status, StatusUnion, Verifier};
 use nr_nfs_res::{ReaddirOk, ReaddirRes, ReaddirplusOk, ReaddirplusRes};
@@ -29,8 +29,21 @@ pub fn readdir(
     requires { IsSane tree.now }
     ensures { IfOk result (λ r. r ≡ readdir_reply tree.now caller.now args) }
 {
+    readdir_inner(alloc, tree, caller, &args)
+}
+
+/// The same, of borrowed arguments.
+fn readdir_inner(
+    alloc: Global,
+    tree: &Tree,
+    caller: &Caller,
+    args: &ReaddirArgs,
+) -> Result<ReaddirRes, Memory>
+    requires { IsSane tree.now }
+    ensures { IfOk result (λ r. r ≡ readdir_reply tree.now caller.now args.now) }
+{
     let dir_attributes = attributes_at(tree, args.dir.as_slice());
-    match readdir_range(tree, caller, &args) {
+    match readdir_range(tree, caller, args) {
         Err(status) => {
             Ok(StatusUnion::Failed {
                 status,
@@ -65,7 +78,7 @@ fn readdir_range<'a>(
 {
     let (_, node) = live_node(tree, args.dir.as_slice())?;
     let dir = directory_to_list(caller, args.cookie, args.verifier, node)?;
-    match limits_of(Listing::Names, args.count, u32::MAX) {
+    match limits_of(Detail::Names, args.count, u32::MAX) {
         Some(limits) => range_within(tree, dir, args.cookie, &limits),
         None => Err(Status::Toosmall),
     }
@@ -82,8 +95,21 @@ pub fn readdirplus(
     requires { IsSane tree.now }
     ensures { IfOk result (λ r. r ≡ readdirplus_reply tree.now caller.now args) }
 {
+    readdirplus_inner(alloc, tree, caller, &args)
+}
+
+/// The same, of borrowed arguments.
+fn readdirplus_inner(
+    alloc: Global,
+    tree: &Tree,
+    caller: &Caller,
+    args: &ReaddirplusArgs,
+) -> Result<ReaddirplusRes, Memory>
+    requires { IsSane tree.now }
+    ensures { IfOk result (λ r. r ≡ readdirplus_reply tree.now caller.now args.now) }
+{
     let dir_attributes = attributes_at(tree, args.dir.as_slice());
-    match readdirplus_range(tree, caller, &args) {
+    match readdirplus_range(tree, caller, args) {
         Err(status) => {
             Ok(StatusUnion::Failed {
                 status,
@@ -118,7 +144,7 @@ fn readdirplus_range<'a>(
 {
     let (_, node) = live_node(tree, args.dir.as_slice())?;
     let dir = directory_to_list(caller, args.cookie, args.verifier, node)?;
-    match limits_of(Listing::Nodes, args.maxcount, args.dircount) {
+    match limits_of(Detail::Nodes, args.maxcount, args.dircount) {
         Some(limits) => range_within(tree, dir, args.cookie, &limits),
         None => Err(Status::Toosmall),
     }

@@ -3,11 +3,12 @@
 ghost use Rattle.std.specs.Prelude.{◌≡◌, None, Some, MatchResult};
 ghost use Rattle.nr_nfs_base.specs.declared.status_union.StatusUnion.TheVariants.{Done, Failed};
 ghost use Rattle.nr_tree.specs.Sane.{IsSane};
-ghost use Rattle.nr_tree.specs.Rules.{first, answer, number_of_handle, IsWithinCapacity, is_dot as is_dot_name_alone};
+ghost use Rattle.nr_tree.specs.Rules.{first, answer, number_of_handle, IsWithinCapacity};
 ghost use Rattle.nr_ops_dir.specs.Entries.{number_of_entry as number_of_name};
 ghost use Rattle.nr_ops_dir.specs.Removal.{remove_rules, remove_tree, remove_reply, rmdir_rules, rmdir_tree, rmdir_reply};
 
 use crate::entries::{check_entry, has_entries, is_dir_at, number_of_entry};
+use crate::names::is_dot;
 use nr_nfs_args::{RemoveArgs, RmdirArgs};
 use nr_nfs_base::{Caller, Status, StatusUnion, Time};
 use nr_nfs_res::{RemoveRes, RmdirRes};
@@ -94,12 +95,6 @@ pub fn remove(
     let before = wcc_attributes_at(tree, handle);
     let refusal = remove_file(tree, now, caller, space, &args);
     reply(refusal, wcc_data(before, tree, handle))
-}
-
-fn is_dot(name: &[u8]) -> bool
-    ensures { result ≡ is_dot_name_alone name.now }
-{
-    name == b".".as_slice()
 }
 
 /// Whether RMDIR may take out a directory, or the refusal.

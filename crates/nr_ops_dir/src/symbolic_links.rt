@@ -5,7 +5,7 @@ ghost use Rattle.nr_tree.specs.declared.node.Content.TheVariants.{Link};
 ghost use Rattle.nr_tree.specs.Sane.{IsSane};
 ghost use Rattle.nr_tree.specs.Steps.{IsBounded};
 ghost use Rattle.nr_tree.specs.Rules.{first, number_of_handle, IsWithinCapacity};
-ghost use Rattle.nr_ops_dir.specs.Creation.{new_node as node_of, link_mode, symlink_rules, symlink_tree, symlink_reply};
+ghost use Rattle.nr_ops_dir.specs.Creation.{new_node as node_of, link_mode, path_rules, symlink_rules, symlink_tree, symlink_reply};
 
 use crate::creation::{add_node, check_new_name, create_failure, new_node};
 use nr_nfs_args::SymlinkArgs;
@@ -17,6 +17,19 @@ use std::alloc::Global;
 
 /// The most bytes of a path.
 const LONGEST_PATH: usize = 1024;
+
+/// Whether a symbolic link may have the path.
+fn check_path(path: &[u8]) -> Result<(), Status>
+    ensures { MatchResult result (λ _. first (path_rules path.now) ≡ None) (λ s. first (path_rules path.now) ≡ Some s) }
+{
+    if path.is_empty() {
+        return Err(Status::Inval);
+    }
+    if path.len() > LONGEST_PATH {
+        return Err(Status::Nametoolong);
+    }
+    Ok(())
+}
 
 /// The number of the directory that gets a symbolic link, or the first refusal.
 #[tactic(auto, unfolding(crate::specs::Creation::symlink_rules))]
@@ -33,13 +46,7 @@ fn place_of_link(
 {
     let (dir, name) = (args.dir.as_slice(), args.name.as_slice());
     let directory = check_new_name(tree, caller, dir, name, &args.attributes)?;
-    let path = args.path.as_slice();
-    if path.is_empty() {
-        return Err(Status::Inval);
-    }
-    if path.len() > LONGEST_PATH {
-        return Err(Status::Nametoolong);
-    }
+    check_path(args.path.as_slice())?;
     check_space(space)?;
     Ok(directory)
 }

@@ -8,7 +8,10 @@ use Rattle.nr_rpc.specs.declared.head.CallHead.{CallHead}
 use Rattle.nr_rpc.specs.declared.head.CallHead.TheVariants as calls
 use Rattle.nr_nfs_args.specs.Arguments.{NfsArguments, MountArguments, nfs_arguments_codec, mount_arguments_codec}
 use Rattle.nr_nfs_res.specs.Results.{nfs_results_codec, mount_results_codec}
+use Rattle.nr_nfs_base.specs.declared.caller.Caller.{Caller}
+use Rattle.nr_nfs_base.specs.declared.time.Time.{Time}
 use Rattle.nr_tree.specs.Tree.{Tree}
+use Rattle.nr_tree.specs.declared.rules.Space.{Space}
 use Rattle.nr_plain.specs.Programs.{nfs_results, nfs_tree, is_change, mount_results}
 use Rattle.nr_plain.specs.Replies.{results_reply, refusal, accepted, GARBAGE_ARGS}
 use Rattle.nr_plain.specs.declared.call.Call.{Call}
@@ -16,23 +19,34 @@ use Rattle.nr_plain.specs.declared.call.Change.{Change}
 use Rattle.nr_plain.specs.declared.call.Request.{Request}
 use Rattle.nr_reduce.specs.declared.mark.Entry.{Entry}
 
+-- the reply of a procedure of NFS, whether it is an entry of the journal, and the tree after it
+abbrev pub reply_from : ℕ → Tree → Caller → Space → Time → (p : NfsProcedure) → Result (NfsArguments p) ℕ → List ℕ
+reply_from xid t c space now p (Ok a) = results_reply xid (nfs_results_codec p) (nfs_results t c space now p a)
+reply_from xid t c space now p (Err at) = (refusal (accepted xid GARBAGE_ARGS)).reply
+
+abbrev pub changes_from : Tree → Caller → Space → Time → (p : NfsProcedure) → Result (NfsArguments p) ℕ → Bool
+changes_from t c space now p (Ok a) = is_change p (nfs_results t c space now p a)
+changes_from t c space now p (Err at) = false
+
+abbrev pub tree_from : Tree → Caller → Space → Time → (p : NfsProcedure) → Result (NfsArguments p) ℕ → Tree
+tree_from t c space now p (Ok a) = nfs_tree t c space now p a
+tree_from t c space now p (Err at) = t
+
+-- the same of a call
 abbrev pub reply_by : Tree → Call → (p : NfsProcedure) → Result (NfsArguments p) ℕ → List ℕ
-reply_by t call p (Ok a) = results_reply call.xid (nfs_results_codec p) (nfs_results t call.caller.now call.space call.time p a)
-reply_by t call p (Err at) = (refusal (accepted call.xid GARBAGE_ARGS)).reply
+reply_by t call p r = reply_from call.xid t call.caller.now call.space call.time p r
 
 abbrev pub reply_of : Tree → Call → NfsProcedure → List ℕ
 reply_of t call p = reply_by t call p (read_all (nfs_arguments_codec p) call.arguments.now)
 
 abbrev pub changes_by : Tree → Call → (p : NfsProcedure) → Result (NfsArguments p) ℕ → Bool
-changes_by t call p (Ok a) = is_change p (nfs_results t call.caller.now call.space call.time p a)
-changes_by t call p (Err at) = false
+changes_by t call p r = changes_from t call.caller.now call.space call.time p r
 
 abbrev pub changes_of : Tree → Call → NfsProcedure → Bool
 changes_of t call p = changes_by t call p (read_all (nfs_arguments_codec p) call.arguments.now)
 
 abbrev pub tree_by : Tree → Call → (p : NfsProcedure) → Result (NfsArguments p) ℕ → Tree
-tree_by t call p (Ok a) = nfs_tree t call.caller.now call.space call.time p a
-tree_by t call p (Err at) = t
+tree_by t call p r = tree_from t call.caller.now call.space call.time p r
 
 abbrev pub tree_of : Tree → Call → NfsProcedure → Tree
 tree_of t call p = tree_by t call p (read_all (nfs_arguments_codec p) call.arguments.now)

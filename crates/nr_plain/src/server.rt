@@ -168,6 +168,7 @@ impl Server {
     }
 
     /// Answers a call of NFS.
+    #[tactic(auto, unfolding(crate::specs::Replies::nfs_call))]
     fn nfs(&mut self, alloc: Global, request: &Request, vers: u32) -> Result<Octets, Memory>
         ensures reply { IfOk result (λ o. o ≡ (nfs_call self.old.parameters (state_kept self.old) request.now.xid vers (entry_of request.now)).reply) }
         ensures kept { OnOk result (self.new ≡ kept_after self.old (nfs_call self.old.parameters (state_kept self.old) request.now.xid vers (entry_of request.now)).entries) }
@@ -191,6 +192,7 @@ impl Server {
     }
 
     /// Answers a call of MOUNT.
+    #[tactic(auto, unfolding(crate::specs::Replies::mount_call))]
     fn mount(&self, alloc: Global, request: &Request, vers: u32) -> Result<Octets, Memory>
         ensures { IfOk result (λ o. o ≡ (mount_call self.now.parameters request.now.xid vers (entry_of request.now)).reply) }
     {

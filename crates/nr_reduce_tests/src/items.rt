@@ -1,12 +1,13 @@
 //! Items of calls and replies, what is cut and put together again, and how long replies may be.
 
 use crate::compare::same;
-use crate::{MOUNT, NFS, Payload, call_of, payload_of, put_text, put_words};
+use crate::given::{MOUNT, NFS, Payload, call_of, payload_of, put_text, put_words};
 use nr_reduce::{
     Item, Mismatch, Of, PayloadFault, call_item, cut, largest_reply, rebuild, rebuild_undoes_cut,
     reducible_item,
 };
-use std::alloc::{AllocError, Global};
+use std::alloc::Global;
+use std::process::Abort;
 
 const READ: u32 = 6;
 
@@ -19,31 +20,29 @@ const ATTRIBUTES: [u32; 22] = [
 ];
 
 fn reply_of(
+    rt: &impl Abort,
     alloc: Global,
     accepted: u32,
     status: u32,
     results: &[u32],
-) -> Result<Vec<u8>, AllocError> {
+) -> Vec<u8> {
     let mut out = Vec::new(alloc);
-    put_words(&mut out, &[9, 1, 0, 0, 0, accepted, status])?;
-    put_words(&mut out, &ATTRIBUTES)?;
-    put_words(&mut out, results)?;
-    put_text(&mut out, 5)?;
-    Ok(out)
+    put_words(rt, &mut out, &[9, 1, 0, 0, 0, accepted, status]);
+    put_words(rt, &mut out, &ATTRIBUTES);
+    put_words(rt, &mut out, results);
+    put_text(rt, &mut out, 5);
+    out
 }
 
-fn item_of_call(
-    alloc: Global,
-    payload: Payload,
-) -> Result<(Option<Item>, Option<Item>), AllocError> {
-    let bytes = payload_of(alloc, payload)?;
-    Ok((call_item(&bytes), reducible_item(&Of::Call, &bytes)))
+fn item_of_call(rt: &impl Abort, alloc: Global, payload: Payload) -> (Option<Item>, Option<Item>) {
+    let bytes = payload_of(rt, alloc, payload);
+    (call_item(&bytes), reducible_item(&Of::Call, &bytes))
 }
 
 const ITEM: Option<Item> = Some(Item { pos: 72, len: 5 });
 
 /// Calls, their items, and the items of those that can be cut.
-const CALLS: [(Payload, Option<Item>, Option<Item>); 7] = [
+static CALLS: [(Payload, Option<Item>, Option<Item>); 7] = [
     (Payload::Write(5), ITEM, ITEM),
     (Payload::WriteFront(5), ITEM, None),
     (
@@ -58,133 +57,142 @@ const CALLS: [(Payload, Option<Item>, Option<Item>); 7] = [
 ];
 
 #[test]
-fn items_of_calls(rt: HostRuntime) -> Result<(), AllocError> {
+fn items_of_calls(rt: HostRuntime) {
     for (row, (payload, item, reducible)) in CALLS.iter().enumerate() {
-        same(
-            &rt,
-            row,
-            item_of_call(rt.alloc(), *payload)?,
-            (*item, *reducible),
-        );
+        let got = item_of_call(&rt, rt.alloc(), *payload);
+        same(&rt, row, got, (*item, *reducible));
     }
-    Ok(())
 }
 
 /// A program, a version and a procedure, the accept status, the status and the words behind the attributes of a reply, and
 /// its item: 24 bytes of head, a status, attributes of 88 bytes, those words, a length word.
-const REPLIES: [(u32, u32, u32, u32, u32, &[u32], Option<Item>); 8] = [
-    (NFS, 3, READ, 0, 0, &[5, 1], Some(Item { pos: 128, len: 5 })),
-    (NFS, 3, READLINK, 0, 0, &[], Some(Item { pos: 120, len: 5 })),
-    (NFS, 3, READLINK, 0, 0, &[5, 1], None),
-    (NFS, 3, 7, 0, 0, &[5, 1], None),
-    (NFS, 2, READ, 0, 0, &[5, 1], None),
-    (MOUNT, 3, READ, 0, 0, &[5, 1], None),
-    (NFS, 3, READ, 1, 0, &[5, 1], None),
-    (NFS, 3, READ, 0, 13, &[5, 1], None),
+static REPLIES: [([u32; 3], u32, u32, &[u32], Option<Item>); 8] = [
+    (
+        [NFS, 3, READ],
+        0,
+        0,
+        &[5, 1],
+        Some(Item { pos: 128, len: 5 }),
+    ),
+    (
+        [NFS, 3, READLINK],
+        0,
+        0,
+        &[],
+        Some(Item { pos: 120, len: 5 }),
+    ),
+    ([NFS, 3, READLINK], 0, 0, &[5, 1], None),
+    ([NFS, 3, 7], 0, 0, &[5, 1], None),
+    ([NFS, 2, READ], 0, 0, &[5, 1], None),
+    ([MOUNT, 3, READ], 0, 0, &[5, 1], None),
+    ([NFS, 3, READ], 1, 0, &[5, 1], None),
+    ([NFS, 3, READ], 0, 13, &[5, 1], None),
 ];
 
+/// The item of a reply to a procedure of a version of a program.
+fn item_of_reply(call: [u32; 3], bytes: &[u8]) -> Option<Item> {
+    let [prog, vers, proc] = call;
+    reducible_item(&Of::Reply { prog, vers, proc }, bytes)
+}
+
 #[test]
-fn items_of_replies(rt: HostRuntime) -> Result<(), AllocError> {
-    for (row, (prog, vers, proc, accepted, status, results, want)) in REPLIES.iter().enumerate() {
-        let bytes = reply_of(rt.alloc(), *accepted, *status, results)?;
-        let of = Of::Reply {
-            prog: *prog,
-            vers: *vers,
-            proc: *proc,
-        };
-        same(&rt, row, reducible_item(&of, &bytes), *want);
+fn items_of_replies(rt: HostRuntime) {
+    for (row, (call, accepted, status, results, want)) in REPLIES.iter().enumerate() {
+        let bytes = reply_of(&rt, rt.alloc(), *accepted, *status, results);
+        same(&rt, row, item_of_reply(*call, &bytes), *want);
     }
-    Ok(())
 }
 
 /// WRITE of HELLO to file 2 at offset 0, before its data.
 const HELLO: [u32; 8] = [8, 0, 2, 0, 0, 5, 2, 5];
 
 /// That call with these bytes as its data.
-fn hello(alloc: Global, text: &[u8]) -> Result<Vec<u8>, AllocError> {
-    let mut whole = call_of(alloc, NFS, 7, &HELLO)?;
-    whole.extend_from_slice(text)?;
-    Ok(whole)
+fn hello(rt: &impl Abort, alloc: Global, text: &[u8]) -> Vec<u8> {
+    let mut whole = call_of(rt, alloc, NFS, 7, &HELLO);
+    whole.extend_from_slice(text).expect(rt, "memory");
+    whole
 }
 
 /// Whether the payload that is put together has HELLO and a zero pad.
 fn is_hello(
+    rt: &impl Abort,
     alloc: Global,
     stream: &[u8],
     pos: u32,
     moved: &[u8],
-) -> Result<Result<bool, PayloadFault>, AllocError> {
-    let whole = hello(alloc, b"HELLO\0\0\0")?;
+) -> Result<bool, PayloadFault> {
+    let whole = hello(rt, alloc, b"HELLO\0\0\0");
     match rebuild(alloc, &Of::Call, stream, pos, moved) {
-        Ok(payload) => Ok(Ok(payload.as_slice() == whole.as_slice())),
-        Err(fault) => Ok(Err(fault)),
+        Ok(payload) => Ok(payload.as_slice() == whole.as_slice()),
+        Err(fault) => Err(fault),
     }
 }
 
+const LENGTH: PayloadFault = PayloadFault::BadChunks {
+    why: Mismatch::Length,
+};
+
+const POSITION: PayloadFault = PayloadFault::BadChunks {
+    why: Mismatch::Position,
+};
+
+const NO_ITEM: PayloadFault = PayloadFault::BadChunks {
+    why: Mismatch::NoItem,
+};
+
 /// The position of a read chunk and its bytes.
-const CHUNKS: [(u32, &[u8], Option<Mismatch>); 5] = [
-    (72, b"HELLO", None),
-    (72, b"HELLO\0\0\x07", None),
-    (72, b"HELLO\0", Some(Mismatch::Length)),
-    (2, b"HELLO", Some(Mismatch::Position)),
-    (2, b"HELLO\0", Some(Mismatch::Position)),
+static CHUNKS: [(u32, &[u8], Result<bool, PayloadFault>); 5] = [
+    (72, b"HELLO", Ok(true)),
+    (72, b"HELLO\0\0\x07", Ok(true)),
+    (72, b"HELLO\0", Err(LENGTH)),
+    (2, b"HELLO", Err(POSITION)),
+    (2, b"HELLO\0", Err(POSITION)),
 ];
 
 #[test]
-fn streams_are_rebuilt(rt: HostRuntime) -> Result<(), AllocError> {
+fn streams_are_rebuilt(rt: HostRuntime) {
     rebuild_undoes_cut();
-    let stream = hello(rt.alloc(), b"")?;
+    let stream = hello(&rt, rt.alloc(), b"");
     for (row, (pos, moved, want)) in CHUNKS.iter().enumerate() {
-        let want = match *want {
-            Some(why) => Err(PayloadFault::BadChunks { why }),
-            None => Ok(true),
-        };
-        same(&rt, row, is_hello(rt.alloc(), &stream, *pos, moved)?, want);
+        let got = is_hello(&rt, rt.alloc(), &stream, *pos, moved);
+        same(&rt, row, got, *want);
     }
     same(&rt, 5, Mismatch::Length as u8, 3);
-    Ok(())
 }
 
 #[test]
-fn no_item_in_getattr(rt: HostRuntime) -> Result<(), AllocError> {
-    let why = Mismatch::NoItem;
-    let getattr = payload_of(rt.alloc(), Payload::Getattr)?;
-    let got = is_hello(rt.alloc(), &getattr, 52, b"HELLO")?;
-    same(&rt, 0, got, Err(PayloadFault::BadChunks { why }));
-    Ok(())
+fn no_item_in_getattr(rt: HostRuntime) {
+    let getattr = payload_of(&rt, rt.alloc(), Payload::Getattr);
+    let got = is_hello(&rt, rt.alloc(), &getattr, 52, b"HELLO");
+    same(&rt, 0, got, Err(NO_ITEM));
 }
 
 /// The item of what is cut, and the lengths of its stream and its content.
-fn cut_of(alloc: Global, text: &[u8]) -> Result<Option<(Item, usize, usize)>, AllocError> {
-    let payload = hello(alloc, text)?;
+fn cut_of(rt: &impl Abort, alloc: Global, text: &[u8]) -> Option<(Item, usize, usize)> {
+    let payload = hello(rt, alloc, text);
     match cut(alloc, &payload, &Of::Call) {
-        Ok(Some(cut)) => Ok(Some((cut.item, cut.stream.len(), cut.moved.len()))),
-        _ => Ok(None),
+        Ok(Some(cut)) => Some((cut.item, cut.stream.len(), cut.moved.len())),
+        _ => None,
     }
 }
 
 /// The pad, a pad that isn't zero, a byte too few and one too many.
+static TEXTS: [(&[u8], Option<(Item, usize, usize)>); 4] = [
+    (b"HELLO\0\0\0", Some((Item { pos: 72, len: 5 }, 72, 5))),
+    (b"HELLO\0\0\x07", None),
+    (b"HELLO\0\0", None),
+    (b"HELLO\0\0\0\0", None),
+];
+
 #[test]
-fn whole_items_are_cut(rt: HostRuntime) -> Result<(), AllocError> {
-    let rows: [(&[u8], bool); 4] = [
-        (b"HELLO\0\0\0", true),
-        (b"HELLO\0\0\x07", false),
-        (b"HELLO\0\0", false),
-        (b"HELLO\0\0\0\0", false),
-    ];
-    for (row, (text, is_cut)) in rows.iter().enumerate() {
-        let want = if *is_cut {
-            Some((Item { pos: 72, len: 5 }, 72, 5))
-        } else {
-            None
-        };
-        same(&rt, row, cut_of(rt.alloc(), text)?, want);
+fn whole_items_are_cut(rt: HostRuntime) {
+    for (row, (text, want)) in TEXTS.iter().enumerate() {
+        same(&rt, row, cut_of(&rt, rt.alloc(), text), *want);
     }
-    Ok(())
 }
 
 /// The most bytes of a reply, by the procedure of NFS (RFC 1813 section 3.3).
-const SIZES: [(u32, u32); 20] = [
+static SIZES: [(u32, u32); 20] = [
     (0, 32),
     (1, 112),
     (2, 144),
@@ -207,24 +215,22 @@ const SIZES: [(u32, u32); 20] = [
     (22, 32),
 ];
 
-fn limit_of(alloc: Global, prog: u32, proc: u32, arguments: &[u32]) -> Result<u32, AllocError> {
-    let bytes = call_of(alloc, prog, proc, arguments)?;
-    Ok(largest_reply(&bytes))
+fn limit_of(rt: &impl Abort, alloc: Global, prog: u32, proc: u32, arguments: &[u32]) -> u32 {
+    largest_reply(&call_of(rt, alloc, prog, proc, arguments))
 }
 
 #[test]
-fn replies_have_limits(rt: HostRuntime) -> Result<(), AllocError> {
-    for (proc, want) in SIZES {
-        let got = limit_of(rt.alloc(), NFS, proc, &[8, 0, 2])?;
-        same(&rt, proc as usize, got, want);
+fn replies_have_limits(rt: HostRuntime) {
+    for (row, (proc, want)) in SIZES.iter().enumerate() {
+        let got = limit_of(&rt, rt.alloc(), NFS, *proc, &[8, 0, 2]);
+        same(&rt, row, got, *want);
     }
-    same(&rt, 22, limit_of(rt.alloc(), MOUNT, 1, &[])?, 108);
+    same(&rt, 22, limit_of(&rt, rt.alloc(), MOUNT, 1, &[]), 108);
     same(&rt, 23, largest_reply(&[]), 32);
-    Ok(())
 }
 
 /// READ by its count, up to 32768; READDIR by its count and READDIRPLUS by the second of its counts.
-const COUNTS: [(u32, &[u32], u32); 12] = [
+static COUNTS: [(u32, &[u32], u32); 12] = [
     (6, &[8, 0, 2, 0, 0, 0], 128),
     (6, &[8, 0, 2, 0, 0, 5], 136),
     (6, &[8, 0, 2, 0, 0, 32768], 32896),
@@ -240,14 +246,9 @@ const COUNTS: [(u32, &[u32], u32); 12] = [
 ];
 
 #[test]
-fn replies_have_limits_by_counts(rt: HostRuntime) -> Result<(), AllocError> {
+fn replies_have_limits_by_counts(rt: HostRuntime) {
     for (row, (proc, arguments, want)) in COUNTS.iter().enumerate() {
-        same(
-            &rt,
-            row,
-            limit_of(rt.alloc(), NFS, *proc, arguments)?,
-            *want,
-        );
+        let got = limit_of(&rt, rt.alloc(), NFS, *proc, arguments);
+        same(&rt, row, got, *want);
     }
-    Ok(())
 }

@@ -1,11 +1,12 @@
 //! Plans of calls.
 
-use crate::Payload::{Getattr, Mnt, Read, Readlink, Symlink, Write, Zeros};
-use crate::Way::{Auto, Chunk, Inline, Long, Offer};
 use crate::compare::same;
-use crate::{Given, Payload, Way, form_of, payload_of};
+use crate::given::Payload::{Getattr, Mnt, Read, Readlink, Symlink, Write, Zeros};
+use crate::given::Way::{Auto, Chunk, Inline, Long, Offer};
+use crate::given::{Given, Payload, Way, form_of, payload_of};
 use nr_reduce::{Lengths, PayloadFault, Plan, plan, plans_convey_payloads};
-use std::alloc::{AllocError, Global};
+use std::alloc::Global;
+use std::process::Abort;
 
 /// What a plan has: the length of its inline stream, the place and the segments of its read chunk and the length of its
 /// region, the segments of a write chunk and of a reply chunk.
@@ -52,7 +53,7 @@ struct Row(Payload, Way, u32, u32, Want<'static>);
 
 /// The sizes: a header has 28 bytes, a read entry 24, a write chunk 8 and 16 for each segment, a reply chunk 4 and 16 for
 /// each (RFC 8166 section 4.3). Before the data of WRITE stand 72 bytes, before the path of SYMLINK 88.
-const TABLE: &[Row] = &[
+static TABLE: [Row; 43] = [
     // 28 + 72 + 924 = 1024; of 925 bytes the pad ends at 928
     Row(
         Write(924),
@@ -347,15 +348,18 @@ const TABLE: &[Row] = &[
 ];
 
 fn planned(
+    rt: &impl Abort,
     alloc: Global,
     payload: Payload,
     way: Way,
-    up: u32,
-    down: u32,
-) -> Result<Result<Plan, PayloadFault>, AllocError> {
-    let bytes = payload_of(alloc, payload)?;
-    let form = form_of(alloc, way)?;
-    Ok(plan(alloc, &bytes, &form, up, down))
+    sizes: [u32; 2],
+) -> Result<Plan, PayloadFault> {
+    let [up, down] = sizes;
+    let bytes = payload_of(rt, alloc, payload);
+    let form = form_of(rt, alloc, way);
+    let got = plan(alloc, &bytes, &form, up, down);
+    drop(form);
+    got
 }
 
 fn seen(plan: &Result<Plan, PayloadFault>) -> Want<'_> {
@@ -366,35 +370,48 @@ fn seen(plan: &Result<Plan, PayloadFault>) -> Want<'_> {
     }
 }
 
+/// Ends the test where what is planned is not what the row wants.
+fn row_plans(rt: &impl Abort, alloc: Global, number: usize, row: &Row) {
+    let Row(payload, way, up, down, want) = row;
+    let got = planned(rt, alloc, *payload, *way, [*up, *down]);
+    same(rt, number, seen(&got), *want);
+    drop(got);
+}
+
 #[test]
-fn each_row_is_planned(rt: HostRuntime) -> Result<(), AllocError> {
+fn each_row_is_planned(rt: HostRuntime) {
     plans_convey_payloads();
-    for (row, Row(payload, way, up, down, want)) in TABLE.iter().enumerate() {
-        let got = planned(rt.alloc(), *payload, *way, *up, *down)?;
-        same(&rt, row, seen(&got), *want);
+    for (number, row) in TABLE.iter().enumerate() {
+        row_plans(&rt, rt.alloc(), number, row);
     }
-    Ok(())
 }
 
 /// The bytes of a read chunk's region: those of a WRITE's payload from its place on, and zeros behind them.
-const REGIONS: [(Way, &[u8]); 4] = [
+static REGIONS: [(Way, &[u8]); 4] = [
     (Chunk, b"aaaaa"),
     (Offer(Given(72, Some(&[2, 4]), None, None)), b"aaaaa\0"),
     (Offer(Given(76, Some(&[6]), None, None)), b"a\0\0\0\0\0"),
     (Offer(Given(90, Some(&[2]), None, None)), b"\0\0"),
 ];
 
-fn has_region(alloc: Global, way: Way, want: &[u8]) -> Result<bool, AllocError> {
-    match planned(alloc, Write(5), way, 1024, 1024)? {
-        Ok(plan) => Ok(plan.region.as_slice() == want),
-        Err(_) => Ok(false),
+/// The bytes of the region of a plan.
+fn region_of(got: &Result<Plan, PayloadFault>) -> Option<&[u8]> {
+    match got {
+        Ok(plan) => Some(plan.region.as_slice()),
+        Err(_) => None,
     }
 }
 
+/// Ends the test where the region of a WRITE of five bytes doesn't have these bytes.
+fn region_is(rt: &impl Abort, alloc: Global, row: usize, way: Way, want: &[u8]) {
+    let got = planned(rt, alloc, Write(5), way, [1024, 1024]);
+    same(rt, row, region_of(&got), Some(want));
+    drop(got);
+}
+
 #[test]
-fn regions_hold_the_payload(rt: HostRuntime) -> Result<(), AllocError> {
+fn regions_hold_the_payload(rt: HostRuntime) {
     for (row, (way, want)) in REGIONS.iter().enumerate() {
-        same(&rt, row, has_region(rt.alloc(), *way, want)?, true);
+        region_is(&rt, rt.alloc(), row, *way, want);
     }
-    Ok(())
 }

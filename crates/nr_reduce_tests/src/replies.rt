@@ -1,17 +1,19 @@
 //! Replies that an offer holds, and how they are sent back.
 
 use crate::compare::same;
-use crate::{NFS, lists_of, put_text, put_words};
+use crate::given::{NFS, lists_of, put_text, put_words};
+use nr_header::ChunkLists;
 use nr_reduce::{answer_for, answers_convey_replies, holds};
-use std::alloc::{AllocError, Global};
+use std::alloc::Global;
+use std::process::Abort;
 
 /// A reply to READ with so many bytes of data and no attributes: 24 bytes of head, status, flag, count, end, length: 44
 /// bytes before the data.
-fn read_reply(alloc: Global, len: u32) -> Result<Vec<u8>, AllocError> {
+fn read_reply(rt: &impl Abort, alloc: Global, len: u32) -> Vec<u8> {
     let mut out = Vec::new(alloc);
-    put_words(&mut out, &[9, 1, 0, 0, 0, 0, 0, 0, len, 1])?;
-    put_text(&mut out, len)?;
-    Ok(out)
+    put_words(rt, &mut out, &[9, 1, 0, 0, 0, 0, 0, 0, len, 1]);
+    put_text(rt, &mut out, len);
+    out
 }
 
 /// The length of a READ's data, the write chunks, the reply chunk, and what is sent back: whether in the reply chunk, the
@@ -23,7 +25,7 @@ struct Row(
     Option<(bool, usize, usize)>,
 );
 
-const TABLE: &[Row] = &[
+static TABLE: [Row; 14] = [
     // 28 + 44 + 952 = 1024
     Row(952, &[], None, Some((false, 996, 0))),
     Row(953, &[], None, None),
@@ -44,37 +46,39 @@ const TABLE: &[Row] = &[
     Row(40000, &[&[40000]], Some(&[1]), Some((false, 44, 40000))),
 ];
 
-/// How the reply to a READ is sent back to a call of a procedure, and whether its offer holds it.
-fn answered(
-    alloc: Global,
+/// How a reply is sent back to a call of a procedure.
+fn answer_of(
+    offer: &ChunkLists,
     proc: u32,
-    row: &Row,
+    bytes: &[u8],
     down: u32,
-) -> Result<(Option<(bool, usize, usize)>, bool), AllocError> {
-    let bytes = read_reply(alloc, row.0)?;
-    let offer = lists_of(alloc, row.1, row.2)?;
-    let held = holds(&offer, NFS, 3, proc, &bytes, down);
-    match answer_for(&offer, NFS, 3, proc, &bytes, down) {
-        Some(answer) => Ok((
-            Some((answer.long, answer.stream.len(), answer.moved.len())),
-            held,
-        )),
-        None => Ok((None, held)),
+) -> Option<(bool, usize, usize)> {
+    match answer_for(offer, NFS, 3, proc, bytes, down) {
+        Some(answer) => Some((answer.long, answer.stream.len(), answer.moved.len())),
+        None => None,
     }
+}
+
+/// Ends the test where the reply to a READ is not sent back so to a call of a procedure, or its offer doesn't say so.
+fn row_answers(rt: &impl Abort, alloc: Global, number: usize, proc: u32, row: &Row, down: u32) {
+    let bytes = read_reply(rt, alloc, row.0);
+    let offer = lists_of(rt, alloc, row.1, row.2);
+    same(rt, number, answer_of(&offer, proc, &bytes, down), row.3);
+    let held = holds(&offer, NFS, 3, proc, &bytes, down);
+    same(rt, number, held, row.3.is_some());
+    drop(offer);
 }
 
 #[test]
-fn each_row_is_answered(rt: HostRuntime) -> Result<(), AllocError> {
+fn each_row_is_answered(rt: HostRuntime) {
     answers_convey_replies();
     for (number, row) in TABLE.iter().enumerate() {
-        let got = answered(rt.alloc(), 6, row, 1024)?;
-        same(&rt, number, got, (row.3, row.3.is_some()));
+        row_answers(&rt, rt.alloc(), number, 6, row, 1024);
     }
-    Ok(())
 }
 
 /// A reply to another procedure has no item, and a larger Send back leaves more room.
-const OTHERS: [(Row, u32, u32); 4] = [
+static OTHERS: [(Row, u32, u32); 4] = [
     (Row(5, &[&[4]], None, None), 6, 1024),
     (Row(5, &[&[4]], None, Some((false, 52, 0))), 7, 1024),
     (Row(953, &[], None, None), 6, 1027),
@@ -82,10 +86,8 @@ const OTHERS: [(Row, u32, u32); 4] = [
 ];
 
 #[test]
-fn answers_go_by_procedure_and_room(rt: HostRuntime) -> Result<(), AllocError> {
+fn answers_go_by_procedure_and_room(rt: HostRuntime) {
     for (number, (row, proc, down)) in OTHERS.iter().enumerate() {
-        let got = answered(rt.alloc(), *proc, row, *down)?;
-        same(&rt, number, got, (row.3, row.3.is_some()));
+        row_answers(&rt, rt.alloc(), number, *proc, row, *down);
     }
-    Ok(())
 }

@@ -155,6 +155,12 @@ StoppedReading OverBudget input input' =
 abbrev pub IsPrinted : ScriptLines → List ℕ → Type 0
 IsPrinted script text = (run : List Mark) × IsDrill script run × (text ≡ printed script run)
 
+-- the input says a script, and this is printed of a run of it
+pub record Shown (input input' : InputAt) (text : List ℕ) : Type 0 where
+  pub script : ScriptLines
+  pub reads : ReadsScript input input' script
+  pub prints : IsPrinted script text
+
 -- What is written for a cause. The text with the number of a line needs memory; where there is none, that is written.
 abbrev pub Says : Cause → ℕ → SinkAt → SinkAt → Type 0
 Says BadArguments status err err' = Spoke statuses.bad_arguments (codes "bad words\n") status err err'

@@ -4,7 +4,7 @@ ghost use Rattle.std.specs.Prelude.{◌≡◌, true, false, map, IfOk, MatchResu
 ghost use Rattle.std.specs.String.{string_bytes};
 ghost use Rattle.nr_top.specs.Arguments.{is_drill};
 ghost use Rattle.nr_top.specs.Causes.{cause_of};
-ghost use Rattle.nr_top.specs.Ends.{Ends, Done, IsPrinted, ReadsScript, Stopped, StoppedReading, Spoke, Says, input_at, sink_at};
+ghost use Rattle.nr_top.specs.Ends.{Ends, Done, IsPrinted, ReadsScript, Stopped, StoppedReading, Shown, Spoke, Says, input_at, sink_at};
 ghost use Rattle.nr_top.specs.Ends.Cause.{NoMemory, BadArguments, BadScript};
 
 use crate::status::{BAD_ARGUMENTS, BAD_SCRIPT, DONE, FAULT, NO_MEMORY, OVER_BUDGET};
@@ -89,6 +89,19 @@ fn printed_drill(alloc: Global, script: &Script) -> Result<Octets, Memory>
     shown(alloc, &report)
 }
 
+/// Reads a script and runs it, and gives what is printed of that.
+fn shown_drill<I: Source>(alloc: Global, input: &mut I) -> Result<Octets, Stop>
+    ensures { MatchResult result
+        (λ text. Shown (input_at (I.left input.old) (I.given input.old) (I.faults input.old))
+        (input_at (I.left input.new) (I.given input.new) (I.faults input.new)) text)
+        (λ stop. StoppedReading (cause_of stop) (input_at (I.left input.old) (I.given input.old) (I.faults input.old))
+        (input_at (I.left input.new) (I.given input.new) (I.faults input.new))) }
+{
+    let script = read_drill(alloc, input)?;
+    let printed = printed_drill(alloc, &script)?;
+    Ok(printed)
+}
+
 /// Reads a script, runs it, and prints what happened.
 fn drill<I: Source, O: Sink>(
     alloc: Global,
@@ -107,8 +120,7 @@ fn drill<I: Source, O: Sink>(
     if !is_drill(arguments) {
         return Err(Stop::Arguments);
     }
-    let script = read_drill(alloc, input)?;
-    let printed = printed_drill(alloc, &script)?;
+    let printed = shown_drill(alloc, input)?;
     match write_whole(out, printed.as_slice()) {
         Ok(()) => Ok(()),
         Err(_) => Err(Stop::Output),

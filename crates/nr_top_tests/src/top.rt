@@ -131,6 +131,18 @@ fn strings(rt: &impl Abort, alloc: Global, arguments: &[&str]) -> Vec<String> {
     strings
 }
 
+fn source(rt: &impl Abort, alloc: Global, input: Vec<u8>, failing: &[usize]) -> MemSource {
+    MemSource::new(
+        input,
+        Vec::new(alloc),
+        failing.to_vec(alloc).expect(rt, "memory"),
+    )
+}
+
+fn sink(rt: &impl Abort, alloc: Global, failing: &[usize]) -> MemSink {
+    MemSink::new(alloc, failing.to_vec(alloc).expect(rt, "memory"))
+}
+
 /// Runs the program, and compares its status and what it wrote.
 fn same_run(
     rt: &impl Abort,
@@ -142,11 +154,11 @@ fn same_run(
     want: (u8, &[u8], &[u8]),
 ) {
     let [reads, writes, texts] = failing;
-    let reads = reads.to_vec(alloc).expect(rt, "memory");
-    let mut input = MemSource::new(input, Vec::new(alloc), reads);
-    let mut out = MemSink::new(alloc, writes.to_vec(alloc).expect(rt, "memory"));
-    let mut err = MemSink::new(alloc, texts.to_vec(alloc).expect(rt, "memory"));
+    let mut input = source(rt, alloc, input, reads);
+    let mut out = sink(rt, alloc, writes);
+    let mut err = sink(rt, alloc, texts);
     let status = run(alloc, arguments, &mut input, &mut out, &mut err);
+    drop(input);
     same(rt, row, (status, out.bytes(), err.bytes()), want);
 }
 
@@ -159,38 +171,39 @@ fn each_status_with_its_text(rt: HostRuntime) {
     }
 }
 
+/// Whether memory ran out, the calls of `err` that fail, the status, and what is written on `err`.
+static REFUSALS: [(bool, &[usize], u8, &[u8]); 3] = [
+    (true, &[], NO_MEMORY, b"memory\n"),
+    (false, &[], BAD_ARGUMENTS, b"bad words\n"),
+    (true, &[0], FAULT, b""),
+];
+
 #[test]
 fn arguments_that_cannot_be_had(rt: HostRuntime) {
-    let rows: [(bool, &'static [usize], u8, &'static [u8]); 3] = [
-        (true, &[], NO_MEMORY, b"memory\n"),
-        (false, &[], BAD_ARGUMENTS, b"bad words\n"),
-        (true, &[0], FAULT, b""),
-    ];
-    for (row, (memory, failing, status, text)) in rows.into_iter().enumerate() {
-        let mut err = MemSink::new(rt.alloc(), failing.to_vec(rt.alloc()).expect(&rt, "memory"));
-        let got = refuse(&mut err, memory);
-        same(&rt, row, (got, err.bytes()), (status, text));
+    for (row, (memory, failing, status, text)) in REFUSALS.iter().enumerate() {
+        let mut err = sink(&rt, rt.alloc(), failing);
+        let got = refuse(&mut err, *memory);
+        same(&rt, row, (got, err.bytes()), (*status, *text));
     }
 }
 
 /// Both sides of the limit of an input.
+static LENGTHS: [(usize, u8, &[u8]); 2] = [
+    (16_777_217, OVER_BUDGET, b"budget 16777216\n"),
+    (16_777_216, BAD_SCRIPT, b"bad line 1\n"),
+];
+
+/// Runs the program on so many bytes `x`, and compares.
+fn long_run(rt: &impl Abort, alloc: Global, row: usize, len: usize, want: (u8, &[u8], &[u8])) {
+    let arguments = strings(rt, alloc, DRILL);
+    let input = vec![in alloc; b'x'; len].expect(rt, "memory");
+    same_run(rt, alloc, row, &arguments, input, NONE, want);
+}
+
 #[test]
 fn the_longest_input(rt: HostRuntime) {
-    let arguments = strings(&rt, rt.alloc(), DRILL);
-    let rows: [(usize, u8, &[u8]); 2] = [
-        (16_777_217, OVER_BUDGET, b"budget 16777216\n"),
-        (16_777_216, BAD_SCRIPT, b"bad line 1\n"),
-    ];
-    for (row, (len, status, text)) in rows.into_iter().enumerate() {
-        let input = vec![in rt.alloc(); b'x'; len].expect(&rt, "memory");
-        same_run(
-            &rt,
-            rt.alloc(),
-            row,
-            &arguments,
-            input,
-            NONE,
-            (status, b"", text),
-        );
+    for (row, (len, status, text)) in LENGTHS.iter().enumerate() {
+        let want = (*status, b"".as_slice(), *text);
+        long_run(&rt, rt.alloc(), row, *len, want);
     }
 }

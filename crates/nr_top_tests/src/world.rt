@@ -93,32 +93,50 @@ fn scripts(rt: HostRuntime) {
     }
 }
 
-/// What is printed for a script, and then all bytes that the client and the server of its link wrote.
-fn printed_and_logs(rt: &impl Abort, alloc: Global, text: &[u8]) -> Vec<u8> {
+fn report_of(rt: &impl Abort, alloc: Global, text: &[u8]) -> Report {
     assert!(rt; text.len() <= SCRIPT_MAX);
     let script = read_script(alloc, text).expect(rt, "a script");
-    let report = run_world(alloc, &script).expect(rt, "memory");
-    let mut bytes = shown(alloc, &report).expect(rt, "memory").into_vec();
-    for log in report.logs.as_slice() {
-        bytes
-            .extend_from_slice(log.up.as_slice())
-            .expect(rt, "memory");
-        bytes
-            .extend_from_slice(log.down.as_slice())
-            .expect(rt, "memory");
+    run_world(alloc, &script).expect(rt, "memory")
+}
+
+fn put_logs(rt: &impl Abort, bytes: &mut Vec<u8>, logs: &[LinkLog]) {
+    for log in logs {
+        put(rt, bytes, log.up.as_slice());
+        put(rt, bytes, log.down.as_slice());
     }
+}
+
+fn put(rt: &impl Abort, bytes: &mut Vec<u8>, more: &[u8]) {
+    bytes.extend_from_slice(more).expect(rt, "memory");
+}
+
+/// What is printed for a report, and then all bytes that the client and the server of its link wrote.
+fn shown_and_logs(rt: &impl Abort, alloc: Global, report: &Report) -> Vec<u8> {
+    let mut bytes = shown(alloc, report).expect(rt, "memory").into_vec();
+    put_logs(rt, &mut bytes, report.logs.as_slice());
     bytes
 }
 
+/// The same for a script.
+fn printed_and_logs(rt: &impl Abort, alloc: Global, text: &[u8]) -> Vec<u8> {
+    let report = report_of(rt, alloc, text);
+    let bytes = shown_and_logs(rt, alloc, &report);
+    drop(report);
+    bytes
+}
+
+/// A script, and what is printed and written.
+static RUNS: [(&[u8], &[&[u8]]); 2] = [
+    (ONE_CALL, &[ONE_SHOWN, UP, DOWN]),
+    (TWO_CALLS, &[TWO_SHOWN, UP, SECOND_UP, DOWN, SECOND_DOWN]),
+];
+
 #[test]
 fn runs(rt: HostRuntime) {
-    let rows: [(&[u8], [&[u8]; 5]); 2] = [
-        (ONE_CALL, [ONE_SHOWN, UP, b"", DOWN, b""]),
-        (TWO_CALLS, [TWO_SHOWN, UP, SECOND_UP, DOWN, SECOND_DOWN]),
-    ];
-    for (row, (text, parts)) in rows.into_iter().enumerate() {
+    for (row, (text, parts)) in RUNS.iter().enumerate() {
+        let got = printed_and_logs(&rt, rt.alloc(), text);
         let want = parts.concat(rt.alloc()).expect(&rt, "memory");
-        same(&rt, row, printed_and_logs(&rt, rt.alloc(), text), want);
+        same(&rt, row, got, want);
     }
 }
 
@@ -136,7 +154,9 @@ fn printed(
         links: Sequence::from_vec(links),
         logs: Sequence::from_vec(Vec::new(alloc)),
     };
-    shown(alloc, &report).expect(rt, "memory").into_vec()
+    let bytes = shown(alloc, &report).expect(rt, "memory").into_vec();
+    drop(report);
+    bytes
 }
 
 /// One state of each kind, apart from a reply.
@@ -170,36 +190,42 @@ fn call_state(rt: &impl Abort, alloc: Global, row: usize) -> CallState {
     }
 }
 
+/// The line of call number 7 of client 2 in that state.
+fn call_line(rt: &impl Abort, alloc: Global, row: usize) -> Vec<u8> {
+    let call = CallReport {
+        client: 2,
+        number: 7,
+        state: call_state(rt, alloc, row),
+    };
+    let calls = Vec::from_array(alloc, [call]).expect(rt, "memory");
+    printed(rt, alloc, calls, Vec::new(alloc))
+}
+
+static CALL_LINES: [&[u8]; 13] = [
+    b"2 7 open\njournal 0\n",
+    b"2 7 lost\njournal 0\n",
+    b"2 7 forgotten\njournal 0\n",
+    b"2 7 revoked -\njournal 0\n",
+    b"2 7 revoked 68656c0000\njournal 0\n",
+    b"2 7 place 0 chunk\njournal 0\n",
+    b"2 7 chunk\njournal 0\n",
+    b"2 7 version 1 1\njournal 0\n",
+    b"2 7 refused credit 4 4\njournal 0\n",
+    b"2 7 refused large 1028 1024\njournal 0\n",
+    b"2 7 refused ended\njournal 0\n",
+    b"2 7 refused spent 0 1\njournal 0\n",
+    b"2 7 refused memory\njournal 0\n",
+];
+
 #[test]
 fn call_lines(rt: HostRuntime) {
-    let wanted: [&[u8]; 13] = [
-        b"2 7 open\njournal 0\n",
-        b"2 7 lost\njournal 0\n",
-        b"2 7 forgotten\njournal 0\n",
-        b"2 7 revoked -\njournal 0\n",
-        b"2 7 revoked 68656c0000\njournal 0\n",
-        b"2 7 place 0 chunk\njournal 0\n",
-        b"2 7 chunk\njournal 0\n",
-        b"2 7 version 1 1\njournal 0\n",
-        b"2 7 refused credit 4 4\njournal 0\n",
-        b"2 7 refused large 1028 1024\njournal 0\n",
-        b"2 7 refused ended\njournal 0\n",
-        b"2 7 refused spent 0 1\njournal 0\n",
-        b"2 7 refused memory\njournal 0\n",
-    ];
-    for (row, want) in wanted.into_iter().enumerate() {
-        let call = CallReport {
-            client: 2,
-            number: 7,
-            state: call_state(&rt, rt.alloc(), row),
-        };
-        let calls = Vec::from_array(rt.alloc(), [call]).expect(&rt, "memory");
-        let got = printed(&rt, rt.alloc(), calls, Vec::new(rt.alloc()));
-        same(&rt, row, got, want.to_vec(rt.alloc()).expect(&rt, "memory"));
+    for (row, want) in CALL_LINES.iter().enumerate() {
+        let got = call_line(&rt, rt.alloc(), row);
+        same(&rt, row, got.as_slice(), *want);
     }
 }
 
-const LINKS: [(LinkState, &[u8]); 8] = [
+static LINKS: [(LinkState, &[u8]); 8] = [
     (
         LinkState::Ended {
             side: Side::Initiator,
@@ -264,16 +290,16 @@ const LINKS: [(LinkState, &[u8]); 8] = [
     (LinkState::Dropped, b"link 3 dropped\njournal 0\n"),
 ];
 
+/// The line of the link of client 3 in this state.
+fn link_line(rt: &impl Abort, alloc: Global, state: LinkState) -> Vec<u8> {
+    let links = Vec::from_array(alloc, [LinkReport { client: 3, state }]).expect(rt, "memory");
+    printed(rt, alloc, Vec::new(alloc), links)
+}
+
 #[test]
 fn link_lines(rt: HostRuntime) {
-    for (row, (state, want)) in LINKS.into_iter().enumerate() {
-        let links = Vec::from_array(rt.alloc(), [LinkReport { client: 3, state }]);
-        let got = printed(
-            &rt,
-            rt.alloc(),
-            Vec::new(rt.alloc()),
-            links.expect(&rt, "memory"),
-        );
-        same(&rt, row, got, want.to_vec(rt.alloc()).expect(&rt, "memory"));
+    for (row, (state, want)) in LINKS.iter().enumerate() {
+        let got = link_line(&rt, rt.alloc(), *state);
+        same(&rt, row, got.as_slice(), *want);
     }
 }

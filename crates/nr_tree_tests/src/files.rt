@@ -39,27 +39,46 @@ fn read(rt: &impl Abort, alloc: Global, file: &File, offset: u64, count: u32) ->
     file.read(alloc, offset, count).expect(rt, "memory")
 }
 
+/// The bytes of a file of these after a write.
+fn written(rt: &impl Abort, alloc: Global, before: &[u8], offset: u64, piece: &[u8]) -> Octets {
+    let mut file = file(rt, alloc, before);
+    if offset < 100 && piece.len() < 100 {
+        file.write(offset, piece).expect(rt, "memory");
+    }
+    read(rt, alloc, &file, 0, 100)
+}
+
 #[test]
-fn file_bytes(rt: HostRuntime) {
+fn written_files(rt: HostRuntime) {
     for (row, (before, offset, piece, want)) in WRITES.iter().enumerate() {
-        let mut file = file(&rt, rt.alloc(), before);
-        if *offset < 100 && piece.len() < 100 {
-            file.write(*offset, piece).expect(&rt, "memory");
-        }
-        let bytes = read(&rt, rt.alloc(), &file, 0, 100);
+        let bytes = written(&rt, rt.alloc(), before, *offset, piece);
         same(&rt, row, bytes.as_slice(), *want);
     }
+}
+
+/// The file `hello` with another length.
+fn with_length(rt: &impl Abort, alloc: Global, len: u64) -> File {
+    let mut file = file(rt, alloc, b"hello");
+    if len < 100 {
+        file.set_len(len).expect(rt, "memory");
+    }
+    file
+}
+
+#[test]
+fn files_of_other_lengths(rt: HostRuntime) {
     for (row, (len, want)) in LENGTHS.iter().enumerate() {
-        let mut file = file(&rt, rt.alloc(), b"hello");
-        if *len < 100 {
-            file.set_len(*len).expect(&rt, "memory");
-        }
+        let file = with_length(&rt, rt.alloc(), *len);
+        same(&rt, row, file.len(), *len);
         let bytes = read(&rt, rt.alloc(), &file, 0, 100);
         same(&rt, row, bytes.as_slice(), *want);
-        same(&rt, row, file.len(), *len);
     }
+}
+
+#[test]
+fn parts_of_files(rt: HostRuntime) {
+    let file = file(&rt, rt.alloc(), b"hello");
     for (row, (offset, count, want)) in READS.iter().enumerate() {
-        let file = file(&rt, rt.alloc(), b"hello");
         let bytes = read(&rt, rt.alloc(), &file, *offset, *count);
         same(&rt, row, bytes.as_slice(), *want);
     }

@@ -5,7 +5,7 @@ use nr_rpc::Cred;
 use nr_xdr::Octets;
 
 /// A call of a program (RFC 5531 section 9), with its encoded arguments.
-#[derive(Debug, Drop)]
+#[derive(Drop)]
 pub struct Call {
     pub prog: u32,
     pub vers: u32,
@@ -16,7 +16,7 @@ pub struct Call {
 
 /// How a call is to be sent (RFC 8166 section 3.5): as fits it best, wholly inline, with its item in a chunk, wholly in
 /// a chunk, or with a given offer, right or wrong.
-#[derive(Debug, Drop)]
+#[derive(Drop)]
 pub enum Form {
     Auto,
     Inline,
@@ -26,7 +26,7 @@ pub enum Form {
 }
 
 /// The lengths, in bytes, of the segments of an offer. An absent list isn't offered.
-#[derive(Debug, Drop)]
+#[derive(Drop)]
 pub struct Offer {
     pub read_at: u32,
     pub read: Option<Lengths>,
@@ -38,7 +38,7 @@ pub struct Offer {
 pub type Lengths = Sequence<u32>;
 
 /// The answer to a call: the reply's payload, an ERR_CHUNK or an ERR_VERS message (RFC 8166 section 4.5).
-#[derive(Debug, Drop)]
+#[derive(Drop)]
 pub enum Outcome {
     Reply(Octets),
     Chunk,
@@ -46,7 +46,7 @@ pub enum Outcome {
 }
 
 /// Why a side of a link takes no more input.
-#[derive(Clone, Copy, Debug, PartialEq, Eq)]
+#[derive(Clone, Copy, PartialEq, Eq)]
 pub enum End {
     /// The hello or FPDU at byte `at` of the stream is refused, for a reason of the link.
     Bad { at: u64, reason: u32 },
@@ -61,7 +61,7 @@ pub enum End {
 }
 
 /// Why an access to registered memory is denied: no live STag, out of bounds, or another right.
-#[derive(Clone, Copy, Debug, PartialEq, Eq)]
+#[derive(Clone, Copy, PartialEq, Eq)]
 pub enum Lack {
     NoStag,
     Bounds,
@@ -69,7 +69,7 @@ pub enum Lack {
 }
 
 /// Why a call was not sent.
-#[derive(Clone, Copy, Debug, PartialEq, Eq)]
+#[derive(Clone, Copy, PartialEq, Eq)]
 pub enum Refused {
     /// The link has ended.
     Ended(End),
@@ -84,7 +84,7 @@ pub enum Refused {
 }
 
 /// The answer of a client to a call: it goes out under this xid, or it is refused.
-#[derive(Clone, Copy, Debug, PartialEq, Eq)]
+#[derive(Clone, Copy, PartialEq, Eq)]
 pub enum Submission {
     Accepted { xid: u32 },
     Refused(Refused),

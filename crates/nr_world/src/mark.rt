@@ -7,7 +7,7 @@ use nr_wire::Side;
 use nr_xdr::Octets;
 
 /// A moment of a clock: seconds, and nanoseconds. An Execute's nanoseconds are 0 in a drill.
-#[derive(Clone, Copy, Debug, PartialEq, Eq)]
+#[derive(Clone, Copy, PartialEq, Eq)]
 pub struct Moment {
     pub seconds: u32,
     pub nanos: u32,
@@ -15,7 +15,7 @@ pub struct Moment {
 
 /// What the two ends of a link were opened with: the client's first xid and first STag, the credits that it asks for,
 /// and the credits that the server grants.
-#[derive(Clone, Copy, Debug, PartialEq, Eq)]
+#[derive(Clone, Copy, PartialEq, Eq)]
 pub struct LinkParameters {
     pub first_xid: u32,
     pub first_stag: u32,
@@ -24,7 +24,7 @@ pub struct LinkParameters {
 }
 
 /// An entry of the journal: a change that took effect, with its moment, credential, procedure and arguments.
-#[derive(Debug, Drop)]
+#[derive(Drop)]
 pub struct Entry {
     pub moment: Moment,
     pub cred: Cred,
@@ -33,7 +33,7 @@ pub struct Entry {
 }
 
 /// A payload that a message conveys, with the xid of both.
-#[derive(Debug, Drop)]
+#[derive(Drop)]
 pub struct Conveyed {
     pub xid: u32,
     pub payload: Octets,
@@ -41,7 +41,7 @@ pub struct Conveyed {
 
 /// One thing that happened. `link` is the number of the link, from 1. The client is the initiator of a link, and the
 /// server its responder.
-#[derive(Debug, Drop)]
+#[derive(Drop)]
 pub enum Mark {
     /// The client was given a call.
     Submit {

@@ -31,7 +31,10 @@ fn inline_header(alloc: Global, xid: u32, credit: u32) -> Result<Octets, Memory>
         lists,
         stream_at: 0,
     };
-    write_header(alloc, &Header { xid, credit, body })
+    let header = Header { xid, credit, body };
+    let written = write_header(alloc, &header);
+    drop(header);
+    written
 }
 
 /// An RDMA_MSG message without chunk lists: the header, and the payload behind it.
@@ -116,10 +119,11 @@ fn payload_place(message: &[u8]) -> Option<(u32, usize)>
         × (found.1 ≤ length message.now)) }
 {
     match read_header(message) {
-        Ok(header) => match xid_and_place(&header) {
-            Some((xid, place)) => Some((xid, place)),
-            None => None,
-        },
+        Ok(header) => {
+            let found = xid_and_place(&header);
+            drop(header);
+            found
+        }
         Err(_) => None,
     }
 }

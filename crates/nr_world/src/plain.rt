@@ -1,7 +1,7 @@
 //! The plain server. Today it has the NULL procedure of NFS version 3.
 
-ghost use Rattle.std.specs.Prelude.{◌≡◌, ◌≤◌, length, IfOk, IfSome};
-ghost use Rattle.nr_world.specs.Plain.{null_reply, plain_reply};
+ghost use Rattle.std.specs.Prelude.{◌≡◌, ◌≤◌, length, Ok, IfOk, IfSome};
+ghost use Rattle.nr_world.specs.Plain.{null_reply, plain_reply, reply_to};
 
 use nr_rpc::{CallHead, Cred, HeadFault, ReplyHead, read_call, write_reply};
 use nr_xdr::{Memory, Octets};
@@ -37,6 +37,30 @@ fn null_reply(alloc: Global, xid: u32) -> Result<Octets, Memory>
     }
 }
 
+/// The reply to a call head, where the server has its procedure. `len` is the length of the payload.
+fn reply_to(alloc: Global, head: &CallHead, len: usize) -> Result<Option<Octets>, Memory>
+    ensures exact { IfOk result (λ reply. reply ≡ reply_to (Ok head.now) len) }
+    ensures short { IfOk result (λ reply. IfSome reply (λ bytes. length bytes ≤ REPLY_MAX)) }
+{
+    match head {
+        CallHead::Version2 {
+            xid,
+            prog,
+            vers,
+            proc,
+            cred: Cred::None,
+            args_at,
+        } => {
+            if *prog == NFS_PROGRAM && *vers == NFS_VERSION && *proc == NULL && *args_at == len {
+                Ok(Some(null_reply(alloc, *xid)?))
+            } else {
+                Ok(None)
+            }
+        }
+        _ => Ok(None),
+    }
+}
+
 /// The reply to a payload, where the server has its procedure.
 #[tactic(auto, unfolding(crate::specs::Plain::plain_reply))]
 pub fn execute(alloc: Global, payload: &[u8]) -> Result<Option<Octets>, Memory>
@@ -44,27 +68,11 @@ pub fn execute(alloc: Global, payload: &[u8]) -> Result<Option<Octets>, Memory>
     ensures short { IfOk result (λ reply. IfSome reply (λ bytes. length bytes ≤ REPLY_MAX)) }
 {
     match read_call(alloc, payload) {
-        Ok(
-            CallHead::Version2 {
-                xid,
-                prog,
-                vers,
-                proc,
-                cred: Cred::None,
-                args_at,
-            },
-        ) => {
-            if prog == NFS_PROGRAM
-                && vers == NFS_VERSION
-                && proc == NULL
-                && args_at == payload.len()
-            {
-                Ok(Some(null_reply(alloc, xid)?))
-            } else {
-                Ok(None)
-            }
+        Ok(head) => {
+            let reply = reply_to(alloc, &head, payload.len());
+            drop(head);
+            reply
         }
-        Ok(_) => Ok(None),
         Err(HeadFault::Memory) => Err(Memory),
         Err(_) => Ok(None),
     }

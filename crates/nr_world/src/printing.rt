@@ -1,9 +1,11 @@
 //! What a drill prints: a line for each call line, a line for each link that was dropped and each side that ended, and
 //! the journal's length.
 
-ghost use Rattle.std.specs.Prelude.{◌≡◌, ◌++◌, length, IfOk, OnOk};
+ghost use Rattle.std.specs.Prelude.{◌≡◌, ◌++◌, codes, length, IfOk, OnOk};
+ghost use Rattle.std.specs.Fmt.{decimal};
 ghost use Rattle.std.specs.List.{flat_map};
 ghost use Rattle.std.specs.String.{string_bytes};
+ghost use Rattle.hex.specs.Hex.{encode_lower};
 ghost use Rattle.nr_world.specs.Shown.{placed_text, two_numbers, outcome_text, bytes_text, refused_text, call_state_text, call_report_text, side_text, lack_text, end_text, link_state_text, link_text, journal_text, text_of};
 
 use crate::call::{End, Lack, Outcome, Refused};
@@ -19,6 +21,32 @@ fn push_two(text: &mut String, first: u64, second: u64) -> Result<(), Memory>
     ensures { OnOk result (string_bytes text.new ≡ string_bytes text.old ++ two_numbers first second) }
 {
     write!(text, "{first} {second}")?;
+    Ok(())
+}
+
+/// A text.
+fn push_text(text: &mut String, words: &str) -> Result<(), Memory>
+    ensures { OnOk result (string_bytes text.new ≡ string_bytes text.old ++ words.now) }
+{
+    text.push_str(words)?;
+    Ok(())
+}
+
+/// A text, and a number behind it.
+fn push_number(text: &mut String, words: &str, number: u32) -> Result<(), Memory>
+    ensures { OnOk result (string_bytes text.new ≡ string_bytes text.old ++ (words.now ++ decimal number)) }
+{
+    text.push_str(words)?;
+    write!(text, "{number}")?;
+    Ok(())
+}
+
+/// Bytes as hexadecimal digits.
+fn push_digits(alloc: Global, text: &mut String, bytes: &[u8]) -> Result<(), Memory>
+    ensures { OnOk result (string_bytes text.new ≡ string_bytes text.old ++ encode_lower bytes.now) }
+{
+    let digits = hex::encode(alloc, bytes)?;
+    text.push_str(digits.as_str())?;
     Ok(())
 }
 
@@ -50,15 +78,10 @@ fn push_outcome(alloc: Global, text: &mut String, outcome: &Outcome) -> Result<(
 {
     match outcome {
         Outcome::Reply(payload) => {
-            let digits = hex::encode(alloc, payload.as_slice())?;
-            text.push_str(" reply ")?;
-            text.push_str(digits.as_str())?;
-            Ok(())
+            push_text(text, " reply ")?;
+            push_digits(alloc, text, payload.as_slice())
         }
-        Outcome::Chunk => {
-            text.push_str(" chunk")?;
-            Ok(())
-        }
+        Outcome::Chunk => push_text(text, " chunk"),
         Outcome::Version { low, high } => {
             push_words(text, " version ", u64::from(*low), u64::from(*high))
         }
@@ -70,12 +93,10 @@ fn push_bytes(alloc: Global, text: &mut String, bytes: &[u8]) -> Result<(), Memo
     ensures { OnOk result (string_bytes text.new ≡ string_bytes text.old ++ bytes_text bytes.now) }
 {
     if bytes.is_empty() {
-        text.push_str("-")?;
-        return Ok(());
+        push_text(text, "-")
+    } else {
+        push_digits(alloc, text, bytes)
     }
-    let digits = hex::encode(alloc, bytes)?;
-    text.push_str(digits.as_str())?;
-    Ok(())
 }
 
 /// Why a call wasn't sent.
@@ -83,10 +104,7 @@ fn push_refused(text: &mut String, refused: &Refused) -> Result<(), Memory>
     ensures { OnOk result (string_bytes text.new ≡ string_bytes text.old ++ refused_text refused.now) }
 {
     match *refused {
-        Refused::Ended(_) => {
-            text.push_str(" refused ended")?;
-            Ok(())
-        }
+        Refused::Ended(_) => push_text(text, " refused ended"),
         Refused::TooLarge { need, room } => {
             push_words(text, " refused large ", need, u64::from(room))
         }
@@ -94,11 +112,16 @@ fn push_refused(text: &mut String, refused: &Refused) -> Result<(), Memory>
             push_words(text, " refused credit ", u64::from(out), u64::from(grant))
         }
         Refused::Spent { left, need } => { push_words(text, " refused spent ", left, need) }
-        Refused::Memory => {
-            text.push_str(" refused memory")?;
-            Ok(())
-        }
+        Refused::Memory => push_text(text, " refused memory"),
     }
+}
+
+/// A call whose memory was taken back.
+fn push_revoked(alloc: Global, text: &mut String, bytes: &[u8]) -> Result<(), Memory>
+    ensures { OnOk result (string_bytes text.new ≡ string_bytes text.old ++ (codes " revoked " ++ bytes_text bytes.now)) }
+{
+    text.push_str(" revoked ")?;
+    push_bytes(alloc, text, bytes)
 }
 
 /// What became of a call.
@@ -106,26 +129,14 @@ fn push_call_state(alloc: Global, text: &mut String, state: &CallState) -> Resul
     ensures { OnOk result (string_bytes text.new ≡ string_bytes text.old ++ call_state_text state.now) }
 {
     match state {
-        CallState::Out => {
-            text.push_str(" open")?;
-            Ok(())
-        }
+        CallState::Out => push_text(text, " open"),
         CallState::Answered { place, outcome } => {
             push_place(text, *place)?;
             push_outcome(alloc, text, outcome)
         }
-        CallState::Lost => {
-            text.push_str(" lost")?;
-            Ok(())
-        }
-        CallState::Forgotten => {
-            text.push_str(" forgotten")?;
-            Ok(())
-        }
-        CallState::Revoked(bytes) => {
-            text.push_str(" revoked ")?;
-            push_bytes(alloc, text, bytes.as_slice())
-        }
+        CallState::Lost => push_text(text, " lost"),
+        CallState::Forgotten => push_text(text, " forgotten"),
+        CallState::Revoked(bytes) => push_revoked(alloc, text, bytes.as_slice()),
         CallState::Refused(refused) => push_refused(text, refused),
     }
 }
@@ -152,6 +163,15 @@ fn lack_words(why: Lack) -> &'static str
     }
 }
 
+/// An access that was denied.
+fn push_denied(text: &mut String, stag: u32, offset: u64, why: Lack) -> Result<(), Memory>
+    ensures { OnOk result (string_bytes text.new ≡ string_bytes text.old ++ (codes " denied " ++ two_numbers stag offset ++ lack_text why)) }
+{
+    push_words(text, " denied ", u64::from(stag), offset)?;
+    text.push_str(lack_words(why))?;
+    Ok(())
+}
+
 /// Why a side of a link ended.
 #[tactic(auto, unfolding(crate::specs::Shown::end_text))]
 fn push_end(text: &mut String, end: End) -> Result<(), Memory>
@@ -159,23 +179,10 @@ fn push_end(text: &mut String, end: End) -> Result<(), Memory>
 {
     match end {
         End::Bad { at, reason } => push_words(text, " bad ", at, u64::from(reason)),
-        End::Denied { stag, offset, why } => {
-            push_words(text, " denied ", u64::from(stag), offset)?;
-            text.push_str(lack_words(why))?;
-            Ok(())
-        }
-        End::NoBuffer { msn } => {
-            write!(text, " nobuffer {msn}")?;
-            Ok(())
-        }
-        End::Terminated { reason } => {
-            write!(text, " terminated {reason}")?;
-            Ok(())
-        }
-        End::Memory => {
-            text.push_str(" memory")?;
-            Ok(())
-        }
+        End::Denied { stag, offset, why } => push_denied(text, stag, offset, why),
+        End::NoBuffer { msn } => push_number(text, " nobuffer ", msn),
+        End::Terminated { reason } => push_number(text, " terminated ", reason),
+        End::Memory => push_text(text, " memory"),
     }
 }
 
@@ -194,10 +201,7 @@ fn push_link_state(text: &mut String, state: LinkState) -> Result<(), Memory>
     ensures { OnOk result (string_bytes text.new ≡ string_bytes text.old ++ link_state_text state) }
 {
     match state {
-        LinkState::Dropped => {
-            text.push_str(" dropped")?;
-            Ok(())
-        }
+        LinkState::Dropped => push_text(text, " dropped"),
         LinkState::Ended { side, end } => {
             text.push_str(side_words(side))?;
             push_end(text, end)

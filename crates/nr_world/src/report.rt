@@ -10,7 +10,7 @@ use nr_xdr::Octets;
 pub type Journal = Sequence<Entry>;
 
 /// What became of a call.
-#[derive(Debug, Drop)]
+#[derive(Drop)]
 pub enum CallState {
     /// It is out: it has no answer yet.
     Out,
@@ -31,7 +31,7 @@ pub enum CallState {
 
 /// A call line of a script and what became of its call. `number` is the number of the line among those of the client,
 /// from 1.
-#[derive(Debug, Drop)]
+#[derive(Drop)]
 pub struct CallReport {
     pub client: u32,
     pub number: u64,
@@ -42,7 +42,7 @@ pub struct CallReport {
 pub type CallReports = Sequence<CallReport>;
 
 /// How a link, or a side of it, ended.
-#[derive(Clone, Copy, Debug, PartialEq, Eq)]
+#[derive(Clone, Copy, PartialEq, Eq)]
 pub enum LinkState {
     /// The link was dropped.
     Dropped,
@@ -51,7 +51,7 @@ pub enum LinkState {
 }
 
 /// A link that was dropped, or a side of which ended, by the number of its client.
-#[derive(Clone, Copy, Debug, PartialEq, Eq)]
+#[derive(Clone, Copy, PartialEq, Eq)]
 pub struct LinkReport {
     pub client: u32,
     pub state: LinkState,
@@ -61,7 +61,7 @@ pub struct LinkReport {
 pub type LinkReports = Sequence<LinkReport>;
 
 /// All the bytes that the client and the server of a link wrote.
-#[derive(Debug, Drop)]
+#[derive(Drop)]
 pub struct LinkLog {
     pub up: Octets,
     pub down: Octets,
@@ -72,7 +72,7 @@ pub type Logs = Sequence<LinkLog>;
 
 /// The report of a drill: what happened, mark by mark; the journal; what became of each call and of each link; and the
 /// bytes that both sides of each link wrote.
-#[derive(Debug, Drop)]
+#[derive(Drop)]
 pub struct Report {
     pub marks: Marks,
     pub journal: Journal,

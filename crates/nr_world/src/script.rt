@@ -34,7 +34,7 @@ impl From<Memory> for ScriptFault {
 /// A script that was read: the number of clients, the credits with which both ends of each link are opened, the bytes
 /// that the journal may cost, and the lines. Today a script has one client and calls NULL, and each call is drained
 /// before the next.
-#[derive(Debug, Drop)]
+#[derive(Drop)]
 pub struct Script {
     credits: u32,
     calls: u32,

@@ -109,7 +109,9 @@ fn ask_frame(alloc: Global, credits: u32, xid: u32) -> Result<Octets, Memory>
         cred: Cred::None,
         args_at: 0,
     };
-    let payload = match write_call(alloc, &head, &[]) {
+    let written = write_call(alloc, &head, &[]);
+    drop(head);
+    let payload = match written {
         Ok(payload) => payload,
         Err(_) => return Err(Memory),
     };

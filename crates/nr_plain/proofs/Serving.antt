@@ -1,0 +1,183 @@
+-- One more call of a procedure of NFS: what the server keeps then.
+use Rattle.std.proofs.Common.{◌≡◌, ℕ, ◌+◌, ◌*◌, ◌<◌, ◌≤◌, ◌^◌, Bool, true, false, cond, eqb, ltb, List, [], ◌∷◌, ◌++◌, length, Option, None, Some, Result, Ok, Err, OnOk, refl, ap, sym, ◌∙◌, subst, arith}
+use Rattle.std.proofs.lemmas.Bool.{ltb-false}
+use Rattle.std.proofs.lemmas.List.{length-append}
+use Rattle.nr_nfs_base.specs.Codec.{read_all}
+use Rattle.nr_nfs_base.specs.declared.caller.Caller.{Caller}
+use Rattle.nr_nfs_base.specs.declared.procedure.NfsProcedure.{NfsProcedure}
+use Rattle.nr_nfs_base.specs.declared.status.Status.TheVariants.{Nospc}
+use Rattle.nr_nfs_base.specs.declared.time.Time.{Time}
+use Rattle.nr_nfs_args.specs.Arguments.{NfsArguments, MountArguments, nfs_arguments_codec, mount_arguments_codec}
+use Rattle.nr_reduce.specs.declared.mark.Entry.{Entry}
+use Rattle.nr_reduce.specs.declared.mark.Moment.{Moment}
+use Rattle.nr_tree.specs.Tree.{Tree}
+use Rattle.nr_tree.specs.Rules.{space_rule, entry_cost, IsWithinCapacity}
+use Rattle.nr_tree.specs.Sane.{IsSane}
+use Rattle.nr_tree.specs.Steps.{IsBelow, IsBounded}
+use Rattle.nr_tree.specs.declared.rules.Space.{Space}
+use Rattle.nr_tree.proofs.Bounds.{below-mono}
+use Rattle.nr_tree.proofs.PassedRules.{clear}
+use Rattle.nr_plain.specs.Setup.{Parameters, Setup, State, caller_of, time_of, space_of}
+use Rattle.nr_plain.specs.Code.{reply_from, changes_from, tree_from}
+use Rattle.nr_plain.specs.Journal.{nfs_procedure_of, next_state, state_after, state_of, tree_by_arguments, tree_by_procedure}
+use Rattle.nr_nfs_base.specs.declared.procedure.MountProcedure.{MountProcedure}
+use Rattle.nr_rpc.specs.Reading.{call_of}
+use Rattle.nr_rpc.specs.declared.head.CallHead.{CallHead}
+use Rattle.nr_rpc.specs.declared.head.ReplyHead.TheVariants.{ProgMismatch}
+use Rattle.nr_plain.specs.Replies.{Answer, nfs_by_arguments, entries_if, refusal, mount_by_arguments, mount_by_procedure, mount_procedure_of, mount_call, program_call, answer_to, answer_by}
+use Rattle.nr_plain.specs.Stands.{Kept, StandsFor, IsExecuted, IsServing, state_kept, kept_with_state, kept_after}
+use Rattle.nr_plain.proofs.Procedures.{tree-kept, entry-spaced, tree-below}
+
+-- ===== numbers
+
+pub serving_bounded : (k : Kept) → IsServing k → IsBounded k.tree
+serving_bounded k is = below-mono (2 ^ 62 + k.count) (2 ^ 63) k.tree (omega (arith, is.counted, is.within, is.capacity)) is.below
+
+pub within_capacity : (k : Kept) (args : List ℕ) → IsServing k → IsWithinCapacity (space_of k.parameters (state_kept k) args)
+within_capacity k args is = (is.within, is.capacity)
+
+spaced : (space : Space) → space_rule space ≡ None → space.used + entry_cost + space.arguments ≤ space.capacity
+spaced space e = ltb-false space.capacity (space.used + entry_cost + space.arguments) (clear (ltb space.capacity (space.used + entry_cost + space.arguments)) Nospc e)
+
+-- ===== one call
+
+module _ (k : Kept) (e : Entry) (xid : ℕ) (p : NfsProcedure) where
+  abbrev space : Space
+  space = space_of k.parameters (state_kept k) e.args
+
+  abbrev arguments : Result (NfsArguments p) ℕ
+  arguments = read_all (nfs_arguments_codec p) e.args
+
+  abbrev answer : Answer
+  answer = nfs_by_arguments k.parameters (state_kept k) xid e p arguments
+
+  reply_by : (r : Result (NfsArguments p) ℕ) → (nfs_by_arguments k.parameters (state_kept k) xid e p r).reply ≡ reply_from xid k.tree (caller_of e.cred) space (time_of e.moment) p r
+  reply_by (Ok a) = refl
+  reply_by (Err at) = refl
+
+  entries_by : (r : Result (NfsArguments p) ℕ) → (nfs_by_arguments k.parameters (state_kept k) xid e p r).entries ≡ entries_if (changes_from k.tree (caller_of e.cred) space (time_of e.moment) p r) e
+  entries_by (Ok a) = refl
+  entries_by (Err at) = refl
+
+  tree_by : (r : Result (NfsArguments p) ℕ) → tree_by_arguments k.parameters (state_kept k) e p r ≡ tree_from k.tree (caller_of e.cred) space (time_of e.moment) p r
+  tree_by (Ok a) = refl
+  tree_by (Err at) = refl
+
+  -- by what the code has of the call
+  module _ (t : Tree) (c : Caller) (s : Space) (now : Time) (same_tree : t ≡ k.tree) (caller : c ≡ caller_of e.cred) (room : s ≡ space) (time : now ≡ time_of e.moment) where
+    pub reply_is : (reply : List ℕ) → reply ≡ reply_from xid t c s now p arguments → reply ≡ answer.reply
+    reply_is reply is = is ∙ (λ i. reply_from xid (same_tree i) (caller i) (room i) (time i) p arguments) ∙ sym (reply_by arguments)
+
+    tree_is : (tree : Tree) → tree ≡ tree_from t c s now p arguments → tree ≡ tree_from k.tree (caller_of e.cred) space (time_of e.moment) p arguments
+    tree_is tree is = is ∙ (λ i. tree_from (same_tree i) (caller i) (room i) (time i) p arguments)
+
+    changes_is : (b : Bool) → b ≡ changes_from t c s now p arguments → b ≡ changes_from k.tree (caller_of e.cred) space (time_of e.moment) p arguments
+    changes_is b is = is ∙ (λ i. changes_from (same_tree i) (caller i) (room i) (time i) p arguments)
+
+    module _ (tree : Tree) (b : Bool) (after : tree ≡ tree_from t c s now p arguments) (entry : b ≡ changes_from t c s now p arguments) where
+      same : b ≡ false → tree ≡ k.tree
+      same no_entry = tree_is tree after ∙ tree-kept k.tree (caller_of e.cred) space (time_of e.moment) p arguments (sym (changes_is b entry) ∙ no_entry)
+
+      pub costs : b ≡ true → k.cost + entry_cost + length e.args ≤ k.parameters.capacity
+      costs is_entry = spaced space (entry-spaced k.tree (caller_of e.cred) space (time_of e.moment) p arguments (sym (changes_is b entry) ∙ is_entry))
+
+      pub serving_entry : b ≡ true → IsServing k → IsSane tree → IsServing (record { tree = tree; count = k.count + 1; cost = k.cost + (64 + length e.args); parameters = k.parameters })
+      serving_entry is_entry is sane = record {
+        sane = sane;
+        below =
+            let one : 2 ^ 62 + k.count + 1 ≡ 2 ^ 62 + (k.count + 1) = omega arith in
+            subst (λ (l : ℕ). IsBelow l tree) one
+            (subst (IsBelow (2 ^ 62 + k.count + 1)) (sym (tree_is tree after)) (tree-below k.tree (caller_of e.cred) space (time_of e.moment) (2 ^ 62 + k.count) p arguments is.below));
+        counted = omega (arith, is.counted);
+        within = omega (arith, costs is_entry);
+        capacity = is.capacity;
+      }
+
+      pub serving_same : b ≡ false → IsServing k → IsServing (record { tree = tree; count = k.count; cost = k.cost; parameters = k.parameters })
+      serving_same no_entry is = subst (λ (u : Tree). IsServing (record { tree = u; count = k.count; cost = k.cost; parameters = k.parameters })) (sym (same no_entry))
+          (record { sane = is.sane; below = is.below; counted = is.counted; within = is.within; capacity = is.capacity })
+
+      entries_are : (x : Bool) → b ≡ x → answer.entries ≡ entries_if x e
+      entries_are x is = entries_by arguments ∙ ap (λ (y : Bool). entries_if y e) (sym (changes_is b entry) ∙ is)
+
+      next_tree : nfs_procedure_of e.proc ≡ Some p → (next_state k.parameters (state_kept k) e).tree ≡ tree
+      unfolding next_state
+      next_tree of_number = ap (tree_by_procedure k.parameters (state_kept k) e) of_number ∙ tree_by arguments ∙ sym (tree_is tree after)
+
+      next_cost : (next_state k.parameters (state_kept k) e).cost ≡ k.cost + (64 + length e.args)
+      unfolding next_state
+      next_cost = refl
+
+      pub entry_kept : b ≡ true → nfs_procedure_of e.proc ≡ Some p → record { tree = tree; count = k.count + 1; cost = k.cost + (64 + length e.args); parameters = k.parameters } ≡ kept_after k answer.entries
+      entry_kept is_entry of_number =
+          (λ i. record { tree = sym (next_tree of_number) i; count = k.count + 1; cost = sym next_cost i; parameters = k.parameters }) ∙ ap (kept_after k) (sym (entries_are true is_entry))
+
+      pub same_kept : b ≡ false → record { tree = tree; count = k.count; cost = k.cost; parameters = k.parameters } ≡ kept_after k answer.entries
+      same_kept no_entry =
+          let none : k.count ≡ k.count + 0 = omega arith in
+          (λ i. record { tree = same no_entry i; count = none i; cost = k.cost; parameters = k.parameters }) ∙ ap (kept_after k) (sym (entries_are false no_entry))
+
+-- ===== journals
+
+pub state-append : (prm : Parameters) (st : State) (J K : List Entry) → state_after prm st (J ++ K) ≡ state_after prm (state_after prm st J) K
+state-append prm st [] K = refl
+state-append prm st (e ∷ J) K = state-append prm (next_state prm st e) J K
+
+pub stands-after : (s : Setup) (J : List Entry) (k : Kept) (es : List Entry) → StandsFor s J k → StandsFor s (J ++ es) (kept_after k es)
+stands-after s J k es is =
+    let state : state_kept k ≡ state_of s J = λ i. record { tree = is.tree i; cost = is.cost i } in
+    let all : state_after k.parameters (state_kept k) es ≡ state_of s (J ++ es) =
+    (λ i. state_after (is.parameters i) (state i) es) ∙ sym (state-append s.parameters (record { tree = s.tree; cost = 0 }) J es) in
+    record {
+      tree = ap (λ (st : State). st.tree) all;
+      cost = ap (λ (st : State). st.cost) all;
+      count = omega (arith, is.count, length-append J es);
+      parameters = is.parameters;
+    }
+
+pub kept-none : (k : Kept) → k ≡ kept_after k []
+kept-none k = let none : k.count ≡ k.count + 0 = omega arith in λ i. record { tree = k.tree; count = none i; cost = k.cost; parameters = k.parameters }
+
+-- ===== MOUNT adds no entry
+
+mount_read : (prm : Parameters) (xid : ℕ) (p : MountProcedure) (r : Result (MountArguments p) ℕ) → (mount_by_arguments prm xid p r).entries ≡ []
+mount_read prm xid p (Ok a) = refl
+mount_read prm xid p (Err at) = refl
+
+mount_procedure : (prm : Parameters) (xid : ℕ) (args : List ℕ) (o : Option MountProcedure) → (mount_by_procedure prm xid args o).entries ≡ []
+mount_procedure prm xid args None = refl
+mount_procedure prm xid args (Some p) = mount_read prm xid p (read_all (mount_arguments_codec p) args)
+
+mount_version_by : (prm : Parameters) (xid : ℕ) (e : Entry) (b : Bool) → (cond b (mount_by_procedure prm xid e.args (mount_procedure_of e.proc)) (refusal (ProgMismatch xid 3 3))).entries ≡ []
+mount_version_by prm xid e true = mount_procedure prm xid e.args (mount_procedure_of e.proc)
+mount_version_by prm xid e false = refl
+
+pub mount-none : (prm : Parameters) (xid vers : ℕ) (e : Entry) → (mount_call prm xid vers e).entries ≡ []
+unfolding mount_call
+mount-none prm xid vers e = mount_version_by prm xid e (eqb vers 3)
+
+pub mount-kept : (k : Kept) (xid vers : ℕ) (e : Entry) → k ≡ kept_after k (mount_call k.parameters xid vers e).entries
+mount-kept k xid vers e = kept-none k ∙ ap (kept_after k) (sym (mount-none k.parameters xid vers e))
+
+any_ok : {A E : Type 0} (r : Result A E) (P : Type 0) → P → OnOk r P
+any_ok (Ok x) P holds = holds
+any_ok (Err e) P holds = tt
+
+pub mount-program : {A E : Type 0} (r : Result A E) (k : Kept) (xid prog vers : ℕ) (e : Entry) → prog ≡ 100005 → OnOk r (k ≡ kept_after k (program_call k.parameters (state_kept k) xid prog vers e).entries)
+mount-program r k xid prog vers e is = any_ok r _ (subst (λ (n : ℕ). k ≡ kept_after k (program_call k.parameters (state_kept k) xid n vers e).entries) (sym is) (mount-kept k xid vers e))
+
+-- ===== a call that was executed
+
+pub executed : (s : Setup) (J : List Entry) (k new : Kept) (m : Moment) (payload reply : List ℕ) (place : ℕ) (head : CallHead) → StandsFor s J k → call_of payload ≡ Ok head → place ≡ k.count
+    → reply ≡ (answer_to k.parameters (state_kept k) m payload head).reply → new ≡ kept_after k (answer_to k.parameters (state_kept k) m payload head).entries → IsExecuted s J m payload reply place new
+executed s J k new m payload reply place head is found at replied kept =
+    let state : state_kept k ≡ state_of s J = λ i. record { tree = is.tree i; cost = is.cost i } in
+    let same : answer_to k.parameters (state_kept k) m payload head ≡ answer_to s.parameters (state_of s J) m payload head = λ i. answer_to (is.parameters i) (state i) m payload head in
+    record {
+      answer = answer_to s.parameters (state_of s J) m payload head;
+      plain = ap (answer_by s.parameters (state_of s J) m payload) found;
+      reply_is = replied ∙ ap (λ (a : Answer). a.reply) same;
+      place_is = at ∙ is.count;
+      stands = subst (StandsFor s (J ++ (answer_to s.parameters (state_of s J) m payload head).entries)) (sym (kept ∙ ap (λ (a : Answer). kept_after k a.entries) same))
+          (stands-after s J k (answer_to s.parameters (state_of s J) m payload head).entries is);
+    }
