@@ -66,6 +66,7 @@ static NAMES: [(&str, u32); 40] = [
 ];
 
 /// A server of the drill's tree, with the export `/`.
+#[tactic(auto, using(crate::proofs::Below::below_end))]
 pub fn opened(rt: &impl Abort, alloc: Global, capacity: u64) -> Server
     requires { capacity < 2 ^ 63 }
 {
@@ -84,18 +85,29 @@ fn word(rt: &impl Abort, token: &str) -> u32 {
     u32::from_str_radix(token, 16).expect(rt, "word")
 }
 
+/// A word, and how often it stands there.
+fn repeated(rt: &impl Abort, token: &str) -> (u32, u32) {
+    match token.split_once('*') {
+        Some((one, times)) => (word(rt, one), times.parse::<u32>().expect(rt, "times")),
+        None => (word(rt, token), 1),
+    }
+}
+
 /// Appends words, between spaces. `0*6` is six zero words.
 pub fn put(rt: &impl Abort, bytes: &mut Vec<u8>, text: &str) {
     for token in text.split_whitespace() {
-        let (one, times) = match token.split_once('*') {
-            Some((one, times)) => (one, times.parse::<u32>().expect(rt, "times")),
-            None => (token, 1),
-        };
-        let word = word(rt, one);
+        let (word, times) = repeated(rt, token);
         for _ in 0..times {
             put_number(rt, bytes, word);
         }
     }
+}
+
+/// The bytes of words.
+pub fn bytes_of(rt: &impl Abort, alloc: Global, text: &str) -> Vec<u8> {
+    let mut bytes = Vec::new(alloc);
+    put(rt, &mut bytes, text);
+    bytes
 }
 
 /// Appends a number.
@@ -153,15 +165,28 @@ pub fn replied(rt: &impl Abort, alloc: Global, xid: u32, results: &str) -> Vec<u
     bytes
 }
 
+/// Ends the test where the reply to this call of a table is another one, or has another place than the journal's length.
+pub fn gives(
+    rt: &impl Abort,
+    alloc: Global,
+    server: &mut Server,
+    row: usize,
+    number: u32,
+    payload: &[u8],
+    want: Vec<u8>,
+) {
+    let place = server.journal_len();
+    let got = answered(alloc, server, number, payload);
+    same(rt, row, got, Ok((place, want)));
+}
+
 /// Makes the calls of a table, one after the other, and compares each reply. The number of the row is the xid.
 pub fn all_answered(rt: &impl Abort, alloc: Global, server: &mut Server, rows: &[Row]) {
     let mut xid = 0u32;
     for (row, (call, results)) in rows.iter().enumerate() {
-        let place = server.journal_len();
         let payload = called(rt, alloc, xid, call);
         let want = replied(rt, alloc, xid, results);
-        let got = answered(alloc, server, xid, payload.as_slice());
-        same(rt, row, got, Ok((place, want)));
+        gives(rt, alloc, server, row, xid, payload.as_slice(), want);
         xid = xid.wrapping_add(1);
     }
 }

@@ -4,6 +4,8 @@
 #![tactic(auto)]
 
 #[cfg(test)]
+mod attribute_calls;
+#[cfg(test)]
 mod calls;
 #[cfg(test)]
 mod compare;

@@ -1,8 +1,10 @@
 //! Calls that reach no procedure (RFC 5531 section 9), or one of MOUNT (RFC 1813 appendix I), and payloads that are no call.
 
-use crate::calls::{answered, opened, put};
+use crate::calls::{answered, bytes_of, gives, opened};
 use crate::compare::same;
-use nr_plain::Fault;
+use nr_plain::{Fault, Server};
+use std::alloc::Global;
+use std::process::Abort;
 
 /// The words of a call's payload, and those of its reply.
 static ROWS: [(&str, &str); 51] = [
@@ -178,24 +180,46 @@ static NO_CALLS: [(&str, usize, usize); 13] = [
 #[test]
 fn raw_calls(rt: HostRuntime) {
     let mut server = opened(&rt, rt.alloc(), 1 << 40);
-    let mut xid = 0u32;
+    let mut number = 0u32;
     for (row, (call, reply)) in ROWS.iter().enumerate() {
-        let place = server.journal_len();
-        let mut payload = Vec::new(rt.alloc());
-        put(&rt, &mut payload, call);
-        let mut want = Vec::new(rt.alloc());
-        put(&rt, &mut want, reply);
-        let got = answered(rt.alloc(), &mut server, xid, payload.as_slice());
-        same(&rt, row, got, Ok((place, want)));
-        xid = xid.wrapping_add(1);
+        let payload = bytes_of(&rt, rt.alloc(), call);
+        let want = bytes_of(&rt, rt.alloc(), reply);
+        gives(
+            &rt,
+            rt.alloc(),
+            &mut server,
+            row,
+            number,
+            payload.as_slice(),
+            want,
+        );
+        number = number.wrapping_add(1);
     }
-    for (row, (call, bytes, at)) in NO_CALLS.iter().enumerate() {
-        let mut payload = Vec::new(rt.alloc());
-        put(&rt, &mut payload, call);
-        for _ in 0..*bytes {
-            payload.push(0).expect(&rt, "memory");
-        }
-        let got = answered(rt.alloc(), &mut server, 0, payload.as_slice());
-        same(&rt, row, got, Err(Fault::NotCall { at: *at }));
+}
+
+/// Where the words and this many zero bytes behind them are no call.
+fn refused_at(
+    rt: &impl Abort,
+    alloc: Global,
+    server: &mut Server,
+    call: &str,
+    zeros: usize,
+) -> usize {
+    let mut payload = bytes_of(rt, alloc, call);
+    for _ in 0..zeros {
+        payload.push(0).expect(rt, "memory");
+    }
+    match answered(alloc, server, 0, payload.as_slice()) {
+        Err(Fault::NotCall { at }) => at,
+        _ => usize::MAX,
+    }
+}
+
+#[test]
+fn no_calls(rt: HostRuntime) {
+    let mut server = opened(&rt, rt.alloc(), 1 << 40);
+    for (row, (call, zeros, at)) in NO_CALLS.iter().enumerate() {
+        let got = refused_at(&rt, rt.alloc(), &mut server, call, *zeros);
+        same(&rt, row, got, *at);
     }
 }

@@ -1,5 +1,7 @@
 //! Calls whose replies are worked out in full, with the places and lengths of the replies and the cost of the journal.
 
+ghost use Rattle.std.specs.Prelude.{◌<◌, ◌^◌};
+
 use crate::calls::{answered, called, opened, put, replied};
 use crate::compare::same;
 use nr_plain::Server;
@@ -119,44 +121,65 @@ static RENAMED: [Worked; 2] = [
     ),
 ];
 
+/// Whether the reply begins and ends with these words.
+fn holds(rt: &impl Abort, alloc: Global, reply: &[u8], front: &[u8], back: &str) -> bool {
+    let mut end = Vec::new(alloc);
+    put(rt, &mut end, back);
+    reply.starts_with(front) && reply.ends_with(end.as_slice())
+}
+
+/// Makes a row's call, and compares its reply. `xid` is the number of the row.
+fn row_worked(rt: &impl Abort, alloc: Global, server: &mut Server, xid: u32, worked: &Worked) {
+    let (call, place, len, front, back) = worked;
+    let payload = called(rt, alloc, xid, call);
+    let front = replied(rt, alloc, xid, front);
+    let (at, reply) = answered(alloc, server, xid, payload.as_slice()).expect(rt, "reply");
+    let row = usize::try_from(xid).expect(rt, "row");
+    same(rt, row, (at, reply.len()), (*place, *len));
+    same(
+        rt,
+        row,
+        holds(rt, alloc, reply.as_slice(), front.as_slice(), back),
+        true,
+    );
+}
+
 /// Makes the calls of a table, one after the other.
 fn all_worked(rt: &impl Abort, alloc: Global, server: &mut Server, rows: &[Worked]) {
     let mut xid = 0u32;
-    for (row, (call, place, len, front, back)) in rows.iter().enumerate() {
-        let payload = called(rt, alloc, xid, call);
-        let front = replied(rt, alloc, xid, front);
-        let mut end = Vec::new(alloc);
-        put(rt, &mut end, back);
-        let (got, reply) = answered(alloc, server, xid, payload.as_slice()).expect(rt, "reply");
-        same(rt, row, (got, reply.len()), (*place, *len));
-        same(
-            rt,
-            row,
-            reply.as_slice().starts_with(front.as_slice()),
-            true,
-        );
-        same(rt, row, reply.as_slice().ends_with(end.as_slice()), true);
+    for row in rows {
+        row_worked(rt, alloc, server, xid, row);
         xid = xid.wrapping_add(1);
     }
 }
 
+/// The calls of a table with a server of this capacity, and what the journal is then.
+fn journal_after(rt: &impl Abort, alloc: Global, capacity: u64, rows: &[Worked]) -> (u64, u64)
+    requires { capacity < 2 ^ 63 }
+{
+    let mut server = opened(rt, alloc, capacity);
+    all_worked(rt, alloc, &mut server, rows);
+    (server.journal_len(), server.journal_cost())
+}
+
 #[test]
 fn worked(rt: HostRuntime) {
-    let mut server = opened(&rt, rt.alloc(), 200);
-    all_worked(&rt, rt.alloc(), &mut server, &SHORT);
-    let mut server = opened(&rt, rt.alloc(), 1 << 40);
-    all_worked(&rt, rt.alloc(), &mut server, &LISTED);
     same(
         &rt,
         0,
-        (server.journal_len(), server.journal_cost()),
-        (0, 0),
+        journal_after(&rt, rt.alloc(), 200, &SHORT),
+        (1, 116),
     );
-    all_worked(&rt, rt.alloc(), &mut server, &RENAMED);
     same(
         &rt,
         1,
-        (server.journal_len(), server.journal_cost()),
+        journal_after(&rt, rt.alloc(), 1 << 40, &LISTED),
+        (0, 0),
+    );
+    same(
+        &rt,
+        2,
+        journal_after(&rt, rt.alloc(), 1 << 40, &RENAMED),
         (1, 108),
     );
 }

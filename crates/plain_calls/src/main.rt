@@ -9,8 +9,6 @@
 #![tactic(auto)]
 
 ghost use Rattle.std.specs.Prelude.{◌<◌, ◌^◌, IfOk};
-ghost use Rattle.nr_tree.specs.Sane.{IsSane};
-ghost use Rattle.nr_tree.specs.Steps.{IsBelow};
 
 use hex::FromHexError;
 use nr_nfs_base::Verifier;
@@ -104,6 +102,7 @@ fn capacity(line: &str) -> Result<u64, Stop>
 }
 
 /// A server of the drill's tree.
+#[tactic(auto, using(crate::proofs::Below::below_end))]
 fn opened(alloc: Global, capacity: u64) -> Result<Server, Stop>
     requires { capacity < 2 ^ 63 }
 {
