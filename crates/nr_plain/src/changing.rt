@@ -1,18 +1,20 @@
 //! The procedures of NFS that change the tree. The room of the reply is taken before the change, so that want of memory leaves the
 //! tree as before.
 
-ghost use Rattle.std.specs.Prelude.{◌≡◌, false, IfOk, OnOk, OnErr};
+ghost use Rattle.std.specs.Prelude.{◌≡◌, [], false, IfOk, OnOk, OnErr};
 ghost use Rattle.nr_nfs_base.specs.declared.procedure.NfsProcedure.TheVariants as nfs;
 ghost use Rattle.nr_tree.specs.Rules.{IsWithinCapacity};
 ghost use Rattle.nr_tree.specs.Sane.{IsSane};
 ghost use Rattle.nr_tree.specs.Steps.{IsBounded};
+ghost use Rattle.nr_nfs_res.specs.Results.{nfs_result};
+ghost use Rattle.nr_plain.specs.ReplyRoom.{HasRoom};
 ghost use Rattle.nr_plain.specs.Code.{IsChange, tree_of};
-ghost use Rattle.nr_plain.specs.Replies.{refusal, accepted, GARBAGE_ARGS};
+ghost use Rattle.nr_plain.specs.Replies.{refusal, accepted, results_reply, GARBAGE_ARGS};
 ghost use Rattle.nr_plain.specs.Programs.{is_done as is_status_ok};
 
 use crate::call::{Call, Change};
 use crate::encoding::{garbage, read_arguments};
-use crate::put::accepted_reply;
+use crate::put::{Put, accepted_reply};
 use crate::reply_room::ReplyRoom;
 use nr_nfs_args::{
     CreateArgs, LinkArgs, MkdirArgs, MknodArgs, RemoveArgs, RenameArgs, RmdirArgs, SetattrArgs,
@@ -28,6 +30,19 @@ fn is_done<D, F>(results: &StatusUnion<D, F>) -> bool
     ensures { result ≡ is_status_ok results.now }
 {
     matches!(results, StatusUnion::Done(_))
+}
+
+/// The reply with these results, which is an entry where their status is 0. Takes no memory.
+fn change<D: Put, F: Put>(room: ReplyRoom, xid: u32, results: StatusUnion<D, F>) -> Change
+    requires empty { room.bytes ≡ [] }
+    requires room { HasRoom room (results_reply xid (nfs_result D.codec F.codec) results) }
+    ensures { (result.reply ≡ results_reply xid (nfs_result D.codec F.codec) results) × (result.is_entry ≡ is_status_ok results) }
+{
+    let is_entry = is_done(&results);
+    Change {
+        reply: accepted_reply(room, xid, &results),
+        is_entry,
+    }
 }
 
 /// The reply to a call whose arguments are no encoding of their type.
@@ -59,10 +74,7 @@ pub(crate) fn setattr(alloc: Global, tree: &mut Tree, call: &Call) -> Result<Cha
                 &call.space,
                 arguments,
             )?;
-            Ok(Change {
-                is_entry: is_done(&results),
-                reply: accepted_reply(room, call.xid, &results),
-            })
+            Ok(change(room, call.xid, results))
         }
         None => no_change(alloc, call.xid),
     }
@@ -81,10 +93,7 @@ pub(crate) fn write(alloc: Global, tree: &mut Tree, call: &Call) -> Result<Chang
         Some(arguments) => {
             let room = ReplyRoom::for_results(alloc)?;
             let results = nr_ops_file::write(tree, call.time, call.caller, &call.space, arguments)?;
-            Ok(Change {
-                is_entry: is_done(&results),
-                reply: accepted_reply(room, call.xid, &results),
-            })
+            Ok(change(room, call.xid, results))
         }
         None => no_change(alloc, call.xid),
     }
@@ -110,10 +119,7 @@ pub(crate) fn create(alloc: Global, tree: &mut Tree, call: &Call) -> Result<Chan
                 &call.space,
                 arguments,
             )?;
-            Ok(Change {
-                is_entry: is_done(&results),
-                reply: accepted_reply(room, call.xid, &results),
-            })
+            Ok(change(room, call.xid, results))
         }
         None => no_change(alloc, call.xid),
     }
@@ -139,10 +145,7 @@ pub(crate) fn mkdir(alloc: Global, tree: &mut Tree, call: &Call) -> Result<Chang
                 &call.space,
                 arguments,
             )?;
-            Ok(Change {
-                is_entry: is_done(&results),
-                reply: accepted_reply(room, call.xid, &results),
-            })
+            Ok(change(room, call.xid, results))
         }
         None => no_change(alloc, call.xid),
     }
@@ -168,10 +171,7 @@ pub(crate) fn symlink(alloc: Global, tree: &mut Tree, call: &Call) -> Result<Cha
                 &call.space,
                 arguments,
             )?;
-            Ok(Change {
-                is_entry: is_done(&results),
-                reply: accepted_reply(room, call.xid, &results),
-            })
+            Ok(change(room, call.xid, results))
         }
         None => no_change(alloc, call.xid),
     }
@@ -197,10 +197,7 @@ pub(crate) fn mknod(alloc: Global, tree: &mut Tree, call: &Call) -> Result<Chang
                 &call.space,
                 arguments,
             )?;
-            Ok(Change {
-                is_entry: is_done(&results),
-                reply: accepted_reply(room, call.xid, &results),
-            })
+            Ok(change(room, call.xid, results))
         }
         None => no_change(alloc, call.xid),
     }
@@ -219,10 +216,7 @@ pub(crate) fn remove(alloc: Global, tree: &mut Tree, call: &Call) -> Result<Chan
         Some(arguments) => {
             let room = ReplyRoom::for_results(alloc)?;
             let results = nr_ops_dir::remove(tree, call.time, call.caller, &call.space, arguments);
-            Ok(Change {
-                is_entry: is_done(&results),
-                reply: accepted_reply(room, call.xid, &results),
-            })
+            Ok(change(room, call.xid, results))
         }
         None => no_change(alloc, call.xid),
     }
@@ -241,10 +235,7 @@ pub(crate) fn rmdir(alloc: Global, tree: &mut Tree, call: &Call) -> Result<Chang
         Some(arguments) => {
             let room = ReplyRoom::for_results(alloc)?;
             let results = nr_ops_dir::rmdir(tree, call.time, call.caller, &call.space, arguments);
-            Ok(Change {
-                is_entry: is_done(&results),
-                reply: accepted_reply(room, call.xid, &results),
-            })
+            Ok(change(room, call.xid, results))
         }
         None => no_change(alloc, call.xid),
     }
@@ -263,10 +254,7 @@ pub(crate) fn rename(alloc: Global, tree: &mut Tree, call: &Call) -> Result<Chan
         Some(arguments) => {
             let room = ReplyRoom::for_results(alloc)?;
             let results = nr_ops_dir::rename(tree, call.time, call.caller, &call.space, arguments)?;
-            Ok(Change {
-                is_entry: is_done(&results),
-                reply: accepted_reply(room, call.xid, &results),
-            })
+            Ok(change(room, call.xid, results))
         }
         None => no_change(alloc, call.xid),
     }
@@ -285,10 +273,7 @@ pub(crate) fn link(alloc: Global, tree: &mut Tree, call: &Call) -> Result<Change
         Some(arguments) => {
             let room = ReplyRoom::for_results(alloc)?;
             let results = nr_ops_dir::link(tree, call.time, call.caller, &call.space, arguments)?;
-            Ok(Change {
-                is_entry: is_done(&results),
-                reply: accepted_reply(room, call.xid, &results),
-            })
+            Ok(change(room, call.xid, results))
         }
         None => no_change(alloc, call.xid),
     }

@@ -1,6 +1,6 @@
 //! Arguments read, and results written behind the head of a reply.
 
-ghost use Rattle.std.specs.Prelude.{◌≡◌, ◌≢◌, [], IfOk};
+ghost use Rattle.std.specs.Prelude.{◌≡◌, [], ◌++◌, IfOk, OnOk};
 ghost use Rattle.nr_nfs_base.specs.Codec.{read_all, read_or_none};
 ghost use Rattle.nr_rpc.specs.Constants.{PROG_MISMATCH};
 ghost use Rattle.nr_rpc.specs.Reply.{reply_head, reply_encoding, CanWriteReply};
@@ -37,25 +37,25 @@ const SUCCESS: u32 = 0;
 /// The accept status of a call whose arguments can't be read.
 const GARBAGE_ARGS: u32 = 4;
 
-/// A writer behind the head of a reply to a call that was accepted with status 0.
-fn accepted_writer(alloc: Global, xid: u32) -> Result<Writer, Memory>
-    ensures { IfOk result (λ w. w ≡ reply_head (accepted_head xid success)) }
+/// Puts the head of a reply to a call that was accepted with status 0 last.
+fn put_accepted(writer: &mut Writer, xid: u32) -> Result<(), Memory>
+    ensures { OnOk result (writer.new ≡ writer.old ++ reply_head (accepted_head xid success)) }
 {
-    let mut writer = Writer::new(alloc);
     writer.u32(xid)?;
     writer.u32(REPLY)?;
     writer.u32(MSG_ACCEPTED)?;
     writer.u32(AUTH_NONE)?;
     writer.opaque(&[])?;
     writer.u32(SUCCESS)?;
-    Ok(writer)
+    Ok(())
 }
 
 /// The reply to a call that was accepted with status 0, with its results.
 pub(crate) fn accepted<R: Xdr>(alloc: Global, xid: u32, results: &R) -> Result<Octets, Memory>
     ensures { IfOk result (λ o. o ≡ results_reply xid R.codec results.now) }
 {
-    let writer = accepted_writer(alloc, xid)?;
+    let mut writer = Writer::new(alloc);
+    put_accepted(&mut writer, xid)?;
     Ok(results.write_to(writer)?.finish())
 }
 
