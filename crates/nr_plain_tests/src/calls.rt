@@ -66,7 +66,6 @@ static NAMES: [(&str, u32); 40] = [
 ];
 
 /// A server of the drill's tree, with the export `/`.
-#[tactic(auto, using(crate::proofs::Below::below_end))]
 pub fn opened(rt: &impl Abort, alloc: Global, capacity: u64) -> Server
     requires { capacity < 2 ^ 63 }
 {

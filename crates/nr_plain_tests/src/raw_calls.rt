@@ -177,22 +177,27 @@ static NO_CALLS: [(&str, usize, usize); 13] = [
     ("1 0 2 186a3 3 0*4 4", 0, 36),
 ];
 
+/// Makes a row's call, and compares its reply.
+fn row_gives(
+    rt: &impl Abort,
+    alloc: Global,
+    server: &mut Server,
+    number: u32,
+    call: &str,
+    reply: &str,
+) {
+    let payload = bytes_of(rt, alloc, call);
+    let want = bytes_of(rt, alloc, reply);
+    let row = usize::try_from(number).expect(rt, "row");
+    gives(rt, alloc, server, row, number, payload.as_slice(), want);
+}
+
 #[test]
 fn raw_calls(rt: HostRuntime) {
     let mut server = opened(&rt, rt.alloc(), 1 << 40);
     let mut number = 0u32;
-    for (row, (call, reply)) in ROWS.iter().enumerate() {
-        let payload = bytes_of(&rt, rt.alloc(), call);
-        let want = bytes_of(&rt, rt.alloc(), reply);
-        gives(
-            &rt,
-            rt.alloc(),
-            &mut server,
-            row,
-            number,
-            payload.as_slice(),
-            want,
-        );
+    for (call, reply) in &ROWS {
+        row_gives(&rt, rt.alloc(), &mut server, number, call, reply);
         number = number.wrapping_add(1);
     }
 }

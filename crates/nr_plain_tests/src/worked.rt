@@ -2,7 +2,7 @@
 
 ghost use Rattle.std.specs.Prelude.{◌<◌, ◌^◌};
 
-use crate::calls::{answered, called, opened, put, replied};
+use crate::calls::{answered, bytes_of, called, opened, replied};
 use crate::compare::same;
 use nr_plain::Server;
 use std::alloc::Global;
@@ -121,27 +121,21 @@ static RENAMED: [Worked; 2] = [
     ),
 ];
 
-/// Whether the reply begins and ends with these words.
-fn holds(rt: &impl Abort, alloc: Global, reply: &[u8], front: &[u8], back: &str) -> bool {
-    let mut end = Vec::new(alloc);
-    put(rt, &mut end, back);
-    reply.starts_with(front) && reply.ends_with(end.as_slice())
+/// Whether the reply to the call with this number begins and ends with these words of its results.
+fn holds(rt: &impl Abort, alloc: Global, xid: u32, reply: &[u8], front: &str, back: &str) -> bool {
+    let start = replied(rt, alloc, xid, front);
+    let end = bytes_of(rt, alloc, back);
+    reply.starts_with(start.as_slice()) && reply.ends_with(end.as_slice())
 }
 
 /// Makes a row's call, and compares its reply. `xid` is the number of the row.
 fn row_worked(rt: &impl Abort, alloc: Global, server: &mut Server, xid: u32, worked: &Worked) {
     let (call, place, len, front, back) = worked;
     let payload = called(rt, alloc, xid, call);
-    let front = replied(rt, alloc, xid, front);
     let (at, reply) = answered(alloc, server, xid, payload.as_slice()).expect(rt, "reply");
+    let holds = holds(rt, alloc, xid, reply.as_slice(), front, back);
     let row = usize::try_from(xid).expect(rt, "row");
-    same(rt, row, (at, reply.len()), (*place, *len));
-    same(
-        rt,
-        row,
-        holds(rt, alloc, reply.as_slice(), front.as_slice(), back),
-        true,
-    );
+    same(rt, row, (at, reply.len(), holds), (*place, *len, true));
 }
 
 /// Makes the calls of a table, one after the other.
