@@ -12,7 +12,7 @@ ghost use Rattle.std.specs.Prelude.{◌<◌, ◌^◌, IfOk};
 
 use hex::FromHexError;
 use nr_nfs_base::Verifier;
-use nr_plain::{Fault, Server};
+use nr_plain::{Fault, Reply, Server};
 use nr_reduce::Moment;
 use nr_tree::Tree;
 use nr_xdr::{Memory, Octets};
@@ -102,13 +102,58 @@ fn capacity(line: &str) -> Result<u64, Stop>
 }
 
 /// A server of the drill's tree.
-#[tactic(auto, using(crate::proofs::Below::below_end))]
 fn opened(alloc: Global, capacity: u64) -> Result<Server, Stop>
     requires { capacity < 2 ^ 63 }
 {
     let tree = Tree::drill(alloc)?;
     let export = Octets::from_slice(alloc, b"/")?;
     Ok(Server::open(tree, capacity, Verifier { number: 1 }, export))
+}
+
+/// The lines of the input, one after the other.
+#[derive(Drop)]
+struct Lines<B> {
+    input: B,
+    /// The line that was read last, with its end.
+    text: String,
+    /// The number of that line, from 1.
+    number: u64,
+}
+
+impl<B: BufRead> Lines<B> {
+    /// Reads the next line, and gives whether there is one.
+    fn advance(&mut self) -> Result<bool, Stop> {
+        self.text.clear();
+        self.number = self.number.saturating_add(1);
+        let count = self.input.read_line(&mut self.text)?;
+        Ok(count != 0)
+    }
+
+    /// The line that was read last, without its end.
+    fn line(&self) -> &str {
+        match self.text.strip_suffix('\n') {
+            Some(line) => line,
+            None => self.text.as_str(),
+        }
+    }
+}
+
+/// Writes the place and the payload of a reply.
+fn write_reply<W: Write>(alloc: Global, reply: &Reply, out: &mut W) -> Result<(), Stop> {
+    let digits = hex::encode(alloc, reply.payload.as_slice())?;
+    writeln!(out, "{} {}", reply.place, digits.as_str())?;
+    Ok(())
+}
+
+/// Writes where a payload is no call.
+fn write_fault<W: Write>(fault: Fault, out: &mut W) -> Result<(), Stop> {
+    match fault {
+        Fault::NotCall { at } => {
+            writeln!(out, "notcall {at}")?;
+            Ok(())
+        }
+        Fault::Memory => Err(Stop::Memory),
+    }
 }
 
 /// Executes a call, and writes the place and the reply, or where the payload is no call.
@@ -121,16 +166,23 @@ fn execute<W: Write>(
 ) -> Result<(), Stop> {
     match server.execute(alloc, now, payload) {
         Ok(reply) => {
-            let digits = hex::encode(alloc, reply.payload.as_slice())?;
-            writeln!(out, "{} {}", reply.place, digits.as_str())?;
-            Ok(())
+            let written = write_reply(alloc, &reply, out);
+            drop(reply);
+            written
         }
-        Err(Fault::NotCall { at }) => {
-            writeln!(out, "notcall {at}")?;
-            Ok(())
-        }
-        Err(Fault::Memory) => Err(Stop::Memory),
+        Err(fault) => write_fault(fault, out),
     }
+}
+
+/// The clock and the payload's digits of a line.
+fn parts(line: &str) -> Result<(Moment, &str), Stop> {
+    let Some((seconds, digits)) = line.split_once(' ') else {
+        return Err(Stop::BadLine);
+    };
+    let Ok(seconds) = u32::try_from(decimal(seconds)?) else {
+        return Err(Stop::BadLine);
+    };
+    Ok((Moment { seconds, nanos: 0 }, digits))
 }
 
 /// Executes the call of a line.
@@ -140,49 +192,60 @@ fn answer<W: Write>(
     line: &str,
     out: &mut W,
 ) -> Result<(), Stop> {
-    let Some((seconds, digits)) = line.split_once(' ') else {
-        return Err(Stop::BadLine);
-    };
-    let Ok(seconds) = u32::try_from(decimal(seconds)?) else {
-        return Err(Stop::BadLine);
-    };
+    let (now, digits) = parts(line)?;
     let payload = payload(alloc, digits)?;
-    let now = Moment { seconds, nanos: 0 };
     execute(alloc, server, now, payload.as_slice(), out)
 }
 
-/// Serves the lines of the input. `line` is the number of the line that was read last, or is to be read.
-fn serve<B: BufRead + Drop, W: Write>(
-    alloc: Global,
-    input: B,
-    out: &mut W,
-    line: &mut u64,
-) -> Result<(), Stop> {
-    let mut lines = input.lines(alloc);
-    *line = 1;
-    let Some(first) = lines.next() else {
+/// The server that the first line asks for.
+fn begun<B: BufRead>(alloc: Global, lines: &mut Lines<B>) -> Result<Server, Stop> {
+    if !lines.advance()? {
         return Err(Stop::BadLine);
-    };
-    let mut server = opened(alloc, capacity(first?.as_str())?)?;
-    for text in lines {
-        *line = line.saturating_add(1);
-        answer(alloc, &mut server, text?.as_str(), out)?;
     }
-    writeln!(
-        out,
-        "journal {} cost {}",
-        server.journal_len(),
-        server.journal_cost()
-    )?;
+    opened(alloc, capacity(lines.line())?)
+}
+
+/// Executes the calls of the further lines, and writes what the journal is at the end.
+fn answer_all<B: BufRead, W: Write>(
+    alloc: Global,
+    server: &mut Server,
+    lines: &mut Lines<B>,
+    out: &mut W,
+) -> Result<(), Stop> {
+    for _ in 0..u64::MAX {
+        if !lines.advance()? {
+            break;
+        }
+        answer(alloc, server, lines.line(), out)?;
+    }
+    let (count, cost) = (server.journal_len(), server.journal_cost());
+    writeln!(out, "journal {count} cost {cost}")?;
     Ok(())
 }
 
-/// Serves the input, and writes what was answered before a stop too.
+/// Serves all lines.
+fn serve<B: BufRead, W: Write>(
+    alloc: Global,
+    lines: &mut Lines<B>,
+    out: &mut W,
+) -> Result<(), Stop> {
+    let mut server = begun(alloc, lines)?;
+    let served = answer_all(alloc, &mut server, lines, out);
+    drop(server);
+    served
+}
+
+/// Serves the input, and writes what was answered before a stop too. `line` becomes the number of the line that was read last.
 fn run(rt: &HostRuntime, line: &mut u64) -> Result<(), Stop> {
     let alloc = rt.alloc();
-    let input = BufReader::new(alloc, rt.reader())?;
+    let mut lines = Lines {
+        input: BufReader::new(alloc, rt.reader())?,
+        text: String::new(alloc),
+        number: 0,
+    };
     let mut out = BufWriter::new(alloc, io::writer(rt))?;
-    let served = serve(alloc, input, &mut out, line);
+    let served = serve(alloc, &mut lines, &mut out);
+    *line = lines.number;
     out.flush()?;
     served
 }
