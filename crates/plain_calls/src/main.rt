@@ -205,7 +205,21 @@ fn begun<B: BufRead>(alloc: Global, lines: &mut Lines<B>) -> Result<Server, Stop
     opened(alloc, capacity(lines.line())?)
 }
 
-/// Executes the calls of the further lines, and writes what the journal is at the end.
+/// Executes the call of the next line, and gives whether there was one.
+fn answer_next<B: BufRead, W: Write>(
+    alloc: Global,
+    server: &mut Server,
+    lines: &mut Lines<B>,
+    out: &mut W,
+) -> Result<bool, Stop> {
+    if !lines.advance()? {
+        return Ok(false);
+    }
+    answer(alloc, server, lines.line(), out)?;
+    Ok(true)
+}
+
+/// Executes the calls of the further lines.
 fn answer_all<B: BufRead, W: Write>(
     alloc: Global,
     server: &mut Server,
@@ -213,14 +227,29 @@ fn answer_all<B: BufRead, W: Write>(
     out: &mut W,
 ) -> Result<(), Stop> {
     for _ in 0..u64::MAX {
-        if !lines.advance()? {
+        if !answer_next(alloc, server, lines, out)? {
             break;
         }
-        answer(alloc, server, lines.line(), out)?;
     }
+    Ok(())
+}
+
+/// Writes what the journal is at the end.
+fn write_journal<W: Write>(server: &Server, out: &mut W) -> Result<(), Stop> {
     let (count, cost) = (server.journal_len(), server.journal_cost());
     writeln!(out, "journal {count} cost {cost}")?;
     Ok(())
+}
+
+/// Serves the lines behind the first.
+fn serve_rest<B: BufRead, W: Write>(
+    alloc: Global,
+    server: &mut Server,
+    lines: &mut Lines<B>,
+    out: &mut W,
+) -> Result<(), Stop> {
+    answer_all(alloc, server, lines, out)?;
+    write_journal(server, out)
 }
 
 /// Serves all lines.
@@ -230,7 +259,7 @@ fn serve<B: BufRead, W: Write>(
     out: &mut W,
 ) -> Result<(), Stop> {
     let mut server = begun(alloc, lines)?;
-    let served = answer_all(alloc, &mut server, lines, out);
+    let served = serve_rest(alloc, &mut server, lines, out);
     drop(server);
     served
 }
@@ -246,6 +275,7 @@ fn run(rt: &HostRuntime, line: &mut u64) -> Result<(), Stop> {
     let mut out = BufWriter::new(alloc, io::writer(rt))?;
     let served = serve(alloc, &mut lines, &mut out);
     *line = lines.number;
+    drop(lines);
     out.flush()?;
     served
 }
