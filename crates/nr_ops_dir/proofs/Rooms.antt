@@ -1,5 +1,5 @@
 -- The rules of listings: what is asked of room, by the sizes that the code counts.
-use Rattle.std.proofs.Common.{◌≡◌, ℕ, ◌+◌, ◌-◌, ◌<◌, ◌≤◌, Bool, true, false, cond, not, leb, eqb, ◌&&◌, List, [], ◌∷◌, length, take, drop, Option, None, Some, Result, Ok, Err, MatchResult, refl, ap, sym, ◌∙◌, subst, arith, inl, inr, ◌⊎◌}
+use Rattle.std.proofs.Common.{◌≡◌, ℕ, ◌+◌, ◌-◌, ◌<◌, ◌≤◌, Bool, true, false, not, leb, eqb, ◌&&◌, List, [], ◌∷◌, length, drop, Option, None, Some, Result, Ok, Err, MatchResult, refl, ap, sym, ◌∙◌, subst, arith, inl, inr, ◌⊎◌}
 use Rattle.std.specs.Prelude.{min}
 use Rattle.std.specs.Option.{option_map_or}
 use Rattle.std.proofs.lemmas.Bool.{le-leb, lt-leb, eq-eqb, ne_eqb, cases_eq}
@@ -23,7 +23,6 @@ use Rattle.nr_ops_dir.specs.Readdir.{longest, goes_on, total, name_size, largest
 use Rattle.nr_ops_dir.specs.Sizes.{entry_size, size_in, empty_size, within, IsRange}
 use Rattle.nr_ops_dir.specs.declared.listings.Limits.{Limits}
 use Rattle.nr_ops_dir.specs.declared.listings.Range.{Range}
-use Rattle.nr_ops_dir.specs.declared.listings.Detail.{Detail}
 use Rattle.nr_ops_dir.specs.declared.listings.Detail.TheVariants.{Names, Nodes}
 use Rattle.nr_ops_dir.proofs.Sizes.{readdir_size, readdirplus_size}
 use Rattle.nr_ops_dir.proofs.Counting.{longest-same}

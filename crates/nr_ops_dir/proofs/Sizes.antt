@@ -1,5 +1,5 @@
 -- How many bytes the results of a listing have.
-use Rattle.std.proofs.Common.{◌≡◌, ℕ, ◌+◌, Bool, true, false, List, [], ◌∷◌, ◌++◌, length, Option, None, Some, refl, ap, sym, ◌∙◌, subst, arith, length-append}
+use Rattle.std.proofs.Common.{◌≡◌, ℕ, ◌+◌, Bool, List, [], ◌∷◌, ◌++◌, length, Option, None, Some, refl, ap, sym, ◌∙◌, subst, arith, length-append}
 use Rattle.std.proofs.lemmas.List.{length-replicate}
 use Rattle.std.specs.Prelude.{map, replicate}
 use Rattle.std.specs.Option.{option_map, option_map_or}
@@ -8,14 +8,14 @@ use Rattle.nr_xdr.specs.Item.{Item, word, hyper, pad_len, encoding, bit}
 use Rattle.nr_xdr.specs.Item.Item.{Unsigned, Hyper, Boolean, Opaque, Fixed}
 use Rattle.nr_xdr.specs.Items.{encodings}
 use Rattle.nr_xdr.proofs.WordBytes.{length-word, length-hyper}
-use Rattle.nr_nfs_base.specs.Codec.{Codec, optional, enumeration, linked_list, linked_list_items, word as word_codec, hyper as hyper_codec, boolean, opaque}
+use Rattle.nr_nfs_base.specs.Codec.{optional, enumeration, linked_list, linked_list_items, word as word_codec, hyper as hyper_codec, boolean, opaque}
 use Rattle.nr_nfs_base.specs.Attributes.{attributes_codec, special_data_codec}
 use Rattle.nr_nfs_base.specs.FileType.{file_type_codec}
 use Rattle.nr_nfs_base.specs.Time.{time_codec}
 use Rattle.nr_nfs_base.specs.Verifier.{verifier_codec}
-use Rattle.nr_nfs_base.specs.Names.{handle_codec, text_codec}
+use Rattle.nr_nfs_base.specs.Names.{handle_codec}
 use Rattle.nr_nfs_base.specs.declared.attributes.Attributes.{Attributes}
-use Rattle.nr_nfs_res.specs.Readdir.{ReaddirOk, ReaddirplusOk, entry_codec, entry_plus_codec, listing_codec, readdir_ok_codec, readdirplus_ok_codec}
+use Rattle.nr_nfs_res.specs.Readdir.{entry_codec, entry_plus_codec, listing_codec, readdir_ok_codec, readdirplus_ok_codec}
 use Rattle.nr_tree.specs.Entries.{Entry}
 use Rattle.nr_tree.specs.Tree.{Tree, attributes_of}
 use Rattle.nr_tree.specs.Rules.{handle_of, number_of_handle, node_of_handle}
@@ -24,7 +24,7 @@ use Rattle.nr_tree.specs.declared.node.Node.{Node}
 use Rattle.nr_ops_dir.specs.Nodes.{attributes_of_number, handle_of_live}
 use Rattle.nr_ops_dir.specs.Readdir.{listed, listed_plus, readdir_ok, readdirplus_ok, cookie_verifier, total}
 use Rattle.nr_ops_dir.specs.Sizes.{entry_size, node_size, size_in, empty_size}
-use Rattle.nr_ops_dir.specs.declared.listings.Detail.TheVariants.{Names, Nodes}
+use Rattle.nr_ops_dir.specs.declared.listings.Detail.TheVariants.{Nodes}
 
 -- ===== items
 

@@ -48,7 +48,7 @@ new_file_rules c a =
 abbrev pub new_file : Caller → Time → ℕ → CreateHow → Node
 new_file c now d how = record (new_node c now d file_mode (given_attributes how) (Regular (replicate (unwrap_or (given_attributes how).size 0) 0))) { verifier = given_verifier how }
 
--- ===== a name that is there: EXIST, but for an unchecked CREATE of a regular file, whose size it may set (ACCES; FBIG), and for an exclusive CREATE of the file that the same call made
+-- ===== a name that is there: EXIST, but for an unchecked CREATE of a regular file, whose size it may set (ACCES; FBIG), and for an exclusive CREATE of a file whose stored verifier is the same
 
 abbrev pub is_made_by : Verifier → Option Verifier → Bool
 is_made_by verifier stored = option_map_or (λ (v : Verifier). v.number == verifier.number) stored false

@@ -1,10 +1,8 @@
 -- MKDIR, SYMLINK and MKNOD (RFC 1813 sections 3.3.9 to 3.3.11), and what a new node is.
 use Rattle.std.specs.Prelude.{ℕ, ◌+◌, ◌%◌, ◌==◌, nat_lt, Bool, true, false, not, ◌&&◌, ◌||◌, List, [], ◌∷◌, length, Option, None, Some, is_none, is_some, unwrap_or}
 use Rattle.std.specs.Option.{option_map, option_map_or}
-use Rattle.std.specs.FinMap.{get}
 use Rattle.nr_nfs_base.specs.declared.time.Time.{Time}
 use Rattle.nr_nfs_base.specs.declared.caller.Caller.{Caller}
-use Rattle.nr_nfs_base.specs.declared.attributes.Attributes.{Attributes}
 use Rattle.nr_nfs_base.specs.declared.set_attributes.SetAttributes.{SetAttributes}
 use Rattle.nr_nfs_base.specs.declared.set_attributes.SetTime.TheVariants.{Leave}
 use Rattle.nr_nfs_base.specs.declared.status.Status.{Status}
@@ -23,7 +21,7 @@ use Rattle.nr_tree.specs.declared.node.Content.{Content}
 use Rattle.nr_tree.specs.declared.node.Content.TheVariants.{Directory, Block, Character, Link, Socket, Fifo}
 use Rattle.nr_tree.specs.declared.rules.Space.{Space}
 use Rattle.nr_tree.specs.Skeleton.{one_if}
-use Rattle.nr_tree.specs.Tree.{Tree, is_directory, attributes_of}
+use Rattle.nr_tree.specs.Tree.{Tree, is_directory}
 use Rattle.nr_tree.specs.Sane.{longest_path}
 use Rattle.nr_tree.specs.Changes.{tree_with_node}
 use Rattle.nr_tree.specs.Rules.{first, ◌⇒◌, after, answer, number_of_handle, handle_of, handle_rule, space_rule, time_rule, time_after}

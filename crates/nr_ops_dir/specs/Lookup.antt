@@ -1,6 +1,6 @@
 -- LOOKUP (RFC 1813 section 3.3.3): what a name in a directory leads to. Refusals: of the handle; not a directory; no right to
 -- search it; of the name; no such entry.
-use Rattle.std.specs.Prelude.{ℕ, Bool, not, if◌then◌else◌, List, [], ◌∷◌, Option, None, Some, is_none, unwrap_or}
+use Rattle.std.specs.Prelude.{ℕ, not, if◌then◌else◌, List, [], ◌∷◌, Option, Some, is_none, unwrap_or}
 use Rattle.std.specs.Option.{option_map, option_and_then}
 use Rattle.nr_nfs_base.specs.declared.attributes.Attributes.{Attributes}
 use Rattle.nr_nfs_base.specs.declared.caller.Caller.{Caller}

@@ -1,6 +1,6 @@
 -- READDIR and READDIRPLUS (RFC 1813 sections 3.3.16 and 3.3.17): the entries behind a cookie, as many as fit. Refusals: of the
 -- handle; not a directory; no right to read it; a cookie with another verifier than this server's; too little room.
-use Rattle.std.specs.Prelude.{ℕ, ◌+◌, ◌==◌, nat_le, min, Bool, true, false, not, ◌&&◌, ◌||◌, if◌then◌else◌, List, [], ◌∷◌, ◌++◌, length, map, Option, None, Some}
+use Rattle.std.specs.Prelude.{ℕ, ◌+◌, ◌==◌, nat_le, min, Bool, false, not, ◌&&◌, ◌||◌, if◌then◌else◌, List, [], ◌∷◌, ◌++◌, length, map, Option}
 use Rattle.std.specs.Option.{option_map_or}
 use Rattle.nr_xdr.specs.Item.{pad_len}
 use Rattle.nr_xdr.specs.Items.{encodings}

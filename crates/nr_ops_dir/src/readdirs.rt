@@ -19,7 +19,8 @@ use std::alloc::Global;
 /// The verifier of every cookie: entries keep their cookies.
 const COOKIE_VERIFIER: Verifier = Verifier { number: 0 };
 
-/// Lists the entries of a directory behind a cookie, as many as fit (RFC 1813 section 3.3.16).
+/// Lists the entries of a directory behind a cookie, as many as fit (RFC 1813 section 3.3.16). `Err` is want of
+/// memory.
 pub fn readdir(
     alloc: Global,
     tree: &Tree,
@@ -85,7 +86,7 @@ fn readdir_range<'a>(
 }
 
 /// Lists the entries of a directory behind a cookie with their attributes and handles, as many as fit (RFC 1813 section
-/// 3.3.17).
+/// 3.3.17). `Err` is want of memory.
 pub fn readdirplus(
     alloc: Global,
     tree: &Tree,

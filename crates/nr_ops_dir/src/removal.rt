@@ -5,7 +5,7 @@ ghost use Rattle.nr_nfs_base.specs.declared.status_union.StatusUnion.TheVariants
 ghost use Rattle.nr_tree.specs.Sane.{IsSane};
 ghost use Rattle.nr_tree.specs.Rules.{first, answer, number_of_handle, IsWithinCapacity};
 ghost use Rattle.nr_ops_dir.specs.Entries.{number_of_entry as number_of_name};
-ghost use Rattle.nr_ops_dir.specs.Removal.{remove_rules, remove_tree, remove_reply, rmdir_rules, rmdir_tree, rmdir_reply};
+ghost use Rattle.nr_ops_dir.specs.Removal.{remove_rules, remove_tree, remove_reply, rmdir_rules, rmdir_of, rmdir_tree, rmdir_reply};
 
 use crate::entries::{check_entry, has_entries, is_dir_at, number_of_entry};
 use crate::names::is_dot;
@@ -184,5 +184,3 @@ pub fn rmdir(
     let refusal = remove_directory(tree, now, caller, space, &args);
     reply(refusal, wcc_data(before, tree, handle))
 }
-
-ghost use Rattle.nr_ops_dir.specs.Removal.{rmdir_of};

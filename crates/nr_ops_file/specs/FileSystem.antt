@@ -51,6 +51,10 @@ fsstat_reply t space a = answer (first (fsstat_rules t a)) (λ s. Failed s (attr
 abbrev pub multiple_of_bytes : ℕ
 multiple_of_bytes = 4096
 
+-- the size of a listing that is preferred: the largest that READDIR gives
+abbrev pub preferred_listing : ℕ
+preferred_listing = 32768
+
 -- times are told apart by a nanosecond
 abbrev pub time_step : Time
 time_step = record { seconds = 0; nanoseconds = 1 }
@@ -68,7 +72,7 @@ fsinfo_ok attributes = record {
   wtmax = most_bytes_moved;
   wtpref = most_bytes_moved;
   wtmult = multiple_of_bytes;
-  dtpref = most_bytes_moved;
+  dtpref = preferred_listing;
   maxfilesize = largest_file;
   time_delta = time_step;
   properties = properties_of_server;

@@ -12,6 +12,9 @@ use nr_tree::{ENTRY_COST, LARGEST_FILE, Space, Tree, attributes_at, live_node};
 /// What the bytes of a READ and of a WRITE should be a multiple of.
 const MULTIPLE_OF_BYTES: u32 = 4096;
 
+/// The bytes of a listing that are preferred: the most that READDIR gives.
+const PREFERRED_LISTING: u32 = 32_768;
+
 /// Times are told apart by a nanosecond.
 const TIME_STEP: Time = Time {
     seconds: 0,
@@ -85,7 +88,7 @@ fn fsinfo_results(attributes: Option<Attributes>) -> FsinfoOk
         wtmax: MOST_BYTES_MOVED,
         wtpref: MOST_BYTES_MOVED,
         wtmult: MULTIPLE_OF_BYTES,
-        dtpref: MOST_BYTES_MOVED,
+        dtpref: PREFERRED_LISTING,
         maxfilesize: LARGEST_FILE,
         time_delta: TIME_STEP,
         properties: PROPERTIES,

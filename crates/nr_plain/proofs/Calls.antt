@@ -1,5 +1,5 @@
 -- A call whose arguments were read comes to its procedure's results and tree.
-use Rattle.std.proofs.Common.{◌≡◌, ℕ, ◌≤◌, Bool, List, length, Option, None, Some, Result, Ok, Err, refl, ap, sym, ◌∙◌, subst, arith}
+use Rattle.std.proofs.Common.{◌≡◌, ℕ, Bool, List, length, Option, None, Some, Result, Ok, Err, ap, sym, ◌∙◌, subst, arith}
 use Rattle.std.specs.Option.{option_map}
 use Rattle.nr_xdr.specs.Item.{hyper}
 use Rattle.nr_xdr.proofs.WordBytes.{length-hyper}
@@ -17,7 +17,7 @@ use Rattle.nr_tree.specs.Rules.{answer, handle_of}
 use Rattle.nr_plain.specs.Programs.{nfs_results, nfs_tree, is_change}
 use Rattle.nr_plain.specs.Replies.{results_reply}
 use Rattle.nr_plain.specs.Code.{reply_by, reply_of, changes_by, changes_of, tree_by, tree_of}
-use Rattle.nr_plain.specs.ReplySizes.{HandleFits, ObjectFits, longest_handle}
+use Rattle.nr_plain.specs.ReplySizes.{HandleFits, ObjectFits}
 use Rattle.nr_plain.specs.declared.call.Call.{Call}
 
 same_value : {A : Type 0} (x y : A) → Some x ≡ Some y → x ≡ y

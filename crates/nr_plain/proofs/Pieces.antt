@@ -1,5 +1,5 @@
 -- Bytes put at the end, one piece after the other.
-use Rattle.std.proofs.Common.{◌≡◌, ℕ, List, [], ◌++◌, refl, ap, sym, ◌∙◌}
+use Rattle.std.proofs.Common.{◌≡◌, ℕ, List, [], ◌++◌, ap, sym, ◌∙◌}
 use Rattle.std.proofs.lemmas.List.{append_assoc, append-nil}
 
 pub put_first : (old new x : List ℕ) → new ≡ old ++ x → new ≡ old ++ (x ++ [])

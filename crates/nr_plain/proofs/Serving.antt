@@ -1,5 +1,5 @@
 -- One more call of a procedure of NFS: what the server keeps then.
-use Rattle.std.proofs.Common.{◌≡◌, ℕ, ◌+◌, ◌*◌, ◌<◌, ◌≤◌, ◌^◌, Bool, true, false, cond, eqb, ltb, List, [], ◌∷◌, ◌++◌, length, Option, None, Some, Result, Ok, Err, OnOk, refl, ap, sym, ◌∙◌, subst, arith}
+use Rattle.std.proofs.Common.{◌≡◌, ℕ, ◌+◌, ◌≤◌, ◌^◌, Bool, true, false, cond, eqb, ltb, List, [], ◌∷◌, ◌++◌, length, Option, None, Some, Result, Ok, Err, OnOk, refl, ap, sym, ◌∙◌, subst, arith}
 use Rattle.std.proofs.lemmas.Bool.{ltb-false}
 use Rattle.std.proofs.lemmas.List.{length-append}
 use Rattle.nr_nfs_base.specs.Codec.{read_all}
@@ -25,7 +25,7 @@ use Rattle.nr_rpc.specs.Reading.{call_of}
 use Rattle.nr_rpc.specs.declared.head.CallHead.{CallHead}
 use Rattle.nr_rpc.specs.declared.head.ReplyHead.TheVariants.{ProgMismatch}
 use Rattle.nr_plain.specs.Replies.{Answer, nfs_by_arguments, entries_if, refusal, mount_by_arguments, mount_by_procedure, mount_procedure_of, mount_call, program_call, answer_to, answer_by}
-use Rattle.nr_plain.specs.Stands.{Kept, StandsFor, IsExecuted, IsServing, state_kept, kept_with_state, kept_after}
+use Rattle.nr_plain.specs.Stands.{Kept, StandsFor, IsExecuted, IsServing, state_kept, kept_after}
 use Rattle.nr_plain.proofs.Procedures.{tree-kept, entry-spaced, tree-below}
 
 -- ===== numbers

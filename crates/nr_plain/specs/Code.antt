@@ -55,7 +55,7 @@ tree_of t call p = tree_by t call p (read_all (nfs_arguments_codec p) call.argum
 abbrev pub IsChange : Tree → Call → NfsProcedure → Change → Type 0
 IsChange t call p r = (r.reply ≡ reply_of t call p) × (r.is_entry ≡ changes_of t call p)
 
--- the entry of a call, and its answers
+-- the entry that the journal gets where the call is one
 abbrev pub entry_of : Request → Entry
 entry_of r = record { moment = r.moment; cred = r.cred.now; proc = r.proc; args = r.arguments.now }
 

@@ -3,7 +3,6 @@ use Rattle.std.specs.Prelude.{ℕ, Bool, true, false, if◌then◌else◌, List,
 use Rattle.std.specs.Cmp.Lexicographic.{pointwise}
 use Rattle.nr_nfs_base.specs.declared.caller.Caller.{Caller}
 use Rattle.nr_nfs_base.specs.declared.time.Time.{Time}
-use Rattle.nr_nfs_base.specs.declared.mount_status.MountStatus.{MountStatus}
 use Rattle.nr_nfs_base.specs.declared.mount_status.MountStatus.TheVariants.{Noent}
 use Rattle.nr_nfs_base.specs.declared.procedure.MountProcedure.{MountProcedure}
 use Rattle.nr_nfs_base.specs.declared.procedure.MountProcedure.TheVariants as mount

@@ -29,7 +29,7 @@ pub record State : Type 0 where
 abbrev pub nobody : ℕ
 nobody = 65534
 
--- who calls (RFC 5531 appendix A)
+-- who calls (RFC 5531 appendix A). A call of another flavor is refused before its procedure
 abbrev pub caller_of : Cred → Caller
 caller_of creds.None = record { uid = nobody; gid = nobody; gids = [] }
 caller_of (creds.Sys stamp machine uid gid gids) = record { uid = uid; gid = gid; gids = gids }

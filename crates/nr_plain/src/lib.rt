@@ -11,7 +11,7 @@
 //! the server as before.
 //!
 //! Below stand the procedures (`nr_ops_file`, `nr_ops_dir`), the heads (`nr_rpc`) and the entries of a journal (`nr_reduce`). Above, the
-//! ends of links hand calls in and send replies.
+//! server's connections and the drill hand calls in and send replies.
 #![tactic(auto)]
 
 mod call;

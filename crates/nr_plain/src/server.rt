@@ -53,7 +53,7 @@ impl Model for Server {
     ghost invariant = { λ s. IsServing (record { tree = s.tree; count = s.count; cost = s.cost; parameters = record { capacity = s.capacity; verifier = s.verifier; export = s.export } }) };
 }
 
-/// The reply to a call that was executed.
+/// The reply to a call, also to one that is refused or is no NFS procedure.
 #[derive(Drop)]
 pub struct Reply {
     pub payload: Octets,
@@ -79,8 +79,7 @@ impl Server {
         requires sane { IsSane tree }
         requires below { IsBelow (2 ^ 62) tree }
         requires capacity { capacity < 2 ^ 63 }
-        ensures kept { result ≡ record { tree = tree; count = 0; cost = 0; parameters = record { capacity = capacity; verifier = verifier; export = export } } }
-        ensures stands { StandsFor (record { tree = tree; parameters = record { capacity = capacity; verifier = verifier; export = export } }) [] result }
+        ensures { StandsFor (record { tree = tree; parameters = record { capacity = capacity; verifier = verifier; export = export } }) [] result }
     {
         Server {
             tree,

@@ -14,7 +14,7 @@ use Rattle.nr_tree.specs.Tree.{Tree, is_dir, entries_in}
 use Rattle.nr_tree.specs.Steps.{IsBelow, IsNew, CanAddNode}
 use Rattle.nr_tree.specs.Changes.{next_cookie_of, node_with_entry, tree_with_node}
 use Rattle.nr_tree.specs.Roots.{root_node, root_only}
-use Rattle.nr_tree.specs.Drill.{time_zero, drill_node, mode_777, mode_666, hello, link, many, file_name, many_entries, IsDrillWith}
+use Rattle.nr_tree.specs.Drill.{time_zero, drill_node, mode_777, mode_666, hello, link, many, file_name, many_entries, IsDrillWith, many_node, hello_node, link_node, with_root, with_hello, with_link, with_many}
 use Rattle.nr_tree.specs.declared.node.Node.{Node}
 use Rattle.nr_tree.specs.declared.node.Content.{Content}
 use Rattle.nr_tree.specs.declared.node.Content.TheVariants.{Regular, Directory, Block, Character, Link, Socket, Fifo}
@@ -131,9 +131,6 @@ name_free : (i j : ℕ) → j ≤ i → entry_of_name (file_name i) (many_entrie
 name_free i zero le = refl
 name_free i (suc j) le = none_append (file_name i) (many_entries j) (record { cookie = j + 1; name = file_name j; number = j + 5 }) (name_free i j (omega (arith, le))) (other_name i j (omega (arith, le)))
 
-abbrev many_node : ℕ → Node
-many_node i = drill_node mode_777 2 1 (Directory (record { next_cookie = i + 1; list = many_entries i }))
-
 abbrev file_node : Node
 file_node = drill_node mode_666 1 4 (Regular [])
 
@@ -177,24 +174,6 @@ module _ (i : ℕ) (t : Tree) (is : IsDrillWith i t) where
   }
 
 -- ===== the first three nodes
-
-abbrev hello_node : Node
-hello_node = drill_node mode_666 1 1 (Regular hello)
-
-abbrev link_node : Node
-link_node = drill_node mode_777 1 1 (Link hello)
-
-abbrev pub with_root : Tree
-with_root = root_only time_zero
-
-abbrev pub with_hello : Tree
-with_hello = tree_with_node with_root time_zero 1 hello hello_node
-
-abbrev pub with_link : Tree
-with_link = tree_with_node with_hello time_zero 1 link link_node
-
-abbrev pub with_many : Tree
-with_many = tree_with_node with_link time_zero 1 many (many_node 0)
 
 abbrev root_with : ℕ → ℕ → List Entry → Node
 root_with links cookie es = drill_node mode_777 links 1 (Directory (record { next_cookie = cookie; list = es }))

@@ -78,10 +78,11 @@ node_with_bytes now offset piece node = record node { content = on_bytes (λ byt
 abbrev pub node_with_metadata : Metadata → Node → Node
 node_with_metadata metadata node = record node { metadata = metadata }
 
--- WRITE: a piece written over the bytes of a file; no bytes leave the file as it is
+-- a piece written over the bytes of a file
 abbrev pub tree_with_piece : Tree → Time → ℕ → ℕ → List ℕ → Tree
 tree_with_piece t now n offset piece = record t { nodes = nodes_with_change t.nodes n (node_with_bytes now offset piece) }
 
+-- WRITE: the same, but no bytes leave the file as it is
 abbrev pub tree_with_bytes : Tree → Time → ℕ → ℕ → List ℕ → Tree
 tree_with_bytes t now n offset piece = if length piece == 0 then t else tree_with_piece t now n offset piece
 

@@ -4,6 +4,8 @@ use Rattle.std.specs.FinMap.{get}
 use Rattle.nr_nfs_base.specs.declared.time.Time.{Time}
 use Rattle.nr_tree.specs.Entries.{Entry}
 use Rattle.nr_tree.specs.Tree.{Tree}
+use Rattle.nr_tree.specs.Changes.{tree_with_node}
+use Rattle.nr_tree.specs.Roots.{root_only}
 use Rattle.nr_tree.specs.declared.node.Node.{Node}
 use Rattle.nr_tree.specs.declared.node.Content.{Content}
 use Rattle.nr_tree.specs.declared.node.Content.TheVariants.{Regular, Directory, Link}
@@ -47,6 +49,28 @@ root_entries = record { cookie = 1; name = hello; number = 2 } ∷ record { cook
 abbrev pub many_entries : ℕ → List Entry
 many_entries zero = []
 many_entries (suc i) = many_entries i ++ record { cookie = i + 1; name = file_name i; number = i + 5 } ∷ []
+
+-- the first nodes, and the tree as they are added: a root alone, then each entry of the root
+abbrev pub hello_node : Node
+hello_node = drill_node mode_666 1 1 (Regular hello)
+
+abbrev pub link_node : Node
+link_node = drill_node mode_777 1 1 (Link hello)
+
+abbrev pub many_node : ℕ → Node
+many_node count = drill_node mode_777 2 1 (Directory (record { next_cookie = count + 1; list = many_entries count }))
+
+abbrev pub with_root : Tree
+with_root = root_only time_zero
+
+abbrev pub with_hello : Tree
+with_hello = tree_with_node with_root time_zero 1 hello hello_node
+
+abbrev pub with_link : Tree
+with_link = tree_with_node with_hello time_zero 1 link link_node
+
+abbrev pub with_many : Tree
+with_many = tree_with_node with_link time_zero 1 many (many_node 0)
 
 -- the tree with so many files in `many`
 pub record IsDrillWith (count : ℕ) (t : Tree) : Type 0 where

@@ -59,10 +59,11 @@ handle_of number = to_be_bytes w64 number
 abbrev pub node_of_handle : Tree → List ℕ → Option Node
 node_of_handle t h = if length h == 8 then get t.nodes (number_of_handle h) else None
 
--- no handle of this server, or of a number never given; then, of a node that is gone (RFC 1813 section 2.6, NFS3ERR_BADHANDLE and NFS3ERR_STALE)
+-- a handle of this server: a number that was given, in eight bytes. Each number from 1 to below the next one counts as given
 abbrev pub was_given : Tree → List ℕ → Bool
 was_given t h = (length h == 8) && (nat_lt 0 (number_of_handle h) && nat_lt (number_of_handle h) t.next)
 
+-- NFS3ERR_BADHANDLE for any other handle; NFS3ERR_STALE for that of a node that is gone (RFC 1813 section 2.6)
 abbrev pub handle_rule : Tree → List ℕ → Option Status
 handle_rule t h = if was_given t h then (is_none (node_of_handle t h) ⇒ Stale) else Some Badhandle
 

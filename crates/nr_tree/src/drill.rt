@@ -2,7 +2,7 @@
 
 ghost use Rattle.std.specs.Prelude.{◌≡◌, ◌+◌, ◌/◌, ◌%◌, ◌<◌, ◌^◌, [], ◌∷◌, IfOk, OnOk, OnErr};
 ghost use Rattle.nr_tree.specs.Changes.{tree_with_node};
-ghost use Rattle.nr_tree.specs.Drill.{time_zero, drill_node, mode_666, mode_777, file_name, IsDrill, IsDrillWith};
+ghost use Rattle.nr_tree.specs.Drill.{time_zero, drill_node, mode_666, mode_777, file_name, with_root, with_hello, with_link, with_many, IsDrill, IsDrillWith};
 ghost use Rattle.nr_tree.specs.Sane.{IsSane};
 ghost use Rattle.nr_tree.specs.Steps.{CanAddNode, IsBelow, IsBounded};
 ghost use Rattle.nr_tree.specs.declared.node.Content.TheVariants.{Regular as RegularNode, Directory as DirectoryNode, Link as LinkNode};
@@ -28,7 +28,8 @@ impl Tree {
         ensures sane { IfOk result IsSane }
         ensures below { IfOk result (IsBelow 106) }
     {
-        let mut tree = drill_begun(alloc)?;
+        let mut tree = Tree::root_only(alloc, START)?;
+        add_root_entries(&mut tree, alloc)?;
         add_files(&mut tree, alloc)?;
         Ok(tree)
     }
@@ -54,17 +55,6 @@ fn node(mode: u32, links: u32, parent: u64, content: Content) -> Node
     }
 }
 
-fn add(tree: &mut Tree, alloc: Global, dir: u64, name: &[u8], node: Node) -> Result<(), Memory>
-    requires sane { IsSane tree.old }
-    requires bounded { IsBounded tree.old }
-    requires allowed { CanAddNode tree.old dir name.now node }
-    ensures ok { OnOk result (tree.new ≡ tree_with_node tree.old time_zero dir name.now node) }
-    ensures sane { IsSane tree.new }
-{
-    tree.add_node(dir, Vec::from_slice(alloc, name)?, node, START)?;
-    Ok(())
-}
-
 fn file(alloc: Global, parent: u64, bytes: &[u8]) -> Result<Node, AllocError>
     ensures { IfOk result (λ n. n ≡ drill_node mode_666 1 parent (RegularNode bytes.now)) }
 {
@@ -85,19 +75,55 @@ fn directory(alloc: Global, parent: u64) -> Node
     node(0o777, 2, parent, Content::Directory(Directory::new(alloc)))
 }
 
-/// The root with its three entries.
-fn drill_begun(alloc: Global) -> Result<Tree, Memory>
-    ensures ok { IfOk result (IsDrillWith 0) }
-    ensures sane { IfOk result IsSane }
-    ensures below { IfOk result (IsBelow 6) }
+/// The file `hello`.
+fn add_hello(tree: &mut Tree, alloc: Global) -> Result<(), Memory>
+    requires before { tree.old ≡ with_root }
+    requires sane { IsSane tree.old }
+    ensures ok { OnOk result (tree.new ≡ with_hello) }
+    ensures sane { IsSane tree.new }
 {
-    let mut tree = Tree::root_only(alloc, START)?;
+    let name = Vec::from_slice(alloc, b"hello")?;
     let hello = file(alloc, 1, b"hello")?;
-    add(&mut tree, alloc, 1, b"hello", hello)?;
+    tree.add_node(1, name, hello, START)?;
+    Ok(())
+}
+
+/// The symbolic link `link`.
+fn add_link(tree: &mut Tree, alloc: Global) -> Result<(), Memory>
+    requires before { tree.old ≡ with_hello }
+    requires sane { IsSane tree.old }
+    ensures ok { OnOk result (tree.new ≡ with_link) }
+    ensures sane { IsSane tree.new }
+{
+    let name = Vec::from_slice(alloc, b"link")?;
     let link = symbolic_link(alloc, 1, b"hello")?;
-    add(&mut tree, alloc, 1, b"link", link)?;
-    add(&mut tree, alloc, 1, b"many", directory(alloc, 1))?;
-    Ok(tree)
+    tree.add_node(1, name, link, START)?;
+    Ok(())
+}
+
+/// The directory `many`.
+fn add_many(tree: &mut Tree, alloc: Global) -> Result<(), Memory>
+    requires before { tree.old ≡ with_link }
+    requires sane { IsSane tree.old }
+    ensures ok { OnOk result (tree.new ≡ with_many) }
+    ensures sane { IsSane tree.new }
+{
+    let name = Vec::from_slice(alloc, b"many")?;
+    tree.add_node(1, name, directory(alloc, 1), START)?;
+    Ok(())
+}
+
+/// The entries of the root.
+fn add_root_entries(tree: &mut Tree, alloc: Global) -> Result<(), Memory>
+    requires before { tree.old ≡ with_root }
+    requires sane { IsSane tree.old }
+    ensures drill { OnOk result (IsDrillWith 0 tree.new) }
+    ensures sane { IsSane tree.new }
+    ensures below { OnOk result (IsBelow 6 tree.new) }
+{
+    add_hello(tree, alloc)?;
+    add_link(tree, alloc)?;
+    add_many(tree, alloc)
 }
 
 /// The file of this number in `many`.
@@ -111,8 +137,10 @@ fn add_file(tree: &mut Tree, alloc: Global, count: u8) -> Result<(), Memory>
     ensures below { OnOk result (IsBelow (count + 7) tree.new) }
 {
     let name = [b'f', b'0' + count / 10, b'0' + count % 10];
+    let name = Vec::from_slice(alloc, &name)?;
     let file = file(alloc, 4, b"")?;
-    add(tree, alloc, 4, &name, file)
+    tree.add_node(4, name, file, START)?;
+    Ok(())
 }
 
 /// A hundred files in `many`.

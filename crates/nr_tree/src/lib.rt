@@ -30,6 +30,6 @@ pub use node::{Content, Metadata, Node};
 pub use replies::{attributes_at, wcc_attributes_at, wcc_data};
 pub use rules::{
     ENTRY_COST, LARGEST_FILE, Right, Space, check_changeable, check_name, check_size, check_space,
-    check_times, entry_number, handle_number, is_dot_name, live_node, may, time_after,
+    check_times, handle_number, is_dot_name, live_node, may, time_after,
 };
 pub use tree::Tree;

@@ -232,11 +232,3 @@ pub fn time_after(now: Time, before: Time, how: SetTime) -> Time
         SetTime::ClientTime(time) => time,
     }
 }
-
-/// The number that a directory's entry leads to.
-pub fn entry_number(tree: &Tree, directory: u64, dir: &Node, name: &[u8]) -> Option<u64>
-    requires { map.get tree.now.nodes directory ≡ Some dir.now }
-    ensures { result ≡ option_map (λ e. e.number) (entry_at tree.now directory name.now) }
-{
-    dir.lookup(name)
-}

@@ -43,12 +43,13 @@ impl Tree {
     ghost use Rattle.nr_tree.specs.Room.{HasRoomFor};
     ghost use Rattle.nr_tree.specs.Roots.{root_only as root_alone};
     ghost use Rattle.nr_tree.specs.Sane.{IsSane};
-    ghost use Rattle.nr_tree.specs.Steps.{IsBounded, CanRename};
+    ghost use Rattle.nr_tree.specs.Steps.{IsBelow, IsBounded, CanRename};
 
     /// The tree with a root alone, which is made now: number 1, mode 0777, uid 0, gid 0. The next number is 2.
     pub fn root_only(alloc: Global, now: Time) -> Result<Tree, Memory>
         ensures ok { IfOk result (λ t. t ≡ root_alone now) }
         ensures sane { IfOk result IsSane }
+        ensures below { IfOk result (IsBelow 3) }
     {
         let mut nodes = BTreeMap::new(alloc);
         insert(&mut nodes, 1, root_node(alloc, now))?;

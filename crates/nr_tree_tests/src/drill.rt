@@ -7,6 +7,7 @@ ghost use Rattle.nr_tree.specs.Drill.{IsDrill};
 use crate::compare::same;
 use nr_nfs_base::{FileType, Time};
 use nr_tree::{Content, Tree};
+use std::process::Abort;
 
 /// The number of the type (RFC 1813 section 2.5, `ftype3`), mode, links, size and parent.
 pub type Seen = (u32, u32, u32, u64, u64);
@@ -100,20 +101,33 @@ pub fn listed(tree: &Tree, dir: u64, cookie: u64) -> Option<(usize, u64, u64)> {
     }
 }
 
+fn nodes_are(rt: &impl Abort, tree: &Tree) {
+    for (row, (number, want)) in NODES.iter().enumerate() {
+        same(rt, row, seen(tree, *number), *want);
+    }
+}
+
+fn names_are(rt: &impl Abort, tree: &Tree) {
+    for (row, (dir, name, want)) in NAMES.iter().enumerate() {
+        same(rt, row, looked_up(tree, *dir, name), *want);
+    }
+}
+
+fn listings_are(rt: &impl Abort, tree: &Tree) {
+    for (row, (dir, cookie, want)) in LISTINGS.iter().enumerate() {
+        same(rt, row, listed(tree, *dir, *cookie), *want);
+    }
+}
+
 #[test]
 fn drill_tree(rt: HostRuntime) {
     let tree = Tree::drill(rt.alloc()).expect(&rt, "memory");
     same(&rt, 0, tree.next(), 105);
-    for (row, (number, want)) in NODES.iter().enumerate() {
-        same(&rt, row, seen(&tree, *number), *want);
-    }
-    for (row, (dir, name, want)) in NAMES.iter().enumerate() {
-        same(&rt, row, looked_up(&tree, *dir, name), *want);
-    }
-    for (row, (dir, cookie, want)) in LISTINGS.iter().enumerate() {
-        same(&rt, row, listed(&tree, *dir, *cookie), *want);
-    }
+    nodes_are(&rt, &tree);
+    names_are(&rt, &tree);
+    listings_are(&rt, &tree);
     let (below, above) = within(&tree);
+    drop(tree);
     same(&rt, 1, below, true);
     same(&rt, 2, above, false);
 }
@@ -126,6 +140,13 @@ fn within(tree: &Tree) -> (bool, bool)
     (tree.is_within(4, 1), tree.is_within(1, 4))
 }
 
+fn root_is(rt: &impl Abort, tree: &Tree) {
+    same(rt, 0, tree.next(), 2);
+    same(rt, 1, seen(tree, 1), Some((DIR, 0o777, 2, 0, 1)));
+    same(rt, 2, owned(tree, 1), Some((0, 0, 1, 1)));
+    same(rt, 3, moments(tree, 1), Some(((7, 9), (7, 9), (7, 9))));
+}
+
 #[test]
 fn root_alone(rt: HostRuntime) {
     let now = Time {
@@ -133,10 +154,8 @@ fn root_alone(rt: HostRuntime) {
         nanoseconds: 9,
     };
     let tree = Tree::root_only(rt.alloc(), now).expect(&rt, "memory");
-    same(&rt, 0, tree.next(), 2);
-    same(&rt, 1, seen(&tree, 1), Some((DIR, 0o777, 2, 0, 1)));
-    same(&rt, 2, owned(&tree, 1), Some((0, 0, 1, 1)));
-    same(&rt, 3, moments(&tree, 1), Some(((7, 9), (7, 9), (7, 9))));
+    root_is(&rt, &tree);
+    drop(tree);
 }
 
 /// Uid, gid, file system and file number.

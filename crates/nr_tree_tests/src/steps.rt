@@ -134,19 +134,35 @@ fn stepped(rt: &impl Abort, alloc: Global, step: u8) -> Tree {
     tree
 }
 
+fn row_is(rt: &impl Abort, row: usize, want: &Row, tree: &Tree) {
+    let (_, hello, bye, node, entry) = want;
+    same(rt, row, looked_up(tree, 1, b"hello"), *hello);
+    same(rt, row, looked_up(tree, 1, b"bye"), *bye);
+    same(rt, row, seen(tree, 2), *node);
+    same(rt, row, listed(tree, 1, 0), *entry);
+}
+
 #[test]
 fn steps(rt: HostRuntime) {
-    for (row, (step, hello, bye, node, entry)) in ROWS.iter().enumerate() {
-        let tree = stepped(&rt, rt.alloc(), *step);
-        same(&rt, row, looked_up(&tree, 1, b"hello"), *hello);
-        same(&rt, row, looked_up(&tree, 1, b"bye"), *bye);
-        same(&rt, row, seen(&tree, 2), *node);
-        same(&rt, row, listed(&tree, 1, 0), *entry);
+    for (row, want) in ROWS.iter().enumerate() {
+        let tree = stepped(&rt, rt.alloc(), want.0);
+        row_is(&rt, row, want, &tree);
+        drop(tree);
     }
+}
+
+#[test]
+fn renamed(rt: HostRuntime) {
     let tree = stepped(&rt, rt.alloc(), 0);
-    same(&rt, 6, listed(&tree, 1, 3), Some((2, 4, 2)));
+    same(&rt, 0, listed(&tree, 1, 3), Some((2, 4, 2)));
+    drop(tree);
+}
+
+#[test]
+fn renamed_over(rt: HostRuntime) {
     let tree = stepped(&rt, rt.alloc(), 5);
-    same(&rt, 7, listed(&tree, 1, 3), Some((1, 4, 2)));
-    same(&rt, 8, looked_up(&tree, 1, b"link"), Some(2));
-    same(&rt, 9, seen(&tree, 3), None);
+    same(&rt, 0, listed(&tree, 1, 3), Some((1, 4, 2)));
+    same(&rt, 1, looked_up(&tree, 1, b"link"), Some(2));
+    same(&rt, 2, seen(&tree, 3), None);
+    drop(tree);
 }

@@ -1,4 +1,4 @@
-use Rattle.std.proofs.Common.{◌≡◌, ◌++◌, ◌∷◌, [], ◌∙◌}
+use Rattle.std.proofs.Common.{◌++◌, ◌∷◌, [], ◌∙◌}
 use Rattle.nr_tree.specs.Entries.{Entry}
 use Rattle.nr_ops_dir.specs.Readdir.{listed_plus}
 use Rattle.nr_ops_dir.proofs.Counting.{mapped_next, short_name}

@@ -1,8 +1,8 @@
-use Rattle.std.proofs.Common.{◌≡◌, ℕ, ◌+◌, ◌<◌, ◌≤◌, Some, subst, sym, arith, inl, inr, ◌⊎◌}
+use Rattle.std.proofs.Common.{◌≡◌, ◌+◌, sym, arith, inl, inr}
 use Rattle.nr_tree.specs.Entries.{Entry}
 use Rattle.nr_ops_dir.specs.Readdir.{name_size}
 use Rattle.nr_ops_dir.specs.Sizes.{size_in}
-use Rattle.nr_ops_dir.proofs.Counting.{IsCounted, is_counted, counted_more, counted_stops}
+use Rattle.nr_ops_dir.proofs.Counting.{is_counted, counted_stops}
 use Rattle.nr_ops_dir.proofs.listings.count_within.Goals.{then-entries-limits-via-then-entries-limits, then-entries-limits-via-else-entries-limits+then-names-limits}
 use Rattle.nr_ops_dir.proofs.listings.count_within.Goals as goal
 

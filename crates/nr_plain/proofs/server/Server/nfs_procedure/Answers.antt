@@ -1,4 +1,4 @@
-use Rattle.std.proofs.Common.{◌≡◌, ◌+◌, ◌≤◌, length, ap, sym, ◌∙◌, subst, arith}
+use Rattle.std.proofs.Common.{◌+◌, ◌≤◌, length, ap, sym, ◌∙◌, subst, arith}
 use Rattle.nr_tree.specs.Rules.{entry_cost}
 use Rattle.nr_plain.specs.Code.{entry_of}
 use Rattle.nr_plain.specs.Stands.{Kept, IsServing}
