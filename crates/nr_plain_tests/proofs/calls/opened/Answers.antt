@@ -1,0 +1,5 @@
+use Rattle.nr_plain_tests.proofs.calls.opened.Goals as goal
+use Rattle.nr_plain_tests.proofs.Below.{below_end}
+
+pub open-requires-clause-below : goal.open-requires-clause-below
+open-requires-clause-below g c = below_end _ (rw (c.expect-tree.ensures) at c.drill.ensures.below)

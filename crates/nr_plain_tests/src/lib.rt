@@ -1,0 +1,27 @@
+//! Tests of the plain server (`nr_plain`): calls with their whole replies, worked out by hand from RFC 1813 and RFC 5531.
+//!
+//! They stand in a crate of their own, above the crate that they test, since a crate with tests is proved twice.
+#![tactic(auto)]
+
+#[cfg(test)]
+mod attribute_calls;
+#[cfg(test)]
+mod calls;
+#[cfg(test)]
+mod compare;
+#[cfg(test)]
+mod create_calls;
+#[cfg(test)]
+mod entry_calls;
+#[cfg(test)]
+mod file_calls;
+#[cfg(test)]
+mod listings;
+#[cfg(test)]
+mod making_calls;
+#[cfg(test)]
+mod no_space;
+#[cfg(test)]
+mod raw_calls;
+#[cfg(test)]
+mod worked;
