@@ -3,6 +3,7 @@ pub mod Programs
 pub mod Journal
 pub mod Replies
 pub mod Code
+pub mod Added
 pub mod Stands
 pub mod ReplyRoom
 pub mod ReplySizes

@@ -1,8 +1,7 @@
 -- The journal that a server stands for.
-use Rattle.std.specs.Prelude.{◌≡◌, ℕ, ◌+◌, ◌*◌, ◌<◌, ◌≤◌, ◌^◌, List, ◌++◌, length, Option, Some, Result, Err, refl}
+use Rattle.std.specs.Prelude.{◌≡◌, ℕ, ◌+◌, ◌*◌, ◌<◌, ◌≤◌, ◌^◌, List, ◌++◌, length, Some, Result, Err, refl}
 use Rattle.std.specs.Coded.{Coded, code_by, coded×, coded_ℕ, coded_list}
 use Rattle.nr_rpc.specs.declared.head.CallHead.{CallHead}
-use Rattle.nr_nfs_base.specs.declared.verifier.Verifier.{Verifier}
 use Rattle.nr_reduce.specs.declared.mark.Entry.{Entry}
 use Rattle.nr_reduce.specs.declared.mark.Moment.{Moment}
 use Rattle.nr_tree.specs.Code.{tree_code}
@@ -13,6 +12,7 @@ use Rattle.nr_tree.specs.Tree.{Tree}
 use Rattle.nr_plain.specs.Setup.{Parameters, Setup, State}
 use Rattle.nr_plain.specs.Journal.{state_after, state_of}
 use Rattle.nr_plain.specs.Replies.{Answer, plain_answer}
+use Rattle.nr_plain.specs.Added.{entries_added}
 use Rattle.nr_plain.specs.declared.fault.Fault.{Fault}
 use Rattle.nr_plain.specs.declared.fault.Fault.TheVariants as faults
 
@@ -31,11 +31,12 @@ pub record StandsFor (s : Setup) (J : List Entry) (kept : Kept) : Type 0 where
   pub parameters : kept.parameters ≡ s.parameters
 
 -- a call was executed: it has the reply of the plain server over the journal, its place is behind all entries, and then the server
--- stands for the journal with what the call added
+-- stands for the journal with what the call added, which its reply tells
 pub record IsExecuted (s : Setup) (J : List Entry) (m : Moment) (payload reply : List ℕ) (place : ℕ) (kept : Kept) : Type 0 where
   pub answer : Answer
   pub plain : plain_answer s.parameters (state_of s J) m payload ≡ Some answer
   pub reply_is : reply ≡ answer.reply
+  pub adds : answer.entries ≡ entries_added m payload reply
   pub place_is : place ≡ length J
   pub stands : StandsFor s (J ++ answer.entries) kept
 
