@@ -1,5 +1,6 @@
 -- One more call of a procedure of NFS: what the server keeps then.
-use Rattle.std.proofs.Common.{◌≡◌, ℕ, ◌+◌, ◌≤◌, ◌^◌, Bool, true, false, cond, eqb, ltb, List, [], ◌∷◌, ◌++◌, length, Option, None, Some, Result, Ok, Err, OnOk, refl, ap, sym, ◌∙◌, subst, arith}
+use Rattle.std.proofs.Common.{◌≡◌, ℕ, ◌+◌, ◌≤◌, ◌^◌, Bool, true, false, cond, eqb, ltb, List, [], ◌∷◌, ◌++◌, length, take, Option, None, Some, Result, Ok, Err, OnOk, refl, ap, sym, ◌∙◌, subst, arith}
+use Rattle.std.proofs.Math.Seq.{take-length}
 use Rattle.std.proofs.lemmas.Bool.{ltb-false}
 use Rattle.std.proofs.lemmas.List.{length-append}
 use Rattle.nr_nfs_base.specs.Codec.{read_all}
@@ -120,11 +121,16 @@ pub state-append : (prm : Parameters) (st : State) (J K : List Entry) → state_
 state-append prm st [] K = refl
 state-append prm st (e ∷ J) K = state-append prm (next_state prm st e) J K
 
+pub state-is : (s : Setup) (J : List Entry) (k : Kept) → StandsFor s J k → state_kept k ≡ state_of s J
+state-is s J k is =
+    let all : state_kept k ≡ state_of s (take (length J) J) = λ i. record { tree = is.tree i; cost = is.cost i } in
+    all ∙ ap (state_of s) (take-length J)
+
 pub stands-after : (s : Setup) (J : List Entry) (k : Kept) (es : List Entry) → StandsFor s J k → StandsFor s (J ++ es) (kept_after k es)
 stands-after s J k es is =
-    let state : state_kept k ≡ state_of s J = λ i. record { tree = is.tree i; cost = is.cost i } in
-    let all : state_after k.parameters (state_kept k) es ≡ state_of s (J ++ es) =
-    (λ i. state_after (is.parameters i) (state i) es) ∙ sym (state-append s.parameters (record { tree = s.tree; cost = 0 }) J es) in
+    let state : state_kept k ≡ state_of s J = state-is s J k is in
+    let all : state_after k.parameters (state_kept k) es ≡ state_of s (take (length (J ++ es)) (J ++ es)) =
+    (λ i. state_after (is.parameters i) (state i) es) ∙ sym (state-append s.parameters (record { tree = s.tree; cost = 0 }) J es) ∙ sym (ap (state_of s) (take-length (J ++ es))) in
     record {
       tree = ap (λ (st : State). st.tree) all;
       cost = ap (λ (st : State). st.cost) all;
