@@ -5,5 +5,6 @@ pub mod Replies
 pub mod Code
 pub mod Added
 pub mod Stands
+pub mod JournalLaws
 pub mod ReplyRoom
 pub mod ReplySizes
