@@ -45,6 +45,7 @@ abbrev pub entries_by_procedure : Option NfsProcedure → List ℕ → Entry →
 entries_by_procedure None reply e = []
 entries_by_procedure (Some p) reply e = entries_if (not (only_reads p) && has_succeeded reply) e
 
+-- of NFS version 3
 abbrev pub entries_by_program : ℕ → ℕ → List ℕ → Entry → List Entry
 entries_by_program prog vers reply e =
     if prog == nfs_program && vers == nfs_version then entries_by_procedure (nfs_procedure_of e.proc) reply e else []
