@@ -22,8 +22,8 @@ use Rattle.nr_ops_dir.specs.Renaming.{rename_rules}
 use Rattle.nr_ops_dir.specs.Links.{link_rules}
 use Rattle.nr_ops_file.proofs.Laws.{setattr-space, setattr-below, write-space, write-below}
 use Rattle.nr_ops_dir.proofs.Laws.{create-space, create-below, mkdir-space, mkdir-below, symlink-space, symlink-below, mknod-space, mknod-below, remove-space, remove-below, rmdir-space, rmdir-below, rename-space, rename-below, link-space, link-below}
-use Rattle.nr_plain.specs.Programs.{nfs_results, nfs_tree, is_change, is_done}
-use Rattle.nr_plain.specs.Code.{changes_from, tree_from, only_reads}
+use Rattle.nr_plain.specs.Programs.{nfs_results, nfs_tree, is_change, is_done, only_reads}
+use Rattle.nr_plain.specs.Code.{changes_from, tree_from}
 
 -- ===== by the status
 

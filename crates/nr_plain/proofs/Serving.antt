@@ -1,5 +1,6 @@
 -- One more call of a procedure of NFS: what the server keeps then.
-use Rattle.std.proofs.Common.{◌≡◌, ℕ, ◌+◌, ◌≤◌, ◌^◌, Bool, true, false, cond, eqb, ltb, List, [], ◌∷◌, ◌++◌, length, Option, None, Some, Result, Ok, Err, OnOk, refl, ap, sym, ◌∙◌, subst, arith}
+use Rattle.std.proofs.Common.{◌≡◌, ℕ, ◌+◌, ◌≤◌, ◌^◌, Bool, true, false, cond, eqb, ltb, List, [], ◌∷◌, ◌++◌, length, take, Option, None, Some, Result, Ok, Err, OnOk, refl, ap, sym, ◌∙◌, subst, arith}
+use Rattle.std.proofs.Math.Seq.{take-length}
 use Rattle.std.proofs.lemmas.Bool.{ltb-false}
 use Rattle.std.proofs.lemmas.List.{length-append}
 use Rattle.nr_nfs_base.specs.Codec.{read_all}
@@ -9,7 +10,6 @@ use Rattle.nr_nfs_base.specs.declared.status.Status.TheVariants.{Nospc}
 use Rattle.nr_nfs_base.specs.declared.time.Time.{Time}
 use Rattle.nr_nfs_args.specs.Arguments.{NfsArguments, MountArguments, nfs_arguments_codec, mount_arguments_codec}
 use Rattle.nr_reduce.specs.declared.mark.Entry.{Entry}
-use Rattle.nr_reduce.specs.declared.mark.Moment.{Moment}
 use Rattle.nr_tree.specs.Tree.{Tree}
 use Rattle.nr_tree.specs.Rules.{space_rule, entry_cost, IsWithinCapacity}
 use Rattle.nr_tree.specs.Sane.{IsSane}
@@ -21,11 +21,9 @@ use Rattle.nr_plain.specs.Setup.{Parameters, Setup, State, caller_of, time_of, s
 use Rattle.nr_plain.specs.Code.{reply_from, changes_from, tree_from}
 use Rattle.nr_plain.specs.Journal.{nfs_procedure_of, next_state, state_after, state_of, tree_by_arguments, tree_by_procedure}
 use Rattle.nr_nfs_base.specs.declared.procedure.MountProcedure.{MountProcedure}
-use Rattle.nr_rpc.specs.Reading.{call_of}
-use Rattle.nr_rpc.specs.declared.head.CallHead.{CallHead}
 use Rattle.nr_rpc.specs.declared.head.ReplyHead.TheVariants.{ProgMismatch}
-use Rattle.nr_plain.specs.Replies.{Answer, nfs_by_arguments, entries_if, refusal, mount_by_arguments, mount_by_procedure, mount_procedure_of, mount_call, program_call, answer_to, answer_by}
-use Rattle.nr_plain.specs.Stands.{Kept, StandsFor, IsExecuted, IsServing, state_kept, kept_after}
+use Rattle.nr_plain.specs.Replies.{Answer, nfs_by_arguments, entries_if, refusal, mount_by_arguments, mount_by_procedure, mount_procedure_of, mount_call, program_call}
+use Rattle.nr_plain.specs.Stands.{Kept, StandsFor, IsServing, state_kept, kept_after}
 use Rattle.nr_plain.proofs.Procedures.{tree-kept, entry-spaced, tree-below}
 
 -- ===== numbers
@@ -123,11 +121,16 @@ pub state-append : (prm : Parameters) (st : State) (J K : List Entry) → state_
 state-append prm st [] K = refl
 state-append prm st (e ∷ J) K = state-append prm (next_state prm st e) J K
 
+pub state-is : (s : Setup) (J : List Entry) (k : Kept) → StandsFor s J k → state_kept k ≡ state_of s J
+state-is s J k is =
+    let all : state_kept k ≡ state_of s (take (length J) J) = λ i. record { tree = is.tree i; cost = is.cost i } in
+    all ∙ ap (state_of s) (take-length J)
+
 pub stands-after : (s : Setup) (J : List Entry) (k : Kept) (es : List Entry) → StandsFor s J k → StandsFor s (J ++ es) (kept_after k es)
 stands-after s J k es is =
-    let state : state_kept k ≡ state_of s J = λ i. record { tree = is.tree i; cost = is.cost i } in
-    let all : state_after k.parameters (state_kept k) es ≡ state_of s (J ++ es) =
-    (λ i. state_after (is.parameters i) (state i) es) ∙ sym (state-append s.parameters (record { tree = s.tree; cost = 0 }) J es) in
+    let state : state_kept k ≡ state_of s J = state-is s J k is in
+    let all : state_after k.parameters (state_kept k) es ≡ state_of s (take (length (J ++ es)) (J ++ es)) =
+    (λ i. state_after (is.parameters i) (state i) es) ∙ sym (state-append s.parameters (record { tree = s.tree; cost = 0 }) J es) ∙ sym (ap (state_of s) (take-length (J ++ es))) in
     record {
       tree = ap (λ (st : State). st.tree) all;
       cost = ap (λ (st : State). st.cost) all;
@@ -165,19 +168,3 @@ any_ok (Err e) P holds = tt
 
 pub mount-program : {A E : Type 0} (r : Result A E) (k : Kept) (xid prog vers : ℕ) (e : Entry) → prog ≡ 100005 → OnOk r (k ≡ kept_after k (program_call k.parameters (state_kept k) xid prog vers e).entries)
 mount-program r k xid prog vers e is = any_ok r _ (subst (λ (n : ℕ). k ≡ kept_after k (program_call k.parameters (state_kept k) xid n vers e).entries) (sym is) (mount-kept k xid vers e))
-
--- ===== a call that was executed
-
-pub executed : (s : Setup) (J : List Entry) (k new : Kept) (m : Moment) (payload reply : List ℕ) (place : ℕ) (head : CallHead) → StandsFor s J k → call_of payload ≡ Ok head → place ≡ k.count
-    → reply ≡ (answer_to k.parameters (state_kept k) m payload head).reply → new ≡ kept_after k (answer_to k.parameters (state_kept k) m payload head).entries → IsExecuted s J m payload reply place new
-executed s J k new m payload reply place head is found at replied kept =
-    let state : state_kept k ≡ state_of s J = λ i. record { tree = is.tree i; cost = is.cost i } in
-    let same : answer_to k.parameters (state_kept k) m payload head ≡ answer_to s.parameters (state_of s J) m payload head = λ i. answer_to (is.parameters i) (state i) m payload head in
-    record {
-      answer = answer_to s.parameters (state_of s J) m payload head;
-      plain = ap (answer_by s.parameters (state_of s J) m payload) found;
-      reply_is = replied ∙ ap (λ (a : Answer). a.reply) same;
-      place_is = at ∙ is.count;
-      stands = subst (StandsFor s (J ++ (answer_to s.parameters (state_of s J) m payload head).entries)) (sym (kept ∙ ap (λ (a : Answer). kept_after k a.entries) same))
-          (stands-after s J k (answer_to s.parameters (state_of s J) m payload head).entries is);
-    }

@@ -1,8 +1,7 @@
 -- For the code: what a call of a procedure comes to, by the tree and what the code has of the call.
-use Rattle.std.specs.Prelude.{◌≡◌, ℕ, ◌≤◌, Bool, true, false, List, length, Result, Ok, Err}
+use Rattle.std.specs.Prelude.{◌≡◌, ℕ, ◌≤◌, Bool, false, List, length, Result, Ok, Err}
 use Rattle.nr_nfs_base.specs.Codec.{read_all}
 use Rattle.nr_nfs_base.specs.declared.procedure.NfsProcedure.{NfsProcedure}
-use Rattle.nr_nfs_base.specs.declared.procedure.NfsProcedure.TheVariants as nfs
 use Rattle.nr_nfs_base.specs.declared.procedure.MountProcedure.{MountProcedure}
 use Rattle.nr_rpc.specs.declared.head.CallHead.{CallHead}
 use Rattle.nr_rpc.specs.declared.head.CallHead.TheVariants as calls
@@ -58,31 +57,6 @@ IsChange t call p r = (r.reply ≡ reply_of t call p) × (r.is_entry ≡ changes
 -- the entry that the journal gets where the call is one
 abbrev pub entry_of : Request → Entry
 entry_of r = record { moment = r.moment; cred = r.cred.now; proc = r.proc; args = r.arguments.now }
-
--- the procedures that change no tree
-abbrev pub only_reads : NfsProcedure → Bool
-only_reads nfs.Null = true
-only_reads nfs.Getattr = true
-only_reads nfs.Setattr = false
-only_reads nfs.Lookup = true
-only_reads nfs.Access = true
-only_reads nfs.Readlink = true
-only_reads nfs.Read = true
-only_reads nfs.Write = false
-only_reads nfs.Create = false
-only_reads nfs.Mkdir = false
-only_reads nfs.Symlink = false
-only_reads nfs.Mknod = false
-only_reads nfs.Remove = false
-only_reads nfs.Rmdir = false
-only_reads nfs.Rename = false
-only_reads nfs.Link = false
-only_reads nfs.Readdir = true
-only_reads nfs.Readdirplus = true
-only_reads nfs.Fsstat = true
-only_reads nfs.Fsinfo = true
-only_reads nfs.Pathconf = true
-only_reads nfs.Commit = true
 
 -- the reply of a procedure of MOUNT
 abbrev pub mount_reply_by : ℕ → List ℕ → (p : MountProcedure) → Result (MountArguments p) ℕ → List ℕ

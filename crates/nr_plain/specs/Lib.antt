@@ -3,7 +3,9 @@ pub mod Programs
 pub mod Journal
 pub mod Replies
 pub mod Code
+pub mod Added
 pub mod Stands
+pub mod JournalLaws
 pub mod ReplyRoom
 pub mod ReplySizes
 pub mod ReplyLaws

@@ -79,6 +79,31 @@ nfs_tree t c space now nfs.Fsinfo a = t
 nfs_tree t c space now nfs.Pathconf a = t
 nfs_tree t c space now nfs.Commit a = t
 
+-- the procedures that change no tree
+abbrev pub only_reads : NfsProcedure → Bool
+only_reads nfs.Null = true
+only_reads nfs.Getattr = true
+only_reads nfs.Setattr = false
+only_reads nfs.Lookup = true
+only_reads nfs.Access = true
+only_reads nfs.Readlink = true
+only_reads nfs.Read = true
+only_reads nfs.Write = false
+only_reads nfs.Create = false
+only_reads nfs.Mkdir = false
+only_reads nfs.Symlink = false
+only_reads nfs.Mknod = false
+only_reads nfs.Remove = false
+only_reads nfs.Rmdir = false
+only_reads nfs.Rename = false
+only_reads nfs.Link = false
+only_reads nfs.Readdir = true
+only_reads nfs.Readdirplus = true
+only_reads nfs.Fsstat = true
+only_reads nfs.Fsinfo = true
+only_reads nfs.Pathconf = true
+only_reads nfs.Commit = true
+
 -- status 0
 abbrev pub is_done : {D F S : Type 0} → StatusUnion D F S → Bool
 is_done (Done d) = true

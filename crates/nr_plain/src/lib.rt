@@ -4,7 +4,7 @@
 //! procedures in `Programs.antt`, the journal in `Journal.antt`, the order of refusals and the replies in `Replies.antt`. The journal
 //! has an entry for each change that succeeded, and the tree is what the entries make of the first one. The server doesn't keep the
 //! journal: `Stands.antt` says for which journals it stands, and each call says for every such journal what it answers and for which
-//! journal it stands then.
+//! journal it stands then. `Added.antt` has the entry of a call by its reply alone, and `journal_laws.rt` the laws of a journal.
 //!
 //! `reading.rt` and `changing.rt` have a function for each procedure of NFS, `mount.rt` those of MOUNT, `dispatch.rt` and `server.rt` the
 //! way to them. A procedure that changes the tree first takes the room of its reply (`reply_room.rt`, `put.rt`), so that want of memory leaves
@@ -22,6 +22,7 @@ mod changing;
 mod dispatch;
 mod encoding;
 mod fault;
+mod journal_laws;
 mod laws;
 mod mount;
 mod put;
@@ -30,6 +31,7 @@ mod reply_room;
 mod server;
 
 pub use fault::Fault;
+pub use journal_laws::{replies_stay, replies_tell_entries, unchanging_replies_have_no_moment};
 pub use laws::{
     auto_offers_hold_their_replies, changes_fit_every_offer, replies_are_within_their_limit,
     replies_begin_with_the_xid,

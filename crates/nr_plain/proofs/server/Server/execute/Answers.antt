@@ -1,6 +1,6 @@
 use Rattle.std.proofs.Common.{ap}
 use Rattle.nr_plain.specs.Stands.{Kept}
-use Rattle.nr_plain.proofs.Serving.{executed}
+use Rattle.nr_plain.proofs.Executed.{executed}
 use Rattle.nr_plain.proofs.server.Server.execute.Goals as goal
 
 pub returns-clause-executed : goal.returns-clause-executed
