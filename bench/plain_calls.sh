@@ -1,6 +1,6 @@
 #!/usr/bin/env bash
-# Measures what calls cost the plain server: microseconds for GETATTR, LOOKUP, READ and WRITE of 32 KiB, CREATE, and READDIR of 100
-# entries, the last two in a directory of 100 and of 100,000 entries.
+# Measures what calls cost the plain server: microseconds for READ and WRITE of 32 KiB, and for GETATTR, LOOKUP, CREATE and READDIR of 100
+# entries, each with 100 and with 100,000 entries in the directory.
 #
 #     bench/plain_calls.sh [PROGRAM]
 #
@@ -103,13 +103,13 @@ def same(name, before, proc, arguments, calls):
 
 
 whole = [line(WRITE, handle(2) + hyper(0) + words(PIECE, 2) + opaque(bytes(PIECE)))]
-same("GETATTR", [], GETATTR, handle(2), 50_000)
-same("LOOKUP", [], LOOKUP, handle(1) + opaque(b"hello"), 50_000)
 same("READ of 32 KiB", whole, READ, handle(2) + hyper(0) + words(PIECE), 1_000)
 same("WRITE of 32 KiB", whole, WRITE, handle(2) + hyper(0) + words(PIECE, 2) + opaque(bytes(PIECE)), 1_000)
-for entries, creations in ((FEW, 1_000), (MANY, 20_000)):
+for entries in (FEW, MANY):
     before = fill(entries)
-    names = [b"n%06d" % number for number in range(creations)]
+    same("GETATTR beside %d entries" % entries, before, GETATTR, handle(2), 50_000)
+    same("LOOKUP of the last of %d entries" % entries, before, LOOKUP, handle(1) + opaque(b"e%06d" % (entries - 1)), 50_000)
+    names = [b"n%06d" % number for number in range(20_000 if entries == MANY else 1_000)]
     row(
         "CREATE behind %d entries" % entries,
         before,
