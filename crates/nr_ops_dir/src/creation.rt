@@ -8,7 +8,7 @@ ghost use Rattle.nr_tree.specs.Changes.{tree_with_node};
 ghost use Rattle.nr_tree.specs.Rules.{first, number_of_handle, handle_of as handle_of_number};
 ghost use Rattle.nr_tree.specs.Replies.{wcc_data as wcc_of, attributes_at as attributes_of_handle};
 ghost use Rattle.nr_ops_dir.specs.Nodes.{attributes_of_number as attributes_of_node};
-ghost use Rattle.nr_ops_dir.specs.Creation.{nothing_given as no_attributes, is_other as is_another, owner_rule, new_node as node_of, create_ok as ok_of, new_name_rules};
+ghost use Rattle.nr_ops_dir.specs.Creation.{nothing_given as no_attributes, owner_rule, new_node as node_of, create_ok as ok_of, new_name_rules};
 
 use crate::entries::{check_entry, is_taken};
 use crate::nodes::{attributes_of_number, handle_of};
@@ -18,20 +18,11 @@ use nr_nfs_base::{
 };
 use nr_nfs_res::CreateOk;
 use nr_tree::{
-    Content, Metadata, Node, Tree, check_times, time_after, wcc_attributes_at, wcc_data,
+    Content, MODES, Metadata, Node, Tree, check_times, is_other, time_after, wcc_attributes_at,
+    wcc_data,
 };
 use nr_xdr::Memory;
 use std::alloc::Global;
-
-/// Whether an owner or a group is given, and is another one.
-fn is_other(given: Option<u32>, own: u32) -> bool
-    ensures { result ≡ is_another given own }
-{
-    match given {
-        Some(given) => given != own,
-        None => false,
-    }
-}
 
 /// Whether the caller may make a node of the owner and the group that are given.
 pub(crate) fn check_owner(caller: &Caller, attributes: &SetAttributes) -> Result<(), Status>
@@ -87,9 +78,6 @@ pub(crate) fn nothing_given() -> SetAttributes
 
 /// The mode of a node that is no directory and no symbolic link, where none is given.
 pub(crate) const FILE_MODE: u32 = 0o644;
-
-/// How many modes there are: the permission bits are twelve (RFC 1813 section 2.5, `mode3`).
-const MODES: u32 = 0o10000;
 
 /// A node that is made now in a directory. What is not given is the caller's, now, and this mode.
 pub(crate) fn new_node(

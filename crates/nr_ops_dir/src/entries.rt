@@ -7,7 +7,9 @@ ghost use Rattle.nr_tree.specs.Tree.{entries_in};
 ghost use Rattle.nr_ops_dir.specs.Entries.{number_of_entry as number_of_name, has_entries as has_entries_at, is_taken as is_taken_name, directory_rule, entry_rules, links_rule};
 
 use nr_nfs_base::{Caller, Status};
-use nr_tree::{Content, Node, Tree, check_changeable, check_name, is_dot_name, live_node};
+use nr_tree::{
+    Content, MOST_LINKS, Node, Tree, check_changeable, check_name, is_dot_name, live_node,
+};
 
 /// Whether the node under a number is a directory.
 pub(crate) fn is_dir_at(tree: &Tree, number: u64) -> bool
@@ -90,9 +92,6 @@ pub(crate) fn check_entry(
     check_directory(tree, caller, directory)?;
     Ok(directory)
 }
-
-/// The most links of a node.
-const MOST_LINKS: u32 = 65_535;
 
 fn links_at(tree: &Tree, number: u64) -> u32
     ensures { result ≡ links_of_number tree.now number }

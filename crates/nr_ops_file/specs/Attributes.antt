@@ -19,7 +19,7 @@ use Rattle.nr_nfs_args.specs.declared.attributes.SetattrArgs.{SetattrArgs}
 use Rattle.nr_nfs_res.specs.declared.attributes.AccessOk.{AccessOk}
 use Rattle.nr_tree.specs.Changes.{tree_with_size, tree_with_metadata}
 use Rattle.nr_tree.specs.Replies.{attributes_at, wcc_data}
-use Rattle.nr_tree.specs.Rules.{first, ◌⇒◌, on, after, answer, handle_rule, node_of_handle, number_of_handle, may, space_rule, time_rule, size_rule, time_after}
+use Rattle.nr_tree.specs.Rules.{first, ◌⇒◌, on, after, answer, handle_rule, node_of_handle, number_of_handle, may, space_rule, time_rule, size_rule, is_other, modes, time_after}
 use Rattle.nr_tree.specs.Tree.{Tree, is_dir, is_regular}
 use Rattle.nr_tree.specs.declared.node.Node.{Node}
 use Rattle.nr_tree.specs.declared.node.Metadata.{Metadata}
@@ -48,10 +48,6 @@ same_time a b = (a.seconds == b.seconds) && (a.nanoseconds == b.nanoseconds)
 
 abbrev pub guard_differs : Option Time → Node → Bool
 guard_differs guard node = option_map_or (λ time. not (same_time time node.metadata.ctime)) guard false
-
--- another number than the present one is to be set
-abbrev pub is_other : Option ℕ → ℕ → Bool
-is_other asked present = option_map_or (λ x. not (x == present)) asked false
 
 abbrev pub changes_owner : SetAttributes → Node → Bool
 changes_owner a node = is_other a.uid node.metadata.uid || is_other a.gid node.metadata.gid
@@ -104,10 +100,6 @@ setattr_rules t c space a =
     handle_rule t a.object ∷
     first (on (node_of_handle t a.object) (setattr_of c a)) ∷
     space_rule space ∷ []
-
--- a mode has twelve bits: set-uid, set-gid, sticky, and three rights of each class; others are dropped
-abbrev pub modes : ℕ
-modes = 4096
 
 abbrev pub mode_after : Option ℕ → ℕ → ℕ
 mode_after asked present = option_map_or (λ mode. mode % modes) asked present

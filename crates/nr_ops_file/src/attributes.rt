@@ -2,7 +2,7 @@
 
 ghost use Rattle.std.specs.Prelude.{◌≡◌, ◌≤◌, true, None, Some, IsSome, IfSome, IfOk, OnOk, OnErr, MatchResult};
 ghost use Rattle.std.specs.Option.{option_map};
-ghost use Rattle.nr_ops_file.specs.Attributes.{getattr_rules, getattr_reply, same_time as same_times, guard_differs, is_other as is_other_number, changes_owner as changes_owner_of, needs_owner as needs_owner_for, sets_server_time as sets_the_server_time, is_owner as is_owner_of, permission_rules, value_rules, setattr_of, setattr_rules, mode_after as mode_set, mtime_of_size as mtime_of, metadata_after as metadata_set, tree_with_size_given, tree_with_attributes, setattr_tree, setattr_reply, bit_if as bit_where, access_granted, access_reply};
+ghost use Rattle.nr_ops_file.specs.Attributes.{getattr_rules, getattr_reply, same_time as same_times, guard_differs, changes_owner as changes_owner_of, needs_owner as needs_owner_for, sets_server_time as sets_the_server_time, is_owner as is_owner_of, permission_rules, value_rules, setattr_of, setattr_rules, mode_after as mode_set, mtime_of_size as mtime_of, metadata_after as metadata_set, tree_with_size_given, tree_with_attributes, setattr_tree, setattr_reply, bit_if as bit_where, access_granted, access_reply};
 ghost use Rattle.nr_tree.specs.Replies.{attributes_at as attributes_of_handle};
 ghost use Rattle.nr_tree.specs.Rules.{first, node_of_handle, number_of_handle, IsWithinCapacity};
 ghost use Rattle.nr_tree.specs.Sane.{IsSane, largest_file};
@@ -14,8 +14,8 @@ use nr_nfs_args::{AccessArgs, GetattrArgs, SetattrArgs};
 use nr_nfs_base::{Caller, SetAttributes, SetTime, Status, StatusUnion, Time};
 use nr_nfs_res::{AccessOk, AccessRes, GetattrRes, SetattrRes};
 use nr_tree::{
-    Metadata, Node, Right, Space, Tree, attributes_at, check_size, check_space, check_times,
-    live_node, may, time_after, wcc_attributes_at, wcc_data,
+    MODES, Metadata, Node, Right, Space, Tree, attributes_at, check_size, check_space, check_times,
+    is_other, live_node, may, time_after, wcc_attributes_at, wcc_data,
 };
 use nr_xdr::Memory;
 
@@ -178,16 +178,6 @@ fn differs(guard: Option<Time>, node: &Node) -> bool
     }
 }
 
-/// Whether another number than the present one is to be set.
-fn is_other(asked: Option<u32>, present: u32) -> bool
-    ensures { result ≡ is_other_number asked present }
-{
-    match asked {
-        Some(number) => number != present,
-        None => false,
-    }
-}
-
 fn changes_owner(attributes: SetAttributes, node: &Node) -> bool
     ensures { result ≡ changes_owner_of attributes node.now }
 {
@@ -286,9 +276,6 @@ fn set_size(tree: &mut Tree, now: Time, number: u64, size: Option<u64>) -> Resul
         None => Ok(()),
     }
 }
-
-/// Modes are taken modulo this, since they have twelve bits.
-const MODES: u32 = 0o10000;
 
 fn mode_after(asked: Option<u32>, present: u32) -> u32
     ensures { result ≡ mode_set asked present }

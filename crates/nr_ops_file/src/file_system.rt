@@ -7,7 +7,9 @@ use crate::bytes::MOST_BYTES_MOVED;
 use nr_nfs_args::{FsinfoArgs, FsstatArgs, PathconfArgs};
 use nr_nfs_base::{Attributes, StatusUnion, Time};
 use nr_nfs_res::{FsinfoOk, FsinfoRes, FsstatOk, FsstatRes, PathconfOk, PathconfRes};
-use nr_tree::{ENTRY_COST, LARGEST_FILE, Space, Tree, attributes_at, live_node};
+use nr_tree::{
+    ENTRY_COST, LARGEST_FILE, LONGEST_NAME, MOST_LINKS, Space, Tree, attributes_at, live_node,
+};
 
 /// What the bytes of a READ and of a WRITE should be a multiple of.
 const MULTIPLE_OF_BYTES: u32 = 4096;
@@ -23,12 +25,6 @@ const TIME_STEP: Time = Time {
 
 /// Hard links, symbolic links, PATHCONF the same everywhere, times that can be set (RFC 1813 section 3.3.19).
 const PROPERTIES: u32 = 0x01 + 0x02 + 0x08 + 0x10;
-
-/// The most hard links of a file.
-const MOST_LINKS: u32 = 65_535;
-
-/// The most bytes of a name.
-const LONGEST_NAME: u32 = 255;
 
 /// How much of the journal's capacity there is and is left, in bytes and in files (RFC 1813 section 3.3.18). Takes no
 /// memory.

@@ -23,16 +23,16 @@ pub(crate) fn read_arguments<A: Xdr>(alloc: Global, arguments: &[u8]) -> Result<
 }
 
 /// The message type of a reply (RFC 5531 section 9).
-const REPLY: u32 = 1;
+pub(crate) const REPLY: u32 = 1;
 
 /// The reply status of a call that was accepted (RFC 5531 section 9).
-const MSG_ACCEPTED: u32 = 0;
+pub(crate) const MSG_ACCEPTED: u32 = 0;
 
-/// The flavor of the verifier, which has no body (RFC 5531 section 8.2).
-const AUTH_NONE: u32 = 0;
+/// The flavor without a credential, and that of a reply's verifier, which has no body (RFC 5531 section 8.2).
+pub(crate) const AUTH_NONE: u32 = 0;
 
 /// The accept status of a call whose procedure was executed (RFC 5531 section 9).
-const SUCCESS: u32 = 0;
+pub(crate) const SUCCESS: u32 = 0;
 
 /// The accept status of a call whose arguments can't be read.
 const GARBAGE_ARGS: u32 = 4;

@@ -6,16 +6,13 @@ ghost use Rattle.nr_nfs_base.specs.declared.procedure.MountProcedure.TheVariants
 ghost use Rattle.nr_plain.specs.Code.{mount_reply};
 ghost use Rattle.nr_plain.specs.Programs.{mounted as root_mounted, mount_results};
 
-use crate::encoding::{accepted, garbage, read_arguments};
+use crate::encoding::{AUTH_NONE, accepted, garbage, read_arguments};
 use nr_nfs_args::{MntArgs, NullArgs, UmntArgs, UmntallArgs};
 use nr_nfs_base::{Array, Handle, MountProcedure, MountStatus, StatusUnion};
 use nr_nfs_res::{MntRes, MountOk, NullRes, UmntRes, UmntallRes};
 use nr_rpc::AUTH_SYS;
 use nr_xdr::{Memory, Octets};
 use std::alloc::Global;
-
-/// The flavor without a credential (RFC 5531 section 8.2).
-const AUTH_NONE: u32 = 0;
 
 /// The number of the root.
 const ROOT: u64 = 1;

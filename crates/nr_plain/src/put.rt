@@ -7,6 +7,7 @@ ghost use Rattle.nr_rpc.specs.Reply.{reply_head, reply_encoding};
 ghost use Rattle.nr_rpc.specs.declared.head.ReplyHead.TheVariants.{Accepted};
 ghost use Rattle.nr_plain.specs.ReplyRoom.{HasRoom, room_with};
 
+use crate::encoding::{AUTH_NONE, MSG_ACCEPTED, REPLY, SUCCESS};
 use crate::reply_room::ReplyRoom;
 use nr_nfs_base::{
     Attributes, Failure, FileType, Numbered, Opaque, SpecialData, StableHow, StatusUnion, Time,
@@ -227,18 +228,6 @@ impl Put for LinkWcc {
 }
 
 // ---- Replies
-
-/// The message type of a reply (RFC 5531 section 9).
-const REPLY: u32 = 1;
-
-/// The reply status of a call that was accepted (RFC 5531 section 9).
-const MSG_ACCEPTED: u32 = 0;
-
-/// The flavor of a verifier without a body (RFC 5531 section 8.2).
-const AUTH_NONE: u32 = 0;
-
-/// The accept status of a call that was carried out (RFC 5531 section 9).
-const SUCCESS: u32 = 0;
 
 /// Puts the head of a reply to a call that was accepted, with the status 0, last (RFC 5531 section 9).
 fn put_accepted(room: &mut ReplyRoom, xid: u32)

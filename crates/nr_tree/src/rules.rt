@@ -1,11 +1,8 @@
 //! The rules by which a call is refused.
 
 ghost use Rattle.std.specs.Prelude.{◌≡◌, ◌==◌, ◌<◌, ◌≤◌, ◌^◌, None, Some, SomeIff, length, MatchResult};
-ghost use Rattle.std.specs.Option.{option_map};
 ghost use Rattle.std.specs.List.{list_any};
-ghost use Rattle.nr_tree.specs.Rules.{first, name_rules, bit_of, may as has_right, has_byte, is_in_group, class_of, change_rules, handle_rule, node_of_handle, number_of_handle, is_dot_name as is_dot_or_dot_dot, same_name, space_rule, IsWithinCapacity, is_invalid_time, time_rule, is_too_large, size_rule, time_after as time_set};
-ghost use Rattle.nr_tree.specs.Changes.{entry_at};
-ghost use Rattle.std.specs.FinMap as map;
+ghost use Rattle.nr_tree.specs.Rules.{first, name_rules, bit_of, may as has_right, has_byte, is_in_group, class_of, change_rules, handle_rule, node_of_handle, number_of_handle, is_dot_name as is_dot_or_dot_dot, is_other as is_another, same_name, space_rule, IsWithinCapacity, is_invalid_time, time_rule, is_too_large, size_rule, time_after as time_set};
 
 use crate::node::Node;
 use crate::tree::Tree;
@@ -35,7 +32,13 @@ impl Right {
 }
 
 /// The most bytes of a name.
-const LONGEST_NAME: usize = 255;
+pub const LONGEST_NAME: u32 = 255;
+
+/// The most links of a node.
+pub const MOST_LINKS: u32 = 65_535;
+
+/// How many modes there are: a mode has twelve bits (RFC 1813 section 2.5, `mode3`).
+pub const MODES: u32 = 0o10000;
 
 /// The most bytes of a regular file.
 pub const LARGEST_FILE: u64 = 16_777_216;
@@ -93,7 +96,7 @@ pub fn check_name(name: &[u8]) -> Result<(), Status>
     if contains_byte(name, 0) || contains_byte(name, b'/') {
         return Err(Status::Acces);
     }
-    if name.len() > LONGEST_NAME {
+    if name.len() > LONGEST_NAME as usize {
         return Err(Status::Nametoolong);
     }
     Ok(())
@@ -220,6 +223,16 @@ pub fn check_size(size: Option<u64>) -> Result<(), Status>
         return Err(Status::Fbig);
     }
     Ok(())
+}
+
+/// Whether a number is given, and is another than the present one.
+pub fn is_other(given: Option<u32>, present: u32) -> bool
+    ensures { result ≡ is_another given present }
+{
+    match given {
+        Some(given) => given != present,
+        None => false,
+    }
 }
 
 /// A time after a call that sets it.
