@@ -8,6 +8,9 @@ ghost use Rattle.nr_tree.specs.Sane.{IsSane};
 ghost use Rattle.nr_tree.specs.Steps.{IsBounded};
 ghost use Rattle.nr_nfs_res.specs.Results.{nfs_result};
 ghost use Rattle.nr_plain.specs.ReplyRoom.{HasRoom};
+ghost use Rattle.nr_plain.specs.ReplySizes.{most_reply};
+ghost use Rattle.nr_nfs_base.specs.Codec.{read_all, read_or_none};
+ghost use Rattle.std.specs.Option.{option_map};
 ghost use Rattle.nr_plain.specs.Code.{IsChange, tree_of};
 ghost use Rattle.nr_plain.specs.Replies.{refusal, accepted, results_reply, GARBAGE_ARGS};
 ghost use Rattle.nr_plain.specs.Programs.{is_done as is_status_ok};
@@ -20,10 +23,30 @@ use nr_nfs_args::{
     CreateArgs, LinkArgs, MkdirArgs, MknodArgs, RemoveArgs, RenameArgs, RmdirArgs, SetattrArgs,
     SymlinkArgs, WriteArgs,
 };
-use nr_nfs_base::StatusUnion;
+use nr_nfs_base::{StatusUnion, Xdr};
 use nr_tree::Tree;
 use nr_xdr::Memory;
 use std::alloc::Global;
+
+/// What a change begins with: the arguments of the call, and the room of its reply.
+#[derive(Drop)]
+struct Beginning<A> {
+    arguments: A,
+    room: ReplyRoom,
+}
+
+/// Reads the arguments and takes the room. None where the bytes are no encoding of the type.
+fn begin<A: Xdr>(alloc: Global, arguments: &[u8]) -> Result<Option<Beginning<A>>, Memory>
+    ensures { IfOk result (λ o. o ≡ option_map (λ a. record { arguments = a; room = record { bytes = []; left = most_reply } }) (read_or_none (read_all A.codec arguments.now))) }
+{
+    match read_arguments::<A>(alloc, arguments)? {
+        Some(arguments) => Ok(Some(Beginning {
+            arguments,
+            room: ReplyRoom::for_results(alloc)?,
+        })),
+        None => Ok(None),
+    }
+}
 
 /// Status 0.
 fn is_done<D, F>(results: &StatusUnion<D, F>) -> bool
@@ -64,9 +87,8 @@ pub(crate) fn setattr(alloc: Global, tree: &mut Tree, call: &Call) -> Result<Cha
     ensures err { OnErr result (tree.new ≡ tree.old) }
     ensures sane { IsSane tree.new }
 {
-    match read_arguments::<SetattrArgs>(alloc, call.arguments)? {
-        Some(arguments) => {
-            let room = ReplyRoom::for_results(alloc)?;
+    match begin::<SetattrArgs>(alloc, call.arguments)? {
+        Some(Beginning { arguments, room }) => {
             let results = nr_ops_file::setattr(
                 tree,
                 call.time,
@@ -89,9 +111,8 @@ pub(crate) fn write(alloc: Global, tree: &mut Tree, call: &Call) -> Result<Chang
     ensures err { OnErr result (tree.new ≡ tree.old) }
     ensures sane { IsSane tree.new }
 {
-    match read_arguments::<WriteArgs>(alloc, call.arguments)? {
-        Some(arguments) => {
-            let room = ReplyRoom::for_results(alloc)?;
+    match begin::<WriteArgs>(alloc, call.arguments)? {
+        Some(Beginning { arguments, room }) => {
             let results = nr_ops_file::write(tree, call.time, call.caller, &call.space, arguments)?;
             Ok(change(room, call.xid, results))
         }
@@ -108,9 +129,8 @@ pub(crate) fn create(alloc: Global, tree: &mut Tree, call: &Call) -> Result<Chan
     ensures err { OnErr result (tree.new ≡ tree.old) }
     ensures sane { IsSane tree.new }
 {
-    match read_arguments::<CreateArgs>(alloc, call.arguments)? {
-        Some(arguments) => {
-            let room = ReplyRoom::for_results(alloc)?;
+    match begin::<CreateArgs>(alloc, call.arguments)? {
+        Some(Beginning { arguments, room }) => {
             let results = nr_ops_dir::create(
                 alloc,
                 tree,
@@ -134,9 +154,8 @@ pub(crate) fn mkdir(alloc: Global, tree: &mut Tree, call: &Call) -> Result<Chang
     ensures err { OnErr result (tree.new ≡ tree.old) }
     ensures sane { IsSane tree.new }
 {
-    match read_arguments::<MkdirArgs>(alloc, call.arguments)? {
-        Some(arguments) => {
-            let room = ReplyRoom::for_results(alloc)?;
+    match begin::<MkdirArgs>(alloc, call.arguments)? {
+        Some(Beginning { arguments, room }) => {
             let results = nr_ops_dir::mkdir(
                 alloc,
                 tree,
@@ -160,9 +179,8 @@ pub(crate) fn symlink(alloc: Global, tree: &mut Tree, call: &Call) -> Result<Cha
     ensures err { OnErr result (tree.new ≡ tree.old) }
     ensures sane { IsSane tree.new }
 {
-    match read_arguments::<SymlinkArgs>(alloc, call.arguments)? {
-        Some(arguments) => {
-            let room = ReplyRoom::for_results(alloc)?;
+    match begin::<SymlinkArgs>(alloc, call.arguments)? {
+        Some(Beginning { arguments, room }) => {
             let results = nr_ops_dir::symlink(
                 alloc,
                 tree,
@@ -186,9 +204,8 @@ pub(crate) fn mknod(alloc: Global, tree: &mut Tree, call: &Call) -> Result<Chang
     ensures err { OnErr result (tree.new ≡ tree.old) }
     ensures sane { IsSane tree.new }
 {
-    match read_arguments::<MknodArgs>(alloc, call.arguments)? {
-        Some(arguments) => {
-            let room = ReplyRoom::for_results(alloc)?;
+    match begin::<MknodArgs>(alloc, call.arguments)? {
+        Some(Beginning { arguments, room }) => {
             let results = nr_ops_dir::mknod(
                 alloc,
                 tree,
@@ -212,9 +229,8 @@ pub(crate) fn remove(alloc: Global, tree: &mut Tree, call: &Call) -> Result<Chan
     ensures err { OnErr result (tree.new ≡ tree.old) }
     ensures sane { IsSane tree.new }
 {
-    match read_arguments::<RemoveArgs>(alloc, call.arguments)? {
-        Some(arguments) => {
-            let room = ReplyRoom::for_results(alloc)?;
+    match begin::<RemoveArgs>(alloc, call.arguments)? {
+        Some(Beginning { arguments, room }) => {
             let results = nr_ops_dir::remove(tree, call.time, call.caller, &call.space, arguments);
             Ok(change(room, call.xid, results))
         }
@@ -231,9 +247,8 @@ pub(crate) fn rmdir(alloc: Global, tree: &mut Tree, call: &Call) -> Result<Chang
     ensures err { OnErr result (tree.new ≡ tree.old) }
     ensures sane { IsSane tree.new }
 {
-    match read_arguments::<RmdirArgs>(alloc, call.arguments)? {
-        Some(arguments) => {
-            let room = ReplyRoom::for_results(alloc)?;
+    match begin::<RmdirArgs>(alloc, call.arguments)? {
+        Some(Beginning { arguments, room }) => {
             let results = nr_ops_dir::rmdir(tree, call.time, call.caller, &call.space, arguments);
             Ok(change(room, call.xid, results))
         }
@@ -250,9 +265,8 @@ pub(crate) fn rename(alloc: Global, tree: &mut Tree, call: &Call) -> Result<Chan
     ensures err { OnErr result (tree.new ≡ tree.old) }
     ensures sane { IsSane tree.new }
 {
-    match read_arguments::<RenameArgs>(alloc, call.arguments)? {
-        Some(arguments) => {
-            let room = ReplyRoom::for_results(alloc)?;
+    match begin::<RenameArgs>(alloc, call.arguments)? {
+        Some(Beginning { arguments, room }) => {
             let results = nr_ops_dir::rename(tree, call.time, call.caller, &call.space, arguments)?;
             Ok(change(room, call.xid, results))
         }
@@ -269,9 +283,8 @@ pub(crate) fn link(alloc: Global, tree: &mut Tree, call: &Call) -> Result<Change
     ensures err { OnErr result (tree.new ≡ tree.old) }
     ensures sane { IsSane tree.new }
 {
-    match read_arguments::<LinkArgs>(alloc, call.arguments)? {
-        Some(arguments) => {
-            let room = ReplyRoom::for_results(alloc)?;
+    match begin::<LinkArgs>(alloc, call.arguments)? {
+        Some(Beginning { arguments, room }) => {
             let results = nr_ops_dir::link(tree, call.time, call.caller, &call.space, arguments)?;
             Ok(change(room, call.xid, results))
         }

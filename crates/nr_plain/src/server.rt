@@ -1,15 +1,15 @@
 //! The server.
 
-ghost use Rattle.std.specs.Prelude.{◌≡◌, ◌+◌, ◌<◌, ◌≤◌, ◌^◌, [], List, ℕ, length, None, Some, Ok, Err, IfOk, IfErr, OnOk, OnErr, IsOk};
+ghost use Rattle.std.specs.Prelude.{◌≡◌, ◌+◌, ◌<◌, ◌≤◌, ◌^◌, [], List, ℕ, length, None, Some, Ok, Err, IfOk, IfErr, OnOk, OnErr, IsOk, drop, ◌≢◌};
 ghost use Rattle.nr_nfs_base.specs.Procedures.{nfs_version, mount_version};
 ghost use Rattle.nr_reduce.specs.declared.mark.Entry.{Entry};
 ghost use Rattle.nr_rpc.specs.Reading.{call_of};
 ghost use Rattle.nr_tree.specs.Sane.{IsSane};
 ghost use Rattle.nr_tree.specs.Steps.{IsBelow};
 ghost use Rattle.nr_plain.specs.Setup.{Setup, Parameters, space_of};
-ghost use Rattle.nr_plain.specs.Code.{entry_of, mount_reply};
-ghost use Rattle.nr_plain.specs.Journal.{nfs_procedure_of};
-ghost use Rattle.nr_plain.specs.Replies.{nfs_by_procedure, nfs_call, mount_call, program_call, answer_to};
+ghost use Rattle.nr_plain.specs.Code.{IsWithin, entry_of};
+ghost use Rattle.nr_plain.specs.Journal.{nfs_procedure_of, state_of};
+ghost use Rattle.nr_plain.specs.Replies.{accepted as accepted_head, nfs_by_procedure, nfs_call, mount_call, program_call, call_by_cred, cred_refusal, answer_to};
 ghost use Rattle.nr_plain.specs.Stands.{StandsFor, IsExecuted, IsCause, state_kept, kept_after};
 
 use crate::call::{Call, Request};
@@ -119,9 +119,10 @@ impl Server {
             Err(HeadFault::NotCall { at }) => return Err(Fault::NotCall { at }),
             Err(_) => return Err(Fault::Memory),
         };
-        let reply = self.answer(alloc, now, payload, &head)?;
+        let reply = self.answer(alloc, now, payload, &head);
+        drop(head);
         Ok(Reply {
-            payload: reply,
+            payload: reply?,
             place,
         })
     }
@@ -159,6 +160,7 @@ impl Server {
             arguments: request.arguments,
         };
         let change = run(alloc, &mut self.tree, p, &call)?;
+        drop(caller);
         if change.is_entry {
             self.count += 1;
             self.cost += ENTRY_COST + request.arguments.len() as u64;
@@ -299,12 +301,6 @@ impl Server {
         }
     }
 }
-
-ghost use Rattle.nr_plain.specs.Journal.{state_of};
-ghost use Rattle.nr_plain.specs.Code.{IsWithin};
-ghost use Rattle.nr_plain.specs.Replies.{call_by_cred, cred_refusal, accepted as accepted_head};
-ghost use Rattle.nr_rpc.specs.Constants.{PROG_MISMATCH};
-ghost use Rattle.std.specs.Prelude.{drop, ◌≢◌};
 
 /// The bytes from a place on.
 fn rest(payload: &[u8], at: usize) -> &[u8]
