@@ -22,7 +22,7 @@ const NANOS: u32 = 5;
 pub type Row = (&'static str, &'static str);
 
 /// The numbers of the procedures and of the statuses that rows name (RFC 1813 sections 3 and 2.6).
-static NAMES: [(&str, u32); 40] = [
+static NAMES: [(&str, u32); 41] = [
     ("NULL", 0),
     ("GETATTR", 1),
     ("SETATTR", 2),
@@ -55,6 +55,7 @@ static NAMES: [(&str, u32); 40] = [
     ("NFS3ERR_INVAL", 22),
     ("NFS3ERR_FBIG", 27),
     ("NFS3ERR_NOSPC", 28),
+    ("NFS3ERR_MLINK", 31),
     ("NFS3ERR_NAMETOOLONG", 63),
     ("NFS3ERR_NOTEMPTY", 66),
     ("NFS3ERR_STALE", 70),
@@ -110,7 +111,7 @@ pub fn bytes_of(rt: &impl Abort, alloc: Global, text: &str) -> Vec<u8> {
 }
 
 /// Appends a number.
-fn put_number(rt: &impl Abort, bytes: &mut Vec<u8>, number: u32) {
+pub fn put_number(rt: &impl Abort, bytes: &mut Vec<u8>, number: u32) {
     bytes
         .extend_from_slice(&number.to_be_bytes())
         .expect(rt, "memory");

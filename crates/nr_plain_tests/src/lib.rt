@@ -20,6 +20,8 @@ mod listings;
 #[cfg(test)]
 mod making_calls;
 #[cfg(test)]
+mod most_links;
+#[cfg(test)]
 mod no_space;
 #[cfg(test)]
 mod raw_calls;
