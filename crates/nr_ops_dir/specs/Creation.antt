@@ -24,7 +24,7 @@ use Rattle.nr_tree.specs.Skeleton.{one_if}
 use Rattle.nr_tree.specs.Tree.{Tree, is_directory}
 use Rattle.nr_tree.specs.Sane.{longest_path}
 use Rattle.nr_tree.specs.Changes.{tree_with_node}
-use Rattle.nr_tree.specs.Rules.{first, ◌⇒◌, after, answer, number_of_handle, handle_of, handle_rule, space_rule, time_rule, is_other, modes, time_after}
+use Rattle.nr_tree.specs.Rules.{first, ◌⇒◌, after, answer, number_of_handle, handle_of, handle_rule, space_rule, time_rule, differs_if_given, mode_count, time_after}
 use Rattle.nr_tree.specs.Replies.{wcc_data}
 use Rattle.nr_ops_dir.specs.Nodes.{attributes_of_number}
 use Rattle.nr_ops_dir.specs.Entries.{number_of_entry, is_taken, entry_rules, links_rule}
@@ -33,13 +33,13 @@ use Rattle.nr_ops_dir.specs.Entries.{number_of_entry, is_taken, entry_rules, lin
 
 -- only uid 0 gives a new node to another owner or group
 abbrev pub owner_rule : Caller → SetAttributes → Option Status
-owner_rule c a = (not (c.uid == 0) && (is_other a.uid c.uid || is_other a.gid c.gid)) ⇒ Perm
+owner_rule c a = (not (c.uid == 0) && (differs_if_given a.uid c.uid || differs_if_given a.gid c.gid)) ⇒ Perm
 
 -- what is not given is the caller's, now, and this mode
 abbrev pub new_node : Caller → Time → ℕ → ℕ → SetAttributes → Content → Node
 new_node c now d mode a content = record {
   metadata = record {
-    mode = unwrap_or a.mode mode % modes;
+    mode = unwrap_or a.mode mode % mode_count;
     links = 1 + one_if (is_directory content);
     uid = unwrap_or a.uid c.uid;
     gid = unwrap_or a.gid c.gid;

@@ -18,8 +18,8 @@ use nr_nfs_base::{
 };
 use nr_nfs_res::CreateOk;
 use nr_tree::{
-    Content, MODES, Metadata, Node, Tree, check_times, is_other, time_after, wcc_attributes_at,
-    wcc_data,
+    Content, MODE_COUNT, Metadata, Node, Tree, check_times, differs_if_given, time_after,
+    wcc_attributes_at, wcc_data,
 };
 use nr_xdr::Memory;
 use std::alloc::Global;
@@ -28,8 +28,8 @@ use std::alloc::Global;
 pub(crate) fn check_owner(caller: &Caller, attributes: &SetAttributes) -> Result<(), Status>
     ensures { MatchResult result (λ _. owner_rule caller.now attributes.now ≡ None) (λ s. owner_rule caller.now attributes.now ≡ Some s) }
 {
-    let is_given_away = is_other(attributes.uid, caller.uid)
-        || is_other(attributes.gid, caller.gid);
+    let is_given_away = differs_if_given(attributes.uid, caller.uid)
+        || differs_if_given(attributes.gid, caller.gid);
     if caller.uid != 0 && is_given_away {
         return Err(Status::Perm);
     }
@@ -95,7 +95,7 @@ pub(crate) fn new_node(
         _ => 1,
     };
     let metadata = Metadata {
-        mode: attributes.mode.unwrap_or(mode) % MODES,
+        mode: attributes.mode.unwrap_or(mode) % MODE_COUNT,
         links,
         uid: attributes.uid.unwrap_or(caller.uid),
         gid: attributes.gid.unwrap_or(caller.gid),

@@ -19,7 +19,7 @@ use Rattle.nr_nfs_args.specs.declared.attributes.SetattrArgs.{SetattrArgs}
 use Rattle.nr_nfs_res.specs.declared.attributes.AccessOk.{AccessOk}
 use Rattle.nr_tree.specs.Changes.{tree_with_size, tree_with_metadata}
 use Rattle.nr_tree.specs.Replies.{attributes_at, wcc_data}
-use Rattle.nr_tree.specs.Rules.{first, ◌⇒◌, on, after, answer, handle_rule, node_of_handle, number_of_handle, may, space_rule, time_rule, size_rule, is_other, modes, time_after}
+use Rattle.nr_tree.specs.Rules.{first, ◌⇒◌, on, after, answer, handle_rule, node_of_handle, number_of_handle, may, space_rule, time_rule, size_rule, differs_if_given, mode_count, time_after}
 use Rattle.nr_tree.specs.Tree.{Tree, is_dir, is_regular}
 use Rattle.nr_tree.specs.declared.node.Node.{Node}
 use Rattle.nr_tree.specs.declared.node.Metadata.{Metadata}
@@ -50,7 +50,7 @@ abbrev pub guard_differs : Option Time → Node → Bool
 guard_differs guard node = option_map_or (λ time. not (same_time time node.metadata.ctime)) guard false
 
 abbrev pub changes_owner : SetAttributes → Node → Bool
-changes_owner a node = is_other a.uid node.metadata.uid || is_other a.gid node.metadata.gid
+changes_owner a node = differs_if_given a.uid node.metadata.uid || differs_if_given a.gid node.metadata.gid
 
 abbrev pub is_client_time : SetTime → Bool
 is_client_time Leave = false
@@ -102,7 +102,7 @@ setattr_rules t c space a =
     space_rule space ∷ []
 
 abbrev pub mode_after : Option ℕ → ℕ → ℕ
-mode_after asked present = option_map_or (λ mode. mode % modes) asked present
+mode_after asked present = option_map_or (λ mode. mode % mode_count) asked present
 
 -- the time of the last change of bytes, before it is set: a size that is given, also the present one, changes them now
 abbrev pub mtime_of_size : Time → Option ℕ → Time → Time

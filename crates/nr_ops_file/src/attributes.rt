@@ -14,8 +14,8 @@ use nr_nfs_args::{AccessArgs, GetattrArgs, SetattrArgs};
 use nr_nfs_base::{Caller, SetAttributes, SetTime, Status, StatusUnion, Time};
 use nr_nfs_res::{AccessOk, AccessRes, GetattrRes, SetattrRes};
 use nr_tree::{
-    MODES, Metadata, Node, Right, Space, Tree, attributes_at, check_size, check_space, check_times,
-    is_other, live_node, may, time_after, wcc_attributes_at, wcc_data,
+    MODE_COUNT, Metadata, Node, Right, Space, Tree, attributes_at, check_size, check_space,
+    check_times, differs_if_given, live_node, may, time_after, wcc_attributes_at, wcc_data,
 };
 use nr_xdr::Memory;
 
@@ -181,7 +181,8 @@ fn differs(guard: Option<Time>, node: &Node) -> bool
 fn changes_owner(attributes: SetAttributes, node: &Node) -> bool
     ensures { result ≡ changes_owner_of attributes node.now }
 {
-    is_other(attributes.uid, node.metadata.uid) || is_other(attributes.gid, node.metadata.gid)
+    differs_if_given(attributes.uid, node.metadata.uid)
+        || differs_if_given(attributes.gid, node.metadata.gid)
 }
 
 /// Whether the owner alone may set this: the mode, or a time of the client's.
@@ -281,7 +282,7 @@ fn mode_after(asked: Option<u32>, present: u32) -> u32
     ensures { result ≡ mode_set asked present }
 {
     match asked {
-        Some(mode) => mode % MODES,
+        Some(mode) => mode % MODE_COUNT,
         None => present,
     }
 }

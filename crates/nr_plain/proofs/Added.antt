@@ -1,5 +1,6 @@
 -- What an answer adds to the journal is what its reply says.
-use Rattle.std.proofs.Common.{◌≡◌, ℕ, Bool, true, false, not, cond, eqb, ◌&&◌, List, [], ◌++◌, drop, Option, None, Some, Result, Ok, Err, refl, ap, sym, subst}
+use Rattle.std.proofs.Common.{◌≡◌, ℕ, Bool, true, false, not, cond, eqb, ◌&&◌, List, [], ◌++◌, take, drop, Option, None, Some, Result, Ok, Err, refl, ap, sym, ◌∙◌, subst}
+use Rattle.std.specs.Option.{option_map}
 use Rattle.nr_xdr.specs.Item.{word, pad_len}
 use Rattle.nr_xdr.specs.Items.{encodings}
 use Rattle.nr_rpc.specs.Reading.{call_of}
@@ -19,11 +20,11 @@ use Rattle.nr_nfs_args.specs.Arguments.{NfsArguments, nfs_arguments_codec}
 use Rattle.nr_nfs_res.specs.Results.{NfsResults, nfs_result}
 use Rattle.nr_reduce.specs.declared.mark.Entry.{Entry}
 use Rattle.nr_reduce.specs.declared.mark.Moment.{Moment}
-use Rattle.nr_plain.specs.Setup.{Parameters, State, caller_of, time_of, space_of}
+use Rattle.nr_plain.specs.Setup.{Parameters, Setup, State, caller_of, time_of, space_of}
 use Rattle.nr_plain.specs.Programs.{nfs_results, is_done, only_reads}
-use Rattle.nr_plain.specs.Journal.{nfs_procedure_of}
-use Rattle.nr_plain.specs.Replies.{Answer, refusal, accepted, results_reply, entries_if, nfs_answer, nfs_by_arguments, nfs_by_procedure, nfs_call, mount_call, program_call, cred_refusal, call_by_cred, answer_to, answer_by, plain_answer}
-use Rattle.nr_plain.specs.Added.{has_word, has_succeeded, entries_by_procedure, entries_by_program, entries_by_cred, entries_by_head, entries_by_call, entries_added}
+use Rattle.nr_plain.specs.Journal.{nfs_procedure_of, state_of}
+use Rattle.nr_plain.specs.Replies.{Answer, refusal, accepted, results_reply, entries_if, nfs_answer, nfs_by_arguments, nfs_by_procedure, nfs_call, mount_call, program_call, cred_refusal, call_by_cred, answer_to, answer_by, plain_answer, plain_reply}
+use Rattle.nr_plain.specs.Added.{has_word, has_succeeded, entries_by_procedure, entries_by_program, entries_by_cred, entries_by_head, entries_by_call, entries_of_call}
 use Rattle.nr_plain.proofs.Serving.{mount-none}
 
 -- ===== the status of results
@@ -166,5 +167,21 @@ module _ (prm : Parameters) (st : State) (m : Moment) (payload : List ℕ) where
       subst (λ (x : Answer). x.entries ≡ entries_by_head m payload x.reply head) same (by_head head)
   by_call (Err at) a is = absurd cc
 
-  pub added : (a : Answer) → plain_answer prm st m payload ≡ Some a → a.entries ≡ entries_added m payload a.reply
+  pub added : (a : Answer) → plain_answer prm st m payload ≡ Some a → a.entries ≡ entries_of_call m payload a.reply
   added a is = by_call (call_of payload) a is
+
+-- ===== a reply of a journal
+
+found : (o : Option Answer) (reply : List ℕ) (e : List ℕ → List Entry) → ((a : Answer) → o ≡ Some a → a.entries ≡ e a.reply)
+    → option_map (λ (a : Answer). a.reply) o ≡ Some reply → o ≡ Some (record { reply = reply; entries = e reply })
+found None reply e tells is = absurd cc
+found (Some a) reply e tells is =
+    let same : a.reply ≡ reply = cc in
+    let entries : a.entries ≡ e reply = tells a refl ∙ ap e same in
+    λ i. Some (record { reply = same i; entries = entries i })
+
+pub answer_of_reply : (s : Setup) (J : List Entry) (place : ℕ) (m : Moment) (payload reply : List ℕ) → plain_reply s J place m payload ≡ Some reply
+    → plain_answer s.parameters (state_of s (take place J)) m payload ≡ Some (record { reply = reply; entries = entries_of_call m payload reply })
+answer_of_reply s J place m payload reply is =
+    let st : State = state_of s (take place J) in
+    found (plain_answer s.parameters st m payload) reply (entries_of_call m payload) (added s.parameters st m payload) is

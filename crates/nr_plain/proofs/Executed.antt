@@ -9,8 +9,8 @@ use Rattle.nr_reduce.specs.declared.mark.Moment.{Moment}
 use Rattle.nr_plain.specs.Setup.{Setup}
 use Rattle.nr_plain.specs.Journal.{state_of}
 use Rattle.nr_plain.specs.Replies.{Answer, answer_to, answer_by, plain_answer, plain_reply}
-use Rattle.nr_plain.specs.Added.{entries_added}
-use Rattle.nr_plain.specs.Stands.{Kept, StandsFor, IsExecuted, state_kept, kept_after}
+use Rattle.nr_plain.specs.Added.{entries_of_call}
+use Rattle.nr_plain.specs.Stands.{Kept, StandsForJournal, ExecutesCall, state_kept, kept_after}
 use Rattle.nr_plain.proofs.Added.{added}
 use Rattle.nr_plain.proofs.Serving.{state-is, stands-after}
 
@@ -19,20 +19,18 @@ reply_at s J m payload place a at is =
     let all : take place J ≡ J = ap (λ (n : ℕ). take n J) at ∙ take-length J in
     ap (λ (L : List Entry). option_map (λ (x : Answer). x.reply) (plain_answer s.parameters (state_of s L) m payload)) all ∙ ap (option_map (λ (x : Answer). x.reply)) is
 
-pub executed : (s : Setup) (J : List Entry) (k new : Kept) (m : Moment) (payload reply : List ℕ) (place : ℕ) (head : CallHead) → StandsFor s J k → call_of payload ≡ Ok head → place ≡ k.count
-    → reply ≡ (answer_to k.parameters (state_kept k) m payload head).reply → new ≡ kept_after k (answer_to k.parameters (state_kept k) m payload head).entries → IsExecuted s J m payload reply place new
+pub executed : (s : Setup) (J : List Entry) (k new : Kept) (m : Moment) (payload reply : List ℕ) (place : ℕ) (head : CallHead) → StandsForJournal s J k → call_of payload ≡ Ok head → place ≡ k.count
+    → reply ≡ (answer_to k.parameters (state_kept k) m payload head).reply → new ≡ kept_after k (answer_to k.parameters (state_kept k) m payload head).entries → ExecutesCall s J m payload reply place new
 executed s J k new m payload reply place head is found at replied kept =
     let state : state_kept k ≡ state_of s J = state-is s J k is in
     let answer : Answer = answer_to s.parameters (state_of s J) m payload head in
     let same : answer_to k.parameters (state_kept k) m payload head ≡ answer = λ i. answer_to (is.parameters i) (state i) m payload head in
     let plain : plain_answer s.parameters (state_of s J) m payload ≡ Some answer = ap (answer_by s.parameters (state_of s J) m payload) found in
     let reply_is : reply ≡ answer.reply = replied ∙ ap (λ (a : Answer). a.reply) same in
+    let adds : answer.entries ≡ entries_of_call m payload reply = added s.parameters (state_of s J) m payload answer plain ∙ sym (ap (entries_of_call m payload) reply_is) in
     record {
-      answer = answer;
-      plain = plain;
-      reply_is = reply_is;
       replied = reply_at s J m payload place answer (at ∙ is.count) plain ∙ sym (ap (λ (x : List ℕ). Some x) reply_is);
-      adds = added s.parameters (state_of s J) m payload answer plain ∙ sym (ap (entries_added m payload) reply_is);
       place_is = at ∙ is.count;
-      stands = subst (StandsFor s (J ++ answer.entries)) (sym (kept ∙ ap (λ (a : Answer). kept_after k a.entries) same)) (stands-after s J k answer.entries is);
+      stands = subst (λ (es : List Entry). StandsForJournal s (J ++ es) new) adds
+          (subst (StandsForJournal s (J ++ answer.entries)) (sym (kept ∙ ap (λ (a : Answer). kept_after k a.entries) same)) (stands-after s J k answer.entries is));
     }

@@ -23,7 +23,7 @@ use Rattle.nr_plain.specs.Journal.{nfs_procedure_of, next_state, state_after, st
 use Rattle.nr_nfs_base.specs.declared.procedure.MountProcedure.{MountProcedure}
 use Rattle.nr_rpc.specs.declared.head.ReplyHead.TheVariants.{ProgMismatch}
 use Rattle.nr_plain.specs.Replies.{Answer, nfs_by_arguments, entries_if, refusal, mount_by_arguments, mount_by_procedure, mount_procedure_of, mount_call, program_call}
-use Rattle.nr_plain.specs.Stands.{Kept, StandsFor, IsServing, state_kept, kept_after}
+use Rattle.nr_plain.specs.Stands.{Kept, StandsForJournal, IsServing, state_kept, kept_after}
 use Rattle.nr_plain.proofs.Procedures.{tree-kept, entry-spaced, tree-below}
 
 -- ===== numbers
@@ -121,12 +121,12 @@ pub state-append : (prm : Parameters) (st : State) (J K : List Entry) → state_
 state-append prm st [] K = refl
 state-append prm st (e ∷ J) K = state-append prm (next_state prm st e) J K
 
-pub state-is : (s : Setup) (J : List Entry) (k : Kept) → StandsFor s J k → state_kept k ≡ state_of s J
+pub state-is : (s : Setup) (J : List Entry) (k : Kept) → StandsForJournal s J k → state_kept k ≡ state_of s J
 state-is s J k is =
     let all : state_kept k ≡ state_of s (take (length J) J) = λ i. record { tree = is.tree i; cost = is.cost i } in
     all ∙ ap (state_of s) (take-length J)
 
-pub stands-after : (s : Setup) (J : List Entry) (k : Kept) (es : List Entry) → StandsFor s J k → StandsFor s (J ++ es) (kept_after k es)
+pub stands-after : (s : Setup) (J : List Entry) (k : Kept) (es : List Entry) → StandsForJournal s J k → StandsForJournal s (J ++ es) (kept_after k es)
 stands-after s J k es is =
     let state : state_kept k ≡ state_of s J = state-is s J k is in
     let all : state_after k.parameters (state_kept k) es ≡ state_of s (take (length (J ++ es)) (J ++ es)) =

@@ -66,5 +66,5 @@ entries_by_call m payload reply (Ok head) = entries_by_head m payload reply head
 entries_by_call m payload reply (Err at) = []
 
 -- the entry of a call to which this is the reply: one where it is a change that succeeded, else none
-abbrev pub entries_added : Moment → List ℕ → List ℕ → List Entry
-entries_added m payload reply = entries_by_call m payload reply (call_of payload)
+abbrev pub entries_of_call : Moment → List ℕ → List ℕ → List Entry
+entries_of_call m payload reply = entries_by_call m payload reply (call_of payload)

@@ -104,7 +104,7 @@ only_reads nfs.Fsinfo = true
 only_reads nfs.Pathconf = true
 only_reads nfs.Commit = true
 
--- status 0
+-- whether the results have status 0
 abbrev pub is_done : {D F S : Type 0} → StatusUnion D F S → Bool
 is_done (Done d) = true
 is_done (Failed s f) = false

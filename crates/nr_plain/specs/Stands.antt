@@ -10,9 +10,9 @@ use Rattle.nr_tree.specs.Sane.{IsSane}
 use Rattle.nr_tree.specs.Steps.{IsBelow}
 use Rattle.nr_tree.specs.Tree.{Tree}
 use Rattle.nr_plain.specs.Setup.{Parameters, Setup, State}
-use Rattle.nr_plain.specs.Journal.{state_after, state_of, tree_at, cost_of}
-use Rattle.nr_plain.specs.Replies.{Answer, plain_answer, plain_reply}
-use Rattle.nr_plain.specs.Added.{entries_added}
+use Rattle.nr_plain.specs.Journal.{state_after, tree_at, cost_of}
+use Rattle.nr_plain.specs.Replies.{plain_reply}
+use Rattle.nr_plain.specs.Added.{entries_of_call}
 use Rattle.nr_plain.specs.declared.fault.Fault.{Fault}
 use Rattle.nr_plain.specs.declared.fault.Fault.TheVariants as faults
 
@@ -24,22 +24,18 @@ pub record Kept : Type 0 where
   pub parameters : Parameters
 
 -- opened with this setup, and after these entries
-pub record StandsFor (s : Setup) (J : List Entry) (kept : Kept) : Type 0 where
+pub record StandsForJournal (s : Setup) (J : List Entry) (kept : Kept) : Type 0 where
   pub tree : kept.tree ≡ tree_at s J (length J)
   pub cost : kept.cost ≡ cost_of s J (length J)
   pub count : kept.count ≡ length J
   pub parameters : kept.parameters ≡ s.parameters
 
--- a call was executed: it has the reply of the plain server over the journal, its place is behind all entries, and then the server
--- stands for the journal with what the call added; the call and its reply tell what that is
-pub record IsExecuted (s : Setup) (J : List Entry) (m : Moment) (payload reply : List ℕ) (place : ℕ) (kept : Kept) : Type 0 where
-  pub answer : Answer
-  pub plain : plain_answer s.parameters (state_of s J) m payload ≡ Some answer
-  pub reply_is : reply ≡ answer.reply
+-- A call was executed after the entries J: its reply is that of the plain server at its place in the journal, its place is the number of
+-- entries before it, and then the server stands for the journal with the entry of the call, if it has one.
+pub record ExecutesCall (s : Setup) (J : List Entry) (m : Moment) (payload reply : List ℕ) (place : ℕ) (kept : Kept) : Type 0 where
   pub replied : plain_reply s J place m payload ≡ Some reply
-  pub adds : answer.entries ≡ entries_added m payload reply
   pub place_is : place ≡ length J
-  pub stands : StandsFor s (J ++ answer.entries) kept
+  pub stands : StandsForJournal s (J ++ entries_of_call m payload reply) kept
 
 -- NotCall at the first item that fails of a payload without a call head; want of memory has no cause
 abbrev pub IsCause : Fault → Result CallHead ℕ → Type 0

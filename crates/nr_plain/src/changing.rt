@@ -48,7 +48,7 @@ fn begin<A: Xdr>(alloc: Global, arguments: &[u8]) -> Result<Option<Beginning<A>>
     }
 }
 
-/// Status 0.
+/// Whether the results have status 0.
 fn is_done<D, F>(results: &StatusUnion<D, F>) -> bool
     ensures { result ≡ is_status_ok results.now }
 {

@@ -1,6 +1,6 @@
 //! Laws of the journal: what a reply depends on, and what it tells.
 
-ghost use Rattle.nr_plain.specs.JournalLaws.{RepliesStay, RepliesTellEntries, UnchangingRepliesHaveNoMoment};
+ghost use Rattle.nr_plain.specs.JournalLaws.{RepliesStay, RepliesTellEntries, RepliesAreThoseOfAnswers, UnchangingRepliesDoNotDependOnTheMoment};
 
 /// The reply over the first entries of a journal stays the same when entries follow.
 pub fn replies_stay()
@@ -12,8 +12,14 @@ pub fn replies_tell_entries()
     ensures { RepliesTellEntries }
 {}
 
+/// The reply at a place of a journal is that of an answer over the entries before it, so what the laws say of answers holds of the
+/// replies of a server.
+pub fn replies_are_those_of_answers()
+    ensures { RepliesAreThoseOfAnswers }
+{}
+
 /// An answer that adds no entry to the journal is the same at every moment: no rule, no results of a failure and no procedure that
 /// only reads looks at the time.
-pub fn unchanging_replies_have_no_moment()
-    ensures { UnchangingRepliesHaveNoMoment }
+pub fn unchanging_replies_do_not_depend_on_the_moment()
+    ensures { UnchangingRepliesDoNotDependOnTheMoment }
 {}

@@ -8,9 +8,9 @@ ghost use Rattle.nr_tree.specs.Sane.{IsSane};
 ghost use Rattle.nr_tree.specs.Steps.{IsBelow};
 ghost use Rattle.nr_plain.specs.Setup.{Setup, Parameters, space_of};
 ghost use Rattle.nr_plain.specs.Code.{IsWithin, entry_of};
-ghost use Rattle.nr_plain.specs.Journal.{nfs_procedure_of, state_of};
+ghost use Rattle.nr_plain.specs.Journal.{nfs_procedure_of, cost_of};
 ghost use Rattle.nr_plain.specs.Replies.{accepted as accepted_head, nfs_by_procedure, nfs_call, mount_call, program_call, call_by_cred, cred_refusal, answer_to};
-ghost use Rattle.nr_plain.specs.Stands.{StandsFor, IsExecuted, IsCause, state_kept, kept_after};
+ghost use Rattle.nr_plain.specs.Stands.{StandsForJournal, ExecutesCall, IsCause, state_kept, kept_after};
 
 use crate::call::{Call, Request};
 use crate::caller::{caller, time};
@@ -75,11 +75,13 @@ const AUTH_TOOWEAK: u32 = 5;
 
 impl Server {
     /// A server of a tree, with an empty journal. `capacity` is what the journal may cost, `export` the path that may be mounted.
+    /// `Tree::root_only` and `Tree::drill` give trees as it asks for.
     pub fn open(tree: Tree, capacity: u64, verifier: Verifier, export: Octets) -> Server
         requires sane { IsSane tree }
+        // The next number and each next cookie: each entry of the journal raises them by one at most, so they stay below 2^63.
         requires below { IsBelow (2 ^ 62) tree }
         requires capacity { capacity < 2 ^ 63 }
-        ensures { StandsFor (record { tree = tree; parameters = record { capacity = capacity; verifier = verifier; export = export } }) [] result }
+        ensures { StandsForJournal (record { tree = tree; parameters = record { capacity = capacity; verifier = verifier; export = export } }) [] result }
     {
         Server {
             tree,
@@ -93,14 +95,14 @@ impl Server {
 
     /// How many entries the journal has.
     pub fn journal_len(&self) -> u64
-        ensures { (s : Setup) (J : List Entry) → StandsFor s J self.now → result ≡ length J }
+        ensures { (s : Setup) (J : List Entry) → StandsForJournal s J self.now → result ≡ length J }
     {
         self.count
     }
 
     /// What the journal costs: 64 for each entry, and the bytes of its arguments.
     pub fn journal_cost(&self) -> u64
-        ensures { (s : Setup) (J : List Entry) → StandsFor s J self.now → result ≡ (state_of s J).cost }
+        ensures { (s : Setup) (J : List Entry) → StandsForJournal s J self.now → result ≡ cost_of s J (length J) }
     {
         self.cost
     }
@@ -108,7 +110,7 @@ impl Server {
     /// Executes a call. The reply is that of the plain server over the journal; a change that succeeds is then its next entry. After
     /// an `Err` the server is as before.
     pub fn execute(&mut self, alloc: Global, now: Moment, payload: &[u8]) -> Result<Reply, Fault>
-        ensures executed { IfOk result (λ r. (s : Setup) (J : List Entry) → StandsFor s J self.old → IsExecuted s J now payload.now r.payload r.place self.new) }
+        ensures executed { IfOk result (λ r. (s : Setup) (J : List Entry) → StandsForJournal s J self.old → ExecutesCall s J now payload.now r.payload r.place self.new) }
         ensures call { IfOk result (λ _. IsOk (call_of payload.now)) }
         ensures cause { IfErr result (λ e. IsCause e (call_of payload.now)) }
         ensures err { OnErr result (self.new ≡ self.old) }

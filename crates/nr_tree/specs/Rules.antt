@@ -131,13 +131,14 @@ IsWithinCapacity space = (space.used ≤ space.capacity) × (space.capacity < 2 
 -- ===== attributes that a call sets (RFC 1813 section 2.5, sattr3)
 
 -- a number that is given, and is another than the present one
-abbrev pub is_other : Option ℕ → ℕ → Bool
-is_other None present = false
-is_other (Some given) present = not (given == present)
+abbrev pub differs_if_given : Option ℕ → ℕ → Bool
+differs_if_given None present = false
+differs_if_given (Some given) present = not (given == present)
 
--- a mode has twelve bits: set-uid, set-gid, sticky, and three rights of each class (RFC 1813 section 2.5, mode3); others are dropped
-abbrev pub modes : ℕ
-modes = 4096
+-- How many modes there are. A mode has twelve bits: to set the user id and the group id on execution, to save swapped text, and three rights of
+-- each class (RFC 1813 section 2.5, the mode of fattr3). Other bits are dropped.
+abbrev pub mode_count : ℕ
+mode_count = 4096
 
 -- a client's time has fewer than 10^9 nanoseconds
 abbrev pub nanoseconds_of_a_second : ℕ

@@ -26,6 +26,7 @@ impl Tree {
     pub fn drill(alloc: Global) -> Result<Tree, Memory>
         ensures ok { IfOk result IsDrill }
         ensures sane { IfOk result IsSane }
+        // The next number and each next cookie, as a server needs it that opens with the tree.
         ensures below { IfOk result (IsBelow 106) }
     {
         let mut tree = Tree::root_only(alloc, START)?;

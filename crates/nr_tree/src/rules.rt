@@ -2,7 +2,7 @@
 
 ghost use Rattle.std.specs.Prelude.{◌≡◌, ◌==◌, ◌<◌, ◌≤◌, ◌^◌, None, Some, SomeIff, length, MatchResult};
 ghost use Rattle.std.specs.List.{list_any};
-ghost use Rattle.nr_tree.specs.Rules.{first, name_rules, bit_of, may as has_right, has_byte, is_in_group, class_of, change_rules, handle_rule, node_of_handle, number_of_handle, is_dot_name as is_dot_or_dot_dot, is_other as is_another, same_name, space_rule, IsWithinCapacity, is_invalid_time, time_rule, is_too_large, size_rule, time_after as time_set};
+ghost use Rattle.nr_tree.specs.Rules.{first, name_rules, bit_of, may as has_right, has_byte, is_in_group, class_of, change_rules, handle_rule, node_of_handle, number_of_handle, is_dot_name as is_dot_or_dot_dot, differs_if_given as is_another, same_name, space_rule, IsWithinCapacity, is_invalid_time, time_rule, is_too_large, size_rule, time_after as time_set};
 
 use crate::node::Node;
 use crate::tree::Tree;
@@ -37,8 +37,8 @@ pub const LONGEST_NAME: u32 = 255;
 /// The most links of a node.
 pub const MOST_LINKS: u32 = 65_535;
 
-/// How many modes there are: a mode has twelve bits (RFC 1813 section 2.5, `mode3`).
-pub const MODES: u32 = 0o10000;
+/// How many modes there are: a mode has twelve bits (RFC 1813 section 2.5, the mode of `fattr3`).
+pub const MODE_COUNT: u32 = 0o10000;
 
 /// The most bytes of a regular file.
 pub const LARGEST_FILE: u64 = 16_777_216;
@@ -226,7 +226,7 @@ pub fn check_size(size: Option<u64>) -> Result<(), Status>
 }
 
 /// Whether a number is given, and is another than the present one.
-pub fn is_other(given: Option<u32>, present: u32) -> bool
+pub fn differs_if_given(given: Option<u32>, present: u32) -> bool
     ensures { result ≡ is_another given present }
 {
     match given {

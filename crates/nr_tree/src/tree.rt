@@ -49,6 +49,7 @@ impl Tree {
     pub fn root_only(alloc: Global, now: Time) -> Result<Tree, Memory>
         ensures ok { IfOk result (λ t. t ≡ root_alone now) }
         ensures sane { IfOk result IsSane }
+        // The next number and each next cookie, as a server needs it that opens with the tree.
         ensures below { IfOk result (IsBelow 3) }
     {
         let mut nodes = BTreeMap::new(alloc);

@@ -1,5 +1,5 @@
 use Rattle.nr_plain.proofs.Moments.{at_every_moment}
-use Rattle.nr_plain.proofs.journal_laws.unchanging_replies_have_no_moment.Goals as goal
+use Rattle.nr_plain.proofs.journal_laws.unchanging_replies_do_not_depend_on_the_moment.Goals as goal
 
 pub returns : goal.returns
 returns c = at_every_moment
