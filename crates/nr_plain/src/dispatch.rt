@@ -8,12 +8,16 @@ ghost use Rattle.nr_plain.specs.Code.{IsChange, reply_of, tree_of};
 ghost use Rattle.nr_plain.specs.Programs.{only_reads as is_read_only};
 
 use crate::call::{Call, Change};
-use crate::changing::{create, link, mkdir, mknod, remove, rename, rmdir, setattr, symlink, write};
-use crate::reading::{
-    access, commit, fsinfo, fsstat, getattr, lookup, null, pathconf, read, readdir, readdirplus,
-    readlink,
+use crate::changing::change;
+use crate::encoding::constant_reply;
+use crate::reading::read;
+use nr_nfs_args::{
+    AccessArgs, CommitArgs, CreateArgs, FsinfoArgs, FsstatArgs, GetattrArgs, LinkArgs, LookupArgs,
+    MkdirArgs, MknodArgs, NullArgs, PathconfArgs, ReadArgs, ReaddirArgs, ReaddirplusArgs,
+    ReadlinkArgs, RemoveArgs, RenameArgs, RmdirArgs, SetattrArgs, SymlinkArgs, WriteArgs,
 };
 use nr_nfs_base::NfsProcedure;
+use nr_nfs_res::NullRes;
 use nr_tree::Tree;
 use nr_xdr::{Memory, Octets};
 use std::alloc::Global;
@@ -43,18 +47,23 @@ fn reading(alloc: Global, tree: &Tree, p: NfsProcedure, call: &Call) -> Result<O
     ensures { IfOk result (λ o. o ≡ reply_of tree.now call.now p) }
 {
     match p {
-        NfsProcedure::Null => null(alloc, tree, call),
-        NfsProcedure::Getattr => getattr(alloc, tree, call),
-        NfsProcedure::Lookup => lookup(alloc, tree, call),
-        NfsProcedure::Access => access(alloc, tree, call),
-        NfsProcedure::Readlink => readlink(alloc, tree, call),
-        NfsProcedure::Read => read(alloc, tree, call),
-        NfsProcedure::Readdir => readdir(alloc, tree, call),
-        NfsProcedure::Readdirplus => readdirplus(alloc, tree, call),
-        NfsProcedure::Fsstat => fsstat(alloc, tree, call),
-        NfsProcedure::Fsinfo => fsinfo(alloc, tree, call),
-        NfsProcedure::Pathconf => pathconf(alloc, tree, call),
-        NfsProcedure::Commit => commit(alloc, tree, call),
+        NfsProcedure::Null => constant_reply::<NullArgs, NullRes>(
+            alloc,
+            call.xid,
+            call.arguments,
+            &NullRes,
+        ),
+        NfsProcedure::Getattr => read::<GetattrArgs>(alloc, tree, call),
+        NfsProcedure::Lookup => read::<LookupArgs>(alloc, tree, call),
+        NfsProcedure::Access => read::<AccessArgs>(alloc, tree, call),
+        NfsProcedure::Readlink => read::<ReadlinkArgs>(alloc, tree, call),
+        NfsProcedure::Read => read::<ReadArgs>(alloc, tree, call),
+        NfsProcedure::Readdir => read::<ReaddirArgs>(alloc, tree, call),
+        NfsProcedure::Readdirplus => read::<ReaddirplusArgs>(alloc, tree, call),
+        NfsProcedure::Fsstat => read::<FsstatArgs>(alloc, tree, call),
+        NfsProcedure::Fsinfo => read::<FsinfoArgs>(alloc, tree, call),
+        NfsProcedure::Pathconf => read::<PathconfArgs>(alloc, tree, call),
+        NfsProcedure::Commit => read::<CommitArgs>(alloc, tree, call),
         _ => unreachable!(),
     }
 }
@@ -70,16 +79,16 @@ fn changing(alloc: Global, tree: &mut Tree, p: NfsProcedure, call: &Call) -> Res
     ensures sane { IsSane tree.new }
 {
     match p {
-        NfsProcedure::Setattr => setattr(alloc, tree, call),
-        NfsProcedure::Write => write(alloc, tree, call),
-        NfsProcedure::Create => create(alloc, tree, call),
-        NfsProcedure::Mkdir => mkdir(alloc, tree, call),
-        NfsProcedure::Symlink => symlink(alloc, tree, call),
-        NfsProcedure::Mknod => mknod(alloc, tree, call),
-        NfsProcedure::Remove => remove(alloc, tree, call),
-        NfsProcedure::Rmdir => rmdir(alloc, tree, call),
-        NfsProcedure::Rename => rename(alloc, tree, call),
-        NfsProcedure::Link => link(alloc, tree, call),
+        NfsProcedure::Setattr => change::<SetattrArgs>(alloc, tree, call),
+        NfsProcedure::Write => change::<WriteArgs>(alloc, tree, call),
+        NfsProcedure::Create => change::<CreateArgs>(alloc, tree, call),
+        NfsProcedure::Mkdir => change::<MkdirArgs>(alloc, tree, call),
+        NfsProcedure::Symlink => change::<SymlinkArgs>(alloc, tree, call),
+        NfsProcedure::Mknod => change::<MknodArgs>(alloc, tree, call),
+        NfsProcedure::Remove => change::<RemoveArgs>(alloc, tree, call),
+        NfsProcedure::Rmdir => change::<RmdirArgs>(alloc, tree, call),
+        NfsProcedure::Rename => change::<RenameArgs>(alloc, tree, call),
+        NfsProcedure::Link => change::<LinkArgs>(alloc, tree, call),
         _ => unreachable!(),
     }
 }

@@ -4,6 +4,7 @@ ghost use Rattle.std.specs.Prelude.{◌≡◌, [], ◌++◌, IfOk, OnOk};
 ghost use Rattle.nr_nfs_base.specs.Codec.{read_all, read_or_none};
 ghost use Rattle.nr_rpc.specs.Constants.{PROG_MISMATCH};
 ghost use Rattle.nr_rpc.specs.Reply.{reply_head, reply_encoding, CanWriteReply};
+ghost use Rattle.nr_plain.specs.Code.{reply_with};
 ghost use Rattle.nr_plain.specs.Replies.{accepted as accepted_head, SUCCESS as success, GARBAGE_ARGS as garbage_args, refusal, results_reply};
 
 use nr_nfs_base::{ValueFault, Xdr};
@@ -82,4 +83,19 @@ pub(crate) fn garbage(alloc: Global, xid: u32) -> Result<Octets, Memory>
             results_at: 0,
         },
     )
+}
+
+/// The reply of a procedure whose results are the same for all arguments.
+pub(crate) fn constant_reply<A: Xdr, R: Xdr>(
+    alloc: Global,
+    xid: u32,
+    arguments: &[u8],
+    results: &R,
+) -> Result<Octets, Memory>
+    ensures { IfOk result (λ o. o ≡ reply_with xid R.codec (λ (_ : A). results.now) (read_all A.codec arguments.now)) }
+{
+    match read_arguments::<A>(alloc, arguments)? {
+        Some(_) => accepted(alloc, xid, results),
+        None => garbage(alloc, xid),
+    }
 }

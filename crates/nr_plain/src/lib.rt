@@ -25,6 +25,7 @@ mod fault;
 mod journal_laws;
 mod laws;
 mod mount;
+mod procedure;
 mod put;
 mod reading;
 mod reply_room;

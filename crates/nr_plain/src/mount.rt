@@ -6,7 +6,7 @@ ghost use Rattle.nr_nfs_base.specs.declared.procedure.MountProcedure.TheVariants
 ghost use Rattle.nr_plain.specs.Code.{mount_reply};
 ghost use Rattle.nr_plain.specs.Programs.{mounted as root_mounted, mount_results};
 
-use crate::encoding::{AUTH_NONE, accepted, garbage, read_arguments};
+use crate::encoding::{AUTH_NONE, accepted, constant_reply, garbage, read_arguments};
 use nr_nfs_args::{MntArgs, NullArgs, UmntArgs, UmntallArgs};
 use nr_nfs_base::{Array, Handle, MountProcedure, MountStatus, StatusUnion};
 use nr_nfs_res::{MntRes, MountOk, NullRes, UmntRes, UmntallRes};
@@ -46,16 +46,7 @@ fn mount(alloc: Global, export: &[u8], arguments: &MntArgs) -> Result<MntRes, Me
     }
 }
 
-fn null(alloc: Global, xid: u32, export: &[u8], arguments: &[u8]) -> Result<Octets, Memory>
-    ensures { IfOk result (λ o. o ≡ mount_reply xid export.now procedures.Null arguments.now) }
-{
-    let _export = export;
-    match read_arguments::<NullArgs>(alloc, arguments)? {
-        Some(_) => accepted(alloc, xid, &NullRes),
-        None => garbage(alloc, xid),
-    }
-}
-
+/// MNT.
 fn mnt(alloc: Global, xid: u32, export: &[u8], arguments: &[u8]) -> Result<Octets, Memory>
     ensures { IfOk result (λ o. o ≡ mount_reply xid export.now procedures.Mnt arguments.now) }
 {
@@ -64,26 +55,6 @@ fn mnt(alloc: Global, xid: u32, export: &[u8], arguments: &[u8]) -> Result<Octet
             let results = mount(alloc, export, &arguments)?;
             accepted(alloc, xid, &results)
         }
-        None => garbage(alloc, xid),
-    }
-}
-
-fn umnt(alloc: Global, xid: u32, export: &[u8], arguments: &[u8]) -> Result<Octets, Memory>
-    ensures { IfOk result (λ o. o ≡ mount_reply xid export.now procedures.Umnt arguments.now) }
-{
-    let _export = export;
-    match read_arguments::<UmntArgs>(alloc, arguments)? {
-        Some(_) => accepted(alloc, xid, &UmntRes),
-        None => garbage(alloc, xid),
-    }
-}
-
-fn umntall(alloc: Global, xid: u32, export: &[u8], arguments: &[u8]) -> Result<Octets, Memory>
-    ensures { IfOk result (λ o. o ≡ mount_reply xid export.now procedures.Umntall arguments.now) }
-{
-    let _export = export;
-    match read_arguments::<UmntallArgs>(alloc, arguments)? {
-        Some(_) => accepted(alloc, xid, &UmntallRes),
         None => garbage(alloc, xid),
     }
 }
@@ -99,9 +70,15 @@ pub(crate) fn reply(
     ensures { IfOk result (λ o. o ≡ mount_reply xid export.now p arguments.now) }
 {
     match p {
-        MountProcedure::Null => null(alloc, xid, export, arguments),
+        MountProcedure::Null => constant_reply::<NullArgs, NullRes>(
+            alloc, xid, arguments, &NullRes,
+        ),
         MountProcedure::Mnt => mnt(alloc, xid, export, arguments),
-        MountProcedure::Umnt => umnt(alloc, xid, export, arguments),
-        MountProcedure::Umntall => umntall(alloc, xid, export, arguments),
+        MountProcedure::Umnt => constant_reply::<UmntArgs, UmntRes>(
+            alloc, xid, arguments, &UmntRes,
+        ),
+        MountProcedure::Umntall => {
+            constant_reply::<UmntallArgs, UmntallRes>(alloc, xid, arguments, &UmntallRes)
+        }
     }
 }

@@ -1,161 +1,151 @@
 //! The procedures of NFS that only read the tree.
 
 ghost use Rattle.std.specs.Prelude.{◌≡◌, IfOk};
-ghost use Rattle.nr_nfs_base.specs.declared.procedure.NfsProcedure.TheVariants as nfs;
+ghost use Rattle.nr_nfs_base.specs.Codec.{read_all};
 ghost use Rattle.nr_tree.specs.Sane.{IsSane};
-ghost use Rattle.nr_plain.specs.Code.{reply_of};
+ghost use Rattle.nr_ops_file.specs.Attributes.{getattr_reply, access_reply};
+ghost use Rattle.nr_ops_file.specs.Links.{readlink_reply};
+ghost use Rattle.nr_ops_file.specs.Bytes.{read_reply, commit_reply};
+ghost use Rattle.nr_ops_file.specs.FileSystem.{fsstat_reply, fsinfo_reply, pathconf_reply};
+ghost use Rattle.nr_ops_dir.specs.Lookup.{lookup_reply};
+ghost use Rattle.nr_ops_dir.specs.Readdir.{readdir_reply, readdirplus_reply};
+ghost use Rattle.nr_plain.specs.Code.{reply_with};
 
 use crate::call::Call;
 use crate::encoding::{accepted, garbage, read_arguments};
+use crate::procedure::Reading;
 use nr_nfs_args::{
-    AccessArgs, CommitArgs, FsinfoArgs, FsstatArgs, GetattrArgs, LookupArgs, NullArgs,
-    PathconfArgs, ReadArgs, ReaddirArgs, ReaddirplusArgs, ReadlinkArgs,
+    AccessArgs, CommitArgs, FsinfoArgs, FsstatArgs, GetattrArgs, LookupArgs, PathconfArgs,
+    ReadArgs, ReaddirArgs, ReaddirplusArgs, ReadlinkArgs,
 };
-use nr_nfs_res::NullRes;
+use nr_nfs_res::{
+    AccessRes, CommitRes, FsinfoRes, FsstatRes, GetattrRes, LookupRes, PathconfRes, ReadRes,
+    ReaddirRes, ReaddirplusRes, ReadlinkRes,
+};
 use nr_tree::Tree;
 use nr_xdr::{Memory, Octets};
 use std::alloc::Global;
 
-pub(crate) fn null(alloc: Global, _tree: &Tree, call: &Call) -> Result<Octets, Memory>
-    ensures { IfOk result (λ o. o ≡ reply_of _tree.now call.now nfs.Null) }
-{
-    match read_arguments::<NullArgs>(alloc, call.arguments)? {
-        Some(_) => accepted(alloc, call.xid, &NullRes),
-        None => garbage(alloc, call.xid),
-    }
-}
-
-pub(crate) fn getattr(alloc: Global, tree: &Tree, call: &Call) -> Result<Octets, Memory>
-    ensures { IfOk result (λ o. o ≡ reply_of tree.now call.now nfs.Getattr) }
-{
-    match read_arguments::<GetattrArgs>(alloc, call.arguments)? {
-        Some(arguments) => {
-            let results = nr_ops_file::getattr(tree, arguments);
-            accepted(alloc, call.xid, &results)
-        }
-        None => garbage(alloc, call.xid),
-    }
-}
-
-pub(crate) fn lookup(alloc: Global, tree: &Tree, call: &Call) -> Result<Octets, Memory>
-    ensures { IfOk result (λ o. o ≡ reply_of tree.now call.now nfs.Lookup) }
-{
-    match read_arguments::<LookupArgs>(alloc, call.arguments)? {
-        Some(arguments) => {
-            let results = nr_ops_dir::lookup(alloc, tree, call.caller, arguments)?;
-            accepted(alloc, call.xid, &results)
-        }
-        None => garbage(alloc, call.xid),
-    }
-}
-
-pub(crate) fn access(alloc: Global, tree: &Tree, call: &Call) -> Result<Octets, Memory>
-    ensures { IfOk result (λ o. o ≡ reply_of tree.now call.now nfs.Access) }
-{
-    match read_arguments::<AccessArgs>(alloc, call.arguments)? {
-        Some(arguments) => {
-            let results = nr_ops_file::access(tree, call.caller, arguments);
-            accepted(alloc, call.xid, &results)
-        }
-        None => garbage(alloc, call.xid),
-    }
-}
-
-pub(crate) fn readlink(alloc: Global, tree: &Tree, call: &Call) -> Result<Octets, Memory>
+/// The reply to a call of the procedure with these arguments.
+pub(crate) fn read<A: Reading>(alloc: Global, tree: &Tree, call: &Call) -> Result<Octets, Memory>
     requires { IsSane tree.now }
-    ensures { IfOk result (λ o. o ≡ reply_of tree.now call.now nfs.Readlink) }
+    ensures { IfOk result (λ o. o ≡ reply_with call.now.xid A.Results.codec (A.results tree.now call.now.caller.now call.now.space) (read_all A.codec call.now.arguments.now)) }
 {
-    match read_arguments::<ReadlinkArgs>(alloc, call.arguments)? {
+    match read_arguments::<A>(alloc, call.arguments)? {
         Some(arguments) => {
-            let results = nr_ops_file::readlink(alloc, tree, arguments)?;
+            let results = arguments.execute(alloc, tree, call)?;
             accepted(alloc, call.xid, &results)
         }
         None => garbage(alloc, call.xid),
     }
 }
 
-pub(crate) fn read(alloc: Global, tree: &Tree, call: &Call) -> Result<Octets, Memory>
-    ensures { IfOk result (λ o. o ≡ reply_of tree.now call.now nfs.Read) }
-{
-    match read_arguments::<ReadArgs>(alloc, call.arguments)? {
-        Some(arguments) => {
-            let results = nr_ops_file::read(alloc, tree, call.caller, arguments)?;
-            accepted(alloc, call.xid, &results)
-        }
-        None => garbage(alloc, call.xid),
+impl Reading for GetattrArgs {
+    type Results = GetattrRes;
+
+    ghost results = { λ t c space a. getattr_reply t a };
+
+    fn execute(self, _alloc: Global, tree: &Tree, _call: &Call) -> Result<GetattrRes, Memory> {
+        Ok(nr_ops_file::getattr(tree, self))
     }
 }
 
-pub(crate) fn readdir(alloc: Global, tree: &Tree, call: &Call) -> Result<Octets, Memory>
-    requires { IsSane tree.now }
-    ensures { IfOk result (λ o. o ≡ reply_of tree.now call.now nfs.Readdir) }
-{
-    match read_arguments::<ReaddirArgs>(alloc, call.arguments)? {
-        Some(arguments) => {
-            let results = nr_ops_dir::readdir(alloc, tree, call.caller, arguments)?;
-            accepted(alloc, call.xid, &results)
-        }
-        None => garbage(alloc, call.xid),
+impl Reading for LookupArgs {
+    type Results = LookupRes;
+
+    ghost results = { λ t c space a. lookup_reply t c a };
+
+    fn execute(self, alloc: Global, tree: &Tree, call: &Call) -> Result<LookupRes, Memory> {
+        nr_ops_dir::lookup(alloc, tree, call.caller, self)
     }
 }
 
-pub(crate) fn readdirplus(alloc: Global, tree: &Tree, call: &Call) -> Result<Octets, Memory>
-    requires { IsSane tree.now }
-    ensures { IfOk result (λ o. o ≡ reply_of tree.now call.now nfs.Readdirplus) }
-{
-    match read_arguments::<ReaddirplusArgs>(alloc, call.arguments)? {
-        Some(arguments) => {
-            let results = nr_ops_dir::readdirplus(alloc, tree, call.caller, arguments)?;
-            accepted(alloc, call.xid, &results)
-        }
-        None => garbage(alloc, call.xid),
+impl Reading for AccessArgs {
+    type Results = AccessRes;
+
+    ghost results = { λ t c space a. access_reply t c a };
+
+    fn execute(self, _alloc: Global, tree: &Tree, call: &Call) -> Result<AccessRes, Memory> {
+        Ok(nr_ops_file::access(tree, call.caller, self))
     }
 }
 
-pub(crate) fn fsstat(alloc: Global, tree: &Tree, call: &Call) -> Result<Octets, Memory>
-    ensures { IfOk result (λ o. o ≡ reply_of tree.now call.now nfs.Fsstat) }
-{
-    match read_arguments::<FsstatArgs>(alloc, call.arguments)? {
-        Some(arguments) => {
-            let results = nr_ops_file::fsstat(tree, &call.space, arguments);
-            accepted(alloc, call.xid, &results)
-        }
-        None => garbage(alloc, call.xid),
+impl Reading for ReadlinkArgs {
+    type Results = ReadlinkRes;
+
+    ghost results = { λ t c space a. readlink_reply t a };
+
+    fn execute(self, alloc: Global, tree: &Tree, _call: &Call) -> Result<ReadlinkRes, Memory> {
+        nr_ops_file::readlink(alloc, tree, self)
     }
 }
 
-pub(crate) fn fsinfo(alloc: Global, tree: &Tree, call: &Call) -> Result<Octets, Memory>
-    ensures { IfOk result (λ o. o ≡ reply_of tree.now call.now nfs.Fsinfo) }
-{
-    match read_arguments::<FsinfoArgs>(alloc, call.arguments)? {
-        Some(arguments) => {
-            let results = nr_ops_file::fsinfo(tree, arguments);
-            accepted(alloc, call.xid, &results)
-        }
-        None => garbage(alloc, call.xid),
+impl Reading for ReadArgs {
+    type Results = ReadRes;
+
+    ghost results = { λ t c space a. read_reply t c a };
+
+    fn execute(self, alloc: Global, tree: &Tree, call: &Call) -> Result<ReadRes, Memory> {
+        nr_ops_file::read(alloc, tree, call.caller, self)
     }
 }
 
-pub(crate) fn pathconf(alloc: Global, tree: &Tree, call: &Call) -> Result<Octets, Memory>
-    ensures { IfOk result (λ o. o ≡ reply_of tree.now call.now nfs.Pathconf) }
-{
-    match read_arguments::<PathconfArgs>(alloc, call.arguments)? {
-        Some(arguments) => {
-            let results = nr_ops_file::pathconf(tree, arguments);
-            accepted(alloc, call.xid, &results)
-        }
-        None => garbage(alloc, call.xid),
+impl Reading for ReaddirArgs {
+    type Results = ReaddirRes;
+
+    ghost results = { λ t c space a. readdir_reply t c a };
+
+    fn execute(self, alloc: Global, tree: &Tree, call: &Call) -> Result<ReaddirRes, Memory> {
+        nr_ops_dir::readdir(alloc, tree, call.caller, self)
     }
 }
 
-pub(crate) fn commit(alloc: Global, tree: &Tree, call: &Call) -> Result<Octets, Memory>
-    ensures { IfOk result (λ o. o ≡ reply_of tree.now call.now nfs.Commit) }
-{
-    match read_arguments::<CommitArgs>(alloc, call.arguments)? {
-        Some(arguments) => {
-            let results = nr_ops_file::commit(tree, &call.space, arguments);
-            accepted(alloc, call.xid, &results)
-        }
-        None => garbage(alloc, call.xid),
+impl Reading for ReaddirplusArgs {
+    type Results = ReaddirplusRes;
+
+    ghost results = { λ t c space a. readdirplus_reply t c a };
+
+    fn execute(self, alloc: Global, tree: &Tree, call: &Call) -> Result<ReaddirplusRes, Memory> {
+        nr_ops_dir::readdirplus(alloc, tree, call.caller, self)
+    }
+}
+
+impl Reading for FsstatArgs {
+    type Results = FsstatRes;
+
+    ghost results = { λ t c space a. fsstat_reply t space a };
+
+    fn execute(self, _alloc: Global, tree: &Tree, call: &Call) -> Result<FsstatRes, Memory> {
+        Ok(nr_ops_file::fsstat(tree, &call.space, self))
+    }
+}
+
+impl Reading for FsinfoArgs {
+    type Results = FsinfoRes;
+
+    ghost results = { λ t c space a. fsinfo_reply t a };
+
+    fn execute(self, _alloc: Global, tree: &Tree, _call: &Call) -> Result<FsinfoRes, Memory> {
+        Ok(nr_ops_file::fsinfo(tree, self))
+    }
+}
+
+impl Reading for PathconfArgs {
+    type Results = PathconfRes;
+
+    ghost results = { λ t c space a. pathconf_reply t a };
+
+    fn execute(self, _alloc: Global, tree: &Tree, _call: &Call) -> Result<PathconfRes, Memory> {
+        Ok(nr_ops_file::pathconf(tree, self))
+    }
+}
+
+impl Reading for CommitArgs {
+    type Results = CommitRes;
+
+    ghost results = { λ t c space a. commit_reply t space a };
+
+    fn execute(self, _alloc: Global, tree: &Tree, call: &Call) -> Result<CommitRes, Memory> {
+        Ok(nr_ops_file::commit(tree, &call.space, self))
     }
 }

@@ -1,0 +1,74 @@
+//! Procedures of NFS, by the types of their arguments.
+
+use crate::call::Call;
+use crate::put::Put;
+use nr_nfs_base::{StatusUnion, Xdr};
+use nr_tree::Tree;
+use nr_xdr::Memory;
+use std::alloc::Global;
+
+/// The arguments of a procedure that only reads the tree.
+pub(crate) trait Reading: Xdr {
+    ghost use Rattle.std.specs.Prelude.{◌≡◌, IfOk};
+    ghost use Rattle.nr_nfs_base.specs.declared.caller.Caller.{Caller};
+    ghost use Rattle.nr_tree.specs.Tree.{Tree};
+    ghost use Rattle.nr_tree.specs.Sane.{IsSane};
+    ghost use Rattle.nr_tree.specs.declared.rules.Space.{Space};
+
+    /// What the procedure answers.
+    type Results: Xdr;
+
+    /// The results over a tree.
+    ghost results: { Tree → Caller → Space → Self → Self.Results };
+
+    /// Gives the results.
+    fn execute(self, alloc: Global, tree: &Tree, call: &Call) -> Result<Self::Results, Memory>
+        requires { IsSane tree.now }
+        ensures { IfOk result (λ r. r ≡ results tree.now call.now.caller.now call.now.space self) };
+}
+
+/// The arguments of a procedure that may change the tree.
+pub(crate) trait Changing: Xdr {
+    ghost use Rattle.std.specs.Prelude.{◌≡◌, ◌≤◌, length, IfOk, OnOk, OnErr};
+    ghost use Rattle.nr_xdr.specs.Items.{encodings};
+    ghost use Rattle.nr_nfs_base.specs.declared.caller.Caller.{Caller};
+    ghost use Rattle.nr_nfs_base.specs.declared.status.Status.{Status};
+    ghost use Rattle.nr_nfs_base.specs.declared.status_union.StatusUnion.{StatusUnion};
+    ghost use Rattle.nr_nfs_base.specs.declared.time.Time.{Time};
+    ghost use Rattle.nr_nfs_res.specs.Results.{nfs_result};
+    ghost use Rattle.nr_tree.specs.Rules.{IsWithinCapacity};
+    ghost use Rattle.nr_tree.specs.Sane.{IsSane};
+    ghost use Rattle.nr_tree.specs.Steps.{IsBounded};
+    ghost use Rattle.nr_tree.specs.Tree.{Tree};
+    ghost use Rattle.nr_tree.specs.declared.rules.Space.{Space};
+    ghost use Rattle.nr_plain.specs.ReplySizes.{most_results};
+
+    /// The results on success.
+    type Done: Put;
+
+    /// What stands behind the status of a failure.
+    type Failed: Put;
+
+    /// The results over a tree.
+    ghost results: { Tree → Caller → Space → Time → Self → StatusUnion Self.Done Self.Failed Status };
+
+    /// The tree after the call.
+    ghost changed: { Tree → Caller → Space → Time → Self → Tree };
+
+    /// Changes the tree, and gives the results. After an `Err` the tree is as before.
+    fn execute(
+        self,
+        alloc: Global,
+        tree: &mut Tree,
+        call: &Call,
+    ) -> Result<StatusUnion<Self::Done, Self::Failed>, Memory>
+        requires sane { IsSane tree.old }
+        requires bounded { IsBounded tree.old }
+        requires space { IsWithinCapacity call.now.space }
+        ensures result { IfOk result (λ r. r ≡ results tree.old call.now.caller.now call.now.space call.now.time self) }
+        // They fit into the room of a reply.
+        ensures fits { IfOk result (λ r. length (encodings ((nfs_result Self.Done.codec Self.Failed.codec).items r)) ≤ most_results) }
+        ensures tree { OnOk result (tree.new ≡ changed tree.old call.now.caller.now call.now.space call.now.time self) }
+        ensures err { OnErr result (tree.new ≡ tree.old) }
+        ensures sane { IsSane tree.new };
+}
