@@ -1,12 +1,8 @@
--- A call whose arguments were read comes to its procedure's results and tree.
-use Rattle.std.proofs.Common.{◌≡◌, ℕ, Bool, List, [], Option, Some, Result, Ok, Err, ap, sym, ◌∙◌}
+-- A call whose arguments were read.
+use Rattle.std.proofs.Common.{◌≡◌, ℕ, List, [], Option, Some, Result, Ok, Err, ap, sym, ◌∙◌, subst}
 use Rattle.std.specs.Option.{option_map}
 use Rattle.nr_nfs_base.specs.Codec.{Codec, read_all, read_or_none}
-use Rattle.nr_tree.specs.Tree.{Tree}
-use Rattle.nr_plain.specs.Replies.{results_reply}
-use Rattle.nr_plain.specs.Code.{reply_with, is_entry_with, tree_with, IsChangeWith}
 use Rattle.nr_plain.specs.ReplySizes.{most_reply}
-use Rattle.nr_plain.specs.declared.call.Change.{Change}
 use Rattle.nr_plain.specs.declared.changing.Beginning.{Beginning}
 use Rattle.nr_plain.specs.ReplyRoom.{ReplyRoom}
 
@@ -32,13 +28,6 @@ module _ {A : Type 0} (codec : Codec A) (bytes : List ℕ) (o : Option (Beginnin
   pub room_when : b.room ≡ fresh
   room_when = begun.1
 
-  pub tree_when : (t : Tree) (changed : A → Tree) (new : Tree) → new ≡ changed b.arguments → new ≡ tree_with t changed (read_all codec bytes)
-  tree_when t changed new e = e ∙ sym (ap (tree_with t changed) begun.0)
-
-  -- the code's reply, of results that are the procedure's
-  pub change_when : {R : Type 0} (xid : ℕ) (of_results : Codec R) (changes : R → Bool) (results : A → R) (r : R) (change : Change) → r ≡ results b.arguments
-      → (change.reply ≡ results_reply xid of_results r) × (change.is_entry ≡ changes r) → IsChangeWith xid of_results changes results (read_all codec bytes) change
-  change_when xid of_results changes results r change same made = (
-    made.0 ∙ ap (results_reply xid of_results) same ∙ sym (ap (reply_with xid of_results results) begun.0),
-    made.1 ∙ ap changes same ∙ sym (ap (is_entry_with changes results) begun.0),
-  )
+  -- what holds of the arguments holds of what was read
+  pub read_as : (P : Result A ℕ → Type 0) → P (Ok b.arguments) → P (read_all codec bytes)
+  read_as P holds = subst P (sym begun.0) holds

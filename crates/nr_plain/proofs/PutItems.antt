@@ -1,11 +1,11 @@
 -- Values that are put one after the other.
-use Rattle.std.proofs.Common.{◌≡◌, ℕ, ◌-◌, List, [], ◌∷◌, ◌++◌, length, take, zero, suc, ◌<◌, Option, Some, None, refl, ap, sym, ◌∙◌, subst, arith, append_assoc, length-append}
+use Rattle.std.proofs.Common.{◌≡◌, ℕ, ◌-◌, List, [], ◌∷◌, ◌++◌, length, take, zero, suc, ◌<◌, Option, Some, None, Result, Ok, Err, IfOk, refl, ap, sym, ◌∙◌, subst, arith, append_assoc, length-append}
 use Rattle.std.proofs.lemmas.List.{append-nil}
 use Rattle.std.specs.Prelude.{replicate}
 use Rattle.nr_xdr.specs.Item.{Item, encoding, word, pad_len}
 use Rattle.nr_xdr.specs.Item.Item.{Opaque}
 use Rattle.nr_xdr.specs.Items.{encodings}
-use Rattle.nr_nfs_base.specs.Codec.{Codec, enumeration, word as word_codec}
+use Rattle.nr_nfs_base.specs.Codec.{Codec, ◌⊗◌, AppendsValue, enumeration, word as word_codec}
 use Rattle.nr_nfs_base.specs.StatusUnion.{status_tag_number, status_tags, status_union_codec}
 use Rattle.nr_nfs_base.specs.declared.status_union.StatusUnion.{StatusUnion}
 use Rattle.nr_nfs_base.specs.declared.status_union.StatusUnion.TheVariants.{Done, Failed}
@@ -100,15 +100,28 @@ module _ {D F S : Type 0} (number : S → ℕ) (all : List S) (done : Codec D) (
 
 -- ---- The head of a reply
 
-abbrev head_items : ℕ → List Item
-head_items xid = word_codec.items xid ++ (word_codec.items 1 ++ (word_codec.items 0 ++ ((word_codec.items 0 ++ word_codec.items 0) ++ word_codec.items 0)))
+abbrev Words : Type 0
+Words = (ℕ × (ℕ × ℕ)) × (ℕ × (ℕ × ℕ))
 
-head_is : (xid : ℕ) → encodings (head_items xid) ≡ reply_head (Accepted xid 0 0)
+abbrev words_of : ℕ → Words
+words_of xid = ((xid, (1, 0)), (0, (0, 0)))
+
+abbrev words_codec : Codec Words
+words_codec = (word_codec ⊗ word_codec ⊗ word_codec) ⊗ (word_codec ⊗ word_codec ⊗ word_codec)
+
+head_is : (xid : ℕ) → encodings (words_codec.items (words_of xid)) ≡ reply_head (Accepted xid 0 0)
 unfolding word_codec word pad_len
 head_is xid = refl
 
-pub accepted_room : (xid : ℕ) (room : ReplyRoom) → HasRoom room (reply_head (Accepted xid 0 0)) → HasRoom room (encodings (head_items xid))
-accepted_room xid room h = subst (λ (b : List ℕ). HasRoom room b) (sym (head_is xid)) h
+encoded : (xid : ℕ) (x : Words) → x ≡ words_of xid → encodings (words_codec.items x) ≡ reply_head (Accepted xid 0 0)
+encoded xid x e = ap (λ (y : Words). encodings (words_codec.items y)) e ∙ head_is xid
 
-pub accepted_put : (xid : ℕ) (old new : ReplyRoom) → new ≡ room_with old (encodings (head_items xid)) → new ≡ room_with old (reply_head (Accepted xid 0 0))
-accepted_put xid old new p = p ∙ ap (λ (b : List ℕ). room_with old b) (head_is xid)
+pub accepted_room : (xid : ℕ) (x : Words) (room : ReplyRoom) → x ≡ words_of xid → HasRoom room (reply_head (Accepted xid 0 0)) → HasRoom room (encodings (words_codec.items x))
+accepted_room xid x room e h = subst (λ (b : List ℕ). HasRoom room b) (sym (encoded xid x e)) h
+
+pub accepted_put : (xid : ℕ) (x : Words) (old new : ReplyRoom) → x ≡ words_of xid → new ≡ room_with old (encodings (words_codec.items x)) → new ≡ room_with old (reply_head (Accepted xid 0 0))
+accepted_put xid x old new e p = p ∙ ap (λ (b : List ℕ). room_with old b) (encoded xid x e)
+
+pub accepted_written : {E : Type 0} (xid : ℕ) (x : Words) (old : List ℕ) (r : Result (List ℕ) E) → x ≡ words_of xid → old ≡ [] → IfOk r (AppendsValue words_codec old x) → IfOk r (λ new. new ≡ reply_head (Accepted xid 0 0))
+accepted_written xid x old (Ok new) e none w = w.is ∙ ap (λ (l : List ℕ). l ++ encodings (words_codec.items x)) none ∙ encoded xid x e
+accepted_written xid x old (Err f) e none w = tt

@@ -62,32 +62,32 @@ module _ (k : Kept) (e : Entry) (xid : ℕ) (p : NfsProcedure) where
   tree_by (Err at) = refl
 
   -- by what the code has of the call
-  module _ (t : Tree) (c : Caller) (s : Space) (now : Time) (same_tree : t ≡ k.tree) (caller : c ≡ caller_of e.cred) (room : s ≡ space) (time : now ≡ time_of e.moment) where
-    pub reply_is : (reply : List ℕ) → reply ≡ reply_from xid t c s now p arguments → reply ≡ answer.reply
-    reply_is reply is = is ∙ (λ i. reply_from xid (same_tree i) (caller i) (room i) (time i) p arguments) ∙ sym (reply_by arguments)
+  module _ (t : Tree) (s : Space) (same_tree : t ≡ k.tree) (room : s ≡ space) where
+    pub reply_is : (reply : List ℕ) → reply ≡ reply_from xid t (caller_of e.cred) s (time_of e.moment) p arguments → reply ≡ answer.reply
+    reply_is reply is = is ∙ (λ i. reply_from xid (same_tree i) (caller_of e.cred) (room i) (time_of e.moment) p arguments) ∙ sym (reply_by arguments)
 
-    tree_is : (tree : Tree) → tree ≡ tree_from t c s now p arguments → tree ≡ tree_from k.tree (caller_of e.cred) space (time_of e.moment) p arguments
-    tree_is tree is = is ∙ (λ i. tree_from (same_tree i) (caller i) (room i) (time i) p arguments)
+    tree_is : (tree : Tree) → tree ≡ tree_from t (caller_of e.cred) s (time_of e.moment) p arguments → tree ≡ tree_from k.tree (caller_of e.cred) space (time_of e.moment) p arguments
+    tree_is tree is = is ∙ (λ i. tree_from (same_tree i) (caller_of e.cred) (room i) (time_of e.moment) p arguments)
 
-    changes_is : (b : Bool) → b ≡ changes_from t c s now p arguments → b ≡ changes_from k.tree (caller_of e.cred) space (time_of e.moment) p arguments
-    changes_is b is = is ∙ (λ i. changes_from (same_tree i) (caller i) (room i) (time i) p arguments)
+    changes_is : (b : Bool) → b ≡ changes_from t (caller_of e.cred) s (time_of e.moment) p arguments → b ≡ changes_from k.tree (caller_of e.cred) space (time_of e.moment) p arguments
+    changes_is b is = is ∙ (λ i. changes_from (same_tree i) (caller_of e.cred) (room i) (time_of e.moment) p arguments)
 
-    module _ (tree : Tree) (b : Bool) (after : tree ≡ tree_from t c s now p arguments) (entry : b ≡ changes_from t c s now p arguments) where
+    module _ (tree : Tree) (b : Bool) (after : tree ≡ tree_from t (caller_of e.cred) s (time_of e.moment) p arguments) (entry : b ≡ changes_from t (caller_of e.cred) s (time_of e.moment) p arguments) where
       same : b ≡ false → tree ≡ k.tree
       same no_entry = tree_is tree after ∙ tree-kept k.tree (caller_of e.cred) space (time_of e.moment) p arguments (sym (changes_is b entry) ∙ no_entry)
 
       pub costs : b ≡ true → k.cost + entry_cost + length e.args ≤ k.parameters.capacity
       costs is_entry = spaced space (entry-spaced k.tree (caller_of e.cred) space (time_of e.moment) p arguments (sym (changes_is b entry) ∙ is_entry))
 
-      pub serving_entry : b ≡ true → IsServing k → IsSane tree → IsServing (record { tree = tree; count = k.count + 1; cost = k.cost + (64 + length e.args); parameters = k.parameters })
-      serving_entry is_entry is sane = record {
+      pub serving_entry : (n : ℕ) → n ≡ entry_cost + length e.args → b ≡ true → IsServing k → IsSane tree → IsServing (record { tree = tree; count = k.count + 1; cost = k.cost + n; parameters = k.parameters })
+      serving_entry n costing is_entry is sane = record {
         sane = sane;
         below =
             let one : 2 ^ 62 + k.count + 1 ≡ 2 ^ 62 + (k.count + 1) = omega arith in
             subst (λ (l : ℕ). IsBelow l tree) one
             (subst (IsBelow (2 ^ 62 + k.count + 1)) (sym (tree_is tree after)) (tree-below k.tree (caller_of e.cred) space (time_of e.moment) (2 ^ 62 + k.count) p arguments is.below));
-        counted = omega (arith, is.counted);
-        within = omega (arith, costs is_entry);
+        counted = omega (arith, is.counted, costing);
+        within = omega (arith, costs is_entry, costing);
         capacity = is.capacity;
       }
 
@@ -106,9 +106,9 @@ module _ (k : Kept) (e : Entry) (xid : ℕ) (p : NfsProcedure) where
       unfolding next_state
       next_cost = refl
 
-      pub entry_kept : b ≡ true → nfs_procedure_of e.proc ≡ Some p → record { tree = tree; count = k.count + 1; cost = k.cost + (64 + length e.args); parameters = k.parameters } ≡ kept_after k answer.entries
-      entry_kept is_entry of_number =
-          (λ i. record { tree = sym (next_tree of_number) i; count = k.count + 1; cost = sym next_cost i; parameters = k.parameters }) ∙ ap (kept_after k) (sym (entries_are true is_entry))
+      pub entry_kept : (n : ℕ) → n ≡ entry_cost + length e.args → b ≡ true → nfs_procedure_of e.proc ≡ Some p → record { tree = tree; count = k.count + 1; cost = k.cost + n; parameters = k.parameters } ≡ kept_after k answer.entries
+      entry_kept n costing is_entry of_number =
+          (λ i. record { tree = sym (next_tree of_number) i; count = k.count + 1; cost = (ap (λ (m : ℕ). k.cost + m) costing ∙ sym next_cost) i; parameters = k.parameters }) ∙ ap (kept_after k) (sym (entries_are true is_entry))
 
       pub same_kept : b ≡ false → record { tree = tree; count = k.count; cost = k.cost; parameters = k.parameters } ≡ kept_after k answer.entries
       same_kept no_entry =

@@ -1,7 +1,7 @@
 //! The procedures of NFS that change the tree. The room of the reply is taken before the change, so that want of memory leaves the
 //! tree as before.
 
-ghost use Rattle.std.specs.Prelude.{◌≡◌, [], false, IfOk, OnOk, OnErr};
+ghost use Rattle.std.specs.Prelude.{◌≡◌, [], false, Ok, IfOk, OnOk, OnErr};
 ghost use Rattle.std.specs.Option.{option_map};
 ghost use Rattle.nr_nfs_base.specs.Codec.{read_all, read_or_none};
 ghost use Rattle.nr_nfs_res.specs.Results.{nfs_result};
@@ -104,12 +104,30 @@ pub(crate) fn change<A: Changing>(
     ensures sane { IsSane tree.new }
 {
     match begin::<A>(alloc, call.arguments)? {
-        Some(Beginning { arguments, room }) => {
-            let results = arguments.execute(alloc, tree, call)?;
-            Ok(reply(room, call.xid, results))
-        }
+        Some(Beginning { arguments, room }) => change_in(alloc, tree, call, arguments, room),
         None => no_change(alloc, call.xid),
     }
+}
+
+/// Executes the procedure with these arguments, and puts its results into the room.
+fn change_in<A: Changing>(
+    alloc: Global,
+    tree: &mut Tree,
+    call: &Call,
+    arguments: A,
+    room: ReplyRoom,
+) -> Result<Change, Memory>
+    requires sane { IsSane tree.old }
+    requires bounded { IsBounded tree.old }
+    requires space { IsWithinCapacity call.now.space }
+    requires room { room ≡ record { bytes = []; left = most_reply } }
+    ensures result { IfOk result (IsChangeWith call.now.xid (nfs_result A.Done.codec A.Failed.codec) is_status_ok (A.results tree.old call.now.caller.now call.now.space call.now.time) (Ok arguments)) }
+    ensures tree { OnOk result (tree.new ≡ A.changed tree.old call.now.caller.now call.now.space call.now.time arguments) }
+    ensures err { OnErr result (tree.new ≡ tree.old) }
+    ensures sane { IsSane tree.new }
+{
+    let results = arguments.execute(alloc, tree, call)?;
+    Ok(reply(room, call.xid, results))
 }
 
 impl Changing for SetattrArgs {

@@ -24,39 +24,40 @@ pub(crate) fn read_arguments<A: Xdr>(alloc: Global, arguments: &[u8]) -> Result<
 }
 
 /// The message type of a reply (RFC 5531 section 9).
-pub(crate) const REPLY: u32 = 1;
+const REPLY: u32 = 1;
 
 /// The reply status of a call that was accepted (RFC 5531 section 9).
-pub(crate) const MSG_ACCEPTED: u32 = 0;
+const MSG_ACCEPTED: u32 = 0;
 
 /// The flavor without a credential, and that of a reply's verifier, which has no body (RFC 5531 section 8.2).
 pub(crate) const AUTH_NONE: u32 = 0;
 
 /// The accept status of a call whose procedure was executed (RFC 5531 section 9).
-pub(crate) const SUCCESS: u32 = 0;
+const SUCCESS: u32 = 0;
 
 /// The accept status of a call whose arguments can't be read.
 const GARBAGE_ARGS: u32 = 4;
 
-/// Puts the head of a reply to a call that was accepted with status 0 last.
-fn put_accepted(writer: &mut Writer, xid: u32) -> Result<(), Memory>
-    ensures { OnOk result (writer.new ≡ writer.old ++ reply_head (accepted_head xid success)) }
+/// The words of the head of a reply to a call that was accepted with status 0 (RFC 5531 section 9): the xid, the message type and the reply
+/// status; the flavor of the verifier, the length of its body and the accept status.
+pub(crate) fn head_words(xid: u32) -> ((u32, (u32, u32)), (u32, (u32, u32)))
+    ensures { result ≡ ((xid, (1, 0)), (0, (0, 0))) }
 {
-    writer.u32(xid)?;
-    writer.u32(REPLY)?;
-    writer.u32(MSG_ACCEPTED)?;
-    writer.u32(AUTH_NONE)?;
-    writer.opaque(&[])?;
-    writer.u32(SUCCESS)?;
-    Ok(())
+    ((xid, (REPLY, MSG_ACCEPTED)), (AUTH_NONE, (0, SUCCESS)))
+}
+
+/// A writer with the head of a reply to a call that was accepted with status 0.
+fn with_head(alloc: Global, xid: u32) -> Result<Writer, Memory>
+    ensures { IfOk result (λ w. w ≡ reply_head (accepted_head xid success)) }
+{
+    head_words(xid).write_to(Writer::new(alloc))
 }
 
 /// The reply to a call that was accepted with status 0, with its results.
 pub(crate) fn accepted<R: Xdr>(alloc: Global, xid: u32, results: &R) -> Result<Octets, Memory>
     ensures { IfOk result (λ o. o ≡ results_reply xid R.codec results.now) }
 {
-    let mut writer = Writer::new(alloc);
-    put_accepted(&mut writer, xid)?;
+    let writer = with_head(alloc, xid)?;
     Ok(results.write_to(writer)?.finish())
 }
 

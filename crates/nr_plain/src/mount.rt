@@ -33,10 +33,12 @@ fn same(a: &[u8], b: &[u8]) -> bool
     a == b
 }
 
-fn mount(alloc: Global, export: &[u8], arguments: &MntArgs) -> Result<MntRes, Memory>
-    ensures { IfOk result (λ r. r ≡ mount_results export.now procedures.Mnt arguments.now) }
+fn mount(alloc: Global, export: &[u8], arguments: MntArgs) -> Result<MntRes, Memory>
+    ensures { IfOk result (λ r. r ≡ mount_results export.now procedures.Mnt arguments) }
 {
-    if same(arguments.dirpath.as_slice(), export) {
+    let is_export = same(arguments.dirpath.as_slice(), export);
+    drop(arguments);
+    if is_export {
         Ok(StatusUnion::Done(mounted(alloc)?))
     } else {
         Ok(StatusUnion::Failed {
@@ -52,7 +54,7 @@ fn mnt(alloc: Global, xid: u32, export: &[u8], arguments: &[u8]) -> Result<Octet
 {
     match read_arguments::<MntArgs>(alloc, arguments)? {
         Some(arguments) => {
-            let results = mount(alloc, export, &arguments)?;
+            let results = mount(alloc, export, arguments)?;
             accepted(alloc, xid, &results)
         }
         None => garbage(alloc, xid),

@@ -7,7 +7,7 @@ ghost use Rattle.nr_rpc.specs.Reply.{reply_head, reply_encoding};
 ghost use Rattle.nr_rpc.specs.declared.head.ReplyHead.TheVariants.{Accepted};
 ghost use Rattle.nr_plain.specs.ReplyRoom.{HasRoom, room_with};
 
-use crate::encoding::{AUTH_NONE, MSG_ACCEPTED, REPLY, SUCCESS};
+use crate::encoding::head_words;
 use crate::reply_room::ReplyRoom;
 use nr_nfs_base::{
     Attributes, Failure, FileType, Numbered, Opaque, SpecialData, StableHow, StatusUnion, Time,
@@ -234,10 +234,7 @@ fn put_accepted(room: &mut ReplyRoom, xid: u32)
     requires { HasRoom room.old (reply_head (Accepted xid 0 0)) }
     ensures { room.new ≡ room_with room.old (reply_head (Accepted xid 0 0)) }
 {
-    // Its body has no bytes.
-    let verifier = (AUTH_NONE, 0u32);
-    let head = (xid, (REPLY, (MSG_ACCEPTED, (verifier, SUCCESS))));
-    head.put(room);
+    head_words(xid).put(room);
 }
 
 /// The reply to a call that was accepted: its head with the status 0, and the results. Takes no memory.

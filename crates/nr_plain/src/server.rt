@@ -1,18 +1,21 @@
 //! The server.
 
 ghost use Rattle.std.specs.Prelude.{◌≡◌, ◌+◌, ◌<◌, ◌≤◌, ◌^◌, [], List, ℕ, length, None, Some, Ok, Err, IfOk, IfErr, OnOk, OnErr, IsOk, drop, ◌≢◌};
+ghost use Rattle.nr_nfs_args.specs.Arguments.{nfs_arguments_codec};
+ghost use Rattle.nr_nfs_base.specs.Codec.{read_all};
 ghost use Rattle.nr_nfs_base.specs.Procedures.{nfs_version, mount_version};
 ghost use Rattle.nr_reduce.specs.declared.mark.Entry.{Entry};
 ghost use Rattle.nr_rpc.specs.Reading.{call_of};
 ghost use Rattle.nr_tree.specs.Sane.{IsSane};
-ghost use Rattle.nr_tree.specs.Steps.{IsBelow};
-ghost use Rattle.nr_plain.specs.Setup.{Setup, Parameters, space_of};
-ghost use Rattle.nr_plain.specs.Code.{IsWithin, entry_of};
+ghost use Rattle.nr_tree.specs.Rules.{IsWithinCapacity, entry_cost as cost_of_entry};
+ghost use Rattle.nr_tree.specs.Steps.{IsBelow, IsBounded};
+ghost use Rattle.nr_plain.specs.Setup.{Setup, Parameters, caller_of, space_of, time_of};
+ghost use Rattle.nr_plain.specs.Code.{IsWithin, changes_from, entry_of, reply_from, tree_from};
 ghost use Rattle.nr_plain.specs.Journal.{nfs_procedure_of, cost_of};
 ghost use Rattle.nr_plain.specs.Replies.{accepted as accepted_head, nfs_by_procedure, nfs_call, mount_call, program_call, call_by_cred, cred_refusal, answer_to};
 ghost use Rattle.nr_plain.specs.Stands.{StandsForJournal, ExecutesCall, IsCause, state_kept, kept_after};
 
-use crate::call::{Call, Request};
+use crate::call::{Call, Change, Request};
 use crate::caller::{caller, time};
 use crate::dispatch::run;
 use crate::encoding::refused;
@@ -153,19 +156,11 @@ impl Server {
         ensures kept { OnOk result (self.new ≡ kept_after self.old (nfs_by_procedure self.old.parameters (state_kept self.old) request.now.xid (entry_of request.now) (Some p)).entries) }
         ensures err { OnErr result (self.new ≡ self.old) }
     {
-        let caller = caller(alloc, request.cred)?;
-        let call = Call {
-            xid: request.xid,
-            time: time(request.moment),
-            caller: &caller,
-            space: self.space(request.arguments),
-            arguments: request.arguments,
-        };
-        let change = run(alloc, &mut self.tree, p, &call)?;
-        drop(caller);
+        let space = self.space(request.arguments);
+        let change = executed(alloc, &mut self.tree, space, request, p)?;
         if change.is_entry {
             self.count += 1;
-            self.cost += ENTRY_COST + request.arguments.len() as u64;
+            self.cost += entry_cost(request.arguments);
         }
         Ok(change.reply)
     }
@@ -302,6 +297,44 @@ impl Server {
             ),
         }
     }
+}
+
+/// Executes a procedure of NFS over a tree. After an `Err` the tree is as before.
+fn executed(
+    alloc: Global,
+    tree: &mut Tree,
+    space: Space,
+    request: &Request,
+    p: NfsProcedure,
+) -> Result<Change, Memory>
+    requires sane { IsSane tree.old }
+    requires bounded { IsBounded tree.old }
+    requires space { IsWithinCapacity space }
+    ensures result { IfOk result (λ r. (r.reply ≡ reply_from request.now.xid tree.old (caller_of request.now.cred.now) space (time_of request.now.moment) p (read_all (nfs_arguments_codec p) request.now.arguments.now))
+        × (r.is_entry ≡ changes_from tree.old (caller_of request.now.cred.now) space (time_of request.now.moment) p (read_all (nfs_arguments_codec p) request.now.arguments.now))) }
+    ensures tree { OnOk result (tree.new ≡ tree_from tree.old (caller_of request.now.cred.now) space (time_of request.now.moment) p (read_all (nfs_arguments_codec p) request.now.arguments.now)) }
+    ensures err { OnErr result (tree.new ≡ tree.old) }
+    ensures sane { IsSane tree.new }
+{
+    let caller = caller(alloc, request.cred)?;
+    let call = Call {
+        xid: request.xid,
+        time: time(request.moment),
+        caller: &caller,
+        space,
+        arguments: request.arguments,
+    };
+    let change = run(alloc, tree, p, &call);
+    drop(caller);
+    change
+}
+
+/// What the journal's entry of a call with these arguments costs.
+fn entry_cost(arguments: &[u8]) -> u64
+    requires { length arguments.now < 2 ^ 63 }
+    ensures { result ≡ cost_of_entry + length arguments.now }
+{
+    ENTRY_COST + arguments.len() as u64
 }
 
 /// The bytes from a place on.

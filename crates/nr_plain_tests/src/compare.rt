@@ -5,5 +5,5 @@ use std::process::Abort;
 
 /// Ends the test where the two values differ, and prints both with the number of the row.
 pub fn same<T: PartialEq + Debug + Drop>(rt: &impl Abort, row: usize, got: T, want: T) {
-    assert_eq!(rt; got, want, "row {row}");
+    assert_eq!(rt; (row, got), (row, want));
 }

@@ -26,4 +26,6 @@ mod no_space;
 #[cfg(test)]
 mod raw_calls;
 #[cfg(test)]
+mod root_only;
+#[cfg(test)]
 mod worked;

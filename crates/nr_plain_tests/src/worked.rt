@@ -128,21 +128,27 @@ fn holds(rt: &impl Abort, alloc: Global, xid: u32, reply: &[u8], front: &str, ba
     reply.starts_with(start.as_slice()) && reply.ends_with(end.as_slice())
 }
 
-/// Makes a row's call, and compares its reply. `xid` is the number of the row.
-fn row_worked(rt: &impl Abort, alloc: Global, server: &mut Server, xid: u32, worked: &Worked) {
-    let (call, place, len, front, back) = worked;
+/// The place and the length of the reply to a row's call, and whether it begins and ends as the row says. `xid` is the number of the row.
+fn row_answer(
+    rt: &impl Abort,
+    alloc: Global,
+    server: &mut Server,
+    xid: u32,
+    worked: &Worked,
+) -> (u64, usize, bool) {
+    let (call, _, _, front, back) = worked;
     let payload = called(rt, alloc, xid, call);
     let (at, reply) = answered(alloc, server, xid, payload.as_slice()).expect(rt, "reply");
     let holds = holds(rt, alloc, xid, reply.as_slice(), front, back);
-    let row = usize::try_from(xid).expect(rt, "row");
-    same(rt, row, (at, reply.len(), holds), (*place, *len, true));
+    (at, reply.len(), holds)
 }
 
-/// Makes the calls of a table, one after the other.
+/// Makes the calls of a table, one after the other, and compares their replies.
 fn all_worked(rt: &impl Abort, alloc: Global, server: &mut Server, rows: &[Worked]) {
     let mut xid = 0u32;
-    for row in rows {
-        row_worked(rt, alloc, server, xid, row);
+    for (row, worked) in rows.iter().enumerate() {
+        let got = row_answer(rt, alloc, server, xid, worked);
+        same(rt, row, got, (worked.1, worked.2, true));
         xid = xid.wrapping_add(1);
     }
 }
