@@ -1,5 +1,5 @@
 -- The results of the procedures that change the tree fit into the room of a reply. The handle in those of CREATE and its kin is short.
-use Rattle.std.proofs.Common.{◌≡◌, ℕ, ◌≤◌, List, length, Option, None, Some, Result, Ok, Err, IfOk, refl, sym, subst, arith}
+use Rattle.std.proofs.Common.{◌≡◌, ℕ, ◌≤◌, List, length, Option, None, Some, Result, Ok, Err, IfOk, sym, subst, arith}
 use Rattle.std.specs.Option.{option_map}
 use Rattle.nr_xdr.specs.Item.{hyper}
 use Rattle.nr_xdr.specs.Items.{encodings}

@@ -4,10 +4,8 @@ use Rattle.std.proofs.Math.Seq.{take-length}
 use Rattle.std.proofs.lemmas.Bool.{ltb-false}
 use Rattle.std.proofs.lemmas.List.{length-append}
 use Rattle.nr_nfs_base.specs.Codec.{read_all}
-use Rattle.nr_nfs_base.specs.declared.caller.Caller.{Caller}
 use Rattle.nr_nfs_base.specs.declared.procedure.NfsProcedure.{NfsProcedure}
 use Rattle.nr_nfs_base.specs.declared.status.Status.TheVariants.{Nospc}
-use Rattle.nr_nfs_base.specs.declared.time.Time.{Time}
 use Rattle.nr_nfs_args.specs.Arguments.{NfsArguments, MountArguments, nfs_arguments_codec, mount_arguments_codec}
 use Rattle.nr_reduce.specs.declared.mark.Entry.{Entry}
 use Rattle.nr_tree.specs.Tree.{Tree}

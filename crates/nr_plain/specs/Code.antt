@@ -5,7 +5,7 @@ use Rattle.nr_nfs_base.specs.declared.procedure.NfsProcedure.{NfsProcedure}
 use Rattle.nr_nfs_base.specs.declared.procedure.MountProcedure.{MountProcedure}
 use Rattle.nr_rpc.specs.declared.head.CallHead.{CallHead}
 use Rattle.nr_rpc.specs.declared.head.CallHead.TheVariants as calls
-use Rattle.nr_nfs_args.specs.Arguments.{NfsArguments, MountArguments, nfs_arguments_codec, mount_arguments_codec}
+use Rattle.nr_nfs_args.specs.Arguments.{NfsArguments, nfs_arguments_codec, mount_arguments_codec}
 use Rattle.nr_nfs_res.specs.Results.{nfs_results_codec, mount_results_codec}
 use Rattle.nr_nfs_base.specs.declared.caller.Caller.{Caller}
 use Rattle.nr_nfs_base.specs.declared.time.Time.{Time}

@@ -6,9 +6,9 @@
 //! journal: `Stands.antt` says for which journals it stands, and each call says for every such journal what it answers and for which
 //! journal it stands then. `Added.antt` has the entry of a call by its reply alone, and `journal_laws.rt` the laws of a journal.
 //!
-//! `reading.rt` and `changing.rt` have a function for each procedure of NFS, `mount.rt` those of MOUNT, `dispatch.rt` and `server.rt` the
-//! way to them. A procedure that changes the tree first takes the room of its reply (`reply_room.rt`, `put.rt`), so that want of memory leaves
-//! the server as before. The laws say whose a reply is ([`replies_begin_with_the_xid`]), how long it may be
+//! A procedure of NFS is a trait of its arguments (`procedure.rt`), implemented for each in `reading.rt` and `changing.rt`, which make the
+//! replies too. `mount.rt` has those of MOUNT, `dispatch.rt` and `server.rt` the way to them. A procedure that changes the tree first takes
+//! the room of its reply (`reply_room.rt`, `put.rt`), so that want of memory leaves the server as before. The laws say whose a reply is ([`replies_begin_with_the_xid`]), how long it may be
 //! ([`replies_are_within_their_limit`]), and that it can be sent ([`changes_fit_every_offer`],
 //! [`auto_offers_hold_their_replies`]).
 //!
