@@ -1,6 +1,6 @@
-//! Laws of the journal: what a reply depends on, and what it tells.
+//! Laws of the journal: what a reply depends on, what it tells, and which trees there are.
 
-ghost use Rattle.nr_plain.specs.JournalLaws.{RepliesStay, RepliesTellEntries, UnchangingRepliesHaveNoMoment};
+ghost use Rattle.nr_plain.specs.JournalLaws.{RepliesStay, RepliesTellEntries, UnchangingRepliesHaveNoMoment, ProceduresKeepTreesSane, TreesStaySane};
 
 /// The reply over the first entries of a journal stays the same when entries follow.
 pub fn replies_stay()
@@ -16,4 +16,10 @@ pub fn replies_tell_entries()
 /// only reads looks at the time.
 pub fn unchanging_replies_have_no_moment()
     ensures { UnchangingRepliesHaveNoMoment }
+{}
+
+/// Each procedure leaves a sane tree sane, so the tree at each place of a journal is sane where a server was opened with a sane one.
+pub fn trees_stay_sane()
+    ensures step { ProceduresKeepTreesSane }
+    ensures tree { TreesStaySane }
 {}

@@ -31,7 +31,9 @@ mod reply_room;
 mod server;
 
 pub use fault::Fault;
-pub use journal_laws::{replies_stay, replies_tell_entries, unchanging_replies_have_no_moment};
+pub use journal_laws::{
+    replies_stay, replies_tell_entries, trees_stay_sane, unchanging_replies_have_no_moment,
+};
 pub use laws::{
     auto_offers_hold_their_replies, changes_fit_every_offer, replies_are_within_their_limit,
     replies_begin_with_the_xid,
