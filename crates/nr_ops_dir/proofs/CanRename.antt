@@ -20,7 +20,7 @@ use Rattle.nr_ops_dir.specs.declared.renaming.Move.{Move}
 use Rattle.nr_ops_dir.specs.Renaming.{IsMoveOf, is_same_node, exactly_one, target_rule, move_rule, rename_of, both_rules, rename_rules}
 use Rattle.nr_ops_dir.proofs.Passed.{directory_passed, links_passed}
 
-no_entries : (es : List Entry) → ltb 0 (length es) ≡ false → es ≡ []
+pub no_entries : (es : List Entry) → ltb 0 (length es) ≡ false → es ≡ []
 no_entries [] z = refl
 no_entries (e ∷ es) z = absurd (omega (arith, ltb-false 0 (length (e ∷ es)) z))
 

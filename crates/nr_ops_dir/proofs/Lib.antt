@@ -4,6 +4,7 @@ pub mod CanMake
 pub mod CanCreate
 pub mod NamesAfter
 pub mod Laws
+pub mod SaneAfter
 pub mod Sizes
 pub mod Counting
 pub mod Rooms

@@ -7,6 +7,7 @@ use Rattle.nr_rpc.specs.Reading.{call_of, reply_of, target_of, xid_of_call}
 use Rattle.nr_rpc.specs.declared.head.ReplyHead.{ReplyHead}
 use Rattle.nr_reduce.specs.ClientMessages.{reply_xid}
 use Rattle.nr_reduce.specs.declared.mark.Moment.{Moment}
+use Rattle.nr_reduce.specs.declared.mark.Entry.{Entry}
 use Rattle.nr_reduce.specs.declared.call.Form.TheVariants as forms
 use Rattle.nr_reduce.specs.declared.outline.Plan.{Plan}
 use Rattle.nr_reduce.specs.Plans.{plan_of, lists_of}
@@ -14,8 +15,8 @@ use Rattle.nr_reduce.specs.Largest.{largest_reply}
 use Rattle.nr_reduce.specs.Limits.{send_max}
 use Rattle.nr_reduce.specs.Server.{answer_of_target}
 use Rattle.nr_tree.specs.Sane.{IsSane}
-use Rattle.nr_plain.specs.Setup.{Parameters, State}
-use Rattle.nr_plain.specs.Replies.{Answer, plain_answer}
+use Rattle.nr_plain.specs.Setup.{Parameters, Setup, State}
+use Rattle.nr_plain.specs.Replies.{Answer, plain_answer, plain_reply}
 use Rattle.nr_plain.specs.ReplySizes.{most_reply}
 
 -- the transaction's number of the reply head that was read, if one was
@@ -28,10 +29,10 @@ abbrev pub RepliesBeginWithTheXid : Type 0
 RepliesBeginWithTheXid = (s : Parameters) (st : State) (m : Moment) (payload : List ℕ) (a : Answer) → IsBytes payload →
     plain_answer s st m payload ≡ Some a → xid_of_reply (reply_of a.reply) ≡ xid_of_call (call_of payload)
 
--- A reply over a sane tree is no longer than its call's program, version and procedure let it be.
+-- A reply at a place of a journal is no longer than its call's program, version and procedure let it be, where the first tree is sane.
 abbrev pub RepliesAreWithinTheirLimit : Type 0
-RepliesAreWithinTheirLimit = (s : Parameters) (st : State) (m : Moment) (payload : List ℕ) (a : Answer) → IsBytes payload → IsSane st.tree →
-    plain_answer s st m payload ≡ Some a → length a.reply ≤ largest_reply payload
+RepliesAreWithinTheirLimit = (s : Setup) (J : List Entry) (place : ℕ) (m : Moment) (payload reply : List ℕ) → IsSane s.tree → IsBytes payload →
+    plain_reply s J place m payload ≡ Some reply → length reply ≤ largest_reply payload
 
 -- The reply of a call that adds an entry to the journal has at most most_reply bytes.
 abbrev pub ChangesAreShort : Type 0
@@ -44,8 +45,8 @@ ChangesFitEveryOffer = (s : Parameters) (st : State) (m : Moment) (payload : Lis
     plain_answer s st m payload ≡ Some a → a.entries ≢ [] → ListsWithin offer → send_max ≤ down →
     answer_of_target offer down a.reply (target_of (call_of payload)) ≢ None
 
--- What a call offers in the form Auto holds its reply over a sane tree.
+-- What a call offers in the form Auto holds its reply at each place of a journal, where the first tree is sane.
 abbrev pub AutoOffersHoldTheirReplies : Type 0
-AutoOffersHoldTheirReplies = (s : Parameters) (st : State) (m : Moment) (payload : List ℕ) (a : Answer) (up down stag : ℕ) (p : Plan) → IsBytes payload →
-    IsSane st.tree → plain_answer s st m payload ≡ Some a → send_max ≤ down → plan_of payload forms.Auto up down ≡ Ok p →
-    answer_of_target (lists_of stag p) down a.reply (target_of (call_of payload)) ≢ None
+AutoOffersHoldTheirReplies = (s : Setup) (J : List Entry) (place : ℕ) (m : Moment) (payload reply : List ℕ) (up down stag : ℕ) (p : Plan) → IsSane s.tree →
+    IsBytes payload → plain_reply s J place m payload ≡ Some reply → send_max ≤ down → plan_of payload forms.Auto up down ≡ Ok p →
+    answer_of_target (lists_of stag p) down reply (target_of (call_of payload)) ≢ None

@@ -1,6 +1,6 @@
-//! Laws of the journal: what a reply depends on, and what it tells.
+//! Laws of the journal: what a reply depends on, what it tells, and which trees there are.
 
-ghost use Rattle.nr_plain.specs.JournalLaws.{RepliesStay, RepliesTellEntries, RepliesAreThoseOfAnswers, UnchangingRepliesDoNotDependOnTheMoment};
+ghost use Rattle.nr_plain.specs.JournalLaws.{RepliesStay, RepliesTellEntries, RepliesAreThoseOfAnswers, UnchangingRepliesDoNotDependOnTheMoment, ProceduresKeepTreesSane, TreesStaySane, FailuresLeaveTheTree};
 
 /// The reply over the first entries of a journal stays the same when entries follow.
 pub fn replies_stay()
@@ -22,4 +22,15 @@ pub fn replies_are_those_of_answers()
 /// only reads looks at the time.
 pub fn unchanging_replies_do_not_depend_on_the_moment()
     ensures { UnchangingRepliesDoNotDependOnTheMoment }
+{}
+
+/// Each procedure leaves a sane tree sane, so the tree at each place of a journal is sane where a server was opened with a sane one.
+pub fn trees_stay_sane()
+    ensures step { ProceduresKeepTreesSane }
+    ensures tree { TreesStaySane }
+{}
+
+/// A procedure of NFS whose results have a status other than 0 leaves the tree, and so does each of the twelve procedures that only read.
+pub fn failures_leave_the_tree()
+    ensures { FailuresLeaveTheTree }
 {}

@@ -7,7 +7,8 @@ pub fn replies_begin_with_the_xid()
     ensures { RepliesBeginWithTheXid }
 {}
 
-/// A reply over a sane tree is at most as long as [`nr_reduce::largest_reply`] says of its call.
+/// A reply at any place of a journal is at most as long as [`nr_reduce::largest_reply`] says of its call, where a server was opened with
+/// a sane tree.
 pub fn replies_are_within_their_limit()
     ensures { RepliesAreWithinTheirLimit }
 {}
@@ -19,7 +20,8 @@ pub fn changes_fit_every_offer()
     ensures holds { ChangesFitEveryOffer }
 {}
 
-/// A call in the form Auto offers enough: its offer holds its reply over a sane tree, whatever that is.
+/// A call in the form Auto offers enough: its offer holds its reply at any place of a journal, where a server was opened with a sane
+/// tree.
 pub fn auto_offers_hold_their_replies()
     ensures { AutoOffersHoldTheirReplies }
 {}

@@ -33,8 +33,8 @@ mod server;
 
 pub use fault::Fault;
 pub use journal_laws::{
-    replies_are_those_of_answers, replies_stay, replies_tell_entries,
-    unchanging_replies_do_not_depend_on_the_moment,
+    failures_leave_the_tree, replies_are_those_of_answers, replies_stay, replies_tell_entries,
+    trees_stay_sane, unchanging_replies_do_not_depend_on_the_moment,
 };
 pub use laws::{
     auto_offers_hold_their_replies, changes_fit_every_offer, replies_are_within_their_limit,
