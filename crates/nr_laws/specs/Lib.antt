@@ -1,0 +1,2 @@
+pub mod MarkAt
+pub mod Once
