@@ -1,1 +1,10 @@
+pub mod Along
+pub mod Brought
+pub mod ClientRun
+pub mod ClientSays
+pub mod ClientAlong
+pub mod Flows
+pub mod Outputs
+pub mod Messages
 pub mod Twice
+pub mod Words

@@ -1,2 +1,3 @@
 pub mod MarkAt
+pub mod Typed
 pub mod Once
