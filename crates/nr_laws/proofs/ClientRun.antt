@@ -26,7 +26,9 @@ use Rattle.nr_reduce.specs.Run.{client, output_due}
 use Rattle.nr_reduce.specs.RunLaws.{outstanding_from}
 use Rattle.nr_reduce.specs.Asked.{AskedMark, AskedSoFar, IsAccepted}
 use Rattle.nr_reduce.proofs.Steps.{events-one, client-one, output_for_all-append, end_state_after-append}
+use Rattle.nr_reduce.proofs.Standing.{AtEachMark-more}
 use Rattle.nr_laws.specs.Typed.{TypedMark, IsTyped}
+use Rattle.nr_laws.proofs.Messages.{messages}
 use Rattle.nr_laws.proofs.Along.{IsNext, GoesOn, Goes, goes-from, goes-nothing, FirstGood, along, outputs_by, outputs_in, outputs_for, outputs_all, place_after, places_after, whole_bytes}
 use Rattle.nr_laws.proofs.Outputs.{Output, bytes_of_all, bytes-append, message_of_call, client_says, client-said, ClientShort, final_outputs, final-said, CallsShort, IsShort}
 use Rattle.nr_laws.proofs.Brought.{AreFrom}
@@ -291,3 +293,31 @@ each-mark opened link before (marks.Done l xid outcome) tells h each = quiet-mar
 each-mark opened link before (marks.Lost l xid) tells h each = quiet-mark opened link before (marks.Lost l xid) refl each
 each-mark opened link before (marks.Forget l xid) tells h each = quiet-mark opened link before (marks.Forget l xid) refl each
 each-mark opened link before (marks.Drop l) tells h each = quiet-mark opened link before (marks.Drop l) refl each
+
+each-from : (opened : LinkParameters) (link : ℕ) (before run : List Mark) → IsTyped before → AskedSoFar opened link before → AtEachMark (ClientMark opened link) before run → EachSubmitted opened link before → EachSubmitted opened link (before ++ run)
+each-from opened link before [] typed asked all each = subst (λ (b : List Mark). EachSubmitted opened link b) (sym (append-nil before)) each
+each-from opened link before (mark ∷ run) typed asked all each =
+    subst (λ (b : List Mark). EachSubmitted opened link b) (append_assoc before (mark ∷ []) run)
+    (each-from opened link (before ++ mark ∷ []) run (AtEachMark-more TypedMark [] before mark typed all.0.1) (AtEachMark-more (AskedMark IsPrefixOf opened link) [] before mark asked all.0.0) all.1
+    (each-mark opened link before mark (client-tells opened link before typed asked) all.0.0 each))
+
+none-before : {X : Type 0} (pre : List X) (m : X) (post : List X) → [] ≡ pre ++ m ∷ post → ⊥
+none-before [] m post e = absurd cc
+none-before (x ∷ pre) m post e = absurd cc
+
+pub each-submitted : (opened : LinkParameters) (link : ℕ) (run : List Mark) → IsTyped run → AskedSoFar opened link run → EachSubmitted opened link run
+unfolding events
+each-submitted opened link run typed asked =
+    each-from opened link [] run tt tt (each-both (AskedMark IsPrefixOf opened link) TypedMark [] run asked typed) (λ pre m post e. absurd (none-before pre m post e))
+
+if-messages : (b : Bool) (ms : List (List ℕ)) (pre : List (List ℕ)) (m : List ℕ) (post : List (List ℕ)) → cond b ms [] ≡ pre ++ m ∷ post → ms ≡ pre ++ m ∷ post
+if-messages true ms pre m post e = e
+if-messages false ms pre m post e = absurd (none-before pre m post e)
+
+-- each message that a client wrote is that of a call that it accepted, counted from 0
+pub message-submitted : (opened : LinkParameters) (link : ℕ) (run : List Mark) → IsTyped run → AskedSoFar opened link run → (pre : List (List ℕ)) (m : List ℕ) (post : List (List ℕ)) → messages (client_outs opened link run) ≡ pre ++ m ∷ post
+    → WasSubmitted opened link run (length pre) m
+message-submitted opened link run typed asked pre m post e =
+    let t = client-tells opened link run typed asked in
+    each-submitted opened link run typed asked pre m post
+    (if-messages (client opened link run).state.has_hello (asked_messages opened link run) pre m post (sym t.says.said ∙ e))

@@ -3,7 +3,10 @@ pub mod Brought
 pub mod ClientRun
 pub mod ClientSays
 pub mod ClientAlong
+pub mod ExecutedCalls
+pub mod HeaderXid
 pub mod Flows
+pub mod Hears
 pub mod Outputs
 pub mod Messages
 pub mod Twice
