@@ -9,5 +9,6 @@ pub mod Flows
 pub mod Hears
 pub mod Outputs
 pub mod Messages
+pub mod OnceByXid
 pub mod Twice
 pub mod Words
