@@ -164,7 +164,7 @@ whole-within link side run =
     let e = ap (λ (xs : List ℕ). length xs) (split-Splits (HelloFrom (other side)) (bytes_received link side run)).whole in
     omega (arith, e, length-append (concat s.frames) s.rest)
 
-bytes-both : (xs ys : List ℕ) → IsBytes xs → IsBytes ys → IsBytes (xs ++ ys)
+pub bytes-both : (xs ys : List ℕ) → IsBytes xs → IsBytes ys → IsBytes (xs ++ ys)
 bytes-both xs ys h g i = elim (cases_lt i (length xs)) [
   | inl lt ↦ (let e = get_or_append_left xs ys 0 i lt in let b = h i in omega (arith, e, b))
   | inr le ↦ (let e = get_or-append_right xs ys (length xs) i 0 refl le in let b = g (i - length xs) in omega (arith, e, b))

@@ -35,7 +35,7 @@ use Rattle.nr_laws.proofs.ClientSays.{IsGoodCall, ClientGood, accepted_in, accep
 
 -- ---- What is said for a frame
 
-final-words : (end : Stop) → AreFrom Fpdu (final_outputs end)
+pub final-words : (end : Stop) → AreFrom Fpdu (final_outputs end)
 final-words (ends.Bad at reason) = by (is_hello_reason reason)
   where
     by : (b : Bool) → AreFrom Fpdu (cond b [] (ASegment (terminate_segment reason) ∷ []))
@@ -138,7 +138,7 @@ first-greeted : (place : ℕ) (b : Bool) → place ≡ 0 → HasHello place b �
 first-greeted place b none (inl h) = h.1
 first-greeted place b none (inr h) = absurd (let z = h.0 in omega (arith, z, none))
 
-not-first : (n : ℕ) → eqb n 0 ≡ false → 0 < n
+pub not-first : (n : ℕ) → eqb n 0 ≡ false → 0 < n
 not-first zero e = absurd cc
 not-first (suc n) e = omega arith
 

@@ -10,5 +10,10 @@ pub mod Hears
 pub mod Outputs
 pub mod Messages
 pub mod OnceByXid
+pub mod OfferLimits
+pub mod ServerOutputs
+pub mod ServerEnds
+pub mod ServerAlong
+pub mod ServerEvents
 pub mod Twice
 pub mod Words
