@@ -15,5 +15,6 @@ pub mod ServerOutputs
 pub mod ServerEnds
 pub mod ServerAlong
 pub mod ServerEvents
+pub mod ServerSide
 pub mod Twice
 pub mod Words
