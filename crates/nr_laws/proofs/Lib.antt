@@ -16,5 +16,7 @@ pub mod ServerEnds
 pub mod ServerAlong
 pub mod ServerEvents
 pub mod ServerSide
+pub mod Outcomes
+pub mod ExecuteMarks
 pub mod Twice
 pub mod Words
