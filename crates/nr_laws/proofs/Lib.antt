@@ -18,5 +18,8 @@ pub mod ServerEvents
 pub mod ServerSide
 pub mod Outcomes
 pub mod ExecuteMarks
+pub mod RefusedCalls
+pub mod Ordered
+pub mod DoneCalls
 pub mod Twice
 pub mod Words

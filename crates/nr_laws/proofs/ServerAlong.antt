@@ -102,6 +102,8 @@ pub record SaidError (opened : LinkParameters) (es : List Event) (m : List ℕ) 
   pub later : List Event
   pub is : es ≡ earlier ++ FrameReceived frame ∷ later
   pub behind : is_hello frame ≡ false
+  pub segment : Segment
+  pub is_segment : frame_segment frame ≡ Ok segment
   pub live : is_live opened earlier
   pub stays : server_end opened (server_by opened earlier) (FrameReceived frame) ≡ None
   pub errors : (frame_effect (server_by opened earlier) frame).errors ≡ m ∷ []
@@ -138,7 +140,7 @@ said-later : (opened : LinkParameters) (es : List Event) (e : Event) (xs : List 
 said-later opened es e xs m (IsRefusal s) = IsRefusal (record {
   earlier = s.earlier; frame = s.frame; later = s.later ++ e ∷ [];
   is = ap (λ (all : List Event). all ++ e ∷ []) s.is ∙ append_assoc s.earlier (FrameReceived s.frame ∷ s.later) (e ∷ []);
-  behind = s.behind; live = s.live; stays = s.stays; errors = s.errors; kind = s.kind;
+  behind = s.behind; segment = s.segment; is_segment = s.is_segment; live = s.live; stays = s.stays; errors = s.errors; kind = s.kind;
 })
 said-later opened es e xs m (IsAnswer s) = IsAnswer (record {
   earlier = s.earlier; call = s.call; later = s.later ++ e ∷ [];

@@ -1,3 +1,4 @@
 pub mod MarkAt
 pub mod Typed
 pub mod Once
+pub mod Places
