@@ -21,5 +21,6 @@ pub mod ExecuteMarks
 pub mod RefusedCalls
 pub mod Ordered
 pub mod DoneCalls
+pub mod Following
 pub mod Twice
 pub mod Words

@@ -6,4 +6,4 @@
 
 mod laws;
 
-pub use laws::once;
+pub use laws::{once, places};
