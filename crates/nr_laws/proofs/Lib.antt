@@ -22,5 +22,7 @@ pub mod RefusedCalls
 pub mod Ordered
 pub mod DoneCalls
 pub mod Following
+pub mod Granted
+pub mod Touched
 pub mod Twice
 pub mod Words

@@ -1,5 +1,7 @@
 //! The laws, each by its statement in `specs/`.
 
+ghost use Rattle.nr_laws.specs.Touches.{ClientIsTouched, ServerIsTouched};
+ghost use Rattle.nr_laws.specs.Grant.{SubmitsWithinGrant};
 ghost use Rattle.nr_laws.specs.Places.{PlacesFollow};
 ghost use Rattle.nr_laws.specs.Once.{NoSendTwice, NoCallTwice, NoXidTwice};
 
@@ -14,4 +16,16 @@ pub fn once()
 /// On matched links a call that is submitted after another's outcome was handed over has a place that isn't smaller.
 pub fn places()
     ensures { PlacesFollow }
+{}
+
+/// On every link a peer accesses only live regions that are offered to it for that access; the first access that isn't allowed
+/// is where a side stops.
+pub fn touches()
+    ensures client { ClientIsTouched }
+    ensures server { ServerIsTouched }
+{}
+
+/// Each accepted call is submitted while fewer calls are outstanding than are granted.
+pub fn grant()
+    ensures { SubmitsWithinGrant }
 {}

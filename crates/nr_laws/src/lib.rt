@@ -6,4 +6,4 @@
 
 mod laws;
 
-pub use laws::{once, places};
+pub use laws::{grant, once, places, touches};
