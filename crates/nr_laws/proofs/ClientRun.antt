@@ -151,6 +151,20 @@ client-tells opened link run typed asked =
 
 -- ---- Each of its messages is that of an accepted call
 
+pub record SubmittedCall (opened : LinkParameters) (link : ℕ) (run : List Mark) (index : ℕ) (o : OutstandingCall) : Type 0 where
+  pub earlier : List Mark
+  pub later : List Mark
+  pub call : Call
+  pub form : Form
+  pub xid : ℕ
+  pub is : run ≡ earlier ++ marks.Submit link call form (submissions.Accepted xid) ∷ later
+  pub accepted : IsAccepted opened link earlier call form xid
+  pub counted : (client opened link earlier).state.calls_accepted ≡ index
+  pub own_xid : o.xid ≡ xid
+  pub own_call : o.call ≡ call
+  pub own_plan : o.plan ≡ accepted.plan
+  pub own_stag : o.stag ≡ (client opened link earlier).state.stag
+
 pub record WasSubmitted (opened : LinkParameters) (link : ℕ) (run : List Mark) (index : ℕ) (message : List ℕ) : Type 0 where
   pub earlier : List Mark
   pub later : List Mark
@@ -162,8 +176,8 @@ pub record WasSubmitted (opened : LinkParameters) (link : ℕ) (run : List Mark)
   pub counted : (client opened link earlier).state.calls_accepted ≡ index
   pub message_is : message ≡ call_message xid opened.wished (client opened link earlier).state.stag accepted.plan
 
-submitted-later : (opened : LinkParameters) (link : ℕ) (run : List Mark) (mark : Mark) (index : ℕ) (message : List ℕ) → WasSubmitted opened link run index message → WasSubmitted opened link (run ++ mark ∷ []) index message
-submitted-later opened link run mark index message w = record {
+submitted-later : (opened : LinkParameters) (link : ℕ) (run : List Mark) (mark : Mark) (index : ℕ) (o : OutstandingCall) → SubmittedCall opened link run index o → SubmittedCall opened link (run ++ mark ∷ []) index o
+submitted-later opened link run mark index o w = record {
   earlier = w.earlier;
   later = w.later ++ mark ∷ [];
   call = w.call;
@@ -172,7 +186,10 @@ submitted-later opened link run mark index message w = record {
   is = ap (λ (r : List Mark). r ++ mark ∷ []) w.is ∙ append_assoc w.earlier (marks.Submit link w.call w.form (submissions.Accepted w.xid) ∷ w.later) (mark ∷ []);
   accepted = w.accepted;
   counted = w.counted;
-  message_is = w.message_is;
+  own_xid = w.own_xid;
+  own_call = w.own_call;
+  own_plan = w.own_plan;
+  own_stag = w.own_stag;
 }
 
 -- a list with one more behind it, split at one of its elements
@@ -199,19 +216,19 @@ parted (x ∷ xs) y (p ∷ pre) m post e = parted-more x p xs y pre m post (head
     head-is : {X : Type 0} (a b : X) (xs ys : List X) → a ∷ xs ≡ b ∷ ys → a ≡ b
     head-is a b xs ys e = cc
 
-abbrev asked_messages : LinkParameters → ℕ → List Mark → List (List ℕ)
-asked_messages opened link run = map (message_of_call opened) (asked opened (events link Initiator run))
+abbrev pub asked_calls : LinkParameters → ℕ → List Mark → List OutstandingCall
+asked_calls opened link run = asked opened (events link Initiator run)
 
 abbrev EachSubmitted : LinkParameters → ℕ → List Mark → Type 0
-EachSubmitted opened link run = (pre : List (List ℕ)) (m : List ℕ) (post : List (List ℕ)) → asked_messages opened link run ≡ pre ++ m ∷ post → WasSubmitted opened link run (length pre) m
+EachSubmitted opened link run = (pre : List OutstandingCall) (o : OutstandingCall) (post : List OutstandingCall) → asked_calls opened link run ≡ pre ++ o ∷ post → SubmittedCall opened link run (length pre) o
 
 quiet-mark : (opened : LinkParameters) (link : ℕ) (before : List Mark) (mark : Mark) → accepted_in (events_at link Initiator before mark) ≡ [] → EachSubmitted opened link before → EachSubmitted opened link (before ++ mark ∷ [])
-quiet-mark opened link before mark none each pre m post e =
+quiet-mark opened link before mark none each pre o post e =
     let same : accepted_in (events link Initiator (before ++ mark ∷ [])) ≡ accepted_in (events link Initiator before) =
         ap accepted_in (events-one link Initiator before mark) ∙ accepted-append (events link Initiator before) (events_at link Initiator before mark)
         ∙ ap (λ (xs : List AcceptedCall). accepted_in (events link Initiator before) ++ xs) none ∙ append-nil (accepted_in (events link Initiator before)) in
-    submitted-later opened link before mark (length pre) m
-    (each pre m post (ap (λ (xs : List AcceptedCall). map (message_of_call opened) (outstanding_from (start opened) opened.first_stag xs)) (sym same) ∙ e))
+    submitted-later opened link before mark (length pre) o
+    (each pre o post (ap (λ (xs : List AcceptedCall). outstanding_from (start opened) opened.first_stag xs) (sym same) ∙ e))
 
 none-if : (b : Bool) (e : Event) → accepted_in (e ∷ []) ≡ [] → accepted_in (if_own b (e ∷ [])) ≡ []
 none-if true e h = h
@@ -225,13 +242,9 @@ none-fed : (b : Bool) (fs : List Frame) → accepted_in (if_own b (map FrameRece
 none-fed true fs = none-frames fs
 none-fed false fs = refl
 
-map-one : (opened : LinkParameters) (xs : List OutstandingCall) (o : OutstandingCall) → map (message_of_call opened) (xs ++ o ∷ []) ≡ map (message_of_call opened) xs ++ message_of_call opened o ∷ []
-map-one opened [] o = refl
-map-one opened (x ∷ xs) o = ap (λ (ms : List (List ℕ)). message_of_call opened x ∷ ms) (map-one opened xs o)
-
-map-count : (opened : LinkParameters) (k : ClientState) (stag : ℕ) (xs : List AcceptedCall) → length (map (message_of_call opened) (outstanding_from k stag xs)) ≡ length xs
-map-count opened k stag [] = refl
-map-count opened k stag (x ∷ xs) = ap (λ (n : ℕ). suc n) (map-count opened k (stag + Rattle.nr_reduce.specs.Plans.regions_needed (outstanding_of (record k { stag = stag }) x).plan) xs)
+count-from : (k : ClientState) (stag : ℕ) (xs : List AcceptedCall) → length (outstanding_from k stag xs) ≡ length xs
+count-from k stag [] = refl
+count-from k stag (x ∷ xs) = ap (λ (n : ℕ). suc n) (count-from k (stag + Rattle.nr_reduce.specs.Plans.regions_needed (outstanding_of (record k { stag = stag }) x).plan) xs)
 
 by_part : {X W : Type 0} {xs : List X} {y : X} {pre : List X} {m : X} {post : List X} → Parted xs y pre m post → ((more : List X) → xs ≡ pre ++ m ∷ more → W) → (xs ≡ pre → m ≡ y → W) → W
 by_part (Within more is) f g = f more is
@@ -240,7 +253,7 @@ by_part (Last is same) f g = g is same
 submit-mark : (opened : LinkParameters) (link : ℕ) (before : List Mark) (call : Call) (form : Form) (xid : ℕ) → ClientTells opened link before → IsAccepted opened link before call form xid → EachSubmitted opened link before
     → EachSubmitted opened link (before ++ marks.Submit link call form (submissions.Accepted xid) ∷ [])
 unfolding plan_for
-submit-mark opened link before call form xid tells h each pre m post e =
+submit-mark opened link before call form xid tells h each pre o post e =
     let mark = marks.Submit link call form (submissions.Accepted xid) in
     let a : AcceptedCall = record { xid = xid; call = call; form = form } in
     let k : ClientState = (client opened link before).state in
@@ -251,14 +264,13 @@ submit-mark opened link before call form xid tells h each pre m post e =
         ap (λ (b : Bool). accepted_in (if_own (b && true) (CallSubmitted (length (bytes_received link Initiator before)) a ∷ []))) (Rattle.std.proofs.Common.eq-eqb link link refl) in
     let all : accepted_in (events link Initiator (before ++ mark ∷ [])) ≡ old ++ a ∷ [] =
         ap accepted_in (events-one link Initiator before mark) ∙ accepted-append (events link Initiator before) (events_at link Initiator before mark) ∙ ap (λ (xs : List AcceptedCall). old ++ xs) here in
-    let whole : asked_messages opened link before ++ message_of_call opened own ∷ [] ≡ pre ++ m ∷ post =
-        sym (map-one opened (outstanding_from (start opened) opened.first_stag old) own)
-        ∙ ap (λ (os : List OutstandingCall). map (message_of_call opened) os) (sym (from-more (start opened) opened.first_stag old a))
-        ∙ ap (λ (xs : List AcceptedCall). map (message_of_call opened) (outstanding_from (start opened) opened.first_stag xs)) (sym all) ∙ e in
+    let whole : asked_calls opened link before ++ own ∷ [] ≡ pre ++ o ∷ post =
+        sym (from-more (start opened) opened.first_stag old a)
+        ∙ ap (λ (xs : List AcceptedCall). outstanding_from (start opened) opened.first_stag xs) (sym all) ∙ e in
     let stag : k.stag ≡ next = tells.says.stag in
     let same : own.plan ≡ h.plan = ap (λ (r : Result Plan TooLarge). plan_or (call_payload xid call) r) h.planned in
-    by_part (parted (asked_messages opened link before) (message_of_call opened own) pre m post whole)
-    (λ more is. submitted-later opened link before mark (length pre) m (each pre m more is))
+    by_part (parted (asked_calls opened link before) own pre o post whole)
+    (λ more is. submitted-later opened link before mark (length pre) o (each pre o more is))
     (λ is last. record {
       earlier = before;
       later = [];
@@ -267,8 +279,11 @@ submit-mark opened link before call form xid tells h each pre m post e =
       xid = xid;
       is = refl;
       accepted = h;
-      counted = tells.says.count ∙ sym (map-count opened (start opened) opened.first_stag old) ∙ ap (λ (ms : List (List ℕ)). length ms) is;
-      message_is = last ∙ (λ i. call_message xid opened.wished (sym stag i) (same i));
+      counted = tells.says.count ∙ sym (count-from (start opened) opened.first_stag old) ∙ ap (λ (os : List OutstandingCall). length os) is;
+      own_xid = ap (λ (x : OutstandingCall). x.xid) last;
+      own_call = ap (λ (x : OutstandingCall). x.call) last;
+      own_plan = ap (λ (x : OutstandingCall). x.plan) last ∙ same;
+      own_stag = ap (λ (x : OutstandingCall). x.stag) last ∙ sym stag;
     })
 
 each-mark : (opened : LinkParameters) (link : ℕ) (before : List Mark) (mark : Mark) → ClientTells opened link before → AskedMark IsPrefixOf opened link before mark → EachSubmitted opened link before → EachSubmitted opened link (before ++ mark ∷ [])
@@ -305,19 +320,48 @@ none-before : {X : Type 0} (pre : List X) (m : X) (post : List X) → [] ≡ pre
 none-before [] m post e = absurd cc
 none-before (x ∷ pre) m post e = absurd cc
 
-pub each-submitted : (opened : LinkParameters) (link : ℕ) (run : List Mark) → IsTyped run → AskedSoFar opened link run → EachSubmitted opened link run
+pub each-submitted : (opened : LinkParameters) (link : ℕ) (run : List Mark) → IsTyped run → AskedSoFar opened link run → (pre : List OutstandingCall) (o : OutstandingCall) (post : List OutstandingCall) → asked_calls opened link run ≡ pre ++ o ∷ post → SubmittedCall opened link run (length pre) o
 unfolding events
 each-submitted opened link run typed asked =
-    each-from opened link [] run tt tt (each-both (AskedMark IsPrefixOf opened link) TypedMark [] run asked typed) (λ pre m post e. absurd (none-before pre m post e))
+    each-from opened link [] run tt tt (each-both (AskedMark IsPrefixOf opened link) TypedMark [] run asked typed) (λ pre o post e. absurd (none-before pre o post e))
 
 if-messages : (b : Bool) (ms : List (List ℕ)) (pre : List (List ℕ)) (m : List ℕ) (post : List (List ℕ)) → cond b ms [] ≡ pre ++ m ∷ post → ms ≡ pre ++ m ∷ post
 if-messages true ms pre m post e = e
 if-messages false ms pre m post e = absurd (none-before pre m post e)
+
+record MappedAt (opened : LinkParameters) (os : List OutstandingCall) (pre : List (List ℕ)) (m : List ℕ) : Type 0 where
+  front : List OutstandingCall
+  own : OutstandingCall
+  back : List OutstandingCall
+  is : os ≡ front ++ own ∷ back
+  as_long : length front ≡ length pre
+  message : m ≡ message_of_call opened own
+
+head-same : (a b : List ℕ) (xs ys : List (List ℕ)) → a ∷ xs ≡ b ∷ ys → b ≡ a
+head-same a b xs ys e = (let s : a ≡ b = cc in sym s)
+
+mapped-at : (opened : LinkParameters) (os : List OutstandingCall) (pre : List (List ℕ)) (m : List ℕ) (post : List (List ℕ)) → map (message_of_call opened) os ≡ pre ++ m ∷ post → MappedAt opened os pre m
+mapped-at opened [] pre m post e = absurd (none-before pre m post e)
+mapped-at opened (o ∷ os) [] m post e = record { front = []; own = o; back = os; is = refl; as_long = refl; message = head-same (message_of_call opened o) m (map (message_of_call opened) os) post e }
+mapped-at opened (o ∷ os) (p ∷ pre) m post e =
+    let r = mapped-at opened os pre m post (ap (λ (xs : List (List ℕ)). Rattle.std.proofs.Common.drop 1 xs) e) in
+    record { front = o ∷ r.front; own = r.own; back = r.back; is = ap (λ (xs : List OutstandingCall). o ∷ xs) r.is; as_long = ap (λ (n : ℕ). suc n) r.as_long; message = r.message }
 
 -- each message that a client wrote is that of a call that it accepted, counted from 0
 pub message-submitted : (opened : LinkParameters) (link : ℕ) (run : List Mark) → IsTyped run → AskedSoFar opened link run → (pre : List (List ℕ)) (m : List ℕ) (post : List (List ℕ)) → messages (client_outs opened link run) ≡ pre ++ m ∷ post
     → WasSubmitted opened link run (length pre) m
 message-submitted opened link run typed asked pre m post e =
     let t = client-tells opened link run typed asked in
-    each-submitted opened link run typed asked pre m post
-    (if-messages (client opened link run).state.has_hello (asked_messages opened link run) pre m post (sym t.says.said ∙ e))
+    let at = mapped-at opened (asked_calls opened link run) pre m post (if-messages (client opened link run).state.has_hello (map (message_of_call opened) (asked_calls opened link run)) pre m post (sym t.says.said ∙ e)) in
+    let w = each-submitted opened link run typed asked at.front at.own at.back at.is in
+    record {
+      earlier = w.earlier;
+      later = w.later;
+      call = w.call;
+      form = w.form;
+      xid = w.xid;
+      is = w.is;
+      accepted = w.accepted;
+      counted = w.counted ∙ at.as_long;
+      message_is = at.message ∙ (λ i. call_message (w.own_xid i) opened.wished (w.own_stag i) (w.own_plan i));
+    }
