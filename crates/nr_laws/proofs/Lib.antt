@@ -24,5 +24,6 @@ pub mod DoneCalls
 pub mod Following
 pub mod Granted
 pub mod Touched
+pub mod Memory
 pub mod Twice
 pub mod Words
