@@ -25,5 +25,6 @@ pub mod Following
 pub mod Granted
 pub mod Touched
 pub mod Memory
+pub mod ClientMemory
 pub mod Twice
 pub mod Words

@@ -178,6 +178,22 @@ closed-alike test place later (r ∷ regions) le = (one (test r), closed-alike t
 pub settled-closed : (test : Region → Bool) (place later : ℕ) (regions : List Region) (accesses : List TaggedSegment) → place ≤ later → Settled place regions accesses → Settled later (regions_closed test later regions) accesses
 settled-closed test place later regions accesses le s = alike-settled place place later regions (regions_closed test later regions) accesses refl le (closed-alike test place later regions le) s
 
+-- regions that are closed at a later place, by the lifetimes up to this one
+revoked-alike : (test : Region → Bool) (place later : ℕ) (regions : List Region) → place ≤ later → AreAlike place place place regions (regions_closed test later regions)
+unfolding regions_closed
+revoked-alike test place later [] le = tt
+revoked-alike test place later (r ∷ regions) le = (one (test r), revoked-alike test place later regions le)
+  where
+    by_closed : (u : Option ℕ) (end : ℕ) → end ≤ place → leb end (until_or place u) ≡ leb end (until_or place (Rattle.nr_reduce.specs.OfferedRegions.until_at later u))
+    by_closed None end low = le-leb end place low ∙ sym (le-leb end later (omega (arith, low, le)))
+    by_closed (Some until) end low = refl
+    one : (b : Bool) → Rattle.nr_reduce.proofs.OfferedMemory.IsAlike place place place r (closed_if b later r)
+    one true = record { stag = refl; right = refl; bytes = refl; from = refl; until = λ end low. by_closed r.until end low }
+    one false = record { stag = refl; right = refl; bytes = refl; from = refl; until = λ end low. refl }
+
+pub revoked-settled : (place later : ℕ) (regions : List Region) (accesses : List TaggedSegment) (test : Region → Bool) → place ≤ later → Settled place regions accesses → Settled place (regions_closed test later regions) accesses
+revoked-settled place later regions accesses test le s = alike-settled place place place regions (regions_closed test later regions) accesses refl (omega arith) (revoked-alike test place later regions le) s
+
 found-append : (stag end : ℕ) (xs ys : List Grant) (a : Access) → denial_in (grant_offer (found stag end xs)) a ≡ None → found stag end (xs ++ ys) ≡ found stag end xs
 found-append stag end [] ys a e = absurd cc
 found-append stag end (x ∷ xs) ys a e = by (applies stag end x) e (λ h. found-append stag end xs ys a h)
