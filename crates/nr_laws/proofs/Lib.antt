@@ -26,5 +26,6 @@ pub mod Granted
 pub mod Touched
 pub mod Memory
 pub mod ClientMemory
+pub mod SameLists
 pub mod Twice
 pub mod Words
