@@ -27,5 +27,6 @@ pub mod Touched
 pub mod Memory
 pub mod ClientMemory
 pub mod SameLists
+pub mod PlanLists
 pub mod Twice
 pub mod Words
