@@ -48,7 +48,7 @@ abbrev pub AllBacked : List Region → List OutstandingCall → Type 0
 AllBacked regions [] = Unit {0}
 AllBacked regions (o ∷ os) = HasBuffers regions (buffers o.stag o.plan) × AllBacked regions os
 
-find-left : (stag : ℕ) (xs ys : List Region) (r : Region) → find (λ x. eqb x.stag stag) xs ≡ Some r → find (λ x. eqb x.stag stag) (xs ++ ys) ≡ Some r
+pub find-left : (stag : ℕ) (xs ys : List Region) (r : Region) → find (λ x. eqb x.stag stag) xs ≡ Some r → find (λ x. eqb x.stag stag) (xs ++ ys) ≡ Some r
 find-left stag [] ys r e = absurd cc
 find-left stag (x ∷ xs) ys r e = by (eqb x.stag stag) e (λ h. find-left stag xs ys r h)
   where
@@ -56,7 +56,7 @@ find-left stag (x ∷ xs) ys r e = by (eqb x.stag stag) e (λ h. find-left stag 
     by true e rest = e
     by false e rest = rest e
 
-find-right : (stag : ℕ) (xs ys : List Region) → find (λ x. eqb x.stag stag) xs ≡ None → find (λ x. eqb x.stag stag) (xs ++ ys) ≡ find (λ x. eqb x.stag stag) ys
+pub find-right : (stag : ℕ) (xs ys : List Region) → find (λ x. eqb x.stag stag) xs ≡ None → find (λ x. eqb x.stag stag) (xs ++ ys) ≡ find (λ x. eqb x.stag stag) ys
 find-right stag [] ys e = refl
 find-right stag (x ∷ xs) ys e = by (eqb x.stag stag) e (λ h. find-right stag xs ys h)
   where
@@ -94,7 +94,7 @@ backed-closed : (test : Region → Bool) (place : ℕ) (regions : List Region) (
 backed-closed test place regions [] h = tt
 backed-closed test place regions (o ∷ os) h = (buffers-closed test place regions (buffers o.stag o.plan) h.0, backed-closed test place regions os h.1)
 
-buffers-left : (xs ys : List Region) (bs : List Buffer) → HasBuffers xs bs → HasBuffers (xs ++ ys) bs
+pub buffers-left : (xs ys : List Region) (bs : List Buffer) → HasBuffers xs bs → HasBuffers (xs ++ ys) bs
 buffers-left xs ys [] h = tt
 buffers-left xs ys (b ∷ bs) h = (record { region = h.0.region; there = find-left b.stag xs ys h.0.region h.0.there; own = h.0.own; holds = h.0.holds }, buffers-left xs ys bs h.1)
 
@@ -110,7 +110,7 @@ pub backed-at : (regions : List Region) (xs : List OutstandingCall) (o : Outstan
 backed-at regions [] o ys h = h.0
 backed-at regions (x ∷ xs) o ys h = backed-at regions xs o ys h.1
 
-none-from : (n stag : ℕ) (regions : List Region) → n + length regions ≤ stag → AreNumbered n regions → find (λ x. eqb x.stag stag) regions ≡ None
+pub none-from : (n stag : ℕ) (regions : List Region) → n + length regions ≤ stag → AreNumbered n regions → find (λ x. eqb x.stag stag) regions ≡ None
 none-from n stag [] le h = refl
 none-from n stag (r ∷ regions) le h =
     ap (λ (b : Bool). cond b (Some r) (find (λ x. eqb x.stag stag) regions)) (ne_eqb r.stag stag (λ e. let s = h.0 in omega (arith, s, e, le)))

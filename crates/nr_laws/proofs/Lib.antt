@@ -28,5 +28,6 @@ pub mod Memory
 pub mod ClientMemory
 pub mod SameLists
 pub mod PlanLists
+pub mod SinkReads
 pub mod Twice
 pub mod Words
