@@ -29,5 +29,7 @@ pub mod ClientMemory
 pub mod SameLists
 pub mod PlanLists
 pub mod SinkReads
+pub mod PendingSinks
+pub mod SinksKept
 pub mod Twice
 pub mod Words
