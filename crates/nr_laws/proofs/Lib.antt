@@ -31,5 +31,6 @@ pub mod PlanLists
 pub mod SinkReads
 pub mod PendingSinks
 pub mod SinksKept
+pub mod ReadyCauses
 pub mod Twice
 pub mod Words

@@ -70,7 +70,7 @@ by-message-cause : (k : ServerState) (f : Frame) (segment : Segment) (m : List �
 by-message-cause k f segment m None is e = none-of m [] refl e
 by-message-cause k f segment m (Some message) is e = message-cause k f segment message m is (verdict k message) refl e
 
-and-true : (a b : Bool) → (a && b) ≡ true → (a ≡ true) × (b ≡ true)
+pub and-true : (a b : Bool) → (a && b) ≡ true → (a ≡ true) × (b ≡ true)
 and-true true true e = (refl, refl)
 and-true true false e = absurd cc
 and-true false b e = absurd cc
