@@ -32,5 +32,6 @@ pub mod SinkReads
 pub mod PendingSinks
 pub mod SinksKept
 pub mod ReadyCauses
+pub mod ReadsAlong
 pub mod Twice
 pub mod Words

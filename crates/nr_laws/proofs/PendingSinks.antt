@@ -103,7 +103,7 @@ abbrev pub EachReads : List PendingRead → List Region → List PendingCall →
 EachReads reads regions [] = Unit {0}
 EachReads reads regions (c ∷ calls) = CallReads reads regions c × EachReads reads regions calls
 
-closed-length : (test : Region → Bool) (place : ℕ) (regions : List Region) → length (regions_closed test place regions) ≡ length regions
+pub closed-length : (test : Region → Bool) (place : ℕ) (regions : List Region) → length (regions_closed test place regions) ≡ length regions
 unfolding regions_closed
 closed-length test place [] = refl
 closed-length test place (r ∷ regions) = ap (λ (n : ℕ). suc n) (closed-length test place regions)
