@@ -33,5 +33,7 @@ pub mod PendingSinks
 pub mod SinksKept
 pub mod ReadyCauses
 pub mod ReadsAlong
+pub mod Beyond
+pub mod Revoked
 pub mod Twice
 pub mod Words
