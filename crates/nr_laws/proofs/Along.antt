@@ -158,7 +158,7 @@ whole-more peer old more =
     ∙ ap (λ (xs : List ℕ). length xs) (concat-append (split (HelloFrom peer) old).frames (later_frames peer old more))
     ∙ length-append (concat (split (HelloFrom peer) old).frames) (concat (later_frames peer old more))
 
-whole-within : (link : ℕ) (side : Side) (run : List Mark) → whole_bytes link side run ≤ length (bytes_received link side run)
+pub whole-within : (link : ℕ) (side : Side) (run : List Mark) → whole_bytes link side run ≤ length (bytes_received link side run)
 whole-within link side run =
     let s = split (HelloFrom (other side)) (bytes_received link side run) in
     let e = ap (λ (xs : List ℕ). length xs) (split-Splits (HelloFrom (other side)) (bytes_received link side run)).whole in

@@ -35,5 +35,6 @@ pub mod ReadyCauses
 pub mod ReadsAlong
 pub mod Beyond
 pub mod Revoked
+pub mod Frozen
 pub mod Twice
 pub mod Words

@@ -66,7 +66,7 @@ laid-parts stag bytes [] = refl
 laid-parts stag bytes (Tagged last opcode s to payload ∷ segments) = laid-parts stag (cond (eqb s stag) (bytes_after_write bytes to payload) bytes) segments
 laid-parts stag bytes (Untagged last opcode w queue msn offset payload ∷ segments) = laid-parts stag bytes segments
 
-parts-append : (xs ys : List TaggedSegment) → parts_of (xs ++ ys) ≡ parts_of xs ++ parts_of ys
+pub parts-append : (xs ys : List TaggedSegment) → parts_of (xs ++ ys) ≡ parts_of xs ++ parts_of ys
 parts-append [] ys = refl
 parts-append (x ∷ xs) ys = ap (λ (ps : List Part). part_of x ∷ ps) (parts-append xs ys)
 

@@ -43,7 +43,7 @@ OnlyClosed stag p [] = Unit {0}
 OnlyClosed stag p (r ∷ regions) = (r.stag ≡ stag → IsClosedBy p r.until) × OnlyClosed stag p regions
 
 -- so no access to it is allowed by a frame that ends later
-closed-none : (place stag p end : ℕ) (regions : List Region) → p < end → OnlyClosed stag p regions → find (applies stag end) (map (region_grant place) regions) ≡ None
+pub closed-none : (place stag p end : ℕ) (regions : List Region) → p < end → OnlyClosed stag p regions → find (applies stag end) (map (region_grant place) regions) ≡ None
 closed-none place stag p end [] lt h = refl
 closed-none place stag p end (r ∷ regions) lt h = by (eqb r.stag stag) refl (closed-none place stag p end regions lt h.1)
   where
@@ -59,7 +59,7 @@ closed-none place stag p end (r ∷ regions) lt h = by (eqb r.stag stag) refl (c
         (λ i. cond (is i && (and-false (ltb r.from end) (leb end (until_or place r.until)) dead i)) (Some (region_grant place r)) (find (applies stag end) (map (region_grant place) regions))) ∙ rest
     by false is rest = ap (λ (b : Bool). cond (b && (ltb r.from end && leb end (until_or place r.until))) (Some (region_grant place r)) (find (applies stag end) (map (region_grant place) regions))) is ∙ rest
 
-only-closed : (test : Region → Bool) (later stag p : ℕ) (regions : List Region) → OnlyClosed stag p regions → OnlyClosed stag p (regions_closed test later regions)
+pub only-closed : (test : Region → Bool) (later stag p : ℕ) (regions : List Region) → OnlyClosed stag p regions → OnlyClosed stag p (regions_closed test later regions)
 unfolding regions_closed
 only-closed test later stag p [] h = tt
 only-closed test later stag p (r ∷ regions) h = (by (test r), only-closed test later stag p regions h.1)
@@ -71,17 +71,17 @@ only-closed test later stag p (r ∷ regions) h = (by (test r), only-closed test
     by true e = by_until r.until (h.0 e)
     by false e = h.0 e
 
-only-append : (stag p : ℕ) (xs ys : List Region) → OnlyClosed stag p xs → OnlyClosed stag p ys → OnlyClosed stag p (xs ++ ys)
+pub only-append : (stag p : ℕ) (xs ys : List Region) → OnlyClosed stag p xs → OnlyClosed stag p ys → OnlyClosed stag p (xs ++ ys)
 only-append stag p [] ys h g = g
 only-append stag p (x ∷ xs) ys h g = (h.0, only-append stag p xs ys h.1 g)
 
-only-above : (stag n p : ℕ) (regions : List Region) → stag < n → AreNumbered n regions → OnlyClosed stag p regions
+pub only-above : (stag n p : ℕ) (regions : List Region) → stag < n → AreNumbered n regions → OnlyClosed stag p regions
 only-above stag n p [] lt h = tt
 only-above stag n p (r ∷ regions) lt h = ((λ e. absurd (let s = h.0 in omega (arith, s, e, lt))), only-above stag (n + 1) p regions (omega (arith, lt)) h.1)
 
 -- ---- Lifetimes so far
 
-abbrev UntilBy : ℕ → List Region → Type 0
+abbrev pub UntilBy : ℕ → List Region → Type 0
 UntilBy n [] = Unit {0}
 UntilBy n (r ∷ regions) = IfSome r.until (λ u. u ≤ n) × UntilBy n regions
 
@@ -113,12 +113,12 @@ until-new : (n xid place : ℕ) (bs : List Buffer) → UntilBy n (map (region_of
 until-new n xid place [] = tt
 until-new n xid place (b ∷ bs) = (tt, until-new n xid place bs)
 
-request-regions : (m : ClientState) (o : Option ReadRequest) → (with_request m o).regions ≡ m.regions
+pub request-regions : (m : ClientState) (o : Option ReadRequest) → (with_request m o).regions ≡ m.regions
 request-regions m None = refl
 request-regions m (Some q) = refl
 
 -- what a frame does to regions, for a fact that closing keeps
-frame-regions : (P : List Region → Type 0) (k : ClientState) (f : Frame) → ((test : Region → Bool) → P k.regions → P (regions_closed test f.end k.regions)) → P k.regions → (r : Result Segment ℕ) → P (with_segment k f r).regions
+pub frame-regions : (P : List Region → Type 0) (k : ClientState) (f : Frame) → ((test : Region → Bool) → P k.regions → P (regions_closed test f.end k.regions)) → P k.regions → (r : Result Segment ℕ) → P (with_segment k f r).regions
 frame-regions P k f closes h (Err reason) = h
 frame-regions P k f closes h (Ok s) =
     subst P (sym (request-regions (with_message k f.end (message_completed k.received s)) (read_request_of s))) (by (message_completed k.received s))

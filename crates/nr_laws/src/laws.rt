@@ -1,6 +1,6 @@
 //! The laws, each by its statement in `specs/`.
 
-ghost use Rattle.nr_laws.specs.Touches.{ClientIsTouched, ServerIsTouched};
+ghost use Rattle.nr_laws.specs.Touches.{ClientIsTouched, ServerIsTouched, RevokeStands};
 ghost use Rattle.nr_laws.specs.Grant.{SubmitsWithinGrant};
 ghost use Rattle.nr_laws.specs.Places.{PlacesFollow};
 ghost use Rattle.nr_laws.specs.Once.{NoSendTwice, NoCallTwice, NoXidTwice};
@@ -19,10 +19,11 @@ pub fn places()
 {}
 
 /// On every link a peer accesses only live regions that are offered to it for that access; the first access that isn't allowed
-/// is where a side stops.
+/// is where a side stops. What a Revoke gives back is what stood then, and nothing later changes it.
 pub fn touches()
     ensures client { ClientIsTouched }
     ensures server { ServerIsTouched }
+    ensures revoked { RevokeStands }
 {}
 
 /// Each accepted call is submitted while fewer calls are outstanding than are granted.
