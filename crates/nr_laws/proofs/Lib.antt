@@ -36,5 +36,6 @@ pub mod ReadsAlong
 pub mod Beyond
 pub mod Revoked
 pub mod Frozen
+pub mod Replied
 pub mod Twice
 pub mod Words
