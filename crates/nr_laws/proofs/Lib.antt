@@ -37,5 +37,6 @@ pub mod Beyond
 pub mod Revoked
 pub mod Frozen
 pub mod Replied
+pub mod Otherwise
 pub mod Twice
 pub mod Words

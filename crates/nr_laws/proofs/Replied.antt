@@ -46,15 +46,15 @@ drop-behind n [] ys k e = ap (λ (i : ℕ). drop i ys) (let s : n ≡ k = omega 
 drop-behind zero (x ∷ xs) ys k e = absurd (omega (arith, e))
 drop-behind (suc n) (x ∷ xs) ys k e = drop-behind n xs ys k (omega (arith, e))
 
-word-behind : (n m k : ℕ) (rest : List ℕ) → m ≡ 4 + k → word_at m (word n ++ rest) ≡ word_at k rest
+pub word-behind : (n m k : ℕ) (rest : List ℕ) → m ≡ 4 + k → word_at m (word n ++ rest) ≡ word_at k rest
 word-behind n m k rest e =
     let l = length-word n in
     ap (λ (bytes : List ℕ). word_of (take 4 bytes)) (drop-behind m (word n) rest k (omega (arith, e, l)))
 
-first-word : (n : ℕ) (rest : List ℕ) → n < 4294967296 → word_at 0 (word n ++ rest) ≡ n
+pub first-word : (n : ℕ) (rest : List ℕ) → n < 4294967296 → word_at 0 (word n ++ rest) ≡ n
 first-word n rest fits = ap word_of (take_at (word n) rest 4 (length-word n)) ∙ word_of-word n fits
 
-kind-word : (a b c d : ℕ) (rest : List ℕ) → d < 4294967296 → word_at 12 (word a ++ (word b ++ (word c ++ (word d ++ rest)))) ≡ d
+pub kind-word : (a b c d : ℕ) (rest : List ℕ) → d < 4294967296 → word_at 12 (word a ++ (word b ++ (word c ++ (word d ++ rest)))) ≡ d
 kind-word a b c d rest fits =
     word-behind a 12 8 (word b ++ (word c ++ (word d ++ rest))) (omega arith) ∙ word-behind b 8 4 (word c ++ (word d ++ rest)) (omega arith) ∙ word-behind c 4 0 (word d ++ rest) (omega arith) ∙ first-word d rest fits
 
@@ -67,7 +67,7 @@ pub data IsErrorBody : Body → Type 0 where
   OtherVersions : (version low high : ℕ) → IsErrorBody (ErrVers version low high)
   NoChunks : (version : ℕ) → IsErrorBody (ErrChunk version)
 
-same-body : (x credit : ℕ) (b : Body) (h : Header) → ◌≡◌ {A = Result Header HeaderFault} (Ok (record { xid = x; credit = credit; body = b })) (Ok h) → b ≡ h.body
+pub same-body : (x credit : ℕ) (b : Body) (h : Header) → ◌≡◌ {A = Result Header HeaderFault} (Ok (record { xid = x; credit = credit; body = b })) (Ok h) → b ≡ h.body
 same-body x credit b h e = cc
 
 error-body : (m : List ℕ) (b : Body) → error_of m ≡ Some b → IsErrorBody b
@@ -78,20 +78,23 @@ error-body m b e = by (eqb (length m) 28 && eqb (word_at 16 m) 1) (eqb (length m
     by false true e = subst IsErrorBody (let s : Some (ErrChunk (word_at 4 m)) ≡ Some b = e in cc) (NoChunks (word_at 4 m))
     by false false e = absurd cc
 
-pub error-header : (m : List ℕ) (h : Header) → word_at 12 m ≡ 4 → header_of m ≡ Ok h → IsErrorBody h.body
+pub error-read : (m : List ℕ) (h : Header) → word_at 12 m ≡ 4 → header_of m ≡ Ok h → error_of m ≡ Some h.body
 unfolding header_of body_by version1_of
-error-header m h kind is =
+error-read m h kind is =
     by (ltb (length m) 16) (ap (λ (k : ℕ). cond (ltb (length m) 16) (Err faults.Short) (header_by (word_at 0 m) (word_at 8 m) (body_by (error_by k m) (word_at 4 m) k m))) (sym kind) ∙ is)
   where
-    by_version : (b : Bool) → header_by (word_at 0 m) (word_at 8 m) (cond b (version1_of 4 m) (Err (faults.Version (word_at 4 m)))) ≡ Ok h → IsErrorBody h.body
+    by_version : (b : Bool) → header_by (word_at 0 m) (word_at 8 m) (cond b (version1_of 4 m) (Err (faults.Version (word_at 4 m)))) ≡ Ok h → error_of m ≡ Some h.body
     by_version true e = absurd cc
     by_version false e = absurd cc
-    by_error : (o : Option Body) → error_of m ≡ o → header_by (word_at 0 m) (word_at 8 m) (body_by o (word_at 4 m) 4 m) ≡ Ok h → IsErrorBody h.body
+    by_error : (o : Option Body) → error_of m ≡ o → header_by (word_at 0 m) (word_at 8 m) (body_by o (word_at 4 m) 4 m) ≡ Ok h → error_of m ≡ Some h.body
     by_error None own e = by_version (eqb (word_at 4 m) 1) e
-    by_error (Some b) own e = subst IsErrorBody (same-body (word_at 0 m) (word_at 8 m) b h e) (error-body m b own)
-    by : (b : Bool) → cond b (Err faults.Short) (header_by (word_at 0 m) (word_at 8 m) (body_by (error_of m) (word_at 4 m) 4 m)) ≡ Ok h → IsErrorBody h.body
+    by_error (Some b) own e = own ∙ ap (λ (x : Body). Some x) (same-body (word_at 0 m) (word_at 8 m) b h e)
+    by : (b : Bool) → cond b (Err faults.Short) (header_by (word_at 0 m) (word_at 8 m) (body_by (error_of m) (word_at 4 m) 4 m)) ≡ Ok h → error_of m ≡ Some h.body
     by true e = absurd cc
     by false e = by_error (error_of m) refl e
+
+pub error-header : (m : List ℕ) (h : Header) → word_at 12 m ≡ 4 → header_of m ≡ Ok h → IsErrorBody h.body
+error-header m h kind is = error-body m h.body (error-read m h kind is)
 
 -- an error message brings no reply
 pub error-no-reply : (k : ClientState) (place : ℕ) (m : List ℕ) (xid : ℕ) (p : List ℕ) → word_at 12 m ≡ 4 → verdict k place m ≡ GivesOutcome xid (Some (outcomes.Reply p)) → ⊥
