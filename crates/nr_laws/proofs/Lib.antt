@@ -38,5 +38,6 @@ pub mod Revoked
 pub mod Frozen
 pub mod Replied
 pub mod Otherwise
+pub mod Completed
 pub mod Twice
 pub mod Words
