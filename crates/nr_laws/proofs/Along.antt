@@ -1,8 +1,7 @@
 -- Along the events of a run: frames that follow each other, and what a side writes for each event.
-use Rattle.std.proofs.Common.{◌≡◌, ℕ, ◌+◌, ◌≤◌, ◌<◌, Bool, true, false, cond, ◌&&◌, eqb, List, [], ◌∷◌, ◌++◌, length, take, drop, map, Option, None, Some, Result, Ok, Err, refl, sym, ap, subst, ◌∙◌, arith, append_assoc, append-nil, length-append, add-zero, inl, inr, ◌-◌}
-use Rattle.std.specs.List.{flat_map, concat}
-use Rattle.std.proofs.lemmas.Grind.{flat_map-append}
-use Rattle.std.proofs.lemmas.Bool.{eqb-true, cases_lt}
+use Rattle.std.proofs.Common.{◌≡◌, ℕ, ◌+◌, ◌≤◌, ◌<◌, Bool, true, false, cond, ◌&&◌, eqb, List, [], ◌∷◌, ◌++◌, length, map, Option, None, Some, refl, sym, ap, subst, ◌∙◌, arith, append_assoc, append-nil, length-append, add-zero, inl, inr, ◌-◌}
+use Rattle.std.specs.List.{concat}
+use Rattle.std.proofs.lemmas.Bool.{cases_lt}
 use Rattle.std.proofs.lemmas.List.{get_or-append_right, get_or_append_left}
 use Rattle.nr_xdr.specs.Item.{IsBytes}
 use Rattle.nr_xdr.proofs.Chains.{IsBytes-left, IsBytes-right}
@@ -10,7 +9,7 @@ use Rattle.nr_wire.specs.declared.hello.Side.{Side}
 use Rattle.nr_wire.specs.declared.hello.Side.TheVariants.{Initiator, Responder}
 use Rattle.nr_wire.specs.declared.stream.Awaited.{Awaited}
 use Rattle.nr_wire.specs.declared.stream.Awaited.TheVariants.{Hello as HelloFrom, Fpdu}
-use Rattle.nr_wire.specs.Stream.{Split, Splits, split, awaited_after, IsFrame, AreFrames, fields_len}
+use Rattle.nr_wire.specs.Stream.{Split, split, awaited_after, AreFrames}
 use Rattle.nr_wire.proofs.Splits.{split-Splits, split-append}
 use Rattle.nr_wire.proofs.Frames.{fields_some}
 use Rattle.nr_link.specs.declared.end.End.{End as Stop}
@@ -19,14 +18,12 @@ use Rattle.nr_link.proofs.Streams.{frames_completed-split}
 use Rattle.nr_reduce.specs.declared.call.Submission.TheVariants as submissions
 use Rattle.nr_reduce.specs.declared.mark.Mark.{Mark}
 use Rattle.nr_reduce.specs.declared.mark.Mark.TheVariants as marks
-use Rattle.nr_reduce.specs.declared.mark.LinkParameters.{LinkParameters}
-use Rattle.nr_reduce.specs.declared.outline.Plan.{Plan}
-use Rattle.nr_reduce.specs.History.{AcceptedCall, ExecutedCall, other, same_side, bytes_received, fed_at}
+use Rattle.nr_reduce.specs.History.{other, same_side, bytes_received, fed_at}
 use Rattle.nr_reduce.specs.AtEachMark.{AtEachMark}
 use Rattle.nr_reduce.specs.Events.{Event, events, events_at, if_own}
 use Rattle.nr_reduce.specs.Events.Event.{FrameReceived, CallSubmitted, MemoryRevoked, CallExecuted, QueueWritten}
-use Rattle.nr_reduce.specs.EndRules.{Rules, EndState, next_end_state, end_state_after, output_for_all}
-use Rattle.nr_reduce.proofs.Steps.{events-one, end_state_after-append}
+use Rattle.nr_reduce.specs.EndRules.{Rules, EndState, next_end_state, end_state_after}
+use Rattle.nr_reduce.proofs.Steps.{events-one}
 use Rattle.nr_laws.specs.Typed.{TypedMark}
 use Rattle.nr_laws.proofs.Flows.{got-one}
 use Rattle.nr_laws.proofs.Outputs.{Output}
@@ -98,7 +95,7 @@ places-append place (e ∷ es) more = places-append (place_after place e) es mor
 pub along : {S : Type 0} (rules : Rules S) (says : S → Event → List Output) (last : Stop → List Output) (Good : EndState S → Event → Type 0)
     (P : List Event → ℕ → EndState S → List Output → Type 0)
     → ((es : List Event) (place : ℕ) (r : EndState S) (outs : List Output) (e : Event) → IsNext place e → Good r e → P es place r outs
-      → P (es ++ e ∷ []) (place_after place e) (next_end_state rules r e) (outs ++ outputs_for rules says last r e))
+    → P (es ++ e ∷ []) (place_after place e) (next_end_state rules r e) (outs ++ outputs_for rules says last r e))
     → (es : List Event) (place : ℕ) (r : EndState S) (outs : List Output) (more : List Event) → GoesOn rules Good place r more → P es place r outs
     → P (es ++ more) (places_after place more) (end_state_after rules r more) (outs ++ outputs_all rules says last r more)
 along rules says last Good P step es place r outs [] h p =
@@ -226,12 +223,16 @@ fed-goes rules Good good r link side before l s bytes old new = by (eqb l link &
   where
     peer : Side
     peer = other side
+
     got : List ℕ
     got = bytes_received link side before
+
     fs : List (List ℕ)
     fs = later_frames peer got bytes
+
     place : ℕ
     place = whole_bytes link side before
+
     by : (b : Bool) → (eqb l link && same_side s side) ≡ b
         → GoesOn rules Good place r (if_own b (map FrameReceived (frames_completed peer got bytes)))
         × (places_after place (if_own b (map FrameReceived (frames_completed peer got bytes))) ≡ whole_bytes link side (before ++ marks.Fed l s bytes ∷ []))
@@ -243,10 +244,11 @@ fed-goes rules Good good r link side before l s bytes old new = by (eqb l link &
         let rest : IsBytes (split (HelloFrom peer) got).rest = IsBytes-right (concat (split (HelloFrom peer) got).frames) (split (HelloFrom peer) got).rest (subst IsBytes (split-Splits (HelloFrom peer) got).whole old) in
         let some : AreSome fs = some-frames _ fs _ splits.each (subst IsBytes splits.whole (bytes-both _ bytes rest new)) in
         let all : bytes_received link side (before ++ marks.Fed l s bytes ∷ []) ≡ got ++ bytes =
-            got-one link side before (marks.Fed l s bytes) ∙ ap (λ (b : Bool). got ++ cond b bytes []) is in
-        (subst (λ (es : List Event). GoesOn rules Good place r es) (sym events) (frames-go rules Good good place r fs some),
-         ap (λ (es : List Event). places_after place es) events ∙ places-frames place fs ∙ sym (whole-more peer got bytes)
-         ∙ ap (λ (xs : List ℕ). length (concat (split (HelloFrom peer) xs).frames)) (sym all))
+        got-one link side before (marks.Fed l s bytes) ∙ ap (λ (b : Bool). got ++ cond b bytes []) is in (
+          subst (λ (es : List Event). GoesOn rules Good place r es) (sym events) (frames-go rules Good good place r fs some),
+          ap (λ (es : List Event). places_after place es) events ∙ places-frames place fs ∙ sym (whole-more peer got bytes)
+              ∙ ap (λ (xs : List ℕ). length (concat (split (HelloFrom peer) xs).frames)) (sym all),
+        )
 
 mark-goes : {S : Type 0} (rules : Rules S) (Good : EndState S → Event → Type 0) → ((r : EndState S) (f : Frame) → IsBytes f.bytes → Good r (FrameReceived f))
     → (r : EndState S) (link : ℕ) (side : Side) (before : List Mark) (mark : Mark) → IsBytes (bytes_received link side before) → TypedMark before mark

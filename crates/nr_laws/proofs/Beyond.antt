@@ -1,11 +1,11 @@
 -- Frames that more bytes of a stream complete end behind the bytes that were there before.
-use Rattle.std.proofs.Common.{◌≡◌, ℕ, suc, ◌+◌, ◌≤◌, ◌<◌, Bool, true, false, List, [], ◌∷◌, ◌++◌, length, drop, refl, sym, ap, subst, ◌∙◌, arith, append_assoc, length-append, inl, inr}
+use Rattle.std.proofs.Common.{◌≡◌, ℕ, ◌+◌, ◌≤◌, ◌<◌, List, [], ◌∷◌, ◌++◌, length, drop, refl, sym, ap, subst, ◌∙◌, arith, append_assoc, length-append, inl, inr}
 use Rattle.std.proofs.lemmas.Bool.{cases_lt}
 use Rattle.std.specs.List.{concat}
 use Rattle.nr_wire.specs.declared.hello.Side.{Side}
 use Rattle.nr_wire.specs.declared.stream.Awaited.{Awaited}
 use Rattle.nr_wire.specs.declared.stream.Awaited.TheVariants.{Hello as HelloFrom, Fpdu}
-use Rattle.nr_wire.specs.Stream.{Split, Splits, split, frame_then, awaited_after, IsFrame, AreFrames}
+use Rattle.nr_wire.specs.Stream.{Split, split, frame_then, awaited_after, AreFrames}
 use Rattle.nr_wire.proofs.Frames.{partial_not_whole}
 use Rattle.nr_wire.proofs.Splits.{split-Splits, split-frame, split-partial}
 use Rattle.nr_link.specs.Frames.{Frame, frames_from, frames_completed}

@@ -1,7 +1,7 @@
 -- On a matched link the frames that a side receives are the first hellos and segments that the other side writes, each read as it
 -- was written.
-use Rattle.std.proofs.Common.{◌≡◌, ◌≢◌, ℕ, suc, ◌+◌, ◌≤◌, ◌<◌, Bool, true, false, cond, ◌&&◌, eqb, List, [], ◌∷◌, ◌++◌, length, take, drop, map, Option, None, Some, Result, Ok, Err, refl, sym, ap, subst, ◌∙◌, arith, append_assoc, append-nil, length-append, add-zero, take_all, take-append-drop, zero, lit≤, ne_eqb, eq-eqb}
-use Rattle.std.specs.List.{flat_map, concat}
+use Rattle.std.proofs.Common.{◌≡◌, ℕ, suc, ◌+◌, ◌≤◌, ◌<◌, Bool, true, false, cond, ◌&&◌, eqb, List, [], ◌∷◌, ◌++◌, length, take, drop, map, Result, Ok, Err, refl, sym, ap, subst, ◌∙◌, arith, append_assoc, append-nil, take_all, take-append-drop, zero, lit≤, ne_eqb}
+use Rattle.std.specs.List.{concat}
 use Rattle.std.proofs.lemmas.List.{take_at}
 use Rattle.nr_wire.specs.declared.hello.Side.{Side}
 use Rattle.nr_wire.specs.declared.hello.Side.TheVariants.{Initiator, Responder}
@@ -135,9 +135,9 @@ first-of a stream outs from p =
     let first = split a stream in
     let rest = split (awaited_after a first.frames) (first.rest ++ p.0) in
     let both : frames_then first.frames rest ≡ frames_then all (split (awaited_after a all) []) =
-        sym (split-append a stream p.0) ∙ ap (λ (xs : List ℕ). split a xs) whole ∙ split-frames a all [] (from-frames a outs from) in
+    sym (split-append a stream p.0) ∙ ap (λ (xs : List ℕ). split a xs) whole ∙ split-frames a all [] (from-frames a outs from) in
     let frames : first.frames ++ rest.frames ≡ all =
-        ap (λ (s : Split). s.frames) both ∙ ap (λ (s : Split). all ++ s.frames) (split-nothing (awaited_after a all)) ∙ append-nil all in
+    ap (λ (s : Split). s.frames) both ∙ ap (λ (s : Split). all ++ s.frames) (split-nothing (awaited_after a all)) ∙ append-nil all in
     let n = length first.frames in record {
       came = take n outs;
       left = drop n outs;
@@ -209,8 +209,10 @@ mark-frames link side before (marks.Fed l s bytes) = by (eqb l link && same_side
   where
     peer : Side
     peer = other side
+
     old : List ℕ
     old = bytes_received link side before
+
     by : (b : Bool) → frames_by peer (old ++ cond b bytes []) ≡ frames_by peer old ++ frames_in (if_own b (map FrameReceived (frames_completed peer old bytes)))
     by true = frames-more peer old bytes ∙ ap (λ (fs : List Frame). frames_by peer old ++ fs) (sym (frames_in-map (frames_completed peer old bytes)))
     by false = ap (λ (xs : List ℕ). frames_by peer xs) (append-nil old) ∙ sym (append-nil (frames_by peer old))
@@ -231,10 +233,10 @@ run-frames : (link : ℕ) (side : Side) (before run : List Mark) → frames_in (
 run-frames link side before [] h = subst (λ (b : List Mark). frames_in (events link side b) ≡ frames_by (other side) (bytes_received link side b)) (sym (append-nil before)) h
 run-frames link side before (mark ∷ run) h =
     let next : frames_in (events link side (before ++ mark ∷ [])) ≡ frames_by (other side) (bytes_received link side (before ++ mark ∷ [])) =
-        ap frames_in (events-one link side before mark) ∙ frames_in-append (events link side before) (events_at link side before mark)
-        ∙ ap (λ (fs : List Frame). fs ++ frames_in (events_at link side before mark)) h
-        ∙ sym (mark-frames link side before mark)
-        ∙ ap (λ (xs : List ℕ). frames_by (other side) xs) (sym (got-one link side before mark)) in
+    ap frames_in (events-one link side before mark) ∙ frames_in-append (events link side before) (events_at link side before mark)
+    ∙ ap (λ (fs : List Frame). fs ++ frames_in (events_at link side before mark)) h
+    ∙ sym (mark-frames link side before mark)
+    ∙ ap (λ (xs : List ℕ). frames_by (other side) xs) (sym (got-one link side before mark)) in
     subst (λ (b : List Mark). frames_in (events link side b) ≡ frames_by (other side) (bytes_received link side b)) (append_assoc before (mark ∷ []) run) (run-frames link side (before ++ mark ∷ []) run next)
 
 pub events-frames : (link : ℕ) (side : Side) (run : List Mark) → frames_in (events link side run) ≡ frames_by (other side) (bytes_received link side run)

@@ -1,16 +1,13 @@
 -- A client says what it has to, from event to event.
-use Rattle.std.proofs.Common.{◌≡◌, ◌≢◌, ℕ, zero, suc, ◌+◌, ◌^◌, ◌≤◌, ◌<◌, Bool, true, false, cond, ◌&&◌, ◌||◌, not, eqb, ltb, List, [], ◌∷◌, ◌++◌, length, take, drop, map, Option, None, Some, Result, Ok, Err, refl, sym, ap, subst, ◌∙◌, arith, append_assoc, append-nil, length-append, inl, inr, ◌⊎◌, eq-eqb, eqb-true}
+use Rattle.std.proofs.Common.{◌≡◌, ℕ, zero, suc, ◌+◌, ◌<◌, Bool, true, false, cond, eqb, List, [], ◌∷◌, ◌++◌, length, take, drop, map, Option, None, Some, Result, Ok, Err, refl, sym, ap, subst, ◌∙◌, arith, append-nil, length-append, inl, inr, eqb-true}
 use Rattle.nr_xdr.specs.Item.{IsBytes}
-use Rattle.nr_wire.specs.declared.hello.Side.TheVariants.{Initiator, Responder}
-use Rattle.nr_wire.specs.declared.stream.Awaited.TheVariants.{Hello as HelloFrom, Fpdu}
+use Rattle.nr_wire.specs.declared.stream.Awaited.TheVariants.{Fpdu}
 use Rattle.nr_wire.specs.Segment.{Segment}
-use Rattle.nr_wire.specs.Segment.Segment.{Tagged, Untagged}
-use Rattle.nr_wire.specs.Hello.{hello_of}
 use Rattle.nr_link.specs.declared.end.End.{End as Stop}
 use Rattle.nr_link.specs.declared.end.End.TheVariants as ends
 use Rattle.nr_link.specs.Frames.{Frame, is_hello}
 use Rattle.nr_link.specs.ReceiveState.{ReadRequest, read_request_of, message_completed}
-use Rattle.nr_link.specs.SegmentFaults.{is_malformed, segment_fault}
+use Rattle.nr_link.specs.SegmentFaults.{segment_fault}
 use Rattle.nr_link.specs.Ending.{frame_segment, missing_access, is_hello_reason}
 use Rattle.nr_reduce.specs.declared.mark.LinkParameters.{LinkParameters}
 use Rattle.nr_reduce.specs.declared.outline.Plan.{Plan}
@@ -18,18 +15,18 @@ use Rattle.nr_reduce.specs.History.{AcceptedCall}
 use Rattle.nr_reduce.specs.Limits.{send_max}
 use Rattle.nr_reduce.specs.Events.{Event}
 use Rattle.nr_reduce.specs.Events.Event.{FrameReceived, CallSubmitted, MemoryRevoked, CallExecuted, QueueWritten}
-use Rattle.nr_reduce.specs.EndRules.{EndState, next_end_state_by, next_end_state_in}
+use Rattle.nr_reduce.specs.EndRules.{next_end_state_by, next_end_state_in}
 use Rattle.nr_reduce.specs.OfferedRegions.{region_grants}
 use Rattle.nr_reduce.specs.Plans.{TooLarge, plan_of, regions_needed}
 use Rattle.nr_reduce.specs.ClientState.{ClientState, OutstandingCall, call_payload, plan_for, memory_at}
-use Rattle.nr_reduce.specs.Client.{client_rules, client_end, client_state_after, readiness, segment_request, outstanding_of, plan_or, with_message, with_request, with_segment, revoked_call, written_call}
+use Rattle.nr_reduce.specs.Client.{client_rules, client_end, client_state_after, readiness, segment_request, outstanding_of, plan_or, with_message, with_request, with_segment}
 use Rattle.nr_reduce.specs.RunLaws.{outstanding_from, as_submitted}
 use Rattle.nr_reduce.proofs.Sizes.{message_size}
 use Rattle.nr_laws.proofs.Along.{IsNext, place_after, outputs_by, outputs_in}
 use Rattle.nr_laws.proofs.Outputs.{Output, IsShort, CallsShort, message_of_call, send_segment, call_sends, client_says, response_outputs, response_segments, final_outputs, terminate_segment}
-use Rattle.nr_laws.proofs.Outputs.Output.{AHello, ASegment}
-use Rattle.nr_laws.proofs.Brought.{IsWord, AreFrom}
-use Rattle.nr_laws.proofs.Words.{send-word, terminate-word, from-append, payload-bytes, payload_by}
+use Rattle.nr_laws.proofs.Outputs.Output.{ASegment}
+use Rattle.nr_laws.proofs.Brought.{AreFrom}
+use Rattle.nr_laws.proofs.Words.{send-word, terminate-word, from-append, payload-bytes}
 use Rattle.nr_laws.proofs.Messages.{messages, AreOne, messages-append, one-append, messages-calls, one-calls, messages-tagged, one-tagged, tagged-response, messages-final, one-final}
 use Rattle.nr_laws.proofs.ClientSays.{IsGoodCall, ClientGood, accepted_in, accepted-append, stag_behind, from-more, behind-more, start, asked, HasHello, ClientSays, short-append, short-filter, short-revoked, short-written, submitted-append, submitted-messages, map-more, revoked-same, written-same, client-unharmed, formed, response-words}
 
@@ -78,9 +75,9 @@ segment-quiet k f bytes behind stays = by (frame_segment f) refl
     by (Ok segment) is =
         quiet-response k f.end (read_request_of segment)
         (λ q own. response-words k f.end segment (payload-bytes f.bytes segment bytes is) q own
-          (λ last opcode w queue msn offset payload same.
-            formed (readiness k (missing_access (region_grants f.end k.regions) f segment)) last opcode w queue msn offset payload
-            (subst (λ (s : Segment). segment_fault (readiness k (missing_access (region_grants f.end k.regions) f segment)) s ≡ None) same (client-unharmed k f segment behind is stays))))
+        (λ last opcode w queue msn offset payload same.
+        formed (readiness k (missing_access (region_grants f.end k.regions) f segment)) last opcode w queue msn offset payload
+        (subst (λ (s : Segment). segment_fault (readiness k (missing_access (region_grants f.end k.regions) f segment)) s ≡ None) same (client-unharmed k f segment behind is stays))))
 
 -- ---- A step that accepts no call and hears no hello
 
@@ -187,7 +184,7 @@ short-call opened k a plan planned =
 
 call-step : (opened : LinkParameters) (es : List Event) (place p : ℕ) (k : ClientState) (outs : List Output) (a : AcceptedCall) (plan : Plan) → plan_for k a.xid a.call a.form ≡ Ok plan → ClientSays opened es place k None outs
     → ClientSays opened (es ++ CallSubmitted p a ∷ []) place (client_state_after opened k (CallSubmitted p a)) None
-        (outs ++ cond k.has_hello (ASegment (send_segment (k.calls_accepted + 1) (message_of_call opened (outstanding_of k a))) ∷ []) [])
+    (outs ++ cond k.has_hello (ASegment (send_segment (k.calls_accepted + 1) (message_of_call opened (outstanding_of k a))) ∷ []) [])
 unfolding client_state_after plan_for
 call-step opened es place p k outs a plan planned h =
     let own : OutstandingCall = outstanding_of k a in
@@ -196,8 +193,8 @@ call-step opened es place p k outs a plan planned h =
     let more : accepted_in (es ++ CallSubmitted p a ∷ []) ≡ before ++ a ∷ [] = accepted-append es (CallSubmitted p a ∷ []) in
     let same : own ≡ outstanding_of (record (start opened) { stag = next }) a = ap (λ (stag : ℕ). outstanding_of (record (start opened) { stag = stag }) a) h.stag in
     let all : asked opened (es ++ CallSubmitted p a ∷ []) ≡ asked opened es ++ own ∷ [] =
-        ap (λ (xs : List AcceptedCall). outstanding_from (start opened) opened.first_stag xs) more ∙ from-more (start opened) opened.first_stag before a
-        ∙ ap (λ (o : OutstandingCall). asked opened es ++ o ∷ []) (sym same) in
+    ap (λ (xs : List AcceptedCall). outstanding_from (start opened) opened.first_stag xs) more ∙ from-more (start opened) opened.first_stag before a
+    ∙ ap (λ (o : OutstandingCall). asked opened es ++ o ∷ []) (sym same) in
     let short : IsShort (message_of_call opened own) = short-call opened k a plan planned in
     record {
       short = short-append opened k.outstanding (own ∷ []) h.short (short, tt);
@@ -213,12 +210,15 @@ call-step opened es place p k outs a plan planned h =
   where
     says : Bool → List Output
     says b = cond b (ASegment (send_segment (k.calls_accepted + 1) (message_of_call opened (outstanding_of k a))) ∷ []) []
+
     words_by : (b : Bool) → IsShort (message_of_call opened (outstanding_of k a)) → AreFrom Fpdu (says b)
     words_by true s = (send-word (k.calls_accepted + 1) (message_of_call opened (outstanding_of k a)) s, tt)
     words_by false s = tt
+
     one_by : (b : Bool) → AreOne (says b)
     one_by true = (refl, tt)
     one_by false = tt
+
     by : (b : Bool) → k.has_hello ≡ b → (own : OutstandingCall) → asked opened (es ++ CallSubmitted p a ∷ []) ≡ asked opened es ++ outstanding_of k a ∷ []
         → messages outs ++ messages (says b) ≡ cond b (map (message_of_call opened) (asked opened (es ++ CallSubmitted p a ∷ []))) []
     by true is own all =
@@ -240,14 +240,15 @@ frame-says opened es place k outs f next p = by_end (client_end k (FrameReceived
   where
     by_hello : (b : Bool) → is_hello f ≡ b → client_end k (FrameReceived f) ≡ None
         → ClientSays opened (es ++ FrameReceived f ∷ []) f.end (cond b (record k { has_hello = true }) (with_segment k f (frame_segment f))) None
-            (outs ++ cond b (call_sends opened 1 k.outstanding) (response_outputs k f.end (segment_request (frame_segment f))))
+        (outs ++ cond b (call_sends opened 1 k.outstanding) (response_outputs k f.end (segment_request (frame_segment f))))
     by_hello true is stays = hello-step opened es place k outs f (eqb-true f.at 0 is) next.0 next.1 p
     by_hello false is stays =
         quiet-step opened es (FrameReceived f) place f.end k (with_segment k f (frame_segment f)) None None outs _ refl
         (segment-step opened place k f (not-first f.at is) next.0 next.1 (p.greeted refl)) (segment-quiet k f next.2 is stays) p
+
     by_end : (o : Option Stop) → client_end k (FrameReceived f) ≡ o
         → ClientSays opened (es ++ FrameReceived f ∷ []) f.end (next_end_state_by (client_rules opened) k (FrameReceived f) o).state (next_end_state_by (client_rules opened) k (FrameReceived f) o).ended
-            (outs ++ outputs_by (client_rules opened) (client_says opened) final_outputs k (FrameReceived f) o)
+        (outs ++ outputs_by (client_rules opened) (client_says opened) final_outputs k (FrameReceived f) o)
     by_end None stays = by_hello (is_hello f) refl stays
     by_end (Some end) stays = quiet-step opened es (FrameReceived f) place f.end k k None (Some end) outs (final_outputs end) refl (stays-step opened f.end k end) (quiet-final end) p
 

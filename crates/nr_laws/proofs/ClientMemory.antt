@@ -1,12 +1,9 @@
 -- What a client keeps along its events: its outstanding calls are calls that it accepted, their regions are there, and each access is
 -- allowed.
-use Rattle.std.proofs.Common.{◌≡◌, ◌≢◌, ℕ, zero, suc, ◌+◌, ◌≤◌, ◌<◌, Bool, true, false, cond, ◌&&◌, not, eqb, List, [], ◌∷◌, ◌++◌, length, map, Option, None, Some, Result, Ok, Err, refl, sym, ap, subst, ◌∙◌, arith, append_assoc, append-nil, length-append, eq-eqb, ne_eqb, eqb-true, inl, inr}
-use Rattle.std.proofs.lemmas.Bool.{cases_eq}
+use Rattle.std.proofs.Common.{◌≡◌, ℕ, ◌+◌, ◌≤◌, Bool, true, false, cond, not, eqb, List, [], ◌∷◌, ◌++◌, length, map, Option, None, Some, Result, Ok, Err, refl, sym, ap, subst, ◌∙◌, arith, append_assoc, append-nil, eq-eqb, ne_eqb}
 use Rattle.std.specs.List.{filter, find}
-use Rattle.std.specs.Prelude.{option_and_then}
 use Rattle.nr_wire.specs.Segment.{Segment}
 use Rattle.nr_wire.specs.Segment.Segment.{Tagged, Untagged}
-use Rattle.nr_regions.specs.declared.denied.Denied.{Denied}
 use Rattle.nr_regions.specs.Access.{TaggedSegment}
 use Rattle.nr_link.specs.declared.end.End.{End as Stop}
 use Rattle.nr_link.specs.Frames.{Frame, is_hello}
@@ -22,15 +19,13 @@ use Rattle.nr_reduce.specs.Plans.{Buffer, buffers}
 use Rattle.nr_reduce.specs.ClientState.{ClientState, OutstandingCall, plan_for}
 use Rattle.nr_reduce.specs.Client.{client_rules, client_end, client_state_after, outstanding_of, region_of, with_message, with_request, with_segment, revoked_call, written_call, initial_client}
 use Rattle.nr_reduce.specs.Server.{tagged_accesses}
-use Rattle.nr_reduce.specs.SubmitAnswer.{next_xid}
 use Rattle.nr_reduce.specs.RunLaws.{outstanding_from}
 use Rattle.nr_reduce.proofs.Touches.{client_touched}
 use Rattle.nr_reduce.proofs.OwnStags.{AreNumbered, numbered-buffers, ClientNumbers, client-numbers}
 use Rattle.nr_laws.proofs.Along.{IsNext, GoesOn, along, place_after, places_after}
 use Rattle.nr_reduce.proofs.Steps.{end_state_after-append}
-use Rattle.nr_laws.proofs.Outputs.{Output}
 use Rattle.nr_laws.proofs.ClientSays.{IsGoodCall, ClientGood, accepted_in, accepted-append, stag_behind, from-more, start, asked, ClientSays}
-use Rattle.nr_laws.proofs.Memory.{Gathering, accesses_event, Settled, settled-later, settled-closed, settled-append, settled-more, revoked-settled}
+use Rattle.nr_laws.proofs.Memory.{Gathering, Settled, settled-later, settled-closed, settled-append, settled-more, revoked-settled}
 
 -- ---- Regions
 
@@ -72,6 +67,7 @@ find-closed test place stag (x ∷ regions) r e = ap (λ (n : ℕ). cond (eqb n 
     same : (b : Bool) → (closed_if b place x).stag ≡ x.stag
     same true = refl
     same false = refl
+
     by : (b : Bool) → cond b (Some x) (find (λ x. eqb x.stag stag) regions) ≡ Some r → (find (λ x. eqb x.stag stag) regions ≡ Some r → find (λ x. eqb x.stag stag) (map (λ r. closed_if (test r) place r) regions) ≡ Some (closed_if (test r) place r))
         → cond b (Some (closed_if (test x) place x)) (find (λ x. eqb x.stag stag) (map (λ r. closed_if (test r) place r) regions)) ≡ Some (closed_if (test r) place r)
     by true e rest = (let s : x ≡ r = (let t : Some x ≡ Some r = e in cc) in ap (λ (q : Region). Some (closed_if (test q) place q)) s)
@@ -121,10 +117,10 @@ new-buffers xid place n front [] none h = tt
 new-buffers xid place n front (b ∷ bs) none h =
     let r : Region = region_of xid place b in
     let here : find (λ x. eqb x.stag b.stag) (front ++ r ∷ map (region_of xid place) bs) ≡ Some r =
-        find-right b.stag front (r ∷ map (region_of xid place) bs) (none b.stag (let s = h.0 in omega (arith, s)))
-        ∙ ap (λ (c : Bool). cond c (Some r) (find (λ x. eqb x.stag b.stag) (map (region_of xid place) bs))) (eq-eqb b.stag b.stag refl) in
+    find-right b.stag front (r ∷ map (region_of xid place) bs) (none b.stag (let s = h.0 in omega (arith, s)))
+    ∙ ap (λ (c : Bool). cond c (Some r) (find (λ x. eqb x.stag b.stag) (map (region_of xid place) bs))) (eq-eqb b.stag b.stag refl) in
     let later : (s : ℕ) → n + 1 ≤ s → find (λ x. eqb x.stag s) (front ++ r ∷ []) ≡ None = λ s le.
-        find-right s front (r ∷ []) (none s (omega (arith, le))) ∙ ap (λ (c : Bool). cond c (Some r) None) (ne_eqb b.stag s (λ e. let q = h.0 in omega (arith, q, e, le))) in
+    find-right s front (r ∷ []) (none s (omega (arith, le))) ∙ ap (λ (c : Bool). cond c (Some r) None) (ne_eqb b.stag s (λ e. let q = h.0 in omega (arith, q, e, le))) in
     let rest = new-buffers xid place (n + 1) (front ++ r ∷ []) bs later h.1 in
     (record { region = r; there = here; own = refl; holds = refl }, subst (λ (rs : List Region). HasBuffers rs bs) (append_assoc front (r ∷ []) (map (region_of xid place) bs)) rest)
 
@@ -180,12 +176,19 @@ asked-same opened es later (o ∷ os) e h =
 
 asked-longer : (opened : LinkParameters) (es later : List Event) (new : OutstandingCall) (os : List OutstandingCall) → asked opened later ≡ asked opened es ++ new ∷ [] → EachAsked opened es os → EachAsked opened later os
 asked-longer opened es later new [] e h = tt
-asked-longer opened es later new (o ∷ os) e h =
-    (record {
-      front = h.0.front; own = h.0.own; back = h.0.back ++ new ∷ [];
-      is = e ∙ ap (λ (xs : List OutstandingCall). xs ++ new ∷ []) h.0.is ∙ append_assoc h.0.front (h.0.own ∷ h.0.back) (new ∷ []);
-      own_xid = h.0.own_xid; own_call = h.0.own_call; own_plan = h.0.own_plan; own_stag = h.0.own_stag;
-    }, asked-longer opened es later new os e h.1)
+asked-longer opened es later new (o ∷ os) e h = (
+  record {
+    front = h.0.front;
+    own = h.0.own;
+    back = h.0.back ++ new ∷ [];
+    is = e ∙ ap (λ (xs : List OutstandingCall). xs ++ new ∷ []) h.0.is ∙ append_assoc h.0.front (h.0.own ∷ h.0.back) (new ∷ []);
+    own_xid = h.0.own_xid;
+    own_call = h.0.own_call;
+    own_plan = h.0.own_plan;
+    own_stag = h.0.own_stag;
+  },
+  asked-longer opened es later new os e h.1,
+)
 
 asked-append : (opened : LinkParameters) (es : List Event) (xs ys : List OutstandingCall) → EachAsked opened es xs → EachAsked opened es ys → EachAsked opened es (xs ++ ys)
 asked-append opened es [] ys h g = g
@@ -270,8 +273,8 @@ call-keeps opened es place q k a numbers next p =
     let more : accepted_in (es ++ CallSubmitted q a ∷ []) ≡ before ++ a ∷ [] = accepted-append es (CallSubmitted q a ∷ []) in
     let same : own ≡ outstanding_of (record (start opened) { stag = after }) a = ap (λ (stag : ℕ). outstanding_of (record (start opened) { stag = stag }) a) p.stag in
     let all : asked opened (es ++ CallSubmitted q a ∷ []) ≡ asked opened es ++ own ∷ [] =
-        ap (λ (xs : List AcceptedCall). outstanding_from (start opened) opened.first_stag xs) more ∙ from-more (start opened) opened.first_stag before a
-        ∙ ap (λ (o : OutstandingCall). asked opened es ++ o ∷ []) (sym same) in
+    ap (λ (xs : List AcceptedCall). outstanding_from (start opened) opened.first_stag xs) more ∙ from-more (start opened) opened.first_stag before a
+    ∙ ap (λ (o : OutstandingCall). asked opened es ++ o ∷ []) (sym same) in
     let new : List Region = map (region_of a.xid q) (buffers k.stag own.plan) in
     let none : (s : ℕ) → k.stag ≤ s → find (λ x. eqb x.stag s) k.regions ≡ None = λ s le. none-from opened.first_stag s k.regions (omega (arith, next, le)) numbers in
     let there : HasBuffers (k.regions ++ new) (buffers k.stag own.plan) = new-buffers a.xid q k.stag k.regions (buffers k.stag own.plan) none (numbered-buffers a.xid q k.stag own.plan) in
@@ -343,9 +346,9 @@ pub keeps-along : (opened : LinkParameters) (es : List Event) → GoesOn (client
 keeps-along opened es g =
     along (client_rules opened) (λ k e. []) (λ end. []) (ClientGood opened) (λ es place r outs. KeepsAt opened es place r)
     (λ es place r outs e next good p.
-      let numbers : ClientNumbers opened r.state = subst (λ (x : EndState ClientState). ClientNumbers opened x.state) (sym p.state) (client-numbers opened es) in
-      record {
-        state = ap (λ (x : EndState ClientState). next_end_state (client_rules opened) x e) p.state ∙ sym (end_state_after-append (client_rules opened) (initial_client opened) es (e ∷ []));
-        keeps = keeps-step opened es place r.state r.ended e next good numbers.regions numbers.next p.keeps;
-      })
+    let numbers : ClientNumbers opened r.state = subst (λ (x : EndState ClientState). ClientNumbers opened x.state) (sym p.state) (client-numbers opened es) in
+    record {
+      state = ap (λ (x : EndState ClientState). next_end_state (client_rules opened) x e) p.state ∙ sym (end_state_after-append (client_rules opened) (initial_client opened) es (e ∷ []));
+      keeps = keeps-step opened es place r.state r.ended e next good numbers.regions numbers.next p.keeps;
+    })
     [] 0 (initial_client opened) [] es g (record { state = refl; keeps = keeps-nothing opened })

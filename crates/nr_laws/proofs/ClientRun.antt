@@ -1,8 +1,6 @@
 -- What the client of a run wrote: its hello, and the message of each call that it accepted.
 use Rattle.std.proofs.Common.{◌≡◌, ◌≢◌, ℕ, zero, suc, ◌+◌, ◌≤◌, ◌<◌, Bool, true, false, cond, ◌&&◌, eqb, List, [], ◌∷◌, ◌++◌, length, take, drop, map, Option, None, Some, Result, Ok, Err, refl, sym, ap, subst, ◌∙◌, arith, append_assoc, append-nil, length-append, inl, inr, ◌⊎◌, eqb-true}
-use Rattle.nr_xdr.specs.Item.{IsBytes}
 use Rattle.nr_wire.specs.declared.hello.Side.TheVariants.{Initiator, Responder}
-use Rattle.nr_wire.specs.declared.stream.Awaited.TheVariants.{Hello as HelloFrom, Fpdu}
 use Rattle.nr_link.specs.declared.end.End.{End as Stop}
 use Rattle.nr_link.specs.Frames.{Frame, frames_completed}
 use Rattle.nr_link.specs.Output.{own_hello}
@@ -13,7 +11,7 @@ use Rattle.nr_reduce.specs.declared.mark.Mark.{Mark}
 use Rattle.nr_reduce.specs.declared.mark.Mark.TheVariants as marks
 use Rattle.nr_reduce.specs.declared.mark.LinkParameters.{LinkParameters}
 use Rattle.nr_reduce.specs.declared.outline.Plan.{Plan}
-use Rattle.nr_reduce.specs.History.{AcceptedCall, bytes_received, same_side, other}
+use Rattle.nr_reduce.specs.History.{AcceptedCall, bytes_received, same_side}
 use Rattle.nr_reduce.specs.AtEachMark.{AtEachMark}
 use Rattle.nr_reduce.specs.Matched.{IsPrefixOf}
 use Rattle.nr_reduce.specs.Events.{Event, events, events_at, if_own}
@@ -21,18 +19,17 @@ use Rattle.nr_reduce.specs.Events.Event.{FrameReceived, CallSubmitted, MemoryRev
 use Rattle.nr_reduce.specs.EndRules.{EndState, next_end_state, end_state_after, output_for, output_for_by, output_for_in, output_for_all}
 use Rattle.nr_reduce.specs.Plans.{TooLarge, call_message}
 use Rattle.nr_reduce.specs.ClientState.{ClientState, OutstandingCall, call_payload, plan_for}
-use Rattle.nr_reduce.specs.Client.{client_rules, client_end, client_output, initial_client, outstanding_of, plan_or}
+use Rattle.nr_reduce.specs.Client.{client_rules, client_end, initial_client, outstanding_of, plan_or}
 use Rattle.nr_reduce.specs.Run.{client, output_due}
 use Rattle.nr_reduce.specs.RunLaws.{outstanding_from}
 use Rattle.nr_reduce.specs.Asked.{AskedMark, AskedSoFar, IsAccepted}
-use Rattle.nr_reduce.proofs.Steps.{events-one, client-one, output_for_all-append, end_state_after-append}
+use Rattle.nr_reduce.proofs.Steps.{events-one, output_for_all-append, end_state_after-append}
 use Rattle.nr_reduce.proofs.Standing.{AtEachMark-more}
 use Rattle.nr_laws.specs.Typed.{TypedMark, IsTyped}
 use Rattle.nr_laws.proofs.Messages.{messages}
-use Rattle.nr_laws.proofs.Along.{IsNext, GoesOn, Goes, goes-from, goes-nothing, FirstGood, along, outputs_by, outputs_in, outputs_for, outputs_all, place_after, places_after, whole_bytes}
-use Rattle.nr_laws.proofs.Outputs.{Output, bytes_of_all, bytes-append, message_of_call, client_says, client-said, ClientShort, final_outputs, final-said, CallsShort, IsShort}
-use Rattle.nr_laws.proofs.Brought.{AreFrom}
-use Rattle.nr_laws.proofs.ClientSays.{IsGoodCall, ClientGood, accepted_in, accepted-append, stag_behind, from-more, start, asked, ClientSays, Says}
+use Rattle.nr_laws.proofs.Along.{IsNext, Goes, goes-from, goes-nothing, FirstGood, along, outputs_by, outputs_in, outputs_for, outputs_all, place_after, places_after, whole_bytes}
+use Rattle.nr_laws.proofs.Outputs.{Output, bytes_of_all, bytes-append, message_of_call, client_says, client-said, ClientShort, final_outputs, final-said, CallsShort}
+use Rattle.nr_laws.proofs.ClientSays.{ClientGood, accepted_in, accepted-append, stag_behind, from-more, start, asked, ClientSays, Says}
 use Rattle.nr_laws.proofs.ClientAlong.{client-step, short-call}
 
 pub each-both : (P Q : List Mark → Mark → Type 0) (before run : List Mark) → AtEachMark P before run → AtEachMark Q before run → AtEachMark (λ b m. P b m × Q b m) before run
@@ -47,6 +44,7 @@ first-good opened link before (marks.Submit l call form (submissions.Accepted xi
   where
     a : AcceptedCall
     a = record { xid = xid; call = call; form = form }
+
     by : (b : Bool) → eqb l link ≡ b → FirstGood (ClientGood opened) (client opened link before) (if_own (b && true) (CallSubmitted (length (bytes_received link Initiator before)) a ∷ []))
     by false is = tt
     by true is =
@@ -143,7 +141,7 @@ client-tells opened link run typed asked =
     let g = client-goes opened link run typed asked in
     let es = events link Initiator run in
     let t : Tells opened es (places_after 0 es) (end_state_after (client_rules opened) (initial_client opened) es) (client_outs opened link run) =
-        along (client_rules opened) (client_says opened) final_outputs (ClientGood opened) (Tells opened) (tells-step opened) [] 0 (initial_client opened) [] es g.goes (tells-nothing opened) in
+    along (client_rules opened) (client_says opened) final_outputs (ClientGood opened) (Tells opened) (tells-step opened) [] 0 (initial_client opened) [] es g.goes (tells-nothing opened) in
     record {
       says = subst (λ (p : ℕ). ClientSays opened es p (client opened link run).state (client opened link run).ended (client_outs opened link run)) g.place t.says;
       bytes = ap (λ (xs : List ℕ). own_hello Initiator ++ xs) t.bytes;
@@ -225,8 +223,8 @@ EachSubmitted opened link run = (pre : List OutstandingCall) (o : OutstandingCal
 quiet-mark : (opened : LinkParameters) (link : ℕ) (before : List Mark) (mark : Mark) → accepted_in (events_at link Initiator before mark) ≡ [] → EachSubmitted opened link before → EachSubmitted opened link (before ++ mark ∷ [])
 quiet-mark opened link before mark none each pre o post e =
     let same : accepted_in (events link Initiator (before ++ mark ∷ [])) ≡ accepted_in (events link Initiator before) =
-        ap accepted_in (events-one link Initiator before mark) ∙ accepted-append (events link Initiator before) (events_at link Initiator before mark)
-        ∙ ap (λ (xs : List AcceptedCall). accepted_in (events link Initiator before) ++ xs) none ∙ append-nil (accepted_in (events link Initiator before)) in
+    ap accepted_in (events-one link Initiator before mark) ∙ accepted-append (events link Initiator before) (events_at link Initiator before mark)
+    ∙ ap (λ (xs : List AcceptedCall). accepted_in (events link Initiator before) ++ xs) none ∙ append-nil (accepted_in (events link Initiator before)) in
     submitted-later opened link before mark (length pre) o
     (each pre o post (ap (λ (xs : List AcceptedCall). outstanding_from (start opened) opened.first_stag xs) (sym same) ∙ e))
 
@@ -261,12 +259,12 @@ submit-mark opened link before call form xid tells h each pre o post e =
     let next : ℕ = stag_behind (start opened) opened.first_stag old in
     let own : OutstandingCall = outstanding_of (record (start opened) { stag = next }) a in
     let here : accepted_in (events_at link Initiator before mark) ≡ a ∷ [] =
-        ap (λ (b : Bool). accepted_in (if_own (b && true) (CallSubmitted (length (bytes_received link Initiator before)) a ∷ []))) (Rattle.std.proofs.Common.eq-eqb link link refl) in
+    ap (λ (b : Bool). accepted_in (if_own (b && true) (CallSubmitted (length (bytes_received link Initiator before)) a ∷ []))) (Rattle.std.proofs.Common.eq-eqb link link refl) in
     let all : accepted_in (events link Initiator (before ++ mark ∷ [])) ≡ old ++ a ∷ [] =
-        ap accepted_in (events-one link Initiator before mark) ∙ accepted-append (events link Initiator before) (events_at link Initiator before mark) ∙ ap (λ (xs : List AcceptedCall). old ++ xs) here in
+    ap accepted_in (events-one link Initiator before mark) ∙ accepted-append (events link Initiator before) (events_at link Initiator before mark) ∙ ap (λ (xs : List AcceptedCall). old ++ xs) here in
     let whole : asked_calls opened link before ++ own ∷ [] ≡ pre ++ o ∷ post =
-        sym (from-more (start opened) opened.first_stag old a)
-        ∙ ap (λ (xs : List AcceptedCall). outstanding_from (start opened) opened.first_stag xs) (sym all) ∙ e in
+    sym (from-more (start opened) opened.first_stag old a)
+    ∙ ap (λ (xs : List AcceptedCall). outstanding_from (start opened) opened.first_stag xs) (sym all) ∙ e in
     let stag : k.stag ≡ next = tells.says.stag in
     let same : own.plan ≡ h.plan = ap (λ (r : Result Plan TooLarge). plan_or (call_payload xid call) r) h.planned in
     by_part (parted (asked_calls opened link before) own pre o post whole)
@@ -291,6 +289,7 @@ each-mark opened link before (marks.Submit l call form (submissions.Accepted xid
   where
     a : AcceptedCall
     a = record { xid = xid; call = call; form = form }
+
     by : (b : Bool) → eqb l link ≡ b → EachSubmitted opened link (before ++ marks.Submit l call form (submissions.Accepted xid) ∷ [])
     by true is =
         let same : l ≡ link = eqb-true l link is in

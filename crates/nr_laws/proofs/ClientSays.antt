@@ -1,50 +1,43 @@
 -- What the client of a link says along its events: the message of each call that it accepted, in order, once it has the server's
 -- hello.
-use Rattle.std.proofs.Common.{◌≡◌, ◌≢◌, ℕ, zero, suc, ◌+◌, ◌*◌, ◌^◌, ◌≤◌, ◌<◌, Bool, true, false, cond, ◌&&◌, ◌||◌, not, eqb, ltb, List, [], ◌∷◌, ◌++◌, length, take, drop, map, Option, None, Some, Result, Ok, Err, refl, sym, ap, subst, ◌∙◌, arith, append_assoc, append-nil, length-append, inl, inr, ◌⊎◌, eq-eqb, eqb-true}
+use Rattle.std.proofs.Common.{◌≡◌, ℕ, ◌+◌, ◌^◌, ◌≤◌, ◌<◌, Bool, true, false, cond, ◌||◌, not, eqb, ltb, List, [], ◌∷◌, ◌++◌, length, take, drop, map, Option, None, Some, Result, Ok, refl, sym, ap, subst, ◌∙◌, arith, ◌⊎◌, eqb-true}
 use Rattle.std.proofs.lemmas.List.{length-take}
-use Rattle.std.proofs.lemmas.Bool.{ltb-false, ne_eqb}
+use Rattle.std.proofs.lemmas.Bool.{ltb-false}
 use Rattle.std.specs.List.{filter}
 use Rattle.nr_xdr.specs.Item.{IsBytes}
-use Rattle.nr_xdr.specs.Fields.{word_at}
 use Rattle.nr_rpc.specs.Credential.{CanWriteCred}
-use Rattle.nr_wire.specs.declared.hello.Side.TheVariants.{Initiator, Responder}
-use Rattle.nr_wire.specs.declared.stream.Awaited.TheVariants.{Hello as HelloFrom, Fpdu}
+use Rattle.nr_wire.specs.declared.hello.Side.TheVariants.{Responder}
+use Rattle.nr_wire.specs.declared.stream.Awaited.TheVariants.{Fpdu}
 use Rattle.nr_wire.specs.Constants.{OPCODE_READ_REQUEST}
 use Rattle.nr_wire.specs.Segment.{Segment}
 use Rattle.nr_wire.specs.Segment.Segment.{Tagged, Untagged}
 use Rattle.nr_wire.specs.Hello.{hello_of}
-use Rattle.nr_regions.specs.Access.{Grant}
 use Rattle.nr_regions.specs.declared.denied.Denied.{Denied}
 use Rattle.nr_link.specs.declared.end.End.{End as Stop}
-use Rattle.nr_link.specs.declared.end.End.TheVariants as ends
-use Rattle.nr_link.specs.Limits.{segment_max}
 use Rattle.nr_link.specs.Frames.{Frame, is_hello}
 use Rattle.nr_link.specs.Reasons.{REASON_MSN, REASON_OFFSET, REASON_FORM, REASON_REQUESTS, REASON_SHORT, REASON_LONG}
 use Rattle.nr_link.specs.SegmentFaults.{Readiness, SegmentFault, segment_fault, first_fault, reason_if, next_msn, next_offset, no_buffer, is_malformed, missing_fault, is_too_many, has_length, terminate_fault}
 use Rattle.nr_link.specs.SegmentFaults.SegmentFault.{Reason, NoBuffer, AccessDenied, PeerTerminated}
 use Rattle.nr_link.specs.ReceiveState.{ReadRequest, read_request_in, read_request_of, message_completed, is_send}
-use Rattle.nr_link.specs.Ending.{frame_segment, frame_end, frame_end_by, end_of_fault, hello_end, missing_access, is_hello_reason}
+use Rattle.nr_link.specs.Ending.{frame_segment, frame_end, frame_end_by, end_of_fault, hello_end, missing_access}
 use Rattle.nr_reduce.specs.declared.mark.LinkParameters.{LinkParameters}
 use Rattle.nr_reduce.specs.declared.outline.Plan.{Plan}
-use Rattle.nr_reduce.specs.Limits.{numbers_end, send_max}
+use Rattle.nr_reduce.specs.Limits.{numbers_end}
 use Rattle.nr_reduce.specs.History.{AcceptedCall}
 use Rattle.nr_reduce.specs.Events.{Event}
 use Rattle.nr_reduce.specs.Events.Event.{FrameReceived, CallSubmitted, MemoryRevoked, CallExecuted, QueueWritten}
-use Rattle.nr_reduce.specs.EndRules.{EndState, next_end_state, next_end_state_by, next_end_state_in, end_state_after}
+use Rattle.nr_reduce.specs.EndRules.{EndState}
 use Rattle.nr_reduce.specs.OfferedRegions.{region_grants}
-use Rattle.nr_reduce.specs.Plans.{TooLarge, plan_of, regions_needed, call_message}
-use Rattle.nr_reduce.specs.ClientState.{ClientState, OutstandingCall, initial_state, call_payload, plan_for, memory_at}
-use Rattle.nr_reduce.specs.Client.{client_rules, client_end, client_state_after, readiness, message_end, or_message_end, segment_message, segment_request, outstanding_of, plan_or, with_message, with_request, with_segment, revoked_call, written_call, initial_client}
+use Rattle.nr_reduce.specs.Plans.{regions_needed}
+use Rattle.nr_reduce.specs.ClientState.{ClientState, OutstandingCall, call_payload, plan_for, memory_at}
+use Rattle.nr_reduce.specs.Client.{client_end, readiness, or_message_end, outstanding_of, revoked_call, written_call, initial_client}
 use Rattle.nr_reduce.specs.SubmitAnswer.{next_xid}
 use Rattle.nr_reduce.specs.RunLaws.{outstanding_from, as_submitted}
-use Rattle.nr_reduce.proofs.Sizes.{message_size}
 use Rattle.nr_laws.specs.Typed.{IsTypedForm}
-use Rattle.nr_laws.proofs.Along.{IsNext, place_after, outputs_by, outputs_in, outputs_for}
-use Rattle.nr_laws.proofs.Outputs.{Output, IsShort, CallsShort, message_of_call, send_segment, call_sends, client_says, response_outputs, response_segments, final_outputs}
-use Rattle.nr_laws.proofs.Outputs.Output.{AHello, ASegment}
-use Rattle.nr_laws.proofs.Brought.{IsWord, AreFrom}
-use Rattle.nr_laws.proofs.Words.{send-word, terminate-word, responses-words, RangeEnds, from-append, payload-bytes, word-below, hyper-below, payload_by}
-use Rattle.nr_laws.proofs.Messages.{messages, AreOne, messages-append, one-append, messages-calls, one-calls, messages-tagged, one-tagged, tagged-response, messages-final, one-final}
+use Rattle.nr_laws.proofs.Outputs.{Output, IsShort, CallsShort, message_of_call, response_outputs}
+use Rattle.nr_laws.proofs.Brought.{AreFrom}
+use Rattle.nr_laws.proofs.Words.{responses-words, RangeEnds, word-below, hyper-below, payload_by}
+use Rattle.nr_laws.proofs.Messages.{messages, AreOne}
 
 -- ---- A call that is accepted
 
@@ -243,10 +236,10 @@ pub client-unharmed : (k : ClientState) (f : Frame) (segment : Segment) → is_h
 unfolding client_end frame_end
 client-unharmed k f segment behind is e =
     let others : or_message_end k f (frame_end (readiness k) (region_grants f.end k.regions) f) ≡ None =
-        ap (λ (b : Bool). cond b (hello_end (hello_of Responder f.bytes)) (or_message_end k f (frame_end (readiness k) (region_grants f.end k.regions) f))) (sym behind) ∙ e in
+    ap (λ (b : Bool). cond b (hello_end (hello_of Responder f.bytes)) (or_message_end k f (frame_end (readiness k) (region_grants f.end k.regions) f))) (sym behind) ∙ e in
     let none : frame_end (readiness k) (region_grants f.end k.regions) f ≡ None = by_end (frame_end (readiness k) (region_grants f.end k.regions) f) others in
     let by_segment : end_of_fault f segment (segment_fault (readiness k (missing_access (region_grants f.end k.regions) f segment)) segment) ≡ None =
-        ap (λ (r : Result Segment ℕ). frame_end_by (readiness k) (region_grants f.end k.regions) f r) (sym is) ∙ none in
+    ap (λ (r : Result Segment ℕ). frame_end_by (readiness k) (region_grants f.end k.regions) f r) (sym is) ∙ none in
     no_fault f segment _ by_segment
   where
     by_end : (o : Option Stop) → or_message_end k f o ≡ None → o ≡ None
@@ -266,6 +259,6 @@ response-words k place (Untagged last opcode w queue msn offset payload) bytes q
         let ends = request-ends last payload bytes (subst (λ (n : ℕ). is_malformed n last payload ≡ false) (eqb-true opcode OPCODE_READ_REQUEST own) (sound last opcode w queue msn offset payload refl)) in
         subst (λ (x : ReadRequest). AreFrom Fpdu (response_outputs k place (Some x))) same
         (let x = read_request_in payload in
-         let held : List ℕ = take x.size (drop x.to (memory_at k place x.stag)) in
-         responses-words x.sink x.sink_to x.size held (word-below 0 payload bytes) (let l = length-take x.size (drop x.to (memory_at k place x.stag)) in omega (arith, l)) ends)
+        let held : List ℕ = take x.size (drop x.to (memory_at k place x.stag)) in
+        responses-words x.sink x.sink_to x.size held (word-below 0 payload bytes) (let l = length-take x.size (drop x.to (memory_at k place x.stag)) in omega (arith, l)) ends)
     by false own e = absurd cc

@@ -11,37 +11,23 @@ use Rattle.nr_header.specs.declared.fault.HeaderFault.TheVariants as faults
 use Rattle.nr_header.specs.Reading.{header_of}
 use Rattle.nr_rpc.specs.declared.head.ReplyHead.{ReplyHead}
 use Rattle.nr_rpc.specs.Reading.{reply_of}
-use Rattle.nr_wire.specs.declared.hello.Side.TheVariants.{Initiator, Responder}
+use Rattle.nr_wire.specs.declared.hello.Side.TheVariants.{Responder}
 use Rattle.nr_reduce.specs.declared.call.Outcome.{Outcome}
-use Rattle.nr_reduce.specs.declared.mark.Moment.{Moment}
 use Rattle.nr_reduce.specs.declared.mark.Mark.{Mark}
-use Rattle.nr_reduce.specs.declared.mark.Mark.TheVariants as marks
 use Rattle.nr_reduce.specs.declared.mark.LinkParameters.{LinkParameters}
-use Rattle.nr_reduce.specs.History.{CompletedCall, ExecutedCall}
-use Rattle.nr_reduce.specs.Matched.{Matched, MatchedMark, IsPrefixOf}
+use Rattle.nr_reduce.specs.History.{ExecutedCall}
 use Rattle.nr_reduce.specs.Events.{Event, events}
-use Rattle.nr_reduce.specs.Events.Event.{FrameReceived, CallExecuted}
-use Rattle.nr_reduce.specs.ServerState.{ServerState, credit_word}
-use Rattle.nr_reduce.specs.Server.{offer_of}
+use Rattle.nr_reduce.specs.Events.Event.{CallExecuted}
 use Rattle.nr_reduce.specs.ClientState.{ClientState, OutstandingCall, memory_at}
-use Rattle.nr_reduce.specs.ClientMessages.{Verdict, verdict, by_header, by_call, by_body, by_lists, by_payload, by_head, answered_call, reply_xid}
+use Rattle.nr_reduce.specs.ClientMessages.{verdict, by_header, by_call, by_body, by_lists, by_payload, by_head, answered_call, reply_xid}
 use Rattle.nr_reduce.specs.ClientMessages.Verdict.{EndsLink, GivesOutcome}
 use Rattle.nr_reduce.specs.Plans.{lists_of}
 use Rattle.nr_reduce.specs.Chunks.{answers_offer, reply_conveyed}
-use Rattle.nr_reduce.specs.RunLaws.{server_by}
-use Rattle.nr_reduce.specs.Asked.{AskedMark, AskedSoFar, IsCompleted}
-use Rattle.nr_reduce.specs.Served.{ServedMark, ServedSoFar, IsExecuted}
 use Rattle.nr_reduce.specs.SoFar.{SoFar}
-use Rattle.nr_reduce.proofs.Refusals.{refused-never}
-use Rattle.nr_laws.specs.MarkAt.{MarkAt}
-use Rattle.nr_laws.specs.Typed.{TypedMark, IsTyped}
-use Rattle.nr_laws.proofs.HeaderXid.{header-xid, answer-xid, chunk-error-xid}
-use Rattle.nr_laws.proofs.ServerAlong.{Said, SaidError, SaidAnswer, SaidNoAnswer}
-use Rattle.nr_laws.proofs.ServerAlong.Said.{IsRefusal, IsAnswer, IsNoAnswer}
-use Rattle.nr_laws.proofs.Outcomes.{WasGiven, OutcomeSaid, outcome-said}
-use Rattle.nr_laws.proofs.ExecuteMarks.{execute_mark, ExecuteMark, execute-mark}
-use Rattle.nr_laws.proofs.OnceByXid.{at-mark, before-mark, ExecutedAt, executed-at, no_xid_twice}
-use Rattle.nr_laws.proofs.RefusedCalls.{RefusedSubmit, refused-submit}
+use Rattle.nr_laws.specs.Typed.{IsTyped}
+use Rattle.nr_laws.proofs.HeaderXid.{header-xid}
+use Rattle.nr_laws.proofs.ExecuteMarks.{ExecuteMark, execute-mark}
+use Rattle.nr_laws.proofs.OnceByXid.{ExecutedAt, executed-at}
 
 -- ---- The xid of a verdict
 
@@ -102,6 +88,7 @@ gives-by k place message xid outcome e = by (header_of message) refl e
     by_out h is (Some o) own e =
         let same = body-gives k place o message h.body xid outcome e in
         record { header = h; is_header = is; own = sym (found-xid h.xid k.outstanding o own) ∙ same; call = o; is_call = own; call_xid = same; by_its_body = e }
+
     by : (r : Result Header HeaderFault) → header_of message ≡ r → by_header k place message r ≡ GivesOutcome xid outcome → GivesBy k place message xid outcome
     by (Ok h) is e = by_out h is (answered_call k h.xid) refl e
     by (Err faults.Short) is e = absurd cc

@@ -5,7 +5,7 @@ use Rattle.nr_link.specs.Frames.{Frame, frames_completed}
 use Rattle.nr_reduce.specs.declared.call.Submission.TheVariants as submissions
 use Rattle.nr_reduce.specs.declared.mark.Mark.{Mark}
 use Rattle.nr_reduce.specs.declared.mark.Mark.TheVariants as marks
-use Rattle.nr_reduce.specs.History.{AcceptedCall, ExecutedCall, bytes_received, same_side}
+use Rattle.nr_reduce.specs.History.{ExecutedCall, bytes_received, same_side}
 use Rattle.nr_reduce.specs.Events.{Event, events, events_at, if_own}
 use Rattle.nr_reduce.specs.Events.Event.{FrameReceived, CallSubmitted, MemoryRevoked, CallExecuted, QueueWritten}
 use Rattle.nr_reduce.proofs.Steps.{events-one}
@@ -84,12 +84,14 @@ execute-marks link before x has pre e post is =
   where
     here : events_at link Responder before (execute_mark link x) ≡ CallExecuted x ∷ []
     here = ap (λ (b : Bool). if_own (b && true) (CallExecuted x ∷ [])) (Rattle.std.proofs.Common.eq-eqb link link refl)
+
     at_once : (rest : List Event) → CallExecuted x ∷ [] ≡ rest ++ CallExecuted e ∷ post → (rest ≡ []) × (x ≡ e)
     at_once [] own = (refl, same (head-is (CallExecuted x) (CallExecuted e) [] post own))
       where
         same : {x e : ExecutedCall} → CallExecuted x ≡ CallExecuted e → x ≡ e
         same own = cc
     at_once (y ∷ rest) own = absurd (let l = ap (λ (zs : List Event). length zs) own in let n = length-append rest (CallExecuted e ∷ post) in omega (arith, l, n))
+
     by : PartedTwo (events link Responder before) (CallExecuted x ∷ []) pre (CallExecuted e) post → ExecuteMark link (before ++ execute_mark link x ∷ []) pre e
     by (InFirst more own) = later-mark link before (execute_mark link x) pre e (has pre e more own)
     by (InSecond rest own there) =
@@ -106,6 +108,7 @@ mark-marks link before (marks.Execute l xid moment payload place reply) has = by
   where
     x : ExecutedCall
     x = record { xid = xid; moment = moment; payload = payload; place = place; reply = reply }
+
     by : (b : Bool) → eqb l link ≡ b → HasMarks link (before ++ marks.Execute l xid moment payload place reply ∷ [])
     by true is = subst (λ (n : ℕ). HasMarks link (before ++ marks.Execute n xid moment payload place reply ∷ [])) (sym (eqb-true l link is)) (execute-marks link before x has)
     by false is = quiet-marks link before (marks.Execute l xid moment payload place reply) (subst (λ (b : Bool). NoExecutes (if_own (b && true) (CallExecuted x ∷ []))) (sym is) tt) has

@@ -1,8 +1,6 @@
 -- On a matched link each call that is executed was submitted before: its Send is that of the accepted call of its number.
-use Rattle.std.proofs.Common.{◌≡◌, ◌≢◌, ℕ, zero, suc, ◌+◌, ◌^◌, ◌≤◌, ◌<◌, Bool, true, false, List, [], ◌∷◌, ◌++◌, length, Option, None, Some, Result, Ok, Err, refl, sym, ap, subst, ◌∙◌, arith, append_assoc, append-nil, length-append}
+use Rattle.std.proofs.Common.{◌≡◌, ℕ, ◌+◌, false, List, [], ◌∷◌, ◌++◌, length, None, Some, Ok, refl, sym, ap, subst, ◌∙◌, arith, append_assoc}
 use Rattle.nr_wire.specs.declared.hello.Side.TheVariants.{Initiator, Responder}
-use Rattle.nr_wire.specs.declared.stream.Awaited.TheVariants.{Hello as HelloFrom, Fpdu}
-use Rattle.nr_link.specs.declared.end.End.{End as Stop}
 use Rattle.nr_link.specs.Output.{own_hello}
 use Rattle.nr_link.specs.Frames.{Frame, is_hello}
 use Rattle.nr_link.specs.Ending.{frame_segment}
@@ -17,8 +15,7 @@ use Rattle.nr_reduce.specs.Events.Event.{FrameReceived}
 use Rattle.nr_reduce.specs.EndRules.{end_state_after}
 use Rattle.nr_reduce.specs.ServerState.{ServerState, PendingCall, ReadyCall}
 use Rattle.nr_reduce.specs.Server.{server_rules, initial_server}
-use Rattle.nr_reduce.specs.ClientState.{ClientState}
-use Rattle.nr_reduce.specs.Run.{client, server, output_due}
+use Rattle.nr_reduce.specs.Run.{client, server}
 use Rattle.nr_reduce.specs.RunLaws.{WasConveyed, IsReceivedCall, server_by}
 use Rattle.nr_reduce.specs.Asked.{AskedSoFar}
 use Rattle.nr_reduce.specs.Served.{IsExecuted, next_call}
@@ -26,12 +23,12 @@ use Rattle.nr_reduce.proofs.Conveyed.{payload-conveyed}
 use Rattle.nr_reduce.proofs.Once.{first-times_ready}
 use Rattle.nr_laws.specs.Typed.{IsTyped}
 use Rattle.nr_laws.proofs.Flows.{flows_up}
-use Rattle.nr_laws.proofs.Outputs.{Output, bytes_of_all}
+use Rattle.nr_laws.proofs.Outputs.{Output}
 use Rattle.nr_laws.proofs.Outputs.Output.{AHello, ASegment}
-use Rattle.nr_laws.proofs.Brought.{AreFrom, Brings, Receives, receives}
+use Rattle.nr_laws.proofs.Brought.{Brings, Receives, receives}
 use Rattle.nr_laws.proofs.Messages.{message_in, messages, messages-append, AreOne, one-first}
-use Rattle.nr_laws.proofs.Hears.{Count, hears, server-receives, BringsAt, brings-at, own-segment, whole-message, live-first}
-use Rattle.nr_laws.proofs.ClientRun.{ClientTells, client-tells, client_outs, WasSubmitted, message-submitted}
+use Rattle.nr_laws.proofs.Hears.{hears, server-receives, brings-at, own-segment, whole-message, live-first}
+use Rattle.nr_laws.proofs.ClientRun.{client-tells, client_outs, WasSubmitted, message-submitted}
 use Rattle.nr_laws.proofs.HeaderXid.{header-xid, call-xid}
 
 -- ---- What the server has of the client's output
@@ -60,11 +57,11 @@ frame-message opened link run typed asked matched es f rest s message all behind
     let segment : at.own ≡ ASegment s = own-segment at.own f s at.brought behind is in
     let one : message_in s ≡ message ∷ [] = whole-message (server_by opened es).received s message counted.begun whole in
     let split : messages (client_outs opened link run) ≡ messages at.earlier ++ message ∷ (messages at.later ++ messages r.left) =
-        ap messages (sym r.parts) ∙ messages-append r.came r.left
-        ∙ ap (λ (xs : List Output). messages xs ++ messages r.left) (at.parts ∙ ap (λ (o : Output). at.earlier ++ o ∷ at.later) segment)
-        ∙ ap (λ (ms : List (List ℕ)). ms ++ messages r.left) (messages-append at.earlier (ASegment s ∷ at.later))
-        ∙ ap (λ (ms : List (List ℕ)). (messages at.earlier ++ (ms ++ messages at.later)) ++ messages r.left) one
-        ∙ append_assoc (messages at.earlier) (message ∷ messages at.later) (messages r.left) in
+    ap messages (sym r.parts) ∙ messages-append r.came r.left
+    ∙ ap (λ (xs : List Output). messages xs ++ messages r.left) (at.parts ∙ ap (λ (o : Output). at.earlier ++ o ∷ at.later) segment)
+    ∙ ap (λ (ms : List (List ℕ)). ms ++ messages r.left) (messages-append at.earlier (ASegment s ∷ at.later))
+    ∙ ap (λ (ms : List (List ℕ)). (messages at.earlier ++ (ms ++ messages at.later)) ++ messages r.left) one
+    ∙ append_assoc (messages at.earlier) (message ∷ messages at.later) (messages r.left) in
     let equal : length (messages at.earlier) ≡ (server_by opened es).received.sends = (let c = counted.sends in omega (arith, c)) in
     subst (λ (n : ℕ). WasSubmitted opened link run n message) equal
     (message-submitted opened link run typed asked (messages at.earlier) message (messages at.later ++ messages r.left) split)
@@ -75,9 +72,9 @@ pub received-message : (opened : LinkParameters) (link : ℕ) (run : List Mark) 
     → WasSubmitted opened link run (server_by opened own.earlier).received.sends own.message
 received-message opened link run typed asked matched c rest es is own live =
     let all : events link Responder run ≡ own.earlier ++ FrameReceived own.frame ∷ (own.later ++ rest) =
-        is ∙ ap (λ (xs : List Event). xs ++ rest) own.is_received ∙ append_assoc own.earlier (FrameReceived own.frame ∷ own.later) rest in
+    is ∙ ap (λ (xs : List Event). xs ++ rest) own.is_received ∙ append_assoc own.earlier (FrameReceived own.frame ∷ own.later) rest in
     let not_yet : (end_state_after (server_rules opened) (initial_server opened) own.earlier).ended ≡ None =
-        live-first (server_rules opened) (initial_server opened) own.earlier (FrameReceived own.frame ∷ own.later) (ap (λ (xs : List Event). (end_state_after (server_rules opened) (initial_server opened) xs).ended) (sym own.is_received) ∙ live) in
+    live-first (server_rules opened) (initial_server opened) own.earlier (FrameReceived own.frame ∷ own.later) (ap (λ (xs : List Event). (end_state_after (server_rules opened) (initial_server opened) xs).ended) (sym own.is_received) ∙ live) in
     frame-message opened link run typed asked matched own.earlier own.frame (own.later ++ rest) own.segment own.message all own.behind_hello own.is_segment own.whole not_yet
 
 -- ---- An executed call
@@ -102,7 +99,7 @@ pub executed-submit : (opened : LinkParameters) (link : ℕ) (before : List Mark
 executed-submit opened link before xid payload typed asked matched h =
     let was = payload-conveyed opened link before xid payload h in
     let whole : events link Responder before ≡ (was.earlier ++ FrameReceived was.frame ∷ []) ++ was.later =
-        was.is_received ∙ sym (append_assoc was.earlier (FrameReceived was.frame ∷ []) was.later) in
+    was.is_received ∙ sym (append_assoc was.earlier (FrameReceived was.frame ∷ []) was.later) in
     let sub = received-message opened link before typed asked matched was.call was.later (was.earlier ++ FrameReceived was.frame ∷ []) whole was.own (live-part opened link before (was.earlier ++ FrameReceived was.frame ∷ []) was.later whole (live-server opened link before h.call h.is_next)) in
     let fits = sub.accepted.xids in
     record {

@@ -1,15 +1,14 @@
 -- On a matched link each side got the first bytes of what the other has to write.
-use Rattle.std.proofs.Common.{◌≡◌, ℕ, Bool, true, false, cond, ◌&&◌, eqb, List, [], ◌∷◌, ◌++◌, length, refl, sym, ap, subst, ◌∙◌, append_assoc, append-nil, inl, inr, ◌⊎◌}
+use Rattle.std.proofs.Common.{◌≡◌, ℕ, Bool, true, false, cond, ◌&&◌, eqb, List, [], ◌∷◌, ◌++◌, refl, sym, ap, subst, ◌∙◌, append_assoc, append-nil, inl, inr, ◌⊎◌}
 use Rattle.std.proofs.lemmas.Bool.{eqb-true}
 use Rattle.std.specs.List.{flat_map}
 use Rattle.std.proofs.lemmas.Grind.{flat_map-append}
 use Rattle.nr_wire.specs.declared.hello.Side.{Side}
 use Rattle.nr_wire.specs.declared.hello.Side.TheVariants.{Initiator, Responder}
-use Rattle.nr_reduce.specs.declared.call.Submission.TheVariants as submissions
 use Rattle.nr_reduce.specs.declared.mark.Mark.{Mark}
 use Rattle.nr_reduce.specs.declared.mark.Mark.TheVariants as marks
 use Rattle.nr_reduce.specs.declared.mark.LinkParameters.{LinkParameters}
-use Rattle.nr_reduce.specs.History.{bytes_sent, bytes_received, written_at, fed_at, other, same_side}
+use Rattle.nr_reduce.specs.History.{bytes_sent, bytes_received, written_at, fed_at, other}
 use Rattle.nr_reduce.specs.AtEachMark.{AtEachMark}
 use Rattle.nr_reduce.specs.Matched.{IsPrefixOf, MatchedMark, Matched}
 use Rattle.nr_reduce.specs.Events.{events_at}
@@ -39,12 +38,12 @@ keeps : (P : List Mark → Mark → Type 0) (X Y : List Mark → List ℕ) → K
 keeps P X Y k before [] h p = subst (λ (b : List Mark). IsPrefixOf (X b) (Y b)) (sym (append-nil before)) p
 keeps P X Y k before (mark ∷ run) h p =
     let within : IsPrefixOf (X before ++ k.add mark) (Y before) = elim (k.right before mark h.0) [
-        | inl none ↦ subst (λ (xs : List ℕ). IsPrefixOf xs (Y before)) (sym (append-nil (X before)) ∙ ap (λ (xs : List ℕ). X before ++ xs) (sym none)) p
-        | inr within ↦ within
-      ] in
+      | inl none ↦ subst (λ (xs : List ℕ). IsPrefixOf xs (Y before)) (sym (append-nil (X before)) ∙ ap (λ (xs : List ℕ). X before ++ xs) (sym none)) p
+      | inr within ↦ within
+    ] in
     let next : IsPrefixOf (X (before ++ mark ∷ [])) (Y (before ++ mark ∷ [])) =
-        subst (λ (xs : List ℕ). IsPrefixOf xs (Y (before ++ mark ∷ []))) (sym (k.adds before mark))
-          (subst (λ (ys : List ℕ). IsPrefixOf (X before ++ k.add mark) ys) (sym (k.mores before mark)) (prefix-more (X before ++ k.add mark) (Y before) (k.more before mark) within)) in
+    subst (λ (xs : List ℕ). IsPrefixOf xs (Y (before ++ mark ∷ []))) (sym (k.adds before mark))
+    (subst (λ (ys : List ℕ). IsPrefixOf (X before ++ k.add mark) ys) (sym (k.mores before mark)) (prefix-more (X before ++ k.add mark) (Y before) (k.more before mark) within)) in
     subst (λ (b : List Mark). IsPrefixOf (X b) (Y b)) (append_assoc before (mark ∷ []) run) (keeps P X Y k (before ++ mark ∷ []) run h.1 next)
 
 flat-one : (f : Mark → List ℕ) (before : List Mark) (mark : Mark) → flat_map f (before ++ mark ∷ []) ≡ flat_map f before ++ f mark

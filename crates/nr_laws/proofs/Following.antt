@@ -1,25 +1,23 @@
 -- Places follow what callers see: an executed call whose outcome was handed over was executed before that.
 use Rattle.std.proofs.Common.{◌≡◌, ◌≢◌, ℕ, zero, suc, ◌+◌, ◌≤◌, ◌<◌, Bool, true, false, List, [], ◌∷◌, ◌++◌, Option, None, Some, refl, sym, ap, subst, ◌∙◌, arith, append_assoc}
 use Rattle.nr_xdr.specs.Fields.{word_at}
-use Rattle.nr_wire.specs.declared.hello.Side.TheVariants.{Initiator, Responder}
+use Rattle.nr_wire.specs.declared.hello.Side.TheVariants.{Responder}
 use Rattle.nr_reduce.specs.declared.call.Call.{Call}
 use Rattle.nr_reduce.specs.declared.call.Form.{Form}
 use Rattle.nr_reduce.specs.declared.call.Outcome.{Outcome}
 use Rattle.nr_reduce.specs.declared.call.Submission.TheVariants as submissions
 use Rattle.nr_reduce.specs.declared.mark.Moment.{Moment}
-use Rattle.nr_reduce.specs.declared.mark.Entry.{Entry}
 use Rattle.nr_reduce.specs.declared.mark.Mark.{Mark}
 use Rattle.nr_reduce.specs.declared.mark.Mark.TheVariants as marks
 use Rattle.nr_reduce.specs.declared.mark.LinkParameters.{LinkParameters}
 use Rattle.nr_reduce.specs.PlainJournal.{any_that_adds}
-use Rattle.nr_reduce.specs.Journal.{Journaled}
-use Rattle.nr_reduce.specs.History.{CompletedCall, ExecutedCall}
+use Rattle.nr_reduce.specs.History.{ExecutedCall}
 use Rattle.nr_reduce.specs.Credits.{WithinGrant}
 use Rattle.nr_reduce.specs.Matched.{MatchedMark, IsPrefixOf}
 use Rattle.nr_reduce.specs.Events.{Event, events}
 use Rattle.nr_reduce.specs.Events.Event.{FrameReceived, CallExecuted}
 use Rattle.nr_reduce.specs.Asked.{AskedMark, IsCompleted}
-use Rattle.nr_reduce.specs.Served.{ServedMark, IsExecuted}
+use Rattle.nr_reduce.specs.Served.{ServedMark}
 use Rattle.nr_reduce.specs.SoFar.{SoFar}
 use Rattle.nr_reduce.specs.RunLaws.{server_by}
 use Rattle.nr_reduce.specs.Server.{offer_of}
@@ -27,16 +25,15 @@ use Rattle.nr_reduce.specs.ServerState.{credit_word}
 use Rattle.nr_reduce.proofs.Refusals.{refused-never}
 use Rattle.nr_reduce.proofs.Placing.{places_rise, xids_differ}
 use Rattle.nr_reduce.proofs.Steps.{events-one}
-use Rattle.nr_laws.specs.MarkAt.{MarkAt}
 use Rattle.nr_laws.specs.Typed.{TypedMark, IsTyped}
 use Rattle.nr_laws.specs.Places.{PlacesFollow}
 use Rattle.nr_laws.proofs.HeaderXid.{answer-xid, chunk-error-xid}
-use Rattle.nr_laws.proofs.ServerAlong.{Said, SaidError, SaidAnswer, SaidNoAnswer}
+use Rattle.nr_laws.proofs.ServerAlong.{Said}
 use Rattle.nr_laws.proofs.ServerAlong.Said.{IsRefusal, IsAnswer, IsNoAnswer}
-use Rattle.nr_laws.proofs.Outcomes.{client_by, WasGiven, OutcomeSaid, outcome-said}
-use Rattle.nr_laws.proofs.ExecuteMarks.{execute_mark, ExecuteMark}
-use Rattle.nr_laws.proofs.OnceByXid.{at-mark, before-mark, ExecutedAt, executed-at, no_xid_twice}
-use Rattle.nr_laws.proofs.RefusedCalls.{RefusedSubmit, refused-submit}
+use Rattle.nr_laws.proofs.Outcomes.{client_by, OutcomeSaid, outcome-said}
+use Rattle.nr_laws.proofs.ExecuteMarks.{execute_mark}
+use Rattle.nr_laws.proofs.OnceByXid.{at-mark, before-mark, executed-at, no_xid_twice}
+use Rattle.nr_laws.proofs.RefusedCalls.{refused-submit}
 use Rattle.nr_laws.proofs.DoneCalls.{AnsweredBy, answered-by, verdict-xid}
 use Rattle.nr_laws.proofs.Ordered.{Order, order}
 use Rattle.nr_laws.proofs.Ordered.Order.{Behind, Here, Before}
@@ -69,10 +66,11 @@ pub events-more : (link : ℕ) (side : Rattle.nr_wire.specs.declared.hello.Side.
 events-more link side run [] = ([], ap (λ (r : List Mark). events link side r) (Rattle.std.proofs.Common.append-nil run) ∙ sym (Rattle.std.proofs.Common.append-nil (events link side run)))
 events-more link side run (mark ∷ more) =
     let next = events-more link side (run ++ mark ∷ []) more in
-    let one = Rattle.nr_reduce.specs.Events.events_at link side run mark in
-    (one ++ next.0,
-     ap (λ (r : List Mark). events link side r) (sym (append_assoc run (mark ∷ []) more)) ∙ next.1
-     ∙ ap (λ (es : List Event). es ++ next.0) (events-one link side run mark) ∙ append_assoc (events link side run) one next.0)
+    let one = Rattle.nr_reduce.specs.Events.events_at link side run mark in (
+      one ++ next.0,
+      ap (λ (r : List Mark). events link side r) (sym (append_assoc run (mark ∷ []) more)) ∙ next.1
+          ∙ ap (λ (es : List Event). es ++ next.0) (events-one link side run mark) ∙ append_assoc (events link side run) one next.0,
+    )
 
 -- A call whose outcome was handed over isn't executed after that.
 not-after : (opened : LinkParameters) (link : ℕ) (run before after mid rest : List Mark) (xid : ℕ) (outcome : Outcome) (moment : Moment) (payload : List ℕ) (place : ℕ) (reply : List ℕ) → IsTyped run → SoFar opened link run
@@ -82,12 +80,16 @@ not-after opened link run before after mid rest xid outcome moment payload place
   where
     done : Mark
     done = marks.Done link xid outcome
+
     execute : Mark
     execute = marks.Execute link xid moment payload place reply
+
     d : DoneAt opened link before xid outcome
     d = done-at opened link run before (mid ++ execute ∷ rest) xid outcome typed far is
+
     own_xid : xid ≡ word_at 0 d.said.given.message
     own_xid = verdict-xid (client_by opened d.said.given.earlier).state d.said.given.frame.end d.said.given.message xid (Some outcome) d.said.given.given
+
     whole : run ≡ (before ++ done ∷ mid) ++ execute ∷ rest
     whole = is ∙ sym (append_assoc before (done ∷ mid) (execute ∷ rest))
 
@@ -95,7 +97,7 @@ not-after opened link run before after mid rest xid outcome moment payload place
     again es e a same =
         let m = a.mark in
         let all : run ≡ (m.earlier ++ execute_mark link e ∷ (m.later ++ done ∷ mid)) ++ execute ∷ rest =
-            whole ∙ ap (λ (b : List Mark). (b ++ done ∷ mid) ++ execute ∷ rest) m.is ∙ ap (λ (b : List Mark). b ++ execute ∷ rest) (append_assoc m.earlier (execute_mark link e ∷ m.later) (done ∷ mid)) in
+        whole ∙ ap (λ (b : List Mark). (b ++ done ∷ mid) ++ execute ∷ rest) m.is ∙ ap (λ (b : List Mark). b ++ execute ∷ rest) (append_assoc m.earlier (execute_mark link e ∷ m.later) (done ∷ mid)) in
         no_xid_twice opened link run m.earlier (m.later ++ done ∷ mid) e.xid xid e.moment moment e.payload payload e.place place e.reply reply typed far (record { after = rest; is = all }) same
 
     by : Said opened (events link Responder before) d.said.before d.said.given.message → ⊥
@@ -103,7 +105,7 @@ not-after opened link run before after mid rest xid outcome moment payload place
         let a = answered-by opened link before d.typed d.far s.earlier s.call s.later s.is in
         let f = a.fits in
         again s.earlier s.call a (sym (answer-xid s.call.xid (credit_word (server_by opened s.earlier)) (offer_of (server_by opened s.earlier) s.call.xid) s.answer (omega (arith, f)))
-          ∙ ap (λ (x : List ℕ). word_at 0 x) (sym s.message) ∙ sym own_xid)
+        ∙ ap (λ (x : List ℕ). word_at 0 x) (sym s.message) ∙ sym own_xid)
     by (IsNoAnswer s) =
         let a = answered-by opened link before d.typed d.far s.earlier s.call s.later s.is in
         let f = a.fits in
@@ -113,7 +115,7 @@ not-after opened link run before after mid rest xid outcome moment payload place
         let x = executed-at opened link run (before ++ done ∷ mid) rest xid moment payload place reply typed far whole in
         let more = events-more link Responder before (done ∷ mid) in
         let all : events link Responder (before ++ done ∷ mid) ≡ s.earlier ++ FrameReceived s.frame ∷ (s.later ++ more.0) =
-            more.1 ∙ ap (λ (es : List Event). es ++ more.0) s.is ∙ append_assoc s.earlier (FrameReceived s.frame ∷ s.later) more.0 in
+        more.1 ∙ ap (λ (es : List Event). es ++ more.0) s.is ∙ append_assoc s.earlier (FrameReceived s.frame ∷ s.later) more.0 in
         let p = r.submitted.accepted.next in
         let q = x.submit.submitted.accepted.next in
         let m = r.submitted.counted in
@@ -146,7 +148,7 @@ one-submit opened link run early late rest others call other form way xid yid fa
         absurd (let lt = xids_differ IsPrefixOf opened link run early gap others call other form way xid yid (here ∙ ap (λ (t : List Mark). early ++ marks.Submit link call form (submissions.Accepted xid) ∷ t) then) far.asked in omega (arith, lt, same))
     by (Before gap e then) =
         absurd (let lt = xids_differ IsPrefixOf opened link run late gap rest other call way form yid xid
-            (again ∙ ap (λ (t : List Mark). late ++ marks.Submit link other way (submissions.Accepted yid) ∷ t) then) far.asked in omega (arith, lt, same))
+        (again ∙ ap (λ (t : List Mark). late ++ marks.Submit link other way (submissions.Accepted yid) ∷ t) then) far.asked in omega (arith, lt, same))
 
 pub places_follow : PlacesFollow
 places_follow adds J one two link other run before between first second call form xid yid outcome moment now payload asked place later reply answer typed far away journaled submit h g =
@@ -164,7 +166,7 @@ places_follow adds J one two link other run before between first second call for
     let start : w.earlier ≡ first ++ e1 ∷ (early.0 ++ done ∷ between) = sym same ∙ ap (λ (b : List Mark). b ++ done ∷ between) early.1 ∙ append_assoc first (e1 ∷ early.0) (done ∷ between) in
     let gap : List Mark = (early.0 ++ done ∷ between) ++ own ∷ w.later in
     let all : run ≡ first ++ e1 ∷ (gap ++ e2 ∷ g.after) =
-        whole ∙ ap (λ (b : List Mark). b ++ own ∷ (w.later ++ e2 ∷ g.after)) start
-        ∙ append_assoc first (e1 ∷ (early.0 ++ done ∷ between)) (own ∷ (w.later ++ e2 ∷ g.after))
-        ∙ ap (λ (t : List Mark). first ++ e1 ∷ t) (sym (append_assoc (early.0 ++ done ∷ between) (own ∷ w.later) (e2 ∷ g.after))) in
+    whole ∙ ap (λ (b : List Mark). b ++ own ∷ (w.later ++ e2 ∷ g.after)) start
+    ∙ append_assoc first (e1 ∷ (early.0 ++ done ∷ between)) (own ∷ (w.later ++ e2 ∷ g.after))
+    ∙ ap (λ (t : List Mark). first ++ e1 ∷ t) (sym (append_assoc (early.0 ++ done ∷ between) (own ∷ w.later) (e2 ∷ g.after))) in
     places_rise (any_that_adds adds) J run first gap g.after link other xid yid moment now payload asked place later reply answer all journaled

@@ -1,10 +1,9 @@
 -- From a Revoke on no frame changes what the memory of its call holds.
-use Rattle.std.proofs.Common.{◌≡◌, ◌≢◌, ℕ, zero, suc, ◌+◌, ◌≤◌, ◌<◌, Bool, true, false, cond, ◌&&◌, eqb, List, [], ◌∷◌, ◌++◌, length, map, Option, None, Some, IfSome, Result, Ok, Err, refl, sym, ap, subst, ◌∙◌, arith, append_assoc, append-nil, length-append, eq-eqb, ne_eqb, eqb-true, inl, inr}
+use Rattle.std.proofs.Common.{◌≡◌, ◌≢◌, ℕ, zero, suc, ◌+◌, ◌≤◌, ◌<◌, Bool, true, false, cond, ◌&&◌, eqb, List, [], ◌∷◌, ◌++◌, length, map, Option, None, Some, IfSome, Result, Ok, Err, refl, sym, ap, subst, ◌∙◌, arith, append_assoc, append-nil, length-append, eq-eqb, ne_eqb, eqb-true}
 use Rattle.std.specs.List.{find}
 use Rattle.nr_wire.specs.declared.hello.Side.TheVariants.{Initiator, Responder}
 use Rattle.nr_wire.specs.Segment.{Segment}
 use Rattle.nr_wire.specs.Segment.Segment.{Tagged, Untagged}
-use Rattle.nr_regions.specs.declared.denied.Denied.{Denied}
 use Rattle.nr_regions.specs.declared.denied.Denied.TheVariants.{NoStag}
 use Rattle.nr_regions.specs.Access.{Grant, TaggedSegment, grant_at, grant_offer, grant_denial, access_of}
 use Rattle.nr_regions.specs.RegisteredMemory.{denial_in}
@@ -16,35 +15,33 @@ use Rattle.nr_reduce.specs.declared.call.Submission.TheVariants as submissions
 use Rattle.nr_reduce.specs.declared.mark.Mark.{Mark}
 use Rattle.nr_reduce.specs.declared.mark.Mark.TheVariants as marks
 use Rattle.nr_reduce.specs.declared.mark.LinkParameters.{LinkParameters}
-use Rattle.nr_reduce.specs.History.{AcceptedCall, bytes_received, same_side, fed_at}
+use Rattle.nr_reduce.specs.History.{bytes_received, same_side, fed_at}
 use Rattle.nr_reduce.specs.Events.{Event, events, events_at, if_own}
 use Rattle.nr_reduce.specs.Events.Event.{FrameReceived, CallSubmitted, MemoryRevoked, CallExecuted, QueueWritten}
 use Rattle.nr_reduce.specs.EndRules.{EndState, next_end_state, next_end_state_by, next_end_state_in, end_state_after}
 use Rattle.nr_reduce.specs.OfferedRegions.{Region, region_grant, region_grants, closed_if, regions_closed}
-use Rattle.nr_reduce.specs.Plans.{Buffer, buffers, regions_needed}
+use Rattle.nr_reduce.specs.Plans.{buffers}
 use Rattle.nr_reduce.specs.ClientState.{ClientState}
-use Rattle.nr_reduce.specs.Client.{client_rules, client_end, client_state_after, outstanding_of, region_of, with_message, with_request, with_segment, initial_client}
+use Rattle.nr_reduce.specs.Client.{client_rules, client_end, client_state_after, outstanding_of, region_of, with_message, with_request, with_segment}
 use Rattle.nr_reduce.specs.Asked.{AskedSoFar}
 use Rattle.nr_reduce.specs.Run.{client, grants_of, placed_bytes}
 use Rattle.nr_reduce.proofs.Touches.{client_touched}
-use Rattle.nr_reduce.proofs.OwnStags.{AreNumbered, numbered-buffers, ClientNumbers, client-known}
+use Rattle.nr_reduce.proofs.OwnStags.{AreNumbered, numbered-buffers, client-known}
 use Rattle.nr_reduce.proofs.Steps.{client-one, ended-stays}
 use Rattle.nr_laws.specs.Typed.{IsTyped}
-use Rattle.nr_laws.specs.MarkAt.{MarkAt}
-use Rattle.nr_laws.specs.Touches.{RevokeStands, StandsStill}
-use Rattle.nr_reduce.specs.AtEachMark.{AtEachMark}
+use Rattle.nr_laws.specs.Touches.{RevokeStands}
 use Rattle.nr_reduce.specs.Matched.{IsPrefixOf}
 use Rattle.nr_laws.specs.Typed.{TypedMark}
 use Rattle.nr_reduce.specs.Asked.{AskedMark}
-use Rattle.std.specs.Prelude.{Contains, slice_index_or}
+use Rattle.std.specs.Prelude.{slice_index_or}
 use Rattle.nr_laws.proofs.OnceByXid.{at-mark, before-mark}
 use Rattle.nr_laws.proofs.Flows.{got-one}
 use Rattle.nr_laws.proofs.Along.{places_after, whole-within}
 use Rattle.nr_laws.proofs.ClientRun.{client-goes}
-use Rattle.nr_laws.proofs.ClientMemory.{HasRegion, has-closed, find-left, none-from, keeps-along}
-use Rattle.nr_laws.proofs.Memory.{Part, part_of, parts_of, after_parts, after-append, parts-append, Settled, settled-later, held-parts}
+use Rattle.nr_laws.proofs.ClientMemory.{HasRegion, has-closed, find-left, keeps-along}
+use Rattle.nr_laws.proofs.Memory.{Part, parts_of, after_parts, after-append, parts-append, Settled, settled-later, held-parts}
 use Rattle.nr_laws.proofs.Beyond.{EndBehind, frames-behind}
-use Rattle.nr_laws.proofs.Revoked.{IsClosedBy, OnlyClosed, closed-none, only-closed, only-append, only-above, frame-regions, request-regions, UntilBy, until-run}
+use Rattle.nr_laws.proofs.Revoked.{IsClosedBy, OnlyClosed, closed-none, only-closed, only-append, only-above, frame-regions, UntilBy, until-run}
 
 -- ---- Accesses to other memory
 
@@ -75,12 +72,14 @@ record Frozen (stag p : ℕ) (bytes : List ℕ) (old : List TaggedSegment) (k : 
 -- an access to the STag by a frame that ends later is refused
 no-access : (stag p : ℕ) (k : ClientState) (f : Frame) (s : Segment) → OnlyClosed stag p k.regions → p < f.end → is_hello f ≡ false → frame_segment f ≡ Ok s → client_end k (FrameReceived f) ≡ None → NotTo stag (tagged_access f s)
 unfolding grant_denial grant_at region_grants
-no-access stag p k f (Tagged last opcode own to payload) only lt behind is stays =
-    ((λ e.
+no-access stag p k f (Tagged last opcode own to payload) only lt behind is stays = (
+  (λ e.
       let fine = client_touched k f (Tagged last opcode own to payload) behind is stays in
       let none = ap (λ (n : ℕ). find (Rattle.nr_regions.specs.Access.applies n f.end) (map (region_grant f.end) k.regions)) e ∙ closed-none f.end stag p f.end k.regions lt only in
       let a = access_of (record { kind = Rattle.nr_link.specs.Ending.kind_of opcode; stag = own; to = to; payload = payload; end = f.end }) in
-      let wrong : Some NoStag ≡ None = sym (ap (λ (o : Option Grant). denial_in (grant_offer o) a) none) ∙ fine in cc), tt)
+      let wrong : Some NoStag ≡ None = sym (ap (λ (o : Option Grant). denial_in (grant_offer o) a) none) ∙ fine in cc),
+  tt,
+)
 no-access stag p k f (Untagged last opcode w queue msn offset payload) only lt behind is stays = tt
 
 request-stag : (m : ClientState) (o : Option ReadRequest) → (with_request m o).stag ≡ m.stag
@@ -136,7 +135,9 @@ frozen-event opened stag p bytes old k (CallSubmitted q a) by stays h =
       only = only-append stag p k.regions new h.only (only-above stag k.stag p new h.low (numbered-buffers a.xid q k.stag plan));
       low = omega (arith, low);
       has = has-left k.regions new stag bytes h.has;
-      more = h.more; accesses = h.accesses; none = h.none;
+      more = h.more;
+      accesses = h.accesses;
+      none = h.none;
     }
 frozen-event opened stag p bytes old k (MemoryRevoked q xid) by stays h =
     record { only = only-closed (λ r. eqb r.call xid) q stag p k.regions h.only; low = h.low; has = has-closed (λ r. eqb r.call xid) q k.regions stag bytes h.has; more = h.more; accesses = h.accesses; none = h.none }
@@ -188,7 +189,7 @@ frozen-from opened link stag p bytes old before [] le h = subst (λ (b : List Ma
 frozen-from opened link stag p bytes old before (mark ∷ run) le h =
     let grows = ap (λ (xs : List ℕ). length xs) (got-one link Initiator before mark) ∙ length-append (bytes_received link Initiator before) (fed_at link Initiator mark) in
     let next : Frozen stag p bytes old (client opened link (before ++ mark ∷ [])).state =
-        subst (λ (r : EndState ClientState). Frozen stag p bytes old r.state) (sym (client-one opened link before mark)) (frozen-all opened stag p bytes old (client opened link before) (events_at link Initiator before mark) (mark-behind p link before mark le) h) in
+    subst (λ (r : EndState ClientState). Frozen stag p bytes old r.state) (sym (client-one opened link before mark)) (frozen-all opened stag p bytes old (client opened link before) (events_at link Initiator before mark) (mark-behind p link before mark le) h) in
     subst (λ (b : List Mark). Frozen stag p bytes old (client opened link b).state) (append_assoc before (mark ∷ []) run) (frozen-from opened link stag p bytes old (before ++ mark ∷ []) run (omega (arith, grows, le)) next)
 
 -- ---- At a Revoke
@@ -205,9 +206,11 @@ only-revoked xid stag p n (x ∷ regions) r numbers low there own = by (eqb x.st
   where
     rest : List Region
     rest = map (λ r. closed_if (eqb r.call xid) p r) regions
+
     same : (b : Bool) → (closed_if b p x).stag ≡ x.stag
     same true = refl
     same false = refl
+
     by : (b : Bool) → eqb x.stag stag ≡ b → cond b (Some x) (find (λ x. eqb x.stag stag) regions) ≡ Some r → (find (λ x. eqb x.stag stag) regions ≡ Some r → OnlyClosed stag p rest)
         → OnlyClosed stag p (closed_if (eqb x.call xid) p x ∷ rest)
     by false is e later = ((λ h. absurd (let s = sym (ne_eqb x.stag stag (λ g. let w = sym is ∙ eq-eqb x.stag stag g in cc)) ∙ eq-eqb x.stag stag (sym (same (eqb x.call xid)) ∙ h) in cc)), later e)
@@ -215,9 +218,10 @@ only-revoked xid stag p n (x ∷ regions) r numbers low there own = by (eqb x.st
         let found : x ≡ r = (let t : Some x ≡ Some r = e in cc) in
         let calls : eqb x.call xid ≡ true = eq-eqb x.call xid (ap (λ (q : Region). q.call) found ∙ own) in
         let first = numbers.0 in
-        let here = eqb-true x.stag stag is in
-        ((λ h. subst (λ (b : Bool). IsClosedBy p (closed_if b p x).until) (sym calls) (until-closed-by p x.until low.0)),
-         only-closed (λ r. eqb r.call xid) p stag p regions (only-above stag (n + 1) p regions (omega (arith, first, here)) numbers.1))
+        let here = eqb-true x.stag stag is in (
+          (λ h. subst (λ (b : Bool). IsClosedBy p (closed_if b p x).until) (sym calls) (until-closed-by p x.until low.0)),
+          only-closed (λ r. eqb r.call xid) p stag p regions (only-above stag (n + 1) p regions (omega (arith, first, here)) numbers.1),
+        )
 
 low-found : (n stag : ℕ) (regions : List Region) (r : Region) → AreNumbered n regions → find (λ x. eqb x.stag stag) regions ≡ Some r → (stag < n + length regions) × (r.stag ≡ stag)
 low-found n stag [] r numbers e = absurd cc
@@ -241,7 +245,7 @@ run-settled opened link run typed asked =
     let at = g.place in
     let within = whole-within link Initiator run in
     settled-later (places_after 0 (events link Initiator run)) (length (bytes_received link Initiator run)) (client opened link run).state.regions (client opened link run).state.accesses_received
-      (omega (arith, at, within)) k.keeps.settled
+    (omega (arith, at, within)) k.keeps.settled
 
 run-holds : (opened : LinkParameters) (link stag : ℕ) (bytes : List ℕ) (run : List Mark) → IsTyped run → AskedSoFar opened link run → HasRegion (client opened link run).state.regions stag bytes
     → placed_bytes opened link Initiator run stag ≡ after_parts stag bytes (parts_of (client opened link run).state.accesses_received)
@@ -285,7 +289,7 @@ ended-run opened link before (mark ∷ run) end is =
 
 frozen-state : (opened : LinkParameters) (link : ℕ) (before : List Mark) (xid stag : ℕ) (r : Region) → find (λ x. eqb x.stag stag) (client opened link before).state.regions ≡ Some r → r.call ≡ xid
     → Frozen stag (length (bytes_received link Initiator before)) r.bytes (client opened link before).state.accesses_received
-        (client_state_after opened (client opened link before).state (MemoryRevoked (length (bytes_received link Initiator before)) xid))
+    (client_state_after opened (client opened link before).state (MemoryRevoked (length (bytes_received link Initiator before)) xid))
 unfolding client_state_after
 frozen-state opened link before xid stag r there own =
     let k = (client opened link before).state in
@@ -311,9 +315,9 @@ frozen-mark opened link before xid stag given r there own live =
     let c = client opened link before in
     let p = length (bytes_received link Initiator before) in
     let one : client opened link (before ++ marks.Revoke link xid given ∷ []) ≡ next_end_state_in (client_rules opened) c.state (MemoryRevoked p xid) None =
-        client-one opened link before (marks.Revoke link xid given)
-        ∙ ap (λ (b : Bool). end_state_after (client_rules opened) c (if_own (b && true) (MemoryRevoked p xid ∷ []))) (eq-eqb link link refl)
-        ∙ ap (λ (o : Option Stop). next_end_state_in (client_rules opened) c.state (MemoryRevoked p xid) o) live in
+    client-one opened link before (marks.Revoke link xid given)
+    ∙ ap (λ (b : Bool). end_state_after (client_rules opened) c (if_own (b && true) (MemoryRevoked p xid ∷ []))) (eq-eqb link link refl)
+    ∙ ap (λ (o : Option Stop). next_end_state_in (client_rules opened) c.state (MemoryRevoked p xid) o) live in
     subst (λ (x : EndState ClientState). Frozen stag p r.bytes c.state.accesses_received x.state) (sym one) (frozen-state opened link before xid stag r there own)
 
 record Kept (opened : LinkParameters) (link : ℕ) (before run : List Mark) (stag : ℕ) (bytes : List ℕ) : Type 0 where
@@ -336,14 +340,14 @@ kept opened link before after xid stag given r there own None is =
     let p = length (bytes_received link Initiator before) in
     let grows = ap (λ (xs : List ℕ). length xs) (got-one link Initiator before at) ∙ length-append (bytes_received link Initiator before) (fed_at link Initiator at) in
     let f : Frozen stag p r.bytes old (client opened link (before ++ at ∷ after)).state =
-        subst (λ (b : List Mark). Frozen stag p r.bytes old (client opened link b).state) (append_assoc before (at ∷ []) after)
-        (frozen-from opened link stag p r.bytes old (before ++ at ∷ []) after (omega (arith, grows)) (frozen-mark opened link before xid stag given r there own is)) in
+    subst (λ (b : List Mark). Frozen stag p r.bytes old (client opened link b).state) (append_assoc before (at ∷ []) after)
+    (frozen-from opened link stag p r.bytes old (before ++ at ∷ []) after (omega (arith, grows)) (frozen-mark opened link before xid stag given r there own is)) in
     record {
       has = f.has;
       same = ap (λ (a : List TaggedSegment). after_parts stag r.bytes (parts_of a)) f.accesses
-        ∙ ap (λ (ps : List Part). after_parts stag r.bytes ps) (parts-append old f.more)
-        ∙ after-append stag r.bytes (parts_of old) (parts_of f.more)
-        ∙ not-parts stag (after_parts stag r.bytes (parts_of old)) f.more f.none;
+          ∙ ap (λ (ps : List Part). after_parts stag r.bytes ps) (parts-append old f.more)
+          ∙ after-append stag r.bytes (parts_of old) (parts_of f.more)
+          ∙ not-parts stag (after_parts stag r.bytes (parts_of old)) f.more f.none;
     }
 
 pub revoke_stands : RevokeStands
@@ -355,11 +359,11 @@ revoke_stands opened link run before xid bytes typed asked at =
     record {
       what_stood = revoked.bytes_are;
       stands = λ r there own.
-        let numbers = client-known opened link before in
-        let found = found-at opened.first_stag there.0 k.regions r numbers.regions there.1 there.2 in
-        let low = low-found opened.first_stag r.stag k.regions r numbers.regions found in
-        let s : Kept opened link before run r.stag r.bytes =
-            subst (λ (b : List Mark). Kept opened link before b r.stag r.bytes) (sym at.is) (kept opened link before at.after xid r.stag bytes r found own (client opened link before).ended refl) in
-        run-holds opened link r.stag r.bytes run typed asked s.has ∙ s.same
-        ∙ sym (run-holds opened link r.stag r.bytes before typed_before asked_before (record { region = r; there = found; own = refl; holds = refl }));
+          let numbers = client-known opened link before in
+          let found = found-at opened.first_stag there.0 k.regions r numbers.regions there.1 there.2 in
+          let low = low-found opened.first_stag r.stag k.regions r numbers.regions found in
+          let s : Kept opened link before run r.stag r.bytes =
+          subst (λ (b : List Mark). Kept opened link before b r.stag r.bytes) (sym at.is) (kept opened link before at.after xid r.stag bytes r found own (client opened link before).ended refl) in
+          run-holds opened link r.stag r.bytes run typed asked s.has ∙ s.same
+          ∙ sym (run-holds opened link r.stag r.bytes before typed_before asked_before (record { region = r; there = found; own = refl; holds = refl }));
     }

@@ -1,7 +1,5 @@
 -- Each accepted Submit stands within the grant.
-use Rattle.std.proofs.Common.{◌≡◌, ℕ, ◌<◌, Bool, true, false, cond, List, [], ◌∷◌, ◌++◌, refl, sym, ap, ◌∙◌, append_assoc, append-nil, subst}
-use Rattle.nr_reduce.specs.declared.call.Call.{Call}
-use Rattle.nr_reduce.specs.declared.call.Form.{Form}
+use Rattle.std.proofs.Common.{◌≡◌, ℕ, Bool, true, false, List, [], ◌∷◌, ◌++◌}
 use Rattle.nr_reduce.specs.declared.call.Submission.{Submission}
 use Rattle.nr_reduce.specs.declared.call.Submission.TheVariants as submissions
 use Rattle.nr_reduce.specs.declared.mark.Mark.{Mark}

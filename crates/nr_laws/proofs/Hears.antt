@@ -1,5 +1,5 @@
 -- What a side has of the messages that its frames brought: each is one segment, and they are counted.
-use Rattle.std.proofs.Common.{◌≡◌, ◌≢◌, ℕ, zero, suc, ◌+◌, ◌≤◌, ◌<◌, Bool, true, false, cond, ◌&&◌, eqb, List, [], ◌∷◌, ◌++◌, length, length-append, Option, None, Some, Result, Ok, Err, refl, sym, ap, subst, ◌∙◌, arith, append_assoc, append-nil}
+use Rattle.std.proofs.Common.{◌≡◌, ℕ, ◌+◌, Bool, true, false, cond, ◌&&◌, eqb, List, [], ◌∷◌, ◌++◌, length, length-append, Option, None, Some, Result, Ok, Err, refl, sym, ap, subst, ◌∙◌, arith}
 use Rattle.nr_wire.specs.Constants.{OPCODE_READ_REQUEST}
 use Rattle.nr_wire.specs.Segment.{Segment}
 use Rattle.nr_wire.specs.Segment.Segment.{Tagged, Untagged}
@@ -12,10 +12,9 @@ use Rattle.nr_reduce.specs.Events.{Event}
 use Rattle.nr_reduce.specs.Events.Event.{FrameReceived, CallSubmitted, MemoryRevoked, CallExecuted, QueueWritten}
 use Rattle.nr_reduce.specs.EndRules.{Rules, EndState, next_end_state, next_end_state_by, next_end_state_in, end_state_after}
 use Rattle.nr_reduce.specs.ClientState.{ClientState}
-use Rattle.nr_reduce.specs.Client.{client_rules, client_state_after, with_segment, with_message, with_request}
+use Rattle.nr_reduce.specs.Client.{client_rules, client_state_after, with_segment}
 use Rattle.nr_reduce.specs.ServerState.{ServerState}
 use Rattle.nr_reduce.specs.Server.{server_rules, server_state_after, received_by}
-use Rattle.nr_link.specs.ReceiveState.{ReadRequest, read_request_of}
 use Rattle.nr_reduce.proofs.Steps.{ended-stays, end_state_after-append}
 use Rattle.nr_laws.proofs.Outputs.{Output}
 use Rattle.nr_laws.proofs.Outputs.Output.{AHello, ASegment}
@@ -58,9 +57,11 @@ count-segment h (Untagged last opcode w queue msn offset payload) one none = by 
     by_last : (b : Bool) → b ≡ true → Count h (send_continued h b payload) 1
     by_last true e = record { sends = refl; begun = refl }
     by_last false e = absurd cc
+
     by_read : (b : Bool) → Count h (cond b (record { sends = h.sends; begun = h.begun; requests = h.requests + 1 }) h) 0
     by_read true = record { sends = omega arith; begun = none }
     by_read false = record { sends = omega arith; begun = none }
+
     by : (b : Bool) → Count h (cond b (send_continued h last payload) (cond (eqb opcode OPCODE_READ_REQUEST) (record { sends = h.sends; begun = h.begun; requests = h.requests + 1 }) h)) (length (cond b (payload ∷ []) []))
     by true = by_last last one
     by false = by_read (eqb opcode OPCODE_READ_REQUEST)
@@ -96,6 +97,7 @@ one-step {S} rules received goes r e live = by_end r.state r.ended live
     by_why : (s : S) (o : Option Stop) → (next_end_state_by rules s e o).ended ≡ None → received (next_end_state_by rules s e o).state ≡ received_event (received s) e
     by_why s None h = goes s e
     by_why s (Some end) h = absurd cc
+
     by_end : (s : S) (o : Option Stop) → (next_end_state_in rules s e o).ended ≡ None → received (next_end_state_in rules s e o).state ≡ received_event (received s) e
     by_end s None h = by_why s (rules.end_at s e) h
     by_end s (Some end) h = absurd cc
@@ -113,11 +115,11 @@ hears rules received goes r (FrameReceived f ∷ es) (o ∷ outs) b one none liv
     let both = one-first-output o outs one in
     let same = one-step rules received goes r (FrameReceived f) (was-live rules t es live) in
     let first : Count (received r.state) (received t.state) (length (messages_of o)) =
-        subst (λ (h : ReceiveState). Count (received r.state) h (length (messages_of o))) (sym same) (count-frame (received r.state) o f b.0 both.0 none) in
+    subst (λ (h : ReceiveState). Count (received r.state) h (length (messages_of o))) (sym same) (count-frame (received r.state) o f b.0 both.0 none) in
     let rest = hears rules received goes t es outs b.1 both.1 first.begun live in
     subst (λ (n : ℕ). Count (received r.state) (received (end_state_after rules t es).state) n)
-      (sym (length-append (messages_of o) (messages outs)) ∙ ap (λ (ms : List (List ℕ)). length ms) (sym (messages-first o outs)))
-      (count-both (received r.state) (received t.state) (received (end_state_after rules t es).state) (length (messages_of o)) (length (messages outs)) first rest)
+    (sym (length-append (messages_of o) (messages outs)) ∙ ap (λ (ms : List (List ℕ)). length ms) (sym (messages-first o outs)))
+    (count-both (received r.state) (received t.state) (received (end_state_after rules t es).state) (length (messages_of o)) (length (messages outs)) first rest)
 hears rules received goes r (CallSubmitted p a ∷ es) outs b one none live =
     let t = next_end_state rules r (CallSubmitted p a) in
     let same = one-step rules received goes r (CallSubmitted p a) (was-live rules t es live) in
@@ -204,6 +206,7 @@ whole-message h (Untagged last opcode w queue msn offset payload) message none e
   where
     same : Some (begun_bytes h.begun ++ payload) ≡ Some message → payload ≡ message
     same e = (let t : begun_bytes h.begun ++ payload ≡ message = cc in ap (λ (b : Option (List ℕ)). begun_bytes b ++ payload) (sym none) ∙ t)
+
     by : (b c : Bool) → cond (b && c) (Some (begun_bytes h.begun ++ payload)) None ≡ Some message → cond b (payload ∷ []) [] ≡ message ∷ []
     by true true e = ap (λ (m : List ℕ). m ∷ []) (same e)
     by true false e = absurd cc

@@ -1,5 +1,5 @@
 -- What the memory of an end holds: the bytes of a region, with the tagged segments that were received laid over them.
-use Rattle.std.proofs.Common.{◌≡◌, ◌≢◌, ℕ, zero, suc, ◌+◌, ◌≤◌, ◌<◌, Bool, true, false, cond, ◌&&◌, eqb, ltb, leb, List, [], ◌∷◌, ◌++◌, length, map, Option, None, Some, is_none, Result, Ok, Err, refl, sym, ap, subst, ◌∙◌, arith, append_assoc, append-nil, eqb-true}
+use Rattle.std.proofs.Common.{◌≡◌, ℕ, ◌≤◌, Bool, true, false, cond, ◌&&◌, eqb, leb, List, [], ◌∷◌, ◌++◌, map, Option, None, Some, is_none, refl, sym, ap, ◌∙◌, arith, append_assoc, append-nil}
 use Rattle.std.proofs.lemmas.Bool.{le-leb}
 use Rattle.std.specs.List.{find}
 use Rattle.nr_wire.specs.Segment.{Segment}
@@ -103,6 +103,7 @@ one-gather {S} rules accesses goes r e live = by_end r.state r.ended live
     by_why : (s : S) (o : Option Stop) → (next_end_state_by rules s e o).ended ≡ None → accesses (next_end_state_by rules s e o).state ≡ accesses_event (accesses s) e
     by_why s None h = goes s e
     by_why s (Some end) h = absurd cc
+
     by_end : (s : S) (o : Option Stop) → (next_end_state_in rules s e o).ended ≡ None → accesses (next_end_state_in rules s e o).state ≡ accesses_event (accesses s) e
     by_end s None h = by_why s (rules.end_at s e) h
     by_end s (Some end) h = absurd cc
@@ -143,11 +144,12 @@ denial-same gs hs a end e = ap (λ (o : Option (Right × ℕ)). denial_in o a) e
 alike-settled : (place one two : ℕ) (rs ss : List Region) (accesses : List TaggedSegment) → one ≡ place → place ≤ two → AreAlike place one two rs ss → Settled place rs accesses → Settled two ss accesses
 unfolding region_grants
 alike-settled place one two rs ss [] is le h s = tt
-alike-settled place one two rs ss (a ∷ accesses) is le h s =
-    (let e = s.0 in omega (arith, e, le),
-     denial-same (grants_from two ss) (grants_from place rs) (access_of a) a.end
-       (sym (alike-offers place one two a.stag a.end rs ss h s.0) ∙ ap (λ (n : ℕ). grant_offer (found a.stag a.end (grants_from n rs))) is) ∙ s.1,
-     alike-settled place one two rs ss accesses is le h s.2)
+alike-settled place one two rs ss (a ∷ accesses) is le h s = (
+  let e = s.0 in omega (arith, e, le),
+  denial-same (grants_from two ss) (grants_from place rs) (access_of a) a.end
+      (sym (alike-offers place one two a.stag a.end rs ss h s.0) ∙ ap (λ (n : ℕ). grant_offer (found a.stag a.end (grants_from n rs))) is) ∙ s.1,
+  alike-settled place one two rs ss accesses is le h s.2,
+)
 
 self-alike : (place later : ℕ) (regions : List Region) → place ≤ later → AreAlike place place later regions regions
 self-alike place later [] le = tt
@@ -168,9 +170,11 @@ closed-alike test place later (r ∷ regions) le = (one (test r), closed-alike t
     by : (u : Option ℕ) (end : ℕ) → end ≤ place → leb end (until_or place u) ≡ leb end (until_or later u)
     by None end low = le-leb end place low ∙ sym (le-leb end later (omega (arith, low, le)))
     by (Some until) end low = refl
+
     by_closed : (u : Option ℕ) (end : ℕ) → end ≤ place → leb end (until_or place u) ≡ leb end (until_or later (Rattle.nr_reduce.specs.OfferedRegions.until_at later u))
     by_closed None end low = le-leb end place low ∙ sym (le-leb end later (omega (arith, low, le)))
     by_closed (Some until) end low = refl
+
     one : (b : Bool) → Rattle.nr_reduce.proofs.OfferedMemory.IsAlike place place later r (closed_if b later r)
     one true = record { stag = refl; right = refl; bytes = refl; from = refl; until = λ end low. by_closed r.until end low }
     one false = record { stag = refl; right = refl; bytes = refl; from = refl; until = λ end low. by r.until end low }
@@ -187,6 +191,7 @@ revoked-alike test place later (r ∷ regions) le = (one (test r), revoked-alike
     by_closed : (u : Option ℕ) (end : ℕ) → end ≤ place → leb end (until_or place u) ≡ leb end (until_or place (Rattle.nr_reduce.specs.OfferedRegions.until_at later u))
     by_closed None end low = le-leb end place low ∙ sym (le-leb end later (omega (arith, low, le)))
     by_closed (Some until) end low = refl
+
     one : (b : Bool) → Rattle.nr_reduce.proofs.OfferedMemory.IsAlike place place place r (closed_if b later r)
     one true = record { stag = refl; right = refl; bytes = refl; from = refl; until = λ end low. by_closed r.until end low }
     one false = record { stag = refl; right = refl; bytes = refl; from = refl; until = λ end low. refl }
@@ -210,11 +215,12 @@ map-append place (x ∷ xs) ys = ap (λ (gs : List Grant). region_grant place x 
 pub settled-append : (place : ℕ) (xs ys : List Region) (accesses : List TaggedSegment) → Settled place xs accesses → Settled place (xs ++ ys) accesses
 unfolding grant_denial grant_at region_grants
 settled-append place xs ys [] s = tt
-settled-append place xs ys (a ∷ accesses) s =
-    (s.0,
-     ap (λ (gs : List Grant). denial_in (grant_offer (found a.stag a.end gs)) (access_of a)) (map-append place xs ys)
-     ∙ ap (λ (o : Option Grant). denial_in (grant_offer o) (access_of a)) (found-append a.stag a.end (grants_from place xs) (grants_from place ys) (access_of a) s.1) ∙ s.1,
-     settled-append place xs ys accesses s.2)
+settled-append place xs ys (a ∷ accesses) s = (
+  s.0,
+  ap (λ (gs : List Grant). denial_in (grant_offer (found a.stag a.end gs)) (access_of a)) (map-append place xs ys)
+      ∙ ap (λ (o : Option Grant). denial_in (grant_offer o) (access_of a)) (found-append a.stag a.end (grants_from place xs) (grants_from place ys) (access_of a) s.1) ∙ s.1,
+  settled-append place xs ys accesses s.2,
+)
 
 pub settled-more : (place : ℕ) (regions : List Region) (xs ys : List TaggedSegment) → Settled place regions xs → Settled place regions ys → Settled place regions (xs ++ ys)
 settled-more place regions [] ys s t = t

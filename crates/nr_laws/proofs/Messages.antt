@@ -1,5 +1,5 @@
 -- The messages among what a side writes.
-use Rattle.std.proofs.Common.{◌≡◌, ℕ, ◌+◌, Bool, true, false, cond, List, [], ◌∷◌, ◌++◌, length, map, refl, sym, ap, ◌∙◌}
+use Rattle.std.proofs.Common.{◌≡◌, ℕ, ◌+◌, Bool, true, false, cond, List, [], ◌∷◌, ◌++◌, length, map, refl, ap}
 use Rattle.nr_wire.specs.Segment.{Segment}
 use Rattle.nr_wire.specs.Segment.Segment.{Tagged, Untagged}
 use Rattle.nr_link.specs.declared.end.End.{End as Stop}
@@ -9,12 +9,11 @@ use Rattle.nr_link.specs.Ending.{is_hello_reason}
 use Rattle.nr_header.specs.declared.header.RdmaSegment.{RdmaSegment}
 use Rattle.std.specs.List.{range_with_len}
 use Rattle.nr_link.specs.Output.{segment_count}
-use Rattle.std.proofs.Common.{min, eqb, take, drop, suc, zero}
+use Rattle.std.proofs.Common.{min, eqb, take, drop}
 use Rattle.nr_reduce.specs.declared.mark.LinkParameters.{LinkParameters}
 use Rattle.nr_reduce.specs.ClientState.{OutstandingCall}
 use Rattle.nr_reduce.specs.ServerState.{PendingRead}
 use Rattle.nr_reduce.specs.Undone.{one_write, write_segments, chunk_segments}
-use Rattle.nr_reduce.specs.Server.{is_rejected}
 use Rattle.nr_laws.proofs.Outputs.{Output, call_sends, message_sends, message_of_call, one_response, response_segments, request_outputs, final_outputs, server_final_outputs}
 use Rattle.nr_laws.proofs.Outputs.Output.{AHello, ASegment}
 
@@ -45,6 +44,7 @@ messages-append (ASegment s ∷ xs) ys = by s (messages-append xs ys)
     one : (b : Bool) (payload : List ℕ) (rest : List (List ℕ)) → rest ≡ messages xs ++ messages ys → cond b (payload ∷ []) [] ++ rest ≡ (cond b (payload ∷ []) [] ++ messages xs) ++ messages ys
     one true payload rest e = ap (λ (r : List (List ℕ)). payload ∷ r) e
     one false payload rest e = e
+
     by : (s : Segment) → messages (xs ++ ys) ≡ messages xs ++ messages ys → message_in s ++ messages (xs ++ ys) ≡ (message_in s ++ messages xs) ++ messages ys
     by (Tagged last opcode stag to payload) e = e
     by (Untagged last opcode w queue msn offset payload) e = one (is_send opcode) payload (messages (xs ++ ys)) e
@@ -124,6 +124,7 @@ tagged-chunk (s ∷ chunk) bytes = tagged-append (first (eqb (min s.length (leng
   where
     first : Bool → List Segment
     first b = cond b [] (write_segments s.handle s.offset (take s.length bytes))
+
     by : (b : Bool) → AreTagged (first b)
     by true = tt
     by false = tagged-write s.handle s.offset (take s.length bytes)

@@ -1,6 +1,6 @@
 -- What a client offers by a message that makes its call pending is within the limits of a header: so each segment of an answer,
 -- and its message, can be written.
-use Rattle.std.proofs.Common.{◌≡◌, ℕ, ◌+◌, ◌*◌, ◌≤◌, ◌<◌, ◌^◌, Bool, true, false, cond, not, ◌||◌, eqb, ltb, List, [], ◌∷◌, ◌++◌, length, sum_by, drop, filter, Option, Some, None, IfSome, Result, Ok, Err, refl, sym, ap, subst, ◌∙◌, arith}
+use Rattle.std.proofs.Common.{◌≡◌, ℕ, ◌+◌, ◌*◌, ◌≤◌, ◌<◌, ◌^◌, Bool, true, false, cond, not, ◌||◌, eqb, ltb, List, [], ◌∷◌, length, sum_by, drop, Option, Some, None, IfSome, Result, Ok, Err, refl, sym, subst, arith}
 use Rattle.std.specs.List.{All}
 use Rattle.std.proofs.lemmas.List.Elements.{All-head, All-tail}
 use Rattle.std.proofs.lemmas.List.Sums.{sum_by-cons}
@@ -14,16 +14,16 @@ use Rattle.nr_header.specs.declared.header.ChunkLists.{ChunkLists}
 use Rattle.nr_header.specs.declared.header.Body.{Body}
 use Rattle.nr_header.specs.declared.header.Body.TheVariants.{Msg, Nomsg, ErrVers, ErrChunk}
 use Rattle.nr_header.specs.declared.header.Header.{Header}
-use Rattle.nr_header.specs.Header.{read_items, segments_items, chunk_items, write_items, reply_items, body_items}
-use Rattle.nr_header.specs.WithinLimits.{Ends, SegmentsEnd, ListsWithin, CanRead, IsMessage}
+use Rattle.nr_header.specs.Header.{read_items, segments_items, write_items, reply_items, body_items}
+use Rattle.nr_header.specs.WithinLimits.{Ends, SegmentsEnd, ListsWithin, CanRead}
 use Rattle.nr_header.specs.Reading.{header_of}
 use Rattle.nr_header.proofs.Messages.{header_take}
 use Rattle.nr_link.specs.Limits.{segment_max}
 use Rattle.nr_reduce.specs.Holds.{first_chunk, no_segments, answer_size}
-use Rattle.nr_reduce.specs.Chunks.{total_at, is_read_chunk_of_item}
+use Rattle.nr_reduce.specs.Chunks.{is_read_chunk_of_item}
 use Rattle.nr_reduce.specs.ServerState.{PendingCall, ServerState, next_stag, is_pending}
 use Rattle.nr_reduce.specs.ServerReads.{chunks_of}
-use Rattle.nr_reduce.specs.ServerMessages.{Verdict, verdict, by_header, by_body, by_stream, by_need, has_position, no_stream}
+use Rattle.nr_reduce.specs.ServerMessages.{verdict, by_header, by_body, by_stream, by_need, has_position, no_stream}
 use Rattle.nr_reduce.specs.ServerMessages.Verdict.{EndsLink, OtherVersion, BadChunks, MakesPending}
 
 abbrev pub SegmentsFit : List RdmaSegment → Type 0
@@ -51,9 +51,10 @@ skip_write (chunk ∷ chunks) more h = skip_write chunks more (skip_segments chu
 
 segments_fit : (ss : List RdmaSegment) (more : List Item) → AllFit (segments_items ss more) → SegmentsEnd ss → SegmentsFit ss
 segments_fit [] more h ends = tt
-segments_fit (s ∷ ss) more h ends =
-    ((h.0, h.1.1.0, All-head (λ (x : RdmaSegment). Ends x.offset x.length) s ss ends),
-      segments_fit ss more h.1.1.1 (All-tail (λ (x : RdmaSegment). Ends x.offset x.length) s ss ends))
+segments_fit (s ∷ ss) more h ends = (
+  (h.0, h.1.1.0, All-head (λ (x : RdmaSegment). Ends x.offset x.length) s ss ends),
+  segments_fit ss more h.1.1.1 (All-tail (λ (x : RdmaSegment). Ends x.offset x.length) s ss ends),
+)
 
 first_fits : (chunks : List (List RdmaSegment)) (more : List Item) → AllFit (write_items chunks more) → All SegmentsEnd chunks → SegmentsFit (first_chunk chunks)
 first_fits [] more h ends = tt
@@ -95,6 +96,7 @@ stream_lists k lists xid (Some stream) c e = by (is_read_chunk_of_item stream li
   where
     call : PendingCall
     call = record { number = k.received.sends + 1; xid = xid; lists = lists; inline = Some stream }
+
     by : (b : Bool) → cond b (by_need k call) BadChunks ≡ MakesPending c → c.lists ≡ lists
     by true e = need_lists call c (ltb 4294967296 (next_stag k + length (chunks_of lists))) e
     by false e = absurd cc

@@ -1,18 +1,17 @@
 -- On a matched link no xid is executed twice.
-use Rattle.std.proofs.Common.{◌≡◌, ◌≢◌, ℕ, ◌+◌, List, [], ◌∷◌, ◌++◌, Some, refl, sym, ap, subst, ◌∙◌, arith, append_assoc}
+use Rattle.std.proofs.Common.{◌≡◌, ℕ, List, [], ◌∷◌, ◌++◌, refl, subst, ◌∙◌, arith, append_assoc}
 use Rattle.nr_reduce.specs.declared.mark.Moment.{Moment}
 use Rattle.nr_reduce.specs.declared.mark.Mark.{Mark}
 use Rattle.nr_reduce.specs.declared.mark.Mark.TheVariants as marks
 use Rattle.nr_reduce.specs.declared.mark.LinkParameters.{LinkParameters}
 use Rattle.nr_reduce.specs.AtEachMark.{AtEachMark}
-use Rattle.nr_reduce.specs.Matched.{Matched, MatchedMark, IsPrefixOf}
-use Rattle.nr_reduce.specs.Asked.{AskedMark, AskedSoFar}
+use Rattle.nr_reduce.specs.Matched.{MatchedMark, IsPrefixOf}
+use Rattle.nr_reduce.specs.Asked.{AskedMark}
 use Rattle.nr_reduce.specs.Served.{ServedMark, IsExecuted}
 use Rattle.nr_reduce.specs.SoFar.{SoFar}
 use Rattle.nr_reduce.proofs.Steps.{AtEachMark-first}
 use Rattle.nr_reduce.proofs.Placing.{AtEachMark-at}
 use Rattle.nr_reduce.proofs.Once.{executes_once}
-use Rattle.nr_laws.specs.MarkAt.{MarkAt}
 use Rattle.nr_laws.specs.Typed.{TypedMark, IsTyped}
 use Rattle.nr_laws.specs.Once.{NoXidTwice}
 use Rattle.nr_laws.proofs.ExecutedCalls.{ExecutedSubmit, executed-submit}

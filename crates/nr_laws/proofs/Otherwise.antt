@@ -1,18 +1,17 @@
 -- An outcome that is no reply: a call's Send was refused, or its offer doesn't hold the reply.
 use Rattle.std.proofs.Common.{◌≡◌, ◌≢◌, ℕ, zero, suc, ◌+◌, ◌≤◌, ◌<◌, Bool, true, false, cond, ◌&&◌, not, eqb, ltb, List, [], ◌∷◌, ◌++◌, length, take, drop, Option, None, Some, Result, Ok, Err, refl, sym, ap, subst, ◌∙◌, arith, append_assoc, append-nil, inl, inr, ◌⊎◌}
-use Rattle.nr_xdr.specs.Item.{word, word_of}
+use Rattle.nr_xdr.specs.Item.{word}
 use Rattle.nr_xdr.specs.Fields.{word_at}
 use Rattle.nr_xdr.specs.Reading.{Cursor}
-use Rattle.nr_wire.specs.declared.hello.Side.TheVariants.{Initiator, Responder}
 use Rattle.nr_header.specs.declared.header.ChunkLists.{ChunkLists}
 use Rattle.nr_header.specs.declared.header.Body.{Body}
 use Rattle.nr_header.specs.declared.header.Body.TheVariants.{Msg, Nomsg, ErrVers, ErrChunk}
 use Rattle.nr_header.specs.declared.header.Header.{Header}
 use Rattle.nr_header.specs.declared.fault.HeaderFault.{HeaderFault}
 use Rattle.nr_header.specs.declared.fault.HeaderFault.TheVariants as faults
-use Rattle.nr_header.specs.Header.{header_encoding, body_items, lists_items}
+use Rattle.nr_header.specs.Header.{header_encoding, lists_items}
 use Rattle.nr_xdr.specs.Items.{encodings}
-use Rattle.nr_header.specs.Reading.{header_of, header_by, body_by, error_by, error_of, version1_of, in_lists, msg_at, nomsg_at, lists_at, sums_pass, msg_body, nomsg_body}
+use Rattle.nr_header.specs.Reading.{header_of, header_by, body_by, error_by, version1_of, in_lists, msg_at, nomsg_at, lists_at, sums_pass, msg_body, nomsg_body}
 use Rattle.nr_rpc.specs.declared.head.ReplyHead.{ReplyHead}
 use Rattle.nr_rpc.specs.Reading.{reply_of}
 use Rattle.nr_reduce.specs.declared.call.Outcome.{Outcome}
@@ -22,8 +21,8 @@ use Rattle.nr_reduce.specs.Plans.{lists_of}
 use Rattle.nr_reduce.specs.Chunks.{answers_offer, reply_conveyed}
 use Rattle.nr_reduce.specs.ClientMessages.{Verdict, verdict, by_body, by_lists, by_payload, by_head, reply_xid}
 use Rattle.nr_reduce.specs.ClientMessages.Verdict.{EndsLink, GivesOutcome}
-use Rattle.nr_reduce.specs.Holds.{Answer, answer_message, answer_body, answer_lists, chunk_error, version_error}
-use Rattle.nr_laws.proofs.DoneCalls.{GivesBy, gives-by}
+use Rattle.nr_reduce.specs.Holds.{Answer, answer_message, answer_body, answer_lists}
+use Rattle.nr_laws.proofs.DoneCalls.{gives-by}
 use Rattle.nr_laws.proofs.Replied.{word-behind, first-word, kind-word, same-body}
 
 -- ---- A message with a stream, or one in a chunk
@@ -47,9 +46,10 @@ pub record Plainly (m : List ℕ) : Type 0 where
 
 words : (a c d : ℕ) (r s : List ℕ) → d < 4294967296 → (word_at 4 ((word a ++ (word 1 ++ (word c ++ (word d ++ r)))) ++ s) ≡ 1) × (word_at 12 ((word a ++ (word 1 ++ (word c ++ (word d ++ r)))) ++ s) ≡ d)
 words a c d r s fits =
-    let e = quad (word a) (word 1) (word c) (word d) r s in
-    (ap (λ (x : List ℕ). word_at 4 x) e ∙ word-behind a 4 0 (word 1 ++ (word c ++ (word d ++ (r ++ s)))) (omega arith) ∙ first-word 1 (word c ++ (word d ++ (r ++ s))) (omega arith),
-     ap (λ (x : List ℕ). word_at 12 x) e ∙ kind-word a 1 c d (r ++ s) fits)
+    let e = quad (word a) (word 1) (word c) (word d) r s in (
+      ap (λ (x : List ℕ). word_at 4 x) e ∙ word-behind a 4 0 (word 1 ++ (word c ++ (word d ++ (r ++ s)))) (omega arith) ∙ first-word 1 (word c ++ (word d ++ (r ++ s))) (omega arith),
+      ap (λ (x : List ℕ). word_at 12 x) e ∙ kind-word a 1 c d (r ++ s) fits,
+    )
 
 pub plainly : (xid credit : ℕ) (b : Body) (s : List ℕ) → IsStreamBody b → Plainly (header_encoding (record { xid = xid; credit = credit; body = b }) ++ s)
 plainly xid credit (Msg lists at) s (Inline l a) = (let w = words xid credit 0 (encodings (lists_items lists)) s (omega arith) in record { version = w.0; kind = OfMsg w.1 })
@@ -81,6 +81,7 @@ msg-is c b e = by (lists_at false c) e
     sums : (l : ChunkLists) (at : ℕ) (d : Bool) → in_lists (cond d (Err at) (Ok (Msg l at))) ≡ Ok b → IsStreamBody b
     sums l at true e = absurd cc
     sums l at false e = subst IsStreamBody (let s : ◌≡◌ {A = Result Body HeaderFault} (Ok (Msg l at)) (Ok b) = e in cc) (Inline l at)
+
     by : (r : Result (ChunkLists × Cursor) ℕ) → in_lists (Rattle.nr_xdr.specs.Sequencing.◌>>=◌ r (λ lists. msg_body lists.0 lists.1.place (length lists.1.rest))) ≡ Ok b → IsStreamBody b
     by (Ok l) e = sums l.0 l.1.place (sums_pass l.0 (length l.1.rest)) e
     by (Err at) e = absurd cc
@@ -92,6 +93,7 @@ nomsg-is c b e = by (lists_at true c) e
     sums : (l : ChunkLists) (at : ℕ) (d : Bool) → in_lists (cond d (Err at) (Ok (Nomsg l))) ≡ Ok b → IsStreamBody b
     sums l at true e = absurd cc
     sums l at false e = subst IsStreamBody (let s : ◌≡◌ {A = Result Body HeaderFault} (Ok (Nomsg l)) (Ok b) = e in cc) (Long l)
+
     by : (r : Result (ChunkLists × Cursor) ℕ) → in_lists (Rattle.nr_xdr.specs.Sequencing.◌>>=◌ r (λ lists. nomsg_body lists.0 lists.1.place (length lists.1.rest))) ≡ Ok b → IsStreamBody b
     by (Ok l) e = sums l.0 l.1.place (Rattle.std.proofs.Common.◌||◌ (sums_pass l.0 0) (ltb 0 (length l.1.rest))) e
     by (Err at) e = absurd cc
@@ -112,11 +114,12 @@ plain-header m h kind is = by (ltb (length m) 16) is
     by_version : (b : Bool) → cond b (version1_of (word_at 12 m) m) (Err (faults.Version (word_at 4 m))) ≡ Ok h.body → IsStreamBody h.body
     by_version true e = version1-is (word_at 12 m) m h.body kind e
     by_version false e = absurd cc
+
     by : (b : Bool) → cond b (Err faults.Short) (header_by (word_at 0 m) (word_at 8 m) (body_by (error_by (word_at 12 m) m) (word_at 4 m) (word_at 12 m) m)) ≡ Ok h → IsStreamBody h.body
     by true e = absurd cc
     by false e = by_version (eqb (word_at 4 m) 1)
-      (ap (λ (o : Option Body). body_by o (word_at 4 m) (word_at 12 m) m) (sym (no-error (word_at 12 m) m kind))
-       ∙ header-body (word_at 0 m) (word_at 8 m) (body_by (error_by (word_at 12 m) m) (word_at 4 m) (word_at 12 m) m) h e)
+        (ap (λ (o : Option Body). body_by o (word_at 4 m) (word_at 12 m) m) (sym (no-error (word_at 12 m) m kind))
+        ∙ header-body (word_at 0 m) (word_at 8 m) (body_by (error_by (word_at 12 m) m) (word_at 4 m) (word_at 12 m) m) h e)
 
 -- ---- What it brings
 
@@ -129,6 +132,7 @@ lists-reply k place o inline lists true xid outcome e = by o.is_revoked e
   where
     same : (p : List ℕ) (x : ℕ) → GivesOutcome x (Some (outcomes.Reply p)) ≡ GivesOutcome xid (Some outcome) → IsReply outcome
     same p x e = subst IsReply (let s : ◌≡◌ {A = Verdict} (GivesOutcome x (Some (outcomes.Reply p))) (GivesOutcome xid (Some outcome)) = e in cc) (AReply p)
+
     by_reply : (p : List ℕ) (r : Result ReplyHead ℕ) → by_head o.xid p r ≡ GivesOutcome xid (Some outcome) → IsReply outcome
     by_reply p (Ok head) e = by_eq (eqb (reply_xid head) o.xid) e
       where
@@ -136,9 +140,11 @@ lists-reply k place o inline lists true xid outcome e = by o.is_revoked e
         by_eq true e = same p o.xid e
         by_eq false e = absurd cc
     by_reply p (Err at) e = absurd cc
+
     by_out : (r : Option (List ℕ)) → by_payload o.xid r ≡ GivesOutcome xid (Some outcome) → IsReply outcome
     by_out None e = absurd cc
     by_out (Some p) e = by_reply p (reply_of p) e
+
     by : (b : Bool) → cond b (GivesOutcome o.xid None) (by_payload o.xid (reply_conveyed o.call.prog o.call.vers o.call.proc inline lists (memory_at k place))) ≡ GivesOutcome xid (Some outcome) → IsReply outcome
     by true e = absurd cc
     by false e = by_out (reply_conveyed o.call.prog o.call.vers o.call.proc inline lists (memory_at k place)) e

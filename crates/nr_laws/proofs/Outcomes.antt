@@ -1,22 +1,21 @@
 -- On a matched link each outcome that a client has was brought by a message that its server said.
-use Rattle.std.proofs.Common.{◌≡◌, ◌≢◌, ℕ, zero, suc, ◌+◌, ◌≤◌, ◌<◌, Bool, true, false, cond, ◌&&◌, eqb, List, [], ◌∷◌, ◌++◌, length, take, drop, map, Option, None, Some, Result, Ok, Err, refl, sym, ap, subst, ◌∙◌, arith, append_assoc, append-nil, inl, inr, ◌⊎◌, eqb-true}
+use Rattle.std.proofs.Common.{◌≡◌, ℕ, Bool, true, false, cond, List, [], ◌∷◌, ◌++◌, Option, None, Some, Result, Ok, Err, refl, sym, ap, subst, ◌∙◌, append_assoc, append-nil}
 use Rattle.std.specs.Prelude.{Contains}
 use Rattle.std.proofs.lemmas.List.Elements.{All-contains, All-from_recursion}
-use Rattle.std.specs.List.{AllByRecursion, All}
+use Rattle.std.specs.List.{AllByRecursion}
 use Rattle.nr_wire.specs.declared.hello.Side.TheVariants.{Initiator, Responder}
 use Rattle.nr_wire.specs.Segment.{Segment}
 use Rattle.nr_link.specs.declared.end.End.{End as Stop}
 use Rattle.nr_link.specs.Frames.{Frame, is_hello}
 use Rattle.nr_link.specs.ReceiveState.{ReadRequest, message_completed, read_request_of}
-use Rattle.nr_link.specs.Ending.{frame_segment, frame_end}
-use Rattle.nr_reduce.specs.declared.call.Outcome.{Outcome}
+use Rattle.nr_link.specs.Ending.{frame_segment}
 use Rattle.nr_reduce.specs.declared.mark.Mark.{Mark}
 use Rattle.nr_reduce.specs.declared.mark.LinkParameters.{LinkParameters}
 use Rattle.nr_reduce.specs.History.{CompletedCall}
 use Rattle.nr_reduce.specs.Matched.{Matched}
 use Rattle.nr_reduce.specs.Events.{Event, events}
 use Rattle.nr_reduce.specs.Events.Event.{FrameReceived, CallSubmitted, MemoryRevoked, CallExecuted, QueueWritten}
-use Rattle.nr_reduce.specs.EndRules.{EndState, next_end_state, next_end_state_by, next_end_state_in, end_state_after}
+use Rattle.nr_reduce.specs.EndRules.{EndState, next_end_state_by, next_end_state_in, end_state_after}
 use Rattle.nr_reduce.specs.ClientState.{ClientState}
 use Rattle.nr_reduce.specs.ClientMessages.{Verdict, verdict}
 use Rattle.nr_reduce.specs.ClientMessages.Verdict.{EndsLink, GivesOutcome}
@@ -27,11 +26,11 @@ use Rattle.nr_reduce.specs.Served.{ServedSoFar}
 use Rattle.nr_reduce.proofs.Steps.{end_state_after-append}
 use Rattle.nr_laws.specs.Typed.{IsTyped}
 use Rattle.nr_laws.proofs.Outputs.{Output}
-use Rattle.nr_laws.proofs.Outputs.Output.{AHello, ASegment}
-use Rattle.nr_laws.proofs.Brought.{Brings, Receives}
+use Rattle.nr_laws.proofs.Outputs.Output.{ASegment}
+use Rattle.nr_laws.proofs.Brought.{Brings}
 use Rattle.nr_laws.proofs.Messages.{message_in, AreOne, one-first}
-use Rattle.nr_laws.proofs.Hears.{hears, client-receives, BringsAt, brings-at, own-segment, whole-message}
-use Rattle.nr_laws.proofs.ServerAlong.{outs_of, Said, ServerTells}
+use Rattle.nr_laws.proofs.Hears.{hears, client-receives, brings-at, own-segment, whole-message}
+use Rattle.nr_laws.proofs.ServerAlong.{outs_of, Said}
 use Rattle.nr_laws.proofs.ServerSide.{server-tells, client-receives-of}
 
 -- the client after these events
@@ -55,9 +54,18 @@ pub record WasGiven (opened : LinkParameters) (es : List Event) (c : CompletedCa
 
 given-later : (opened : LinkParameters) (es : List Event) (e : Event) (c : CompletedCall) → WasGiven opened es c → WasGiven opened (es ++ e ∷ []) c
 given-later opened es e c w = record {
-  earlier = w.earlier; frame = w.frame; later = w.later ++ e ∷ [];
+  earlier = w.earlier;
+  frame = w.frame;
+  later = w.later ++ e ∷ [];
   is = ap (λ (all : List Event). all ++ e ∷ []) w.is ∙ append_assoc w.earlier (FrameReceived w.frame ∷ w.later) (e ∷ []);
-  behind = w.behind; live = w.live; stays = w.stays; segment = w.segment; is_segment = w.is_segment; message = w.message; whole = w.whole; given = w.given;
+  behind = w.behind;
+  live = w.live;
+  stays = w.stays;
+  segment = w.segment;
+  is_segment = w.is_segment;
+  message = w.message;
+  whole = w.whole;
+  given = w.given;
 }
 
 abbrev Each : (CompletedCall → Type 0) → List CompletedCall → Type 0
@@ -103,12 +111,14 @@ after-each opened es (FrameReceived f) h live stays = by (is_hello f) refl
   where
     k : ClientState
     k = (client_by opened es).state
+
     old : Each (WasGiven opened (es ++ FrameReceived f ∷ [])) k.outcomes
     old = each-with (WasGiven opened es) (WasGiven opened (es ++ FrameReceived f ∷ [])) (given-later opened es (FrameReceived f)) k.outcomes h
+
     by : (b : Bool) → is_hello f ≡ b → Each (WasGiven opened (es ++ FrameReceived f ∷ [])) (cond b (record k { has_hello = true }) (with_segment k f (frame_segment f))).outcomes
     by true is = old
     by false is = segment-each (WasGiven opened (es ++ FrameReceived f ∷ [])) k f (frame_segment f) old (λ s m c own whole given.
-      record { earlier = es; frame = f; later = []; is = refl; behind = is; live = live; stays = stays; segment = s; is_segment = own; message = m; whole = whole; given = given })
+        record { earlier = es; frame = f; later = []; is = refl; behind = is; live = live; stays = stays; segment = s; is_segment = own; message = m; whole = whole; given = given })
 after-each opened es (CallSubmitted p a) h live stays = each-with (WasGiven opened es) (WasGiven opened (es ++ CallSubmitted p a ∷ [])) (given-later opened es (CallSubmitted p a)) (client_by opened es).state.outcomes h
 after-each opened es (MemoryRevoked p xid) h live stays = each-with (WasGiven opened es) (WasGiven opened (es ++ MemoryRevoked p xid ∷ [])) (given-later opened es (MemoryRevoked p xid)) (client_by opened es).state.outcomes h
 after-each opened es (CallExecuted e) h live stays = each-with (WasGiven opened es) (WasGiven opened (es ++ CallExecuted e ∷ [])) (given-later opened es (CallExecuted e)) (client_by opened es).state.outcomes h
@@ -121,11 +131,14 @@ next-each opened es e h =
   where
     k : ClientState
     k = (client_by opened es).state
+
     old : Each (WasGiven opened (es ++ e ∷ [])) k.outcomes
     old = each-with (WasGiven opened es) (WasGiven opened (es ++ e ∷ [])) (given-later opened es e) k.outcomes h
+
     by_why : (o : Option Stop) → client_end k e ≡ o → (client_by opened es).ended ≡ None → Each (WasGiven opened (es ++ e ∷ [])) (next_end_state_by (client_rules opened) k e o).state.outcomes
     by_why None is live = after-each opened es e h live is
     by_why (Some end) is live = old
+
     one : (ended : Option Stop) → (client_by opened es).ended ≡ ended → Each (WasGiven opened (es ++ e ∷ [])) (next_end_state_in (client_rules opened) k e ended).state.outcomes
     one None live = by_why (client_end k e) refl live
     one (Some end) live = old
@@ -168,7 +181,7 @@ outcome-said opened link run typed asked served matched c there =
     let segment : at.own ≡ ASegment w.segment = own-segment at.own w.frame w.segment at.brought w.behind w.is_segment in
     let one : message_in w.segment ≡ w.message ∷ [] = whole-message (client_by opened w.earlier).state.received w.segment w.message counted.begun w.whole in
     let parts : outs_of opened (events link Responder run) ≡ at.earlier ++ ASegment w.segment ∷ (at.later ++ r.left) =
-        sym r.parts ∙ ap (λ (xs : List Output). xs ++ r.left) (at.parts ∙ ap (λ (o : Output). at.earlier ++ o ∷ at.later) segment) ∙ append_assoc at.earlier (ASegment w.segment ∷ at.later) r.left in
+    sym r.parts ∙ ap (λ (xs : List Output). xs ++ r.left) (at.parts ∙ ap (λ (o : Output). at.earlier ++ o ∷ at.later) segment) ∙ append_assoc at.earlier (ASegment w.segment ∷ at.later) r.left in
     record {
       given = w;
       before = at.earlier;

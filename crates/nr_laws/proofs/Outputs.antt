@@ -1,36 +1,35 @@
 -- What each side writes, as hellos and segments.
-use Rattle.std.proofs.Common.{◌≡◌, ℕ, suc, ◌+◌, ◌*◌, ◌≤◌, Bool, true, false, cond, eqb, List, [], ◌∷◌, ◌++◌, length, take, drop, map, Option, None, Some, Result, Ok, Err, refl, sym, ap, subst, ◌∙◌, arith, append_assoc, append-nil, take_all}
+use Rattle.std.proofs.Common.{◌≡◌, ℕ, ◌+◌, ◌*◌, ◌≤◌, Bool, true, false, cond, eqb, List, [], ◌∷◌, ◌++◌, length, take, drop, map, Option, None, Some, refl, sym, ap, ◌∙◌, arith, append-nil, take_all}
 use Rattle.std.specs.List.{flat_map, range_with_len}
 use Rattle.std.proofs.lemmas.Grind.{flat_map-append}
 use Rattle.nr_xdr.specs.Item.{word, hyper}
-use Rattle.nr_wire.specs.Constants.{OPCODE_WRITE, OPCODE_READ_REQUEST, OPCODE_READ_RESPONSE, OPCODE_SEND, OPCODE_TERMINATE, QUEUE_SEND, QUEUE_READ_REQUEST, QUEUE_TERMINATE}
-use Rattle.nr_wire.specs.declared.hello.Side.TheVariants.{Initiator, Responder}
+use Rattle.nr_wire.specs.Constants.{OPCODE_READ_REQUEST, OPCODE_READ_RESPONSE, OPCODE_SEND, OPCODE_TERMINATE, QUEUE_SEND, QUEUE_READ_REQUEST, QUEUE_TERMINATE}
+use Rattle.nr_wire.specs.declared.hello.Side.TheVariants.{Responder}
 use Rattle.nr_wire.specs.Segment.{Segment, encoding}
 use Rattle.nr_wire.specs.Segment.Segment.{Tagged, Untagged}
 use Rattle.nr_link.specs.declared.end.End.{End as Stop}
 use Rattle.nr_link.specs.declared.end.End.TheVariants as ends
 use Rattle.nr_link.specs.Limits.{segment_max}
 use Rattle.nr_link.specs.Reasons.{denied_word, NO_BUFFER_WORD}
-use Rattle.nr_link.specs.Output.{segment_count, segment_payload, cut, msn_word, send, write, read_response, read_request, terminate_message, own_hello, refusing_hello}
-use Rattle.nr_link.specs.Frames.{Frame, is_hello}
+use Rattle.nr_link.specs.Output.{segment_count, segment_payload, cut, msn_word, send, read_response, read_request, terminate_message, own_hello, refusing_hello}
+use Rattle.nr_link.specs.Frames.{is_hello}
 use Rattle.nr_link.specs.ReceiveState.{ReadRequest}
 use Rattle.nr_link.specs.Ending.{frame_segment, final_output, is_hello_reason}
 use Rattle.nr_reduce.specs.declared.mark.LinkParameters.{LinkParameters}
 use Rattle.nr_reduce.specs.History.{ExecutedCall}
 use Rattle.nr_reduce.specs.Events.{Event}
-use Rattle.nr_reduce.specs.EndRules.{Rules, EndState, next_end_state, output_for, output_for_by, output_for_in, output_for_all}
 use Rattle.nr_reduce.specs.Events.Event.{FrameReceived, CallSubmitted, MemoryRevoked, CallExecuted, QueueWritten}
 use Rattle.nr_header.specs.declared.header.ChunkLists.{ChunkLists}
 use Rattle.nr_rpc.specs.Reading.{call_of, target_of}
 use Rattle.nr_reduce.specs.Plans.{call_message}
-use Rattle.nr_reduce.specs.Holds.{Answer, answer_for, answer_writes, answer_message, chunk_error}
+use Rattle.nr_reduce.specs.Holds.{Answer, answer_message, chunk_error}
 use Rattle.nr_reduce.specs.Undone.{answer_segments}
 use Rattle.nr_reduce.proofs.Answering.{answer_spells}
 use Rattle.nr_reduce.specs.ClientState.{ClientState, OutstandingCall, memory_at}
-use Rattle.nr_reduce.specs.Client.{client_output, client_rules, calls_output, call_output, response_output, segment_request, outstanding_of}
+use Rattle.nr_reduce.specs.Client.{client_output, calls_output, call_output, response_output, segment_request, outstanding_of}
 use Rattle.nr_reduce.specs.ServerState.{ServerState, PendingRead, down_max, credit_word}
 use Rattle.nr_reduce.specs.ServerFrames.{FrameEffect, frame_effect}
-use Rattle.nr_reduce.specs.Server.{server_rules, server_output, server_final_output, is_rejected, sends_from, requests_from, newly_open_reads, effect_output, offer_of, answer_of_target, answer_output, execution_output}
+use Rattle.nr_reduce.specs.Server.{server_output, server_final_output, is_rejected, sends_from, requests_from, newly_open_reads, effect_output, offer_of, answer_of_target, answer_output, execution_output}
 
 pub data Output : Type 0 where
   AHello : (bytes : List ℕ) → Output
@@ -200,6 +199,7 @@ client-said opened k (FrameReceived f) h = by (is_hello f) (segment_request (fra
     by_request : (o : Option ReadRequest) → response_output k f.end o ≡ bytes_of_all (response_outputs k f.end o)
     by_request None = refl
     by_request (Some r) = response-said r.sink r.sink_to (take r.size (drop r.to (memory_at k f.end r.stag)))
+
     by : (b : Bool) (o : Option ReadRequest) → cond b (calls_output opened 1 k.outstanding) (response_output k f.end o) ≡ bytes_of_all (cond b (call_sends opened 1 k.outstanding) (response_outputs k f.end o))
     by true o = calls-said opened 1 k.outstanding h
     by false o = by_request o
@@ -252,6 +252,7 @@ server-said opened k (FrameReceived f) h = by (is_hello f)
   where
     s : FrameEffect
     s = frame_effect k f
+
     by : (b : Bool) → cond b (own_hello Responder) (effect_output k s) ≡ bytes_of_all (cond b (AHello (own_hello Responder) ∷ []) (effect_outputs k s))
     by true = sym (append-nil (own_hello Responder))
     by false =

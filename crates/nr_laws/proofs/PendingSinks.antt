@@ -1,29 +1,13 @@
 -- The pending calls of a server have their sink regions, and their reads are done or still to do, from frame to frame.
-use Rattle.std.proofs.Common.{◌≡◌, ◌≢◌, ℕ, zero, suc, ◌+◌, ◌-◌, ◌≤◌, ◌<◌, min, Bool, true, false, cond, ◌&&◌, not, eqb, List, [], ◌∷◌, ◌++◌, length, take, drop, map, replicate, Option, None, Some, Result, Ok, Err, refl, sym, ap, subst, ◌∙◌, arith, append_assoc, append-nil, length-append, take-append-drop, take_all, eq-eqb, ne_eqb, eqb-true, inl, inr}
-use Rattle.std.proofs.lemmas.List.{length-take, take_at, drop_at}
+use Rattle.std.proofs.Common.{◌≡◌, ◌≢◌, ℕ, suc, ◌+◌, ◌≤◌, ◌<◌, Bool, true, false, cond, ◌&&◌, not, eqb, List, [], ◌∷◌, ◌++◌, length, map, replicate, Some, refl, sym, ap, subst, ◌∙◌, arith, append-nil, length-append, eq-eqb, ne_eqb}
 use Rattle.std.specs.List.{filter, find}
-use Rattle.nr_wire.specs.Constants.{OPCODE_READ_RESPONSE}
-use Rattle.nr_wire.specs.Segment.{Segment}
-use Rattle.nr_wire.specs.Segment.Segment.{Tagged, Untagged}
-use Rattle.nr_header.specs.declared.header.ReadSegment.{ReadSegment}
-use Rattle.nr_header.specs.declared.header.ChunkLists.{ChunkLists}
-use Rattle.nr_link.specs.Frames.{Frame}
-use Rattle.nr_link.specs.ReceiveState.{message_completed}
-use Rattle.nr_link.specs.Ending.{frame_segment}
-use Rattle.nr_reduce.specs.Chunks.{is_read_chunk_of_item, total_at}
 use Rattle.nr_reduce.specs.Plans.{entries_from}
 use Rattle.nr_reduce.specs.OfferedRegions.{Region, closed_if, regions_closed}
-use Rattle.nr_reduce.specs.ServerState.{ServerState, PendingCall, PendingRead, next_stag}
-use Rattle.nr_reduce.specs.ServerReads.{open_reads, chunks_of, regions_from, regions_of, stag_by, sink_of, reads_from, reads_of, is_read}
-use Rattle.nr_reduce.specs.ServerMessages.{Verdict, CallVerdict, verdict, chunk_bytes, payload_of, by_payload}
-use Rattle.nr_reduce.specs.ServerMessages.Verdict.{EndsLink, OtherVersion, BadChunks, MakesPending}
-use Rattle.nr_reduce.specs.ServerMessages.CallVerdict.{Refuses, IsReady}
-use Rattle.nr_reduce.specs.ServerFrames.{FrameEffect, no_effect, with_verdict, ready_if_whole, message_effect, with_pending_call, with_refused_call, is_stream_read, read_effect, call_of_number, response_effect, by_message, with_access, effect_in, frame_effect}
-use Rattle.nr_reduce.specs.Server.{newly_open_reads}
+use Rattle.nr_reduce.specs.ServerState.{PendingCall, PendingRead}
+use Rattle.nr_reduce.specs.ServerReads.{stag_by, sink_of}
 use Rattle.nr_reduce.proofs.Laid.{added_up}
-use Rattle.nr_reduce.proofs.OwnStags.{AreNumbered}
-use Rattle.nr_laws.proofs.ClientMemory.{HasRegion, has-closed, none-from, find-left, find-right}
-use Rattle.nr_laws.proofs.SinkReads.{own_reads, total-own, reads-own, chunks-own, own_chunks, reads-none, into, into-append, SinksBelow, below-append, below-more, into-none, into-zero, own-into, own-other, own-below, OfNumber, own-number, number-right, into-kept}
+use Rattle.nr_laws.proofs.ClientMemory.{HasRegion, has-closed, find-left}
+use Rattle.nr_laws.proofs.SinkReads.{own_reads, into, into-append, OfNumber, own-number, number-right, into-kept}
 
 -- ---- Finding a call's region
 
@@ -111,27 +95,40 @@ closed-length test place (r ∷ regions) = ap (λ (n : ℕ). suc n) (closed-leng
 pub each-closed : (test : Region → Bool) (place : ℕ) (reads : List PendingRead) (regions : List Region) (calls : List PendingCall) → EachReads reads regions calls → EachReads reads (regions_closed test place regions) calls
 each-closed test place reads regions [] h = tt
 each-closed test place reads regions (c ∷ calls) h =
-    let x = h.0 in
-    (record {
-      position = x.position; handle = x.handle; lengths = x.lengths; lists = x.lists; sink = x.sink; own = x.own;
-      below = (let b = x.below in let l = closed-length test place regions in omega (arith, b, l));
-      region = λ some. has-closed test place regions x.sink (replicate (added_up x.lengths) 0) (x.region some);
-      found = λ some. sink-closed test place regions c.number x.position ∙ x.found some;
-      some = x.some;
-    }, each-closed test place reads regions calls h.1)
+    let x = h.0 in (
+      record {
+        position = x.position;
+        handle = x.handle;
+        lengths = x.lengths;
+        lists = x.lists;
+        sink = x.sink;
+        own = x.own;
+        below = (let b = x.below in let l = closed-length test place regions in omega (arith, b, l));
+        region = λ some. has-closed test place regions x.sink (replicate (added_up x.lengths) 0) (x.region some);
+        found = λ some. sink-closed test place regions c.number x.position ∙ x.found some;
+        some = x.some;
+      },
+      each-closed test place reads regions calls h.1,
+    )
 
 pub each-append : (reads new : List PendingRead) (xs ys : List Region) (calls : List PendingCall) → ((s : ℕ) → s < 1 + length xs → into s new ≡ []) → EachReads reads xs calls → EachReads (reads ++ new) (xs ++ ys) calls
 each-append reads new xs ys [] none h = tt
 each-append reads new xs ys (c ∷ calls) none h =
-    let x = h.0 in
-    (record {
-      position = x.position; handle = x.handle; lengths = x.lengths; lists = x.lists; sink = x.sink;
-      own = into-append x.sink reads new ∙ ap (λ (rs : List PendingRead). into x.sink reads ++ rs) (none x.sink x.below) ∙ append-nil (into x.sink reads) ∙ x.own;
-      below = (let b = x.below in let l = length-append xs ys in omega (arith, b, l));
-      region = λ some. (let r = x.region some in record { region = r.region; there = find-left x.sink xs ys r.region r.there; own = r.own; holds = r.holds });
-      found = λ some. (let f = x.found some in let p = x.some some in sink-left xs ys c.number x.position (omega (arith, f, p)) ∙ f);
-      some = x.some;
-    }, each-append reads new xs ys calls none h.1)
+    let x = h.0 in (
+      record {
+        position = x.position;
+        handle = x.handle;
+        lengths = x.lengths;
+        lists = x.lists;
+        sink = x.sink;
+        own = into-append x.sink reads new ∙ ap (λ (rs : List PendingRead). into x.sink reads ++ rs) (none x.sink x.below) ∙ append-nil (into x.sink reads) ∙ x.own;
+        below = (let b = x.below in let l = length-append xs ys in omega (arith, b, l));
+        region = λ some. (let r = x.region some in record { region = r.region; there = find-left x.sink xs ys r.region r.there; own = r.own; holds = r.holds });
+        found = λ some. (let f = x.found some in let p = x.some some in sink-left xs ys c.number x.position (omega (arith, f, p)) ∙ f);
+        some = x.some;
+      },
+      each-append reads new xs ys calls none h.1,
+    )
 
 pub each-filter : (reads : List PendingRead) (regions : List Region) (p : PendingCall → Bool) (calls : List PendingCall) → EachReads reads regions calls → EachReads reads regions (filter p calls)
 each-filter reads regions p [] h = tt
@@ -156,17 +153,28 @@ each-refused front back regions number (c ∷ calls) h = by (eqb c.number number
   where
     kept : List PendingRead
     kept = filter (λ r. not (eqb r.number number)) back
+
     others : List PendingCall
     others = filter (λ c. not (eqb c.number number)) calls
+
     by : (b : Bool) → eqb c.number number ≡ b → EachReads (front ++ kept) regions others → EachReads (front ++ kept) regions (cond (not b) (c ∷ others) others)
     by true is rest = rest
     by false is rest =
         let x = h.0 in
         let ne : c.number ≢ number = λ e. (let t : true ≡ false = sym (eq-eqb c.number number e) ∙ is in absurd cc) in
         let all : OfNumber c.number (into x.sink (front ++ back)) = subst (OfNumber c.number) (sym x.own) (own-number c.number x.position x.sink x.handle 0 x.lengths) in
-        let last : OfNumber c.number (into x.sink back) = number-right c.number (into x.sink front) (into x.sink back) (subst (OfNumber c.number) (into-append x.sink front back) all) in
-        (record {
-          position = x.position; handle = x.handle; lengths = x.lengths; lists = x.lists; sink = x.sink;
-          own = into-append x.sink front kept ∙ ap (λ (rs : List PendingRead). into x.sink front ++ rs) (into-kept c.number number x.sink back ne last) ∙ sym (into-append x.sink front back) ∙ x.own;
-          below = x.below; region = x.region; found = x.found; some = x.some;
-        }, rest)
+        let last : OfNumber c.number (into x.sink back) = number-right c.number (into x.sink front) (into x.sink back) (subst (OfNumber c.number) (into-append x.sink front back) all) in (
+          record {
+            position = x.position;
+            handle = x.handle;
+            lengths = x.lengths;
+            lists = x.lists;
+            sink = x.sink;
+            own = into-append x.sink front kept ∙ ap (λ (rs : List PendingRead). into x.sink front ++ rs) (into-kept c.number number x.sink back ne last) ∙ sym (into-append x.sink front back) ∙ x.own;
+            below = x.below;
+            region = x.region;
+            found = x.found;
+            some = x.some;
+          },
+          rest,
+        )

@@ -1,23 +1,19 @@
 -- The message of an accepted call is read with the lists of its plan, in every form.
-use Rattle.std.proofs.Common.{◌≡◌, ◌≢◌, ℕ, zero, suc, ◌+◌, ◌*◌, ◌^◌, ◌≤◌, ◌<◌, Bool, true, false, cond, eqb, List, [], ◌∷◌, ◌++◌, length, take, drop, sum, Option, None, Some, Result, Ok, Err, refl, sym, ap, subst, ◌∙◌, arith, append_assoc, append-nil}
+use Rattle.std.proofs.Common.{◌≡◌, ℕ, suc, ◌+◌, ◌^◌, ◌≤◌, ◌<◌, Bool, true, false, cond, eqb, List, [], ◌∷◌, ◌++◌, length, drop, Option, None, Some, Result, Ok, refl, sym, ap, subst, ◌∙◌, arith}
 use Rattle.std.proofs.lemmas.List.{drop_at}
-use Rattle.nr_xdr.specs.Item.{Item, IsBytes, word}
+use Rattle.nr_xdr.specs.Item.{Item, IsBytes}
 use Rattle.nr_xdr.specs.Item.Item.{Unsigned}
 use Rattle.nr_xdr.specs.Items.{AllFit, encodings}
-use Rattle.nr_header.specs.declared.header.RdmaSegment.{RdmaSegment}
 use Rattle.nr_header.specs.declared.header.ReadSegment.{ReadSegment}
 use Rattle.nr_header.specs.declared.header.ChunkLists.{ChunkLists}
 use Rattle.nr_header.specs.declared.header.Body.{Body}
 use Rattle.nr_header.specs.declared.header.Body.TheVariants.{Msg, Nomsg, ErrVers, ErrChunk}
 use Rattle.nr_header.specs.declared.header.Header.{Header}
 use Rattle.nr_header.specs.declared.fault.HeaderFault.{HeaderFault}
-use Rattle.nr_header.specs.Constants.{PAYLOAD_MAX}
-use Rattle.nr_header.specs.Header.{read_items, segments_items, chunk_items, write_items, reply_items, lists_items, body_items, fixed_items, header_encoding, HeaderFits}
+use Rattle.nr_header.specs.Header.{read_items, segments_items, write_items, reply_items, lists_items, body_items, fixed_items, header_encoding}
 use Rattle.nr_header.specs.WithinLimits.{IsMessage, ListsWithin, CanRead}
 use Rattle.nr_header.specs.Reading.{header_of}
 use Rattle.nr_header.proofs.Messages.{header_take}
-use Rattle.nr_reduce.specs.declared.call.Form.{Form}
-use Rattle.nr_reduce.specs.declared.call.Form.TheVariants as forms
 use Rattle.nr_reduce.specs.declared.call.Offer.{Offer}
 use Rattle.nr_reduce.specs.declared.outline.Plan.{Plan}
 use Rattle.nr_reduce.specs.Limits.{send_max, given_max}
@@ -25,11 +21,7 @@ use Rattle.nr_reduce.specs.Plans.{TooLarge, plan_of, plan_size, plan_in_form, gi
 use Rattle.nr_reduce.specs.Plans as plans
 use Rattle.nr_reduce.specs.Undone.{IsNotGiven, MessageConveys, lists_by, inline_by}
 use Rattle.nr_reduce.proofs.Laid.{added_up, sum-added}
-use Rattle.nr_reduce.proofs.Shapes.{within-ok}
-use Rattle.nr_reduce.proofs.Sizes.{is_formed}
-use Rattle.nr_reduce.proofs.Asking.{asks}
-use Rattle.nr_laws.specs.Typed.{IsTypedForm}
-use Rattle.nr_laws.proofs.SameLists.{peel-word, ListsSame, lists-same}
+use Rattle.nr_laws.proofs.SameLists.{peel-word, lists-same}
 
 -- ---- The lists of an offer that is given fit
 
@@ -72,6 +64,7 @@ counts p small = (by_write p.write (omega (arith, small)), by_reply p.reply (ome
     by_write : (w : Option (List ℕ)) → plans.write_size w ≤ 1024 → length (Rattle.nr_reduce.specs.Undone.lengths w) < 2 ^ 32
     by_write None h = omega arith
     by_write (Some ns) h = omega (arith, h)
+
     by_reply : (r : Option (List ℕ)) → plans.reply_size r ≤ 1024 → length (Rattle.nr_reduce.specs.Undone.lengths r) < 2 ^ 32
     by_reply None h = omega arith
     by_reply (Some ns) h = omega (arith, h)
@@ -131,15 +124,19 @@ msg-reads xid credit header ls inline at m fits fx fc = by header.body m.fits m.
   where
     whole : List ℕ
     whole = header_encoding (record { xid = xid; credit = credit; body = Msg ls at }) ++ inline
+
     own : AllFit (fixed_items xid 1 credit 0 (lists_items ls))
     own = (fx, (omega arith, (fc, (omega arith, fits))))
+
     by : (b : Body) → AllFit (body_items header.xid header.credit b) → whole ≡ header_encoding (record { xid = header.xid; credit = header.credit; body = b }) ++ m.stream → Rattle.nr_header.specs.WithinLimits.StreamAt b (length (header_encoding (record { xid = header.xid; credit = header.credit; body = b })))
         → (lists_by b ≡ ls) × (inline_by whole b ≡ Some inline)
     by (Msg ms place) f parts where_is =
         let k = fixed-same xid 1 credit 0 header.xid 1 header.credit 0 (lists_items ls) (lists_items ms) inline m.stream own f parts in
-        let s = lists-same ls ms inline m.stream fits f.1.1.1.1 k.1 in
-        (sym s.same, ap (λ (bytes : List ℕ). Some (drop place bytes)) parts
-          ∙ ap (λ (bytes : List ℕ). Some bytes) (drop_at (header_encoding (record { xid = header.xid; credit = header.credit; body = Msg ms place })) m.stream place (sym where_is)) ∙ ap (λ (bytes : List ℕ). Some bytes) (sym s.rest))
+        let s = lists-same ls ms inline m.stream fits f.1.1.1.1 k.1 in (
+          sym s.same,
+          ap (λ (bytes : List ℕ). Some (drop place bytes)) parts
+              ∙ ap (λ (bytes : List ℕ). Some bytes) (drop_at (header_encoding (record { xid = header.xid; credit = header.credit; body = Msg ms place })) m.stream place (sym where_is)) ∙ ap (λ (bytes : List ℕ). Some bytes) (sym s.rest),
+        )
     by (Nomsg ms) f parts where_is = absurd (let k = (fixed-same xid 1 credit 0 header.xid 1 header.credit 1 (lists_items ls) (lists_items ms) inline m.stream own f parts).0 in omega (arith, k))
     by (ErrVers version low high) f parts where_is = absurd (let k = (fixed-same xid 1 credit 0 header.xid version header.credit 4 (lists_items ls) (Unsigned 1 ∷ (Unsigned low ∷ (Unsigned high ∷ []))) inline m.stream own f parts).0 in omega (arith, k))
     by (ErrChunk version) f parts where_is = absurd (let k = (fixed-same xid 1 credit 0 header.xid version header.credit 4 (lists_items ls) (Unsigned 2 ∷ []) inline m.stream own f parts).0 in omega (arith, k))
@@ -150,8 +147,10 @@ nomsg-reads xid credit header ls inline m fits fx fc = by header.body m.fits m.p
   where
     whole : List ℕ
     whole = header_encoding (record { xid = xid; credit = credit; body = Nomsg ls }) ++ inline
+
     own : AllFit (fixed_items xid 1 credit 1 (lists_items ls))
     own = (fx, (omega arith, (fc, (omega arith, fits))))
+
     by : (b : Body) → AllFit (body_items header.xid header.credit b) → whole ≡ header_encoding (record { xid = header.xid; credit = header.credit; body = b }) ++ m.stream → (lists_by b ≡ ls) × (inline_by whole b ≡ None)
     by (Msg ms place) f parts = absurd (let k = (fixed-same xid 1 credit 1 header.xid 1 header.credit 0 (lists_items ls) (lists_items ms) inline m.stream own f parts).0 in omega (arith, k))
     by (Nomsg ms) f parts =
@@ -166,12 +165,15 @@ fitting-reads xid credit stag p header bytes is fits fx fc = by p.read_at refl (
   where
     ls : ChunkLists
     ls = lists_of stag p
+
     message : Option ℕ → List ℕ
     message o = header_encoding (record { xid = xid; credit = credit; body = body_by o ls }) ++ p.inline
+
     by_kind : (position : ℕ) → p.read_at ≡ Some position → (b : Bool) → eqb position 0 ≡ b → IsMessage header (header_encoding (record { xid = xid; credit = credit; body = cond b (Nomsg ls) (Msg ls 0) }) ++ p.inline)
         → (lists_by header.body ≡ ls) × (inline_by (header_encoding (record { xid = xid; credit = credit; body = cond b (Nomsg ls) (Msg ls 0) }) ++ p.inline) header.body ≡ cond b None (Some p.inline))
     by_kind position own true at_zero m = nomsg-reads xid credit header ls p.inline m fits fx fc
     by_kind position own false at_zero m = msg-reads xid credit header ls p.inline 0 m fits fx fc
+
     by : (o : Option ℕ) → p.read_at ≡ o → IsMessage header (message p.read_at) → ReadsLists stag p (message p.read_at) header
     by None own m =
         let r = msg-reads xid credit header ls p.inline 0 (subst (λ (o : Option ℕ). IsMessage header (message o)) own m) fits fx fc in

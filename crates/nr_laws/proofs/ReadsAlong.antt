@@ -1,44 +1,39 @@
 -- Along the events of a server: the Read Requests that it said are those of the reads that are done or open, and each read that is
 -- done had the last segment of a response.
-use Rattle.std.proofs.Common.{◌≡◌, ◌≢◌, ℕ, zero, suc, ◌+◌, ◌-◌, ◌≤◌, ◌<◌, Bool, true, false, cond, ◌&&◌, ◌||◌, not, eqb, leb, List, [], ◌∷◌, ◌++◌, length, take, drop, map, Option, None, Some, Result, Ok, Err, refl, sym, ap, subst, ◌∙◌, arith, append_assoc, append-nil, length-append, inl, inr, ◌⊎◌, eqb-true}
-use Rattle.std.specs.List.{filter}
+use Rattle.std.proofs.Common.{◌≡◌, ℕ, ◌+◌, ◌≤◌, Bool, true, false, cond, ◌&&◌, not, eqb, List, [], ◌∷◌, ◌++◌, length, take, map, Option, None, Some, Result, Ok, Err, refl, sym, ap, subst, ◌∙◌, arith, append_assoc, append-nil, length-append, eqb-true}
 use Rattle.nr_wire.specs.Constants.{OPCODE_READ_RESPONSE, OPCODE_READ_REQUEST}
 use Rattle.nr_wire.specs.Segment.{Segment}
 use Rattle.nr_wire.specs.Segment.Segment.{Tagged, Untagged}
 use Rattle.nr_regions.specs.declared.denied.Denied.{Denied}
-use Rattle.nr_regions.specs.Access.{TaggedSegment}
 use Rattle.nr_link.specs.declared.end.End.{End as Stop}
 use Rattle.nr_link.specs.Frames.{Frame, is_hello}
 use Rattle.nr_link.specs.ReceiveState.{ReceiveState, received_after, message_completed, is_send, send_continued}
-use Rattle.nr_link.specs.SegmentFaults.{ExpectedResponse, Readiness, segment_fault, reason_if, missing_fault, is_unexpected, is_expected, first_fault}
+use Rattle.nr_link.specs.SegmentFaults.{Readiness, segment_fault, reason_if, missing_fault, is_unexpected, is_expected}
 use Rattle.nr_link.specs.Reasons.{REASON_RESPONSE}
-use Rattle.nr_link.specs.Ending.{frame_segment, frame_end, frame_end_by, end_of_fault, hello_end, missing_access, tagged_access}
+use Rattle.nr_link.specs.Ending.{frame_segment, frame_end, frame_end_by, end_of_fault, hello_end, missing_access}
 use Rattle.nr_wire.specs.Hello.{hello_of}
-use Rattle.nr_wire.specs.declared.hello.Side.TheVariants.{Initiator, Responder}
+use Rattle.nr_wire.specs.declared.hello.Side.TheVariants.{Initiator}
 use Rattle.nr_reduce.specs.declared.mark.LinkParameters.{LinkParameters}
 use Rattle.nr_reduce.specs.OfferedRegions.{Region, region_grants, regions_closed}
 use Rattle.nr_reduce.specs.Events.{Event}
 use Rattle.nr_reduce.specs.Events.Event.{FrameReceived, CallSubmitted, MemoryRevoked, CallExecuted, QueueWritten}
-use Rattle.nr_reduce.specs.EndRules.{EndState, next_end_state, next_end_state_by, next_end_state_in, end_state_after}
 use Rattle.nr_reduce.specs.ServerState.{ServerState, PendingCall, PendingRead}
-use Rattle.nr_reduce.specs.ServerReads.{open_reads, expected_response, reads_of, regions_of, is_over}
+use Rattle.nr_reduce.specs.ServerReads.{expected_response, reads_of, regions_of, is_over}
 use Rattle.nr_reduce.specs.ServerMessages.{Verdict, verdict}
 use Rattle.nr_reduce.specs.ServerMessages.Verdict.{EndsLink, OtherVersion, BadChunks, MakesPending}
-use Rattle.nr_reduce.specs.ServerFrames.{FrameEffect, no_effect, message_effect, ready_if_whole, response_effect, call_of_number, by_message, with_access, effect_in, frame_effect}
-use Rattle.nr_reduce.specs.Server.{server_rules, server_end, server_state_after, with_effect, received_by, initial_server, or_refusal, readiness, newly_open_reads, answer_of_target, offer_of}
+use Rattle.nr_reduce.specs.ServerFrames.{FrameEffect, no_effect, message_effect, response_effect, call_of_number, by_message, with_access, effect_in, frame_effect}
+use Rattle.nr_reduce.specs.Server.{server_end, server_state_after, with_effect, received_by, or_refusal, readiness, newly_open_reads, offer_of}
 use Rattle.nr_reduce.specs.Holds.{Answer}
 use Rattle.nr_header.specs.declared.header.ChunkLists.{ChunkLists}
 use Rattle.nr_reduce.proofs.Once.{NumberIs, verdict-number, whole-with}
-use Rattle.nr_reduce.proofs.OwnStags.{AreNumbered, server-numbers}
-use Rattle.nr_reduce.proofs.Steps.{end_state_after-append}
-use Rattle.nr_laws.proofs.Along.{IsNext, place_after, outputs_by, outputs_in, outputs_for}
-use Rattle.nr_laws.proofs.Outputs.{Output, server_says, server_final_outputs, final_outputs, effect_outputs, answer_outputs, answer_of_call, message_sends, request_outputs, request_payload, send_segment}
+use Rattle.nr_reduce.proofs.OwnStags.{AreNumbered}
+use Rattle.nr_laws.proofs.Outputs.{Output, effect_outputs, answer_outputs, answer_of_call, message_sends, request_outputs, request_payload, send_segment}
 use Rattle.nr_laws.proofs.Outputs.Output.{AHello, ASegment}
 use Rattle.nr_laws.proofs.Messages.{AreTagged}
 use Rattle.nr_laws.proofs.ClientSays.{AreNone, all_none, no_fault, no_reason}
 use Rattle.nr_laws.proofs.ServerOutputs.{tagged-answer}
 use Rattle.nr_laws.proofs.SinkReads.{SinksBelow}
-use Rattle.nr_laws.proofs.PendingSinks.{closed-length, OwnersBelow, owners-more, owners-closed, EachReads, each-closed, each-filter}
+use Rattle.nr_laws.proofs.PendingSinks.{closed-length, OwnersBelow, owners-closed, EachReads, each-closed, each-filter}
 use Rattle.nr_laws.proofs.SinksKept.{SinksKept, EffectKept, IsOwnRead, same-kept, ready-kept, pending-kept, read-kept}
 
 -- ---- The Read Requests among outputs
@@ -125,9 +120,11 @@ sends-grow h (Untagged last opcode w queue msn offset payload) = by (is_send opc
     by_last : (b : Bool) → h.sends ≤ (send_continued h b payload).sends
     by_last true = omega arith
     by_last false = omega arith
+
     by_read : (b : Bool) → h.sends ≤ (cond b (record { sends = h.sends; begun = h.begun; requests = h.requests + 1 }) h).sends
     by_read true = omega arith
     by_read false = omega arith
+
     by : (b : Bool) → h.sends ≤ (cond b (send_continued h last payload) (cond (eqb opcode OPCODE_READ_REQUEST) (record { sends = h.sends; begun = h.begun; requests = h.requests + 1 }) h)).sends
     by true = by_last last
     by false = by_read (eqb opcode OPCODE_READ_REQUEST)
@@ -147,7 +144,7 @@ message-kept k done place sends message (MakesPending c) is n own numbered h =
     let number : c.number ≡ k.received.sends + 1 = subst (λ (v : Verdict). NumberIs (k.received.sends + 1) v) is (verdict-number k message) in
     subst (λ (m : ℕ). EffectKept k done done (message_effect k place message (MakesPending c)) m) (sym n)
     (ready-kept k k place c done done (record (no_effect k) { calls = k.calls ++ c ∷ []; reads = k.reads ++ reads_of (k.regions ++ regions_of k place c) c; regions = k.regions ++ regions_of k place c }) (k.received.sends + 1)
-      (pending-kept k done place c (own c refl) number numbered h))
+    (pending-kept k done place c (own c refl) number numbered h))
 
 by-message-kept : (k : ServerState) (done : List PendingRead) (f : Frame) (s : Segment) (o : Option (List ℕ)) → message_completed k.received s ≡ o → ((message : List ℕ) (c : PendingCall) → o ≡ Some message → verdict k message ≡ MakesPending c → IsOwnRead c.lists.read) → AreNumbered 1 k.regions → SinksKept k done
     → EffectKept k done done (by_message k f.end o) (received_after k.received s).sends
@@ -163,13 +160,13 @@ unexpected opened k f last opcode stag to payload behind is stays own none =
     let s : Segment = Tagged last opcode stag to payload in
     let r : Readiness Denied = readiness opened k (missing_access grants f s) in
     let others : or_refusal k f (frame_end_by (readiness opened k) grants f (frame_segment f)) ≡ None =
-        ap (λ (b : Bool). cond b (hello_end (hello_of Initiator f.bytes)) (or_refusal k f (frame_end_by (readiness opened k) grants f (frame_segment f)))) (sym behind) ∙ stays in
+    ap (λ (b : Bool). cond b (hello_end (hello_of Initiator f.bytes)) (or_refusal k f (frame_end_by (readiness opened k) grants f (frame_segment f)))) (sym behind) ∙ stays in
     let fine : frame_end_by (readiness opened k) grants f (frame_segment f) ≡ None = by_end (frame_end_by (readiness opened k) grants f (frame_segment f)) others in
     let whole : end_of_fault f s (segment_fault r s) ≡ None = ap (λ (x : Result Segment ℕ). frame_end_by (readiness opened k) grants f x) (sym is) ∙ fine in
     let all : AreNone (missing_fault r.missing ∷ reason_if REASON_RESPONSE (is_unexpected r opcode last stag to (length payload)) ∷ []) =
-        all_none (missing_fault r.missing ∷ reason_if REASON_RESPONSE (is_unexpected r opcode last stag to (length payload)) ∷ []) (no_fault f s (segment_fault r s) whole) in
+    all_none (missing_fault r.missing ∷ reason_if REASON_RESPONSE (is_unexpected r opcode last stag to (length payload)) ∷ []) (no_fault f s (segment_fault r s) whole) in
     let bad : is_unexpected r opcode last stag to (length payload) ≡ true =
-        (λ i. eqb (own i) OPCODE_READ_RESPONSE && not (is_expected (expected_response k.response_bytes (none i)) last stag to (length payload))) in
+    (λ i. eqb (own i) OPCODE_READ_RESPONSE && not (is_expected (expected_response k.response_bytes (none i)) last stag to (length payload))) in
     let good = no_reason REASON_RESPONSE (is_unexpected r opcode last stag to (length payload)) all.1.0 in
     (let t : true ≡ false = sym bad ∙ good in absurd cc)
   where
@@ -186,12 +183,14 @@ frame-kept opened k done f (Tagged last opcode stag to payload) behind is stays 
   where
     t : ServerState
     t = with_access k f (Tagged last opcode stag to payload)
+
     response : eqb opcode OPCODE_READ_RESPONSE && last ≡ true → opcode ≡ OPCODE_READ_RESPONSE
     response e = eqb-true opcode OPCODE_READ_RESPONSE (first (eqb opcode OPCODE_READ_RESPONSE) last e)
       where
         first : (a b : Bool) → (a && b) ≡ true → a ≡ true
         first true b e = refl
         first false b e = absurd cc
+
     by_reads : (reads : List PendingRead) → k.reads ≡ reads → opcode ≡ OPCODE_READ_RESPONSE → FrameKept k done (response_effect t f.end reads) k.received.sends 1
     by_reads [] none o = absurd (unexpected opened k f last opcode stag to payload behind is stays o none)
     by_reads (r ∷ rest) reads o = record {
@@ -199,6 +198,7 @@ frame-kept opened k done f (Tagged last opcode stag to payload) behind is stays 
       effect = read-kept k t f.end done r rest (call_of_number t r.number) reads h;
       count = length-append done (r ∷ []);
     }
+
     by : (b : Bool) → (eqb opcode OPCODE_READ_RESPONSE && last) ≡ b → FrameKept k done (cond b (response_effect t f.end t.reads) (no_effect t)) k.received.sends (cond b 1 0)
     by true e = by_reads k.reads refl (response e)
     by false e = record { later = done; effect = same-kept k done (no_effect t) refl refl refl refl k.received.sends (omega arith) h; count = omega arith }
@@ -222,7 +222,7 @@ frame-reads opened es k outs f s behind is stays own numbered h =
       };
       requests = requests-append outs (effect_outputs k e)
           ∙ (λ i. h.requests i ++ (requests-append (message_sends (k.messages_queued + 1) e.errors) (request_outputs (k.requests_sent + 1) (newly_open_reads e))
-              ∙ (λ j. requests-sends (k.messages_queued + 1) e.errors j ++ requests-reads (k.requests_sent + 1) (newly_open_reads e) j)) i)
+          ∙ (λ j. requests-sends (k.messages_queued + 1) e.errors j ++ requests-reads (k.requests_sent + 1) (newly_open_reads e) j)) i)
           ∙ sym (map-append (h.done ++ take 8 k.reads) (newly_open_reads e)) ∙ ap (λ (rs : List PendingRead). map request_payload rs) (sym effect.opened);
       lasts = x.count ∙ (let l = h.lasts in let a = lasts-append es (FrameReceived f ∷ []) in let b = ap (λ (c : Bool). cond c 0 (last_of (frame_segment f))) behind in let c = ap last_of is in omega (arith, l, a, b, c));
     }

@@ -1,6 +1,6 @@
 -- Why a call is ready: its message, or the last read for it, came; its payload is what was conveyed then.
-use Rattle.std.proofs.Common.{◌≡◌, ◌≢◌, ℕ, ◌+◌, Bool, true, false, cond, ◌&&◌, not, eqb, List, [], ◌∷◌, ◌++◌, length, drop, Option, None, Some, Result, Ok, Err, refl, sym, ap, subst, ◌∙◌, append_assoc, append-nil, arith, ◌-◌}
-use Rattle.nr_wire.specs.declared.hello.Side.TheVariants.{Initiator, Responder}
+use Rattle.std.proofs.Common.{◌≡◌, ℕ, Bool, true, false, cond, ◌&&◌, not, eqb, List, [], ◌∷◌, ◌++◌, length, drop, Option, None, Some, Result, Ok, Err, refl, sym, ap, subst, ◌∙◌, append_assoc, append-nil, ◌-◌}
+use Rattle.nr_wire.specs.declared.hello.Side.TheVariants.{Responder}
 use Rattle.nr_wire.specs.Constants.{OPCODE_READ_RESPONSE}
 use Rattle.nr_wire.specs.Segment.{Segment}
 use Rattle.nr_wire.specs.Segment.Segment.{Tagged, Untagged}
@@ -15,7 +15,7 @@ use Rattle.nr_reduce.specs.declared.mark.LinkParameters.{LinkParameters}
 use Rattle.nr_reduce.specs.Chunks.{is_read_chunk_of_item}
 use Rattle.nr_reduce.specs.Events.{Event, events}
 use Rattle.nr_reduce.specs.Events.Event.{FrameReceived, CallSubmitted, MemoryRevoked, CallExecuted, QueueWritten}
-use Rattle.nr_reduce.specs.EndRules.{EndState, next_end_state, next_end_state_by, next_end_state_in, end_state_after}
+use Rattle.nr_reduce.specs.EndRules.{EndState, next_end_state_by, next_end_state_in, end_state_after}
 use Rattle.nr_reduce.specs.ServerState.{ServerState, PendingCall, PendingRead, ReadyCall}
 use Rattle.nr_reduce.specs.ServerReads.{open_reads, is_read, reads_of, regions_of}
 use Rattle.nr_reduce.specs.ServerMessages.{Verdict, CallVerdict, verdict, chunk_bytes, payload_of, by_payload, by_head, call_xid}
@@ -28,7 +28,6 @@ use Rattle.nr_reduce.specs.RunLaws.{server_by, ends_response}
 use Rattle.nr_reduce.specs.Served.{IsExecuted, next_call, first_ready}
 use Rattle.nr_reduce.proofs.Conveyed.{Each}
 use Rattle.nr_reduce.proofs.Steps.{end_state_after-append}
-use Rattle.nr_laws.proofs.RefusedCalls.{and-true}
 
 -- the payload that is conveyed to a call that is ready
 pub record Conveyed (k : ServerState) (place : ℕ) (c : PendingCall) (r : ReadyCall) : Type 0 where
@@ -89,11 +88,14 @@ response-cause k f segment r last (q ∷ reads) is e = by_call (call_of_number k
   where
     t : ServerState
     t = with_access k f segment
+
     s : FrameEffect
     s = record (no_effect t) { reads = reads; kept = length (open_reads t) - 1 }
+
     by_test : (c : PendingCall) → call_of_number k q.number ≡ Some c → (b : Bool) → (cond b (with_refused_call t c s) (ready_if_whole t f.end c s)).ready ≡ r ∷ [] → ReadyBy k f segment r
     by_test c own true e = none-of r [] refl e
     by_test c own false e = (let w = whole-cause t f.end c s r refl e in AtRead q reads c last is own w.read w.conveyed)
+
     by_call : (o : Option PendingCall) → call_of_number k q.number ≡ o → (read_effect t f.end q o s).ready ≡ r ∷ [] → ReadyBy k f segment r
     by_call None own e = none-of r [] refl e
     by_call (Some c) own e = by_test c own (is_stream_read c q s.reads && not (is_read_chunk_of_item (chunk_bytes t f.end c 0) c.lists.read)) e
@@ -158,6 +160,7 @@ few-frame k f = by (frame_segment f)
       where
         t : ServerState
         t = with_access k f (Tagged last opcode stag to payload)
+
         tagged : (b : Bool) → AtMostReady (cond b (response_effect t f.end t.reads) (no_effect t)).ready
         tagged true = few-response t f.end t.reads
         tagged false = tt
@@ -175,9 +178,12 @@ pub record ReadyAt (opened : LinkParameters) (es : List Event) (r : ReadyCall) :
 
 ready-later : (opened : LinkParameters) (es : List Event) (e : Event) (r : ReadyCall) → ReadyAt opened es r → ReadyAt opened (es ++ e ∷ []) r
 ready-later opened es e r h = record {
-  earlier = h.earlier; frame = h.frame; later = h.later ++ e ∷ [];
+  earlier = h.earlier;
+  frame = h.frame;
+  later = h.later ++ e ∷ [];
   is = ap (λ (all : List Event). all ++ e ∷ []) h.is ∙ append_assoc h.earlier (FrameReceived h.frame ∷ h.later) (e ∷ []);
-  behind = h.behind; ready = h.ready;
+  behind = h.behind;
+  ready = h.ready;
 }
 
 each-later : (opened : LinkParameters) (es : List Event) (e : Event) (rs : List ReadyCall) → Each (ReadyAt opened es) rs → Each (ReadyAt opened (es ++ e ∷ [])) rs
@@ -195,9 +201,10 @@ each-drop opened es (r ∷ rs) h = h.1
 new-each : (opened : LinkParameters) (es : List Event) (f : Frame) (rs : List ReadyCall) → is_hello f ≡ false → (frame_effect (server_by opened es) f).ready ≡ rs → AtMostReady rs → Each (ReadyAt opened (es ++ FrameReceived f ∷ [])) rs
 new-each opened es f [] behind is few = tt
 new-each opened es f (r ∷ rs) behind is few =
-    let none : rs ≡ [] = few in
-    (record { earlier = es; frame = f; later = []; is = refl; behind = behind; ready = is ∙ ap (λ (xs : List ReadyCall). r ∷ xs) none },
-     subst (λ (xs : List ReadyCall). Each (ReadyAt opened (es ++ FrameReceived f ∷ [])) xs) (sym none) tt)
+    let none : rs ≡ [] = few in (
+      record { earlier = es; frame = f; later = []; is = refl; behind = behind; ready = is ∙ ap (λ (xs : List ReadyCall). r ∷ xs) none },
+      subst (λ (xs : List ReadyCall). Each (ReadyAt opened (es ++ FrameReceived f ∷ [])) xs) (sym none) tt,
+    )
 
 after-each : (opened : LinkParameters) (es : List Event) (e : Event) → Each (ReadyAt opened es) (server_by opened es).ready → Each (ReadyAt opened (es ++ e ∷ [])) (server_state_after opened (server_by opened es) e).ready
 unfolding server_state_after
@@ -205,8 +212,10 @@ after-each opened es (FrameReceived f) h = by (is_hello f) refl
   where
     k : ServerState
     k = server_by opened es
+
     old : Each (ReadyAt opened (es ++ FrameReceived f ∷ [])) k.ready
     old = each-later opened es (FrameReceived f) k.ready h
+
     by : (b : Bool) → is_hello f ≡ b → Each (ReadyAt opened (es ++ FrameReceived f ∷ [])) (cond b k (with_effect k f (frame_effect k f))).ready
     by true is = old
     by false is = each-append opened (es ++ FrameReceived f ∷ []) k.ready (frame_effect k f).ready old (new-each opened es f (frame_effect k f).ready is refl (few-frame k f))
@@ -222,9 +231,11 @@ next-each opened es e h =
   where
     k : ServerState
     k = server_by opened es
+
     by_why : (o : Option Stop) → Each (ReadyAt opened (es ++ e ∷ [])) (next_end_state_by (server_rules opened) k e o).state.ready
     by_why None = after-each opened es e h
     by_why (Some end) = each-later opened es e k.ready h
+
     one : (ended : Option Stop) → Each (ReadyAt opened (es ++ e ∷ [])) (next_end_state_in (server_rules opened) k e ended).state.ready
     one None = by_why (server_end opened k e)
     one (Some end) = each-later opened es e k.ready h

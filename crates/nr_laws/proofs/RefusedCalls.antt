@@ -1,19 +1,18 @@
 -- On a matched link an error message that the server says at a frame refuses the Send of an accepted call.
-use Rattle.std.proofs.Common.{◌≡◌, ◌≢◌, ℕ, zero, suc, ◌+◌, ◌-◌, ◌^◌, ◌≤◌, ◌<◌, Bool, true, false, cond, ◌&&◌, not, eqb, List, [], ◌∷◌, ◌++◌, length, Option, None, Some, Result, Ok, Err, refl, sym, ap, subst, ◌∙◌, arith, append_assoc, append-nil, inl, inr, ◌⊎◌}
+use Rattle.std.proofs.Common.{◌≡◌, ℕ, ◌+◌, ◌-◌, Bool, true, false, cond, ◌&&◌, not, eqb, List, [], ◌∷◌, ◌++◌, length, Option, None, Some, Result, Ok, refl, sym, ap, ◌∙◌, arith, inl, inr}
 use Rattle.nr_xdr.specs.Fields.{word_at}
-use Rattle.nr_wire.specs.declared.hello.Side.TheVariants.{Initiator, Responder}
+use Rattle.nr_wire.specs.declared.hello.Side.TheVariants.{Responder}
 use Rattle.nr_wire.specs.Constants.{OPCODE_READ_RESPONSE}
 use Rattle.nr_wire.specs.Segment.{Segment}
 use Rattle.nr_wire.specs.Segment.Segment.{Tagged, Untagged}
-use Rattle.nr_link.specs.Frames.{Frame, is_hello}
+use Rattle.nr_link.specs.Frames.{Frame}
 use Rattle.nr_link.specs.ReceiveState.{message_completed}
 use Rattle.nr_link.specs.Ending.{frame_segment}
 use Rattle.nr_reduce.specs.declared.mark.Mark.{Mark}
 use Rattle.nr_reduce.specs.declared.mark.LinkParameters.{LinkParameters}
 use Rattle.nr_reduce.specs.Matched.{Matched}
-use Rattle.nr_reduce.specs.Events.{Event, events}
+use Rattle.nr_reduce.specs.Events.{events}
 use Rattle.nr_reduce.specs.Events.Event.{FrameReceived}
-use Rattle.nr_reduce.specs.EndRules.{EndState, end_state_after}
 use Rattle.nr_reduce.specs.Holds.{chunk_error, version_error}
 use Rattle.nr_reduce.specs.Chunks.{is_read_chunk_of_item}
 use Rattle.nr_reduce.specs.ServerState.{ServerState, PendingCall, PendingRead, credit_word}
@@ -22,12 +21,10 @@ use Rattle.nr_reduce.specs.ServerMessages.{Verdict, CallVerdict, verdict, chunk_
 use Rattle.nr_reduce.specs.ServerMessages.Verdict.{EndsLink, OtherVersion, BadChunks, MakesPending}
 use Rattle.nr_reduce.specs.ServerMessages.CallVerdict.{Refuses, IsReady}
 use Rattle.nr_reduce.specs.ServerFrames.{FrameEffect, no_effect, with_verdict, ready_if_whole, message_effect, with_refused_call, is_stream_read, read_effect, call_of_number, response_effect, by_message, with_access, effect_in, frame_effect}
-use Rattle.nr_reduce.specs.Server.{server_rules, initial_server}
-use Rattle.nr_reduce.specs.ClientState.{ClientState}
 use Rattle.nr_reduce.specs.Run.{client}
 use Rattle.nr_reduce.specs.RunLaws.{server_by, IsReceivedCall, IsStreamRefused, RefusesSend, ends_response}
 use Rattle.nr_reduce.specs.Asked.{AskedSoFar}
-use Rattle.nr_reduce.proofs.Conveyed.{Known, known-from, Each, each-found}
+use Rattle.nr_reduce.proofs.Conveyed.{Known, known-from, each-found}
 use Rattle.nr_laws.specs.Typed.{IsTyped}
 use Rattle.nr_laws.proofs.ClientRun.{WasSubmitted}
 use Rattle.nr_laws.proofs.ExecutedCalls.{frame-message, received-message}
@@ -85,8 +82,10 @@ response-cause k f segment m last (r ∷ reads) is e = by_call (call_of_number k
   where
     t : ServerState
     t = with_access k f segment
+
     s : FrameEffect
     s = record (no_effect t) { reads = reads; kept = length (open_reads t) - 1 }
+
     by_test : (c : PendingCall) → call_of_number k r.number ≡ Some c → (b : Bool) → (is_stream_read c r s.reads && not (is_read_chunk_of_item (chunk_bytes t f.end c 0) c.lists.read)) ≡ b
         → (cond b (with_refused_call t c s) (ready_if_whole t f.end c s)).errors ≡ m ∷ [] → Cause k f segment m
     by_test c own true is_bad e =
@@ -94,6 +93,7 @@ response-cause k f segment m last (r ∷ reads) is e = by_call (call_of_number k
         ByStream c (record { is_last = last; read = r; others = reads; reads = is; call = own; stream = both.0; unsuited = not-true (is_read_chunk_of_item (chunk_bytes t f.end c 0) c.lists.read) both.1 })
         (one-of (chunk_error c.xid (credit_word k)) m e)
     by_test c own false is_bad e = none-of m (ready_if_whole t f.end c s).errors (whole-errors t f.end c s) e
+
     by_call : (o : Option PendingCall) → call_of_number k r.number ≡ o → (read_effect t f.end r o s).errors ≡ m ∷ [] → Cause k f segment m
     by_call None own e = none-of m [] refl e
     by_call (Some c) own e = by_test c own (is_stream_read c r s.reads && not (is_read_chunk_of_item (chunk_bytes t f.end c 0) c.lists.read)) refl e
@@ -130,10 +130,13 @@ refused-submit opened link run typed asked matched m s = by (cause (server_by op
   where
     k : ServerState
     k = server_by opened s.earlier
+
     of_message : (message : List ℕ) → message_completed k.received s.segment ≡ Some message → WasSubmitted opened link run k.received.sends message
     of_message message whole = frame-message opened link run typed asked matched s.earlier s.frame s.later s.segment message s.is s.behind s.is_segment whole s.live
+
     known : Known opened s.earlier k
     known = known-from opened [] s.earlier (record { calls = tt; ready = tt })
+
     by : Cause k s.frame s.segment m → RefusedSubmit opened link run m s
     by (ByVersion message whole bad is) =
         let w = of_message message whole in

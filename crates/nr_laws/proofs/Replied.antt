@@ -1,29 +1,26 @@
 -- What kind of message brought an outcome: a reply was brought by the answer of an executed call.
-use Rattle.std.proofs.Common.{◌≡◌, ◌≢◌, ℕ, zero, suc, ◌+◌, ◌≤◌, ◌<◌, Bool, true, false, cond, ◌&&◌, eqb, ltb, List, [], ◌∷◌, ◌++◌, length, take, drop, Option, None, Some, Result, Ok, Err, refl, sym, ap, subst, ◌∙◌, arith, append_assoc, append-nil}
+use Rattle.std.proofs.Common.{◌≡◌, ℕ, zero, suc, ◌+◌, ◌<◌, Bool, true, false, cond, ◌&&◌, eqb, ltb, List, [], ◌∷◌, ◌++◌, length, take, drop, Option, None, Some, Result, Ok, Err, refl, sym, ap, subst, ◌∙◌, arith}
 use Rattle.std.proofs.lemmas.List.{take_at}
 use Rattle.nr_xdr.specs.Item.{word, word_of}
 use Rattle.nr_xdr.specs.Fields.{word_at}
 use Rattle.nr_xdr.proofs.WordBytes.{length-word, word_of-word}
-use Rattle.nr_wire.specs.declared.hello.Side.TheVariants.{Initiator, Responder}
-use Rattle.nr_header.specs.declared.header.ChunkLists.{ChunkLists}
+use Rattle.nr_wire.specs.declared.hello.Side.TheVariants.{Responder}
 use Rattle.nr_header.specs.declared.header.Body.{Body}
 use Rattle.nr_header.specs.declared.header.Body.TheVariants.{Msg, Nomsg, ErrVers, ErrChunk}
 use Rattle.nr_header.specs.declared.header.Header.{Header}
 use Rattle.nr_header.specs.declared.fault.HeaderFault.{HeaderFault}
 use Rattle.nr_header.specs.declared.fault.HeaderFault.TheVariants as faults
-use Rattle.nr_header.specs.Header.{header_encoding, body_items}
+use Rattle.nr_header.specs.Header.{body_items}
 use Rattle.nr_xdr.specs.Items.{encodings}
 use Rattle.nr_header.specs.Reading.{header_of, header_by, body_by, error_by, error_of, version1_of}
-use Rattle.nr_reduce.specs.declared.call.Outcome.{Outcome}
 use Rattle.nr_reduce.specs.declared.call.Outcome.TheVariants as outcomes
 use Rattle.nr_reduce.specs.declared.mark.Mark.{Mark}
 use Rattle.nr_reduce.specs.declared.mark.Mark.TheVariants as marks
 use Rattle.nr_reduce.specs.declared.mark.LinkParameters.{LinkParameters}
-use Rattle.nr_reduce.specs.History.{CompletedCall, ExecutedCall}
-use Rattle.nr_reduce.specs.Events.{Event, events}
+use Rattle.nr_reduce.specs.Events.{events}
 use Rattle.nr_reduce.specs.ClientState.{ClientState, OutstandingCall}
-use Rattle.nr_reduce.specs.ClientMessages.{Verdict, verdict, by_body}
-use Rattle.nr_reduce.specs.ClientMessages.Verdict.{EndsLink, GivesOutcome}
+use Rattle.nr_reduce.specs.ClientMessages.{verdict, by_body}
+use Rattle.nr_reduce.specs.ClientMessages.Verdict.{GivesOutcome}
 use Rattle.nr_reduce.specs.Holds.{chunk_error, version_error}
 use Rattle.nr_reduce.specs.RunLaws.{server_by}
 use Rattle.nr_reduce.specs.Server.{offer_of}
@@ -33,10 +30,10 @@ use Rattle.nr_laws.specs.Typed.{IsTyped}
 use Rattle.nr_laws.proofs.HeaderXid.{answer-xid}
 use Rattle.nr_laws.proofs.ServerOutputs.{IsError}
 use Rattle.nr_laws.proofs.ServerOutputs.IsError.{OfChunks, OfVersion}
-use Rattle.nr_laws.proofs.ServerAlong.{Said, SaidError, SaidAnswer, SaidNoAnswer}
+use Rattle.nr_laws.proofs.ServerAlong.{Said, SaidAnswer}
 use Rattle.nr_laws.proofs.ServerAlong.Said.{IsRefusal, IsAnswer, IsNoAnswer}
-use Rattle.nr_laws.proofs.Outcomes.{client_by, OutcomeSaid}
-use Rattle.nr_laws.proofs.DoneCalls.{GivesBy, gives-by, AnsweredBy, answered-by, verdict-xid}
+use Rattle.nr_laws.proofs.Outcomes.{client_by}
+use Rattle.nr_laws.proofs.DoneCalls.{gives-by, AnsweredBy, answered-by, verdict-xid}
 use Rattle.nr_laws.proofs.Following.{DoneAt, done-at}
 
 -- ---- The kind of an error message
@@ -86,9 +83,11 @@ error-read m h kind is =
     by_version : (b : Bool) → header_by (word_at 0 m) (word_at 8 m) (cond b (version1_of 4 m) (Err (faults.Version (word_at 4 m)))) ≡ Ok h → error_of m ≡ Some h.body
     by_version true e = absurd cc
     by_version false e = absurd cc
+
     by_error : (o : Option Body) → error_of m ≡ o → header_by (word_at 0 m) (word_at 8 m) (body_by o (word_at 4 m) 4 m) ≡ Ok h → error_of m ≡ Some h.body
     by_error None own e = by_version (eqb (word_at 4 m) 1) e
     by_error (Some b) own e = own ∙ ap (λ (x : Body). Some x) (same-body (word_at 0 m) (word_at 8 m) b h e)
+
     by : (b : Bool) → cond b (Err faults.Short) (header_by (word_at 0 m) (word_at 8 m) (body_by (error_of m) (word_at 4 m) 4 m)) ≡ Ok h → error_of m ≡ Some h.body
     by true e = absurd cc
     by false e = by_error (error_of m) refl e
@@ -122,12 +121,16 @@ replied-by opened link run before after xid p typed far is = by d.said.said
   where
     d : DoneAt opened link before xid (outcomes.Reply p)
     d = done-at opened link run before after xid (outcomes.Reply p) typed far is
+
     k : ClientState
     k = (client_by opened d.said.given.earlier).state
+
     place : ℕ
     place = d.said.given.frame.end
+
     own_xid : xid ≡ word_at 0 d.said.given.message
     own_xid = verdict-xid k place d.said.given.message xid (Some (outcomes.Reply p)) d.said.given.given
+
     by : Said opened (events link Responder before) d.said.before d.said.given.message → RepliedBy opened link before xid p
     by (IsRefusal s) = absurd (error-no-reply k place d.said.given.message xid p (error-kind d.said.given.message s.kind) d.said.given.given)
     by (IsNoAnswer s) = absurd (error-no-reply k place d.said.given.message xid p (error-kind d.said.given.message (OfChunks s.call.xid (credit_word (server_by opened s.earlier)) s.message)) d.said.given.given)
@@ -135,7 +138,9 @@ replied-by opened link run before after xid p typed far is = by d.said.said
         let a = answered-by opened link before d.typed d.far s.earlier s.call s.later s.is in
         let f = a.fits in
         record {
-          done = d; answer = s; by = a;
+          done = d;
+          answer = s;
+          by = a;
           own = sym (answer-xid s.call.xid (credit_word (server_by opened s.earlier)) (offer_of (server_by opened s.earlier) s.call.xid) s.answer (omega (arith, f)))
-            ∙ ap (λ (x : List ℕ). word_at 0 x) (sym s.message) ∙ sym own_xid;
+              ∙ ap (λ (x : List ℕ). word_at 0 x) (sym s.message) ∙ sym own_xid;
         }

@@ -1,35 +1,31 @@
 -- What a Revoke gives back is what stood then, and no later frame changes it.
-use Rattle.std.proofs.Common.{◌≡◌, ◌≢◌, ℕ, zero, suc, ◌+◌, ◌≤◌, ◌<◌, Bool, true, false, cond, ◌&&◌, eqb, ltb, leb, List, [], ◌∷◌, ◌++◌, length, map, Option, None, Some, IfSome, Result, Ok, Err, refl, sym, ap, subst, ◌∙◌, arith, append_assoc, append-nil, length-append, eq-eqb, ne_eqb, eqb-true, inl, inr}
-use Rattle.std.proofs.lemmas.Bool.{lt-leb, cases_eq}
+use Rattle.std.proofs.Common.{◌≡◌, ℕ, ◌+◌, ◌≤◌, ◌<◌, Bool, true, false, cond, ◌&&◌, eqb, ltb, leb, List, [], ◌∷◌, ◌++◌, length, map, Option, None, Some, IfSome, Result, Ok, Err, refl, sym, ap, subst, ◌∙◌, arith, append_assoc, append-nil, length-append, eqb-true}
+use Rattle.std.proofs.lemmas.Bool.{lt-leb}
 use Rattle.std.specs.List.{find}
 use Rattle.nr_wire.specs.declared.hello.Side.TheVariants.{Initiator, Responder}
 use Rattle.nr_wire.specs.Segment.{Segment}
-use Rattle.nr_wire.specs.Segment.Segment.{Tagged, Untagged}
-use Rattle.nr_regions.specs.declared.denied.Denied.{Denied}
-use Rattle.nr_regions.specs.Access.{Grant, TaggedSegment, applies, grant_at, grant_offer, grant_denial, access_of}
-use Rattle.nr_regions.specs.RegisteredMemory.{denial_in}
+use Rattle.nr_regions.specs.Access.{applies}
 use Rattle.nr_link.specs.declared.end.End.{End as Stop}
 use Rattle.nr_link.specs.Frames.{Frame, is_hello, frames_completed}
 use Rattle.nr_link.specs.ReceiveState.{ReadRequest, message_completed, read_request_of}
-use Rattle.nr_link.specs.Ending.{frame_segment, tagged_access, missing_access}
+use Rattle.nr_link.specs.Ending.{frame_segment}
 use Rattle.nr_reduce.specs.declared.call.Submission.TheVariants as submissions
 use Rattle.nr_reduce.specs.declared.mark.Mark.{Mark}
 use Rattle.nr_reduce.specs.declared.mark.Mark.TheVariants as marks
 use Rattle.nr_reduce.specs.declared.mark.LinkParameters.{LinkParameters}
-use Rattle.nr_reduce.specs.History.{AcceptedCall, bytes_received, same_side, fed_at}
+use Rattle.nr_reduce.specs.History.{bytes_received, same_side, fed_at}
 use Rattle.nr_reduce.specs.Events.{Event, events, events_at, if_own}
 use Rattle.nr_reduce.specs.Events.Event.{FrameReceived, CallSubmitted, MemoryRevoked, CallExecuted, QueueWritten}
 use Rattle.nr_reduce.specs.EndRules.{EndState, next_end_state, next_end_state_by, next_end_state_in, end_state_after}
-use Rattle.nr_reduce.specs.OfferedRegions.{Region, until_or, until_at, region_grant, region_grants, closed_if, regions_closed}
+use Rattle.nr_reduce.specs.OfferedRegions.{Region, until_or, until_at, region_grant, closed_if, regions_closed}
 use Rattle.nr_reduce.specs.Plans.{Buffer, buffers}
 use Rattle.nr_reduce.specs.ClientState.{ClientState}
-use Rattle.nr_reduce.specs.Client.{client_rules, client_end, client_state_after, outstanding_of, region_of, with_message, with_request, with_segment, initial_client}
+use Rattle.nr_reduce.specs.Client.{client_rules, client_end, client_state_after, outstanding_of, region_of, with_message, with_request, with_segment}
 use Rattle.nr_reduce.specs.Run.{client}
-use Rattle.nr_reduce.proofs.Touches.{client_touched}
-use Rattle.nr_reduce.proofs.OwnStags.{AreNumbered, numbered-buffers, ClientNumbers, client-known}
+use Rattle.nr_reduce.proofs.OwnStags.{AreNumbered}
 use Rattle.nr_reduce.proofs.Steps.{client-one}
 use Rattle.nr_laws.proofs.Flows.{got-one}
-use Rattle.nr_laws.proofs.Beyond.{EndBehind, EndBy, frames-behind, frames-by}
+use Rattle.nr_laws.proofs.Beyond.{EndBy, frames-by}
 
 -- ---- Regions of an STag that are closed
 
@@ -50,9 +46,11 @@ closed-none place stag p end (r ∷ regions) lt h = by (eqb r.stag stag) refl (c
     by_until : (u : Option ℕ) → r.until ≡ u → IsClosedBy p u → leb end (until_or place r.until) ≡ false
     by_until None is c = absurd c
     by_until (Some u) is c = ap (λ (o : Option ℕ). leb end (until_or place o)) is ∙ lt-leb end u (omega (arith, c, lt))
+
     and-false : (b c : Bool) → c ≡ false → (b && c) ≡ false
     and-false true c e = e
     and-false false c e = refl
+
     by : (b : Bool) → eqb r.stag stag ≡ b → find (applies stag end) (map (region_grant place) regions) ≡ None → cond (eqb r.stag stag && (ltb r.from end && leb end (until_or place r.until))) (Some (region_grant place r)) (find (applies stag end) (map (region_grant place) regions)) ≡ None
     by true is rest =
         let dead = by_until r.until refl (h.0 (eqb-true r.stag stag is)) in
@@ -67,6 +65,7 @@ only-closed test later stag p (r ∷ regions) h = (by (test r), only-closed test
     by_until : (u : Option ℕ) → IsClosedBy p u → IsClosedBy p (until_at later u)
     by_until None c = absurd c
     by_until (Some u) c = c
+
     by : (b : Bool) → (closed_if b later r).stag ≡ stag → IsClosedBy p (closed_if b later r).until
     by true e = by_until r.until (h.0 e)
     by false e = h.0 e
@@ -101,6 +100,7 @@ until-closed test later n (r ∷ regions) le h = (by (test r), until-closed test
     by_until : (u : Option ℕ) → IfSome u (λ u. u ≤ n) → IfSome (until_at later u) (λ u. u ≤ n)
     by_until None c = le
     by_until (Some u) c = c
+
     by : (b : Bool) → IfSome (closed_if b later r).until (λ u. u ≤ n)
     by true = by_until r.until h.0
     by false = h.0
@@ -176,8 +176,10 @@ mark-by link before mark = subst (λ (n : ℕ). EventsBy n (events_at link Initi
   where
     old : List ℕ
     old = bytes_received link Initiator before
+
     place : (more : List ℕ) → length old ≤ length (old ++ more)
     place more = (let l = length-append old more in omega (arith, l))
+
     by : (mark : Mark) → EventsBy (length (old ++ fed_at link Initiator mark)) (events_at link Initiator before mark)
     by (marks.Fed l s bytes) = by_own (eqb l link && same_side s Initiator)
       where
@@ -202,7 +204,7 @@ until-from opened link before (mark ∷ run) h =
     let grows = ap (λ (xs : List ℕ). length xs) (got-one link Initiator before mark) ∙ length-append (bytes_received link Initiator before) (fed_at link Initiator mark) in
     let more : UntilBy n (client opened link before).state.regions = until-more (length (bytes_received link Initiator before)) n (client opened link before).state.regions (omega (arith, grows)) h in
     let next : UntilBy n (client opened link (before ++ mark ∷ [])).state.regions =
-        subst (λ (r : EndState ClientState). UntilBy n r.state.regions) (sym (client-one opened link before mark)) (until-all opened n (client opened link before) (events_at link Initiator before mark) (mark-by link before mark) more) in
+    subst (λ (r : EndState ClientState). UntilBy n r.state.regions) (sym (client-one opened link before mark)) (until-all opened n (client opened link before) (events_at link Initiator before mark) (mark-by link before mark) more) in
     subst (λ (b : List Mark). UntilBy (length (bytes_received link Initiator b)) (client opened link b).state.regions) (append_assoc before (mark ∷ []) run) (until-from opened link (before ++ mark ∷ []) run next)
 
 -- each lifetime that ended had ended by then

@@ -1,29 +1,23 @@
 -- What is read of an accepted call's message has the lists of its plan.
-use Rattle.std.proofs.Common.{◌≡◌, ◌≢◌, ℕ, zero, suc, ◌+◌, ◌^◌, ◌≤◌, ◌<◌, Bool, true, false, cond, eqb, List, [], ◌∷◌, ◌++◌, length, take, drop, sum, sum_by, Option, None, Some, Result, Ok, Err, refl, sym, ap, subst, ◌∙◌, arith, append_assoc, append-nil}
+use Rattle.std.proofs.Common.{◌≡◌, ℕ, ◌^◌, ◌<◌, List, [], ◌∷◌, ◌++◌, length, take, drop, Option, None, Some, refl, sym, ap, ◌∙◌, arith, append_assoc}
 use Rattle.std.proofs.lemmas.List.{take_at, drop_at}
-use Rattle.nr_xdr.specs.Item.{Item, IsBytes, word, word_of, hyper, hyper_of}
-use Rattle.nr_xdr.specs.Item.Item.{Unsigned, Hyper, Boolean}
+use Rattle.nr_xdr.specs.Item.{Item, word, word_of, hyper, hyper_of}
 use Rattle.nr_xdr.specs.Items.{AllFit, encodings}
 use Rattle.nr_xdr.proofs.WordBytes.{length-word, word_of-word, length-hyper, hyper_of-hyper}
 use Rattle.nr_header.specs.declared.header.RdmaSegment.{RdmaSegment}
 use Rattle.nr_header.specs.declared.header.ReadSegment.{ReadSegment}
 use Rattle.nr_header.specs.declared.header.ChunkLists.{ChunkLists}
-use Rattle.nr_header.specs.declared.header.Body.{Body}
-use Rattle.nr_header.specs.declared.header.Body.TheVariants.{Msg, Nomsg, ErrVers, ErrChunk}
-use Rattle.nr_header.specs.declared.header.Header.{Header}
-use Rattle.nr_header.specs.Header.{read_items, segments_items, chunk_items, write_items, reply_items, lists_items, body_items, header_encoding, HeaderFits}
-use Rattle.nr_header.specs.WithinLimits.{IsMessage}
-use Rattle.nr_header.specs.Reading.{header_of}
-use Rattle.nr_header.proofs.Messages.{header_take}
+use Rattle.nr_header.specs.Header.{read_items, segments_items, write_items, reply_items, lists_items}
 
 abbrev Fit : ℕ → Type 0
 Fit n = n < 2 ^ 32
 
 -- the front of two equal lists, where both are as long
 fronts : (a b x y : List ℕ) (n : ℕ) → length a ≡ n → length b ≡ n → a ++ x ≡ b ++ y → (a ≡ b) × (x ≡ y)
-fronts a b x y n as_long too e =
-    (sym (take_at a x n as_long) ∙ ap (λ (zs : List ℕ). take n zs) e ∙ take_at b y n too,
-     sym (drop_at a x n as_long) ∙ ap (λ (zs : List ℕ). drop n zs) e ∙ drop_at b y n too)
+fronts a b x y n as_long too e = (
+  sym (take_at a x n as_long) ∙ ap (λ (zs : List ℕ). take n zs) e ∙ take_at b y n too,
+  sym (drop_at a x n as_long) ∙ ap (λ (zs : List ℕ). drop n zs) e ∙ drop_at b y n too,
+)
 
 pub peel-word : (a b : ℕ) (x y more others : List ℕ) → Fit a → Fit b → (word a ++ x) ++ more ≡ (word b ++ y) ++ others → (a ≡ b) × (x ++ more ≡ y ++ others)
 peel-word a b x y more others fa fb e =

@@ -1,41 +1,33 @@
 -- A server says what it has to, from event to event, and each of its messages has its cause.
-use Rattle.std.proofs.Common.{◌≡◌, ◌≢◌, ℕ, zero, suc, ◌+◌, ◌≤◌, ◌<◌, Bool, true, false, cond, ◌&&◌, not, eqb, List, [], ◌∷◌, ◌++◌, length, take, drop, map, Option, None, Some, Result, Ok, Err, refl, sym, ap, subst, ◌∙◌, arith, append_assoc, append-nil, length-append, inl, inr, ◌⊎◌, eqb-true}
+use Rattle.std.proofs.Common.{◌≡◌, ℕ, ◌<◌, true, false, List, [], ◌∷◌, ◌++◌, length, drop, map, None, Some, Ok, refl, sym, ap, subst, ◌∙◌, arith, append_assoc, append-nil, length-append, inl, inr, ◌⊎◌}
 use Rattle.nr_xdr.specs.Item.{IsBytes}
 use Rattle.nr_wire.specs.declared.hello.Side.TheVariants.{Initiator, Responder}
 use Rattle.nr_wire.specs.declared.stream.Awaited.TheVariants.{Hello as HelloFrom, Fpdu}
-use Rattle.nr_wire.specs.Constants.{OPCODE_READ_REQUEST}
 use Rattle.nr_wire.specs.Segment.{Segment}
-use Rattle.nr_wire.specs.Segment.Segment.{Tagged, Untagged}
-use Rattle.nr_link.specs.declared.end.End.{End as Stop}
-use Rattle.nr_link.specs.declared.end.End.TheVariants as ends
 use Rattle.nr_link.specs.Frames.{Frame, is_hello}
-use Rattle.nr_link.specs.Output.{own_hello, refusing_hello}
-use Rattle.nr_link.specs.ReceiveState.{ReceiveState, received_after, message_completed, begun_bytes, is_send, send_continued}
-use Rattle.nr_link.specs.Ending.{frame_segment, is_hello_reason}
-use Rattle.nr_header.specs.declared.header.ChunkLists.{ChunkLists}
+use Rattle.nr_link.specs.Output.{own_hello}
+use Rattle.nr_link.specs.ReceiveState.{begun_bytes}
+use Rattle.nr_link.specs.Ending.{frame_segment}
 use Rattle.nr_reduce.specs.declared.mark.LinkParameters.{LinkParameters}
 use Rattle.nr_reduce.specs.History.{ExecutedCall}
 use Rattle.nr_reduce.specs.Events.{Event}
 use Rattle.nr_reduce.specs.Events.Event.{FrameReceived, CallSubmitted, MemoryRevoked, CallExecuted, QueueWritten}
-use Rattle.nr_reduce.specs.EndRules.{EndState, next_end_state, next_end_state_by, next_end_state_in, end_state_after, output_for, output_for_by, output_for_in, output_for_all}
+use Rattle.nr_reduce.specs.EndRules.{EndState, next_end_state, end_state_after, output_for, output_for_all}
 use Rattle.nr_reduce.specs.Holds.{Answer, answer_message, chunk_error}
 use Rattle.nr_reduce.specs.Undone.{answer_segments}
-use Rattle.nr_reduce.specs.ServerState.{ServerState, ReadyCall, PendingCall, credit_word}
-use Rattle.nr_reduce.specs.ServerFrames.{FrameEffect, frame_effect}
-use Rattle.nr_reduce.specs.Server.{server_rules, server_end, server_output, server_state_after, server_final_output, with_effect, received_by, is_rejected, offer_of, initial_server}
+use Rattle.nr_reduce.specs.ServerState.{ServerState, ReadyCall, credit_word}
+use Rattle.nr_reduce.specs.ServerFrames.{frame_effect}
+use Rattle.nr_reduce.specs.Server.{server_rules, server_end, offer_of, initial_server}
 use Rattle.nr_reduce.specs.RunLaws.{server_by}
 use Rattle.nr_reduce.proofs.Steps.{output_for_all-append, end_state_after-append}
-use Rattle.nr_laws.proofs.Along.{IsNext, GoesOn, place_after, outputs_by, outputs_in, outputs_for, outputs_all}
-use Rattle.nr_laws.proofs.Outputs.{Output, bytes_of_all, bytes-append, server_says, server-said, ServerShort, server_final_outputs, server-final-said, final_outputs, terminate_segment, effect_outputs, answer_outputs, answer_of_call, send_segment}
+use Rattle.nr_laws.proofs.Along.{GoesOn, place_after, outputs_for, outputs_all}
+use Rattle.nr_laws.proofs.Outputs.{Output, bytes_of_all, bytes-append, server_says, server_final_outputs, answer_of_call}
 use Rattle.nr_laws.proofs.Outputs.Output.{AHello, ASegment}
-use Rattle.nr_laws.proofs.Brought.{IsWord, AreFrom, Brought, Brings}
-use Rattle.nr_laws.proofs.Words.{from-append, terminate-word, payload-bytes, payload_by}
-use Rattle.nr_laws.proofs.Messages.{message_in, messages, IsOne, AreOne, messages-append, one-append, messages-tagged}
-use Rattle.nr_laws.proofs.ClientRun.{Parted, parted}
-use Rattle.nr_laws.proofs.ClientRun.Parted.{Within, Last}
-use Rattle.nr_laws.proofs.ServerOutputs.{IsError, AtMostOne, errors-short, CallsFit, fit-filter, IsFine, fine-frame, AreFine, fine-effect, fine-answer, answer-is-short, answer_messages, tagged-answer}
+use Rattle.nr_laws.proofs.Brought.{AreFrom, Brings}
+use Rattle.nr_laws.proofs.Words.{from-append}
+use Rattle.nr_laws.proofs.Messages.{message_in, messages, AreOne, messages-append, one-append}
+use Rattle.nr_laws.proofs.ServerOutputs.{IsError, AtMostOne, CallsFit}
 use Rattle.nr_laws.proofs.ServerOutputs.AtMostOne.{NoError, OneError}
-use Rattle.nr_laws.proofs.ServerEnds.{BigEnd, segment-ends, hello-goes}
 
 -- ---- Events of a server on a matched link
 
@@ -138,19 +130,37 @@ pub data Said (opened : LinkParameters) (es : List Event) (xs : List Output) (m 
 
 said-later : (opened : LinkParameters) (es : List Event) (e : Event) (xs : List Output) (m : List ℕ) → Said opened es xs m → Said opened (es ++ e ∷ []) xs m
 said-later opened es e xs m (IsRefusal s) = IsRefusal (record {
-  earlier = s.earlier; frame = s.frame; later = s.later ++ e ∷ [];
+  earlier = s.earlier;
+  frame = s.frame;
+  later = s.later ++ e ∷ [];
   is = ap (λ (all : List Event). all ++ e ∷ []) s.is ∙ append_assoc s.earlier (FrameReceived s.frame ∷ s.later) (e ∷ []);
-  behind = s.behind; segment = s.segment; is_segment = s.is_segment; live = s.live; stays = s.stays; errors = s.errors; kind = s.kind;
+  behind = s.behind;
+  segment = s.segment;
+  is_segment = s.is_segment;
+  live = s.live;
+  stays = s.stays;
+  errors = s.errors;
+  kind = s.kind;
 })
 said-later opened es e xs m (IsAnswer s) = IsAnswer (record {
-  earlier = s.earlier; call = s.call; later = s.later ++ e ∷ [];
+  earlier = s.earlier;
+  call = s.call;
+  later = s.later ++ e ∷ [];
   is = ap (λ (all : List Event). all ++ e ∷ []) s.is ∙ append_assoc s.earlier (CallExecuted s.call ∷ s.later) (e ∷ []);
-  live = s.live; answer = s.answer; is_answer = s.is_answer; message = s.message; before = s.before;
+  live = s.live;
+  answer = s.answer;
+  is_answer = s.is_answer;
+  message = s.message;
+  before = s.before;
 })
 said-later opened es e xs m (IsNoAnswer s) = IsNoAnswer (record {
-  earlier = s.earlier; call = s.call; later = s.later ++ e ∷ [];
+  earlier = s.earlier;
+  call = s.call;
+  later = s.later ++ e ∷ [];
   is = ap (λ (all : List Event). all ++ e ∷ []) s.is ∙ append_assoc s.earlier (CallExecuted s.call ∷ s.later) (e ∷ []);
-  live = s.live; none = s.none; message = s.message;
+  live = s.live;
+  none = s.none;
+  message = s.message;
 })
 
 abbrev pub EachSaid : LinkParameters → List Event → List Output → Type 0
@@ -229,7 +239,7 @@ outs-append opened r (x ∷ es) e =
     let o = outputs_for (server_rules opened) (server_says opened) server_final_outputs r x in
     ap (λ (xs : List Output). o ++ xs) (outs-append opened (next_end_state (server_rules opened) r x) es e)
     ∙ sym (append_assoc o (outputs_all (server_rules opened) (server_says opened) server_final_outputs (next_end_state (server_rules opened) r x) es)
-        (outputs_for (server_rules opened) (server_says opened) server_final_outputs (end_state_after (server_rules opened) (next_end_state (server_rules opened) r x) es) e))
+    (outputs_for (server_rules opened) (server_says opened) server_final_outputs (end_state_after (server_rules opened) (next_end_state (server_rules opened) r x) es) e))
 
 -- one event more, where its outputs are `more`
 pub record Grows (opened : LinkParameters) (es : List Event) (place : ℕ) (r : EndState ServerState) (outs : List Output) (e : Event) (more : List Output) : Type 0 where

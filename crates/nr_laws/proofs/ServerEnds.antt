@@ -1,5 +1,5 @@
 -- A server that has its client's own hello is not rejected later: the reasons of its later frames are others than those of a hello.
-use Rattle.std.proofs.Common.{◌≡◌, ℕ, suc, ◌+◌, ◌≤◌, ◌<◌, Bool, true, false, cond, ◌&&◌, ◌||◌, not, eqb, ltb, leb, List, [], ◌∷◌, ◌++◌, length, drop, Option, None, Some, Result, Ok, Err, refl, sym, ap, subst, ◌∙◌, arith}
+use Rattle.std.proofs.Common.{◌≡◌, ℕ, ◌+◌, ◌≤◌, Bool, true, false, cond, ◌&&◌, ◌||◌, not, eqb, ltb, List, [], ◌∷◌, length, drop, Option, None, Some, Result, Ok, Err, sym, ap, subst, ◌∙◌, arith}
 use Rattle.nr_xdr.specs.Fields.{word_at}
 use Rattle.nr_header.specs.declared.header.ChunkLists.{ChunkLists}
 use Rattle.nr_header.specs.declared.header.Body.{Body}
@@ -12,7 +12,7 @@ use Rattle.nr_rpc.specs.Reading.{call_of}
 use Rattle.nr_regions.specs.declared.denied.Denied.{Denied}
 use Rattle.nr_regions.specs.RegisteredMemory.{Access}
 use Rattle.nr_wire.specs.Constants.{OPCODE_READ_RESPONSE}
-use Rattle.nr_wire.specs.declared.hello.Side.TheVariants.{Initiator, Responder}
+use Rattle.nr_wire.specs.declared.hello.Side.TheVariants.{Initiator}
 use Rattle.nr_wire.specs.Hello.{hello_of}
 use Rattle.nr_wire.specs.Segment.{Segment}
 use Rattle.nr_wire.specs.Segment.Segment.{Tagged, Untagged}
@@ -30,7 +30,7 @@ use Rattle.nr_reduce.specs.OfferedRegions.{region_grants}
 use Rattle.nr_reduce.specs.Chunks.{is_read_chunk_of_item}
 use Rattle.nr_reduce.specs.Events.Event.{FrameReceived}
 use Rattle.nr_reduce.specs.ServerState.{ServerState, PendingCall, PendingRead, next_stag, is_pending}
-use Rattle.nr_reduce.specs.ServerReads.{is_read, reads_of, regions_of, chunks_of}
+use Rattle.nr_reduce.specs.ServerReads.{is_read, chunks_of}
 use Rattle.nr_reduce.specs.ServerMessages.{Verdict, CallVerdict, verdict, by_need, by_stream, by_body, by_header, by_head, by_payload, has_position, no_stream, call_xid, chunk_bytes, payload_of}
 use Rattle.nr_reduce.specs.ServerMessages.Verdict.{EndsLink, OtherVersion, BadChunks, MakesPending}
 use Rattle.nr_reduce.specs.ServerMessages.CallVerdict.{Refuses, IsReady}
@@ -96,11 +96,28 @@ fault-big r (Untagged last opcode w queue msn offset payload) =
     ∷ reason_if REASON_LONG (has_length (ltb r.message_max) message)
     ∷ reason_if REASON_SHORT (has_length (λ n. ltb n 16) message)
     ∷ terminate_fault opcode payload
-    ∷ [])
-    (reason-big REASON_MSN (not (eqb msn (next_msn r.received queue))) (omega arith), (reason-big REASON_OFFSET (not (eqb offset (next_offset r.received queue))) (omega arith),
-     (buffer-big r (is_send opcode) msn, (reason-big REASON_FORM (is_malformed opcode last payload) (omega arith), (missing-big r.missing,
-     (reason-big REASON_REQUESTS (is_too_many r opcode) (omega arith), (reason-big REASON_LONG (has_length (ltb r.message_max) message) (omega arith),
-     (reason-big REASON_SHORT (has_length (λ n. ltb n 16) message) (omega arith), (terminate-big opcode payload, tt)))))))))
+    ∷ []) (
+      reason-big REASON_MSN (not (eqb msn (next_msn r.received queue))) (omega arith),
+      (
+        reason-big REASON_OFFSET (not (eqb offset (next_offset r.received queue))) (omega arith),
+        (
+          buffer-big r (is_send opcode) msn,
+          (
+            reason-big REASON_FORM (is_malformed opcode last payload) (omega arith),
+            (
+              missing-big r.missing,
+              (
+                reason-big REASON_REQUESTS (is_too_many r opcode) (omega arith),
+                (
+                  reason-big REASON_LONG (has_length (ltb r.message_max) message) (omega arith),
+                  (reason-big REASON_SHORT (has_length (λ n. ltb n 16) message) (omega arith), (terminate-big opcode payload, tt)),
+                ),
+              ),
+            ),
+          ),
+        ),
+      ),
+    )
 
 -- ---- Refusals
 
@@ -202,13 +219,13 @@ effect-big k f = by (frame_segment f)
       where
         t : ServerState
         t = with_access k f (Tagged last opcode stag to payload)
+
         tagged : (b : Bool) → BigReason (cond b (response_effect t f.end t.reads) (no_effect t)).refusal
         tagged true = response-big t f.end t.reads
         tagged false = tt
     by (Ok (Untagged last opcode w queue msn offset payload)) = by-message-big k f.end (message_completed k.received (Untagged last opcode w queue msn offset payload))
 
 -- ---- Ends
-
 
 abbrev pub BigEnd : Option Stop → Type 0
 BigEnd None = Unit {0}
@@ -238,7 +255,7 @@ unfolding server_end frame_end
 segment-ends opened k f s behind is =
     let grants = region_grants f.end k.regions in
     let whole : server_end opened k (FrameReceived f) ≡ or_refusal k f (end_of_fault f s (segment_fault (readiness opened k (missing_access grants f s)) s)) =
-        (λ i. cond (behind i) (hello_end (hello_of Initiator f.bytes)) (or_refusal k f (frame_end_by (readiness opened k) grants f (is i)))) in
+    (λ i. cond (behind i) (hello_end (hello_of Initiator f.bytes)) (or_refusal k f (frame_end_by (readiness opened k) grants f (is i)))) in
     subst (λ (o : Option Stop). BigEnd o) (sym whole) (by (end_of_fault f s (segment_fault (readiness opened k (missing_access grants f s)) s)) (fault-end f s _ (fault-big (readiness opened k (missing_access grants f s)) s)))
   where
     by : (o : Option Stop) → BigEnd o → BigEnd (or_refusal k f o)

@@ -1,8 +1,8 @@
 -- Each event of a server on a matched link.
-use Rattle.std.proofs.Common.{◌≡◌, ◌≢◌, ℕ, zero, suc, ◌+◌, ◌≤◌, ◌<◌, Bool, true, false, cond, ◌&&◌, not, eqb, List, [], ◌∷◌, ◌++◌, length, take, drop, map, Option, None, Some, Result, Ok, Err, refl, sym, ap, subst, ◌∙◌, arith, append_assoc, append-nil, length-append, inl, inr, ◌⊎◌, eqb-true}
+use Rattle.std.proofs.Common.{◌≡◌, ℕ, ◌+◌, ◌≤◌, ◌<◌, Bool, true, false, cond, ◌&&◌, not, eqb, List, [], ◌∷◌, ◌++◌, length, map, Option, None, Some, Result, Ok, refl, sym, ap, subst, ◌∙◌, arith, append-nil, length-append, inl, inr, eqb-true}
 use Rattle.nr_xdr.specs.Item.{IsBytes}
 use Rattle.nr_wire.specs.declared.hello.Side.TheVariants.{Initiator, Responder}
-use Rattle.nr_wire.specs.declared.stream.Awaited.TheVariants.{Hello as HelloFrom, Fpdu}
+use Rattle.nr_wire.specs.declared.stream.Awaited.TheVariants.{Fpdu}
 use Rattle.nr_wire.specs.Constants.{OPCODE_READ_REQUEST}
 use Rattle.nr_wire.specs.Segment.{Segment}
 use Rattle.nr_wire.specs.Segment.Segment.{Tagged, Untagged}
@@ -11,31 +11,30 @@ use Rattle.nr_link.specs.declared.end.End.TheVariants as ends
 use Rattle.nr_link.specs.Frames.{Frame, is_hello}
 use Rattle.nr_link.specs.Output.{own_hello, refusing_hello}
 use Rattle.nr_link.specs.ReceiveState.{ReceiveState, received_after, message_completed, begun_bytes, is_send, send_continued}
-use Rattle.nr_link.specs.Ending.{frame_segment, is_hello_reason}
-use Rattle.nr_header.specs.declared.header.ChunkLists.{ChunkLists}
+use Rattle.nr_link.specs.Ending.{frame_segment}
 use Rattle.nr_reduce.specs.declared.mark.LinkParameters.{LinkParameters}
-use Rattle.nr_reduce.specs.History.{AcceptedCall, ExecutedCall}
+use Rattle.nr_reduce.specs.History.{ExecutedCall}
 use Rattle.nr_reduce.specs.Events.{Event}
 use Rattle.nr_reduce.specs.Events.Event.{FrameReceived, CallSubmitted, MemoryRevoked, CallExecuted, QueueWritten}
-use Rattle.nr_reduce.specs.EndRules.{EndState, next_end_state, next_end_state_by, next_end_state_in, output_for_by, output_for_in}
+use Rattle.nr_reduce.specs.EndRules.{EndState, next_end_state, next_end_state_by, output_for_by}
 use Rattle.nr_reduce.specs.Holds.{Answer, answer_message, chunk_error}
 use Rattle.nr_reduce.specs.Undone.{answer_segments}
-use Rattle.nr_reduce.specs.ServerState.{ServerState, ReadyCall, PendingCall, credit_word}
+use Rattle.nr_reduce.specs.ServerState.{ServerState, ReadyCall, credit_word}
 use Rattle.nr_reduce.specs.ServerFrames.{FrameEffect, frame_effect}
 use Rattle.nr_reduce.specs.Server.{server_rules, server_end, server_output, server_state_after, server_final_output, with_effect, received_by, is_rejected, offer_of, initial_server}
 use Rattle.nr_reduce.specs.RunLaws.{server_by}
-use Rattle.nr_laws.proofs.Along.{IsNext, place_after, outputs_by, outputs_in, outputs_for, bytes-both}
-use Rattle.nr_laws.proofs.Outputs.{Output, bytes_of_all, server_says, server-said, ServerShort, server_final_outputs, server-final-said, final_outputs, terminate_segment, effect_outputs, answer_outputs, answer_of_call, send_segment}
+use Rattle.nr_laws.proofs.Along.{IsNext, place_after, outputs_by, outputs_for, bytes-both}
+use Rattle.nr_laws.proofs.Outputs.{Output, bytes_of_all, server_says, server-said, ServerShort, server_final_outputs, server-final-said, final_outputs, effect_outputs, answer_outputs, answer_of_call, send_segment}
 use Rattle.nr_laws.proofs.Outputs.Output.{AHello, ASegment}
 use Rattle.nr_laws.proofs.Brought.{AreFrom}
-use Rattle.nr_laws.proofs.Words.{from-append, terminate-word, payload-bytes, payload_by}
-use Rattle.nr_laws.proofs.Messages.{message_in, messages, AreOne, messages-append, messages-tagged, messages-final, one-final}
+use Rattle.nr_laws.proofs.Words.{payload-bytes, payload_by}
+use Rattle.nr_laws.proofs.Messages.{message_in, messages, AreOne, messages-tagged, messages-final, one-final}
 use Rattle.nr_laws.proofs.ClientRun.{Parted, parted}
 use Rattle.nr_laws.proofs.ClientRun.Parted.{Within, Last}
 use Rattle.nr_laws.proofs.ClientAlong.{not-first, final-words}
-use Rattle.nr_laws.proofs.ServerOutputs.{IsError, AtMostOne, errors-short, CallsFit, fit-filter, IsFine, fine-frame, AreFine, fine-effect, fine-answer, answer-is-short, answer_messages, tagged-answer}
+use Rattle.nr_laws.proofs.ServerOutputs.{errors-short, CallsFit, fit-filter, IsFine, fine-frame, AreFine, fine-effect, fine-answer, answer-is-short, tagged-answer}
 use Rattle.nr_laws.proofs.ServerEnds.{BigEnd, segment-ends, hello-goes}
-use Rattle.nr_laws.proofs.ServerAlong.{IsGoodExecution, FrameGood, ServerGood, SaidError, SaidAnswer, SaidNoAnswer, Said, is_live, outs_of, at-most, nothing-at, messages-at, Greeted, greeted-more, Shape, ServerTells, Grows, grown}
+use Rattle.nr_laws.proofs.ServerAlong.{IsGoodExecution, ServerGood, Said, is_live, outs_of, at-most, nothing-at, messages-at, Greeted, greeted-more, Shape, ServerTells, Grows, grown}
 use Rattle.nr_laws.proofs.ServerAlong.Said.{IsRefusal, IsAnswer, IsNoAnswer}
 
 -- ---- The bytes that are received
@@ -47,9 +46,11 @@ received-bytes h (Untagged last opcode w queue msn offset payload) b p = by (is_
     by_last : (l : Bool) → IsBytes (begun_bytes (send_continued h l payload).begun)
     by_last true = λ i. omega arith
     by_last false = bytes-both (begun_bytes h.begun) payload b p
+
     by_read : (c : Bool) → IsBytes (begun_bytes (cond c (record { sends = h.sends; begun = h.begun; requests = h.requests + 1 }) h).begun)
     by_read true = b
     by_read false = b
+
     by : (c : Bool) → IsBytes (begun_bytes (cond c (send_continued h last payload) (cond (eqb opcode OPCODE_READ_REQUEST) (record { sends = h.sends; begun = h.begun; requests = h.requests + 1 }) h)).begun)
     by true = by_last last
     by false = by_read (eqb opcode OPCODE_READ_REQUEST)
@@ -99,7 +100,7 @@ hello-step opened es place k outs f next first bytes t =
     let rules = server_rules opened in
     let stays = hello-goes opened k f first bytes in
     let same : next_end_state rules (record { state = k; ended = None }) (FrameReceived f) ≡ record { state = k; ended = None } =
-        ap (λ (o : Option Stop). next_end_state_by rules k (FrameReceived f) o) stays ∙ ap (λ (b : Bool). record { state = cond b k (with_effect k f (frame_effect k f)); ended = None }) first in
+    ap (λ (o : Option Stop). next_end_state_by rules k (FrameReceived f) o) stays ∙ ap (λ (b : Bool). record { state = cond b k (with_effect k f (frame_effect k f)); ended = None }) first in
     let at_start : place ≡ 0 = sym next.0 ∙ eqb-true f.at 0 first in
     let none : outs ≡ [] = by_shape t.shape at_start in
     record {
@@ -143,7 +144,7 @@ segment-step opened es place k outs f s next behind is t None stays =
     let rules = server_rules opened in
     let effect : FrameEffect = frame_effect k f in
     let same : next_end_state rules (record { state = k; ended = None }) (FrameReceived f) ≡ record { state = with_effect k f effect; ended = None } =
-        ap (λ (o : Option Stop). next_end_state_by rules k (FrameReceived f) o) stays ∙ ap (λ (b : Bool). record { state = cond b k (with_effect k f effect); ended = None }) behind in
+    ap (λ (o : Option Stop). next_end_state_by rules k (FrameReceived f) o) stays ∙ ap (λ (b : Bool). record { state = cond b k (with_effect k f effect); ended = None }) behind in
     let greeted = later-shape place (record { state = k; ended = None }) outs (let p = not-first f.at behind in let e = next.0 in omega (arith, p, e)) t.shape in
     let payload : IsBytes (payload_by s) = payload-bytes f.bytes s next.2 is in
     let fine : IsFine effect = fine-frame k f (λ x m own whole. completed-bytes k.received x m t.begun (payload-bytes f.bytes x next.2 own) whole) t.fit in
@@ -159,20 +160,20 @@ segment-step opened es place k outs f s next behind is t None stays =
       one = subst AreOne (sym says) own.one;
       cause = λ pre x post m e one. IsRefusal
           (let all = at-most effect.errors fine.errors (messages pre) m (messages post) (sym own.messages_are ∙ ap messages (sym says) ∙ ap messages e ∙ messages-at pre x post m one) in
-           let at : k ≡ server_by opened es = ap (λ (r : EndState ServerState). r.state) t.state in
-           record {
-             earlier = es;
-             frame = f;
-             later = [];
-             is = refl;
-             behind = behind;
-             segment = s;
-             is_segment = is;
-             live = sym (ap (λ (r : EndState ServerState). r.ended) t.state);
-             stays = ap (λ (q : ServerState). server_end opened q (FrameReceived f)) (sym at) ∙ stays;
-             errors = ap (λ (q : ServerState). (frame_effect q f).errors) (sym at) ∙ all.0;
-             kind = all.1;
-           });
+          let at : k ≡ server_by opened es = ap (λ (r : EndState ServerState). r.state) t.state in
+          record {
+            earlier = es;
+            frame = f;
+            later = [];
+            is = refl;
+            behind = behind;
+            segment = s;
+            is_segment = is;
+            live = sym (ap (λ (r : EndState ServerState). r.ended) t.state);
+            stays = ap (λ (q : ServerState). server_end opened q (FrameReceived f)) (sym at) ∙ stays;
+            errors = ap (λ (q : ServerState). (frame_effect q f).errors) (sym at) ∙ all.0;
+            kind = all.1;
+          });
     }
 
 part-said : {X W : Type 0} {xs : List X} {y : X} {pre : List X} {m : X} {post : List X} → Parted xs y pre m post → ((more : List X) → xs ≡ pre ++ m ∷ more → W) → (xs ≡ pre → m ≡ y → W) → W
@@ -229,18 +230,18 @@ executed-step opened es place k outs e good t o is =
         part-said (parted segments last pre (ASegment s) post same)
         (λ more within. no-cause segments pre s more m none within one)
         (λ is_pre is_last.
-          let own : s ≡ send_segment (k.messages_queued + 1) message = head-segment s (send_segment (k.messages_queued + 1) message) [] [] (ap (λ (o : Output). o ∷ []) is_last) in
-          IsAnswer (record {
-            earlier = es;
-            call = e;
-            later = [];
-            is = refl;
-            live = live;
-            answer = a;
-            is_answer = there ∙ is;
-            message = (let two : m ∷ [] ≡ message ∷ [] = sym one ∙ ap message_in own in let t : m ≡ message = cc in t) ∙ ap (λ (q : ServerState). answer_message e.xid (credit_word q) (offer_of q e.xid) a) at;
-            before = (λ i. outs_are i ++ sym is_pre i) ∙ ap (λ (q : ServerState). outs_of opened es ++ map ASegment (answer_segments (offer_of q e.xid) a)) at;
-          }))
+        let own : s ≡ send_segment (k.messages_queued + 1) message = head-segment s (send_segment (k.messages_queued + 1) message) [] [] (ap (λ (o : Output). o ∷ []) is_last) in
+        IsAnswer (record {
+          earlier = es;
+          call = e;
+          later = [];
+          is = refl;
+          live = live;
+          answer = a;
+          is_answer = there ∙ is;
+          message = (let two : m ∷ [] ≡ message ∷ [] = sym one ∙ ap message_in own in let t : m ≡ message = cc in t) ∙ ap (λ (q : ServerState). answer_message e.xid (credit_word q) (offer_of q e.xid) a) at;
+          before = (λ i. outs_are i ++ sym is_pre i) ∙ ap (λ (q : ServerState). outs_of opened es ++ map ASegment (answer_segments (offer_of q e.xid) a)) at;
+        }))
 
 -- ---- Each event
 

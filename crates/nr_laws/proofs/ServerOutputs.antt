@@ -1,5 +1,5 @@
 -- What the server of a link says along its events: each of its messages answers an executed call, or refuses a Send.
-use Rattle.std.proofs.Common.{◌≡◌, ◌≢◌, ℕ, zero, suc, ◌+◌, ◌*◌, ◌^◌, ◌≤◌, ◌<◌, min, Bool, true, false, cond, ◌&&◌, ◌||◌, not, eqb, ltb, List, [], ◌∷◌, ◌++◌, length, take, drop, map, Option, None, Some, Result, Ok, Err, refl, sym, ap, subst, ◌∙◌, arith, append_assoc, append-nil, length-append, inl, inr, ◌⊎◌, eq-eqb, eqb-true}
+use Rattle.std.proofs.Common.{◌≡◌, ℕ, ◌+◌, ◌*◌, ◌≤◌, Bool, true, false, cond, ◌&&◌, not, eqb, List, [], ◌∷◌, ◌++◌, length, map, Option, None, Some, Result, Ok, Err, refl, sym, ap, subst, ◌∙◌, arith, append-nil, length-append}
 use Rattle.std.specs.List.{filter, find}
 use Rattle.nr_xdr.specs.Item.{IsBytes, word}
 use Rattle.nr_xdr.specs.Fields.{word_at}
@@ -11,28 +11,27 @@ use Rattle.nr_header.specs.declared.header.ChunkLists.{ChunkLists}
 use Rattle.nr_wire.specs.Constants.{OPCODE_READ_RESPONSE}
 use Rattle.nr_wire.specs.Segment.{Segment}
 use Rattle.nr_wire.specs.Segment.Segment.{Tagged, Untagged}
-use Rattle.nr_wire.specs.declared.stream.Awaited.TheVariants.{Hello as HelloFrom, Fpdu}
+use Rattle.nr_wire.specs.declared.stream.Awaited.TheVariants.{Fpdu}
 use Rattle.nr_link.specs.Frames.{Frame}
 use Rattle.nr_link.specs.ReceiveState.{message_completed}
 use Rattle.nr_link.specs.Ending.{frame_segment}
-use Rattle.nr_reduce.specs.declared.mark.LinkParameters.{LinkParameters}
 use Rattle.nr_reduce.specs.History.{ExecutedCall}
 use Rattle.nr_reduce.specs.Chunks.{is_read_chunk_of_item}
 use Rattle.nr_reduce.specs.Holds.{Answer, answer_for, answer_size, answer_message, chunk_error, version_error, first_chunk, no_segments}
 use Rattle.nr_reduce.specs.Undone.{answer_segments, chunk_segments}
-use Rattle.nr_reduce.specs.ServerState.{ServerState, PendingCall, PendingRead, ReadyCall, down_max, credit_word}
+use Rattle.nr_reduce.specs.ServerState.{ServerState, PendingCall, PendingRead, down_max, credit_word}
 use Rattle.nr_reduce.specs.ServerReads.{is_read, reads_of, regions_of}
 use Rattle.nr_reduce.specs.ServerMessages.{Verdict, CallVerdict, verdict, chunk_bytes, payload_of, by_payload}
 use Rattle.nr_reduce.specs.ServerMessages.Verdict.{EndsLink, OtherVersion, BadChunks, MakesPending}
 use Rattle.nr_reduce.specs.ServerMessages.CallVerdict.{Refuses, IsReady}
-use Rattle.nr_reduce.specs.ServerFrames.{FrameEffect, no_effect, with_verdict, ready_if_whole, message_effect, with_refused_call, is_stream_read, read_effect, call_of_number, response_effect, by_message, with_access, effect_in, effect_by, frame_effect}
+use Rattle.nr_reduce.specs.ServerFrames.{FrameEffect, no_effect, with_verdict, ready_if_whole, message_effect, with_refused_call, is_stream_read, read_effect, call_of_number, response_effect, by_message, with_access, effect_in, frame_effect}
 use Rattle.nr_reduce.specs.Server.{offer_by, offer_of, answer_of_target, newly_open_reads}
 use Rattle.nr_reduce.proofs.AnswerMessages.{answer_length}
 use Rattle.nr_laws.proofs.OfferLimits.{OfferFits, SegmentsFit, verdict_fits}
-use Rattle.nr_laws.proofs.Outputs.{Output, IsShort, AreShort, message_sends, request_outputs, request_segment, effect_outputs, answer_outputs, answer_of_call, AnswerShort, send_segment}
-use Rattle.nr_laws.proofs.Outputs.Output.{AHello, ASegment}
+use Rattle.nr_laws.proofs.Outputs.{Output, IsShort, AreShort, message_sends, request_outputs, effect_outputs, answer_outputs, answer_of_call, AnswerShort, send_segment}
+use Rattle.nr_laws.proofs.Outputs.Output.{ASegment}
 use Rattle.nr_laws.proofs.Brought.{AreFrom}
-use Rattle.nr_laws.proofs.Words.{send-word, request-word, chunk-words, from-append, RangeEnds, SegmentsFit as WordsFit}
+use Rattle.nr_laws.proofs.Words.{send-word, request-word, chunk-words, from-append, SegmentsFit as WordsFit}
 use Rattle.nr_laws.proofs.Messages.{messages, AreOne, messages-append, one-append, messages-sends, one-sends, messages-requests, one-requests, AreTagged, tagged-append, tagged-chunk, messages-tagged, one-tagged}
 
 -- ---- Error messages
@@ -48,8 +47,16 @@ chunk_error-short xid credit =
 version_error-short : (xid version credit : ℕ) → IsShort (version_error xid version credit)
 unfolding version_error
 version_error-short xid version credit =
-    omega (arith, word_len xid (word version ++ (word credit ++ (word 4 ++ (word 1 ++ (word 1 ++ (word 1 ++ [])))))), word_len version (word credit ++ (word 4 ++ (word 1 ++ (word 1 ++ (word 1 ++ []))))),
-      word_len credit (word 4 ++ (word 1 ++ (word 1 ++ (word 1 ++ [])))), word_len 4 (word 1 ++ (word 1 ++ (word 1 ++ []))), word_len 1 (word 1 ++ (word 1 ++ [])), word_len 1 (word 1 ++ []), word_len 1 [])
+    omega (
+      arith,
+      word_len xid (word version ++ (word credit ++ (word 4 ++ (word 1 ++ (word 1 ++ (word 1 ++ [])))))),
+      word_len version (word credit ++ (word 4 ++ (word 1 ++ (word 1 ++ (word 1 ++ []))))),
+      word_len credit (word 4 ++ (word 1 ++ (word 1 ++ (word 1 ++ [])))),
+      word_len 4 (word 1 ++ (word 1 ++ (word 1 ++ []))),
+      word_len 1 (word 1 ++ (word 1 ++ [])),
+      word_len 1 (word 1 ++ []),
+      word_len 1 [],
+    )
 
 -- an error message: ERR_CHUNK or ERR_VERS
 pub data IsError (m : List ℕ) : Type 0 where
@@ -108,7 +115,7 @@ fine-message k place message OtherVersion is bytes h = record { errors = OneErro
 fine-message k place message BadChunks is bytes h = record { errors = OneError _ (OfChunks (word_at 0 message) (credit_word k) refl); fit = h }
 fine-message k place message (MakesPending c) is bytes h =
     fine-whole k place c (record (no_effect k) { calls = k.calls ++ c ∷ []; reads = k.reads ++ reads_of (k.regions ++ regions_of k place c) c; regions = k.regions ++ regions_of k place c })
-      (record { errors = NoError; fit = fit-append k.calls (c ∷ []) h (verdict_fits k message c bytes is, tt) })
+    (record { errors = NoError; fit = fit-append k.calls (c ∷ []) h (verdict_fits k message c bytes is, tt) })
 
 fine-read : (k : ServerState) (place : ℕ) (r : PendingRead) (o : Option PendingCall) (s : FrameEffect) → IsFine s → IsFine (read_effect k place r o s)
 fine-read k place r None s h = h
@@ -136,6 +143,7 @@ fine-frame k f bytes h = by (frame_segment f) refl
       where
         t : ServerState
         t = with_access k f (Tagged last opcode stag to payload)
+
         tagged : (b : Bool) → IsFine (cond b (response_effect t f.end t.reads) (no_effect t))
         tagged true = fine-response t f.end t.reads h
         tagged false = record { errors = NoError; fit = h }
@@ -186,7 +194,7 @@ answer-words : (offer : ChunkLists) (a : Answer) → OfferFits offer → AreFrom
 answer-words offer a h =
     subst (λ (os : List Output). AreFrom Fpdu os) (sym (map-append (chunk_segments (first_chunk offer.write) a.moved) (cond a.long (chunk_segments (no_segments offer.reply) a.stream) [])))
     (from-append (map ASegment (chunk_segments (first_chunk offer.write) a.moved)) (map ASegment (cond a.long (chunk_segments (no_segments offer.reply) a.stream) []))
-      (chunk-words (first_chunk offer.write) a.moved (words-fit (first_chunk offer.write) h.writes)) (by a.long))
+    (chunk-words (first_chunk offer.write) a.moved (words-fit (first_chunk offer.write) h.writes)) (by a.long))
   where
     by : (b : Bool) → AreFrom Fpdu (map ASegment (cond b (chunk_segments (no_segments offer.reply) a.stream) []))
     by true = chunk-words (no_segments offer.reply) a.stream (words-fit (no_segments offer.reply) h.replies)

@@ -1,33 +1,31 @@
 -- What the server of a run wrote, and what its client received of it.
-use Rattle.std.proofs.Common.{◌≡◌, ◌≢◌, ℕ, zero, suc, ◌+◌, ◌≤◌, ◌<◌, Bool, true, false, cond, ◌&&◌, eqb, List, [], ◌∷◌, ◌++◌, length, take, drop, map, Option, None, Some, Result, Ok, Err, refl, sym, ap, subst, ◌∙◌, arith, append_assoc, append-nil, inl, inr, ◌⊎◌, eqb-true}
+use Rattle.std.proofs.Common.{◌≡◌, ℕ, Bool, true, false, ◌&&◌, eqb, List, [], ◌∷◌, ◌++◌, length, map, Option, None, Some, refl, sym, ap, subst, arith, inl, inr, eqb-true}
 use Rattle.nr_wire.specs.declared.hello.Side.TheVariants.{Initiator, Responder}
-use Rattle.nr_wire.specs.declared.stream.Awaited.TheVariants.{Hello as HelloFrom, Fpdu}
+use Rattle.nr_wire.specs.declared.stream.Awaited.TheVariants.{Hello as HelloFrom}
 use Rattle.nr_link.specs.declared.end.End.{End as Stop}
 use Rattle.nr_link.specs.Frames.{Frame, frames_completed}
-use Rattle.nr_link.specs.Output.{own_hello}
 use Rattle.nr_reduce.specs.declared.call.Submission.TheVariants as submissions
 use Rattle.nr_reduce.specs.declared.mark.Mark.{Mark}
 use Rattle.nr_reduce.specs.declared.mark.Mark.TheVariants as marks
 use Rattle.nr_reduce.specs.declared.mark.LinkParameters.{LinkParameters}
-use Rattle.nr_reduce.specs.History.{AcceptedCall, ExecutedCall, bytes_received, same_side}
-use Rattle.nr_reduce.specs.AtEachMark.{AtEachMark}
+use Rattle.nr_reduce.specs.History.{bytes_received, same_side}
 use Rattle.nr_reduce.specs.Matched.{Matched, IsPrefixOf}
-use Rattle.nr_reduce.specs.Events.{Event, events, events_at, if_own}
+use Rattle.nr_reduce.specs.Events.{events, events_at, if_own}
 use Rattle.nr_reduce.specs.Events.Event.{FrameReceived, CallSubmitted, MemoryRevoked, CallExecuted, QueueWritten}
 use Rattle.nr_reduce.specs.EndRules.{EndState, end_state_after}
 use Rattle.nr_reduce.specs.ServerState.{ServerState, ReadyCall}
 use Rattle.nr_reduce.specs.Server.{server_rules, initial_server}
 use Rattle.nr_reduce.specs.Run.{server, output_due}
 use Rattle.nr_reduce.specs.Asked.{AskedSoFar}
-use Rattle.nr_reduce.specs.Served.{ServedMark, ServedSoFar, IsExecuted, next_call, first_ready}
+use Rattle.nr_reduce.specs.Served.{ServedMark, ServedSoFar, next_call, first_ready}
 use Rattle.nr_laws.specs.Typed.{TypedMark, IsTyped}
 use Rattle.nr_laws.proofs.Flows.{flows_down}
 use Rattle.nr_laws.proofs.Along.{GoesOn, Goes, goes-from, goes-nothing, FirstGood, along, places_after, whole_bytes}
-use Rattle.nr_laws.proofs.Outputs.{Output, bytes_of_all, server_says, server_final_outputs}
-use Rattle.nr_laws.proofs.Outputs.Output.{AHello, ASegment}
+use Rattle.nr_laws.proofs.Outputs.{Output, server_says, server_final_outputs}
+use Rattle.nr_laws.proofs.Outputs.Output.{ASegment}
 use Rattle.nr_laws.proofs.Brought.{AreFrom, Receives, receives}
 use Rattle.nr_laws.proofs.ClientRun.{each-both}
-use Rattle.nr_laws.proofs.ServerAlong.{IsGoodExecution, ServerGood, ServerPlain, goes-hello, outs_of, ServerTells, Shape, Greeted}
+use Rattle.nr_laws.proofs.ServerAlong.{ServerGood, ServerPlain, goes-hello, outs_of, ServerTells, Shape}
 use Rattle.nr_laws.proofs.ServerEvents.{server-step}
 use Rattle.nr_laws.proofs.ExecutedCalls.{server-receives-of}
 
@@ -88,10 +86,15 @@ server-goes opened link run typed served =
     goes-from (server_rules opened) ServerPlain (λ r f h. tt) (initial_server opened) link Responder (ServerMark opened link) (first-good opened link) [] run typed
     (each-both (ServedMark IsPrefixOf opened link) TypedMark [] run served typed) (goes-nothing (server_rules opened) ServerPlain (initial_server opened) link Responder)
 
-
 tells-nothing : (opened : LinkParameters) → ServerTells opened [] 0 (initial_server opened) []
 tells-nothing opened = record {
-  state = refl; outs_are = refl; bytes = refl; begun = λ i. omega arith; fit = tt; shape = inl (refl, refl, refl, refl); one = tt;
+  state = refl;
+  outs_are = refl;
+  bytes = refl;
+  begun = λ i. omega arith;
+  fit = tt;
+  shape = inl (refl, refl, refl, refl);
+  one = tt;
   said = λ xs s ys m e one. absurd (none-at xs s ys e);
 }
   where
@@ -108,8 +111,8 @@ server-tells opened link run typed asked served matched =
     let es = events link Responder run in
     let goes : GoesOn (server_rules opened) ServerGood 0 (initial_server opened) es = goes-hello opened 0 (initial_server opened) es r.came g.goes r.brings r.from in
     let t : ServerTells opened es (places_after 0 es) (end_state_after (server_rules opened) (initial_server opened) es) (outs_of opened es) =
-        along (server_rules opened) (server_says opened) server_final_outputs ServerGood (ServerTells opened)
-        (λ es place r outs e next good t. server-step opened es place r.state r.ended outs e next good t) [] 0 (initial_server opened) [] es goes (tells-nothing opened) in
+    along (server_rules opened) (server_says opened) server_final_outputs ServerGood (ServerTells opened)
+    (λ es place r outs e next good t. server-step opened es place r.state r.ended outs e next good t) [] 0 (initial_server opened) [] es goes (tells-nothing opened) in
     subst (λ (p : ℕ). ServerTells opened es p (server opened link run) (outs_of opened es)) g.place t
 
 shape-from : (place : ℕ) (r : EndState ServerState) (outs : List Output) → Shape place r outs → AreFrom (HelloFrom Responder) outs

@@ -1,18 +1,15 @@
 -- The reads of a pending call whose read list has one position: where they go, and what they leave.
-use Rattle.std.proofs.Common.{◌≡◌, ◌≢◌, ℕ, zero, suc, ◌+◌, ◌-◌, ◌≤◌, ◌<◌, Bool, true, false, cond, ◌&&◌, ◌||◌, not, eqb, List, [], ◌∷◌, ◌++◌, length, take, drop, map, replicate, sum_by, Option, None, Some, refl, sym, ap, subst, ◌∙◌, arith, append_assoc, append-nil, length-append, eq-eqb, ne_eqb, eqb-true, inl, inr}
-use Rattle.std.specs.List.{filter, find, list_any}
+use Rattle.std.proofs.Common.{◌≡◌, ◌≢◌, ℕ, ◌+◌, ◌≤◌, ◌<◌, Bool, true, false, cond, ◌||◌, not, eqb, List, [], ◌∷◌, ◌++◌, sum_by, refl, sym, ap, ◌∙◌, arith, eq-eqb, ne_eqb, eqb-true}
+use Rattle.std.specs.List.{filter, list_any}
 use Rattle.std.proofs.lemmas.List.Sums.{sum_by-cons}
-use Rattle.std.proofs.lemmas.Bool.{cases_eq}
 use Rattle.nr_header.specs.declared.header.ReadSegment.{ReadSegment}
 use Rattle.nr_header.specs.declared.header.ChunkLists.{ChunkLists}
 use Rattle.nr_reduce.specs.Chunks.{positions, total_at, at_position}
 use Rattle.nr_reduce.specs.Plans.{entries_from}
-use Rattle.nr_reduce.specs.OfferedRegions.{Region, closed_if, regions_closed}
-use Rattle.nr_reduce.specs.ServerState.{ServerState, PendingCall, PendingRead, next_stag}
-use Rattle.nr_reduce.specs.ServerReads.{chunks_of, regions_from, regions_of, stag_by, sink_of, read_of, reads_from, reads_of}
+use Rattle.nr_reduce.specs.OfferedRegions.{Region}
+use Rattle.nr_reduce.specs.ServerState.{PendingRead}
+use Rattle.nr_reduce.specs.ServerReads.{chunks_of, sink_of, read_of, reads_from}
 use Rattle.nr_reduce.proofs.Laid.{added_up}
-use Rattle.nr_reduce.proofs.OwnStags.{AreNumbered}
-use Rattle.nr_laws.proofs.ClientMemory.{HasRegion, has-closed, none-from, find-left, find-right}
 
 -- ---- Reads of one position
 
@@ -64,7 +61,7 @@ reads-own regions number position handle offset before [] e = refl
 reads-own regions number position handle offset before (n ∷ ns) e =
     let r : ReadSegment = record { position = position; handle = handle; length = n; offset = offset } in
     (λ i. cond (eqb n 0) [] (read_of regions number (e i) r ∷ [])
-      ++ reads-own regions number position handle (offset + n) (before ++ r ∷ []) ns (total-more position handle n offset before ∙ ap (λ (m : ℕ). m + n) e) i)
+    ++ reads-own regions number position handle (offset + n) (before ++ r ∷ []) ns (total-more position handle n offset before ∙ ap (λ (m : ℕ). m + n) e) i)
 
 others-none : (position handle offset : ℕ) (lengths : List ℕ) → filter (λ p. not (eqb p position)) (positions (entries_from position handle offset lengths)) ≡ []
 others-none position handle offset [] = refl
@@ -135,6 +132,7 @@ one-into number position sink handle at n other = by (eqb n 0)
   where
     r : PendingRead
     r = record { number = number; position = position; sink = sink; at = at; size = n; stag = handle; to = at }
+
     by : (b : Bool) → (sink ≡ other → into other (cond b [] (r ∷ [])) ≡ cond b [] (r ∷ [])) × (sink ≢ other → into other (cond b [] (r ∷ [])) ≡ [])
     by true = ((λ e. refl), (λ e. refl))
     by false = ((λ e. ap (λ (b : Bool). cond b (r ∷ []) []) (eq-eqb sink other e)), (λ e. ap (λ (b : Bool). cond b (r ∷ []) []) (ne_eqb sink other e)))
@@ -198,6 +196,7 @@ into-kept number other sink (r ∷ reads) ne h = by (eqb r.number other) refl (e
   where
     kept : List PendingRead
     kept = filter (λ r. not (eqb r.number other)) reads
+
     by : (b : Bool) → eqb r.number other ≡ b → (c : Bool) → eqb r.sink sink ≡ c → OfNumber number (cond c (r ∷ into sink reads) (into sink reads)) → (OfNumber number (into sink reads) → into sink kept ≡ into sink reads)
         → into sink (cond (not b) (r ∷ kept) kept) ≡ cond c (r ∷ into sink reads) (into sink reads)
     by true is true own h rest = absurd (ne (sym h.0 ∙ eqb-true r.number other is))

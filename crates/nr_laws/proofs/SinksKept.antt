@@ -1,26 +1,23 @@
 -- What a frame makes of the pending reads of a server.
-use Rattle.std.proofs.Common.{◌≡◌, ◌≢◌, ℕ, zero, suc, ◌+◌, ◌-◌, ◌≤◌, ◌<◌, min, Bool, true, false, cond, ◌&&◌, not, eqb, List, [], ◌∷◌, ◌++◌, length, take, drop, map, replicate, Option, None, Some, Result, Ok, Err, refl, sym, ap, subst, ◌∙◌, arith, append_assoc, append-nil, length-append, take-append-drop, eq-eqb, ne_eqb, eqb-true, inl, inr}
+use Rattle.std.proofs.Common.{◌≡◌, ℕ, zero, suc, ◌+◌, ◌-◌, ◌≤◌, ◌<◌, Bool, true, false, cond, ◌&&◌, not, eqb, List, [], ◌∷◌, ◌++◌, length, take, drop, replicate, Option, None, Some, refl, sym, ap, subst, ◌∙◌, arith, append_assoc, append-nil, length-append, take-append-drop, eq-eqb, eqb-true}
 use Rattle.std.proofs.lemmas.List.{length-take, take_at}
-use Rattle.std.specs.List.{filter, find}
-use Rattle.nr_wire.specs.Constants.{OPCODE_READ_RESPONSE}
-use Rattle.nr_wire.specs.Segment.{Segment}
-use Rattle.nr_wire.specs.Segment.Segment.{Tagged, Untagged}
+use Rattle.std.specs.List.{filter}
 use Rattle.nr_regions.specs.declared.right.Right.TheVariants.{Sink}
 use Rattle.nr_header.specs.declared.header.ReadSegment.{ReadSegment}
 use Rattle.nr_reduce.specs.Chunks.{is_read_chunk_of_item, total_at}
 use Rattle.nr_reduce.specs.Plans.{entries_from}
 use Rattle.nr_reduce.specs.OfferedRegions.{Region}
 use Rattle.nr_reduce.specs.ServerState.{ServerState, PendingCall, PendingRead, next_stag}
-use Rattle.nr_reduce.specs.ServerReads.{open_reads, chunks_of, regions_from, regions_of, stag_by, sink_of, reads_from, reads_of, is_read}
+use Rattle.nr_reduce.specs.ServerReads.{open_reads, regions_from, regions_of, stag_by, sink_of, reads_from, reads_of, is_read}
 use Rattle.nr_reduce.specs.ServerMessages.{CallVerdict, chunk_bytes, payload_of, by_payload}
 use Rattle.nr_reduce.specs.ServerMessages.CallVerdict.{Refuses, IsReady}
 use Rattle.nr_reduce.specs.ServerFrames.{FrameEffect, no_effect, with_verdict, ready_if_whole, with_refused_call, is_stream_read, read_effect}
 use Rattle.nr_reduce.specs.Server.{newly_open_reads}
 use Rattle.nr_reduce.proofs.Laid.{added_up}
 use Rattle.nr_reduce.proofs.OwnStags.{AreNumbered}
-use Rattle.nr_laws.proofs.ClientMemory.{HasRegion, none-from, find-right}
+use Rattle.nr_laws.proofs.ClientMemory.{none-from, find-right}
 use Rattle.nr_laws.proofs.SinkReads.{own_reads, total-own, reads-own, chunks-own, own_chunks, reads-none, into, into-append, SinksBelow, below-append, below-more, into-none, into-zero, own-into, own-other, own-below}
-use Rattle.nr_laws.proofs.PendingSinks.{OwnersBelow, owners-more, owners-append, sink-none, CallReads, EachReads, each-append, each-filter, each-two, each-same, each-refused}
+use Rattle.nr_laws.proofs.PendingSinks.{OwnersBelow, owners-more, owners-append, sink-none, CallReads, EachReads, each-append, each-two, each-same, each-refused}
 
 pub record SinksKept (k : ServerState) (done : List PendingRead) : Type 0 where
   pub calls : EachReads (done ++ k.reads) k.regions k.calls
@@ -70,6 +67,7 @@ ready-kept k t place c done later s sends h = by (is_read s.reads c.number)
     by_verdict : (v : CallVerdict) → EffectKept k done later (with_verdict v s) sends
     by_verdict (Refuses reason) = record { calls = h.calls; sinks = h.sinks; owners = h.owners; opened = h.opened }
     by_verdict (IsReady r) = record { calls = h.calls; sinks = h.sinks; owners = h.owners; opened = h.opened }
+
     by : (b : Bool) → EffectKept k done later (cond b (with_verdict (by_payload c (payload_of t place c)) s) s) sends
     by true = by_verdict (by_payload c (payload_of t place c))
     by false = h
@@ -121,7 +119,11 @@ pending-kept k done place c o number numbered h = by (eqb (added_up o.lengths) 0
   where
     by_none : added_up o.lengths ≡ 0 → EffectKept k done done (with_new k c [] []) (k.received.sends + 1)
     by_none none = new-kept k c done [] [] h (λ s lt. refl) tt tt (record {
-      position = o.position; handle = o.handle; lengths = o.lengths; lists = o.is; sink = 0;
+      position = o.position;
+      handle = o.handle;
+      lengths = o.lengths;
+      lists = o.is;
+      sink = 0;
       own = ap (λ (rs : List PendingRead). into 0 rs) (append-nil (done ++ k.reads)) ∙ into-zero (1 + length k.regions) (done ++ k.reads) h.sinks ∙ sym (reads-none c.number o.position 0 o.handle 0 o.lengths none);
       below = omega arith;
       some = λ some. absurd (omega (arith, some, none));
@@ -142,7 +144,11 @@ pending-kept k done place c o number numbered h = by (eqb (added_up o.lengths) 0
         (own-below c.number o.position next o.handle 0 (1 + length (k.regions ++ r ∷ [])) o.lengths (omega arith) (omega (arith, l)))
         ((omega (arith, number)), tt)
         (record {
-          position = o.position; handle = o.handle; lengths = o.lengths; lists = o.is; sink = next;
+          position = o.position;
+          handle = o.handle;
+          lengths = o.lengths;
+          lists = o.is;
+          sink = next;
           own = into-append next (done ++ k.reads) new ∙ (λ i. into-none next (1 + length k.regions) (done ++ k.reads) (omega arith) h.sinks i ++ own-into c.number o.position next o.handle 0 o.lengths i);
           below = omega (arith, l);
           some = λ s. omega arith;
@@ -168,14 +174,14 @@ pending-kept k done place c o number numbered h = by (eqb (added_up o.lengths) 0
         let none : added_up o.lengths ≡ 0 = eqb-true (added_up o.lengths) 0 is in
         subst (λ (rs : List Region). EffectKept k done done (with_new k c rs (reads_of (k.regions ++ rs) c)) (k.received.sends + 1)) (sym (regions-are k place c o ∙ chunk true is))
         (subst (λ (new : List PendingRead). EffectKept k done done (with_new k c [] new) (k.received.sends + 1))
-          (sym (reads-are (k.regions ++ []) c o ∙ reads-none c.number o.position (sink_of (k.regions ++ []) c.number o.position) o.handle 0 o.lengths none)) (by_none none))
+        (sym (reads-are (k.regions ++ []) c o ∙ reads-none c.number o.position (sink_of (k.regions ++ []) c.number o.position) o.handle 0 o.lengths none)) (by_none none))
     by false is =
         let some : 0 < added_up o.lengths = not-nothing (added_up o.lengths) is in
         let r : Region = new_region k place c o in
         let found : sink_of (k.regions ++ r ∷ []) c.number o.position ≡ next_stag k = sink-none k.regions (r ∷ []) k.received.sends c.number o.position (omega (arith, number)) h.owners ∙ sink-first r c.number o.position refl refl in
         subst (λ (rs : List Region). EffectKept k done done (with_new k c rs (reads_of (k.regions ++ rs) c)) (k.received.sends + 1)) (sym (regions-are k place c o ∙ chunk false is))
         (subst (λ (new : List PendingRead). EffectKept k done done (with_new k c (r ∷ []) new) (k.received.sends + 1))
-          (sym (reads-are (k.regions ++ r ∷ []) c o ∙ ap (λ (s : ℕ). own_reads c.number o.position s o.handle 0 o.lengths) found)) (by_some some))
+        (sym (reads-are (k.regions ++ r ∷ []) c o ∙ ap (λ (s : ℕ). own_reads c.number o.position s o.handle 0 o.lengths) found)) (by_some some))
 
 -- ---- A read that is done
 
@@ -224,15 +230,15 @@ refused-kept k t done r rest c is h =
     let back = drop m rest in
     let p = λ (x : PendingRead). not (eqb x.number c.number) in
     let same : done ++ k.reads ≡ ((done ++ r ∷ []) ++ front) ++ back =
-        ap (λ (rs : List PendingRead). done ++ rs) is ∙ sym (append_assoc done (r ∷ []) rest) ∙ ap (λ (rs : List PendingRead). (done ++ r ∷ []) ++ rs) (sym (take-append-drop m rest)) ∙ sym (append_assoc (done ++ r ∷ []) front back) in
+    ap (λ (rs : List PendingRead). done ++ rs) is ∙ sym (append_assoc done (r ∷ []) rest) ∙ ap (λ (rs : List PendingRead). (done ++ r ∷ []) ++ rs) (sym (take-append-drop m rest)) ∙ sym (append_assoc (done ++ r ∷ []) front back) in
     let l = length-take 7 rest in
     let seven : front ≡ take 7 rest = take-short m 7 rest kept in
     let all : SinksBelow (1 + length k.regions) (((done ++ r ∷ []) ++ front) ++ back) = subst (λ (rs : List PendingRead). SinksBelow (1 + length k.regions) rs) same h.sinks in
     let parts = below-left (1 + length k.regions) ((done ++ r ∷ []) ++ front) back all in
     let new = filter p back in
     let first : take 8 (front ++ new) ≡ take 7 rest ++ drop m (take 8 (front ++ new)) =
-        front-kept 8 front new (let q = ap (λ (rs : List PendingRead). length rs) seven in omega (arith, q, l))
-        ∙ (λ i. seven i ++ drop ((ap (λ (rs : List PendingRead). length rs) seven ∙ sym kept) i) (take 8 (front ++ new))) in
+    front-kept 8 front new (let q = ap (λ (rs : List PendingRead). length rs) seven in omega (arith, q, l))
+    ∙ (λ i. seven i ++ drop ((ap (λ (rs : List PendingRead). length rs) seven ∙ sym kept) i) (take 8 (front ++ new))) in
     record {
       calls = each-same (((done ++ r ∷ []) ++ front) ++ new) ((done ++ r ∷ []) ++ (front ++ new)) k.regions (filter (λ x. not (eqb x.number c.number)) k.calls) (append_assoc (done ++ r ∷ []) front new)
           (each-refused ((done ++ r ∷ []) ++ front) back k.regions c.number k.calls (each-same (done ++ k.reads) (((done ++ r ∷ []) ++ front) ++ back) k.regions k.calls same h.calls));

@@ -1,24 +1,22 @@
 -- The segments that a side writes have numbers in range: so each is read as it was written.
-use Rattle.std.proofs.Common.{◌≡◌, ◌≢◌, ℕ, zero, suc, ◌+◌, ◌-◌, ◌*◌, ◌/◌, ◌%◌, ◌^◌, ◌≤◌, ◌<◌, min, max, Bool, true, false, cond, ◌&&◌, ◌||◌, not, eqb, ltb, leb, List, [], ◌∷◌, ◌++◌, length, take, drop, map, Option, None, Some, Result, Ok, Err, refl, sym, ap, subst, ◌∙◌, arith, append_assoc, append-nil, length-append, length-drop, inl, inr}
+use Rattle.std.proofs.Common.{◌≡◌, ℕ, zero, suc, ◌+◌, ◌-◌, ◌*◌, ◌^◌, ◌≤◌, ◌<◌, min, Bool, true, false, cond, eqb, List, [], ◌∷◌, ◌++◌, length, take, drop, map, Option, None, Some, Ok, refl, sym, ap, subst, arith, length-append}
 use Rattle.std.proofs.lemmas.List.{length-take}
-use Rattle.std.proofs.lemmas.Bool.{eq-eqb, eqb-true, ltb-false, cases_lt}
 use Rattle.std.specs.List.{range_with_len}
 use Rattle.nr_xdr.specs.Item.{IsBytes, word, hyper}
 use Rattle.nr_xdr.specs.Fields.{word_at}
 use Rattle.nr_xdr.proofs.WordBytes.{IsBytes-take, IsBytes-drop, word_of-below, hyper_of-below, length-word, length-hyper}
-use Rattle.nr_wire.specs.Constants.{LENGTH_LEN, TAGGED_LEN, UNTAGGED_LEN, OPCODE_WRITE, OPCODE_READ_REQUEST, OPCODE_READ_RESPONSE, OPCODE_SEND, OPCODE_TERMINATE, QUEUE_SEND, QUEUE_READ_REQUEST, QUEUE_TERMINATE}
-use Rattle.nr_wire.specs.declared.stream.Awaited.TheVariants.{Hello as HelloFrom, Fpdu}
+use Rattle.nr_wire.specs.Constants.{LENGTH_LEN, TAGGED_LEN, UNTAGGED_LEN}
+use Rattle.nr_wire.specs.declared.stream.Awaited.TheVariants.{Fpdu}
 use Rattle.nr_wire.specs.Fields.{hyper_at}
 use Rattle.nr_wire.specs.Hello.{value_unless}
-use Rattle.nr_wire.specs.Segment.{Segment, segment_of, segment_flaw, segment_by_form, ulpdu_len, is_tagged, IsSupported, Fits, ulpdu_size}
+use Rattle.nr_wire.specs.Segment.{Segment, segment_of, segment_flaw, segment_by_form, ulpdu_len, is_tagged}
 use Rattle.nr_wire.specs.Segment.Segment.{Tagged, Untagged}
 use Rattle.nr_header.specs.declared.header.RdmaSegment.{RdmaSegment}
 use Rattle.nr_link.specs.Limits.{segment_max}
-use Rattle.nr_link.specs.Output.{segment_count, segment_payload, msn_word}
-use Rattle.nr_link.specs.ReceiveState.{ReadRequest, read_request_in}
+use Rattle.nr_link.specs.Output.{segment_count, segment_payload}
 use Rattle.nr_reduce.specs.ServerState.{PendingRead}
 use Rattle.nr_reduce.specs.Undone.{one_write, write_segments, chunk_segments}
-use Rattle.nr_laws.proofs.Outputs.{Output, IsShort, send_segment, request_payload, request_segment, terminate_segment, one_response, response_segments}
+use Rattle.nr_laws.proofs.Outputs.{Output, IsShort, send_segment, request_segment, terminate_segment, one_response, response_segments}
 use Rattle.nr_laws.proofs.Outputs.Output.{AHello, ASegment}
 use Rattle.nr_laws.proofs.Brought.{IsWord, AreFrom}
 
@@ -99,6 +97,7 @@ chunk-words (s ∷ chunk) bytes h =
   where
     first : Bool → List Segment
     first b = cond b [] (write_segments s.handle s.offset (take s.length bytes))
+
     by : (b : Bool) → AreFrom Fpdu (map ASegment (first b))
     by true = tt
     by false = writes-words s.handle s.offset s.length (take s.length bytes) h.0 (let l = length-take s.length bytes in omega (arith, l)) h.1
