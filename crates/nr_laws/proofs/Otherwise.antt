@@ -1,4 +1,4 @@
--- An outcome that is no reply: a call's Send was refused, or its offer doesn't hold the reply.
+-- An answer brings a reply, or nothing: its kind is that of a message with a stream, in it or in chunks.
 use Rattle.std.proofs.Common.{◌≡◌, ◌≢◌, ℕ, zero, suc, ◌+◌, ◌≤◌, ◌<◌, Bool, true, false, cond, ◌&&◌, not, eqb, ltb, List, [], ◌∷◌, ◌++◌, length, take, drop, Option, None, Some, Result, Ok, Err, refl, sym, ap, subst, ◌∙◌, arith, append_assoc, append-nil, inl, inr, ◌⊎◌}
 use Rattle.nr_xdr.specs.Item.{word}
 use Rattle.nr_xdr.specs.Fields.{word_at}
