@@ -1,0 +1,5 @@
+//! Laws of a matched link.
+
+/// To be written.
+pub fn matched_links_go_on()
+{}
