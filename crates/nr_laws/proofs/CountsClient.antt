@@ -84,7 +84,7 @@ taken k f behind e =
 
 -- ---- A message comes to the client
 
-after-is : (opened : LinkParameters) (k : ClientState) (f : Frame) (r : Result Segment ℕ) → is_hello f ≡ false → frame_segment f ≡ r → client_state_after opened k (FrameReceived f) ≡ with_segment k f r
+pub after-is : (opened : LinkParameters) (k : ClientState) (f : Frame) (r : Result Segment ℕ) → is_hello f ≡ false → frame_segment f ≡ r → client_state_after opened k (FrameReceived f) ≡ with_segment k f r
 unfolding client_state_after
 after-is opened k f r behind is = λ i. cond (behind i) (record k { has_hello = true }) (with_segment k f (is i))
 
@@ -95,17 +95,17 @@ says-is opened k f r behind is = λ i. cond (behind i) (map (asking_piece opened
 abbrev pub down_one : Way → List Piece → List Piece → Way
 down_one w said rest = record { queued_up = w.queued_up ++ said; up = w.up; queued_down = w.queued_down; down = rest }
 
-pub counts-send_down : (opened : LinkParameters) (k : ClientState) (s : ServerState) (w : Way) (f : Frame) (message : List ℕ) (rest : List Piece) → Counts opened k s w → w.down ≡ ASend message ∷ rest
-    → IsPiece k.received.sends k.received.requests f (ASend message) → client_end k (FrameReceived f) ≡ None → AreApart (λ (o : OutstandingCall). o.xid) k.outstanding → credits_of_word (word_at 8 message) ≤ opened.granted
-    → Counts opened (client_state_after opened k (FrameReceived f)) s (down_one w (client_says opened k (FrameReceived f)) rest)
-counts-send_down opened k s w f message rest c first p stays apart enough =
+pub counts-send_down : (opened : LinkParameters) (k : ClientState) (s : ServerState) (w : Way) (f : Frame) (message : List ℕ) (rest : List Piece) → Counts k s w → w.down ≡ ASend message ∷ rest
+    → IsPiece k.received.sends k.received.requests f (ASend message) → client_end k (FrameReceived f) ≡ None → AreApart (λ (o : OutstandingCall). o.xid) k.outstanding
+    → Counts (client_state_after opened k (FrameReceived f)) s (down_one w (client_says opened k (FrameReceived f)) rest)
+counts-send_down opened k s w f message rest c first p stays apart =
     let segment : Segment = Untagged true OPCODE_SEND 0 QUEUE_SEND (msn_word (k.received.sends + 1)) 0 message in
     let is : frame_segment f ≡ Ok segment = segment-is k.received.sends k.received.requests f (ASend message) segment p refl in
     let whole : List ℕ = begun_bytes k.received.begun ++ message in
     let whole_is : whole ≡ message = ap (λ (b : Option (List ℕ)). begun_bytes b ++ message) c.whole_down in
     let unended : end_of_verdict f (verdict k f.end whole) ≡ None = ap (λ (r : Result Segment ℕ). message_end k f (segment_message k r)) (sym is) ∙ taken k f p.behind stays in
     let fewer = length-fewer (λ (o : OutstandingCall). o.xid) (word_at 0 whole) k.outstanding apart (out-there k f whole unended) in
-    let m : Counts opened (with_segment k f (Ok segment)) s (down_one w [] rest) = record {
+    let m : Counts (with_segment k f (Ok segment)) s (down_one w [] rest) = record {
       hello = omega (arith, c.hello, ap (count one_hello) first, count-append one_hello w.queued_up []);
       calls_up = omega (arith, c.calls_up, count-append one_send w.queued_up []);
       messages_down = omega (arith, c.messages_down, ap (count one_send) first);
@@ -116,11 +116,9 @@ counts-send_down opened k s w f message rest c first p stays apart enough =
       whole_down = refl;
       reads = omega (arith, c.reads, ap (count one_read) first, count-append one_response w.queued_up []);
       responses = omega (arith, c.responses, count-append one_response w.queued_up []);
-      window = omega (arith, c.window, fewer);
-      grant = subst (λ (xs : List ℕ). credits_of_word (word_at 8 xs) ≤ opened.granted) (sym whole_is) enough;
     } in
-    subst (λ (said : List Piece). Counts opened (client_state_after opened k (FrameReceived f)) s (down_one w said rest)) (sym (says-is opened k f (Ok segment) p.behind is))
-      (subst (λ (t : ClientState). Counts opened t s (down_one w [] rest)) (sym (after-is opened k f (Ok segment) p.behind is)) m)
+    subst (λ (said : List Piece). Counts (client_state_after opened k (FrameReceived f)) s (down_one w said rest)) (sym (says-is opened k f (Ok segment) p.behind is))
+      (subst (λ (t : ClientState). Counts t s (down_one w [] rest)) (sym (after-is opened k f (Ok segment) p.behind is)) m)
 
 -- ---- A Read Request comes to the client
 
@@ -150,9 +148,9 @@ tagged-none one opcode stag to bytes none = count-map-zero one (cut_piece opcode
 abbrev pub request_payload : (sink at size stag to : ℕ) → List ℕ
 request_payload sink at size stag to = word sink ++ (hyper at ++ (word size ++ (word stag ++ hyper to)))
 
-pub counts-read_down : (opened : LinkParameters) (k : ClientState) (s : ServerState) (w : Way) (f : Frame) (sink at size stag to : ℕ) (rest : List Piece) → Counts opened k s w → w.down ≡ ARead sink at size stag to ∷ rest
+pub counts-read_down : (opened : LinkParameters) (k : ClientState) (s : ServerState) (w : Way) (f : Frame) (sink at size stag to : ℕ) (rest : List Piece) → Counts k s w → w.down ≡ ARead sink at size stag to ∷ rest
     → IsPiece k.received.sends k.received.requests f (ARead sink at size stag to)
-    → Counts opened (client_state_after opened k (FrameReceived f)) s (down_one w (client_says opened k (FrameReceived f)) rest)
+    → Counts (client_state_after opened k (FrameReceived f)) s (down_one w (client_says opened k (FrameReceived f)) rest)
 counts-read_down opened k s w f sink at size stag to rest c first p =
     let segment : Segment = Untagged true OPCODE_READ_REQUEST 0 QUEUE_READ_REQUEST (msn_word (k.received.requests + 1)) 0 (request_payload sink at size stag to) in
     let is : frame_segment f ≡ Ok segment = segment-is k.received.sends k.received.requests f (ARead sink at size stag to) segment p refl in
@@ -160,7 +158,7 @@ counts-read_down opened k s w f sink at size stag to rest c first p =
     let bytes = take r.size (drop r.to (memory_at k f.end r.stag)) in
     let said = tagged_pieces OPCODE_READ_RESPONSE r.sink r.sink_to bytes in
     let one = responses-one r.sink r.sink_to bytes in
-    let m : Counts opened (with_segment k f (Ok segment)) s (down_one w said rest) = record {
+    let m : Counts (with_segment k f (Ok segment)) s (down_one w said rest) = record {
       hello = omega (arith, c.hello, ap (count one_hello) first, count-append one_hello w.queued_up said, tagged-none one_hello OPCODE_READ_RESPONSE r.sink r.sink_to bytes (λ last a b. refl));
       calls_up = omega (arith, c.calls_up, count-append one_send w.queued_up said, tagged-none one_send OPCODE_READ_RESPONSE r.sink r.sink_to bytes (λ last a b. refl));
       messages_down = omega (arith, c.messages_down, ap (count one_send) first);
@@ -171,21 +169,19 @@ counts-read_down opened k s w f sink at size stag to rest c first p =
       whole_down = c.whole_down;
       reads = omega (arith, c.reads, ap (count one_read) first, count-append one_response w.queued_up said, one);
       responses = omega (arith, c.responses, count-append one_response w.queued_up said, one);
-      window = c.window;
-      grant = c.grant;
     } in
-    subst (λ (x : List Piece). Counts opened (client_state_after opened k (FrameReceived f)) s (down_one w x rest)) (sym (says-is opened k f (Ok segment) p.behind is))
-      (subst (λ (t : ClientState). Counts opened t s (down_one w said rest)) (sym (after-is opened k f (Ok segment) p.behind is)) m)
+    subst (λ (x : List Piece). Counts (client_state_after opened k (FrameReceived f)) s (down_one w x rest)) (sym (says-is opened k f (Ok segment) p.behind is))
+      (subst (λ (t : ClientState). Counts t s (down_one w said rest)) (sym (after-is opened k f (Ok segment) p.behind is)) m)
 
 -- ---- A tagged segment comes to the client
 
-pub counts-tagged_down : (opened : LinkParameters) (k : ClientState) (s : ServerState) (w : Way) (f : Frame) (last : Bool) (opcode stag to : ℕ) (payload : List ℕ) (rest : List Piece) → Counts opened k s w → w.down ≡ ATagged last opcode stag to payload ∷ rest
+pub counts-tagged_down : (opened : LinkParameters) (k : ClientState) (s : ServerState) (w : Way) (f : Frame) (last : Bool) (opcode stag to : ℕ) (payload : List ℕ) (rest : List Piece) → Counts k s w → w.down ≡ ATagged last opcode stag to payload ∷ rest
     → IsPiece k.received.sends k.received.requests f (ATagged last opcode stag to payload)
-    → Counts opened (client_state_after opened k (FrameReceived f)) s (down_one w (client_says opened k (FrameReceived f)) rest)
+    → Counts (client_state_after opened k (FrameReceived f)) s (down_one w (client_says opened k (FrameReceived f)) rest)
 counts-tagged_down opened k s w f last opcode stag to payload rest c first p =
     let segment : Segment = Tagged last opcode stag to payload in
     let is : frame_segment f ≡ Ok segment = segment-is k.received.sends k.received.requests f (ATagged last opcode stag to payload) segment p refl in
-    let m : Counts opened (with_segment k f (Ok segment)) s (down_one w [] rest) = record {
+    let m : Counts (with_segment k f (Ok segment)) s (down_one w [] rest) = record {
       hello = omega (arith, c.hello, ap (count one_hello) first, count-append one_hello w.queued_up []);
       calls_up = omega (arith, c.calls_up, count-append one_send w.queued_up []);
       messages_down = omega (arith, c.messages_down, ap (count one_send) first);
@@ -196,11 +192,9 @@ counts-tagged_down opened k s w f last opcode stag to payload rest c first p =
       whole_down = c.whole_down;
       reads = omega (arith, c.reads, ap (count one_read) first, count-append one_response w.queued_up []);
       responses = omega (arith, c.responses, count-append one_response w.queued_up []);
-      window = c.window;
-      grant = c.grant;
     } in
-    subst (λ (x : List Piece). Counts opened (client_state_after opened k (FrameReceived f)) s (down_one w x rest)) (sym (says-is opened k f (Ok segment) p.behind is))
-      (subst (λ (t : ClientState). Counts opened t s (down_one w [] rest)) (sym (after-is opened k f (Ok segment) p.behind is)) m)
+    subst (λ (x : List Piece). Counts (client_state_after opened k (FrameReceived f)) s (down_one w x rest)) (sym (says-is opened k f (Ok segment) p.behind is))
+      (subst (λ (t : ClientState). Counts t s (down_one w [] rest)) (sym (after-is opened k f (Ok segment) p.behind is)) m)
 
 -- ---- The server's hello comes to the client: what it was given goes out
 
@@ -208,15 +202,15 @@ bit_of : (b : Bool) → greeted b ≡ 0 → b ≡ false
 bit_of true e = absurd cc
 bit_of false e = refl
 
-pub counts-hello_down : (opened : LinkParameters) (k : ClientState) (s : ServerState) (w : Way) (f : Frame) (rest : List Piece) → Counts opened k s w → w.down ≡ AHello ∷ rest → is_hello f ≡ true
-    → Counts opened (client_state_after opened k (FrameReceived f)) s (down_one w (client_says opened k (FrameReceived f)) rest)
+pub counts-hello_down : (opened : LinkParameters) (k : ClientState) (s : ServerState) (w : Way) (f : Frame) (rest : List Piece) → Counts k s w → w.down ≡ AHello ∷ rest → is_hello f ≡ true
+    → Counts (client_state_after opened k (FrameReceived f)) s (down_one w (client_says opened k (FrameReceived f)) rest)
 unfolding client_state_after client_says
 counts-hello_down opened k s w f rest c first is =
     let said = map (asking_piece opened) k.outstanding in
     let hello : greeted k.has_hello ≡ 0 = omega (arith, c.hello, ap (count one_hello) first) in
     let before : said_calls k ≡ 0 = ap (λ (b : Bool). cond b k.calls_accepted 0) (bit_of k.has_hello hello) in
     let sends : count one_send said ≡ length k.outstanding = count-map-one one_send (asking_piece opened) k.outstanding (λ o. refl) in
-    let m : Counts opened (record k { has_hello = true }) s (down_one w said rest) = record {
+    let m : Counts (record k { has_hello = true }) s (down_one w said rest) = record {
       hello = omega (arith, c.hello, hello, ap (count one_hello) first, count-append one_hello w.queued_up said, count-map-zero one_hello (asking_piece opened) k.outstanding (λ o. refl));
       calls_up = omega (arith, c.calls_up, before, c.messages_down, c.waiting, c.out, sends, count-append one_send w.queued_up said);
       messages_down = omega (arith, c.messages_down, ap (count one_send) first);
@@ -227,10 +221,8 @@ counts-hello_down opened k s w f rest c first is =
       whole_down = c.whole_down;
       reads = omega (arith, c.reads, ap (count one_read) first, count-append one_response w.queued_up said, count-map-zero one_response (asking_piece opened) k.outstanding (λ o. refl));
       responses = omega (arith, c.responses, count-append one_response w.queued_up said, count-map-zero one_response (asking_piece opened) k.outstanding (λ o. refl));
-      window = c.window;
-      grant = c.grant;
     } in
-    subst (λ (b : Bool). Counts opened (cond b (record k { has_hello = true }) (with_segment k f (frame_segment f))) s (down_one w (cond b said (responding_pieces k f.end (segment_request (frame_segment f)))) rest)) (sym is) m
+    subst (λ (b : Bool). Counts (cond b (record k { has_hello = true }) (with_segment k f (frame_segment f))) s (down_one w (cond b said (responding_pieces k f.end (segment_request (frame_segment f)))) rest)) (sym is) m
 
 -- ---- The client accepts a call, and writes
 
@@ -249,10 +241,10 @@ said_more : (b : Bool) (n : ℕ) → cond b (n + 1) 0 ≡ cond b n 0 + greeted b
 said_more true n = refl
 said_more false n = refl
 
-pub counts-accepts : (opened : LinkParameters) (k : ClientState) (s : ServerState) (w : Way) (place : ℕ) (a : AcceptedCall) → Counts opened k s w → length k.outstanding < k.grant
-    → Counts opened (client_state_after opened k (CallSubmitted place a)) s (up_more w (client_says opened k (CallSubmitted place a)))
+pub counts-accepts : (opened : LinkParameters) (k : ClientState) (s : ServerState) (w : Way) (place : ℕ) (a : AcceptedCall) → Counts k s w
+    → Counts (client_state_after opened k (CallSubmitted place a)) s (up_more w (client_says opened k (CallSubmitted place a)))
 unfolding client_state_after client_says
-counts-accepts opened k s w place a c room =
+counts-accepts opened k s w place a c =
     let p = asking_piece opened (outstanding_of k a) in
     let said = cond k.has_hello (p ∷ []) [] in
     record {
@@ -266,12 +258,10 @@ counts-accepts opened k s w place a c room =
       whole_down = c.whole_down;
       reads = omega (arith, c.reads, count-append one_response w.queued_up said, says_no one_response k.has_hello p refl);
       responses = omega (arith, c.responses, count-append one_response w.queued_up said, says_no one_response k.has_hello p refl);
-      window = omega (arith, c.grant, room, length-append k.outstanding (outstanding_of k a ∷ []));
-      grant = c.grant;
     }
 
-pub counts-writes_up : (opened : LinkParameters) (k : ClientState) (s : ServerState) (w : Way) → Counts opened k s w
-    → Counts opened (client_state_after opened k QueueWritten) s (record { queued_up = []; up = w.up ++ w.queued_up; queued_down = w.queued_down; down = w.down })
+pub counts-writes_up : (opened : LinkParameters) (k : ClientState) (s : ServerState) (w : Way) → Counts k s w
+    → Counts (client_state_after opened k QueueWritten) s (record { queued_up = []; up = w.up ++ w.queued_up; queued_down = w.queued_down; down = w.down })
 unfolding client_state_after
 counts-writes_up opened k s w c = record {
   hello = omega (arith, c.hello, count-append one_hello w.up w.queued_up);
@@ -284,14 +274,12 @@ counts-writes_up opened k s w c = record {
   whole_down = c.whole_down;
   reads = omega (arith, c.reads, count-append one_response w.up w.queued_up);
   responses = refl;
-  window = omega (arith, c.window, length-map k.outstanding (written_call k.has_hello));
-  grant = c.grant;
 }
 
 -- ---- At the beginning
 
-pub counts-first : (opened : LinkParameters) → 1 ≤ opened.granted → Counts opened (client_initial_state opened) (server_initial_state opened) (record { queued_up = AHello ∷ []; up = []; queued_down = []; down = [] })
-counts-first opened some = record {
+pub counts-first : (opened : LinkParameters) → Counts (client_initial_state opened) (server_initial_state opened) (record { queued_up = AHello ∷ []; up = []; queued_down = []; down = [] })
+counts-first opened = record {
   hello = refl;
   calls_up = refl;
   messages_down = refl;
@@ -302,6 +290,4 @@ counts-first opened some = record {
   whole_down = refl;
   reads = refl;
   responses = refl;
-  window = omega arith;
-  grant = some;
 }

@@ -113,12 +113,12 @@ sends-said st =
     count-append one_send (map ASend st.errors) (map reading_piece (newly_open_reads st))
     ∙ omega (arith, count-map-one one_send ASend st.errors (λ x. refl), count-map-zero one_send reading_piece (newly_open_reads st) (λ x. refl))
 
-reads-said : (st : FrameEffect) → count one_read (step_says st) ≡ length (newly_open_reads st)
+pub reads-said : (st : FrameEffect) → count one_read (step_says st) ≡ length (newly_open_reads st)
 reads-said st =
     count-append one_read (map ASend st.errors) (map reading_piece (newly_open_reads st))
     ∙ omega (arith, count-map-zero one_read ASend st.errors (λ x. refl), count-map-one one_read reading_piece (newly_open_reads st) (λ x. refl))
 
-hello-said : (st : FrameEffect) → count one_hello (step_says st) ≡ 0
+pub hello-said : (st : FrameEffect) → count one_hello (step_says st) ≡ 0
 hello-said st =
     count-append one_hello (map ASend st.errors) (map reading_piece (newly_open_reads st))
     ∙ omega (arith, count-map-zero one_hello ASend st.errors (λ x. refl), count-map-zero one_hello reading_piece (newly_open_reads st) (λ x. refl))
@@ -139,8 +139,8 @@ record Moves (s t : ServerState) (st : FrameEffect) (up rest : List Piece) (new 
   up_responses : count one_response up ≡ gone + count one_response rest
   up_hello : count one_hello up ≡ count one_hello rest
 
-counts-moved : (opened : LinkParameters) (k : ClientState) (s t : ServerState) (w : Way) (st : FrameEffect) (rest : List Piece) (new kept gone : ℕ) → Counts opened k s w → Moves s t st w.up rest new kept gone
-    → Counts opened k t (record { queued_up = w.queued_up; up = rest; queued_down = w.queued_down ++ step_says st; down = w.down })
+counts-moved : (opened : LinkParameters) (k : ClientState) (s t : ServerState) (w : Way) (st : FrameEffect) (rest : List Piece) (new kept gone : ℕ) → Counts k s w → Moves s t st w.up rest new kept gone
+    → Counts k t (record { queued_up = w.queued_up; up = rest; queued_down = w.queued_down ++ step_says st; down = w.down })
 counts-moved opened k s t w st rest new kept gone c m =
     let sends = sends-said st in
     let sends_all = count-append one_send w.queued_down (step_says st) in
@@ -159,8 +159,6 @@ counts-moved opened k s t w st rest new kept gone c m =
       whole_down = c.whole_down;
       reads = omega (arith, c.reads, m.opened, newly, m.shape.kept_is, m.kept_gone, m.up_responses, reads, reads_all);
       responses = c.responses;
-      window = c.window;
-      grant = c.grant;
     }
 
 -- the state behind a frame, by what the frame says
@@ -192,9 +190,9 @@ segment-is n r f p segment is e = is.reads ∙ ap (λ (s : Segment). Ok s) (same
 
 -- ---- A Send comes to the server
 
-pub counts-send_up : (opened : LinkParameters) (k : ClientState) (s : ServerState) (w : Way) (f : Frame) (message : List ℕ) (rest : List Piece) → Counts opened k s w → w.up ≡ ASend message ∷ rest
+pub counts-send_up : (opened : LinkParameters) (k : ClientState) (s : ServerState) (w : Way) (f : Frame) (message : List ℕ) (rest : List Piece) → Counts k s w → w.up ≡ ASend message ∷ rest
     → IsPiece s.received.sends s.received.requests f (ASend message) → (frame_effect s f).refusal ≡ None
-    → Counts opened k (server_state_after opened s (FrameReceived f)) (record { queued_up = w.queued_up; up = rest; queued_down = w.queued_down ++ step_says (frame_effect s f); down = w.down })
+    → Counts k (server_state_after opened s (FrameReceived f)) (record { queued_up = w.queued_up; up = rest; queued_down = w.queued_down ++ step_says (frame_effect s f); down = w.down })
 counts-send_up opened k s w f message rest c first p goes_on =
     let segment : Segment = Untagged true OPCODE_SEND 0 QUEUE_SEND (msn_word (s.received.sends + 1)) 0 message in
     let is : frame_segment f ≡ Ok segment = segment-is s.received.sends s.received.requests f (ASend message) segment p refl in
@@ -215,9 +213,9 @@ counts-send_up opened k s w f message rest c first p goes_on =
       up_responses = ap (count one_response) first;
       up_hello = omega (arith, ap (count one_hello) first);
     } in
-    subst (λ (st2 : FrameEffect). Counts opened k (server_state_after opened s (FrameReceived f)) (record { queued_up = w.queued_up; up = rest; queued_down = w.queued_down ++ step_says st2; down = w.down }))
+    subst (λ (st2 : FrameEffect). Counts k (server_state_after opened s (FrameReceived f)) (record { queued_up = w.queued_up; up = rest; queued_down = w.queued_down ++ step_says st2; down = w.down }))
       (sym (step-is s f (Ok segment) is))
-      (subst (λ (t2 : ServerState). Counts opened k t2 (record { queued_up = w.queued_up; up = rest; queued_down = w.queued_down ++ step_says st; down = w.down }))
+      (subst (λ (t2 : ServerState). Counts k t2 (record { queued_up = w.queued_up; up = rest; queued_down = w.queued_down ++ step_says st; down = w.down }))
         (sym (after-is opened s f (Ok segment) p.behind is))
         (counts-moved opened k s t w st rest 1 (length (open_reads s)) 0 c m))
 
@@ -273,25 +271,25 @@ moves-tagged s f last opcode stag to payload up rest false is first begun few ap
       up_hello = omega (arith, ap (count one_hello) first);
     })
 
-pub counts-tagged_up : (opened : LinkParameters) (k : ClientState) (s : ServerState) (w : Way) (f : Frame) (last : Bool) (opcode stag to : ℕ) (payload : List ℕ) (rest : List Piece) → Counts opened k s w
+pub counts-tagged_up : (opened : LinkParameters) (k : ClientState) (s : ServerState) (w : Way) (f : Frame) (last : Bool) (opcode stag to : ℕ) (payload : List ℕ) (rest : List Piece) → Counts k s w
     → AreApart (λ (c : PendingCall). c.number) s.calls → w.up ≡ ATagged last opcode stag to payload ∷ rest
     → IsPiece s.received.sends s.received.requests f (ATagged last opcode stag to payload)
-    → Counts opened k (server_state_after opened s (FrameReceived f)) (record { queued_up = w.queued_up; up = rest; queued_down = w.queued_down ++ step_says (frame_effect s f); down = w.down })
+    → Counts k (server_state_after opened s (FrameReceived f)) (record { queued_up = w.queued_up; up = rest; queued_down = w.queued_down ++ step_says (frame_effect s f); down = w.down })
 counts-tagged_up opened k s w f last opcode stag to payload rest c apart first p =
     let segment : Segment = Tagged last opcode stag to payload in
     let is : frame_segment f ≡ Ok segment = segment-is s.received.sends s.received.requests f (ATagged last opcode stag to payload) segment p refl in
     let st = effect_in s f (Ok segment) in
     let t = with_by s f (Ok segment) st in
     let m = moves-tagged s f last opcode stag to payload w.up rest (eqb opcode OPCODE_READ_RESPONSE && last) refl first c.whole_up (omega (arith, c.reads)) apart in
-    subst (λ (st2 : FrameEffect). Counts opened k (server_state_after opened s (FrameReceived f)) (record { queued_up = w.queued_up; up = rest; queued_down = w.queued_down ++ step_says st2; down = w.down }))
+    subst (λ (st2 : FrameEffect). Counts k (server_state_after opened s (FrameReceived f)) (record { queued_up = w.queued_up; up = rest; queued_down = w.queued_down ++ step_says st2; down = w.down }))
       (sym (step-is s f (Ok segment) is))
-      (subst (λ (t2 : ServerState). Counts opened k t2 (record { queued_up = w.queued_up; up = rest; queued_down = w.queued_down ++ step_says st; down = w.down }))
+      (subst (λ (t2 : ServerState). Counts k t2 (record { queued_up = w.queued_up; up = rest; queued_down = w.queued_down ++ step_says st; down = w.down }))
         (sym (after-is opened s f (Ok segment) p.behind is))
         (counts-moved opened k s t w st rest 0 m.0 m.1 c m.2))
 
 -- ---- The server executes a call, and writes
 
-fills-none : (one : Piece → ℕ) → ((last : Bool) (stag to : ℕ) (payload : List ℕ) → one (ATagged last OPCODE_WRITE stag to payload) ≡ 0) → (chunk : List Part) (bytes : List ℕ) → count one (fill_pieces chunk bytes) ≡ 0
+pub fills-none : (one : Piece → ℕ) → ((last : Bool) (stag to : ℕ) (payload : List ℕ) → one (ATagged last OPCODE_WRITE stag to payload) ≡ 0) → (chunk : List Part) (bytes : List ℕ) → count one (fill_pieces chunk bytes) ≡ 0
 unfolding tagged_pieces
 fills-none one none [] bytes = refl
 fills-none one none (p ∷ chunk) bytes =
@@ -302,7 +300,7 @@ fills-none one none (p ∷ chunk) bytes =
     by true = refl
     by false = count-map-zero one (cut_piece OPCODE_WRITE p.handle p.offset (take p.length bytes)) (range_with_len 0 (segment_count (take p.length bytes))) (λ i. none _ _ _ _)
 
-long-none : (one : Piece → ℕ) → ((last : Bool) (stag to : ℕ) (payload : List ℕ) → one (ATagged last OPCODE_WRITE stag to payload) ≡ 0) → (b : Bool) (chunk : List Part) (bytes : List ℕ) → count one (cond b (fill_pieces chunk bytes) []) ≡ 0
+pub long-none : (one : Piece → ℕ) → ((last : Bool) (stag to : ℕ) (payload : List ℕ) → one (ATagged last OPCODE_WRITE stag to payload) ≡ 0) → (b : Bool) (chunk : List Part) (bytes : List ℕ) → count one (cond b (fill_pieces chunk bytes) []) ≡ 0
 long-none one none true chunk bytes = fills-none one none chunk bytes
 long-none one none false chunk bytes = refl
 
@@ -316,9 +314,9 @@ answer-counts one n none is s xid offer (Some a) =
     count-append one moved (long ++ (ASend message ∷ []))
     ∙ omega (arith, count-append one long (ASend message ∷ []), fills-none one none (first_chunk offer.write) a.moved, long-none one none a.long (no_segments offer.reply) a.stream, is message)
 
-pub counts-executes : (opened : LinkParameters) (k : ClientState) (s : ServerState) (w : Way) (e : ExecutedCall) → Counts opened k s w
+pub counts-executes : (opened : LinkParameters) (k : ClientState) (s : ServerState) (w : Way) (e : ExecutedCall) → Counts k s w
     → AreApart (λ (c : PendingCall). c.xid) s.calls → list_any (λ (c : PendingCall). eqb c.xid e.xid) s.calls ≡ true
-    → Counts opened k (server_state_after opened s (CallExecuted e)) (record { queued_up = w.queued_up; up = w.up; queued_down = w.queued_down ++ server_says opened s (CallExecuted e); down = w.down })
+    → Counts k (server_state_after opened s (CallExecuted e)) (record { queued_up = w.queued_up; up = w.up; queued_down = w.queued_down ++ server_says opened s (CallExecuted e); down = w.down })
 unfolding server_state_after server_says
 counts-executes opened k s w e c apart there =
     let offer = offer_of s e.xid in
@@ -336,13 +334,11 @@ counts-executes opened k s w e c apart there =
       whole_down = c.whole_down;
       reads = omega (arith, c.reads, count-append one_read w.queued_down said, answer-counts one_read 0 (λ last stag to payload. refl) (λ message. refl) s e.xid offer answer);
       responses = c.responses;
-      window = c.window;
-      grant = c.grant;
     }
 
 -- what was queued is under way
-pub counts-writes_down : (opened : LinkParameters) (k : ClientState) (s : ServerState) (w : Way) → Counts opened k s w
-    → Counts opened k (server_state_after opened s QueueWritten) (record { queued_up = w.queued_up; up = w.up; queued_down = []; down = w.down ++ w.queued_down })
+pub counts-writes_down : (opened : LinkParameters) (k : ClientState) (s : ServerState) (w : Way) → Counts k s w
+    → Counts k (server_state_after opened s QueueWritten) (record { queued_up = w.queued_up; up = w.up; queued_down = []; down = w.down ++ w.queued_down })
 unfolding server_state_after
 counts-writes_down opened k s w c = record {
   hello = omega (arith, c.hello, count-append one_hello w.down w.queued_down);
@@ -355,18 +351,16 @@ counts-writes_down opened k s w c = record {
   whole_down = c.whole_down;
   reads = omega (arith, c.reads, count-append one_read w.down w.queued_down);
   responses = c.responses;
-  window = c.window;
-  grant = c.grant;
 }
 
 -- ---- The client's hello comes to the server
 
-pub counts-hello_up : (opened : LinkParameters) (k : ClientState) (s : ServerState) (w : Way) (f : Frame) (rest : List Piece) → Counts opened k s w → w.up ≡ AHello ∷ rest → is_hello f ≡ true
-    → Counts opened k (server_state_after opened s (FrameReceived f)) (record { queued_up = w.queued_up; up = rest; queued_down = w.queued_down ++ server_says opened s (FrameReceived f); down = w.down })
+pub counts-hello_up : (opened : LinkParameters) (k : ClientState) (s : ServerState) (w : Way) (f : Frame) (rest : List Piece) → Counts k s w → w.up ≡ AHello ∷ rest → is_hello f ≡ true
+    → Counts k (server_state_after opened s (FrameReceived f)) (record { queued_up = w.queued_up; up = rest; queued_down = w.queued_down ++ server_says opened s (FrameReceived f); down = w.down })
 unfolding server_state_after server_says
 counts-hello_up opened k s w f rest c first is =
     let one = AHello ∷ [] in
-    let m : Counts opened k s (record { queued_up = w.queued_up; up = rest; queued_down = w.queued_down ++ one; down = w.down }) = record {
+    let m : Counts k s (record { queued_up = w.queued_up; up = rest; queued_down = w.queued_down ++ one; down = w.down }) = record {
       hello = omega (arith, c.hello, ap (count one_hello) first, count-append one_hello w.queued_down one);
       calls_up = omega (arith, c.calls_up, ap (count one_send) first);
       messages_down = omega (arith, c.messages_down, count-append one_send w.queued_down one);
@@ -377,7 +371,5 @@ counts-hello_up opened k s w f rest c first is =
       whole_down = c.whole_down;
       reads = omega (arith, c.reads, ap (count one_response) first, count-append one_read w.queued_down one);
       responses = c.responses;
-      window = c.window;
-      grant = c.grant;
     } in
-    subst (λ (b : Bool). Counts opened k (cond b s (with_effect s f (frame_effect s f))) (record { queued_up = w.queued_up; up = rest; queued_down = w.queued_down ++ cond b (AHello ∷ []) (step_says (frame_effect s f)); down = w.down })) (sym is) m
+    subst (λ (b : Bool). Counts k (cond b s (with_effect s f (frame_effect s f))) (record { queued_up = w.queued_up; up = rest; queued_down = w.queued_down ++ cond b (AHello ∷ []) (step_says (frame_effect s f)); down = w.down })) (sym is) m

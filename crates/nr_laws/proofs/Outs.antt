@@ -38,7 +38,7 @@ outs-same opened k t out accepted h = record {
 }
 
 -- whatever frame comes
-segment-out : (k : ClientState) (f : Frame) (r : Result Segment ℕ) → ((with_segment k f r).outstanding ≡ k.outstanding) ⊎ ((p : OutstandingCall → Bool) × ((with_segment k f r).outstanding ≡ filter p k.outstanding))
+pub segment-out : (k : ClientState) (f : Frame) (r : Result Segment ℕ) → ((with_segment k f r).outstanding ≡ k.outstanding) ⊎ ((p : OutstandingCall → Bool) × ((with_segment k f r).outstanding ≡ filter p k.outstanding))
 segment-out k f (Err reason) = inl refl
 segment-out k f (Ok segment) = by (message_completed k.received segment) (read_request_of segment)
   where

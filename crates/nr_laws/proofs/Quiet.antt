@@ -31,7 +31,7 @@ greeted-is false n e = absurd (omega (arith, e))
 abbrev pub empty_way : Way
 empty_way = record { queued_up = []; up = []; queued_down = []; down = [] }
 
-pub quiet : (opened : LinkParameters) (k : ClientState) (s : ServerState) → Counts opened k s empty_way → AreReady s.reads s.ready s.calls → s.ready ≡ [] → k.outstanding ≡ []
+pub quiet : (opened : LinkParameters) (k : ClientState) (s : ServerState) → Counts k s empty_way → AreReady s.reads s.ready s.calls → s.ready ≡ [] → k.outstanding ≡ []
 quiet opened k s c h none =
     let no_reads : s.reads ≡ [] = none_open s.reads c.reads in
     let no_calls : length s.calls ≡ 0 = ap (λ (cs : List PendingCall). length cs) (none_waits s.reads s.ready s.calls no_reads none h) in

@@ -1,0 +1,99 @@
+-- A server takes the frames of some pieces one after the other.
+use Rattle.std.proofs.Common.{◌≡◌, ℕ, ◌+◌, ◌≤◌, ◌<◌, Bool, true, false, List, [], ◌∷◌, ◌++◌, length, map, Option, Some, None, refl, sym, ap, subst, ◌∙◌, arith, append_assoc, append-nil, length-append, add-zero}
+use Rattle.std.specs.List.{concat}
+use Rattle.nr_xdr.specs.Item.{IsBytes}
+use Rattle.nr_xdr.proofs.Chains.{IsBytes-left, IsBytes-right}
+use Rattle.nr_wire.specs.declared.hello.Side.TheVariants.{Initiator, Responder}
+use Rattle.nr_wire.specs.declared.hello.Side.{Side}
+use Rattle.nr_link.specs.declared.end.End.{End}
+use Rattle.nr_link.specs.Frames.{Frame, frames_from}
+use Rattle.nr_reduce.specs.declared.mark.LinkParameters.{LinkParameters}
+use Rattle.nr_reduce.specs.Events.{Event}
+use Rattle.nr_reduce.specs.Events.Event.{FrameReceived}
+use Rattle.nr_reduce.specs.EndRules.{Rules, EndState, live, next_end_state, next_end_state_by, end_state_after, output_for, output_for_by, output_for_all}
+use Rattle.nr_reduce.specs.ClientState.{ClientState}
+use Rattle.nr_reduce.specs.ServerState.{ServerState}
+use Rattle.nr_reduce.specs.Server.{server_rules, server_end, server_state_after, server_output}
+use Rattle.nr_reduce.proofs.Steps.{ended-stays}
+use Rattle.nr_laws.specs.Pieces.{Piece, segment_at, spelled_one, spelled, count, one_send, one_read}
+use Rattle.nr_laws.specs.Between.{Way}
+use Rattle.nr_laws.proofs.Counted.{count-append}
+use Rattle.nr_laws.proofs.Channel.{frames_at, spelled-append}
+use Rattle.nr_laws.proofs.Linked.{Linked, IsPlace, frame_of, taken_up, ServerTook, server-took}
+
+-- ---- An end that hasn't ended by some events
+
+pub record Lives {S : Type 0} (rules : Rules S) (s : S) (event : Event) (es : List Event) : Type 0 where
+  pub stays : rules.end_at s event ≡ None
+  pub next : next_end_state rules (live s) event ≡ live (rules.state_after s event)
+  pub says : output_for rules (live s) event ≡ rules.output_at s event
+
+pub lives : {S : Type 0} (rules : Rules S) (s : S) (event : Event) (es : List Event) → (end_state_after rules (next_end_state rules (live s) event) es).ended ≡ None → Lives rules s event es
+lives rules s event es e = by (rules.end_at s event) refl
+  where
+    by : (o : Option End) → rules.end_at s event ≡ o → Lives rules s event es
+    by None is = record { stays = is; next = ap (λ (x : Option End). next_end_state_by rules s event x) is; says = ap (λ (x : Option End). output_for_by rules s event x) is }
+    by (Some end) is =
+        let ended : (end_state_after rules (next_end_state rules (live s) event) es).ended ≡ Some end =
+            ap (λ (x : Option End). (end_state_after rules (next_end_state_by rules s event x) es).ended) is ∙ ap (λ (r : EndState _). r.ended) (ended-stays rules s end es).0 in
+        absurd (let wrong : Some end ≡ None = sym ended ∙ e in cc)
+
+-- ---- Places
+
+pub place-next : (u : List Piece) (p : Piece) (bytes : List ℕ) (place : ℕ) → IsPlace u place → 0 < length bytes → IsPlace (u ++ p ∷ []) (place + length bytes)
+place-next [] p bytes place at some = omega (arith, some)
+place-next (q ∷ u) p bytes place at some = omega (arith, at)
+
+-- ---- The frames of pieces, as events
+
+abbrev pub events_of : (place : ℕ) → List (List ℕ) → List Event
+events_of place frames = map FrameReceived (frames_from place frames)
+
+pub record ServerRan (opened : LinkParameters) (k : ClientState) (s : ServerState) (u d all_up all_down : List Piece) (w : Way) (new left : List Piece) (es : List Event) : Type 0 where
+  pub after : ServerState
+  pub said : List Piece
+  pub state : end_state_after (server_rules opened) (live s) es ≡ live after
+  pub output : output_for_all (server_rules opened) (live s) es ≡ spelled Responder (count one_send all_down) (count one_read all_down) said
+  pub linked : Linked opened k after (u ++ new) d all_up (all_down ++ said) (taken_up w left said)
+
+abbrev pub AreSome : List (List ℕ) → Type 0
+AreSome [] = Unit {0}
+AreSome (f ∷ fs) = (0 < length f) × AreSome fs
+
+pub server-runs : (opened : LinkParameters) (k : ClientState) (d all_up left new : List Piece) (s : ServerState) (u all_down : List Piece) (w : Way) (n r place : ℕ) → Linked opened k s u d all_up all_down w → w.up ≡ new ++ left
+    → n ≡ count one_send u → r ≡ count one_read u → IsPlace u place → IsBytes (concat (frames_at Initiator n r new)) → AreSome (frames_at Initiator n r new)
+    → (end_state_after (server_rules opened) (live s) (events_of place (frames_at Initiator n r new))).ended ≡ None
+    → ServerRan opened k s u d all_up all_down w new left (events_of place (frames_at Initiator n r new))
+server-runs opened k d all_up left [] s u all_down w n r place l first sends requests at bytes some e =
+    let same : Linked opened k s (u ++ []) d all_up (all_down ++ []) (taken_up w left []) =
+        subst (λ (ps : List Piece). Linked opened k s ps d all_up (all_down ++ []) (taken_up w left [])) (sym (append-nil u))
+          (subst (λ (ps : List Piece). Linked opened k s u d all_up ps (taken_up w left [])) (sym (append-nil all_down))
+            (subst (λ (ps : List Piece). Linked opened k s u d all_up all_down (record { queued_up = w.queued_up; up = left; queued_down = ps; down = w.down })) (sym (append-nil w.queued_down))
+              (subst (λ (ps : List Piece). Linked opened k s u d all_up all_down (record { queued_up = w.queued_up; up = ps; queued_down = w.queued_down; down = w.down })) first l))) in
+    record { after = s; said = []; state = refl; output = refl; linked = same }
+server-runs opened k d all_up left (p ∷ new) s u all_down w n r place l first sends requests at bytes some e =
+    let rules = server_rules opened in
+    let frame = spelled_one Initiator (segment_at n r p) in
+    let later = frames_at Initiator (n + one_send p) (r + one_read p) new in
+    let event = FrameReceived (frame_of frame place) in
+    let es = events_of (place + length frame) later in
+    let a = lives rules s event es e in
+    let t = server-took opened k s u d all_up all_down w p (new ++ left) n r place l first sends requests at (IsBytes-left frame (concat later) bytes) a.stays in
+    let after = server_state_after opened s event in
+    let goes_on : (end_state_after rules (live after) es).ended ≡ None = ap (λ (x : EndState ServerState). (end_state_after rules x es).ended) (sym a.next) ∙ e in
+    let m = server-runs opened k d all_up left new after (u ++ p ∷ []) (all_down ++ t.said) (taken_up w (new ++ left) t.said) (n + one_send p) (r + one_read p) (place + length frame) t.linked refl
+        (omega (arith, sends, count-append one_send u (p ∷ []))) (omega (arith, requests, count-append one_read u (p ∷ []))) (place-next u p frame place at some.0)
+        (IsBytes-right frame (concat later) bytes) some.1 goes_on in
+    record {
+      after = m.after;
+      said = t.said ++ m.said;
+      state = ap (λ (x : EndState ServerState). end_state_after rules x es) a.next ∙ m.state;
+      output =
+          (λ i. (a.says ∙ t.output) i ++ (ap (λ (x : EndState ServerState). output_for_all rules x es) a.next ∙ m.output) i)
+          ∙ (λ i. spelled Responder (count one_send all_down) (count one_read all_down) t.said ++ spelled Responder (count-append one_send all_down t.said i) (count-append one_read all_down t.said i) m.said)
+          ∙ sym (spelled-append Responder (count one_send all_down) (count one_read all_down) t.said m.said);
+      linked =
+          subst (λ (ps : List Piece). Linked opened k m.after ps d all_up (all_down ++ (t.said ++ m.said)) (taken_up w left (t.said ++ m.said))) (append_assoc u (p ∷ []) new)
+            (subst (λ (ps : List Piece). Linked opened k m.after ((u ++ p ∷ []) ++ new) d all_up ps (taken_up w left (t.said ++ m.said))) (append_assoc all_down t.said m.said)
+              (subst (λ (ps : List Piece). Linked opened k m.after ((u ++ p ∷ []) ++ new) d all_up ((all_down ++ t.said) ++ m.said) (record { queued_up = w.queued_up; up = left; queued_down = ps; down = w.down })) (append_assoc w.queued_down t.said m.said) m.linked));
+    }
