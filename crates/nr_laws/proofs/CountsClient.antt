@@ -226,7 +226,7 @@ counts-hello_down opened k s w f rest c first is =
 
 -- ---- The client accepts a call, and writes
 
-abbrev up_more : Way → List Piece → Way
+abbrev pub up_more : Way → List Piece → Way
 up_more w said = record { queued_up = w.queued_up ++ said; up = w.up; queued_down = w.queued_down; down = w.down }
 
 says_call : (b : Bool) (p : Piece) (message : List ℕ) → p ≡ ASend message → count one_send (cond b (p ∷ []) []) ≡ greeted b

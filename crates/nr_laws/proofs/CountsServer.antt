@@ -304,7 +304,7 @@ pub long-none : (one : Piece → ℕ) → ((last : Bool) (stag to : ℕ) (payloa
 long-none one none true chunk bytes = fills-none one none chunk bytes
 long-none one none false chunk bytes = refl
 
-answer-counts : (one : Piece → ℕ) (n : ℕ) → ((last : Bool) (stag to : ℕ) (payload : List ℕ) → one (ATagged last OPCODE_WRITE stag to payload) ≡ 0) → ((message : List ℕ) → one (ASend message) ≡ n)
+pub answer-counts : (one : Piece → ℕ) (n : ℕ) → ((last : Bool) (stag to : ℕ) (payload : List ℕ) → one (ATagged last OPCODE_WRITE stag to payload) ≡ 0) → ((message : List ℕ) → one (ASend message) ≡ n)
     → (s : ServerState) (xid : ℕ) (offer : ChunkLists) (a : Option Answer) → count one (answer_says s xid offer a) ≡ n
 answer-counts one n none is s xid offer None = omega (arith, is (chunk_error xid (credit_word s)))
 answer-counts one n none is s xid offer (Some a) =

@@ -17,3 +17,7 @@ pub mod Linked
 pub mod ServerRuns
 pub mod ClientTakes
 pub mod ClientRuns
+pub mod OwnEvents
+pub mod Bytes
+pub mod Joined
+pub mod Marks

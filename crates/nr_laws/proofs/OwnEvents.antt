@@ -1,0 +1,265 @@
+-- What holds between both ends of a link is kept where a call is submitted or executed, memory is revoked, and a queue is written.
+use Rattle.std.proofs.Common.{◌≡◌, ℕ, ◌+◌, ◌≤◌, ◌<◌, Bool, true, false, cond, not, eqb, List, [], ◌∷◌, ◌++◌, length, map, filter, Option, Some, None, Result, Ok, Err, refl, sym, ap, subst, ◌∙◌, arith, lit≤, append_assoc, append-nil, length-append}
+use Rattle.std.specs.List.{list_any}
+use Rattle.std.proofs.lemmas.List.{length-map}
+use Rattle.nr_wire.specs.Constants.{OPCODE_SEND, QUEUE_SEND, OPCODE_WRITE}
+use Rattle.nr_wire.specs.declared.hello.Side.TheVariants.{Initiator, Responder}
+use Rattle.nr_wire.specs.Segment.{encoding}
+use Rattle.nr_wire.specs.Segment.Segment.{Untagged}
+use Rattle.nr_rpc.specs.Reading.{call_of, target_of}
+use Rattle.nr_link.specs.Output.{msn_word}
+use Rattle.nr_link.specs.ReceiveState.{ReceiveState}
+use Rattle.nr_reduce.specs.declared.mark.LinkParameters.{LinkParameters}
+use Rattle.nr_reduce.specs.declared.outline.Plan.{Plan}
+use Rattle.nr_reduce.specs.Plans.{TooLarge, call_message}
+use Rattle.nr_reduce.specs.History.{AcceptedCall, ExecutedCall}
+use Rattle.nr_reduce.specs.Events.Event.{FrameReceived, CallSubmitted, MemoryRevoked, CallExecuted, QueueWritten}
+use Rattle.nr_reduce.specs.SubmitAnswer.{next_xid}
+use Rattle.nr_reduce.specs.ClientState.{ClientState, OutstandingCall, call_payload, plan_for}
+use Rattle.nr_reduce.specs.ServerState.{ServerState, PendingCall, ReadyCall, down_max}
+use Rattle.nr_reduce.specs.Client.{client_state_after, client_output, call_output, outstanding_of, plan_or, revoked_call, written_call}
+use Rattle.nr_reduce.specs.Server.{server_state_after, server_output, execution_output, offer_of, answer_of_target}
+use Rattle.nr_reduce.proofs.Sizes.{message_size}
+use Rattle.nr_laws.specs.Pieces.{Piece, spelled, count, one_send, one_read, one_hello, asking_piece, client_says, server_says, answer_says}
+use Rattle.nr_laws.specs.Pieces.Piece.{ASend}
+use Rattle.nr_laws.specs.Between.{Way, Counts, Waits, AreApart, AreBelow, IsAbsent, said_calls}
+use Rattle.nr_laws.proofs.Counted.{count-append}
+use Rattle.nr_laws.proofs.CountsClient.{counts-accepts, counts-writes_up, up_more}
+use Rattle.nr_laws.proofs.CountsServer.{counts-executes, counts-writes_down, answer-counts}
+use Rattle.nr_laws.proofs.WaitsExecute.{waits-executes, executed-there}
+use Rattle.nr_laws.proofs.Outs.{Outs, outs-accepts, outs-writes}
+use Rattle.nr_laws.proofs.Said.{IsShort, AllShort, send-one}
+use Rattle.nr_laws.proofs.Proper.{AllProper, IsStream, stream-more}
+use Rattle.nr_laws.proofs.ServerSays.{CallsFit, calls_fit-kept, execution_says, execution-proper, execution-said}
+use Rattle.nr_laws.proofs.Linked.{Linked, messages_said}
+use Rattle.nr_laws.proofs.ClientTakes.{calls_said}
+
+-- ---- Of a client
+
+-- it says more, and its calls stay
+up-linked : (opened : LinkParameters) (k t : ClientState) (s : ServerState) (u d all_up all_down : List Piece) (w : Way) (said : List Piece) → Linked opened k s u d all_up all_down w
+    → Counts t s (up_more w said) → Outs opened t → AllShort opened t.outstanding → t.received ≡ k.received → AllProper said → count one_hello said ≡ 0 → count one_read said ≡ 0
+    → Linked opened t s u d (all_up ++ said) all_down (up_more w said)
+up-linked opened k t s u d all_up all_down w said l counts outs short received proper hellos reads = record {
+  parts_up =
+      ap (λ (ps : List Piece). u ++ ps) (sym (append_assoc w.up w.queued_up said)) ∙ sym (append_assoc u (w.up ++ w.queued_up) said) ∙ ap (λ (ps : List Piece). ps ++ said) l.parts_up;
+  parts_down = l.parts_down;
+  counts = counts;
+  waits = l.waits;
+  outs = outs;
+  fits = l.fits;
+  short = short;
+  stream_up = stream-more all_up said l.stream_up l.begins_up proper;
+  begins_up = omega (arith, l.begins_up, count-append one_hello all_up said);
+  stream_down = l.stream_down;
+  hellos_down = l.hellos_down;
+  no_reads = omega (arith, l.no_reads, reads, count-append one_read all_up said);
+  sends_up = l.sends_up;
+  requests_up = l.requests_up;
+  sends_down = ap (λ (h : ReceiveState). h.sends) received ∙ l.sends_down;
+  requests_down = ap (λ (h : ReceiveState). h.requests) received ∙ l.requests_down;
+  requests_sent = l.requests_sent;
+}
+
+planned : (payload : List ℕ) (r : Result Plan TooLarge) (p : Plan) → r ≡ Ok p → plan_or payload r ≡ p
+planned payload r p e = ap (λ (x : Result Plan TooLarge). plan_or payload x) e
+
+pub record Submitted (opened : LinkParameters) (k : ClientState) (s : ServerState) (u d all_up all_down : List Piece) (w : Way) (place : ℕ) (a : AcceptedCall) : Type 0 where
+  pub said : List Piece
+  pub output : client_output opened k (CallSubmitted place a) ≡ spelled Initiator (count one_send all_up) (count one_read all_up) said
+  pub linked : Linked opened (client_state_after opened k (CallSubmitted place a)) s u d (all_up ++ said) all_down (up_more w said)
+
+short-call : (opened : LinkParameters) (k : ClientState) (a : AcceptedCall) (plan : Plan) → plan_for k a.xid a.call a.form ≡ Ok plan → IsShort (call_message a.xid opened.wished k.stag (outstanding_of k a).plan)
+unfolding plan_for
+short-call opened k a plan is =
+    let size = message_size (call_payload a.xid a.call) a.form 1024 1024 a.xid opened.wished k.stag plan is in
+    subst (λ (p : Plan). IsShort (call_message a.xid opened.wished k.stag p)) (sym (planned (call_payload a.xid a.call) (plan_for k a.xid a.call a.form) plan is)) (omega (arith, size.1))
+
+short-append : (opened : LinkParameters) (os more : List OutstandingCall) → AllShort opened os → AllShort opened more → AllShort opened (os ++ more)
+short-append opened [] more h k = k
+short-append opened (o ∷ os) more h k = (h.0, short-append opened os more h.1 k)
+
+pub submitted : (opened : LinkParameters) (k : ClientState) (s : ServerState) (u d all_up all_down : List Piece) (w : Way) (place : ℕ) (a : AcceptedCall) (plan : Plan) → Linked opened k s u d all_up all_down w
+    → a.xid ≡ next_xid opened k → plan_for k a.xid a.call a.form ≡ Ok plan → Submitted opened k s u d all_up all_down w place a
+unfolding client_state_after client_says client_output
+submitted opened k s u d all_up all_down w place a plan l own is = by k.has_hello refl
+  where
+    short : IsShort (call_message a.xid opened.wished k.stag (outstanding_of k a).plan)
+    short = short-call opened k a plan is
+    p : Piece
+    p = asking_piece opened (outstanding_of k a)
+    calls : (b : Bool) → k.has_hello ≡ b → count one_send all_up ≡ cond b k.calls_accepted 0
+    calls b e = calls_said opened k s u d all_up all_down w l ∙ ap (λ (x : Bool). cond x k.calls_accepted 0) e
+    with_said : (said : List Piece) → cond k.has_hello (p ∷ []) [] ≡ said → client_output opened k (CallSubmitted place a) ≡ spelled Initiator (count one_send all_up) (count one_read all_up) said → AllProper said → count one_hello said ≡ 0 → count one_read said ≡ 0
+        → Submitted opened k s u d all_up all_down w place a
+    with_said said says output proper hellos reads = record {
+      said = said;
+      output = output;
+      linked =
+          up-linked opened k (client_state_after opened k (CallSubmitted place a)) s u d all_up all_down w said l
+            (subst (λ (ps : List Piece). Counts (client_state_after opened k (CallSubmitted place a)) s (up_more w ps)) says (counts-accepts opened k s w place a l.counts))
+            (outs-accepts opened k place a own l.outs) (short-append opened k.outstanding (outstanding_of k a ∷ []) l.short (short, tt)) refl proper hellos reads;
+    }
+    by : (b : Bool) → k.has_hello ≡ b → Submitted opened k s u d all_up all_down w place a
+    by true e =
+        with_said (p ∷ []) (ap (λ (x : Bool). cond x (p ∷ []) []) e)
+          (ap (λ (x : Bool). cond x (call_output opened (k.calls_accepted + 1) (outstanding_of k a)) []) e
+          ∙ send-one (k.calls_accepted + 1) (call_message a.xid opened.wished k.stag (outstanding_of k a).plan) short
+          ∙ sym (append-nil (encoding (Untagged true OPCODE_SEND 0 QUEUE_SEND (msn_word (k.calls_accepted + 1)) 0 (call_message a.xid opened.wished k.stag (outstanding_of k a).plan))))
+          ∙ (λ i. spelled Initiator (sym (calls true e) i) (count one_read all_up) (p ∷ [])))
+          (short, tt) refl refl
+    by false e =
+        with_said [] (ap (λ (x : Bool). cond x (p ∷ []) []) e) (ap (λ (x : Bool). cond x (call_output opened (k.calls_accepted + 1) (outstanding_of k a)) []) e) tt refl refl
+
+-- the memory of a call is revoked
+xid-revoked : (xid : ℕ) (o : OutstandingCall) → (revoked_call xid o).xid ≡ o.xid
+xid-revoked xid o = by (eqb o.xid xid)
+  where
+    by : (b : Bool) → (cond b (record o { is_revoked = true }) o).xid ≡ o.xid
+    by true = refl
+    by false = refl
+
+absent-revoked : (xid n : ℕ) (os : List OutstandingCall) → IsAbsent (λ (o : OutstandingCall). o.xid) n os → IsAbsent (λ (o : OutstandingCall). o.xid) n (map (revoked_call xid) os)
+absent-revoked xid n [] h = tt
+absent-revoked xid n (o ∷ os) h = ((λ e. h.0 (sym (xid-revoked xid o) ∙ e)), absent-revoked xid n os h.1)
+
+apart-revoked : (xid : ℕ) (os : List OutstandingCall) → AreApart (λ (o : OutstandingCall). o.xid) os → AreApart (λ (o : OutstandingCall). o.xid) (map (revoked_call xid) os)
+apart-revoked xid [] h = tt
+apart-revoked xid (o ∷ os) h = (subst (λ (n : ℕ). IsAbsent (λ (x : OutstandingCall). x.xid) n (map (revoked_call xid) os)) (sym (xid-revoked xid o)) (absent-revoked xid o.xid os h.0), apart-revoked xid os h.1)
+
+below-revoked : (xid n : ℕ) (os : List OutstandingCall) → AreBelow (λ (o : OutstandingCall). o.xid + 1) n os → AreBelow (λ (o : OutstandingCall). o.xid + 1) n (map (revoked_call xid) os)
+below-revoked xid n [] h = tt
+below-revoked xid n (o ∷ os) h = (omega (arith, xid-revoked xid o, h.0), below-revoked xid n os h.1)
+
+short-revoked : (opened : LinkParameters) (xid : ℕ) (os : List OutstandingCall) → AllShort opened os → AllShort opened (map (revoked_call xid) os)
+short-revoked opened xid [] h = tt
+short-revoked opened xid (o ∷ os) h = (by (eqb o.xid xid), short-revoked opened xid os h.1)
+  where
+    by : (b : Bool) → IsShort (call_message (cond b (record o { is_revoked = true }) o).xid opened.wished (cond b (record o { is_revoked = true }) o).stag (cond b (record o { is_revoked = true }) o).plan)
+    by true = h.0
+    by false = h.0
+
+same-linked : (opened : LinkParameters) (k t : ClientState) (s : ServerState) (u d all_up all_down : List Piece) (w v : Way) → Linked opened k s u d all_up all_down w
+    → v.up ++ v.queued_up ≡ w.up ++ w.queued_up → v.down ++ v.queued_down ≡ w.down ++ w.queued_down → Counts t s v → Outs opened t → AllShort opened t.outstanding → t.received ≡ k.received
+    → Linked opened t s u d all_up all_down v
+same-linked opened k t s u d all_up all_down w v l up down counts outs short received = record {
+  parts_up = ap (λ (ps : List Piece). u ++ ps) up ∙ l.parts_up;
+  parts_down = ap (λ (ps : List Piece). d ++ ps) down ∙ l.parts_down;
+  counts = counts;
+  waits = l.waits;
+  outs = outs;
+  fits = l.fits;
+  short = short;
+  stream_up = l.stream_up;
+  begins_up = l.begins_up;
+  stream_down = l.stream_down;
+  hellos_down = l.hellos_down;
+  no_reads = l.no_reads;
+  sends_up = l.sends_up;
+  requests_up = l.requests_up;
+  sends_down = ap (λ (h : ReceiveState). h.sends) received ∙ l.sends_down;
+  requests_down = ap (λ (h : ReceiveState). h.requests) received ∙ l.requests_down;
+  requests_sent = l.requests_sent;
+}
+
+counts-revoked : (opened : LinkParameters) (k : ClientState) (s : ServerState) (w : Way) (place xid : ℕ) → Counts k s w → Counts (client_state_after opened k (MemoryRevoked place xid)) s w
+unfolding client_state_after
+counts-revoked opened k s w place xid c = record {
+  hello = c.hello;
+  calls_up = c.calls_up;
+  messages_down = c.messages_down;
+  written = c.written;
+  out = omega (arith, c.out, length-map k.outstanding (revoked_call xid));
+  waiting = c.waiting;
+  whole_up = c.whole_up;
+  whole_down = c.whole_down;
+  reads = c.reads;
+  responses = c.responses;
+}
+
+pub revoked : (opened : LinkParameters) (k : ClientState) (s : ServerState) (u d all_up all_down : List Piece) (w : Way) (place xid : ℕ) → Linked opened k s u d all_up all_down w
+    → Linked opened (client_state_after opened k (MemoryRevoked place xid)) s u d all_up all_down w
+unfolding client_state_after
+revoked opened k s u d all_up all_down w place xid l =
+    same-linked opened k (client_state_after opened k (MemoryRevoked place xid)) s u d all_up all_down w w l refl refl (counts-revoked opened k s w place xid l.counts)
+      (record { apart = apart-revoked xid k.outstanding l.outs.apart; below = below-revoked xid (next_xid opened k) k.outstanding l.outs.below }) (short-revoked opened xid k.outstanding l.short) refl
+
+short-written : (opened : LinkParameters) (b : Bool) (os : List OutstandingCall) → AllShort opened os → AllShort opened (map (written_call b) os)
+short-written opened b [] h = tt
+short-written opened b (o ∷ os) h = (h.0, short-written opened b os h.1)
+
+pub written_up : (opened : LinkParameters) (k : ClientState) (s : ServerState) (u d all_up all_down : List Piece) (w : Way) → Linked opened k s u d all_up all_down w
+    → Linked opened (client_state_after opened k QueueWritten) s u d all_up all_down (record { queued_up = []; up = w.up ++ w.queued_up; queued_down = w.queued_down; down = w.down })
+unfolding client_state_after
+written_up opened k s u d all_up all_down w l =
+    same-linked opened k (client_state_after opened k QueueWritten) s u d all_up all_down w (record { queued_up = []; up = w.up ++ w.queued_up; queued_down = w.queued_down; down = w.down }) l
+      (append-nil (w.up ++ w.queued_up)) refl (counts-writes_up opened k s w l.counts) (outs-writes opened k l.outs) (short-written opened k.has_hello k.outstanding l.short) refl
+
+-- ---- Of a server
+
+pub record Executed (opened : LinkParameters) (k : ClientState) (s : ServerState) (u d all_up all_down : List Piece) (w : Way) (e : ExecutedCall) : Type 0 where
+  pub said : List Piece
+  pub output : server_output opened s (CallExecuted e) ≡ spelled Responder (count one_send all_down) (count one_read all_down) said
+  pub linked : Linked opened k (server_state_after opened s (CallExecuted e)) u d all_up (all_down ++ said) (record { queued_up = w.queued_up; up = w.up; queued_down = w.queued_down ++ said; down = w.down })
+
+pub some-calls : (xid : ℕ) (calls : List PendingCall) → list_any (λ (c : PendingCall). eqb c.xid xid) calls ≡ true → 0 < length calls
+some-calls xid [] e = absurd cc
+some-calls xid (c ∷ calls) e = omega arith
+
+pub executed : (opened : LinkParameters) (k : ClientState) (s : ServerState) (u d all_up all_down : List Piece) (w : Way) (e : ExecutedCall) (r : ReadyCall) (rest : List ReadyCall) → Linked opened k s u d all_up all_down w
+    → s.ready ≡ r ∷ rest → e.xid ≡ r.xid → 0 < count one_hello all_down → Executed opened k s u d all_up all_down w e
+unfolding server_state_after server_says server_output
+executed opened k s u d all_up all_down w e r rest l first own begun =
+    let said = execution_says s e in
+    let t = server_state_after opened s (CallExecuted e) in
+    let answer = answer_of_target (offer_of s e.xid) (down_max s) e.reply (target_of (call_of e.payload)) in
+    let there = executed-there s e.xid r rest l.waits first own in
+    let hellos : count one_hello said ≡ 0 = answer-counts one_hello 0 (λ last stag to payload. refl) (λ message. refl) s e.xid (offer_of s e.xid) answer in
+    let reads : count one_read said ≡ 0 = answer-counts one_read 0 (λ last stag to payload. refl) (λ message. refl) s e.xid (offer_of s e.xid) answer in
+    record {
+      said = said;
+      output = execution-said s s.requests_sent e l.fits ∙ (λ i. spelled Responder (messages_said opened k s u d all_up all_down w l i) (l.requests_sent i) said);
+      linked = record {
+        parts_up = l.parts_up;
+        parts_down =
+            ap (λ (ps : List Piece). d ++ ps) (sym (append_assoc w.down w.queued_down said)) ∙ sym (append_assoc d (w.down ++ w.queued_down) said) ∙ ap (λ (ps : List Piece). ps ++ said) l.parts_down;
+        counts = counts-executes opened k s w e l.counts l.waits.xids there;
+        waits = waits-executes opened s e r rest l.waits first own;
+        outs = l.outs;
+        fits = calls_fit-kept (λ c. not (eqb c.xid e.xid)) s.calls l.fits;
+        short = l.short;
+        stream_up = l.stream_up;
+        begins_up = l.begins_up;
+        stream_down = stream-more all_down said l.stream_down begun (execution-proper s e l.fits);
+        hellos_down = omega (arith, l.hellos_down, hellos, count-append one_hello all_down said);
+        no_reads = l.no_reads;
+        sends_up = l.sends_up;
+        requests_up = l.requests_up;
+        sends_down = l.sends_down;
+        requests_down = l.requests_down;
+        requests_sent = omega (arith, l.requests_sent, reads, count-append one_read all_down said);
+      };
+    }
+
+pub written_down : (opened : LinkParameters) (k : ClientState) (s : ServerState) (u d all_up all_down : List Piece) (w : Way) → Linked opened k s u d all_up all_down w
+    → Linked opened k (server_state_after opened s QueueWritten) u d all_up all_down (record { queued_up = w.queued_up; up = w.up; queued_down = []; down = w.down ++ w.queued_down })
+unfolding server_state_after
+written_down opened k s u d all_up all_down w l = record {
+  parts_up = l.parts_up;
+  parts_down = ap (λ (ps : List Piece). d ++ ps) (append-nil (w.down ++ w.queued_down)) ∙ l.parts_down;
+  counts = counts-writes_down opened k s w l.counts;
+  waits = record { numbers = l.waits.numbers; xids = l.waits.xids; calls_below = l.waits.calls_below; reads_below = l.waits.reads_below; ready_apart = l.waits.ready_apart; ready_calls = l.waits.ready_calls; whole_calls = l.waits.whole_calls };
+  outs = l.outs;
+  fits = l.fits;
+  short = l.short;
+  stream_up = l.stream_up;
+  begins_up = l.begins_up;
+  stream_down = l.stream_down;
+  hellos_down = l.hellos_down;
+  no_reads = l.no_reads;
+  sends_up = l.sends_up;
+  requests_up = l.requests_up;
+  sends_down = l.sends_down;
+  requests_down = l.requests_down;
+  requests_sent = l.requests_sent;
+}
