@@ -240,7 +240,7 @@ other-events true es = refl
 other-events false es = refl
 
 -- the server is fed bytes
-goes-fed_up : (opened : LinkParameters) (link : ℕ) (run : List Mark) (bytes : List ℕ) (j : Joined opened link run) → IsPrefixOf (bytes_received link Responder run ++ bytes) (bytes_sent link Initiator run) → IsBytes bytes
+pub goes-fed_up : (opened : LinkParameters) (link : ℕ) (run : List Mark) (bytes : List ℕ) (j : Joined opened link run) → IsPrefixOf (bytes_received link Responder run ++ bytes) (bytes_sent link Initiator run) → IsBytes bytes
     → (server opened link (run ++ marks.Fed link Responder bytes ∷ [])).ended ≡ None → Goes opened link run (marks.Fed link Responder bytes) j
 goes-fed_up opened link run bytes j prefix typed unended =
     let mark = marks.Fed link Responder bytes in
@@ -282,7 +282,7 @@ goes-fed_up opened link run bytes j prefix typed unended =
     }
 
 -- the client is fed bytes
-goes-fed_down : (opened : LinkParameters) (link : ℕ) (run : List Mark) (bytes : List ℕ) (j : Joined opened link run) → IsPrefixOf (bytes_received link Initiator run ++ bytes) (bytes_sent link Responder run) → IsBytes bytes
+pub goes-fed_down : (opened : LinkParameters) (link : ℕ) (run : List Mark) (bytes : List ℕ) (j : Joined opened link run) → IsPrefixOf (bytes_received link Initiator run ++ bytes) (bytes_sent link Responder run) → IsBytes bytes
     → (client opened link (run ++ marks.Fed link Initiator bytes ∷ [])).ended ≡ None → Goes opened link run (marks.Fed link Initiator bytes) j
 goes-fed_down opened link run bytes j prefix typed unended =
     let mark = marks.Fed link Initiator bytes in

@@ -21,3 +21,4 @@ pub mod OwnEvents
 pub mod Bytes
 pub mod Joined
 pub mod Marks
+pub mod Runs
