@@ -22,3 +22,4 @@ pub mod Bytes
 pub mod Joined
 pub mod Marks
 pub mod Runs
+pub mod Accounts
