@@ -9,7 +9,7 @@ use Rattle.nr_wire.specs.declared.hello.Side.{Side}
 use Rattle.nr_reduce.specs.declared.mark.Mark.{Mark}
 use Rattle.nr_reduce.specs.History.{bytes_sent, bytes_received, written_at, fed_at}
 
-one_more : {X A : Type 0} (f : X → List A) (xs : List X) (x : X) → flat_map f (xs ++ x ∷ []) ≡ flat_map f xs ++ f x
+pub one_more : {X A : Type 0} (f : X → List A) (xs : List X) (x : X) → flat_map f (xs ++ x ∷ []) ≡ flat_map f xs ++ f x
 one_more f xs x = flat_map-append f xs (x ∷ []) ∙ ap (λ (zs : List _). flat_map f xs ++ zs) (append-nil (f x))
 
 pub received-one : (link : ℕ) (side : Side) (run : List Mark) (mark : Mark) → bytes_received link side (run ++ mark ∷ []) ≡ bytes_received link side run ++ fed_at link side mark

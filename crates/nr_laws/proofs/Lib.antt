@@ -23,3 +23,4 @@ pub mod Joined
 pub mod Marks
 pub mod Runs
 pub mod Accounts
+pub mod Accounted

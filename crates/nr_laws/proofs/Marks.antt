@@ -42,9 +42,9 @@ use Rattle.nr_laws.proofs.Linked.{Linked}
 use Rattle.nr_laws.proofs.OwnEvents.{submitted, revoked, written_up, executed, written_down, some-calls}
 use Rattle.nr_laws.proofs.Joined.{Joined, Goes, same-all, same-up, same-down, own-bytes, other-bytes, own-events, other-events}
 
-record One {S : Type 0} (rules : Rules S) (s : S) (event : Event) : Type 0 where
-  state : end_state_after rules (live s) (event ∷ []) ≡ live (rules.state_after s event)
-  output : output_for_all rules (live s) (event ∷ []) ≡ rules.output_at s event
+pub record One {S : Type 0} (rules : Rules S) (s : S) (event : Event) : Type 0 where
+  pub state : end_state_after rules (live s) (event ∷ []) ≡ live (rules.state_after s event)
+  pub output : output_for_all rules (live s) (event ∷ []) ≡ rules.output_at s event
 
 one-event : {S : Type 0} (rules : Rules S) (s : S) (event : Event) → rules.end_at s event ≡ None → One rules s event
 one-event rules s event none = record {
@@ -52,7 +52,7 @@ one-event rules s event none = record {
   output = append-nil (output_for_by rules s event (rules.end_at s event)) ∙ ap (λ (x : Option End). output_for_by rules s event x) none;
 }
 
-client-event : (opened : LinkParameters) (k : ClientState) (event : Event) → ((f : Frame) → event ≢ FrameReceived f) → One (client_rules opened) k event
+pub client-event : (opened : LinkParameters) (k : ClientState) (event : Event) → ((f : Frame) → event ≢ FrameReceived f) → One (client_rules opened) k event
 unfolding client_end
 client-event opened k (FrameReceived f) other = absurd (other f refl)
 client-event opened k (CallSubmitted place a) other = one-event (client_rules opened) k (CallSubmitted place a) refl

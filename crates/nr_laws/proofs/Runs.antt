@@ -107,7 +107,7 @@ joins-first opened link = record {
 
 -- ---- Each mark
 
-no-events : (b c : Bool) (es : List Event) → b ≡ false → if_own (b && c) es ≡ []
+pub no-events : (b c : Bool) (es : List Event) → b ≡ false → if_own (b && c) es ≡ []
 no-events true c es e = absurd cc
 no-events false c es e = refl
 
