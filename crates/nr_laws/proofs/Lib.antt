@@ -24,3 +24,4 @@ pub mod Marks
 pub mod Runs
 pub mod Accounts
 pub mod Accounted
+pub mod Settled

@@ -1,3 +1,4 @@
 pub mod Pieces
 pub mod Between
 pub mod Typed
+pub mod Completion

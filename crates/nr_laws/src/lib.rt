@@ -1,6 +1,6 @@
-//! What follows for callers from the laws of a link: both ends of a matched link go on, and each call completes.
+//! What follows for callers from the laws of a link: on a matched link that stays, each call completes.
 #![tactic(auto)]
 
-mod progress;
+mod completion;
 
-pub use progress::matched_links_go_on;
+pub use completion::calls_complete;
