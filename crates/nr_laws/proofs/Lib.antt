@@ -25,3 +25,14 @@ pub mod Runs
 pub mod Accounts
 pub mod Accounted
 pub mod Settled
+pub mod Allowed
+pub mod Flaws
+pub mod ReadsClient
+pub mod ReadsKept
+pub mod Receives
+pub mod Responding
+pub mod ServerKnown
+pub mod Sinks
+pub mod SinksOpened
+pub mod Stopping
+pub mod Executing

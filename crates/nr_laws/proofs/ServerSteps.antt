@@ -22,10 +22,12 @@ use Rattle.nr_reduce.specs.ServerMessages.Verdict.{EndsLink, OtherVersion, BadCh
 use Rattle.nr_reduce.specs.ServerMessages.CallVerdict.{Refuses, IsReady}
 use Rattle.nr_laws.specs.Pieces.{Piece, IsPiece}
 use Rattle.nr_laws.specs.Pieces.Piece.{ASend, ATagged}
-use Rattle.nr_laws.specs.Between.{Waits}
+use Rattle.nr_laws.specs.Between.{Waits, HaveSinks}
 use Rattle.nr_laws.proofs.CountsServer.{after-is, step-is, segment-is, with_by}
 use Rattle.nr_laws.proofs.WaitsSend.{Behind, waits-message, waits-same, verdict-new}
 use Rattle.nr_laws.proofs.WaitsExecute.{waits-read}
+use Rattle.nr_laws.proofs.Sinks.{sink-later, sinks-closed, sinks-more, sinks-append, sinks-taken, sinks-dropped, sinks-kept}
+use Rattle.nr_laws.proofs.SinksOpened.{AreKnown, sinks-opened}
 
 pub waits-send_up : (opened : LinkParameters) (s : ServerState) (f : Frame) (message : List ℕ) → Waits s → IsPiece s.received.sends s.received.requests f (ASend message) → (frame_effect s f).refusal ≡ None → Waits (server_state_after opened s (FrameReceived f))
 waits-send_up opened s f message w p goes_on =
@@ -60,3 +62,72 @@ waits-tagged_up opened s f last opcode stag to payload w p goes_on =
     by : (b : Bool) (t : ServerState) → Behind s t (cond b (response_effect k f.end s.reads) (no_effect k)) 0 → (cond b (response_effect k f.end s.reads) (no_effect k)).refusal ≡ None → Waits t
     by true t b goes_on = waits-response s t f (Tagged last opcode stag to payload) s.reads refl w b goes_on
     by false t b goes_on = waits-same s t w b.calls b.reads (b.ready ∙ append-nil s.ready) (omega (arith, b.sends_are))
+
+-- ---- Sinks
+
+-- a step leaves its reads with sinks
+abbrev StepSinks : ℕ → FrameEffect → Type 0
+StepSinks place st = HaveSinks place st.regions st.reads
+
+ready-sinks : (place : ℕ) (st : FrameEffect) (o : CallVerdict) → StepSinks place st → StepSinks place (with_verdict o st)
+ready-sinks place st (Refuses reason) h = h
+ready-sinks place st (IsReady x) h = h
+
+whole-sinks : (k : ServerState) (place : ℕ) (c : PendingCall) (st : FrameEffect) (at : ℕ) → StepSinks at st → StepSinks at (ready_if_whole k place c st)
+whole-sinks k place c st at h = by (is_read st.reads c.number)
+  where
+    by : (b : Bool) → StepSinks at (cond b (with_verdict (by_payload c (payload_of k place c)) st) st)
+    by true = ready-sinks at st (by_payload c (payload_of k place c)) h
+    by false = h
+
+message-sinks : (k : ServerState) (place : ℕ) (message : List ℕ) (v : Verdict) → verdict k message ≡ v → AreKnown k → HaveSinks place k.regions k.reads → StepSinks place (message_effect k place message v)
+message-sinks k place message (EndsLink reason) is a h = h
+message-sinks k place message OtherVersion is a h = h
+message-sinks k place message BadChunks is a h = h
+message-sinks k place message (MakesPending c) is a h =
+    let new = verdict-new k message c is in
+    let regions = k.regions ++ regions_of k place c in
+    whole-sinks k place c _ place (sinks-append place regions k.reads (reads_of regions c) (sinks-more place k.regions (regions_of k place c) k.reads h) (sinks-opened k place c a new.0.number))
+
+read-sinks : (k : ServerState) (place : ℕ) (r : PendingRead) (o : Option PendingCall) (st : FrameEffect) (at : ℕ) → StepSinks at st → StepSinks at (read_effect k place r o st)
+read-sinks k place r None st at h = h
+read-sinks k place r (Some c) st at h = by (is_stream_read c r st.reads && not (is_read_chunk_of_item (chunk_bytes k place c 0) c.lists.read))
+  where
+    by : (b : Bool) → StepSinks at (cond b (with_refused_call k c st) (ready_if_whole k place c st))
+    by true = sinks-append at st.regions (take st.kept st.reads) _ (sinks-taken at st.kept st.regions st.reads h)
+        (sinks-kept at (λ (x : PendingRead). not (eqb x.number c.number)) st.regions (drop st.kept st.reads) (sinks-dropped at st.kept st.regions st.reads h))
+    by false = whole-sinks k place c st at h
+
+response-sinks : (k : ServerState) (place : ℕ) (reads : List PendingRead) (at : ℕ) → k.reads ≡ reads → HaveSinks at k.regions k.reads → StepSinks at (response_effect k place reads)
+response-sinks k place [] at is h = h
+response-sinks k place (r ∷ others) at is h =
+    read-sinks k place r (call_of_number k r.number) (record (no_effect k) { reads = others; kept = length (open_reads k) - 1 }) at (subst (λ (rs : List PendingRead). HaveSinks at k.regions rs) is h).1
+
+later-sinks : (place at : ℕ) (regions : List Region) (reads : List PendingRead) → place ≤ at → HaveSinks place regions reads → HaveSinks at regions reads
+later-sinks place at regions [] le h = tt
+later-sinks place at regions (r ∷ reads) le h = (sink-later place at r regions le h.0, later-sinks place at regions reads le h.1)
+
+pub sinks-send_up : (opened : LinkParameters) (s : ServerState) (f : Frame) (place : ℕ) (message : List ℕ) → AreKnown s → HaveSinks place s.regions s.reads → place ≤ f.end → IsPiece s.received.sends s.received.requests f (ASend message)
+    → HaveSinks f.end (server_state_after opened s (FrameReceived f)).regions (server_state_after opened s (FrameReceived f)).reads
+sinks-send_up opened s f place message a h le p =
+    let segment : Segment = Untagged true OPCODE_SEND 0 QUEUE_SEND (msn_word (s.received.sends + 1)) 0 message in
+    let is : frame_segment f ≡ Ok segment = segment-is s.received.sends s.received.requests f (ASend message) segment p refl in
+    let whole : List ℕ = begun_bytes s.received.begun ++ message in
+    let st = effect_in s f (Ok segment) in
+    subst (λ (t : ServerState). HaveSinks f.end t.regions t.reads) (sym (after-is opened s f (Ok segment) p.behind is))
+      (sinks-closed f.end f.end st.calls st.reads st.regions (omega arith) (message-sinks s f.end whole (verdict s whole) refl a (later-sinks place f.end s.regions s.reads le h)))
+
+pub sinks-tagged_up : (opened : LinkParameters) (s : ServerState) (f : Frame) (place : ℕ) (last : Bool) (opcode stag to : ℕ) (payload : List ℕ) → HaveSinks place s.regions s.reads → place ≤ f.end
+    → IsPiece s.received.sends s.received.requests f (ATagged last opcode stag to payload) → HaveSinks f.end (server_state_after opened s (FrameReceived f)).regions (server_state_after opened s (FrameReceived f)).reads
+sinks-tagged_up opened s f place last opcode stag to payload h le p =
+    let segment : Segment = Tagged last opcode stag to payload in
+    let is : frame_segment f ≡ Ok segment = segment-is s.received.sends s.received.requests f (ATagged last opcode stag to payload) segment p refl in
+    let st = effect_in s f (Ok segment) in
+    subst (λ (t : ServerState). HaveSinks f.end t.regions t.reads) (sym (after-is opened s f (Ok segment) p.behind is))
+      (sinks-closed f.end f.end st.calls st.reads st.regions (omega arith) (by (eqb opcode OPCODE_READ_RESPONSE && last)))
+  where
+    k : ServerState
+    k = with_access s f (Tagged last opcode stag to payload)
+    by : (b : Bool) → StepSinks f.end (cond b (response_effect k f.end s.reads) (no_effect k))
+    by true = response-sinks k f.end s.reads f.end refl (later-sinks place f.end s.regions s.reads le h)
+    by false = later-sinks place f.end s.regions s.reads le h

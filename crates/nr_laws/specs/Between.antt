@@ -54,6 +54,44 @@ pub record Counts (k : ClientState) (s : ServerState) (w : Way) : Type 0 where
   pub reads : length (open_reads s) ≡ (count one_read w.down + count one_read w.queued_down) + (count one_response w.up + count one_response w.queued_up)
   pub responses : k.responses ≡ count one_response w.queued_up
 
+-- the client keeps the grant, which is what the server has receives for
+pub record Window (opened : LinkParameters) (k : ClientState) : Type 0 where
+  pub window : length k.outstanding ≤ opened.granted
+  pub grant : k.grant ≤ opened.granted
+
+-- ---- Read Requests and their Responses
+
+-- a segment of the answer to a read of which so much came: the last one fills it, an other leaves some
+abbrev pub GoesOn : Bool → (came n : ℕ) → PendingRead → List PendingRead → (ℕ → List PendingRead → Type 0) → Type 0
+GoesOn true came n r rs Later = (came + n ≡ r.size) × Later 0 rs
+GoesOn false came n r rs Later = (came + n < r.size) × Later (came + n) (r ∷ rs)
+
+-- the Responses among some pieces are just the answers to these reads, in order, of the first of which so much came before
+abbrev pub Answers : ℕ → List PendingRead → List Piece → Type 0
+Answers came rs [] = (came ≡ 0) × (rs ≡ [])
+Answers came rs (AHello ∷ ps) = Answers came rs ps
+Answers came rs (ASend message ∷ ps) = Answers came rs ps
+Answers came rs (ARead sink at size stag to ∷ ps) = Answers came rs ps
+Answers came [] (ATagged last opcode stag to payload ∷ ps) = ⊥
+Answers came (r ∷ rs) (ATagged last opcode stag to payload ∷ ps) =
+    (opcode ≡ OPCODE_READ_RESPONSE) × (stag ≡ r.sink) × (to ≡ r.at + came) × GoesOn last came (length payload) r rs (λ c qs. Answers c qs ps)
+
+-- the Read Requests among some pieces
+abbrev pub requests_among : List Piece → List Piece
+requests_among [] = []
+requests_among (AHello ∷ ps) = requests_among ps
+requests_among (ASend message ∷ ps) = requests_among ps
+requests_among (ARead sink at size stag to ∷ ps) = ARead sink at size stag to ∷ requests_among ps
+requests_among (ATagged last opcode stag to payload ∷ ps) = requests_among ps
+
+-- the reads that are open: those whose Responses are under way, and behind them those whose Requests are
+pub record Reads (s : ServerState) (w : Way) : Type 0 where
+  pub answered : List PendingRead
+  pub asked : List PendingRead
+  pub parts : open_reads s ≡ answered ++ asked
+  pub answers : Answers s.response_bytes answered (w.up ++ w.queued_up)
+  pub requests : requests_among (w.down ++ w.queued_down) ≡ map reading_piece asked
+
 -- ---- Calls that wait
 
 -- a call for which nothing is left to be read waits to be executed
@@ -81,3 +119,25 @@ pub record Waits (s : ServerState) : Type 0 where
   pub ready_apart : AreApart (λ (r : ReadyCall). r.number) s.ready
   pub ready_calls : AreReady s.reads s.ready s.calls
   pub whole_calls : AreWhole s.reads s.calls s.ready
+
+-- ---- Sinks
+
+-- the region that a read goes into: it lives, and has room for the whole answer
+pub record IsSink (place : ℕ) (r : PendingRead) (g : Region) : Type 0 where
+  pub stag : g.stag ≡ r.sink
+  pub call : g.call ≡ r.number
+  pub position : g.position ≡ r.position
+  pub right : g.right ≡ Sink
+  pub lives : g.until ≡ None
+  pub before : g.from ≤ place
+  pub room : r.at + r.size ≤ length g.bytes
+
+-- it is the first under its STag
+abbrev pub HasSink : ℕ → PendingRead → List Region → Type 0
+HasSink place r [] = ⊥
+HasSink place r (g ∷ regions) = IsSink place r g ⊎ ((g.stag ≢ r.sink) × HasSink place r regions)
+
+-- each read that is open or waits has one
+abbrev pub HaveSinks : ℕ → List Region → List PendingRead → Type 0
+HaveSinks place regions [] = Unit {0}
+HaveSinks place regions (r ∷ reads) = HasSink place r regions × HaveSinks place regions reads

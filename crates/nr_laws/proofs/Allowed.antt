@@ -1,0 +1,45 @@
+-- A segment of a Response that comes to the server of a matched link ends it only by what its call then comes to.
+use Rattle.std.proofs.Common.{◌≡◌, ◌≢◌, ℕ, ◌+◌, ◌≤◌, ◌<◌, Bool, true, false, List, [], ◌∷◌, ◌++◌, length, Option, None, Some, refl, sym, ap, subst, ◌∙◌, arith}
+use Rattle.nr_wire.specs.Constants.{OPCODE_READ_RESPONSE}
+use Rattle.nr_wire.specs.Segment.{Segment}
+use Rattle.nr_wire.specs.Segment.Segment.{Tagged}
+use Rattle.nr_regions.specs.declared.right.Right.TheVariants.{Sink}
+use Rattle.nr_regions.specs.declared.denied.Denied.{Denied}
+use Rattle.nr_regions.specs.Access.{grant_denial}
+use Rattle.nr_reduce.specs.declared.mark.LinkParameters.{LinkParameters}
+use Rattle.nr_link.specs.Frames.{Frame}
+use Rattle.nr_link.specs.Ending.{missing_access}
+use Rattle.nr_reduce.specs.OfferedRegions.{Region, region_grants}
+use Rattle.nr_reduce.specs.Events.Event.{FrameReceived}
+use Rattle.nr_reduce.specs.ServerState.{ServerState, PendingRead}
+use Rattle.nr_reduce.specs.ServerReads.{open_reads}
+use Rattle.nr_reduce.specs.Server.{server_end, refusal_end}
+use Rattle.nr_reduce.specs.ServerFrames.{frame_effect}
+use Rattle.nr_laws.specs.Pieces.{Piece, IsPiece}
+use Rattle.nr_laws.specs.Pieces.Piece.{ATagged}
+use Rattle.nr_laws.specs.Between.{Way, Reads, Answers, GoesOn, HasSink, HaveSinks}
+use Rattle.nr_laws.proofs.Sinks.{sink-allowed, sinks-taken}
+use Rattle.nr_laws.proofs.Stopping.{server-response}
+
+goes-within : (last : Bool) (came n : ℕ) (r : PendingRead) (rs : List PendingRead) (Later : ℕ → List PendingRead → Type 0) → GoesOn last came n r rs Later → came + n ≤ r.size
+goes-within true came n r rs Later h = omega (arith, h.0)
+goes-within false came n r rs Later h = omega (arith, h.0)
+
+pub server-response-taken : (opened : LinkParameters) (s : ServerState) (w : Way) (f : Frame) (place : ℕ) (last : Bool) (opcode stag to : ℕ) (payload : List ℕ) (rest : List Piece) → Reads s w → HaveSinks place s.regions s.reads → place < f.end
+    → w.up ≡ ATagged last opcode stag to payload ∷ rest → IsPiece s.received.sends s.received.requests f (ATagged last opcode stag to payload)
+    → server_end opened s (FrameReceived f) ≡ refusal_end f (frame_effect s f).refusal
+server-response-taken opened s w f place last opcode stag to payload rest c sinks lt head p =
+    by c.answered c.parts (subst (λ (ps : List Piece). Answers s.response_bytes c.answered (ps ++ w.queued_up)) head c.answers) (subst (λ (rs : List PendingRead). HaveSinks place s.regions rs) c.parts (sinks-taken place 8 s.regions s.reads sinks))
+  where
+    by : (answered : List PendingRead) → open_reads s ≡ answered ++ c.asked → Answers s.response_bytes answered (ATagged last opcode stag to payload ∷ (rest ++ w.queued_up)) → HaveSinks place s.regions (answered ++ c.asked)
+        → server_end opened s (FrameReceived f) ≡ refusal_end f (frame_effect s f).refusal
+    by [] parts answers have = absurd answers
+    by (r ∷ rs) parts answers have =
+        let within = goes-within last s.response_bytes (length payload) r rs (λ k qs. Answers k qs (rest ++ w.queued_up)) answers.3 in
+        let allowed : grant_denial (region_grants f.end s.regions) (record { right = Sink; stag = stag; to = to; len = length payload }) f.end ≡ None =
+            subst (λ (x : ℕ). grant_denial (region_grants f.end s.regions) (record { right = Sink; stag = x; to = to; len = length payload }) f.end ≡ None) (sym answers.1)
+              (sink-allowed place f.end r s.regions to (length payload) have.0 lt (omega (arith, answers.2, within))) in
+        server-response opened s w f last stag to payload rest c
+          (head ∙ ap (λ (o : ℕ). ATagged last o stag to payload ∷ rest) answers.0)
+          (subst (λ (o : ℕ). IsPiece s.received.sends s.received.requests f (ATagged last o stag to payload)) answers.0 p)
+          allowed

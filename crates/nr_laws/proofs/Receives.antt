@@ -1,0 +1,30 @@
+-- On a matched link a Send that comes finds a receive, and no side is asked for more reads than it may be.
+use Rattle.std.proofs.Common.{◌≡◌, ◌≢◌, ℕ, ◌+◌, ◌-◌, ◌≤◌, ◌<◌, Bool, true, false, not, cond, ◌||◌, ◌&&◌, eqb, ltb, leb, List, [], ◌∷◌, ◌++◌, length, take, Option, None, Some, refl, sym, ap, ◌∙◌, arith, length-append, length-take-le, lt-ltb, le-ltb, leb-false}
+use Rattle.std.proofs.lemmas.List.{length-take}
+use Rattle.nr_reduce.specs.declared.mark.LinkParameters.{LinkParameters}
+use Rattle.nr_link.specs.Limits.{open_reads_max}
+use Rattle.nr_link.specs.SegmentFaults.{is_begun}
+use Rattle.nr_reduce.specs.ClientState.{ClientState}
+use Rattle.nr_reduce.specs.ServerState.{ServerState, receives_in_use}
+use Rattle.nr_reduce.specs.Plans.{one_if}
+use Rattle.nr_reduce.specs.ServerReads.{open_reads}
+use Rattle.nr_laws.specs.Pieces.{Piece, count, one_send, one_read, one_response}
+use Rattle.nr_laws.specs.Pieces.Piece.{ASend, ARead}
+use Rattle.nr_laws.specs.Between.{Way, Counts, Window, said_calls}
+
+said_some : (greeted : Bool) (n : ℕ) → cond greeted n 0 ≤ n
+said_some true n = omega arith
+said_some false n = omega arith
+
+-- the receives in use are fewer than the calls that are out, where a Send is under way
+pub receives : (opened : LinkParameters) (k : ClientState) (s : ServerState) (w : Way) → Counts k s w → Window opened k → 0 < count one_send w.up → receives_in_use s < opened.granted
+unfolding receives_in_use
+receives opened k s w c g some =
+    let none : one_if (is_begun s.received.begun) ≡ 0 = ap (λ (b : Option (List ℕ)). one_if (is_begun b)) c.whole_up in
+    omega (arith, none, c.calls_up, c.messages_down, c.written, c.out, c.waiting, g.window, some, said_some k.has_hello k.calls_accepted)
+
+-- a Read Request that comes finds fewer responses unwritten than there may be
+pub requests : (opened : LinkParameters) (k : ClientState) (s : ServerState) (w : Way) → Counts k s w → 0 < count one_read w.down → k.responses < open_reads_max
+requests opened k s w c some =
+    let few : length (open_reads s) ≤ open_reads_max = omega (arith, length-take open_reads_max s.reads) in
+    omega (arith, few, c.reads, c.responses, some)
