@@ -41,7 +41,7 @@ use Rattle.nr_laws.proofs.Linked.{Linked, IsPlace, frame_of, payload_bytes}
 
 -- ---- A Read Request that doesn't end a client ends within 2 ^ 64 bytes of its sink
 
-none_of : (faults : List (Option (SegmentFault Denied))) (x : Option (SegmentFault Denied)) (front : List (Option (SegmentFault Denied))) → first_fault (front ++ x ∷ faults) ≡ None → x ≡ None
+pub none_of : (faults : List (Option (SegmentFault Denied))) (x : Option (SegmentFault Denied)) (front : List (Option (SegmentFault Denied))) → first_fault (front ++ x ∷ faults) ≡ None → x ≡ None
 none_of faults None front e = refl
 none_of faults (Some x) [] e = absurd cc
 none_of faults (Some x) (None ∷ front) e = none_of faults (Some x) front e
@@ -51,7 +51,7 @@ no_reason : (reason : ℕ) (b : Bool) → reason_if {D = Denied} reason b ≡ No
 no_reason reason true e = absurd cc
 no_reason reason false e = refl
 
-no_fault : (f : Frame) (segment : Segment) (o : Option (SegmentFault Denied)) → end_of_fault f segment o ≡ None → o ≡ None
+pub no_fault : (f : Frame) (segment : Segment) (o : Option (SegmentFault Denied)) → end_of_fault f segment o ≡ None → o ≡ None
 no_fault f segment None e = refl
 no_fault f segment (Some (Reason reason)) e = absurd cc
 no_fault f segment (Some (NoBuffer msn)) e = absurd cc
@@ -81,7 +81,7 @@ not_above n m e =
       | inr le ↦ le
     ]
 
-by_end : (k : ClientState) (f : Frame) (o : Option End) → or_message_end k f o ≡ None → o ≡ None
+pub by_end : (k : ClientState) (f : Frame) (o : Option End) → or_message_end k f o ≡ None → o ≡ None
 by_end k f None e = refl
 by_end k f (Some end) e = absurd cc
 
@@ -143,6 +143,7 @@ client-linked opened k t s u d all_up all_down w p rest said l first counts outs
 
 pub record ClientTook (opened : LinkParameters) (k : ClientState) (s : ServerState) (u d all_up all_down : List Piece) (w : Way) (p : Piece) (rest : List Piece) (f : Frame) : Type 0 where
   pub said : List Piece
+  pub said_is : said ≡ client_says opened k (FrameReceived f)
   pub output : client_output opened k (FrameReceived f) ≡ spelled Initiator (count one_send all_up) (count one_read all_up) said
   pub linked : Linked opened (client_state_after opened k (FrameReceived f)) s u (d ++ p ∷ []) (all_up ++ said) all_down (down_one w said rest)
 
@@ -154,11 +155,11 @@ output-frame : (opened : LinkParameters) (k : ClientState) (f : Frame) (r : Resu
 unfolding client_output
 output-frame opened k f r behind is = λ i. cond (behind i) (calls_output opened 1 k.outstanding) (response_output k f.end (segment_request (is i)))
 
-says-hello : (opened : LinkParameters) (k : ClientState) (f : Frame) → is_hello f ≡ true → client_says opened k (FrameReceived f) ≡ map (asking_piece opened) k.outstanding
+pub says-hello : (opened : LinkParameters) (k : ClientState) (f : Frame) → is_hello f ≡ true → client_says opened k (FrameReceived f) ≡ map (asking_piece opened) k.outstanding
 unfolding client_says
 says-hello opened k f is = λ i. cond (is i) (map (asking_piece opened) k.outstanding) (responding_pieces k f.end (segment_request (frame_segment f)))
 
-after-hello : (opened : LinkParameters) (k : ClientState) (f : Frame) → is_hello f ≡ true → client_state_after opened k (FrameReceived f) ≡ record k { has_hello = true }
+pub after-hello : (opened : LinkParameters) (k : ClientState) (f : Frame) → is_hello f ≡ true → client_state_after opened k (FrameReceived f) ≡ record k { has_hello = true }
 unfolding client_state_after
 after-hello opened k f is = λ i. cond (is i) (record k { has_hello = true }) (with_segment k f (frame_segment f))
 
@@ -188,6 +189,7 @@ took-hello opened k s u d all_up all_down w rest f l first is =
         subst (λ (ps : List Piece). Counts (client_state_after opened k (FrameReceived f)) s (down_one w ps rest)) says (counts-hello_down opened k s w f rest l.counts first is) in
     record {
       said = said;
+      said_is = sym says;
       output = output-hello opened k f is ∙ outs-said opened 0 0 k.outstanding l.short ∙ (λ i. spelled Initiator (sym calls i) (sym l.no_reads i) said);
       linked =
           client-linked opened k (client_state_after opened k (FrameReceived f)) s u d all_up all_down w AHello rest said l first counts (outs-came opened k f l.outs)
@@ -207,6 +209,7 @@ took-frame opened k s u d all_up all_down w p rest said f r l first behind is sa
     let after = after-is opened k f r behind is in
     record {
       said = said;
+      said_is = sym (says-is opened k f r behind is ∙ says);
       output = output-frame opened k f r behind is ∙ output;
       linked =
           client-linked opened k (client_state_after opened k (FrameReceived f)) s u d all_up all_down w p rest said l first
@@ -215,7 +218,7 @@ took-frame opened k s u d all_up all_down w p rest said f r l first behind is sa
             (ap (λ (t : ClientState). t.received.sends) after ∙ sends) (ap (λ (t : ClientState). t.received.requests) after ∙ requests);
     }
 
-word_below : (place : ℕ) (bytes : List ℕ) → IsBytes bytes → word_at place bytes < 2 ^ 32
+pub word_below : (place : ℕ) (bytes : List ℕ) → IsBytes bytes → word_at place bytes < 2 ^ 32
 word_below place bytes h = word_of-below (take 4 (drop place bytes)) (IsBytes-take 4 (drop place bytes) (IsBytes-drop place bytes h))
 
 hyper_below : (place : ℕ) (bytes : List ℕ) → IsBytes bytes → hyper_at place bytes < 2 ^ 64

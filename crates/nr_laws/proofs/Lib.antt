@@ -36,3 +36,4 @@ pub mod Sinks
 pub mod SinksOpened
 pub mod Stopping
 pub mod Executing
+pub mod Replies

@@ -74,15 +74,15 @@ not-refused opened s f behind e =
     refusal-by s f (frame_end (readiness opened s) (region_grants f.end s.regions) f) (frame_effect s f).refusal refl
       ((λ i. cond (sym behind i) (hello_end (hello_of Initiator f.bytes)) (or_refusal s f (frame_end (readiness opened s) (region_grants f.end s.regions) f))) ∙ e)
 
-says-hello : (opened : LinkParameters) (s : ServerState) (f : Frame) → is_hello f ≡ true → server_says opened s (FrameReceived f) ≡ AHello ∷ []
+pub says-hello : (opened : LinkParameters) (s : ServerState) (f : Frame) → is_hello f ≡ true → server_says opened s (FrameReceived f) ≡ AHello ∷ []
 unfolding server_says
 says-hello opened s f is = λ i. cond (is i) (AHello ∷ []) (step_says (frame_effect s f))
 
-says-frame : (opened : LinkParameters) (s : ServerState) (f : Frame) → is_hello f ≡ false → server_says opened s (FrameReceived f) ≡ step_says (frame_effect s f)
+pub says-frame : (opened : LinkParameters) (s : ServerState) (f : Frame) → is_hello f ≡ false → server_says opened s (FrameReceived f) ≡ step_says (frame_effect s f)
 unfolding server_says
 says-frame opened s f is = λ i. cond (is i) (AHello ∷ []) (step_says (frame_effect s f))
 
-after-hello : (opened : LinkParameters) (s : ServerState) (f : Frame) → is_hello f ≡ true → server_state_after opened s (FrameReceived f) ≡ s
+pub after-hello : (opened : LinkParameters) (s : ServerState) (f : Frame) → is_hello f ≡ true → server_state_after opened s (FrameReceived f) ≡ s
 unfolding server_state_after
 after-hello opened s f is = λ i. cond (is i) s (with_effect s f (frame_effect s f))
 
@@ -131,6 +131,7 @@ messages_said opened k s u d all_up all_down w l =
 
 pub record ServerTook (opened : LinkParameters) (k : ClientState) (s : ServerState) (u d all_up all_down : List Piece) (w : Way) (p : Piece) (rest : List Piece) (f : Frame) : Type 0 where
   pub said : List Piece
+  pub said_is : said ≡ server_says opened s (FrameReceived f)
   pub output : server_output opened s (FrameReceived f) ≡ spelled Responder (count one_send all_down) (count one_read all_down) said
   pub linked : Linked opened k (server_state_after opened s (FrameReceived f)) (u ++ p ∷ []) d all_up (all_down ++ said) (taken_up w rest said)
 
@@ -153,6 +154,7 @@ took-hello opened k s u d all_up all_down w rest f l first none is =
         subst (λ (said : List Piece). Counts k (server_state_after opened s (FrameReceived f)) (taken_up w rest said)) says (counts-hello_up opened k s w f rest l.counts first is) in
     record {
       said = AHello ∷ [];
+      said_is = sym says;
       output = output-hello opened s f is ∙ sym (append-nil (own_hello Responder));
       linked =
           server-linked opened k s (server_state_after opened s (FrameReceived f)) u d all_up all_down w AHello rest (AHello ∷ []) l first counts
@@ -173,6 +175,7 @@ took-frame opened k s u d all_up all_down w p rest f r l first behind is some no
     let effect = step-is s f r is in
     record {
       said = said;
+      said_is = sym (says-frame opened s f behind);
       output =
           output-frame opened s f behind ∙ step-said s (frame_effect s f) fine.short
           ∙ (λ i. spelled Responder (messages_said opened k s u d all_up all_down w l i) (l.requests_sent i) said);

@@ -18,7 +18,7 @@ use Rattle.nr_header.specs.Header.{read_items, segments_items, chunk_items, writ
 use Rattle.nr_header.specs.WithinLimits.{Ends, SegmentsEnd, ListsWithin, CanRead, IsMessage}
 use Rattle.nr_header.specs.Reading.{header_of}
 use Rattle.nr_header.proofs.Messages.{header_take}
-use Rattle.nr_link.specs.Limits.{segment_max}
+use Rattle.nr_reduce.specs.Limits.{send_max}
 use Rattle.nr_reduce.specs.Holds.{first_chunk, no_segments, answer_size}
 use Rattle.nr_reduce.specs.Chunks.{total_at, is_read_chunk_of_item}
 use Rattle.nr_reduce.specs.ServerState.{PendingCall, ServerState, next_stag, is_pending}
@@ -31,7 +31,7 @@ SegmentsFit [] = Unit {0}
 SegmentsFit (s ∷ segments) = ((s.handle < 2 ^ 32) × (s.offset < 2 ^ 64) × (s.offset + s.length ≤ 2 ^ 64)) × SegmentsFit segments
 
 pub record OfferFits (lists : ChunkLists) : Type 0 where
-  pub size : answer_size lists.write + (4 + 16 * length (no_segments lists.reply)) ≤ segment_max
+  pub size : answer_size lists.write + (4 + 16 * length (no_segments lists.reply)) ≤ send_max
   pub writes : SegmentsFit (first_chunk lists.write)
   pub replies : SegmentsFit (no_segments lists.reply)
 

@@ -66,6 +66,7 @@ planned payload r p e = ap (λ (x : Result Plan TooLarge). plan_or payload x) e
 
 pub record Submitted (opened : LinkParameters) (k : ClientState) (s : ServerState) (u d all_up all_down : List Piece) (w : Way) (place : ℕ) (a : AcceptedCall) : Type 0 where
   pub said : List Piece
+  pub said_is : said ≡ client_says opened k (CallSubmitted place a)
   pub output : client_output opened k (CallSubmitted place a) ≡ spelled Initiator (count one_send all_up) (count one_read all_up) said
   pub linked : Linked opened (client_state_after opened k (CallSubmitted place a)) s u d (all_up ++ said) all_down (up_more w said)
 
@@ -94,6 +95,7 @@ submitted opened k s u d all_up all_down w place a plan l own is = by k.has_hell
         → Submitted opened k s u d all_up all_down w place a
     with_said said says output proper hellos reads = record {
       said = said;
+      said_is = sym says;
       output = output;
       linked =
           up-linked opened k (client_state_after opened k (CallSubmitted place a)) s u d all_up all_down w said l
@@ -199,6 +201,7 @@ written_up opened k s u d all_up all_down w l =
 
 pub record Executed (opened : LinkParameters) (k : ClientState) (s : ServerState) (u d all_up all_down : List Piece) (w : Way) (e : ExecutedCall) : Type 0 where
   pub said : List Piece
+  pub said_is : said ≡ server_says opened s (CallExecuted e)
   pub output : server_output opened s (CallExecuted e) ≡ spelled Responder (count one_send all_down) (count one_read all_down) said
   pub linked : Linked opened k (server_state_after opened s (CallExecuted e)) u d all_up (all_down ++ said) (record { queued_up = w.queued_up; up = w.up; queued_down = w.queued_down ++ said; down = w.down })
 
@@ -218,6 +221,7 @@ executed opened k s u d all_up all_down w e r rest l first own begun =
     let reads : count one_read said ≡ 0 = answer-counts one_read 0 (λ last stag to payload. refl) (λ message. refl) s e.xid (offer_of s e.xid) answer in
     record {
       said = said;
+      said_is = refl;
       output = execution-said s s.requests_sent e l.fits ∙ (λ i. spelled Responder (messages_said opened k s u d all_up all_down w l i) (l.requests_sent i) said);
       linked = record {
         parts_up = l.parts_up;

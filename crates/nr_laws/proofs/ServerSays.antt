@@ -41,7 +41,7 @@ use Rattle.nr_laws.proofs.OfferLimits.{SegmentsFit, OfferFits, verdict_fits}
 
 -- ---- Messages are short
 
-word_len : (n : ℕ) (more : List ℕ) → length (word n ++ more) ≡ 4 + length more
+pub word_len : (n : ℕ) (more : List ℕ) → length (word n ++ more) ≡ 4 + length more
 word_len n more = omega (arith, length-append (word n) more, length-word n)
 
 chunk_error-short : (xid credit : ℕ) → IsShort (chunk_error xid credit)
@@ -158,7 +158,7 @@ fills-proper (s ∷ chunk) bytes h =
     by true = tt
     by false = tagged-proper OPCODE_WRITE s.handle s.offset (take s.length bytes) refl (lit< tt) h.0.0 h.0.1 (omega (arith, h.0.2, length-take s.length bytes))
 
-answer-short : (offer : ChunkLists) (down prog vers proc xid credit : ℕ) (reply : List ℕ) (a : Answer) → down ≤ 1024 → OfferFits offer → answer_for offer down prog vers proc reply ≡ Some a → IsShort (answer_message xid credit offer a)
+pub answer-short : (offer : ChunkLists) (down prog vers proc xid credit : ℕ) (reply : List ℕ) (a : Answer) → down ≤ 1024 → OfferFits offer → answer_for offer down prog vers proc reply ≡ Some a → IsShort (answer_message xid credit offer a)
 answer-short offer down prog vers proc xid credit reply a small fits e =
     let sizes = answer_length offer down prog vers proc xid credit reply a e in
     by a.long refl sizes.0 sizes.1
@@ -170,7 +170,7 @@ answer-short offer down prog vers proc xid credit reply a small fits e =
     by true is short long = omega (arith, long is, fits.size)
     by false is short long = omega (arith, (short is).1, small)
 
-for_target : (offer : ChunkLists) (down : ℕ) (reply : List ℕ) (t : Option CallTarget) (a : Answer) → answer_of_target offer down reply t ≡ Some a
+pub for_target : (offer : ChunkLists) (down : ℕ) (reply : List ℕ) (t : Option CallTarget) (a : Answer) → answer_of_target offer down reply t ≡ Some a
     → (prog : ℕ) × (vers : ℕ) × (proc : ℕ) × (answer_for offer down prog vers proc reply ≡ Some a)
 for_target offer down reply None a e = (0, 0, 0, e)
 for_target offer down reply (Some t) a e = (t.prog, t.vers, t.proc, e)
@@ -188,7 +188,7 @@ answer-proper k xid offer reply t (Some a) e fits =
     by true = fills-proper (no_segments offer.reply) a.stream fits.replies
     by false = tt
 
-found-fits : (xid : ℕ) (calls : List PendingCall) → CallsFit calls → OfferFits (offer_by (find (λ (c : PendingCall). eqb c.xid xid) calls))
+pub found-fits : (xid : ℕ) (calls : List PendingCall) → CallsFit calls → OfferFits (offer_by (find (λ (c : PendingCall). eqb c.xid xid) calls))
 found-fits xid [] h = record { size = omega arith; writes = tt; replies = tt }
 found-fits xid (c ∷ calls) h = by (eqb c.xid xid) (found-fits xid calls h.1)
   where
