@@ -37,3 +37,4 @@ pub mod SinksOpened
 pub mod Stopping
 pub mod Executing
 pub mod Replies
+pub mod ReadLimits

@@ -1,7 +1,8 @@
 -- What a client offers by a message that makes its call pending is within the limits of a header: so each segment of an answer,
 -- and its message, can be written.
-use Rattle.std.proofs.Common.{◌≡◌, ℕ, ◌+◌, ◌*◌, ◌≤◌, ◌<◌, ◌^◌, Bool, true, false, cond, not, ◌||◌, eqb, ltb, List, [], ◌∷◌, ◌++◌, length, sum_by, drop, filter, Option, Some, None, IfSome, Result, Ok, Err, refl, sym, ap, subst, ◌∙◌, arith}
+use Rattle.std.proofs.Common.{◌≡◌, ℕ, ◌+◌, ◌*◌, ◌≤◌, ◌<◌, ◌^◌, Bool, true, false, cond, not, ◌||◌, eqb, ltb, List, [], ◌∷◌, ◌++◌, length, sum_by, drop, filter, Option, Some, None, IfSome, Result, Ok, Err, refl, sym, ap, subst, ◌∙◌, arith, ◌⊎◌, inl, inr}
 use Rattle.std.specs.List.{All}
+use Rattle.std.proofs.lemmas.Bool.{cases_lt, lt-ltb}
 use Rattle.std.proofs.lemmas.List.Elements.{All-head, All-tail}
 use Rattle.std.proofs.lemmas.List.Sums.{sum_by-cons}
 use Rattle.nr_xdr.specs.Item.{Item, IsBytes}
@@ -15,7 +16,8 @@ use Rattle.nr_header.specs.declared.header.Body.{Body}
 use Rattle.nr_header.specs.declared.header.Body.TheVariants.{Msg, Nomsg, ErrVers, ErrChunk}
 use Rattle.nr_header.specs.declared.header.Header.{Header}
 use Rattle.nr_header.specs.Header.{read_items, segments_items, chunk_items, write_items, reply_items, body_items}
-use Rattle.nr_header.specs.WithinLimits.{Ends, SegmentsEnd, ListsWithin, CanRead, IsMessage}
+use Rattle.nr_header.specs.WithinLimits.{read_total, Ends, SegmentsEnd, ListsWithin, CanRead, IsMessage}
+use Rattle.nr_header.specs.Constants.{PAYLOAD_MAX}
 use Rattle.nr_header.specs.Reading.{header_of}
 use Rattle.nr_header.proofs.Messages.{header_take}
 use Rattle.nr_reduce.specs.Limits.{send_max}
@@ -30,7 +32,13 @@ abbrev pub SegmentsFit : List RdmaSegment → Type 0
 SegmentsFit [] = Unit {0}
 SegmentsFit (s ∷ segments) = ((s.handle < 2 ^ 32) × (s.offset < 2 ^ 64) × (s.offset + s.length ≤ 2 ^ 64)) × SegmentsFit segments
 
+abbrev pub EntriesFit : List ReadSegment → Type 0
+EntriesFit [] = Unit {0}
+EntriesFit (r ∷ read) = ((r.length < 2 ^ 32) × (r.handle < 2 ^ 32) × (r.offset < 2 ^ 64)) × EntriesFit read
+
 pub record OfferFits (lists : ChunkLists) : Type 0 where
+  pub reads : EntriesFit lists.read
+  pub total : read_total lists.read ≤ PAYLOAD_MAX
   pub size : answer_size lists.write + (4 + 16 * length (no_segments lists.reply)) ≤ send_max
   pub writes : SegmentsFit (first_chunk lists.write)
   pub replies : SegmentsFit (no_segments lists.reply)
@@ -48,6 +56,10 @@ skip_segments (s ∷ ss) more h = skip_segments ss more h.1.1.1
 skip_write : (chunks : List (List RdmaSegment)) (more : List Item) → AllFit (write_items chunks more) → AllFit more
 skip_write [] more h = h.1
 skip_write (chunk ∷ chunks) more h = skip_write chunks more (skip_segments chunk (write_items chunks more) h.1.1)
+
+entries_fit : (rs : List ReadSegment) (more : List Item) → AllFit (read_items rs more) → EntriesFit rs
+entries_fit [] more h = tt
+entries_fit (r ∷ rs) more h = ((h.1.1.1.0, h.1.1.0, h.1.1.1.1.0), entries_fit rs more h.1.1.1.1.1)
 
 segments_fit : (ss : List RdmaSegment) (more : List Item) → AllFit (segments_items ss more) → SegmentsEnd ss → SegmentsFit ss
 segments_fit [] more h ends = tt
@@ -74,10 +86,12 @@ few_segments : (reply : Option (List RdmaSegment)) → IfSome reply (λ (chunk :
 few_segments None h = omega arith
 few_segments (Some chunk) h = h
 
-offer_fits : (lists : ChunkLists) → AllFit (read_items lists.read (write_items lists.write (reply_items lists.reply []))) → ListsWithin lists → OfferFits lists
-offer_fits lists h w =
+offer_fits : (lists : ChunkLists) → AllFit (read_items lists.read (write_items lists.write (reply_items lists.reply []))) → ListsWithin lists → read_total lists.read ≤ PAYLOAD_MAX → OfferFits lists
+offer_fits lists h w total =
     let writes = skip_read lists.read (write_items lists.write (reply_items lists.reply [])) h in
     record {
+      reads = entries_fit lists.read (write_items lists.write (reply_items lists.reply [])) h;
+      total = total;
       size = omega (arith, size_by lists.write, w.write_chunks, w.write_segments, few_segments lists.reply w.reply_segments);
       writes = first_fits lists.write (reply_items lists.reply []) writes w.write_ends;
       replies = reply_fits lists.reply [] (skip_write lists.write (reply_items lists.reply []) writes) w.reply_ends;
@@ -101,11 +115,11 @@ stream_lists k lists xid (Some stream) c e = by (is_read_chunk_of_item stream li
 
 body_fits : (k : ServerState) (xid credit : ℕ) (message stream : List ℕ) (body : Body) (c : PendingCall) → AllFit (body_items xid credit body) → CanRead body stream → by_body k xid message body ≡ MakesPending c → OfferFits c.lists
 body_fits k xid credit message stream (Msg lists at) c h can e =
-    subst (λ (l : ChunkLists). OfferFits l) (sym (stream_lists k lists xid (Some (drop at message)) c e)) (offer_fits lists h.1.1.1.1 can.0)
+    subst (λ (l : ChunkLists). OfferFits l) (sym (stream_lists k lists xid (Some (drop at message)) c e)) (offer_fits lists h.1.1.1.1 can.0 (omega (arith, can.2)))
 body_fits k xid credit message stream (Nomsg lists) c h can e = by (has_position lists.read) e
   where
     by : (b : Bool) → cond b (by_stream k lists xid (no_stream lists.read)) BadChunks ≡ MakesPending c → OfferFits c.lists
-    by true e = subst (λ (l : ChunkLists). OfferFits l) (sym (stream_lists k lists xid (no_stream lists.read) c e)) (offer_fits lists h.1.1.1.1 can.1)
+    by true e = subst (λ (l : ChunkLists). OfferFits l) (sym (stream_lists k lists xid (no_stream lists.read) c e)) (offer_fits lists h.1.1.1.1 can.1 can.2)
     by false e = absurd cc
 body_fits k xid credit message stream (ErrVers version low high) c h can e = absurd cc
 body_fits k xid credit message stream (ErrChunk version) c h can e = absurd cc
@@ -125,3 +139,60 @@ verdict_fits k message c bytes e = by (not (eqb (word_at 4 message) 1)) (eqb (wo
     by false true open_call e = absurd cc
     by false false true e = absurd cc
     by false false false e = header_fits k message (header_of message) c bytes refl e
+
+-- ---- The STags that its reads need
+
+need_is : (k : ServerState) (d c : PendingCall) → by_need k d ≡ MakesPending c → by_need k c ≡ MakesPending c
+need_is k d c e = by (ltb 4294967296 (next_stag k + length (chunks_of d.lists))) e (λ same. subst (λ (x : PendingCall). by_need k x ≡ MakesPending c) same e)
+  where
+    by : (b : Bool) → cond b (EndsLink 30) (MakesPending d) ≡ MakesPending c → (d ≡ c → by_need k c ≡ MakesPending c) → by_need k c ≡ MakesPending c
+    by true e f = absurd cc
+    by false e f = f cc
+
+stream_need : (k : ServerState) (lists : ChunkLists) (xid : ℕ) (stream : Option (List ℕ)) (c : PendingCall) → by_stream k lists xid stream ≡ MakesPending c → by_need k c ≡ MakesPending c
+stream_need k lists xid None c e = need_is k (record { number = k.received.sends + 1; xid = xid; lists = lists; inline = None }) c e
+stream_need k lists xid (Some stream) c e = by (is_read_chunk_of_item stream lists.read) e
+  where
+    call : PendingCall
+    call = record { number = k.received.sends + 1; xid = xid; lists = lists; inline = Some stream }
+    by : (b : Bool) → cond b (by_need k call) BadChunks ≡ MakesPending c → by_need k c ≡ MakesPending c
+    by true e = need_is k call c e
+    by false e = absurd cc
+
+body_need : (k : ServerState) (xid : ℕ) (message : List ℕ) (body : Body) (c : PendingCall) → by_body k xid message body ≡ MakesPending c → by_need k c ≡ MakesPending c
+body_need k xid message (Msg lists at) c e = stream_need k lists xid (Some (drop at message)) c e
+body_need k xid message (Nomsg lists) c e = by (has_position lists.read) e
+  where
+    by : (b : Bool) → cond b (by_stream k lists xid (no_stream lists.read)) BadChunks ≡ MakesPending c → by_need k c ≡ MakesPending c
+    by true e = stream_need k lists xid (no_stream lists.read) c e
+    by false e = absurd cc
+body_need k xid message (ErrVers version low high) c e = absurd cc
+body_need k xid message (ErrChunk version) c e = absurd cc
+
+header_need : (k : ServerState) (message : List ℕ) (r : Result Header HeaderFault) (c : PendingCall) → by_header k message r ≡ MakesPending c → by_need k c ≡ MakesPending c
+header_need k message (Ok h) c e = body_need k h.xid message h.body c e
+header_need k message (Err fault) c e = absurd cc
+
+not_above : (n m : ℕ) → ltb n m ≡ false → m ≤ n
+not_above n m e =
+    elim (cases_lt n m) [
+      | inl lt ↦ absurd (let wrong : true ≡ false = sym (lt-ltb n m lt) ∙ e in cc)
+      | inr le ↦ le
+    ]
+
+few_from : (k : ServerState) (c : PendingCall) → by_need k c ≡ MakesPending c → next_stag k + length (chunks_of c.lists) ≤ 4294967296
+few_from k c e = by (ltb 4294967296 (next_stag k + length (chunks_of c.lists))) refl e
+  where
+    by : (b : Bool) → ltb 4294967296 (next_stag k + length (chunks_of c.lists)) ≡ b → cond b (EndsLink 30) (MakesPending c) ≡ MakesPending c → next_stag k + length (chunks_of c.lists) ≤ 4294967296
+    by true is e = absurd cc
+    by false is e = not_above 4294967296 (next_stag k + length (chunks_of c.lists)) is
+
+pub verdict_few : (k : ServerState) (message : List ℕ) (c : PendingCall) → verdict k message ≡ MakesPending c → next_stag k + length (chunks_of c.lists) ≤ 4294967296
+unfolding verdict
+verdict_few k message c e = by (not (eqb (word_at 4 message) 1)) (eqb (word_at 12 message) 3 || eqb (word_at 12 message) 4) (is_pending k (word_at 0 message)) e
+  where
+    by : (other kind open_call : Bool) → cond other OtherVersion (cond kind (EndsLink 17) (cond open_call (EndsLink 20) (by_header k message (header_of message)))) ≡ MakesPending c → next_stag k + length (chunks_of c.lists) ≤ 4294967296
+    by true kind open_call e = absurd cc
+    by false true open_call e = absurd cc
+    by false false true e = absurd cc
+    by false false false e = few_from k c (header_need k message (header_of message) c e)

@@ -62,7 +62,7 @@ closed-below sends at test regions b = record {
   calls = below-closed (λ (g : Region). g.call) same-call sends at test regions b.calls;
 }
 
-length-from : (number place stag : ℕ) (lists : ChunkLists) (ps : List ℕ) → length (regions_from number place stag lists ps) ≡ length ps
+pub length-from : (number place stag : ℕ) (lists : ChunkLists) (ps : List ℕ) → length (regions_from number place stag lists ps) ≡ length ps
 length-from number place stag lists [] = refl
 length-from number place stag lists (p ∷ ps) = ap (λ (n : ℕ). suc n) (length-from number place (stag + 1) lists ps)
 

@@ -189,7 +189,7 @@ answer-proper k xid offer reply t (Some a) e fits =
     by false = tt
 
 pub found-fits : (xid : ℕ) (calls : List PendingCall) → CallsFit calls → OfferFits (offer_by (find (λ (c : PendingCall). eqb c.xid xid) calls))
-found-fits xid [] h = record { size = omega arith; writes = tt; replies = tt }
+found-fits xid [] h = record { reads = tt; total = omega arith; size = omega arith; writes = tt; replies = tt }
 found-fits xid (c ∷ calls) h = by (eqb c.xid xid) (found-fits xid calls h.1)
   where
     by : (b : Bool) → OfferFits (offer_by (find (λ (c : PendingCall). eqb c.xid xid) calls)) → OfferFits (offer_by (cond b (Some c) (find (λ (c : PendingCall). eqb c.xid xid) calls)))
