@@ -38,3 +38,4 @@ pub mod Stopping
 pub mod Executing
 pub mod Replies
 pub mod ReadLimits
+pub mod Requests
