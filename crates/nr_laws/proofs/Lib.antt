@@ -39,3 +39,5 @@ pub mod Executing
 pub mod Replies
 pub mod ReadLimits
 pub mod Requests
+pub mod Guards
+pub mod GuardsServer

@@ -33,7 +33,7 @@ pub record IsThere (k : ClientState) (place sink at size stag to : ℕ) : Type 0
   pub some : 0 < size
   pub there : to + size ≤ length (memory_at k place stag)
 
-first_asked : (asked : List PendingRead) (sink at size stag to : ℕ) (ps : List Piece) → ARead sink at size stag to ∷ ps ≡ map reading_piece asked
+pub first_asked : (asked : List PendingRead) (sink at size stag to : ℕ) (ps : List Piece) → ARead sink at size stag to ∷ ps ≡ map reading_piece asked
     → (r : PendingRead) × (others : List PendingRead) × (asked ≡ r ∷ others) × (r.sink ≡ sink) × (r.at ≡ at) × (r.size ≡ size) × (ps ≡ map reading_piece others)
 first_asked [] sink at size stag to ps e = absurd cc
 first_asked (r ∷ others) sink at size stag to ps e = (r, others, refl, cc, cc, cc, cc)

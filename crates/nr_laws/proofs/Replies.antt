@@ -51,7 +51,7 @@ third_word a b c rest lt =
     ∙ ap word_of (take-append-le 4 (word c) rest (omega (arith, length-word c)) ∙ take_all 4 (word c) (omega (arith, length-word c)))
     ∙ word_of-word c lt
 
-chunk_error-reply : (xid credit : ℕ) → credit < 2 ^ 32 → IsReply credit (chunk_error xid credit)
+pub chunk_error-reply : (xid credit : ℕ) → credit < 2 ^ 32 → IsReply credit (chunk_error xid credit)
 unfolding chunk_error
 chunk_error-reply xid credit lt =
     let a = word_len xid (word 1 ++ (word credit ++ (word 4 ++ (word 2 ++ [])))) in

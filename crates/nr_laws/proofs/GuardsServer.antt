@@ -1,0 +1,140 @@
+-- A server of a matched link ends at the frame of a piece only by a refusal of its effect; else it keeps its guards.
+use Rattle.std.proofs.Common.{◌≡◌, ◌≢◌, ℕ, zero, suc, ◌+◌, ◌≤◌, ◌<◌, ◌^◌, Bool, true, false, cond, ◌&&◌, eqb, List, [], ◌∷◌, ◌++◌, length, map, take, Option, Some, None, Result, Ok, Err, refl, sym, ap, subst, ◌∙◌, arith, append_assoc, append-nil, ◌⊎◌, inl, inr}
+use Rattle.std.specs.List.{AllByRecursion}
+use Rattle.nr_xdr.specs.Item.{IsBytes}
+use Rattle.nr_wire.specs.Constants.{OPCODE_SEND, QUEUE_SEND}
+use Rattle.nr_wire.specs.declared.hello.Side.TheVariants.{Initiator, Responder}
+use Rattle.nr_wire.specs.Hello.{hello_of}
+use Rattle.nr_wire.specs.Segment.{Segment}
+use Rattle.nr_wire.specs.Segment.Segment.{Tagged, Untagged}
+use Rattle.nr_link.specs.declared.end.End.{End}
+use Rattle.nr_link.specs.Frames.{Frame, is_hello}
+use Rattle.nr_link.specs.Output.{msn_word}
+use Rattle.nr_link.specs.Ending.{frame_segment}
+use Rattle.nr_reduce.specs.declared.mark.LinkParameters.{LinkParameters}
+use Rattle.nr_reduce.specs.Opening.{IsOpened}
+use Rattle.nr_reduce.specs.Limits.{send_max}
+use Rattle.nr_reduce.specs.Events.Event.{FrameReceived}
+use Rattle.nr_reduce.specs.OfferedRegions.{Region}
+use Rattle.nr_reduce.specs.ClientState.{ClientState}
+use Rattle.nr_reduce.specs.ServerState.{ServerState, PendingRead}
+use Rattle.nr_reduce.specs.ServerReads.{is_over}
+use Rattle.nr_reduce.specs.ServerFrames.{FrameEffect, effect_in, frame_effect}
+use Rattle.nr_reduce.specs.Server.{server_end, server_state_after, refusal_end}
+use Rattle.nr_laws.specs.Pieces.{Piece, segment_at, spelled_one, count, one_send, one_read, one_hello, step_says, server_says, IsPiece}
+use Rattle.nr_laws.specs.Pieces.Piece.{AHello, ASend, ARead, ATagged}
+use Rattle.nr_laws.specs.Between.{Way, Counts, Reads, Waits, Window, HasSink, HaveSinks, Answers}
+use Rattle.nr_laws.proofs.Counted.{count-append}
+use Rattle.nr_laws.proofs.CountsServer.{counts-hello_up, after-is, step-is, segment-is, with_by}
+use Rattle.nr_laws.proofs.ReadsKept.{moved}
+use Rattle.nr_laws.proofs.ReadsClient.{reads-says_down}
+use Rattle.nr_laws.proofs.Sinks.{sink-later}
+use Rattle.nr_laws.proofs.ServerKnown.{Server, server-takes_send, server-takes_response}
+use Rattle.nr_laws.proofs.Replies.{AreReplies, replies-frame}
+use Rattle.nr_laws.proofs.ReadLimits.{AreWithin, each-append, within-send, within-tagged, within-closed}
+use Rattle.nr_laws.proofs.Linked.{Linked, taken_up, not-refused, says-hello, says-frame, after-hello, payload_bytes}
+use Rattle.nr_laws.proofs.Guards.{UpPiece, DownPiece, Guards, step-down}
+
+pub each-at : {X : Type 0} (P : X → Type 0) (xs : List X) (y : X) (ys : List X) → AllByRecursion P (xs ++ y ∷ ys) → P y
+each-at P [] y ys h = h.0
+each-at P (x ∷ xs) y ys h = each-at P xs y ys h.1
+
+have-later : (place end : ℕ) (regions : List Region) (reads : List PendingRead) → place ≤ end → HaveSinks place regions reads → HaveSinks end regions reads
+have-later place end regions [] le h = tt
+have-later place end regions (r ∷ reads) le h = (sink-later place end r regions le h.0, have-later place end regions reads le h.1)
+
+-- what the piece at the front is
+pub front-up : (opened : LinkParameters) (k : ClientState) (s : ServerState) (u d all_up all_down : List Piece) (w : Way) (place : ℕ) (p : Piece) (rest : List Piece) → Linked opened k s u d all_up all_down w → Guards opened k s u d all_up all_down w place → w.up ≡ p ∷ rest → UpPiece p
+front-up opened k s u d all_up all_down w place p rest l g first =
+    each-at UpPiece u p (rest ++ w.queued_up) (subst (AllByRecursion UpPiece) (sym l.parts_up ∙ ap (λ (ps : List Piece). u ++ (ps ++ w.queued_up)) first) g.up_said)
+
+guards-up : (opened : LinkParameters) (k : ClientState) (s t : ServerState) (u d all_up all_down : List Piece) (w : Way) (place end : ℕ) (p : Piece) (rest said : List Piece) → Guards opened k s u d all_up all_down w place
+    → Server opened k t (taken_up w rest said) end → AllByRecursion (DownPiece opened.granted) said → t.credit ≡ s.credit → AreWithin t.reads t.regions
+    → Guards opened k t (u ++ p ∷ []) d all_up (all_down ++ said) (taken_up w rest said) end
+guards-up opened k s t u d all_up all_down w place end p rest said g server down credit within = record {
+  server = server;
+  window = g.window;
+  up_said = g.up_said;
+  down_said = each-append (DownPiece opened.granted) all_down said g.down_said down;
+  credit = credit ∙ g.credit;
+  within = within;
+  reached = g.reached;
+}
+
+-- the reasons of a server's refusal come from the effect of the frame
+pub record TakesUp (opened : LinkParameters) (k : ClientState) (s : ServerState) (u d all_up all_down : List Piece) (w : Way) (p : Piece) (rest : List Piece) (f : Frame) : Type 0 where
+  pub ends : server_end opened s (FrameReceived f) ≡ refusal_end f (frame_effect s f).refusal
+  pub kept : server_end opened s (FrameReceived f) ≡ None → Guards opened k (server_state_after opened s (FrameReceived f)) (u ++ p ∷ []) d all_up (all_down ++ server_says opened s (FrameReceived f)) (taken_up w rest (server_says opened s (FrameReceived f))) f.end
+
+credit-down : (opened : LinkParameters) (credit : ℕ) (ps : List Piece) → credit ≡ opened.granted → AllByRecursion (DownPiece credit) ps → AllByRecursion (DownPiece opened.granted) ps
+credit-down opened credit ps is h = subst (λ (n : ℕ). AllByRecursion (DownPiece n) ps) is h
+
+within-after : (s : ServerState) (f : Frame) (r : Result Segment ℕ) → frame_segment f ≡ r → AreWithin (frame_effect s f).reads (frame_effect s f).regions → AreWithin (with_by s f r (effect_in s f r)).reads (with_by s f r (effect_in s f r)).regions
+within-after s f r is h =
+    let e = subst (λ (x : FrameEffect). AreWithin x.reads x.regions) (step-is s f r is) h in
+    within-closed (is_over (effect_in s f r).calls (effect_in s f r).reads) f.end (effect_in s f r).reads (effect_in s f r).regions e
+
+pub takes-send : (opened : LinkParameters) (k : ClientState) (s : ServerState) (u d all_up all_down : List Piece) (w : Way) (place : ℕ) (message : List ℕ) (rest : List Piece) (f : Frame) → IsOpened opened → Linked opened k s u d all_up all_down w → Guards opened k s u d all_up all_down w place → w.up ≡ ASend message ∷ rest
+    → IsPiece s.received.sends s.received.requests f (ASend message) → IsBytes f.bytes → f.bytes ≡ spelled_one Initiator (segment_at s.received.sends s.received.requests (ASend message)) → place < f.end → TakesUp opened k s u d all_up all_down w (ASend message) rest f
+takes-send opened k s u d all_up all_down w place message rest f o l g first piece bytes is lt =
+    let segment : Segment = Untagged true OPCODE_SEND 0 QUEUE_SEND (msn_word (s.received.sends + 1)) 0 message in
+    let reads : frame_segment f ≡ Ok segment = segment-is s.received.sends s.received.requests f (ASend message) segment piece refl in
+    let size = front-up opened k s u d all_up all_down w place (ASend message) rest l g first in
+    let t = server-takes_send opened k s w place f message rest g.server g.window first piece size.0 size.1 lt in
+    let says = says-frame opened s f piece.behind in
+    let after = after-is opened s f (Ok segment) piece.behind reads in
+    let small : s.credit < 2 ^ 32 = omega (arith, g.credit, o.granted_fits) in
+    let within = within-after s f (Ok segment) reads (within-send s f message l.counts.whole_up (payload_bytes segment (subst IsBytes is bytes)) g.within reads) in
+    record {
+      ends = t.0;
+      kept = λ stays.
+          subst (λ (said : List Piece). Guards opened k (server_state_after opened s (FrameReceived f)) (u ++ ASend message ∷ []) d all_up (all_down ++ said) (taken_up w rest said) f.end) (sym says)
+            (guards-up opened k s (server_state_after opened s (FrameReceived f)) u d all_up all_down w place f.end (ASend message) rest (step_says (frame_effect s f)) g
+              (t.1 (not-refused opened s f piece.behind stays)) (credit-down opened s.credit (step_says (frame_effect s f)) g.credit (step-down s.credit (frame_effect s f) (replies-frame s f small)))
+              (ap (λ (x : ServerState). x.credit) after) (subst (λ (x : ServerState). AreWithin x.reads x.regions) (sym after) within));
+    }
+
+pub takes-tagged : (opened : LinkParameters) (k : ClientState) (s : ServerState) (u d all_up all_down : List Piece) (w : Way) (place : ℕ) (last : Bool) (opcode stag to : ℕ) (payload : List ℕ) (rest : List Piece) (f : Frame) → IsOpened opened → Linked opened k s u d all_up all_down w → Guards opened k s u d all_up all_down w place
+    → w.up ≡ ATagged last opcode stag to payload ∷ rest → IsPiece s.received.sends s.received.requests f (ATagged last opcode stag to payload) → place < f.end → TakesUp opened k s u d all_up all_down w (ATagged last opcode stag to payload) rest f
+takes-tagged opened k s u d all_up all_down w place last opcode stag to payload rest f o l g first piece lt =
+    let segment : Segment = Tagged last opcode stag to payload in
+    let reads : frame_segment f ≡ Ok segment = segment-is s.received.sends s.received.requests f (ATagged last opcode stag to payload) segment piece refl in
+    let t = server-takes_response opened k s w place f last opcode stag to payload rest g.server first piece lt in
+    let says = says-frame opened s f piece.behind in
+    let after = after-is opened s f (Ok segment) piece.behind reads in
+    let small : s.credit < 2 ^ 32 = omega (arith, g.credit, o.granted_fits) in
+    let within = within-after s f (Ok segment) reads (within-tagged s f last opcode stag to payload g.within reads) in
+    record {
+      ends = t.0;
+      kept = λ stays.
+          subst (λ (said : List Piece). Guards opened k (server_state_after opened s (FrameReceived f)) (u ++ ATagged last opcode stag to payload ∷ []) d all_up (all_down ++ said) (taken_up w rest said) f.end) (sym says)
+            (guards-up opened k s (server_state_after opened s (FrameReceived f)) u d all_up all_down w place f.end (ATagged last opcode stag to payload) rest (step_says (frame_effect s f)) g
+              (t.1 (not-refused opened s f piece.behind stays)) (credit-down opened s.credit (step_says (frame_effect s f)) g.credit (step-down s.credit (frame_effect s f) (replies-frame s f small)))
+              (ap (λ (x : ServerState). x.credit) after) (subst (λ (x : ServerState). AreWithin x.reads x.regions) (sym after) within));
+    }
+
+-- the client's hello
+pub hello-guards : (opened : LinkParameters) (k : ClientState) (s : ServerState) (u d all_up all_down : List Piece) (w : Way) (place : ℕ) (rest : List Piece) (f : Frame) → Guards opened k s u d all_up all_down w place → w.up ≡ AHello ∷ rest → is_hello f ≡ true → place ≤ f.end
+    → Guards opened k (server_state_after opened s (FrameReceived f)) (u ++ AHello ∷ []) d all_up (all_down ++ server_says opened s (FrameReceived f)) (taken_up w rest (server_says opened s (FrameReceived f))) f.end
+hello-guards opened k s u d all_up all_down w place rest f g first is le =
+    let says = says-hello opened s f is in
+    let after = after-hello opened s f is in
+    let c = g.server.reads in
+    let r : Reads s (record { queued_up = w.queued_up; up = rest; queued_down = w.queued_down; down = w.down }) = record {
+      answered = c.answered;
+      asked = c.asked;
+      parts = c.parts;
+      answers = subst (λ (ps : List Piece). Answers s.response_bytes c.answered (ps ++ w.queued_up)) first c.answers;
+      requests = c.requests;
+    } in
+    let server : Server opened k s (taken_up w rest (AHello ∷ [])) f.end = record {
+      counts = subst (λ (t : ServerState). Counts k t (taken_up w rest (AHello ∷ []))) after
+          (subst (λ (said : List Piece). Counts k (server_state_after opened s (FrameReceived f)) (taken_up w rest said)) says (counts-hello_up opened k s w f rest g.server.counts first is));
+      reads = reads-says_down s s (record { queued_up = w.queued_up; up = rest; queued_down = w.queued_down; down = w.down }) (AHello ∷ []) r refl refl refl;
+      waits = g.server.waits;
+      sinks = have-later place f.end s.regions s.reads le g.server.sinks;
+      regions = g.server.regions;
+    } in
+    subst (λ (said : List Piece). Guards opened k (server_state_after opened s (FrameReceived f)) (u ++ AHello ∷ []) d all_up (all_down ++ said) (taken_up w rest said) f.end) (sym says)
+      (subst (λ (t : ServerState). Guards opened k t (u ++ AHello ∷ []) d all_up (all_down ++ AHello ∷ []) (taken_up w rest (AHello ∷ [])) f.end) (sym after)
+        (guards-up opened k s s u d all_up all_down w place f.end AHello rest (AHello ∷ []) g server (tt, tt) refl g.within))
