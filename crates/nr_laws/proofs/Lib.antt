@@ -41,3 +41,4 @@ pub mod ReadLimits
 pub mod Requests
 pub mod Guards
 pub mod GuardsServer
+pub mod GuardsClient

@@ -44,7 +44,7 @@ pub each-append : {X : Type 0} (P : X → Type 0) (xs ys : List X) → AllByRecu
 each-append P [] ys h k = k
 each-append P (x ∷ xs) ys h k = (h.0, each-append P xs ys h.1 k)
 
-each-take : {X : Type 0} (P : X → Type 0) (n : ℕ) (xs : List X) → AllByRecursion P xs → AllByRecursion P (take n xs)
+pub each-take : {X : Type 0} (P : X → Type 0) (n : ℕ) (xs : List X) → AllByRecursion P xs → AllByRecursion P (take n xs)
 each-take P zero xs h = tt
 each-take P (suc n) [] h = tt
 each-take P (suc n) (x ∷ xs) h = (h.0, each-take P n xs h.1)
@@ -54,7 +54,7 @@ each-drop P zero xs h = h
 each-drop P (suc n) [] h = tt
 each-drop P (suc n) (x ∷ xs) h = each-drop P n xs h.1
 
-each-kept : {X : Type 0} (P : X → Type 0) (p : X → Bool) (xs : List X) → AllByRecursion P xs → AllByRecursion P (filter p xs)
+pub each-kept : {X : Type 0} (P : X → Type 0) (p : X → Bool) (xs : List X) → AllByRecursion P xs → AllByRecursion P (filter p xs)
 each-kept P p [] h = tt
 each-kept P p (x ∷ xs) h = by (p x) (each-kept P p xs h.1)
   where

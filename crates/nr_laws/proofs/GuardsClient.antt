@@ -1,0 +1,254 @@
+-- A client of a matched link that a piece doesn't end keeps the guards of both ends.
+use Rattle.std.proofs.Common.{◌≡◌, ◌≢◌, ℕ, zero, suc, ◌+◌, ◌≤◌, ◌<◌, ◌^◌, Bool, true, false, cond, not, ◌&&◌, eqb, ltb, List, [], ◌∷◌, ◌++◌, length, map, take, drop, filter, Option, Some, None, Result, Ok, Err, refl, sym, ap, subst, ◌∙◌, arith, append_assoc, append-nil, length-append, ◌⊎◌, inl, inr, take-append-drop}
+use Rattle.std.specs.List.{AllByRecursion}
+use Rattle.std.proofs.lemmas.Bool.{ne_eqb, le-ltb}
+use Rattle.nr_xdr.specs.Item.{IsBytes}
+use Rattle.nr_xdr.specs.Fields.{word_at}
+use Rattle.nr_header.specs.Constants.{PAYLOAD_MAX}
+use Rattle.nr_wire.specs.Constants.{OPCODE_READ_REQUEST, OPCODE_SEND, QUEUE_SEND, QUEUE_READ_REQUEST}
+use Rattle.nr_wire.specs.declared.hello.Side.TheVariants.{Initiator, Responder}
+use Rattle.nr_wire.specs.Segment.{Segment}
+use Rattle.nr_wire.specs.Segment.Segment.{Tagged, Untagged}
+use Rattle.nr_regions.specs.Access.{HaveOwnStags}
+use Rattle.nr_link.specs.declared.end.End.{End}
+use Rattle.nr_link.specs.Frames.{Frame, is_hello}
+use Rattle.nr_link.specs.Output.{msn_word}
+use Rattle.nr_link.specs.ReceiveState.{begun_bytes, read_request_in, ReadRequest}
+use Rattle.nr_link.specs.Ending.{frame_segment}
+use Rattle.nr_reduce.specs.declared.mark.LinkParameters.{LinkParameters}
+use Rattle.nr_reduce.specs.Opening.{IsOpened}
+use Rattle.nr_reduce.specs.Limits.{send_max, numbers_end, most_credits}
+use Rattle.nr_reduce.specs.Events.{Event}
+use Rattle.nr_reduce.specs.Events.Event.{FrameReceived}
+use Rattle.nr_reduce.specs.EndRules.{EndState, live, next_end_state_by, end_state_after}
+use Rattle.nr_reduce.specs.OfferedRegions.{Region, region_grants}
+use Rattle.nr_reduce.specs.ClientState.{ClientState, OutstandingCall}
+use Rattle.nr_reduce.specs.Client.{client_rules, client_end, client_state_after, initial_client, credits_of_word, with_segment, with_message, segment_request}
+use Rattle.nr_reduce.specs.ServerState.{ServerState, PendingRead}
+use Rattle.nr_reduce.specs.ServerReads.{open_reads}
+use Rattle.nr_reduce.proofs.Steps.{end_state_after-append}
+use Rattle.nr_reduce.proofs.OwnStags.{AreNumbered, own-stags, client-numbers}
+use Rattle.nr_laws.specs.Pieces.{Piece, segment_at, spelled_one, count, one_send, one_read, one_hello, reading_piece, asking_piece, client_says, tagged_pieces, cut_piece, responding_pieces, IsPiece}
+use Rattle.nr_laws.specs.Pieces.Piece.{AHello, ASend, ARead, ATagged}
+use Rattle.nr_laws.specs.Between.{Way, Counts, Reads, Waits, Window, IsSink, HasSink, HaveSinks, AreBelow, Answers, requests_among}
+use Rattle.nr_laws.proofs.Counted.{count-append, length-fewer, others}
+use Rattle.nr_laws.proofs.CountsServer.{segment-is}
+use Rattle.nr_laws.proofs.CountsClient.{down_one, after-is, says-is, request_payload, out-there, taken, counts-hello_down, counts-send_down, counts-read_down, counts-tagged_down}
+use Rattle.nr_laws.proofs.ReadsClient.{IsThere, AnswersNone, first_asked, reads-read_down, reads-says_up}
+use Rattle.nr_laws.proofs.ServerKnown.{Server}
+use Rattle.nr_laws.proofs.Replies.{IsReply}
+use Rattle.nr_laws.proofs.ReadLimits.{AreWithin, ReadFits, IsSmall, each-append, each-take}
+use Rattle.nr_laws.proofs.Requests.{is-there}
+use Rattle.nr_laws.proofs.Linked.{Linked}
+use Rattle.nr_laws.proofs.ClientTakes.{says-hello, after-hello}
+use Rattle.nr_laws.proofs.Guards.{UpPiece, DownPiece, Guards}
+use Rattle.nr_laws.proofs.GuardsServer.{each-at}
+
+pub front-down : (opened : LinkParameters) (k : ClientState) (s : ServerState) (u d all_up all_down : List Piece) (w : Way) (place : ℕ) (p : Piece) (rest : List Piece) → Linked opened k s u d all_up all_down w → Guards opened k s u d all_up all_down w place → w.down ≡ p ∷ rest → DownPiece opened.granted p
+front-down opened k s u d all_up all_down w place p rest l g first =
+    each-at (DownPiece opened.granted) d p (rest ++ w.queued_down) (subst (AllByRecursion (DownPiece opened.granted)) (sym l.parts_down ∙ ap (λ (ps : List Piece). d ++ (ps ++ w.queued_down)) first) g.down_said)
+
+-- ---- The read of a Read Request
+
+each-right : {X : Type 0} (P : X → Type 0) (xs ys : List X) → AllByRecursion P (xs ++ ys) → AllByRecursion P ys
+each-right P [] ys h = h
+each-right P (x ∷ xs) ys h = each-right P xs ys h.1
+
+have-right : (place : ℕ) (regions : List Region) (xs ys : List PendingRead) → HaveSinks place regions (xs ++ ys) → HaveSinks place regions ys
+have-right place regions [] ys h = h
+have-right place regions (x ∷ xs) ys h = have-right place regions xs ys h.1
+
+have-take : (place n : ℕ) (regions : List Region) (xs : List PendingRead) → HaveSinks place regions xs → HaveSinks place regions (take n xs)
+have-take place zero regions xs h = tt
+have-take place (suc n) regions [] h = tt
+have-take place (suc n) regions (x ∷ xs) h = (h.0, have-take place n regions xs h.1)
+
+record Bounds (n : ℕ) (r : PendingRead) : Type 0 where
+  sink : r.sink ≤ n
+  room : r.at + r.size ≤ PAYLOAD_MAX
+
+bounds : (place n : ℕ) (r : PendingRead) (regions : List Region) → HasSink place r regions → AreBelow (λ (g : Region). g.stag) n regions → AllByRecursion IsSmall regions → Bounds n r
+bounds place n r [] h below small = absurd h
+bounds place n r (g ∷ regions) (inl s) below small = record { sink = omega (arith, s.stag, below.0); room = omega (arith, s.room, small.0) }
+bounds place n r (g ∷ regions) (inr later) below small = bounds place n r regions later.1 below.1 small.1
+
+-- the fields of the Read Request at the front are those of an open read
+record Asked (sink at size stag to : ℕ) : Type 0 where
+  some : 0 < size
+  sink_word : sink < 2 ^ 32
+  at_word : at < 2 ^ 64
+  size_word : size < 2 ^ 32
+  stag_word : stag < 2 ^ 32
+  to_word : to < 2 ^ 64
+
+read-fields : (sink at size stag to : ℕ) (r : PendingRead) → ARead sink at size stag to ≡ reading_piece r → (sink ≡ r.sink) × (at ≡ r.at) × (size ≡ r.size) × (stag ≡ r.stag) × (to ≡ r.to)
+read-fields sink at size stag to r e = (cc, cc, cc, cc, cc)
+
+first-piece : (p : Piece) (ps : List Piece) (reads : List PendingRead) → p ∷ ps ≡ map reading_piece reads → (r : PendingRead) × (others : List PendingRead) × (reads ≡ r ∷ others) × (p ≡ reading_piece r)
+first-piece p ps [] e = absurd cc
+first-piece p ps (r ∷ others) e = (r, others, refl, cc)
+
+asked-of : (s : ServerState) (w : Way) (place sink at size stag to : ℕ) (rest : List Piece) → Reads s w → w.down ≡ ARead sink at size stag to ∷ rest → HaveSinks place s.regions s.reads → AreBelow (λ (g : Region). g.stag) (length s.regions) s.regions → AreWithin s.reads s.regions
+    → Asked sink at size stag to
+asked-of s w place sink at size stag to rest c first sinks stags within =
+    let asked : ARead sink at size stag to ∷ requests_among (rest ++ w.queued_down) ≡ map reading_piece c.asked = ap (λ (ps : List Piece). requests_among (ps ++ w.queued_down)) (sym first) ∙ c.requests in
+    let a = first-piece (ARead sink at size stag to) (requests_among (rest ++ w.queued_down)) c.asked asked in
+    let r = a.0 in
+    let parts : open_reads s ≡ c.answered ++ r ∷ a.1 = c.parts ∙ ap (λ (xs : List PendingRead). c.answered ++ xs) a.2 in
+    let fits = (each-right ReadFits c.answered (r ∷ a.1) (subst (AllByRecursion ReadFits) parts (each-take ReadFits 8 s.reads within.fit))).0 in
+    let sink_of = (have-right place s.regions c.answered (r ∷ a.1) (subst (HaveSinks place s.regions) parts (have-take place 8 s.regions s.reads sinks))).0 in
+    let b = bounds place (length s.regions) r s.regions sink_of stags within.small in
+    let same = read-fields sink at size stag to r a.3 in
+    record {
+      some = omega (arith, same.2, fits.0);
+      sink_word = omega (arith, same.0, b.sink, within.few);
+      at_word = omega (arith, same.1, b.room);
+      size_word = omega (arith, same.2, fits.1);
+      stag_word = omega (arith, same.3, fits.2);
+      to_word = omega (arith, same.4, fits.3);
+    }
+
+-- ---- What is kept
+
+guards-down : (opened : LinkParameters) (k t : ClientState) (s : ServerState) (u d all_up all_down : List Piece) (w : Way) (place : ℕ) (p : Piece) (rest said : List Piece) (event : Event) → Guards opened k s u d all_up all_down w place
+    → Server opened t s (down_one w said rest) place → Window opened t → AllByRecursion UpPiece said → client_end k event ≡ None → t ≡ client_state_after opened k event
+    → Guards opened t s u (d ++ p ∷ []) (all_up ++ said) all_down (down_one w said rest) place
+guards-down opened k t s u d all_up all_down w place p rest said event g server window up stays is = record {
+  server = server;
+  window = window;
+  up_said = each-append UpPiece all_up said g.up_said up;
+  down_said = g.down_said;
+  credit = g.credit;
+  within = g.within;
+  reached =
+      (g.reached.0 ++ event ∷ [],
+        end_state_after-append (client_rules opened) (initial_client opened) g.reached.0 (event ∷ [])
+        ∙ ap (λ (r : EndState ClientState). end_state_after (client_rules opened) r (event ∷ [])) g.reached.1
+        ∙ ap (λ (x : Option End). next_end_state_by (client_rules opened) k event x) stays ∙ ap (λ (x : ClientState). live x) (sym is));
+}
+
+credits-same : (n : ℕ) → 0 < n → n ≤ most_credits → credits_of_word n ≤ n
+credits-same n some most =
+    let same : credits_of_word n ≡ n = (λ i. cond (ne_eqb n 0 (λ e. omega (arith, e, some)) i) 1 (cond (le-ltb most_credits n most i) most_credits n)) in
+    omega (arith, same)
+
+asks-up : (opened : LinkParameters) (os : List OutstandingCall) → AllByRecursion (λ (o : OutstandingCall). UpPiece (asking_piece opened o)) os → AllByRecursion UpPiece (map (asking_piece opened) os)
+asks-up opened [] h = tt
+asks-up opened (o ∷ os) h = (h.0, asks-up opened os h.1)
+
+none-asks : (opened : LinkParameters) (os : List OutstandingCall) → AnswersNone (map (asking_piece opened) os)
+none-asks opened [] = (refl, refl)
+none-asks opened (o ∷ os) = none-asks opened os
+
+pub guards-hello_down : (opened : LinkParameters) (k : ClientState) (s : ServerState) (u d all_up all_down : List Piece) (w : Way) (place : ℕ) (rest : List Piece) (f : Frame) → Guards opened k s u d all_up all_down w place → w.down ≡ AHello ∷ rest → is_hello f ≡ true
+    → AllByRecursion (λ (o : OutstandingCall). UpPiece (asking_piece opened o)) k.outstanding → client_end k (FrameReceived f) ≡ None
+    → Guards opened (client_state_after opened k (FrameReceived f)) s u (d ++ AHello ∷ []) (all_up ++ client_says opened k (FrameReceived f)) all_down (down_one w (client_says opened k (FrameReceived f)) rest) place
+guards-hello_down opened k s u d all_up all_down w place rest f g first is sized stays =
+    let t = client_state_after opened k (FrameReceived f) in
+    let said = map (asking_piece opened) k.outstanding in
+    let says = says-hello opened k f is in
+    let after = after-hello opened k f is in
+    let server : Server opened t s (down_one w said rest) place = record {
+      counts = subst (λ (ps : List Piece). Counts t s (down_one w ps rest)) says (counts-hello_down opened k s w f rest g.server.counts first is);
+      reads = reads-says_up s w said rest g.server.reads (none-asks opened k.outstanding) (ap requests_among first);
+      waits = g.server.waits;
+      sinks = g.server.sinks;
+      regions = g.server.regions;
+    } in
+    subst (λ (ps : List Piece). Guards opened t s u (d ++ AHello ∷ []) (all_up ++ ps) all_down (down_one w ps rest) place) (sym says)
+      (guards-down opened k t s u d all_up all_down w place AHello rest said (FrameReceived f) g server (subst (Window opened) (sym after) (record { window = g.window.window; grant = g.window.grant })) (asks-up opened k.outstanding sized) stays refl)
+
+pub guards-send_down : (opened : LinkParameters) (k : ClientState) (s : ServerState) (u d all_up all_down : List Piece) (w : Way) (place : ℕ) (message : List ℕ) (rest : List Piece) (f : Frame) → IsOpened opened → Linked opened k s u d all_up all_down w → Guards opened k s u d all_up all_down w place → w.down ≡ ASend message ∷ rest
+    → IsPiece k.received.sends k.received.requests f (ASend message) → client_end k (FrameReceived f) ≡ None
+    → Guards opened (client_state_after opened k (FrameReceived f)) s u (d ++ ASend message ∷ []) (all_up ++ client_says opened k (FrameReceived f)) all_down (down_one w (client_says opened k (FrameReceived f)) rest) place
+guards-send_down opened k s u d all_up all_down w place message rest f o l g first piece stays =
+    let segment : Segment = Untagged true OPCODE_SEND 0 QUEUE_SEND (msn_word (k.received.sends + 1)) 0 message in
+    let reads : frame_segment f ≡ Ok segment = segment-is k.received.sends k.received.requests f (ASend message) segment piece refl in
+    let t = client_state_after opened k (FrameReceived f) in
+    let says : client_says opened k (FrameReceived f) ≡ [] = says-is opened k f (Ok segment) piece.behind reads in
+    let after : t ≡ with_segment k f (Ok segment) = after-is opened k f (Ok segment) piece.behind reads in
+    let whole : List ℕ = begun_bytes k.received.begun ++ message in
+    let same : whole ≡ message = ap (λ (b : Option (List ℕ)). begun_bytes b ++ message) l.counts.whole_down in
+    let reply : IsReply opened.granted message = front-down opened k s u d all_up all_down w place (ASend message) rest l g first in
+    let fewer : length (filter (λ (x : OutstandingCall). not (eqb x.xid (word_at 0 whole))) k.outstanding) ≤ length k.outstanding = filter-less (λ (x : OutstandingCall). not (eqb x.xid (word_at 0 whole))) k.outstanding in
+    let grant : credits_of_word (word_at 8 whole) ≡ credits_of_word opened.granted = ap credits_of_word (ap (λ (xs : List ℕ). word_at 8 xs) same ∙ reply.credits) in
+    let window : Window opened (with_segment k f (Ok segment)) = record {
+      window = omega (arith, fewer, g.window.window);
+      grant = omega (arith, grant, credits-same opened.granted o.granted o.granted_fits);
+    } in
+    let server : Server opened t s (down_one w [] rest) place = record {
+      counts = subst (λ (ps : List Piece). Counts t s (down_one w ps rest)) says (counts-send_down opened k s w f message rest g.server.counts first piece stays l.outs.apart);
+      reads = reads-says_up s w [] rest g.server.reads (refl, refl) (ap requests_among first);
+      waits = g.server.waits;
+      sinks = g.server.sinks;
+      regions = g.server.regions;
+    } in
+    subst (λ (ps : List Piece). Guards opened t s u (d ++ ASend message ∷ []) (all_up ++ ps) all_down (down_one w ps rest) place) (sym says)
+      (guards-down opened k t s u d all_up all_down w place (ASend message) rest [] (FrameReceived f) g server (subst (Window opened) (sym after) window) tt stays refl)
+  where
+    filter-less : (p : OutstandingCall → Bool) (os : List OutstandingCall) → length (filter p os) ≤ length os
+    filter-less p [] = omega arith
+    filter-less p (x ∷ os) = by (p x) (filter-less p os)
+      where
+        by : (b : Bool) → length (filter p os) ≤ length os → length (cond b (x ∷ filter p os) (filter p os)) ≤ length (x ∷ os)
+        by true le = omega (arith, le)
+        by false le = omega (arith, le)
+
+-- what the client answers to a Read Request has no message
+tagged-up : (opened : LinkParameters) (k : ClientState) (f : Frame) (r : Result Segment ℕ) → is_hello f ≡ false → frame_segment f ≡ r → AllByRecursion UpPiece (client_says opened k (FrameReceived f))
+unfolding tagged_pieces
+tagged-up opened k f r behind is = subst (AllByRecursion UpPiece) (sym (says-is opened k f r behind is)) (by (segment_request r))
+  where
+    cuts : (opcode stag to : ℕ) (bytes : List ℕ) (is : List ℕ) → AllByRecursion UpPiece (map (cut_piece opcode stag to bytes) is)
+    cuts opcode stag to bytes [] = tt
+    cuts opcode stag to bytes (i ∷ is) = (tt, cuts opcode stag to bytes is)
+    by : (q : Option ReadRequest) → AllByRecursion UpPiece (responding_pieces k f.end q)
+    by None = tt
+    by (Some q) = cuts _ q.sink q.sink_to _ _
+
+pub guards-read_down : (opened : LinkParameters) (k : ClientState) (s : ServerState) (u d all_up all_down : List Piece) (w : Way) (place sink at size stag to : ℕ) (rest : List Piece) (f : Frame) → Linked opened k s u d all_up all_down w → Guards opened k s u d all_up all_down w place → w.down ≡ ARead sink at size stag to ∷ rest
+    → IsPiece k.received.sends k.received.requests f (ARead sink at size stag to) → client_end k (FrameReceived f) ≡ None
+    → Guards opened (client_state_after opened k (FrameReceived f)) s u (d ++ ARead sink at size stag to ∷ []) (all_up ++ client_says opened k (FrameReceived f)) all_down (down_one w (client_says opened k (FrameReceived f)) rest) place
+guards-read_down opened k s u d all_up all_down w place sink at size stag to rest f l g first piece stays =
+    let segment : Segment = Untagged true OPCODE_READ_REQUEST 0 QUEUE_READ_REQUEST (msn_word (k.received.requests + 1)) 0 (request_payload sink at size stag to) in
+    let reads : frame_segment f ≡ Ok segment = segment-is k.received.sends k.received.requests f (ARead sink at size stag to) segment piece refl in
+    let t = client_state_after opened k (FrameReceived f) in
+    let said = client_says opened k (FrameReceived f) in
+    let after : t ≡ with_segment k f (Ok segment) = after-is opened k f (Ok segment) piece.behind reads in
+    let a = asked-of s w place sink at size stag to rest g.server.reads first g.server.sinks g.server.regions.stags g.within in
+    let numbers = client-numbers opened g.reached.0 in
+    let own : HaveOwnStags (region_grants f.end k.regions) =
+        own-stags f.end opened.first_stag k.regions (ap-regions opened k g.reached.0 g.reached.1 numbers.regions) in
+    let there = is-there k f (msn_word (k.received.requests + 1)) sink at size stag to own piece.behind reads stays a.some a.sink_word a.at_word a.size_word a.stag_word a.to_word in
+    let server : Server opened t s (down_one w said rest) place = record {
+      counts = counts-read_down opened k s w f sink at size stag to rest g.server.counts first piece;
+      reads = reads-read_down opened k s w f sink at size stag to rest g.server.reads first piece there;
+      waits = g.server.waits;
+      sinks = g.server.sinks;
+      regions = g.server.regions;
+    } in
+    guards-down opened k t s u d all_up all_down w place (ARead sink at size stag to) rest said (FrameReceived f) g server (subst (Window opened) (sym after) (record { window = g.window.window; grant = g.window.grant }))
+      (tagged-up opened k f (Ok segment) piece.behind reads) stays refl
+  where
+    ap-regions : (opened : LinkParameters) (k : ClientState) (es : List Event) → end_state_after (client_rules opened) (initial_client opened) es ≡ live k
+        → AreNumbered opened.first_stag (end_state_after (client_rules opened) (initial_client opened) es).state.regions → AreNumbered opened.first_stag k.regions
+    ap-regions opened k es is h = subst (λ (r : EndState ClientState). AreNumbered opened.first_stag r.state.regions) is h
+
+pub guards-tagged_down : (opened : LinkParameters) (k : ClientState) (s : ServerState) (u d all_up all_down : List Piece) (w : Way) (place : ℕ) (last : Bool) (opcode stag to : ℕ) (payload : List ℕ) (rest : List Piece) (f : Frame) → Guards opened k s u d all_up all_down w place
+    → w.down ≡ ATagged last opcode stag to payload ∷ rest → IsPiece k.received.sends k.received.requests f (ATagged last opcode stag to payload) → client_end k (FrameReceived f) ≡ None
+    → Guards opened (client_state_after opened k (FrameReceived f)) s u (d ++ ATagged last opcode stag to payload ∷ []) (all_up ++ client_says opened k (FrameReceived f)) all_down (down_one w (client_says opened k (FrameReceived f)) rest) place
+guards-tagged_down opened k s u d all_up all_down w place last opcode stag to payload rest f g first piece stays =
+    let segment : Segment = Tagged last opcode stag to payload in
+    let reads : frame_segment f ≡ Ok segment = segment-is k.received.sends k.received.requests f (ATagged last opcode stag to payload) segment piece refl in
+    let t = client_state_after opened k (FrameReceived f) in
+    let says : client_says opened k (FrameReceived f) ≡ [] = says-is opened k f (Ok segment) piece.behind reads in
+    let after : t ≡ with_segment k f (Ok segment) = after-is opened k f (Ok segment) piece.behind reads in
+    let server : Server opened t s (down_one w [] rest) place = record {
+      counts = subst (λ (ps : List Piece). Counts t s (down_one w ps rest)) says (counts-tagged_down opened k s w f last opcode stag to payload rest g.server.counts first piece);
+      reads = reads-says_up s w [] rest g.server.reads (refl, refl) (ap requests_among first);
+      waits = g.server.waits;
+      sinks = g.server.sinks;
+      regions = g.server.regions;
+    } in
+    subst (λ (ps : List Piece). Guards opened t s u (d ++ ATagged last opcode stag to payload ∷ []) (all_up ++ ps) all_down (down_one w ps rest) place) (sym says)
+      (guards-down opened k t s u d all_up all_down w place (ATagged last opcode stag to payload) rest [] (FrameReceived f) g server (subst (Window opened) (sym after) (record { window = g.window.window; grant = g.window.grant })) tt stays refl)
