@@ -57,12 +57,17 @@ DownPiece credit (ASend message) = IsReply credit message
 DownPiece credit (ARead sink at size stag to) = Unit {0}
 DownPiece credit (ATagged last opcode stag to payload) = opcode ≡ OPCODE_WRITE
 
+-- the messages of calls have the size of one
+abbrev pub AreSized : LinkParameters → List OutstandingCall → Type 0
+AreSized opened os = AllByRecursion (λ (o : OutstandingCall). UpPiece (asking_piece opened o)) os
+
 pub record Guards (opened : LinkParameters) (k : ClientState) (s : ServerState) (u d all_up all_down : List Piece) (w : Way) (up : ℕ) : Type 0 where
   pub server : Server opened k s w up
   pub window : Window opened k
   pub up_said : AllByRecursion UpPiece all_up
   pub down_said : AllByRecursion (DownPiece opened.granted) all_down
   pub credit : s.credit ≡ opened.granted
+  pub calls : AreSized opened k.outstanding
   pub within : AreWithin s.reads s.regions
   pub reached : (es : List Event) × (end_state_after (client_rules opened) (initial_client opened) es ≡ live k)
 

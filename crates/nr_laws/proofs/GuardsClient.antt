@@ -37,11 +37,12 @@ use Rattle.nr_laws.proofs.CountsClient.{down_one, after-is, says-is, request_pay
 use Rattle.nr_laws.proofs.ReadsClient.{IsThere, AnswersNone, first_asked, reads-read_down, reads-says_up}
 use Rattle.nr_laws.proofs.ServerKnown.{Server}
 use Rattle.nr_laws.proofs.Replies.{IsReply}
-use Rattle.nr_laws.proofs.ReadLimits.{AreWithin, ReadFits, IsSmall, each-append, each-take}
+use Rattle.nr_laws.proofs.ReadLimits.{AreWithin, ReadFits, IsSmall, each-append, each-take, each-kept}
 use Rattle.nr_laws.proofs.Requests.{is-there}
+use Rattle.nr_laws.proofs.Outs.{segment-out}
 use Rattle.nr_laws.proofs.Linked.{Linked}
 use Rattle.nr_laws.proofs.ClientTakes.{says-hello, after-hello}
-use Rattle.nr_laws.proofs.Guards.{UpPiece, DownPiece, Guards}
+use Rattle.nr_laws.proofs.Guards.{UpPiece, DownPiece, AreSized, Guards}
 use Rattle.nr_laws.proofs.GuardsServer.{each-at}
 
 pub front-down : (opened : LinkParameters) (k : ClientState) (s : ServerState) (u d all_up all_down : List Piece) (w : Way) (place : ℕ) (p : Piece) (rest : List Piece) → Linked opened k s u d all_up all_down w → Guards opened k s u d all_up all_down w place → w.down ≡ p ∷ rest → DownPiece opened.granted p
@@ -111,14 +112,15 @@ asked-of s w place sink at size stag to rest c first sinks stags within =
 -- ---- What is kept
 
 guards-down : (opened : LinkParameters) (k t : ClientState) (s : ServerState) (u d all_up all_down : List Piece) (w : Way) (place : ℕ) (p : Piece) (rest said : List Piece) (event : Event) → Guards opened k s u d all_up all_down w place
-    → Server opened t s (down_one w said rest) place → Window opened t → AllByRecursion UpPiece said → client_end k event ≡ None → t ≡ client_state_after opened k event
+    → Server opened t s (down_one w said rest) place → Window opened t → AllByRecursion UpPiece said → AreSized opened t.outstanding → client_end k event ≡ None → t ≡ client_state_after opened k event
     → Guards opened t s u (d ++ p ∷ []) (all_up ++ said) all_down (down_one w said rest) place
-guards-down opened k t s u d all_up all_down w place p rest said event g server window up stays is = record {
+guards-down opened k t s u d all_up all_down w place p rest said event g server window up calls stays is = record {
   server = server;
   window = window;
   up_said = each-append UpPiece all_up said g.up_said up;
   down_said = g.down_said;
   credit = g.credit;
+  calls = calls;
   within = g.within;
   reached =
       (g.reached.0 ++ event ∷ [],
@@ -126,6 +128,13 @@ guards-down opened k t s u d all_up all_down w place p rest said event g server 
         ∙ ap (λ (r : EndState ClientState). end_state_after (client_rules opened) r (event ∷ [])) g.reached.1
         ∙ ap (λ (x : Option End). next_end_state_by (client_rules opened) k event x) stays ∙ ap (λ (x : ClientState). live x) (sym is));
 }
+
+sized-frame : (opened : LinkParameters) (k t : ClientState) (f : Frame) (r : Result Segment ℕ) → t ≡ with_segment k f r → AreSized opened k.outstanding → AreSized opened t.outstanding
+sized-frame opened k t f r is h = subst (λ (x : ClientState). AreSized opened x.outstanding) (sym is) (by (segment-out k f r))
+  where
+    by : ((with_segment k f r).outstanding ≡ k.outstanding) ⊎ ((p : OutstandingCall → Bool) × ((with_segment k f r).outstanding ≡ filter p k.outstanding)) → AreSized opened (with_segment k f r).outstanding
+    by (inl same) = subst (AreSized opened) (sym same) h
+    by (inr left) = subst (AreSized opened) (sym left.1) (each-kept (λ (o : OutstandingCall). UpPiece (asking_piece opened o)) left.0 k.outstanding h)
 
 credits-same : (n : ℕ) → 0 < n → n ≤ most_credits → credits_of_word n ≤ n
 credits-same n some most =
@@ -141,9 +150,9 @@ none-asks opened [] = (refl, refl)
 none-asks opened (o ∷ os) = none-asks opened os
 
 pub guards-hello_down : (opened : LinkParameters) (k : ClientState) (s : ServerState) (u d all_up all_down : List Piece) (w : Way) (place : ℕ) (rest : List Piece) (f : Frame) → Guards opened k s u d all_up all_down w place → w.down ≡ AHello ∷ rest → is_hello f ≡ true
-    → AllByRecursion (λ (o : OutstandingCall). UpPiece (asking_piece opened o)) k.outstanding → client_end k (FrameReceived f) ≡ None
+    → client_end k (FrameReceived f) ≡ None
     → Guards opened (client_state_after opened k (FrameReceived f)) s u (d ++ AHello ∷ []) (all_up ++ client_says opened k (FrameReceived f)) all_down (down_one w (client_says opened k (FrameReceived f)) rest) place
-guards-hello_down opened k s u d all_up all_down w place rest f g first is sized stays =
+guards-hello_down opened k s u d all_up all_down w place rest f g first is stays =
     let t = client_state_after opened k (FrameReceived f) in
     let said = map (asking_piece opened) k.outstanding in
     let says = says-hello opened k f is in
@@ -156,7 +165,7 @@ guards-hello_down opened k s u d all_up all_down w place rest f g first is sized
       regions = g.server.regions;
     } in
     subst (λ (ps : List Piece). Guards opened t s u (d ++ AHello ∷ []) (all_up ++ ps) all_down (down_one w ps rest) place) (sym says)
-      (guards-down opened k t s u d all_up all_down w place AHello rest said (FrameReceived f) g server (subst (Window opened) (sym after) (record { window = g.window.window; grant = g.window.grant })) (asks-up opened k.outstanding sized) stays refl)
+      (guards-down opened k t s u d all_up all_down w place AHello rest said (FrameReceived f) g server (subst (Window opened) (sym after) (record { window = g.window.window; grant = g.window.grant })) (asks-up opened k.outstanding g.calls) (subst (λ (x : ClientState). AreSized opened x.outstanding) (sym after) g.calls) stays refl)
 
 pub guards-send_down : (opened : LinkParameters) (k : ClientState) (s : ServerState) (u d all_up all_down : List Piece) (w : Way) (place : ℕ) (message : List ℕ) (rest : List Piece) (f : Frame) → IsOpened opened → Linked opened k s u d all_up all_down w → Guards opened k s u d all_up all_down w place → w.down ≡ ASend message ∷ rest
     → IsPiece k.received.sends k.received.requests f (ASend message) → client_end k (FrameReceived f) ≡ None
@@ -184,7 +193,7 @@ guards-send_down opened k s u d all_up all_down w place message rest f o l g fir
       regions = g.server.regions;
     } in
     subst (λ (ps : List Piece). Guards opened t s u (d ++ ASend message ∷ []) (all_up ++ ps) all_down (down_one w ps rest) place) (sym says)
-      (guards-down opened k t s u d all_up all_down w place (ASend message) rest [] (FrameReceived f) g server (subst (Window opened) (sym after) window) tt stays refl)
+      (guards-down opened k t s u d all_up all_down w place (ASend message) rest [] (FrameReceived f) g server (subst (Window opened) (sym after) window) tt (sized-frame opened k t f (Ok segment) after g.calls) stays refl)
   where
     filter-less : (p : OutstandingCall → Bool) (os : List OutstandingCall) → length (filter p os) ≤ length os
     filter-less p [] = omega arith
@@ -228,7 +237,7 @@ guards-read_down opened k s u d all_up all_down w place sink at size stag to res
       regions = g.server.regions;
     } in
     guards-down opened k t s u d all_up all_down w place (ARead sink at size stag to) rest said (FrameReceived f) g server (subst (Window opened) (sym after) (record { window = g.window.window; grant = g.window.grant }))
-      (tagged-up opened k f (Ok segment) piece.behind reads) stays refl
+      (tagged-up opened k f (Ok segment) piece.behind reads) (sized-frame opened k t f (Ok segment) after g.calls) stays refl
   where
     ap-regions : (opened : LinkParameters) (k : ClientState) (es : List Event) → end_state_after (client_rules opened) (initial_client opened) es ≡ live k
         → AreNumbered opened.first_stag (end_state_after (client_rules opened) (initial_client opened) es).state.regions → AreNumbered opened.first_stag k.regions
@@ -251,4 +260,4 @@ guards-tagged_down opened k s u d all_up all_down w place last opcode stag to pa
       regions = g.server.regions;
     } in
     subst (λ (ps : List Piece). Guards opened t s u (d ++ ATagged last opcode stag to payload ∷ []) (all_up ++ ps) all_down (down_one w ps rest) place) (sym says)
-      (guards-down opened k t s u d all_up all_down w place (ATagged last opcode stag to payload) rest [] (FrameReceived f) g server (subst (Window opened) (sym after) (record { window = g.window.window; grant = g.window.grant })) tt stays refl)
+      (guards-down opened k t s u d all_up all_down w place (ATagged last opcode stag to payload) rest [] (FrameReceived f) g server (subst (Window opened) (sym after) (record { window = g.window.window; grant = g.window.grant })) tt (sized-frame opened k t f (Ok segment) after g.calls) stays refl)

@@ -57,6 +57,7 @@ guards-up opened k s t u d all_up all_down w place end p rest said g server down
   up_said = g.up_said;
   down_said = each-append (DownPiece opened.granted) all_down said g.down_said down;
   credit = credit ∙ g.credit;
+  calls = g.calls;
   within = within;
   reached = g.reached;
 }

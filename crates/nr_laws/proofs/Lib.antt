@@ -42,3 +42,4 @@ pub mod Requests
 pub mod Guards
 pub mod GuardsServer
 pub mod GuardsClient
+pub mod GuardsOwn

@@ -61,7 +61,7 @@ up-linked opened k t s u d all_up all_down w said l counts outs short received p
   requests_sent = l.requests_sent;
 }
 
-planned : (payload : List ℕ) (r : Result Plan TooLarge) (p : Plan) → r ≡ Ok p → plan_or payload r ≡ p
+pub planned : (payload : List ℕ) (r : Result Plan TooLarge) (p : Plan) → r ≡ Ok p → plan_or payload r ≡ p
 planned payload r p e = ap (λ (x : Result Plan TooLarge). plan_or payload x) e
 
 pub record Submitted (opened : LinkParameters) (k : ClientState) (s : ServerState) (u d all_up all_down : List Piece) (w : Way) (place : ℕ) (a : AcceptedCall) : Type 0 where
@@ -164,7 +164,7 @@ same-linked opened k t s u d all_up all_down w v l up down counts outs short rec
   requests_sent = l.requests_sent;
 }
 
-counts-revoked : (opened : LinkParameters) (k : ClientState) (s : ServerState) (w : Way) (place xid : ℕ) → Counts k s w → Counts (client_state_after opened k (MemoryRevoked place xid)) s w
+pub counts-revoked : (opened : LinkParameters) (k : ClientState) (s : ServerState) (w : Way) (place xid : ℕ) → Counts k s w → Counts (client_state_after opened k (MemoryRevoked place xid)) s w
 unfolding client_state_after
 counts-revoked opened k s w place xid c = record {
   hello = c.hello;
