@@ -43,3 +43,4 @@ pub mod Guards
 pub mod GuardsServer
 pub mod GuardsClient
 pub mod GuardsOwn
+pub mod StepUp

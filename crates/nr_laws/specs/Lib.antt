@@ -2,3 +2,4 @@ pub mod Pieces
 pub mod Between
 pub mod Typed
 pub mod Completion
+pub mod EndCauses
