@@ -74,13 +74,14 @@ bounds place n r (g ∷ regions) (inl s) below small = record { sink = omega (ar
 bounds place n r (g ∷ regions) (inr later) below small = bounds place n r regions later.1 below.1 small.1
 
 -- the fields of the Read Request at the front are those of an open read
-record Asked (sink at size stag to : ℕ) : Type 0 where
-  some : 0 < size
-  sink_word : sink < 2 ^ 32
-  at_word : at < 2 ^ 64
-  size_word : size < 2 ^ 32
-  stag_word : stag < 2 ^ 32
-  to_word : to < 2 ^ 64
+pub record Asked (sink at size stag to : ℕ) : Type 0 where
+  pub some : 0 < size
+  pub sink_word : sink < 2 ^ 32
+  pub at_word : at < 2 ^ 64
+  pub size_word : size < 2 ^ 32
+  pub stag_word : stag < 2 ^ 32
+  pub to_word : to < 2 ^ 64
+  pub room : at + size ≤ PAYLOAD_MAX
 
 read-fields : (sink at size stag to : ℕ) (r : PendingRead) → ARead sink at size stag to ≡ reading_piece r → (sink ≡ r.sink) × (at ≡ r.at) × (size ≡ r.size) × (stag ≡ r.stag) × (to ≡ r.to)
 read-fields sink at size stag to r e = (cc, cc, cc, cc, cc)
@@ -89,7 +90,7 @@ first-piece : (p : Piece) (ps : List Piece) (reads : List PendingRead) → p ∷
 first-piece p ps [] e = absurd cc
 first-piece p ps (r ∷ others) e = (r, others, refl, cc)
 
-asked-of : (s : ServerState) (w : Way) (place sink at size stag to : ℕ) (rest : List Piece) → Reads s w → w.down ≡ ARead sink at size stag to ∷ rest → HaveSinks place s.regions s.reads → AreBelow (λ (g : Region). g.stag) (length s.regions) s.regions → AreWithin s.reads s.regions
+pub asked-of : (s : ServerState) (w : Way) (place sink at size stag to : ℕ) (rest : List Piece) → Reads s w → w.down ≡ ARead sink at size stag to ∷ rest → HaveSinks place s.regions s.reads → AreBelow (λ (g : Region). g.stag) (length s.regions) s.regions → AreWithin s.reads s.regions
     → Asked sink at size stag to
 asked-of s w place sink at size stag to rest c first sinks stags within =
     let asked : ARead sink at size stag to ∷ requests_among (rest ++ w.queued_down) ≡ map reading_piece c.asked = ap (λ (ps : List Piece). requests_among (ps ++ w.queued_down)) (sym first) ∙ c.requests in
@@ -107,6 +108,7 @@ asked-of s w place sink at size stag to rest c first sinks stags within =
       size_word = omega (arith, same.2, fits.1);
       stag_word = omega (arith, same.3, fits.2);
       to_word = omega (arith, same.4, fits.3);
+      room = omega (arith, same.1, same.2, b.room);
     }
 
 -- ---- What is kept

@@ -44,3 +44,4 @@ pub mod GuardsServer
 pub mod GuardsClient
 pub mod GuardsOwn
 pub mod StepUp
+pub mod StepDown

@@ -73,7 +73,7 @@ server-response opened s w f last stag to payload rest c head p allowed =
 
 -- ---- The client
 
-client-by : (k : ClientState) (f : Frame) (found : Option End) → is_hello f ≡ false → frame_end (client_readiness k) (region_grants f.end k.regions) f ≡ found → client_end k (FrameReceived f) ≡ or_message_end k f found
+pub client-by : (k : ClientState) (f : Frame) (found : Option End) → is_hello f ≡ false → frame_end (client_readiness k) (region_grants f.end k.regions) f ≡ found → client_end k (FrameReceived f) ≡ or_message_end k f found
 unfolding client_end
 client-by k f found behind is = λ i. cond (behind i) (hello_end (hello_of Responder f.bytes)) (or_message_end k f (is i))
 
