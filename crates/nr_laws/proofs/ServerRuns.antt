@@ -8,6 +8,7 @@ use Rattle.nr_wire.specs.declared.hello.Side.{Side}
 use Rattle.nr_link.specs.declared.end.End.{End}
 use Rattle.nr_link.specs.Frames.{Frame, frames_from}
 use Rattle.nr_reduce.specs.declared.mark.LinkParameters.{LinkParameters}
+use Rattle.nr_reduce.specs.Opening.{IsOpened}
 use Rattle.nr_reduce.specs.Events.{Event}
 use Rattle.nr_reduce.specs.Events.Event.{FrameReceived}
 use Rattle.nr_reduce.specs.EndRules.{Rules, EndState, live, next_end_state, next_end_state_by, end_state_after, output_for, output_for_by, output_for_all}
@@ -19,6 +20,9 @@ use Rattle.nr_laws.specs.Pieces.{Piece, segment_at, spelled_one, spelled, count,
 use Rattle.nr_laws.specs.Between.{Way}
 use Rattle.nr_laws.proofs.Counted.{count-append}
 use Rattle.nr_laws.proofs.Channel.{frames_at, spelled-append}
+use Rattle.nr_laws.specs.EndCauses.{IsCallEnd}
+use Rattle.nr_laws.proofs.Guards.{Guards}
+use Rattle.nr_laws.proofs.StepUp.{step-up}
 use Rattle.nr_laws.proofs.Linked.{Linked, IsPlace, frame_of, taken_up, ServerTook, server-took}
 
 -- ---- An end that hasn't ended by some events
@@ -49,12 +53,13 @@ place-next (q ∷ u) p bytes place at some = omega (arith, at)
 abbrev pub events_of : (place : ℕ) → List (List ℕ) → List Event
 events_of place frames = map FrameReceived (frames_from place frames)
 
-pub record ServerRan (opened : LinkParameters) (k : ClientState) (s : ServerState) (u d all_up all_down : List Piece) (w : Way) (new left : List Piece) (es : List Event) : Type 0 where
+pub record ServerRan (opened : LinkParameters) (k : ClientState) (s : ServerState) (u d all_up all_down : List Piece) (w : Way) (new left : List Piece) (es : List Event) (place end : ℕ) : Type 0 where
   pub after : ServerState
   pub said : List Piece
   pub state : end_state_after (server_rules opened) (live s) es ≡ live after
   pub output : output_for_all (server_rules opened) (live s) es ≡ spelled Responder (count one_send all_down) (count one_read all_down) said
   pub linked : Linked opened k after (u ++ new) d all_up (all_down ++ said) (taken_up w left said)
+  pub guarded : IsOpened opened → Guards opened k s u d all_up all_down w place → Guards opened k after (u ++ new) d all_up (all_down ++ said) (taken_up w left said) end
 
 abbrev pub AreSome : List (List ℕ) → Type 0
 AreSome [] = Unit {0}
@@ -63,14 +68,21 @@ AreSome (f ∷ fs) = (0 < length f) × AreSome fs
 pub server-runs : (opened : LinkParameters) (k : ClientState) (d all_up left new : List Piece) (s : ServerState) (u all_down : List Piece) (w : Way) (n r place : ℕ) → Linked opened k s u d all_up all_down w → w.up ≡ new ++ left
     → n ≡ count one_send u → r ≡ count one_read u → IsPlace u place → IsBytes (concat (frames_at Initiator n r new)) → AreSome (frames_at Initiator n r new)
     → (end_state_after (server_rules opened) (live s) (events_of place (frames_at Initiator n r new))).ended ≡ None
-    → ServerRan opened k s u d all_up all_down w new left (events_of place (frames_at Initiator n r new))
+    → ServerRan opened k s u d all_up all_down w new left (events_of place (frames_at Initiator n r new)) place (place + length (concat (frames_at Initiator n r new)))
 server-runs opened k d all_up left [] s u all_down w n r place l first sends requests at bytes some e =
     let same : Linked opened k s (u ++ []) d all_up (all_down ++ []) (taken_up w left []) =
         subst (λ (ps : List Piece). Linked opened k s ps d all_up (all_down ++ []) (taken_up w left [])) (sym (append-nil u))
           (subst (λ (ps : List Piece). Linked opened k s u d all_up ps (taken_up w left [])) (sym (append-nil all_down))
             (subst (λ (ps : List Piece). Linked opened k s u d all_up all_down (record { queued_up = w.queued_up; up = left; queued_down = ps; down = w.down })) (sym (append-nil w.queued_down))
               (subst (λ (ps : List Piece). Linked opened k s u d all_up all_down (record { queued_up = w.queued_up; up = ps; queued_down = w.queued_down; down = w.down })) first l))) in
-    record { after = s; said = []; state = refl; output = refl; linked = same }
+    let guarded : IsOpened opened → Guards opened k s u d all_up all_down w place → Guards opened k s (u ++ []) d all_up (all_down ++ []) (taken_up w left []) (place + 0) =
+        λ o g.
+        subst (λ (x : ℕ). Guards opened k s (u ++ []) d all_up (all_down ++ []) (taken_up w left []) x) (sym (add-zero place))
+          (subst (λ (ps : List Piece). Guards opened k s ps d all_up (all_down ++ []) (taken_up w left []) place) (sym (append-nil u))
+            (subst (λ (ps : List Piece). Guards opened k s u d all_up ps (taken_up w left []) place) (sym (append-nil all_down))
+              (subst (λ (ps : List Piece). Guards opened k s u d all_up all_down (record { queued_up = w.queued_up; up = left; queued_down = ps; down = w.down }) place) (sym (append-nil w.queued_down))
+                (subst (λ (ps : List Piece). Guards opened k s u d all_up all_down (record { queued_up = w.queued_up; up = ps; queued_down = w.queued_down; down = w.down }) place) first g)))) in
+    record { after = s; said = []; state = refl; output = refl; linked = same; guarded = guarded }
 server-runs opened k d all_up left (p ∷ new) s u all_down w n r place l first sends requests at bytes some e =
     let rules = server_rules opened in
     let frame = spelled_one Initiator (segment_at n r p) in
@@ -84,7 +96,16 @@ server-runs opened k d all_up left (p ∷ new) s u all_down w n r place l first 
     let m = server-runs opened k d all_up left new after (u ++ p ∷ []) (all_down ++ t.said) (taken_up w (new ++ left) t.said) (n + one_send p) (r + one_read p) (place + length frame) t.linked refl
         (omega (arith, sends, count-append one_send u (p ∷ []))) (omega (arith, requests, count-append one_read u (p ∷ []))) (place-next u p frame place at some.0)
         (IsBytes-right frame (concat later) bytes) some.1 goes_on in
+    let ends : (place + length frame) + length (concat later) ≡ place + length (frame ++ concat later) = omega (arith, length-append frame (concat later)) in
     record {
+      guarded = λ o g.
+          let step = step-up opened k s u d all_up all_down w p (new ++ left) n r place o l g first sends requests at (IsBytes-left frame (concat later) bytes) some.0 in
+          let one = subst (λ (ps : List Piece). Guards opened k after (u ++ p ∷ []) d all_up (all_down ++ ps) (taken_up w (new ++ left) ps) (place + length frame)) (sym t.said_is) (step.kept a.stays) in
+          subst (λ (x : ℕ). Guards opened k m.after (u ++ p ∷ new) d all_up (all_down ++ (t.said ++ m.said)) (taken_up w left (t.said ++ m.said)) x) ends
+            (subst (λ (ps : List Piece). Guards opened k m.after ps d all_up (all_down ++ (t.said ++ m.said)) (taken_up w left (t.said ++ m.said)) ((place + length frame) + length (concat later))) (append_assoc u (p ∷ []) new)
+              (subst (λ (ps : List Piece). Guards opened k m.after ((u ++ p ∷ []) ++ new) d all_up ps (taken_up w left (t.said ++ m.said)) ((place + length frame) + length (concat later))) (append_assoc all_down t.said m.said)
+                (subst (λ (ps : List Piece). Guards opened k m.after ((u ++ p ∷ []) ++ new) d all_up ((all_down ++ t.said) ++ m.said) (record { queued_up = w.queued_up; up = left; queued_down = ps; down = w.down }) ((place + length frame) + length (concat later))) (append_assoc w.queued_down t.said m.said)
+                  (m.guarded o one))));
       after = m.after;
       said = t.said ++ m.said;
       state = ap (λ (x : EndState ServerState). end_state_after rules x es) a.next ∙ m.state;
@@ -97,3 +118,38 @@ server-runs opened k d all_up left (p ∷ new) s u all_down w n r place l first 
             (subst (λ (ps : List Piece). Linked opened k m.after ((u ++ p ∷ []) ++ new) d all_up ps (taken_up w left (t.said ++ m.said))) (append_assoc all_down t.said m.said)
               (subst (λ (ps : List Piece). Linked opened k m.after ((u ++ p ∷ []) ++ new) d all_up ((all_down ++ t.said) ++ m.said) (record { queued_up = w.queued_up; up = left; queued_down = ps; down = w.down })) (append_assoc w.queued_down t.said m.said) m.linked));
     }
+
+-- ---- Where the server ends by them, it does so for what it makes of a call
+
+pub record Ends {S : Type 0} (rules : Rules S) (s : S) (event : Event) (es : List Event) (end : End) (Lasting : Type 0) : Type 0 where
+  pub first : (rules.end_at s event ≡ Some end → Lasting) → (rules.end_at s event ≡ None → (end_state_after rules (live (rules.state_after s event)) es).ended ≡ Some end → Lasting) → Lasting
+
+pub ends-first : {S : Type 0} (rules : Rules S) (s : S) (event : Event) (es : List Event) (end : End) (Lasting : Type 0) → (end_state_after rules (next_end_state rules (live s) event) es).ended ≡ Some end → Ends rules s event es end Lasting
+ends-first rules s event es end Lasting e = record { first = λ now later. by now later (rules.end_at s event) refl }
+  where
+    by : (rules.end_at s event ≡ Some end → Lasting) → (rules.end_at s event ≡ None → (end_state_after rules (live (rules.state_after s event)) es).ended ≡ Some end → Lasting) → (o : Option End) → rules.end_at s event ≡ o → Lasting
+    by now later None is = later is (ap (λ (x : Option End). (end_state_after rules (next_end_state_by rules s event x) es).ended) (sym is) ∙ e)
+    by now later (Some x) is =
+        let ended : (end_state_after rules (next_end_state rules (live s) event) es).ended ≡ Some x =
+            ap (λ (y : Option End). (end_state_after rules (next_end_state_by rules s event y) es).ended) is ∙ ap (λ (r : EndState _). r.ended) (ended-stays rules s x es).0 in
+        now (is ∙ sym ended ∙ e)
+
+pub server-ends : (opened : LinkParameters) (k : ClientState) (d all_up left : List Piece) (o : IsOpened opened) (end : End) (new : List Piece) (s : ServerState) (u all_down : List Piece) (w : Way) (n r place : ℕ) → Linked opened k s u d all_up all_down w → Guards opened k s u d all_up all_down w place → w.up ≡ new ++ left
+    → n ≡ count one_send u → r ≡ count one_read u → IsPlace u place → IsBytes (concat (frames_at Initiator n r new)) → AreSome (frames_at Initiator n r new)
+    → (end_state_after (server_rules opened) (live s) (events_of place (frames_at Initiator n r new))).ended ≡ Some end → IsCallEnd end
+server-ends opened k d all_up left o end [] s u all_down w n r place l g first sends requests at bytes some e = absurd (let wrong : None ≡ Some end = e in cc)
+server-ends opened k d all_up left o end (p ∷ new) s u all_down w n r place l g first sends requests at bytes some e =
+    let rules = server_rules opened in
+    let frame = spelled_one Initiator (segment_at n r p) in
+    let later = frames_at Initiator (n + one_send p) (r + one_read p) new in
+    let event = FrameReceived (frame_of frame place) in
+    let es = events_of (place + length frame) later in
+    let step = step-up opened k s u d all_up all_down w p (new ++ left) n r place o l g first sends requests at (IsBytes-left frame (concat later) bytes) some.0 in
+    (ends-first rules s event es end (IsCallEnd end) e).first (λ now. step.only end now)
+      (λ stays rest.
+        let t = server-took opened k s u d all_up all_down w p (new ++ left) n r place l first sends requests at (IsBytes-left frame (concat later) bytes) stays in
+        let after = server_state_after opened s event in
+        let one = subst (λ (ps : List Piece). Guards opened k after (u ++ p ∷ []) d all_up (all_down ++ ps) (taken_up w (new ++ left) ps) (place + length frame)) (sym t.said_is) (step.kept stays) in
+        server-ends opened k d all_up left o end new after (u ++ p ∷ []) (all_down ++ t.said) (taken_up w (new ++ left) t.said) (n + one_send p) (r + one_read p) (place + length frame) t.linked one refl
+          (omega (arith, sends, count-append one_send u (p ∷ []))) (omega (arith, requests, count-append one_read u (p ∷ []))) (place-next u p frame place at some.0)
+          (IsBytes-right frame (concat later) bytes) some.1 rest)
