@@ -31,6 +31,8 @@ use Rattle.nr_reduce.specs.ServerState.{ServerState, ReadyCall}
 use Rattle.nr_reduce.specs.Client.{client_rules, client_end, client_state_after, client_output}
 use Rattle.nr_reduce.specs.Server.{server_rules, server_end, server_state_after, server_output}
 use Rattle.nr_reduce.specs.Run.{client, server, output_due}
+use Rattle.nr_reduce.specs.Opening.{IsOpened}
+use Rattle.nr_reduce.specs.Credits.{WithinGrant}
 use Rattle.nr_reduce.specs.Matched.{MatchedMark, IsPrefixOf}
 use Rattle.nr_reduce.specs.Asked.{AskedMark, IsAccepted, IsAll}
 use Rattle.nr_reduce.specs.Served.{ServedMark, IsExecuted, first_ready, next_call}
@@ -45,6 +47,7 @@ use Rattle.nr_laws.proofs.Channel.{AreProper, proper_by, proper-frame, IsOf, fra
 use Rattle.nr_laws.proofs.Fed.{More, fed}
 use Rattle.nr_laws.proofs.Proper.{IsStream, stream_proper, stream-left}
 use Rattle.nr_laws.proofs.CountsClient.{down_one, up_more}
+use Rattle.nr_laws.proofs.Guards.{Guards}
 use Rattle.nr_laws.proofs.Linked.{Linked, IsPlace, taken_up}
 use Rattle.nr_laws.proofs.ServerRuns.{AreSome, events_of, ServerRan, server-runs}
 use Rattle.nr_laws.proofs.ClientRuns.{ClientRan, client-runs}
@@ -68,6 +71,10 @@ pub record Joined (opened : LinkParameters) (link : ℕ) (run : List Mark) : Typ
   pub due_down : output_due opened link Responder run ≡ spelled Responder 0 0 all_down
   pub bytes_up : IsBytes (bytes_received link Responder run)
   pub bytes_down : IsBytes (bytes_received link Initiator run)
+
+-- how far the frames went that the server received
+abbrev pub place_of : List Piece → ℕ
+place_of u = length (concat (frames_at Initiator 0 0 u))
 
 -- ---- One mark more
 
@@ -97,6 +104,8 @@ pub record Goes (opened : LinkParameters) (link : ℕ) (run : List Mark) (mark :
   pub sent_down : bytes_sent link Responder run ++ written_at link Responder mark ≡ spelled Responder 0 0 (d ++ w.down)
   pub bytes_up : IsBytes (bytes_received link Responder run ++ fed_at link Responder mark)
   pub bytes_down : IsBytes (bytes_received link Initiator run ++ fed_at link Initiator mark)
+  pub guarded : IsOpened opened → WithinGrant opened link run mark → Guards opened j.k j.s j.u j.d j.all_up j.all_down j.w (place_of j.u)
+      → Guards opened k s u d (j.all_up ++ said_up) (j.all_down ++ said_down) w (place_of u)
 
 pub goes-on : (opened : LinkParameters) (link : ℕ) (run : List Mark) (mark : Mark) (j : Joined opened link run) → Goes opened link run mark j → Joined opened link (run ++ mark ∷ [])
 goes-on opened link run mark j g =
@@ -141,6 +150,16 @@ same-up opened k s u d all_up all_down w l = subst (λ (ps : List Piece). Linked
 pub same-down : (opened : LinkParameters) (k : ClientState) (s : ServerState) (u d all_up all_down : List Piece) (w : Way) → Linked opened k s u d all_up all_down w → Linked opened k s u d (all_up ++ []) all_down w
 same-down opened k s u d all_up all_down w l = subst (λ (ps : List Piece). Linked opened k s u d ps all_down w) (sym (append-nil all_up)) l
 
+guards-all : (opened : LinkParameters) (k : ClientState) (s : ServerState) (u d all_up all_down : List Piece) (w : Way) (place : ℕ) → Guards opened k s u d all_up all_down w place → Guards opened k s u d (all_up ++ []) (all_down ++ []) w place
+guards-all opened k s u d all_up all_down w place g =
+    subst (λ (ps : List Piece). Guards opened k s u d ps (all_down ++ []) w place) (sym (append-nil all_up)) (subst (λ (ps : List Piece). Guards opened k s u d all_up ps w place) (sym (append-nil all_down)) g)
+
+pub guards-up : (opened : LinkParameters) (k : ClientState) (s : ServerState) (u d all_up all_down : List Piece) (w : Way) (place : ℕ) → Guards opened k s u d all_up all_down w place → Guards opened k s u d all_up (all_down ++ []) w place
+guards-up opened k s u d all_up all_down w place g = subst (λ (ps : List Piece). Guards opened k s u d all_up ps w place) (sym (append-nil all_down)) g
+
+pub guards-down : (opened : LinkParameters) (k : ClientState) (s : ServerState) (u d all_up all_down : List Piece) (w : Way) (place : ℕ) → Guards opened k s u d all_up all_down w place → Guards opened k s u d (all_up ++ []) all_down w place
+guards-down opened k s u d all_up all_down w place g = subst (λ (ps : List Piece). Guards opened k s u d ps all_down w place) (sym (append-nil all_up)) g
+
 -- a mark that is no event of this link, and brings no bytes
 pub goes-none : (opened : LinkParameters) (link : ℕ) (run : List Mark) (mark : Mark) (j : Joined opened link run) → events_at link Initiator run mark ≡ [] → events_at link Responder run mark ≡ []
     → fed_at link Initiator mark ≡ [] → fed_at link Responder mark ≡ [] → written_at link Initiator mark ≡ [] → written_at link Responder mark ≡ [] → Goes opened link run mark j
@@ -163,6 +182,7 @@ goes-none opened link run mark j own theirs fed_i fed_r wrote_i wrote_r = record
   sent_down = ap (λ (xs : List ℕ). bytes_sent link Responder run ++ xs) wrote_r ∙ append-nil (bytes_sent link Responder run) ∙ j.sent_down;
   bytes_up = subst IsBytes (sym (ap (λ (xs : List ℕ). bytes_received link Responder run ++ xs) fed_r ∙ append-nil (bytes_received link Responder run))) j.bytes_up;
   bytes_down = subst IsBytes (sym (ap (λ (xs : List ℕ). bytes_received link Initiator run ++ xs) fed_i ∙ append-nil (bytes_received link Initiator run))) j.bytes_down;
+  guarded = λ o within g. guards-all opened j.k j.s j.u j.d j.all_up j.all_down j.w (place_of j.u) g;
 }
 
 -- ---- A Fed
@@ -239,6 +259,12 @@ pub other-events : (b : Bool) (es : List Event) → if_own (b && false) es ≡ [
 other-events true es = refl
 other-events false es = refl
 
+place-more : (u new : List Piece) → place_of u + length (concat (frames_at Initiator (0 + count one_send u) (0 + count one_read u) new)) ≡ place_of (u ++ new)
+place-more u new =
+    let old = frames_at Initiator 0 0 u in
+    let more = frames_at Initiator (0 + count one_send u) (0 + count one_read u) new in
+    sym (ap (λ (fs : List (List ℕ)). length (concat fs)) (frames-append Initiator 0 0 u new) ∙ ap (λ (xs : List ℕ). length xs) (concat-append old more) ∙ length-append (concat old) (concat more))
+
 -- the server is fed bytes
 pub goes-fed_up : (opened : LinkParameters) (link : ℕ) (run : List Mark) (bytes : List ℕ) (j : Joined opened link run) → IsPrefixOf (bytes_received link Responder run ++ bytes) (bytes_sent link Initiator run) → IsBytes bytes
     → (server opened link (run ++ marks.Fed link Responder bytes ∷ [])).ended ≡ None → Goes opened link run (marks.Fed link Responder bytes) j
@@ -278,6 +304,9 @@ goes-fed_up opened link run bytes j prefix typed unended =
       sent_up = append-nil (bytes_sent link Initiator run) ∙ j.sent_up ∙ ap (λ (ps : List Piece). spelled Initiator 0 0 ps) (sym parts);
       sent_down = append-nil (bytes_sent link Responder run) ∙ j.sent_down;
       bytes_up = subst (λ (xs : List ℕ). IsBytes (got ++ xs)) (sym up) all_typed;
+      guarded = λ o within g.
+          subst (λ (x : ℕ). Guards opened j.k m.after (j.u ++ a.new) j.d (j.all_up ++ []) (j.all_down ++ m.said) (taken_up j.w a.left m.said) x) (place-more j.u a.new)
+            (guards-down opened j.k m.after (j.u ++ a.new) j.d j.all_up (j.all_down ++ m.said) (taken_up j.w a.left m.said) (place_of j.u + length (concat (frames_at Initiator n r a.new))) (m.guarded o g));
       bytes_down = subst IsBytes (sym (ap (λ (xs : List ℕ). bytes_received link Initiator run ++ xs) down ∙ append-nil (bytes_received link Initiator run))) j.bytes_down;
     }
 
@@ -321,4 +350,6 @@ goes-fed_down opened link run bytes j prefix typed unended =
       sent_down = append-nil (bytes_sent link Responder run) ∙ j.sent_down ∙ ap (λ (ps : List Piece). spelled Responder 0 0 ps) (sym parts);
       bytes_up = subst IsBytes (sym (ap (λ (xs : List ℕ). bytes_received link Responder run ++ xs) up ∙ append-nil (bytes_received link Responder run))) j.bytes_up;
       bytes_down = subst (λ (xs : List ℕ). IsBytes (got ++ xs)) (sym down) all_typed;
+      guarded = λ o within g.
+          guards-up opened m.after j.s j.u (j.d ++ a.new) (j.all_up ++ m.said) j.all_down (down_one j.w m.said a.left) (place_of j.u) (m.guarded o (place_of j.u) g);
     }

@@ -28,6 +28,8 @@ use Rattle.nr_reduce.specs.SubmitAnswer.{next_xid}
 use Rattle.nr_reduce.specs.Client.{client_rules, client_end, client_state_after, client_output}
 use Rattle.nr_reduce.specs.Server.{server_rules, server_end, server_state_after, server_output}
 use Rattle.nr_reduce.specs.Run.{client, server, output_due}
+use Rattle.nr_reduce.specs.Opening.{IsOpened}
+use Rattle.nr_reduce.specs.Credits.{WithinGrant, calls_outstanding, credits_granted}
 use Rattle.nr_reduce.specs.Asked.{IsAccepted}
 use Rattle.nr_reduce.specs.Served.{IsExecuted, first_ready, next_call}
 use Rattle.nr_reduce.proofs.Standing.{itself}
@@ -40,7 +42,9 @@ use Rattle.nr_laws.proofs.CountsClient.{up_more}
 use Rattle.nr_laws.proofs.Proper.{IsStream, stream-left}
 use Rattle.nr_laws.proofs.Linked.{Linked}
 use Rattle.nr_laws.proofs.OwnEvents.{submitted, revoked, written_up, executed, written_down, some-calls}
-use Rattle.nr_laws.proofs.Joined.{Joined, Goes, same-all, same-up, same-down, own-bytes, other-bytes, own-events, other-events}
+use Rattle.nr_laws.proofs.Guards.{Guards}
+use Rattle.nr_laws.proofs.GuardsOwn.{guards-submit, guards-revoke, guards-written_up, guards-execute, guards-written_down}
+use Rattle.nr_laws.proofs.Joined.{Joined, Goes, place_of, guards-up, guards-down, same-all, same-up, same-down, own-bytes, other-bytes, own-events, other-events}
 
 pub record One {S : Type 0} (rules : Rules S) (s : S) (event : Event) : Type 0 where
   pub state : end_state_after rules (live s) (event ∷ []) ≡ live (rules.state_after s event)
@@ -77,8 +81,9 @@ goes-client : (opened : LinkParameters) (link : ℕ) (run : List Mark) (mark : M
     → Linked opened (client_state_after opened j.k event) j.s j.u j.d (j.all_up ++ said) j.all_down w → client_output opened j.k event ≡ spelled Initiator (count one_send j.all_up) (count one_read j.all_up) said
     → events_at link Initiator run mark ≡ event ∷ [] → events_at link Responder run mark ≡ [] → fed_at link Initiator mark ≡ [] → fed_at link Responder mark ≡ [] → written_at link Responder mark ≡ []
     → bytes_sent link Initiator run ++ written_at link Initiator mark ≡ spelled Initiator 0 0 (j.u ++ w.up) → w.down ≡ j.w.down
+    → (IsOpened opened → WithinGrant opened link run mark → Guards opened j.k j.s j.u j.d j.all_up j.all_down j.w (place_of j.u) → Guards opened (client_state_after opened j.k event) j.s j.u j.d (j.all_up ++ said) j.all_down w (place_of j.u))
     → Goes opened link run mark j
-goes-client opened link run mark j event said w other linked output own theirs fed_i fed_r wrote_r sent same =
+goes-client opened link run mark j event said w other linked output own theirs fed_i fed_r wrote_r sent same guarded =
     let one = client-event opened j.k event other in
     record {
       k = client_state_after opened j.k event;
@@ -99,14 +104,16 @@ goes-client opened link run mark j event said w other linked output own theirs f
       sent_down = none-more (bytes_sent link Responder run) (written_at link Responder mark) wrote_r ∙ j.sent_down ∙ ap (λ (ps : List Piece). spelled Responder 0 0 (j.d ++ ps)) (sym same);
       bytes_up = subst IsBytes (sym (none-more (bytes_received link Responder run) (fed_at link Responder mark) fed_r)) j.bytes_up;
       bytes_down = subst IsBytes (sym (none-more (bytes_received link Initiator run) (fed_at link Initiator mark) fed_i)) j.bytes_down;
+      guarded = λ o within g. guards-up opened (client_state_after opened j.k event) j.s j.u j.d (j.all_up ++ said) j.all_down w (place_of j.u) (guarded o within g);
     }
 
 goes-server : (opened : LinkParameters) (link : ℕ) (run : List Mark) (mark : Mark) (j : Joined opened link run) (event : Event) (said : List Piece) (w : Way) → ((f : Frame) → event ≢ FrameReceived f)
     → Linked opened j.k (server_state_after opened j.s event) j.u j.d j.all_up (j.all_down ++ said) w → server_output opened j.s event ≡ spelled Responder (count one_send j.all_down) (count one_read j.all_down) said
     → events_at link Initiator run mark ≡ [] → events_at link Responder run mark ≡ event ∷ [] → fed_at link Initiator mark ≡ [] → fed_at link Responder mark ≡ [] → written_at link Initiator mark ≡ []
     → bytes_sent link Responder run ++ written_at link Responder mark ≡ spelled Responder 0 0 (j.d ++ w.down) → w.up ≡ j.w.up
+    → (IsOpened opened → Guards opened j.k j.s j.u j.d j.all_up j.all_down j.w (place_of j.u) → Guards opened j.k (server_state_after opened j.s event) j.u j.d j.all_up (j.all_down ++ said) w (place_of j.u))
     → Goes opened link run mark j
-goes-server opened link run mark j event said w other linked output theirs own fed_i fed_r wrote_i sent same =
+goes-server opened link run mark j event said w other linked output theirs own fed_i fed_r wrote_i sent same guarded =
     let one = server-event opened j.s event other in
     record {
       k = j.k;
@@ -127,9 +134,14 @@ goes-server opened link run mark j event said w other linked output theirs own f
       sent_down = sent;
       bytes_up = subst IsBytes (sym (none-more (bytes_received link Responder run) (fed_at link Responder mark) fed_r)) j.bytes_up;
       bytes_down = subst IsBytes (sym (none-more (bytes_received link Initiator run) (fed_at link Initiator mark) fed_i)) j.bytes_down;
+      guarded = λ o within g. guards-down opened j.k (server_state_after opened j.s event) j.u j.d j.all_up (j.all_down ++ said) w (place_of j.u) (guarded o g);
     }
 
 -- ---- Each
+
+room-of : (opened : LinkParameters) (link : ℕ) (run : List Mark) (j : Joined opened link run) → calls_outstanding opened link run < credits_granted opened link run → length j.k.outstanding < j.k.grant
+unfolding calls_outstanding credits_granted
+room-of opened link run j lt = subst (λ (r : EndState ClientState). length r.state.outstanding < r.state.grant) j.client_is lt
 
 pub goes-submit : (opened : LinkParameters) (link : ℕ) (run : List Mark) (call : Call) (form : Form) (xid : ℕ) (j : Joined opened link run) → IsAccepted opened link run call form xid
     → Goes opened link run (marks.Submit link call form (submissions.Accepted xid)) j
@@ -142,6 +154,10 @@ goes-submit opened link run call form xid j h =
     goes-client opened link run (marks.Submit link call form (submissions.Accepted xid)) j (CallSubmitted place a) m.said (up_more j.w m.said) (λ f e. absurd cc) m.linked m.output
       (own-events link (CallSubmitted place a ∷ [])) (other-events (eqb link link) (CallSubmitted (length (bytes_received link Responder run)) a ∷ [])) refl refl refl
       (append-nil (bytes_sent link Initiator run) ∙ j.sent_up) refl
+      (λ o within g.
+        let room : length j.k.outstanding < j.k.grant = room-of opened link run j (within refl) in
+        subst (λ (ps : List Piece). Guards opened (client_state_after opened j.k (CallSubmitted place a)) j.s j.u j.d (j.all_up ++ ps) j.all_down (up_more j.w ps) (place_of j.u)) (sym m.said_is)
+          (guards-submit opened j.k j.s j.u j.d j.all_up j.all_down j.w (place_of j.u) place a h.plan g planned room))
 
 pub goes-wrote_up : (opened : LinkParameters) (link : ℕ) (run : List Mark) (bytes : List ℕ) (j : Joined opened link run) → bytes_sent link Initiator run ++ bytes ≡ output_due opened link Initiator run
     → Goes opened link run (marks.Wrote link Initiator bytes) j
@@ -152,6 +168,9 @@ goes-wrote_up opened link run bytes j all =
     goes-client opened link run (marks.Wrote link Initiator bytes) j QueueWritten [] (record { queued_up = []; up = j.w.up ++ j.w.queued_up; queued_down = j.w.queued_down; down = j.w.down }) (λ f e. absurd cc) l refl
       (own-events link (QueueWritten ∷ [])) (other-events (eqb link link) (QueueWritten ∷ [])) refl refl (other-bytes (eqb link link) bytes)
       (ap (λ (xs : List ℕ). bytes_sent link Initiator run ++ xs) (own-bytes link bytes) ∙ all ∙ j.due_up ∙ ap (λ (ps : List Piece). spelled Initiator 0 0 ps) (sym j.linked.parts_up)) refl
+      (λ o within g.
+        guards-down opened (client_state_after opened j.k QueueWritten) j.s j.u j.d j.all_up j.all_down (record { queued_up = []; up = j.w.up ++ j.w.queued_up; queued_down = j.w.queued_down; down = j.w.down }) (place_of j.u)
+          (guards-written_up opened j.k j.s j.u j.d j.all_up j.all_down j.w (place_of j.u) g))
 
 pub goes-revoke : (opened : LinkParameters) (link : ℕ) (run : List Mark) (xid : ℕ) (bytes : List ℕ) (j : Joined opened link run) → Goes opened link run (marks.Revoke link xid bytes) j
 unfolding client_output
@@ -162,6 +181,8 @@ goes-revoke opened link run xid bytes j =
     goes-client opened link run (marks.Revoke link xid bytes) j (MemoryRevoked place xid) [] j.w (λ f e. absurd cc) l refl
       (own-events link (MemoryRevoked place xid ∷ [])) (other-events (eqb link link) (MemoryRevoked (length (bytes_received link Responder run)) xid ∷ [])) refl refl refl
       (append-nil (bytes_sent link Initiator run) ∙ j.sent_up) refl
+      (λ o within g.
+        guards-down opened (client_state_after opened j.k (MemoryRevoked place xid)) j.s j.u j.d j.all_up j.all_down j.w (place_of j.u) (guards-revoke opened j.k j.s j.u j.d j.all_up j.all_down j.w (place_of j.u) place xid g))
 
 pub goes-wrote_down : (opened : LinkParameters) (link : ℕ) (run : List Mark) (bytes : List ℕ) (j : Joined opened link run) → bytes_sent link Responder run ++ bytes ≡ output_due opened link Responder run
     → Goes opened link run (marks.Wrote link Responder bytes) j
@@ -172,6 +193,9 @@ goes-wrote_down opened link run bytes j all =
     goes-server opened link run (marks.Wrote link Responder bytes) j QueueWritten [] (record { queued_up = j.w.queued_up; up = j.w.up; queued_down = []; down = j.w.down ++ j.w.queued_down }) (λ f e. absurd cc) l refl
       (other-events (eqb link link) (QueueWritten ∷ [])) (own-events link (QueueWritten ∷ [])) refl refl (other-bytes (eqb link link) bytes)
       (ap (λ (xs : List ℕ). bytes_sent link Responder run ++ xs) (own-bytes link bytes) ∙ all ∙ j.due_down ∙ ap (λ (ps : List Piece). spelled Responder 0 0 ps) (sym j.linked.parts_down)) refl
+      (λ o g.
+        guards-up opened j.k (server_state_after opened j.s QueueWritten) j.u j.d j.all_up j.all_down (record { queued_up = j.w.queued_up; up = j.w.up; queued_down = []; down = j.w.down ++ j.w.queued_down }) (place_of j.u)
+          (guards-written_down opened j.k j.s j.u j.d j.all_up j.all_down j.w (place_of j.u) g))
 
 first_is : (ready : List ReadyCall) (r : ReadyCall) → slice_get ready 0 ≡ Some r → (rest : List ReadyCall) × (ready ≡ r ∷ rest)
 first_is [] r e = absurd cc
@@ -199,3 +223,6 @@ goes-execute opened link run xid moment payload place reply j h =
     goes-server opened link run (marks.Execute link xid moment payload place reply) j (CallExecuted e) m.said (record { queued_up = j.w.queued_up; up = j.w.up; queued_down = j.w.queued_down ++ m.said; down = j.w.down }) (λ f x. absurd cc) m.linked m.output
       (other-events (eqb link link) (CallExecuted e ∷ [])) (own-events link (CallExecuted e ∷ [])) refl refl refl
       (append-nil (bytes_sent link Responder run) ∙ j.sent_down) refl
+      (λ o g.
+        subst (λ (ps : List Piece). Guards opened j.k (server_state_after opened j.s (CallExecuted e)) j.u j.d j.all_up (j.all_down ++ ps) (record { queued_up = j.w.queued_up; up = j.w.up; queued_down = j.w.queued_down ++ ps; down = j.w.down }) (place_of j.u)) (sym m.said_is)
+          (guards-execute opened j.k j.s j.u j.d j.all_up j.all_down j.w (place_of j.u) e h.call first.0 o g j.linked.fits first.1 h.own))
