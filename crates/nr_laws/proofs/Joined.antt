@@ -78,7 +78,7 @@ place_of u = length (concat (frames_at Initiator 0 0 u))
 
 -- ---- One mark more
 
-joined : (side : Side) (ps qs : List Piece) → spelled side 0 0 ps ++ spelled side (count one_send ps) (count one_read ps) qs ≡ spelled side 0 0 (ps ++ qs)
+pub joined : (side : Side) (ps qs : List Piece) → spelled side 0 0 ps ++ spelled side (count one_send ps) (count one_read ps) qs ≡ spelled side 0 0 (ps ++ qs)
 joined side ps qs =
     let sends : count one_send ps ≡ 0 + count one_send ps = omega arith in
     let reads : count one_read ps ≡ 0 + count one_read ps = omega arith in
@@ -107,7 +107,7 @@ pub record Goes (opened : LinkParameters) (link : ℕ) (run : List Mark) (mark :
   pub guarded : IsOpened opened → WithinGrant opened link run mark → Guards opened j.k j.s j.u j.d j.all_up j.all_down j.w (place_of j.u)
       → Guards opened k s u d (j.all_up ++ said_up) (j.all_down ++ said_down) w (place_of u)
 
-pub goes-on : (opened : LinkParameters) (link : ℕ) (run : List Mark) (mark : Mark) (j : Joined opened link run) → Goes opened link run mark j → Joined opened link (run ++ mark ∷ [])
+unfoldable pub goes-on : (opened : LinkParameters) (link : ℕ) (run : List Mark) (mark : Mark) (j : Joined opened link run) → Goes opened link run mark j → Joined opened link (run ++ mark ∷ [])
 goes-on opened link run mark j g =
     let up = received-one link Responder run mark in
     let down = received-one link Initiator run mark in

@@ -45,3 +45,4 @@ pub mod GuardsClient
 pub mod GuardsOwn
 pub mod StepUp
 pub mod StepDown
+pub mod Ends

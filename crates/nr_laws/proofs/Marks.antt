@@ -64,7 +64,7 @@ client-event opened k (MemoryRevoked place xid) other = one-event (client_rules 
 client-event opened k (CallExecuted call) other = one-event (client_rules opened) k (CallExecuted call) refl
 client-event opened k QueueWritten other = one-event (client_rules opened) k QueueWritten refl
 
-server-event : (opened : LinkParameters) (s : ServerState) (event : Event) → ((f : Frame) → event ≢ FrameReceived f) → One (server_rules opened) s event
+pub server-event : (opened : LinkParameters) (s : ServerState) (event : Event) → ((f : Frame) → event ≢ FrameReceived f) → One (server_rules opened) s event
 unfolding server_end
 server-event opened s (FrameReceived f) other = absurd (other f refl)
 server-event opened s (CallSubmitted place a) other = one-event (server_rules opened) s (CallSubmitted place a) refl

@@ -1,5 +1,5 @@
 -- After each run of a matched link in which each side kept its law in full, and of which no side has ended, both ends are joined.
-use Rattle.std.proofs.Common.{◌≡◌, ℕ, ◌+◌, ◌<◌, Bool, true, false, cond, ◌&&◌, eqb, List, [], ◌∷◌, ◌++◌, length, map, Option, Some, None, refl, sym, ap, subst, ◌∙◌, arith, append_assoc, append-nil, get_or}
+use Rattle.std.proofs.Common.{◌≡◌, ℕ, ◌+◌, ◌<◌, Bool, true, false, cond, ◌&&◌, eqb, List, [], ◌∷◌, ◌++◌, length, map, Option, Some, None, refl, sym, ap, subst, ◌∙◌, arith, append_assoc, append-nil, get_or, lit<}
 use Rattle.std.proofs.lemmas.Bool.{eqb-true}
 use Rattle.nr_xdr.specs.Item.{IsBytes}
 use Rattle.nr_wire.specs.declared.hello.Side.{Side}
@@ -34,7 +34,9 @@ use Rattle.nr_laws.specs.Typed.{TypedMark}
 use Rattle.nr_laws.specs.Pieces.{Piece}
 use Rattle.nr_laws.specs.Pieces.Piece.{AHello}
 use Rattle.nr_laws.proofs.CountsClient.{counts-first}
-use Rattle.nr_laws.proofs.Joined.{Joined, Goes, goes-on, goes-none, goes-fed_up, goes-fed_down}
+use Rattle.nr_reduce.specs.Opening.{IsOpened}
+use Rattle.nr_laws.proofs.Guards.{Guards}
+use Rattle.nr_laws.proofs.Joined.{place_of, Joined, Goes, goes-on, goes-none, goes-fed_up, goes-fed_down}
 use Rattle.nr_laws.proofs.Marks.{goes-submit, goes-wrote_up, goes-wrote_down, goes-execute, goes-revoke}
 
 -- ---- A side that has ended stays so
@@ -64,45 +66,68 @@ server-unended opened link before (m ∷ more) e =
 
 -- ---- At the beginning
 
-joins-first : (opened : LinkParameters) (link : ℕ) → Joined opened link []
+-- both ends as they are opened, with their guards
+pub record Start (opened : LinkParameters) (link : ℕ) : Type 0 where
+  pub joined : Joined opened link []
+  pub guards : IsOpened opened → Guards opened joined.k joined.s joined.u joined.d joined.all_up joined.all_down joined.w (place_of joined.u)
+
+pub starts : (opened : LinkParameters) (link : ℕ) → Start opened link
 unfolding client server events output_due bytes_received bytes_sent split
-joins-first opened link = record {
-  k = client_initial_state opened;
-  s = server_initial_state opened;
-  u = [];
-  d = [];
-  all_up = AHello ∷ [];
-  all_down = [];
-  w = record { queued_up = AHello ∷ []; up = []; queued_down = []; down = [] };
-  client_is = refl;
-  server_is = refl;
-  linked = record {
-    parts_up = refl;
-    parts_down = refl;
-    counts = counts-first opened;
-    waits = record { numbers = tt; xids = tt; calls_below = tt; reads_below = tt; ready_apart = tt; ready_calls = tt; whole_calls = tt };
-    outs = record { apart = tt; below = tt };
-    fits = tt;
-    short = tt;
-    stream_up = tt;
-    begins_up = omega arith;
-    stream_down = tt;
-    hellos_down = refl;
-    no_reads = refl;
-    sends_up = refl;
-    requests_up = refl;
-    sends_down = refl;
-    requests_down = refl;
-    requests_sent = refl;
+starts opened link = record {
+  joined = record {
+    k = client_initial_state opened;
+    s = server_initial_state opened;
+    u = [];
+    d = [];
+    all_up = AHello ∷ [];
+    all_down = [];
+    w = record { queued_up = AHello ∷ []; up = []; queued_down = []; down = [] };
+    client_is = refl;
+    server_is = refl;
+    linked = record {
+      parts_up = refl;
+      parts_down = refl;
+      counts = counts-first opened;
+      waits = record { numbers = tt; xids = tt; calls_below = tt; reads_below = tt; ready_apart = tt; ready_calls = tt; whole_calls = tt };
+      outs = record { apart = tt; below = tt };
+      fits = tt;
+      short = tt;
+      stream_up = tt;
+      begins_up = omega arith;
+      stream_down = tt;
+      hellos_down = refl;
+      no_reads = refl;
+      sends_up = refl;
+      requests_up = refl;
+      sends_down = refl;
+      requests_down = refl;
+      requests_sent = refl;
+    };
+    frames_up = refl;
+    frames_down = refl;
+    sent_up = refl;
+    sent_down = refl;
+    due_up = refl;
+    due_down = refl;
+    bytes_up = λ i. omega arith;
+    bytes_down = λ i. omega arith;
   };
-  frames_up = refl;
-  frames_down = refl;
-  sent_up = refl;
-  sent_down = refl;
-  due_up = refl;
-  due_down = refl;
-  bytes_up = λ i. omega arith;
-  bytes_down = λ i. omega arith;
+  guards = λ o. record {
+    server = record {
+      counts = counts-first opened;
+      reads = record { answered = []; asked = []; parts = refl; answers = (refl, refl); requests = refl };
+      waits = record { numbers = tt; xids = tt; calls_below = tt; reads_below = tt; ready_apart = tt; ready_calls = tt; whole_calls = tt };
+      sinks = tt;
+      regions = record { stags = tt; calls = tt };
+    };
+    window = record { window = omega arith; grant = omega (arith, o.granted) };
+    up_said = (tt, tt);
+    down_said = tt;
+    credit = refl;
+    calls = tt;
+    within = record { fit = tt; few = lit< tt; small = tt };
+    reached = ([], refl);
+  };
 }
 
 -- ---- Each mark
@@ -115,7 +140,7 @@ no-bytes : (b c : Bool) (bytes : List ℕ) → b ≡ false → cond (b && c) byt
 no-bytes true c bytes e = absurd cc
 no-bytes false c bytes e = refl
 
-goes-mark : (opened : LinkParameters) (link : ℕ) (run : List Mark) (mark : Mark) (j : Joined opened link run) → AskedMark IsAll opened link run mark → ServedMark IsAll opened link run mark → MatchedMark link run mark → TypedMark run mark
+pub goes-mark : (opened : LinkParameters) (link : ℕ) (run : List Mark) (mark : Mark) (j : Joined opened link run) → AskedMark IsAll opened link run mark → ServedMark IsAll opened link run mark → MatchedMark link run mark → TypedMark run mark
     → (client opened link (run ++ mark ∷ [])).ended ≡ None → (server opened link (run ++ mark ∷ [])).ended ≡ None → Goes opened link run mark j
 goes-mark opened link run (marks.Submit l call form (submissions.Accepted xid)) j asked served matched typed up down = by (eqb l link) refl
   where
@@ -188,4 +213,4 @@ joins-from opened link (m ∷ run) before j asked served matched typed up down =
 
 pub joins : (opened : LinkParameters) (link : ℕ) (run : List Mark) → AtEachMark (AskedMark IsAll opened link) [] run → AtEachMark (ServedMark IsAll opened link) [] run → AtEachMark (MatchedMark link) [] run
     → AtEachMark TypedMark [] run → (client opened link run).ended ≡ None → (server opened link run).ended ≡ None → Joined opened link run
-joins opened link run asked served matched typed up down = joins-from opened link run [] (joins-first opened link) asked served matched typed up down
+joins opened link run asked served matched typed up down = joins-from opened link run [] (starts opened link).joined asked served matched typed up down

@@ -1,6 +1,7 @@
 //! What a link that stays gives to its callers.
 
 ghost use Rattle.nr_laws.specs.Completion.{CallsComplete};
+ghost use Rattle.nr_laws.specs.EndCauses.{ServerEndsForCalls, ClientEndsForReplies};
 
 /// On a matched link of which no side has ended, where each side wrote all its output, each side received all that the
 /// other sent, and no call that is whole waits to be executed: no call is outstanding, since a message of each accepted call
@@ -8,4 +9,14 @@ ghost use Rattle.nr_laws.specs.Completion.{CallsComplete};
 /// each of these calls has its Done.
 pub fn calls_complete()
     ensures { CallsComplete }
+{}
+
+/// Of a matched link that was opened with numbers and credits in range, the side that ends first ends for what it makes of
+/// a message: a server for what it makes of a call, a client for what it makes of an answer, or for an access to its memory
+/// that is denied. No segment of either side breaks a rule of the link (RFC 5041 section 7; RFC 5040 section 7): its message
+/// number and offset, its form and its length are right, a Send finds a receive, a Read Response is expected and reaches a
+/// sink, and no side has more Read Requests open than it may.
+pub fn segments_keep_the_rules()
+    ensures server { ServerEndsForCalls }
+    ensures client { ClientEndsForReplies }
 {}

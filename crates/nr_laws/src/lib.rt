@@ -3,4 +3,4 @@
 
 mod completion;
 
-pub use completion::calls_complete;
+pub use completion::{calls_complete, segments_keep_the_rules};
