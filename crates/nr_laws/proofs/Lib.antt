@@ -46,3 +46,5 @@ pub mod GuardsOwn
 pub mod StepUp
 pub mod StepDown
 pub mod Ends
+pub mod CallWords
+pub mod CallNumbers

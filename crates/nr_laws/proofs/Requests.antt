@@ -30,7 +30,7 @@ use Rattle.nr_laws.proofs.ReadsClient.{IsThere}
 
 -- ---- The fields
 
-part_at : (n m : ℕ) (front part rest : List ℕ) → length front ≡ n → length part ≡ m → take m (drop n (front ++ (part ++ rest))) ≡ part
+pub part_at : (n m : ℕ) (front part rest : List ℕ) → length front ≡ n → length part ≡ m → take m (drop n (front ++ (part ++ rest))) ≡ part
 part_at n m front part rest at len =
     ap (λ (k : ℕ). take m (drop k (front ++ (part ++ rest)))) (sym at)
     ∙ ap (λ (xs : List ℕ). take m xs) (drop-append_seam front (part ++ rest))
