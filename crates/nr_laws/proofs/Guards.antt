@@ -40,13 +40,14 @@ use Rattle.nr_laws.proofs.ReadsKept.{moved}
 use Rattle.nr_laws.proofs.ServerKnown.{Server}
 use Rattle.nr_laws.proofs.Replies.{IsReply, AreReplies, replies-frame, answer-reply, chunk_error-reply}
 use Rattle.nr_laws.proofs.ReadLimits.{AreWithin, each-append, within-send, within-tagged, within-closed}
+use Rattle.nr_laws.proofs.CallNumbers.{XidsFrom, OutsFrom, HasOwnXid, IsNumbered}
 use Rattle.nr_laws.proofs.OfferLimits.{OfferFits}
 use Rattle.nr_laws.proofs.ServerSays.{CallsFit, execution_says, for_target, found-fits}
 
--- a message of a client has the size of one
+-- a message of a client has the size of one, version 1 and a kind that a client sends
 abbrev pub UpPiece : Piece → Type 0
 UpPiece AHello = Unit {0}
-UpPiece (ASend message) = (16 ≤ length message) × (length message ≤ send_max)
+UpPiece (ASend message) = (16 ≤ length message) × (length message ≤ send_max) × (word_at 4 message ≡ 1) × (word_at 12 message ≤ 1)
 UpPiece (ARead sink at size stag to) = Unit {0}
 UpPiece (ATagged last opcode stag to payload) = Unit {0}
 
@@ -57,9 +58,12 @@ DownPiece credit (ASend message) = IsReply credit message
 DownPiece credit (ARead sink at size stag to) = Unit {0}
 DownPiece credit (ATagged last opcode stag to payload) = opcode ≡ OPCODE_WRITE
 
--- the messages of calls have the size of one
+-- the messages of calls are so, and begin with their xids
+abbrev pub IsAsked : LinkParameters → OutstandingCall → Type 0
+IsAsked opened o = UpPiece (asking_piece opened o) × HasOwnXid opened o
+
 abbrev pub AreSized : LinkParameters → List OutstandingCall → Type 0
-AreSized opened os = AllByRecursion (λ (o : OutstandingCall). UpPiece (asking_piece opened o)) os
+AreSized opened os = AllByRecursion (IsAsked opened) os
 
 pub record Guards (opened : LinkParameters) (k : ClientState) (s : ServerState) (u d all_up all_down : List Piece) (w : Way) (up : ℕ) : Type 0 where
   pub server : Server opened k s w up
@@ -69,6 +73,9 @@ pub record Guards (opened : LinkParameters) (k : ClientState) (s : ServerState) 
   pub credit : s.credit ≡ opened.granted
   pub calls : AreSized opened k.outstanding
   pub within : AreWithin s.reads s.regions
+  pub xids : XidsFrom opened.first_xid all_up
+  pub unsaid : k.has_hello ≡ false → OutsFrom opened.first_xid k.outstanding
+  pub numbers : AllByRecursion (IsNumbered opened.first_xid) s.calls
   pub reached : (es : List Event) × (end_state_after (client_rules opened) (initial_client opened) es ≡ live k)
 
 -- ---- What is said

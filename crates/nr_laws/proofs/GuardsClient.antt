@@ -1,19 +1,19 @@
 -- A client of a matched link that a piece doesn't end keeps the guards of both ends.
 use Rattle.std.proofs.Common.{◌≡◌, ◌≢◌, ℕ, zero, suc, ◌+◌, ◌≤◌, ◌<◌, ◌^◌, Bool, true, false, cond, not, ◌&&◌, eqb, ltb, List, [], ◌∷◌, ◌++◌, length, map, take, drop, filter, Option, Some, None, Result, Ok, Err, refl, sym, ap, subst, ◌∙◌, arith, append_assoc, append-nil, length-append, ◌⊎◌, inl, inr, take-append-drop}
-use Rattle.std.specs.List.{AllByRecursion}
+use Rattle.std.specs.List.{AllByRecursion, range_with_len}
 use Rattle.std.proofs.lemmas.Bool.{ne_eqb, le-ltb}
 use Rattle.nr_xdr.specs.Item.{IsBytes}
 use Rattle.nr_xdr.specs.Fields.{word_at}
 use Rattle.nr_header.specs.Constants.{PAYLOAD_MAX}
-use Rattle.nr_wire.specs.Constants.{OPCODE_READ_REQUEST, OPCODE_SEND, QUEUE_SEND, QUEUE_READ_REQUEST}
+use Rattle.nr_wire.specs.Constants.{OPCODE_READ_REQUEST, OPCODE_READ_RESPONSE, OPCODE_SEND, QUEUE_SEND, QUEUE_READ_REQUEST}
 use Rattle.nr_wire.specs.declared.hello.Side.TheVariants.{Initiator, Responder}
 use Rattle.nr_wire.specs.Segment.{Segment}
 use Rattle.nr_wire.specs.Segment.Segment.{Tagged, Untagged}
 use Rattle.nr_regions.specs.Access.{HaveOwnStags}
 use Rattle.nr_link.specs.declared.end.End.{End}
 use Rattle.nr_link.specs.Frames.{Frame, is_hello}
-use Rattle.nr_link.specs.Output.{msn_word}
-use Rattle.nr_link.specs.ReceiveState.{begun_bytes, read_request_in, ReadRequest}
+use Rattle.nr_link.specs.Output.{msn_word, segment_count}
+use Rattle.nr_link.specs.ReceiveState.{begun_bytes, read_request_in, ReadRequest, message_completed, read_request_of}
 use Rattle.nr_link.specs.Ending.{frame_segment}
 use Rattle.nr_reduce.specs.declared.mark.LinkParameters.{LinkParameters}
 use Rattle.nr_reduce.specs.Opening.{IsOpened}
@@ -22,15 +22,15 @@ use Rattle.nr_reduce.specs.Events.{Event}
 use Rattle.nr_reduce.specs.Events.Event.{FrameReceived}
 use Rattle.nr_reduce.specs.EndRules.{EndState, live, next_end_state_by, end_state_after}
 use Rattle.nr_reduce.specs.OfferedRegions.{Region, region_grants}
-use Rattle.nr_reduce.specs.ClientState.{ClientState, OutstandingCall}
-use Rattle.nr_reduce.specs.Client.{client_rules, client_end, client_state_after, initial_client, credits_of_word, with_segment, with_message, segment_request}
+use Rattle.nr_reduce.specs.ClientState.{ClientState, OutstandingCall, memory_at}
+use Rattle.nr_reduce.specs.Client.{client_rules, client_end, client_state_after, initial_client, credits_of_word, with_segment, with_message, with_request, segment_request}
 use Rattle.nr_reduce.specs.ServerState.{ServerState, PendingRead}
 use Rattle.nr_reduce.specs.ServerReads.{open_reads}
 use Rattle.nr_reduce.proofs.Steps.{end_state_after-append}
 use Rattle.nr_reduce.proofs.OwnStags.{AreNumbered, own-stags, client-numbers}
 use Rattle.nr_laws.specs.Pieces.{Piece, segment_at, spelled_one, count, one_send, one_read, one_hello, reading_piece, asking_piece, client_says, tagged_pieces, cut_piece, responding_pieces, IsPiece}
 use Rattle.nr_laws.specs.Pieces.Piece.{AHello, ASend, ARead, ATagged}
-use Rattle.nr_laws.specs.Between.{Way, Counts, Reads, Waits, Window, IsSink, HasSink, HaveSinks, AreBelow, Answers, requests_among}
+use Rattle.nr_laws.specs.Between.{Way, Counts, greeted, Reads, Waits, Window, IsSink, HasSink, HaveSinks, AreBelow, Answers, requests_among}
 use Rattle.nr_laws.proofs.Counted.{count-append, length-fewer, others}
 use Rattle.nr_laws.proofs.CountsServer.{segment-is}
 use Rattle.nr_laws.proofs.CountsClient.{down_one, after-is, says-is, request_payload, out-there, taken, counts-hello_down, counts-send_down, counts-read_down, counts-tagged_down}
@@ -42,7 +42,9 @@ use Rattle.nr_laws.proofs.Requests.{is-there}
 use Rattle.nr_laws.proofs.Outs.{segment-out}
 use Rattle.nr_laws.proofs.Linked.{Linked}
 use Rattle.nr_laws.proofs.ClientTakes.{says-hello, after-hello}
-use Rattle.nr_laws.proofs.Guards.{UpPiece, DownPiece, AreSized, Guards}
+use Rattle.nr_laws.proofs.CallNumbers.{XidsFrom, OutsFrom, HasOwnXid, xids-append, xids-asked}
+use Rattle.nr_laws.proofs.ClientTakes.{calls_said}
+use Rattle.nr_laws.proofs.Guards.{UpPiece, DownPiece, IsAsked, AreSized, Guards}
 use Rattle.nr_laws.proofs.GuardsServer.{each-at}
 
 pub front-down : (opened : LinkParameters) (k : ClientState) (s : ServerState) (u d all_up all_down : List Piece) (w : Way) (place : ℕ) (p : Piece) (rest : List Piece) → Linked opened k s u d all_up all_down w → Guards opened k s u d all_up all_down w place → w.down ≡ p ∷ rest → DownPiece opened.granted p
@@ -114,9 +116,9 @@ asked-of s w place sink at size stag to rest c first sinks stags within =
 -- ---- What is kept
 
 guards-down : (opened : LinkParameters) (k t : ClientState) (s : ServerState) (u d all_up all_down : List Piece) (w : Way) (place : ℕ) (p : Piece) (rest said : List Piece) (event : Event) → Guards opened k s u d all_up all_down w place
-    → Server opened t s (down_one w said rest) place → Window opened t → AllByRecursion UpPiece said → AreSized opened t.outstanding → client_end k event ≡ None → t ≡ client_state_after opened k event
+    → Server opened t s (down_one w said rest) place → Window opened t → AllByRecursion UpPiece said → AreSized opened t.outstanding → XidsFrom (opened.first_xid + count one_send all_up) said → t.has_hello ≡ true → client_end k event ≡ None → t ≡ client_state_after opened k event
     → Guards opened t s u (d ++ p ∷ []) (all_up ++ said) all_down (down_one w said rest) place
-guards-down opened k t s u d all_up all_down w place p rest said event g server window up calls stays is = record {
+guards-down opened k t s u d all_up all_down w place p rest said event g server window up calls xids hello stays is = record {
   server = server;
   window = window;
   up_said = each-append UpPiece all_up said g.up_said up;
@@ -124,6 +126,9 @@ guards-down opened k t s u d all_up all_down w place p rest said event g server 
   credit = g.credit;
   calls = calls;
   within = g.within;
+  xids = xids-append opened.first_xid all_up said g.xids xids;
+  unsaid = λ e. absurd (let wrong : true ≡ false = sym hello ∙ e in cc);
+  numbers = g.numbers;
   reached =
       (g.reached.0 ++ event ∷ [],
         end_state_after-append (client_rules opened) (initial_client opened) g.reached.0 (event ∷ [])
@@ -136,29 +141,56 @@ sized-frame opened k t f r is h = subst (λ (x : ClientState). AreSized opened x
   where
     by : ((with_segment k f r).outstanding ≡ k.outstanding) ⊎ ((p : OutstandingCall → Bool) × ((with_segment k f r).outstanding ≡ filter p k.outstanding)) → AreSized opened (with_segment k f r).outstanding
     by (inl same) = subst (AreSized opened) (sym same) h
-    by (inr left) = subst (AreSized opened) (sym left.1) (each-kept (λ (o : OutstandingCall). UpPiece (asking_piece opened o)) left.0 k.outstanding h)
+    by (inr left) = subst (AreSized opened) (sym left.1) (each-kept (IsAsked opened) left.0 k.outstanding h)
+
+own-xids : (opened : LinkParameters) (os : List OutstandingCall) → AreSized opened os → AllByRecursion (HasOwnXid opened) os
+own-xids opened [] h = tt
+own-xids opened (o ∷ os) h = (h.0.1, own-xids opened os h.1)
+
+not_greeted : (b : Bool) → greeted b ≡ 0 → b ≡ false
+not_greeted true e = absurd cc
+not_greeted false e = refl
+
+-- a frame behind the hello leaves the client with it
+behind-hello : (opened : LinkParameters) (k t : ClientState) (s : ServerState) (u d all_up all_down : List Piece) (w : Way) (f : Frame) (r : Result Segment ℕ) → t ≡ with_segment k f r → k.has_hello ≡ true → t.has_hello ≡ true
+behind-hello opened k t s u d all_up all_down w f r is hello = ap (λ (x : ClientState). x.has_hello) is ∙ by r
+  where
+    with : (m : Option (List ℕ)) (q : Option ReadRequest) → (with_request (with_message k f.end m) q).has_hello ≡ true
+    with None None = hello
+    with None (Some q) = hello
+    with (Some m) None = hello
+    with (Some m) (Some q) = hello
+    by : (r : Result Segment ℕ) → (with_segment k f r).has_hello ≡ true
+    by (Err reason) = hello
+    by (Ok segment) = with (message_completed k.received segment) (read_request_of segment)
 
 credits-same : (n : ℕ) → 0 < n → n ≤ most_credits → credits_of_word n ≤ n
 credits-same n some most =
     let same : credits_of_word n ≡ n = (λ i. cond (ne_eqb n 0 (λ e. omega (arith, e, some)) i) 1 (cond (le-ltb most_credits n most i) most_credits n)) in
     omega (arith, same)
 
-asks-up : (opened : LinkParameters) (os : List OutstandingCall) → AllByRecursion (λ (o : OutstandingCall). UpPiece (asking_piece opened o)) os → AllByRecursion UpPiece (map (asking_piece opened) os)
+asks-up : (opened : LinkParameters) (os : List OutstandingCall) → AreSized opened os → AllByRecursion UpPiece (map (asking_piece opened) os)
 asks-up opened [] h = tt
-asks-up opened (o ∷ os) h = (h.0, asks-up opened os h.1)
+asks-up opened (o ∷ os) h = (h.0.0, asks-up opened os h.1)
 
 none-asks : (opened : LinkParameters) (os : List OutstandingCall) → AnswersNone (map (asking_piece opened) os)
 none-asks opened [] = (refl, refl)
 none-asks opened (o ∷ os) = none-asks opened os
 
-pub guards-hello_down : (opened : LinkParameters) (k : ClientState) (s : ServerState) (u d all_up all_down : List Piece) (w : Way) (place : ℕ) (rest : List Piece) (f : Frame) → Guards opened k s u d all_up all_down w place → w.down ≡ AHello ∷ rest → is_hello f ≡ true
+pub guards-hello_down : (opened : LinkParameters) (k : ClientState) (s : ServerState) (u d all_up all_down : List Piece) (w : Way) (place : ℕ) (rest : List Piece) (f : Frame) → Linked opened k s u d all_up all_down w → Guards opened k s u d all_up all_down w place → w.down ≡ AHello ∷ rest → is_hello f ≡ true
     → client_end k (FrameReceived f) ≡ None
     → Guards opened (client_state_after opened k (FrameReceived f)) s u (d ++ AHello ∷ []) (all_up ++ client_says opened k (FrameReceived f)) all_down (down_one w (client_says opened k (FrameReceived f)) rest) place
-guards-hello_down opened k s u d all_up all_down w place rest f g first is stays =
+guards-hello_down opened k s u d all_up all_down w place rest f l g first is stays =
     let t = client_state_after opened k (FrameReceived f) in
     let said = map (asking_piece opened) k.outstanding in
     let says = says-hello opened k f is in
     let after = after-hello opened k f is in
+    let none : greeted k.has_hello ≡ 0 = omega (arith, l.counts.hello, ap (count one_hello) first) in
+    let unsaid : k.has_hello ≡ false = not_greeted k.has_hello none in
+    let sends : count one_send all_up ≡ 0 = calls_said opened k s u d all_up all_down w l ∙ ap (λ (b : Bool). cond b k.calls_accepted 0) unsaid in
+    let asked : XidsFrom (opened.first_xid + count one_send all_up) said =
+        subst (λ (n : ℕ). XidsFrom n said) (let same : opened.first_xid ≡ opened.first_xid + count one_send all_up = omega (arith, sends) in same)
+          (xids-asked opened opened.first_xid k.outstanding (g.unsaid unsaid) (own-xids opened k.outstanding g.calls)) in
     let server : Server opened t s (down_one w said rest) place = record {
       counts = subst (λ (ps : List Piece). Counts t s (down_one w ps rest)) says (counts-hello_down opened k s w f rest g.server.counts first is);
       reads = reads-says_up s w said rest g.server.reads (none-asks opened k.outstanding) (ap requests_among first);
@@ -167,12 +199,12 @@ guards-hello_down opened k s u d all_up all_down w place rest f g first is stays
       regions = g.server.regions;
     } in
     subst (λ (ps : List Piece). Guards opened t s u (d ++ AHello ∷ []) (all_up ++ ps) all_down (down_one w ps rest) place) (sym says)
-      (guards-down opened k t s u d all_up all_down w place AHello rest said (FrameReceived f) g server (subst (Window opened) (sym after) (record { window = g.window.window; grant = g.window.grant })) (asks-up opened k.outstanding g.calls) (subst (λ (x : ClientState). AreSized opened x.outstanding) (sym after) g.calls) stays refl)
+      (guards-down opened k t s u d all_up all_down w place AHello rest said (FrameReceived f) g server (subst (Window opened) (sym after) (record { window = g.window.window; grant = g.window.grant })) (asks-up opened k.outstanding g.calls) (subst (λ (x : ClientState). AreSized opened x.outstanding) (sym after) g.calls) asked (ap (λ (x : ClientState). x.has_hello) after) stays refl)
 
 pub guards-send_down : (opened : LinkParameters) (k : ClientState) (s : ServerState) (u d all_up all_down : List Piece) (w : Way) (place : ℕ) (message : List ℕ) (rest : List Piece) (f : Frame) → IsOpened opened → Linked opened k s u d all_up all_down w → Guards opened k s u d all_up all_down w place → w.down ≡ ASend message ∷ rest
-    → IsPiece k.received.sends k.received.requests f (ASend message) → client_end k (FrameReceived f) ≡ None
+    → IsPiece k.received.sends k.received.requests f (ASend message) → k.has_hello ≡ true → client_end k (FrameReceived f) ≡ None
     → Guards opened (client_state_after opened k (FrameReceived f)) s u (d ++ ASend message ∷ []) (all_up ++ client_says opened k (FrameReceived f)) all_down (down_one w (client_says opened k (FrameReceived f)) rest) place
-guards-send_down opened k s u d all_up all_down w place message rest f o l g first piece stays =
+guards-send_down opened k s u d all_up all_down w place message rest f o l g first piece hello stays =
     let segment : Segment = Untagged true OPCODE_SEND 0 QUEUE_SEND (msn_word (k.received.sends + 1)) 0 message in
     let reads : frame_segment f ≡ Ok segment = segment-is k.received.sends k.received.requests f (ASend message) segment piece refl in
     let t = client_state_after opened k (FrameReceived f) in
@@ -195,7 +227,7 @@ guards-send_down opened k s u d all_up all_down w place message rest f o l g fir
       regions = g.server.regions;
     } in
     subst (λ (ps : List Piece). Guards opened t s u (d ++ ASend message ∷ []) (all_up ++ ps) all_down (down_one w ps rest) place) (sym says)
-      (guards-down opened k t s u d all_up all_down w place (ASend message) rest [] (FrameReceived f) g server (subst (Window opened) (sym after) window) tt (sized-frame opened k t f (Ok segment) after g.calls) stays refl)
+      (guards-down opened k t s u d all_up all_down w place (ASend message) rest [] (FrameReceived f) g server (subst (Window opened) (sym after) window) tt (sized-frame opened k t f (Ok segment) after g.calls) tt (behind-hello opened k t s u d all_up all_down w f (Ok segment) after hello) stays refl)
   where
     filter-less : (p : OutstandingCall → Bool) (os : List OutstandingCall) → length (filter p os) ≤ length os
     filter-less p [] = omega arith
@@ -217,10 +249,23 @@ tagged-up opened k f r behind is = subst (AllByRecursion UpPiece) (sym (says-is 
     by None = tt
     by (Some q) = cuts _ q.sink q.sink_to _ _
 
+tagged-xids : (x : ℕ) (opened : LinkParameters) (k : ClientState) (f : Frame) (r : Result Segment ℕ) → is_hello f ≡ false → frame_segment f ≡ r → XidsFrom x (client_says opened k (FrameReceived f))
+unfolding tagged_pieces
+tagged-xids x opened k f r behind is = subst (XidsFrom x) (sym (says-is opened k f r behind is)) (by (segment_request r))
+  where
+    cuts : (opcode stag to : ℕ) (bytes : List ℕ) (is : List ℕ) → XidsFrom x (map (cut_piece opcode stag to bytes) is)
+    cuts opcode stag to bytes [] = tt
+    cuts opcode stag to bytes (i ∷ is) = cuts opcode stag to bytes is
+    by : (q : Option ReadRequest) → XidsFrom x (responding_pieces k f.end q)
+    by None = tt
+    by (Some q) =
+        let bytes = take q.size (drop q.to (memory_at k f.end q.stag)) in
+        cuts OPCODE_READ_RESPONSE q.sink q.sink_to bytes (range_with_len 0 (segment_count bytes))
+
 pub guards-read_down : (opened : LinkParameters) (k : ClientState) (s : ServerState) (u d all_up all_down : List Piece) (w : Way) (place sink at size stag to : ℕ) (rest : List Piece) (f : Frame) → Linked opened k s u d all_up all_down w → Guards opened k s u d all_up all_down w place → w.down ≡ ARead sink at size stag to ∷ rest
-    → IsPiece k.received.sends k.received.requests f (ARead sink at size stag to) → client_end k (FrameReceived f) ≡ None
+    → IsPiece k.received.sends k.received.requests f (ARead sink at size stag to) → k.has_hello ≡ true → client_end k (FrameReceived f) ≡ None
     → Guards opened (client_state_after opened k (FrameReceived f)) s u (d ++ ARead sink at size stag to ∷ []) (all_up ++ client_says opened k (FrameReceived f)) all_down (down_one w (client_says opened k (FrameReceived f)) rest) place
-guards-read_down opened k s u d all_up all_down w place sink at size stag to rest f l g first piece stays =
+guards-read_down opened k s u d all_up all_down w place sink at size stag to rest f l g first piece hello stays =
     let segment : Segment = Untagged true OPCODE_READ_REQUEST 0 QUEUE_READ_REQUEST (msn_word (k.received.requests + 1)) 0 (request_payload sink at size stag to) in
     let reads : frame_segment f ≡ Ok segment = segment-is k.received.sends k.received.requests f (ARead sink at size stag to) segment piece refl in
     let t = client_state_after opened k (FrameReceived f) in
@@ -239,16 +284,16 @@ guards-read_down opened k s u d all_up all_down w place sink at size stag to res
       regions = g.server.regions;
     } in
     guards-down opened k t s u d all_up all_down w place (ARead sink at size stag to) rest said (FrameReceived f) g server (subst (Window opened) (sym after) (record { window = g.window.window; grant = g.window.grant }))
-      (tagged-up opened k f (Ok segment) piece.behind reads) (sized-frame opened k t f (Ok segment) after g.calls) stays refl
+      (tagged-up opened k f (Ok segment) piece.behind reads) (sized-frame opened k t f (Ok segment) after g.calls) (tagged-xids (opened.first_xid + count one_send all_up) opened k f (Ok segment) piece.behind reads) (behind-hello opened k t s u d all_up all_down w f (Ok segment) after hello) stays refl
   where
     ap-regions : (opened : LinkParameters) (k : ClientState) (es : List Event) → end_state_after (client_rules opened) (initial_client opened) es ≡ live k
         → AreNumbered opened.first_stag (end_state_after (client_rules opened) (initial_client opened) es).state.regions → AreNumbered opened.first_stag k.regions
     ap-regions opened k es is h = subst (λ (r : EndState ClientState). AreNumbered opened.first_stag r.state.regions) is h
 
 pub guards-tagged_down : (opened : LinkParameters) (k : ClientState) (s : ServerState) (u d all_up all_down : List Piece) (w : Way) (place : ℕ) (last : Bool) (opcode stag to : ℕ) (payload : List ℕ) (rest : List Piece) (f : Frame) → Guards opened k s u d all_up all_down w place
-    → w.down ≡ ATagged last opcode stag to payload ∷ rest → IsPiece k.received.sends k.received.requests f (ATagged last opcode stag to payload) → client_end k (FrameReceived f) ≡ None
+    → w.down ≡ ATagged last opcode stag to payload ∷ rest → IsPiece k.received.sends k.received.requests f (ATagged last opcode stag to payload) → k.has_hello ≡ true → client_end k (FrameReceived f) ≡ None
     → Guards opened (client_state_after opened k (FrameReceived f)) s u (d ++ ATagged last opcode stag to payload ∷ []) (all_up ++ client_says opened k (FrameReceived f)) all_down (down_one w (client_says opened k (FrameReceived f)) rest) place
-guards-tagged_down opened k s u d all_up all_down w place last opcode stag to payload rest f g first piece stays =
+guards-tagged_down opened k s u d all_up all_down w place last opcode stag to payload rest f g first piece hello stays =
     let segment : Segment = Tagged last opcode stag to payload in
     let reads : frame_segment f ≡ Ok segment = segment-is k.received.sends k.received.requests f (ATagged last opcode stag to payload) segment piece refl in
     let t = client_state_after opened k (FrameReceived f) in
@@ -262,4 +307,4 @@ guards-tagged_down opened k s u d all_up all_down w place last opcode stag to pa
       regions = g.server.regions;
     } in
     subst (λ (ps : List Piece). Guards opened t s u (d ++ ATagged last opcode stag to payload ∷ []) (all_up ++ ps) all_down (down_one w ps rest) place) (sym says)
-      (guards-down opened k t s u d all_up all_down w place (ATagged last opcode stag to payload) rest [] (FrameReceived f) g server (subst (Window opened) (sym after) (record { window = g.window.window; grant = g.window.grant })) tt (sized-frame opened k t f (Ok segment) after g.calls) stays refl)
+      (guards-down opened k t s u d all_up all_down w place (ATagged last opcode stag to payload) rest [] (FrameReceived f) g server (subst (Window opened) (sym after) (record { window = g.window.window; grant = g.window.grant })) tt (sized-frame opened k t f (Ok segment) after g.calls) tt (behind-hello opened k t s u d all_up all_down w f (Ok segment) after hello) stays refl)

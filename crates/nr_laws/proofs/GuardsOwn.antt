@@ -8,7 +8,7 @@ use Rattle.nr_link.specs.Frames.{Frame}
 use Rattle.nr_reduce.specs.declared.mark.LinkParameters.{LinkParameters}
 use Rattle.nr_reduce.specs.declared.outline.Plan.{Plan}
 use Rattle.nr_reduce.specs.Opening.{IsOpened}
-use Rattle.nr_reduce.specs.Limits.{send_max}
+use Rattle.nr_reduce.specs.Limits.{send_max, numbers_end}
 use Rattle.nr_reduce.specs.Plans.{TooLarge, plan_size, call_message}
 use Rattle.nr_reduce.specs.History.{AcceptedCall, ExecutedCall}
 use Rattle.nr_reduce.specs.Events.{Event}
@@ -29,9 +29,14 @@ use Rattle.nr_laws.proofs.ServerKnown.{Server}
 use Rattle.nr_laws.proofs.Executing.{server-executes, server-writes}
 use Rattle.nr_laws.proofs.ReadLimits.{AreWithin, each-append}
 use Rattle.nr_laws.proofs.ServerSays.{CallsFit}
-use Rattle.nr_laws.proofs.OwnEvents.{planned, counts-revoked}
+use Rattle.nr_laws.proofs.OwnEvents.{planned, counts-revoked, xid-revoked}
 use Rattle.nr_laws.proofs.Linked.{Linked}
-use Rattle.nr_laws.proofs.Guards.{UpPiece, DownPiece, AreSized, Guards, execution-down}
+use Rattle.nr_reduce.specs.SubmitAnswer.{next_xid}
+use Rattle.nr_laws.specs.Pieces.{count, one_send}
+use Rattle.nr_laws.proofs.CallWords.{call-words}
+use Rattle.nr_laws.proofs.CallNumbers.{XidsFrom, xids-append, outs-push, outs-map, numbered-kept}
+use Rattle.nr_laws.proofs.ClientTakes.{calls_said}
+use Rattle.nr_laws.proofs.Guards.{UpPiece, DownPiece, IsAsked, AreSized, Guards, execution-down}
 
 -- an event of the client that is no frame
 reached-more : (opened : LinkParameters) (k : ClientState) (event : Event) → client_end k event ≡ None → (es : List Event) × (end_state_after (client_rules opened) (initial_client opened) es ≡ live k)
@@ -44,12 +49,14 @@ reached-more opened k event stays r =
 
 -- ---- A call is submitted
 
-sized-call : (opened : LinkParameters) (k : ClientState) (a : AcceptedCall) (plan : Plan) → plan_for k a.xid a.call a.form ≡ Ok plan → UpPiece (asking_piece opened (outstanding_of k a))
+sized-call : (opened : LinkParameters) (k : ClientState) (a : AcceptedCall) (plan : Plan) → plan_for k a.xid a.call a.form ≡ Ok plan → a.xid < numbers_end → IsAsked opened (outstanding_of k a)
 unfolding plan_for plan_size
-sized-call opened k a plan is =
+sized-call opened k a plan is lt =
     let size = message_size (call_payload a.xid a.call) a.form 1024 1024 a.xid opened.wished k.stag plan is in
-    subst (λ (p : Plan). (16 ≤ length (call_message a.xid opened.wished k.stag p)) × (length (call_message a.xid opened.wished k.stag p) ≤ send_max))
-      (sym (planned (call_payload a.xid a.call) (plan_for k a.xid a.call a.form) plan is)) (omega (arith, size.0), size.1)
+    let words = call-words a.xid opened.wished k.stag (outstanding_of k a).plan lt in
+    let fits = subst (λ (p : Plan). (16 ≤ length (call_message a.xid opened.wished k.stag p)) × (length (call_message a.xid opened.wished k.stag p) ≤ send_max))
+        (sym (planned (call_payload a.xid a.call) (plan_for k a.xid a.call a.form) plan is)) (omega (arith, size.0), size.1) in
+    ((fits.0, fits.1, words.version, words.kind), words.xid_is)
 
 none-says : (b : Bool) (message : List ℕ) → AnswersNone (cond b (ASend message ∷ []) [])
 none-says true message = (refl, refl)
@@ -59,14 +66,14 @@ up-says : (b : Bool) (message : List ℕ) → UpPiece (ASend message) → AllByR
 up-says true message h = (h, tt)
 up-says false message h = tt
 
-pub guards-submit : (opened : LinkParameters) (k : ClientState) (s : ServerState) (u d all_up all_down : List Piece) (w : Way) (up place : ℕ) (a : AcceptedCall) (plan : Plan) → Guards opened k s u d all_up all_down w up → plan_for k a.xid a.call a.form ≡ Ok plan → length k.outstanding < k.grant
+pub guards-submit : (opened : LinkParameters) (k : ClientState) (s : ServerState) (u d all_up all_down : List Piece) (w : Way) (up place : ℕ) (a : AcceptedCall) (plan : Plan) → Linked opened k s u d all_up all_down w → Guards opened k s u d all_up all_down w up → plan_for k a.xid a.call a.form ≡ Ok plan → a.xid ≡ next_xid opened k → a.xid < numbers_end → length k.outstanding < k.grant
     → Guards opened (client_state_after opened k (CallSubmitted place a)) s u d (all_up ++ client_says opened k (CallSubmitted place a)) all_down (up_more w (client_says opened k (CallSubmitted place a))) up
 unfolding client_state_after client_says client_end
-guards-submit opened k s u d all_up all_down w up place a plan g is room =
+guards-submit opened k s u d all_up all_down w up place a plan l g is own lt room =
     let t = client_state_after opened k (CallSubmitted place a) in
     let said = client_says opened k (CallSubmitted place a) in
     let message = call_message a.xid opened.wished k.stag (outstanding_of k a).plan in
-    let one = sized-call opened k a plan is in
+    let one = sized-call opened k a plan is lt in
     record {
       server = record {
         counts = counts-accepts opened k s w place a g.server.counts;
@@ -76,13 +83,29 @@ guards-submit opened k s u d all_up all_down w up place a plan g is room =
         regions = g.server.regions;
       };
       window = record { window = omega (arith, g.window.grant, room, length-append k.outstanding (outstanding_of k a ∷ [])); grant = g.window.grant };
-      up_said = each-append UpPiece all_up said g.up_said (up-says k.has_hello message one);
+      up_said = each-append UpPiece all_up said g.up_said (up-says k.has_hello message one.0);
       down_said = g.down_said;
       credit = g.credit;
-      calls = each-append (λ (o : OutstandingCall). UpPiece (asking_piece opened o)) k.outstanding (outstanding_of k a ∷ []) g.calls (one, tt);
+      calls = each-append (IsAsked opened) k.outstanding (outstanding_of k a ∷ []) g.calls (one, tt);
       within = g.within;
+      xids = xids-append opened.first_xid all_up said g.xids (new-xid k.has_hello refl);
+      unsaid = λ e. outs-push opened.first_xid k.outstanding (outstanding_of k a) (g.unsaid e) (omega (arith, own, all-waiting e));
+      numbers = g.numbers;
       reached = reached-more opened k (CallSubmitted place a) refl g.reached;
     }
+
+  where
+    -- before the hello all accepted calls are outstanding
+    all-waiting : k.has_hello ≡ false → length k.outstanding ≡ k.calls_accepted
+    all-waiting e =
+        let none : count one_send all_up ≡ 0 = calls_said opened k s u d all_up all_down w l ∙ ap (λ (b : Bool). cond b k.calls_accepted 0) e in
+        omega (arith, none, l.counts.calls_up, calls_said opened k s u d all_up all_down w l, l.counts.waiting, l.counts.messages_down, l.counts.out)
+    new-xid : (b : Bool) → k.has_hello ≡ b → XidsFrom (opened.first_xid + count one_send all_up) (cond k.has_hello (asking_piece opened (outstanding_of k a) ∷ []) [])
+    new-xid true e =
+        let sends : count one_send all_up ≡ k.calls_accepted = calls_said opened k s u d all_up all_down w l ∙ ap (λ (b : Bool). cond b k.calls_accepted 0) e in
+        subst (λ (b : Bool). XidsFrom (opened.first_xid + count one_send all_up) (cond b (asking_piece opened (outstanding_of k a) ∷ []) [])) (sym e)
+          ((sized-call opened k a plan is lt).1 ∙ omega (arith, own, sends), tt)
+    new-xid false e = subst (λ (b : Bool). XidsFrom (opened.first_xid + count one_send all_up) (cond b (asking_piece opened (outstanding_of k a) ∷ []) [])) (sym e) tt
 
 -- ---- Memory is revoked, and a queue is written
 
@@ -90,7 +113,7 @@ sized-revoked : (opened : LinkParameters) (xid : ℕ) (os : List OutstandingCall
 sized-revoked opened xid [] h = tt
 sized-revoked opened xid (o ∷ os) h = (by (eqb o.xid xid), sized-revoked opened xid os h.1)
   where
-    by : (b : Bool) → UpPiece (asking_piece opened (cond b (record o { is_revoked = true }) o))
+    by : (b : Bool) → IsAsked opened (cond b (record o { is_revoked = true }) o)
     by true = h.0
     by false = h.0
 
@@ -109,6 +132,9 @@ guards-revoke opened k s u d all_up all_down w up place xid g = record {
   credit = g.credit;
   calls = sized-revoked opened xid k.outstanding g.calls;
   within = g.within;
+  xids = g.xids;
+  unsaid = λ e. outs-map (revoked_call xid) opened.first_xid k.outstanding (xid-revoked xid) (g.unsaid e);
+  numbers = g.numbers;
   reached = reached-more opened k (MemoryRevoked place xid) refl g.reached;
 }
 
@@ -123,6 +149,9 @@ guards-written_up opened k s u d all_up all_down w up g = record {
   credit = g.credit;
   calls = sized-written opened k.has_hello k.outstanding g.calls;
   within = g.within;
+  xids = g.xids;
+  unsaid = λ e. outs-map (written_call k.has_hello) opened.first_xid k.outstanding (λ o. refl) (g.unsaid e);
+  numbers = g.numbers;
   reached = reached-more opened k QueueWritten refl g.reached;
 }
 
@@ -142,6 +171,9 @@ guards-execute opened k s u d all_up all_down w up e r rest o g fits first own =
       credit = g.credit;
       calls = g.calls;
       within = g.within;
+      xids = g.xids;
+      unsaid = g.unsaid;
+      numbers = numbered-kept opened.first_xid (λ c. not (eqb c.xid e.xid)) s.calls g.numbers;
       reached = g.reached;
     }
 
@@ -156,5 +188,8 @@ guards-written_down opened k s u d all_up all_down w up g = record {
   credit = g.credit;
   calls = g.calls;
   within = g.within;
+  xids = g.xids;
+  unsaid = g.unsaid;
+  numbers = g.numbers;
   reached = g.reached;
 }

@@ -2,6 +2,7 @@
 use Rattle.std.proofs.Common.{◌≡◌, ◌≢◌, ℕ, zero, suc, ◌+◌, ◌≤◌, ◌<◌, ◌^◌, Bool, true, false, cond, ◌&&◌, eqb, List, [], ◌∷◌, ◌++◌, length, map, take, Option, Some, None, Result, Ok, Err, refl, sym, ap, subst, ◌∙◌, arith, append_assoc, append-nil, ◌⊎◌, inl, inr}
 use Rattle.std.specs.List.{AllByRecursion}
 use Rattle.nr_xdr.specs.Item.{IsBytes}
+use Rattle.nr_xdr.specs.Fields.{word_at}
 use Rattle.nr_wire.specs.Constants.{OPCODE_SEND, QUEUE_SEND}
 use Rattle.nr_wire.specs.declared.hello.Side.TheVariants.{Initiator, Responder}
 use Rattle.nr_wire.specs.Hello.{hello_of}
@@ -33,6 +34,7 @@ use Rattle.nr_laws.proofs.ServerKnown.{Server, server-takes_send, server-takes_r
 use Rattle.nr_laws.proofs.Replies.{AreReplies, replies-frame}
 use Rattle.nr_laws.proofs.ReadLimits.{AreWithin, each-append, within-send, within-tagged, within-closed}
 use Rattle.nr_laws.proofs.Linked.{Linked, taken_up, not-refused, says-hello, says-frame, after-hello, payload_bytes}
+use Rattle.nr_laws.proofs.CallNumbers.{XidsFrom, IsNumbered, xids-at, numbered-send, numbered-tagged}
 use Rattle.nr_laws.proofs.Guards.{UpPiece, DownPiece, Guards, step-down}
 
 pub each-at : {X : Type 0} (P : X → Type 0) (xs : List X) (y : X) (ys : List X) → AllByRecursion P (xs ++ y ∷ ys) → P y
@@ -48,10 +50,16 @@ pub front-up : (opened : LinkParameters) (k : ClientState) (s : ServerState) (u 
 front-up opened k s u d all_up all_down w place p rest l g first =
     each-at UpPiece u p (rest ++ w.queued_up) (subst (AllByRecursion UpPiece) (sym l.parts_up ∙ ap (λ (ps : List Piece). u ++ (ps ++ w.queued_up)) first) g.up_said)
 
+-- and its xid, where it is a message
+pub front-xid : (opened : LinkParameters) (k : ClientState) (s : ServerState) (u d all_up all_down : List Piece) (w : Way) (place : ℕ) (message : List ℕ) (rest : List Piece) → Linked opened k s u d all_up all_down w → Guards opened k s u d all_up all_down w place → w.up ≡ ASend message ∷ rest → word_at 0 message ≡ opened.first_xid + s.received.sends
+front-xid opened k s u d all_up all_down w place message rest l g first =
+    xids-at opened.first_xid u message (rest ++ w.queued_up) (subst (XidsFrom opened.first_xid) (sym l.parts_up ∙ ap (λ (ps : List Piece). u ++ (ps ++ w.queued_up)) first) g.xids)
+    ∙ ap (λ (n : ℕ). opened.first_xid + n) (sym l.sends_up)
+
 guards-up : (opened : LinkParameters) (k : ClientState) (s t : ServerState) (u d all_up all_down : List Piece) (w : Way) (place end : ℕ) (p : Piece) (rest said : List Piece) → Guards opened k s u d all_up all_down w place
-    → Server opened k t (taken_up w rest said) end → AllByRecursion (DownPiece opened.granted) said → t.credit ≡ s.credit → AreWithin t.reads t.regions
+    → Server opened k t (taken_up w rest said) end → AllByRecursion (DownPiece opened.granted) said → t.credit ≡ s.credit → AreWithin t.reads t.regions → AllByRecursion (IsNumbered opened.first_xid) t.calls
     → Guards opened k t (u ++ p ∷ []) d all_up (all_down ++ said) (taken_up w rest said) end
-guards-up opened k s t u d all_up all_down w place end p rest said g server down credit within = record {
+guards-up opened k s t u d all_up all_down w place end p rest said g server down credit within numbers = record {
   server = server;
   window = g.window;
   up_said = g.up_said;
@@ -59,6 +67,9 @@ guards-up opened k s t u d all_up all_down w place end p rest said g server down
   credit = credit ∙ g.credit;
   calls = g.calls;
   within = within;
+  xids = g.xids;
+  unsaid = g.unsaid;
+  numbers = numbers;
   reached = g.reached;
 }
 
@@ -85,6 +96,9 @@ takes-send opened k s u d all_up all_down w place message rest f o l g first pie
     let says = says-frame opened s f piece.behind in
     let after = after-is opened s f (Ok segment) piece.behind reads in
     let small : s.credit < 2 ^ 32 = omega (arith, g.credit, o.granted_fits) in
+    let own = front-xid opened k s u d all_up all_down w place message rest l g first in
+    let numbered = numbered-send opened.first_xid s f message l.counts.whole_up own g.numbers reads in
+    let numbers = subst (AllByRecursion (IsNumbered opened.first_xid)) (ap (λ (e : FrameEffect). e.calls) (step-is s f (Ok segment) reads) ∙ ap (λ (x : ServerState). x.calls) (sym after)) numbered in
     let within = within-after s f (Ok segment) reads (within-send s f message l.counts.whole_up (payload_bytes segment (subst IsBytes is bytes)) g.within reads) in
     record {
       ends = t.0;
@@ -92,7 +106,7 @@ takes-send opened k s u d all_up all_down w place message rest f o l g first pie
           subst (λ (said : List Piece). Guards opened k (server_state_after opened s (FrameReceived f)) (u ++ ASend message ∷ []) d all_up (all_down ++ said) (taken_up w rest said) f.end) (sym says)
             (guards-up opened k s (server_state_after opened s (FrameReceived f)) u d all_up all_down w place f.end (ASend message) rest (step_says (frame_effect s f)) g
               (t.1 (not-refused opened s f piece.behind stays)) (credit-down opened s.credit (step_says (frame_effect s f)) g.credit (step-down s.credit (frame_effect s f) (replies-frame s f small)))
-              (ap (λ (x : ServerState). x.credit) after) (subst (λ (x : ServerState). AreWithin x.reads x.regions) (sym after) within));
+              (ap (λ (x : ServerState). x.credit) after) (subst (λ (x : ServerState). AreWithin x.reads x.regions) (sym after) within) numbers);
     }
 
 pub takes-tagged : (opened : LinkParameters) (k : ClientState) (s : ServerState) (u d all_up all_down : List Piece) (w : Way) (place : ℕ) (last : Bool) (opcode stag to : ℕ) (payload : List ℕ) (rest : List Piece) (f : Frame) → IsOpened opened → Linked opened k s u d all_up all_down w → Guards opened k s u d all_up all_down w place
@@ -104,6 +118,8 @@ takes-tagged opened k s u d all_up all_down w place last opcode stag to payload 
     let says = says-frame opened s f piece.behind in
     let after = after-is opened s f (Ok segment) piece.behind reads in
     let small : s.credit < 2 ^ 32 = omega (arith, g.credit, o.granted_fits) in
+    let numbered = numbered-tagged opened.first_xid s f last opcode stag to payload g.numbers reads in
+    let numbers = subst (AllByRecursion (IsNumbered opened.first_xid)) (ap (λ (e : FrameEffect). e.calls) (step-is s f (Ok segment) reads) ∙ ap (λ (x : ServerState). x.calls) (sym after)) numbered in
     let within = within-after s f (Ok segment) reads (within-tagged s f last opcode stag to payload g.within reads) in
     record {
       ends = t.0;
@@ -111,7 +127,7 @@ takes-tagged opened k s u d all_up all_down w place last opcode stag to payload 
           subst (λ (said : List Piece). Guards opened k (server_state_after opened s (FrameReceived f)) (u ++ ATagged last opcode stag to payload ∷ []) d all_up (all_down ++ said) (taken_up w rest said) f.end) (sym says)
             (guards-up opened k s (server_state_after opened s (FrameReceived f)) u d all_up all_down w place f.end (ATagged last opcode stag to payload) rest (step_says (frame_effect s f)) g
               (t.1 (not-refused opened s f piece.behind stays)) (credit-down opened s.credit (step_says (frame_effect s f)) g.credit (step-down s.credit (frame_effect s f) (replies-frame s f small)))
-              (ap (λ (x : ServerState). x.credit) after) (subst (λ (x : ServerState). AreWithin x.reads x.regions) (sym after) within));
+              (ap (λ (x : ServerState). x.credit) after) (subst (λ (x : ServerState). AreWithin x.reads x.regions) (sym after) within) numbers);
     }
 
 -- the client's hello
@@ -138,4 +154,4 @@ hello-guards opened k s u d all_up all_down w place rest f g first is le =
     } in
     subst (λ (said : List Piece). Guards opened k (server_state_after opened s (FrameReceived f)) (u ++ AHello ∷ []) d all_up (all_down ++ said) (taken_up w rest said) f.end) (sym says)
       (subst (λ (t : ServerState). Guards opened k t (u ++ AHello ∷ []) d all_up (all_down ++ AHello ∷ []) (taken_up w rest (AHello ∷ [])) f.end) (sym after)
-        (guards-up opened k s s u d all_up all_down w place f.end AHello rest (AHello ∷ []) g server (tt, tt) refl g.within))
+        (guards-up opened k s s u d all_up all_down w place f.end AHello rest (AHello ∷ []) g server (tt, tt) refl g.within g.numbers))

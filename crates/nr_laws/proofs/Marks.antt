@@ -157,7 +157,7 @@ goes-submit opened link run call form xid j h =
       (λ o within g.
         let room : length j.k.outstanding < j.k.grant = room-of opened link run j (within refl) in
         subst (λ (ps : List Piece). Guards opened (client_state_after opened j.k (CallSubmitted place a)) j.s j.u j.d (j.all_up ++ ps) j.all_down (up_more j.w ps) (place_of j.u)) (sym m.said_is)
-          (guards-submit opened j.k j.s j.u j.d j.all_up j.all_down j.w (place_of j.u) place a h.plan g planned room))
+          (guards-submit opened j.k j.s j.u j.d j.all_up j.all_down j.w (place_of j.u) place a h.plan j.linked g planned own h.xids room))
 
 pub goes-wrote_up : (opened : LinkParameters) (link : ℕ) (run : List Mark) (bytes : List ℕ) (j : Joined opened link run) → bytes_sent link Initiator run ++ bytes ≡ output_due opened link Initiator run
     → Goes opened link run (marks.Wrote link Initiator bytes) j

@@ -114,7 +114,7 @@ submitted opened k s u d all_up all_down w place a plan l own is = by k.has_hell
         with_said [] (ap (λ (x : Bool). cond x (p ∷ []) []) e) (ap (λ (x : Bool). cond x (call_output opened (k.calls_accepted + 1) (outstanding_of k a)) []) e) tt refl refl
 
 -- the memory of a call is revoked
-xid-revoked : (xid : ℕ) (o : OutstandingCall) → (revoked_call xid o).xid ≡ o.xid
+pub xid-revoked : (xid : ℕ) (o : OutstandingCall) → (revoked_call xid o).xid ≡ o.xid
 xid-revoked xid o = by (eqb o.xid xid)
   where
     by : (b : Bool) → (cond b (record o { is_revoked = true }) o).xid ≡ o.xid

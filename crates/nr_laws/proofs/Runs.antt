@@ -126,6 +126,9 @@ starts opened link = record {
     credit = refl;
     calls = tt;
     within = record { fit = tt; few = lit< tt; small = tt };
+    xids = tt;
+    unsaid = λ e. tt;
+    numbers = tt;
     reached = ([], refl);
   };
 }

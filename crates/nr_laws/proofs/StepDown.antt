@@ -43,7 +43,8 @@ use Rattle.nr_reduce.specs.ServerState.{ServerState}
 use Rattle.nr_laws.specs.EndCauses.{IsReplyReason, IsReplyEnd, IsDenied}
 use Rattle.nr_laws.specs.Pieces.{Piece, segment_at, spelled_one, count, one_send, one_read, one_hello, client_says, IsPiece}
 use Rattle.nr_laws.specs.Pieces.Piece.{AHello, ASend, ARead, ATagged}
-use Rattle.nr_laws.specs.Between.{Way, Counts}
+use Rattle.nr_laws.specs.Between.{Way, Counts, greeted}
+use Rattle.nr_laws.proofs.Counted.{count-append}
 use Rattle.nr_laws.proofs.Channel.{own_hello-is}
 use Rattle.nr_laws.proofs.Fed.{is-piece}
 use Rattle.nr_laws.proofs.Flaws.{request-flaw, write-flaw}
@@ -53,7 +54,7 @@ use Rattle.nr_laws.proofs.CountsServer.{segment-is}
 use Rattle.nr_laws.proofs.CountsClient.{down_one, request_payload}
 use Rattle.nr_laws.proofs.Replies.{IsReply}
 use Rattle.nr_laws.proofs.Requests.{request-again}
-use Rattle.nr_laws.proofs.Proper.{IsProper, IsStream, proper_one, stream-first, stream-at}
+use Rattle.nr_laws.proofs.Proper.{IsProper, AllProper, IsStream, proper_one, stream-first, stream-at}
 use Rattle.nr_laws.proofs.Linked.{Linked, IsPlace, frame_of}
 use Rattle.nr_laws.proofs.Guards.{Guards}
 use Rattle.nr_laws.proofs.GuardsClient.{front-down, Asked, asked-of, guards-hello_down, guards-send_down, guards-read_down, guards-tagged_down}
@@ -204,10 +205,10 @@ len-request sink at size stag to =
       length-append (word size) (word stag ++ hyper to), length-append (word stag) (hyper to), length-word sink, length-hyper at, length-word size, length-word stag, length-hyper to)
 
 step-piece : (opened : LinkParameters) (k : ClientState) (s : ServerState) (u d all_up all_down : List Piece) (w : Way) (place : ℕ) (p : Piece) (rest : List Piece) (f : Frame) → IsOpened opened → Linked opened k s u d all_up all_down w → Guards opened k s u d all_up all_down w place → w.down ≡ p ∷ rest
-    → IsProper p → IsPiece k.received.sends k.received.requests f p → StepDown opened k s u d all_up all_down w place p rest f
+    → IsProper p → IsPiece k.received.sends k.received.requests f p → k.has_hello ≡ true → StepDown opened k s u d all_up all_down w place p rest f
 unfolding frame_end
-step-piece opened k s u d all_up all_down w place AHello rest f o l g first proper piece = absurd proper
-step-piece opened k s u d all_up all_down w place (ASend message) rest f o l g first proper piece =
+step-piece opened k s u d all_up all_down w place AHello rest f o l g first proper piece hello = absurd proper
+step-piece opened k s u d all_up all_down w place (ASend message) rest f o l g first proper piece hello =
     let segment : Segment = Untagged true OPCODE_SEND 0 QUEUE_SEND (msn_word (k.received.sends + 1)) 0 message in
     let reads : frame_segment f ≡ Ok segment = segment-is k.received.sends k.received.requests f (ASend message) segment piece refl in
     let reply : IsReply opened.granted message = front-down opened k s u d all_up all_down w place (ASend message) rest l g first in
@@ -217,9 +218,9 @@ step-piece opened k s u d all_up all_down w place (ASend message) rest f o l g f
         client-send opened k s w f message l.counts piece reply.least reply.most ∙ ap (λ (r : Result Segment ℕ). message_end k f (segment_message k r)) reads in
     record {
       only = λ end e. inl (reply-end f (verdict k f.end whole) end (reason-verdict k f.end whole (omega (arith, reply.least, ap (λ (xs : List ℕ). length xs) same))) (sym ends ∙ e));
-      kept = λ stays. guards-send_down opened k s u d all_up all_down w place message rest f o l g first piece stays;
+      kept = λ stays. guards-send_down opened k s u d all_up all_down w place message rest f o l g first piece hello stays;
     }
-step-piece opened k s u d all_up all_down w place (ARead sink at size stag to) rest f o l g first proper piece =
+step-piece opened k s u d all_up all_down w place (ARead sink at size stag to) rest f o l g first proper piece hello =
     let payload = request_payload sink at size stag to in
     let segment : Segment = Untagged true OPCODE_READ_REQUEST 0 QUEUE_READ_REQUEST (msn_word (k.received.requests + 1)) 0 payload in
     let grants = region_grants f.end k.regions in
@@ -235,9 +236,9 @@ step-piece opened k s u d all_up all_down w place (ARead sink at size stag to) r
     let none : message_end k f (segment_message k (frame_segment f)) ≡ None = ap (λ (r : Result Segment ℕ). message_end k f (segment_message k r)) reads in
     record {
       only = λ end e. inr (lacks-end f segment (missing_access grants f segment) end (or-message-some k f (end_of_fault f segment (first_fault (missing_fault (missing_access grants f segment) ∷ []))) end none (sym ends ∙ e)));
-      kept = λ stays. guards-read_down opened k s u d all_up all_down w place sink at size stag to rest f l g first piece stays;
+      kept = λ stays. guards-read_down opened k s u d all_up all_down w place sink at size stag to rest f l g first piece hello stays;
     }
-step-piece opened k s u d all_up all_down w place (ATagged last opcode stag to payload) rest f o l g first proper piece =
+step-piece opened k s u d all_up all_down w place (ATagged last opcode stag to payload) rest f o l g first proper piece hello =
     let write : opcode ≡ OPCODE_WRITE = front-down opened k s u d all_up all_down w place (ATagged last opcode stag to payload) rest l g first in
     let segment : Segment = Tagged last OPCODE_WRITE stag to payload in
     let grants = region_grants f.end k.regions in
@@ -249,8 +250,35 @@ step-piece opened k s u d all_up all_down w place (ATagged last opcode stag to p
     let none : message_end k f (segment_message k (frame_segment f)) ≡ None = ap (λ (r : Result Segment ℕ). message_end k f (segment_message k r)) reads in
     record {
       only = λ end e. inr (lacks-end f segment (missing_access grants f segment) end (or-message-some k f (end_of_fault f segment (first_fault (missing_fault (missing_access grants f segment) ∷ []))) end none (sym ends ∙ e)));
-      kept = λ stays. guards-tagged_down opened k s u d all_up all_down w place last opcode stag to payload rest f g first piece stays;
+      kept = λ stays. guards-tagged_down opened k s u d all_up all_down w place last opcode stag to payload rest f g first piece hello stays;
     }
+
+stream-one : (ps : List Piece) → IsStream ps → count one_hello ps ≤ 1
+stream-one [] h = omega arith
+stream-one (AHello ∷ ps) h = omega (arith, none-more ps h)
+  where
+    none-more : (ps : List Piece) → AllProper ps → count one_hello ps ≡ 0
+    none-more [] h = refl
+    none-more (AHello ∷ ps) h = absurd h.0
+    none-more (ASend message ∷ ps) h = omega (arith, none-more ps h.1)
+    none-more (ARead sink at size stag to ∷ ps) h = omega (arith, none-more ps h.1)
+    none-more (ATagged last opcode stag to payload ∷ ps) h = omega (arith, none-more ps h.1)
+stream-one (ASend message ∷ ps) h = absurd h
+stream-one (ARead sink at size stag to ∷ ps) h = absurd h
+stream-one (ATagged last opcode stag to payload ∷ ps) h = absurd h
+
+greeted-true : (b : Bool) → greeted b ≡ 1 → b ≡ true
+greeted-true true e = refl
+greeted-true false e = absurd (omega (arith, e))
+
+-- a client that received a frame has the hello
+has-hello : (opened : LinkParameters) (k : ClientState) (s : ServerState) (u : List Piece) (q : Piece) (d all_up all_down : List Piece) (w : Way) → Linked opened k s u (q ∷ d) all_up all_down w → k.has_hello ≡ true
+has-hello opened k s u q d all_up all_down w l =
+    let stream : IsStream (q ∷ (d ++ (w.down ++ w.queued_down))) = subst IsStream (sym l.parts_down) l.stream_down in
+    let first : one_hello q ≡ 1 = ap one_hello (stream-first q (d ++ (w.down ++ w.queued_down)) stream) in
+    greeted-true k.has_hello
+      (omega (arith, first, l.counts.hello, l.hellos_down, stream-one all_up l.stream_up, ap (count one_hello) l.parts_up, ap (count one_hello) l.parts_down,
+        count-append one_hello u (w.up ++ w.queued_up), count-append one_hello w.up w.queued_up, count-append one_hello d (w.down ++ w.queued_down), count-append one_hello w.down w.queued_down))
 
 pub step-down : (opened : LinkParameters) (k : ClientState) (s : ServerState) (u d all_up all_down : List Piece) (w : Way) (up : ℕ) (p : Piece) (rest : List Piece) (n r place : ℕ) → IsOpened opened → Linked opened k s u d all_up all_down w → Guards opened k s u d all_up all_down w up → w.down ≡ p ∷ rest
     → n ≡ count one_send d → r ≡ count one_read d → IsPlace d place → StepDown opened k s u d all_up all_down w up p rest (frame_of (spelled_one Responder (segment_at n r p)) place)
@@ -263,7 +291,7 @@ step-down opened k s u [] all_up all_down w up p rest n r place o l g first send
     let none = hello-none k f is says in
     subst (λ (q : Piece). StepDown opened k s u [] all_up all_down w up q rest f) (sym hello) (record {
       only = λ end e. absurd (some-none end (sym e ∙ none));
-      kept = λ stays. guards-hello_down opened k s u [] all_up all_down w up rest f g (first ∙ ap (λ (q : Piece). q ∷ rest) hello) is stays;
+      kept = λ stays. guards-hello_down opened k s u [] all_up all_down w up rest f l g (first ∙ ap (λ (q : Piece). q ∷ rest) hello) is stays;
     })
 step-down opened k s u (q ∷ d) all_up all_down w up p rest n r place o l g first sends requests at =
     let stream : IsStream (q ∷ d ++ p ∷ (rest ++ w.queued_down)) = subst IsStream (sym l.parts_down ∙ ap (λ (ps : List Piece). q ∷ d ++ (ps ++ w.queued_down)) first) l.stream_down in
@@ -273,3 +301,4 @@ step-down opened k s u (q ∷ d) all_up all_down w up p rest n r place o l g fir
     let r_is : r ≡ k.received.requests = requests ∙ sym l.requests_down in
     step-piece opened k s u (q ∷ d) all_up all_down w up p rest f o l g first proper
       (subst (λ (x : ℕ). IsPiece x k.received.requests f p) n_is (subst (λ (x : ℕ). IsPiece n x f p) r_is (is-piece Responder n r place p (proper_one n r p proper) at)))
+      (has-hello opened k s u q d all_up all_down w l)

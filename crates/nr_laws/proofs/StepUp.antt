@@ -2,7 +2,8 @@
 use Rattle.std.proofs.Common.{◌≡◌, ◌≢◌, ℕ, ◌+◌, ◌≤◌, ◌<◌, Bool, true, false, cond, not, ◌&&◌, ◌||◌, eqb, ltb, List, [], ◌∷◌, ◌++◌, length, drop, Option, Some, None, Result, Ok, Err, refl, sym, ap, subst, ◌∙◌, arith, append_assoc, ◌⊎◌, inl, inr}
 use Rattle.nr_xdr.specs.Item.{IsBytes}
 use Rattle.nr_xdr.specs.Fields.{word_at}
-use Rattle.nr_wire.specs.Constants.{OPCODE_READ_RESPONSE}
+use Rattle.std.proofs.lemmas.Bool.{ne_eqb}
+use Rattle.nr_wire.specs.Constants.{OPCODE_READ_RESPONSE, OPCODE_SEND, QUEUE_SEND}
 use Rattle.nr_wire.specs.declared.hello.Side.TheVariants.{Initiator, Responder}
 use Rattle.nr_wire.specs.Hello.{Hello, hello_of}
 use Rattle.nr_wire.specs.Segment.{Segment}
@@ -18,7 +19,10 @@ use Rattle.nr_rpc.specs.Reading.{call_of}
 use Rattle.nr_link.specs.declared.end.End.{End}
 use Rattle.nr_link.specs.Frames.{Frame, is_hello}
 use Rattle.nr_link.specs.Ending.{frame_segment, frame_end, hello_end}
-use Rattle.nr_link.specs.ReceiveState.{message_completed}
+use Rattle.nr_link.specs.Output.{msn_word}
+use Rattle.nr_link.specs.ReceiveState.{message_completed, begun_bytes}
+use Rattle.nr_laws.proofs.CountsServer.{segment-is}
+use Rattle.nr_laws.proofs.CallNumbers.{none-pending}
 use Rattle.nr_reduce.specs.declared.mark.LinkParameters.{LinkParameters}
 use Rattle.nr_reduce.specs.Opening.{IsOpened}
 use Rattle.nr_reduce.specs.Events.Event.{FrameReceived}
@@ -42,7 +46,7 @@ use Rattle.nr_laws.proofs.Fed.{is-piece}
 use Rattle.nr_laws.proofs.Proper.{IsProper, IsStream, proper_one, stream-first, stream-at}
 use Rattle.nr_laws.proofs.Linked.{Linked, IsPlace, frame_of, taken_up}
 use Rattle.nr_laws.proofs.Guards.{Guards}
-use Rattle.nr_laws.proofs.GuardsServer.{TakesUp, takes-send, takes-tagged, hello-guards}
+use Rattle.nr_laws.proofs.GuardsServer.{front-up, front-xid, TakesUp, takes-send, takes-tagged, hello-guards}
 
 -- ---- Why the effect of a frame refuses
 
@@ -51,16 +55,13 @@ Refusal None = Unit {0}
 Refusal (Some reason) = IsCallReason reason
 
 head-reason : IsCallReason 18
-head-reason = inr (inl refl)
+head-reason = inl refl
 
 xid-reason : IsCallReason 19
-xid-reason = inr (inr (inl refl))
-
-call-reason : IsCallReason 20
-call-reason = inr (inr (inr (inl refl)))
+xid-reason = inr (inl refl)
 
 stags-reason : IsCallReason 30
-stags-reason = inr (inr (inr (inr refl)))
+stags-reason = inr (inr refl)
 
 refused-head : (c : PendingCall) (payload : List ℕ) (r : Result CallHead ℕ) (s : FrameEffect) → s.refusal ≡ None → Refusal (with_verdict (by_head c payload r) s).refusal
 refused-head c payload (Err at) s none = head-reason
@@ -117,15 +118,16 @@ reason-header : (k : ServerState) (message : List ℕ) (r : Result Header Header
 reason-header k message (Ok h) = reason-body k h.xid message h.body
 reason-header k message (Err fault) = tt
 
-reason-verdict : (k : ServerState) (message : List ℕ) → VerdictReason (verdict k message)
+reason-verdict : (k : ServerState) (message : List ℕ) → word_at 12 message ≤ 1 → is_pending k (word_at 0 message) ≡ false → VerdictReason (verdict k message)
 unfolding verdict
-reason-verdict k message = by (not (eqb (word_at 4 message) 1)) (eqb (word_at 12 message) 3 || eqb (word_at 12 message) 4) (is_pending k (word_at 0 message))
+reason-verdict k message kind again =
+    subst (λ (b : Bool). VerdictReason (cond (not (eqb (word_at 4 message) 1)) OtherVersion (cond b (EndsLink 17) (cond (is_pending k (word_at 0 message)) (EndsLink 20) (by_header k message (header_of message))))))
+      (sym (λ i. ne_eqb (word_at 12 message) 3 (λ e. omega (arith, e, kind)) i || ne_eqb (word_at 12 message) 4 (λ e. omega (arith, e, kind)) i))
+      (subst (λ (b : Bool). VerdictReason (cond (not (eqb (word_at 4 message) 1)) OtherVersion (cond b (EndsLink 20) (by_header k message (header_of message))))) (sym again) (by (not (eqb (word_at 4 message) 1))))
   where
-    by : (other kind again : Bool) → VerdictReason (cond other OtherVersion (cond kind (EndsLink 17) (cond again (EndsLink 20) (by_header k message (header_of message)))))
-    by true kind again = tt
-    by false true again = inl refl
-    by false false true = call-reason
-    by false false false = reason-header k message (header_of message)
+    by : (other : Bool) → VerdictReason (cond other OtherVersion (by_header k message (header_of message)))
+    by true = tt
+    by false = reason-header k message (header_of message)
 
 refused-message : (k : ServerState) (place : ℕ) (message : List ℕ) (v : Verdict) → VerdictReason v → Refusal (message_effect k place message v).refusal
 refused-message k place message (EndsLink reason) h = h
@@ -146,27 +148,26 @@ refused-response : (k : ServerState) (place : ℕ) (reads : List PendingRead) �
 refused-response k place [] = tt
 refused-response k place (r ∷ reads) = refused-read k place r (call_of_number k r.number) _ refl
 
-refused-segment : (k : ServerState) (f : Frame) (segment : Segment) → Refusal (effect_in k f (Ok segment)).refusal
-refused-segment k f (Tagged last opcode stag to payload) = by (eqb opcode OPCODE_READ_RESPONSE && last)
+refused-tagged : (k : ServerState) (f : Frame) (last : Bool) (opcode stag to : ℕ) (payload : List ℕ) → frame_segment f ≡ Ok (Tagged last opcode stag to payload) → Refusal (frame_effect k f).refusal
+unfolding frame_effect
+refused-tagged k f last opcode stag to payload is = subst (λ (r : Result Segment ℕ). Refusal (effect_in k f r).refusal) (sym is) (by (eqb opcode OPCODE_READ_RESPONSE && last))
   where
     t : ServerState
     t = with_access k f (Tagged last opcode stag to payload)
     by : (b : Bool) → Refusal (cond b (response_effect t f.end k.reads) (no_effect t)).refusal
     by true = refused-response t f.end k.reads
     by false = tt
-refused-segment k f (Untagged last opcode w queue msn offset payload) = by (message_completed k.received (Untagged last opcode w queue msn offset payload))
-  where
-    by : (m : Option (List ℕ)) → Refusal (by_message k f.end m).refusal
-    by None = tt
-    by (Some message) = refused-message k f.end message (verdict k message) (reason-verdict k message)
 
-refused-frame : (k : ServerState) (f : Frame) → Refusal (frame_effect k f).refusal
+refused-send : (k : ServerState) (f : Frame) (message : List ℕ) → k.received.begun ≡ None → word_at 12 message ≤ 1 → is_pending k (word_at 0 message) ≡ false
+    → frame_segment f ≡ Ok (Untagged true OPCODE_SEND 0 QUEUE_SEND (msn_word (k.received.sends + 1)) 0 message) → Refusal (frame_effect k f).refusal
 unfolding frame_effect
-refused-frame k f = by (frame_segment f)
-  where
-    by : (r : Result Segment ℕ) → Refusal (effect_in k f r).refusal
-    by (Ok segment) = refused-segment k f segment
-    by (Err reason) = tt
+refused-send k f message none kind again is =
+    let segment : Segment = Untagged true OPCODE_SEND 0 QUEUE_SEND (msn_word (k.received.sends + 1)) 0 message in
+    let whole : List ℕ = begun_bytes k.received.begun ++ message in
+    let same : message ≡ whole = ap (λ (b : Option (List ℕ)). begun_bytes b ++ message) (sym none) in
+    subst (λ (r : Result Segment ℕ). Refusal (effect_in k f r).refusal) (sym is)
+      (refused-message k f.end whole (verdict k whole)
+        (reason-verdict k whole (omega (arith, kind, ap (λ (xs : List ℕ). word_at 12 xs) same)) (ap (λ (xs : List ℕ). is_pending k (word_at 0 xs)) (sym same) ∙ again)))
 
 call-end : (f : Frame) (refusal : Option ℕ) (end : End) → Refusal refusal → refusal_end f refusal ≡ Some end → IsCallEnd end
 call-end f None end h e = absurd cc
@@ -178,9 +179,9 @@ pub record StepUp (opened : LinkParameters) (k : ClientState) (s : ServerState) 
   pub only : (end : End) → server_end opened s (FrameReceived f) ≡ Some end → IsCallEnd end
   pub kept : server_end opened s (FrameReceived f) ≡ None → Guards opened k (server_state_after opened s (FrameReceived f)) (u ++ p ∷ []) d all_up (all_down ++ server_says opened s (FrameReceived f)) (taken_up w rest (server_says opened s (FrameReceived f))) f.end
 
-by-takes : (opened : LinkParameters) (k : ClientState) (s : ServerState) (u d all_up all_down : List Piece) (w : Way) (p : Piece) (rest : List Piece) (f : Frame) → TakesUp opened k s u d all_up all_down w p rest f → StepUp opened k s u d all_up all_down w p rest f
-by-takes opened k s u d all_up all_down w p rest f t = record {
-  only = λ end e. call-end f (frame_effect s f).refusal end (refused-frame s f) (sym t.ends ∙ e);
+by-takes : (opened : LinkParameters) (k : ClientState) (s : ServerState) (u d all_up all_down : List Piece) (w : Way) (p : Piece) (rest : List Piece) (f : Frame) → Refusal (frame_effect s f).refusal → TakesUp opened k s u d all_up all_down w p rest f → StepUp opened k s u d all_up all_down w p rest f
+by-takes opened k s u d all_up all_down w p rest f refused t = record {
+  only = λ end e. call-end f (frame_effect s f).refusal end refused (sym t.ends ∙ e);
   kept = t.kept;
 }
 
@@ -197,11 +198,17 @@ step-piece : (opened : LinkParameters) (k : ClientState) (s : ServerState) (u d 
     → StepUp opened k s u d all_up all_down w p rest f
 step-piece opened k s u d all_up all_down w place AHello rest f o l g first proper piece bytes is lt = absurd proper
 step-piece opened k s u d all_up all_down w place (ASend message) rest f o l g first proper piece bytes is lt =
-    by-takes opened k s u d all_up all_down w (ASend message) rest f (takes-send opened k s u d all_up all_down w place message rest f o l g first piece bytes is lt)
+    let segment : Segment = Untagged true OPCODE_SEND 0 QUEUE_SEND (msn_word (s.received.sends + 1)) 0 message in
+    let reads : frame_segment f ≡ Ok segment = segment-is s.received.sends s.received.requests f (ASend message) segment piece refl in
+    let fine = front-up opened k s u d all_up all_down w place (ASend message) rest l g first in
+    let xid = front-xid opened k s u d all_up all_down w place message rest l g first in
+    let again = none-pending opened.first_xid s.received.sends (word_at 0 message) s.calls g.numbers l.waits.calls_below xid in
+    by-takes opened k s u d all_up all_down w (ASend message) rest f (refused-send s f message l.counts.whole_up fine.3 again reads) (takes-send opened k s u d all_up all_down w place message rest f o l g first piece bytes is lt)
 step-piece opened k s u d all_up all_down w place (ARead sink at size stag to) rest f o l g first proper piece bytes is lt =
     absurd (omega (arith, l.no_reads, ap (count one_read) l.parts_up, count-append one_read u (w.up ++ w.queued_up), count-append one_read w.up w.queued_up, ap (count one_read) first))
 step-piece opened k s u d all_up all_down w place (ATagged last opcode stag to payload) rest f o l g first proper piece bytes is lt =
-    by-takes opened k s u d all_up all_down w (ATagged last opcode stag to payload) rest f (takes-tagged opened k s u d all_up all_down w place last opcode stag to payload rest f o l g first piece lt)
+    let reads : frame_segment f ≡ Ok (Tagged last opcode stag to payload) = segment-is s.received.sends s.received.requests f (ATagged last opcode stag to payload) (Tagged last opcode stag to payload) piece refl in
+    by-takes opened k s u d all_up all_down w (ATagged last opcode stag to payload) rest f (refused-tagged s f last opcode stag to payload reads) (takes-tagged opened k s u d all_up all_down w place last opcode stag to payload rest f o l g first piece lt)
 
 pub step-up : (opened : LinkParameters) (k : ClientState) (s : ServerState) (u d all_up all_down : List Piece) (w : Way) (p : Piece) (rest : List Piece) (n r place : ℕ) → IsOpened opened → Linked opened k s u d all_up all_down w → Guards opened k s u d all_up all_down w place → w.up ≡ p ∷ rest
     → n ≡ count one_send u → r ≡ count one_read u → IsPlace u place → IsBytes (spelled_one Initiator (segment_at n r p)) → 0 < length (spelled_one Initiator (segment_at n r p))

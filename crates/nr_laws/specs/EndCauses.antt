@@ -23,10 +23,10 @@ pub record KeepLaws (opened : LinkParameters) (link : ℕ) (run : List Mark) : T
   pub matched : Matched link run
   pub grant : KeepsGrant opened link run
 
--- what a server makes of a call may end it for these reasons: a kind that a client doesn't send, a payload without an RPC call head,
--- a head with another xid, an xid that is pending, no STag left
+-- what a server makes of a call may end it for these reasons: a payload without an RPC call head, a head with another xid, no STag
+-- left
 abbrev pub IsCallReason : ℕ → Type 0
-IsCallReason reason = (reason ≡ REASON_KIND) ⊎ ((reason ≡ REASON_HEAD) ⊎ ((reason ≡ REASON_XID) ⊎ ((reason ≡ REASON_CALL) ⊎ (reason ≡ REASON_STAGS))))
+IsCallReason reason = (reason ≡ REASON_HEAD) ⊎ ((reason ≡ REASON_XID) ⊎ (reason ≡ REASON_STAGS))
 
 abbrev pub IsCallEnd : End → Type 0
 IsCallEnd end = (at : ℕ) × (reason : ℕ) × (end ≡ ends.Bad at reason) × IsCallReason reason
@@ -44,7 +44,8 @@ abbrev pub IsDenied : End → Type 0
 IsDenied end = (stag : ℕ) × (offset : ℕ) × (why : Denied) × (end ≡ ends.Denied stag offset why)
 
 -- On a matched link whose client hasn't ended, the server ends only for what it makes of a call: no segment of the client breaks a rule
--- of the link, finds no receive, or is denied by the server's memory.
+-- of the link, finds no receive, or is denied by the server's memory; each message is of a kind that a client sends, and none has the
+-- xid of a call that is pending.
 abbrev pub ServerEndsForCalls : Type 0
 ServerEndsForCalls = (opened : LinkParameters) (link : ℕ) (run : List Mark) → IsOpened opened → IsTyped run → KeepLaws opened link run →
     end_of_side opened link Initiator run ≡ None → (end : End) → end_of_side opened link Responder run ≡ Some end → IsCallEnd end
