@@ -1,30 +1,26 @@
 -- Each call that a client accepted in a run is outstanding, has an outcome, or was given up, while the client hasn't ended.
-use Rattle.std.proofs.Common.{◌≡◌, ◌≢◌, ℕ, Bool, true, false, cond, ◌&&◌, ◌||◌, eqb, List, [], ◌∷◌, ◌++◌, length, map, Option, Some, None, refl, sym, ap, subst, ◌∙◌, append_assoc, append-nil}
+use Rattle.std.proofs.Common.{◌≡◌, ◌≢◌, ℕ, Bool, true, false, cond, ◌&&◌, eqb, List, [], ◌∷◌, ◌++◌, length, map, None, refl, sym, ap, subst, ◌∙◌, append_assoc, append-nil}
 use Rattle.std.specs.List.{list_any}
-use Rattle.std.proofs.lemmas.Bool.{eqb-true, eq-eqb}
+use Rattle.std.proofs.lemmas.Bool.{eq-eqb}
 use Rattle.std.proofs.lemmas.List.{map-append}
-use Rattle.nr_wire.specs.declared.hello.Side.{Side}
 use Rattle.nr_wire.specs.declared.hello.Side.TheVariants.{Initiator, Responder}
-use Rattle.nr_link.specs.declared.end.End.{End}
 use Rattle.nr_link.specs.Frames.{Frame, frames_completed}
-use Rattle.nr_reduce.specs.declared.call.Submission.{Submission}
 use Rattle.nr_reduce.specs.declared.call.Submission.TheVariants as submissions
 use Rattle.nr_reduce.specs.declared.mark.Mark.{Mark}
 use Rattle.nr_reduce.specs.declared.mark.Mark.TheVariants as marks
 use Rattle.nr_reduce.specs.declared.mark.LinkParameters.{LinkParameters}
 use Rattle.nr_reduce.specs.History.{AcceptedCall, accepted_calls, accepted_at, bytes_received, abandons, is_abandoned}
 use Rattle.nr_reduce.specs.Events.{Event, if_own, events_at, events}
-use Rattle.nr_reduce.specs.Events.Event.{FrameReceived, CallSubmitted, MemoryRevoked, CallExecuted, QueueWritten}
-use Rattle.nr_reduce.specs.EndRules.{Rules, EndState, live, end_state_after}
+use Rattle.nr_reduce.specs.Events.Event.{FrameReceived, CallSubmitted, MemoryRevoked, QueueWritten}
+use Rattle.nr_reduce.specs.EndRules.{EndState, live, end_state_after}
 use Rattle.nr_reduce.specs.ClientState.{ClientState}
-use Rattle.nr_reduce.specs.Client.{client_rules, client_state_after, initial_client}
+use Rattle.nr_reduce.specs.Client.{client_rules, client_state_after}
 use Rattle.nr_reduce.specs.Run.{client}
 use Rattle.nr_reduce.proofs.Steps.{client-one}
-use Rattle.nr_reduce.proofs.Standing.{itself}
 use Rattle.nr_laws.proofs.Keys.{any-append, or-left, or-right}
 use Rattle.nr_laws.proofs.Bytes.{one_more}
 use Rattle.nr_laws.proofs.ServerRuns.{lives}
-use Rattle.nr_laws.proofs.Joined.{own-events, other-events}
+use Rattle.nr_laws.proofs.Joined.{other-events}
 use Rattle.nr_laws.proofs.Marks.{client-event}
 use Rattle.nr_laws.proofs.Runs.{client-unended, no-events}
 use Rattle.nr_laws.proofs.Accounts.{Accounts, frame-accounts, accounts-gone, written-accounts, revoked-accounts, submit-accounts}

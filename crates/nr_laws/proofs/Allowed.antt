@@ -1,15 +1,10 @@
 -- A segment of a Response that comes to the server of a matched link ends it only by what its call then comes to.
-use Rattle.std.proofs.Common.{◌≡◌, ◌≢◌, ℕ, ◌+◌, ◌≤◌, ◌<◌, Bool, true, false, List, [], ◌∷◌, ◌++◌, length, Option, None, Some, refl, sym, ap, subst, ◌∙◌, arith}
-use Rattle.nr_wire.specs.Constants.{OPCODE_READ_RESPONSE}
-use Rattle.nr_wire.specs.Segment.{Segment}
-use Rattle.nr_wire.specs.Segment.Segment.{Tagged}
+use Rattle.std.proofs.Common.{◌≡◌, ℕ, ◌+◌, ◌≤◌, ◌<◌, Bool, true, false, List, [], ◌∷◌, ◌++◌, length, None, sym, ap, subst, ◌∙◌, arith}
 use Rattle.nr_regions.specs.declared.right.Right.TheVariants.{Sink}
-use Rattle.nr_regions.specs.declared.denied.Denied.{Denied}
 use Rattle.nr_regions.specs.Access.{grant_denial}
 use Rattle.nr_reduce.specs.declared.mark.LinkParameters.{LinkParameters}
 use Rattle.nr_link.specs.Frames.{Frame}
-use Rattle.nr_link.specs.Ending.{missing_access}
-use Rattle.nr_reduce.specs.OfferedRegions.{Region, region_grants}
+use Rattle.nr_reduce.specs.OfferedRegions.{region_grants}
 use Rattle.nr_reduce.specs.Events.Event.{FrameReceived}
 use Rattle.nr_reduce.specs.ServerState.{ServerState, PendingRead}
 use Rattle.nr_reduce.specs.ServerReads.{open_reads}
@@ -17,7 +12,7 @@ use Rattle.nr_reduce.specs.Server.{server_end, refusal_end}
 use Rattle.nr_reduce.specs.ServerFrames.{frame_effect}
 use Rattle.nr_laws.specs.Pieces.{Piece, IsPiece}
 use Rattle.nr_laws.specs.Pieces.Piece.{ATagged}
-use Rattle.nr_laws.specs.Between.{Way, Reads, Answers, GoesOn, HasSink, HaveSinks}
+use Rattle.nr_laws.specs.Between.{Way, Reads, Answers, GoesOn, HaveSinks}
 use Rattle.nr_laws.proofs.Sinks.{sink-allowed, sinks-taken}
 use Rattle.nr_laws.proofs.Stopping.{server-response}
 

@@ -1,9 +1,8 @@
 -- The frames of the first bytes of what a side says are the hello and the segments of its first pieces.
-use Rattle.std.proofs.Common.{◌≡◌, ◌≢◌, ℕ, zero, suc, ◌+◌, ◌-◌, ◌≤◌, ◌<◌, ◌^◌, Bool, true, false, cond, ◌⊎◌, inl, inr, List, [], ◌∷◌, ◌++◌, length, take, drop, Option, None, Some, Result, Ok, Err, refl, sym, ap, subst, ◌∙◌, arith, append_assoc, append-nil, length-append, length-drop, take-append-drop, take_all, add-zero, lit≤}
+use Rattle.std.proofs.Common.{◌≡◌, ℕ, suc, ◌+◌, ◌≤◌, ◌<◌, Bool, true, false, cond, ◌⊎◌, inl, inr, List, [], ◌∷◌, ◌++◌, length, take, drop, Option, None, Some, Result, Ok, Err, refl, sym, ap, subst, ◌∙◌, arith, append_assoc, append-nil, length-drop, take-append-drop, take_all, add-zero, lit≤}
 use Rattle.std.specs.List.{concat}
 use Rattle.std.proofs.lemmas.Bool.{cases_lt}
-use Rattle.std.proofs.lemmas.List.{take-append-le, drop-append-le}
-use Rattle.std.proofs.lemmas.Option.{same_Some}
+use Rattle.std.proofs.lemmas.List.{take-append-le}
 use Rattle.nr_wire.specs.declared.hello.Side.{Side}
 use Rattle.nr_wire.specs.declared.hello.Side.TheVariants.{Initiator, Responder}
 use Rattle.nr_wire.specs.declared.stream.Awaited.{Awaited}
@@ -12,14 +11,13 @@ use Rattle.nr_wire.specs.Hello.{Hello, hello_encoding, hello_of, hello_len, is_r
 use Rattle.nr_wire.specs.Segment.{Segment, segment_of, encoding, fpdu_len, IsSupported, Fits, ulpdu_size}
 use Rattle.nr_wire.specs.Next.{frame_answer, hello_in, segment_in}
 use Rattle.nr_wire.specs.Next.Next.{Whole, More}
-use Rattle.nr_wire.specs.Stream.{Split, split, frames_then, is_whole, frame_len, IsFrame, IsPartial, AreFrames, awaited_after}
-use Rattle.nr_wire.proofs.Frames.{whole_from, partial_nil, partial_not_whole, fields_some, fields_within}
-use Rattle.nr_wire.proofs.Splits.{split-frame, split-partial, awaited_after-Fpdu}
+use Rattle.nr_wire.specs.Stream.{Split, split, is_whole, frame_len, IsFrame, IsPartial}
+use Rattle.nr_wire.proofs.Frames.{whole_from, partial_nil, partial_not_whole, fields_some}
+use Rattle.nr_wire.proofs.Splits.{split-frame, split-partial}
 use Rattle.nr_wire.proofs.Segments.{encoding_again}
 use Rattle.nr_wire.proofs.Hellos.{hello_again}
 use Rattle.nr_link.specs.Output.{own_hello}
 use Rattle.nr_laws.specs.Pieces.{Piece, segment_at, spelled_one, spelled, one_send, one_read, count}
-use Rattle.nr_laws.specs.Pieces.Piece.{AHello, ASend, ARead, ATagged}
 
 -- ---- Pieces that are frames
 

@@ -1,5 +1,5 @@
 -- A client that the frame of a piece doesn't end keeps all that holds between both ends.
-use Rattle.std.proofs.Common.{◌≡◌, ℕ, ◌+◌, ◌≤◌, ◌<◌, ◌^◌, Bool, true, false, cond, not, ◌||◌, eqb, ltb, List, [], ◌∷◌, ◌++◌, length, map, take, drop, filter, Option, Some, None, Result, Ok, Err, refl, sym, ap, subst, ◌∙◌, arith, lit<, append_assoc, append-nil, length-take, ◌⊎◌, inl, inr}
+use Rattle.std.proofs.Common.{◌≡◌, ℕ, ◌+◌, ◌≤◌, ◌<◌, ◌^◌, Bool, true, false, cond, not, ◌||◌, eqb, ltb, List, [], ◌∷◌, ◌++◌, length, map, take, drop, filter, Option, Some, None, Result, Ok, refl, sym, ap, subst, ◌∙◌, arith, lit<, append_assoc, length-take, ◌⊎◌, inl, inr}
 use Rattle.std.proofs.lemmas.Bool.{cases_lt, lt-ltb}
 use Rattle.nr_xdr.specs.Item.{IsBytes}
 use Rattle.nr_xdr.specs.Fields.{word_at}
@@ -8,22 +8,20 @@ use Rattle.nr_wire.specs.Fields.{hyper_at}
 use Rattle.nr_wire.specs.Constants.{OPCODE_READ_REQUEST, OPCODE_READ_RESPONSE, OPCODE_SEND, QUEUE_SEND, QUEUE_READ_REQUEST}
 use Rattle.nr_wire.specs.declared.hello.Side.TheVariants.{Initiator, Responder}
 use Rattle.nr_wire.specs.Hello.{hello_of}
-use Rattle.nr_wire.specs.Segment.{Segment, encoding, payload_in}
+use Rattle.nr_wire.specs.Segment.{Segment}
 use Rattle.nr_wire.specs.Segment.Segment.{Tagged, Untagged}
 use Rattle.nr_regions.specs.declared.denied.Denied.{Denied}
-use Rattle.nr_regions.specs.Access.{Grant}
 use Rattle.nr_link.specs.declared.end.End.{End}
 use Rattle.nr_link.specs.Frames.{Frame, is_hello}
-use Rattle.nr_link.specs.Output.{msn_word, read_response}
+use Rattle.nr_link.specs.Output.{msn_word}
 use Rattle.nr_link.specs.Reasons.{REASON_MSN, REASON_OFFSET, REASON_FORM, REASON_REQUESTS, REASON_LONG, REASON_SHORT}
-use Rattle.nr_link.specs.ReceiveState.{ReadRequest, read_request_in, message_completed, is_send}
+use Rattle.nr_link.specs.ReceiveState.{read_request_in, message_completed, is_send}
 use Rattle.nr_link.specs.SegmentFaults.{Readiness, SegmentFault, segment_fault, first_fault, reason_if, missing_fault, is_malformed, is_too_many, no_buffer, next_msn, next_offset, has_length, terminate_fault}
 use Rattle.nr_link.specs.SegmentFaults.SegmentFault.{Reason, NoBuffer, AccessDenied, PeerTerminated}
 use Rattle.nr_link.specs.Ending.{frame_segment, frame_end, frame_end_by, end_of_fault, hello_end, missing_access}
 use Rattle.nr_reduce.specs.declared.mark.LinkParameters.{LinkParameters}
 use Rattle.nr_reduce.specs.Events.Event.{FrameReceived}
 use Rattle.nr_reduce.specs.OfferedRegions.{region_grants}
-use Rattle.nr_reduce.specs.Plans.{call_message}
 use Rattle.nr_reduce.specs.ClientState.{ClientState, OutstandingCall, memory_at}
 use Rattle.nr_reduce.specs.ServerState.{ServerState}
 use Rattle.nr_reduce.specs.Client.{client_end, client_state_after, client_output, readiness, or_message_end, segment_request, calls_output, response_output, with_segment}
@@ -35,7 +33,7 @@ use Rattle.nr_laws.proofs.Fed.{is-piece}
 use Rattle.nr_laws.proofs.CountsServer.{segment-is}
 use Rattle.nr_laws.proofs.CountsClient.{counts-hello_down, counts-send_down, counts-read_down, counts-tagged_down, down_one, after-is, says-is, request_payload, tagged-none}
 use Rattle.nr_laws.proofs.Outs.{Outs, outs-came, segment-out}
-use Rattle.nr_laws.proofs.Said.{IsShort, AllShort, outs-said, response-said}
+use Rattle.nr_laws.proofs.Said.{AllShort, outs-said, response-said}
 use Rattle.nr_laws.proofs.Proper.{IsProper, AllProper, IsStream, proper_one, stream-more, stream-first, stream-at, tagged-proper}
 use Rattle.nr_laws.proofs.Linked.{Linked, IsPlace, frame_of, payload_bytes}
 

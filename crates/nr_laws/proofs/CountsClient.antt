@@ -1,10 +1,8 @@
 -- Counts are kept by what happens at the client.
-use Rattle.std.proofs.Common.{◌≡◌, ◌≢◌, ℕ, zero, suc, ◌+◌, ◌-◌, ◌*◌, ◌≤◌, ◌<◌, max, Bool, true, false, not, cond, ◌||◌, ◌&&◌, eqb, ltb, leb, List, [], ◌∷◌, ◌++◌, length, map, take, drop, Option, None, Some, Result, Ok, Err, refl, sym, ap, subst, ◌∙◌, arith, eq-eqb, ne_eqb, eqb-true, length-append, append-nil}
-use Rattle.std.specs.Prelude.{find}
-use Rattle.std.specs.List.{filter, list_any, range_with_len}
+use Rattle.std.proofs.Common.{◌≡◌, ℕ, zero, suc, ◌+◌, ◌-◌, ◌*◌, Bool, true, false, cond, ◌&&◌, eqb, ltb, List, [], ◌∷◌, ◌++◌, length, map, take, drop, Option, None, Some, Result, Ok, Err, refl, sym, ap, subst, ◌∙◌, arith, eq-eqb, ne_eqb, length-append}
+use Rattle.std.specs.List.{list_any, range_with_len}
 use Rattle.std.proofs.lemmas.List.{length-map}
-use Rattle.std.proofs.lemmas.Option.{same_Some}
-use Rattle.nr_wire.specs.Constants.{OPCODE_WRITE, OPCODE_READ_REQUEST, OPCODE_READ_RESPONSE, OPCODE_SEND, QUEUE_SEND, QUEUE_READ_REQUEST}
+use Rattle.nr_wire.specs.Constants.{OPCODE_READ_REQUEST, OPCODE_READ_RESPONSE, OPCODE_SEND, QUEUE_SEND, QUEUE_READ_REQUEST}
 use Rattle.nr_xdr.specs.Item.{word, hyper}
 use Rattle.nr_wire.specs.Segment.{Segment}
 use Rattle.nr_wire.specs.declared.hello.Side.TheVariants.{Responder}
@@ -14,7 +12,7 @@ use Rattle.nr_header.specs.declared.fault.HeaderFault.{HeaderFault}
 use Rattle.nr_header.specs.declared.fault.HeaderFault.TheVariants as faults
 use Rattle.nr_header.specs.declared.header.Body.{Body}
 use Rattle.nr_header.specs.declared.header.Header.{Header}
-use Rattle.nr_header.specs.Reading.{header_of, header_by, body_by, error_by}
+use Rattle.nr_header.specs.Reading.{header_of, header_by}
 use Rattle.nr_xdr.specs.Fields.{word_at}
 use Rattle.nr_link.specs.declared.end.End.{End}
 use Rattle.nr_reduce.specs.declared.mark.LinkParameters.{LinkParameters}
@@ -22,19 +20,18 @@ use Rattle.nr_reduce.specs.History.{AcceptedCall}
 use Rattle.nr_link.specs.Limits.{segment_max}
 use Rattle.nr_link.specs.Output.{msn_word, segment_count, segment_payload}
 use Rattle.nr_link.specs.Frames.{Frame, is_hello}
-use Rattle.nr_link.specs.ReceiveState.{ReadRequest, read_request_in, begun_bytes, message_completed}
+use Rattle.nr_link.specs.ReceiveState.{read_request_in, begun_bytes}
 use Rattle.nr_link.specs.Ending.{frame_segment, frame_end, hello_end}
 use Rattle.nr_reduce.specs.OfferedRegions.{region_grants}
 use Rattle.nr_reduce.specs.Events.Event.{FrameReceived, CallSubmitted, QueueWritten}
 use Rattle.nr_reduce.specs.ClientState.{ClientState, OutstandingCall, memory_at, initial_state as client_initial_state}
-use Rattle.nr_reduce.specs.ClientMessages.{Verdict, verdict, by_header, by_call, answered_call}
-use Rattle.nr_reduce.specs.Client.{end_of_verdict, message_end, or_message_end, segment_message, readiness, client_end, client_state_after, with_segment, credits_of_word, outstanding_of, written_call, segment_request}
-use Rattle.nr_reduce.specs.ClientMessages.Verdict.{EndsLink, GivesOutcome}
+use Rattle.nr_reduce.specs.ClientMessages.{verdict, by_header, by_call, answered_call}
+use Rattle.nr_reduce.specs.Client.{end_of_verdict, message_end, or_message_end, segment_message, readiness, client_end, client_state_after, with_segment, outstanding_of, written_call, segment_request}
 use Rattle.nr_reduce.specs.ServerState.{ServerState, initial_state as server_initial_state}
-use Rattle.nr_laws.specs.Pieces.{Piece, IsPiece, segment_at, count, one_send, one_read, one_response, one_hello, if_response, cut_piece, tagged_pieces, responding_pieces, asking_piece, client_says}
+use Rattle.nr_laws.specs.Pieces.{Piece, IsPiece, count, one_send, one_read, one_response, one_hello, if_response, cut_piece, tagged_pieces, responding_pieces, asking_piece, client_says}
 use Rattle.nr_laws.specs.Pieces.Piece.{AHello, ASend, ARead, ATagged}
 use Rattle.nr_laws.specs.Between.{Way, Counts, AreApart, said_calls, greeted}
-use Rattle.nr_laws.proofs.Counted.{count-append, count-map-zero, count-map-one, others, length-fewer, any_found, any_first}
+use Rattle.nr_laws.proofs.Counted.{count-append, count-map-zero, count-map-one, length-fewer, any_found, any_first}
 use Rattle.nr_laws.proofs.CountsServer.{segment-is}
 
 -- ---- A message that the client takes is under the xid of a call that is out

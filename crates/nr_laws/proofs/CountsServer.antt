@@ -1,9 +1,9 @@
 -- Counts are kept by what happens at the server.
-use Rattle.std.proofs.Common.{◌≡◌, ◌≢◌, ℕ, zero, suc, ◌+◌, ◌-◌, ◌≤◌, ◌<◌, Bool, true, false, not, cond, ◌||◌, ◌&&◌, eqb, ltb, leb, List, [], ◌∷◌, ◌++◌, length, map, take, drop, Option, None, Some, Result, Ok, Err, refl, sym, ap, subst, ◌∙◌, arith, eq-eqb, eqb-true, length-append, length-take, length-drop}
+use Rattle.std.proofs.Common.{◌≡◌, ℕ, ◌+◌, ◌-◌, ◌≤◌, ◌<◌, Bool, true, false, not, cond, ◌&&◌, eqb, List, [], ◌∷◌, ◌++◌, length, map, take, drop, Option, None, Some, Result, Ok, refl, sym, ap, subst, ◌∙◌, arith, eqb-true, length-append, length-take}
 use Rattle.std.specs.Prelude.{find, min}
-use Rattle.std.specs.List.{filter, list_any, range_with_len, AllByRecursion}
+use Rattle.std.specs.List.{filter, list_any, range_with_len}
 use Rattle.std.proofs.lemmas.Option.{same_Some}
-use Rattle.nr_wire.specs.Constants.{OPCODE_WRITE, OPCODE_READ_REQUEST, OPCODE_READ_RESPONSE, OPCODE_SEND, QUEUE_SEND, QUEUE_READ_REQUEST}
+use Rattle.nr_wire.specs.Constants.{OPCODE_WRITE, OPCODE_READ_RESPONSE, OPCODE_SEND, QUEUE_SEND}
 use Rattle.nr_wire.specs.Segment.{Segment}
 use Rattle.nr_wire.specs.Segment.Segment.{Tagged, Untagged}
 use Rattle.nr_reduce.specs.declared.mark.LinkParameters.{LinkParameters}
@@ -11,11 +11,11 @@ use Rattle.nr_link.specs.Limits.{open_reads_max}
 use Rattle.nr_link.specs.Output.{msn_word, segment_count}
 use Rattle.nr_reduce.specs.Chunks.{is_read_chunk_of_item}
 use Rattle.nr_link.specs.Frames.{Frame, is_hello}
-use Rattle.nr_link.specs.ReceiveState.{ReceiveState, begun_bytes, received_after}
+use Rattle.nr_link.specs.ReceiveState.{begun_bytes}
 use Rattle.nr_link.specs.Ending.{frame_segment}
 use Rattle.nr_reduce.specs.Events.Event.{FrameReceived, CallExecuted, QueueWritten}
-use Rattle.nr_reduce.specs.ServerState.{ServerState, PendingCall, PendingRead, ReadyCall, down_max, credit_word}
-use Rattle.nr_reduce.specs.ServerFrames.{FrameEffect, frame_effect, effect_in, effect_by, message_effect, by_message, with_pending_call, no_effect, ready_if_whole, with_verdict, with_refused_call, read_effect, response_effect, call_of_number, is_stream_read, with_access}
+use Rattle.nr_reduce.specs.ServerState.{ServerState, PendingCall, PendingRead, down_max, credit_word}
+use Rattle.nr_reduce.specs.ServerFrames.{FrameEffect, frame_effect, effect_in, message_effect, no_effect, ready_if_whole, with_verdict, with_refused_call, read_effect, response_effect, call_of_number, is_stream_read, with_access}
 use Rattle.nr_reduce.specs.ServerMessages.{Verdict, CallVerdict, verdict, by_payload, payload_of, chunk_bytes}
 use Rattle.nr_reduce.specs.ServerReads.{open_reads, is_read, reads_of, regions_of, is_over}
 use Rattle.nr_reduce.specs.Server.{with_effect, newly_open_reads, server_state_after, offer_of, answer_of_target, received_by, response_bytes_after, tagged_accesses}
@@ -29,8 +29,8 @@ use Rattle.nr_rpc.specs.Reading.{call_of, target_of}
 use Rattle.nr_reduce.specs.History.{ExecutedCall}
 use Rattle.nr_reduce.specs.Holds.{Answer, answer_message, chunk_error, first_chunk, no_segments}
 use Rattle.nr_laws.specs.Pieces.{Piece, IsPiece, segment_at, count, one_send, one_read, one_response, one_hello, if_response, step_says, reading_piece, fill_pieces, answer_says, tagged_pieces, cut_piece, server_says}
-use Rattle.nr_laws.specs.Pieces.Piece.{AHello, ASend, ARead, ATagged}
-use Rattle.nr_laws.specs.Between.{Way, Counts, AreApart, said_calls}
+use Rattle.nr_laws.specs.Pieces.Piece.{AHello, ASend, ATagged}
+use Rattle.nr_laws.specs.Between.{Way, Counts, AreApart}
 use Rattle.nr_laws.proofs.Counted.{count-append, count-map-zero, count-map-one, others, length-fewer, any_found, length-newly}
 
 -- ---- What a step counts: the calls and error messages of so many Sends more, and how many reads stay open

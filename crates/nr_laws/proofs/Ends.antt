@@ -1,13 +1,11 @@
 -- Of the two sides of a matched link the one that ends first ends for what it makes of a message, or for what its memory denies.
-use Rattle.std.proofs.Common.{◌≡◌, ◌≢◌, ℕ, ◌+◌, ◌≤◌, ◌<◌, Bool, true, false, cond, ◌&&◌, eqb, List, [], ◌∷◌, ◌++◌, length, map, Option, Some, None, refl, sym, ap, subst, ◌∙◌, arith, append_assoc, append-nil, ◌⊎◌, inl, inr}
+use Rattle.std.proofs.Common.{◌≡◌, ◌≢◌, ℕ, ◌+◌, Bool, true, false, ◌&&◌, eqb, List, [], ◌∷◌, ◌++◌, length, map, Option, Some, None, refl, sym, ap, subst, ◌∙◌, arith, append_assoc, append-nil, ◌⊎◌}
 use Rattle.std.proofs.lemmas.Bool.{eqb-true}
 use Rattle.std.specs.List.{concat}
 use Rattle.nr_xdr.specs.Item.{IsBytes}
-use Rattle.nr_wire.specs.declared.hello.Side.{Side}
 use Rattle.nr_wire.specs.declared.hello.Side.TheVariants.{Initiator, Responder}
 use Rattle.nr_link.specs.declared.end.End.{End}
 use Rattle.nr_link.specs.Frames.{Frame, frames_completed}
-use Rattle.nr_reduce.specs.declared.call.Submission.{Submission}
 use Rattle.nr_reduce.specs.declared.call.Submission.TheVariants as submissions
 use Rattle.nr_reduce.specs.declared.mark.Mark.{Mark}
 use Rattle.nr_reduce.specs.declared.mark.Mark.TheVariants as marks
@@ -15,12 +13,12 @@ use Rattle.nr_reduce.specs.declared.mark.LinkParameters.{LinkParameters}
 use Rattle.nr_reduce.specs.Opening.{IsOpened}
 use Rattle.nr_reduce.specs.Credits.{WithinGrant}
 use Rattle.nr_reduce.specs.History.{bytes_sent, bytes_received}
-use Rattle.nr_reduce.specs.Events.{Event, if_own, events_at, events}
+use Rattle.nr_reduce.specs.Events.{Event, if_own, events_at}
 use Rattle.nr_reduce.specs.Events.Event.{FrameReceived, CallSubmitted, MemoryRevoked, CallExecuted, QueueWritten}
-use Rattle.nr_reduce.specs.EndRules.{Rules, EndState, live, end_state_after}
-use Rattle.nr_reduce.specs.ClientState.{ClientState, initial_state as client_initial_state}
-use Rattle.nr_reduce.specs.ServerState.{ServerState, initial_state as server_initial_state}
-use Rattle.nr_reduce.specs.Client.{client_rules, initial_client}
+use Rattle.nr_reduce.specs.EndRules.{EndState, live, end_state_after}
+use Rattle.nr_reduce.specs.ClientState.{ClientState}
+use Rattle.nr_reduce.specs.ServerState.{ServerState}
+use Rattle.nr_reduce.specs.Client.{client_rules}
 use Rattle.nr_reduce.specs.Server.{server_rules}
 use Rattle.nr_reduce.specs.Run.{client, server, end_of_side}
 use Rattle.nr_reduce.specs.AtEachMark.{AtEachMark}
@@ -30,19 +28,16 @@ use Rattle.nr_reduce.specs.Served.{ServedMark}
 use Rattle.nr_reduce.proofs.Steps.{client-one, server-one, ended-stays}
 use Rattle.nr_laws.specs.Typed.{TypedMark}
 use Rattle.nr_laws.specs.EndCauses.{IsCallEnd, IsReplyEnd, IsDenied, ServerEndsForCalls, ClientEndsForReplies}
-use Rattle.nr_laws.specs.Pieces.{Piece, count, one_send, one_read}
-use Rattle.nr_laws.specs.Pieces.Piece.{AHello}
+use Rattle.nr_laws.specs.Pieces.{count, one_send, one_read}
 use Rattle.nr_laws.proofs.Bytes.{bytes_both}
 use Rattle.nr_laws.proofs.Channel.{frames_at}
 use Rattle.nr_laws.proofs.Proper.{IsStream}
-use Rattle.nr_laws.proofs.CountsClient.{counts-first}
-use Rattle.nr_laws.proofs.ServerKnown.{Server}
 use Rattle.nr_laws.proofs.Guards.{Guards}
 use Rattle.nr_laws.proofs.ServerRuns.{events_of, server-ends}
 use Rattle.nr_laws.proofs.ClientRuns.{client-ends}
-use Rattle.nr_laws.proofs.Joined.{Joined, Goes, place_of, goes-on, arrives, own-events, other-events}
+use Rattle.nr_laws.proofs.Joined.{Joined, Goes, place_of, goes-on, arrives, other-events}
 use Rattle.nr_laws.proofs.Marks.{client-event, server-event}
-use Rattle.nr_laws.proofs.Runs.{Start, starts, goes-mark, no-events, client-unended, server-unended}
+use Rattle.nr_laws.proofs.Runs.{starts, goes-mark, no-events, client-unended, server-unended}
 
 -- ---- With guards, from mark to mark
 

@@ -1,5 +1,5 @@
 -- All is kept where the server executes and writes, and a quiet link has no call out.
-use Rattle.std.proofs.Common.{◌≡◌, ℕ, ◌+◌, ◌≤◌, ◌<◌, List, [], ◌∷◌, ◌++◌, length, Option, None, Some, refl, sym, ap, subst, ◌∙◌}
+use Rattle.std.proofs.Common.{◌≡◌, ℕ, List, [], ◌∷◌, ◌++◌, refl}
 use Rattle.nr_rpc.specs.Reading.{call_of, target_of}
 use Rattle.nr_reduce.specs.declared.mark.LinkParameters.{LinkParameters}
 use Rattle.nr_reduce.specs.History.{ExecutedCall}
@@ -7,14 +7,12 @@ use Rattle.nr_reduce.specs.Events.Event.{CallExecuted, QueueWritten}
 use Rattle.nr_reduce.specs.ClientState.{ClientState}
 use Rattle.nr_reduce.specs.ServerState.{ServerState, ReadyCall, down_max}
 use Rattle.nr_reduce.specs.Server.{offer_of, answer_of_target, server_state_after}
-use Rattle.nr_laws.specs.Pieces.{Piece, server_says}
-use Rattle.nr_laws.specs.Between.{Way, Counts, Reads, Waits}
+use Rattle.nr_laws.specs.Pieces.{server_says}
+use Rattle.nr_laws.specs.Between.{Way}
 use Rattle.nr_laws.proofs.CountsServer.{counts-executes, counts-writes_down}
 use Rattle.nr_laws.proofs.ReadsClient.{reads-says_down, reads-writes_down, none-answered}
 use Rattle.nr_laws.proofs.WaitsExecute.{waits-executes, executed-there}
 use Rattle.nr_laws.proofs.ServerKnown.{Server}
-use Rattle.nr_laws.proofs.SinksOpened.{AreKnown}
-use Rattle.nr_laws.proofs.Quiet.{quiet, empty_way}
 
 -- the call that waits first is executed
 pub server-executes : (opened : LinkParameters) (k : ClientState) (s : ServerState) (w : Way) (place : ℕ) (e : ExecutedCall) (r : ReadyCall) (rest : List ReadyCall) → Server opened k s w place → s.ready ≡ r ∷ rest → e.xid ≡ r.xid

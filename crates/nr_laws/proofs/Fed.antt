@@ -1,5 +1,5 @@
 -- What some more bytes of a matched link make whole: the next pieces of the other side, each a frame that is read as it was said.
-use Rattle.std.proofs.Common.{◌≡◌, ◌≢◌, ℕ, zero, suc, ◌+◌, ◌≤◌, ◌<◌, Bool, true, false, eqb, List, [], ◌∷◌, ◌++◌, length, map, take, drop, Option, None, Some, Result, Ok, refl, sym, ap, subst, ◌∙◌, arith, append_assoc, length-append, ne_eqb}
+use Rattle.std.proofs.Common.{◌≡◌, ℕ, ◌+◌, ◌≤◌, ◌<◌, false, eqb, List, [], ◌∷◌, ◌++◌, length, drop, Option, None, Some, refl, sym, ap, ◌∙◌, arith, length-append, ne_eqb}
 use Rattle.std.proofs.Math.Seq.{drop-append_seam}
 use Rattle.std.specs.List.{concat}
 use Rattle.nr_wire.specs.declared.hello.Side.{Side}
@@ -7,10 +7,10 @@ use Rattle.nr_wire.specs.declared.stream.Awaited.TheVariants.{Hello as HelloFrom
 use Rattle.nr_wire.specs.Segment.{Segment, segment_of}
 use Rattle.nr_wire.specs.Stream.{Split, split, awaited_after}
 use Rattle.nr_wire.proofs.Splits.{split-append}
-use Rattle.nr_link.specs.Frames.{Frame, frames_from, frames_of, frames_completed, is_hello}
+use Rattle.nr_link.specs.Frames.{Frame, frames_from, frames_of, frames_completed}
 use Rattle.nr_link.specs.Ending.{frame_segment}
 use Rattle.nr_laws.specs.Pieces.{Piece, segment_at, spelled_one, spelled, count, one_send, one_read, IsPiece}
-use Rattle.nr_laws.proofs.Channel.{AreProper, proper_by, frames_at, frames-append, length-frames, Front, front, spelling-is}
+use Rattle.nr_laws.proofs.Channel.{AreProper, proper_by, frames_at, frames-append, length-frames, front, spelling-is}
 use Rattle.nr_link.proofs.Streams.{frames_from-append}
 
 -- of two beginnings of a list the longer one goes on

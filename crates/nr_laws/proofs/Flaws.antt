@@ -1,5 +1,5 @@
 -- What a link asks of each piece holds of the pieces of a matched link, but for memory and for what is expected.
-use Rattle.std.proofs.Common.{◌≡◌, ◌≢◌, ℕ, ◌+◌, ◌-◌, ◌≤◌, ◌<◌, ◌^◌, Bool, true, false, not, cond, ◌||◌, ◌&&◌, eqb, ltb, leb, List, [], ◌∷◌, ◌++◌, length, take, Option, None, Some, Result, Ok, Err, option_and_then, refl, sym, ap, ◌∙◌, arith, eq-eqb, lt-ltb, le-ltb}
+use Rattle.std.proofs.Common.{◌≡◌, ℕ, ◌+◌, ◌≤◌, ◌<◌, ◌^◌, Bool, true, not, cond, ◌||◌, eqb, ltb, List, [], ◌∷◌, ◌++◌, length, Option, None, Some, Result, Ok, refl, sym, ap, ◌∙◌, eq-eqb, le-ltb}
 use Rattle.std.proofs.lemmas.Bool.{lt-leb}
 use Rattle.std.proofs.lemmas.Option.{same_Some}
 use Rattle.nr_wire.specs.Constants.{OPCODE_WRITE, OPCODE_READ_REQUEST, OPCODE_READ_RESPONSE, OPCODE_SEND, QUEUE_SEND, QUEUE_READ_REQUEST}
@@ -7,17 +7,16 @@ use Rattle.nr_wire.specs.Segment.{Segment}
 use Rattle.nr_wire.specs.Segment.Segment.{Tagged, Untagged}
 use Rattle.nr_regions.specs.declared.denied.Denied.{Denied}
 use Rattle.nr_regions.specs.Access.{Grant}
-use Rattle.nr_link.specs.declared.end.End.{End}
 use Rattle.nr_link.specs.Limits.{open_reads_max}
 use Rattle.nr_link.specs.Reasons.{REASON_MSN, REASON_OFFSET, REASON_FORM, REASON_RESPONSE, REASON_REQUESTS, REASON_SHORT, REASON_LONG}
 use Rattle.nr_link.specs.Output.{msn_word}
-use Rattle.nr_link.specs.Frames.{Frame, is_hello}
-use Rattle.nr_link.specs.SegmentFaults.{Readiness, SegmentFault, segment_fault, first_fault, reason_if, missing_fault, is_begun, is_unexpected, is_expected}
+use Rattle.nr_link.specs.Frames.{Frame}
+use Rattle.nr_link.specs.SegmentFaults.{Readiness, SegmentFault, segment_fault, first_fault, reason_if, missing_fault, is_begun, is_expected}
 use Rattle.nr_link.specs.ReceiveState.{begun_bytes, read_request_in}
 use Rattle.nr_link.specs.SegmentFaults.SegmentFault.{NoBuffer}
-use Rattle.nr_link.specs.Ending.{frame_end, frame_end_by, missing_access, end_of_fault, frame_segment}
-use Rattle.nr_laws.specs.Pieces.{Piece, IsPiece, segment_at}
-use Rattle.nr_laws.specs.Pieces.Piece.{ASend, ARead, ATagged}
+use Rattle.nr_link.specs.Ending.{frame_end, frame_end_by, end_of_fault, frame_segment}
+use Rattle.nr_laws.specs.Pieces.{IsPiece}
+use Rattle.nr_laws.specs.Pieces.Piece.{ASend}
 
 itself : (n : ℕ) → eqb n n ≡ true
 itself n = eq-eqb n n refl

@@ -1,45 +1,30 @@
 -- What keeps either end of a matched link from ending by a rule of the link: receives, requests, sinks and sizes.
-use Rattle.std.proofs.Common.{◌≡◌, ◌≢◌, ℕ, zero, suc, ◌+◌, ◌-◌, ◌*◌, ◌≤◌, ◌<◌, ◌^◌, min, Bool, true, false, cond, not, ◌&&◌, eqb, List, [], ◌∷◌, ◌++◌, length, map, take, drop, filter, Option, Some, None, Result, Ok, Err, refl, sym, ap, subst, ◌∙◌, arith, append_assoc, append-nil, length-append, ◌⊎◌, inl, inr}
+use Rattle.std.proofs.Common.{◌≡◌, ℕ, ◌≤◌, ◌<◌, ◌^◌, min, Bool, true, false, cond, eqb, List, [], ◌∷◌, ◌++◌, length, map, take, drop, Option, Some, None, refl, arith}
 use Rattle.std.specs.List.{AllByRecursion, range_with_len}
-use Rattle.std.proofs.lemmas.List.{length-map}
-use Rattle.nr_xdr.specs.Item.{IsBytes}
 use Rattle.nr_xdr.specs.Fields.{word_at}
-use Rattle.nr_wire.specs.Constants.{OPCODE_WRITE, OPCODE_READ_RESPONSE, OPCODE_READ_REQUEST, OPCODE_SEND, QUEUE_SEND, QUEUE_READ_REQUEST}
-use Rattle.nr_wire.specs.Segment.{Segment}
-use Rattle.nr_wire.specs.Segment.Segment.{Tagged, Untagged}
+use Rattle.nr_wire.specs.Constants.{OPCODE_WRITE}
 use Rattle.nr_header.specs.declared.header.RdmaSegment.{RdmaSegment}
 use Rattle.nr_header.specs.declared.header.ChunkLists.{ChunkLists}
 use Rattle.nr_rpc.specs.declared.head.CallTarget.{CallTarget}
 use Rattle.nr_rpc.specs.Reading.{call_of, target_of}
-use Rattle.nr_link.specs.Frames.{Frame, is_hello}
-use Rattle.nr_link.specs.Output.{msn_word, segment_count}
-use Rattle.nr_link.specs.Ending.{frame_segment}
+use Rattle.nr_link.specs.Output.{segment_count}
 use Rattle.nr_reduce.specs.declared.mark.LinkParameters.{LinkParameters}
-use Rattle.nr_reduce.specs.declared.outline.Plan.{Plan}
 use Rattle.nr_reduce.specs.Limits.{send_max}
-use Rattle.nr_reduce.specs.Plans.{call_message}
-use Rattle.nr_reduce.specs.Holds.{Answer, answer_message, chunk_error, first_chunk, no_segments}
-use Rattle.nr_reduce.specs.History.{AcceptedCall, ExecutedCall}
+use Rattle.nr_reduce.specs.Holds.{Answer, answer_message, first_chunk, no_segments}
+use Rattle.nr_reduce.specs.History.{ExecutedCall}
 use Rattle.nr_reduce.specs.Events.{Event}
-use Rattle.nr_reduce.specs.Events.Event.{FrameReceived, CallSubmitted, MemoryRevoked, CallExecuted, QueueWritten}
-use Rattle.nr_reduce.specs.EndRules.{EndState, live, end_state_after}
-use Rattle.nr_reduce.specs.OfferedRegions.{region_grants}
+use Rattle.nr_reduce.specs.EndRules.{live, end_state_after}
 use Rattle.nr_reduce.specs.ClientState.{ClientState, OutstandingCall}
-use Rattle.nr_reduce.specs.Client.{client_rules, client_end, client_state_after, initial_client, credits_of_word, with_segment, outstanding_of}
-use Rattle.nr_reduce.specs.ServerState.{ServerState, PendingCall, PendingRead, ReadyCall, down_max}
-use Rattle.nr_reduce.specs.ServerReads.{open_reads}
-use Rattle.nr_reduce.specs.ServerFrames.{FrameEffect, effect_in, frame_effect}
-use Rattle.nr_reduce.specs.Server.{server_end, server_state_after, newly_open_reads, offer_of, answer_of_target}
-use Rattle.nr_laws.specs.Pieces.{Piece, count, one_send, one_read, one_hello, reading_piece, step_says, fill_pieces, answer_says, tagged_pieces, asking_piece, client_says, server_says, IsPiece}
+use Rattle.nr_reduce.specs.Client.{client_rules, initial_client}
+use Rattle.nr_reduce.specs.ServerState.{ServerState, PendingRead, down_max}
+use Rattle.nr_reduce.specs.ServerFrames.{FrameEffect}
+use Rattle.nr_reduce.specs.Server.{newly_open_reads, offer_of, answer_of_target}
+use Rattle.nr_laws.specs.Pieces.{Piece, reading_piece, step_says, fill_pieces, answer_says, tagged_pieces, asking_piece}
 use Rattle.nr_laws.specs.Pieces.Piece.{AHello, ASend, ARead, ATagged}
-use Rattle.nr_laws.specs.Between.{Way, Counts, Reads, Waits, Window, HaveSinks}
-use Rattle.nr_laws.proofs.Counted.{count-append}
-use Rattle.nr_laws.proofs.CountsServer.{after-is, step-is, segment-is, with_by}
-use Rattle.nr_laws.proofs.CountsClient.{down_one}
-use Rattle.nr_laws.proofs.ReadsKept.{moved}
+use Rattle.nr_laws.specs.Between.{Way, Window}
 use Rattle.nr_laws.proofs.ServerKnown.{Server}
-use Rattle.nr_laws.proofs.Replies.{IsReply, AreReplies, replies-frame, answer-reply, chunk_error-reply}
-use Rattle.nr_laws.proofs.ReadLimits.{AreWithin, each-append, within-send, within-tagged, within-closed}
+use Rattle.nr_laws.proofs.Replies.{IsReply, AreReplies, answer-reply, chunk_error-reply}
+use Rattle.nr_laws.proofs.ReadLimits.{AreWithin, each-append}
 use Rattle.nr_laws.proofs.CallNumbers.{XidsFrom, OutsFrom, HasOwnXid, IsNumbered}
 use Rattle.nr_laws.proofs.OfferLimits.{OfferFits}
 use Rattle.nr_laws.proofs.ServerSays.{CallsFit, execution_says, for_target, found-fits}

@@ -1,23 +1,21 @@
 -- A client of a matched link that a piece doesn't end keeps the guards of both ends.
-use Rattle.std.proofs.Common.{◌≡◌, ◌≢◌, ℕ, zero, suc, ◌+◌, ◌≤◌, ◌<◌, ◌^◌, Bool, true, false, cond, not, ◌&&◌, eqb, ltb, List, [], ◌∷◌, ◌++◌, length, map, take, drop, filter, Option, Some, None, Result, Ok, Err, refl, sym, ap, subst, ◌∙◌, arith, append_assoc, append-nil, length-append, ◌⊎◌, inl, inr, take-append-drop}
+use Rattle.std.proofs.Common.{◌≡◌, ℕ, zero, suc, ◌+◌, ◌≤◌, ◌<◌, ◌^◌, Bool, true, false, cond, not, eqb, List, [], ◌∷◌, ◌++◌, length, map, take, drop, filter, Option, Some, None, Result, Ok, Err, refl, sym, ap, subst, ◌∙◌, arith, ◌⊎◌, inl, inr}
 use Rattle.std.specs.List.{AllByRecursion, range_with_len}
 use Rattle.std.proofs.lemmas.Bool.{ne_eqb, le-ltb}
-use Rattle.nr_xdr.specs.Item.{IsBytes}
 use Rattle.nr_xdr.specs.Fields.{word_at}
 use Rattle.nr_header.specs.Constants.{PAYLOAD_MAX}
 use Rattle.nr_wire.specs.Constants.{OPCODE_READ_REQUEST, OPCODE_READ_RESPONSE, OPCODE_SEND, QUEUE_SEND, QUEUE_READ_REQUEST}
-use Rattle.nr_wire.specs.declared.hello.Side.TheVariants.{Initiator, Responder}
 use Rattle.nr_wire.specs.Segment.{Segment}
 use Rattle.nr_wire.specs.Segment.Segment.{Tagged, Untagged}
 use Rattle.nr_regions.specs.Access.{HaveOwnStags}
 use Rattle.nr_link.specs.declared.end.End.{End}
 use Rattle.nr_link.specs.Frames.{Frame, is_hello}
 use Rattle.nr_link.specs.Output.{msn_word, segment_count}
-use Rattle.nr_link.specs.ReceiveState.{begun_bytes, read_request_in, ReadRequest, message_completed, read_request_of}
+use Rattle.nr_link.specs.ReceiveState.{begun_bytes, ReadRequest, message_completed, read_request_of}
 use Rattle.nr_link.specs.Ending.{frame_segment}
 use Rattle.nr_reduce.specs.declared.mark.LinkParameters.{LinkParameters}
 use Rattle.nr_reduce.specs.Opening.{IsOpened}
-use Rattle.nr_reduce.specs.Limits.{send_max, numbers_end, most_credits}
+use Rattle.nr_reduce.specs.Limits.{most_credits}
 use Rattle.nr_reduce.specs.Events.{Event}
 use Rattle.nr_reduce.specs.Events.Event.{FrameReceived}
 use Rattle.nr_reduce.specs.EndRules.{EndState, live, next_end_state_by, end_state_after}
@@ -28,13 +26,13 @@ use Rattle.nr_reduce.specs.ServerState.{ServerState, PendingRead}
 use Rattle.nr_reduce.specs.ServerReads.{open_reads}
 use Rattle.nr_reduce.proofs.Steps.{end_state_after-append}
 use Rattle.nr_reduce.proofs.OwnStags.{AreNumbered, own-stags, client-numbers}
-use Rattle.nr_laws.specs.Pieces.{Piece, segment_at, spelled_one, count, one_send, one_read, one_hello, reading_piece, asking_piece, client_says, tagged_pieces, cut_piece, responding_pieces, IsPiece}
+use Rattle.nr_laws.specs.Pieces.{Piece, count, one_send, one_hello, reading_piece, asking_piece, client_says, tagged_pieces, cut_piece, responding_pieces, IsPiece}
 use Rattle.nr_laws.specs.Pieces.Piece.{AHello, ASend, ARead, ATagged}
-use Rattle.nr_laws.specs.Between.{Way, Counts, greeted, Reads, Waits, Window, IsSink, HasSink, HaveSinks, AreBelow, Answers, requests_among}
-use Rattle.nr_laws.proofs.Counted.{count-append, length-fewer, others}
+use Rattle.nr_laws.specs.Between.{Way, Counts, greeted, Reads, Window, HasSink, HaveSinks, AreBelow, requests_among}
+use Rattle.nr_laws.proofs.Counted.{others}
 use Rattle.nr_laws.proofs.CountsServer.{segment-is}
-use Rattle.nr_laws.proofs.CountsClient.{down_one, after-is, says-is, request_payload, out-there, taken, counts-hello_down, counts-send_down, counts-read_down, counts-tagged_down}
-use Rattle.nr_laws.proofs.ReadsClient.{IsThere, AnswersNone, first_asked, reads-read_down, reads-says_up}
+use Rattle.nr_laws.proofs.CountsClient.{down_one, after-is, says-is, request_payload, counts-hello_down, counts-send_down, counts-read_down, counts-tagged_down}
+use Rattle.nr_laws.proofs.ReadsClient.{AnswersNone, reads-read_down, reads-says_up}
 use Rattle.nr_laws.proofs.ServerKnown.{Server}
 use Rattle.nr_laws.proofs.Replies.{IsReply}
 use Rattle.nr_laws.proofs.ReadLimits.{AreWithin, ReadFits, IsSmall, each-append, each-take, each-kept}
@@ -42,7 +40,7 @@ use Rattle.nr_laws.proofs.Requests.{is-there}
 use Rattle.nr_laws.proofs.Outs.{segment-out}
 use Rattle.nr_laws.proofs.Linked.{Linked}
 use Rattle.nr_laws.proofs.ClientTakes.{says-hello, after-hello}
-use Rattle.nr_laws.proofs.CallNumbers.{XidsFrom, OutsFrom, HasOwnXid, xids-append, xids-asked}
+use Rattle.nr_laws.proofs.CallNumbers.{XidsFrom, HasOwnXid, xids-append, xids-asked}
 use Rattle.nr_laws.proofs.ClientTakes.{calls_said}
 use Rattle.nr_laws.proofs.Guards.{UpPiece, DownPiece, IsAsked, AreSized, Guards}
 use Rattle.nr_laws.proofs.GuardsServer.{each-at}

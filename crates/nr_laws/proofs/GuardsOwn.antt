@@ -1,33 +1,30 @@
 -- The guards of both ends are kept where a call is submitted or executed, memory is revoked, and a queue is written.
-use Rattle.std.proofs.Common.{◌≡◌, ◌≢◌, ℕ, ◌+◌, ◌*◌, ◌≤◌, ◌<◌, ◌^◌, Bool, true, false, cond, not, eqb, List, [], ◌∷◌, ◌++◌, length, map, Option, Some, None, Result, Ok, Err, refl, sym, ap, subst, ◌∙◌, arith, append_assoc, append-nil, length-append}
-use Rattle.std.specs.List.{AllByRecursion, list_any}
+use Rattle.std.proofs.Common.{◌≡◌, ℕ, ◌+◌, ◌≤◌, ◌<◌, ◌^◌, Bool, true, false, cond, not, eqb, List, [], ◌∷◌, ◌++◌, length, map, Option, None, Ok, refl, sym, ap, subst, ◌∙◌, arith, length-append}
+use Rattle.std.specs.List.{AllByRecursion}
 use Rattle.std.proofs.lemmas.List.{length-map}
-use Rattle.nr_rpc.specs.Reading.{call_of, target_of}
 use Rattle.nr_link.specs.declared.end.End.{End}
-use Rattle.nr_link.specs.Frames.{Frame}
 use Rattle.nr_reduce.specs.declared.mark.LinkParameters.{LinkParameters}
 use Rattle.nr_reduce.specs.declared.outline.Plan.{Plan}
 use Rattle.nr_reduce.specs.Opening.{IsOpened}
 use Rattle.nr_reduce.specs.Limits.{send_max, numbers_end}
-use Rattle.nr_reduce.specs.Plans.{TooLarge, plan_size, call_message}
+use Rattle.nr_reduce.specs.Plans.{plan_size, call_message}
 use Rattle.nr_reduce.specs.History.{AcceptedCall, ExecutedCall}
 use Rattle.nr_reduce.specs.Events.{Event}
-use Rattle.nr_reduce.specs.Events.Event.{FrameReceived, CallSubmitted, MemoryRevoked, CallExecuted, QueueWritten}
+use Rattle.nr_reduce.specs.Events.Event.{CallSubmitted, MemoryRevoked, CallExecuted, QueueWritten}
 use Rattle.nr_reduce.specs.EndRules.{EndState, live, next_end_state_by, end_state_after}
 use Rattle.nr_reduce.specs.ClientState.{ClientState, OutstandingCall, call_payload, plan_for}
-use Rattle.nr_reduce.specs.ServerState.{ServerState, PendingCall, ReadyCall}
-use Rattle.nr_reduce.specs.Client.{client_rules, client_end, client_state_after, initial_client, outstanding_of, plan_or, revoked_call, written_call}
+use Rattle.nr_reduce.specs.ServerState.{ServerState, ReadyCall}
+use Rattle.nr_reduce.specs.Client.{client_rules, client_end, client_state_after, initial_client, outstanding_of, revoked_call, written_call}
 use Rattle.nr_reduce.specs.Server.{server_state_after}
 use Rattle.nr_reduce.proofs.Steps.{end_state_after-append}
 use Rattle.nr_reduce.proofs.Sizes.{message_size}
 use Rattle.nr_laws.specs.Pieces.{Piece, asking_piece, client_says, server_says}
-use Rattle.nr_laws.specs.Pieces.Piece.{AHello, ASend}
-use Rattle.nr_laws.specs.Between.{Way, Counts, Reads, Waits, Window, HaveSinks, Answers}
+use Rattle.nr_laws.specs.Pieces.Piece.{ASend}
+use Rattle.nr_laws.specs.Between.{Way}
 use Rattle.nr_laws.proofs.CountsClient.{up_more, counts-accepts, counts-writes_up}
 use Rattle.nr_laws.proofs.ReadsClient.{AnswersNone, reads-says_up, reads-writes_up}
-use Rattle.nr_laws.proofs.ServerKnown.{Server}
 use Rattle.nr_laws.proofs.Executing.{server-executes, server-writes}
-use Rattle.nr_laws.proofs.ReadLimits.{AreWithin, each-append}
+use Rattle.nr_laws.proofs.ReadLimits.{each-append}
 use Rattle.nr_laws.proofs.ServerSays.{CallsFit}
 use Rattle.nr_laws.proofs.OwnEvents.{planned, counts-revoked, xid-revoked}
 use Rattle.nr_laws.proofs.Linked.{Linked}

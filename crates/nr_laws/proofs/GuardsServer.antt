@@ -1,20 +1,17 @@
 -- A server of a matched link ends at the frame of a piece only by a refusal of its effect; else it keeps its guards.
-use Rattle.std.proofs.Common.{◌≡◌, ◌≢◌, ℕ, zero, suc, ◌+◌, ◌≤◌, ◌<◌, ◌^◌, Bool, true, false, cond, ◌&&◌, eqb, List, [], ◌∷◌, ◌++◌, length, map, take, Option, Some, None, Result, Ok, Err, refl, sym, ap, subst, ◌∙◌, arith, append_assoc, append-nil, ◌⊎◌, inl, inr}
+use Rattle.std.proofs.Common.{◌≡◌, ℕ, ◌+◌, ◌≤◌, ◌<◌, ◌^◌, Bool, true, List, [], ◌∷◌, ◌++◌, None, Result, Ok, refl, sym, ap, subst, ◌∙◌, arith}
 use Rattle.std.specs.List.{AllByRecursion}
 use Rattle.nr_xdr.specs.Item.{IsBytes}
 use Rattle.nr_xdr.specs.Fields.{word_at}
 use Rattle.nr_wire.specs.Constants.{OPCODE_SEND, QUEUE_SEND}
-use Rattle.nr_wire.specs.declared.hello.Side.TheVariants.{Initiator, Responder}
-use Rattle.nr_wire.specs.Hello.{hello_of}
+use Rattle.nr_wire.specs.declared.hello.Side.TheVariants.{Initiator}
 use Rattle.nr_wire.specs.Segment.{Segment}
 use Rattle.nr_wire.specs.Segment.Segment.{Tagged, Untagged}
-use Rattle.nr_link.specs.declared.end.End.{End}
 use Rattle.nr_link.specs.Frames.{Frame, is_hello}
 use Rattle.nr_link.specs.Output.{msn_word}
 use Rattle.nr_link.specs.Ending.{frame_segment}
 use Rattle.nr_reduce.specs.declared.mark.LinkParameters.{LinkParameters}
 use Rattle.nr_reduce.specs.Opening.{IsOpened}
-use Rattle.nr_reduce.specs.Limits.{send_max}
 use Rattle.nr_reduce.specs.Events.Event.{FrameReceived}
 use Rattle.nr_reduce.specs.OfferedRegions.{Region}
 use Rattle.nr_reduce.specs.ClientState.{ClientState}
@@ -22,16 +19,14 @@ use Rattle.nr_reduce.specs.ServerState.{ServerState, PendingRead}
 use Rattle.nr_reduce.specs.ServerReads.{is_over}
 use Rattle.nr_reduce.specs.ServerFrames.{FrameEffect, effect_in, frame_effect}
 use Rattle.nr_reduce.specs.Server.{server_end, server_state_after, refusal_end}
-use Rattle.nr_laws.specs.Pieces.{Piece, segment_at, spelled_one, count, one_send, one_read, one_hello, step_says, server_says, IsPiece}
-use Rattle.nr_laws.specs.Pieces.Piece.{AHello, ASend, ARead, ATagged}
-use Rattle.nr_laws.specs.Between.{Way, Counts, Reads, Waits, Window, HasSink, HaveSinks, Answers}
-use Rattle.nr_laws.proofs.Counted.{count-append}
+use Rattle.nr_laws.specs.Pieces.{Piece, segment_at, spelled_one, step_says, server_says, IsPiece}
+use Rattle.nr_laws.specs.Pieces.Piece.{AHello, ASend, ATagged}
+use Rattle.nr_laws.specs.Between.{Way, Counts, Reads, HaveSinks, Answers}
 use Rattle.nr_laws.proofs.CountsServer.{counts-hello_up, after-is, step-is, segment-is, with_by}
-use Rattle.nr_laws.proofs.ReadsKept.{moved}
 use Rattle.nr_laws.proofs.ReadsClient.{reads-says_down}
 use Rattle.nr_laws.proofs.Sinks.{sink-later}
 use Rattle.nr_laws.proofs.ServerKnown.{Server, server-takes_send, server-takes_response}
-use Rattle.nr_laws.proofs.Replies.{AreReplies, replies-frame}
+use Rattle.nr_laws.proofs.Replies.{replies-frame}
 use Rattle.nr_laws.proofs.ReadLimits.{AreWithin, each-append, within-send, within-tagged, within-closed}
 use Rattle.nr_laws.proofs.Linked.{Linked, taken_up, not-refused, says-hello, says-frame, after-hello, payload_bytes}
 use Rattle.nr_laws.proofs.CallNumbers.{XidsFrom, IsNumbered, xids-at, numbered-send, numbered-tagged}

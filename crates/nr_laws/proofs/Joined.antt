@@ -1,56 +1,45 @@
 -- Both ends of a matched link after the marks of a run, while neither has ended: the bytes that each side sent and received are
 -- those of pieces.
-use Rattle.std.proofs.Common.{◌≡◌, ◌≢◌, ℕ, ◌+◌, ◌≤◌, ◌<◌, Bool, true, false, cond, ◌&&◌, eqb, List, [], ◌∷◌, ◌++◌, length, map, Option, Some, None, refl, sym, ap, subst, ◌∙◌, arith, append_assoc, append-nil, length-append, get_or, ◌⊎◌, inl, inr}
+use Rattle.std.proofs.Common.{◌≡◌, ℕ, ◌+◌, Bool, true, false, cond, ◌&&◌, eqb, List, [], ◌∷◌, ◌++◌, length, map, None, refl, sym, ap, subst, ◌∙◌, arith, append_assoc, append-nil, length-append}
 use Rattle.std.specs.List.{concat}
-use Rattle.std.proofs.lemmas.Bool.{eqb-true}
 use Rattle.nr_xdr.specs.Item.{IsBytes}
 use Rattle.nr_xdr.proofs.Chains.{IsBytes-left, IsBytes-right}
 use Rattle.nr_wire.specs.declared.hello.Side.{Side}
 use Rattle.nr_wire.specs.declared.hello.Side.TheVariants.{Initiator, Responder}
 use Rattle.nr_wire.specs.declared.stream.Awaited.{Awaited}
 use Rattle.nr_wire.specs.declared.stream.Awaited.TheVariants.{Hello as HelloFrom, Fpdu}
-use Rattle.nr_wire.specs.Stream.{Split, split, IsFrame}
+use Rattle.nr_wire.specs.Stream.{split}
 use Rattle.nr_wire.proofs.Splits.{split-Splits}
 use Rattle.nr_wire.proofs.Frames.{fields_some}
-use Rattle.nr_link.specs.declared.end.End.{End}
 use Rattle.nr_link.specs.Frames.{Frame, frames_from, frames_completed}
-use Rattle.nr_reduce.specs.declared.call.Call.{Call}
-use Rattle.nr_reduce.specs.declared.call.Form.{Form}
-use Rattle.nr_reduce.specs.declared.call.Submission.{Submission}
-use Rattle.nr_reduce.specs.declared.call.Submission.TheVariants as submissions
-use Rattle.nr_reduce.specs.declared.mark.Moment.{Moment}
 use Rattle.nr_reduce.specs.declared.mark.Mark.{Mark}
 use Rattle.nr_reduce.specs.declared.mark.Mark.TheVariants as marks
 use Rattle.nr_reduce.specs.declared.mark.LinkParameters.{LinkParameters}
-use Rattle.nr_reduce.specs.History.{AcceptedCall, ExecutedCall, bytes_sent, bytes_received, written_at, fed_at, other, same_side}
+use Rattle.nr_reduce.specs.History.{bytes_sent, bytes_received, written_at, fed_at}
 use Rattle.nr_reduce.specs.Events.{Event, if_own, events_at}
-use Rattle.nr_reduce.specs.Events.Event.{FrameReceived, CallSubmitted, MemoryRevoked, CallExecuted, QueueWritten}
+use Rattle.nr_reduce.specs.Events.Event.{FrameReceived}
 use Rattle.nr_reduce.specs.EndRules.{EndState, live, end_state_after, output_for_all}
 use Rattle.nr_reduce.specs.ClientState.{ClientState}
-use Rattle.nr_reduce.specs.ServerState.{ServerState, ReadyCall}
-use Rattle.nr_reduce.specs.Client.{client_rules, client_end, client_state_after, client_output}
-use Rattle.nr_reduce.specs.Server.{server_rules, server_end, server_state_after, server_output}
+use Rattle.nr_reduce.specs.ServerState.{ServerState}
+use Rattle.nr_reduce.specs.Client.{client_rules}
+use Rattle.nr_reduce.specs.Server.{server_rules}
 use Rattle.nr_reduce.specs.Run.{client, server, output_due}
 use Rattle.nr_reduce.specs.Opening.{IsOpened}
 use Rattle.nr_reduce.specs.Credits.{WithinGrant}
-use Rattle.nr_reduce.specs.Matched.{MatchedMark, IsPrefixOf}
-use Rattle.nr_reduce.specs.Asked.{AskedMark, IsAccepted, IsAll}
-use Rattle.nr_reduce.specs.Served.{ServedMark, IsExecuted, first_ready, next_call}
+use Rattle.nr_reduce.specs.Matched.{IsPrefixOf}
 use Rattle.nr_reduce.proofs.Steps.{client-one, server-one, output_due_up-one, output_due_down-one}
 use Rattle.nr_reduce.proofs.Standing.{itself}
 use Rattle.nr_laws.proofs.Bytes.{received-one, sent-one, bytes_both}
-use Rattle.nr_laws.specs.Pieces.{Piece, segment_at, spelled_one, spelled, count, one_send, one_read, one_hello}
-use Rattle.nr_laws.specs.Pieces.Piece.{AHello}
+use Rattle.nr_laws.specs.Pieces.{Piece, segment_at, spelled_one, spelled, count, one_send, one_read}
 use Rattle.nr_laws.specs.Between.{Way}
-use Rattle.nr_laws.proofs.Counted.{count-append}
-use Rattle.nr_laws.proofs.Channel.{AreProper, proper_by, proper-frame, IsOf, frames_at, frames-append, spelled-append}
-use Rattle.nr_laws.proofs.Fed.{More, fed}
+use Rattle.nr_laws.proofs.Channel.{AreProper, proper-frame, IsOf, frames_at, frames-append, spelled-append}
+use Rattle.nr_laws.proofs.Fed.{fed}
 use Rattle.nr_laws.proofs.Proper.{IsStream, stream_proper, stream-left}
-use Rattle.nr_laws.proofs.CountsClient.{down_one, up_more}
+use Rattle.nr_laws.proofs.CountsClient.{down_one}
 use Rattle.nr_laws.proofs.Guards.{Guards}
 use Rattle.nr_laws.proofs.Linked.{Linked, IsPlace, taken_up}
-use Rattle.nr_laws.proofs.ServerRuns.{AreSome, events_of, ServerRan, server-runs}
-use Rattle.nr_laws.proofs.ClientRuns.{ClientRan, client-runs}
+use Rattle.nr_laws.proofs.ServerRuns.{AreSome, events_of, server-runs}
+use Rattle.nr_laws.proofs.ClientRuns.{client-runs}
 
 pub record Joined (opened : LinkParameters) (link : ℕ) (run : List Mark) : Type 0 where
   pub k : ClientState

@@ -1,6 +1,6 @@
 -- All that holds between both ends of a link of which neither has ended: by the pieces that each side received, and those that
 -- each side said.
-use Rattle.std.proofs.Common.{◌≡◌, ℕ, ◌+◌, ◌≤◌, ◌<◌, Bool, true, false, cond, eqb, List, [], ◌∷◌, ◌++◌, length, map, replicate, Option, Some, None, Result, Ok, Err, refl, sym, ap, subst, ◌∙◌, arith, append_assoc, append-nil, ◌⊎◌, inl, inr}
+use Rattle.std.proofs.Common.{◌≡◌, ℕ, ◌+◌, ◌<◌, true, false, cond, eqb, List, [], ◌∷◌, ◌++◌, length, replicate, Option, Some, None, Result, Ok, refl, sym, ap, subst, ◌∙◌, arith, append_assoc, append-nil}
 use Rattle.nr_xdr.specs.Item.{IsBytes}
 use Rattle.nr_xdr.proofs.Chains.{IsBytes-left, IsBytes-right}
 use Rattle.nr_wire.specs.Constants.{OPCODE_SEND, QUEUE_SEND}
@@ -16,7 +16,7 @@ use Rattle.nr_link.specs.Ending.{frame_segment, frame_end, hello_end}
 use Rattle.nr_reduce.specs.declared.mark.LinkParameters.{LinkParameters}
 use Rattle.nr_reduce.specs.Events.Event.{FrameReceived}
 use Rattle.nr_reduce.specs.OfferedRegions.{region_grants}
-use Rattle.nr_reduce.specs.ClientState.{ClientState, OutstandingCall}
+use Rattle.nr_reduce.specs.ClientState.{ClientState}
 use Rattle.nr_reduce.specs.ServerState.{ServerState}
 use Rattle.nr_reduce.specs.ServerFrames.{FrameEffect, effect_in, frame_effect}
 use Rattle.nr_reduce.specs.Server.{server_end, server_state_after, server_output, readiness, or_refusal, refusal_end, newly_open_reads, effect_output, with_effect}
@@ -29,7 +29,7 @@ use Rattle.nr_laws.proofs.CountsServer.{counts-hello_up, counts-send_up, counts-
 use Rattle.nr_laws.proofs.ServerSteps.{waits-send_up, waits-tagged_up}
 use Rattle.nr_laws.proofs.Outs.{Outs}
 use Rattle.nr_laws.proofs.Said.{AllShort, step-said}
-use Rattle.nr_laws.proofs.Proper.{IsProper, AllProper, IsStream, proper_one, stream-more, stream-none, stream-first, stream-at}
+use Rattle.nr_laws.proofs.Proper.{IsProper, IsStream, proper_one, stream-more, stream-none, stream-first, stream-at}
 use Rattle.nr_laws.proofs.ServerSays.{CallsFit, SaysFine, fine-send, fine-tagged}
 
 -- `u` and `d` are what the server and the client received, `all_up` and `all_down` what the client and the server said

@@ -1,42 +1,36 @@
 -- Each mark keeps what holds between both ends of a link; so it holds of each run of a matched link of which no side has ended.
-use Rattle.std.proofs.Common.{◌≡◌, ◌≢◌, ℕ, ◌+◌, ◌≤◌, ◌<◌, Bool, true, false, cond, ◌&&◌, eqb, List, [], ◌∷◌, ◌++◌, length, map, Option, Some, None, refl, sym, ap, subst, ◌∙◌, arith, append_assoc, append-nil, ◌⊎◌, inl, inr}
+use Rattle.std.proofs.Common.{◌≡◌, ◌≢◌, ℕ, ◌<◌, eqb, List, [], ◌∷◌, ◌++◌, length, Option, Some, None, refl, sym, ap, subst, ◌∙◌, arith, append-nil}
 use Rattle.std.specs.Prelude.{slice_get}
-use Rattle.std.specs.List.{list_any}
-use Rattle.std.proofs.lemmas.Bool.{eqb-true}
 use Rattle.nr_xdr.specs.Item.{IsBytes}
-use Rattle.nr_wire.specs.declared.hello.Side.{Side}
 use Rattle.nr_wire.specs.declared.hello.Side.TheVariants.{Initiator, Responder}
 use Rattle.nr_wire.specs.declared.stream.Awaited.TheVariants.{Hello as HelloFrom}
-use Rattle.nr_wire.specs.Stream.{Split, split}
+use Rattle.nr_wire.specs.Stream.{split}
 use Rattle.nr_link.specs.declared.end.End.{End}
-use Rattle.nr_link.specs.Frames.{Frame, frames_completed}
+use Rattle.nr_link.specs.Frames.{Frame}
 use Rattle.nr_reduce.specs.declared.call.Call.{Call}
 use Rattle.nr_reduce.specs.declared.call.Form.{Form}
-use Rattle.nr_reduce.specs.declared.call.Submission.{Submission}
 use Rattle.nr_reduce.specs.declared.call.Submission.TheVariants as submissions
 use Rattle.nr_reduce.specs.declared.mark.Moment.{Moment}
 use Rattle.nr_reduce.specs.declared.mark.Mark.{Mark}
 use Rattle.nr_reduce.specs.declared.mark.Mark.TheVariants as marks
 use Rattle.nr_reduce.specs.declared.mark.LinkParameters.{LinkParameters}
 use Rattle.nr_reduce.specs.History.{AcceptedCall, ExecutedCall, bytes_sent, bytes_received, written_at, fed_at}
-use Rattle.nr_reduce.specs.Events.{Event, if_own, events_at}
+use Rattle.nr_reduce.specs.Events.{Event, events_at}
 use Rattle.nr_reduce.specs.Events.Event.{FrameReceived, CallSubmitted, MemoryRevoked, CallExecuted, QueueWritten}
 use Rattle.nr_reduce.specs.EndRules.{Rules, EndState, live, next_end_state_by, end_state_after, output_for_by, output_for_all}
 use Rattle.nr_reduce.specs.ClientState.{ClientState, plan_for}
-use Rattle.nr_reduce.specs.ServerState.{ServerState, ReadyCall, PendingCall}
+use Rattle.nr_reduce.specs.ServerState.{ServerState, ReadyCall}
 use Rattle.nr_reduce.specs.SubmitAnswer.{next_xid}
 use Rattle.nr_reduce.specs.Client.{client_rules, client_end, client_state_after, client_output}
 use Rattle.nr_reduce.specs.Server.{server_rules, server_end, server_state_after, server_output}
-use Rattle.nr_reduce.specs.Run.{client, server, output_due}
+use Rattle.nr_reduce.specs.Run.{output_due}
 use Rattle.nr_reduce.specs.Opening.{IsOpened}
 use Rattle.nr_reduce.specs.Credits.{WithinGrant, calls_outstanding, credits_granted}
 use Rattle.nr_reduce.specs.Asked.{IsAccepted}
 use Rattle.nr_reduce.specs.Served.{IsExecuted, first_ready, next_call}
-use Rattle.nr_reduce.proofs.Standing.{itself}
 use Rattle.nr_laws.specs.Pieces.{Piece, spelled, count, one_send, one_read, one_hello}
 use Rattle.nr_laws.specs.Pieces.Piece.{AHello, ASend, ARead, ATagged}
 use Rattle.nr_laws.specs.Between.{Way}
-use Rattle.nr_laws.proofs.Counted.{count-append}
 use Rattle.nr_laws.proofs.WaitsExecute.{executed-there}
 use Rattle.nr_laws.proofs.CountsClient.{up_more}
 use Rattle.nr_laws.proofs.Proper.{IsStream, stream-left}
@@ -44,7 +38,7 @@ use Rattle.nr_laws.proofs.Linked.{Linked}
 use Rattle.nr_laws.proofs.OwnEvents.{submitted, revoked, written_up, executed, written_down, some-calls}
 use Rattle.nr_laws.proofs.Guards.{Guards}
 use Rattle.nr_laws.proofs.GuardsOwn.{guards-submit, guards-revoke, guards-written_up, guards-execute, guards-written_down}
-use Rattle.nr_laws.proofs.Joined.{Joined, Goes, place_of, guards-up, guards-down, same-all, same-up, same-down, own-bytes, other-bytes, own-events, other-events}
+use Rattle.nr_laws.proofs.Joined.{Joined, Goes, place_of, guards-up, guards-down, same-up, same-down, own-bytes, other-bytes, own-events, other-events}
 
 pub record One {S : Type 0} (rules : Rules S) (s : S) (event : Event) : Type 0 where
   pub state : end_state_after rules (live s) (event ∷ []) ≡ live (rules.state_after s event)

@@ -1,13 +1,10 @@
 -- The calls that are out have xids of their own.
-use Rattle.std.proofs.Common.{◌≡◌, ◌≢◌, ℕ, zero, suc, ◌+◌, ◌-◌, ◌≤◌, ◌<◌, Bool, true, false, not, cond, eqb, ◌⊎◌, inl, inr, List, [], ◌∷◌, ◌++◌, length, map, take, drop, Option, None, Some, Result, Ok, Err, refl, sym, ap, subst, ◌∙◌, arith}
+use Rattle.std.proofs.Common.{◌≡◌, ℕ, ◌+◌, Bool, true, false, not, cond, eqb, ◌⊎◌, inl, inr, List, [], ◌∷◌, map, Option, None, Some, Result, Ok, Err, refl, sym, subst, arith}
 use Rattle.std.specs.List.{filter}
-use Rattle.nr_wire.specs.Constants.{OPCODE_SEND, QUEUE_SEND}
 use Rattle.nr_wire.specs.Segment.{Segment}
-use Rattle.nr_wire.specs.Segment.Segment.{Untagged}
 use Rattle.nr_xdr.specs.Fields.{word_at}
 use Rattle.nr_reduce.specs.declared.mark.LinkParameters.{LinkParameters}
 use Rattle.nr_reduce.specs.History.{AcceptedCall}
-use Rattle.nr_link.specs.Output.{msn_word}
 use Rattle.nr_link.specs.Frames.{Frame, is_hello}
 use Rattle.nr_link.specs.ReceiveState.{ReadRequest, message_completed, read_request_of}
 use Rattle.nr_link.specs.Ending.{frame_segment}
@@ -17,7 +14,7 @@ use Rattle.nr_reduce.specs.Client.{client_state_after, with_segment, with_messag
 use Rattle.nr_reduce.specs.SubmitAnswer.{next_xid}
 use Rattle.nr_laws.specs.Between.{IsAbsent, AreApart, AreBelow}
 use Rattle.nr_laws.proofs.Counted.{apart_kept, apart_push}
-use Rattle.nr_laws.proofs.Keys.{below-more, below-append, below-kept, below-absent}
+use Rattle.nr_laws.proofs.Keys.{below-more, below-append, below-kept}
 
 -- each is below the one that is given next
 pub record Outs (opened : LinkParameters) (k : ClientState) : Type 0 where

@@ -1,8 +1,8 @@
 -- What holds between both ends of a link is kept where a call is submitted or executed, memory is revoked, and a queue is written.
-use Rattle.std.proofs.Common.{◌≡◌, ℕ, ◌+◌, ◌≤◌, ◌<◌, Bool, true, false, cond, not, eqb, List, [], ◌∷◌, ◌++◌, length, map, filter, Option, Some, None, Result, Ok, Err, refl, sym, ap, subst, ◌∙◌, arith, lit≤, append_assoc, append-nil, length-append}
+use Rattle.std.proofs.Common.{◌≡◌, ℕ, ◌+◌, ◌<◌, Bool, true, false, cond, not, eqb, List, [], ◌∷◌, ◌++◌, length, map, Result, Ok, refl, sym, ap, subst, ◌∙◌, arith, append_assoc, append-nil}
 use Rattle.std.specs.List.{list_any}
 use Rattle.std.proofs.lemmas.List.{length-map}
-use Rattle.nr_wire.specs.Constants.{OPCODE_SEND, QUEUE_SEND, OPCODE_WRITE}
+use Rattle.nr_wire.specs.Constants.{OPCODE_SEND, QUEUE_SEND}
 use Rattle.nr_wire.specs.declared.hello.Side.TheVariants.{Initiator, Responder}
 use Rattle.nr_wire.specs.Segment.{encoding}
 use Rattle.nr_wire.specs.Segment.Segment.{Untagged}
@@ -13,24 +13,23 @@ use Rattle.nr_reduce.specs.declared.mark.LinkParameters.{LinkParameters}
 use Rattle.nr_reduce.specs.declared.outline.Plan.{Plan}
 use Rattle.nr_reduce.specs.Plans.{TooLarge, call_message}
 use Rattle.nr_reduce.specs.History.{AcceptedCall, ExecutedCall}
-use Rattle.nr_reduce.specs.Events.Event.{FrameReceived, CallSubmitted, MemoryRevoked, CallExecuted, QueueWritten}
+use Rattle.nr_reduce.specs.Events.Event.{CallSubmitted, MemoryRevoked, CallExecuted, QueueWritten}
 use Rattle.nr_reduce.specs.SubmitAnswer.{next_xid}
 use Rattle.nr_reduce.specs.ClientState.{ClientState, OutstandingCall, call_payload, plan_for}
 use Rattle.nr_reduce.specs.ServerState.{ServerState, PendingCall, ReadyCall, down_max}
 use Rattle.nr_reduce.specs.Client.{client_state_after, client_output, call_output, outstanding_of, plan_or, revoked_call, written_call}
-use Rattle.nr_reduce.specs.Server.{server_state_after, server_output, execution_output, offer_of, answer_of_target}
+use Rattle.nr_reduce.specs.Server.{server_state_after, server_output, offer_of, answer_of_target}
 use Rattle.nr_reduce.proofs.Sizes.{message_size}
-use Rattle.nr_laws.specs.Pieces.{Piece, spelled, count, one_send, one_read, one_hello, asking_piece, client_says, server_says, answer_says}
-use Rattle.nr_laws.specs.Pieces.Piece.{ASend}
-use Rattle.nr_laws.specs.Between.{Way, Counts, Waits, AreApart, AreBelow, IsAbsent, said_calls}
+use Rattle.nr_laws.specs.Pieces.{Piece, spelled, count, one_send, one_read, one_hello, asking_piece, client_says, server_says}
+use Rattle.nr_laws.specs.Between.{Way, Counts, AreApart, AreBelow, IsAbsent}
 use Rattle.nr_laws.proofs.Counted.{count-append}
 use Rattle.nr_laws.proofs.CountsClient.{counts-accepts, counts-writes_up, up_more}
 use Rattle.nr_laws.proofs.CountsServer.{counts-executes, counts-writes_down, answer-counts}
 use Rattle.nr_laws.proofs.WaitsExecute.{waits-executes, executed-there}
 use Rattle.nr_laws.proofs.Outs.{Outs, outs-accepts, outs-writes}
 use Rattle.nr_laws.proofs.Said.{IsShort, AllShort, send-one}
-use Rattle.nr_laws.proofs.Proper.{AllProper, IsStream, stream-more}
-use Rattle.nr_laws.proofs.ServerSays.{CallsFit, calls_fit-kept, execution_says, execution-proper, execution-said}
+use Rattle.nr_laws.proofs.Proper.{AllProper, stream-more}
+use Rattle.nr_laws.proofs.ServerSays.{calls_fit-kept, execution_says, execution-proper, execution-said}
 use Rattle.nr_laws.proofs.Linked.{Linked, messages_said}
 use Rattle.nr_laws.proofs.ClientTakes.{calls_said}
 

@@ -1,18 +1,15 @@
 -- What can be written as one frame each: the numbers of a segment are words, and its payload fits.
-use Rattle.std.proofs.Common.{◌≡◌, ℕ, zero, suc, ◌+◌, ◌-◌, ◌*◌, ◌/◌, ◌%◌, ◌≤◌, ◌<◌, ◌^◌, max, Bool, true, eqb, List, [], ◌∷◌, ◌++◌, length, map, take, drop, Option, Some, None, refl, sym, ap, subst, ◌∙◌, arith, lit<, length-append, length-take, length-drop}
+use Rattle.std.proofs.Common.{◌≡◌, ℕ, zero, suc, ◌+◌, ◌*◌, ◌≤◌, ◌<◌, ◌^◌, true, List, [], ◌∷◌, ◌++◌, length, map, drop, refl, arith, lit<, length-append, length-take}
 use Rattle.std.specs.List.{range_with_len}
 use Rattle.nr_xdr.specs.Item.{word, hyper}
 use Rattle.nr_xdr.proofs.WordBytes.{length-word, length-hyper}
-use Rattle.nr_wire.specs.Constants.{OPCODE_READ_REQUEST, OPCODE_SEND}
 use Rattle.nr_wire.specs.declared.hello.Side.{Side}
-use Rattle.nr_wire.specs.declared.stream.Awaited.{Awaited}
 use Rattle.nr_wire.specs.declared.stream.Awaited.TheVariants.{Hello as HelloFrom, Fpdu}
 use Rattle.nr_wire.specs.Segment.{is_tagged_opcode}
 use Rattle.nr_link.specs.Limits.{segment_max}
-use Rattle.nr_link.specs.Output.{msn_word, segment_count, segment_payload}
+use Rattle.nr_link.specs.Output.{msn_word, segment_count}
 use Rattle.nr_laws.specs.Pieces.{Piece, segment_at, one_send, one_read, one_hello, count, cut_piece, tagged_pieces}
 use Rattle.nr_laws.specs.Pieces.Piece.{AHello, ASend, ARead, ATagged}
-use Rattle.nr_laws.proofs.Counted.{count-append}
 use Rattle.nr_laws.proofs.Channel.{proper_by, AreProper}
 
 abbrev pub IsProper : Piece → Type 0

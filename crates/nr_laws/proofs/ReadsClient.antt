@@ -1,24 +1,22 @@
 -- What both ends know of reads is kept by what happens at the client, and by what the server executes and writes.
-use Rattle.std.proofs.Common.{◌≡◌, ◌≢◌, ℕ, zero, suc, ◌+◌, ◌-◌, ◌*◌, ◌≤◌, ◌<◌, ◌^◌, min, Bool, true, false, not, cond, ◌||◌, ◌&&◌, eqb, List, [], ◌∷◌, ◌++◌, length, map, take, drop, Option, None, Some, Result, Ok, Err, refl, sym, ap, subst, ◌∙◌, arith, append_assoc, append-nil, length-append, length-take, length-drop}
+use Rattle.std.proofs.Common.{◌≡◌, ℕ, ◌+◌, ◌*◌, ◌≤◌, ◌<◌, min, Bool, true, false, cond, eqb, List, [], ◌∷◌, ◌++◌, length, map, take, drop, Option, None, Some, Ok, refl, sym, ap, subst, ◌∙◌, arith, append_assoc, append-nil, length-take, length-drop}
 use Rattle.std.specs.List.{range_with_len}
-use Rattle.nr_wire.specs.Constants.{OPCODE_WRITE, OPCODE_READ_REQUEST, OPCODE_READ_RESPONSE, OPCODE_SEND, QUEUE_SEND, QUEUE_READ_REQUEST}
+use Rattle.nr_wire.specs.Constants.{OPCODE_WRITE, OPCODE_READ_REQUEST, OPCODE_READ_RESPONSE, QUEUE_READ_REQUEST}
 use Rattle.nr_wire.specs.Segment.{Segment}
-use Rattle.nr_wire.specs.Segment.Segment.{Tagged, Untagged}
+use Rattle.nr_wire.specs.Segment.Segment.{Untagged}
 use Rattle.nr_header.specs.declared.header.RdmaSegment.{RdmaSegment as Part}
 use Rattle.nr_header.specs.declared.header.ChunkLists.{ChunkLists}
 use Rattle.nr_reduce.specs.declared.mark.LinkParameters.{LinkParameters}
 use Rattle.nr_link.specs.Output.{msn_word, segment_count, segment_payload}
-use Rattle.nr_link.specs.Frames.{Frame, is_hello}
+use Rattle.nr_link.specs.Frames.{Frame}
 use Rattle.nr_link.specs.ReceiveState.{ReadRequest, read_request_in}
 use Rattle.nr_link.specs.Ending.{frame_segment}
-use Rattle.nr_reduce.specs.Holds.{Answer, answer_message, chunk_error, first_chunk, no_segments}
+use Rattle.nr_reduce.specs.Holds.{Answer, answer_message, first_chunk, no_segments}
 use Rattle.nr_reduce.specs.Events.Event.{FrameReceived}
 use Rattle.nr_reduce.specs.ClientState.{ClientState, memory_at}
-use Rattle.nr_reduce.specs.Client.{response_output}
 use Rattle.nr_reduce.specs.ServerState.{ServerState, PendingRead, credit_word}
-use Rattle.nr_reduce.specs.ServerReads.{open_reads}
-use Rattle.nr_laws.specs.Pieces.{Piece, IsPiece, reading_piece, client_says, responding_pieces, tagged_pieces, cut_piece, fill_pieces, answer_says}
-use Rattle.nr_laws.specs.Pieces.Piece.{AHello, ASend, ARead, ATagged}
+use Rattle.nr_laws.specs.Pieces.{Piece, IsPiece, reading_piece, client_says, tagged_pieces, fill_pieces, answer_says}
+use Rattle.nr_laws.specs.Pieces.Piece.{ASend, ARead, ATagged}
 use Rattle.nr_laws.specs.Between.{Way, Answers, requests_among, Reads}
 use Rattle.nr_laws.proofs.CountsServer.{segment-is}
 use Rattle.nr_laws.proofs.CountsClient.{says-is, request_payload, down_one}

@@ -1,9 +1,7 @@
 -- What both ends know of reads is kept by what happens at the server.
-use Rattle.std.proofs.Common.{◌≡◌, ◌≢◌, ℕ, zero, suc, ◌+◌, ◌-◌, ◌≤◌, ◌<◌, min, Bool, true, false, not, cond, ◌||◌, ◌&&◌, eqb, List, [], ◌∷◌, ◌++◌, length, map, take, drop, Option, None, Some, Result, Ok, Err, refl, sym, ap, subst, ◌∙◌, arith, append_assoc, append-nil, length-append, length-take, length-drop, take-append-drop, take_all, eq-eqb}
-use Rattle.std.specs.Prelude.{find}
+use Rattle.std.proofs.Common.{◌≡◌, ℕ, zero, suc, ◌+◌, ◌-◌, ◌≤◌, Bool, true, false, not, cond, ◌&&◌, eqb, List, [], ◌∷◌, ◌++◌, length, map, take, drop, Option, None, Some, Ok, refl, sym, ap, subst, ◌∙◌, arith, append_assoc, length-append, length-take, take-append-drop}
 use Rattle.std.specs.List.{filter}
 use Rattle.std.proofs.lemmas.List.{take-append-le, map-append}
-use Rattle.std.proofs.lemmas.Option.{same_Some}
 use Rattle.nr_wire.specs.Constants.{OPCODE_READ_RESPONSE, OPCODE_SEND, QUEUE_SEND}
 use Rattle.nr_wire.specs.Segment.{Segment}
 use Rattle.nr_wire.specs.Segment.Segment.{Tagged, Untagged}
@@ -11,11 +9,11 @@ use Rattle.nr_reduce.specs.declared.mark.LinkParameters.{LinkParameters}
 use Rattle.nr_link.specs.Limits.{open_reads_max}
 use Rattle.nr_reduce.specs.Chunks.{is_read_chunk_of_item}
 use Rattle.nr_link.specs.Output.{msn_word}
-use Rattle.nr_link.specs.Frames.{Frame, is_hello}
+use Rattle.nr_link.specs.Frames.{Frame}
 use Rattle.nr_link.specs.ReceiveState.{begun_bytes}
 use Rattle.nr_link.specs.Ending.{frame_segment}
-use Rattle.nr_reduce.specs.Events.Event.{FrameReceived, CallExecuted, QueueWritten}
-use Rattle.nr_reduce.specs.ServerState.{ServerState, PendingCall, PendingRead, ReadyCall}
+use Rattle.nr_reduce.specs.Events.Event.{FrameReceived}
+use Rattle.nr_reduce.specs.ServerState.{ServerState, PendingCall, PendingRead}
 use Rattle.nr_reduce.specs.ServerFrames.{FrameEffect, frame_effect, effect_in, message_effect, no_effect, ready_if_whole, with_verdict, with_refused_call, read_effect, response_effect, call_of_number, is_stream_read, with_access}
 use Rattle.nr_reduce.specs.ServerMessages.{Verdict, CallVerdict, verdict, by_payload, payload_of, chunk_bytes}
 use Rattle.nr_reduce.specs.ServerReads.{open_reads, is_read, reads_of, regions_of}
@@ -25,7 +23,7 @@ use Rattle.nr_reduce.specs.ServerMessages.CallVerdict.{Refuses, IsReady}
 use Rattle.nr_laws.specs.Pieces.{Piece, IsPiece, reading_piece, step_says}
 use Rattle.nr_laws.specs.Pieces.Piece.{AHello, ASend, ARead, ATagged}
 use Rattle.nr_laws.specs.Between.{Way, Answers, GoesOn, requests_among, Reads}
-use Rattle.nr_laws.proofs.CountsServer.{Shape, shape-message, after-is, step-is, segment-is, with_by}
+use Rattle.nr_laws.proofs.CountsServer.{shape-message, after-is, step-is, segment-is, with_by}
 
 -- ---- What stays at the front of the reads
 

@@ -1,5 +1,5 @@
 -- On a matched link a Send that comes finds a receive, and no side is asked for more reads than it may be.
-use Rattle.std.proofs.Common.{◌≡◌, ◌≢◌, ℕ, ◌+◌, ◌-◌, ◌≤◌, ◌<◌, Bool, true, false, not, cond, ◌||◌, ◌&&◌, eqb, ltb, leb, List, [], ◌∷◌, ◌++◌, length, take, Option, None, Some, refl, sym, ap, ◌∙◌, arith, length-append, length-take-le, lt-ltb, le-ltb, leb-false}
+use Rattle.std.proofs.Common.{◌≡◌, ℕ, ◌≤◌, ◌<◌, Bool, true, false, cond, List, length, Option, ap, arith}
 use Rattle.std.proofs.lemmas.List.{length-take}
 use Rattle.nr_reduce.specs.declared.mark.LinkParameters.{LinkParameters}
 use Rattle.nr_link.specs.Limits.{open_reads_max}
@@ -8,9 +8,8 @@ use Rattle.nr_reduce.specs.ClientState.{ClientState}
 use Rattle.nr_reduce.specs.ServerState.{ServerState, receives_in_use}
 use Rattle.nr_reduce.specs.Plans.{one_if}
 use Rattle.nr_reduce.specs.ServerReads.{open_reads}
-use Rattle.nr_laws.specs.Pieces.{Piece, count, one_send, one_read, one_response}
-use Rattle.nr_laws.specs.Pieces.Piece.{ASend, ARead}
-use Rattle.nr_laws.specs.Between.{Way, Counts, Window, said_calls}
+use Rattle.nr_laws.specs.Pieces.{count, one_send, one_read}
+use Rattle.nr_laws.specs.Between.{Way, Counts, Window}
 
 said_some : (greeted : Bool) (n : ℕ) → cond greeted n 0 ≤ n
 said_some true n = omega arith

@@ -1,5 +1,5 @@
 -- Each message of a server has the size of a message and its credits.
-use Rattle.std.proofs.Common.{◌≡◌, ℕ, suc, ◌+◌, ◌*◌, ◌≤◌, ◌<◌, ◌^◌, Bool, true, false, cond, not, ◌&&◌, eqb, List, [], ◌∷◌, ◌++◌, length, map, take, drop, filter, Option, Some, None, Result, Ok, Err, refl, sym, ap, subst, ◌∙◌, arith, length-append, append_assoc, append-nil, take_all, sum_by}
+use Rattle.std.proofs.Common.{◌≡◌, ℕ, ◌+◌, ◌*◌, ◌≤◌, ◌<◌, ◌^◌, Bool, true, false, cond, not, ◌&&◌, eqb, List, [], ◌∷◌, ◌++◌, length, take, drop, Option, Some, None, Result, Ok, Err, refl, sym, ap, ◌∙◌, arith, length-append, append_assoc, take_all}
 use Rattle.std.proofs.Math.Seq.{drop-append_seam}
 use Rattle.std.proofs.lemmas.List.{take-append-le}
 use Rattle.nr_xdr.specs.Item.{word, word_of}
@@ -9,20 +9,16 @@ use Rattle.nr_xdr.proofs.WordBytes.{length-word, word_of-word}
 use Rattle.nr_wire.specs.Constants.{OPCODE_READ_RESPONSE}
 use Rattle.nr_wire.specs.Segment.{Segment}
 use Rattle.nr_wire.specs.Segment.Segment.{Tagged, Untagged}
-use Rattle.nr_header.specs.declared.header.RdmaSegment.{RdmaSegment}
 use Rattle.nr_header.specs.declared.header.ChunkLists.{ChunkLists}
-use Rattle.nr_header.specs.declared.header.Body.{Body}
 use Rattle.nr_header.specs.declared.header.Body.TheVariants.{Msg, Nomsg}
-use Rattle.nr_header.specs.declared.header.Header.{Header}
 use Rattle.nr_header.specs.Header.{header_encoding, lists_items}
-use Rattle.nr_rpc.specs.declared.head.CallTarget.{CallTarget}
 use Rattle.nr_link.specs.Frames.{Frame}
 use Rattle.nr_link.specs.Ending.{frame_segment}
 use Rattle.nr_link.specs.ReceiveState.{message_completed}
 use Rattle.nr_reduce.specs.Limits.{send_max}
-use Rattle.nr_reduce.specs.Holds.{Answer, answer_for, answer_message, answer_lists, answer_body, answer_size, chunk_error, version_error, no_segments}
+use Rattle.nr_reduce.specs.Holds.{Answer, answer_for, answer_message, answer_lists, answer_size, chunk_error, version_error, no_segments}
 use Rattle.nr_reduce.specs.Chunks.{is_read_chunk_of_item}
-use Rattle.nr_reduce.specs.ServerState.{PendingCall, PendingRead, ServerState, credit_word, down_max}
+use Rattle.nr_reduce.specs.ServerState.{PendingCall, PendingRead, ServerState}
 use Rattle.nr_reduce.specs.ServerReads.{regions_of, reads_of, is_read}
 use Rattle.nr_reduce.specs.ServerMessages.{CallVerdict, by_payload, payload_of, chunk_bytes, Verdict, verdict}
 use Rattle.nr_reduce.specs.ServerMessages.CallVerdict.{Refuses, IsReady}

@@ -1,5 +1,5 @@
 -- A Read Request reads back as its fields; and a client that it doesn't end has the bytes for which it asks.
-use Rattle.std.proofs.Common.{◌≡◌, ◌≢◌, ℕ, ◌+◌, ◌-◌, ◌≤◌, ◌<◌, ◌^◌, Bool, true, false, cond, ◌&&◌, eqb, ltb, leb, List, [], ◌∷◌, ◌++◌, length, map, take, drop, Option, Some, None, Ok, refl, sym, ap, subst, ◌∙◌, arith, length-append, length-take, length-drop, append_assoc, append-nil, take_all, option_and_then, ◌⊎◌, inl, inr}
+use Rattle.std.proofs.Common.{◌≡◌, ℕ, ◌+◌, ◌≤◌, ◌<◌, ◌^◌, Bool, true, false, cond, ◌&&◌, eqb, ltb, leb, List, [], ◌∷◌, ◌++◌, length, map, take, drop, Option, Some, None, Ok, refl, sym, ap, ◌∙◌, arith, length-append, length-take, length-drop, append_assoc, append-nil, take_all, inl, inr}
 use Rattle.std.specs.List.{find}
 use Rattle.std.proofs.Math.Seq.{drop-append_seam}
 use Rattle.std.proofs.lemmas.List.{take-append-le}
@@ -9,20 +9,17 @@ use Rattle.nr_xdr.proofs.WordBytes.{length-word, length-hyper, word_of-word, hyp
 use Rattle.nr_wire.specs.Constants.{OPCODE_READ_REQUEST, QUEUE_READ_REQUEST}
 use Rattle.nr_wire.specs.Segment.{Segment}
 use Rattle.nr_wire.specs.Segment.Segment.{Untagged}
-use Rattle.nr_regions.specs.declared.right.Right.{Right}
 use Rattle.nr_regions.specs.declared.right.Right.TheVariants.{Fetch}
-use Rattle.nr_regions.specs.declared.denied.Denied.{Denied}
 use Rattle.nr_regions.specs.declared.denied.Denied.TheVariants.{NoStag, Bounds, Right as WrongRight}
 use Rattle.std.specs.Prelude.{is_none}
 use Rattle.nr_regions.specs.RegisteredMemory.{Access, denial_in, same_right, bytes_after_write}
 use Rattle.nr_regions.specs.Access.{Grant, TaggedSegment, applies, grant_at, grant_offer, grant_denial, HasOwnStag, HaveOwnStags, after_segment, access_of, contents}
 use Rattle.nr_link.specs.Frames.{Frame, is_hello}
-use Rattle.nr_link.specs.Output.{msn_word}
 use Rattle.nr_link.specs.ReceiveState.{read_request_in}
 use Rattle.nr_link.specs.Ending.{frame_segment, missing_access}
 use Rattle.nr_reduce.specs.OfferedRegions.{Region, region_grant, region_grants, region_bytes, region_bytes_by}
 use Rattle.nr_reduce.specs.Events.Event.{FrameReceived}
-use Rattle.nr_reduce.specs.ClientState.{ClientState, memory_at}
+use Rattle.nr_reduce.specs.ClientState.{ClientState}
 use Rattle.nr_reduce.specs.Client.{client_end}
 use Rattle.nr_reduce.proofs.Touches.{client_touched}
 use Rattle.nr_laws.proofs.CountsClient.{request_payload}

@@ -1,17 +1,15 @@
 -- The Responses of a client are those that its server expects.
-use Rattle.std.proofs.Common.{◌≡◌, ◌≢◌, ℕ, zero, suc, ◌+◌, ◌-◌, ◌*◌, ◌/◌, ◌≤◌, ◌<◌, max, min, Bool, true, false, not, cond, ◌||◌, ◌&&◌, eqb, ltb, leb, List, [], ◌∷◌, ◌++◌, length, map, take, drop, Option, None, Some, refl, sym, ap, subst, ◌∙◌, arith, eq-eqb, ne_eqb, append_assoc, append-nil, length-append, length-take, length-drop, take-append-drop, le-leb}
+use Rattle.std.proofs.Common.{◌≡◌, ℕ, zero, suc, ◌+◌, ◌-◌, ◌*◌, ◌≤◌, ◌<◌, min, Bool, true, false, not, cond, ◌&&◌, eqb, leb, List, [], ◌∷◌, ◌++◌, length, map, drop, refl, sym, ap, subst, ◌∙◌, arith, eq-eqb, ne_eqb, length-take, length-drop, le-leb}
 use Rattle.std.specs.List.{range_with_len}
 use Rattle.nr_wire.specs.Constants.{OPCODE_READ_RESPONSE}
-use Rattle.nr_link.specs.Limits.{segment_max, open_reads_max}
+use Rattle.nr_link.specs.Limits.{segment_max}
 use Rattle.nr_link.specs.Output.{segment_count, segment_payload}
-use Rattle.nr_link.specs.SegmentFaults.{ExpectedResponse, is_expected}
+use Rattle.nr_link.specs.SegmentFaults.{is_expected}
 use Rattle.nr_reduce.specs.ServerState.{ServerState, PendingRead}
-use Rattle.nr_reduce.specs.ServerFrames.{FrameEffect}
-use Rattle.nr_reduce.specs.ServerReads.{expected_response, open_reads}
-use Rattle.nr_reduce.specs.Server.{newly_open_reads}
-use Rattle.nr_laws.specs.Pieces.{Piece, cut_piece, tagged_pieces, reading_piece, step_says}
+use Rattle.nr_reduce.specs.ServerReads.{expected_response}
+use Rattle.nr_laws.specs.Pieces.{Piece, cut_piece, tagged_pieces}
 use Rattle.nr_laws.specs.Pieces.Piece.{AHello, ASend, ARead, ATagged}
-use Rattle.nr_laws.specs.Between.{Way, Answers, GoesOn, requests_among, Reads}
+use Rattle.nr_laws.specs.Between.{Answers, GoesOn}
 
 -- ---- Answers behind answers
 

@@ -1,25 +1,16 @@
 -- After each run of a matched link in which each side kept its law in full, and of which no side has ended, both ends are joined.
-use Rattle.std.proofs.Common.{◌≡◌, ℕ, ◌+◌, ◌<◌, Bool, true, false, cond, ◌&&◌, eqb, List, [], ◌∷◌, ◌++◌, length, map, Option, Some, None, refl, sym, ap, subst, ◌∙◌, arith, append_assoc, append-nil, get_or, lit<}
+use Rattle.std.proofs.Common.{◌≡◌, ℕ, Bool, true, false, cond, ◌&&◌, eqb, List, [], ◌∷◌, ◌++◌, Option, Some, None, refl, sym, ap, subst, ◌∙◌, arith, append_assoc, append-nil, lit<}
 use Rattle.std.proofs.lemmas.Bool.{eqb-true}
-use Rattle.nr_xdr.specs.Item.{IsBytes}
-use Rattle.nr_wire.specs.declared.hello.Side.{Side}
 use Rattle.nr_wire.specs.declared.hello.Side.TheVariants.{Initiator, Responder}
-use Rattle.nr_wire.specs.declared.stream.Awaited.TheVariants.{Hello as HelloFrom}
-use Rattle.nr_wire.specs.Stream.{Split, split}
+use Rattle.nr_wire.specs.Stream.{split}
 use Rattle.nr_link.specs.declared.end.End.{End}
-use Rattle.nr_link.specs.Frames.{Frame, frames_completed}
-use Rattle.nr_reduce.specs.declared.call.Call.{Call}
-use Rattle.nr_reduce.specs.declared.call.Form.{Form}
-use Rattle.nr_reduce.specs.declared.call.Submission.{Submission}
 use Rattle.nr_reduce.specs.declared.call.Submission.TheVariants as submissions
-use Rattle.nr_reduce.specs.declared.mark.Moment.{Moment}
 use Rattle.nr_reduce.specs.declared.mark.Mark.{Mark}
 use Rattle.nr_reduce.specs.declared.mark.Mark.TheVariants as marks
 use Rattle.nr_reduce.specs.declared.mark.LinkParameters.{LinkParameters}
-use Rattle.nr_reduce.specs.History.{AcceptedCall, ExecutedCall, bytes_sent, bytes_received, written_at, fed_at, other, same_side}
+use Rattle.nr_reduce.specs.History.{bytes_sent, bytes_received}
 use Rattle.nr_reduce.specs.Events.{Event, if_own, events_at, events}
-use Rattle.nr_reduce.specs.Events.Event.{FrameReceived, CallSubmitted, MemoryRevoked, CallExecuted, QueueWritten}
-use Rattle.nr_reduce.specs.EndRules.{Rules, EndState, live, end_state_after}
+use Rattle.nr_reduce.specs.EndRules.{Rules, EndState, end_state_after}
 use Rattle.nr_reduce.specs.ClientState.{ClientState, initial_state as client_initial_state}
 use Rattle.nr_reduce.specs.ServerState.{ServerState, initial_state as server_initial_state}
 use Rattle.nr_reduce.specs.Client.{client_rules}
@@ -31,7 +22,6 @@ use Rattle.nr_reduce.specs.Asked.{AskedMark, IsAll}
 use Rattle.nr_reduce.specs.Served.{ServedMark}
 use Rattle.nr_reduce.proofs.Steps.{client-one, server-one, ended-stays}
 use Rattle.nr_laws.specs.Typed.{TypedMark}
-use Rattle.nr_laws.specs.Pieces.{Piece}
 use Rattle.nr_laws.specs.Pieces.Piece.{AHello}
 use Rattle.nr_laws.proofs.CountsClient.{counts-first}
 use Rattle.nr_reduce.specs.Opening.{IsOpened}

@@ -1,25 +1,22 @@
 -- What an end has to write is the bytes of its pieces.
-use Rattle.std.proofs.Common.{◌≡◌, ◌≢◌, ℕ, zero, suc, ◌+◌, ◌-◌, ◌*◌, ◌≤◌, ◌<◌, min, Bool, true, false, cond, eqb, List, [], ◌∷◌, ◌++◌, length, map, take, drop, Option, None, Some, refl, sym, ap, subst, ◌∙◌, arith, append_assoc, append-nil, add-zero, take_all}
+use Rattle.std.proofs.Common.{◌≡◌, ℕ, ◌+◌, ◌*◌, ◌≤◌, true, eqb, List, [], ◌∷◌, ◌++◌, length, map, refl, sym, ap, ◌∙◌, arith, append-nil, add-zero, take_all}
 use Rattle.std.specs.List.{flat_map, range_with_len}
 use Rattle.nr_wire.specs.Constants.{OPCODE_WRITE, OPCODE_READ_RESPONSE, OPCODE_SEND, QUEUE_SEND}
 use Rattle.nr_wire.specs.declared.hello.Side.{Side}
 use Rattle.nr_wire.specs.declared.hello.Side.TheVariants.{Initiator, Responder}
-use Rattle.nr_wire.specs.Segment.{Segment, encoding}
+use Rattle.nr_wire.specs.Segment.{encoding}
 use Rattle.nr_wire.specs.Segment.Segment.{Tagged, Untagged}
-use Rattle.nr_header.specs.declared.header.RdmaSegment.{RdmaSegment as Part}
-use Rattle.nr_header.specs.declared.header.ChunkLists.{ChunkLists}
 use Rattle.nr_reduce.specs.declared.mark.LinkParameters.{LinkParameters}
 use Rattle.nr_link.specs.Limits.{segment_max}
 use Rattle.nr_link.specs.Output.{msn_word, segment_count, segment_payload, cut, send, write, read_response, read_request}
-use Rattle.nr_reduce.specs.Holds.{Answer, answer_message, chunk_error, first_chunk, no_segments, writes_into, answer_writes}
-use Rattle.nr_reduce.specs.ServerState.{ServerState, PendingRead, credit_word}
+use Rattle.nr_reduce.specs.ServerState.{ServerState, PendingRead}
 use Rattle.nr_reduce.specs.ServerFrames.{FrameEffect}
-use Rattle.nr_reduce.specs.Server.{sends_from, requests_from, newly_open_reads, effect_output, answer_output}
+use Rattle.nr_reduce.specs.Server.{sends_from, requests_from, newly_open_reads, effect_output}
 use Rattle.nr_reduce.specs.Plans.{call_message}
 use Rattle.nr_reduce.specs.ClientState.{OutstandingCall}
-use Rattle.nr_reduce.specs.Client.{call_output, calls_output}
-use Rattle.nr_laws.specs.Pieces.{Piece, spelled, count, one_send, one_read, cut_piece, tagged_pieces, reading_piece, step_says, fill_pieces, answer_says, asking_piece}
-use Rattle.nr_laws.specs.Pieces.Piece.{ASend, ATagged}
+use Rattle.nr_reduce.specs.Client.{calls_output}
+use Rattle.nr_laws.specs.Pieces.{Piece, spelled, count, one_send, one_read, cut_piece, tagged_pieces, reading_piece, step_says, asking_piece}
+use Rattle.nr_laws.specs.Pieces.Piece.{ASend}
 use Rattle.nr_laws.proofs.Counted.{count-map-zero}
 use Rattle.nr_laws.proofs.Channel.{spelled-append}
 

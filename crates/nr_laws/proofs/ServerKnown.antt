@@ -1,6 +1,6 @@
 -- The STags and the calls of a server's regions stay below what comes next; and all that is kept at a server by a Send and by a
 -- segment of a Response, with why either may end it.
-use Rattle.std.proofs.Common.{◌≡◌, ◌≢◌, ℕ, zero, suc, ◌+◌, ◌-◌, ◌≤◌, ◌<◌, Bool, true, false, not, cond, ◌||◌, ◌&&◌, eqb, List, [], ◌∷◌, ◌++◌, length, map, take, drop, Option, None, Some, Result, Ok, Err, refl, sym, ap, subst, ◌∙◌, arith, length-append}
+use Rattle.std.proofs.Common.{◌≡◌, ℕ, suc, ◌+◌, ◌-◌, ◌≤◌, ◌<◌, Bool, true, false, not, cond, ◌&&◌, eqb, List, [], ◌∷◌, ◌++◌, length, Option, None, Some, Ok, refl, sym, ap, subst, ◌∙◌, arith, length-append}
 use Rattle.std.proofs.lemmas.List.{length-map}
 use Rattle.nr_wire.specs.Constants.{OPCODE_READ_RESPONSE, OPCODE_SEND, QUEUE_SEND}
 use Rattle.nr_wire.specs.Segment.{Segment}
@@ -19,14 +19,14 @@ use Rattle.nr_reduce.specs.ClientState.{ClientState}
 use Rattle.nr_reduce.specs.ServerState.{ServerState, PendingCall, PendingRead, next_stag}
 use Rattle.nr_reduce.specs.ServerFrames.{FrameEffect, frame_effect, effect_in, message_effect, no_effect, response_effect, read_effect, with_refused_call, ready_if_whole, with_verdict, call_of_number, with_access, is_stream_read}
 use Rattle.nr_reduce.specs.ServerMessages.{Verdict, CallVerdict, verdict, by_payload, payload_of, chunk_bytes}
-use Rattle.nr_reduce.specs.ServerReads.{open_reads, is_read, is_over, regions_of, regions_from, reads_of, chunks_of}
+use Rattle.nr_reduce.specs.ServerReads.{open_reads, is_read, is_over, regions_of, regions_from, chunks_of}
 use Rattle.nr_reduce.specs.Server.{server_state_after, server_end, refusal_end}
 use Rattle.nr_reduce.specs.ServerMessages.Verdict.{EndsLink, OtherVersion, BadChunks, MakesPending}
 use Rattle.nr_reduce.specs.ServerMessages.CallVerdict.{Refuses, IsReady}
-use Rattle.nr_laws.specs.Pieces.{Piece, IsPiece, step_says}
+use Rattle.nr_laws.specs.Pieces.{Piece, IsPiece}
 use Rattle.nr_laws.specs.Pieces.Piece.{ASend, ATagged}
 use Rattle.nr_laws.specs.Between.{Way, Counts, Reads, Waits, HaveSinks, AreBelow, Window}
-use Rattle.nr_laws.proofs.CountsServer.{after-is, step-is, segment-is, with_by, counts-send_up, counts-tagged_up}
+use Rattle.nr_laws.proofs.CountsServer.{after-is, segment-is, counts-send_up, counts-tagged_up}
 use Rattle.nr_laws.proofs.Keys.{below-more, below-append}
 use Rattle.nr_laws.proofs.WaitsSend.{verdict-new}
 use Rattle.nr_laws.proofs.ReadsKept.{reads-send_up, reads-tagged_up, moved}

@@ -1,12 +1,11 @@
 -- A server takes the frames of some pieces one after the other.
-use Rattle.std.proofs.Common.{◌≡◌, ℕ, ◌+◌, ◌≤◌, ◌<◌, Bool, true, false, List, [], ◌∷◌, ◌++◌, length, map, Option, Some, None, refl, sym, ap, subst, ◌∙◌, arith, append_assoc, append-nil, length-append, add-zero}
+use Rattle.std.proofs.Common.{◌≡◌, ℕ, ◌+◌, ◌<◌, List, [], ◌∷◌, ◌++◌, length, map, Option, Some, None, refl, sym, ap, subst, ◌∙◌, arith, append_assoc, append-nil, length-append, add-zero}
 use Rattle.std.specs.List.{concat}
 use Rattle.nr_xdr.specs.Item.{IsBytes}
 use Rattle.nr_xdr.proofs.Chains.{IsBytes-left, IsBytes-right}
 use Rattle.nr_wire.specs.declared.hello.Side.TheVariants.{Initiator, Responder}
-use Rattle.nr_wire.specs.declared.hello.Side.{Side}
 use Rattle.nr_link.specs.declared.end.End.{End}
-use Rattle.nr_link.specs.Frames.{Frame, frames_from}
+use Rattle.nr_link.specs.Frames.{frames_from}
 use Rattle.nr_reduce.specs.declared.mark.LinkParameters.{LinkParameters}
 use Rattle.nr_reduce.specs.Opening.{IsOpened}
 use Rattle.nr_reduce.specs.Events.{Event}
@@ -14,7 +13,7 @@ use Rattle.nr_reduce.specs.Events.Event.{FrameReceived}
 use Rattle.nr_reduce.specs.EndRules.{Rules, EndState, live, next_end_state, next_end_state_by, end_state_after, output_for, output_for_by, output_for_all}
 use Rattle.nr_reduce.specs.ClientState.{ClientState}
 use Rattle.nr_reduce.specs.ServerState.{ServerState}
-use Rattle.nr_reduce.specs.Server.{server_rules, server_end, server_state_after, server_output}
+use Rattle.nr_reduce.specs.Server.{server_rules, server_state_after}
 use Rattle.nr_reduce.proofs.Steps.{ended-stays}
 use Rattle.nr_laws.specs.Pieces.{Piece, segment_at, spelled_one, spelled, count, one_send, one_read}
 use Rattle.nr_laws.specs.Between.{Way}
@@ -23,7 +22,7 @@ use Rattle.nr_laws.proofs.Channel.{frames_at, spelled-append}
 use Rattle.nr_laws.specs.EndCauses.{IsCallEnd}
 use Rattle.nr_laws.proofs.Guards.{Guards}
 use Rattle.nr_laws.proofs.StepUp.{step-up}
-use Rattle.nr_laws.proofs.Linked.{Linked, IsPlace, frame_of, taken_up, ServerTook, server-took}
+use Rattle.nr_laws.proofs.Linked.{Linked, IsPlace, frame_of, taken_up, server-took}
 
 -- ---- An end that hasn't ended by some events
 

@@ -1,5 +1,5 @@
 -- What a server says can be written, and its output are the bytes of it; and the offers of its calls stay within their limits.
-use Rattle.std.proofs.Common.{◌≡◌, ℕ, suc, ◌+◌, ◌*◌, ◌≤◌, ◌<◌, ◌^◌, min, Bool, true, false, cond, not, ◌&&◌, eqb, List, [], ◌∷◌, ◌++◌, length, map, take, drop, filter, Option, Some, None, Result, Ok, Err, refl, sym, ap, subst, ◌∙◌, arith, lit<, length-append, length-take, append_assoc, append-nil, add-zero}
+use Rattle.std.proofs.Common.{◌≡◌, ℕ, ◌+◌, ◌*◌, ◌≤◌, min, Bool, true, false, cond, not, ◌&&◌, eqb, List, [], ◌∷◌, ◌++◌, length, map, take, drop, filter, Option, Some, None, Result, Ok, refl, sym, ap, subst, ◌∙◌, arith, lit<, length-append, length-take, append_assoc, append-nil}
 use Rattle.std.specs.List.{find}
 use Rattle.nr_xdr.specs.Item.{word, IsBytes}
 use Rattle.nr_xdr.proofs.WordBytes.{length-word}
@@ -12,16 +12,13 @@ use Rattle.nr_header.specs.declared.header.RdmaSegment.{RdmaSegment}
 use Rattle.nr_header.specs.declared.header.ChunkLists.{ChunkLists}
 use Rattle.nr_rpc.specs.declared.head.CallTarget.{CallTarget}
 use Rattle.nr_rpc.specs.Reading.{call_of, target_of}
-use Rattle.nr_link.specs.Frames.{Frame, is_hello}
-use Rattle.nr_link.specs.Limits.{segment_max}
+use Rattle.nr_link.specs.Frames.{Frame}
 use Rattle.nr_link.specs.Output.{msn_word, send, write}
 use Rattle.nr_link.specs.Ending.{frame_segment}
-use Rattle.nr_link.specs.ReceiveState.{message_completed, begun_bytes}
-use Rattle.nr_reduce.specs.declared.mark.LinkParameters.{LinkParameters}
+use Rattle.nr_link.specs.ReceiveState.{begun_bytes}
 use Rattle.nr_reduce.specs.Holds.{Answer, answer_for, answer_message, answer_writes, writes_into, chunk_error, version_error, answer_size, first_chunk, no_segments}
 use Rattle.nr_reduce.specs.Chunks.{is_read_chunk_of_item}
 use Rattle.nr_reduce.specs.History.{ExecutedCall}
-use Rattle.nr_reduce.specs.Events.Event.{FrameReceived, CallExecuted}
 use Rattle.nr_reduce.specs.ServerState.{PendingCall, PendingRead, ServerState, credit_word, down_max}
 use Rattle.nr_reduce.specs.ServerReads.{regions_of, reads_of, is_read}
 use Rattle.nr_reduce.specs.ServerMessages.{CallVerdict, by_payload, payload_of, chunk_bytes, Verdict, verdict}
@@ -31,12 +28,11 @@ use Rattle.nr_reduce.specs.ServerFrames.{FrameEffect, no_effect, with_verdict, r
 use Rattle.nr_reduce.specs.Server.{newly_open_reads, offer_by, offer_of, answer_of_target, answer_output, execution_output}
 use Rattle.nr_reduce.proofs.AnswerMessages.{answer_length}
 use Rattle.nr_laws.specs.Pieces.{Piece, spelled, count, one_send, one_read, reading_piece, step_says, fill_pieces, answer_says, tagged_pieces}
-use Rattle.nr_laws.specs.Pieces.Piece.{ASend, ATagged}
-use Rattle.nr_laws.proofs.Counted.{count-append}
+use Rattle.nr_laws.specs.Pieces.Piece.{ASend}
 use Rattle.nr_laws.proofs.CountsServer.{fills-none, long-none}
 use Rattle.nr_laws.proofs.Channel.{spelled-append}
 use Rattle.nr_laws.proofs.Said.{IsShort, AreShort, send-one, write-said}
-use Rattle.nr_laws.proofs.Proper.{IsProper, AllProper, all_proper-append, tagged-proper}
+use Rattle.nr_laws.proofs.Proper.{AllProper, all_proper-append, tagged-proper}
 use Rattle.nr_laws.proofs.OfferLimits.{SegmentsFit, OfferFits, verdict_fits}
 
 -- ---- Messages are short

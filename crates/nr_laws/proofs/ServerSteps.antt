@@ -1,7 +1,5 @@
 -- What a server knows of waiting calls and of sinks is kept by each piece that comes to it.
-use Rattle.std.proofs.Common.{◌≡◌, ◌≢◌, ℕ, zero, suc, ◌+◌, ◌-◌, ◌≤◌, ◌<◌, Bool, true, false, not, cond, ◌||◌, ◌&&◌, eqb, List, [], ◌∷◌, ◌++◌, length, take, drop, Option, None, Some, Result, Ok, Err, refl, sym, ap, subst, ◌∙◌, arith, append-nil}
-use Rattle.std.specs.Prelude.{find}
-use Rattle.std.specs.List.{filter}
+use Rattle.std.proofs.Common.{◌≡◌, ℕ, ◌+◌, ◌-◌, ◌≤◌, Bool, true, false, not, cond, ◌&&◌, eqb, List, [], ◌∷◌, ◌++◌, length, take, drop, Option, None, Some, Ok, refl, sym, ap, subst, ◌∙◌, arith, append-nil}
 use Rattle.nr_wire.specs.Constants.{OPCODE_READ_RESPONSE, OPCODE_SEND, QUEUE_SEND}
 use Rattle.nr_wire.specs.Segment.{Segment}
 use Rattle.nr_wire.specs.Segment.Segment.{Tagged, Untagged}
@@ -11,16 +9,16 @@ use Rattle.nr_link.specs.Output.{msn_word}
 use Rattle.nr_link.specs.Frames.{Frame}
 use Rattle.nr_link.specs.ReceiveState.{begun_bytes}
 use Rattle.nr_link.specs.Ending.{frame_segment}
-use Rattle.nr_reduce.specs.OfferedRegions.{Region, regions_closed}
+use Rattle.nr_reduce.specs.OfferedRegions.{Region}
 use Rattle.nr_reduce.specs.Events.Event.{FrameReceived}
 use Rattle.nr_reduce.specs.ServerState.{ServerState, PendingCall, PendingRead}
 use Rattle.nr_reduce.specs.ServerFrames.{FrameEffect, frame_effect, effect_in, message_effect, no_effect, response_effect, read_effect, with_refused_call, ready_if_whole, with_verdict, call_of_number, with_access, is_stream_read}
 use Rattle.nr_reduce.specs.ServerMessages.{Verdict, CallVerdict, verdict, by_payload, payload_of, chunk_bytes}
-use Rattle.nr_reduce.specs.ServerReads.{open_reads, is_read, is_over, regions_of, reads_of}
+use Rattle.nr_reduce.specs.ServerReads.{open_reads, is_read, regions_of, reads_of}
 use Rattle.nr_reduce.specs.Server.{server_state_after}
 use Rattle.nr_reduce.specs.ServerMessages.Verdict.{EndsLink, OtherVersion, BadChunks, MakesPending}
 use Rattle.nr_reduce.specs.ServerMessages.CallVerdict.{Refuses, IsReady}
-use Rattle.nr_laws.specs.Pieces.{Piece, IsPiece}
+use Rattle.nr_laws.specs.Pieces.{IsPiece}
 use Rattle.nr_laws.specs.Pieces.Piece.{ASend, ATagged}
 use Rattle.nr_laws.specs.Between.{Waits, HaveSinks}
 use Rattle.nr_laws.proofs.CountsServer.{after-is, step-is, segment-is, with_by}

@@ -1,7 +1,7 @@
 -- On a link where nothing is left to do, nothing is queued or under way; so no call is outstanding, and each has its outcome.
-use Rattle.std.proofs.Common.{◌≡◌, ℕ, ◌+◌, ◌<◌, Bool, true, false, cond, not, ◌||◌, eqb, List, [], ◌∷◌, ◌++◌, length, map, filter, Option, Some, None, refl, sym, ap, subst, ◌∙◌, arith, append_assoc, append-nil, length-append}
+use Rattle.std.proofs.Common.{◌≡◌, ℕ, ◌+◌, Bool, true, false, cond, not, ◌||◌, eqb, List, [], ◌∷◌, ◌++◌, length, map, filter, None, refl, sym, ap, subst, ◌∙◌, arith, append_assoc, append-nil, length-append}
 use Rattle.std.specs.Prelude.{slice_get, Contains}
-use Rattle.std.specs.List.{concat, list_any, flat_map, AllByRecursion, All}
+use Rattle.std.specs.List.{concat, flat_map, AllByRecursion}
 use Rattle.std.proofs.lemmas.Bool.{eqb-true}
 use Rattle.std.proofs.lemmas.List.Elements.{All-contains, All-from_recursion, Contains-append_left, Contains-append_right, Contains-push}
 use Rattle.nr_wire.specs.declared.hello.Side.{Side}
@@ -10,15 +10,13 @@ use Rattle.nr_wire.specs.declared.stream.Awaited.{Awaited}
 use Rattle.nr_wire.specs.declared.stream.Awaited.TheVariants.{Hello as HelloFrom, Fpdu}
 use Rattle.nr_wire.specs.Stream.{Split, split, AreFrames, awaited_after}
 use Rattle.nr_wire.proofs.Splits.{split-frames}
-use Rattle.nr_link.specs.declared.end.End.{End}
-use Rattle.nr_reduce.specs.declared.call.Outcome.{Outcome}
 use Rattle.nr_reduce.specs.declared.mark.Mark.{Mark}
 use Rattle.nr_reduce.specs.declared.mark.LinkParameters.{LinkParameters}
 use Rattle.nr_reduce.specs.History.{AcceptedCall, CompletedCall, accepted_calls, completed_calls, bytes_sent, bytes_received, is_abandoned}
-use Rattle.nr_reduce.specs.EndRules.{EndState, live}
+use Rattle.nr_reduce.specs.EndRules.{EndState}
 use Rattle.nr_reduce.specs.ClientState.{ClientState, OutstandingCall}
 use Rattle.nr_reduce.specs.ServerState.{ServerState, ReadyCall}
-use Rattle.nr_reduce.specs.Run.{client, server, output_due, end_of_side}
+use Rattle.nr_reduce.specs.Run.{client, output_due, end_of_side}
 use Rattle.nr_reduce.specs.Credits.{calls_outstanding}
 use Rattle.nr_reduce.specs.OutcomesDue.{outcomes_due, outcomes_of_call, is_completed}
 use Rattle.nr_reduce.specs.Asked.{Asked}
@@ -31,10 +29,9 @@ use Rattle.nr_laws.specs.Between.{Way, Counts}
 use Rattle.nr_laws.proofs.Channel.{AreProper, proper-frame, IsOf, frames_at, length-frames, spelled-concat}
 use Rattle.nr_laws.proofs.Proper.{IsStream, stream_proper, stream-left}
 use Rattle.nr_laws.proofs.Quiet.{empty_way, quiet}
-use Rattle.nr_laws.proofs.Joined.{Joined}
 use Rattle.nr_laws.proofs.Runs.{joins}
-use Rattle.nr_laws.proofs.Accounts.{Accounts, IsAccounted, is_outstanding, has_outcome}
-use Rattle.nr_laws.proofs.Accounted.{gone_in, xids_in, accounts}
+use Rattle.nr_laws.proofs.Accounts.{IsAccounted, is_outstanding, has_outcome}
+use Rattle.nr_laws.proofs.Accounted.{gone_in, accounts}
 
 -- ---- A stream tells its pieces
 

@@ -1,10 +1,8 @@
 -- A Response that is expected reaches a region that lives and has room for it.
-use Rattle.std.proofs.Common.{◌≡◌, ◌≢◌, ℕ, zero, suc, ◌+◌, ◌-◌, ◌≤◌, ◌<◌, Bool, true, false, not, cond, ◌||◌, ◌&&◌, eqb, ltb, leb, ◌⊎◌, inl, inr, List, [], ◌∷◌, ◌++◌, length, map, take, drop, Option, None, Some, refl, sym, ap, subst, ◌∙◌, arith, eq-eqb, ne_eqb, eqb-true, lt-ltb, le-ltb, le-leb, append_assoc}
+use Rattle.std.proofs.Common.{◌≡◌, ◌≢◌, ℕ, zero, suc, ◌+◌, ◌≤◌, ◌<◌, Bool, true, false, not, cond, ◌||◌, ◌&&◌, eqb, ltb, leb, inl, inr, List, [], ◌∷◌, ◌++◌, length, map, take, drop, Option, None, Some, refl, sym, ap, subst, ◌∙◌, arith, eq-eqb, ne_eqb, lt-ltb, le-ltb, le-leb, append_assoc}
 use Rattle.std.specs.Prelude.{find}
 use Rattle.std.specs.List.{filter, list_any}
-use Rattle.nr_regions.specs.declared.right.Right.{Right}
 use Rattle.nr_regions.specs.declared.right.Right.TheVariants.{Sink}
-use Rattle.nr_regions.specs.declared.denied.Denied.{Denied}
 use Rattle.nr_regions.specs.declared.denied.Denied.TheVariants.{Bounds, Right as WrongRight}
 use Rattle.nr_regions.specs.RegisteredMemory.{Access, same_right, denial_in}
 use Rattle.nr_regions.specs.Access.{Grant, applies, grant_at, grant_offer, grant_denial}
@@ -13,7 +11,6 @@ use Rattle.nr_reduce.specs.ServerState.{PendingRead, PendingCall}
 use Rattle.nr_reduce.specs.ServerReads.{is_read, is_read_at, is_over}
 use Rattle.nr_laws.specs.Between.{IsSink, HasSink, HaveSinks}
 use Rattle.nr_laws.proofs.Counted.{any_first}
-use Rattle.nr_laws.proofs.Keys.{any-append}
 
 abbrev access : ℕ → ℕ → ℕ → Access
 access stag to n = record { right = Sink; stag = stag; to = to; len = n }

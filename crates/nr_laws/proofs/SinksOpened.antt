@@ -1,5 +1,5 @@
 -- A call that comes gets a sink for each read.
-use Rattle.std.proofs.Common.{◌≡◌, ◌≢◌, ℕ, zero, suc, ◌+◌, ◌-◌, ◌≤◌, ◌<◌, Bool, true, false, not, cond, ◌||◌, ◌&&◌, eqb, ◌⊎◌, inl, inr, List, [], ◌∷◌, ◌++◌, length, map, take, drop, replicate, Option, None, Some, refl, sym, ap, subst, ◌∙◌, arith, eq-eqb, ne_eqb, eqb-true, append_assoc, append-nil}
+use Rattle.std.proofs.Common.{◌≡◌, ℕ, zero, suc, ◌+◌, ◌≤◌, ◌<◌, Bool, true, false, not, cond, ◌||◌, ◌&&◌, eqb, inl, inr, List, [], ◌∷◌, ◌++◌, length, replicate, Option, None, Some, refl, sym, ap, ◌∙◌, arith, eq-eqb, ne_eqb, eqb-true, append_assoc}
 use Rattle.std.specs.Prelude.{find, sum_by}
 use Rattle.std.specs.List.{filter, list_any}
 use Rattle.std.proofs.lemmas.List.{length-replicate}
@@ -10,8 +10,8 @@ use Rattle.nr_regions.specs.declared.right.Right.TheVariants.{Sink}
 use Rattle.nr_reduce.specs.Chunks.{at_position, total_at, positions}
 use Rattle.nr_reduce.specs.OfferedRegions.{Region}
 use Rattle.nr_reduce.specs.ServerState.{ServerState, PendingCall, PendingRead, next_stag}
-use Rattle.nr_reduce.specs.ServerReads.{chunks_of, regions_from, regions_of, stag_by, sink_of, read_of, reads_from, reads_of}
-use Rattle.nr_laws.specs.Between.{IsSink, HasSink, HaveSinks, AreBelow}
+use Rattle.nr_reduce.specs.ServerReads.{chunks_of, regions_from, regions_of, stag_by, read_of, reads_from, reads_of}
+use Rattle.nr_laws.specs.Between.{HasSink, HaveSinks, AreBelow}
 use Rattle.nr_laws.proofs.Sinks.{sinks-append}
 
 -- ---- Totals

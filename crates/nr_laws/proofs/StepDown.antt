@@ -1,13 +1,13 @@
 -- The frame of a piece at a client: it ends the client only for what the client makes of a message, or for what its memory denies;
 -- else the guards are kept.
-use Rattle.std.proofs.Common.{◌≡◌, ◌≢◌, ℕ, ◌+◌, ◌≤◌, ◌<◌, ◌^◌, Bool, true, false, cond, not, ◌&&◌, eqb, ltb, List, [], ◌∷◌, ◌++◌, length, drop, Option, Some, None, Result, Ok, Err, refl, sym, ap, subst, ◌∙◌, arith, append_assoc, length-append, ◌⊎◌, inl, inr}
+use Rattle.std.proofs.Common.{◌≡◌, ◌≢◌, ℕ, ◌+◌, ◌≤◌, ◌<◌, ◌^◌, Bool, true, false, cond, eqb, List, [], ◌∷◌, ◌++◌, length, drop, Option, Some, None, Result, Ok, Err, refl, sym, ap, subst, ◌∙◌, arith, length-append, ◌⊎◌, inl, inr}
 use Rattle.std.proofs.lemmas.Bool.{le-ltb}
-use Rattle.nr_xdr.specs.Item.{IsBytes, word, hyper}
+use Rattle.nr_xdr.specs.Item.{word, hyper}
 use Rattle.nr_xdr.specs.Fields.{word_at}
 use Rattle.nr_xdr.proofs.WordBytes.{length-word, length-hyper}
 use Rattle.nr_wire.specs.Constants.{OPCODE_WRITE, OPCODE_READ_REQUEST, OPCODE_SEND, QUEUE_SEND, QUEUE_READ_REQUEST}
-use Rattle.nr_wire.specs.declared.hello.Side.TheVariants.{Initiator, Responder}
-use Rattle.nr_wire.specs.Hello.{Hello, hello_of}
+use Rattle.nr_wire.specs.declared.hello.Side.TheVariants.{Responder}
+use Rattle.nr_wire.specs.Hello.{hello_of}
 use Rattle.nr_wire.specs.Segment.{Segment}
 use Rattle.nr_wire.specs.Segment.Segment.{Tagged, Untagged}
 use Rattle.nr_header.specs.declared.fault.HeaderFault.{HeaderFault}
@@ -24,12 +24,11 @@ use Rattle.nr_regions.specs.RegisteredMemory.{Access}
 use Rattle.nr_link.specs.declared.end.End.{End}
 use Rattle.nr_link.specs.Frames.{Frame, is_hello}
 use Rattle.nr_link.specs.Output.{msn_word}
-use Rattle.nr_link.specs.ReceiveState.{ReadRequest, read_request_in, begun_bytes, message_completed}
-use Rattle.nr_link.specs.SegmentFaults.{Readiness, SegmentFault, first_fault, missing_fault}
+use Rattle.nr_link.specs.ReceiveState.{ReadRequest, read_request_in, begun_bytes}
+use Rattle.nr_link.specs.SegmentFaults.{SegmentFault, first_fault, missing_fault}
 use Rattle.nr_link.specs.Ending.{frame_segment, frame_end, frame_end_by, end_of_fault, denied_at, access_of, hello_end, missing_access}
 use Rattle.nr_reduce.specs.declared.mark.LinkParameters.{LinkParameters}
 use Rattle.nr_reduce.specs.Opening.{IsOpened}
-use Rattle.nr_reduce.specs.Limits.{send_max}
 use Rattle.nr_reduce.specs.declared.call.Outcome.TheVariants as outcomes
 use Rattle.nr_reduce.specs.Events.Event.{FrameReceived}
 use Rattle.nr_reduce.specs.OfferedRegions.{region_grants}
@@ -43,7 +42,7 @@ use Rattle.nr_reduce.specs.ServerState.{ServerState}
 use Rattle.nr_laws.specs.EndCauses.{IsReplyReason, IsReplyEnd, IsDenied}
 use Rattle.nr_laws.specs.Pieces.{Piece, segment_at, spelled_one, count, one_send, one_read, one_hello, client_says, IsPiece}
 use Rattle.nr_laws.specs.Pieces.Piece.{AHello, ASend, ARead, ATagged}
-use Rattle.nr_laws.specs.Between.{Way, Counts, greeted}
+use Rattle.nr_laws.specs.Between.{Way, greeted}
 use Rattle.nr_laws.proofs.Counted.{count-append}
 use Rattle.nr_laws.proofs.Channel.{own_hello-is}
 use Rattle.nr_laws.proofs.Fed.{is-piece}
@@ -57,7 +56,7 @@ use Rattle.nr_laws.proofs.Requests.{request-again}
 use Rattle.nr_laws.proofs.Proper.{IsProper, AllProper, IsStream, proper_one, stream-first, stream-at}
 use Rattle.nr_laws.proofs.Linked.{Linked, IsPlace, frame_of}
 use Rattle.nr_laws.proofs.Guards.{Guards}
-use Rattle.nr_laws.proofs.GuardsClient.{front-down, Asked, asked-of, guards-hello_down, guards-send_down, guards-read_down, guards-tagged_down}
+use Rattle.nr_laws.proofs.GuardsClient.{front-down, asked-of, guards-hello_down, guards-send_down, guards-read_down, guards-tagged_down}
 
 -- ---- A message
 

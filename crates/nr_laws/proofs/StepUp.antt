@@ -1,11 +1,11 @@
 -- The frame of a piece at a server: it ends the server only for what the server makes of a call, else the guards are kept.
-use Rattle.std.proofs.Common.{◌≡◌, ◌≢◌, ℕ, ◌+◌, ◌≤◌, ◌<◌, Bool, true, false, cond, not, ◌&&◌, ◌||◌, eqb, ltb, List, [], ◌∷◌, ◌++◌, length, drop, Option, Some, None, Result, Ok, Err, refl, sym, ap, subst, ◌∙◌, arith, append_assoc, ◌⊎◌, inl, inr}
+use Rattle.std.proofs.Common.{◌≡◌, ◌≢◌, ℕ, ◌+◌, ◌≤◌, ◌<◌, Bool, true, false, cond, not, ◌&&◌, ◌||◌, eqb, ltb, List, [], ◌∷◌, ◌++◌, length, drop, Option, Some, None, Result, Ok, Err, refl, sym, ap, subst, ◌∙◌, arith, inl, inr}
 use Rattle.nr_xdr.specs.Item.{IsBytes}
 use Rattle.nr_xdr.specs.Fields.{word_at}
 use Rattle.std.proofs.lemmas.Bool.{ne_eqb}
 use Rattle.nr_wire.specs.Constants.{OPCODE_READ_RESPONSE, OPCODE_SEND, QUEUE_SEND}
-use Rattle.nr_wire.specs.declared.hello.Side.TheVariants.{Initiator, Responder}
-use Rattle.nr_wire.specs.Hello.{Hello, hello_of}
+use Rattle.nr_wire.specs.declared.hello.Side.TheVariants.{Initiator}
+use Rattle.nr_wire.specs.Hello.{hello_of}
 use Rattle.nr_wire.specs.Segment.{Segment}
 use Rattle.nr_wire.specs.Segment.Segment.{Tagged, Untagged}
 use Rattle.nr_header.specs.declared.fault.HeaderFault.{HeaderFault}
@@ -20,7 +20,7 @@ use Rattle.nr_link.specs.declared.end.End.{End}
 use Rattle.nr_link.specs.Frames.{Frame, is_hello}
 use Rattle.nr_link.specs.Ending.{frame_segment, frame_end, hello_end}
 use Rattle.nr_link.specs.Output.{msn_word}
-use Rattle.nr_link.specs.ReceiveState.{message_completed, begun_bytes}
+use Rattle.nr_link.specs.ReceiveState.{begun_bytes}
 use Rattle.nr_laws.proofs.CountsServer.{segment-is}
 use Rattle.nr_laws.proofs.CallNumbers.{none-pending}
 use Rattle.nr_reduce.specs.declared.mark.LinkParameters.{LinkParameters}
@@ -31,17 +31,17 @@ use Rattle.nr_reduce.specs.OfferedRegions.{region_grants}
 use Rattle.nr_reduce.specs.ClientState.{ClientState}
 use Rattle.nr_reduce.specs.ServerState.{ServerState, PendingCall, PendingRead, is_pending, next_stag}
 use Rattle.nr_reduce.specs.ServerReads.{chunks_of, regions_of, reads_of, is_read}
-use Rattle.nr_reduce.specs.ServerMessages.{CallVerdict, by_head, by_payload, call_xid, payload_of, chunk_bytes, Verdict, verdict, by_need, by_stream, by_body, by_header, has_position, no_stream}
+use Rattle.nr_reduce.specs.ServerMessages.{by_head, by_payload, call_xid, payload_of, chunk_bytes, Verdict, verdict, by_need, by_stream, by_body, by_header, has_position, no_stream}
 use Rattle.nr_reduce.specs.ServerMessages.CallVerdict.{Refuses, IsReady}
 use Rattle.nr_reduce.specs.ServerMessages.Verdict.{EndsLink, OtherVersion, BadChunks, MakesPending}
-use Rattle.nr_reduce.specs.ServerFrames.{FrameEffect, no_effect, with_verdict, ready_if_whole, message_effect, with_refused_call, is_stream_read, read_effect, call_of_number, response_effect, by_message, with_access, effect_in, frame_effect}
+use Rattle.nr_reduce.specs.ServerFrames.{FrameEffect, no_effect, with_verdict, ready_if_whole, message_effect, with_refused_call, is_stream_read, read_effect, call_of_number, response_effect, with_access, effect_in, frame_effect}
 use Rattle.nr_reduce.specs.Server.{server_end, server_state_after, readiness, or_refusal, refusal_end}
 use Rattle.nr_laws.specs.EndCauses.{IsCallReason, IsCallEnd}
-use Rattle.nr_laws.specs.Pieces.{Piece, segment_at, spelled_one, count, one_send, one_read, one_hello, server_says, IsPiece}
+use Rattle.nr_laws.specs.Pieces.{Piece, segment_at, spelled_one, count, one_send, one_read, server_says, IsPiece}
 use Rattle.nr_laws.specs.Pieces.Piece.{AHello, ASend, ARead, ATagged}
 use Rattle.nr_laws.specs.Between.{Way}
 use Rattle.nr_laws.proofs.Counted.{count-append}
-use Rattle.nr_laws.proofs.Channel.{own_hello-is, proper-frame}
+use Rattle.nr_laws.proofs.Channel.{own_hello-is}
 use Rattle.nr_laws.proofs.Fed.{is-piece}
 use Rattle.nr_laws.proofs.Proper.{IsProper, IsStream, proper_one, stream-first, stream-at}
 use Rattle.nr_laws.proofs.Linked.{Linked, IsPlace, frame_of, taken_up}

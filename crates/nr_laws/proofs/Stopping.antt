@@ -1,19 +1,18 @@
 -- What alone may end a side of a matched link, piece by piece: what an access lacks, and what a message comes to.
-use Rattle.std.proofs.Common.{◌≡◌, ◌≢◌, ℕ, zero, suc, ◌+◌, ◌-◌, ◌≤◌, ◌<◌, ◌^◌, Bool, true, false, not, cond, ◌||◌, ◌&&◌, eqb, ltb, List, [], ◌∷◌, ◌++◌, length, take, drop, Option, None, Some, Result, Ok, Err, refl, sym, ap, subst, ◌∙◌, arith, lt-ltb, length-append, append_assoc, take-append-drop}
-use Rattle.nr_wire.specs.Constants.{OPCODE_WRITE, OPCODE_READ_REQUEST, OPCODE_READ_RESPONSE, OPCODE_SEND, QUEUE_SEND, QUEUE_READ_REQUEST}
+use Rattle.std.proofs.Common.{◌≡◌, ℕ, ◌+◌, ◌≤◌, ◌<◌, ◌^◌, Bool, true, false, cond, List, [], ◌∷◌, ◌++◌, length, take, drop, Option, None, Result, Ok, refl, sym, ap, subst, ◌∙◌, arith, lt-ltb, append_assoc, take-append-drop}
+use Rattle.nr_wire.specs.Constants.{OPCODE_WRITE, OPCODE_READ_REQUEST, OPCODE_READ_RESPONSE, QUEUE_READ_REQUEST}
 use Rattle.nr_wire.specs.declared.hello.Side.TheVariants.{Initiator, Responder}
 use Rattle.nr_wire.specs.Hello.{hello_of}
 use Rattle.nr_wire.specs.Segment.{Segment}
 use Rattle.nr_wire.specs.Segment.Segment.{Tagged, Untagged}
 use Rattle.nr_regions.specs.declared.denied.Denied.{Denied}
-use Rattle.nr_regions.specs.Access.{Grant}
 use Rattle.nr_link.specs.declared.end.End.{End}
 use Rattle.nr_reduce.specs.declared.mark.LinkParameters.{LinkParameters}
 use Rattle.nr_reduce.specs.Limits.{send_max}
 use Rattle.nr_link.specs.Limits.{open_reads_max}
 use Rattle.nr_link.specs.Output.{msn_word}
 use Rattle.nr_link.specs.Frames.{Frame, is_hello}
-use Rattle.nr_link.specs.SegmentFaults.{Readiness, SegmentFault, ExpectedResponse, segment_fault, first_fault, missing_fault}
+use Rattle.nr_link.specs.SegmentFaults.{SegmentFault, first_fault, missing_fault}
 use Rattle.nr_link.specs.ReceiveState.{read_request_in}
 use Rattle.nr_link.specs.Ending.{frame_end, frame_end_by, missing_access, end_of_fault, frame_segment, hello_end}
 use Rattle.nr_reduce.specs.OfferedRegions.{region_grants}
@@ -21,11 +20,10 @@ use Rattle.nr_reduce.specs.Events.Event.{FrameReceived}
 use Rattle.nr_reduce.specs.ClientState.{ClientState}
 use Rattle.nr_reduce.specs.Client.{readiness as client_readiness, client_end, or_message_end, message_end, segment_message}
 use Rattle.nr_reduce.specs.ServerState.{ServerState, PendingRead, receives_in_use}
-use Rattle.nr_reduce.specs.ServerReads.{open_reads, expected_response}
 use Rattle.nr_reduce.specs.Server.{readiness, server_end, or_refusal, refusal_end}
 use Rattle.nr_reduce.specs.ServerFrames.{frame_effect}
 use Rattle.nr_laws.specs.Pieces.{Piece, IsPiece, count, one_send, one_read}
-use Rattle.nr_laws.specs.Pieces.Piece.{AHello, ASend, ARead, ATagged}
+use Rattle.nr_laws.specs.Pieces.Piece.{ASend, ARead, ATagged}
 use Rattle.nr_laws.specs.Between.{Way, Counts, Reads, Answers, Window}
 use Rattle.nr_laws.proofs.Receives.{receives, requests}
 use Rattle.nr_laws.proofs.Flaws.{send-frame, request-flaw, write-flaw, response-flaw}

@@ -1,5 +1,5 @@
 -- The calls that wait at a server: kept where one is executed, and where the last byte of a read comes.
-use Rattle.std.proofs.Common.{◌≡◌, ◌≢◌, ℕ, zero, suc, ◌+◌, ◌-◌, ◌≤◌, ◌<◌, Bool, true, false, not, cond, ◌||◌, ◌&&◌, eqb, List, [], ◌∷◌, ◌++◌, length, take, drop, Option, None, Some, Result, Ok, Err, refl, sym, ap, subst, ◌∙◌, arith, eq-eqb, ne_eqb, eqb-true, append-nil, take-append-drop}
+use Rattle.std.proofs.Common.{◌≡◌, ◌≢◌, ℕ, Bool, true, false, not, cond, ◌||◌, ◌&&◌, eqb, List, [], ◌∷◌, ◌++◌, take, drop, Option, None, Some, refl, sym, ap, subst, ◌∙◌, arith, eq-eqb, ne_eqb, eqb-true, append-nil, take-append-drop}
 use Rattle.std.specs.Prelude.{find}
 use Rattle.std.specs.List.{filter, list_any}
 use Rattle.nr_reduce.specs.declared.mark.LinkParameters.{LinkParameters}
@@ -7,15 +7,15 @@ use Rattle.nr_reduce.specs.Chunks.{is_read_chunk_of_item}
 use Rattle.nr_reduce.specs.History.{ExecutedCall}
 use Rattle.nr_reduce.specs.Events.Event.{CallExecuted}
 use Rattle.nr_reduce.specs.ServerState.{ServerState, PendingCall, PendingRead, ReadyCall}
-use Rattle.nr_reduce.specs.ServerFrames.{FrameEffect, no_effect, with_verdict, ready_if_whole, with_refused_call, read_effect, is_stream_read}
+use Rattle.nr_reduce.specs.ServerFrames.{FrameEffect, with_verdict, ready_if_whole, with_refused_call, read_effect, is_stream_read}
 use Rattle.nr_reduce.specs.ServerMessages.{CallVerdict, by_payload, payload_of, chunk_bytes}
 use Rattle.nr_reduce.specs.ServerReads.{is_read}
 use Rattle.nr_reduce.specs.Server.{server_state_after}
 use Rattle.nr_reduce.specs.ServerMessages.CallVerdict.{Refuses, IsReady}
 use Rattle.nr_laws.specs.Between.{AreApart, IsAbsent, AreBelow, AreReady, AreWhole, Waits}
-use Rattle.nr_laws.proofs.Counted.{apart_kept, apart_push, any_found}
+use Rattle.nr_laws.proofs.Counted.{apart_kept, apart_push}
 use Rattle.nr_laws.proofs.CountsServer.{found_has}
-use Rattle.nr_laws.proofs.Keys.{any-append, any-left, any-right, below-kept, below-taken, below-dropped, below-append, none-absent, absent-none, any-kept}
+use Rattle.nr_laws.proofs.Keys.{any-append, any-left, any-right, below-kept, below-taken, below-dropped, below-append, none-absent, any-kept}
 use Rattle.nr_laws.proofs.WaitsSend.{Behind, payload-own, waits-same, whole-append}
 
 -- ---- One call has a number, and one has an xid

@@ -1,6 +1,6 @@
 -- The calls that wait at a server are apart, and just those that are read wait to be executed: kept by a Send that comes.
-use Rattle.std.proofs.Common.{◌≡◌, ◌≢◌, ℕ, zero, suc, ◌+◌, ◌≤◌, ◌<◌, Bool, true, false, not, cond, ◌||◌, ◌&&◌, eqb, ltb, List, [], ◌∷◌, ◌++◌, length, take, drop, Option, None, Some, Result, Ok, Err, refl, sym, ap, subst, ◌∙◌, arith, eq-eqb, ne_eqb, eqb-true, append-nil}
-use Rattle.std.specs.List.{filter, list_any}
+use Rattle.std.proofs.Common.{◌≡◌, ◌≢◌, ℕ, ◌+◌, ◌≤◌, ◌<◌, Bool, true, false, not, cond, ◌||◌, ◌&&◌, eqb, ltb, List, [], ◌∷◌, ◌++◌, length, drop, Option, None, Some, Result, Ok, Err, refl, sym, ap, subst, ◌∙◌, arith, eq-eqb, append-nil}
+use Rattle.std.specs.List.{list_any}
 use Rattle.nr_header.specs.declared.fault.HeaderFault.{HeaderFault}
 use Rattle.nr_header.specs.declared.header.ReadSegment.{ReadSegment}
 use Rattle.nr_header.specs.declared.header.ChunkLists.{ChunkLists}
@@ -15,7 +15,7 @@ use Rattle.nr_reduce.specs.Limits.{numbers_end}
 use Rattle.nr_reduce.specs.Chunks.{is_read_chunk_of_item, total_at}
 use Rattle.nr_reduce.specs.OfferedRegions.{Region}
 use Rattle.nr_reduce.specs.ServerState.{ServerState, PendingCall, PendingRead, ReadyCall, next_stag, is_pending}
-use Rattle.nr_reduce.specs.ServerFrames.{FrameEffect, no_effect, message_effect, with_pending_call, ready_if_whole, with_verdict}
+use Rattle.nr_reduce.specs.ServerFrames.{FrameEffect, no_effect, message_effect, with_verdict}
 use Rattle.nr_reduce.specs.ServerMessages.{Verdict, CallVerdict, verdict, by_header, by_body, by_stream, by_need, has_position, no_stream, by_payload, by_head, payload_of, call_xid}
 use Rattle.nr_reduce.specs.ServerReads.{chunks_of, is_read, reads_of, reads_from, read_of, regions_of}
 use Rattle.nr_reduce.specs.ServerMessages.Verdict.{EndsLink, OtherVersion, BadChunks, MakesPending}
@@ -23,7 +23,7 @@ use Rattle.nr_reduce.specs.ServerMessages.CallVerdict.{Refuses, IsReady}
 use Rattle.nr_laws.specs.Between.{AreApart, IsAbsent, AreBelow, AreReady, AreWhole, Waits}
 use Rattle.nr_laws.proofs.Counted.{apart_push}
 use Rattle.nr_laws.proofs.CountsClient.{header-xid}
-use Rattle.nr_laws.proofs.Keys.{any-append, any-left, any-right, below-more, below-append, below-absent, below-at, none-absent, AreOf, of-absent, of-below, of-append, any-others}
+use Rattle.nr_laws.proofs.Keys.{any-left, any-right, below-more, below-append, below-absent, below-at, none-absent, AreOf, of-absent, of-below, of-append, any-others}
 
 -- ---- The call that a message opens
 

@@ -1,6 +1,6 @@
 -- A run is of its types: what is written down as bytes are bytes, and the numbers of an offer are 32-bit words. A run that a program
 -- makes is always so.
-use Rattle.std.specs.Prelude.{ℕ, ◌<◌, ◌^◌, List, [], ◌∷◌, Option, None, Some}
+use Rattle.std.specs.Prelude.{◌<◌, ◌^◌, List, []}
 use Rattle.nr_xdr.specs.Item.{IsBytes}
 use Rattle.nr_reduce.specs.declared.call.Form.{Form}
 use Rattle.nr_reduce.specs.declared.call.Form.TheVariants as forms
