@@ -21,50 +21,50 @@ use Rattle.nr_reduce.specs.ServerMessages.{CallVerdict, by_payload, payload_of, 
 use Rattle.nr_reduce.specs.ServerMessages.CallVerdict.{Refuses, IsReady}
 use Rattle.nr_reduce.specs.ServerMessages.Verdict.{EndsLink, OtherVersion, BadChunks, MakesPending}
 use Rattle.nr_reduce.specs.ServerFrames.{FrameEffect, no_effect, with_verdict, ready_if_whole, message_effect, with_refused_call, is_stream_read, read_effect, call_of_number, response_effect, with_access, effect_in, frame_effect}
-use Rattle.nr_laws.specs.Pieces.{Piece, count, one_send, asking_piece}
-use Rattle.nr_laws.specs.Pieces.Piece.{AHello, ASend, ARead, ATagged}
-use Rattle.nr_laws.specs.Between.{AreBelow}
-use Rattle.nr_laws.proofs.WaitsSend.{verdict-new}
+use Rattle.nr_laws.specs.FrameContents.{FrameContent, total_of, sends_in, call_frame}
+use Rattle.nr_laws.specs.FrameContents.FrameContent.{HelloFrame, SendFrame, RequestFrame, TaggedFrame}
+use Rattle.nr_laws.specs.LinkInvariants.{AreAtMost}
+use Rattle.nr_laws.proofs.PendingSends.{verdict-new}
 
 -- the messages among some pieces have these xids, one after the other
-abbrev pub XidsFrom : ℕ → List Piece → Type 0
+abbrev pub XidsFrom : ℕ → List FrameContent → Type 0
 XidsFrom x [] = Unit {0}
-XidsFrom x (AHello ∷ ps) = XidsFrom x ps
-XidsFrom x (ASend message ∷ ps) = (word_at 0 message ≡ x) × XidsFrom (x + 1) ps
-XidsFrom x (ARead sink at size stag to ∷ ps) = XidsFrom x ps
-XidsFrom x (ATagged last opcode stag to payload ∷ ps) = XidsFrom x ps
+XidsFrom x (HelloFrame ∷ ps) = XidsFrom x ps
+XidsFrom x (SendFrame message ∷ ps) = (word_at 0 message ≡ x) × XidsFrom (x + 1) ps
+XidsFrom x (RequestFrame sink at size stag to ∷ ps) = XidsFrom x ps
+XidsFrom x (TaggedFrame last opcode stag to payload ∷ ps) = XidsFrom x ps
 
-pub xids-append : (x : ℕ) (ps qs : List Piece) → XidsFrom x ps → XidsFrom (x + count one_send ps) qs → XidsFrom x (ps ++ qs)
+pub xids-append : (x : ℕ) (ps qs : List FrameContent) → XidsFrom x ps → XidsFrom (x + total_of sends_in ps) qs → XidsFrom x (ps ++ qs)
 xids-append x [] qs h k = subst (λ (n : ℕ). XidsFrom n qs) (omega arith) k
-xids-append x (AHello ∷ ps) qs h k = xids-append x ps qs h (subst (λ (n : ℕ). XidsFrom n qs) (omega arith) k)
-xids-append x (ASend message ∷ ps) qs h k = (h.0, xids-append (x + 1) ps qs h.1 (subst (λ (n : ℕ). XidsFrom n qs) (omega arith) k))
-xids-append x (ARead sink at size stag to ∷ ps) qs h k = xids-append x ps qs h (subst (λ (n : ℕ). XidsFrom n qs) (omega arith) k)
-xids-append x (ATagged last opcode stag to payload ∷ ps) qs h k = xids-append x ps qs h (subst (λ (n : ℕ). XidsFrom n qs) (omega arith) k)
+xids-append x (HelloFrame ∷ ps) qs h k = xids-append x ps qs h (subst (λ (n : ℕ). XidsFrom n qs) (omega arith) k)
+xids-append x (SendFrame message ∷ ps) qs h k = (h.0, xids-append (x + 1) ps qs h.1 (subst (λ (n : ℕ). XidsFrom n qs) (omega arith) k))
+xids-append x (RequestFrame sink at size stag to ∷ ps) qs h k = xids-append x ps qs h (subst (λ (n : ℕ). XidsFrom n qs) (omega arith) k)
+xids-append x (TaggedFrame last opcode stag to payload ∷ ps) qs h k = xids-append x ps qs h (subst (λ (n : ℕ). XidsFrom n qs) (omega arith) k)
 
-pub xids-at : (x : ℕ) (ps : List Piece) (message : List ℕ) (qs : List Piece) → XidsFrom x (ps ++ ASend message ∷ qs) → word_at 0 message ≡ x + count one_send ps
+pub xids-at : (x : ℕ) (ps : List FrameContent) (message : List ℕ) (qs : List FrameContent) → XidsFrom x (ps ++ SendFrame message ∷ qs) → word_at 0 message ≡ x + total_of sends_in ps
 xids-at x [] message qs h = omega (arith, h.0)
-xids-at x (AHello ∷ ps) message qs h = omega (arith, xids-at x ps message qs h)
-xids-at x (ASend m ∷ ps) message qs h = omega (arith, xids-at (x + 1) ps message qs h.1)
-xids-at x (ARead sink at size stag to ∷ ps) message qs h = omega (arith, xids-at x ps message qs h)
-xids-at x (ATagged last opcode stag to payload ∷ ps) message qs h = omega (arith, xids-at x ps message qs h)
+xids-at x (HelloFrame ∷ ps) message qs h = omega (arith, xids-at x ps message qs h)
+xids-at x (SendFrame m ∷ ps) message qs h = omega (arith, xids-at (x + 1) ps message qs h.1)
+xids-at x (RequestFrame sink at size stag to ∷ ps) message qs h = omega (arith, xids-at x ps message qs h)
+xids-at x (TaggedFrame last opcode stag to payload ∷ ps) message qs h = omega (arith, xids-at x ps message qs h)
 
 -- outstanding calls with xids one after the other
-abbrev pub OutsFrom : ℕ → List OutstandingCall → Type 0
-OutsFrom x [] = Unit {0}
-OutsFrom x (o ∷ os) = (o.xid ≡ x) × OutsFrom (x + 1) os
+abbrev pub NumberedCalls : ℕ → List OutstandingCall → Type 0
+NumberedCalls x [] = Unit {0}
+NumberedCalls x (o ∷ os) = (o.xid ≡ x) × NumberedCalls (x + 1) os
 
-pub outs-push : (x : ℕ) (os : List OutstandingCall) (o : OutstandingCall) → OutsFrom x os → o.xid ≡ x + length os → OutsFrom x (os ++ o ∷ [])
+pub outs-push : (x : ℕ) (os : List OutstandingCall) (o : OutstandingCall) → NumberedCalls x os → o.xid ≡ x + length os → NumberedCalls x (os ++ o ∷ [])
 outs-push x [] o h is = (omega (arith, is), tt)
 outs-push x (y ∷ os) o h is = (h.0, outs-push (x + 1) os o h.1 (omega (arith, is)))
 
-pub outs-map : (f : OutstandingCall → OutstandingCall) (x : ℕ) (os : List OutstandingCall) → ((o : OutstandingCall) → (f o).xid ≡ o.xid) → OutsFrom x os → OutsFrom x (map f os)
+pub outs-map : (f : OutstandingCall → OutstandingCall) (x : ℕ) (os : List OutstandingCall) → ((o : OutstandingCall) → (f o).xid ≡ o.xid) → NumberedCalls x os → NumberedCalls x (map f os)
 outs-map f x [] same h = tt
 outs-map f x (o ∷ os) same h = (same o ∙ h.0, outs-map f (x + 1) os same h.1)
 
 abbrev pub HasOwnXid : LinkParameters → OutstandingCall → Type 0
 HasOwnXid opened o = word_at 0 (call_message o.xid opened.wished o.stag o.plan) ≡ o.xid
 
-pub xids-asked : (opened : LinkParameters) (x : ℕ) (os : List OutstandingCall) → OutsFrom x os → AllByRecursion (HasOwnXid opened) os → XidsFrom x (map (asking_piece opened) os)
+pub xids-asked : (opened : LinkParameters) (x : ℕ) (os : List OutstandingCall) → NumberedCalls x os → AllByRecursion (HasOwnXid opened) os → XidsFrom x (map (call_frame opened) os)
 xids-asked opened x [] h own = tt
 xids-asked opened x (o ∷ os) h own = (own.0 ∙ h.0, xids-asked opened (x + 1) os h.1 own.1)
 
@@ -136,6 +136,6 @@ numbered-tagged first k f last opcode stag to payload h is =
     by false = h
 
 -- none of these has the xid of the next Send
-pub none-pending : (first n x : ℕ) (cs : List PendingCall) → AllByRecursion (IsNumbered first) cs → AreBelow (λ (c : PendingCall). c.number) n cs → x ≡ first + n → list_any (λ (c : PendingCall). eqb c.xid x) cs ≡ false
+pub none-pending : (first n x : ℕ) (cs : List PendingCall) → AllByRecursion (IsNumbered first) cs → AreAtMost (λ (c : PendingCall). c.number) n cs → x ≡ first + n → list_any (λ (c : PendingCall). eqb c.xid x) cs ≡ false
 none-pending first n x [] h below is = refl
 none-pending first n x (c ∷ cs) h below is = λ i. ne_eqb c.xid x (λ e. omega (arith, e, is, h.0, below.0)) i || none-pending first n x cs h.1 below.1 is i

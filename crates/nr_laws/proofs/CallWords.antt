@@ -9,7 +9,7 @@ use Rattle.nr_header.specs.declared.header.Body.TheVariants.{Msg, Nomsg}
 use Rattle.nr_header.specs.Header.{header_encoding, lists_items}
 use Rattle.nr_reduce.specs.declared.outline.Plan.{Plan}
 use Rattle.nr_reduce.specs.Plans.{call_message, body_by, lists_of}
-use Rattle.nr_laws.proofs.Requests.{part_at}
+use Rattle.nr_laws.proofs.RequestFields.{part_at}
 
 pub record CallWords (xid : ℕ) (message : List ℕ) : Type 0 where
   pub xid_is : word_at 0 message ≡ xid

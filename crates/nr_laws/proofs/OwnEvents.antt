@@ -20,28 +20,28 @@ use Rattle.nr_reduce.specs.ServerState.{ServerState, PendingCall, ReadyCall, dow
 use Rattle.nr_reduce.specs.Client.{client_state_after, client_output, call_output, outstanding_of, plan_or, revoked_call, written_call}
 use Rattle.nr_reduce.specs.Server.{server_state_after, server_output, offer_of, answer_of_target}
 use Rattle.nr_reduce.proofs.Sizes.{message_size}
-use Rattle.nr_laws.specs.Pieces.{Piece, spelled, count, one_send, one_read, one_hello, asking_piece, client_says, server_says}
-use Rattle.nr_laws.specs.Between.{Way, Counts, AreApart, AreBelow, IsAbsent}
-use Rattle.nr_laws.proofs.Counted.{count-append}
-use Rattle.nr_laws.proofs.CountsClient.{counts-accepts, counts-writes_up, up_more}
-use Rattle.nr_laws.proofs.CountsServer.{counts-executes, counts-writes_down, answer-counts}
-use Rattle.nr_laws.proofs.WaitsExecute.{waits-executes, executed-there}
-use Rattle.nr_laws.proofs.Outs.{Outs, outs-accepts, outs-writes}
-use Rattle.nr_laws.proofs.Said.{IsShort, AllShort, send-one}
-use Rattle.nr_laws.proofs.Proper.{AllProper, stream-more}
-use Rattle.nr_laws.proofs.ServerSays.{calls_fit-kept, execution_says, execution-proper, execution-said}
-use Rattle.nr_laws.proofs.Linked.{Linked, messages_said}
-use Rattle.nr_laws.proofs.ClientTakes.{calls_said}
+use Rattle.nr_laws.specs.FrameContents.{FrameContent, output_bytes, total_of, sends_in, requests_in, hellos_in, call_frame, client_frames, server_frames}
+use Rattle.nr_laws.specs.LinkInvariants.{Transit, TotalsAgree, AreDistinct, AreAtMost, IsUnused}
+use Rattle.nr_laws.proofs.Totals.{count-append}
+use Rattle.nr_laws.proofs.TotalsAtClient.{counts-accepts, counts-writes_up, up_more}
+use Rattle.nr_laws.proofs.TotalsAtServer.{counts-executes, counts-writes_down, answer-counts}
+use Rattle.nr_laws.proofs.PendingExecuted.{waits-executes, executed-there}
+use Rattle.nr_laws.proofs.OwnXids.{OwnXids, outs-accepts, outs-writes}
+use Rattle.nr_laws.proofs.OutputFrames.{IsShort, AllShort, send-one}
+use Rattle.nr_laws.proofs.Writable.{AreWritable, stream-more}
+use Rattle.nr_laws.proofs.ServerOutput.{calls_fit-kept, execution_frames, execution-proper, execution-said}
+use Rattle.nr_laws.proofs.AgreeingEnds.{EndsAgree, messages_said}
+use Rattle.nr_laws.proofs.ClientFrame.{calls_said}
 
 -- ---- Of a client
 
 -- it says more, and its calls stay
-up-linked : (opened : LinkParameters) (k t : ClientState) (s : ServerState) (u d all_up all_down : List Piece) (w : Way) (said : List Piece) → Linked opened k s u d all_up all_down w
-    → Counts t s (up_more w said) → Outs opened t → AllShort opened t.outstanding → t.received ≡ k.received → AllProper said → count one_hello said ≡ 0 → count one_read said ≡ 0
-    → Linked opened t s u d (all_up ++ said) all_down (up_more w said)
+up-linked : (opened : LinkParameters) (k t : ClientState) (s : ServerState) (u d all_up all_down : List FrameContent) (w : Transit) (said : List FrameContent) → EndsAgree opened k s u d all_up all_down w
+    → TotalsAgree t s (up_more w said) → OwnXids opened t → AllShort opened t.outstanding → t.received ≡ k.received → AreWritable said → total_of hellos_in said ≡ 0 → total_of requests_in said ≡ 0
+    → EndsAgree opened t s u d (all_up ++ said) all_down (up_more w said)
 up-linked opened k t s u d all_up all_down w said l counts outs short received proper hellos reads = record {
   parts_up =
-      ap (λ (ps : List Piece). u ++ ps) (sym (append_assoc w.up w.queued_up said)) ∙ sym (append_assoc u (w.up ++ w.queued_up) said) ∙ ap (λ (ps : List Piece). ps ++ said) l.parts_up;
+      ap (λ (ps : List FrameContent). u ++ ps) (sym (append_assoc w.up w.queued_up said)) ∙ sym (append_assoc u (w.up ++ w.queued_up) said) ∙ ap (λ (ps : List FrameContent). ps ++ said) l.parts_up;
   parts_down = l.parts_down;
   counts = counts;
   waits = l.waits;
@@ -49,10 +49,10 @@ up-linked opened k t s u d all_up all_down w said l counts outs short received p
   fits = l.fits;
   short = short;
   stream_up = stream-more all_up said l.stream_up l.begins_up proper;
-  begins_up = omega (arith, l.begins_up, count-append one_hello all_up said);
+  begins_up = omega (arith, l.begins_up, count-append hellos_in all_up said);
   stream_down = l.stream_down;
   hellos_down = l.hellos_down;
-  no_reads = omega (arith, l.no_reads, reads, count-append one_read all_up said);
+  no_reads = omega (arith, l.no_reads, reads, count-append requests_in all_up said);
   sends_up = l.sends_up;
   requests_up = l.requests_up;
   sends_down = ap (λ (h : ReceiveState). h.sends) received ∙ l.sends_down;
@@ -63,11 +63,11 @@ up-linked opened k t s u d all_up all_down w said l counts outs short received p
 pub planned : (payload : List ℕ) (r : Result Plan TooLarge) (p : Plan) → r ≡ Ok p → plan_or payload r ≡ p
 planned payload r p e = ap (λ (x : Result Plan TooLarge). plan_or payload x) e
 
-pub record Submitted (opened : LinkParameters) (k : ClientState) (s : ServerState) (u d all_up all_down : List Piece) (w : Way) (place : ℕ) (a : AcceptedCall) : Type 0 where
-  pub said : List Piece
-  pub said_is : said ≡ client_says opened k (CallSubmitted place a)
-  pub output : client_output opened k (CallSubmitted place a) ≡ spelled Initiator (count one_send all_up) (count one_read all_up) said
-  pub linked : Linked opened (client_state_after opened k (CallSubmitted place a)) s u d (all_up ++ said) all_down (up_more w said)
+pub record Submitted (opened : LinkParameters) (k : ClientState) (s : ServerState) (u d all_up all_down : List FrameContent) (w : Transit) (place : ℕ) (a : AcceptedCall) : Type 0 where
+  pub said : List FrameContent
+  pub said_is : said ≡ client_frames opened k (CallSubmitted place a)
+  pub output : client_output opened k (CallSubmitted place a) ≡ output_bytes Initiator (total_of sends_in all_up) (total_of requests_in all_up) said
+  pub linked : EndsAgree opened (client_state_after opened k (CallSubmitted place a)) s u d (all_up ++ said) all_down (up_more w said)
 
 short-call : (opened : LinkParameters) (k : ClientState) (a : AcceptedCall) (plan : Plan) → plan_for k a.xid a.call a.form ≡ Ok plan → IsShort (call_message a.xid opened.wished k.stag (outstanding_of k a).plan)
 unfolding plan_for
@@ -79,18 +79,18 @@ short-append : (opened : LinkParameters) (os more : List OutstandingCall) → Al
 short-append opened [] more h k = k
 short-append opened (o ∷ os) more h k = (h.0, short-append opened os more h.1 k)
 
-pub submitted : (opened : LinkParameters) (k : ClientState) (s : ServerState) (u d all_up all_down : List Piece) (w : Way) (place : ℕ) (a : AcceptedCall) (plan : Plan) → Linked opened k s u d all_up all_down w
+pub submitted : (opened : LinkParameters) (k : ClientState) (s : ServerState) (u d all_up all_down : List FrameContent) (w : Transit) (place : ℕ) (a : AcceptedCall) (plan : Plan) → EndsAgree opened k s u d all_up all_down w
     → a.xid ≡ next_xid opened k → plan_for k a.xid a.call a.form ≡ Ok plan → Submitted opened k s u d all_up all_down w place a
-unfolding client_state_after client_says client_output
+unfolding client_state_after client_frames client_output
 submitted opened k s u d all_up all_down w place a plan l own is = by k.has_hello refl
   where
     short : IsShort (call_message a.xid opened.wished k.stag (outstanding_of k a).plan)
     short = short-call opened k a plan is
-    p : Piece
-    p = asking_piece opened (outstanding_of k a)
-    calls : (b : Bool) → k.has_hello ≡ b → count one_send all_up ≡ cond b k.calls_accepted 0
+    p : FrameContent
+    p = call_frame opened (outstanding_of k a)
+    calls : (b : Bool) → k.has_hello ≡ b → total_of sends_in all_up ≡ cond b k.calls_accepted 0
     calls b e = calls_said opened k s u d all_up all_down w l ∙ ap (λ (x : Bool). cond x k.calls_accepted 0) e
-    with_said : (said : List Piece) → cond k.has_hello (p ∷ []) [] ≡ said → client_output opened k (CallSubmitted place a) ≡ spelled Initiator (count one_send all_up) (count one_read all_up) said → AllProper said → count one_hello said ≡ 0 → count one_read said ≡ 0
+    with_said : (said : List FrameContent) → cond k.has_hello (p ∷ []) [] ≡ said → client_output opened k (CallSubmitted place a) ≡ output_bytes Initiator (total_of sends_in all_up) (total_of requests_in all_up) said → AreWritable said → total_of hellos_in said ≡ 0 → total_of requests_in said ≡ 0
         → Submitted opened k s u d all_up all_down w place a
     with_said said says output proper hellos reads = record {
       said = said;
@@ -98,7 +98,7 @@ submitted opened k s u d all_up all_down w place a plan l own is = by k.has_hell
       output = output;
       linked =
           up-linked opened k (client_state_after opened k (CallSubmitted place a)) s u d all_up all_down w said l
-            (subst (λ (ps : List Piece). Counts (client_state_after opened k (CallSubmitted place a)) s (up_more w ps)) says (counts-accepts opened k s w place a l.counts))
+            (subst (λ (ps : List FrameContent). TotalsAgree (client_state_after opened k (CallSubmitted place a)) s (up_more w ps)) says (counts-accepts opened k s w place a l.counts))
             (outs-accepts opened k place a own l.outs) (short-append opened k.outstanding (outstanding_of k a ∷ []) l.short (short, tt)) refl proper hellos reads;
     }
     by : (b : Bool) → k.has_hello ≡ b → Submitted opened k s u d all_up all_down w place a
@@ -107,7 +107,7 @@ submitted opened k s u d all_up all_down w place a plan l own is = by k.has_hell
           (ap (λ (x : Bool). cond x (call_output opened (k.calls_accepted + 1) (outstanding_of k a)) []) e
           ∙ send-one (k.calls_accepted + 1) (call_message a.xid opened.wished k.stag (outstanding_of k a).plan) short
           ∙ sym (append-nil (encoding (Untagged true OPCODE_SEND 0 QUEUE_SEND (msn_word (k.calls_accepted + 1)) 0 (call_message a.xid opened.wished k.stag (outstanding_of k a).plan))))
-          ∙ (λ i. spelled Initiator (sym (calls true e) i) (count one_read all_up) (p ∷ [])))
+          ∙ (λ i. output_bytes Initiator (sym (calls true e) i) (total_of requests_in all_up) (p ∷ [])))
           (short, tt) refl refl
     by false e =
         with_said [] (ap (λ (x : Bool). cond x (p ∷ []) []) e) (ap (λ (x : Bool). cond x (call_output opened (k.calls_accepted + 1) (outstanding_of k a)) []) e) tt refl refl
@@ -120,15 +120,15 @@ xid-revoked xid o = by (eqb o.xid xid)
     by true = refl
     by false = refl
 
-absent-revoked : (xid n : ℕ) (os : List OutstandingCall) → IsAbsent (λ (o : OutstandingCall). o.xid) n os → IsAbsent (λ (o : OutstandingCall). o.xid) n (map (revoked_call xid) os)
+absent-revoked : (xid n : ℕ) (os : List OutstandingCall) → IsUnused (λ (o : OutstandingCall). o.xid) n os → IsUnused (λ (o : OutstandingCall). o.xid) n (map (revoked_call xid) os)
 absent-revoked xid n [] h = tt
 absent-revoked xid n (o ∷ os) h = ((λ e. h.0 (sym (xid-revoked xid o) ∙ e)), absent-revoked xid n os h.1)
 
-apart-revoked : (xid : ℕ) (os : List OutstandingCall) → AreApart (λ (o : OutstandingCall). o.xid) os → AreApart (λ (o : OutstandingCall). o.xid) (map (revoked_call xid) os)
+apart-revoked : (xid : ℕ) (os : List OutstandingCall) → AreDistinct (λ (o : OutstandingCall). o.xid) os → AreDistinct (λ (o : OutstandingCall). o.xid) (map (revoked_call xid) os)
 apart-revoked xid [] h = tt
-apart-revoked xid (o ∷ os) h = (subst (λ (n : ℕ). IsAbsent (λ (x : OutstandingCall). x.xid) n (map (revoked_call xid) os)) (sym (xid-revoked xid o)) (absent-revoked xid o.xid os h.0), apart-revoked xid os h.1)
+apart-revoked xid (o ∷ os) h = (subst (λ (n : ℕ). IsUnused (λ (x : OutstandingCall). x.xid) n (map (revoked_call xid) os)) (sym (xid-revoked xid o)) (absent-revoked xid o.xid os h.0), apart-revoked xid os h.1)
 
-below-revoked : (xid n : ℕ) (os : List OutstandingCall) → AreBelow (λ (o : OutstandingCall). o.xid + 1) n os → AreBelow (λ (o : OutstandingCall). o.xid + 1) n (map (revoked_call xid) os)
+below-revoked : (xid n : ℕ) (os : List OutstandingCall) → AreAtMost (λ (o : OutstandingCall). o.xid + 1) n os → AreAtMost (λ (o : OutstandingCall). o.xid + 1) n (map (revoked_call xid) os)
 below-revoked xid n [] h = tt
 below-revoked xid n (o ∷ os) h = (omega (arith, xid-revoked xid o, h.0), below-revoked xid n os h.1)
 
@@ -140,12 +140,12 @@ short-revoked opened xid (o ∷ os) h = (by (eqb o.xid xid), short-revoked opene
     by true = h.0
     by false = h.0
 
-same-linked : (opened : LinkParameters) (k t : ClientState) (s : ServerState) (u d all_up all_down : List Piece) (w v : Way) → Linked opened k s u d all_up all_down w
-    → v.up ++ v.queued_up ≡ w.up ++ w.queued_up → v.down ++ v.queued_down ≡ w.down ++ w.queued_down → Counts t s v → Outs opened t → AllShort opened t.outstanding → t.received ≡ k.received
-    → Linked opened t s u d all_up all_down v
+same-linked : (opened : LinkParameters) (k t : ClientState) (s : ServerState) (u d all_up all_down : List FrameContent) (w v : Transit) → EndsAgree opened k s u d all_up all_down w
+    → v.up ++ v.queued_up ≡ w.up ++ w.queued_up → v.down ++ v.queued_down ≡ w.down ++ w.queued_down → TotalsAgree t s v → OwnXids opened t → AllShort opened t.outstanding → t.received ≡ k.received
+    → EndsAgree opened t s u d all_up all_down v
 same-linked opened k t s u d all_up all_down w v l up down counts outs short received = record {
-  parts_up = ap (λ (ps : List Piece). u ++ ps) up ∙ l.parts_up;
-  parts_down = ap (λ (ps : List Piece). d ++ ps) down ∙ l.parts_down;
+  parts_up = ap (λ (ps : List FrameContent). u ++ ps) up ∙ l.parts_up;
+  parts_down = ap (λ (ps : List FrameContent). d ++ ps) down ∙ l.parts_down;
   counts = counts;
   waits = l.waits;
   outs = outs;
@@ -163,7 +163,7 @@ same-linked opened k t s u d all_up all_down w v l up down counts outs short rec
   requests_sent = l.requests_sent;
 }
 
-pub counts-revoked : (opened : LinkParameters) (k : ClientState) (s : ServerState) (w : Way) (place xid : ℕ) → Counts k s w → Counts (client_state_after opened k (MemoryRevoked place xid)) s w
+pub counts-revoked : (opened : LinkParameters) (k : ClientState) (s : ServerState) (w : Transit) (place xid : ℕ) → TotalsAgree k s w → TotalsAgree (client_state_after opened k (MemoryRevoked place xid)) s w
 unfolding client_state_after
 counts-revoked opened k s w place xid c = record {
   hello = c.hello;
@@ -178,8 +178,8 @@ counts-revoked opened k s w place xid c = record {
   responses = c.responses;
 }
 
-pub revoked : (opened : LinkParameters) (k : ClientState) (s : ServerState) (u d all_up all_down : List Piece) (w : Way) (place xid : ℕ) → Linked opened k s u d all_up all_down w
-    → Linked opened (client_state_after opened k (MemoryRevoked place xid)) s u d all_up all_down w
+pub revoked : (opened : LinkParameters) (k : ClientState) (s : ServerState) (u d all_up all_down : List FrameContent) (w : Transit) (place xid : ℕ) → EndsAgree opened k s u d all_up all_down w
+    → EndsAgree opened (client_state_after opened k (MemoryRevoked place xid)) s u d all_up all_down w
 unfolding client_state_after
 revoked opened k s u d all_up all_down w place xid l =
     same-linked opened k (client_state_after opened k (MemoryRevoked place xid)) s u d all_up all_down w w l refl refl (counts-revoked opened k s w place xid l.counts)
@@ -189,8 +189,8 @@ short-written : (opened : LinkParameters) (b : Bool) (os : List OutstandingCall)
 short-written opened b [] h = tt
 short-written opened b (o ∷ os) h = (h.0, short-written opened b os h.1)
 
-pub written_up : (opened : LinkParameters) (k : ClientState) (s : ServerState) (u d all_up all_down : List Piece) (w : Way) → Linked opened k s u d all_up all_down w
-    → Linked opened (client_state_after opened k QueueWritten) s u d all_up all_down (record { queued_up = []; up = w.up ++ w.queued_up; queued_down = w.queued_down; down = w.down })
+pub written_up : (opened : LinkParameters) (k : ClientState) (s : ServerState) (u d all_up all_down : List FrameContent) (w : Transit) → EndsAgree opened k s u d all_up all_down w
+    → EndsAgree opened (client_state_after opened k QueueWritten) s u d all_up all_down (record { queued_up = []; up = w.up ++ w.queued_up; queued_down = w.queued_down; down = w.down })
 unfolding client_state_after
 written_up opened k s u d all_up all_down w l =
     same-linked opened k (client_state_after opened k QueueWritten) s u d all_up all_down w (record { queued_up = []; up = w.up ++ w.queued_up; queued_down = w.queued_down; down = w.down }) l
@@ -198,34 +198,34 @@ written_up opened k s u d all_up all_down w l =
 
 -- ---- Of a server
 
-pub record Executed (opened : LinkParameters) (k : ClientState) (s : ServerState) (u d all_up all_down : List Piece) (w : Way) (e : ExecutedCall) : Type 0 where
-  pub said : List Piece
-  pub said_is : said ≡ server_says opened s (CallExecuted e)
-  pub output : server_output opened s (CallExecuted e) ≡ spelled Responder (count one_send all_down) (count one_read all_down) said
-  pub linked : Linked opened k (server_state_after opened s (CallExecuted e)) u d all_up (all_down ++ said) (record { queued_up = w.queued_up; up = w.up; queued_down = w.queued_down ++ said; down = w.down })
+pub record Executed (opened : LinkParameters) (k : ClientState) (s : ServerState) (u d all_up all_down : List FrameContent) (w : Transit) (e : ExecutedCall) : Type 0 where
+  pub said : List FrameContent
+  pub said_is : said ≡ server_frames opened s (CallExecuted e)
+  pub output : server_output opened s (CallExecuted e) ≡ output_bytes Responder (total_of sends_in all_down) (total_of requests_in all_down) said
+  pub linked : EndsAgree opened k (server_state_after opened s (CallExecuted e)) u d all_up (all_down ++ said) (record { queued_up = w.queued_up; up = w.up; queued_down = w.queued_down ++ said; down = w.down })
 
 pub some-calls : (xid : ℕ) (calls : List PendingCall) → list_any (λ (c : PendingCall). eqb c.xid xid) calls ≡ true → 0 < length calls
 some-calls xid [] e = absurd cc
 some-calls xid (c ∷ calls) e = omega arith
 
-pub executed : (opened : LinkParameters) (k : ClientState) (s : ServerState) (u d all_up all_down : List Piece) (w : Way) (e : ExecutedCall) (r : ReadyCall) (rest : List ReadyCall) → Linked opened k s u d all_up all_down w
-    → s.ready ≡ r ∷ rest → e.xid ≡ r.xid → 0 < count one_hello all_down → Executed opened k s u d all_up all_down w e
-unfolding server_state_after server_says server_output
+pub executed : (opened : LinkParameters) (k : ClientState) (s : ServerState) (u d all_up all_down : List FrameContent) (w : Transit) (e : ExecutedCall) (r : ReadyCall) (rest : List ReadyCall) → EndsAgree opened k s u d all_up all_down w
+    → s.ready ≡ r ∷ rest → e.xid ≡ r.xid → 0 < total_of hellos_in all_down → Executed opened k s u d all_up all_down w e
+unfolding server_state_after server_frames server_output
 executed opened k s u d all_up all_down w e r rest l first own begun =
-    let said = execution_says s e in
+    let said = execution_frames s e in
     let t = server_state_after opened s (CallExecuted e) in
     let answer = answer_of_target (offer_of s e.xid) (down_max s) e.reply (target_of (call_of e.payload)) in
     let there = executed-there s e.xid r rest l.waits first own in
-    let hellos : count one_hello said ≡ 0 = answer-counts one_hello 0 (λ last stag to payload. refl) (λ message. refl) s e.xid (offer_of s e.xid) answer in
-    let reads : count one_read said ≡ 0 = answer-counts one_read 0 (λ last stag to payload. refl) (λ message. refl) s e.xid (offer_of s e.xid) answer in
+    let hellos : total_of hellos_in said ≡ 0 = answer-counts hellos_in 0 (λ last stag to payload. refl) (λ message. refl) s e.xid (offer_of s e.xid) answer in
+    let reads : total_of requests_in said ≡ 0 = answer-counts requests_in 0 (λ last stag to payload. refl) (λ message. refl) s e.xid (offer_of s e.xid) answer in
     record {
       said = said;
       said_is = refl;
-      output = execution-said s s.requests_sent e l.fits ∙ (λ i. spelled Responder (messages_said opened k s u d all_up all_down w l i) (l.requests_sent i) said);
+      output = execution-said s s.requests_sent e l.fits ∙ (λ i. output_bytes Responder (messages_said opened k s u d all_up all_down w l i) (l.requests_sent i) said);
       linked = record {
         parts_up = l.parts_up;
         parts_down =
-            ap (λ (ps : List Piece). d ++ ps) (sym (append_assoc w.down w.queued_down said)) ∙ sym (append_assoc d (w.down ++ w.queued_down) said) ∙ ap (λ (ps : List Piece). ps ++ said) l.parts_down;
+            ap (λ (ps : List FrameContent). d ++ ps) (sym (append_assoc w.down w.queued_down said)) ∙ sym (append_assoc d (w.down ++ w.queued_down) said) ∙ ap (λ (ps : List FrameContent). ps ++ said) l.parts_down;
         counts = counts-executes opened k s w e l.counts l.waits.xids there;
         waits = waits-executes opened s e r rest l.waits first own;
         outs = l.outs;
@@ -234,22 +234,22 @@ executed opened k s u d all_up all_down w e r rest l first own begun =
         stream_up = l.stream_up;
         begins_up = l.begins_up;
         stream_down = stream-more all_down said l.stream_down begun (execution-proper s e l.fits);
-        hellos_down = omega (arith, l.hellos_down, hellos, count-append one_hello all_down said);
+        hellos_down = omega (arith, l.hellos_down, hellos, count-append hellos_in all_down said);
         no_reads = l.no_reads;
         sends_up = l.sends_up;
         requests_up = l.requests_up;
         sends_down = l.sends_down;
         requests_down = l.requests_down;
-        requests_sent = omega (arith, l.requests_sent, reads, count-append one_read all_down said);
+        requests_sent = omega (arith, l.requests_sent, reads, count-append requests_in all_down said);
       };
     }
 
-pub written_down : (opened : LinkParameters) (k : ClientState) (s : ServerState) (u d all_up all_down : List Piece) (w : Way) → Linked opened k s u d all_up all_down w
-    → Linked opened k (server_state_after opened s QueueWritten) u d all_up all_down (record { queued_up = w.queued_up; up = w.up; queued_down = []; down = w.down ++ w.queued_down })
+pub written_down : (opened : LinkParameters) (k : ClientState) (s : ServerState) (u d all_up all_down : List FrameContent) (w : Transit) → EndsAgree opened k s u d all_up all_down w
+    → EndsAgree opened k (server_state_after opened s QueueWritten) u d all_up all_down (record { queued_up = w.queued_up; up = w.up; queued_down = []; down = w.down ++ w.queued_down })
 unfolding server_state_after
 written_down opened k s u d all_up all_down w l = record {
   parts_up = l.parts_up;
-  parts_down = ap (λ (ps : List Piece). d ++ ps) (append-nil (w.down ++ w.queued_down)) ∙ l.parts_down;
+  parts_down = ap (λ (ps : List FrameContent). d ++ ps) (append-nil (w.down ++ w.queued_down)) ∙ l.parts_down;
   counts = counts-writes_down opened k s w l.counts;
   waits = record { numbers = l.waits.numbers; xids = l.waits.xids; calls_below = l.waits.calls_below; reads_below = l.waits.reads_below; ready_apart = l.waits.ready_apart; ready_calls = l.waits.ready_calls; whole_calls = l.waits.whole_calls };
   outs = l.outs;

@@ -9,8 +9,8 @@ use Rattle.nr_regions.specs.Access.{Grant, applies, grant_at, grant_offer, grant
 use Rattle.nr_reduce.specs.OfferedRegions.{Region, region_grant, region_grants, until_or, regions_closed, closed_if}
 use Rattle.nr_reduce.specs.ServerState.{PendingRead, PendingCall}
 use Rattle.nr_reduce.specs.ServerReads.{is_read, is_read_at, is_over}
-use Rattle.nr_laws.specs.Between.{IsSink, HasSink, HaveSinks}
-use Rattle.nr_laws.proofs.Counted.{any_first}
+use Rattle.nr_laws.specs.LinkInvariants.{IsSink, HasSink, HaveSinks}
+use Rattle.nr_laws.proofs.Totals.{any_first}
 
 abbrev access : ℕ → ℕ → ℕ → Access
 access stag to n = record { right = Sink; stag = stag; to = to; len = n }

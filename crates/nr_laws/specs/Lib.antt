@@ -1,5 +1,5 @@
-pub mod Pieces
-pub mod Between
+pub mod FrameContents
+pub mod LinkInvariants
 pub mod Typed
 pub mod Completion
 pub mod EndCauses

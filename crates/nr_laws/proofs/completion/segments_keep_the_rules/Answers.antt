@@ -1,4 +1,4 @@
-use Rattle.nr_laws.proofs.Ends.{server-ends-for-calls, client-ends-for-replies}
+use Rattle.nr_laws.proofs.FirstEnds.{server-ends-for-calls, client-ends-for-replies}
 use Rattle.nr_laws.proofs.completion.segments_keep_the_rules.Goals as goal
 
 pub returns-clause-server : goal.returns-clause-server
