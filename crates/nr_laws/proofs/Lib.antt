@@ -48,3 +48,4 @@ pub mod ClientStep
 pub mod FirstEnds
 pub mod CallWords
 pub mod CallNumbers
+pub mod AnsweredCalls
