@@ -164,7 +164,7 @@ goes-wrote_up opened link run bytes j all =
       (ap (λ (xs : List ℕ). bytes_sent link Initiator run ++ xs) (own-bytes link bytes) ∙ all ∙ j.due_up ∙ ap (λ (ps : List FrameContent). output_bytes Initiator 0 0 ps) (sym j.linked.parts_up)) refl
       (λ o within g.
         guards-down opened (client_state_after opened j.k QueueWritten) j.s j.u j.d j.all_up j.all_down (record { queued_up = []; up = j.w.up ++ j.w.queued_up; queued_down = j.w.queued_down; down = j.w.down }) (place_of j.u)
-          (guards-written_up opened j.k j.s j.u j.d j.all_up j.all_down j.w (place_of j.u) g))
+          (guards-written_up opened j.k j.s j.u j.d j.all_up j.all_down j.w (place_of j.u) j.linked g))
 
 pub goes-revoke : (opened : LinkParameters) (link : ℕ) (run : List Mark) (xid : ℕ) (bytes : List ℕ) (j : RunAgrees opened link run) → MarkAgrees opened link run (marks.Revoke link xid bytes) j
 unfolding client_output
@@ -219,4 +219,4 @@ goes-execute opened link run xid moment payload place reply j h =
       (append-nil (bytes_sent link Responder run) ∙ j.sent_down) refl
       (λ o g.
         subst (λ (ps : List FrameContent). Guards opened j.k (server_state_after opened j.s (CallExecuted e)) j.u j.d j.all_up (j.all_down ++ ps) (record { queued_up = j.w.queued_up; up = j.w.up; queued_down = j.w.queued_down ++ ps; down = j.w.down }) (place_of j.u)) (sym m.said_is)
-          (guards-execute opened j.k j.s j.u j.d j.all_up j.all_down j.w (place_of j.u) e h.call first.0 o g j.linked.fits first.1 h.own))
+          (guards-execute opened j.k j.s j.u j.d j.all_up j.all_down j.w (place_of j.u) e h.call first.0 o j.linked g j.linked.fits first.1 h.own))

@@ -26,6 +26,7 @@ use Rattle.nr_laws.proofs.ServerInvariant.{ServerAgrees}
 use Rattle.nr_laws.proofs.Replies.{IsReply, AreReplies, answer-reply, chunk_error-reply}
 use Rattle.nr_laws.proofs.ReadLimits.{AreWithin, each-append}
 use Rattle.nr_laws.proofs.CallNumbers.{XidsFrom, NumberedCalls, HasOwnXid, IsNumbered}
+use Rattle.nr_laws.proofs.AnsweredSteps.{Answered}
 use Rattle.nr_laws.proofs.OfferLimits.{OfferFits}
 use Rattle.nr_laws.proofs.ServerOutput.{CallsFit, execution_frames, for_target, found-fits}
 
@@ -61,6 +62,7 @@ pub record Guards (opened : LinkParameters) (k : ClientState) (s : ServerState) 
   pub xids : XidsFrom opened.first_xid all_up
   pub unsaid : k.has_hello ≡ false → NumberedCalls opened.first_xid k.outstanding
   pub numbers : AllByRecursion (IsNumbered opened.first_xid) s.calls
+  pub answered : Answered opened.first_xid k s u d all_down w
   pub reached : (es : List Event) × (end_state_after (client_rules opened) (initial_client opened) es ≡ live k)
 
 -- ---- What is said

@@ -42,6 +42,7 @@ use Rattle.nr_laws.proofs.AgreeingEnds.{EndsAgree}
 use Rattle.nr_laws.proofs.ClientFrame.{says-hello, after-hello}
 use Rattle.nr_laws.proofs.CallNumbers.{XidsFrom, HasOwnXid, xids-append, xids-asked}
 use Rattle.nr_laws.proofs.ClientFrame.{calls_said}
+use Rattle.nr_laws.proofs.AnsweredSteps.{Answered, answered-message, answered-same}
 use Rattle.nr_laws.proofs.Guards.{ClientContent, ServerContent, IsAsked, AreSized, Guards}
 use Rattle.nr_laws.proofs.GuardsAtServer.{each-at}
 
@@ -114,9 +115,9 @@ asked-of s w place sink at size stag to rest c first sinks stags within =
 -- ---- What is kept
 
 guards-down : (opened : LinkParameters) (k t : ClientState) (s : ServerState) (u d all_up all_down : List FrameContent) (w : Transit) (place : ℕ) (p : FrameContent) (rest said : List FrameContent) (event : Event) → Guards opened k s u d all_up all_down w place
-    → ServerAgrees opened t s (down_one w said rest) place → WithinWindow opened t → AllByRecursion ClientContent said → AreSized opened t.outstanding → XidsFrom (opened.first_xid + total_of sends_in all_up) said → t.has_hello ≡ true → client_end k event ≡ None → t ≡ client_state_after opened k event
+    → ServerAgrees opened t s (down_one w said rest) place → WithinWindow opened t → AllByRecursion ClientContent said → AreSized opened t.outstanding → XidsFrom (opened.first_xid + total_of sends_in all_up) said → t.has_hello ≡ true → Answered opened.first_xid t s u (d ++ p ∷ []) all_down (down_one w said rest) → client_end k event ≡ None → t ≡ client_state_after opened k event
     → Guards opened t s u (d ++ p ∷ []) (all_up ++ said) all_down (down_one w said rest) place
-guards-down opened k t s u d all_up all_down w place p rest said event g server window up calls xids hello stays is = record {
+guards-down opened k t s u d all_up all_down w place p rest said event g server window up calls xids hello answered stays is = record {
   server = server;
   window = window;
   up_said = each-append ClientContent all_up said g.up_said up;
@@ -127,6 +128,7 @@ guards-down opened k t s u d all_up all_down w place p rest said event g server 
   xids = xids-append opened.first_xid all_up said g.xids xids;
   unsaid = λ e. absurd (let wrong : true ≡ false = sym hello ∙ e in cc);
   numbers = g.numbers;
+  answered = answered;
   reached =
       (g.reached.0 ++ event ∷ [],
         end_state_after-append (client_rules opened) (initial_client opened) g.reached.0 (event ∷ [])
@@ -197,7 +199,8 @@ guards-hello_down opened k s u d all_up all_down w place rest f l g first is sta
       regions = g.server.regions;
     } in
     subst (λ (ps : List FrameContent). Guards opened t s u (d ++ HelloFrame ∷ []) (all_up ++ ps) all_down (down_one w ps rest) place) (sym says)
-      (guards-down opened k t s u d all_up all_down w place HelloFrame rest said (FrameReceived f) g server (subst (WithinWindow opened) (sym after) (record { window = g.window.window; grant = g.window.grant })) (asks-up opened k.outstanding g.calls) (subst (λ (x : ClientState). AreSized opened x.outstanding) (sym after) g.calls) asked (ap (λ (x : ClientState). x.has_hello) after) stays refl)
+      (guards-down opened k t s u d all_up all_down w place HelloFrame rest said (FrameReceived f) g server (subst (WithinWindow opened) (sym after) (record { window = g.window.window; grant = g.window.grant })) (asks-up opened k.outstanding g.calls) (subst (λ (x : ClientState). AreSized opened x.outstanding) (sym after) g.calls) asked (ap (λ (x : ClientState). x.has_hello) after)
+        (answered-same opened.first_xid k t s u d all_down w (down_one w said rest) HelloFrame (ap (λ (x : ClientState). x.outstanding) after) (ap (λ (x : ClientState). x.calls_accepted) after) refl refl g.answered) stays refl)
 
 pub guards-send_down : (opened : LinkParameters) (k : ClientState) (s : ServerState) (u d all_up all_down : List FrameContent) (w : Transit) (place : ℕ) (message : List ℕ) (rest : List FrameContent) (f : Frame) → IsOpened opened → EndsAgree opened k s u d all_up all_down w → Guards opened k s u d all_up all_down w place → w.down ≡ SendFrame message ∷ rest
     → Carries k.received.sends k.received.requests f (SendFrame message) → k.has_hello ≡ true → client_end k (FrameReceived f) ≡ None
@@ -225,7 +228,9 @@ guards-send_down opened k s u d all_up all_down w place message rest f o l g fir
       regions = g.server.regions;
     } in
     subst (λ (ps : List FrameContent). Guards opened t s u (d ++ SendFrame message ∷ []) (all_up ++ ps) all_down (down_one w ps rest) place) (sym says)
-      (guards-down opened k t s u d all_up all_down w place (SendFrame message) rest [] (FrameReceived f) g server (subst (WithinWindow opened) (sym after) window) tt (sized-frame opened k t f (Ok segment) after g.calls) tt (behind-hello opened k t s u d all_up all_down w f (Ok segment) after hello) stays refl)
+      (guards-down opened k t s u d all_up all_down w place (SendFrame message) rest [] (FrameReceived f) g server (subst (WithinWindow opened) (sym after) window) tt (sized-frame opened k t f (Ok segment) after g.calls) tt (behind-hello opened k t s u d all_up all_down w f (Ok segment) after hello)
+        (answered-message opened.first_xid k t s u d all_down w (down_one w [] rest) message
+          (ap (λ (x : ClientState). x.outstanding) after ∙ ap (λ (xs : List ℕ). filter (λ (o : OutstandingCall). not (eqb o.xid (word_at 0 xs))) k.outstanding) same) (ap (λ (x : ClientState). x.calls_accepted) after) refl g.answered) stays refl)
   where
     filter-less : (p : OutstandingCall → Bool) (os : List OutstandingCall) → length (filter p os) ≤ length os
     filter-less p [] = omega arith
@@ -282,7 +287,8 @@ guards-read_down opened k s u d all_up all_down w place sink at size stag to res
       regions = g.server.regions;
     } in
     guards-down opened k t s u d all_up all_down w place (RequestFrame sink at size stag to) rest said (FrameReceived f) g server (subst (WithinWindow opened) (sym after) (record { window = g.window.window; grant = g.window.grant }))
-      (tagged-up opened k f (Ok segment) piece.behind reads) (sized-frame opened k t f (Ok segment) after g.calls) (tagged-xids (opened.first_xid + total_of sends_in all_up) opened k f (Ok segment) piece.behind reads) (behind-hello opened k t s u d all_up all_down w f (Ok segment) after hello) stays refl
+      (tagged-up opened k f (Ok segment) piece.behind reads) (sized-frame opened k t f (Ok segment) after g.calls) (tagged-xids (opened.first_xid + total_of sends_in all_up) opened k f (Ok segment) piece.behind reads) (behind-hello opened k t s u d all_up all_down w f (Ok segment) after hello)
+      (answered-same opened.first_xid k t s u d all_down w (down_one w said rest) (RequestFrame sink at size stag to) (ap (λ (x : ClientState). x.outstanding) after) (ap (λ (x : ClientState). x.calls_accepted) after) refl refl g.answered) stays refl
   where
     ap-regions : (opened : LinkParameters) (k : ClientState) (es : List Event) → end_state_after (client_rules opened) (initial_client opened) es ≡ live k
         → AreNumbered opened.first_stag (end_state_after (client_rules opened) (initial_client opened) es).state.regions → AreNumbered opened.first_stag k.regions
@@ -305,4 +311,5 @@ guards-tagged_down opened k s u d all_up all_down w place last opcode stag to pa
       regions = g.server.regions;
     } in
     subst (λ (ps : List FrameContent). Guards opened t s u (d ++ TaggedFrame last opcode stag to payload ∷ []) (all_up ++ ps) all_down (down_one w ps rest) place) (sym says)
-      (guards-down opened k t s u d all_up all_down w place (TaggedFrame last opcode stag to payload) rest [] (FrameReceived f) g server (subst (WithinWindow opened) (sym after) (record { window = g.window.window; grant = g.window.grant })) tt (sized-frame opened k t f (Ok segment) after g.calls) tt (behind-hello opened k t s u d all_up all_down w f (Ok segment) after hello) stays refl)
+      (guards-down opened k t s u d all_up all_down w place (TaggedFrame last opcode stag to payload) rest [] (FrameReceived f) g server (subst (WithinWindow opened) (sym after) (record { window = g.window.window; grant = g.window.grant })) tt (sized-frame opened k t f (Ok segment) after g.calls) tt (behind-hello opened k t s u d all_up all_down w f (Ok segment) after hello)
+        (answered-same opened.first_xid k t s u d all_down w (down_one w [] rest) (TaggedFrame last opcode stag to payload) (ap (λ (x : ClientState). x.outstanding) after) (ap (λ (x : ClientState). x.calls_accepted) after) refl refl g.answered) stays refl)

@@ -1,5 +1,6 @@
 -- The guards of both ends are kept where a call is submitted or executed, memory is revoked, and a queue is written.
-use Rattle.std.proofs.Common.{◌≡◌, ℕ, ◌+◌, ◌≤◌, ◌<◌, ◌^◌, Bool, true, false, cond, not, eqb, List, [], ◌∷◌, ◌++◌, length, map, Option, None, Ok, refl, sym, ap, subst, ◌∙◌, arith, length-append}
+use Rattle.std.proofs.Common.{◌≡◌, ℕ, ◌+◌, ◌≤◌, ◌<◌, ◌^◌, Bool, true, false, cond, not, eqb, List, [], ◌∷◌, ◌++◌, length, map, Option, None, Ok, refl, sym, ap, subst, ◌∙◌, arith, length-append, ◌||◌, append-nil}
+use Rattle.nr_rpc.specs.Reading.{call_of, target_of}
 use Rattle.std.specs.List.{AllByRecursion}
 use Rattle.std.proofs.lemmas.List.{length-map}
 use Rattle.nr_link.specs.declared.end.End.{End}
@@ -31,8 +32,15 @@ use Rattle.nr_laws.proofs.AgreeingEnds.{EndsAgree}
 use Rattle.nr_reduce.specs.SubmitAnswer.{next_xid}
 use Rattle.nr_laws.specs.FrameContents.{total_of, sends_in}
 use Rattle.nr_laws.proofs.CallWords.{call-words}
-use Rattle.nr_laws.proofs.CallNumbers.{XidsFrom, xids-append, outs-push, outs-map, numbered-kept}
+use Rattle.nr_laws.proofs.CallNumbers.{NumberedCalls, XidsFrom, xids-append, outs-push, outs-map, numbered-kept}
 use Rattle.nr_laws.proofs.ClientFrame.{calls_said}
+use Rattle.nr_reduce.specs.Server.{offer_of, answer_of_target}
+use Rattle.nr_reduce.specs.ServerState.{down_max}
+use Rattle.nr_laws.proofs.Totals.{count-append}
+use Rattle.nr_laws.proofs.PendingExecuted.{executed-there}
+use Rattle.nr_laws.proofs.AnsweredCalls.{times, answer-xids, executed-less}
+use Rattle.nr_laws.proofs.AnsweredSteps.{Answered, IsWritten, answered-submit, answered-map, answered-server}
+use Rattle.nr_laws.proofs.GuardsAtServer.{sent_most, pending-word}
 use Rattle.nr_laws.proofs.Guards.{ClientContent, ServerContent, IsAsked, AreSized, Guards, execution-down}
 
 -- an event of the client that is no frame
@@ -88,6 +96,8 @@ guards-submit opened k s u d all_up all_down w up place a plan l g is own lt roo
       xids = xids-append opened.first_xid all_up said g.xids (new-xid k.has_hello refl);
       unsaid = λ e. outs-push opened.first_xid k.outstanding (outstanding_of k a) (g.unsaid e) (omega (arith, own, all-waiting e));
       numbers = g.numbers;
+      answered = answered-submit opened.first_xid k t s u d all_down w (up_more w said) (outstanding_of k a) refl refl own lt
+          (omega (arith, calls_said opened k s u d all_up all_down w l, sent_most k, ap (total_of sends_in) l.parts_up, count-append sends_in u (w.up ++ w.queued_up), count-append sends_in w.up w.queued_up, count-append sends_in u w.up)) refl g.answered;
       reached = reached-more opened k (CallSubmitted place a) refl g.reached;
     }
 
@@ -118,6 +128,14 @@ sized-written : (opened : LinkParameters) (b : Bool) (os : List OutstandingCall)
 sized-written opened b [] h = tt
 sized-written opened b (o ∷ os) h = (h.0, sized-written opened b os h.1)
 
+revoked-written : (end xid : ℕ) (os : List OutstandingCall) → AllByRecursion (IsWritten end) os → AllByRecursion (IsWritten end) (map (revoked_call xid) os)
+revoked-written end xid [] h = tt
+revoked-written end xid (o ∷ os) h = (by (eqb o.xid xid), revoked-written end xid os h.1)
+  where
+    by : (b : Bool) → IsWritten end (cond b (record o { is_revoked = true }) o)
+    by true = h.0
+    by false = h.0
+
 pub guards-revoke : (opened : LinkParameters) (k : ClientState) (s : ServerState) (u d all_up all_down : List FrameContent) (w : Transit) (up place xid : ℕ) → Guards opened k s u d all_up all_down w up
     → Guards opened (client_state_after opened k (MemoryRevoked place xid)) s u d all_up all_down w up
 unfolding client_state_after client_end
@@ -132,13 +150,14 @@ guards-revoke opened k s u d all_up all_down w up place xid g = record {
   xids = g.xids;
   unsaid = λ e. outs-map (revoked_call xid) opened.first_xid k.outstanding (xid-revoked xid) (g.unsaid e);
   numbers = g.numbers;
+  answered = answered-map opened.first_xid (revoked_call xid) k (client_state_after opened k (MemoryRevoked place xid)) s u d all_down w w refl (xid-revoked xid) refl (revoked-written (opened.first_xid + total_of sends_in (u ++ w.up)) xid k.outstanding g.answered.written) g.answered;
   reached = reached-more opened k (MemoryRevoked place xid) refl g.reached;
 }
 
-pub guards-written_up : (opened : LinkParameters) (k : ClientState) (s : ServerState) (u d all_up all_down : List FrameContent) (w : Transit) (up : ℕ) → Guards opened k s u d all_up all_down w up
+pub guards-written_up : (opened : LinkParameters) (k : ClientState) (s : ServerState) (u d all_up all_down : List FrameContent) (w : Transit) (up : ℕ) → EndsAgree opened k s u d all_up all_down w → Guards opened k s u d all_up all_down w up
     → Guards opened (client_state_after opened k QueueWritten) s u d all_up all_down (record { queued_up = []; up = w.up ++ w.queued_up; queued_down = w.queued_down; down = w.down }) up
 unfolding client_state_after client_end
-guards-written_up opened k s u d all_up all_down w up g = record {
+guards-written_up opened k s u d all_up all_down w up l g = record {
   server = record { counts = counts-writes_up opened k s w g.server.counts; reads = reads-writes_up s w g.server.reads; waits = g.server.waits; sinks = g.server.sinks; regions = g.server.regions };
   window = record { window = omega (arith, g.window.window, length-map k.outstanding (written_call k.has_hello)); grant = g.window.grant };
   up_said = g.up_said;
@@ -149,16 +168,38 @@ guards-written_up opened k s u d all_up all_down w up g = record {
   xids = g.xids;
   unsaid = λ e. outs-map (written_call k.has_hello) opened.first_xid k.outstanding (λ o. refl) (g.unsaid e);
   numbers = g.numbers;
+  answered = answered-map opened.first_xid (written_call k.has_hello) k (client_state_after opened k QueueWritten) s u d all_down w (record { queued_up = []; up = w.up ++ w.queued_up; queued_down = w.queued_down; down = w.down }) refl (λ o. refl) refl
+      (by k.has_hello refl) g.answered;
   reached = reached-more opened k QueueWritten refl g.reached;
 }
+  where
+    or_true : (b : Bool) → (b || true) ≡ true
+    or_true true = refl
+    or_true false = refl
+    -- before the hello none was sent
+    none-below : k.has_hello ≡ false → (n : ℕ) → opened.first_xid ≤ n → n < opened.first_xid + total_of sends_in (u ++ (w.up ++ w.queued_up)) → ⊥
+    none-below e n le lt =
+        let none : total_of sends_in all_up ≡ 0 = calls_said opened k s u d all_up all_down w l ∙ ap (λ (b : Bool). cond b k.calls_accepted 0) e in
+        omega (arith, none, le, lt, ap (total_of sends_in) l.parts_up)
+    all-written : (end : ℕ) (os : List OutstandingCall) → AllByRecursion (IsWritten end) (map (written_call true) os)
+    all-written end [] = tt
+    all-written end (o ∷ os) = ((λ lt. or_true o.is_written), all-written end os)
+    none-written : (e : k.has_hello ≡ false) (n : ℕ) (os : List OutstandingCall) → NumberedCalls n os → opened.first_xid ≤ n → AllByRecursion (IsWritten (opened.first_xid + total_of sends_in (u ++ (w.up ++ w.queued_up)))) (map (written_call false) os)
+    none-written e n [] h le = tt
+    none-written e n (o ∷ os) h le = ((λ lt. absurd (none-below e o.xid (omega (arith, h.0, le)) lt)), none-written e (n + 1) os h.1 (omega (arith, le)))
+    by : (b : Bool) → k.has_hello ≡ b → AllByRecursion (IsWritten (opened.first_xid + total_of sends_in (u ++ (w.up ++ w.queued_up)))) (map (written_call k.has_hello) k.outstanding)
+    by true e = subst (λ (b : Bool). AllByRecursion (IsWritten (opened.first_xid + total_of sends_in (u ++ (w.up ++ w.queued_up)))) (map (written_call b) k.outstanding)) (sym e) (all-written (opened.first_xid + total_of sends_in (u ++ (w.up ++ w.queued_up))) k.outstanding)
+    by false e = subst (λ (b : Bool). AllByRecursion (IsWritten (opened.first_xid + total_of sends_in (u ++ (w.up ++ w.queued_up)))) (map (written_call b) k.outstanding)) (sym e) (none-written e opened.first_xid k.outstanding (g.unsaid e) (omega arith))
 
 -- ---- The server
 
-pub guards-execute : (opened : LinkParameters) (k : ClientState) (s : ServerState) (u d all_up all_down : List FrameContent) (w : Transit) (up : ℕ) (e : ExecutedCall) (r : ReadyCall) (rest : List ReadyCall) → IsOpened opened → Guards opened k s u d all_up all_down w up → CallsFit s.calls → s.ready ≡ r ∷ rest → e.xid ≡ r.xid
+pub guards-execute : (opened : LinkParameters) (k : ClientState) (s : ServerState) (u d all_up all_down : List FrameContent) (w : Transit) (up : ℕ) (e : ExecutedCall) (r : ReadyCall) (rest : List ReadyCall) → IsOpened opened → EndsAgree opened k s u d all_up all_down w → Guards opened k s u d all_up all_down w up → CallsFit s.calls → s.ready ≡ r ∷ rest → e.xid ≡ r.xid
     → Guards opened k (server_state_after opened s (CallExecuted e)) u d all_up (all_down ++ server_frames opened s (CallExecuted e)) (record { queued_up = w.queued_up; up = w.up; queued_down = w.queued_down ++ server_frames opened s (CallExecuted e); down = w.down }) up
 unfolding server_state_after server_frames
-guards-execute opened k s u d all_up all_down w up e r rest o g fits first own =
+guards-execute opened k s u d all_up all_down w up e r rest o l g fits first own =
     let small : s.credit < 2 ^ 32 = omega (arith, g.credit, o.granted_fits) in
+    let there = executed-there s e.xid r rest l.waits first own in
+    let xid_word = pending-word opened k s u d all_up all_down w up e.xid l g there in
     record {
       server = server-executes opened k s w up e r rest g.server first own;
       window = g.window;
@@ -170,6 +211,8 @@ guards-execute opened k s u d all_up all_down w up e r rest o g fits first own =
       within = g.within;
       xids = g.xids;
       unsaid = g.unsaid;
+      answered = answered-server opened.first_xid k s (server_state_after opened s (CallExecuted e)) u d all_down w (record { queued_up = w.queued_up; up = w.up; queued_down = w.queued_down ++ server_frames opened s (CallExecuted e); down = w.down }) (server_frames opened s (CallExecuted e)) refl refl
+          (λ x. omega (arith, executed-less x e.xid s.calls there, ap (λ (xs : List ℕ). times x xs) (answer-xids s e.xid (offer_of s e.xid) (answer_of_target (offer_of s e.xid) (down_max s) e.reply (target_of (call_of e.payload))) xid_word))) g.answered;
       numbers = numbered-kept opened.first_xid (λ c. not (eqb c.xid e.xid)) s.calls g.numbers;
       reached = g.reached;
     }
@@ -188,5 +231,7 @@ guards-written_down opened k s u d all_up all_down w up g = record {
   xids = g.xids;
   unsaid = g.unsaid;
   numbers = g.numbers;
+  answered = subst (λ (ps : List FrameContent). Answered opened.first_xid k (server_state_after opened s QueueWritten) u d ps (record { queued_up = w.queued_up; up = w.up; queued_down = []; down = w.down ++ w.queued_down })) (append-nil all_down)
+      (answered-server opened.first_xid k s (server_state_after opened s QueueWritten) u d all_down w (record { queued_up = w.queued_up; up = w.up; queued_down = []; down = w.down ++ w.queued_down }) [] refl refl (λ x. omega arith) g.answered);
   reached = g.reached;
 }

@@ -1,5 +1,5 @@
 -- A server of a matched link ends at the frame of a piece only by a refusal of its effect; else it keeps its guards.
-use Rattle.std.proofs.Common.{◌≡◌, ℕ, ◌+◌, ◌≤◌, ◌<◌, ◌^◌, Bool, true, List, [], ◌∷◌, ◌++◌, None, Result, Ok, refl, sym, ap, subst, ◌∙◌, arith}
+use Rattle.std.proofs.Common.{◌≡◌, ℕ, ◌+◌, ◌≤◌, ◌<◌, ◌^◌, Bool, true, List, [], ◌∷◌, ◌++◌, None, Result, Ok, refl, sym, ap, subst, ◌∙◌, arith, cond, eqb, ◌||◌, false, Some, ◌⊎◌, inl, inr}
 use Rattle.std.specs.List.{AllByRecursion}
 use Rattle.nr_xdr.specs.Item.{IsBytes}
 use Rattle.nr_xdr.specs.Fields.{word_at}
@@ -30,6 +30,16 @@ use Rattle.nr_laws.proofs.Replies.{replies-frame}
 use Rattle.nr_laws.proofs.ReadLimits.{AreWithin, each-append, within-send, within-tagged, within-closed}
 use Rattle.nr_laws.proofs.AgreeingEnds.{EndsAgree, taken_up, not-refused, says-hello, says-frame, after-hello, payload_bytes}
 use Rattle.nr_laws.proofs.CallNumbers.{XidsFrom, IsNumbered, xids-at, numbered-send, numbered-tagged}
+use Rattle.nr_reduce.specs.Plans.{one_if}
+use Rattle.nr_reduce.specs.ServerState.{PendingCall}
+use Rattle.std.specs.List.{find, list_any}
+use Rattle.std.proofs.lemmas.Bool.{eq-eqb, cases_lt}
+use Rattle.nr_laws.specs.LinkInvariants.{calls_sent}
+use Rattle.nr_laws.specs.FrameContents.{total_of, sends_in}
+use Rattle.nr_laws.proofs.Totals.{count-append}
+use Rattle.nr_laws.proofs.ClientFrame.{calls_said}
+use Rattle.nr_laws.proofs.AnsweredCalls.{times, call_xids, effect-xids, pending-send, pending-tagged}
+use Rattle.nr_laws.proofs.AnsweredSteps.{Answered, answered-send, answered-other}
 use Rattle.nr_laws.proofs.Guards.{ClientContent, ServerContent, Guards, step-down}
 
 pub each-at : {X : Type 0} (P : X → Type 0) (xs : List X) (y : X) (ys : List X) → AllByRecursion P (xs ++ y ∷ ys) → P y
@@ -52,9 +62,9 @@ front-xid opened k s u d all_up all_down w place message rest l g first =
     ∙ ap (λ (n : ℕ). opened.first_xid + n) (sym l.sends_up)
 
 guards-up : (opened : LinkParameters) (k : ClientState) (s t : ServerState) (u d all_up all_down : List FrameContent) (w : Transit) (place end : ℕ) (p : FrameContent) (rest said : List FrameContent) → Guards opened k s u d all_up all_down w place
-    → ServerAgrees opened k t (taken_up w rest said) end → AllByRecursion (ServerContent opened.granted) said → t.credit ≡ s.credit → AreWithin t.reads t.regions → AllByRecursion (IsNumbered opened.first_xid) t.calls
+    → ServerAgrees opened k t (taken_up w rest said) end → AllByRecursion (ServerContent opened.granted) said → t.credit ≡ s.credit → AreWithin t.reads t.regions → AllByRecursion (IsNumbered opened.first_xid) t.calls → Answered opened.first_xid k t (u ++ p ∷ []) d (all_down ++ said) (taken_up w rest said)
     → Guards opened k t (u ++ p ∷ []) d all_up (all_down ++ said) (taken_up w rest said) end
-guards-up opened k s t u d all_up all_down w place end p rest said g server down credit within numbers = record {
+guards-up opened k s t u d all_up all_down w place end p rest said g server down credit within numbers answered = record {
   server = server;
   window = g.window;
   up_said = g.up_said;
@@ -65,8 +75,59 @@ guards-up opened k s t u d all_up all_down w place end p rest said g server down
   xids = g.xids;
   unsaid = g.unsaid;
   numbers = numbers;
+  answered = answered;
   reached = g.reached;
 }
+
+-- a pending call has the xid of a call that was received, which is a word
+pub sent_most : (k : ClientState) → calls_sent k ≤ k.calls_accepted
+sent_most k = by k.has_hello
+  where
+    by : (b : Bool) → cond b k.calls_accepted 0 ≤ k.calls_accepted
+    by true = omega arith
+    by false = omega arith
+
+found-times : (n : ℕ) (cs : List PendingCall) (c : PendingCall) → find (λ (y : PendingCall). eqb y.number n) cs ≡ Some c → 1 ≤ times c.xid (call_xids cs)
+found-times n [] c e = absurd cc
+found-times n (y ∷ cs) c e = by (eqb y.number n) e (found-times n cs c)
+  where
+    by : (b : Bool) → cond b (Some y) (find (λ (z : PendingCall). eqb z.number n) cs) ≡ Some c → (find (λ (z : PendingCall). eqb z.number n) cs ≡ Some c → 1 ≤ times c.xid (call_xids cs)) → 1 ≤ times c.xid (call_xids (y ∷ cs))
+    by true e later =
+        let same : y ≡ c = cc in
+        omega (arith, ap one_if (eq-eqb y.xid c.xid (ap (λ (z : PendingCall). z.xid) same)))
+    by false e later = omega (arith, later e)
+
+pub small-xid : (opened : LinkParameters) (k : ClientState) (s : ServerState) (u d all_up all_down : List FrameContent) (w : Transit) (place n : ℕ) (c : PendingCall) → EndsAgree opened k s u d all_up all_down w → Guards opened k s u d all_up all_down w place
+    → find (λ (y : PendingCall). eqb y.number n) s.calls ≡ Some c → c.xid < 2 ^ 32
+small-xid opened k s u d all_up all_down w place n c l g found =
+    let some = found-times n s.calls c found in
+    let sent = calls_said opened k s u d all_up all_down w l in
+    by (cases_lt c.xid (opened.first_xid + s.received.sends)) some
+      (omega (arith, sent, sent_most k, l.sends_up, ap (total_of sends_in) l.parts_up, count-append sends_in u (w.up ++ w.queued_up)))
+  where
+    by : (c.xid < opened.first_xid + s.received.sends) ⊎ (opened.first_xid + s.received.sends ≤ c.xid) → 1 ≤ times c.xid (call_xids s.calls) → s.received.sends ≤ k.calls_accepted → c.xid < 2 ^ 32
+    by (inl lt) some few = omega (arith, lt, few, g.answered.room)
+    by (inr le) some few = absurd (omega (arith, some, g.answered.later c.xid le))
+
+any-times : (xid : ℕ) (cs : List PendingCall) → list_any (λ (c : PendingCall). eqb c.xid xid) cs ≡ true → 1 ≤ times xid (call_xids cs)
+any-times xid [] e = absurd cc
+any-times xid (c ∷ cs) e = by (eqb c.xid xid) e (any-times xid cs)
+  where
+    by : (b : Bool) → (b || list_any (λ (z : PendingCall). eqb z.xid xid) cs) ≡ true → (list_any (λ (z : PendingCall). eqb z.xid xid) cs ≡ true → 1 ≤ times xid (call_xids cs)) → 1 ≤ one_if b + times xid (call_xids cs)
+    by true e later = omega arith
+    by false e later = omega (arith, later e)
+
+pub pending-word : (opened : LinkParameters) (k : ClientState) (s : ServerState) (u d all_up all_down : List FrameContent) (w : Transit) (place xid : ℕ) → EndsAgree opened k s u d all_up all_down w → Guards opened k s u d all_up all_down w place
+    → list_any (λ (c : PendingCall). eqb c.xid xid) s.calls ≡ true → xid < 2 ^ 32
+pending-word opened k s u d all_up all_down w place xid l g there =
+    let some = any-times xid s.calls there in
+    let sent = calls_said opened k s u d all_up all_down w l in
+    by (cases_lt xid (opened.first_xid + s.received.sends)) some
+      (omega (arith, sent, sent_most k, l.sends_up, ap (total_of sends_in) l.parts_up, count-append sends_in u (w.up ++ w.queued_up)))
+  where
+    by : (xid < opened.first_xid + s.received.sends) ⊎ (opened.first_xid + s.received.sends ≤ xid) → 1 ≤ times xid (call_xids s.calls) → s.received.sends ≤ k.calls_accepted → xid < 2 ^ 32
+    by (inl lt) some few = omega (arith, lt, few, g.answered.room)
+    by (inr le) some few = absurd (omega (arith, some, g.answered.later xid le))
 
 -- the reasons of a server's refusal come from the effect of the frame
 pub record ServerTakes (opened : LinkParameters) (k : ClientState) (s : ServerState) (u d all_up all_down : List FrameContent) (w : Transit) (p : FrameContent) (rest : List FrameContent) (f : Frame) : Type 0 where
@@ -92,6 +153,15 @@ takes-send opened k s u d all_up all_down w place message rest f o l g first pie
     let after = after-is opened s f (Ok segment) piece.behind reads in
     let small : s.credit < 2 ^ 32 = omega (arith, g.credit, o.granted_fits) in
     let own = front-xid opened k s u d all_up all_down w place message rest l g first in
+    let some : 0 < total_of sends_in w.up = omega (arith, ap (total_of sends_in) first) in
+    let sent = calls_said opened k s u d all_up all_down w l in
+    let small_xid : word_at 0 message < 2 ^ 32 =
+        omega (arith, own, g.answered.room, some, sent, sent_most k, l.sends_up, ap (total_of sends_in) l.parts_up, count-append sends_in u (w.up ++ w.queued_up), count-append sends_in w.up w.queued_up) in
+    let pending = pending-send s f message l.counts.whole_up small_xid reads in
+    let effect = step-is s f (Ok segment) reads in
+    let calls_are : call_xids (server_state_after opened s (FrameReceived f)).calls ≡ call_xids (frame_effect s f).calls = ap (λ (x : ServerState). call_xids x.calls) after ∙ ap (λ (e : FrameEffect). call_xids e.calls) (sym effect) in
+    let answered = answered-send opened.first_xid k s (server_state_after opened s (FrameReceived f)) u d all_down w (SendFrame message) rest (effect_frames (frame_effect s f)) first (ap (λ (x : ServerState). x.received.sends) after)
+        (λ x. omega (arith, pending x, ap (λ (xs : List ℕ). times x xs) (effect-xids (frame_effect s f)), ap (λ (xs : List ℕ). times x xs) calls_are, ap (λ (n : ℕ). one_if (eqb n x)) own)) g.answered in
     let numbered = numbered-send opened.first_xid s f message l.counts.whole_up own g.numbers reads in
     let numbers = subst (AllByRecursion (IsNumbered opened.first_xid)) (ap (λ (e : FrameEffect). e.calls) (step-is s f (Ok segment) reads) ∙ ap (λ (x : ServerState). x.calls) (sym after)) numbered in
     let within = within-after s f (Ok segment) reads (within-send s f message l.counts.whole_up (payload_bytes segment (subst IsBytes is bytes)) g.within reads) in
@@ -101,7 +171,7 @@ takes-send opened k s u d all_up all_down w place message rest f o l g first pie
           subst (λ (said : List FrameContent). Guards opened k (server_state_after opened s (FrameReceived f)) (u ++ SendFrame message ∷ []) d all_up (all_down ++ said) (taken_up w rest said) f.end) (sym says)
             (guards-up opened k s (server_state_after opened s (FrameReceived f)) u d all_up all_down w place f.end (SendFrame message) rest (effect_frames (frame_effect s f)) g
               (t.1 (not-refused opened s f piece.behind stays)) (credit-down opened s.credit (effect_frames (frame_effect s f)) g.credit (step-down s.credit (frame_effect s f) (replies-frame s f small)))
-              (ap (λ (x : ServerState). x.credit) after) (subst (λ (x : ServerState). AreWithin x.reads x.regions) (sym after) within) numbers);
+              (ap (λ (x : ServerState). x.credit) after) (subst (λ (x : ServerState). AreWithin x.reads x.regions) (sym after) within) numbers answered);
     }
 
 pub takes-tagged : (opened : LinkParameters) (k : ClientState) (s : ServerState) (u d all_up all_down : List FrameContent) (w : Transit) (place : ℕ) (last : Bool) (opcode stag to : ℕ) (payload : List ℕ) (rest : List FrameContent) (f : Frame) → IsOpened opened → EndsAgree opened k s u d all_up all_down w → Guards opened k s u d all_up all_down w place
@@ -113,6 +183,11 @@ takes-tagged opened k s u d all_up all_down w place last opcode stag to payload 
     let says = says-frame opened s f piece.behind in
     let after = after-is opened s f (Ok segment) piece.behind reads in
     let small : s.credit < 2 ^ 32 = omega (arith, g.credit, o.granted_fits) in
+    let pending = pending-tagged s f last opcode stag to payload (λ n c found. small-xid opened k s u d all_up all_down w place n c l g found) reads in
+    let effect = step-is s f (Ok segment) reads in
+    let calls_are : call_xids (server_state_after opened s (FrameReceived f)).calls ≡ call_xids (frame_effect s f).calls = ap (λ (x : ServerState). call_xids x.calls) after ∙ ap (λ (e : FrameEffect). call_xids e.calls) (sym effect) in
+    let answered = answered-other opened.first_xid k s (server_state_after opened s (FrameReceived f)) u d all_down w (TaggedFrame last opcode stag to payload) rest (effect_frames (frame_effect s f)) first (ap (λ (x : ServerState). x.received.sends) after)
+        (λ x. omega (arith, pending x, ap (λ (xs : List ℕ). times x xs) (effect-xids (frame_effect s f)), ap (λ (xs : List ℕ). times x xs) calls_are)) g.answered in
     let numbered = numbered-tagged opened.first_xid s f last opcode stag to payload g.numbers reads in
     let numbers = subst (AllByRecursion (IsNumbered opened.first_xid)) (ap (λ (e : FrameEffect). e.calls) (step-is s f (Ok segment) reads) ∙ ap (λ (x : ServerState). x.calls) (sym after)) numbered in
     let within = within-after s f (Ok segment) reads (within-tagged s f last opcode stag to payload g.within reads) in
@@ -122,7 +197,7 @@ takes-tagged opened k s u d all_up all_down w place last opcode stag to payload 
           subst (λ (said : List FrameContent). Guards opened k (server_state_after opened s (FrameReceived f)) (u ++ TaggedFrame last opcode stag to payload ∷ []) d all_up (all_down ++ said) (taken_up w rest said) f.end) (sym says)
             (guards-up opened k s (server_state_after opened s (FrameReceived f)) u d all_up all_down w place f.end (TaggedFrame last opcode stag to payload) rest (effect_frames (frame_effect s f)) g
               (t.1 (not-refused opened s f piece.behind stays)) (credit-down opened s.credit (effect_frames (frame_effect s f)) g.credit (step-down s.credit (frame_effect s f) (replies-frame s f small)))
-              (ap (λ (x : ServerState). x.credit) after) (subst (λ (x : ServerState). AreWithin x.reads x.regions) (sym after) within) numbers);
+              (ap (λ (x : ServerState). x.credit) after) (subst (λ (x : ServerState). AreWithin x.reads x.regions) (sym after) within) numbers answered);
     }
 
 -- the client's hello
@@ -149,4 +224,5 @@ hello-guards opened k s u d all_up all_down w place rest f g first is le =
     } in
     subst (λ (said : List FrameContent). Guards opened k (server_state_after opened s (FrameReceived f)) (u ++ HelloFrame ∷ []) d all_up (all_down ++ said) (taken_up w rest said) f.end) (sym says)
       (subst (λ (t : ServerState). Guards opened k t (u ++ HelloFrame ∷ []) d all_up (all_down ++ HelloFrame ∷ []) (taken_up w rest (HelloFrame ∷ [])) f.end) (sym after)
-        (guards-up opened k s s u d all_up all_down w place f.end HelloFrame rest (HelloFrame ∷ []) g server (tt, tt) refl g.within g.numbers))
+        (guards-up opened k s s u d all_up all_down w place f.end HelloFrame rest (HelloFrame ∷ []) g server (tt, tt) refl g.within g.numbers
+          (answered-other opened.first_xid k s s u d all_down w HelloFrame rest (HelloFrame ∷ []) first refl (λ x. omega arith) g.answered)))

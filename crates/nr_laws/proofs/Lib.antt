@@ -49,3 +49,4 @@ pub mod FirstEnds
 pub mod CallWords
 pub mod CallNumbers
 pub mod AnsweredCalls
+pub mod AnsweredSteps
