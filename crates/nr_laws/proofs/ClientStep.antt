@@ -55,6 +55,10 @@ use Rattle.nr_laws.proofs.Replies.{IsReply}
 use Rattle.nr_laws.proofs.RequestFields.{request-again}
 use Rattle.nr_laws.proofs.Writable.{IsWritable, AreWritable, IsOutput, proper_one, stream-first, stream-at}
 use Rattle.nr_laws.proofs.AgreeingEnds.{EndsAgree, IsPlace, frame_of}
+use Rattle.nr_laws.proofs.TotalsAtClient.{header-xid}
+use Rattle.nr_laws.proofs.ClientFrame.{calls_said}
+use Rattle.nr_laws.proofs.AnsweredSteps.{answers-one}
+use Rattle.nr_laws.proofs.GuardsAtServer.{sent_most}
 use Rattle.nr_laws.proofs.Guards.{Guards}
 use Rattle.nr_laws.proofs.GuardsAtClient.{front-down, asked-of, guards-hello_down, guards-send_down, guards-read_down, guards-tagged_down}
 
@@ -70,17 +74,14 @@ version-reason = inl refl
 kind-reason : IsReplyReason 17
 kind-reason = inr (inl refl)
 
-call-reason : IsReplyReason 20
-call-reason = inr (inr (inl refl))
-
 chunks-reason : IsReplyReason 21
-chunks-reason = inr (inr (inr (inl refl)))
+chunks-reason = inr (inr (inl refl))
 
 head-reason : IsReplyReason 18
-head-reason = inr (inr (inr (inr (inl refl))))
+head-reason = inr (inr (inr (inl refl)))
 
 xid-reason : IsReplyReason 19
-xid-reason = inr (inr (inr (inr (inr refl))))
+xid-reason = inr (inr (inr (inr refl)))
 
 reason-head : (xid : ℕ) (payload : List ℕ) (r : Result ReplyHead ℕ) → VerdictReason (by_head xid payload r)
 reason-head xid payload (Err at) = head-reason
@@ -108,9 +109,8 @@ reason-body k place o message (Nomsg lists) = reason-lists k place o None lists 
 reason-body k place o message (ErrVers version low high) = tt
 reason-body k place o message (ErrChunk version) = tt
 
-reason-call : (k : ClientState) (place : ℕ) (message : List ℕ) (body : Body) (o : Option OutstandingCall) → VerdictReason (by_call k place message body o)
-reason-call k place message body None = call-reason
-reason-call k place message body (Some o) = reason-body k place o message body
+reason-call : (k : ClientState) (place : ℕ) (message : List ℕ) (body : Body) (o : Option OutstandingCall) → (call : OutstandingCall) → o ≡ Some call → VerdictReason (by_call k place message body o)
+reason-call k place message body o call is = subst (λ (x : Option OutstandingCall). VerdictReason (by_call k place message body x)) (sym is) (reason-body k place call message body)
 
 -- a message of 16 bytes has its fixed words
 abbrev NotShort : {A : Type 0} → Result A HeaderFault → Type 0
@@ -156,16 +156,16 @@ header-not_short bytes le =
     subst (λ (b : Bool). NotShort (cond b (Err faults.Short) (header_by (word_at 0 bytes) (word_at 8 bytes) body))) (sym (le-ltb (length bytes) 16 le))
       (header_by-not_short (word_at 0 bytes) (word_at 8 bytes) body (body-not_short (error_by (word_at 12 bytes) bytes) (word_at 4 bytes) (word_at 12 bytes) bytes))
 
-reason-header : (k : ClientState) (place : ℕ) (message : List ℕ) (r : Result Header HeaderFault) → NotShort r → VerdictReason (by_header k place message r)
-reason-header k place message (Ok h) fine = reason-call k place message h.body (answered_call k h.xid)
-reason-header k place message (Err faults.Short) fine = absurd fine
-reason-header k place message (Err (faults.Version version)) fine = version-reason
-reason-header k place message (Err (faults.Kind kind)) fine = kind-reason
-reason-header k place message (Err (faults.BadChunks at)) fine = kind-reason
+reason-header : (k : ClientState) (place : ℕ) (message : List ℕ) (r : Result Header HeaderFault) → header_of message ≡ r → NotShort r → (call : OutstandingCall) → answered_call k (word_at 0 message) ≡ Some call → VerdictReason (by_header k place message r)
+reason-header k place message (Ok h) is fine call found = reason-call k place message h.body (answered_call k h.xid) call (ap (λ (x : ℕ). answered_call k x) (header-xid message h is) ∙ found)
+reason-header k place message (Err faults.Short) is fine call found = absurd fine
+reason-header k place message (Err (faults.Version version)) is fine call found = version-reason
+reason-header k place message (Err (faults.Kind kind)) is fine call found = kind-reason
+reason-header k place message (Err (faults.BadChunks at)) is fine call found = kind-reason
 
-reason-verdict : (k : ClientState) (place : ℕ) (message : List ℕ) → 16 ≤ length message → VerdictReason (verdict k place message)
+reason-verdict : (k : ClientState) (place : ℕ) (message : List ℕ) → 16 ≤ length message → (call : OutstandingCall) → answered_call k (word_at 0 message) ≡ Some call → VerdictReason (verdict k place message)
 unfolding verdict
-reason-verdict k place message le = reason-header k place message (header_of message) (header-not_short message le)
+reason-verdict k place message le call found = reason-header k place message (header_of message) refl (header-not_short message le) call found
 
 reply-end : (f : Frame) (v : Verdict) (end : End) → VerdictReason v → end_of_verdict f v ≡ Some end → IsReplyEnd end
 reply-end f (EndsLink reason) end h e = (f.at, reason, cc, h)
@@ -213,10 +213,13 @@ step-piece opened k s u d all_up all_down w place (SendFrame message) rest f o l
     let reply : IsReply opened.granted message = front-down opened k s u d all_up all_down w place (SendFrame message) rest l g first in
     let whole : List ℕ = begun_bytes k.received.begun ++ message in
     let same : whole ≡ message = ap (λ (b : Option (List ℕ)). begun_bytes b ++ message) l.counts.whole_down in
+    let sent = calls_said opened k s u d all_up all_down w l in
+    let answers = answers-one opened.first_xid k s u d all_down w message (rest ++ w.queued_down) (sym l.parts_down ∙ ap (λ (ps : List FrameContent). d ++ (ps ++ w.queued_down)) first)
+        (omega (arith, sent, sent_most k, l.sends_up, ap (total_of sends_in) l.parts_up, count-append sends_in u (w.up ++ w.queued_up))) l.sends_up g.answered in
     let ends : client_end k (FrameReceived f) ≡ end_of_verdict f (verdict k f.end whole) =
         client-send opened k s w f message l.counts piece reply.least reply.most ∙ ap (λ (r : Result Segment ℕ). message_end k f (segment_message k r)) reads in
     record {
-      only = λ end e. inl (reply-end f (verdict k f.end whole) end (reason-verdict k f.end whole (omega (arith, reply.least, ap (λ (xs : List ℕ). length xs) same))) (sym ends ∙ e));
+      only = λ end e. inl (reply-end f (verdict k f.end whole) end (reason-verdict k f.end whole (omega (arith, reply.least, ap (λ (xs : List ℕ). length xs) same)) answers.0 (ap (λ (xs : List ℕ). answered_call k (word_at 0 xs)) same ∙ answers.1)) (sym ends ∙ e));
       kept = λ stays. guards-send_down opened k s u d all_up all_down w place message rest f o l g first piece hello stays;
     }
 step-piece opened k s u d all_up all_down w place (RequestFrame sink at size stag to) rest f o l g first proper piece hello =
