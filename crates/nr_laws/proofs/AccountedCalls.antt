@@ -63,6 +63,7 @@ given-lists gone k f o inline lists true h e = by o.is_revoked refl e
   where
     conveyed : Option (List ℕ)
     conveyed = reply_conveyed o.call.prog o.call.vers o.call.proc inline lists (memory_at k f.end)
+
     by : (b : Bool) → o.is_revoked ≡ b → end_of_verdict f (cond b (GivesOutcome o.xid None) (by_payload o.xid conveyed)) ≡ None → GivenOutcome gone o.xid (cond b (GivesOutcome o.xid None) (by_payload o.xid conveyed))
     by true is e = record { outcome = None; is = refl; if_none = λ x. h is }
     by false is e = given-payload gone f o.xid conveyed e
@@ -84,6 +85,7 @@ found-call gone xid (x ∷ os) o h e = by (eqb x.xid xid) x.is_written refl e (f
   where
     here : x ≡ o → eqb x.xid xid ≡ true → FoundCall gone xid o
     here same is = subst (FoundCall gone xid) same (record { own = eqb-true x.xid xid is; revoked = h.0 })
+
     by : (b c : Bool) → eqb x.xid xid ≡ b → cond (b && c) (Some x) (find (λ (y : OutstandingCall). eqb y.xid xid && y.is_written) os) ≡ Some o → (find (λ (y : OutstandingCall). eqb y.xid xid && y.is_written) os ≡ Some o → FoundCall gone xid o) → FoundCall gone xid o
     by true true is e later = here (let same : x ≡ o = cc in same) is
     by true false is e later = later e
@@ -152,6 +154,7 @@ others-stay xid x (o ∷ os) ne e = by (eqb o.xid x) (eqb o.xid xid) refl refl e
   where
     rest : List OutstandingCall
     rest = filter (λ (y : OutstandingCall). not (eqb y.xid xid)) os
+
     by : (a b : Bool) → eqb o.xid x ≡ a → eqb o.xid xid ≡ b → (a || is_outstanding os x) ≡ true → (is_outstanding os x ≡ true → is_outstanding rest x ≡ true) → is_outstanding (cond (not b) (o ∷ rest) rest) x ≡ true
     by true true own same e later = absurd (let wrong : true ≡ false = sym same ∙ differ o.xid x own xid ne in cc)
     by true false own same e later = or-left (eqb o.xid x) (is_outstanding rest x) own
@@ -169,21 +172,23 @@ message-each gone k place message g x h = by (eqb x (word_at 0 message)) refl
   where
     t : ClientState
     t = with_message k place (Some message)
+
     new : (o : Option Outcome) → g.outcome ≡ o → x ≡ word_at 0 message → IsAccounted gone t x
     new (Some outcome) is same =
         let done : outcomes_of (verdict k place message) ≡ record { xid = word_at 0 message; outcome = outcome } ∷ [] = ap outcomes_of (g.is ∙ ap (λ (o : Option Outcome). GivesOutcome (word_at 0 message) o) is) in
         let here : has_outcome (outcomes_of (verdict k place message)) x ≡ true =
-            ap (λ (cs : List CompletedCall). has_outcome cs x) done ∙ or-left (eqb (word_at 0 message) x) false (eq-eqb (word_at 0 message) x (sym same)) in
+        ap (λ (cs : List CompletedCall). has_outcome cs x) done ∙ or-left (eqb (word_at 0 message) x) false (eq-eqb (word_at 0 message) x (sym same)) in
         or-right (is_outstanding t.outstanding x) (has_outcome t.outcomes x || gone x)
-          (or-left (has_outcome t.outcomes x) (gone x) (outcome-new k.outcomes (outcomes_of (verdict k place message)) x here))
+        (or-left (has_outcome t.outcomes x) (gone x) (outcome-new k.outcomes (outcomes_of (verdict k place message)) x here))
     new None is same =
         or-right (is_outstanding t.outstanding x) (has_outcome t.outcomes x || gone x)
-          (or-right (has_outcome t.outcomes x) (gone x) (ap gone same ∙ g.if_none is))
+        (or-right (has_outcome t.outcomes x) (gone x) (ap gone same ∙ g.if_none is))
+
     by : (b : Bool) → eqb x (word_at 0 message) ≡ b → IsAccounted gone t x
     by true e = new g.outcome refl (eqb-true x (word_at 0 message) e)
     by false e =
         either (is_outstanding k.outstanding x) (has_outcome k.outcomes x) (gone x) (is_outstanding t.outstanding x) (has_outcome t.outcomes x) (gone x)
-          (others-stay (word_at 0 message) x k.outstanding e) (outcome-more k.outcomes (outcomes_of (verdict k place message)) x) (λ z. z) h
+        (others-stay (word_at 0 message) x k.outstanding e) (outcome-more k.outcomes (outcomes_of (verdict k place message)) x) (λ z. z) h
 
 request-accounts : (gone : ℕ → Bool) (xids : List ℕ) (k : ClientState) (q : Option ReadRequest) → CallsAccounted gone xids k → CallsAccounted gone xids (with_request k q)
 request-accounts gone xids k None h = h
@@ -213,7 +218,7 @@ frame-accounts opened gone xids k f e h = by (is_hello f) refl
     by false is =
         let unended = taken k f is e in
         segment-accounts gone xids k f (frame_segment f)
-          (λ message m. ap (λ (o : Option (List ℕ)). message_end k f o) (sym m) ∙ unended) h
+        (λ message m. ap (λ (o : Option (List ℕ)). message_end k f o) (sym m) ∙ unended) h
 
 -- ---- Other events
 
@@ -258,6 +263,7 @@ revoked-accounts opened gone xids k place xid is h = record {
         by : (b : Bool) → (cond b (record o { is_revoked = true }) o).xid ≡ o.xid
         by true = refl
         by false = refl
+
     kept : (o : OutstandingCall) → RevokedGone gone o → RevokedGone gone (revoked_call xid o)
     kept o h = by (eqb o.xid xid) refl
       where
@@ -270,18 +276,20 @@ unfolding client_state_after
 submit-accounts opened gone xids k place a h = record {
   each = push xids (each-to (IsAccounted gone k) (IsAccounted gone (client_state_after opened k (CallSubmitted place a))) xids
       (λ x. either (is_outstanding k.outstanding x) (has_outcome k.outcomes x) (gone x) (is_outstanding (k.outstanding ++ outstanding_of k a ∷ []) x) (has_outcome k.outcomes x) (gone x)
-        (λ e. any-append (λ (o : OutstandingCall). eqb o.xid x) k.outstanding (outstanding_of k a ∷ []) ∙ or-left (is_outstanding k.outstanding x) (is_outstanding (outstanding_of k a ∷ []) x) e) (λ z. z) (λ z. z)) h.each);
+      (λ e. any-append (λ (o : OutstandingCall). eqb o.xid x) k.outstanding (outstanding_of k a ∷ []) ∙ or-left (is_outstanding k.outstanding x) (is_outstanding (outstanding_of k a ∷ []) x) e) (λ z. z) (λ z. z)) h.each);
   revoked = more k.outstanding h.revoked;
 }
   where
     own : IsAccounted gone (client_state_after opened k (CallSubmitted place a)) a.xid
     own =
         or-left (is_outstanding (k.outstanding ++ outstanding_of k a ∷ []) a.xid) (has_outcome k.outcomes a.xid || gone a.xid)
-          (any-append (λ (o : OutstandingCall). eqb o.xid a.xid) k.outstanding (outstanding_of k a ∷ [])
-          ∙ or-right (is_outstanding k.outstanding a.xid) (is_outstanding (outstanding_of k a ∷ []) a.xid) (or-left (eqb a.xid a.xid) false (eq-eqb a.xid a.xid refl)))
+        (any-append (λ (o : OutstandingCall). eqb o.xid a.xid) k.outstanding (outstanding_of k a ∷ [])
+        ∙ or-right (is_outstanding k.outstanding a.xid) (is_outstanding (outstanding_of k a ∷ []) a.xid) (or-left (eqb a.xid a.xid) false (eq-eqb a.xid a.xid refl)))
+
     push : (xs : List ℕ) → AllByRecursion (IsAccounted gone (client_state_after opened k (CallSubmitted place a))) xs → AllByRecursion (IsAccounted gone (client_state_after opened k (CallSubmitted place a))) (xs ++ a.xid ∷ [])
     push [] h = (own, tt)
     push (x ∷ xs) h = (h.0, push xs h.1)
+
     more : (os : List OutstandingCall) → AllByRecursion (RevokedGone gone) os → AllByRecursion (RevokedGone gone) (os ++ outstanding_of k a ∷ [])
     more [] h = ((λ e. absurd cc), tt)
     more (o ∷ os) h = (h.0, more os h.1)

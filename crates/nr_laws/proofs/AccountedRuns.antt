@@ -55,7 +55,7 @@ frames-account opened gone xids (f ∷ fs) k e h =
     let after = client_state_after opened k (FrameReceived f) in
     let goes_on : (end_state_after rules (live after) (map FrameReceived fs)).ended ≡ None = ap (λ (x : EndState ClientState). (end_state_after rules x (map FrameReceived fs)).ended) (sym a.next) ∙ e in
     subst (λ (x : EndState ClientState). CallsAccounted gone xids (end_state_after rules x (map FrameReceived fs)).state) (sym a.next)
-      (frames-account opened gone xids fs after goes_on (frame-accounts opened gone xids k f a.stays h))
+    (frames-account opened gone xids fs after goes_on (frame-accounts opened gone xids k f a.stays h))
 
 -- ---- A mark
 
@@ -69,14 +69,14 @@ Accounted opened link run mark k = CallsAccounted (gone_in link (run ++ mark ∷
 by-state : (opened : LinkParameters) (link : ℕ) (run : List Mark) (mark : Mark) (k : ClientState) → accepted_at link mark ≡ [] → CallsAccounted (gone_in link run) (xids_in link run) (after_mark opened link run mark k) → Accounted opened link run mark k
 by-state opened link run mark k none h =
     let same : xids_in link (run ++ mark ∷ []) ≡ xids_in link run =
-        xids-one link run mark ∙ ap (λ (xs : List AcceptedCall). xids_in link run ++ map (λ (a : AcceptedCall). a.xid) xs) none ∙ append-nil (xids_in link run) in
+    xids-one link run mark ∙ ap (λ (xs : List AcceptedCall). xids_in link run ++ map (λ (a : AcceptedCall). a.xid) xs) none ∙ append-nil (xids_in link run) in
     subst (λ (xs : List ℕ). CallsAccounted (gone_in link (run ++ mark ∷ [])) xs (after_mark opened link run mark k)) (sym same)
-      (accounts-gone (gone_in link run) (gone_in link (run ++ mark ∷ [])) (xids_in link run) (after_mark opened link run mark k) (gone-more link run mark) h)
+    (accounts-gone (gone_in link run) (gone_in link (run ++ mark ∷ [])) (xids_in link run) (after_mark opened link run mark k) (gone-more link run mark) h)
 
 nothing : (opened : LinkParameters) (link : ℕ) (run : List Mark) (mark : Mark) (k : ClientState) → accepted_at link mark ≡ [] → events_at link Initiator run mark ≡ [] → CallsAccounted (gone_in link run) (xids_in link run) k → Accounted opened link run mark k
 nothing opened link run mark k none quiet h =
     by-state opened link run mark k none
-      (subst (λ (es : List Event). CallsAccounted (gone_in link run) (xids_in link run) (end_state_after (client_rules opened) (live k) es).state) (sym quiet) h)
+    (subst (λ (es : List Event). CallsAccounted (gone_in link run) (xids_in link run) (end_state_after (client_rules opened) (live k) es).state) (sym quiet) h)
 
 one-event-state : (opened : LinkParameters) (k : ClientState) (event : Event) → ((f : Frame) → event ≢ FrameReceived f) → (end_state_after (client_rules opened) (live k) (event ∷ [])).state ≡ client_state_after opened k event
 one-event-state opened k event other = ap (λ (x : EndState ClientState). x.state) (client-event opened k event other).state
@@ -91,20 +91,23 @@ account-mark opened link run (marks.Submit l call form (submissions.Accepted xid
   where
     a : AcceptedCall
     a = record { xid = xid; call = call; form = form }
+
     mark : Mark
     mark = marks.Submit l call form (submissions.Accepted xid)
+
     place : ℕ
     place = length (bytes_received link Initiator run)
+
     by : (b : Bool) → eqb l link ≡ b → Accounted opened link run (marks.Submit l call form (submissions.Accepted xid)) k
     by true is =
         let es : events_at link Initiator run mark ≡ CallSubmitted place a ∷ [] = ap (λ (b : Bool). if_own (b && true) (CallSubmitted place a ∷ [])) is in
         let xs : xids_in link (run ++ mark ∷ []) ≡ xids_in link run ++ xid ∷ [] =
-            xids-one link run mark ∙ ap (λ (b : Bool). xids_in link run ++ map (λ (c : AcceptedCall). c.xid) (cond b (a ∷ []) [])) is in
+        xids-one link run mark ∙ ap (λ (b : Bool). xids_in link run ++ map (λ (c : AcceptedCall). c.xid) (cond b (a ∷ []) [])) is in
         subst (λ (ns : List ℕ). CallsAccounted (gone_in link (run ++ mark ∷ [])) ns (after_mark opened link run mark k)) (sym xs)
-          (subst (λ (evs : List Event). CallsAccounted (gone_in link (run ++ mark ∷ [])) (xids_in link run ++ xid ∷ []) (end_state_after (client_rules opened) (live k) evs).state) (sym es)
-            (subst (λ (t : ClientState). CallsAccounted (gone_in link (run ++ mark ∷ [])) (xids_in link run ++ xid ∷ []) t) (sym (one-event-state opened k (CallSubmitted place a) (λ f x. absurd cc)))
-              (accounts-gone (gone_in link run) (gone_in link (run ++ mark ∷ [])) (xids_in link run ++ xid ∷ []) (client_state_after opened k (CallSubmitted place a)) (gone-more link run mark)
-                (submit-accounts opened (gone_in link run) (xids_in link run) k place a h))))
+        (subst (λ (evs : List Event). CallsAccounted (gone_in link (run ++ mark ∷ [])) (xids_in link run ++ xid ∷ []) (end_state_after (client_rules opened) (live k) evs).state) (sym es)
+        (subst (λ (t : ClientState). CallsAccounted (gone_in link (run ++ mark ∷ [])) (xids_in link run ++ xid ∷ []) t) (sym (one-event-state opened k (CallSubmitted place a) (λ f x. absurd cc)))
+        (accounts-gone (gone_in link run) (gone_in link (run ++ mark ∷ [])) (xids_in link run ++ xid ∷ []) (client_state_after opened k (CallSubmitted place a)) (gone-more link run mark)
+        (submit-accounts opened (gone_in link run) (xids_in link run) k place a h))))
     by false is = nothing opened link run mark k (accepted-other (eqb l link) (a ∷ []) is) (no-events (eqb l link) true _ is) h
 account-mark opened link run (marks.Submit l call form (submissions.Refused why)) k e h = nothing opened link run (marks.Submit l call form (submissions.Refused why)) k (by (eqb l link)) refl h
   where
@@ -120,25 +123,28 @@ account-mark opened link run (marks.Wrote l Initiator bytes) k e h = by (eqb l l
   where
     mark : Mark
     mark = marks.Wrote l Initiator bytes
+
     by : (b : Bool) → eqb l link ≡ b → Accounted opened link run (marks.Wrote l Initiator bytes) k
     by true is =
         by-state opened link run mark k refl
-          (subst (λ (evs : List Event). CallsAccounted (gone_in link run) (xids_in link run) (end_state_after (client_rules opened) (live k) evs).state) (sym (ap (λ (b : Bool). if_own (b && true) (QueueWritten ∷ [])) is))
-            (subst (λ (t : ClientState). CallsAccounted (gone_in link run) (xids_in link run) t) (sym (one-event-state opened k QueueWritten (λ f x. absurd cc))) (written-accounts opened (gone_in link run) (xids_in link run) k h)))
+        (subst (λ (evs : List Event). CallsAccounted (gone_in link run) (xids_in link run) (end_state_after (client_rules opened) (live k) evs).state) (sym (ap (λ (b : Bool). if_own (b && true) (QueueWritten ∷ [])) is))
+        (subst (λ (t : ClientState). CallsAccounted (gone_in link run) (xids_in link run) t) (sym (one-event-state opened k QueueWritten (λ f x. absurd cc))) (written-accounts opened (gone_in link run) (xids_in link run) k h)))
     by false is = nothing opened link run mark k refl (no-events (eqb l link) true _ is) h
 account-mark opened link run (marks.Wrote l Responder bytes) k e h = nothing opened link run (marks.Wrote l Responder bytes) k refl (other-events (eqb l link) (QueueWritten ∷ [])) h
 account-mark opened link run (marks.Fed l Initiator bytes) k e h = by (eqb l link) refl
   where
     mark : Mark
     mark = marks.Fed l Initiator bytes
+
     fs : List Frame
     fs = frames_completed Responder (bytes_received link Initiator run) bytes
+
     by : (b : Bool) → eqb l link ≡ b → Accounted opened link run (marks.Fed l Initiator bytes) k
     by true is =
         let es : events_at link Initiator run mark ≡ map FrameReceived fs = ap (λ (b : Bool). if_own (b && true) (map FrameReceived fs)) is in
         by-state opened link run mark k refl
-          (subst (λ (evs : List Event). CallsAccounted (gone_in link run) (xids_in link run) (end_state_after (client_rules opened) (live k) evs).state) (sym es)
-            (frames-account opened (gone_in link run) (xids_in link run) fs k (ap (λ (evs : List Event). (end_state_after (client_rules opened) (live k) evs).ended) (sym es) ∙ e) h))
+        (subst (λ (evs : List Event). CallsAccounted (gone_in link run) (xids_in link run) (end_state_after (client_rules opened) (live k) evs).state) (sym es)
+        (frames-account opened (gone_in link run) (xids_in link run) fs k (ap (λ (evs : List Event). (end_state_after (client_rules opened) (live k) evs).ended) (sym es) ∙ e) h))
     by false is = nothing opened link run mark k refl (no-events (eqb l link) true _ is) h
 account-mark opened link run (marks.Fed l Responder bytes) k e h = nothing opened link run (marks.Fed l Responder bytes) k refl (other-events (eqb l link) _) h
 account-mark opened link run (marks.Execute l xid moment payload place reply) k e h = nothing opened link run (marks.Execute l xid moment payload place reply) k refl (other-events (eqb l link) _) h
@@ -149,18 +155,20 @@ account-mark opened link run (marks.Revoke l xid bytes) k e h = by (eqb l link) 
   where
     mark : Mark
     mark = marks.Revoke l xid bytes
+
     place : ℕ
     place = length (bytes_received link Initiator run)
+
     by : (b : Bool) → eqb l link ≡ b → Accounted opened link run (marks.Revoke l xid bytes) k
     by true is =
         let es : events_at link Initiator run mark ≡ MemoryRevoked place xid ∷ [] = ap (λ (b : Bool). if_own (b && true) (MemoryRevoked place xid ∷ [])) is in
         let gone : gone_in link (run ++ mark ∷ []) xid ≡ true = gone-new link run mark xid (λ i. is i && eq-eqb xid xid refl i) in
         let same : xids_in link (run ++ mark ∷ []) ≡ xids_in link run = xids-one link run mark ∙ append-nil (xids_in link run) in
         subst (λ (xs : List ℕ). CallsAccounted (gone_in link (run ++ mark ∷ [])) xs (after_mark opened link run mark k)) (sym same)
-          (subst (λ (evs : List Event). CallsAccounted (gone_in link (run ++ mark ∷ [])) (xids_in link run) (end_state_after (client_rules opened) (live k) evs).state) (sym es)
-            (subst (λ (t : ClientState). CallsAccounted (gone_in link (run ++ mark ∷ [])) (xids_in link run) t) (sym (one-event-state opened k (MemoryRevoked place xid) (λ f x. absurd cc)))
-              (revoked-accounts opened (gone_in link (run ++ mark ∷ [])) (xids_in link run) k place xid gone
-                (accounts-gone (gone_in link run) (gone_in link (run ++ mark ∷ [])) (xids_in link run) k (gone-more link run mark) h))))
+        (subst (λ (evs : List Event). CallsAccounted (gone_in link (run ++ mark ∷ [])) (xids_in link run) (end_state_after (client_rules opened) (live k) evs).state) (sym es)
+        (subst (λ (t : ClientState). CallsAccounted (gone_in link (run ++ mark ∷ [])) (xids_in link run) t) (sym (one-event-state opened k (MemoryRevoked place xid) (λ f x. absurd cc)))
+        (revoked-accounts opened (gone_in link (run ++ mark ∷ [])) (xids_in link run) k place xid gone
+        (accounts-gone (gone_in link run) (gone_in link (run ++ mark ∷ [])) (xids_in link run) k (gone-more link run mark) h))))
     by false is = nothing opened link run mark k refl (no-events (eqb l link) true _ is) h
 account-mark opened link run (marks.Drop l) k e h = nothing opened link run (marks.Drop l) k refl refl h
 
@@ -176,12 +184,12 @@ accounts-from opened link (m ∷ run) before e h =
     let stays : (client opened link before).ended ≡ None = client-unended opened link before (m ∷ run) e in
     let is : client opened link before ≡ live k = λ i. record { state = k; ended = stays i } in
     let next : client opened link (before ++ m ∷ []) ≡ end_state_after (client_rules opened) (live k) (events_at link Initiator before m) =
-        client-one opened link before m ∙ ap (λ (r : EndState ClientState). end_state_after (client_rules opened) r (events_at link Initiator before m)) is in
+    client-one opened link before m ∙ ap (λ (r : EndState ClientState). end_state_after (client_rules opened) r (events_at link Initiator before m)) is in
     let unended = ap (λ (r : EndState ClientState). r.ended) (sym next) ∙ client-unended opened link (before ++ m ∷ []) run all in
     let one = account-mark opened link before m k unended h in
     subst (λ (r : List Mark). CallsAccounted (gone_in link r) (xids_in link r) (client opened link r).state) assoc
-      (accounts-from opened link run (before ++ m ∷ []) all
-        (subst (λ (r : EndState ClientState). CallsAccounted (gone_in link (before ++ m ∷ [])) (xids_in link (before ++ m ∷ [])) r.state) (sym next) one))
+    (accounts-from opened link run (before ++ m ∷ []) all
+    (subst (λ (r : EndState ClientState). CallsAccounted (gone_in link (before ++ m ∷ [])) (xids_in link (before ++ m ∷ [])) r.state) (sym next) one))
 
 accounts-first : (opened : LinkParameters) (link : ℕ) → CallsAccounted (gone_in link []) (xids_in link []) (client opened link []).state
 unfolding client events accepted_calls

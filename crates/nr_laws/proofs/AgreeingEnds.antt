@@ -1,5 +1,4 @@
--- All that holds between both ends of a link of which neither has ended: by the pieces that each side received, and those that
--- each side said.
+-- All that holds between both ends of a link of which neither has ended, given the frames that each side received and sent.
 use Rattle.std.proofs.Common.{◌≡◌, ℕ, ◌+◌, ◌<◌, true, false, cond, eqb, List, [], ◌∷◌, ◌++◌, length, replicate, Option, Some, None, Result, Ok, refl, sym, ap, subst, ◌∙◌, arith, append_assoc, append-nil}
 use Rattle.nr_xdr.specs.Item.{IsBytes}
 use Rattle.nr_xdr.proofs.Chains.{IsBytes-left, IsBytes-right}
@@ -23,16 +22,16 @@ use Rattle.nr_reduce.specs.Server.{server_end, server_state_after, server_output
 use Rattle.nr_laws.specs.FrameContents.{FrameContent, numbered_segment, frame_bytes, output_bytes, total_of, sends_in, requests_in, hellos_in, effect_frames, server_frames, Carries}
 use Rattle.nr_laws.specs.FrameContents.FrameContent.{HelloFrame, SendFrame, RequestFrame, TaggedFrame}
 use Rattle.nr_laws.specs.LinkInvariants.{Transit, TotalsAgree, PendingAgree}
-use Rattle.nr_laws.proofs.Totals.{count-append}
+use Rattle.nr_laws.proofs.Totals.{total-append}
 use Rattle.nr_laws.proofs.CompletedFrames.{is-piece}
-use Rattle.nr_laws.proofs.TotalsAtServer.{counts-hello_up, counts-send_up, counts-tagged_up, after-is, step-is, segment-is, with_by, reads-said, hello-said}
-use Rattle.nr_laws.proofs.PendingFrames.{waits-send_up, waits-tagged_up}
+use Rattle.nr_laws.proofs.TotalsAtServer.{totals-hello_up, totals-send_up, totals-tagged_up, after-is, step-is, segment-is, with_by, reads-said, hello-said}
+use Rattle.nr_laws.proofs.PendingFrames.{pending_agree-send_up, pending_agree-tagged_up}
 use Rattle.nr_laws.proofs.OwnXids.{OwnXids}
 use Rattle.nr_laws.proofs.OutputFrames.{AllShort, step-said}
 use Rattle.nr_laws.proofs.Writable.{IsWritable, IsOutput, proper_one, stream-more, stream-none, stream-first, stream-at}
 use Rattle.nr_laws.proofs.ServerOutput.{CallsFit, SaysFine, fine-send, fine-tagged}
 
--- `u` and `d` are what the server and the client received, `all_up` and `all_down` what the client and the server said
+-- `u` and `d` are what the server and the client received, `all_up` and `all_down` what the client and the server sent or queued
 pub record EndsAgree (opened : LinkParameters) (k : ClientState) (s : ServerState) (u d all_up all_down : List FrameContent) (w : Transit) : Type 0 where
   pub parts_up : u ++ (w.up ++ w.queued_up) ≡ all_up
   pub parts_down : d ++ (w.down ++ w.queued_down) ≡ all_down
@@ -57,7 +56,7 @@ abbrev pub IsPlace : List FrameContent → ℕ → Type 0
 IsPlace [] place = place ≡ 0
 IsPlace (p ∷ ps) place = 0 < place
 
--- the frame of a piece behind so many Sends and Read Requests
+-- the frame of a frame behind so many Sends and Read Requests
 abbrev pub frame_of : List ℕ → ℕ → Frame
 frame_of bytes place = record { at = place; end = place + length bytes; bytes = bytes }
 
@@ -72,7 +71,7 @@ pub not-refused : (opened : LinkParameters) (s : ServerState) (f : Frame) → is
 unfolding server_end
 not-refused opened s f behind e =
     refusal-by s f (frame_end (readiness opened s) (region_grants f.end s.regions) f) (frame_effect s f).refusal refl
-      ((λ i. cond (sym behind i) (hello_end (hello_of Initiator f.bytes)) (or_refusal s f (frame_end (readiness opened s) (region_grants f.end s.regions) f))) ∙ e)
+    ((λ i. cond (sym behind i) (hello_end (hello_of Initiator f.bytes)) (or_refusal s f (frame_end (readiness opened s) (region_grants f.end s.regions) f))) ∙ e)
 
 pub says-hello : (opened : LinkParameters) (s : ServerState) (f : Frame) → is_hello f ≡ true → server_frames opened s (FrameReceived f) ≡ HelloFrame ∷ []
 unfolding server_frames
@@ -115,19 +114,19 @@ server-linked opened k s t u d all_up all_down w p rest said l first counts wait
   stream_up = l.stream_up;
   begins_up = l.begins_up;
   stream_down = stream;
-  hellos_down = omega (arith, count-append hellos_in all_down said, count-append hellos_in u (p ∷ []), hellos, l.hellos_down);
+  hellos_down = omega (arith, total-append hellos_in all_down said, total-append hellos_in u (p ∷ []), hellos, l.hellos_down);
   no_reads = l.no_reads;
-  sends_up = omega (arith, sends, l.sends_up, count-append sends_in u (p ∷ []));
-  requests_up = omega (arith, requests, l.requests_up, count-append requests_in u (p ∷ []));
+  sends_up = omega (arith, sends, l.sends_up, total-append sends_in u (p ∷ []));
+  requests_up = omega (arith, requests, l.requests_up, total-append requests_in u (p ∷ []));
   sends_down = l.sends_down;
   requests_down = l.requests_down;
-  requests_sent = omega (arith, asked, l.requests_sent, count-append requests_in all_down said);
+  requests_sent = omega (arith, asked, l.requests_sent, total-append requests_in all_down said);
 }
 
 -- the messages of the server so far
 pub messages_said : (opened : LinkParameters) (k : ClientState) (s : ServerState) (u d all_up all_down : List FrameContent) (w : Transit) → EndsAgree opened k s u d all_up all_down w → s.messages_queued ≡ total_of sends_in all_down
 messages_said opened k s u d all_up all_down w l =
-    omega (arith, l.counts.messages_down, l.sends_down, ap (total_of sends_in) l.parts_down, count-append sends_in d (w.down ++ w.queued_down), count-append sends_in w.down w.queued_down)
+    omega (arith, l.counts.messages_down, l.sends_down, ap (total_of sends_in) l.parts_down, total-append sends_in d (w.down ++ w.queued_down), total-append sends_in w.down w.queued_down)
 
 pub record ServerTook (opened : LinkParameters) (k : ClientState) (s : ServerState) (u d all_up all_down : List FrameContent) (w : Transit) (p : FrameContent) (rest : List FrameContent) (f : Frame) : Type 0 where
   pub said : List FrameContent
@@ -151,19 +150,19 @@ took-hello opened k s u d all_up all_down w rest f l first none is =
     let after = after-hello opened s f is in
     let empty : all_down ≡ [] = stream-none all_down l.stream_down (l.hellos_down ∙ ap (total_of hellos_in) none) in
     let counts : TotalsAgree k (server_state_after opened s (FrameReceived f)) (taken_up w rest (HelloFrame ∷ [])) =
-        subst (λ (said : List FrameContent). TotalsAgree k (server_state_after opened s (FrameReceived f)) (taken_up w rest said)) says (counts-hello_up opened k s w f rest l.counts first is) in
+    subst (λ (said : List FrameContent). TotalsAgree k (server_state_after opened s (FrameReceived f)) (taken_up w rest said)) says (totals-hello_up opened k s w f rest l.counts first is) in
     record {
       said = HelloFrame ∷ [];
       said_is = sym says;
       output = output-hello opened s f is ∙ sym (append-nil (own_hello Responder));
       linked =
           server-linked opened k s (server_state_after opened s (FrameReceived f)) u d all_up all_down w HelloFrame rest (HelloFrame ∷ []) l first counts
-            (subst (λ (t : ServerState). PendingAgree t) (sym after) l.waits) (subst (λ (t : ServerState). CallsFit t.calls) (sym after) l.fits)
-            (subst (λ (ps : List FrameContent). IsOutput (ps ++ HelloFrame ∷ [])) (sym empty) tt) refl
-            (omega (arith, ap (λ (t : ServerState). t.received.sends) after)) (omega (arith, ap (λ (t : ServerState). t.received.requests) after)) (omega (arith, ap (λ (t : ServerState). t.requests_sent) after));
+          (subst (λ (t : ServerState). PendingAgree t) (sym after) l.waits) (subst (λ (t : ServerState). CallsFit t.calls) (sym after) l.fits)
+          (subst (λ (ps : List FrameContent). IsOutput (ps ++ HelloFrame ∷ [])) (sym empty) tt) refl
+          (omega (arith, ap (λ (t : ServerState). t.received.sends) after)) (omega (arith, ap (λ (t : ServerState). t.received.requests) after)) (omega (arith, ap (λ (t : ServerState). t.requests_sent) after));
     }
 
--- another frame, by what its effect says
+-- another frame, by what its effect sends
 took-frame : (opened : LinkParameters) (k : ClientState) (s : ServerState) (u d all_up all_down : List FrameContent) (w : Transit) (p : FrameContent) (rest : List FrameContent) (f : Frame) (r : Result Segment ℕ) → EndsAgree opened k s u d all_up all_down w → w.up ≡ p ∷ rest
     → is_hello f ≡ false → frame_segment f ≡ r → 0 < total_of hellos_in all_down → hellos_in p ≡ 0 → SaysFine (frame_effect s f)
     → TotalsAgree k (server_state_after opened s (FrameReceived f)) (taken_up w rest (effect_frames (frame_effect s f))) → PendingAgree (server_state_after opened s (FrameReceived f))
@@ -181,14 +180,14 @@ took-frame opened k s u d all_up all_down w p rest f r l first behind is some no
           ∙ (λ i. output_bytes Responder (messages_said opened k s u d all_up all_down w l i) (l.requests_sent i) said);
       linked =
           server-linked opened k s (server_state_after opened s (FrameReceived f)) u d all_up all_down w p rest said l first counts waits
-            (subst CallsFit (ap (λ (e : FrameEffect). e.calls) effect ∙ ap (λ (t : ServerState). t.calls) (sym after)) fine.fit)
-            (stream-more all_down said l.stream_down some fine.proper)
-            (hello-said (frame_effect s f) ∙ sym no_hello)
-            (ap (λ (t : ServerState). t.received.sends) after ∙ sends) (ap (λ (t : ServerState). t.received.requests) after ∙ requests)
-            (omega (arith, ap (λ (t : ServerState). t.requests_sent) after, ap (λ (e : FrameEffect). length (newly_open_reads e)) effect, reads-said (frame_effect s f)));
+          (subst CallsFit (ap (λ (e : FrameEffect). e.calls) effect ∙ ap (λ (t : ServerState). t.calls) (sym after)) fine.fit)
+          (stream-more all_down said l.stream_down some fine.proper)
+          (hello-said (frame_effect s f) ∙ sym no_hello)
+          (ap (λ (t : ServerState). t.received.sends) after ∙ sends) (ap (λ (t : ServerState). t.received.requests) after ∙ requests)
+          (omega (arith, ap (λ (t : ServerState). t.requests_sent) after, ap (λ (e : FrameEffect). length (newly_open_reads e)) effect, reads-said (frame_effect s f)));
     }
 
--- a piece behind the hello
+-- a frame behind the hello
 took-piece : (opened : LinkParameters) (k : ClientState) (s : ServerState) (u d all_up all_down : List FrameContent) (w : Transit) (p : FrameContent) (rest : List FrameContent) (f : Frame) → EndsAgree opened k s u d all_up all_down w → w.up ≡ p ∷ rest
     → IsWritable p → 0 < total_of hellos_in all_down → Carries s.received.sends s.received.requests f p → IsBytes f.bytes → f.bytes ≡ frame_bytes Initiator (numbered_segment s.received.sends s.received.requests p)
     → server_end opened s (FrameReceived f) ≡ None → ServerTook opened k s u d all_up all_down w p rest f
@@ -199,17 +198,17 @@ took-piece opened k s u d all_up all_down w (SendFrame message) rest f l first p
     let goes_on = not-refused opened s f piece.behind stays in
     let fine = fine-send s f message l.counts.whole_up (payload_bytes segment (subst IsBytes is bytes)) l.fits reads in
     took-frame opened k s u d all_up all_down w (SendFrame message) rest f (Ok segment) l first piece.behind reads some refl fine
-      (counts-send_up opened k s w f message rest l.counts first piece goes_on)
-      (waits-send_up opened s f message l.waits piece goes_on) refl (omega arith)
+    (totals-send_up opened k s w f message rest l.counts first piece goes_on)
+    (pending_agree-send_up opened s f message l.waits piece goes_on) refl (omega arith)
 took-piece opened k s u d all_up all_down w (RequestFrame sink at size stag to) rest f l first proper some piece bytes is stays =
-    absurd (omega (arith, l.no_reads, ap (total_of requests_in) l.parts_up, count-append requests_in u (w.up ++ w.queued_up), count-append requests_in w.up w.queued_up, ap (total_of requests_in) first))
+    absurd (omega (arith, l.no_reads, ap (total_of requests_in) l.parts_up, total-append requests_in u (w.up ++ w.queued_up), total-append requests_in w.up w.queued_up, ap (total_of requests_in) first))
 took-piece opened k s u d all_up all_down w (TaggedFrame last opcode stag to payload) rest f l first proper some piece bytes is stays =
     let segment : Segment = Tagged last opcode stag to payload in
     let reads : frame_segment f ≡ Ok segment = segment-is s.received.sends s.received.requests f (TaggedFrame last opcode stag to payload) segment piece refl in
     let goes_on = not-refused opened s f piece.behind stays in
     took-frame opened k s u d all_up all_down w (TaggedFrame last opcode stag to payload) rest f (Ok segment) l first piece.behind reads some refl (fine-tagged s f last opcode stag to payload l.fits reads)
-      (counts-tagged_up opened k s w f last opcode stag to payload rest l.counts l.waits.numbers first piece)
-      (waits-tagged_up opened s f last opcode stag to payload l.waits piece goes_on) (omega arith) (omega arith)
+    (totals-tagged_up opened k s w f last opcode stag to payload rest l.counts l.waits.numbers first piece)
+    (pending_agree-tagged_up opened s f last opcode stag to payload l.waits piece goes_on) (omega arith) (omega arith)
 
 pub server-took : (opened : LinkParameters) (k : ClientState) (s : ServerState) (u d all_up all_down : List FrameContent) (w : Transit) (p : FrameContent) (rest : List FrameContent) (n r place : ℕ) → EndsAgree opened k s u d all_up all_down w → w.up ≡ p ∷ rest
     → n ≡ total_of sends_in u → r ≡ total_of requests_in u → IsPlace u place → IsBytes (frame_bytes Initiator (numbered_segment n r p))
@@ -220,7 +219,7 @@ server-took opened k s [] d all_up all_down w p rest n r place l first sends req
     let hello : p ≡ HelloFrame = stream-first p (rest ++ w.queued_up) stream in
     let f = frame_of (frame_bytes Initiator (numbered_segment n r p)) place in
     subst (λ (q : FrameContent). ServerTook opened k s [] d all_up all_down w q rest f) (sym hello)
-      (took-hello opened k s [] d all_up all_down w rest f l (first ∙ ap (λ (q : FrameContent). q ∷ rest) hello) refl (ap (λ (x : ℕ). eqb x 0) at))
+    (took-hello opened k s [] d all_up all_down w rest f l (first ∙ ap (λ (q : FrameContent). q ∷ rest) hello) refl (ap (λ (x : ℕ). eqb x 0) at))
 server-took opened k s (q ∷ u) d all_up all_down w p rest n r place l first sends requests at bytes stays =
     let stream : IsOutput (q ∷ u ++ p ∷ (rest ++ w.queued_up)) = subst IsOutput (sym l.parts_up ∙ ap (λ (ps : List FrameContent). q ∷ u ++ (ps ++ w.queued_up)) first) l.stream_up in
     let proper = stream-at q u p (rest ++ w.queued_up) stream in
@@ -229,8 +228,8 @@ server-took opened k s (q ∷ u) d all_up all_down w p rest n r place l first se
     let r_is : r ≡ s.received.requests = requests ∙ sym l.requests_up in
     let begun : 0 < total_of hellos_in (q ∷ u) = hello-there q u (p ∷ (rest ++ w.queued_up)) stream in
     took-piece opened k s (q ∷ u) d all_up all_down w p rest f l first proper (omega (arith, begun, l.hellos_down))
-      (subst (λ (x : ℕ). Carries x s.received.requests f p) n_is (subst (λ (x : ℕ). Carries n x f p) r_is (is-piece Initiator n r place p (proper_one n r p proper) at)))
-      bytes (λ i. frame_bytes Initiator (numbered_segment (n_is i) (r_is i) p)) stays
+    (subst (λ (x : ℕ). Carries x s.received.requests f p) n_is (subst (λ (x : ℕ). Carries n x f p) r_is (is-piece Initiator n r place p (proper_one n r p proper) at)))
+    bytes (λ i. frame_bytes Initiator (numbered_segment (n_is i) (r_is i) p)) stays
   where
     hello-there : (q : FrameContent) (ps qs : List FrameContent) → IsOutput (q ∷ ps ++ qs) → 0 < total_of hellos_in (q ∷ ps)
     hello-there HelloFrame ps qs h = omega arith

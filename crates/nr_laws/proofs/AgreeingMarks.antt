@@ -1,4 +1,4 @@
--- Each mark keeps what holds between both ends of a link; so it holds of each run of a matched link of which no side has ended.
+-- Each mark keeps what holds between both ends of a link.
 use Rattle.std.proofs.Common.{◌≡◌, ◌≢◌, ℕ, ◌<◌, eqb, List, [], ◌∷◌, ◌++◌, length, Option, Some, None, refl, sym, ap, subst, ◌∙◌, arith, append-nil}
 use Rattle.std.specs.Prelude.{slice_get}
 use Rattle.nr_xdr.specs.Item.{IsBytes}
@@ -146,50 +146,50 @@ goes-submit opened link run call form xid j h =
     let planned = ap (λ (r : EndState ClientState). plan_for r.state xid call form) (sym j.client_is) ∙ h.planned in
     let m = submitted opened j.k j.s j.u j.d j.all_up j.all_down j.w place a h.plan j.linked own planned in
     goes-client opened link run (marks.Submit link call form (submissions.Accepted xid)) j (CallSubmitted place a) m.said (up_more j.w m.said) (λ f e. absurd cc) m.linked m.output
-      (own-events link (CallSubmitted place a ∷ [])) (other-events (eqb link link) (CallSubmitted (length (bytes_received link Responder run)) a ∷ [])) refl refl refl
-      (append-nil (bytes_sent link Initiator run) ∙ j.sent_up) refl
-      (λ o within g.
-        let room : length j.k.outstanding < j.k.grant = room-of opened link run j (within refl) in
-        subst (λ (ps : List FrameContent). Guards opened (client_state_after opened j.k (CallSubmitted place a)) j.s j.u j.d (j.all_up ++ ps) j.all_down (up_more j.w ps) (place_of j.u)) (sym m.said_is)
-          (guards-submit opened j.k j.s j.u j.d j.all_up j.all_down j.w (place_of j.u) place a h.plan j.linked g planned own h.xids room))
+    (own-events link (CallSubmitted place a ∷ [])) (other-events (eqb link link) (CallSubmitted (length (bytes_received link Responder run)) a ∷ [])) refl refl refl
+    (append-nil (bytes_sent link Initiator run) ∙ j.sent_up) refl
+    (λ o within g.
+    let room : length j.k.outstanding < j.k.grant = room-of opened link run j (within refl) in
+    subst (λ (ps : List FrameContent). Guards opened (client_state_after opened j.k (CallSubmitted place a)) j.s j.u j.d (j.all_up ++ ps) j.all_down (up_more j.w ps) (place_of j.u)) (sym m.said_is)
+    (guards-submit opened j.k j.s j.u j.d j.all_up j.all_down j.w (place_of j.u) place a h.plan j.linked g planned own h.xids room))
 
 pub goes-wrote_up : (opened : LinkParameters) (link : ℕ) (run : List Mark) (bytes : List ℕ) (j : RunAgrees opened link run) → bytes_sent link Initiator run ++ bytes ≡ output_due opened link Initiator run
     → MarkAgrees opened link run (marks.Wrote link Initiator bytes) j
 unfolding client_output
 goes-wrote_up opened link run bytes j all =
     let l = subst (λ (ps : List FrameContent). EndsAgree opened (client_state_after opened j.k QueueWritten) j.s j.u j.d ps j.all_down (record { queued_up = []; up = j.w.up ++ j.w.queued_up; queued_down = j.w.queued_down; down = j.w.down }))
-        (sym (append-nil j.all_up)) (written_up opened j.k j.s j.u j.d j.all_up j.all_down j.w j.linked) in
+    (sym (append-nil j.all_up)) (written_up opened j.k j.s j.u j.d j.all_up j.all_down j.w j.linked) in
     goes-client opened link run (marks.Wrote link Initiator bytes) j QueueWritten [] (record { queued_up = []; up = j.w.up ++ j.w.queued_up; queued_down = j.w.queued_down; down = j.w.down }) (λ f e. absurd cc) l refl
-      (own-events link (QueueWritten ∷ [])) (other-events (eqb link link) (QueueWritten ∷ [])) refl refl (other-bytes (eqb link link) bytes)
-      (ap (λ (xs : List ℕ). bytes_sent link Initiator run ++ xs) (own-bytes link bytes) ∙ all ∙ j.due_up ∙ ap (λ (ps : List FrameContent). output_bytes Initiator 0 0 ps) (sym j.linked.parts_up)) refl
-      (λ o within g.
-        guards-down opened (client_state_after opened j.k QueueWritten) j.s j.u j.d j.all_up j.all_down (record { queued_up = []; up = j.w.up ++ j.w.queued_up; queued_down = j.w.queued_down; down = j.w.down }) (place_of j.u)
-          (guards-written_up opened j.k j.s j.u j.d j.all_up j.all_down j.w (place_of j.u) j.linked g))
+    (own-events link (QueueWritten ∷ [])) (other-events (eqb link link) (QueueWritten ∷ [])) refl refl (other-bytes (eqb link link) bytes)
+    (ap (λ (xs : List ℕ). bytes_sent link Initiator run ++ xs) (own-bytes link bytes) ∙ all ∙ j.due_up ∙ ap (λ (ps : List FrameContent). output_bytes Initiator 0 0 ps) (sym j.linked.parts_up)) refl
+    (λ o within g.
+    guards-down opened (client_state_after opened j.k QueueWritten) j.s j.u j.d j.all_up j.all_down (record { queued_up = []; up = j.w.up ++ j.w.queued_up; queued_down = j.w.queued_down; down = j.w.down }) (place_of j.u)
+    (guards-written_up opened j.k j.s j.u j.d j.all_up j.all_down j.w (place_of j.u) j.linked g))
 
 pub goes-revoke : (opened : LinkParameters) (link : ℕ) (run : List Mark) (xid : ℕ) (bytes : List ℕ) (j : RunAgrees opened link run) → MarkAgrees opened link run (marks.Revoke link xid bytes) j
 unfolding client_output
 goes-revoke opened link run xid bytes j =
     let place = length (bytes_received link Initiator run) in
     let l = subst (λ (ps : List FrameContent). EndsAgree opened (client_state_after opened j.k (MemoryRevoked place xid)) j.s j.u j.d ps j.all_down j.w) (sym (append-nil j.all_up))
-        (revoked opened j.k j.s j.u j.d j.all_up j.all_down j.w place xid j.linked) in
+    (revoked opened j.k j.s j.u j.d j.all_up j.all_down j.w place xid j.linked) in
     goes-client opened link run (marks.Revoke link xid bytes) j (MemoryRevoked place xid) [] j.w (λ f e. absurd cc) l refl
-      (own-events link (MemoryRevoked place xid ∷ [])) (other-events (eqb link link) (MemoryRevoked (length (bytes_received link Responder run)) xid ∷ [])) refl refl refl
-      (append-nil (bytes_sent link Initiator run) ∙ j.sent_up) refl
-      (λ o within g.
-        guards-down opened (client_state_after opened j.k (MemoryRevoked place xid)) j.s j.u j.d j.all_up j.all_down j.w (place_of j.u) (guards-revoke opened j.k j.s j.u j.d j.all_up j.all_down j.w (place_of j.u) place xid g))
+    (own-events link (MemoryRevoked place xid ∷ [])) (other-events (eqb link link) (MemoryRevoked (length (bytes_received link Responder run)) xid ∷ [])) refl refl refl
+    (append-nil (bytes_sent link Initiator run) ∙ j.sent_up) refl
+    (λ o within g.
+    guards-down opened (client_state_after opened j.k (MemoryRevoked place xid)) j.s j.u j.d j.all_up j.all_down j.w (place_of j.u) (guards-revoke opened j.k j.s j.u j.d j.all_up j.all_down j.w (place_of j.u) place xid g))
 
 pub goes-wrote_down : (opened : LinkParameters) (link : ℕ) (run : List Mark) (bytes : List ℕ) (j : RunAgrees opened link run) → bytes_sent link Responder run ++ bytes ≡ output_due opened link Responder run
     → MarkAgrees opened link run (marks.Wrote link Responder bytes) j
 unfolding server_output
 goes-wrote_down opened link run bytes j all =
     let l = subst (λ (ps : List FrameContent). EndsAgree opened j.k (server_state_after opened j.s QueueWritten) j.u j.d j.all_up ps (record { queued_up = j.w.queued_up; up = j.w.up; queued_down = []; down = j.w.down ++ j.w.queued_down }))
-        (sym (append-nil j.all_down)) (written_down opened j.k j.s j.u j.d j.all_up j.all_down j.w j.linked) in
+    (sym (append-nil j.all_down)) (written_down opened j.k j.s j.u j.d j.all_up j.all_down j.w j.linked) in
     goes-server opened link run (marks.Wrote link Responder bytes) j QueueWritten [] (record { queued_up = j.w.queued_up; up = j.w.up; queued_down = []; down = j.w.down ++ j.w.queued_down }) (λ f e. absurd cc) l refl
-      (other-events (eqb link link) (QueueWritten ∷ [])) (own-events link (QueueWritten ∷ [])) refl refl (other-bytes (eqb link link) bytes)
-      (ap (λ (xs : List ℕ). bytes_sent link Responder run ++ xs) (own-bytes link bytes) ∙ all ∙ j.due_down ∙ ap (λ (ps : List FrameContent). output_bytes Responder 0 0 ps) (sym j.linked.parts_down)) refl
-      (λ o g.
-        guards-up opened j.k (server_state_after opened j.s QueueWritten) j.u j.d j.all_up j.all_down (record { queued_up = j.w.queued_up; up = j.w.up; queued_down = []; down = j.w.down ++ j.w.queued_down }) (place_of j.u)
-          (guards-written_down opened j.k j.s j.u j.d j.all_up j.all_down j.w (place_of j.u) g))
+    (other-events (eqb link link) (QueueWritten ∷ [])) (own-events link (QueueWritten ∷ [])) refl refl (other-bytes (eqb link link) bytes)
+    (ap (λ (xs : List ℕ). bytes_sent link Responder run ++ xs) (own-bytes link bytes) ∙ all ∙ j.due_down ∙ ap (λ (ps : List FrameContent). output_bytes Responder 0 0 ps) (sym j.linked.parts_down)) refl
+    (λ o g.
+    guards-up opened j.k (server_state_after opened j.s QueueWritten) j.u j.d j.all_up j.all_down (record { queued_up = j.w.queued_up; up = j.w.up; queued_down = []; down = j.w.down ++ j.w.queued_down }) (place_of j.u)
+    (guards-written_down opened j.k j.s j.u j.d j.all_up j.all_down j.w (place_of j.u) g))
 
 first_is : (ready : List ReadyCall) (r : ReadyCall) → slice_get ready 0 ≡ Some r → (rest : List ReadyCall) × (ready ≡ r ∷ rest)
 first_is [] r e = absurd cc
@@ -215,8 +215,8 @@ goes-execute opened link run xid moment payload place reply j h =
     let hellos = begun j.u (stream-left j.u (j.w.up ++ j.w.queued_up) (subst IsOutput (sym j.linked.parts_up) j.linked.stream_up)) sends in
     let m = executed opened j.k j.s j.u j.d j.all_up j.all_down j.w e h.call first.0 j.linked first.1 h.own (omega (arith, hellos, j.linked.hellos_down)) in
     goes-server opened link run (marks.Execute link xid moment payload place reply) j (CallExecuted e) m.said (record { queued_up = j.w.queued_up; up = j.w.up; queued_down = j.w.queued_down ++ m.said; down = j.w.down }) (λ f x. absurd cc) m.linked m.output
-      (other-events (eqb link link) (CallExecuted e ∷ [])) (own-events link (CallExecuted e ∷ [])) refl refl refl
-      (append-nil (bytes_sent link Responder run) ∙ j.sent_down) refl
-      (λ o g.
-        subst (λ (ps : List FrameContent). Guards opened j.k (server_state_after opened j.s (CallExecuted e)) j.u j.d j.all_up (j.all_down ++ ps) (record { queued_up = j.w.queued_up; up = j.w.up; queued_down = j.w.queued_down ++ ps; down = j.w.down }) (place_of j.u)) (sym m.said_is)
-          (guards-execute opened j.k j.s j.u j.d j.all_up j.all_down j.w (place_of j.u) e h.call first.0 o j.linked g j.linked.fits first.1 h.own))
+    (other-events (eqb link link) (CallExecuted e ∷ [])) (own-events link (CallExecuted e ∷ [])) refl refl refl
+    (append-nil (bytes_sent link Responder run) ∙ j.sent_down) refl
+    (λ o g.
+    subst (λ (ps : List FrameContent). Guards opened j.k (server_state_after opened j.s (CallExecuted e)) j.u j.d j.all_up (j.all_down ++ ps) (record { queued_up = j.w.queued_up; up = j.w.up; queued_down = j.w.queued_down ++ ps; down = j.w.down }) (place_of j.u)) (sym m.said_is)
+    (guards-execute opened j.k j.s j.u j.d j.all_up j.all_down j.w (place_of j.u) e h.call first.0 o j.linked g j.linked.fits first.1 h.own))

@@ -1,5 +1,5 @@
 -- Both ends of a matched link after the marks of a run, while neither has ended: the bytes that each side sent and received are
--- those of pieces.
+-- those of frames.
 use Rattle.std.proofs.Common.{◌≡◌, ℕ, ◌+◌, Bool, true, false, cond, ◌&&◌, eqb, List, [], ◌∷◌, ◌++◌, length, map, None, refl, sym, ap, subst, ◌∙◌, arith, append_assoc, append-nil, length-append}
 use Rattle.std.specs.List.{concat}
 use Rattle.nr_xdr.specs.Item.{IsBytes}
@@ -195,7 +195,7 @@ at-place side [] h = refl
 at-place side (p ∷ ps) h =
     omega (arith, h.0, length-append (frame_bytes side (numbered_segment 0 0 p)) (concat (frames_at side (0 + sends_in p) (0 + requests_in p) ps)))
 
--- the new pieces of some more bytes, with what the loops over their frames ask
+-- the new frames of some more bytes, with what the loops over their frames ask
 pub record ArrivedFrames (side : Side) (got bytes : List ℕ) (came way : List FrameContent) : Type 0 where
   pub new : List FrameContent
   pub left : List FrameContent
@@ -269,7 +269,7 @@ goes-fed_up opened link run bytes j prefix typed unended =
     let es = events_of place (frames_at Initiator n r a.new) in
     let events_are : events_at link Responder run mark ≡ es = own-events link (map FrameReceived (frames_completed Initiator got bytes)) ∙ ap (λ (fs : List Frame). map FrameReceived fs) a.frames in
     let state : end_state_after (server_rules opened) (server opened link run) (events_at link Responder run mark) ≡ end_state_after (server_rules opened) (live j.s) es =
-        λ i. end_state_after (server_rules opened) (j.server_is i) (events_are i) in
+    λ i. end_state_after (server_rules opened) (j.server_is i) (events_are i) in
     let stays : (end_state_after (server_rules opened) (live j.s) es).ended ≡ None = ap (λ (x : EndState ServerState). x.ended) (sym (server-one opened link run mark ∙ state)) ∙ unended in
     let m = server-runs opened j.k j.d j.all_up a.left a.new j.s j.u j.all_down j.w n r place j.linked a.parts (omega arith) (omega arith) a.place a.bytes_are a.some stays in
     let up : fed_at link Responder mark ≡ bytes = own-bytes link bytes in
@@ -295,7 +295,7 @@ goes-fed_up opened link run bytes j prefix typed unended =
       bytes_up = subst (λ (xs : List ℕ). IsBytes (got ++ xs)) (sym up) all_typed;
       guarded = λ o within g.
           subst (λ (x : ℕ). Guards opened j.k m.after (j.u ++ a.new) j.d (j.all_up ++ []) (j.all_down ++ m.said) (taken_up j.w a.left m.said) x) (place-more j.u a.new)
-            (guards-down opened j.k m.after (j.u ++ a.new) j.d j.all_up (j.all_down ++ m.said) (taken_up j.w a.left m.said) (place_of j.u + length (concat (frames_at Initiator n r a.new))) (m.guarded o g));
+          (guards-down opened j.k m.after (j.u ++ a.new) j.d j.all_up (j.all_down ++ m.said) (taken_up j.w a.left m.said) (place_of j.u + length (concat (frames_at Initiator n r a.new))) (m.guarded o g));
       bytes_down = subst IsBytes (sym (ap (λ (xs : List ℕ). bytes_received link Initiator run ++ xs) down ∙ append-nil (bytes_received link Initiator run))) j.bytes_down;
     }
 
@@ -314,7 +314,7 @@ goes-fed_down opened link run bytes j prefix typed unended =
     let es = events_of place (frames_at Responder n r a.new) in
     let events_are : events_at link Initiator run mark ≡ es = own-events link (map FrameReceived (frames_completed Responder got bytes)) ∙ ap (λ (fs : List Frame). map FrameReceived fs) a.frames in
     let state : end_state_after (client_rules opened) (client opened link run) (events_at link Initiator run mark) ≡ end_state_after (client_rules opened) (live j.k) es =
-        λ i. end_state_after (client_rules opened) (j.client_is i) (events_are i) in
+    λ i. end_state_after (client_rules opened) (j.client_is i) (events_are i) in
     let stays : (end_state_after (client_rules opened) (live j.k) es).ended ≡ None = ap (λ (x : EndState ClientState). x.ended) (sym (client-one opened link run mark ∙ state)) ∙ unended in
     let m = client-runs opened j.s j.u j.all_down a.left a.new j.k j.d j.all_up j.w n r place j.linked a.parts (omega arith) (omega arith) a.place a.bytes_are a.some stays in
     let down : fed_at link Initiator mark ≡ bytes = own-bytes link bytes in

@@ -1,4 +1,4 @@
--- A segment of a Response that comes to the server of a matched link ends it only by what its call then comes to.
+-- A segment of a Read Response that a server of a matched link receives is allowed by the server's memory.
 use Rattle.std.proofs.Common.{◌≡◌, ℕ, ◌+◌, ◌≤◌, ◌<◌, Bool, true, false, List, [], ◌∷◌, ◌++◌, length, None, sym, ap, subst, ◌∙◌, arith}
 use Rattle.nr_regions.specs.declared.right.Right.TheVariants.{Sink}
 use Rattle.nr_regions.specs.Access.{grant_denial}
@@ -32,9 +32,9 @@ server-response-taken opened s w f place last opcode stag to payload rest c sink
     by (r ∷ rs) parts answers have =
         let within = goes-within last s.response_bytes (length payload) r rs (λ k qs. AreResponses k qs (rest ++ w.queued_up)) answers.3 in
         let allowed : grant_denial (region_grants f.end s.regions) (record { right = Sink; stag = stag; to = to; len = length payload }) f.end ≡ None =
-            subst (λ (x : ℕ). grant_denial (region_grants f.end s.regions) (record { right = Sink; stag = x; to = to; len = length payload }) f.end ≡ None) (sym answers.1)
-              (sink-allowed place f.end r s.regions to (length payload) have.0 lt (omega (arith, answers.2, within))) in
+        subst (λ (x : ℕ). grant_denial (region_grants f.end s.regions) (record { right = Sink; stag = x; to = to; len = length payload }) f.end ≡ None) (sym answers.1)
+        (sink-allowed place f.end r s.regions to (length payload) have.0 lt (omega (arith, answers.2, within))) in
         server-response opened s w f last stag to payload rest c
-          (head ∙ ap (λ (o : ℕ). TaggedFrame last o stag to payload ∷ rest) answers.0)
-          (subst (λ (o : ℕ). Carries s.received.sends s.received.requests f (TaggedFrame last o stag to payload)) answers.0 p)
-          allowed
+        (head ∙ ap (λ (o : ℕ). TaggedFrame last o stag to payload ∷ rest) answers.0)
+        (subst (λ (o : ℕ). Carries s.received.sends s.received.requests f (TaggedFrame last o stag to payload)) answers.0 p)
+        allowed

@@ -1,7 +1,7 @@
 -- Each message of a server answers one call that was received: the xids of the messages and those of the pending calls are distinct.
-use Rattle.std.proofs.Common.{◌≡◌, ◌≢◌, ℕ, ◌+◌, ◌≤◌, ◌<◌, ◌^◌, Bool, true, false, cond, not, ◌&&◌, ◌||◌, eqb, min, List, [], ◌∷◌, ◌++◌, length, map, take, drop, filter, Option, Some, None, Result, Ok, Err, refl, sym, ap, subst, ◌∙◌, arith, append_assoc}
-use Rattle.std.specs.List.{AllByRecursion, list_any, find, range_with_len}
-use Rattle.std.proofs.lemmas.Bool.{eqb-true, ne_eqb, eq-eqb}
+use Rattle.std.proofs.Common.{◌≡◌, ℕ, ◌+◌, ◌≤◌, ◌<◌, ◌^◌, Bool, true, false, cond, not, ◌&&◌, ◌||◌, eqb, min, List, [], ◌∷◌, ◌++◌, length, map, take, drop, filter, Option, Some, None, Result, Ok, refl, sym, ap, subst, ◌∙◌, arith, append_assoc}
+use Rattle.std.specs.List.{list_any, find, range_with_len}
+use Rattle.std.proofs.lemmas.Bool.{eqb-true, eq-eqb}
 use Rattle.std.proofs.lemmas.List.{map-append}
 use Rattle.nr_xdr.specs.Item.{word, word_of}
 use Rattle.nr_xdr.specs.Items.{encodings}
@@ -63,7 +63,7 @@ pub times-append : (x : ℕ) (xs ys : List ℕ) → times x (xs ++ ys) ≡ times
 times-append x [] ys = omega arith
 times-append x (y ∷ xs) ys = omega (arith, times-append x xs ys)
 
--- ---- What is said
+-- ---- What is sent
 
 effect-errors : (messages : List (List ℕ)) (reads : List PendingRead) → message_xids (map SendFrame messages ++ map request_frame reads) ≡ map (λ (m : List ℕ). word_at 0 m) messages
 effect-errors [] [] = refl
@@ -83,6 +83,7 @@ writes-none (p ∷ chunk) bytes =
     cuts : (last : ℕ → Bool) (at : ℕ → ℕ) (payload : ℕ → List ℕ) (is : List ℕ) → message_xids (map (λ i. TaggedFrame (last i) OPCODE_WRITE p.handle (at i) (payload i)) is) ≡ []
     cuts last at payload [] = refl
     cuts last at payload (i ∷ is) = cuts last at payload is
+
     by : (b : Bool) → message_xids (cond b [] (tagged_frames OPCODE_WRITE p.handle p.offset (take p.length bytes))) ≡ []
     by true = refl
     by false = cuts _ _ _ (range_with_len 0 (segment_count (take p.length bytes)))
@@ -104,6 +105,7 @@ answer-xid xid credit offer a lt = by a.long (cond a.long [] a.stream)
   where
     rest : List ℕ
     rest = encodings (lists_items (answer_lists offer a))
+
     by : (b : Bool) (stream : List ℕ) → word_at 0 (header_encoding (record { xid = xid; credit = credit; body = cond b (Nomsg (answer_lists offer a)) (Msg (answer_lists offer a) 0) }) ++ stream) ≡ xid
     by true stream = ap (λ (xs : List ℕ). word_at 0 xs) (append_assoc (word xid) (word 1 ++ (word credit ++ (word 1 ++ rest))) stream) ∙ first_word xid ((word 1 ++ (word credit ++ (word 1 ++ rest))) ++ stream) lt
     by false stream = ap (λ (xs : List ℕ). word_at 0 xs) (append_assoc (word xid) (word 1 ++ (word credit ++ (word 0 ++ rest))) stream) ∙ first_word xid ((word 1 ++ (word credit ++ (word 0 ++ rest))) ++ stream) lt
@@ -140,14 +142,17 @@ removed x n (y ∷ cs) c e = by (eqb y.number n) e (removed x n cs c)
   where
     rest : List PendingCall
     rest = filter (λ (z : PendingCall). not (eqb z.number c.number)) cs
+
     dropped : (b : Bool) → eqb y.number c.number ≡ b → y ≡ c → times x (call_xids (cond (not b) (y ∷ rest) rest)) + one_if (eqb c.xid x) ≤ times x (call_xids (y ∷ cs))
     dropped true is same =
         let own : one_if (eqb y.xid x) ≡ one_if (eqb c.xid x) = ap (λ (z : PendingCall). one_if (eqb z.xid x)) same in
         omega (arith, own, kept-less x (λ (z : PendingCall). not (eqb z.number c.number)) cs)
     dropped false is same = absurd (let wrong : true ≡ false = sym (eq-eqb y.number c.number (ap (λ (z : PendingCall). z.number) same)) ∙ is in cc)
+
     later : (b : Bool) → times x (call_xids rest) + one_if (eqb c.xid x) ≤ times x (call_xids cs) → times x (call_xids (cond (not b) (y ∷ rest) rest)) + one_if (eqb c.xid x) ≤ times x (call_xids (y ∷ cs))
     later true le = omega (arith, le)
     later false le = omega (arith, le)
+
     by : (b : Bool) → cond b (Some y) (find (λ (z : PendingCall). eqb z.number n) cs) ≡ Some c
         → (find (λ (z : PendingCall). eqb z.number n) cs ≡ Some c → times x (call_xids rest) + one_if (eqb c.xid x) ≤ times x (call_xids cs))
         → times x (call_xids (cond (not (eqb y.number c.number)) (y ∷ rest) rest)) + one_if (eqb c.xid x) ≤ times x (call_xids (y ∷ cs))
@@ -162,6 +167,7 @@ executed-less x xid (c ∷ cs) e = by (eqb c.xid xid) refl e (executed-less x xi
   where
     rest : List PendingCall
     rest = filter (λ (z : PendingCall). not (eqb z.xid xid)) cs
+
     by : (b : Bool) → eqb c.xid xid ≡ b → (b || list_any (λ (z : PendingCall). eqb z.xid xid) cs) ≡ true
         → (list_any (λ (z : PendingCall). eqb z.xid xid) cs ≡ true → times x (call_xids rest) + one_if (eqb xid x) ≤ times x (call_xids cs))
         → times x (call_xids (cond (not b) (c ∷ rest) rest)) + one_if (eqb xid x) ≤ times x (call_xids (c ∷ cs))
@@ -193,8 +199,8 @@ pending-message k place message BadChunks is lt = λ x. omega (arith, ap (λ (n 
 pending-message k place message (MakesPending c) is lt =
     let new = verdict-new k message c is in
     pending-whole k.calls (λ x. one_if (eqb (word_at 0 message) x)) k place c
-      (record (no_effect k) { calls = k.calls ++ c ∷ []; reads = k.reads ++ reads_of (k.regions ++ regions_of k place c) c; regions = k.regions ++ regions_of k place c })
-      (λ x. omega (arith, ap (λ (xs : List ℕ). times x xs) (map-append (λ (y : PendingCall). y.xid) k.calls (c ∷ [])), times-append x (call_xids k.calls) (c.xid ∷ []), ap (λ (n : ℕ). one_if (eqb n x)) new.0.own))
+    (record (no_effect k) { calls = k.calls ++ c ∷ []; reads = k.reads ++ reads_of (k.regions ++ regions_of k place c) c; regions = k.regions ++ regions_of k place c })
+    (λ x. omega (arith, ap (λ (xs : List ℕ). times x xs) (map-append (λ (y : PendingCall). y.xid) k.calls (c ∷ [])), times-append x (call_xids k.calls) (c.xid ∷ []), ap (λ (n : ℕ). one_if (eqb n x)) new.0.own))
 
 pending-read : (k c_k : ServerState) (place n : ℕ) (r : PendingRead) (o : Option PendingCall) (s : FrameEffect) → s.calls ≡ k.calls → s.errors ≡ [] → find (λ (c : PendingCall). eqb c.number n) k.calls ≡ o → ((c : PendingCall) → o ≡ Some c → c.xid < 2 ^ 32)
     → AnswersPending k.calls (λ x. 0) (read_effect c_k place r o s)
@@ -203,10 +209,15 @@ pending-read k c_k place n r (Some c) s same none found small = by (is_stream_re
   where
     same_times : (x : ℕ) → times x (error_xids s) + times x (call_xids s.calls) ≤ 0 + times x (call_xids k.calls)
     same_times x = omega (arith, ap (λ (cs : List PendingCall). times x (call_xids cs)) same, ap (λ (ms : List (List ℕ)). times x (map (λ (m : List ℕ). word_at 0 m) ms)) none)
+
     by : (b : Bool) → AnswersPending k.calls (λ x. 0) (cond b (with_refused_call c_k c s) (ready_if_whole c_k place c s))
     by true = λ x.
-        omega (arith, removed x n k.calls c found, ap (λ (cs : List PendingCall). times x (call_xids (filter (λ (y : PendingCall). not (eqb y.number c.number)) cs))) same,
-          ap (λ (m : ℕ). one_if (eqb m x)) (chunk_error-xid c.xid (credit_word c_k) (small c refl)))
+        omega (
+          arith,
+          removed x n k.calls c found,
+          ap (λ (cs : List PendingCall). times x (call_xids (filter (λ (y : PendingCall). not (eqb y.number c.number)) cs))) same,
+          ap (λ (m : ℕ). one_if (eqb m x)) (chunk_error-xid c.xid (credit_word c_k) (small c refl)),
+        )
     by false = pending-whole k.calls (λ x. 0) c_k place c s same_times
 
 pub pending-send : (k : ServerState) (f : Frame) (message : List ℕ) → k.received.begun ≡ None → word_at 0 message < 2 ^ 32 → frame_segment f ≡ Ok (Untagged true OPCODE_SEND 0 QUEUE_SEND (msn_word (k.received.sends + 1)) 0 message)
@@ -217,8 +228,8 @@ pending-send k f message none lt is =
     let whole : List ℕ = begun_bytes k.received.begun ++ message in
     let same : whole ≡ message = ap (λ (b : Option (List ℕ)). begun_bytes b ++ message) none in
     subst (λ (r : Result Segment ℕ). AnswersPending k.calls (λ x. one_if (eqb (word_at 0 message) x)) (effect_in k f r)) (sym is)
-      (subst (λ (n : ℕ). AnswersPending k.calls (λ x. one_if (eqb n x)) (effect_in k f (Ok segment))) (ap (λ (xs : List ℕ). word_at 0 xs) same)
-        (pending-message k f.end whole (verdict k whole) refl (subst (λ (xs : List ℕ). word_at 0 xs < 2 ^ 32) (sym same) lt)))
+    (subst (λ (n : ℕ). AnswersPending k.calls (λ x. one_if (eqb n x)) (effect_in k f (Ok segment))) (ap (λ (xs : List ℕ). word_at 0 xs) same)
+    (pending-message k f.end whole (verdict k whole) refl (subst (λ (xs : List ℕ). word_at 0 xs < 2 ^ 32) (sym same) lt)))
 
 pub pending-tagged : (k : ServerState) (f : Frame) (last : Bool) (opcode stag to : ℕ) (payload : List ℕ) → ((n : ℕ) (c : PendingCall) → find (λ (y : PendingCall). eqb y.number n) k.calls ≡ Some c → c.xid < 2 ^ 32) → frame_segment f ≡ Ok (Tagged last opcode stag to payload)
     → AnswersPending k.calls (λ x. 0) (frame_effect k f)
@@ -228,9 +239,11 @@ pending-tagged k f last opcode stag to payload small is =
   where
     t : ServerState
     t = with_access k f (Tagged last opcode stag to payload)
+
     response : (reads : List PendingRead) → AnswersPending k.calls (λ x. 0) (response_effect t f.end reads)
     response [] = λ x. omega arith
     response (r ∷ reads) = pending-read k t f.end r.number r (call_of_number t r.number) _ refl refl refl (small r.number)
+
     by : (b : Bool) → AnswersPending k.calls (λ x. 0) (cond b (response_effect t f.end k.reads) (no_effect t))
     by true = response k.reads
     by false = λ x. omega arith

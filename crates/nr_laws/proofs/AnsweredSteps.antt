@@ -1,11 +1,10 @@
 -- At each moment every call of a matched link is outstanding or has its message, and no call has two; so a message that is received
 -- answers a call that is outstanding and whose Send is written.
-use Rattle.std.proofs.Common.{◌≡◌, ◌≢◌, ℕ, ◌+◌, ◌≤◌, ◌<◌, Bool, true, false, cond, not, ◌&&◌, ◌||◌, eqb, List, [], ◌∷◌, ◌++◌, length, map, filter, Option, Some, None, refl, sym, ap, subst, ◌∙◌, arith, append_assoc, append-nil, ◌⊎◌, inl, inr}
+use Rattle.std.proofs.Common.{◌≡◌, ◌≢◌, ℕ, ◌+◌, ◌≤◌, ◌<◌, Bool, true, false, cond, not, ◌&&◌, eqb, List, [], ◌∷◌, ◌++◌, map, filter, Some, refl, sym, ap, subst, ◌∙◌, arith, append_assoc, ◌⊎◌, inl, inr}
 use Rattle.std.specs.List.{AllByRecursion, find}
 use Rattle.std.proofs.lemmas.Bool.{eqb-true, ne_eqb, eq-eqb, cases_lt}
 use Rattle.std.proofs.lemmas.List.{map-append}
 use Rattle.nr_xdr.specs.Fields.{word_at}
-use Rattle.nr_reduce.specs.declared.mark.LinkParameters.{LinkParameters}
 use Rattle.nr_reduce.specs.Limits.{numbers_end}
 use Rattle.nr_reduce.specs.Plans.{one_if}
 use Rattle.nr_reduce.specs.ClientState.{ClientState, OutstandingCall}
@@ -13,7 +12,7 @@ use Rattle.nr_reduce.specs.ServerState.{ServerState, PendingCall}
 use Rattle.nr_laws.specs.FrameContents.{FrameContent, total_of, sends_in}
 use Rattle.nr_laws.specs.FrameContents.FrameContent.{SendFrame}
 use Rattle.nr_laws.specs.LinkInvariants.{Transit}
-use Rattle.nr_laws.proofs.Totals.{count-append}
+use Rattle.nr_laws.proofs.Totals.{total-append}
 use Rattle.nr_laws.proofs.AnsweredCalls.{message_xids, times, call_xids, outstanding_xids, xids-append, times-append}
 
 abbrev pub IsWritten : ℕ → OutstandingCall → Type 0
@@ -64,9 +63,11 @@ answered-send first k s t u d all_down w p rest said head sends new h = record {
         by : (b : Bool) → eqb x y ≡ b → (x ≡ y) ⊎ (x ≢ y)
         by true e = inl (eqb-true x y e)
         by false e = inr (λ same. absurd (let wrong : true ≡ false = sym (eq-eqb x y same) ∙ e in cc))
+
     one_most : (b : Bool) → one_if b ≤ 1
     one_most true = omega arith
     one_most false = omega arith
+
     once : (x : ℕ) → (x ≡ first + s.received.sends) ⊎ (x ≢ first + s.received.sends) → given_to x (all_down ++ said) t.calls ≤ 1
     once x (inl e) = omega (arith, said-more x all_down said, new x, h.later x (omega (arith, e)), one_most (eqb (first + s.received.sends) x))
     once x (inr ne) = omega (arith, said-more x all_down said, new x, h.once x, ap one_if (ne_eqb (first + s.received.sends) x (λ e. ne (sym e))))
@@ -112,6 +113,7 @@ others-times x xid (o ∷ os) ne = by (eqb o.xid xid) refl (others-times x xid o
   where
     rest : List OutstandingCall
     rest = filter (λ (y : OutstandingCall). not (eqb y.xid xid)) os
+
     by : (b : Bool) → eqb o.xid xid ≡ b → times x (outstanding_xids rest) ≡ times x (outstanding_xids os) → times x (outstanding_xids (cond (not b) (o ∷ rest) rest)) ≡ times x (outstanding_xids (o ∷ os))
     by true is same =
         let other : eqb o.xid x ≡ false = ne_eqb o.xid x (λ e. absurd (let wrong : true ≡ false = sym (eq-eqb x xid (sym e ∙ eqb-true o.xid xid is)) ∙ ne in cc)) in
@@ -132,6 +134,7 @@ answered-message first k t s u d all_down w v message left accepted up h = recor
   where
     more : (x : ℕ) → times x (message_xids (d ++ SendFrame message ∷ [])) ≡ times x (message_xids d) + (one_if (eqb (word_at 0 message) x) + 0)
     more x = said-more x d (SendFrame message ∷ [])
+
     open_call : (x : ℕ) → first ≤ x → x < first + k.calls_accepted → (b : Bool) → eqb (word_at 0 message) x ≡ b → 1 ≤ times x (outstanding_xids t.outstanding) + times x (message_xids (d ++ SendFrame message ∷ []))
     open_call x le lt true is = omega (arith, more x, ap one_if is)
     open_call x le lt false is =
@@ -173,6 +176,7 @@ answered-submit first k t s u d all_down w v o outs accepted own small sent up h
     more x =
         ap (λ (os : List OutstandingCall). times x (outstanding_xids os)) outs ∙ ap (λ (xs : List ℕ). times x xs) (map-append (λ (y : OutstandingCall). y.xid) k.outstanding (o ∷ []))
         ∙ times-append x (outstanding_xids k.outstanding) (o.xid ∷ [])
+
     open_call : (x : ℕ) → first ≤ x → x < first + t.calls_accepted → (b : Bool) → eqb o.xid x ≡ b → 1 ≤ times x (outstanding_xids t.outstanding) + times x (message_xids d)
     open_call x le lt true is = omega (arith, more x, ap one_if is)
     open_call x le lt false is =
@@ -221,16 +225,17 @@ pub answers-one : (first : ℕ) (k : ClientState) (s : ServerState) (u d all_dow
 answers-one first k s u d all_down w message rest parts sends is h =
     let x = word_at 0 message in
     let there : times x (message_xids all_down) ≡ times x (message_xids d) + (1 + times x (message_xids rest)) =
-        ap (λ (ps : List FrameContent). times x (message_xids ps)) parts ∙ said-more x d (SendFrame message ∷ rest)
-        ∙ ap (λ (b : Bool). times x (message_xids d) + (one_if b + times x (message_xids rest))) (eq-eqb x x refl) in
+    ap (λ (ps : List FrameContent). times x (message_xids ps)) parts ∙ said-more x d (SendFrame message ∷ rest)
+    ∙ ap (λ (b : Bool). times x (message_xids d) + (one_if b + times x (message_xids rest))) (eq-eqb x x refl) in
     let below : x < first + s.received.sends = not-later x there (cases_lt x (first + s.received.sends)) in
     let above : first ≤ x = not-earlier x there (cases_lt x first) in
     let some : 1 ≤ times x (outstanding_xids k.outstanding) = omega (arith, there, h.once x, h.open_calls x above (omega (arith, below, sends))) in
-    found-written x (first + total_of sends_in (u ++ w.up)) k.outstanding h.written (omega (arith, below, is, count-append sends_in u w.up)) some
+    found-written x (first + total_of sends_in (u ++ w.up)) k.outstanding h.written (omega (arith, below, is, total-append sends_in u w.up)) some
   where
     not-later : (x : ℕ) → times x (message_xids all_down) ≡ times x (message_xids d) + (1 + times x (message_xids rest)) → (x < first + s.received.sends) ⊎ (first + s.received.sends ≤ x) → x < first + s.received.sends
     not-later x there (inl lt) = lt
     not-later x there (inr le) = absurd (omega (arith, there, h.later x le))
+
     not-earlier : (x : ℕ) → times x (message_xids all_down) ≡ times x (message_xids d) + (1 + times x (message_xids rest)) → (x < first) ⊎ (first ≤ x) → first ≤ x
     not-earlier x there (inl lt) = absurd (omega (arith, there, h.earlier x lt))
     not-earlier x there (inr le) = le

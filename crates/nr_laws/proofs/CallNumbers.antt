@@ -26,7 +26,7 @@ use Rattle.nr_laws.specs.FrameContents.FrameContent.{HelloFrame, SendFrame, Requ
 use Rattle.nr_laws.specs.LinkInvariants.{AreAtMost}
 use Rattle.nr_laws.proofs.PendingSends.{verdict-new}
 
--- the messages among some pieces have these xids, one after the other
+-- the messages among some frames have these xids, one after the other
 abbrev pub XidsFrom : ℕ → List FrameContent → Type 0
 XidsFrom x [] = Unit {0}
 XidsFrom x (HelloFrame ∷ ps) = XidsFrom x ps
@@ -53,13 +53,13 @@ abbrev pub NumberedCalls : ℕ → List OutstandingCall → Type 0
 NumberedCalls x [] = Unit {0}
 NumberedCalls x (o ∷ os) = (o.xid ≡ x) × NumberedCalls (x + 1) os
 
-pub outs-push : (x : ℕ) (os : List OutstandingCall) (o : OutstandingCall) → NumberedCalls x os → o.xid ≡ x + length os → NumberedCalls x (os ++ o ∷ [])
-outs-push x [] o h is = (omega (arith, is), tt)
-outs-push x (y ∷ os) o h is = (h.0, outs-push (x + 1) os o h.1 (omega (arith, is)))
+pub own_xids-push : (x : ℕ) (os : List OutstandingCall) (o : OutstandingCall) → NumberedCalls x os → o.xid ≡ x + length os → NumberedCalls x (os ++ o ∷ [])
+own_xids-push x [] o h is = (omega (arith, is), tt)
+own_xids-push x (y ∷ os) o h is = (h.0, own_xids-push (x + 1) os o h.1 (omega (arith, is)))
 
-pub outs-map : (f : OutstandingCall → OutstandingCall) (x : ℕ) (os : List OutstandingCall) → ((o : OutstandingCall) → (f o).xid ≡ o.xid) → NumberedCalls x os → NumberedCalls x (map f os)
-outs-map f x [] same h = tt
-outs-map f x (o ∷ os) same h = (same o ∙ h.0, outs-map f (x + 1) os same h.1)
+pub own_xids-map : (f : OutstandingCall → OutstandingCall) (x : ℕ) (os : List OutstandingCall) → ((o : OutstandingCall) → (f o).xid ≡ o.xid) → NumberedCalls x os → NumberedCalls x (map f os)
+own_xids-map f x [] same h = tt
+own_xids-map f x (o ∷ os) same h = (same o ∙ h.0, own_xids-map f (x + 1) os same h.1)
 
 abbrev pub HasOwnXid : LinkParameters → OutstandingCall → Type 0
 HasOwnXid opened o = word_at 0 (call_message o.xid opened.wished o.stag o.plan) ≡ o.xid
@@ -100,7 +100,7 @@ numbered-message first k place message BadChunks is own h = h
 numbered-message first k place message (MakesPending c) is own h =
     let new = verdict-new k message c is in
     numbered-whole first k place c (record (no_effect k) { calls = k.calls ++ c ∷ []; reads = k.reads ++ reads_of (k.regions ++ regions_of k place c) c; regions = k.regions ++ regions_of k place c })
-      (each-append (IsNumbered first) k.calls (c ∷ []) h (omega (arith, new.0.number, new.0.own, own), tt))
+    (each-append (IsNumbered first) k.calls (c ∷ []) h (omega (arith, new.0.number, new.0.own, own), tt))
 
 numbered-read : (first : ℕ) (k : ServerState) (place : ℕ) (r : PendingRead) (o : Option PendingCall) (s : FrameEffect) → AllByRecursion (IsNumbered first) s.calls → AllByRecursion (IsNumbered first) (read_effect k place r o s).calls
 numbered-read first k place r None s h = h
@@ -122,7 +122,7 @@ numbered-send first k f message none own h is =
     let whole : List ℕ = begun_bytes k.received.begun ++ message in
     let same : whole ≡ message = ap (λ (b : Option (List ℕ)). begun_bytes b ++ message) none in
     subst (λ (r : Result Segment ℕ). AllByRecursion (IsNumbered first) (effect_in k f r).calls) (sym is)
-      (numbered-message first k f.end whole (verdict k whole) refl (ap (λ (xs : List ℕ). word_at 0 xs) same ∙ own) h)
+    (numbered-message first k f.end whole (verdict k whole) refl (ap (λ (xs : List ℕ). word_at 0 xs) same ∙ own) h)
 
 pub numbered-tagged : (first : ℕ) (k : ServerState) (f : Frame) (last : Bool) (opcode stag to : ℕ) (payload : List ℕ) → AllByRecursion (IsNumbered first) k.calls → frame_segment f ≡ Ok (Tagged last opcode stag to payload) → AllByRecursion (IsNumbered first) (frame_effect k f).calls
 unfolding frame_effect
@@ -131,6 +131,7 @@ numbered-tagged first k f last opcode stag to payload h is =
   where
     t : ServerState
     t = with_access k f (Tagged last opcode stag to payload)
+
     by : (b : Bool) → AllByRecursion (IsNumbered first) (cond b (response_effect t f.end k.reads) (no_effect t)).calls
     by true = numbered-response first t f.end k.reads h
     by false = h

@@ -39,11 +39,11 @@ body-words : (xid credit : ℕ) (lists : ChunkLists) (kind : ℕ) (stream : List
 body-words xid credit lists kind stream lt le =
     let rest = encodings (lists_items lists) in
     subst (CallWords xid)
-      (sym (append_assoc (word xid) (word 1 ++ (word credit ++ (word kind ++ rest))) stream
-      ∙ ap (λ (xs : List ℕ). word xid ++ xs)
-          (append_assoc (word 1) (word credit ++ (word kind ++ rest)) stream
-          ∙ ap (λ (xs : List ℕ). word 1 ++ xs) (append_assoc (word credit) (word kind ++ rest) stream ∙ ap (λ (xs : List ℕ). word credit ++ xs) (append_assoc (word kind) rest stream)))))
-      (words xid 1 credit kind (rest ++ stream) lt refl le)
+    (sym (append_assoc (word xid) (word 1 ++ (word credit ++ (word kind ++ rest))) stream
+    ∙ ap (λ (xs : List ℕ). word xid ++ xs)
+    (append_assoc (word 1) (word credit ++ (word kind ++ rest)) stream
+    ∙ ap (λ (xs : List ℕ). word 1 ++ xs) (append_assoc (word credit) (word kind ++ rest) stream ∙ ap (λ (xs : List ℕ). word credit ++ xs) (append_assoc (word kind) rest stream)))))
+    (words xid 1 credit kind (rest ++ stream) lt refl le)
 
 pub call-words : (xid credit stag : ℕ) (p : Plan) → xid < 2 ^ 32 → CallWords xid (call_message xid credit stag p)
 unfolding call_message
@@ -51,9 +51,11 @@ call-words xid credit stag p lt = by p.read_at
   where
     lists : ChunkLists
     lists = lists_of stag p
+
     choose : (b : Bool) → CallWords xid (header_encoding (record { xid = xid; credit = credit; body = cond b (Nomsg lists) (Msg lists 0) }) ++ p.inline)
     choose true = body-words xid credit lists 1 p.inline lt (omega arith)
     choose false = body-words xid credit lists 0 p.inline lt (omega arith)
+
     by : (position : Option ℕ) → CallWords xid (header_encoding (record { xid = xid; credit = credit; body = body_by position lists }) ++ p.inline)
     by None = body-words xid credit lists 0 p.inline lt (omega arith)
     by (Some position) = choose (eqb position 0)

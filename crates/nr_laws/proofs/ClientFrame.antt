@@ -1,4 +1,4 @@
--- A client that the frame of a piece doesn't end keeps all that holds between both ends.
+-- A client that a frame doesn't end keeps all that holds between both ends.
 use Rattle.std.proofs.Common.{◌≡◌, ℕ, ◌+◌, ◌≤◌, ◌<◌, ◌^◌, Bool, true, false, cond, not, ◌||◌, eqb, ltb, List, [], ◌∷◌, ◌++◌, length, map, take, drop, filter, Option, Some, None, Result, Ok, refl, sym, ap, subst, ◌∙◌, arith, lit<, append_assoc, length-take, ◌⊎◌, inl, inr}
 use Rattle.std.proofs.lemmas.Bool.{cases_lt, lt-ltb}
 use Rattle.nr_xdr.specs.Item.{IsBytes}
@@ -28,11 +28,11 @@ use Rattle.nr_reduce.specs.Client.{client_end, client_state_after, client_output
 use Rattle.nr_laws.specs.FrameContents.{FrameContent, numbered_segment, frame_bytes, output_bytes, total_of, sends_in, requests_in, hellos_in, call_frame, client_frames, response_frames, tagged_frames, Carries}
 use Rattle.nr_laws.specs.FrameContents.FrameContent.{HelloFrame, SendFrame, RequestFrame, TaggedFrame}
 use Rattle.nr_laws.specs.LinkInvariants.{Transit, TotalsAgree, calls_sent, hello_bit}
-use Rattle.nr_laws.proofs.Totals.{count-append, count-map-zero}
+use Rattle.nr_laws.proofs.Totals.{total-append, total-map-zero}
 use Rattle.nr_laws.proofs.CompletedFrames.{is-piece}
 use Rattle.nr_laws.proofs.TotalsAtServer.{segment-is}
-use Rattle.nr_laws.proofs.TotalsAtClient.{counts-hello_down, counts-send_down, counts-read_down, counts-tagged_down, down_one, after-is, says-is, request_payload, tagged-none}
-use Rattle.nr_laws.proofs.OwnXids.{OwnXids, outs-came, segment-out}
+use Rattle.nr_laws.proofs.TotalsAtClient.{totals-hello_down, totals-send_down, totals-read_down, totals-tagged_down, down_one, after-is, says-is, request_payload, tagged-none}
+use Rattle.nr_laws.proofs.OwnXids.{OwnXids, own_xids-came, segment-out}
 use Rattle.nr_laws.proofs.OutputFrames.{AllShort, outs-said, response-said}
 use Rattle.nr_laws.proofs.Writable.{IsWritable, AreWritable, IsOutput, proper_one, stream-more, stream-first, stream-at, tagged-proper}
 use Rattle.nr_laws.proofs.AgreeingEnds.{EndsAgree, IsPlace, frame_of, payload_bytes}
@@ -61,10 +61,10 @@ unfolding segment_fault
 not-malformed r n payload e =
     let message : Option (List ℕ) = message_completed r.received (Untagged true OPCODE_READ_REQUEST 0 QUEUE_READ_REQUEST n 0 payload) in
     let front : List (Option (SegmentFault Denied)) =
-        reason_if REASON_MSN (not (eqb n (next_msn r.received QUEUE_READ_REQUEST))) ∷ reason_if REASON_OFFSET (not (eqb 0 (next_offset r.received QUEUE_READ_REQUEST))) ∷ no_buffer r (is_send OPCODE_READ_REQUEST) n ∷ [] in
+    reason_if REASON_MSN (not (eqb n (next_msn r.received QUEUE_READ_REQUEST))) ∷ reason_if REASON_OFFSET (not (eqb 0 (next_offset r.received QUEUE_READ_REQUEST))) ∷ no_buffer r (is_send OPCODE_READ_REQUEST) n ∷ [] in
     let behind : List (Option (SegmentFault Denied)) =
-        missing_fault r.missing ∷ reason_if REASON_REQUESTS (is_too_many r OPCODE_READ_REQUEST) ∷ reason_if REASON_LONG (has_length (ltb r.message_max) message)
-        ∷ reason_if REASON_SHORT (has_length (λ m. ltb m 16) message) ∷ terminate_fault OPCODE_READ_REQUEST payload ∷ [] in
+    missing_fault r.missing ∷ reason_if REASON_REQUESTS (is_too_many r OPCODE_READ_REQUEST) ∷ reason_if REASON_LONG (has_length (ltb r.message_max) message)
+    ∷ reason_if REASON_SHORT (has_length (λ m. ltb m 16) message) ∷ terminate_fault OPCODE_READ_REQUEST payload ∷ [] in
     no_reason REASON_FORM (is_malformed OPCODE_READ_REQUEST true payload) (none_of behind (reason_if REASON_FORM (is_malformed OPCODE_READ_REQUEST true payload)) front e)
 
 ends_below : (a b c : Bool) → (a || (b || c)) ≡ false → c ≡ false
@@ -90,12 +90,12 @@ request-ends k f n payload behind is e =
     let segment : Segment = Untagged true OPCODE_READ_REQUEST 0 QUEUE_READ_REQUEST n 0 payload in
     let grants = region_grants f.end k.regions in
     let found : frame_end (readiness k) grants f ≡ None =
-        by_end k f (frame_end (readiness k) grants f) ((λ i. cond (sym behind i) (hello_end (hello_of Responder f.bytes)) (or_message_end k f (frame_end (readiness k) grants f))) ∙ e) in
+    by_end k f (frame_end (readiness k) grants f) ((λ i. cond (sym behind i) (hello_end (hello_of Responder f.bytes)) (or_message_end k f (frame_end (readiness k) grants f))) ∙ e) in
     let none : end_of_fault f segment (segment_fault (readiness k (missing_access grants f segment)) segment) ≡ None =
-        ap (λ (r : Result Segment ℕ). frame_end_by (readiness k) grants f r) (sym is) ∙ found in
+    ap (λ (r : Result Segment ℕ). frame_end_by (readiness k) grants f r) (sym is) ∙ found in
     let malformed = not-malformed (readiness k (missing_access grants f segment)) n payload (no_fault f segment _ none) in
     not_above (2 ^ 64) ((read_request_in payload).sink_to + (read_request_in payload).size)
-      (ends_below false (not (eqb (length payload) 28)) (ltb (2 ^ 64) ((read_request_in payload).sink_to + (read_request_in payload).size)) malformed)
+    (ends_below false (not (eqb (length payload) 28)) (ltb (2 ^ 64) ((read_request_in payload).sink_to + (read_request_in payload).size)) malformed)
 
 -- ---- What is kept
 
@@ -128,14 +128,14 @@ client-linked opened k t s u d all_up all_down w p rest said l first counts outs
   fits = l.fits;
   short = short;
   stream_up = stream-more all_up said l.stream_up l.begins_up proper;
-  begins_up = omega (arith, l.begins_up, count-append hellos_in all_up said);
+  begins_up = omega (arith, l.begins_up, total-append hellos_in all_up said);
   stream_down = l.stream_down;
   hellos_down = l.hellos_down;
-  no_reads = omega (arith, l.no_reads, reads, count-append requests_in all_up said);
+  no_reads = omega (arith, l.no_reads, reads, total-append requests_in all_up said);
   sends_up = l.sends_up;
   requests_up = l.requests_up;
-  sends_down = omega (arith, sends, l.sends_down, count-append sends_in d (p ∷ []));
-  requests_down = omega (arith, requests, l.requests_down, count-append requests_in d (p ∷ []));
+  sends_down = omega (arith, sends, l.sends_down, total-append sends_in d (p ∷ []));
+  requests_down = omega (arith, requests, l.requests_down, total-append requests_in d (p ∷ []));
   requests_sent = l.requests_sent;
 }
 
@@ -172,7 +172,7 @@ not_greeted false e = refl
 -- the calls of a client so far
 pub calls_said : (opened : LinkParameters) (k : ClientState) (s : ServerState) (u d all_up all_down : List FrameContent) (w : Transit) → EndsAgree opened k s u d all_up all_down w → total_of sends_in all_up ≡ calls_sent k
 calls_said opened k s u d all_up all_down w l =
-    omega (arith, l.counts.calls_up, l.sends_up, ap (total_of sends_in) l.parts_up, count-append sends_in u (w.up ++ w.queued_up), count-append sends_in w.up w.queued_up)
+    omega (arith, l.counts.calls_up, l.sends_up, ap (total_of sends_in) l.parts_up, total-append sends_in u (w.up ++ w.queued_up), total-append sends_in w.up w.queued_up)
 
 -- the server's hello
 took-hello : (opened : LinkParameters) (k : ClientState) (s : ServerState) (u d all_up all_down : List FrameContent) (w : Transit) (rest : List FrameContent) (f : Frame) → EndsAgree opened k s u d all_up all_down w → w.down ≡ HelloFrame ∷ rest
@@ -184,19 +184,19 @@ took-hello opened k s u d all_up all_down w rest f l first is =
     let none : hello_bit k.has_hello ≡ 0 = omega (arith, l.counts.hello, ap (total_of hellos_in) first) in
     let calls : total_of sends_in all_up ≡ 0 = calls_said opened k s u d all_up all_down w l ∙ ap (λ (b : Bool). cond b k.calls_accepted 0) (not_greeted k.has_hello none) in
     let counts : TotalsAgree (client_state_after opened k (FrameReceived f)) s (down_one w said rest) =
-        subst (λ (ps : List FrameContent). TotalsAgree (client_state_after opened k (FrameReceived f)) s (down_one w ps rest)) says (counts-hello_down opened k s w f rest l.counts first is) in
+    subst (λ (ps : List FrameContent). TotalsAgree (client_state_after opened k (FrameReceived f)) s (down_one w ps rest)) says (totals-hello_down opened k s w f rest l.counts first is) in
     record {
       said = said;
       said_is = sym says;
       output = output-hello opened k f is ∙ outs-said opened 0 0 k.outstanding l.short ∙ (λ i. output_bytes Initiator (sym calls i) (sym l.no_reads i) said);
       linked =
-          client-linked opened k (client_state_after opened k (FrameReceived f)) s u d all_up all_down w HelloFrame rest said l first counts (outs-came opened k f l.outs)
-            (subst (λ (t : ClientState). AllShort opened t.outstanding) (sym after) l.short) (asks-proper opened k.outstanding l.short)
-            (count-map-zero hellos_in (call_frame opened) k.outstanding (λ o. refl)) (count-map-zero requests_in (call_frame opened) k.outstanding (λ o. refl))
-            (omega (arith, ap (λ (t : ClientState). t.received.sends) after)) (omega (arith, ap (λ (t : ClientState). t.received.requests) after));
+          client-linked opened k (client_state_after opened k (FrameReceived f)) s u d all_up all_down w HelloFrame rest said l first counts (own_xids-came opened k f l.outs)
+          (subst (λ (t : ClientState). AllShort opened t.outstanding) (sym after) l.short) (asks-proper opened k.outstanding l.short)
+          (total-map-zero hellos_in (call_frame opened) k.outstanding (λ o. refl)) (total-map-zero requests_in (call_frame opened) k.outstanding (λ o. refl))
+          (omega (arith, ap (λ (t : ClientState). t.received.sends) after)) (omega (arith, ap (λ (t : ClientState). t.received.requests) after));
     }
 
--- another frame, by what the client says of it
+-- another frame, by what the client sends of it
 took-frame : (opened : LinkParameters) (k : ClientState) (s : ServerState) (u d all_up all_down : List FrameContent) (w : Transit) (p : FrameContent) (rest said : List FrameContent) (f : Frame) (r : Result Segment ℕ) → EndsAgree opened k s u d all_up all_down w → w.down ≡ p ∷ rest
     → is_hello f ≡ false → frame_segment f ≡ r → response_frames k f.end (segment_request r) ≡ said → response_output k f.end (segment_request r) ≡ output_bytes Initiator (total_of sends_in all_up) (total_of requests_in all_up) said
     → AreWritable said → total_of hellos_in said ≡ 0 → total_of requests_in said ≡ 0
@@ -211,9 +211,9 @@ took-frame opened k s u d all_up all_down w p rest said f r l first behind is sa
       output = output-frame opened k f r behind is ∙ output;
       linked =
           client-linked opened k (client_state_after opened k (FrameReceived f)) s u d all_up all_down w p rest said l first
-            (subst (λ (ps : List FrameContent). TotalsAgree (client_state_after opened k (FrameReceived f)) s (down_one w ps rest)) (says-is opened k f r behind is ∙ says) counts)
-            (outs-came opened k f l.outs) (subst (λ (t : ClientState). AllShort opened t.outstanding) (sym after) (short-frame opened k f r l.short)) proper hellos reads
-            (ap (λ (t : ClientState). t.received.sends) after ∙ sends) (ap (λ (t : ClientState). t.received.requests) after ∙ requests);
+          (subst (λ (ps : List FrameContent). TotalsAgree (client_state_after opened k (FrameReceived f)) s (down_one w ps rest)) (says-is opened k f r behind is ∙ says) counts)
+          (own_xids-came opened k f l.outs) (subst (λ (t : ClientState). AllShort opened t.outstanding) (sym after) (short-frame opened k f r l.short)) proper hellos reads
+          (ap (λ (t : ClientState). t.received.sends) after ∙ sends) (ap (λ (t : ClientState). t.received.requests) after ∙ requests);
     }
 
 pub word_below : (place : ℕ) (bytes : List ℕ) → IsBytes bytes → word_at place bytes < 2 ^ 32
@@ -230,7 +230,7 @@ took-piece opened k s u d all_up all_down w (SendFrame message) rest f l first p
     let segment : Segment = Untagged true OPCODE_SEND 0 QUEUE_SEND (msn_word (k.received.sends + 1)) 0 message in
     let reads : frame_segment f ≡ Ok segment = segment-is k.received.sends k.received.requests f (SendFrame message) segment piece refl in
     took-frame opened k s u d all_up all_down w (SendFrame message) rest [] f (Ok segment) l first piece.behind reads refl refl tt refl refl
-      (counts-send_down opened k s w f message rest l.counts first piece stays l.outs.apart) refl (omega arith)
+    (totals-send_down opened k s w f message rest l.counts first piece stays l.outs.apart) refl (omega arith)
 took-piece opened k s u d all_up all_down w (RequestFrame sink at size stag to) rest f l first proper piece bytes is stays =
     let payload = request_payload sink at size stag to in
     let segment : Segment = Untagged true OPCODE_READ_REQUEST 0 QUEUE_READ_REQUEST (msn_word (k.received.requests + 1)) 0 payload in
@@ -241,15 +241,15 @@ took-piece opened k s u d all_up all_down w (RequestFrame sink at size stag to) 
     let said = tagged_frames OPCODE_READ_RESPONSE r.sink r.sink_to answer in
     let ends = request-ends k f (msn_word (k.received.requests + 1)) payload piece.behind reads stays in
     took-frame opened k s u d all_up all_down w (RequestFrame sink at size stag to) rest said f (Ok segment) l first piece.behind reads refl
-      (response-said Initiator (total_of sends_in all_up) (total_of requests_in all_up) r.sink r.sink_to answer)
-      (tagged-proper OPCODE_READ_RESPONSE r.sink r.sink_to answer refl (lit< tt) (word_below 0 payload payload_is) (hyper_below 4 payload payload_is) (omega (arith, ends, length-take r.size (drop r.to (memory_at k f.end r.stag)))))
-      (tagged-none hellos_in OPCODE_READ_RESPONSE r.sink r.sink_to answer (λ last a b. refl)) (tagged-none requests_in OPCODE_READ_RESPONSE r.sink r.sink_to answer (λ last a b. refl))
-      (counts-read_down opened k s w f sink at size stag to rest l.counts first piece) (omega arith) refl
+    (response-said Initiator (total_of sends_in all_up) (total_of requests_in all_up) r.sink r.sink_to answer)
+    (tagged-proper OPCODE_READ_RESPONSE r.sink r.sink_to answer refl (lit< tt) (word_below 0 payload payload_is) (hyper_below 4 payload payload_is) (omega (arith, ends, length-take r.size (drop r.to (memory_at k f.end r.stag)))))
+    (tagged-none hellos_in OPCODE_READ_RESPONSE r.sink r.sink_to answer (λ last a b. refl)) (tagged-none requests_in OPCODE_READ_RESPONSE r.sink r.sink_to answer (λ last a b. refl))
+    (totals-read_down opened k s w f sink at size stag to rest l.counts first piece) (omega arith) refl
 took-piece opened k s u d all_up all_down w (TaggedFrame last opcode stag to payload) rest f l first proper piece bytes is stays =
     let segment : Segment = Tagged last opcode stag to payload in
     let reads : frame_segment f ≡ Ok segment = segment-is k.received.sends k.received.requests f (TaggedFrame last opcode stag to payload) segment piece refl in
     took-frame opened k s u d all_up all_down w (TaggedFrame last opcode stag to payload) rest [] f (Ok segment) l first piece.behind reads refl refl tt refl refl
-      (counts-tagged_down opened k s w f last opcode stag to payload rest l.counts first piece) (omega arith) (omega arith)
+    (totals-tagged_down opened k s w f last opcode stag to payload rest l.counts first piece) (omega arith) (omega arith)
 
 pub client-took : (opened : LinkParameters) (k : ClientState) (s : ServerState) (u d all_up all_down : List FrameContent) (w : Transit) (p : FrameContent) (rest : List FrameContent) (n r place : ℕ) → EndsAgree opened k s u d all_up all_down w → w.down ≡ p ∷ rest
     → n ≡ total_of sends_in d → r ≡ total_of requests_in d → IsPlace d place → IsBytes (frame_bytes Responder (numbered_segment n r p))
@@ -260,7 +260,7 @@ client-took opened k s u [] all_up all_down w p rest n r place l first sends req
     let hello : p ≡ HelloFrame = stream-first p (rest ++ w.queued_down) stream in
     let f = frame_of (frame_bytes Responder (numbered_segment n r p)) place in
     subst (λ (q : FrameContent). ClientTook opened k s u [] all_up all_down w q rest f) (sym hello)
-      (took-hello opened k s u [] all_up all_down w rest f l (first ∙ ap (λ (q : FrameContent). q ∷ rest) hello) (ap (λ (x : ℕ). eqb x 0) at))
+    (took-hello opened k s u [] all_up all_down w rest f l (first ∙ ap (λ (q : FrameContent). q ∷ rest) hello) (ap (λ (x : ℕ). eqb x 0) at))
 client-took opened k s u (q ∷ d) all_up all_down w p rest n r place l first sends requests at bytes stays =
     let stream : IsOutput (q ∷ d ++ p ∷ (rest ++ w.queued_down)) = subst IsOutput (sym l.parts_down ∙ ap (λ (ps : List FrameContent). q ∷ d ++ (ps ++ w.queued_down)) first) l.stream_down in
     let proper = stream-at q d p (rest ++ w.queued_down) stream in
@@ -268,5 +268,5 @@ client-took opened k s u (q ∷ d) all_up all_down w p rest n r place l first se
     let n_is : n ≡ k.received.sends = sends ∙ sym l.sends_down in
     let r_is : r ≡ k.received.requests = requests ∙ sym l.requests_down in
     took-piece opened k s u (q ∷ d) all_up all_down w p rest f l first proper
-      (subst (λ (x : ℕ). Carries x k.received.requests f p) n_is (subst (λ (x : ℕ). Carries n x f p) r_is (is-piece Responder n r place p (proper_one n r p proper) at)))
-      bytes (λ i. frame_bytes Responder (numbered_segment (n_is i) (r_is i) p)) stays
+    (subst (λ (x : ℕ). Carries x k.received.requests f p) n_is (subst (λ (x : ℕ). Carries n x f p) r_is (is-piece Responder n r place p (proper_one n r p proper) at)))
+    bytes (λ i. frame_bytes Responder (numbered_segment (n_is i) (r_is i) p)) stays

@@ -1,4 +1,4 @@
--- The frame of a piece at a client: it ends the client only for what the client makes of a message, or for what its memory denies;
+-- A frame at a client: it ends the client only for what the client makes of a message, or for an access that its memory denies;
 -- else the guards are kept.
 use Rattle.std.proofs.Common.{◌≡◌, ◌≢◌, ℕ, ◌+◌, ◌≤◌, ◌<◌, ◌^◌, Bool, true, false, cond, eqb, List, [], ◌∷◌, ◌++◌, length, drop, Option, Some, None, Result, Ok, Err, refl, sym, ap, subst, ◌∙◌, arith, length-append, ◌⊎◌, inl, inr}
 use Rattle.std.proofs.lemmas.Bool.{le-ltb}
@@ -43,7 +43,7 @@ use Rattle.nr_laws.specs.EndCauses.{IsReplyReason, IsReplyEnd, IsDenied}
 use Rattle.nr_laws.specs.FrameContents.{FrameContent, numbered_segment, frame_bytes, total_of, sends_in, requests_in, hellos_in, client_frames, Carries}
 use Rattle.nr_laws.specs.FrameContents.FrameContent.{HelloFrame, SendFrame, RequestFrame, TaggedFrame}
 use Rattle.nr_laws.specs.LinkInvariants.{Transit, hello_bit}
-use Rattle.nr_laws.proofs.Totals.{count-append}
+use Rattle.nr_laws.proofs.Totals.{total-append}
 use Rattle.nr_laws.proofs.StreamFrames.{own_hello-is}
 use Rattle.nr_laws.proofs.CompletedFrames.{is-piece}
 use Rattle.nr_laws.proofs.FaultlessSegments.{request-flaw, write-flaw}
@@ -154,7 +154,7 @@ unfolding header_of
 header-not_short bytes le =
     let body = body_by (error_by (word_at 12 bytes) bytes) (word_at 4 bytes) (word_at 12 bytes) bytes in
     subst (λ (b : Bool). NotShort (cond b (Err faults.Short) (header_by (word_at 0 bytes) (word_at 8 bytes) body))) (sym (le-ltb (length bytes) 16 le))
-      (header_by-not_short (word_at 0 bytes) (word_at 8 bytes) body (body-not_short (error_by (word_at 12 bytes) bytes) (word_at 4 bytes) (word_at 12 bytes) bytes))
+    (header_by-not_short (word_at 0 bytes) (word_at 8 bytes) body (body-not_short (error_by (word_at 12 bytes) bytes) (word_at 4 bytes) (word_at 12 bytes) bytes))
 
 reason-header : (k : ClientState) (place : ℕ) (message : List ℕ) (r : Result Header HeaderFault) → header_of message ≡ r → NotShort r → (call : OutstandingCall) → answered_call k (word_at 0 message) ≡ Some call → VerdictReason (by_header k place message r)
 reason-header k place message (Ok h) is fine call found = reason-call k place message h.body (answered_call k h.xid) call (ap (λ (x : ℕ). answered_call k x) (header-xid message h is) ∙ found)
@@ -185,7 +185,7 @@ or-message-some : (k : ClientState) (f : Frame) (o : Option End) (end : End) →
 or-message-some k f None end none e = absurd (let wrong : None ≡ Some end = sym none ∙ e in cc)
 or-message-some k f (Some x) end none e = e
 
--- ---- The frame of a piece
+-- ---- The frame of a frame
 
 pub record ClientStep (opened : LinkParameters) (k : ClientState) (s : ServerState) (u d all_up all_down : List FrameContent) (w : Transit) (place : ℕ) (p : FrameContent) (rest : List FrameContent) (f : Frame) : Type 0 where
   pub only : (end : End) → client_end k (FrameReceived f) ≡ Some end → IsReplyEnd end ⊎ IsDenied end
@@ -200,8 +200,18 @@ some-none x e = cc
 
 len-request : (sink at size stag to : ℕ) → length (request_payload sink at size stag to) ≡ 28
 len-request sink at size stag to =
-    omega (arith, length-append (word sink) (hyper at ++ (word size ++ (word stag ++ hyper to))), length-append (hyper at) (word size ++ (word stag ++ hyper to)),
-      length-append (word size) (word stag ++ hyper to), length-append (word stag) (hyper to), length-word sink, length-hyper at, length-word size, length-word stag, length-hyper to)
+    omega (
+      arith,
+      length-append (word sink) (hyper at ++ (word size ++ (word stag ++ hyper to))),
+      length-append (hyper at) (word size ++ (word stag ++ hyper to)),
+      length-append (word size) (word stag ++ hyper to),
+      length-append (word stag) (hyper to),
+      length-word sink,
+      length-hyper at,
+      length-word size,
+      length-word stag,
+      length-hyper to,
+    )
 
 step-piece : (opened : LinkParameters) (k : ClientState) (s : ServerState) (u d all_up all_down : List FrameContent) (w : Transit) (place : ℕ) (p : FrameContent) (rest : List FrameContent) (f : Frame) → IsOpened opened → EndsAgree opened k s u d all_up all_down w → Guards opened k s u d all_up all_down w place → w.down ≡ p ∷ rest
     → IsWritable p → Carries k.received.sends k.received.requests f p → k.has_hello ≡ true → ClientStep opened k s u d all_up all_down w place p rest f
@@ -215,9 +225,9 @@ step-piece opened k s u d all_up all_down w place (SendFrame message) rest f o l
     let same : whole ≡ message = ap (λ (b : Option (List ℕ)). begun_bytes b ++ message) l.counts.whole_down in
     let sent = calls_said opened k s u d all_up all_down w l in
     let answers = answers-one opened.first_xid k s u d all_down w message (rest ++ w.queued_down) (sym l.parts_down ∙ ap (λ (ps : List FrameContent). d ++ (ps ++ w.queued_down)) first)
-        (omega (arith, sent, sent_most k, l.sends_up, ap (total_of sends_in) l.parts_up, count-append sends_in u (w.up ++ w.queued_up))) l.sends_up g.answered in
+    (omega (arith, sent, sent_most k, l.sends_up, ap (total_of sends_in) l.parts_up, total-append sends_in u (w.up ++ w.queued_up))) l.sends_up g.answered in
     let ends : client_end k (FrameReceived f) ≡ end_of_verdict f (verdict k f.end whole) =
-        client-send opened k s w f message l.counts piece reply.least reply.most ∙ ap (λ (r : Result Segment ℕ). message_end k f (segment_message k r)) reads in
+    client-send opened k s w f message l.counts piece reply.least reply.most ∙ ap (λ (r : Result Segment ℕ). message_end k f (segment_message k r)) reads in
     record {
       only = λ end e. inl (reply-end f (verdict k f.end whole) end (reason-verdict k f.end whole (omega (arith, reply.least, ap (λ (xs : List ℕ). length xs) same)) answers.0 (ap (λ (xs : List ℕ). answered_call k (word_at 0 xs)) same ∙ answers.1)) (sym ends ∙ e));
       kept = λ stays. guards-send_down opened k s u d all_up all_down w place message rest f o l g first piece hello stays;
@@ -233,7 +243,7 @@ step-piece opened k s u d all_up all_down w place (RequestFrame sink at size sta
     let some : 0 < total_of requests_in w.down = omega (arith, ap (total_of requests_in) first) in
     let flaw = request-flaw (readiness k (missing_access grants f segment)) payload (len-request sink at size stag to) fits (requests opened k s w l.counts some) in
     let found : frame_end (readiness k) grants f ≡ end_of_fault f segment (first_fault (missing_fault (missing_access grants f segment) ∷ [])) =
-        ap (λ (r : Result Segment ℕ). frame_end_by (readiness k) grants f r) reads ∙ ap (λ (x : Option (SegmentFault Denied)). end_of_fault f segment x) flaw in
+    ap (λ (r : Result Segment ℕ). frame_end_by (readiness k) grants f r) reads ∙ ap (λ (x : Option (SegmentFault Denied)). end_of_fault f segment x) flaw in
     let ends = client-by k f (end_of_fault f segment (first_fault (missing_fault (missing_access grants f segment) ∷ []))) piece.behind found in
     let none : message_end k f (segment_message k (frame_segment f)) ≡ None = ap (λ (r : Result Segment ℕ). message_end k f (segment_message k r)) reads in
     record {
@@ -245,9 +255,9 @@ step-piece opened k s u d all_up all_down w place (TaggedFrame last opcode stag 
     let segment : Segment = Tagged last OPCODE_WRITE stag to payload in
     let grants = region_grants f.end k.regions in
     let reads : frame_segment f ≡ Ok segment =
-        segment-is k.received.sends k.received.requests f (TaggedFrame last opcode stag to payload) (Tagged last opcode stag to payload) piece refl ∙ ap (λ (c : ℕ). Ok (Tagged last c stag to payload)) write in
+    segment-is k.received.sends k.received.requests f (TaggedFrame last opcode stag to payload) (Tagged last opcode stag to payload) piece refl ∙ ap (λ (c : ℕ). Ok (Tagged last c stag to payload)) write in
     let found : frame_end (readiness k) grants f ≡ end_of_fault f segment (first_fault (missing_fault (missing_access grants f segment) ∷ [])) =
-        ap (λ (r : Result Segment ℕ). frame_end_by (readiness k) grants f r) reads ∙ ap (λ (x : Option (SegmentFault Denied)). end_of_fault f segment x) (write-flaw (readiness k (missing_access grants f segment)) last stag to payload) in
+    ap (λ (r : Result Segment ℕ). frame_end_by (readiness k) grants f r) reads ∙ ap (λ (x : Option (SegmentFault Denied)). end_of_fault f segment x) (write-flaw (readiness k (missing_access grants f segment)) last stag to payload) in
     let ends = client-by k f (end_of_fault f segment (first_fault (missing_fault (missing_access grants f segment) ∷ []))) piece.behind found in
     let none : message_end k f (segment_message k (frame_segment f)) ≡ None = ap (λ (r : Result Segment ℕ). message_end k f (segment_message k r)) reads in
     record {
@@ -279,8 +289,19 @@ has-hello opened k s u q d all_up all_down w l =
     let stream : IsOutput (q ∷ (d ++ (w.down ++ w.queued_down))) = subst IsOutput (sym l.parts_down) l.stream_down in
     let first : hellos_in q ≡ 1 = ap hellos_in (stream-first q (d ++ (w.down ++ w.queued_down)) stream) in
     greeted-true k.has_hello
-      (omega (arith, first, l.counts.hello, l.hellos_down, stream-one all_up l.stream_up, ap (total_of hellos_in) l.parts_up, ap (total_of hellos_in) l.parts_down,
-        count-append hellos_in u (w.up ++ w.queued_up), count-append hellos_in w.up w.queued_up, count-append hellos_in d (w.down ++ w.queued_down), count-append hellos_in w.down w.queued_down))
+    (omega (
+      arith,
+      first,
+      l.counts.hello,
+      l.hellos_down,
+      stream-one all_up l.stream_up,
+      ap (total_of hellos_in) l.parts_up,
+      ap (total_of hellos_in) l.parts_down,
+      total-append hellos_in u (w.up ++ w.queued_up),
+      total-append hellos_in w.up w.queued_up,
+      total-append hellos_in d (w.down ++ w.queued_down),
+      total-append hellos_in w.down w.queued_down,
+    ))
 
 pub step-down : (opened : LinkParameters) (k : ClientState) (s : ServerState) (u d all_up all_down : List FrameContent) (w : Transit) (up : ℕ) (p : FrameContent) (rest : List FrameContent) (n r place : ℕ) → IsOpened opened → EndsAgree opened k s u d all_up all_down w → Guards opened k s u d all_up all_down w up → w.down ≡ p ∷ rest
     → n ≡ total_of sends_in d → r ≡ total_of requests_in d → IsPlace d place → ClientStep opened k s u d all_up all_down w up p rest (frame_of (frame_bytes Responder (numbered_segment n r p)) place)
@@ -302,5 +323,5 @@ step-down opened k s u (q ∷ d) all_up all_down w up p rest n r place o l g fir
     let n_is : n ≡ k.received.sends = sends ∙ sym l.sends_down in
     let r_is : r ≡ k.received.requests = requests ∙ sym l.requests_down in
     step-piece opened k s u (q ∷ d) all_up all_down w up p rest f o l g first proper
-      (subst (λ (x : ℕ). Carries x k.received.requests f p) n_is (subst (λ (x : ℕ). Carries n x f p) r_is (is-piece Responder n r place p (proper_one n r p proper) at)))
-      (has-hello opened k s u q d all_up all_down w l)
+    (subst (λ (x : ℕ). Carries x k.received.requests f p) n_is (subst (λ (x : ℕ). Carries n x f p) r_is (is-piece Responder n r place p (proper_one n r p proper) at)))
+    (has-hello opened k s u q d all_up all_down w l)

@@ -1,4 +1,4 @@
--- What some more bytes of a matched link make whole: the next pieces of the other side, each a frame that is read as it was said.
+-- On a matched link more bytes complete the frames of the next contents that the other side sent, each of which reads as it was sent.
 use Rattle.std.proofs.Common.{◌≡◌, ℕ, ◌+◌, ◌≤◌, ◌<◌, false, eqb, List, [], ◌∷◌, ◌++◌, length, drop, Option, None, Some, refl, sym, ap, ◌∙◌, arith, length-append, ne_eqb}
 use Rattle.std.proofs.Math.Seq.{drop-append_seam}
 use Rattle.std.specs.List.{concat}
@@ -29,7 +29,7 @@ longer (x ∷ xs) ys (z ∷ zs) ws e le =
     head-same : {x z : FrameContent} {xs zs : List FrameContent} → z ∷ zs ≡ x ∷ xs → z ≡ x
     head-same e = cc
 
--- the pieces that came by then, those that more bytes bring, and those that are left
+-- the frames that was received by then, those that more bytes bring, and those that are left
 pub record NewFrames (side : Side) (got bytes : List ℕ) (came way : List FrameContent) : Type 0 where
   pub new : List FrameContent
   pub left : List FrameContent
@@ -46,7 +46,7 @@ fed side got bytes rest came way proper before sent =
     let later = (split (awaited_after a (split a got).frames) ((split a got).rest ++ bytes)).frames in
     let goes_on : frames_at side 0 0 f.came ≡ (split a got).frames ++ later = sym f.frames ∙ ap (λ (s : Split). s.frames) (split-append a got bytes) in
     let as_many : length came ≤ length f.came =
-        omega (arith, length-frames side 0 0 came, length-frames side 0 0 f.came, ap (λ (fs : List (List ℕ)). length fs) goes_on, length-append (split a got).frames later, ap (λ (fs : List (List ℕ)). length fs) before) in
+    omega (arith, length-frames side 0 0 came, length-frames side 0 0 f.came, ap (λ (fs : List (List ℕ)). length fs) goes_on, length-append (split a got).frames later, ap (λ (fs : List (List ℕ)). length fs) before) in
     let l = longer came way f.came f.left (sym f.parts) as_many in
     let all : (split a (got ++ bytes)).frames ≡ frames_at side 0 0 (came ++ l.new) = f.frames ∙ ap (λ (ps : List FrameContent). frames_at side 0 0 ps) l.longer in
     let old = frames_at side 0 0 came in
@@ -63,7 +63,7 @@ fed side got bytes rest came way proper before sent =
       all = all;
     }
 
--- behind the hello each of them is a piece as it was said
+-- behind the hello each of them is a frame as it was sent
 pub is-piece : (side : Side) (n r place : ℕ) (p : FrameContent) → IsWritableAs Fpdu (numbered_segment n r p) → 0 < place
     → Carries n r (record { at = place; end = place + length (frame_bytes side (numbered_segment n r p)); bytes = frame_bytes side (numbered_segment n r p) }) p
 unfolding frame_segment
@@ -71,6 +71,7 @@ is-piece side n r place p proper some = by (numbered_segment n r p) refl proper
   where
     behind : eqb place 0 ≡ false
     behind = ne_eqb place 0 (λ e. omega (arith, e, some))
+
     by : (s : Option Segment) → numbered_segment n r p ≡ s → IsWritableAs Fpdu s
         → Carries n r (record { at = place; end = place + length (frame_bytes side (numbered_segment n r p)); bytes = frame_bytes side (numbered_segment n r p) }) p
     by None is h = absurd h

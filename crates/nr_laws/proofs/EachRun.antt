@@ -1,4 +1,4 @@
--- After each run of a matched link in which each side kept its law in full, and of which no side has ended, both ends are joined.
+-- After each run of a matched link in which each side kept its law in full, and of which no side has ended, both ends agree.
 use Rattle.std.proofs.Common.{◌≡◌, ℕ, Bool, true, false, cond, ◌&&◌, eqb, List, [], ◌∷◌, ◌++◌, Option, Some, None, refl, sym, ap, subst, ◌∙◌, arith, append_assoc, append-nil, lit<}
 use Rattle.std.proofs.lemmas.Bool.{eqb-true}
 use Rattle.nr_wire.specs.declared.hello.Side.TheVariants.{Initiator, Responder}
@@ -23,7 +23,7 @@ use Rattle.nr_reduce.specs.Served.{ServedMark}
 use Rattle.nr_reduce.proofs.Steps.{client-one, server-one, ended-stays}
 use Rattle.nr_laws.specs.Typed.{TypedMark}
 use Rattle.nr_laws.specs.FrameContents.FrameContent.{HelloFrame}
-use Rattle.nr_laws.proofs.TotalsAtClient.{counts-first}
+use Rattle.nr_laws.proofs.TotalsAtClient.{totals-first}
 use Rattle.nr_reduce.specs.Opening.{IsOpened}
 use Rattle.nr_laws.proofs.Guards.{Guards}
 use Rattle.nr_laws.proofs.AgreeingRuns.{place_of, RunAgrees, MarkAgrees, goes-on, goes-none, goes-fed_up, goes-fed_down}
@@ -39,7 +39,7 @@ stays-ended rules r es e = by r.ended refl
     by (Some end) is =
         let same : r ≡ record { state = r.state; ended = Some end } = λ i. record { state = r.state; ended = is i } in
         let ended : (end_state_after rules r es).ended ≡ Some end =
-            ap (λ (x : EndState _). (end_state_after rules x es).ended) same ∙ ap (λ (x : EndState _). x.ended) (ended-stays rules r.state end es).0 in
+        ap (λ (x : EndState _). (end_state_after rules x es).ended) same ∙ ap (λ (x : EndState _). x.ended) (ended-stays rules r.state end es).0 in
         absurd (let wrong : Some end ≡ None = sym ended ∙ e in cc)
 
 pub client-unended : (opened : LinkParameters) (link : ℕ) (before more : List Mark) → (client opened link (before ++ more)).ended ≡ None → (client opened link before).ended ≡ None
@@ -77,7 +77,7 @@ starts opened link = record {
     linked = record {
       parts_up = refl;
       parts_down = refl;
-      counts = counts-first opened;
+      counts = totals-first opened;
       waits = record { numbers = tt; xids = tt; calls_below = tt; reads_below = tt; ready_apart = tt; ready_calls = tt; whole_calls = tt };
       outs = record { apart = tt; below = tt };
       fits = tt;
@@ -104,7 +104,7 @@ starts opened link = record {
   };
   guards = λ o. record {
     server = record {
-      counts = counts-first opened;
+      counts = totals-first opened;
       reads = record { answered = []; asked = []; parts = refl; answers = (refl, refl); requests = refl };
       waits = record { numbers = tt; xids = tt; calls_below = tt; reads_below = tt; ready_apart = tt; ready_calls = tt; whole_calls = tt };
       sinks = tt;
@@ -165,7 +165,7 @@ goes-mark opened link run (marks.Fed l Initiator bytes) j asked served matched t
     by true e =
         let same = eqb-true l link e in
         subst (λ (n : ℕ). MarkAgrees opened link run (marks.Fed n Initiator bytes) j) (sym same)
-          (goes-fed_down opened link run bytes j (matched same) typed (ap (λ (n : ℕ). (client opened link (run ++ marks.Fed n Initiator bytes ∷ [])).ended) (sym same) ∙ up))
+        (goes-fed_down opened link run bytes j (matched same) typed (ap (λ (n : ℕ). (client opened link (run ++ marks.Fed n Initiator bytes ∷ [])).ended) (sym same) ∙ up))
     by false e = goes-none opened link run (marks.Fed l Initiator bytes) j (no-events (eqb l link) true _ e) (no-events (eqb l link) false _ e) (no-bytes (eqb l link) true bytes e) (no-bytes (eqb l link) false bytes e) refl refl
 goes-mark opened link run (marks.Fed l Responder bytes) j asked served matched typed up down = by (eqb l link) refl
   where
@@ -173,7 +173,7 @@ goes-mark opened link run (marks.Fed l Responder bytes) j asked served matched t
     by true e =
         let same = eqb-true l link e in
         subst (λ (n : ℕ). MarkAgrees opened link run (marks.Fed n Responder bytes) j) (sym same)
-          (goes-fed_up opened link run bytes j (matched same) typed (ap (λ (n : ℕ). (server opened link (run ++ marks.Fed n Responder bytes ∷ [])).ended) (sym same) ∙ down))
+        (goes-fed_up opened link run bytes j (matched same) typed (ap (λ (n : ℕ). (server opened link (run ++ marks.Fed n Responder bytes ∷ [])).ended) (sym same) ∙ down))
     by false e = goes-none opened link run (marks.Fed l Responder bytes) j (no-events (eqb l link) false _ e) (no-events (eqb l link) true _ e) (no-bytes (eqb l link) false bytes e) (no-bytes (eqb l link) true bytes e) refl refl
 goes-mark opened link run (marks.Execute l xid moment payload place reply) j asked served matched typed up down = by (eqb l link) refl
   where
@@ -203,7 +203,7 @@ joins-from opened link (m ∷ run) before j asked served matched typed up down =
     let down_all : (server opened link ((before ++ m ∷ []) ++ run)).ended ≡ None = ap (λ (r : List Mark). (server opened link r).ended) assoc ∙ down in
     let g = goes-mark opened link before m j asked.0 served.0 matched.0 typed.0 (client-unended opened link (before ++ m ∷ []) run up_all) (server-unended opened link (before ++ m ∷ []) run down_all) in
     subst (RunAgrees opened link) assoc
-      (joins-from opened link run (before ++ m ∷ []) (goes-on opened link before m j g) asked.1 served.1 matched.1 typed.1 up_all down_all)
+    (joins-from opened link run (before ++ m ∷ []) (goes-on opened link before m j g) asked.1 served.1 matched.1 typed.1 up_all down_all)
 
 pub joins : (opened : LinkParameters) (link : ℕ) (run : List Mark) → AtEachMark (AskedMark IsAll opened link) [] run → AtEachMark (ServedMark IsAll opened link) [] run → AtEachMark (MatchedMark link) [] run
     → AtEachMark TypedMark [] run → (client opened link run).ended ≡ None → (server opened link run).ended ≡ None → RunAgrees opened link run

@@ -1,4 +1,4 @@
--- What alone may end a side of a matched link, piece by piece: what an access lacks, and what a message comes to.
+-- What a frame of a matched link may end a side for: an access that is denied, and what a message is.
 use Rattle.std.proofs.Common.{◌≡◌, ℕ, ◌+◌, ◌≤◌, ◌<◌, ◌^◌, Bool, true, false, cond, List, [], ◌∷◌, ◌++◌, length, take, drop, Option, None, Result, Ok, refl, sym, ap, subst, ◌∙◌, arith, lt-ltb, append_assoc, take-append-drop}
 use Rattle.nr_wire.specs.Constants.{OPCODE_WRITE, OPCODE_READ_REQUEST, OPCODE_READ_RESPONSE, QUEUE_READ_REQUEST}
 use Rattle.nr_wire.specs.declared.hello.Side.TheVariants.{Initiator, Responder}
@@ -43,7 +43,7 @@ pub server-send : (opened : LinkParameters) (k : ClientState) (s : ServerState) 
 server-send opened k s w f message rest c g head p long short =
     let some : 0 < total_of sends_in w.up = omega (arith, ap (total_of sends_in) head) in
     server-by opened s f None p.behind
-      (send-frame (readiness opened s) (region_grants f.end s.regions) s.received.sends s.received.requests f message p refl c.whole_up (lt-ltb (receives_in_use s) opened.granted (receives opened k s w c g some)) refl long short)
+    (send-frame (readiness opened s) (region_grants f.end s.regions) s.received.sends s.received.requests f message p refl c.whole_up (lt-ltb (receives_in_use s) opened.granted (receives opened k s w c g some)) refl long short)
 
 -- a segment of a Response: only what its access lacks
 lacks-none : (f : Frame) (segment : Segment) (lack : Option Denied) → lack ≡ None → end_of_fault f segment (first_fault (missing_fault lack ∷ [])) ≡ None
@@ -62,9 +62,9 @@ server-response opened s w f last stag to payload rest c head p allowed =
     let expected = is-expected s c.answered last OPCODE_READ_RESPONSE stag to payload (rest ++ w.queued_up) (c.asked ++ drop open_reads_max s.reads) reads answers in
     let flaw = response-flaw (readiness opened s (missing_access grants f segment)) last stag to payload expected in
     server-by opened s f None p.behind
-      (ap (λ (r : Result Segment ℕ). frame_end_by (readiness opened s) grants f r) is
-      ∙ ap (λ (x : Option (SegmentFault Denied)). end_of_fault f segment x) flaw
-      ∙ lacks-none f segment (missing_access grants f segment) allowed)
+    (ap (λ (r : Result Segment ℕ). frame_end_by (readiness opened s) grants f r) is
+    ∙ ap (λ (x : Option (SegmentFault Denied)). end_of_fault f segment x) flaw
+    ∙ lacks-none f segment (missing_access grants f segment) allowed)
   where
     all-reads : (reads answered asked : List PendingRead) → take open_reads_max reads ≡ answered ++ asked → reads ≡ answered ++ (asked ++ drop open_reads_max reads)
     all-reads reads answered asked e = sym (take-append-drop open_reads_max reads) ∙ ap (λ (xs : List PendingRead). xs ++ drop open_reads_max reads) e ∙ append_assoc answered asked (drop open_reads_max reads)
@@ -75,12 +75,12 @@ pub client-by : (k : ClientState) (f : Frame) (found : Option End) → is_hello 
 unfolding client_end
 client-by k f found behind is = λ i. cond (behind i) (hello_end (hello_of Responder f.bytes)) (or_message_end k f (is i))
 
--- a message: what it comes to alone
+-- a message: its verdict alone
 pub client-send : (opened : LinkParameters) (k : ClientState) (s : ServerState) (w : Transit) (f : Frame) (message : List ℕ) → TotalsAgree k s w
     → Carries k.received.sends k.received.requests f (SendFrame message) → 16 ≤ length message → length message ≤ send_max → client_end k (FrameReceived f) ≡ message_end k f (segment_message k (frame_segment f))
 client-send opened k s w f message c p long short =
     client-by k f None p.behind
-      (send-frame (client_readiness k) (region_grants f.end k.regions) k.received.sends k.received.requests f message p refl c.whole_down refl refl long short)
+    (send-frame (client_readiness k) (region_grants f.end k.regions) k.received.sends k.received.requests f message p refl c.whole_down refl refl long short)
 
 -- a Read Request: what it lacks alone
 pub client-read : (opened : LinkParameters) (k : ClientState) (s : ServerState) (w : Transit) (f : Frame) (sink at size stag to : ℕ) (rest : List FrameContent) → TotalsAgree k s w → w.down ≡ RequestFrame sink at size stag to ∷ rest
@@ -96,9 +96,9 @@ client-read opened k s w f sink at size stag to rest c head p len fits allowed =
     let some : 0 < total_of requests_in w.down = omega (arith, ap (total_of requests_in) head) in
     let flaw = request-flaw (client_readiness k (missing_access grants f segment)) (request_payload sink at size stag to) len fits (requests opened k s w c some) in
     client-by k f None p.behind
-      (ap (λ (r : Result Segment ℕ). frame_end_by (client_readiness k) grants f r) is
-      ∙ ap (λ (x : Option (SegmentFault Denied)). end_of_fault f segment x) flaw
-      ∙ lacks-none f segment (missing_access grants f segment) allowed)
+    (ap (λ (r : Result Segment ℕ). frame_end_by (client_readiness k) grants f r) is
+    ∙ ap (λ (x : Option (SegmentFault Denied)). end_of_fault f segment x) flaw
+    ∙ lacks-none f segment (missing_access grants f segment) allowed)
     ∙ ap (λ (r : Result Segment ℕ). message_end k f (segment_message k r)) is
 
 -- a segment of a Write likewise
@@ -110,7 +110,7 @@ client-write k f last stag to payload p allowed =
     let grants = region_grants f.end k.regions in
     let is : frame_segment f ≡ Ok segment = segment-is k.received.sends k.received.requests f (TaggedFrame last OPCODE_WRITE stag to payload) segment p refl in
     client-by k f None p.behind
-      (ap (λ (r : Result Segment ℕ). frame_end_by (client_readiness k) grants f r) is
-      ∙ ap (λ (x : Option (SegmentFault Denied)). end_of_fault f segment x) (write-flaw (client_readiness k (missing_access grants f segment)) last stag to payload)
-      ∙ lacks-none f segment (missing_access grants f segment) allowed)
+    (ap (λ (r : Result Segment ℕ). frame_end_by (client_readiness k) grants f r) is
+    ∙ ap (λ (x : Option (SegmentFault Denied)). end_of_fault f segment x) (write-flaw (client_readiness k (missing_access grants f segment)) last stag to payload)
+    ∙ lacks-none f segment (missing_access grants f segment) allowed)
     ∙ ap (λ (r : Result Segment ℕ). message_end k f (segment_message k r)) is

@@ -1,4 +1,4 @@
--- The Responses of a client are those that its server expects.
+-- The Read Responses of a client are those that its server expects.
 use Rattle.std.proofs.Common.{◌≡◌, ℕ, zero, suc, ◌+◌, ◌-◌, ◌*◌, ◌≤◌, ◌<◌, min, Bool, true, false, not, cond, ◌&&◌, eqb, leb, List, [], ◌∷◌, ◌++◌, length, map, drop, refl, sym, ap, subst, ◌∙◌, arith, eq-eqb, ne_eqb, length-take, length-drop, le-leb}
 use Rattle.std.specs.List.{range_with_len}
 use Rattle.nr_wire.specs.Constants.{OPCODE_READ_RESPONSE}
@@ -43,21 +43,28 @@ length-piece bytes i = length-take segment_max (drop (segment_max * i) bytes) �
 
 cut-from : (r : PendingRead) (bytes : List ℕ) (total n a : ℕ) → length bytes ≡ r.size → 0 < r.size → SegmentTotals r.size total → a + suc n ≡ total
     → AreResponses (segment_max * a) (r ∷ []) (map (λ i. TaggedFrame (eqb (i + 1) total) OPCODE_READ_RESPONSE r.sink (r.at + segment_max * i) (segment_payload bytes i)) (range_with_len a (suc n)))
-cut-from r bytes total zero a len some c e =
-    (refl, refl, refl,
-    subst (λ (b : Bool). ContinuesRead b (segment_max * a) (length (segment_payload bytes a)) r [] (λ k qs. AreResponses k qs [])) (sym (eq-eqb (a + 1) total (omega (arith, e))))
-      (omega (arith, length-piece bytes a, len, c.enough, c.needed, e), (refl, refl)))
+cut-from r bytes total zero a len some c e = (
+  refl,
+  refl,
+  refl,
+  subst (λ (b : Bool). ContinuesRead b (segment_max * a) (length (segment_payload bytes a)) r [] (λ k qs. AreResponses k qs [])) (sym (eq-eqb (a + 1) total (omega (arith, e))))
+      (omega (arith, length-piece bytes a, len, c.enough, c.needed, e), (refl, refl)),
+)
 cut-from r bytes total (suc n) a len some c e =
     let next = cut-from r bytes total n (a + 1) len some c (omega (arith, e)) in
     let full : length (segment_payload bytes a) ≡ segment_max = omega (arith, length-piece bytes a, len, c.needed, e) in
-    let at : segment_max * a + length (segment_payload bytes a) ≡ segment_max * (a + 1) = omega (arith, full) in
-    (refl, refl, refl,
-    subst (λ (b : Bool). ContinuesRead b (segment_max * a) (length (segment_payload bytes a)) r [] (λ k qs. AreResponses k qs (map (λ i. TaggedFrame (eqb (i + 1) total) OPCODE_READ_RESPONSE r.sink (r.at + segment_max * i) (segment_payload bytes i)) (range_with_len (a + 1) (suc n)))))
-      (sym (ne_eqb (a + 1) total (omega (arith, e))))
-      (omega (arith, full, c.needed, e),
-      subst (λ (k : ℕ). AreResponses k (r ∷ []) (map (λ i. TaggedFrame (eqb (i + 1) total) OPCODE_READ_RESPONSE r.sink (r.at + segment_max * i) (segment_payload bytes i)) (range_with_len (a + 1) (suc n)))) (sym at) next))
+    let at : segment_max * a + length (segment_payload bytes a) ≡ segment_max * (a + 1) = omega (arith, full) in (
+      refl,
+      refl,
+      refl,
+      subst (λ (b : Bool). ContinuesRead b (segment_max * a) (length (segment_payload bytes a)) r [] (λ k qs. AreResponses k qs (map (λ i. TaggedFrame (eqb (i + 1) total) OPCODE_READ_RESPONSE r.sink (r.at + segment_max * i) (segment_payload bytes i)) (range_with_len (a + 1) (suc n)))))
+          (sym (ne_eqb (a + 1) total (omega (arith, e)))) (
+            omega (arith, full, c.needed, e),
+            subst (λ (k : ℕ). AreResponses k (r ∷ []) (map (λ i. TaggedFrame (eqb (i + 1) total) OPCODE_READ_RESPONSE r.sink (r.at + segment_max * i) (segment_payload bytes i)) (range_with_len (a + 1) (suc n)))) (sym at) next,
+          ),
+    )
 
--- the pieces of a response of just as many bytes answer its read
+-- the frames of a response of just as many bytes answer its read
 pub answers-one : (r : PendingRead) (bytes : List ℕ) → length bytes ≡ r.size → 0 < r.size → AreResponses 0 (r ∷ []) (tagged_frames OPCODE_READ_RESPONSE r.sink r.at bytes)
 unfolding tagged_frames
 answers-one r bytes len some =
@@ -65,7 +72,7 @@ answers-one r bytes len some =
     let total : segment_count bytes ≡ suc (segment_count bytes - 1) = omega (arith, c.enough, len, some) in
     let cut : SegmentTotals r.size (segment_count bytes) = subst (λ (n : ℕ). SegmentTotals n (segment_count bytes)) len c in
     subst (λ (n : ℕ). AreResponses 0 (r ∷ []) (map (tagged_frame OPCODE_READ_RESPONSE r.sink r.at bytes) (range_with_len 0 n))) (sym total)
-      (cut-from r bytes (segment_count bytes) (segment_count bytes - 1) 0 len some cut (omega (arith, total)))
+    (cut-from r bytes (segment_count bytes) (segment_count bytes - 1) 0 len some cut (omega (arith, total)))
 
 -- ---- It is what is expected
 
@@ -79,5 +86,5 @@ pub is-expected : (s : ServerState) (rs : List PendingRead) (last : Bool) (opcod
 is-expected s [] last opcode stag to payload ps others is h = absurd h
 is-expected s (r ∷ rs) last opcode stag to payload ps others is h =
     let by : is_expected (expected_response s.response_bytes (r ∷ (rs ++ others))) last stag to (length payload) ≡ true =
-        λ i. eq-eqb stag r.sink h.1 i && (eq-eqb to (r.at + s.response_bytes) h.2 i && expected-by last s.response_bytes (length payload) r rs (λ c qs. AreResponses c qs ps) h.3 i) in
+    λ i. eq-eqb stag r.sink h.1 i && (eq-eqb to (r.at + s.response_bytes) h.2 i && expected-by last s.response_bytes (length payload) r rs (λ c qs. AreResponses c qs ps) h.3 i) in
     subst (λ (qs : List PendingRead). is_expected (expected_response s.response_bytes qs) last stag to (length payload) ≡ true) (sym is) by

@@ -1,4 +1,4 @@
--- What a link asks of each piece holds of the pieces of a matched link, but for memory and for what is expected.
+-- Of the segments of a matched link none breaks a rule of the link, apart from the access to memory and the expected response.
 use Rattle.std.proofs.Common.{◌≡◌, ℕ, ◌+◌, ◌≤◌, ◌<◌, ◌^◌, Bool, true, not, cond, ◌||◌, eqb, ltb, List, [], ◌∷◌, ◌++◌, length, Option, None, Some, Result, Ok, refl, sym, ap, ◌∙◌, eq-eqb, le-ltb}
 use Rattle.std.proofs.lemmas.Bool.{lt-leb}
 use Rattle.std.proofs.lemmas.Option.{same_Some}
@@ -26,18 +26,18 @@ pub send-flaw : {D : Type 0} (r : Readiness D) (m : List ℕ) → r.received.beg
 unfolding segment_fault
 send-flaw r m b h l long short =
     (λ i. first_fault (reason_if REASON_MSN (not (itself (msn_word (r.received.sends + 1)) i))
-      ∷ reason_if REASON_OFFSET (not (eqb 0 (length (begun_bytes (b i)))))
-      ∷ cond (is_begun (b i) || h i) None (Some (NoBuffer (msn_word (r.received.sends + 1))))
-      ∷ None
-      ∷ missing_fault (l i)
-      ∷ None
-      ∷ reason_if REASON_LONG (ltb r.message_max (length (begun_bytes (b i) ++ m)))
-      ∷ reason_if REASON_SHORT (ltb (length (begun_bytes (b i) ++ m)) 16)
-      ∷ None ∷ []))
+    ∷ reason_if REASON_OFFSET (not (eqb 0 (length (begun_bytes (b i)))))
+    ∷ cond (is_begun (b i) || h i) None (Some (NoBuffer (msn_word (r.received.sends + 1))))
+    ∷ None
+    ∷ missing_fault (l i)
+    ∷ None
+    ∷ reason_if REASON_LONG (ltb r.message_max (length (begun_bytes (b i) ++ m)))
+    ∷ reason_if REASON_SHORT (ltb (length (begun_bytes (b i) ++ m)) 16)
+    ∷ None ∷ []))
     ∙ (λ i. first_fault (None ∷ None ∷ None ∷ None ∷ None ∷ None
-      ∷ reason_if REASON_LONG (le-ltb r.message_max (length m) short i)
-      ∷ reason_if REASON_SHORT (le-ltb (length m) 16 long i)
-      ∷ None ∷ []))
+    ∷ reason_if REASON_LONG (le-ltb r.message_max (length m) short i)
+    ∷ reason_if REASON_SHORT (le-ltb (length m) 16 long i)
+    ∷ None ∷ []))
 
 skip_one : {D : Type 0} (l : Option D) → first_fault (missing_fault l ∷ None ∷ []) ≡ first_fault (missing_fault l ∷ [])
 skip_one None = refl
@@ -53,12 +53,12 @@ pub request-flaw : {D : Type 0} (r : Readiness D) (payload : List ℕ) → lengt
 unfolding segment_fault
 request-flaw r payload len fits few =
     (λ i. first_fault (reason_if REASON_MSN (not (itself (msn_word (r.received.requests + 1)) i))
-      ∷ None
-      ∷ None
-      ∷ reason_if REASON_FORM (not (eq-eqb (length payload) 28 len i) || le-ltb (2 ^ 64) ((read_request_in payload).sink_to + (read_request_in payload).size) fits i)
-      ∷ missing_fault r.missing
-      ∷ reason_if REASON_REQUESTS (lt-leb open_reads_max r.responses few i)
-      ∷ None ∷ None ∷ None ∷ []))
+    ∷ None
+    ∷ None
+    ∷ reason_if REASON_FORM (not (eq-eqb (length payload) 28 len i) || le-ltb (2 ^ 64) ((read_request_in payload).sink_to + (read_request_in payload).size) fits i)
+    ∷ missing_fault r.missing
+    ∷ reason_if REASON_REQUESTS (lt-leb open_reads_max r.responses few i)
+    ∷ None ∷ None ∷ None ∷ []))
     ∙ skip_six r.missing
 
 -- a Write likewise
@@ -81,6 +81,6 @@ unfolding frame_end
 send-frame ready grants n req f m p same b h l long short =
     let segment : Segment = Untagged true OPCODE_SEND 0 QUEUE_SEND (msn_word ((ready None).received.sends + 1)) 0 m in
     let is : frame_segment f ≡ Ok segment =
-        p.reads ∙ ap (λ (s : Segment). Ok s) (same_Some _ _ (sym p.is_segment)) ∙ ap (λ (k : ℕ). Ok (Untagged true OPCODE_SEND 0 QUEUE_SEND (msn_word (k + 1)) 0 m)) (sym same) in
+    p.reads ∙ ap (λ (s : Segment). Ok s) (same_Some _ _ (sym p.is_segment)) ∙ ap (λ (k : ℕ). Ok (Untagged true OPCODE_SEND 0 QUEUE_SEND (msn_word (k + 1)) 0 m)) (sym same) in
     ap (λ (r : Result Segment ℕ). frame_end_by ready grants f r) is
     ∙ ap (λ (x : Option (SegmentFault Denied)). end_of_fault f segment x) (send-flaw (ready None) m b h l long short)

@@ -58,9 +58,9 @@ server-last opened link before (m ∷ more) end e =
     let r = server opened link before in
     let same : r ≡ record { state = r.state; ended = Some end } = λ i. record { state = r.state; ended = e i } in
     let next : (server opened link (before ++ m ∷ [])).ended ≡ Some end =
-        ap (λ (x : EndState ServerState). x.ended) (server-one opened link before m)
-        ∙ ap (λ (x : EndState ServerState). (end_state_after (server_rules opened) x (events_at link Responder before m)).ended) same
-        ∙ ap (λ (x : EndState ServerState). x.ended) (ended-stays (server_rules opened) r.state end (events_at link Responder before m)).0 in
+    ap (λ (x : EndState ServerState). x.ended) (server-one opened link before m)
+    ∙ ap (λ (x : EndState ServerState). (end_state_after (server_rules opened) x (events_at link Responder before m)).ended) same
+    ∙ ap (λ (x : EndState ServerState). x.ended) (ended-stays (server_rules opened) r.state end (events_at link Responder before m)).0 in
     ap (λ (run : List Mark). (server opened link run).ended) (sym (append_assoc before (m ∷ []) more)) ∙ server-last opened link (before ++ m ∷ []) more end next
 
 -- no event, or one that is no frame, ends it
@@ -84,7 +84,7 @@ by-fed opened link run bytes g o prefix typed end e =
     let es = events_of (place_of j.u) (frames_at Initiator n r a.new) in
     let same : map FrameReceived (frames_completed Initiator got bytes) ≡ es = ap (λ (fs : List Frame). map FrameReceived fs) a.frames in
     server-ends opened j.k j.d j.all_up a.left o end a.new j.s j.u j.all_down j.w n r (place_of j.u) j.linked g.guards a.parts (omega arith) (omega arith) a.place a.bytes_are a.some
-      (ap (λ (xs : List Event). (end_state_after (server_rules opened) (live j.s) xs).ended) (sym same) ∙ e)
+    (ap (λ (xs : List Event). (end_state_after (server_rules opened) (live j.s) xs).ended) (sym same) ∙ e)
 
 server-mark : (opened : LinkParameters) (link : ℕ) (run : List Mark) (mark : Mark) (g : Guarded opened link run) → IsOpened opened → MatchedMark link run mark → TypedMark run mark → (end : End)
     → (end_state_after (server_rules opened) (live g.joined.s) (events_at link Responder run mark)).ended ≡ Some end → IsCallEnd end
@@ -98,6 +98,7 @@ server-mark opened link run (marks.Fed l Responder bytes) g o matched typed end 
   where
     fs : List Frame
     fs = frames_completed Initiator (bytes_received link Responder run) bytes
+
     by : (b : Bool) → eqb l link ≡ b → IsCallEnd end
     by true is = by-fed opened link run bytes g o (matched (eqb-true l link is)) typed end (ap (λ (b : Bool). (end_state_after (server_rules opened) (live g.joined.s) (if_own (b && true) (map FrameReceived fs))).ended) (sym is) ∙ e)
     by false is = not-by-none opened g.joined.s _ end (no-events (eqb l link) true (map FrameReceived fs) is) e
@@ -118,12 +119,16 @@ server-from opened link o end (m ∷ run) before g asked served matched grant ty
   where
     assoc : (before ++ m ∷ []) ++ run ≡ before ++ m ∷ run
     assoc = append_assoc before (m ∷ []) run
+
     up_all : (client opened link ((before ++ m ∷ []) ++ run)).ended ≡ None
     up_all = ap (λ (r : List Mark). (client opened link r).ended) assoc ∙ up
+
     down_all : (server opened link ((before ++ m ∷ []) ++ run)).ended ≡ Some end
     down_all = ap (λ (r : List Mark). (server opened link r).ended) assoc ∙ down
+
     one : server opened link (before ++ m ∷ []) ≡ end_state_after (server_rules opened) (live g.joined.s) (events_at link Responder before m)
     one = server-one opened link before m ∙ ap (λ (r : EndState ServerState). end_state_after (server_rules opened) r (events_at link Responder before m)) g.joined.server_is
+
     by : (x : Option End) → (server opened link (before ++ m ∷ [])).ended ≡ x → (Guarded opened link (before ++ m ∷ []) → IsCallEnd end) → IsCallEnd end
     by None is later =
         later (guarded-more opened link before m g.joined (goes-mark opened link before m g.joined asked.0 served.0 matched.0 typed.0 (client-unended opened link (before ++ m ∷ []) run up_all) is) o grant.0 g.guards)
@@ -145,9 +150,9 @@ client-last opened link before (m ∷ more) end e =
     let r = client opened link before in
     let same : r ≡ record { state = r.state; ended = Some end } = λ i. record { state = r.state; ended = e i } in
     let next : (client opened link (before ++ m ∷ [])).ended ≡ Some end =
-        ap (λ (x : EndState ClientState). x.ended) (client-one opened link before m)
-        ∙ ap (λ (x : EndState ClientState). (end_state_after (client_rules opened) x (events_at link Initiator before m)).ended) same
-        ∙ ap (λ (x : EndState ClientState). x.ended) (ended-stays (client_rules opened) r.state end (events_at link Initiator before m)).0 in
+    ap (λ (x : EndState ClientState). x.ended) (client-one opened link before m)
+    ∙ ap (λ (x : EndState ClientState). (end_state_after (client_rules opened) x (events_at link Initiator before m)).ended) same
+    ∙ ap (λ (x : EndState ClientState). x.ended) (ended-stays (client_rules opened) r.state end (events_at link Initiator before m)).0 in
     ap (λ (run : List Mark). (client opened link run).ended) (sym (append_assoc before (m ∷ []) more)) ∙ client-last opened link (before ++ m ∷ []) more end next
 
 abbrev IsClientEnd : End → Type 0
@@ -174,7 +179,7 @@ client-fed opened link run bytes g o prefix typed end e =
     let es = events_of place (frames_at Responder n r a.new) in
     let same : map FrameReceived (frames_completed Responder got bytes) ≡ es = ap (λ (fs : List Frame). map FrameReceived fs) a.frames in
     client-ends opened j.s j.u j.all_down a.left o end (place_of j.u) a.new j.k j.d j.all_up j.w n r place j.linked g.guards a.parts (omega arith) (omega arith) a.place a.bytes_are a.some
-      (ap (λ (xs : List Event). (end_state_after (client_rules opened) (live j.k) xs).ended) (sym same) ∙ e)
+    (ap (λ (xs : List Event). (end_state_after (client_rules opened) (live j.k) xs).ended) (sym same) ∙ e)
 
 client-mark : (opened : LinkParameters) (link : ℕ) (run : List Mark) (mark : Mark) (g : Guarded opened link run) → IsOpened opened → MatchedMark link run mark → TypedMark run mark → (end : End)
     → (end_state_after (client_rules opened) (live g.joined.k) (events_at link Initiator run mark)).ended ≡ Some end → IsClientEnd end
@@ -188,6 +193,7 @@ client-mark opened link run (marks.Fed l Initiator bytes) g o matched typed end 
   where
     fs : List Frame
     fs = frames_completed Responder (bytes_received link Initiator run) bytes
+
     by : (b : Bool) → eqb l link ≡ b → IsClientEnd end
     by true is = client-fed opened link run bytes g o (matched (eqb-true l link is)) typed end (ap (λ (b : Bool). (end_state_after (client_rules opened) (live g.joined.k) (if_own (b && true) (map FrameReceived fs))).ended) (sym is) ∙ e)
     by false is = none-ends opened g.joined.k _ end (no-events (eqb l link) true (map FrameReceived fs) is) e
@@ -208,12 +214,16 @@ client-from opened link o end (m ∷ run) before g asked served matched grant ty
   where
     assoc : (before ++ m ∷ []) ++ run ≡ before ++ m ∷ run
     assoc = append_assoc before (m ∷ []) run
+
     down_all : (server opened link ((before ++ m ∷ []) ++ run)).ended ≡ None
     down_all = ap (λ (r : List Mark). (server opened link r).ended) assoc ∙ down
+
     up_all : (client opened link ((before ++ m ∷ []) ++ run)).ended ≡ Some end
     up_all = ap (λ (r : List Mark). (client opened link r).ended) assoc ∙ up
+
     one : client opened link (before ++ m ∷ []) ≡ end_state_after (client_rules opened) (live g.joined.k) (events_at link Initiator before m)
     one = client-one opened link before m ∙ ap (λ (r : EndState ClientState). end_state_after (client_rules opened) r (events_at link Initiator before m)) g.joined.client_is
+
     by : (x : Option End) → (client opened link (before ++ m ∷ [])).ended ≡ x → (Guarded opened link (before ++ m ∷ []) → IsClientEnd end) → IsClientEnd end
     by None is later =
         later (guarded-more opened link before m g.joined (goes-mark opened link before m g.joined asked.0 served.0 matched.0 typed.0 is (server-unended opened link (before ++ m ∷ []) run down_all)) o grant.0 g.guards)

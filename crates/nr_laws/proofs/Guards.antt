@@ -1,4 +1,4 @@
--- What keeps either end of a matched link from ending by a rule of the link: receives, requests, sinks and sizes.
+-- What keeps both ends of a matched link from ending by a rule of the link: receives, requests, sinks, sizes, numbers.
 use Rattle.std.proofs.Common.{◌≡◌, ℕ, ◌≤◌, ◌<◌, ◌^◌, min, Bool, true, false, cond, eqb, List, [], ◌∷◌, ◌++◌, length, map, take, drop, Option, Some, None, refl, arith}
 use Rattle.std.specs.List.{AllByRecursion, range_with_len}
 use Rattle.nr_xdr.specs.Fields.{word_at}
@@ -65,7 +65,7 @@ pub record Guards (opened : LinkParameters) (k : ClientState) (s : ServerState) 
   pub answered : Answered opened.first_xid k s u d all_down w
   pub reached : (es : List Event) × (end_state_after (client_rules opened) (initial_client opened) es ≡ live k)
 
--- ---- What is said
+-- ---- What is sent
 
 sends-down : (credit : ℕ) (messages : List (List ℕ)) → AreReplies credit messages → AllByRecursion (ServerContent credit) (map SendFrame messages)
 sends-down credit [] h = tt
@@ -87,7 +87,7 @@ unfolding tagged_frames
 fills-down credit [] bytes = tt
 fills-down credit (p ∷ chunk) bytes =
     each-append (ServerContent credit) (cond (eqb (min p.length (length bytes)) 0) [] (tagged_frames OPCODE_WRITE p.handle p.offset (take p.length bytes))) (write_frames chunk (drop p.length bytes))
-      (by (eqb (min p.length (length bytes)) 0)) (fills-down credit chunk (drop p.length bytes))
+    (by (eqb (min p.length (length bytes)) 0)) (fills-down credit chunk (drop p.length bytes))
   where
     by : (b : Bool) → AllByRecursion (ServerContent credit) (cond b [] (tagged_frames OPCODE_WRITE p.handle p.offset (take p.length bytes)))
     by true = tt
@@ -99,8 +99,8 @@ answer-down k xid offer reply t (Some a) lt e fits =
     let target = for_target offer (down_max k) reply t a e in
     let one = answer-reply offer (down_max k) target.0 target.1 target.2 xid k.credit reply a (omega arith) lt fits target.3 in
     each-append (ServerContent k.credit) (write_frames (first_chunk offer.write) a.moved) (cond a.long (write_frames (no_segments offer.reply) a.stream) [] ++ (SendFrame (answer_message xid k.credit offer a) ∷ []))
-      (fills-down k.credit (first_chunk offer.write) a.moved)
-      (each-append (ServerContent k.credit) (cond a.long (write_frames (no_segments offer.reply) a.stream) []) (SendFrame (answer_message xid k.credit offer a) ∷ []) (by a.long) (one, tt))
+    (fills-down k.credit (first_chunk offer.write) a.moved)
+    (each-append (ServerContent k.credit) (cond a.long (write_frames (no_segments offer.reply) a.stream) []) (SendFrame (answer_message xid k.credit offer a) ∷ []) (by a.long) (one, tt))
   where
     by : (b : Bool) → AllByRecursion (ServerContent k.credit) (cond b (write_frames (no_segments offer.reply) a.stream) [])
     by true = fills-down k.credit (no_segments offer.reply) a.stream

@@ -1,4 +1,4 @@
--- A client of a matched link that a piece doesn't end keeps the guards of both ends.
+-- A client of a matched link that a frame doesn't end keeps the guards of both ends.
 use Rattle.std.proofs.Common.{◌≡◌, ℕ, zero, suc, ◌+◌, ◌≤◌, ◌<◌, ◌^◌, Bool, true, false, cond, not, eqb, List, [], ◌∷◌, ◌++◌, length, map, take, drop, filter, Option, Some, None, Result, Ok, Err, refl, sym, ap, subst, ◌∙◌, arith, ◌⊎◌, inl, inr}
 use Rattle.std.specs.List.{AllByRecursion, range_with_len}
 use Rattle.std.proofs.lemmas.Bool.{ne_eqb, le-ltb}
@@ -31,7 +31,7 @@ use Rattle.nr_laws.specs.FrameContents.FrameContent.{HelloFrame, SendFrame, Requ
 use Rattle.nr_laws.specs.LinkInvariants.{Transit, TotalsAgree, hello_bit, ReadsAgree, WithinWindow, HasSink, HaveSinks, AreAtMost, requests_of}
 use Rattle.nr_laws.proofs.Totals.{others}
 use Rattle.nr_laws.proofs.TotalsAtServer.{segment-is}
-use Rattle.nr_laws.proofs.TotalsAtClient.{down_one, after-is, says-is, request_payload, counts-hello_down, counts-send_down, counts-read_down, counts-tagged_down}
+use Rattle.nr_laws.proofs.TotalsAtClient.{down_one, after-is, says-is, request_payload, totals-hello_down, totals-send_down, totals-read_down, totals-tagged_down}
 use Rattle.nr_laws.proofs.ReadsAtClient.{AnswersNone, reads-read_down, reads-says_up}
 use Rattle.nr_laws.proofs.ServerInvariant.{ServerAgrees}
 use Rattle.nr_laws.proofs.Replies.{IsReply}
@@ -129,11 +129,12 @@ guards-down opened k t s u d all_up all_down w place p rest said event g server 
   unsaid = λ e. absurd (let wrong : true ≡ false = sym hello ∙ e in cc);
   numbers = g.numbers;
   answered = answered;
-  reached =
-      (g.reached.0 ++ event ∷ [],
-        end_state_after-append (client_rules opened) (initial_client opened) g.reached.0 (event ∷ [])
+  reached = (
+    g.reached.0 ++ event ∷ [],
+    end_state_after-append (client_rules opened) (initial_client opened) g.reached.0 (event ∷ [])
         ∙ ap (λ (r : EndState ClientState). end_state_after (client_rules opened) r (event ∷ [])) g.reached.1
-        ∙ ap (λ (x : Option End). next_end_state_by (client_rules opened) k event x) stays ∙ ap (λ (x : ClientState). live x) (sym is));
+        ∙ ap (λ (x : Option End). next_end_state_by (client_rules opened) k event x) stays ∙ ap (λ (x : ClientState). live x) (sym is),
+  );
 }
 
 sized-frame : (opened : LinkParameters) (k t : ClientState) (f : Frame) (r : Result Segment ℕ) → t ≡ with_segment k f r → AreSized opened k.outstanding → AreSized opened t.outstanding
@@ -160,6 +161,7 @@ behind-hello opened k t s u d all_up all_down w f r is hello = ap (λ (x : Clien
     with None (Some q) = hello
     with (Some m) None = hello
     with (Some m) (Some q) = hello
+
     by : (r : Result Segment ℕ) → (with_segment k f r).has_hello ≡ true
     by (Err reason) = hello
     by (Ok segment) = with (message_completed k.received segment) (read_request_of segment)
@@ -189,18 +191,18 @@ guards-hello_down opened k s u d all_up all_down w place rest f l g first is sta
     let unsaid : k.has_hello ≡ false = not_greeted k.has_hello none in
     let sends : total_of sends_in all_up ≡ 0 = calls_said opened k s u d all_up all_down w l ∙ ap (λ (b : Bool). cond b k.calls_accepted 0) unsaid in
     let asked : XidsFrom (opened.first_xid + total_of sends_in all_up) said =
-        subst (λ (n : ℕ). XidsFrom n said) (let same : opened.first_xid ≡ opened.first_xid + total_of sends_in all_up = omega (arith, sends) in same)
-          (xids-asked opened opened.first_xid k.outstanding (g.unsaid unsaid) (own-xids opened k.outstanding g.calls)) in
+    subst (λ (n : ℕ). XidsFrom n said) (let same : opened.first_xid ≡ opened.first_xid + total_of sends_in all_up = omega (arith, sends) in same)
+    (xids-asked opened opened.first_xid k.outstanding (g.unsaid unsaid) (own-xids opened k.outstanding g.calls)) in
     let server : ServerAgrees opened t s (down_one w said rest) place = record {
-      counts = subst (λ (ps : List FrameContent). TotalsAgree t s (down_one w ps rest)) says (counts-hello_down opened k s w f rest g.server.counts first is);
+      counts = subst (λ (ps : List FrameContent). TotalsAgree t s (down_one w ps rest)) says (totals-hello_down opened k s w f rest g.server.counts first is);
       reads = reads-says_up s w said rest g.server.reads (none-asks opened k.outstanding) (ap requests_of first);
       waits = g.server.waits;
       sinks = g.server.sinks;
       regions = g.server.regions;
     } in
     subst (λ (ps : List FrameContent). Guards opened t s u (d ++ HelloFrame ∷ []) (all_up ++ ps) all_down (down_one w ps rest) place) (sym says)
-      (guards-down opened k t s u d all_up all_down w place HelloFrame rest said (FrameReceived f) g server (subst (WithinWindow opened) (sym after) (record { window = g.window.window; grant = g.window.grant })) (asks-up opened k.outstanding g.calls) (subst (λ (x : ClientState). AreSized opened x.outstanding) (sym after) g.calls) asked (ap (λ (x : ClientState). x.has_hello) after)
-        (answered-same opened.first_xid k t s u d all_down w (down_one w said rest) HelloFrame (ap (λ (x : ClientState). x.outstanding) after) (ap (λ (x : ClientState). x.calls_accepted) after) refl refl g.answered) stays refl)
+    (guards-down opened k t s u d all_up all_down w place HelloFrame rest said (FrameReceived f) g server (subst (WithinWindow opened) (sym after) (record { window = g.window.window; grant = g.window.grant })) (asks-up opened k.outstanding g.calls) (subst (λ (x : ClientState). AreSized opened x.outstanding) (sym after) g.calls) asked (ap (λ (x : ClientState). x.has_hello) after)
+    (answered-same opened.first_xid k t s u d all_down w (down_one w said rest) HelloFrame (ap (λ (x : ClientState). x.outstanding) after) (ap (λ (x : ClientState). x.calls_accepted) after) refl refl g.answered) stays refl)
 
 pub guards-send_down : (opened : LinkParameters) (k : ClientState) (s : ServerState) (u d all_up all_down : List FrameContent) (w : Transit) (place : ℕ) (message : List ℕ) (rest : List FrameContent) (f : Frame) → IsOpened opened → EndsAgree opened k s u d all_up all_down w → Guards opened k s u d all_up all_down w place → w.down ≡ SendFrame message ∷ rest
     → Carries k.received.sends k.received.requests f (SendFrame message) → k.has_hello ≡ true → client_end k (FrameReceived f) ≡ None
@@ -221,16 +223,16 @@ guards-send_down opened k s u d all_up all_down w place message rest f o l g fir
       grant = omega (arith, grant, credits-same opened.granted o.granted o.granted_fits);
     } in
     let server : ServerAgrees opened t s (down_one w [] rest) place = record {
-      counts = subst (λ (ps : List FrameContent). TotalsAgree t s (down_one w ps rest)) says (counts-send_down opened k s w f message rest g.server.counts first piece stays l.outs.apart);
+      counts = subst (λ (ps : List FrameContent). TotalsAgree t s (down_one w ps rest)) says (totals-send_down opened k s w f message rest g.server.counts first piece stays l.outs.apart);
       reads = reads-says_up s w [] rest g.server.reads (refl, refl) (ap requests_of first);
       waits = g.server.waits;
       sinks = g.server.sinks;
       regions = g.server.regions;
     } in
     subst (λ (ps : List FrameContent). Guards opened t s u (d ++ SendFrame message ∷ []) (all_up ++ ps) all_down (down_one w ps rest) place) (sym says)
-      (guards-down opened k t s u d all_up all_down w place (SendFrame message) rest [] (FrameReceived f) g server (subst (WithinWindow opened) (sym after) window) tt (sized-frame opened k t f (Ok segment) after g.calls) tt (behind-hello opened k t s u d all_up all_down w f (Ok segment) after hello)
-        (answered-message opened.first_xid k t s u d all_down w (down_one w [] rest) message
-          (ap (λ (x : ClientState). x.outstanding) after ∙ ap (λ (xs : List ℕ). filter (λ (o : OutstandingCall). not (eqb o.xid (word_at 0 xs))) k.outstanding) same) (ap (λ (x : ClientState). x.calls_accepted) after) refl g.answered) stays refl)
+    (guards-down opened k t s u d all_up all_down w place (SendFrame message) rest [] (FrameReceived f) g server (subst (WithinWindow opened) (sym after) window) tt (sized-frame opened k t f (Ok segment) after g.calls) tt (behind-hello opened k t s u d all_up all_down w f (Ok segment) after hello)
+    (answered-message opened.first_xid k t s u d all_down w (down_one w [] rest) message
+    (ap (λ (x : ClientState). x.outstanding) after ∙ ap (λ (xs : List ℕ). filter (λ (o : OutstandingCall). not (eqb o.xid (word_at 0 xs))) k.outstanding) same) (ap (λ (x : ClientState). x.calls_accepted) after) refl g.answered) stays refl)
   where
     filter-less : (p : OutstandingCall → Bool) (os : List OutstandingCall) → length (filter p os) ≤ length os
     filter-less p [] = omega arith
@@ -248,6 +250,7 @@ tagged-up opened k f r behind is = subst (AllByRecursion ClientContent) (sym (sa
     cuts : (opcode stag to : ℕ) (bytes : List ℕ) (is : List ℕ) → AllByRecursion ClientContent (map (tagged_frame opcode stag to bytes) is)
     cuts opcode stag to bytes [] = tt
     cuts opcode stag to bytes (i ∷ is) = (tt, cuts opcode stag to bytes is)
+
     by : (q : Option ReadRequest) → AllByRecursion ClientContent (response_frames k f.end q)
     by None = tt
     by (Some q) = cuts _ q.sink q.sink_to _ _
@@ -259,6 +262,7 @@ tagged-xids x opened k f r behind is = subst (XidsFrom x) (sym (says-is opened k
     cuts : (opcode stag to : ℕ) (bytes : List ℕ) (is : List ℕ) → XidsFrom x (map (tagged_frame opcode stag to bytes) is)
     cuts opcode stag to bytes [] = tt
     cuts opcode stag to bytes (i ∷ is) = cuts opcode stag to bytes is
+
     by : (q : Option ReadRequest) → XidsFrom x (response_frames k f.end q)
     by None = tt
     by (Some q) =
@@ -277,18 +281,18 @@ guards-read_down opened k s u d all_up all_down w place sink at size stag to res
     let a = asked-of s w place sink at size stag to rest g.server.reads first g.server.sinks g.server.regions.stags g.within in
     let numbers = client-numbers opened g.reached.0 in
     let own : HaveOwnStags (region_grants f.end k.regions) =
-        own-stags f.end opened.first_stag k.regions (ap-regions opened k g.reached.0 g.reached.1 numbers.regions) in
+    own-stags f.end opened.first_stag k.regions (ap-regions opened k g.reached.0 g.reached.1 numbers.regions) in
     let there = is-there k f (msn_word (k.received.requests + 1)) sink at size stag to own piece.behind reads stays a.some a.sink_word a.at_word a.size_word a.stag_word a.to_word in
     let server : ServerAgrees opened t s (down_one w said rest) place = record {
-      counts = counts-read_down opened k s w f sink at size stag to rest g.server.counts first piece;
+      counts = totals-read_down opened k s w f sink at size stag to rest g.server.counts first piece;
       reads = reads-read_down opened k s w f sink at size stag to rest g.server.reads first piece there;
       waits = g.server.waits;
       sinks = g.server.sinks;
       regions = g.server.regions;
     } in
     guards-down opened k t s u d all_up all_down w place (RequestFrame sink at size stag to) rest said (FrameReceived f) g server (subst (WithinWindow opened) (sym after) (record { window = g.window.window; grant = g.window.grant }))
-      (tagged-up opened k f (Ok segment) piece.behind reads) (sized-frame opened k t f (Ok segment) after g.calls) (tagged-xids (opened.first_xid + total_of sends_in all_up) opened k f (Ok segment) piece.behind reads) (behind-hello opened k t s u d all_up all_down w f (Ok segment) after hello)
-      (answered-same opened.first_xid k t s u d all_down w (down_one w said rest) (RequestFrame sink at size stag to) (ap (λ (x : ClientState). x.outstanding) after) (ap (λ (x : ClientState). x.calls_accepted) after) refl refl g.answered) stays refl
+    (tagged-up opened k f (Ok segment) piece.behind reads) (sized-frame opened k t f (Ok segment) after g.calls) (tagged-xids (opened.first_xid + total_of sends_in all_up) opened k f (Ok segment) piece.behind reads) (behind-hello opened k t s u d all_up all_down w f (Ok segment) after hello)
+    (answered-same opened.first_xid k t s u d all_down w (down_one w said rest) (RequestFrame sink at size stag to) (ap (λ (x : ClientState). x.outstanding) after) (ap (λ (x : ClientState). x.calls_accepted) after) refl refl g.answered) stays refl
   where
     ap-regions : (opened : LinkParameters) (k : ClientState) (es : List Event) → end_state_after (client_rules opened) (initial_client opened) es ≡ live k
         → AreNumbered opened.first_stag (end_state_after (client_rules opened) (initial_client opened) es).state.regions → AreNumbered opened.first_stag k.regions
@@ -304,12 +308,12 @@ guards-tagged_down opened k s u d all_up all_down w place last opcode stag to pa
     let says : client_frames opened k (FrameReceived f) ≡ [] = says-is opened k f (Ok segment) piece.behind reads in
     let after : t ≡ with_segment k f (Ok segment) = after-is opened k f (Ok segment) piece.behind reads in
     let server : ServerAgrees opened t s (down_one w [] rest) place = record {
-      counts = subst (λ (ps : List FrameContent). TotalsAgree t s (down_one w ps rest)) says (counts-tagged_down opened k s w f last opcode stag to payload rest g.server.counts first piece);
+      counts = subst (λ (ps : List FrameContent). TotalsAgree t s (down_one w ps rest)) says (totals-tagged_down opened k s w f last opcode stag to payload rest g.server.counts first piece);
       reads = reads-says_up s w [] rest g.server.reads (refl, refl) (ap requests_of first);
       waits = g.server.waits;
       sinks = g.server.sinks;
       regions = g.server.regions;
     } in
     subst (λ (ps : List FrameContent). Guards opened t s u (d ++ TaggedFrame last opcode stag to payload ∷ []) (all_up ++ ps) all_down (down_one w ps rest) place) (sym says)
-      (guards-down opened k t s u d all_up all_down w place (TaggedFrame last opcode stag to payload) rest [] (FrameReceived f) g server (subst (WithinWindow opened) (sym after) (record { window = g.window.window; grant = g.window.grant })) tt (sized-frame opened k t f (Ok segment) after g.calls) tt (behind-hello opened k t s u d all_up all_down w f (Ok segment) after hello)
-        (answered-same opened.first_xid k t s u d all_down w (down_one w [] rest) (TaggedFrame last opcode stag to payload) (ap (λ (x : ClientState). x.outstanding) after) (ap (λ (x : ClientState). x.calls_accepted) after) refl refl g.answered) stays refl)
+    (guards-down opened k t s u d all_up all_down w place (TaggedFrame last opcode stag to payload) rest [] (FrameReceived f) g server (subst (WithinWindow opened) (sym after) (record { window = g.window.window; grant = g.window.grant })) tt (sized-frame opened k t f (Ok segment) after g.calls) tt (behind-hello opened k t s u d all_up all_down w f (Ok segment) after hello)
+    (answered-same opened.first_xid k t s u d all_down w (down_one w [] rest) (TaggedFrame last opcode stag to payload) (ap (λ (x : ClientState). x.outstanding) after) (ap (λ (x : ClientState). x.calls_accepted) after) refl refl g.answered) stays refl)

@@ -22,21 +22,21 @@ use Rattle.nr_reduce.proofs.Sizes.{message_size}
 use Rattle.nr_laws.specs.FrameContents.{FrameContent, call_frame, client_frames, server_frames}
 use Rattle.nr_laws.specs.FrameContents.FrameContent.{SendFrame}
 use Rattle.nr_laws.specs.LinkInvariants.{Transit}
-use Rattle.nr_laws.proofs.TotalsAtClient.{up_more, counts-accepts, counts-writes_up}
+use Rattle.nr_laws.proofs.TotalsAtClient.{up_more, totals-accepts, totals-writes_up}
 use Rattle.nr_laws.proofs.ReadsAtClient.{AnswersNone, reads-says_up, reads-writes_up}
 use Rattle.nr_laws.proofs.ServerEvents.{server-executes, server-writes}
 use Rattle.nr_laws.proofs.ReadLimits.{each-append}
 use Rattle.nr_laws.proofs.ServerOutput.{CallsFit}
-use Rattle.nr_laws.proofs.OwnEvents.{planned, counts-revoked, xid-revoked}
+use Rattle.nr_laws.proofs.OwnEvents.{planned, totals-revoked, xid-revoked}
 use Rattle.nr_laws.proofs.AgreeingEnds.{EndsAgree}
 use Rattle.nr_reduce.specs.SubmitAnswer.{next_xid}
 use Rattle.nr_laws.specs.FrameContents.{total_of, sends_in}
 use Rattle.nr_laws.proofs.CallWords.{call-words}
-use Rattle.nr_laws.proofs.CallNumbers.{NumberedCalls, XidsFrom, xids-append, outs-push, outs-map, numbered-kept}
+use Rattle.nr_laws.proofs.CallNumbers.{NumberedCalls, XidsFrom, xids-append, own_xids-push, own_xids-map, numbered-kept}
 use Rattle.nr_laws.proofs.ClientFrame.{calls_said}
 use Rattle.nr_reduce.specs.Server.{offer_of, answer_of_target}
 use Rattle.nr_reduce.specs.ServerState.{down_max}
-use Rattle.nr_laws.proofs.Totals.{count-append}
+use Rattle.nr_laws.proofs.Totals.{total-append}
 use Rattle.nr_laws.proofs.PendingExecuted.{executed-there}
 use Rattle.nr_laws.proofs.AnsweredCalls.{times, answer-xids, executed-less}
 use Rattle.nr_laws.proofs.AnsweredSteps.{Answered, IsWritten, answered-submit, answered-map, answered-server}
@@ -46,11 +46,12 @@ use Rattle.nr_laws.proofs.Guards.{ClientContent, ServerContent, IsAsked, AreSize
 -- an event of the client that is no frame
 reached-more : (opened : LinkParameters) (k : ClientState) (event : Event) → client_end k event ≡ None → (es : List Event) × (end_state_after (client_rules opened) (initial_client opened) es ≡ live k)
     → (es : List Event) × (end_state_after (client_rules opened) (initial_client opened) es ≡ live (client_state_after opened k event))
-reached-more opened k event stays r =
-    (r.0 ++ event ∷ [],
-      end_state_after-append (client_rules opened) (initial_client opened) r.0 (event ∷ [])
+reached-more opened k event stays r = (
+  r.0 ++ event ∷ [],
+  end_state_after-append (client_rules opened) (initial_client opened) r.0 (event ∷ [])
       ∙ ap (λ (x : EndState ClientState). end_state_after (client_rules opened) x (event ∷ [])) r.1
-      ∙ ap (λ (x : Option End). next_end_state_by (client_rules opened) k event x) stays)
+      ∙ ap (λ (x : Option End). next_end_state_by (client_rules opened) k event x) stays,
+)
 
 -- ---- A call is submitted
 
@@ -60,7 +61,7 @@ sized-call opened k a plan is lt =
     let size = message_size (call_payload a.xid a.call) a.form 1024 1024 a.xid opened.wished k.stag plan is in
     let words = call-words a.xid opened.wished k.stag (outstanding_of k a).plan lt in
     let fits = subst (λ (p : Plan). (16 ≤ length (call_message a.xid opened.wished k.stag p)) × (length (call_message a.xid opened.wished k.stag p) ≤ send_max))
-        (sym (planned (call_payload a.xid a.call) (plan_for k a.xid a.call a.form) plan is)) (omega (arith, size.0), size.1) in
+    (sym (planned (call_payload a.xid a.call) (plan_for k a.xid a.call a.form) plan is)) (omega (arith, size.0), size.1) in
     ((fits.0, fits.1, words.version, words.kind), words.xid_is)
 
 none-says : (b : Bool) (message : List ℕ) → AnswersNone (cond b (SendFrame message ∷ []) [])
@@ -81,7 +82,7 @@ guards-submit opened k s u d all_up all_down w up place a plan l g is own lt roo
     let one = sized-call opened k a plan is lt in
     record {
       server = record {
-        counts = counts-accepts opened k s w place a g.server.counts;
+        counts = totals-accepts opened k s w place a g.server.counts;
         reads = reads-says_up s w said w.down g.server.reads (none-says k.has_hello message) refl;
         waits = g.server.waits;
         sinks = g.server.sinks;
@@ -94,24 +95,24 @@ guards-submit opened k s u d all_up all_down w up place a plan l g is own lt roo
       calls = each-append (IsAsked opened) k.outstanding (outstanding_of k a ∷ []) g.calls (one, tt);
       within = g.within;
       xids = xids-append opened.first_xid all_up said g.xids (new-xid k.has_hello refl);
-      unsaid = λ e. outs-push opened.first_xid k.outstanding (outstanding_of k a) (g.unsaid e) (omega (arith, own, all-waiting e));
+      unsaid = λ e. own_xids-push opened.first_xid k.outstanding (outstanding_of k a) (g.unsaid e) (omega (arith, own, all-waiting e));
       numbers = g.numbers;
       answered = answered-submit opened.first_xid k t s u d all_down w (up_more w said) (outstanding_of k a) refl refl own lt
-          (omega (arith, calls_said opened k s u d all_up all_down w l, sent_most k, ap (total_of sends_in) l.parts_up, count-append sends_in u (w.up ++ w.queued_up), count-append sends_in w.up w.queued_up, count-append sends_in u w.up)) refl g.answered;
+          (omega (arith, calls_said opened k s u d all_up all_down w l, sent_most k, ap (total_of sends_in) l.parts_up, total-append sends_in u (w.up ++ w.queued_up), total-append sends_in w.up w.queued_up, total-append sends_in u w.up)) refl g.answered;
       reached = reached-more opened k (CallSubmitted place a) refl g.reached;
     }
-
   where
     -- before the hello all accepted calls are outstanding
     all-waiting : k.has_hello ≡ false → length k.outstanding ≡ k.calls_accepted
     all-waiting e =
         let none : total_of sends_in all_up ≡ 0 = calls_said opened k s u d all_up all_down w l ∙ ap (λ (b : Bool). cond b k.calls_accepted 0) e in
         omega (arith, none, l.counts.calls_up, calls_said opened k s u d all_up all_down w l, l.counts.waiting, l.counts.messages_down, l.counts.out)
+
     new-xid : (b : Bool) → k.has_hello ≡ b → XidsFrom (opened.first_xid + total_of sends_in all_up) (cond k.has_hello (call_frame opened (outstanding_of k a) ∷ []) [])
     new-xid true e =
         let sends : total_of sends_in all_up ≡ k.calls_accepted = calls_said opened k s u d all_up all_down w l ∙ ap (λ (b : Bool). cond b k.calls_accepted 0) e in
         subst (λ (b : Bool). XidsFrom (opened.first_xid + total_of sends_in all_up) (cond b (call_frame opened (outstanding_of k a) ∷ []) [])) (sym e)
-          ((sized-call opened k a plan is lt).1 ∙ omega (arith, own, sends), tt)
+        ((sized-call opened k a plan is lt).1 ∙ omega (arith, own, sends), tt)
     new-xid false e = subst (λ (b : Bool). XidsFrom (opened.first_xid + total_of sends_in all_up) (cond b (call_frame opened (outstanding_of k a) ∷ []) [])) (sym e) tt
 
 -- ---- Memory is revoked, and a queue is written
@@ -140,7 +141,7 @@ pub guards-revoke : (opened : LinkParameters) (k : ClientState) (s : ServerState
     → Guards opened (client_state_after opened k (MemoryRevoked place xid)) s u d all_up all_down w up
 unfolding client_state_after client_end
 guards-revoke opened k s u d all_up all_down w up place xid g = record {
-  server = record { counts = counts-revoked opened k s w place xid g.server.counts; reads = g.server.reads; waits = g.server.waits; sinks = g.server.sinks; regions = g.server.regions };
+  server = record { counts = totals-revoked opened k s w place xid g.server.counts; reads = g.server.reads; waits = g.server.waits; sinks = g.server.sinks; regions = g.server.regions };
   window = record { window = omega (arith, g.window.window, length-map k.outstanding (revoked_call xid)); grant = g.window.grant };
   up_said = g.up_said;
   down_said = g.down_said;
@@ -148,7 +149,7 @@ guards-revoke opened k s u d all_up all_down w up place xid g = record {
   calls = sized-revoked opened xid k.outstanding g.calls;
   within = g.within;
   xids = g.xids;
-  unsaid = λ e. outs-map (revoked_call xid) opened.first_xid k.outstanding (xid-revoked xid) (g.unsaid e);
+  unsaid = λ e. own_xids-map (revoked_call xid) opened.first_xid k.outstanding (xid-revoked xid) (g.unsaid e);
   numbers = g.numbers;
   answered = answered-map opened.first_xid (revoked_call xid) k (client_state_after opened k (MemoryRevoked place xid)) s u d all_down w w refl (xid-revoked xid) refl (revoked-written (opened.first_xid + total_of sends_in (u ++ w.up)) xid k.outstanding g.answered.written) g.answered;
   reached = reached-more opened k (MemoryRevoked place xid) refl g.reached;
@@ -158,7 +159,7 @@ pub guards-written_up : (opened : LinkParameters) (k : ClientState) (s : ServerS
     → Guards opened (client_state_after opened k QueueWritten) s u d all_up all_down (record { queued_up = []; up = w.up ++ w.queued_up; queued_down = w.queued_down; down = w.down }) up
 unfolding client_state_after client_end
 guards-written_up opened k s u d all_up all_down w up l g = record {
-  server = record { counts = counts-writes_up opened k s w g.server.counts; reads = reads-writes_up s w g.server.reads; waits = g.server.waits; sinks = g.server.sinks; regions = g.server.regions };
+  server = record { counts = totals-writes_up opened k s w g.server.counts; reads = reads-writes_up s w g.server.reads; waits = g.server.waits; sinks = g.server.sinks; regions = g.server.regions };
   window = record { window = omega (arith, g.window.window, length-map k.outstanding (written_call k.has_hello)); grant = g.window.grant };
   up_said = g.up_said;
   down_said = g.down_said;
@@ -166,7 +167,7 @@ guards-written_up opened k s u d all_up all_down w up l g = record {
   calls = sized-written opened k.has_hello k.outstanding g.calls;
   within = g.within;
   xids = g.xids;
-  unsaid = λ e. outs-map (written_call k.has_hello) opened.first_xid k.outstanding (λ o. refl) (g.unsaid e);
+  unsaid = λ e. own_xids-map (written_call k.has_hello) opened.first_xid k.outstanding (λ o. refl) (g.unsaid e);
   numbers = g.numbers;
   answered = answered-map opened.first_xid (written_call k.has_hello) k (client_state_after opened k QueueWritten) s u d all_down w (record { queued_up = []; up = w.up ++ w.queued_up; queued_down = w.queued_down; down = w.down }) refl (λ o. refl) refl
       (by k.has_hello refl) g.answered;
@@ -176,17 +177,21 @@ guards-written_up opened k s u d all_up all_down w up l g = record {
     or_true : (b : Bool) → (b || true) ≡ true
     or_true true = refl
     or_true false = refl
+
     -- before the hello none was sent
     none-below : k.has_hello ≡ false → (n : ℕ) → opened.first_xid ≤ n → n < opened.first_xid + total_of sends_in (u ++ (w.up ++ w.queued_up)) → ⊥
     none-below e n le lt =
         let none : total_of sends_in all_up ≡ 0 = calls_said opened k s u d all_up all_down w l ∙ ap (λ (b : Bool). cond b k.calls_accepted 0) e in
         omega (arith, none, le, lt, ap (total_of sends_in) l.parts_up)
+
     all-written : (end : ℕ) (os : List OutstandingCall) → AllByRecursion (IsWritten end) (map (written_call true) os)
     all-written end [] = tt
     all-written end (o ∷ os) = ((λ lt. or_true o.is_written), all-written end os)
+
     none-written : (e : k.has_hello ≡ false) (n : ℕ) (os : List OutstandingCall) → NumberedCalls n os → opened.first_xid ≤ n → AllByRecursion (IsWritten (opened.first_xid + total_of sends_in (u ++ (w.up ++ w.queued_up)))) (map (written_call false) os)
     none-written e n [] h le = tt
     none-written e n (o ∷ os) h le = ((λ lt. absurd (none-below e o.xid (omega (arith, h.0, le)) lt)), none-written e (n + 1) os h.1 (omega (arith, le)))
+
     by : (b : Bool) → k.has_hello ≡ b → AllByRecursion (IsWritten (opened.first_xid + total_of sends_in (u ++ (w.up ++ w.queued_up)))) (map (written_call k.has_hello) k.outstanding)
     by true e = subst (λ (b : Bool). AllByRecursion (IsWritten (opened.first_xid + total_of sends_in (u ++ (w.up ++ w.queued_up)))) (map (written_call b) k.outstanding)) (sym e) (all-written (opened.first_xid + total_of sends_in (u ++ (w.up ++ w.queued_up))) k.outstanding)
     by false e = subst (λ (b : Bool). AllByRecursion (IsWritten (opened.first_xid + total_of sends_in (u ++ (w.up ++ w.queued_up)))) (map (written_call b) k.outstanding)) (sym e) (none-written e opened.first_xid k.outstanding (g.unsaid e) (omega arith))

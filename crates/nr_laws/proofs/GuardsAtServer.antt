@@ -1,4 +1,4 @@
--- A server of a matched link ends at the frame of a piece only by a refusal of its effect; else it keeps its guards.
+-- A server of a matched link ends at a frame only by a refusal of the frame's effect; else the guards are kept.
 use Rattle.std.proofs.Common.{◌≡◌, ℕ, ◌+◌, ◌≤◌, ◌<◌, ◌^◌, Bool, true, List, [], ◌∷◌, ◌++◌, None, Result, Ok, refl, sym, ap, subst, ◌∙◌, arith, cond, eqb, ◌||◌, false, Some, ◌⊎◌, inl, inr}
 use Rattle.std.specs.List.{AllByRecursion}
 use Rattle.nr_xdr.specs.Item.{IsBytes}
@@ -22,7 +22,7 @@ use Rattle.nr_reduce.specs.Server.{server_end, server_state_after, refusal_end}
 use Rattle.nr_laws.specs.FrameContents.{FrameContent, numbered_segment, frame_bytes, effect_frames, server_frames, Carries}
 use Rattle.nr_laws.specs.FrameContents.FrameContent.{HelloFrame, SendFrame, TaggedFrame}
 use Rattle.nr_laws.specs.LinkInvariants.{Transit, TotalsAgree, ReadsAgree, HaveSinks, AreResponses}
-use Rattle.nr_laws.proofs.TotalsAtServer.{counts-hello_up, after-is, step-is, segment-is, with_by}
+use Rattle.nr_laws.proofs.TotalsAtServer.{totals-hello_up, after-is, step-is, segment-is, with_by}
 use Rattle.nr_laws.proofs.ReadsAtClient.{reads-says_down}
 use Rattle.nr_laws.proofs.Sinks.{sink-later}
 use Rattle.nr_laws.proofs.ServerInvariant.{ServerAgrees, server-takes_send, server-takes_response}
@@ -36,7 +36,7 @@ use Rattle.std.specs.List.{find, list_any}
 use Rattle.std.proofs.lemmas.Bool.{eq-eqb, cases_lt}
 use Rattle.nr_laws.specs.LinkInvariants.{calls_sent}
 use Rattle.nr_laws.specs.FrameContents.{total_of, sends_in}
-use Rattle.nr_laws.proofs.Totals.{count-append}
+use Rattle.nr_laws.proofs.Totals.{total-append}
 use Rattle.nr_laws.proofs.ClientFrame.{calls_said}
 use Rattle.nr_laws.proofs.AnsweredCalls.{times, call_xids, effect-xids, pending-send, pending-tagged}
 use Rattle.nr_laws.proofs.AnsweredSteps.{Answered, answered-send, answered-other}
@@ -50,7 +50,7 @@ have-later : (place end : ℕ) (regions : List Region) (reads : List PendingRead
 have-later place end regions [] le h = tt
 have-later place end regions (r ∷ reads) le h = (sink-later place end r regions le h.0, have-later place end regions reads le h.1)
 
--- what the piece at the front is
+-- what the frame at the front is
 pub front-up : (opened : LinkParameters) (k : ClientState) (s : ServerState) (u d all_up all_down : List FrameContent) (w : Transit) (place : ℕ) (p : FrameContent) (rest : List FrameContent) → EndsAgree opened k s u d all_up all_down w → Guards opened k s u d all_up all_down w place → w.up ≡ p ∷ rest → ClientContent p
 front-up opened k s u d all_up all_down w place p rest l g first =
     each-at ClientContent u p (rest ++ w.queued_up) (subst (AllByRecursion ClientContent) (sym l.parts_up ∙ ap (λ (ps : List FrameContent). u ++ (ps ++ w.queued_up)) first) g.up_said)
@@ -103,7 +103,7 @@ small-xid opened k s u d all_up all_down w place n c l g found =
     let some = found-times n s.calls c found in
     let sent = calls_said opened k s u d all_up all_down w l in
     by (cases_lt c.xid (opened.first_xid + s.received.sends)) some
-      (omega (arith, sent, sent_most k, l.sends_up, ap (total_of sends_in) l.parts_up, count-append sends_in u (w.up ++ w.queued_up)))
+    (omega (arith, sent, sent_most k, l.sends_up, ap (total_of sends_in) l.parts_up, total-append sends_in u (w.up ++ w.queued_up)))
   where
     by : (c.xid < opened.first_xid + s.received.sends) ⊎ (opened.first_xid + s.received.sends ≤ c.xid) → 1 ≤ times c.xid (call_xids s.calls) → s.received.sends ≤ k.calls_accepted → c.xid < 2 ^ 32
     by (inl lt) some few = omega (arith, lt, few, g.answered.room)
@@ -123,7 +123,7 @@ pending-word opened k s u d all_up all_down w place xid l g there =
     let some = any-times xid s.calls there in
     let sent = calls_said opened k s u d all_up all_down w l in
     by (cases_lt xid (opened.first_xid + s.received.sends)) some
-      (omega (arith, sent, sent_most k, l.sends_up, ap (total_of sends_in) l.parts_up, count-append sends_in u (w.up ++ w.queued_up)))
+    (omega (arith, sent, sent_most k, l.sends_up, ap (total_of sends_in) l.parts_up, total-append sends_in u (w.up ++ w.queued_up)))
   where
     by : (xid < opened.first_xid + s.received.sends) ⊎ (opened.first_xid + s.received.sends ≤ xid) → 1 ≤ times xid (call_xids s.calls) → s.received.sends ≤ k.calls_accepted → xid < 2 ^ 32
     by (inl lt) some few = omega (arith, lt, few, g.answered.room)
@@ -156,12 +156,12 @@ takes-send opened k s u d all_up all_down w place message rest f o l g first pie
     let some : 0 < total_of sends_in w.up = omega (arith, ap (total_of sends_in) first) in
     let sent = calls_said opened k s u d all_up all_down w l in
     let small_xid : word_at 0 message < 2 ^ 32 =
-        omega (arith, own, g.answered.room, some, sent, sent_most k, l.sends_up, ap (total_of sends_in) l.parts_up, count-append sends_in u (w.up ++ w.queued_up), count-append sends_in w.up w.queued_up) in
+    omega (arith, own, g.answered.room, some, sent, sent_most k, l.sends_up, ap (total_of sends_in) l.parts_up, total-append sends_in u (w.up ++ w.queued_up), total-append sends_in w.up w.queued_up) in
     let pending = pending-send s f message l.counts.whole_up small_xid reads in
     let effect = step-is s f (Ok segment) reads in
     let calls_are : call_xids (server_state_after opened s (FrameReceived f)).calls ≡ call_xids (frame_effect s f).calls = ap (λ (x : ServerState). call_xids x.calls) after ∙ ap (λ (e : FrameEffect). call_xids e.calls) (sym effect) in
     let answered = answered-send opened.first_xid k s (server_state_after opened s (FrameReceived f)) u d all_down w (SendFrame message) rest (effect_frames (frame_effect s f)) first (ap (λ (x : ServerState). x.received.sends) after)
-        (λ x. omega (arith, pending x, ap (λ (xs : List ℕ). times x xs) (effect-xids (frame_effect s f)), ap (λ (xs : List ℕ). times x xs) calls_are, ap (λ (n : ℕ). one_if (eqb n x)) own)) g.answered in
+    (λ x. omega (arith, pending x, ap (λ (xs : List ℕ). times x xs) (effect-xids (frame_effect s f)), ap (λ (xs : List ℕ). times x xs) calls_are, ap (λ (n : ℕ). one_if (eqb n x)) own)) g.answered in
     let numbered = numbered-send opened.first_xid s f message l.counts.whole_up own g.numbers reads in
     let numbers = subst (AllByRecursion (IsNumbered opened.first_xid)) (ap (λ (e : FrameEffect). e.calls) (step-is s f (Ok segment) reads) ∙ ap (λ (x : ServerState). x.calls) (sym after)) numbered in
     let within = within-after s f (Ok segment) reads (within-send s f message l.counts.whole_up (payload_bytes segment (subst IsBytes is bytes)) g.within reads) in
@@ -169,9 +169,9 @@ takes-send opened k s u d all_up all_down w place message rest f o l g first pie
       ends = t.0;
       kept = λ stays.
           subst (λ (said : List FrameContent). Guards opened k (server_state_after opened s (FrameReceived f)) (u ++ SendFrame message ∷ []) d all_up (all_down ++ said) (taken_up w rest said) f.end) (sym says)
-            (guards-up opened k s (server_state_after opened s (FrameReceived f)) u d all_up all_down w place f.end (SendFrame message) rest (effect_frames (frame_effect s f)) g
-              (t.1 (not-refused opened s f piece.behind stays)) (credit-down opened s.credit (effect_frames (frame_effect s f)) g.credit (step-down s.credit (frame_effect s f) (replies-frame s f small)))
-              (ap (λ (x : ServerState). x.credit) after) (subst (λ (x : ServerState). AreWithin x.reads x.regions) (sym after) within) numbers answered);
+          (guards-up opened k s (server_state_after opened s (FrameReceived f)) u d all_up all_down w place f.end (SendFrame message) rest (effect_frames (frame_effect s f)) g
+          (t.1 (not-refused opened s f piece.behind stays)) (credit-down opened s.credit (effect_frames (frame_effect s f)) g.credit (step-down s.credit (frame_effect s f) (replies-frame s f small)))
+          (ap (λ (x : ServerState). x.credit) after) (subst (λ (x : ServerState). AreWithin x.reads x.regions) (sym after) within) numbers answered);
     }
 
 pub takes-tagged : (opened : LinkParameters) (k : ClientState) (s : ServerState) (u d all_up all_down : List FrameContent) (w : Transit) (place : ℕ) (last : Bool) (opcode stag to : ℕ) (payload : List ℕ) (rest : List FrameContent) (f : Frame) → IsOpened opened → EndsAgree opened k s u d all_up all_down w → Guards opened k s u d all_up all_down w place
@@ -187,7 +187,7 @@ takes-tagged opened k s u d all_up all_down w place last opcode stag to payload 
     let effect = step-is s f (Ok segment) reads in
     let calls_are : call_xids (server_state_after opened s (FrameReceived f)).calls ≡ call_xids (frame_effect s f).calls = ap (λ (x : ServerState). call_xids x.calls) after ∙ ap (λ (e : FrameEffect). call_xids e.calls) (sym effect) in
     let answered = answered-other opened.first_xid k s (server_state_after opened s (FrameReceived f)) u d all_down w (TaggedFrame last opcode stag to payload) rest (effect_frames (frame_effect s f)) first (ap (λ (x : ServerState). x.received.sends) after)
-        (λ x. omega (arith, pending x, ap (λ (xs : List ℕ). times x xs) (effect-xids (frame_effect s f)), ap (λ (xs : List ℕ). times x xs) calls_are)) g.answered in
+    (λ x. omega (arith, pending x, ap (λ (xs : List ℕ). times x xs) (effect-xids (frame_effect s f)), ap (λ (xs : List ℕ). times x xs) calls_are)) g.answered in
     let numbered = numbered-tagged opened.first_xid s f last opcode stag to payload g.numbers reads in
     let numbers = subst (AllByRecursion (IsNumbered opened.first_xid)) (ap (λ (e : FrameEffect). e.calls) (step-is s f (Ok segment) reads) ∙ ap (λ (x : ServerState). x.calls) (sym after)) numbered in
     let within = within-after s f (Ok segment) reads (within-tagged s f last opcode stag to payload g.within reads) in
@@ -195,9 +195,9 @@ takes-tagged opened k s u d all_up all_down w place last opcode stag to payload 
       ends = t.0;
       kept = λ stays.
           subst (λ (said : List FrameContent). Guards opened k (server_state_after opened s (FrameReceived f)) (u ++ TaggedFrame last opcode stag to payload ∷ []) d all_up (all_down ++ said) (taken_up w rest said) f.end) (sym says)
-            (guards-up opened k s (server_state_after opened s (FrameReceived f)) u d all_up all_down w place f.end (TaggedFrame last opcode stag to payload) rest (effect_frames (frame_effect s f)) g
-              (t.1 (not-refused opened s f piece.behind stays)) (credit-down opened s.credit (effect_frames (frame_effect s f)) g.credit (step-down s.credit (frame_effect s f) (replies-frame s f small)))
-              (ap (λ (x : ServerState). x.credit) after) (subst (λ (x : ServerState). AreWithin x.reads x.regions) (sym after) within) numbers answered);
+          (guards-up opened k s (server_state_after opened s (FrameReceived f)) u d all_up all_down w place f.end (TaggedFrame last opcode stag to payload) rest (effect_frames (frame_effect s f)) g
+          (t.1 (not-refused opened s f piece.behind stays)) (credit-down opened s.credit (effect_frames (frame_effect s f)) g.credit (step-down s.credit (frame_effect s f) (replies-frame s f small)))
+          (ap (λ (x : ServerState). x.credit) after) (subst (λ (x : ServerState). AreWithin x.reads x.regions) (sym after) within) numbers answered);
     }
 
 -- the client's hello
@@ -216,13 +216,13 @@ hello-guards opened k s u d all_up all_down w place rest f g first is le =
     } in
     let server : ServerAgrees opened k s (taken_up w rest (HelloFrame ∷ [])) f.end = record {
       counts = subst (λ (t : ServerState). TotalsAgree k t (taken_up w rest (HelloFrame ∷ []))) after
-          (subst (λ (said : List FrameContent). TotalsAgree k (server_state_after opened s (FrameReceived f)) (taken_up w rest said)) says (counts-hello_up opened k s w f rest g.server.counts first is));
+          (subst (λ (said : List FrameContent). TotalsAgree k (server_state_after opened s (FrameReceived f)) (taken_up w rest said)) says (totals-hello_up opened k s w f rest g.server.counts first is));
       reads = reads-says_down s s (record { queued_up = w.queued_up; up = rest; queued_down = w.queued_down; down = w.down }) (HelloFrame ∷ []) r refl refl refl;
       waits = g.server.waits;
       sinks = have-later place f.end s.regions s.reads le g.server.sinks;
       regions = g.server.regions;
     } in
     subst (λ (said : List FrameContent). Guards opened k (server_state_after opened s (FrameReceived f)) (u ++ HelloFrame ∷ []) d all_up (all_down ++ said) (taken_up w rest said) f.end) (sym says)
-      (subst (λ (t : ServerState). Guards opened k t (u ++ HelloFrame ∷ []) d all_up (all_down ++ HelloFrame ∷ []) (taken_up w rest (HelloFrame ∷ [])) f.end) (sym after)
-        (guards-up opened k s s u d all_up all_down w place f.end HelloFrame rest (HelloFrame ∷ []) g server (tt, tt) refl g.within g.numbers
-          (answered-other opened.first_xid k s s u d all_down w HelloFrame rest (HelloFrame ∷ []) first refl (λ x. omega arith) g.answered)))
+    (subst (λ (t : ServerState). Guards opened k t (u ++ HelloFrame ∷ []) d all_up (all_down ++ HelloFrame ∷ []) (taken_up w rest (HelloFrame ∷ [])) f.end) (sym after)
+    (guards-up opened k s s u d all_up all_down w place f.end HelloFrame rest (HelloFrame ∷ []) g server (tt, tt) refl g.within g.numbers
+    (answered-other opened.first_xid k s s u d all_down w HelloFrame rest (HelloFrame ∷ []) first refl (λ x. omega arith) g.answered)))

@@ -1,4 +1,4 @@
--- A call that comes gets a sink for each read.
+-- A call that becomes pending gets a sink for each of its reads.
 use Rattle.std.proofs.Common.{◌≡◌, ℕ, zero, suc, ◌+◌, ◌≤◌, ◌<◌, Bool, true, false, not, cond, ◌||◌, ◌&&◌, eqb, inl, inr, List, [], ◌∷◌, ◌++◌, length, replicate, Option, None, Some, refl, sym, ap, ◌∙◌, arith, eq-eqb, ne_eqb, eqb-true, append_assoc}
 use Rattle.std.specs.Prelude.{find, sum_by}
 use Rattle.std.specs.List.{filter, list_any}
@@ -23,6 +23,7 @@ total-append p (x ∷ xs) ys = by (eqb x.position p) (total-append p xs ys)
   where
     sum_of : List ReadSegment → ℕ
     sum_of rs = sum_by (λ (r : ReadSegment). r.length) rs
+
     by : (b : Bool) → sum_of (at_position p (xs ++ ys)) ≡ sum_of (at_position p xs) + sum_of (at_position p ys)
         → sum_of (cond b (x ∷ at_position p (xs ++ ys)) (at_position p (xs ++ ys))) ≡ sum_of (cond b (x ∷ at_position p xs) (at_position p xs)) + sum_of (at_position p ys)
     by true e = omega (arith, e, sum_by-cons (λ (r : ReadSegment). r.length) x (at_position p (xs ++ ys)), sum_by-cons (λ (r : ReadSegment). r.length) x (at_position p xs))
@@ -42,6 +43,7 @@ any-kept-value p q (x ∷ ps) is e = by (eqb x p) (q x) refl refl e (any-kept-va
   where
     differ : false ≡ true → ⊥
     differ e = absurd cc
+
     by : (a b : Bool) → eqb x p ≡ a → q x ≡ b → (a || list_any (λ y. eqb y p) ps) ≡ true → (list_any (λ y. eqb y p) ps ≡ true → list_any (λ y. eqb y p) (filter q ps) ≡ true)
         → list_any (λ y. eqb y p) (cond b (x ∷ filter q ps) (filter q ps)) ≡ true
     by true true xp qx e later = ap (λ (a : Bool). a || list_any (λ y. eqb y p) (filter q ps)) xp
@@ -55,6 +57,7 @@ position-there (f ∷ front) r rest = by (eqb f.position r.position) refl (posit
   where
     all : List ℕ
     all = positions (front ++ r ∷ rest)
+
     by : (b : Bool) → eqb f.position r.position ≡ b → list_any (λ x. eqb x r.position) all ≡ true → (eqb f.position r.position || list_any (λ x. eqb x r.position) (filter (λ p. not (eqb p f.position)) all)) ≡ true
     by true is e = ap (λ (b : Bool). b || list_any (λ x. eqb x r.position) (filter (λ p. not (eqb p f.position)) all)) is
     by false is e =
@@ -70,10 +73,10 @@ position-there (f ∷ front) r rest = by (eqb f.position r.position) refl (posit
 chunk-there : (lists : ChunkLists) (front : List ReadSegment) (r : ReadSegment) (rest : List ReadSegment) → front ++ r ∷ rest ≡ lists.read → 0 < r.length → list_any (λ x. eqb x r.position) (chunks_of lists) ≡ true
 chunk-there lists front r rest is some =
     let all : total_at r.position lists.read ≡ total_at r.position front + (r.length + total_at r.position rest) =
-        ap (λ (rs : List ReadSegment). total_at r.position rs) (sym is) ∙ total-append r.position front (r ∷ rest) ∙ ap (λ (n : ℕ). total_at r.position front + n) (total-own r rest) in
+    ap (λ (rs : List ReadSegment). total_at r.position rs) (sym is) ∙ total-append r.position front (r ∷ rest) ∙ ap (λ (n : ℕ). total_at r.position front + n) (total-own r rest) in
     any-kept-value r.position (λ p. not (eqb (total_at p lists.read) 0)) (positions lists.read)
-      (ap (λ (b : Bool). not b) (ne_eqb (total_at r.position lists.read) 0 (λ e. omega (arith, e, all, some))))
-      (ap (λ (rs : List ReadSegment). list_any (λ x. eqb x r.position) (positions rs)) (sym is) ∙ position-there front r rest)
+    (ap (λ (b : Bool). not b) (ne_eqb (total_at r.position lists.read) 0 (λ e. omega (arith, e, all, some))))
+    (ap (λ (rs : List ReadSegment). list_any (λ x. eqb x r.position) (positions rs)) (sym is) ∙ position-there front r rest)
 
 -- ---- The regions of a call
 
@@ -91,10 +94,13 @@ given number place stag lists (p ∷ ps) position e = by (eqb p position) refl e
   where
     g : Region
     g = record { call = number; position = p; stag = stag; right = Sink; bytes = replicate (total_at p lists.read) 0; from = place; until = None }
+
     others : List Region
     others = regions_from number place (stag + 1) lists ps
+
     first : (b : Bool) → eqb p position ≡ b → find (for_chunk number position) (g ∷ others) ≡ cond b (Some g) (find (for_chunk number position) others)
     first b is = λ i. cond (eq-eqb number number refl i && is i) (Some g) (find (for_chunk number position) others)
+
     by : (b : Bool) → eqb p position ≡ b → (b || list_any (λ x. eqb x position) ps) ≡ true → (list_any (λ x. eqb x position) ps ≡ true → GivenOutcome number place (stag + 1) lists ps position) → GivenOutcome number place stag lists (p ∷ ps) position
     by true is e later =
         let mine : stag_by (find (for_chunk number position) (g ∷ others)) ≡ stag = ap (λ (o : Option Region). stag_by o) (first true is) in
@@ -140,23 +146,26 @@ new-sinks : (k : ServerState) (place : ℕ) (c : PendingCall) (before read : Lis
 new-sinks k place c before [] a new is = tt
 new-sinks k place c before (r ∷ read) a new is =
     sinks-append place all _ _ (by (eqb r.length 0) refl)
-      (new-sinks k place c (before ++ r ∷ []) read a new (append_assoc before (r ∷ []) read ∙ is))
+    (new-sinks k place c (before ++ r ∷ []) read a new (append_assoc before (r ∷ []) read ∙ is))
   where
     news : List Region
     news = regions_of k place c
+
     all : List Region
     all = k.regions ++ news
+
     x : PendingRead
     x = read_of all c.number (total_at r.position before) r
+
     by : (b : Bool) → eqb r.length 0 ≡ b → HaveSinks place all (cond b [] (x ∷ []))
     by true zero_is = tt
     by false zero_is =
         let some : 0 < r.length = not-zero r.length zero_is in
         let g = given c.number place (next_stag k) c.lists (chunks_of c.lists) r.position (chunk-there c.lists before r read is some) in
         let same : x.sink ≡ stag_by (find (for_chunk c.number r.position) news) =
-            ap (λ (o : Option Region). stag_by o) (found-behind c.number r.position k.received.sends k.regions news a.calls (omega (arith, new))) in
+        ap (λ (o : Option Region). stag_by o) (found-behind c.number r.position k.received.sends k.regions news a.calls (omega (arith, new))) in
         let room : total_at r.position before + r.length ≤ total_at r.position c.lists.read =
-            omega (arith, ap (λ (rs : List ReadSegment). total_at r.position rs) (sym is), total-append r.position before (r ∷ read), total-own r read) in
+        omega (arith, ap (λ (rs : List ReadSegment). total_at r.position rs) (sym is), total-append r.position before (r ∷ read), total-own r read) in
         (sink-behind place (length k.regions) x k.regions news a.stags (omega (arith, same, g.from)) (g.sink x same refl refl room), tt)
       where
         not-zero : (n : ℕ) → eqb n 0 ≡ false → 0 < n

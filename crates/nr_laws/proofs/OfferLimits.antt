@@ -63,9 +63,10 @@ entries_fit (r ∷ rs) more h = ((h.1.1.1.0, h.1.1.0, h.1.1.1.1.0), entries_fit 
 
 segments_fit : (ss : List RdmaSegment) (more : List Item) → AllFit (segments_items ss more) → SegmentsEnd ss → SegmentsFit ss
 segments_fit [] more h ends = tt
-segments_fit (s ∷ ss) more h ends =
-    ((h.0, h.1.1.0, All-head (λ (x : RdmaSegment). Ends x.offset x.length) s ss ends),
-      segments_fit ss more h.1.1.1 (All-tail (λ (x : RdmaSegment). Ends x.offset x.length) s ss ends))
+segments_fit (s ∷ ss) more h ends = (
+  (h.0, h.1.1.0, All-head (λ (x : RdmaSegment). Ends x.offset x.length) s ss ends),
+  segments_fit ss more h.1.1.1 (All-tail (λ (x : RdmaSegment). Ends x.offset x.length) s ss ends),
+)
 
 first_fits : (chunks : List (List RdmaSegment)) (more : List Item) → AllFit (write_items chunks more) → All SegmentsEnd chunks → SegmentsFit (first_chunk chunks)
 first_fits [] more h ends = tt
@@ -109,6 +110,7 @@ stream_lists k lists xid (Some stream) c e = by (is_read_chunk_of_item stream li
   where
     call : PendingCall
     call = record { number = k.received.sends + 1; xid = xid; lists = lists; inline = Some stream }
+
     by : (b : Bool) → cond b (by_need k call) BadChunks ≡ MakesPending c → c.lists ≡ lists
     by true e = need_lists call c (ltb 4294967296 (next_stag k + length (chunks_of lists))) e
     by false e = absurd cc
@@ -155,6 +157,7 @@ stream_need k lists xid (Some stream) c e = by (is_read_chunk_of_item stream lis
   where
     call : PendingCall
     call = record { number = k.received.sends + 1; xid = xid; lists = lists; inline = Some stream }
+
     by : (b : Bool) → cond b (by_need k call) BadChunks ≡ MakesPending c → by_need k c ≡ MakesPending c
     by true e = need_is k call c e
     by false e = absurd cc

@@ -1,4 +1,4 @@
--- What an end has to write is the bytes of its pieces.
+-- The output of an end is the bytes of its frame contents.
 use Rattle.std.proofs.Common.{◌≡◌, ℕ, ◌+◌, ◌*◌, ◌≤◌, true, eqb, List, [], ◌∷◌, ◌++◌, length, map, refl, sym, ap, ◌∙◌, arith, append-nil, add-zero, take_all}
 use Rattle.std.specs.List.{flat_map, range_with_len}
 use Rattle.nr_wire.specs.Constants.{OPCODE_WRITE, OPCODE_READ_RESPONSE, OPCODE_SEND, QUEUE_SEND}
@@ -17,7 +17,7 @@ use Rattle.nr_reduce.specs.ClientState.{OutstandingCall}
 use Rattle.nr_reduce.specs.Client.{calls_output}
 use Rattle.nr_laws.specs.FrameContents.{FrameContent, output_bytes, total_of, sends_in, requests_in, tagged_frame, tagged_frames, request_frame, effect_frames, call_frame}
 use Rattle.nr_laws.specs.FrameContents.FrameContent.{SendFrame}
-use Rattle.nr_laws.proofs.Totals.{count-map-zero}
+use Rattle.nr_laws.proofs.Totals.{total-map-zero}
 use Rattle.nr_laws.proofs.StreamFrames.{spelled-append}
 
 -- numbers that don't change
@@ -52,14 +52,14 @@ unfolding read_request
 requests-said side n r [] = refl
 requests-said side n r (x ∷ reads) =
     ap (λ (xs : List ℕ). read_request (r + 1) x.sink x.at x.size x.stag x.to ++ xs)
-      (requests-said side n (r + 1) reads ∙ ap (λ (k : ℕ). output_bytes side k (r + 1) (map request_frame reads)) (sym (add-zero n)))
+    (requests-said side n (r + 1) reads ∙ ap (λ (k : ℕ). output_bytes side k (r + 1) (map request_frame reads)) (sym (add-zero n)))
 
 pub step-said : (k : ServerState) (st : FrameEffect) → AreShort st.errors → effect_output k st ≡ output_bytes Responder k.messages_queued k.requests_sent (effect_frames st)
 step-said k st h =
-    let none : total_of requests_in (map SendFrame st.errors) ≡ 0 = count-map-zero requests_in SendFrame st.errors (λ m. refl) in
+    let none : total_of requests_in (map SendFrame st.errors) ≡ 0 = total-map-zero requests_in SendFrame st.errors (λ m. refl) in
     (λ i. sends-said Responder k.messages_queued k.requests_sent st.errors h i ++ requests-said Responder (k.messages_queued + total_of sends_in (map SendFrame st.errors)) k.requests_sent (newly_open_reads st) i)
     ∙ ap (λ (r : ℕ). output_bytes Responder k.messages_queued k.requests_sent (map SendFrame st.errors) ++ output_bytes Responder (k.messages_queued + total_of sends_in (map SendFrame st.errors)) r (map request_frame (newly_open_reads st)))
-        (sym (ap (λ (x : ℕ). k.requests_sent + x) none ∙ add-zero k.requests_sent))
+    (sym (ap (λ (x : ℕ). k.requests_sent + x) none ∙ add-zero k.requests_sent))
     ∙ sym (spelled-append Responder k.messages_queued k.requests_sent (map SendFrame st.errors) (map request_frame (newly_open_reads st)))
 
 -- ---- Accesses
@@ -69,7 +69,7 @@ tagged-said : (side : Side) (n r opcode stag to : ℕ) (bytes : List ℕ) (is : 
 tagged-said side n r opcode stag to bytes [] = refl
 tagged-said side n r opcode stag to bytes (i ∷ is) =
     ap (λ (xs : List ℕ). encoding (Tagged (eqb (i + 1) (segment_count bytes)) opcode stag (to + segment_max * i) (segment_payload bytes i)) ++ xs)
-      (tagged-said side n r opcode stag to bytes is ∙ sym (same-numbers side n r (map (tagged_frame opcode stag to bytes) is)))
+    (tagged-said side n r opcode stag to bytes is ∙ sym (same-numbers side n r (map (tagged_frame opcode stag to bytes) is)))
 
 pub write-said : (side : Side) (n r stag to : ℕ) (bytes : List ℕ) → write stag to bytes ≡ output_bytes side n r (tagged_frames OPCODE_WRITE stag to bytes)
 unfolding write cut tagged_frames

@@ -22,11 +22,11 @@ use Rattle.nr_reduce.specs.Server.{server_state_after, server_output, offer_of, 
 use Rattle.nr_reduce.proofs.Sizes.{message_size}
 use Rattle.nr_laws.specs.FrameContents.{FrameContent, output_bytes, total_of, sends_in, requests_in, hellos_in, call_frame, client_frames, server_frames}
 use Rattle.nr_laws.specs.LinkInvariants.{Transit, TotalsAgree, AreDistinct, AreAtMost, IsUnused}
-use Rattle.nr_laws.proofs.Totals.{count-append}
-use Rattle.nr_laws.proofs.TotalsAtClient.{counts-accepts, counts-writes_up, up_more}
-use Rattle.nr_laws.proofs.TotalsAtServer.{counts-executes, counts-writes_down, answer-counts}
-use Rattle.nr_laws.proofs.PendingExecuted.{waits-executes, executed-there}
-use Rattle.nr_laws.proofs.OwnXids.{OwnXids, outs-accepts, outs-writes}
+use Rattle.nr_laws.proofs.Totals.{total-append}
+use Rattle.nr_laws.proofs.TotalsAtClient.{totals-accepts, totals-writes_up, up_more}
+use Rattle.nr_laws.proofs.TotalsAtServer.{totals-executes, totals-writes_down, answer-counts}
+use Rattle.nr_laws.proofs.PendingExecuted.{pending_agree-executes, executed-there}
+use Rattle.nr_laws.proofs.OwnXids.{OwnXids, own_xids-accepts, own_xids-writes}
 use Rattle.nr_laws.proofs.OutputFrames.{IsShort, AllShort, send-one}
 use Rattle.nr_laws.proofs.Writable.{AreWritable, stream-more}
 use Rattle.nr_laws.proofs.ServerOutput.{calls_fit-kept, execution_frames, execution-proper, execution-said}
@@ -35,7 +35,7 @@ use Rattle.nr_laws.proofs.ClientFrame.{calls_said}
 
 -- ---- Of a client
 
--- it says more, and its calls stay
+-- it sends more, and its calls stay
 up-linked : (opened : LinkParameters) (k t : ClientState) (s : ServerState) (u d all_up all_down : List FrameContent) (w : Transit) (said : List FrameContent) → EndsAgree opened k s u d all_up all_down w
     → TotalsAgree t s (up_more w said) → OwnXids opened t → AllShort opened t.outstanding → t.received ≡ k.received → AreWritable said → total_of hellos_in said ≡ 0 → total_of requests_in said ≡ 0
     → EndsAgree opened t s u d (all_up ++ said) all_down (up_more w said)
@@ -49,10 +49,10 @@ up-linked opened k t s u d all_up all_down w said l counts outs short received p
   fits = l.fits;
   short = short;
   stream_up = stream-more all_up said l.stream_up l.begins_up proper;
-  begins_up = omega (arith, l.begins_up, count-append hellos_in all_up said);
+  begins_up = omega (arith, l.begins_up, total-append hellos_in all_up said);
   stream_down = l.stream_down;
   hellos_down = l.hellos_down;
-  no_reads = omega (arith, l.no_reads, reads, count-append requests_in all_up said);
+  no_reads = omega (arith, l.no_reads, reads, total-append requests_in all_up said);
   sends_up = l.sends_up;
   requests_up = l.requests_up;
   sends_down = ap (λ (h : ReceiveState). h.sends) received ∙ l.sends_down;
@@ -86,10 +86,13 @@ submitted opened k s u d all_up all_down w place a plan l own is = by k.has_hell
   where
     short : IsShort (call_message a.xid opened.wished k.stag (outstanding_of k a).plan)
     short = short-call opened k a plan is
+
     p : FrameContent
     p = call_frame opened (outstanding_of k a)
+
     calls : (b : Bool) → k.has_hello ≡ b → total_of sends_in all_up ≡ cond b k.calls_accepted 0
     calls b e = calls_said opened k s u d all_up all_down w l ∙ ap (λ (x : Bool). cond x k.calls_accepted 0) e
+
     with_said : (said : List FrameContent) → cond k.has_hello (p ∷ []) [] ≡ said → client_output opened k (CallSubmitted place a) ≡ output_bytes Initiator (total_of sends_in all_up) (total_of requests_in all_up) said → AreWritable said → total_of hellos_in said ≡ 0 → total_of requests_in said ≡ 0
         → Submitted opened k s u d all_up all_down w place a
     with_said said says output proper hellos reads = record {
@@ -98,17 +101,18 @@ submitted opened k s u d all_up all_down w place a plan l own is = by k.has_hell
       output = output;
       linked =
           up-linked opened k (client_state_after opened k (CallSubmitted place a)) s u d all_up all_down w said l
-            (subst (λ (ps : List FrameContent). TotalsAgree (client_state_after opened k (CallSubmitted place a)) s (up_more w ps)) says (counts-accepts opened k s w place a l.counts))
-            (outs-accepts opened k place a own l.outs) (short-append opened k.outstanding (outstanding_of k a ∷ []) l.short (short, tt)) refl proper hellos reads;
+          (subst (λ (ps : List FrameContent). TotalsAgree (client_state_after opened k (CallSubmitted place a)) s (up_more w ps)) says (totals-accepts opened k s w place a l.counts))
+          (own_xids-accepts opened k place a own l.outs) (short-append opened k.outstanding (outstanding_of k a ∷ []) l.short (short, tt)) refl proper hellos reads;
     }
+
     by : (b : Bool) → k.has_hello ≡ b → Submitted opened k s u d all_up all_down w place a
     by true e =
         with_said (p ∷ []) (ap (λ (x : Bool). cond x (p ∷ []) []) e)
-          (ap (λ (x : Bool). cond x (call_output opened (k.calls_accepted + 1) (outstanding_of k a)) []) e
-          ∙ send-one (k.calls_accepted + 1) (call_message a.xid opened.wished k.stag (outstanding_of k a).plan) short
-          ∙ sym (append-nil (encoding (Untagged true OPCODE_SEND 0 QUEUE_SEND (msn_word (k.calls_accepted + 1)) 0 (call_message a.xid opened.wished k.stag (outstanding_of k a).plan))))
-          ∙ (λ i. output_bytes Initiator (sym (calls true e) i) (total_of requests_in all_up) (p ∷ [])))
-          (short, tt) refl refl
+        (ap (λ (x : Bool). cond x (call_output opened (k.calls_accepted + 1) (outstanding_of k a)) []) e
+        ∙ send-one (k.calls_accepted + 1) (call_message a.xid opened.wished k.stag (outstanding_of k a).plan) short
+        ∙ sym (append-nil (encoding (Untagged true OPCODE_SEND 0 QUEUE_SEND (msn_word (k.calls_accepted + 1)) 0 (call_message a.xid opened.wished k.stag (outstanding_of k a).plan))))
+        ∙ (λ i. output_bytes Initiator (sym (calls true e) i) (total_of requests_in all_up) (p ∷ [])))
+        (short, tt) refl refl
     by false e =
         with_said [] (ap (λ (x : Bool). cond x (p ∷ []) []) e) (ap (λ (x : Bool). cond x (call_output opened (k.calls_accepted + 1) (outstanding_of k a)) []) e) tt refl refl
 
@@ -163,9 +167,9 @@ same-linked opened k t s u d all_up all_down w v l up down counts outs short rec
   requests_sent = l.requests_sent;
 }
 
-pub counts-revoked : (opened : LinkParameters) (k : ClientState) (s : ServerState) (w : Transit) (place xid : ℕ) → TotalsAgree k s w → TotalsAgree (client_state_after opened k (MemoryRevoked place xid)) s w
+pub totals-revoked : (opened : LinkParameters) (k : ClientState) (s : ServerState) (w : Transit) (place xid : ℕ) → TotalsAgree k s w → TotalsAgree (client_state_after opened k (MemoryRevoked place xid)) s w
 unfolding client_state_after
-counts-revoked opened k s w place xid c = record {
+totals-revoked opened k s w place xid c = record {
   hello = c.hello;
   calls_up = c.calls_up;
   messages_down = c.messages_down;
@@ -182,8 +186,8 @@ pub revoked : (opened : LinkParameters) (k : ClientState) (s : ServerState) (u d
     → EndsAgree opened (client_state_after opened k (MemoryRevoked place xid)) s u d all_up all_down w
 unfolding client_state_after
 revoked opened k s u d all_up all_down w place xid l =
-    same-linked opened k (client_state_after opened k (MemoryRevoked place xid)) s u d all_up all_down w w l refl refl (counts-revoked opened k s w place xid l.counts)
-      (record { apart = apart-revoked xid k.outstanding l.outs.apart; below = below-revoked xid (next_xid opened k) k.outstanding l.outs.below }) (short-revoked opened xid k.outstanding l.short) refl
+    same-linked opened k (client_state_after opened k (MemoryRevoked place xid)) s u d all_up all_down w w l refl refl (totals-revoked opened k s w place xid l.counts)
+    (record { apart = apart-revoked xid k.outstanding l.outs.apart; below = below-revoked xid (next_xid opened k) k.outstanding l.outs.below }) (short-revoked opened xid k.outstanding l.short) refl
 
 short-written : (opened : LinkParameters) (b : Bool) (os : List OutstandingCall) → AllShort opened os → AllShort opened (map (written_call b) os)
 short-written opened b [] h = tt
@@ -194,7 +198,7 @@ pub written_up : (opened : LinkParameters) (k : ClientState) (s : ServerState) (
 unfolding client_state_after
 written_up opened k s u d all_up all_down w l =
     same-linked opened k (client_state_after opened k QueueWritten) s u d all_up all_down w (record { queued_up = []; up = w.up ++ w.queued_up; queued_down = w.queued_down; down = w.down }) l
-      (append-nil (w.up ++ w.queued_up)) refl (counts-writes_up opened k s w l.counts) (outs-writes opened k l.outs) (short-written opened k.has_hello k.outstanding l.short) refl
+    (append-nil (w.up ++ w.queued_up)) refl (totals-writes_up opened k s w l.counts) (own_xids-writes opened k l.outs) (short-written opened k.has_hello k.outstanding l.short) refl
 
 -- ---- Of a server
 
@@ -226,21 +230,21 @@ executed opened k s u d all_up all_down w e r rest l first own begun =
         parts_up = l.parts_up;
         parts_down =
             ap (λ (ps : List FrameContent). d ++ ps) (sym (append_assoc w.down w.queued_down said)) ∙ sym (append_assoc d (w.down ++ w.queued_down) said) ∙ ap (λ (ps : List FrameContent). ps ++ said) l.parts_down;
-        counts = counts-executes opened k s w e l.counts l.waits.xids there;
-        waits = waits-executes opened s e r rest l.waits first own;
+        counts = totals-executes opened k s w e l.counts l.waits.xids there;
+        waits = pending_agree-executes opened s e r rest l.waits first own;
         outs = l.outs;
         fits = calls_fit-kept (λ c. not (eqb c.xid e.xid)) s.calls l.fits;
         short = l.short;
         stream_up = l.stream_up;
         begins_up = l.begins_up;
         stream_down = stream-more all_down said l.stream_down begun (execution-proper s e l.fits);
-        hellos_down = omega (arith, l.hellos_down, hellos, count-append hellos_in all_down said);
+        hellos_down = omega (arith, l.hellos_down, hellos, total-append hellos_in all_down said);
         no_reads = l.no_reads;
         sends_up = l.sends_up;
         requests_up = l.requests_up;
         sends_down = l.sends_down;
         requests_down = l.requests_down;
-        requests_sent = omega (arith, l.requests_sent, reads, count-append requests_in all_down said);
+        requests_sent = omega (arith, l.requests_sent, reads, total-append requests_in all_down said);
       };
     }
 
@@ -250,7 +254,7 @@ unfolding server_state_after
 written_down opened k s u d all_up all_down w l = record {
   parts_up = l.parts_up;
   parts_down = ap (λ (ps : List FrameContent). d ++ ps) (append-nil (w.down ++ w.queued_down)) ∙ l.parts_down;
-  counts = counts-writes_down opened k s w l.counts;
+  counts = totals-writes_down opened k s w l.counts;
   waits = record { numbers = l.waits.numbers; xids = l.waits.xids; calls_below = l.waits.calls_below; reads_below = l.waits.reads_below; ready_apart = l.waits.ready_apart; ready_calls = l.waits.ready_calls; whole_calls = l.waits.whole_calls };
   outs = l.outs;
   fits = l.fits;

@@ -1,4 +1,4 @@
--- The calls that are out have xids of their own.
+-- Outstanding calls have xids of their own.
 use Rattle.std.proofs.Common.{◌≡◌, ℕ, ◌+◌, Bool, true, false, not, cond, eqb, ◌⊎◌, inl, inr, List, [], ◌∷◌, map, Option, None, Some, Result, Ok, Err, refl, sym, subst, arith}
 use Rattle.std.specs.List.{filter}
 use Rattle.nr_wire.specs.Segment.{Segment}
@@ -21,20 +21,20 @@ pub record OwnXids (opened : LinkParameters) (k : ClientState) : Type 0 where
   pub apart : AreDistinct (λ (o : OutstandingCall). o.xid) k.outstanding
   pub below : AreAtMost (λ (o : OutstandingCall). o.xid + 1) (next_xid opened k) k.outstanding
 
-outs-kept : (opened : LinkParameters) (k t : ClientState) (p : OutstandingCall → Bool) → t.outstanding ≡ filter p k.outstanding → t.calls_accepted ≡ k.calls_accepted → OwnXids opened k → OwnXids opened t
-outs-kept opened k t p out accepted h = record {
+own_xids-kept : (opened : LinkParameters) (k t : ClientState) (p : OutstandingCall → Bool) → t.outstanding ≡ filter p k.outstanding → t.calls_accepted ≡ k.calls_accepted → OwnXids opened k → OwnXids opened t
+own_xids-kept opened k t p out accepted h = record {
   apart = subst (λ (os : List OutstandingCall). AreDistinct (λ (o : OutstandingCall). o.xid) os) (sym out) (apart_kept (λ (o : OutstandingCall). o.xid) p k.outstanding h.apart);
   below = subst (λ (os : List OutstandingCall). AreAtMost (λ (o : OutstandingCall). o.xid + 1) (next_xid opened t) os) (sym out)
-    (below-more (λ (o : OutstandingCall). o.xid + 1) (next_xid opened k) (next_xid opened t) (filter p k.outstanding) (omega (arith, accepted)) (below-kept (λ (o : OutstandingCall). o.xid + 1) (next_xid opened k) p k.outstanding h.below));
+      (below-more (λ (o : OutstandingCall). o.xid + 1) (next_xid opened k) (next_xid opened t) (filter p k.outstanding) (omega (arith, accepted)) (below-kept (λ (o : OutstandingCall). o.xid + 1) (next_xid opened k) p k.outstanding h.below));
 }
 
-outs-same : (opened : LinkParameters) (k t : ClientState) → t.outstanding ≡ k.outstanding → t.calls_accepted ≡ k.calls_accepted → OwnXids opened k → OwnXids opened t
-outs-same opened k t out accepted h = record {
+own_xids-same : (opened : LinkParameters) (k t : ClientState) → t.outstanding ≡ k.outstanding → t.calls_accepted ≡ k.calls_accepted → OwnXids opened k → OwnXids opened t
+own_xids-same opened k t out accepted h = record {
   apart = subst (λ (os : List OutstandingCall). AreDistinct (λ (o : OutstandingCall). o.xid) os) (sym out) h.apart;
   below = subst (λ (os : List OutstandingCall). AreAtMost (λ (o : OutstandingCall). o.xid + 1) (next_xid opened t) os) (sym out) (below-more (λ (o : OutstandingCall). o.xid + 1) (next_xid opened k) (next_xid opened t) k.outstanding (omega (arith, accepted)) h.below);
 }
 
--- whatever frame comes
+-- whatever frame is received
 pub segment-out : (k : ClientState) (f : Frame) (r : Result Segment ℕ) → ((with_segment k f r).outstanding ≡ k.outstanding) ⊎ ((p : OutstandingCall → Bool) × ((with_segment k f r).outstanding ≡ filter p k.outstanding))
 segment-out k f (Err reason) = inl refl
 segment-out k f (Ok segment) = by (message_completed k.received segment) (read_request_of segment)
@@ -55,27 +55,28 @@ segment-accepted k f (Ok segment) = by (message_completed k.received segment) (r
     by (Some m) None = refl
     by (Some m) (Some q) = refl
 
-pub outs-came : (opened : LinkParameters) (k : ClientState) (f : Frame) → OwnXids opened k → OwnXids opened (client_state_after opened k (FrameReceived f))
+pub own_xids-came : (opened : LinkParameters) (k : ClientState) (f : Frame) → OwnXids opened k → OwnXids opened (client_state_after opened k (FrameReceived f))
 unfolding client_state_after
-outs-came opened k f h = by (is_hello f)
+own_xids-came opened k f h = by (is_hello f)
   where
     segment : ((with_segment k f (frame_segment f)).outstanding ≡ k.outstanding) ⊎ ((p : OutstandingCall → Bool) × ((with_segment k f (frame_segment f)).outstanding ≡ filter p k.outstanding)) → OwnXids opened (with_segment k f (frame_segment f))
-    segment (inl same) = outs-same opened k (with_segment k f (frame_segment f)) same (segment-accepted k f (frame_segment f)) h
-    segment (inr left) = outs-kept opened k (with_segment k f (frame_segment f)) left.0 left.1 (segment-accepted k f (frame_segment f)) h
+    segment (inl same) = own_xids-same opened k (with_segment k f (frame_segment f)) same (segment-accepted k f (frame_segment f)) h
+    segment (inr left) = own_xids-kept opened k (with_segment k f (frame_segment f)) left.0 left.1 (segment-accepted k f (frame_segment f)) h
+
     by : (b : Bool) → OwnXids opened (cond b (record k { has_hello = true }) (with_segment k f (frame_segment f)))
-    by true = outs-same opened k (record k { has_hello = true }) refl refl h
+    by true = own_xids-same opened k (record k { has_hello = true }) refl refl h
     by false = segment (segment-out k f (frame_segment f))
 
 above : (n : ℕ) (os : List OutstandingCall) → AreAtMost (λ (o : OutstandingCall). o.xid + 1) n os → IsUnused (λ (o : OutstandingCall). o.xid) n os
 above n [] h = tt
 above n (o ∷ os) h = ((λ e. omega (arith, e, h.0)), above n os h.1)
 
-pub outs-accepts : (opened : LinkParameters) (k : ClientState) (place : ℕ) (a : AcceptedCall) → a.xid ≡ next_xid opened k → OwnXids opened k → OwnXids opened (client_state_after opened k (CallSubmitted place a))
+pub own_xids-accepts : (opened : LinkParameters) (k : ClientState) (place : ℕ) (a : AcceptedCall) → a.xid ≡ next_xid opened k → OwnXids opened k → OwnXids opened (client_state_after opened k (CallSubmitted place a))
 unfolding client_state_after
-outs-accepts opened k place a is h = record {
+own_xids-accepts opened k place a is h = record {
   apart = apart_push (λ (o : OutstandingCall). o.xid) k.outstanding (outstanding_of k a) h.apart (subst (λ (n : ℕ). IsUnused (λ (o : OutstandingCall). o.xid) n k.outstanding) (sym is) (above (next_xid opened k) k.outstanding h.below));
   below = below-append (λ (o : OutstandingCall). o.xid + 1) (opened.first_xid + (k.calls_accepted + 1)) k.outstanding (outstanding_of k a ∷ [])
-    (below-more (λ (o : OutstandingCall). o.xid + 1) (next_xid opened k) (opened.first_xid + (k.calls_accepted + 1)) k.outstanding (omega arith) h.below) (omega (arith, is), tt);
+      (below-more (λ (o : OutstandingCall). o.xid + 1) (next_xid opened k) (opened.first_xid + (k.calls_accepted + 1)) k.outstanding (omega arith) h.below) (omega (arith, is), tt);
 }
 
 absent-written : (b : Bool) (n : ℕ) (os : List OutstandingCall) → IsUnused (λ (o : OutstandingCall). o.xid) n os → IsUnused (λ (o : OutstandingCall). o.xid) n (map (written_call b) os)
@@ -90,6 +91,6 @@ below-written : (b : Bool) (n : ℕ) (os : List OutstandingCall) → AreAtMost (
 below-written b n [] h = tt
 below-written b n (o ∷ os) h = (h.0, below-written b n os h.1)
 
-pub outs-writes : (opened : LinkParameters) (k : ClientState) → OwnXids opened k → OwnXids opened (client_state_after opened k QueueWritten)
+pub own_xids-writes : (opened : LinkParameters) (k : ClientState) → OwnXids opened k → OwnXids opened (client_state_after opened k QueueWritten)
 unfolding client_state_after
-outs-writes opened k h = record { apart = apart-written k.has_hello k.outstanding h.apart; below = below-written k.has_hello (next_xid opened k) k.outstanding h.below }
+own_xids-writes opened k h = record { apart = apart-written k.has_hello k.outstanding h.apart; below = below-written k.has_hello (next_xid opened k) k.outstanding h.below }

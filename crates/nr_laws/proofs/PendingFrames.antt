@@ -1,4 +1,4 @@
--- What a server knows of waiting calls and of sinks is kept by each piece that comes to it.
+-- Pending calls and sinks behind each frame at a server.
 use Rattle.std.proofs.Common.{◌≡◌, ℕ, ◌+◌, ◌-◌, ◌≤◌, Bool, true, false, not, cond, ◌&&◌, eqb, List, [], ◌∷◌, ◌++◌, length, take, drop, Option, None, Some, Ok, refl, sym, ap, subst, ◌∙◌, arith, append-nil}
 use Rattle.nr_wire.specs.Constants.{OPCODE_READ_RESPONSE, OPCODE_SEND, QUEUE_SEND}
 use Rattle.nr_wire.specs.Segment.{Segment}
@@ -22,13 +22,13 @@ use Rattle.nr_laws.specs.FrameContents.{Carries}
 use Rattle.nr_laws.specs.FrameContents.FrameContent.{SendFrame, TaggedFrame}
 use Rattle.nr_laws.specs.LinkInvariants.{PendingAgree, HaveSinks}
 use Rattle.nr_laws.proofs.TotalsAtServer.{after-is, step-is, segment-is, with_by}
-use Rattle.nr_laws.proofs.PendingSends.{AfterEffect, waits-message, waits-same, verdict-new}
-use Rattle.nr_laws.proofs.PendingExecuted.{waits-read}
+use Rattle.nr_laws.proofs.PendingSends.{AfterEffect, pending_agree-message, pending_agree-same, verdict-new}
+use Rattle.nr_laws.proofs.PendingExecuted.{pending_agree-read}
 use Rattle.nr_laws.proofs.Sinks.{sink-later, sinks-closed, sinks-more, sinks-append, sinks-taken, sinks-dropped, sinks-kept}
 use Rattle.nr_laws.proofs.NewSinks.{AreKnown, sinks-opened}
 
-pub waits-send_up : (opened : LinkParameters) (s : ServerState) (f : Frame) (message : List ℕ) → PendingAgree s → Carries s.received.sends s.received.requests f (SendFrame message) → (frame_effect s f).refusal ≡ None → PendingAgree (server_state_after opened s (FrameReceived f))
-waits-send_up opened s f message w p goes_on =
+pub pending_agree-send_up : (opened : LinkParameters) (s : ServerState) (f : Frame) (message : List ℕ) → PendingAgree s → Carries s.received.sends s.received.requests f (SendFrame message) → (frame_effect s f).refusal ≡ None → PendingAgree (server_state_after opened s (FrameReceived f))
+pending_agree-send_up opened s f message w p goes_on =
     let segment : Segment = Untagged true OPCODE_SEND 0 QUEUE_SEND (msn_word (s.received.sends + 1)) 0 message in
     let is : frame_segment f ≡ Ok segment = segment-is s.received.sends s.received.requests f (SendFrame message) segment p refl in
     let whole : List ℕ = begun_bytes s.received.begun ++ message in
@@ -36,30 +36,31 @@ waits-send_up opened s f message w p goes_on =
     let unended : st.refusal ≡ None = ap (λ (x : FrameEffect). x.refusal) (sym (step-is s f (Ok segment) is)) ∙ goes_on in
     let t = with_by s f (Ok segment) st in
     subst (λ (t2 : ServerState). PendingAgree t2) (sym (after-is opened s f (Ok segment) p.behind is))
-      (waits-message s t f.end whole (verdict s whole) refl w (record { sends_are = refl; calls = refl; reads = refl; ready = refl }) unended)
+    (pending_agree-message s t f.end whole (verdict s whole) refl w (record { sends_are = refl; calls = refl; reads = refl; ready = refl }) unended)
 
-waits-response : (s t : ServerState) (f : Frame) (segment : Segment) (reads : List PendingRead) → s.reads ≡ reads → PendingAgree s → AfterEffect s t (response_effect (with_access s f segment) f.end reads) 0
+pending_agree-response : (s t : ServerState) (f : Frame) (segment : Segment) (reads : List PendingRead) → s.reads ≡ reads → PendingAgree s → AfterEffect s t (response_effect (with_access s f segment) f.end reads) 0
     → (response_effect (with_access s f segment) f.end reads).refusal ≡ None → PendingAgree t
-waits-response s t f segment [] is w b goes_on = waits-same s t w b.calls b.reads (b.ready ∙ append-nil s.ready) (omega (arith, b.sends_are))
-waits-response s t f segment (r ∷ others) is w b goes_on =
+pending_agree-response s t f segment [] is w b goes_on = pending_agree-same s t w b.calls b.reads (b.ready ∙ append-nil s.ready) (omega (arith, b.sends_are))
+pending_agree-response s t f segment (r ∷ others) is w b goes_on =
     let k = with_access s f segment in
-    waits-read s t k f.end r others (call_of_number k r.number) (record (no_effect k) { reads = others; kept = length (open_reads k) - 1 }) w is refl refl refl refl b goes_on
+    pending_agree-read s t k f.end r others (call_of_number k r.number) (record (no_effect k) { reads = others; kept = length (open_reads k) - 1 }) w is refl refl refl refl b goes_on
 
-pub waits-tagged_up : (opened : LinkParameters) (s : ServerState) (f : Frame) (last : Bool) (opcode stag to : ℕ) (payload : List ℕ) → PendingAgree s → Carries s.received.sends s.received.requests f (TaggedFrame last opcode stag to payload) → (frame_effect s f).refusal ≡ None
+pub pending_agree-tagged_up : (opened : LinkParameters) (s : ServerState) (f : Frame) (last : Bool) (opcode stag to : ℕ) (payload : List ℕ) → PendingAgree s → Carries s.received.sends s.received.requests f (TaggedFrame last opcode stag to payload) → (frame_effect s f).refusal ≡ None
     → PendingAgree (server_state_after opened s (FrameReceived f))
-waits-tagged_up opened s f last opcode stag to payload w p goes_on =
+pending_agree-tagged_up opened s f last opcode stag to payload w p goes_on =
     let segment : Segment = Tagged last opcode stag to payload in
     let is : frame_segment f ≡ Ok segment = segment-is s.received.sends s.received.requests f (TaggedFrame last opcode stag to payload) segment p refl in
     subst (λ (t2 : ServerState). PendingAgree t2) (sym (after-is opened s f (Ok segment) p.behind is))
-      (by (eqb opcode OPCODE_READ_RESPONSE && last) (with_by s f (Ok segment) (effect_in s f (Ok segment)))
-        (record { sends_are = omega arith; calls = refl; reads = refl; ready = refl })
-        (ap (λ (x : FrameEffect). x.refusal) (sym (step-is s f (Ok segment) is)) ∙ goes_on))
+    (by (eqb opcode OPCODE_READ_RESPONSE && last) (with_by s f (Ok segment) (effect_in s f (Ok segment)))
+    (record { sends_are = omega arith; calls = refl; reads = refl; ready = refl })
+    (ap (λ (x : FrameEffect). x.refusal) (sym (step-is s f (Ok segment) is)) ∙ goes_on))
   where
     k : ServerState
     k = with_access s f (Tagged last opcode stag to payload)
+
     by : (b : Bool) (t : ServerState) → AfterEffect s t (cond b (response_effect k f.end s.reads) (no_effect k)) 0 → (cond b (response_effect k f.end s.reads) (no_effect k)).refusal ≡ None → PendingAgree t
-    by true t b goes_on = waits-response s t f (Tagged last opcode stag to payload) s.reads refl w b goes_on
-    by false t b goes_on = waits-same s t w b.calls b.reads (b.ready ∙ append-nil s.ready) (omega (arith, b.sends_are))
+    by true t b goes_on = pending_agree-response s t f (Tagged last opcode stag to payload) s.reads refl w b goes_on
+    by false t b goes_on = pending_agree-same s t w b.calls b.reads (b.ready ∙ append-nil s.ready) (omega (arith, b.sends_are))
 
 -- ---- Sinks
 
@@ -113,7 +114,7 @@ sinks-send_up opened s f place message a h le p =
     let whole : List ℕ = begun_bytes s.received.begun ++ message in
     let st = effect_in s f (Ok segment) in
     subst (λ (t : ServerState). HaveSinks f.end t.regions t.reads) (sym (after-is opened s f (Ok segment) p.behind is))
-      (sinks-closed f.end f.end st.calls st.reads st.regions (omega arith) (message-sinks s f.end whole (verdict s whole) refl a (later-sinks place f.end s.regions s.reads le h)))
+    (sinks-closed f.end f.end st.calls st.reads st.regions (omega arith) (message-sinks s f.end whole (verdict s whole) refl a (later-sinks place f.end s.regions s.reads le h)))
 
 pub sinks-tagged_up : (opened : LinkParameters) (s : ServerState) (f : Frame) (place : ℕ) (last : Bool) (opcode stag to : ℕ) (payload : List ℕ) → HaveSinks place s.regions s.reads → place ≤ f.end
     → Carries s.received.sends s.received.requests f (TaggedFrame last opcode stag to payload) → HaveSinks f.end (server_state_after opened s (FrameReceived f)).regions (server_state_after opened s (FrameReceived f)).reads
@@ -122,10 +123,11 @@ sinks-tagged_up opened s f place last opcode stag to payload h le p =
     let is : frame_segment f ≡ Ok segment = segment-is s.received.sends s.received.requests f (TaggedFrame last opcode stag to payload) segment p refl in
     let st = effect_in s f (Ok segment) in
     subst (λ (t : ServerState). HaveSinks f.end t.regions t.reads) (sym (after-is opened s f (Ok segment) p.behind is))
-      (sinks-closed f.end f.end st.calls st.reads st.regions (omega arith) (by (eqb opcode OPCODE_READ_RESPONSE && last)))
+    (sinks-closed f.end f.end st.calls st.reads st.regions (omega arith) (by (eqb opcode OPCODE_READ_RESPONSE && last)))
   where
     k : ServerState
     k = with_access s f (Tagged last opcode stag to payload)
+
     by : (b : Bool) → StepSinks f.end (cond b (response_effect k f.end s.reads) (no_effect k))
     by true = response-sinks k f.end s.reads f.end refl (later-sinks place f.end s.regions s.reads le h)
     by false = later-sinks place f.end s.regions s.reads le h

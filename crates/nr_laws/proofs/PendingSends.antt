@@ -1,4 +1,4 @@
--- The calls that wait at a server are apart, and just those that are read wait to be executed: kept by a Send that comes.
+-- Pending calls behind a Send.
 use Rattle.std.proofs.Common.{◌≡◌, ◌≢◌, ℕ, ◌+◌, ◌≤◌, ◌<◌, Bool, true, false, not, cond, ◌||◌, ◌&&◌, eqb, ltb, List, [], ◌∷◌, ◌++◌, length, drop, Option, None, Some, Result, Ok, Err, refl, sym, ap, subst, ◌∙◌, arith, eq-eqb, append-nil}
 use Rattle.std.specs.List.{list_any}
 use Rattle.nr_header.specs.declared.fault.HeaderFault.{HeaderFault}
@@ -106,9 +106,10 @@ ready-more reads news ready more [] n m lt of below h = tt
 ready-more reads news ready more (c ∷ calls) n m lt of below h =
     let ne : m ≢ c.number = λ e. omega (arith, e, lt, below.0) in
     let same : is_read (reads ++ news) c.number ≡ is_read reads c.number =
-        ap (λ (b : Bool). not b) (any-others (λ (r : PendingRead). r.number) c.number reads news (of-absent (λ (r : PendingRead). r.number) m c.number news ne of)) in
-    ((λ e. any-left (λ (r : ReadyCall). eqb r.number c.number) ready more (h.0 (sym same ∙ e))),
-    ready-more reads news ready more calls n m lt of below.1 h.1)
+    ap (λ (b : Bool). not b) (any-others (λ (r : PendingRead). r.number) c.number reads news (of-absent (λ (r : PendingRead). r.number) m c.number news ne of)) in (
+      (λ e. any-left (λ (r : ReadyCall). eqb r.number c.number) ready more (h.0 (sym same ∙ e))),
+      ready-more reads news ready more calls n m lt of below.1 h.1,
+    )
 
 ready-append : (reads : List PendingRead) (ready : List ReadyCall) (calls more : List PendingCall) → AreReady reads ready calls → AreReady reads ready more → AreReady reads ready (calls ++ more)
 ready-append reads ready [] more h k = k
@@ -121,7 +122,7 @@ whole-more reads news calls more (r ∷ ready) n m lt of below h =
     let le : r.number ≤ n = below-at (λ (c : PendingCall). c.number) n r.number (λ (c : PendingCall). eqb c.xid r.xid) calls below h.0 in
     let ne : m ≢ r.number = λ e. omega (arith, e, lt, le) in
     let same : is_read (reads ++ news) r.number ≡ is_read reads r.number =
-        ap (λ (b : Bool). not b) (any-others (λ (x : PendingRead). x.number) r.number reads news (of-absent (λ (x : PendingRead). x.number) m r.number news ne of)) in
+    ap (λ (b : Bool). not b) (any-others (λ (x : PendingRead). x.number) r.number reads news (of-absent (λ (x : PendingRead). x.number) m r.number news ne of)) in
     (any-left (λ (c : PendingCall). eqb c.number r.number && eqb c.xid r.xid) calls more h.0, same ∙ h.1, whole-more reads news calls more ready n m lt of below h.2)
 
 pub whole-below : (reads : List PendingRead) (calls : List PendingCall) (ready : List ReadyCall) (n : ℕ) → AreAtMost (λ (c : PendingCall). c.number) n calls → AreWhole reads calls ready → AreAtMost (λ (r : ReadyCall). r.number) n ready
@@ -142,8 +143,8 @@ pub record AfterEffect (k t : ServerState) (st : FrameEffect) (sends : ℕ) : Ty
   pub reads : t.reads ≡ st.reads
   pub ready : t.ready ≡ k.ready ++ st.ready
 
-pub waits-same : (k t : ServerState) → PendingAgree k → t.calls ≡ k.calls → t.reads ≡ k.reads → t.ready ≡ k.ready → k.received.sends ≤ t.received.sends → PendingAgree t
-waits-same k t w calls reads ready le = record {
+pub pending_agree-same : (k t : ServerState) → PendingAgree k → t.calls ≡ k.calls → t.reads ≡ k.reads → t.ready ≡ k.ready → k.received.sends ≤ t.received.sends → PendingAgree t
+pending_agree-same k t w calls reads ready le = record {
   numbers = subst (λ (cs : List PendingCall). AreDistinct (λ (c : PendingCall). c.number) cs) (sym calls) w.numbers;
   xids = subst (λ (cs : List PendingCall). AreDistinct (λ (c : PendingCall). c.xid) cs) (sym calls) w.xids;
   calls_below = subst (λ (cs : List PendingCall). AreAtMost (λ (c : PendingCall). c.number) t.received.sends cs) (sym calls) (below-more (λ (c : PendingCall). c.number) k.received.sends t.received.sends k.calls le w.calls_below);
@@ -158,10 +159,10 @@ record Adds (reads : List PendingRead) (c : PendingCall) (new : List ReadyCall) 
   whole : is_read reads c.number ≡ true → (x : ReadyCall) × (new ≡ x ∷ []) × (x.number ≡ c.number) × (x.xid ≡ c.xid)
   partial : is_read reads c.number ≡ false → new ≡ []
 
-waits-opened : (k t : ServerState) (c : PendingCall) (news : List PendingRead) (new : List ReadyCall) → PendingAgree k → IsNew k c c.xid → is_pending k c.xid ≡ false → AreOf (λ (r : PendingRead). r.number) c.number news
+pending_agree-opened : (k t : ServerState) (c : PendingCall) (news : List PendingRead) (new : List ReadyCall) → PendingAgree k → IsNew k c c.xid → is_pending k c.xid ≡ false → AreOf (λ (r : PendingRead). r.number) c.number news
     → t.calls ≡ k.calls ++ c ∷ [] → t.reads ≡ k.reads ++ news → t.ready ≡ k.ready ++ new → t.received.sends ≡ c.number
     → (b : Bool) → is_read (k.reads ++ news) c.number ≡ b → Adds (k.reads ++ news) c new → PendingAgree t
-waits-opened k t c news new w is free of calls reads ready sends b whole a =
+pending_agree-opened k t c news new w is free of calls reads ready sends b whole a =
     let n = k.received.sends in
     let lt : n < c.number = omega (arith, is.number) in
     let below = below-more (λ (x : PendingCall). x.number) n c.number k.calls (omega (arith, lt)) w.calls_below in
@@ -170,36 +171,40 @@ waits-opened k t c news new w is free of calls reads ready sends b whole a =
     let rest = ready-more k.reads news k.ready new k.calls n c.number lt of w.calls_below w.ready_calls in
     let wholes = whole-more k.reads news k.calls (c ∷ []) k.ready n c.number lt of w.calls_below w.whole_calls in
     let at : ServerState = record k { calls = k.calls ++ c ∷ []; reads = k.reads ++ news; ready = k.ready ++ new; received = record { sends = c.number; begun = t.received.begun; requests = t.received.requests } } in
-    waits-same at t
-      (record {
-        numbers = apart_push (λ (x : PendingCall). x.number) k.calls c w.numbers absent;
-        xids = apart_push (λ (x : PendingCall). x.xid) k.calls c w.xids (none-absent (λ (x : PendingCall). x.xid) c.xid k.calls free);
-        calls_below = below-append (λ (x : PendingCall). x.number) c.number k.calls (c ∷ []) below (omega arith, tt);
-        reads_below = below-append (λ (x : PendingRead). x.number) c.number k.reads news (below-more (λ (x : PendingRead). x.number) n c.number k.reads (omega (arith, lt)) w.reads_below) (of-below (λ (x : PendingRead). x.number) c.number news of);
-        ready_apart = apart-by b whole ready_absent;
-        ready_calls = ready-append (k.reads ++ news) (k.ready ++ new) k.calls (c ∷ []) rest ((λ e. ready-by e), tt);
-        whole_calls = whole-append (k.reads ++ news) (k.calls ++ c ∷ []) k.ready new wholes (whole-by b whole);
-      })
-      calls reads ready (omega (arith, sends))
+    pending_agree-same at t
+    (record {
+      numbers = apart_push (λ (x : PendingCall). x.number) k.calls c w.numbers absent;
+      xids = apart_push (λ (x : PendingCall). x.xid) k.calls c w.xids (none-absent (λ (x : PendingCall). x.xid) c.xid k.calls free);
+      calls_below = below-append (λ (x : PendingCall). x.number) c.number k.calls (c ∷ []) below (omega arith, tt);
+      reads_below = below-append (λ (x : PendingRead). x.number) c.number k.reads news (below-more (λ (x : PendingRead). x.number) n c.number k.reads (omega (arith, lt)) w.reads_below) (of-below (λ (x : PendingRead). x.number) c.number news of);
+      ready_apart = apart-by b whole ready_absent;
+      ready_calls = ready-append (k.reads ++ news) (k.ready ++ new) k.calls (c ∷ []) rest ((λ e. ready-by e), tt);
+      whole_calls = whole-append (k.reads ++ news) (k.calls ++ c ∷ []) k.ready new wholes (whole-by b whole);
+    })
+    calls reads ready (omega (arith, sends))
   where
     apart-by : (b : Bool) → is_read (k.reads ++ news) c.number ≡ b → IsUnused (λ (x : ReadyCall). x.number) c.number k.ready → AreDistinct (λ (x : ReadyCall). x.number) (k.ready ++ new)
     apart-by true e absent =
         let x = a.whole e in
         subst (λ (xs : List ReadyCall). AreDistinct (λ (y : ReadyCall). y.number) (k.ready ++ xs)) (sym x.1)
-          (apart_push (λ (y : ReadyCall). y.number) k.ready x.0 w.ready_apart (subst (λ (m : ℕ). IsUnused (λ (y : ReadyCall). y.number) m k.ready) (sym x.2) absent))
+        (apart_push (λ (y : ReadyCall). y.number) k.ready x.0 w.ready_apart (subst (λ (m : ℕ). IsUnused (λ (y : ReadyCall). y.number) m k.ready) (sym x.2) absent))
     apart-by false e absent = subst (λ (xs : List ReadyCall). AreDistinct (λ (y : ReadyCall). y.number) (k.ready ++ xs)) (sym (a.partial e)) (subst (λ (xs : List ReadyCall). AreDistinct (λ (y : ReadyCall). y.number) xs) (sym (append-nil k.ready)) w.ready_apart)
+
     ready-by : is_read (k.reads ++ news) c.number ≡ true → list_any (λ (r : ReadyCall). eqb r.number c.number) (k.ready ++ new) ≡ true
     ready-by e =
         let x = a.whole e in
         any-right (λ (r : ReadyCall). eqb r.number c.number) k.ready new
-          (ap (λ (xs : List ReadyCall). list_any (λ (r : ReadyCall). eqb r.number c.number) xs) x.1 ∙ ap (λ (b : Bool). b || false) (eq-eqb x.0.number c.number x.2))
+        (ap (λ (xs : List ReadyCall). list_any (λ (r : ReadyCall). eqb r.number c.number) xs) x.1 ∙ ap (λ (b : Bool). b || false) (eq-eqb x.0.number c.number x.2))
+
     whole-by : (b : Bool) → is_read (k.reads ++ news) c.number ≡ b → AreWhole (k.reads ++ news) (k.calls ++ c ∷ []) new
     whole-by true e =
         let x = a.whole e in
-        subst (λ (xs : List ReadyCall). AreWhole (k.reads ++ news) (k.calls ++ c ∷ []) xs) (sym x.1)
-          (any-right (λ (y : PendingCall). eqb y.number x.0.number && eqb y.xid x.0.xid) k.calls (c ∷ [])
-            ((λ i. (eq-eqb c.number x.0.number (sym x.2) i && eq-eqb c.xid x.0.xid (sym x.3) i) || false)),
-          ap (λ (m : ℕ). is_read (k.reads ++ news) m) x.2 ∙ e, tt)
+        subst (λ (xs : List ReadyCall). AreWhole (k.reads ++ news) (k.calls ++ c ∷ []) xs) (sym x.1) (
+          any-right (λ (y : PendingCall). eqb y.number x.0.number && eqb y.xid x.0.xid) k.calls (c ∷ [])
+              ((λ i. (eq-eqb c.number x.0.number (sym x.2) i && eq-eqb c.xid x.0.xid (sym x.3) i) || false)),
+          ap (λ (m : ℕ). is_read (k.reads ++ news) m) x.2 ∙ e,
+          tt,
+        )
     whole-by false e = subst (λ (xs : List ReadyCall). AreWhole (k.reads ++ news) (k.calls ++ c ∷ []) xs) (sym (a.partial e)) tt
 
 -- the step of a message
@@ -226,11 +231,11 @@ kept-by (Refuses reason) st true = (refl, refl)
 kept-by (IsReady x) st true = (refl, refl)
 kept-by o st false = (refl, refl)
 
-pub waits-message : (k t : ServerState) (place : ℕ) (message : List ℕ) (v : Verdict) → verdict k message ≡ v → PendingAgree k → AfterEffect k t (message_effect k place message v) 1 → (message_effect k place message v).refusal ≡ None → PendingAgree t
-waits-message k t place message (EndsLink reason) is w b goes_on = absurd cc
-waits-message k t place message OtherVersion is w b goes_on = waits-same k t w b.calls b.reads (b.ready ∙ append-nil k.ready) (omega (arith, b.sends_are))
-waits-message k t place message BadChunks is w b goes_on = waits-same k t w b.calls b.reads (b.ready ∙ append-nil k.ready) (omega (arith, b.sends_are))
-waits-message k t place message (MakesPending c) is w b goes_on =
+pub pending_agree-message : (k t : ServerState) (place : ℕ) (message : List ℕ) (v : Verdict) → verdict k message ≡ v → PendingAgree k → AfterEffect k t (message_effect k place message v) 1 → (message_effect k place message v).refusal ≡ None → PendingAgree t
+pending_agree-message k t place message (EndsLink reason) is w b goes_on = absurd cc
+pending_agree-message k t place message OtherVersion is w b goes_on = pending_agree-same k t w b.calls b.reads (b.ready ∙ append-nil k.ready) (omega (arith, b.sends_are))
+pending_agree-message k t place message BadChunks is w b goes_on = pending_agree-same k t w b.calls b.reads (b.ready ∙ append-nil k.ready) (omega (arith, b.sends_are))
+pending_agree-message k t place message (MakesPending c) is w b goes_on =
     let new = verdict-new k message c is in
     let regions = k.regions ++ regions_of k place c in
     let news = reads_of regions c in
@@ -238,9 +243,9 @@ waits-message k t place message (MakesPending c) is w b goes_on =
     let o = by_payload c (payload_of k place c) in
     let whole = is_read st.reads c.number in
     let same = kept-by o st whole in
-    waits-opened k t c news (cond whole (with_verdict o st) st).ready w
-      (record { number = new.0.number; own = refl })
-      (ap (λ (x : ℕ). is_pending k x) new.0.own ∙ new.1)
-      (readings-from-of regions c.number [] c.lists.read)
-      (b.calls ∙ same.0) (b.reads ∙ same.1) b.ready (omega (arith, b.sends_are, new.0.number))
-      whole refl (opens-adds k place c o st whole refl refl refl goes_on)
+    pending_agree-opened k t c news (cond whole (with_verdict o st) st).ready w
+    (record { number = new.0.number; own = refl })
+    (ap (λ (x : ℕ). is_pending k x) new.0.own ∙ new.1)
+    (readings-from-of regions c.number [] c.lists.read)
+    (b.calls ∙ same.0) (b.reads ∙ same.1) b.ready (omega (arith, b.sends_are, new.0.number))
+    whole refl (opens-adds k place c o st whole refl refl refl goes_on)

@@ -74,6 +74,7 @@ reads-fit regions number before (r ∷ read) h = by (eqb r.length 0) refl (reads
   where
     first : PendingRead
     first = read_of regions number (total_at r.position before) r
+
     by : (b : Bool) → eqb r.length 0 ≡ b → AllByRecursion ReadFits (reads_from regions number (before ++ r ∷ []) read) → AllByRecursion ReadFits (cond b [] (first ∷ []) ++ reads_from regions number (before ++ r ∷ []) read)
     by true is k = k
     by false is k = ((some_size r.length is, h.0.0, h.0.1, h.0.2), k)
@@ -85,6 +86,7 @@ total-below p (r ∷ read) = by (eqb r.position p) (total-below p read)
   where
     rest : List ReadSegment
     rest = at_position p read
+
     by : (b : Bool) → sum_by (λ (x : ReadSegment). x.length) rest ≤ read_total read → sum_by (λ (x : ReadSegment). x.length) (cond b (r ∷ rest) rest) ≤ read_total (r ∷ read)
     by true le = omega (arith, le, sum_by-cons (λ (x : ReadSegment). x.length) r rest, sum_by-cons (λ (x : ReadSegment). x.length) r read)
     by false le = omega (arith, le, sum_by-cons (λ (x : ReadSegment). x.length) r read)
@@ -125,7 +127,7 @@ within-read k place r (Some c) s h = by (is_stream_read c r s.reads && not (is_r
     by : (b : Bool) → AreWithin (cond b (with_refused_call k c s) (ready_if_whole k place c s)).reads (cond b (with_refused_call k c s) (ready_if_whole k place c s)).regions
     by true = record {
       fit = each-append ReadFits (take s.kept s.reads) (filter (λ (x : PendingRead). not (eqb x.number c.number)) (drop s.kept s.reads)) (each-take ReadFits s.kept s.reads h.fit)
-        (each-kept ReadFits (λ (x : PendingRead). not (eqb x.number c.number)) (drop s.kept s.reads) (each-drop ReadFits s.kept s.reads h.fit));
+          (each-kept ReadFits (λ (x : PendingRead). not (eqb x.number c.number)) (drop s.kept s.reads) (each-drop ReadFits s.kept s.reads h.fit));
       few = h.few;
       small = h.small;
     }
@@ -143,7 +145,7 @@ within-send k f message none bytes h is =
     let whole : List ℕ = begun_bytes k.received.begun ++ message in
     let same : whole ≡ message = ap (λ (b : Option (List ℕ)). begun_bytes b ++ message) none in
     subst (λ (r : Result Segment ℕ). AreWithin (effect_in k f r).reads (effect_in k f r).regions) (sym is)
-      (within-message k f.end whole (verdict k whole) refl (subst IsBytes (sym same) bytes) h)
+    (within-message k f.end whole (verdict k whole) refl (subst IsBytes (sym same) bytes) h)
 
 pub within-tagged : (k : ServerState) (f : Frame) (last : Bool) (opcode stag to : ℕ) (payload : List ℕ) → AreWithin k.reads k.regions → frame_segment f ≡ Ok (Tagged last opcode stag to payload) → AreWithin (frame_effect k f).reads (frame_effect k f).regions
 unfolding frame_effect
@@ -152,6 +154,7 @@ within-tagged k f last opcode stag to payload h is =
   where
     t : ServerState
     t = with_access k f (Tagged last opcode stag to payload)
+
     by : (b : Bool) → AreWithin (cond b (response_effect t f.end k.reads) (no_effect t)).reads (cond b (response_effect t f.end k.reads) (no_effect t)).regions
     by true = within-response t f.end k.reads h h
     by false = h

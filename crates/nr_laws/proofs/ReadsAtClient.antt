@@ -1,4 +1,4 @@
--- What both ends know of reads is kept by what happens at the client, and by what the server executes and writes.
+-- Reads agree behind each event of the client, and where the server executes a call and writes.
 use Rattle.std.proofs.Common.{◌≡◌, ℕ, ◌+◌, ◌*◌, ◌≤◌, ◌<◌, min, Bool, true, false, cond, eqb, List, [], ◌∷◌, ◌++◌, length, map, take, drop, Option, None, Some, Ok, refl, sym, ap, subst, ◌∙◌, arith, append_assoc, append-nil, length-take, length-drop}
 use Rattle.std.specs.List.{range_with_len}
 use Rattle.nr_wire.specs.Constants.{OPCODE_WRITE, OPCODE_READ_REQUEST, OPCODE_READ_RESPONSE, QUEUE_READ_REQUEST}
@@ -23,7 +23,7 @@ use Rattle.nr_laws.proofs.TotalsAtClient.{says-is, request_payload, down_one}
 use Rattle.nr_laws.proofs.ExpectedResponses.{answers-append, answers-one}
 use Rattle.nr_laws.proofs.ReadsAtServer.{requests-append}
 
--- ---- A Read Request comes to the client, which answers it by as many bytes
+-- ---- The client receives a Read Request, and answers it by as many bytes
 
 -- the request can be read back, it asks for some bytes, and they are there
 pub record IsThere (k : ClientState) (place sink at size stag to : ℕ) : Type 0 where
@@ -45,14 +45,14 @@ reads-read_down opened k s w f sink at size stag to rest c first p there =
     let bytes = take size (drop to (memory_at k f.end stag)) in
     let len : length bytes ≡ size = omega (arith, length-take size (drop to (memory_at k f.end stag)), length-drop to (memory_at k f.end stag), there.there) in
     let said : client_frames opened k (FrameReceived f) ≡ tagged_frames OPCODE_READ_RESPONSE sink at bytes =
-        says-is opened k f (Ok segment) p.behind is ∙ ap (λ (r : ReadRequest). tagged_frames OPCODE_READ_RESPONSE r.sink r.sink_to (take r.size (drop r.to (memory_at k f.end r.stag)))) there.read in
+    says-is opened k f (Ok segment) p.behind is ∙ ap (λ (r : ReadRequest). tagged_frames OPCODE_READ_RESPONSE r.sink r.sink_to (take r.size (drop r.to (memory_at k f.end r.stag)))) there.read in
     let asked : RequestFrame sink at size stag to ∷ requests_of (rest ++ w.queued_down) ≡ map request_frame c.asked =
-        ap (λ (ps : List FrameContent). requests_of (ps ++ w.queued_down)) (sym first) ∙ c.requests in
+    ap (λ (ps : List FrameContent). requests_of (ps ++ w.queued_down)) (sym first) ∙ c.requests in
     let a = first_asked c.asked sink at size stag to (requests_of (rest ++ w.queued_down)) asked in
     let one : AreResponses 0 (a.0 ∷ []) (tagged_frames OPCODE_READ_RESPONSE sink at bytes) =
-        subst (λ (n : ℕ). AreResponses 0 (a.0 ∷ []) (tagged_frames OPCODE_READ_RESPONSE n at bytes)) a.3
-          (subst (λ (n : ℕ). AreResponses 0 (a.0 ∷ []) (tagged_frames OPCODE_READ_RESPONSE a.0.sink n bytes)) a.4
-            (answers-one a.0 bytes (len ∙ sym a.5) (omega (arith, a.5, there.some)))) in
+    subst (λ (n : ℕ). AreResponses 0 (a.0 ∷ []) (tagged_frames OPCODE_READ_RESPONSE n at bytes)) a.3
+    (subst (λ (n : ℕ). AreResponses 0 (a.0 ∷ []) (tagged_frames OPCODE_READ_RESPONSE a.0.sink n bytes)) a.4
+    (answers-one a.0 bytes (len ∙ sym a.5) (omega (arith, a.5, there.some)))) in
     let said_one : AreResponses 0 (a.0 ∷ []) (client_frames opened k (FrameReceived f)) = subst (λ (ps : List FrameContent). AreResponses 0 (a.0 ∷ []) ps) (sym said) one in
     let all = answers-append s.response_bytes c.answered (w.up ++ w.queued_up) (a.0 ∷ []) (client_frames opened k (FrameReceived f)) c.answers said_one in
     record {
@@ -80,7 +80,7 @@ reads-says_up s w said rest c none same =
       requests = requests-append rest w.queued_down ∙ ap (λ (ps : List FrameContent). ps ++ requests_of w.queued_down) (sym same) ∙ sym (requests-append w.down w.queued_down) ∙ c.requests;
     }
 
--- what the server says of an answer asks for nothing
+-- what the server sends of an answer asks for nothing
 pub none-filled : (chunk : List Part) (bytes : List ℕ) → requests_of (write_frames chunk bytes) ≡ []
 unfolding tagged_frames
 none-filled [] bytes = refl
@@ -91,6 +91,7 @@ none-filled (p ∷ chunk) bytes =
     none-cut : (f : ℕ → Bool) (g h : ℕ → ℕ) (b : ℕ → List ℕ) (is : List ℕ) → requests_of (map (λ i. TaggedFrame (f i) (g i) p.handle (h i) (b i)) is) ≡ []
     none-cut f g h b [] = refl
     none-cut f g h b (i ∷ is) = none-cut f g h b is
+
     by : (b : Bool) → requests_of (cond b [] (tagged_frames OPCODE_WRITE p.handle p.offset (take p.length bytes))) ≡ []
     by true = refl
     by false = none-cut (λ i. eqb (i + 1) (segment_count (take p.length bytes))) (λ i. OPCODE_WRITE) (λ i. p.offset + 4096 * i) (λ i. segment_payload (take p.length bytes) i) (range_with_len 0 (segment_count (take p.length bytes)))
@@ -109,7 +110,7 @@ none-answered s xid offer (Some a) =
     ∙ ap (λ (ps : List FrameContent). requests_of moved ++ ps) (requests-append long last)
     ∙ (λ i. none-filled (first_chunk offer.write) a.moved i ++ (none-long a.long (no_segments offer.reply) a.stream i ++ []))
 
--- it says more that asks for nothing, and its reads stay
+-- it sends more that asks for nothing, and its reads stay
 pub reads-says_down : (s t : ServerState) (w : Transit) (said : List FrameContent) → ReadsAgree s w → t.reads ≡ s.reads → t.response_bytes ≡ s.response_bytes → requests_of said ≡ []
     → ReadsAgree t (record { queued_up = w.queued_up; up = w.up; queued_down = w.queued_down ++ said; down = w.down })
 reads-says_down s t w said c same came none = record {
@@ -122,7 +123,7 @@ reads-says_down s t w said c same came none = record {
       ∙ requests-append (w.down ++ w.queued_down) said ∙ ap (λ (ps : List FrameContent). requests_of (w.down ++ w.queued_down) ++ ps) none ∙ append-nil (requests_of (w.down ++ w.queued_down)) ∙ c.requests;
 }
 
--- what was queued is under way
+-- what was queued is in transit
 pub reads-writes_up : (s : ServerState) (w : Transit) → ReadsAgree s w → ReadsAgree s (record { queued_up = []; up = w.up ++ w.queued_up; queued_down = w.queued_down; down = w.down })
 reads-writes_up s w c = record {
   answered = c.answered;

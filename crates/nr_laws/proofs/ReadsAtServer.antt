@@ -1,4 +1,4 @@
--- What both ends know of reads is kept by what happens at the server.
+-- Reads agree behind each frame at the server.
 use Rattle.std.proofs.Common.{◌≡◌, ℕ, zero, suc, ◌+◌, ◌-◌, ◌≤◌, Bool, true, false, not, cond, ◌&&◌, eqb, List, [], ◌∷◌, ◌++◌, length, map, take, drop, Option, None, Some, Ok, refl, sym, ap, subst, ◌∙◌, arith, append_assoc, length-append, length-take, take-append-drop}
 use Rattle.std.specs.List.{filter}
 use Rattle.std.proofs.lemmas.List.{take-append-le, map-append}
@@ -56,7 +56,7 @@ front-message k place message BadChunks = taken-again open_reads_max k.reads
 front-message k place message (MakesPending c) =
     let regions = k.regions ++ regions_of k place c in
     front-whole k place c _ (open_reads k)
-      (take-append-le (length (open_reads k)) k.reads (reads_of regions c) (omega (arith, length-take open_reads_max k.reads)) ∙ taken-again open_reads_max k.reads)
+    (take-append-le (length (open_reads k)) k.reads (reads_of regions c) (omega (arith, length-take open_reads_max k.reads)) ∙ taken-again open_reads_max k.reads)
 
 front-read : (k : ServerState) (place : ℕ) (r : PendingRead) (o : Option PendingCall) (st : FrameEffect) (xs : List PendingRead) → st.kept ≤ length st.reads → take st.kept st.reads ≡ xs → take (read_effect k place r o st).kept (read_effect k place r o st).reads ≡ xs
 front-read k place r None st xs le h = h
@@ -78,6 +78,7 @@ kept-read k place r (Some c) st le all = by (is_stream_read c r st.reads && not 
     whole-same true (Refuses reason) = le
     whole-same true (IsReady ready) = le
     whole-same false o = le
+
     by : (b : Bool) → (cond b (with_refused_call k c st) (ready_if_whole k place c st)).kept ≤ length (take open_reads_max (cond b (with_refused_call k c st) (ready_if_whole k place c st)).reads)
     by true =
         let others = filter (λ (x : PendingRead). not (eqb x.number c.number)) (drop st.kept st.reads) in
@@ -90,7 +91,7 @@ open-parts st xs le h =
     sym (take-append-drop st.kept (take open_reads_max st.reads))
     ∙ ap (λ (ys : List PendingRead). ys ++ newly_open_reads st) (take-less st.kept open_reads_max st.reads (omega (arith, length-take open_reads_max st.reads, le)) ∙ h)
 
--- ---- Requests among what is said
+-- ---- Read Requests among what is sent
 
 pub requests-append : (xs ys : List FrameContent) → requests_of (xs ++ ys) ≡ requests_of xs ++ requests_of ys
 requests-append [] ys = refl
@@ -144,12 +145,12 @@ reads-send_up opened s w f message rest c first p goes_on =
     let t = with_by s f (Ok segment) st in
     let answers : AreResponses s.response_bytes c.answered (rest ++ w.queued_up) = subst (λ (ps : List FrameContent). AreResponses s.response_bytes c.answered (ps ++ w.queued_up)) first c.answers in
     let m : ReadsAgree t (moved w st rest) =
-        reads-moved s t w st rest c.answered c.asked refl (subst (λ (n : ℕ). n ≤ length (take open_reads_max st.reads)) (sym shape.kept_is) shape.kept_there)
-          (front-message s f.end whole (verdict s whole) ∙ c.parts) answers c.requests in
+    reads-moved s t w st rest c.answered c.asked refl (subst (λ (n : ℕ). n ≤ length (take open_reads_max st.reads)) (sym shape.kept_is) shape.kept_there)
+    (front-message s f.end whole (verdict s whole) ∙ c.parts) answers c.requests in
     subst (λ (st2 : FrameEffect). ReadsAgree (server_state_after opened s (FrameReceived f)) (moved w st2 rest)) (sym (step-is s f (Ok segment) is))
-      (subst (λ (t2 : ServerState). ReadsAgree t2 (moved w st rest)) (sym (after-is opened s f (Ok segment) p.behind is)) m)
+    (subst (λ (t2 : ServerState). ReadsAgree t2 (moved w st rest)) (sym (after-is opened s f (Ok segment) p.behind is)) m)
 
--- ---- A segment of a Response comes to the server
+-- ---- The server receives a segment of a Read Response
 
 -- the reads of which the first is answered
 record Headed (s : ServerState) (r : PendingRead) (rs asked : List PendingRead) : Type 0 where
@@ -184,7 +185,7 @@ reads-segment s w f true stag to payload rest r rs asked parts goes requests =
     let total_of : length (open_reads s) - 1 ≡ length (take 7 h.others) = ap (λ (xs : List PendingRead). length (take open_reads_max xs) - 1) h.reads_are ∙ omega arith in
     let le : length (open_reads s) - 1 ≤ length h.others = omega (arith, total_of, length-take 7 h.others) in
     let front : take (length (open_reads s) - 1) h.others ≡ rs ++ asked =
-        ap (λ (n : ℕ). take n h.others) total_of ∙ taken-again 7 h.others ∙ h.taken_are in
+    ap (λ (n : ℕ). take n h.others) total_of ∙ taken-again 7 h.others ∙ h.taken_are in
     let st = read_effect k f.end r (call_of_number k r.number) st0 in
     let stepped : tagged_after s f true stag to payload ≡ st = ap (λ (xs : List PendingRead). response_effect k f.end xs) h.reads_are in
     let t = with_by s f (Ok segment) st in
@@ -202,9 +203,9 @@ reads-tagged_up opened s w f last opcode stag to payload rest c first p =
     by (r ∷ rs) parts answers =
         let segment : Segment = Tagged last OPCODE_READ_RESPONSE stag to payload in
         let is : frame_segment f ≡ Ok segment =
-            segment-is s.received.sends s.received.requests f (TaggedFrame last opcode stag to payload) (Tagged last opcode stag to payload) p refl
-            ∙ ap (λ (o : ℕ). Ok (Tagged last o stag to payload)) answers.0 in
+        segment-is s.received.sends s.received.requests f (TaggedFrame last opcode stag to payload) (Tagged last opcode stag to payload) p refl
+        ∙ ap (λ (o : ℕ). Ok (Tagged last o stag to payload)) answers.0 in
         let st = effect_in s f (Ok segment) in
         subst (λ (st2 : FrameEffect). ReadsAgree (server_state_after opened s (FrameReceived f)) (moved w st2 rest)) (sym (step-is s f (Ok segment) is))
-          (subst (λ (t2 : ServerState). ReadsAgree t2 (moved w st rest)) (sym (after-is opened s f (Ok segment) p.behind is))
-            (reads-segment s w f last stag to payload rest r rs c.asked parts answers.3 c.requests))
+        (subst (λ (t2 : ServerState). ReadsAgree t2 (moved w st rest)) (sym (after-is opened s f (Ok segment) p.behind is))
+        (reads-segment s w f last stag to payload rest r rs c.asked parts answers.3 c.requests))

@@ -42,7 +42,7 @@ third_word a b c rest lt =
     let front = word a ++ word b in
     let len : length front ≡ 8 = omega (arith, length-append (word a) (word b), length-word a, length-word b) in
     let dropped : drop 8 (word a ++ (word b ++ (word c ++ rest))) ≡ word c ++ rest =
-        ap (λ (xs : List ℕ). drop 8 xs) (sym (append_assoc (word a) (word b) (word c ++ rest))) ∙ ap (λ (n : ℕ). drop n (front ++ (word c ++ rest))) (sym len) ∙ drop-append_seam front (word c ++ rest) in
+    ap (λ (xs : List ℕ). drop 8 xs) (sym (append_assoc (word a) (word b) (word c ++ rest))) ∙ ap (λ (n : ℕ). drop n (front ++ (word c ++ rest))) (sym len) ∙ drop-append_seam front (word c ++ rest) in
     ap (λ (xs : List ℕ). word_of (take 4 xs)) dropped
     ∙ ap word_of (take-append-le 4 (word c) rest (omega (arith, length-word c)) ∙ take_all 4 (word c) (omega (arith, length-word c)))
     ∙ word_of-word c lt
@@ -107,6 +107,7 @@ replies-segment k f (Tagged last opcode stag to payload) lt = by (eqb opcode OPC
   where
     t : ServerState
     t = with_access k f (Tagged last opcode stag to payload)
+
     by : (b : Bool) → AreReplies k.credit (cond b (response_effect t f.end k.reads) (no_effect t)).errors
     by true = replies-response t f.end k.reads lt
     by false = tt
@@ -131,14 +132,14 @@ encoding-words : (xid credit : ℕ) (b : Bool) (lists : ChunkLists) (stream : Li
 encoding-words xid credit true lists stream lt =
     let rest = encodings (lists_items lists) in
     ap (λ (xs : List ℕ). word_at 8 xs)
-      (append_assoc (word xid) (word 1 ++ (word credit ++ (word 1 ++ rest))) stream
-      ∙ ap (λ (xs : List ℕ). word xid ++ xs) (append_assoc (word 1) (word credit ++ (word 1 ++ rest)) stream ∙ ap (λ (xs : List ℕ). word 1 ++ xs) (append_assoc (word credit) (word 1 ++ rest) stream)))
+    (append_assoc (word xid) (word 1 ++ (word credit ++ (word 1 ++ rest))) stream
+    ∙ ap (λ (xs : List ℕ). word xid ++ xs) (append_assoc (word 1) (word credit ++ (word 1 ++ rest)) stream ∙ ap (λ (xs : List ℕ). word 1 ++ xs) (append_assoc (word credit) (word 1 ++ rest) stream)))
     ∙ third_word xid 1 credit ((word 1 ++ rest) ++ stream) lt
 encoding-words xid credit false lists stream lt =
     let rest = encodings (lists_items lists) in
     ap (λ (xs : List ℕ). word_at 8 xs)
-      (append_assoc (word xid) (word 1 ++ (word credit ++ (word 0 ++ rest))) stream
-      ∙ ap (λ (xs : List ℕ). word xid ++ xs) (append_assoc (word 1) (word credit ++ (word 0 ++ rest)) stream ∙ ap (λ (xs : List ℕ). word 1 ++ xs) (append_assoc (word credit) (word 0 ++ rest) stream)))
+    (append_assoc (word xid) (word 1 ++ (word credit ++ (word 0 ++ rest))) stream
+    ∙ ap (λ (xs : List ℕ). word xid ++ xs) (append_assoc (word 1) (word credit ++ (word 0 ++ rest)) stream ∙ ap (λ (xs : List ℕ). word 1 ++ xs) (append_assoc (word credit) (word 0 ++ rest) stream)))
     ∙ third_word xid 1 credit ((word 0 ++ rest) ++ stream) lt
 
 pub answer-reply : (offer : ChunkLists) (down prog vers proc xid credit : ℕ) (reply : List ℕ) (a : Answer) → down ≤ send_max → credit < 2 ^ 32 → OfferFits offer → answer_for offer down prog vers proc reply ≡ Some a

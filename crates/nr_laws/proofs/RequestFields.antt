@@ -55,8 +55,8 @@ request-again sink at size stag to a b c d e =
     let size_is = ap (λ (xs : List ℕ). word_of (take 4 (drop 12 xs))) as2 ∙ ap word_of (part_at 12 4 two (word size) (word stag ++ hyper to) len2 l3) ∙ word_of-word size c in
     let stag_is = ap (λ (xs : List ℕ). word_of (take 4 (drop 16 xs))) as3 ∙ ap word_of (part_at 16 4 three (word stag) (hyper to) len3 l4) ∙ word_of-word stag d in
     let to_is =
-        ap (λ (xs : List ℕ). hyper_of (take 8 (drop 20 xs))) (as4 ∙ ap (λ (xs : List ℕ). four ++ xs) (sym (append-nil (hyper to))))
-        ∙ ap hyper_of (part_at 20 8 four (hyper to) [] len4 (length-hyper to)) ∙ hyper_of-hyper to e in
+    ap (λ (xs : List ℕ). hyper_of (take 8 (drop 20 xs))) (as4 ∙ ap (λ (xs : List ℕ). four ++ xs) (sym (append-nil (hyper to))))
+    ∙ ap hyper_of (part_at 20 8 four (hyper to) [] len4 (length-hyper to)) ∙ hyper_of-hyper to e in
     λ i. record { sink = sink_is i; sink_to = at_is i; size = size_is i; stag = stag_is i; to = to_is i }
 
 -- ---- The bytes
@@ -97,7 +97,7 @@ none-applies : (stag end place : ℕ) (g : Grant) (regions : List Region) → g.
 none-applies stag end place g [] own h = refl
 none-applies stag end place g (r ∷ regions) own h =
     ap (λ (b : Bool). cond (b && (ltb r.from end && leb end (region_grant place r).until)) (Some (region_grant place r)) (find (applies stag end) (map (region_grant place) regions)))
-      (ne_eqb r.stag stag (λ e. h.0 (own ∙ sym e)))
+    (ne_eqb r.stag stag (λ e. h.0 (own ∙ sym e)))
     ∙ none-applies stag end place g regions own h.1
 
 found-room : (place end : ℕ) (access : Access) (regions : List Region) → HaveOwnStags (map (region_grant place) regions) → denial_in (grant_offer (find (applies access.stag end) (map (region_grant place) regions))) access ≡ None
@@ -107,6 +107,7 @@ found-room place end access (r ∷ regions) own e = by (eqb r.stag access.stag) 
   where
     later : Option Grant
     later = find (applies access.stag end) (map (region_grant place) regions)
+
     by : (b c : Bool) → eqb r.stag access.stag ≡ b → denial_in (grant_offer (cond (b && c) (Some (region_grant place r)) later)) access ≡ None → (denial_in (grant_offer later) access ≡ None → HasRoom access.stag (access.to + access.len) regions)
         → HasRoom access.stag (access.to + access.len) (r ∷ regions)
     by true true is e rest = record { region = r; found = ap (λ (b : Bool). cond b (Some r) (find (λ (x : Region). eqb x.stag access.stag) regions)) is; room = not_denied r place access e }
@@ -124,7 +125,7 @@ unfolding region_grants grant_denial grant_at region_bytes
 memory-there place access regions segments own e =
     let m = found-room place place access regions own e in
     let bytes : region_bytes_by (map (region_grant place) regions) segments (find (λ (r : Region). eqb r.stag access.stag) regions) ≡ contents (map (region_grant place) regions) m.region.stag m.region.bytes segments =
-        ap (λ (o : Option Region). region_bytes_by (map (region_grant place) regions) segments o) m.found in
+    ap (λ (o : Option Region). region_bytes_by (map (region_grant place) regions) segments o) m.found in
     omega (arith, m.room, longer-contents (map (region_grant place) regions) m.region.stag segments m.region.bytes, ap (λ (xs : List ℕ). length xs) bytes)
 
 pub is-there : (k : ClientState) (f : Frame) (n sink at size stag to : ℕ) → HaveOwnStags (region_grants f.end k.regions) → is_hello f ≡ false → frame_segment f ≡ Ok (Untagged true OPCODE_READ_REQUEST 0 QUEUE_READ_REQUEST n 0 (request_payload sink at size stag to))
@@ -135,5 +136,5 @@ is-there k f n sink at size stag to own behind is stays some a b c d e =
     let lacks : missing_access (region_grants f.end k.regions) f segment ≡ None = client_touched k f segment behind is stays in
     let access : Access = record { right = Fetch; stag = stag; to = to; len = size } in
     let allowed : grant_denial (region_grants f.end k.regions) access f.end ≡ None =
-        (λ i. grant_denial (region_grants f.end k.regions) (record { right = Fetch; stag = (sym read i).stag; to = (sym read i).to; len = (sym read i).size }) f.end) ∙ lacks in
+    (λ i. grant_denial (region_grants f.end k.regions) (record { right = Fetch; stag = (sym read i).stag; to = (sym read i).to; len = (sym read i).size }) f.end) ∙ lacks in
     record { read = read; some = some; there = memory-there f.end access k.regions k.accesses_received own allowed }

@@ -1,4 +1,4 @@
--- All is kept where the server executes and writes, and a quiet link has no call out.
+-- What a server keeps where it executes a call and writes.
 use Rattle.std.proofs.Common.{◌≡◌, ℕ, List, [], ◌∷◌, ◌++◌, refl}
 use Rattle.nr_rpc.specs.Reading.{call_of, target_of}
 use Rattle.nr_reduce.specs.declared.mark.LinkParameters.{LinkParameters}
@@ -9,9 +9,9 @@ use Rattle.nr_reduce.specs.ServerState.{ServerState, ReadyCall, down_max}
 use Rattle.nr_reduce.specs.Server.{offer_of, answer_of_target, server_state_after}
 use Rattle.nr_laws.specs.FrameContents.{server_frames}
 use Rattle.nr_laws.specs.LinkInvariants.{Transit}
-use Rattle.nr_laws.proofs.TotalsAtServer.{counts-executes, counts-writes_down}
+use Rattle.nr_laws.proofs.TotalsAtServer.{totals-executes, totals-writes_down}
 use Rattle.nr_laws.proofs.ReadsAtClient.{reads-says_down, reads-writes_down, none-answered}
-use Rattle.nr_laws.proofs.PendingExecuted.{waits-executes, executed-there}
+use Rattle.nr_laws.proofs.PendingExecuted.{pending_agree-executes, executed-there}
 use Rattle.nr_laws.proofs.ServerInvariant.{ServerAgrees}
 
 -- the call that waits first is executed
@@ -21,9 +21,9 @@ unfolding server_state_after server_frames
 server-executes opened k s w place e r rest j first own =
     let t = server_state_after opened s (CallExecuted e) in
     record {
-      counts = counts-executes opened k s w e j.counts j.waits.xids (executed-there s e.xid r rest j.waits first own);
+      counts = totals-executes opened k s w e j.counts j.waits.xids (executed-there s e.xid r rest j.waits first own);
       reads = reads-says_down s t w (server_frames opened s (CallExecuted e)) j.reads refl refl (none-answered s e.xid (offer_of s e.xid) (answer_of_target (offer_of s e.xid) (down_max s) e.reply (target_of (call_of e.payload))));
-      waits = waits-executes opened s e r rest j.waits first own;
+      waits = pending_agree-executes opened s e r rest j.waits first own;
       sinks = j.sinks;
       regions = record { stags = j.regions.stags; calls = j.regions.calls };
     }
@@ -34,7 +34,7 @@ unfolding server_state_after
 server-writes opened k s w place j =
     let moved = reads-writes_down s w j.reads in
     record {
-      counts = counts-writes_down opened k s w j.counts;
+      counts = totals-writes_down opened k s w j.counts;
       reads = record { answered = moved.answered; asked = moved.asked; parts = moved.parts; answers = moved.answers; requests = moved.requests };
       waits = record { numbers = j.waits.numbers; xids = j.waits.xids; calls_below = j.waits.calls_below; reads_below = j.waits.reads_below; ready_apart = j.waits.ready_apart; ready_calls = j.waits.ready_calls; whole_calls = j.waits.whole_calls };
       sinks = j.sinks;

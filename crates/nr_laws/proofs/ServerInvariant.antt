@@ -1,5 +1,4 @@
--- The STags and the calls of a server's regions stay below what comes next; and all that is kept at a server by a Send and by a
--- segment of a Response, with why either may end it.
+-- What a server keeps behind each frame: totals, reads, pending calls, sinks, and the bounds of its regions.
 use Rattle.std.proofs.Common.{◌≡◌, ℕ, suc, ◌+◌, ◌-◌, ◌≤◌, ◌<◌, Bool, true, false, not, cond, ◌&&◌, eqb, List, [], ◌∷◌, ◌++◌, length, Option, None, Some, Ok, refl, sym, ap, subst, ◌∙◌, arith, length-append}
 use Rattle.std.proofs.lemmas.List.{length-map}
 use Rattle.nr_wire.specs.Constants.{OPCODE_READ_RESPONSE, OPCODE_SEND, QUEUE_SEND}
@@ -26,11 +25,11 @@ use Rattle.nr_reduce.specs.ServerMessages.CallVerdict.{Refuses, IsReady}
 use Rattle.nr_laws.specs.FrameContents.{FrameContent, Carries}
 use Rattle.nr_laws.specs.FrameContents.FrameContent.{SendFrame, TaggedFrame}
 use Rattle.nr_laws.specs.LinkInvariants.{Transit, TotalsAgree, ReadsAgree, PendingAgree, HaveSinks, AreAtMost, WithinWindow}
-use Rattle.nr_laws.proofs.TotalsAtServer.{after-is, segment-is, counts-send_up, counts-tagged_up}
+use Rattle.nr_laws.proofs.TotalsAtServer.{after-is, segment-is, totals-send_up, totals-tagged_up}
 use Rattle.nr_laws.proofs.Keys.{below-more, below-append}
 use Rattle.nr_laws.proofs.PendingSends.{verdict-new}
 use Rattle.nr_laws.proofs.ReadsAtServer.{reads-send_up, reads-tagged_up, moved}
-use Rattle.nr_laws.proofs.PendingFrames.{waits-send_up, waits-tagged_up, sinks-send_up, sinks-tagged_up}
+use Rattle.nr_laws.proofs.PendingFrames.{pending_agree-send_up, pending_agree-tagged_up, sinks-send_up, sinks-tagged_up}
 use Rattle.nr_laws.proofs.NewSinks.{AreKnown}
 use Rattle.nr_laws.proofs.EndsOfFrames.{server-send}
 use Rattle.nr_laws.proofs.AllowedResponses.{server-response-taken}
@@ -95,11 +94,11 @@ message-below k place message (MakesPending c) is b =
     let all : length (k.regions ++ news) ≡ length k.regions + length (chunks_of c.lists) = length-append k.regions news ∙ ap (λ (n : ℕ). length k.regions + n) (length-from c.number place (next_stag k) c.lists (chunks_of c.lists)) in
     whole-below k place c _ (k.received.sends + 1) (record {
       stags = below-append (λ (g : Region). g.stag) (length (k.regions ++ news)) k.regions news
-        (below-more (λ (g : Region). g.stag) (length k.regions) (length (k.regions ++ news)) k.regions (omega (arith, all)) b.stags)
-        (stags-from c.number place (next_stag k) (length (k.regions ++ news)) c.lists (chunks_of c.lists) (omega (arith, all)));
+          (below-more (λ (g : Region). g.stag) (length k.regions) (length (k.regions ++ news)) k.regions (omega (arith, all)) b.stags)
+          (stags-from c.number place (next_stag k) (length (k.regions ++ news)) c.lists (chunks_of c.lists) (omega (arith, all)));
       calls = below-append (λ (g : Region). g.call) (k.received.sends + 1) k.regions news
-        (below-more (λ (g : Region). g.call) k.received.sends (k.received.sends + 1) k.regions (omega arith) b.calls)
-        (below-more (λ (g : Region). g.call) c.number (k.received.sends + 1) news (omega (arith, new.0.number)) (calls-from c.number place (next_stag k) c.lists (chunks_of c.lists)));
+          (below-more (λ (g : Region). g.call) k.received.sends (k.received.sends + 1) k.regions (omega arith) b.calls)
+          (below-more (λ (g : Region). g.call) c.number (k.received.sends + 1) news (omega (arith, new.0.number)) (calls-from c.number place (next_stag k) c.lists (chunks_of c.lists)));
     })
 
 read-below : (k : ServerState) (place : ℕ) (r : PendingRead) (o : Option PendingCall) (st : FrameEffect) (sends : ℕ) → Below sends st.regions → Below sends (read_effect k place r o st).regions
@@ -124,7 +123,7 @@ pub record ServerAgrees (opened : LinkParameters) (k : ClientState) (s : ServerS
   pub sinks : HaveSinks place s.regions s.reads
   pub regions : AreKnown s
 
--- A Send that comes ends the server only by what it says or conveys; and if it doesn't, all is kept.
+-- A Send that is received ends the server only by the refusal of its effect; and if it doesn't, all is kept.
 pub server-takes_send : (opened : LinkParameters) (k : ClientState) (s : ServerState) (w : Transit) (place : ℕ) (f : Frame) (message : List ℕ) (rest : List FrameContent) → ServerAgrees opened k s w place → WithinWindow opened k → w.up ≡ SendFrame message ∷ rest
     → Carries s.received.sends s.received.requests f (SendFrame message) → 16 ≤ length message → length message ≤ send_max → place < f.end
     → (server_end opened s (FrameReceived f) ≡ refusal_end f (frame_effect s f).refusal) × ((frame_effect s f).refusal ≡ None → ServerAgrees opened k (server_state_after opened s (FrameReceived f)) (moved w (frame_effect s f) rest) f.end)
@@ -133,15 +132,16 @@ server-takes_send opened k s w place f message rest j g head p long short lt =
     let is : frame_segment f ≡ Ok segment = segment-is s.received.sends s.received.requests f (SendFrame message) segment p refl in
     let whole : List ℕ = begun_bytes s.received.begun ++ message in
     let st = effect_in s f (Ok segment) in
-    let below = closed-below (s.received.sends + 1) f.end (is_over st.calls st.reads) st.regions (message-below s f.end whole (verdict s whole) refl (record { stags = j.regions.stags; calls = j.regions.calls })) in
-    (server-send opened k s w f message rest j.counts g head p long short,
-    (λ goes_on. record {
-      counts = counts-send_up opened k s w f message rest j.counts head p goes_on;
-      reads = reads-send_up opened s w f message rest j.reads head p goes_on;
-      waits = waits-send_up opened s f message j.waits p goes_on;
-      sinks = sinks-send_up opened s f place message j.regions j.sinks (omega (arith, lt)) p;
-      regions = subst (λ (t : ServerState). AreKnown t) (sym (after-is opened s f (Ok segment) p.behind is)) (record { stags = below.stags; calls = below.calls });
-    }))
+    let below = closed-below (s.received.sends + 1) f.end (is_over st.calls st.reads) st.regions (message-below s f.end whole (verdict s whole) refl (record { stags = j.regions.stags; calls = j.regions.calls })) in (
+      server-send opened k s w f message rest j.counts g head p long short,
+      (λ goes_on. record {
+        counts = totals-send_up opened k s w f message rest j.counts head p goes_on;
+        reads = reads-send_up opened s w f message rest j.reads head p goes_on;
+        waits = pending_agree-send_up opened s f message j.waits p goes_on;
+        sinks = sinks-send_up opened s f place message j.regions j.sinks (omega (arith, lt)) p;
+        regions = subst (λ (t : ServerState). AreKnown t) (sym (after-is opened s f (Ok segment) p.behind is)) (record { stags = below.stags; calls = below.calls });
+      }),
+    )
 
 -- and so does a segment of a Response: it is the one expected, and reaches a region that lives
 pub server-takes_response : (opened : LinkParameters) (k : ClientState) (s : ServerState) (w : Transit) (place : ℕ) (f : Frame) (last : Bool) (opcode stag to : ℕ) (payload : List ℕ) (rest : List FrameContent) → ServerAgrees opened k s w place
@@ -151,20 +151,23 @@ server-takes_response opened k s w place f last opcode stag to payload rest j he
     let segment : Segment = Tagged last opcode stag to payload in
     let is : frame_segment f ≡ Ok segment = segment-is s.received.sends s.received.requests f (TaggedFrame last opcode stag to payload) segment p refl in
     let st = effect_in s f (Ok segment) in
-    let below = closed-below s.received.sends f.end (is_over st.calls st.reads) st.regions (by (eqb opcode OPCODE_READ_RESPONSE && last)) in
-    (server-response-taken opened s w f place last opcode stag to payload rest j.reads j.sinks lt head p,
-    (λ goes_on. record {
-      counts = counts-tagged_up opened k s w f last opcode stag to payload rest j.counts j.waits.numbers head p;
-      reads = reads-tagged_up opened s w f last opcode stag to payload rest j.reads head p;
-      waits = waits-tagged_up opened s f last opcode stag to payload j.waits p goes_on;
-      sinks = sinks-tagged_up opened s f place last opcode stag to payload j.sinks (omega (arith, lt)) p;
-      regions = subst (λ (t : ServerState). AreKnown t) (sym (after-is opened s f (Ok segment) p.behind is)) (record { stags = below.stags; calls = below.calls });
-    }))
+    let below = closed-below s.received.sends f.end (is_over st.calls st.reads) st.regions (by (eqb opcode OPCODE_READ_RESPONSE && last)) in (
+      server-response-taken opened s w f place last opcode stag to payload rest j.reads j.sinks lt head p,
+      (λ goes_on. record {
+        counts = totals-tagged_up opened k s w f last opcode stag to payload rest j.counts j.waits.numbers head p;
+        reads = reads-tagged_up opened s w f last opcode stag to payload rest j.reads head p;
+        waits = pending_agree-tagged_up opened s f last opcode stag to payload j.waits p goes_on;
+        sinks = sinks-tagged_up opened s f place last opcode stag to payload j.sinks (omega (arith, lt)) p;
+        regions = subst (λ (t : ServerState). AreKnown t) (sym (after-is opened s f (Ok segment) p.behind is)) (record { stags = below.stags; calls = below.calls });
+      }),
+    )
   where
     reached : ServerState
     reached = with_access s f (Tagged last opcode stag to payload)
+
     first : Below s.received.sends s.regions
     first = record { stags = j.regions.stags; calls = j.regions.calls }
+
     by : (b : Bool) → Below s.received.sends (cond b (response_effect reached f.end s.reads) (no_effect reached)).regions
     by true = response-below reached f.end s.reads s.received.sends first
     by false = first

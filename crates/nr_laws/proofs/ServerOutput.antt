@@ -1,4 +1,4 @@
--- What a server says can be written, and its output are the bytes of it; and the offers of its calls stay within their limits.
+-- What a server sends can be written, and its output is the bytes of it; the offers of its calls stay within their limits.
 use Rattle.std.proofs.Common.{◌≡◌, ℕ, ◌+◌, ◌*◌, ◌≤◌, min, Bool, true, false, cond, not, ◌&&◌, eqb, List, [], ◌∷◌, ◌++◌, length, map, take, drop, filter, Option, Some, None, Result, Ok, refl, sym, ap, subst, ◌∙◌, arith, lit<, length-append, length-take, append_assoc, append-nil}
 use Rattle.std.specs.List.{find}
 use Rattle.nr_xdr.specs.Item.{word, IsBytes}
@@ -48,8 +48,16 @@ chunk_error-short xid credit =
 version_error-short : (xid version credit : ℕ) → IsShort (version_error xid version credit)
 unfolding version_error
 version_error-short xid version credit =
-    omega (arith, word_len xid (word version ++ (word credit ++ (word 4 ++ (word 1 ++ (word 1 ++ (word 1 ++ [])))))), word_len version (word credit ++ (word 4 ++ (word 1 ++ (word 1 ++ (word 1 ++ []))))),
-      word_len credit (word 4 ++ (word 1 ++ (word 1 ++ (word 1 ++ [])))), word_len 4 (word 1 ++ (word 1 ++ (word 1 ++ []))), word_len 1 (word 1 ++ (word 1 ++ [])), word_len 1 (word 1 ++ []), word_len 1 [])
+    omega (
+      arith,
+      word_len xid (word version ++ (word credit ++ (word 4 ++ (word 1 ++ (word 1 ++ (word 1 ++ [])))))),
+      word_len version (word credit ++ (word 4 ++ (word 1 ++ (word 1 ++ (word 1 ++ []))))),
+      word_len credit (word 4 ++ (word 1 ++ (word 1 ++ (word 1 ++ [])))),
+      word_len 4 (word 1 ++ (word 1 ++ (word 1 ++ []))),
+      word_len 1 (word 1 ++ (word 1 ++ [])),
+      word_len 1 (word 1 ++ []),
+      word_len 1 [],
+    )
 
 -- ---- The calls of a server
 
@@ -91,7 +99,7 @@ fine-message k place message OtherVersion is bytes h = record { short = (version
 fine-message k place message BadChunks is bytes h = record { short = (chunk_error-short (word_at 0 message) (credit_word k), tt); fit = h }
 fine-message k place message (MakesPending c) is bytes h =
     fine-whole k place c (record (no_effect k) { calls = k.calls ++ c ∷ []; reads = k.reads ++ reads_of (k.regions ++ regions_of k place c) c; regions = k.regions ++ regions_of k place c })
-      (record { short = tt; fit = calls_fit-append k.calls (c ∷ []) h (verdict_fits k message c bytes is, tt) })
+    (record { short = tt; fit = calls_fit-append k.calls (c ∷ []) h (verdict_fits k message c bytes is, tt) })
 
 fine-read : (k : ServerState) (place : ℕ) (r : PendingRead) (o : Option PendingCall) (s : FrameEffect) → IsFine s → IsFine (read_effect k place r o s)
 fine-read k place r None s h = h
@@ -129,7 +137,7 @@ fine-send k f message none bytes h is =
     let whole : List ℕ = begun_bytes k.received.begun ++ message in
     let same : whole ≡ message = ap (λ (b : Option (List ℕ)). begun_bytes b ++ message) none in
     subst (λ (r : Result Segment ℕ). SaysFine (effect_in k f r)) (sym is)
-      (says_fine (effect_in k f (Ok segment)) (fine-message k f.end whole (verdict k whole) refl (subst IsBytes (sym same) bytes) h))
+    (says_fine (effect_in k f (Ok segment)) (fine-message k f.end whole (verdict k whole) refl (subst IsBytes (sym same) bytes) h))
 
 pub fine-tagged : (k : ServerState) (f : Frame) (last : Bool) (opcode stag to : ℕ) (payload : List ℕ) → CallsFit k.calls → frame_segment f ≡ Ok (Tagged last opcode stag to payload) → SaysFine (frame_effect k f)
 unfolding frame_effect
@@ -138,6 +146,7 @@ fine-tagged k f last opcode stag to payload h is =
   where
     t : ServerState
     t = with_access k f (Tagged last opcode stag to payload)
+
     by : (b : Bool) → IsFine (cond b (response_effect t f.end k.reads) (no_effect t))
     by true = fine-response t f.end k.reads h
     by false = record { short = tt; fit = h }
@@ -148,7 +157,7 @@ fills-proper : (chunk : List RdmaSegment) (bytes : List ℕ) → SegmentsFit chu
 fills-proper [] bytes h = tt
 fills-proper (s ∷ chunk) bytes h =
     all_proper-append (cond (eqb (min s.length (length bytes)) 0) [] (tagged_frames OPCODE_WRITE s.handle s.offset (take s.length bytes))) (write_frames chunk (drop s.length bytes))
-      (by (eqb (min s.length (length bytes)) 0)) (fills-proper chunk (drop s.length bytes) h.1)
+    (by (eqb (min s.length (length bytes)) 0)) (fills-proper chunk (drop s.length bytes) h.1)
   where
     by : (b : Bool) → AreWritable (cond b [] (tagged_frames OPCODE_WRITE s.handle s.offset (take s.length bytes)))
     by true = tt
@@ -177,8 +186,8 @@ answer-proper k xid offer reply t (Some a) e fits =
     let target = for_target offer (down_max k) reply t a e in
     let short = answer-short offer (down_max k) target.0 target.1 target.2 xid (credit_word k) reply a (omega arith) fits target.3 in
     all_proper-append (write_frames (first_chunk offer.write) a.moved) (cond a.long (write_frames (no_segments offer.reply) a.stream) [] ++ (SendFrame (answer_message xid (credit_word k) offer a) ∷ []))
-      (fills-proper (first_chunk offer.write) a.moved fits.writes)
-      (all_proper-append (cond a.long (write_frames (no_segments offer.reply) a.stream) []) (SendFrame (answer_message xid (credit_word k) offer a) ∷ []) (by a.long) (short, tt))
+    (fills-proper (first_chunk offer.write) a.moved fits.writes)
+    (all_proper-append (cond a.long (write_frames (no_segments offer.reply) a.stream) []) (SendFrame (answer_message xid (credit_word k) offer a) ∷ []) (by a.long) (short, tt))
   where
     by : (b : Bool) → AreWritable (cond b (write_frames (no_segments offer.reply) a.stream) [])
     by true = fills-proper (no_segments offer.reply) a.stream fits.replies
@@ -192,7 +201,7 @@ found-fits xid (c ∷ calls) h = by (eqb c.xid xid) (found-fits xid calls h.1)
     by true k = h.0
     by false k = k
 
--- what a server says of an executed call
+-- what a server sends of an executed call
 abbrev pub execution_frames : ServerState → ExecutedCall → List FrameContent
 execution_frames k e = answer_frames k e.xid (offer_of k e.xid) (answer_of_target (offer_of k e.xid) (down_max k) e.reply (target_of (call_of e.payload)))
 
@@ -204,6 +213,7 @@ writes-said n r (s ∷ chunk) bytes =
   where
     first : List FrameContent
     first = cond (eqb (min s.length (length bytes)) 0) [] (tagged_frames OPCODE_WRITE s.handle s.offset (take s.length bytes))
+
     by : (b : Bool) → cond b [] (write s.handle s.offset (take s.length bytes)) ≡ output_bytes Responder n r (cond b [] (tagged_frames OPCODE_WRITE s.handle s.offset (take s.length bytes)))
     by true = refl
     by false = write-said Responder n r s.handle s.offset (take s.length bytes)
@@ -237,9 +247,9 @@ answer-said k r xid offer reply t (Some a) e fits =
     append_assoc (writes_into (first_chunk offer.write) a.moved) (cond a.long (writes_into (no_segments offer.reply) a.stream) []) (send (n + 1) message)
     ∙ (λ i. writes-said n r (first_chunk offer.write) a.moved i ++ (long-said n r a.long (no_segments offer.reply) a.stream i ++ message-said n r message short i))
     ∙ ap (λ (xs : List ℕ). output_bytes Responder n r moved ++ xs)
-        ((λ i. output_bytes Responder n r long ++ output_bytes Responder (sym long_n i) (sym long_r i) (SendFrame message ∷ []))
-        ∙ sym (spelled-append Responder n r long (SendFrame message ∷ []))
-        ∙ (λ i. output_bytes Responder (sym moved_n i) (sym moved_r i) (long ++ (SendFrame message ∷ []))))
+    ((λ i. output_bytes Responder n r long ++ output_bytes Responder (sym long_n i) (sym long_r i) (SendFrame message ∷ []))
+    ∙ sym (spelled-append Responder n r long (SendFrame message ∷ []))
+    ∙ (λ i. output_bytes Responder (sym moved_n i) (sym moved_r i) (long ++ (SendFrame message ∷ []))))
     ∙ sym (spelled-append Responder n r moved (long ++ (SendFrame message ∷ [])))
 
 pub execution-proper : (k : ServerState) (e : ExecutedCall) → CallsFit k.calls → AreWritable (execution_frames k e)

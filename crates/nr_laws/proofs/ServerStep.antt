@@ -1,4 +1,4 @@
--- The frame of a piece at a server: it ends the server only for what the server makes of a call, else the guards are kept.
+-- A frame at a server: it ends the server only for what the server makes of a call, else the guards are kept.
 use Rattle.std.proofs.Common.{◌≡◌, ◌≢◌, ℕ, ◌+◌, ◌≤◌, ◌<◌, Bool, true, false, cond, not, ◌&&◌, ◌||◌, eqb, ltb, List, [], ◌∷◌, ◌++◌, length, drop, Option, Some, None, Result, Ok, Err, refl, sym, ap, subst, ◌∙◌, arith, inl, inr}
 use Rattle.nr_xdr.specs.Item.{IsBytes}
 use Rattle.nr_xdr.specs.Fields.{word_at}
@@ -40,7 +40,7 @@ use Rattle.nr_laws.specs.EndCauses.{IsCallReason, IsCallEnd}
 use Rattle.nr_laws.specs.FrameContents.{FrameContent, numbered_segment, frame_bytes, total_of, sends_in, requests_in, server_frames, Carries}
 use Rattle.nr_laws.specs.FrameContents.FrameContent.{HelloFrame, SendFrame, RequestFrame, TaggedFrame}
 use Rattle.nr_laws.specs.LinkInvariants.{Transit}
-use Rattle.nr_laws.proofs.Totals.{count-append}
+use Rattle.nr_laws.proofs.Totals.{total-append}
 use Rattle.nr_laws.proofs.StreamFrames.{own_hello-is}
 use Rattle.nr_laws.proofs.CompletedFrames.{is-piece}
 use Rattle.nr_laws.proofs.Writable.{IsWritable, IsOutput, proper_one, stream-first, stream-at}
@@ -122,8 +122,8 @@ reason-verdict : (k : ServerState) (message : List ℕ) → word_at 12 message �
 unfolding verdict
 reason-verdict k message kind again =
     subst (λ (b : Bool). VerdictReason (cond (not (eqb (word_at 4 message) 1)) OtherVersion (cond b (EndsLink 17) (cond (is_pending k (word_at 0 message)) (EndsLink 20) (by_header k message (header_of message))))))
-      (sym (λ i. ne_eqb (word_at 12 message) 3 (λ e. omega (arith, e, kind)) i || ne_eqb (word_at 12 message) 4 (λ e. omega (arith, e, kind)) i))
-      (subst (λ (b : Bool). VerdictReason (cond (not (eqb (word_at 4 message) 1)) OtherVersion (cond b (EndsLink 20) (by_header k message (header_of message))))) (sym again) (by (not (eqb (word_at 4 message) 1))))
+    (sym (λ i. ne_eqb (word_at 12 message) 3 (λ e. omega (arith, e, kind)) i || ne_eqb (word_at 12 message) 4 (λ e. omega (arith, e, kind)) i))
+    (subst (λ (b : Bool). VerdictReason (cond (not (eqb (word_at 4 message) 1)) OtherVersion (cond b (EndsLink 20) (by_header k message (header_of message))))) (sym again) (by (not (eqb (word_at 4 message) 1))))
   where
     by : (other : Bool) → VerdictReason (cond other OtherVersion (by_header k message (header_of message)))
     by true = tt
@@ -154,6 +154,7 @@ refused-tagged k f last opcode stag to payload is = subst (λ (r : Result Segmen
   where
     t : ServerState
     t = with_access k f (Tagged last opcode stag to payload)
+
     by : (b : Bool) → Refusal (cond b (response_effect t f.end k.reads) (no_effect t)).refusal
     by true = refused-response t f.end k.reads
     by false = tt
@@ -166,14 +167,14 @@ refused-send k f message none kind again is =
     let whole : List ℕ = begun_bytes k.received.begun ++ message in
     let same : message ≡ whole = ap (λ (b : Option (List ℕ)). begun_bytes b ++ message) (sym none) in
     subst (λ (r : Result Segment ℕ). Refusal (effect_in k f r).refusal) (sym is)
-      (refused-message k f.end whole (verdict k whole)
-        (reason-verdict k whole (omega (arith, kind, ap (λ (xs : List ℕ). word_at 12 xs) same)) (ap (λ (xs : List ℕ). is_pending k (word_at 0 xs)) (sym same) ∙ again)))
+    (refused-message k f.end whole (verdict k whole)
+    (reason-verdict k whole (omega (arith, kind, ap (λ (xs : List ℕ). word_at 12 xs) same)) (ap (λ (xs : List ℕ). is_pending k (word_at 0 xs)) (sym same) ∙ again)))
 
 call-end : (f : Frame) (refusal : Option ℕ) (end : End) → Refusal refusal → refusal_end f refusal ≡ Some end → IsCallEnd end
 call-end f None end h e = absurd cc
 call-end f (Some reason) end h e = (f.at, reason, cc, h)
 
--- ---- The frame of a piece
+-- ---- The frame of a frame
 
 pub record ServerStep (opened : LinkParameters) (k : ClientState) (s : ServerState) (u d all_up all_down : List FrameContent) (w : Transit) (p : FrameContent) (rest : List FrameContent) (f : Frame) : Type 0 where
   pub only : (end : End) → server_end opened s (FrameReceived f) ≡ Some end → IsCallEnd end
@@ -205,7 +206,7 @@ step-piece opened k s u d all_up all_down w place (SendFrame message) rest f o l
     let again = none-pending opened.first_xid s.received.sends (word_at 0 message) s.calls g.numbers l.waits.calls_below xid in
     by-takes opened k s u d all_up all_down w (SendFrame message) rest f (refused-send s f message l.counts.whole_up fine.3 again reads) (takes-send opened k s u d all_up all_down w place message rest f o l g first piece bytes is lt)
 step-piece opened k s u d all_up all_down w place (RequestFrame sink at size stag to) rest f o l g first proper piece bytes is lt =
-    absurd (omega (arith, l.no_reads, ap (total_of requests_in) l.parts_up, count-append requests_in u (w.up ++ w.queued_up), count-append requests_in w.up w.queued_up, ap (total_of requests_in) first))
+    absurd (omega (arith, l.no_reads, ap (total_of requests_in) l.parts_up, total-append requests_in u (w.up ++ w.queued_up), total-append requests_in w.up w.queued_up, ap (total_of requests_in) first))
 step-piece opened k s u d all_up all_down w place (TaggedFrame last opcode stag to payload) rest f o l g first proper piece bytes is lt =
     let reads : frame_segment f ≡ Ok (Tagged last opcode stag to payload) = segment-is s.received.sends s.received.requests f (TaggedFrame last opcode stag to payload) (Tagged last opcode stag to payload) piece refl in
     by-takes opened k s u d all_up all_down w (TaggedFrame last opcode stag to payload) rest f (refused-tagged s f last opcode stag to payload reads) (takes-tagged opened k s u d all_up all_down w place last opcode stag to payload rest f o l g first piece lt)
@@ -231,5 +232,5 @@ step-up opened k s (q ∷ u) d all_up all_down w p rest n r place o l g first se
     let n_is : n ≡ s.received.sends = sends ∙ sym l.sends_up in
     let r_is : r ≡ s.received.requests = requests ∙ sym l.requests_up in
     step-piece opened k s (q ∷ u) d all_up all_down w place p rest f o l g first proper
-      (subst (λ (x : ℕ). Carries x s.received.requests f p) n_is (subst (λ (x : ℕ). Carries n x f p) r_is (is-piece Initiator n r place p (proper_one n r p proper) at)))
-      bytes (λ i. frame_bytes Initiator (numbered_segment (n_is i) (r_is i) p)) (omega (arith, some))
+    (subst (λ (x : ℕ). Carries x s.received.requests f p) n_is (subst (λ (x : ℕ). Carries n x f p) r_is (is-piece Initiator n r place p (proper_one n r p proper) at)))
+    bytes (λ i. frame_bytes Initiator (numbered_segment (n_is i) (r_is i) p)) (omega (arith, some))

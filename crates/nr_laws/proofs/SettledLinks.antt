@@ -1,4 +1,4 @@
--- On a link where nothing is left to do, nothing is queued or under way; so no call is outstanding, and each has its outcome.
+-- On a link where nothing is left to do, nothing is queued or in transit; so no call is outstanding, and each has its outcome.
 use Rattle.std.proofs.Common.{◌≡◌, ℕ, ◌+◌, Bool, true, false, cond, not, ◌||◌, eqb, List, [], ◌∷◌, ◌++◌, length, map, filter, None, refl, sym, ap, subst, ◌∙◌, arith, append_assoc, append-nil, length-append}
 use Rattle.std.specs.Prelude.{slice_get, Contains}
 use Rattle.std.specs.List.{concat, flat_map, AllByRecursion}
@@ -33,7 +33,7 @@ use Rattle.nr_laws.proofs.EachRun.{joins}
 use Rattle.nr_laws.proofs.AccountedCalls.{IsAccounted, is_outstanding, has_outcome}
 use Rattle.nr_laws.proofs.AccountedRuns.{gone_in, accounts}
 
--- ---- A stream tells its pieces
+-- ---- A stream tells its frames
 
 are-frames : (side : Side) (a : Awaited) (n r : ℕ) (ps : List FrameContent) → IsOf side a → AreWritableFrom a n r ps → AreFrames a (frames_at side n r ps)
 are-frames side a n r [] of h = tt
@@ -58,7 +58,7 @@ nothing-behind : (ps qs : List FrameContent) → length ps ≡ length (ps ++ qs)
 nothing-behind ps [] e = refl
 nothing-behind ps (q ∷ qs) e = absurd (omega (arith, e, length-append ps (q ∷ qs)))
 
--- all that was said was received
+-- all that was sent was received
 record AllArrived (u all : List FrameContent) (under_way queued : List FrameContent) : Type 0 where
   under_way_none : under_way ≡ []
   queued_none : queued ≡ []
@@ -68,9 +68,9 @@ empties : (side : Side) (received sent due : List ℕ) (u under_way queued all :
 empties side received sent due u under_way queued all stream parts frames is_sent is_due got wrote =
     let front : IsOutput (u ++ under_way) = stream-left (u ++ under_way) queued (subst IsOutput (sym parts ∙ sym (append_assoc u under_way queued)) stream) in
     let one : frames_at side 0 0 u ≡ frames_at side 0 0 (u ++ under_way) =
-        sym frames ∙ ap (λ (xs : List ℕ). (split (HelloFrom side) xs).frames) (got ∙ is_sent) ∙ stream-frames side (u ++ under_way) front in
+    sym frames ∙ ap (λ (xs : List ℕ). (split (HelloFrom side) xs).frames) (got ∙ is_sent) ∙ stream-frames side (u ++ under_way) front in
     let two : frames_at side 0 0 (u ++ under_way) ≡ frames_at side 0 0 all =
-        sym (stream-frames side (u ++ under_way) front) ∙ ap (λ (xs : List ℕ). (split (HelloFrom side) xs).frames) (sym is_sent ∙ wrote ∙ is_due) ∙ stream-frames side all stream in
+    sym (stream-frames side (u ++ under_way) front) ∙ ap (λ (xs : List ℕ). (split (HelloFrom side) xs).frames) (sym is_sent ∙ wrote ∙ is_due) ∙ stream-frames side all stream in
     record {
       under_way_none = nothing-behind u under_way (as-many side u (u ++ under_way) one);
       queued_none = nothing-behind (u ++ under_way) queued (as-many side (u ++ under_way) all two ∙ ap (λ (ps : List FrameContent). length ps) (sym parts ∙ sym (append_assoc u under_way queued)));
@@ -85,9 +85,9 @@ unfolding end_of_side next_call
 none-outstanding opened link run typed asked served matched settled =
     let j = joins opened link run asked.each served.each matched typed settled.client_stays settled.server_stays in
     let up = empties Initiator (bytes_received link Responder run) (bytes_sent link Initiator run) (output_due opened link Initiator run) j.u j.w.up j.w.queued_up j.all_up
-        j.linked.stream_up j.linked.parts_up j.frames_up j.sent_up j.due_up settled.up asked.written in
+    j.linked.stream_up j.linked.parts_up j.frames_up j.sent_up j.due_up settled.up asked.written in
     let down = empties Responder (bytes_received link Initiator run) (bytes_sent link Responder run) (output_due opened link Responder run) j.d j.w.down j.w.queued_down j.all_down
-        j.linked.stream_down j.linked.parts_down j.frames_down j.sent_down j.due_down settled.down served.written in
+    j.linked.stream_down j.linked.parts_down j.frames_down j.sent_down j.due_down settled.down served.written in
     let way : j.w ≡ nothing_in_transit = λ i. record { queued_up = up.queued_none i; up = up.under_way_none i; queued_down = down.queued_none i; down = down.under_way_none i } in
     let ready : j.s.ready ≡ [] = none-ready j.s.ready (ap (λ (r : EndState ServerState). first_ready r.state.ready r.ended) (sym j.server_is) ∙ settled.executed) in
     ap (λ (r : EndState ClientState). r.state.outstanding) j.client_is
@@ -124,7 +124,7 @@ outcome-of opened link run stays none a kept =
     let k = (client opened link run).state in
     let h = of-call (IsAccounted (gone_in link run) k) (accepted_calls link run) a (accounts opened link run stays).each kept.accepted in
     left-over (has_outcome k.outcomes a.xid) (gone_in link run a.xid)
-      (ap (λ (os : List OutstandingCall). is_outstanding os a.xid || (has_outcome k.outcomes a.xid || gone_in link run a.xid)) (sym none) ∙ h) kept.kept
+    (ap (λ (os : List OutstandingCall). is_outstanding os a.xid || (has_outcome k.outcomes a.xid || gone_in link run a.xid)) (sym none) ∙ h) kept.kept
 
 -- ---- What is handed over
 
@@ -152,9 +152,11 @@ tested g xid (c ∷ calls) e some = by (eqb c.xid xid) refl e some (tested g xid
   where
     rest : List CompletedCall
     rest = filter (λ (x : CompletedCall). eqb x.xid xid) calls
+
     passed : (b : Bool) (more : List CompletedCall) → cond (not b) (c ∷ more) more ≡ [] → b ≡ true
     passed true more e = refl
     passed false more e = absurd cc
+
     by : (b : Bool) → eqb c.xid xid ≡ b → filter (λ (x : CompletedCall). not (g x.xid)) (cond b (c ∷ rest) rest) ≡ [] → (b || has_outcome calls xid) ≡ true
         → (filter (λ (x : CompletedCall). not (g x.xid)) rest ≡ [] → has_outcome calls xid ≡ true → g xid ≡ true) → g xid ≡ true
     by true is e some later = ap g (sym (eqb-true c.xid xid is)) ∙ passed (g c.xid) (filter (λ (x : CompletedCall). not (g x.xid)) rest) e
@@ -171,14 +173,15 @@ handed-over opened link run none a kept some =
     let g : ℕ → Bool = λ x. is_abandoned link x run || is_completed link x run in
     let each = none-each (λ (c : CompletedCall). not (g c.xid)) (outcomes_of_call outs) (accepted_calls link run) none in
     let one : filter (λ (c : CompletedCall). not (g c.xid)) (outcomes_of_call outs a) ≡ [] =
-        All-contains (λ (x : AcceptedCall). filter (λ (c : CompletedCall). not (g c.xid)) (outcomes_of_call outs x) ≡ []) (accepted_calls link run) a
-          (All-from_recursion (λ (x : AcceptedCall). filter (λ (c : CompletedCall). not (g c.xid)) (outcomes_of_call outs x) ≡ []) (accepted_calls link run) each) kept.accepted in
+    All-contains (λ (x : AcceptedCall). filter (λ (c : CompletedCall). not (g c.xid)) (outcomes_of_call outs x) ≡ []) (accepted_calls link run) a
+    (All-from_recursion (λ (x : AcceptedCall). filter (λ (c : CompletedCall). not (g c.xid)) (outcomes_of_call outs x) ≡ []) (accepted_calls link run) each) kept.accepted in
     other-of (is_abandoned link a.xid run) (is_completed link a.xid run) (tested g a.xid outs one some) kept.kept
 
 pub calls-complete : CallsComplete
 unfolding end_of_side calls_outstanding
 calls-complete opened link run typed asked served matched settled =
-    let none = none-outstanding opened link run typed asked served matched settled in
-    (ap (λ (os : List OutstandingCall). length os) none,
+    let none = none-outstanding opened link run typed asked served matched settled in (
+      ap (λ (os : List OutstandingCall). length os) none,
       (λ a kept. some-outcome (client opened link run).state.outcomes a.xid (outcome-of opened link run settled.client_stays none a kept)),
-      (λ due a kept. some-outcome (completed_calls link run) a.xid (handed-over opened link run due a kept (outcome-of opened link run settled.client_stays none a kept))))
+      (λ due a kept. some-outcome (completed_calls link run) a.xid (handed-over opened link run due a kept (outcome-of opened link run settled.client_stays none a kept))),
+    )

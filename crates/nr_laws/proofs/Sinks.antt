@@ -19,7 +19,7 @@ found : (end : ℕ) (stag to n : ℕ) (g : Region) (rest : Option Grant) → g.s
     → denial_in (grant_offer (cond (applies stag end (region_grant end g)) (Some (region_grant end g)) rest)) (access stag to n) ≡ None
 found end stag to n g rest same lives right before room =
     let live : applies stag end (region_grant end g) ≡ true =
-        (λ i. eq-eqb g.stag stag same i && (lt-ltb g.from end before i && leb end (until_or end (lives i)))) ∙ le-leb end end (omega arith) in
+    (λ i. eq-eqb g.stag stag same i && (lt-ltb g.from end before i && leb end (until_or end (lives i)))) ∙ le-leb end end (omega arith) in
     ap (λ (b : Bool). denial_in (grant_offer (cond b (Some (region_grant end g)) rest)) (access stag to n)) live
     ∙ (λ i. cond (le-ltb (length g.bytes) (to + n) room i) (Some Bounds) (cond (same_right (right i) Sink) None (Some WrongRight)))
 
@@ -58,6 +58,7 @@ not-over calls reads r g call position there = by (list_any (λ (c : PendingCall
   where
     at : list_any (λ (x : PendingRead). eqb x.number g.call && eqb x.position g.position) reads ≡ true
     at = (λ i. list_any (λ (x : PendingRead). eqb x.number (call i) && eqb x.position (position i)) reads) ∙ there
+
     by : (b : Bool) → cond b (is_read reads g.call) (is_read_at reads g.call g.position) ≡ false
     by true = ap (λ (b : Bool). not b) (any_first (λ (x : PendingRead). eqb x.number g.call) (λ (x : PendingRead). eqb x.position g.position) reads at)
     by false = ap (λ (b : Bool). not b) at

@@ -1,4 +1,4 @@
--- The frames of the first bytes of what a side says are the hello and the segments of its first pieces.
+-- The frames of the first bytes of a side's output are its hello and the segments of its first frame contents.
 use Rattle.std.proofs.Common.{◌≡◌, ℕ, suc, ◌+◌, ◌≤◌, ◌<◌, Bool, true, false, cond, ◌⊎◌, inl, inr, List, [], ◌∷◌, ◌++◌, length, take, drop, Option, None, Some, Result, Ok, Err, refl, sym, ap, subst, ◌∙◌, arith, append_assoc, append-nil, length-drop, take-append-drop, take_all, add-zero, lit≤}
 use Rattle.std.specs.List.{concat}
 use Rattle.std.proofs.lemmas.Bool.{cases_lt}
@@ -32,12 +32,12 @@ IsWritableAs (HelloFrom side) (Some segment) = ⊥
 IsWritableAs Fpdu None = ⊥
 IsWritableAs Fpdu (Some segment) = HasWords segment
 
--- the first piece of a side is its hello, and no other; each other is a segment whose numbers are words
+-- the first frame of a side is its hello, and no other; each other is a segment whose numbers are words
 abbrev pub AreWritableFrom : Awaited → (sends requests : ℕ) → List FrameContent → Type 0
 AreWritableFrom a n r [] = Unit {0}
 AreWritableFrom a n r (p ∷ ps) = IsWritableAs a (numbered_segment n r p) × AreWritableFrom Fpdu (n + sends_in p) (r + requests_in p) ps
 
--- the frames of pieces
+-- the frames of frames
 abbrev pub frames_at : Side → (sends requests : ℕ) → List FrameContent → List (List ℕ)
 frames_at side n r [] = []
 frames_at side n r (p ∷ ps) = frame_bytes side (numbered_segment n r p) ∷ frames_at side (n + sends_in p) (r + requests_in p) ps
@@ -53,8 +53,8 @@ spelled-append side n r (p ∷ ps) qs =
     let more_n : n + sends_in p + total_of sends_in ps ≡ n + (sends_in p + total_of sends_in ps) = omega arith in
     let more_r : r + requests_in p + total_of requests_in ps ≡ r + (requests_in p + total_of requests_in ps) = omega arith in
     ap (λ (xs : List ℕ). front ++ xs)
-      (spelled-append side (n + sends_in p) (r + requests_in p) ps qs
-      ∙ (λ i. output_bytes side (n + sends_in p) (r + requests_in p) ps ++ output_bytes side (more_n i) (more_r i) qs))
+    (spelled-append side (n + sends_in p) (r + requests_in p) ps qs
+    ∙ (λ i. output_bytes side (n + sends_in p) (r + requests_in p) ps ++ output_bytes side (more_n i) (more_r i) qs))
     ∙ sym (append_assoc front (output_bytes side (n + sends_in p) (r + requests_in p) ps) (output_bytes side (n + total_of sends_in (p ∷ ps)) (r + total_of requests_in (p ∷ ps)) qs))
 
 pub frames-append : (side : Side) (n r : ℕ) (ps qs : List FrameContent) → frames_at side n r (ps ++ qs) ≡ frames_at side n r ps ++ frames_at side (n + total_of sends_in ps) (r + total_of requests_in ps) qs
@@ -63,8 +63,8 @@ frames-append side n r (p ∷ ps) qs =
     let more_n : n + sends_in p + total_of sends_in ps ≡ n + (sends_in p + total_of sends_in ps) = omega arith in
     let more_r : r + requests_in p + total_of requests_in ps ≡ r + (requests_in p + total_of requests_in ps) = omega arith in
     ap (λ (xs : List (List ℕ)). frame_bytes side (numbered_segment n r p) ∷ xs)
-      (frames-append side (n + sends_in p) (r + requests_in p) ps qs
-      ∙ (λ i. frames_at side (n + sends_in p) (r + requests_in p) ps ++ frames_at side (more_n i) (more_r i) qs))
+    (frames-append side (n + sends_in p) (r + requests_in p) ps qs
+    ∙ (λ i. frames_at side (n + sends_in p) (r + requests_in p) ps ++ frames_at side (more_n i) (more_r i) qs))
 
 pub length-frames : (side : Side) (n r : ℕ) (ps : List FrameContent) → length (frames_at side n r ps) ≡ length ps
 length-frames side n r [] = refl
@@ -131,7 +131,7 @@ proper-frame side Fpdu (Some segment) is h = (spelling-is segment h).is_frame
 frame-some : (a : Awaited) (frame : List ℕ) → IsFrame a frame → 0 < length frame
 frame-some a frame f = omega (arith, f.fields, fields_some a)
 
--- ---- The first bytes of pieces
+-- ---- The first bytes of frames
 
 pub record FirstFrames (side : Side) (a : Awaited) (n r : ℕ) (ps : List FrameContent) (x y : List ℕ) : Type 0 where
   pub came : List FrameContent
@@ -160,6 +160,7 @@ behind (b ∷ frame) more (c ∷ x) y le e =
   where
     head_same : (c b : ℕ) (xs ys : List ℕ) → c ∷ xs ≡ b ∷ ys → c ≡ b
     head_same c b xs ys e = cc
+
     cons_same : (c b : ℕ) → c ≡ b → (xs ys : List ℕ) → xs ≡ ys → c ∷ xs ≡ b ∷ ys
     cons_same c b e xs ys f = λ i. e i ∷ f i
 
@@ -167,7 +168,7 @@ behind (b ∷ frame) more (c ∷ x) y le e =
 short : (frame more x y : List ℕ) → length x < length frame → x ++ y ≡ frame ++ more → x ++ drop (length x) frame ≡ frame
 short frame more x y lt e =
     let same : take (length x) frame ≡ x =
-        sym (take-append-le (length x) frame more (omega (arith, lt))) ∙ ap (λ (xs : List ℕ). take (length x) xs) (sym e) ∙ take-append-le (length x) x y (omega arith) ∙ take_all (length x) x (omega arith) in
+    sym (take-append-le (length x) frame more (omega (arith, lt))) ∙ ap (λ (xs : List ℕ). take (length x) xs) (sym e) ∙ take-append-le (length x) x y (omega arith) ∙ take_all (length x) x (omega arith) in
     ap (λ (xs : List ℕ). xs ++ drop (length x) frame) (sym same) ∙ take-append-drop (length x) frame
 
 pub front : (side : Side) (a : Awaited) (n r : ℕ) (ps : List FrameContent) (x y : List ℕ) → IsOf side a → AreWritableFrom a n r ps → x ++ y ≡ output_bytes side n r ps → FirstFrames side a n r ps x y
@@ -186,10 +187,13 @@ front side a n r (p ∷ ps) x y of proper e =
   where
     frame : List ℕ
     frame = frame_bytes side (numbered_segment n r p)
+
     is_frame : IsFrame a frame
     is_frame = proper-frame side a (numbered_segment n r p) of proper.0
+
     more : List ℕ
     more = output_bytes side (n + sends_in p) (r + requests_in p) ps
+
     by : (length x < length frame) ⊎ (length frame ≤ length x) → ((back : List ℕ) → back ++ y ≡ more → FirstFrames side Fpdu (n + sends_in p) (r + requests_in p) ps back y) → FirstFrames side a n r (p ∷ ps) x y
     by (inl lt) later =
         let whole = short frame more x y lt e in

@@ -1,4 +1,4 @@
--- Lists counted: what one element more or less makes of counts.
+-- How totals and lengths of lists change with one element.
 use Rattle.std.proofs.Common.{◌≡◌, ◌≢◌, ℕ, suc, ◌+◌, ◌≤◌, Bool, true, false, not, cond, ◌||◌, ◌&&◌, eqb, List, [], ◌∷◌, ◌++◌, length, map, take, drop, Option, Some, refl, sym, ap, ◌∙◌, arith, length-drop, subst}
 use Rattle.std.specs.Prelude.{find}
 use Rattle.std.specs.List.{filter, list_any}
@@ -6,17 +6,17 @@ use Rattle.std.proofs.lemmas.Bool.{ne_eqb, eqb-true}
 use Rattle.nr_laws.specs.FrameContents.{FrameContent, total_of}
 use Rattle.nr_laws.specs.LinkInvariants.{IsUnused, AreDistinct}
 
-pub count-append : (one : FrameContent → ℕ) (xs ys : List FrameContent) → total_of one (xs ++ ys) ≡ total_of one xs + total_of one ys
-count-append one [] ys = omega arith
-count-append one (x ∷ xs) ys = omega (arith, count-append one xs ys)
+pub total-append : (one : FrameContent → ℕ) (xs ys : List FrameContent) → total_of one (xs ++ ys) ≡ total_of one xs + total_of one ys
+total-append one [] ys = omega arith
+total-append one (x ∷ xs) ys = omega (arith, total-append one xs ys)
 
-pub count-map-zero : {X : Type 0} (one : FrameContent → ℕ) (f : X → FrameContent) (xs : List X) → ((x : X) → one (f x) ≡ 0) → total_of one (map f xs) ≡ 0
-count-map-zero one f [] h = refl
-count-map-zero one f (x ∷ xs) h = omega (arith, h x, count-map-zero one f xs h)
+pub total-map-zero : {X : Type 0} (one : FrameContent → ℕ) (f : X → FrameContent) (xs : List X) → ((x : X) → one (f x) ≡ 0) → total_of one (map f xs) ≡ 0
+total-map-zero one f [] h = refl
+total-map-zero one f (x ∷ xs) h = omega (arith, h x, total-map-zero one f xs h)
 
-pub count-map-one : {X : Type 0} (one : FrameContent → ℕ) (f : X → FrameContent) (xs : List X) → ((x : X) → one (f x) ≡ 1) → total_of one (map f xs) ≡ length xs
-count-map-one one f [] h = refl
-count-map-one one f (x ∷ xs) h = omega (arith, h x, count-map-one one f xs h)
+pub total-map-one : {X : Type 0} (one : FrameContent → ℕ) (f : X → FrameContent) (xs : List X) → ((x : X) → one (f x) ≡ 1) → total_of one (map f xs) ≡ length xs
+total-map-one one f [] h = refl
+total-map-one one f (x ∷ xs) h = omega (arith, h x, total-map-one one f xs h)
 
 -- ---- keys
 

@@ -1,4 +1,4 @@
--- Counts are kept by what happens at the server.
+-- Totals agree behind each event of the server.
 use Rattle.std.proofs.Common.{◌≡◌, ℕ, ◌+◌, ◌-◌, ◌≤◌, ◌<◌, Bool, true, false, not, cond, ◌&&◌, eqb, List, [], ◌∷◌, ◌++◌, length, map, take, drop, Option, None, Some, Result, Ok, refl, sym, ap, subst, ◌∙◌, arith, eqb-true, length-append, length-take}
 use Rattle.std.specs.Prelude.{find, min}
 use Rattle.std.specs.List.{filter, list_any, range_with_len}
@@ -31,7 +31,7 @@ use Rattle.nr_reduce.specs.Holds.{Answer, answer_message, chunk_error, first_chu
 use Rattle.nr_laws.specs.FrameContents.{FrameContent, Carries, numbered_segment, total_of, sends_in, requests_in, responses_in, hellos_in, one_if_response, effect_frames, request_frame, write_frames, answer_frames, tagged_frames, tagged_frame, server_frames}
 use Rattle.nr_laws.specs.FrameContents.FrameContent.{HelloFrame, SendFrame, TaggedFrame}
 use Rattle.nr_laws.specs.LinkInvariants.{Transit, TotalsAgree, AreDistinct}
-use Rattle.nr_laws.proofs.Totals.{count-append, count-map-zero, count-map-one, others, length-fewer, any_found, length-newly}
+use Rattle.nr_laws.proofs.Totals.{total-append, total-map-zero, total-map-one, others, length-fewer, any_found, length-newly}
 
 -- ---- What a step counts: the calls and error messages of so many Sends more, and how many reads stay open
 
@@ -93,11 +93,13 @@ shape-read k c_k place r (Some c) st kept same none apart is h =
   where
     number_is : c.number ≡ r.number
     number_is = found_has (λ (c : PendingCall). c.number) r.number k.calls c is
+
     fewer : length (others (λ (c : PendingCall). c.number) c.number st.calls) + 1 ≡ length k.calls
     fewer =
         ap (λ (cs : List PendingCall). length (others (λ (c : PendingCall). c.number) c.number cs) + 1) same
         ∙ length-fewer (λ (c : PendingCall). c.number) c.number k.calls apart
-          (ap (λ (n : ℕ). list_any (λ (c : PendingCall). eqb c.number n) k.calls) number_is ∙ any_found (λ (c : PendingCall). eqb c.number r.number) k.calls c is)
+        (ap (λ (n : ℕ). list_any (λ (c : PendingCall). eqb c.number n) k.calls) number_is ∙ any_found (λ (c : PendingCall). eqb c.number r.number) k.calls c is)
+
     by : (b : Bool) → EffectTotals k (cond b (with_refused_call c_k c st) (ready_if_whole c_k place c st)) 0 kept
     by true = record {
       counted = omega (arith, fewer);
@@ -106,22 +108,22 @@ shape-read k c_k place r (Some c) st kept same none apart is h =
     }
     by false = shape-whole k c_k place c st 0 kept h
 
--- ---- What the server says by a step
+-- ---- What the server sends by a step
 
 sends-said : (st : FrameEffect) → total_of sends_in (effect_frames st) ≡ length st.errors
 sends-said st =
-    count-append sends_in (map SendFrame st.errors) (map request_frame (newly_open_reads st))
-    ∙ omega (arith, count-map-one sends_in SendFrame st.errors (λ x. refl), count-map-zero sends_in request_frame (newly_open_reads st) (λ x. refl))
+    total-append sends_in (map SendFrame st.errors) (map request_frame (newly_open_reads st))
+    ∙ omega (arith, total-map-one sends_in SendFrame st.errors (λ x. refl), total-map-zero sends_in request_frame (newly_open_reads st) (λ x. refl))
 
 pub reads-said : (st : FrameEffect) → total_of requests_in (effect_frames st) ≡ length (newly_open_reads st)
 reads-said st =
-    count-append requests_in (map SendFrame st.errors) (map request_frame (newly_open_reads st))
-    ∙ omega (arith, count-map-zero requests_in SendFrame st.errors (λ x. refl), count-map-one requests_in request_frame (newly_open_reads st) (λ x. refl))
+    total-append requests_in (map SendFrame st.errors) (map request_frame (newly_open_reads st))
+    ∙ omega (arith, total-map-zero requests_in SendFrame st.errors (λ x. refl), total-map-one requests_in request_frame (newly_open_reads st) (λ x. refl))
 
 pub hello-said : (st : FrameEffect) → total_of hellos_in (effect_frames st) ≡ 0
 hello-said st =
-    count-append hellos_in (map SendFrame st.errors) (map request_frame (newly_open_reads st))
-    ∙ omega (arith, count-map-zero hellos_in SendFrame st.errors (λ x. refl), count-map-zero hellos_in request_frame (newly_open_reads st) (λ x. refl))
+    total-append hellos_in (map SendFrame st.errors) (map request_frame (newly_open_reads st))
+    ∙ omega (arith, total-map-zero hellos_in SendFrame st.errors (λ x. refl), total-map-zero hellos_in request_frame (newly_open_reads st) (λ x. refl))
 
 -- ---- Counts behind a frame
 
@@ -139,17 +141,17 @@ record FrameTotals (s t : ServerState) (st : FrameEffect) (up rest : List FrameC
   up_responses : total_of responses_in up ≡ gone + total_of responses_in rest
   up_hello : total_of hellos_in up ≡ total_of hellos_in rest
 
-counts-moved : (opened : LinkParameters) (k : ClientState) (s t : ServerState) (w : Transit) (st : FrameEffect) (rest : List FrameContent) (new kept gone : ℕ) → TotalsAgree k s w → FrameTotals s t st w.up rest new kept gone
+totals-moved : (opened : LinkParameters) (k : ClientState) (s t : ServerState) (w : Transit) (st : FrameEffect) (rest : List FrameContent) (new kept gone : ℕ) → TotalsAgree k s w → FrameTotals s t st w.up rest new kept gone
     → TotalsAgree k t (record { queued_up = w.queued_up; up = rest; queued_down = w.queued_down ++ effect_frames st; down = w.down })
-counts-moved opened k s t w st rest new kept gone c m =
+totals-moved opened k s t w st rest new kept gone c m =
     let sends = sends-said st in
-    let sends_all = count-append sends_in w.queued_down (effect_frames st) in
+    let sends_all = total-append sends_in w.queued_down (effect_frames st) in
     let reads = reads-said st in
-    let reads_all = count-append requests_in w.queued_down (effect_frames st) in
+    let reads_all = total-append requests_in w.queued_down (effect_frames st) in
     let newly : st.kept + length (newly_open_reads st) ≡ length (take open_reads_max st.reads) =
-        length-newly open_reads_max st.kept st.reads (subst (λ (n : ℕ). n ≤ length (take open_reads_max st.reads)) (sym m.shape.kept_is) m.shape.kept_there) in
+    length-newly open_reads_max st.kept st.reads (subst (λ (n : ℕ). n ≤ length (take open_reads_max st.reads)) (sym m.shape.kept_is) m.shape.kept_there) in
     record {
-      hello = omega (arith, c.hello, m.up_hello, hello-said st, count-append hellos_in w.queued_down (effect_frames st));
+      hello = omega (arith, c.hello, m.up_hello, hello-said st, total-append hellos_in w.queued_down (effect_frames st));
       calls_up = omega (arith, c.calls_up, m.sends, m.up_sends);
       messages_down = omega (arith, c.messages_down, m.answers, sends, sends_all);
       written = omega (arith, c.written, m.written);
@@ -161,7 +163,7 @@ counts-moved opened k s t w st rest new kept gone c m =
       responses = c.responses;
     }
 
--- the state behind a frame, by what the frame says
+-- the state behind a frame, by the segment that the frame holds
 abbrev pub with_by : ServerState → Frame → Result Segment ℕ → FrameEffect → ServerState
 with_by k f r st = record {
   received = received_by k.received r;
@@ -188,12 +190,12 @@ step-is s f r is = λ i. effect_in s f (is i)
 pub segment-is : (n r : ℕ) (f : Frame) (p : FrameContent) (segment : Segment) → Carries n r f p → numbered_segment n r p ≡ Some segment → frame_segment f ≡ Ok segment
 segment-is n r f p segment is e = is.reads ∙ ap (λ (s : Segment). Ok s) (same_Some _ _ (sym is.is_segment ∙ e))
 
--- ---- A Send comes to the server
+-- ---- The server receives a Send
 
-pub counts-send_up : (opened : LinkParameters) (k : ClientState) (s : ServerState) (w : Transit) (f : Frame) (message : List ℕ) (rest : List FrameContent) → TotalsAgree k s w → w.up ≡ SendFrame message ∷ rest
+pub totals-send_up : (opened : LinkParameters) (k : ClientState) (s : ServerState) (w : Transit) (f : Frame) (message : List ℕ) (rest : List FrameContent) → TotalsAgree k s w → w.up ≡ SendFrame message ∷ rest
     → Carries s.received.sends s.received.requests f (SendFrame message) → (frame_effect s f).refusal ≡ None
     → TotalsAgree k (server_state_after opened s (FrameReceived f)) (record { queued_up = w.queued_up; up = rest; queued_down = w.queued_down ++ effect_frames (frame_effect s f); down = w.down })
-counts-send_up opened k s w f message rest c first p goes_on =
+totals-send_up opened k s w f message rest c first p goes_on =
     let segment : Segment = Untagged true OPCODE_SEND 0 QUEUE_SEND (msn_word (s.received.sends + 1)) 0 message in
     let is : frame_segment f ≡ Ok segment = segment-is s.received.sends s.received.requests f (SendFrame message) segment p refl in
     let whole : List ℕ = begun_bytes s.received.begun ++ message in
@@ -214,12 +216,12 @@ counts-send_up opened k s w f message rest c first p goes_on =
       up_hello = omega (arith, ap (total_of hellos_in) first);
     } in
     subst (λ (st2 : FrameEffect). TotalsAgree k (server_state_after opened s (FrameReceived f)) (record { queued_up = w.queued_up; up = rest; queued_down = w.queued_down ++ effect_frames st2; down = w.down }))
-      (sym (step-is s f (Ok segment) is))
-      (subst (λ (t2 : ServerState). TotalsAgree k t2 (record { queued_up = w.queued_up; up = rest; queued_down = w.queued_down ++ effect_frames st; down = w.down }))
-        (sym (after-is opened s f (Ok segment) p.behind is))
-        (counts-moved opened k s t w st rest 1 (length (open_reads s)) 0 c m))
+    (sym (step-is s f (Ok segment) is))
+    (subst (λ (t2 : ServerState). TotalsAgree k t2 (record { queued_up = w.queued_up; up = rest; queued_down = w.queued_down ++ effect_frames st; down = w.down }))
+    (sym (after-is opened s f (Ok segment) p.behind is))
+    (totals-moved opened k s t w st rest 1 (length (open_reads s)) 0 c m))
 
--- ---- A tagged segment comes to the server
+-- ---- The server receives a tagged segment
 
 shape-response : (s : ServerState) (f : Frame) (segment : Segment) (reads : List PendingRead) → s.reads ≡ reads → 0 < length (take open_reads_max reads) → AreDistinct (λ (c : PendingCall). c.number) s.calls
     → EffectTotals s (response_effect (with_access s f segment) f.end reads) 0 (length (take open_reads_max reads) - 1)
@@ -229,63 +231,69 @@ shape-response s f segment (r ∷ reads) is some apart =
     let st : FrameEffect = record (no_effect k) { reads = reads; kept = length (open_reads k) - 1 } in
     let kept_is : length (open_reads k) - 1 ≡ length (take open_reads_max (r ∷ reads)) - 1 = ap (λ (xs : List PendingRead). length (take open_reads_max xs) - 1) is in
     shape-read s k f.end r (call_of_number k r.number) st (length (take open_reads_max (r ∷ reads)) - 1) refl refl apart refl
-      (record { counted = omega arith; kept_is = kept_is; kept_there = taken-tail open_reads_max r reads })
+    (record { counted = omega arith; kept_is = kept_is; kept_there = taken-tail open_reads_max r reads })
 
 abbrev tagged_moves : ServerState → Frame → (last : Bool) → (opcode stag to : ℕ) → List ℕ → List FrameContent → List FrameContent → Bool → Type 0
 tagged_moves s f last opcode stag to payload up rest ends =
     (kept : ℕ) × (gone : ℕ) × FrameTotals s (with_by s f (Ok (Tagged last opcode stag to payload)) (cond ends (response_effect (with_access s f (Tagged last opcode stag to payload)) f.end s.reads) (no_effect (with_access s f (Tagged last opcode stag to payload)))))
-      (cond ends (response_effect (with_access s f (Tagged last opcode stag to payload)) f.end s.reads) (no_effect (with_access s f (Tagged last opcode stag to payload))))
-      up rest 0 kept gone
+    (cond ends (response_effect (with_access s f (Tagged last opcode stag to payload)) f.end s.reads) (no_effect (with_access s f (Tagged last opcode stag to payload))))
+    up rest 0 kept gone
 
 moves-tagged : (s : ServerState) (f : Frame) (last : Bool) (opcode stag to : ℕ) (payload : List ℕ) (up rest : List FrameContent) (ends : Bool) → (opcode_ends : (eqb opcode OPCODE_READ_RESPONSE && last) ≡ ends)
     → up ≡ TaggedFrame last opcode stag to payload ∷ rest → s.received.begun ≡ None → total_of responses_in up ≤ length (open_reads s) → AreDistinct (λ (c : PendingCall). c.number) s.calls
     → tagged_moves s f last opcode stag to payload up rest ends
 moves-tagged s f last opcode stag to payload up rest true is first begun few apart =
     let one : total_of responses_in up ≡ 1 + total_of responses_in rest = ap (total_of responses_in) first ∙ ap (λ (b : Bool). one_if_response b + total_of responses_in rest) is in
-    let some : 0 < length (take open_reads_max s.reads) = omega (arith, one, few) in
-    (length (open_reads s) - 1, 1, record {
-      shape = shape-response s f (Tagged last opcode stag to payload) s.reads refl some apart;
-      kept_gone = omega (arith, some);
-      sends = omega arith;
-      begun = begun;
-      answers = refl;
-      written = refl;
-      calls = refl;
-      opened = refl;
-      up_sends = ap (total_of sends_in) first;
-      up_responses = one;
-      up_hello = omega (arith, ap (total_of hellos_in) first);
-    })
-moves-tagged s f last opcode stag to payload up rest false is first begun few apart =
-    (length (open_reads s), 0, record {
-      shape = record { counted = omega arith; kept_is = refl; kept_there = omega arith };
-      kept_gone = omega arith;
-      sends = omega arith;
-      begun = begun;
-      answers = omega arith;
-      written = refl;
-      calls = refl;
-      opened = refl;
-      up_sends = ap (total_of sends_in) first;
-      up_responses = ap (total_of responses_in) first ∙ ap (λ (b : Bool). one_if_response b + total_of responses_in rest) is;
-      up_hello = omega (arith, ap (total_of hellos_in) first);
-    })
+    let some : 0 < length (take open_reads_max s.reads) = omega (arith, one, few) in (
+      length (open_reads s) - 1,
+      1,
+      record {
+        shape = shape-response s f (Tagged last opcode stag to payload) s.reads refl some apart;
+        kept_gone = omega (arith, some);
+        sends = omega arith;
+        begun = begun;
+        answers = refl;
+        written = refl;
+        calls = refl;
+        opened = refl;
+        up_sends = ap (total_of sends_in) first;
+        up_responses = one;
+        up_hello = omega (arith, ap (total_of hellos_in) first);
+      },
+    )
+moves-tagged s f last opcode stag to payload up rest false is first begun few apart = (
+  length (open_reads s),
+  0,
+  record {
+    shape = record { counted = omega arith; kept_is = refl; kept_there = omega arith };
+    kept_gone = omega arith;
+    sends = omega arith;
+    begun = begun;
+    answers = omega arith;
+    written = refl;
+    calls = refl;
+    opened = refl;
+    up_sends = ap (total_of sends_in) first;
+    up_responses = ap (total_of responses_in) first ∙ ap (λ (b : Bool). one_if_response b + total_of responses_in rest) is;
+    up_hello = omega (arith, ap (total_of hellos_in) first);
+  },
+)
 
-pub counts-tagged_up : (opened : LinkParameters) (k : ClientState) (s : ServerState) (w : Transit) (f : Frame) (last : Bool) (opcode stag to : ℕ) (payload : List ℕ) (rest : List FrameContent) → TotalsAgree k s w
+pub totals-tagged_up : (opened : LinkParameters) (k : ClientState) (s : ServerState) (w : Transit) (f : Frame) (last : Bool) (opcode stag to : ℕ) (payload : List ℕ) (rest : List FrameContent) → TotalsAgree k s w
     → AreDistinct (λ (c : PendingCall). c.number) s.calls → w.up ≡ TaggedFrame last opcode stag to payload ∷ rest
     → Carries s.received.sends s.received.requests f (TaggedFrame last opcode stag to payload)
     → TotalsAgree k (server_state_after opened s (FrameReceived f)) (record { queued_up = w.queued_up; up = rest; queued_down = w.queued_down ++ effect_frames (frame_effect s f); down = w.down })
-counts-tagged_up opened k s w f last opcode stag to payload rest c apart first p =
+totals-tagged_up opened k s w f last opcode stag to payload rest c apart first p =
     let segment : Segment = Tagged last opcode stag to payload in
     let is : frame_segment f ≡ Ok segment = segment-is s.received.sends s.received.requests f (TaggedFrame last opcode stag to payload) segment p refl in
     let st = effect_in s f (Ok segment) in
     let t = with_by s f (Ok segment) st in
     let m = moves-tagged s f last opcode stag to payload w.up rest (eqb opcode OPCODE_READ_RESPONSE && last) refl first c.whole_up (omega (arith, c.reads)) apart in
     subst (λ (st2 : FrameEffect). TotalsAgree k (server_state_after opened s (FrameReceived f)) (record { queued_up = w.queued_up; up = rest; queued_down = w.queued_down ++ effect_frames st2; down = w.down }))
-      (sym (step-is s f (Ok segment) is))
-      (subst (λ (t2 : ServerState). TotalsAgree k t2 (record { queued_up = w.queued_up; up = rest; queued_down = w.queued_down ++ effect_frames st; down = w.down }))
-        (sym (after-is opened s f (Ok segment) p.behind is))
-        (counts-moved opened k s t w st rest 0 m.0 m.1 c m.2))
+    (sym (step-is s f (Ok segment) is))
+    (subst (λ (t2 : ServerState). TotalsAgree k t2 (record { queued_up = w.queued_up; up = rest; queued_down = w.queued_down ++ effect_frames st; down = w.down }))
+    (sym (after-is opened s f (Ok segment) p.behind is))
+    (totals-moved opened k s t w st rest 0 m.0 m.1 c m.2))
 
 -- ---- The server executes a call, and writes
 
@@ -293,12 +301,12 @@ pub fills-none : (one : FrameContent → ℕ) → ((last : Bool) (stag to : ℕ)
 unfolding tagged_frames
 fills-none one none [] bytes = refl
 fills-none one none (p ∷ chunk) bytes =
-    count-append one (cond (eqb (min p.length (length bytes)) 0) [] (tagged_frames OPCODE_WRITE p.handle p.offset (take p.length bytes))) (write_frames chunk (drop p.length bytes))
+    total-append one (cond (eqb (min p.length (length bytes)) 0) [] (tagged_frames OPCODE_WRITE p.handle p.offset (take p.length bytes))) (write_frames chunk (drop p.length bytes))
     ∙ omega (arith, fills-none one none chunk (drop p.length bytes), by (eqb (min p.length (length bytes)) 0))
   where
     by : (b : Bool) → total_of one (cond b [] (tagged_frames OPCODE_WRITE p.handle p.offset (take p.length bytes))) ≡ 0
     by true = refl
-    by false = count-map-zero one (tagged_frame OPCODE_WRITE p.handle p.offset (take p.length bytes)) (range_with_len 0 (segment_count (take p.length bytes))) (λ i. none _ _ _ _)
+    by false = total-map-zero one (tagged_frame OPCODE_WRITE p.handle p.offset (take p.length bytes)) (range_with_len 0 (segment_count (take p.length bytes))) (λ i. none _ _ _ _)
 
 pub long-none : (one : FrameContent → ℕ) → ((last : Bool) (stag to : ℕ) (payload : List ℕ) → one (TaggedFrame last OPCODE_WRITE stag to payload) ≡ 0) → (b : Bool) (chunk : List Part) (bytes : List ℕ) → total_of one (cond b (write_frames chunk bytes) []) ≡ 0
 long-none one none true chunk bytes = fills-none one none chunk bytes
@@ -311,65 +319,65 @@ answer-counts one n none is s xid offer (Some a) =
     let moved = write_frames (first_chunk offer.write) a.moved in
     let long = cond a.long (write_frames (no_segments offer.reply) a.stream) [] in
     let message = answer_message xid (credit_word s) offer a in
-    count-append one moved (long ++ (SendFrame message ∷ []))
-    ∙ omega (arith, count-append one long (SendFrame message ∷ []), fills-none one none (first_chunk offer.write) a.moved, long-none one none a.long (no_segments offer.reply) a.stream, is message)
+    total-append one moved (long ++ (SendFrame message ∷ []))
+    ∙ omega (arith, total-append one long (SendFrame message ∷ []), fills-none one none (first_chunk offer.write) a.moved, long-none one none a.long (no_segments offer.reply) a.stream, is message)
 
-pub counts-executes : (opened : LinkParameters) (k : ClientState) (s : ServerState) (w : Transit) (e : ExecutedCall) → TotalsAgree k s w
+pub totals-executes : (opened : LinkParameters) (k : ClientState) (s : ServerState) (w : Transit) (e : ExecutedCall) → TotalsAgree k s w
     → AreDistinct (λ (c : PendingCall). c.xid) s.calls → list_any (λ (c : PendingCall). eqb c.xid e.xid) s.calls ≡ true
     → TotalsAgree k (server_state_after opened s (CallExecuted e)) (record { queued_up = w.queued_up; up = w.up; queued_down = w.queued_down ++ server_frames opened s (CallExecuted e); down = w.down })
 unfolding server_state_after server_frames
-counts-executes opened k s w e c apart there =
+totals-executes opened k s w e c apart there =
     let offer = offer_of s e.xid in
     let answer = answer_of_target offer (down_max s) e.reply (target_of (call_of e.payload)) in
     let said = answer_frames s e.xid offer answer in
     let fewer = length-fewer (λ (c : PendingCall). c.xid) e.xid s.calls apart there in
     record {
-      hello = omega (arith, c.hello, count-append hellos_in w.queued_down said, answer-counts hellos_in 0 (λ last stag to payload. refl) (λ message. refl) s e.xid offer answer);
+      hello = omega (arith, c.hello, total-append hellos_in w.queued_down said, answer-counts hellos_in 0 (λ last stag to payload. refl) (λ message. refl) s e.xid offer answer);
       calls_up = c.calls_up;
-      messages_down = omega (arith, c.messages_down, count-append sends_in w.queued_down said, answer-counts sends_in 1 (λ last stag to payload. refl) (λ message. refl) s e.xid offer answer);
+      messages_down = omega (arith, c.messages_down, total-append sends_in w.queued_down said, answer-counts sends_in 1 (λ last stag to payload. refl) (λ message. refl) s e.xid offer answer);
       written = c.written;
       out = c.out;
       waiting = omega (arith, c.waiting, fewer);
       whole_up = c.whole_up;
       whole_down = c.whole_down;
-      reads = omega (arith, c.reads, count-append requests_in w.queued_down said, answer-counts requests_in 0 (λ last stag to payload. refl) (λ message. refl) s e.xid offer answer);
+      reads = omega (arith, c.reads, total-append requests_in w.queued_down said, answer-counts requests_in 0 (λ last stag to payload. refl) (λ message. refl) s e.xid offer answer);
       responses = c.responses;
     }
 
--- what was queued is under way
-pub counts-writes_down : (opened : LinkParameters) (k : ClientState) (s : ServerState) (w : Transit) → TotalsAgree k s w
+-- what was queued is in transit
+pub totals-writes_down : (opened : LinkParameters) (k : ClientState) (s : ServerState) (w : Transit) → TotalsAgree k s w
     → TotalsAgree k (server_state_after opened s QueueWritten) (record { queued_up = w.queued_up; up = w.up; queued_down = []; down = w.down ++ w.queued_down })
 unfolding server_state_after
-counts-writes_down opened k s w c = record {
-  hello = omega (arith, c.hello, count-append hellos_in w.down w.queued_down);
+totals-writes_down opened k s w c = record {
+  hello = omega (arith, c.hello, total-append hellos_in w.down w.queued_down);
   calls_up = c.calls_up;
-  messages_down = omega (arith, c.messages_down, count-append sends_in w.down w.queued_down);
-  written = omega (arith, c.messages_down, count-append sends_in w.down w.queued_down);
+  messages_down = omega (arith, c.messages_down, total-append sends_in w.down w.queued_down);
+  written = omega (arith, c.messages_down, total-append sends_in w.down w.queued_down);
   out = c.out;
   waiting = c.waiting;
   whole_up = c.whole_up;
   whole_down = c.whole_down;
-  reads = omega (arith, c.reads, count-append requests_in w.down w.queued_down);
+  reads = omega (arith, c.reads, total-append requests_in w.down w.queued_down);
   responses = c.responses;
 }
 
--- ---- The client's hello comes to the server
+-- ---- The server receives the client's hello
 
-pub counts-hello_up : (opened : LinkParameters) (k : ClientState) (s : ServerState) (w : Transit) (f : Frame) (rest : List FrameContent) → TotalsAgree k s w → w.up ≡ HelloFrame ∷ rest → is_hello f ≡ true
+pub totals-hello_up : (opened : LinkParameters) (k : ClientState) (s : ServerState) (w : Transit) (f : Frame) (rest : List FrameContent) → TotalsAgree k s w → w.up ≡ HelloFrame ∷ rest → is_hello f ≡ true
     → TotalsAgree k (server_state_after opened s (FrameReceived f)) (record { queued_up = w.queued_up; up = rest; queued_down = w.queued_down ++ server_frames opened s (FrameReceived f); down = w.down })
 unfolding server_state_after server_frames
-counts-hello_up opened k s w f rest c first is =
+totals-hello_up opened k s w f rest c first is =
     let one = HelloFrame ∷ [] in
     let m : TotalsAgree k s (record { queued_up = w.queued_up; up = rest; queued_down = w.queued_down ++ one; down = w.down }) = record {
-      hello = omega (arith, c.hello, ap (total_of hellos_in) first, count-append hellos_in w.queued_down one);
+      hello = omega (arith, c.hello, ap (total_of hellos_in) first, total-append hellos_in w.queued_down one);
       calls_up = omega (arith, c.calls_up, ap (total_of sends_in) first);
-      messages_down = omega (arith, c.messages_down, count-append sends_in w.queued_down one);
+      messages_down = omega (arith, c.messages_down, total-append sends_in w.queued_down one);
       written = c.written;
       out = c.out;
       waiting = c.waiting;
       whole_up = c.whole_up;
       whole_down = c.whole_down;
-      reads = omega (arith, c.reads, ap (total_of responses_in) first, count-append requests_in w.queued_down one);
+      reads = omega (arith, c.reads, ap (total_of responses_in) first, total-append requests_in w.queued_down one);
       responses = c.responses;
     } in
     subst (λ (b : Bool). TotalsAgree k (cond b s (with_effect s f (frame_effect s f))) (record { queued_up = w.queued_up; up = rest; queued_down = w.queued_down ++ cond b (HelloFrame ∷ []) (effect_frames (frame_effect s f)); down = w.down })) (sym is) m

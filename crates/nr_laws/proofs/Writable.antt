@@ -1,4 +1,4 @@
--- What can be written as one frame each: the numbers of a segment are words, and its payload fits.
+-- What can be written as one frame: the numbers of a segment are words, and its payload fits.
 use Rattle.std.proofs.Common.{◌≡◌, ℕ, zero, suc, ◌+◌, ◌*◌, ◌≤◌, ◌<◌, ◌^◌, true, List, [], ◌∷◌, ◌++◌, length, map, drop, refl, arith, lit<, length-append, length-take}
 use Rattle.std.specs.List.{range_with_len}
 use Rattle.nr_xdr.specs.Item.{word, hyper}
@@ -35,8 +35,18 @@ word_below n = omega arith
 
 len_request : (sink at size stag to : ℕ) → length (word sink ++ (hyper at ++ (word size ++ (word stag ++ hyper to)))) ≡ 28
 len_request sink at size stag to =
-    omega (arith, length-append (word sink) (hyper at ++ (word size ++ (word stag ++ hyper to))), length-append (hyper at) (word size ++ (word stag ++ hyper to)),
-      length-append (word size) (word stag ++ hyper to), length-append (word stag) (hyper to), length-word sink, length-hyper at, length-word size, length-word stag, length-hyper to)
+    omega (
+      arith,
+      length-append (word sink) (hyper at ++ (word size ++ (word stag ++ hyper to))),
+      length-append (hyper at) (word size ++ (word stag ++ hyper to)),
+      length-append (word size) (word stag ++ hyper to),
+      length-append (word stag) (hyper to),
+      length-word sink,
+      length-hyper at,
+      length-word size,
+      length-word stag,
+      length-hyper to,
+    )
 
 pub proper_one : (n r : ℕ) (p : FrameContent) → IsWritable p → IsWritableAs Fpdu (numbered_segment n r p)
 proper_one n r HelloFrame h = absurd h
@@ -111,9 +121,10 @@ stream-at (TaggedFrame last opcode stag to payload) ps p qs h = absurd h
 pieces_from : (opcode stag to : ℕ) (bytes : List ℕ) (a n : ℕ) → is_tagged_opcode opcode ≡ true → opcode < 16 → stag < 2 ^ 32 → to < 2 ^ 64 → to + length bytes ≤ 2 ^ 64 → a + n ≤ segment_count bytes
     → AreWritable (map (tagged_frame opcode stag to bytes) (range_with_len a n))
 pieces_from opcode stag to bytes a zero tagged small stags tos ends le = tt
-pieces_from opcode stag to bytes a (suc n) tagged small stags tos ends le =
-    ((tagged, small, stags, omega (arith, tos, ends, le), omega (arith, length-take segment_max (drop (segment_max * a) bytes))),
-      pieces_from opcode stag to bytes (a + 1) n tagged small stags tos ends (omega (arith, le)))
+pieces_from opcode stag to bytes a (suc n) tagged small stags tos ends le = (
+  (tagged, small, stags, omega (arith, tos, ends, le), omega (arith, length-take segment_max (drop (segment_max * a) bytes))),
+  pieces_from opcode stag to bytes (a + 1) n tagged small stags tos ends (omega (arith, le)),
+)
 
 pub tagged-proper : (opcode stag to : ℕ) (bytes : List ℕ) → is_tagged_opcode opcode ≡ true → opcode < 16 → stag < 2 ^ 32 → to < 2 ^ 64 → to + length bytes ≤ 2 ^ 64 → AreWritable (tagged_frames opcode stag to bytes)
 unfolding tagged_frames

@@ -1,4 +1,5 @@
--- What a side says, piece by piece: a hello, a Send of one segment, a Read Request, or one segment of a Write or of a Response.
+-- What each frame of a side carries, without the numbers of messages: a hello, a Send of one segment, a Read Request, or one segment
+-- of an RDMA Write or of a Read Response. What a side sends for an event is a list of these.
 use Rattle.std.specs.Prelude.{◌≡◌, ℕ, ◌+◌, ◌*◌, Bool, true, false, ◌==◌, ◌&&◌, if◌then◌else◌, List, [], ◌∷◌, ◌++◌, length, take, drop, map, Option, None, Some, Ok, min}
 use Rattle.std.specs.List.{range_with_len}
 use Rattle.nr_xdr.specs.Item.{word, hyper}
@@ -31,7 +32,7 @@ pub data FrameContent : Type 0 where
   RequestFrame : (sink at size stag to : ℕ) → FrameContent
   TaggedFrame : (last : Bool) → (opcode stag to : ℕ) → (payload : List ℕ) → FrameContent
 
--- ---- Counts
+-- ---- How many Sends, Read Requests, last segments of Read Responses, and hellos are among some frames
 
 abbrev pub sends_in : FrameContent → ℕ
 sends_in HelloFrame = 0
@@ -49,7 +50,7 @@ abbrev pub one_if_response : Bool → ℕ
 one_if_response true = 1
 one_if_response false = 0
 
--- the last segment of a Response
+-- the last segment of a Read Response
 abbrev pub responses_in : FrameContent → ℕ
 responses_in HelloFrame = 0
 responses_in (SendFrame message) = 0
@@ -66,33 +67,33 @@ abbrev pub total_of : (FrameContent → ℕ) → List FrameContent → ℕ
 total_of one [] = 0
 total_of one (p ∷ ps) = one p + total_of one ps
 
--- ---- As segments: numbers of messages go on from those before
+-- ---- As segments, behind so many Sends and Read Requests of the side: their message numbers go on (RFC 5041 section 4.3)
 
 abbrev pub numbered_segment : (sends requests : ℕ) → FrameContent → Option Segment
 numbered_segment n r HelloFrame = None
 numbered_segment n r (SendFrame message) = Some (Untagged true OPCODE_SEND 0 QUEUE_SEND (msn_word (n + 1)) 0 message)
 numbered_segment n r (RequestFrame sink at size stag to) =
     Some (Untagged true OPCODE_READ_REQUEST 0 QUEUE_READ_REQUEST (msn_word (r + 1)) 0
-      (word sink ++ (hyper at ++ (word size ++ (word stag ++ hyper to)))))
+    (word sink ++ (hyper at ++ (word size ++ (word stag ++ hyper to)))))
 numbered_segment n r (TaggedFrame last opcode stag to payload) = Some (Tagged last opcode stag to payload)
 
 abbrev pub frame_bytes : Side → Option Segment → List ℕ
 frame_bytes side None = own_hello side
 frame_bytes side (Some segment) = encoding segment
 
--- the bytes of pieces, behind so many Sends and Read Requests
+-- the bytes of some frames
 abbrev pub output_bytes : Side → (sends requests : ℕ) → List FrameContent → List ℕ
 output_bytes side n r [] = []
 output_bytes side n r (p ∷ ps) = frame_bytes side (numbered_segment n r p) ++ output_bytes side (n + sends_in p) (r + requests_in p) ps
 
--- a frame is a piece of a side that comes behind so many of its Sends and Read Requests
+-- a frame carries this content: it isn't the hello, and reads as the numbered segment
 pub record Carries (n r : ℕ) (f : Frame) (p : FrameContent) : Type 0 where
   pub behind : is_hello f ≡ false
   pub segment : Segment
   pub is_segment : numbered_segment n r p ≡ Some segment
   pub reads : frame_segment f ≡ Ok segment
 
--- ---- What each side says, as pieces
+-- ---- What each side sends for an event
 
 abbrev pub tagged_frame : ℕ → ℕ → ℕ → List ℕ → ℕ → FrameContent
 tagged_frame opcode stag to bytes i = TaggedFrame (i + 1 == segment_count bytes) opcode stag (to + segment_max * i) (segment_payload bytes i)
