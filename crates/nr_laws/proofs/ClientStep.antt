@@ -1,7 +1,6 @@
 -- A frame at a client: it ends the client only for what the client makes of a message, or for an access that its memory denies;
 -- else the guards are kept.
 use Rattle.std.proofs.Common.{◌≡◌, ◌≢◌, ℕ, ◌+◌, ◌≤◌, ◌<◌, ◌^◌, Bool, true, false, cond, eqb, List, [], ◌∷◌, ◌++◌, length, drop, Option, Some, None, Result, Ok, Err, refl, sym, ap, subst, ◌∙◌, arith, length-append, ◌⊎◌, inl, inr}
-use Rattle.std.proofs.lemmas.Bool.{le-ltb}
 use Rattle.nr_xdr.specs.Item.{word, hyper}
 use Rattle.nr_xdr.specs.Fields.{word_at}
 use Rattle.nr_xdr.proofs.WordBytes.{length-word, length-hyper}
@@ -11,12 +10,11 @@ use Rattle.nr_wire.specs.Hello.{hello_of}
 use Rattle.nr_wire.specs.Segment.{Segment}
 use Rattle.nr_wire.specs.Segment.Segment.{Tagged, Untagged}
 use Rattle.nr_header.specs.declared.fault.HeaderFault.{HeaderFault}
-use Rattle.nr_header.specs.declared.fault.HeaderFault.TheVariants as faults
 use Rattle.nr_header.specs.declared.header.Body.{Body}
 use Rattle.nr_header.specs.declared.header.Body.TheVariants.{Msg, Nomsg, ErrVers, ErrChunk}
 use Rattle.nr_header.specs.declared.header.ChunkLists.{ChunkLists}
 use Rattle.nr_header.specs.declared.header.Header.{Header}
-use Rattle.nr_header.specs.Reading.{header_of, header_by, body_by, error_by, version1_of, in_lists, msg_at, nomsg_at}
+use Rattle.nr_header.specs.Reading.{header_of}
 use Rattle.nr_rpc.specs.declared.head.ReplyHead.{ReplyHead}
 use Rattle.nr_rpc.specs.Reading.{reply_of}
 use Rattle.nr_regions.specs.declared.denied.Denied.{Denied}
@@ -51,6 +49,7 @@ use Rattle.nr_laws.proofs.FreeReceives.{requests}
 use Rattle.nr_laws.proofs.EndsOfFrames.{client-by, client-send}
 use Rattle.nr_laws.proofs.TotalsAtServer.{segment-is}
 use Rattle.nr_laws.proofs.TotalsAtClient.{down_one, request_payload}
+use Rattle.nr_laws.proofs.AnswerLists.{IsRead}
 use Rattle.nr_laws.proofs.Replies.{IsReply}
 use Rattle.nr_laws.proofs.RequestFields.{request-again}
 use Rattle.nr_laws.proofs.Writable.{IsWritable, AreWritable, IsOutput, proper_one, stream-first, stream-at}
@@ -68,20 +67,14 @@ abbrev VerdictReason : Verdict → Type 0
 VerdictReason (EndsLink reason) = IsReplyReason reason
 VerdictReason (GivesOutcome xid outcome) = Unit {0}
 
-version-reason : IsReplyReason 23
-version-reason = inl refl
-
-kind-reason : IsReplyReason 17
-kind-reason = inr (inl refl)
-
 chunks-reason : IsReplyReason 21
-chunks-reason = inr (inr (inl refl))
+chunks-reason = inl refl
 
 head-reason : IsReplyReason 18
-head-reason = inr (inr (inr (inl refl)))
+head-reason = inr (inl refl)
 
 xid-reason : IsReplyReason 19
-xid-reason = inr (inr (inr (inr refl)))
+xid-reason = inr (inr refl)
 
 reason-head : (xid : ℕ) (payload : List ℕ) (r : Result ReplyHead ℕ) → VerdictReason (by_head xid payload r)
 reason-head xid payload (Err at) = head-reason
@@ -112,60 +105,14 @@ reason-body k place o message (ErrChunk version) = tt
 reason-call : (k : ClientState) (place : ℕ) (message : List ℕ) (body : Body) (o : Option OutstandingCall) → (call : OutstandingCall) → o ≡ Some call → VerdictReason (by_call k place message body o)
 reason-call k place message body o call is = subst (λ (x : Option OutstandingCall). VerdictReason (by_call k place message body x)) (sym is) (reason-body k place call message body)
 
--- a message of 16 bytes has its fixed words
-abbrev NotShort : {A : Type 0} → Result A HeaderFault → Type 0
-NotShort (Ok x) = Unit {0}
-NotShort (Err faults.Short) = ⊥
-NotShort (Err (faults.Version version)) = Unit {0}
-NotShort (Err (faults.Kind kind)) = Unit {0}
-NotShort (Err (faults.BadChunks at)) = Unit {0}
+reason-header : (k : ClientState) (place : ℕ) (message : List ℕ) (h : Header) → header_of message ≡ Ok h → (call : OutstandingCall) → answered_call k (word_at 0 message) ≡ Some call → VerdictReason (by_header k place message (header_of message))
+reason-header k place message h is call found =
+    subst (λ (r : Result Header HeaderFault). VerdictReason (by_header k place message r)) (sym is)
+    (reason-call k place message h.body (answered_call k h.xid) call (ap (λ (x : ℕ). answered_call k x) (header-xid message h is) ∙ found))
 
-lists-not_short : (r : Result Body ℕ) → NotShort (in_lists r)
-lists-not_short (Ok b) = tt
-lists-not_short (Err at) = tt
-
-version1-not_short : (kind : ℕ) (bytes : List ℕ) → NotShort (version1_of kind bytes)
-unfolding version1_of
-version1-not_short kind bytes = by (eqb kind 0) (eqb kind 1)
-  where
-    by : (a b : Bool) → NotShort (cond a (in_lists (msg_at (record { place = 16; rest = drop 16 bytes }))) (cond b (in_lists (nomsg_at (record { place = 16; rest = drop 16 bytes }))) (Err (faults.Kind kind))))
-    by true b = lists-not_short _
-    by false true = lists-not_short _
-    by false false = tt
-
-body-not_short : (o : Option Body) (version kind : ℕ) (bytes : List ℕ) → NotShort (body_by o version kind bytes)
-unfolding body_by
-body-not_short (Some b) version kind bytes = tt
-body-not_short None version kind bytes = by (eqb version 1)
-  where
-    by : (b : Bool) → NotShort (cond b (version1_of kind bytes) (Err (faults.Version version)))
-    by true = version1-not_short kind bytes
-    by false = tt
-
-header_by-not_short : (xid credit : ℕ) (r : Result Body HeaderFault) → NotShort r → NotShort (header_by xid credit r)
-header_by-not_short xid credit (Ok b) h = tt
-header_by-not_short xid credit (Err faults.Short) h = h
-header_by-not_short xid credit (Err (faults.Version version)) h = tt
-header_by-not_short xid credit (Err (faults.Kind kind)) h = tt
-header_by-not_short xid credit (Err (faults.BadChunks at)) h = tt
-
-header-not_short : (bytes : List ℕ) → 16 ≤ length bytes → NotShort (header_of bytes)
-unfolding header_of
-header-not_short bytes le =
-    let body = body_by (error_by (word_at 12 bytes) bytes) (word_at 4 bytes) (word_at 12 bytes) bytes in
-    subst (λ (b : Bool). NotShort (cond b (Err faults.Short) (header_by (word_at 0 bytes) (word_at 8 bytes) body))) (sym (le-ltb (length bytes) 16 le))
-    (header_by-not_short (word_at 0 bytes) (word_at 8 bytes) body (body-not_short (error_by (word_at 12 bytes) bytes) (word_at 4 bytes) (word_at 12 bytes) bytes))
-
-reason-header : (k : ClientState) (place : ℕ) (message : List ℕ) (r : Result Header HeaderFault) → header_of message ≡ r → NotShort r → (call : OutstandingCall) → answered_call k (word_at 0 message) ≡ Some call → VerdictReason (by_header k place message r)
-reason-header k place message (Ok h) is fine call found = reason-call k place message h.body (answered_call k h.xid) call (ap (λ (x : ℕ). answered_call k x) (header-xid message h is) ∙ found)
-reason-header k place message (Err faults.Short) is fine call found = absurd fine
-reason-header k place message (Err (faults.Version version)) is fine call found = version-reason
-reason-header k place message (Err (faults.Kind kind)) is fine call found = kind-reason
-reason-header k place message (Err (faults.BadChunks at)) is fine call found = kind-reason
-
-reason-verdict : (k : ClientState) (place : ℕ) (message : List ℕ) → 16 ≤ length message → (call : OutstandingCall) → answered_call k (word_at 0 message) ≡ Some call → VerdictReason (verdict k place message)
+reason-verdict : (k : ClientState) (place : ℕ) (message : List ℕ) → IsRead message → (call : OutstandingCall) → answered_call k (word_at 0 message) ≡ Some call → VerdictReason (verdict k place message)
 unfolding verdict
-reason-verdict k place message le call found = reason-header k place message (header_of message) refl (header-not_short message le) call found
+reason-verdict k place message read call found = reason-header k place message read.0 read.1 call found
 
 reply-end : (f : Frame) (v : Verdict) (end : End) → VerdictReason v → end_of_verdict f v ≡ Some end → IsReplyEnd end
 reply-end f (EndsLink reason) end h e = (f.at, reason, cc, h)
@@ -229,7 +176,7 @@ step-piece opened k s u d all_up all_down w place (SendFrame message) rest f o l
     let ends : client_end k (FrameReceived f) ≡ end_of_verdict f (verdict k f.end whole) =
     client-send opened k s w f message l.counts piece reply.least reply.most ∙ ap (λ (r : Result Segment ℕ). message_end k f (segment_message k r)) reads in
     record {
-      only = λ end e. inl (reply-end f (verdict k f.end whole) end (reason-verdict k f.end whole (omega (arith, reply.least, ap (λ (xs : List ℕ). length xs) same)) answers.0 (ap (λ (xs : List ℕ). answered_call k (word_at 0 xs)) same ∙ answers.1)) (sym ends ∙ e));
+      only = λ end e. inl (reply-end f (verdict k f.end whole) end (reason-verdict k f.end whole (subst IsRead (sym same) reply.read) answers.0 (ap (λ (xs : List ℕ). answered_call k (word_at 0 xs)) same ∙ answers.1)) (sym ends ∙ e));
       kept = λ stays. guards-send_down opened k s u d all_up all_down w place message rest f o l g first piece hello stays;
     }
 step-piece opened k s u d all_up all_down w place (RequestFrame sink at size stag to) rest f o l g first proper piece hello =

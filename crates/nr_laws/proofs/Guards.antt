@@ -93,11 +93,11 @@ fills-down credit (p ∷ chunk) bytes =
     by true = tt
     by false = cuts-down credit p.handle _ _ _ (range_with_len 0 (segment_count (take p.length bytes)))
 
-answer-down : (k : ServerState) (xid : ℕ) (offer : ChunkLists) (reply : List ℕ) (t : Option CallTarget) (o : Option Answer) → k.credit < 2 ^ 32 → answer_of_target offer (down_max k) reply t ≡ o → OfferFits offer → AllByRecursion (ServerContent k.credit) (answer_frames k xid offer o)
-answer-down k xid offer reply t None lt e fits = (chunk_error-reply xid k.credit lt, tt)
-answer-down k xid offer reply t (Some a) lt e fits =
+answer-down : (k : ServerState) (xid : ℕ) (offer : ChunkLists) (reply : List ℕ) (t : Option CallTarget) (o : Option Answer) → xid < 2 ^ 32 → k.credit < 2 ^ 32 → answer_of_target offer (down_max k) reply t ≡ o → OfferFits offer → AllByRecursion (ServerContent k.credit) (answer_frames k xid offer o)
+answer-down k xid offer reply t None word lt e fits = (chunk_error-reply xid k.credit word lt, tt)
+answer-down k xid offer reply t (Some a) word lt e fits =
     let target = for_target offer (down_max k) reply t a e in
-    let one = answer-reply offer (down_max k) target.0 target.1 target.2 xid k.credit reply a (omega arith) lt fits target.3 in
+    let one = answer-reply offer (down_max k) target.0 target.1 target.2 xid k.credit reply a (omega arith) word lt fits target.3 in
     each-append (ServerContent k.credit) (write_frames (first_chunk offer.write) a.moved) (cond a.long (write_frames (no_segments offer.reply) a.stream) [] ++ (SendFrame (answer_message xid k.credit offer a) ∷ []))
     (fills-down k.credit (first_chunk offer.write) a.moved)
     (each-append (ServerContent k.credit) (cond a.long (write_frames (no_segments offer.reply) a.stream) []) (SendFrame (answer_message xid k.credit offer a) ∷ []) (by a.long) (one, tt))
@@ -106,5 +106,5 @@ answer-down k xid offer reply t (Some a) lt e fits =
     by true = fills-down k.credit (no_segments offer.reply) a.stream
     by false = tt
 
-pub execution-down : (k : ServerState) (e : ExecutedCall) → k.credit < 2 ^ 32 → CallsFit k.calls → AllByRecursion (ServerContent k.credit) (execution_frames k e)
-execution-down k e lt h = answer-down k e.xid (offer_of k e.xid) e.reply (target_of (call_of e.payload)) _ lt refl (found-fits e.xid k.calls h)
+pub execution-down : (k : ServerState) (e : ExecutedCall) → e.xid < 2 ^ 32 → k.credit < 2 ^ 32 → CallsFit k.calls → AllByRecursion (ServerContent k.credit) (execution_frames k e)
+execution-down k e word lt h = answer-down k e.xid (offer_of k e.xid) e.reply (target_of (call_of e.payload)) _ word lt refl (found-fits e.xid k.calls h)

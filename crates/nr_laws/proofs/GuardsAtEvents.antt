@@ -210,7 +210,7 @@ guards-execute opened k s u d all_up all_down w up e r rest o l g fits first own
       window = g.window;
       up_said = g.up_said;
       down_said = each-append (ServerContent opened.granted) all_down (server_frames opened s (CallExecuted e)) g.down_said
-          (subst (λ (n : ℕ). AllByRecursion (ServerContent n) (server_frames opened s (CallExecuted e))) g.credit (execution-down s e small fits));
+          (subst (λ (n : ℕ). AllByRecursion (ServerContent n) (server_frames opened s (CallExecuted e))) g.credit (execution-down s e xid_word small fits));
       credit = g.credit;
       calls = g.calls;
       within = g.within;

@@ -26,7 +26,7 @@ use Rattle.nr_laws.proofs.TotalsAtServer.{totals-hello_up, after-is, step-is, se
 use Rattle.nr_laws.proofs.ReadsAtClient.{reads-says_down}
 use Rattle.nr_laws.proofs.Sinks.{sink-later}
 use Rattle.nr_laws.proofs.ServerInvariant.{ServerAgrees, server-takes_send, server-takes_response}
-use Rattle.nr_laws.proofs.Replies.{replies-frame}
+use Rattle.nr_laws.proofs.Replies.{replies-send, replies-tagged}
 use Rattle.nr_laws.proofs.ReadLimits.{AreWithin, each-append, within-send, within-tagged, within-closed}
 use Rattle.nr_laws.proofs.AgreeingEnds.{EndsAgree, taken_up, not-refused, says-hello, says-frame, after-hello, payload_bytes}
 use Rattle.nr_laws.proofs.CallNumbers.{XidsFrom, IsNumbered, xids-at, numbered-send, numbered-tagged}
@@ -37,7 +37,7 @@ use Rattle.std.proofs.lemmas.Bool.{eq-eqb, cases_lt}
 use Rattle.nr_laws.specs.LinkInvariants.{calls_sent}
 use Rattle.nr_laws.specs.FrameContents.{total_of, sends_in}
 use Rattle.nr_laws.proofs.Totals.{total-append}
-use Rattle.nr_laws.proofs.ClientFrame.{calls_said}
+use Rattle.nr_laws.proofs.ClientFrame.{calls_said, word_below}
 use Rattle.nr_laws.proofs.AnsweredCalls.{times, call_xids, effect-xids, pending-send, pending-tagged}
 use Rattle.nr_laws.proofs.AnsweredSteps.{Answered, answered-send, answered-other}
 use Rattle.nr_laws.proofs.Guards.{ClientContent, ServerContent, Guards, step-down}
@@ -170,7 +170,7 @@ takes-send opened k s u d all_up all_down w place message rest f o l g first pie
       kept = λ stays.
           subst (λ (said : List FrameContent). Guards opened k (server_state_after opened s (FrameReceived f)) (u ++ SendFrame message ∷ []) d all_up (all_down ++ said) (taken_up w rest said) f.end) (sym says)
           (guards-up opened k s (server_state_after opened s (FrameReceived f)) u d all_up all_down w place f.end (SendFrame message) rest (effect_frames (frame_effect s f)) g
-          (t.1 (not-refused opened s f piece.behind stays)) (credit-down opened s.credit (effect_frames (frame_effect s f)) g.credit (step-down s.credit (frame_effect s f) (replies-frame s f small)))
+          (t.1 (not-refused opened s f piece.behind stays)) (credit-down opened s.credit (effect_frames (frame_effect s f)) g.credit (step-down s.credit (frame_effect s f) (replies-send s f message l.counts.whole_up small_xid (word_below 4 message (payload_bytes segment (subst IsBytes is bytes))) small reads)))
           (ap (λ (x : ServerState). x.credit) after) (subst (λ (x : ServerState). AreWithin x.reads x.regions) (sym after) within) numbers answered);
     }
 
@@ -196,7 +196,7 @@ takes-tagged opened k s u d all_up all_down w place last opcode stag to payload 
       kept = λ stays.
           subst (λ (said : List FrameContent). Guards opened k (server_state_after opened s (FrameReceived f)) (u ++ TaggedFrame last opcode stag to payload ∷ []) d all_up (all_down ++ said) (taken_up w rest said) f.end) (sym says)
           (guards-up opened k s (server_state_after opened s (FrameReceived f)) u d all_up all_down w place f.end (TaggedFrame last opcode stag to payload) rest (effect_frames (frame_effect s f)) g
-          (t.1 (not-refused opened s f piece.behind stays)) (credit-down opened s.credit (effect_frames (frame_effect s f)) g.credit (step-down s.credit (frame_effect s f) (replies-frame s f small)))
+          (t.1 (not-refused opened s f piece.behind stays)) (credit-down opened s.credit (effect_frames (frame_effect s f)) g.credit (step-down s.credit (frame_effect s f) (replies-tagged s f last opcode stag to payload (λ n c found. small-xid opened k s u d all_up all_down w place n c l g found) small reads)))
           (ap (λ (x : ServerState). x.credit) after) (subst (λ (x : ServerState). AreWithin x.reads x.regions) (sym after) within) numbers answered);
     }
 

@@ -12,6 +12,7 @@ pub mod PendingExecuted
 pub mod PendingSends
 pub mod Writable
 pub mod OfferLimits
+pub mod AnswerLists
 pub mod ServerOutput
 pub mod AgreeingEnds
 pub mod ServerFrames

@@ -15,7 +15,7 @@ use Rattle.nr_header.specs.declared.header.ChunkLists.{ChunkLists}
 use Rattle.nr_header.specs.declared.header.Body.{Body}
 use Rattle.nr_header.specs.declared.header.Body.TheVariants.{Msg, Nomsg, ErrVers, ErrChunk}
 use Rattle.nr_header.specs.declared.header.Header.{Header}
-use Rattle.nr_header.specs.Header.{read_items, segments_items, write_items, reply_items, body_items}
+use Rattle.nr_header.specs.Header.{read_items, segments_items, write_items, reply_items, lists_items, body_items}
 use Rattle.nr_header.specs.WithinLimits.{read_total, Ends, SegmentsEnd, ListsWithin, CanRead}
 use Rattle.nr_header.specs.Constants.{PAYLOAD_MAX}
 use Rattle.nr_header.specs.Reading.{header_of}
@@ -42,6 +42,8 @@ pub record OfferFits (lists : ChunkLists) : Type 0 where
   pub size : answer_size lists.write + (4 + 16 * length (no_segments lists.reply)) ≤ send_max
   pub writes : SegmentsFit (first_chunk lists.write)
   pub replies : SegmentsFit (no_segments lists.reply)
+  pub items : AllFit (lists_items lists)
+  pub within : ListsWithin lists
 
 -- ---- Of items that fit
 
@@ -96,6 +98,8 @@ offer_fits lists h w total =
       size = omega (arith, size_by lists.write, w.write_chunks, w.write_segments, few_segments lists.reply w.reply_segments);
       writes = first_fits lists.write (reply_items lists.reply []) writes w.write_ends;
       replies = reply_fits lists.reply [] (skip_write lists.write (reply_items lists.reply []) writes) w.reply_ends;
+      items = h;
+      within = w;
     }
 
 -- ---- Of a message

@@ -1,4 +1,6 @@
 -- What a server sends can be written, and its output is the bytes of it; the offers of its calls stay within their limits.
+use Rattle.std.proofs.lemmas.List.Elements.{All-nil}
+use Rattle.nr_header.specs.WithinLimits.{ListsWithin}
 use Rattle.std.proofs.Common.{◌≡◌, ℕ, ◌+◌, ◌*◌, ◌≤◌, min, Bool, true, false, cond, not, ◌&&◌, eqb, List, [], ◌∷◌, ◌++◌, length, map, take, drop, filter, Option, Some, None, Result, Ok, refl, sym, ap, subst, ◌∙◌, arith, lit<, length-append, length-take, append_assoc, append-nil}
 use Rattle.std.specs.List.{find}
 use Rattle.nr_xdr.specs.Item.{word, IsBytes}
@@ -193,8 +195,21 @@ answer-proper k xid offer reply t (Some a) e fits =
     by true = fills-proper (no_segments offer.reply) a.stream fits.replies
     by false = tt
 
+nothing_within : ListsWithin (record { read = []; write = []; reply = None })
+nothing_within = record {
+  read_segments = omega arith;
+  read_ends = All-nil _;
+  one_position = (0, All-nil _);
+  write_chunks = omega arith;
+  chunk_segments = All-nil _;
+  write_segments = omega arith;
+  write_ends = All-nil _;
+  reply_segments = tt;
+  reply_ends = tt;
+}
+
 pub found-fits : (xid : ℕ) (calls : List PendingCall) → CallsFit calls → OfferFits (offer_by (find (λ (c : PendingCall). eqb c.xid xid) calls))
-found-fits xid [] h = record { reads = tt; total = omega arith; size = omega arith; writes = tt; replies = tt }
+found-fits xid [] h = record { reads = tt; total = omega arith; size = omega arith; writes = tt; replies = tt; items = (tt, (tt, (tt, tt))); within = nothing_within }
 found-fits xid (c ∷ calls) h = by (eqb c.xid xid) (found-fits xid calls h.1)
   where
     by : (b : Bool) → OfferFits (offer_by (find (λ (c : PendingCall). eqb c.xid xid) calls)) → OfferFits (offer_by (cond b (Some c) (find (λ (c : PendingCall). eqb c.xid xid) calls)))

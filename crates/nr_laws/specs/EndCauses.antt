@@ -4,7 +4,7 @@ use Rattle.nr_wire.specs.declared.hello.Side.TheVariants.{Initiator, Responder}
 use Rattle.nr_regions.specs.declared.denied.Denied.{Denied}
 use Rattle.nr_link.specs.declared.end.End.{End}
 use Rattle.nr_link.specs.declared.end.End.TheVariants as ends
-use Rattle.nr_link.specs.Reasons.{REASON_KIND, REASON_HEAD, REASON_XID, REASON_CHUNKS, REASON_VERSION, REASON_STAGS}
+use Rattle.nr_link.specs.Reasons.{REASON_HEAD, REASON_XID, REASON_CHUNKS, REASON_STAGS}
 use Rattle.nr_reduce.specs.declared.mark.Mark.{Mark}
 use Rattle.nr_reduce.specs.declared.mark.LinkParameters.{LinkParameters}
 use Rattle.nr_reduce.specs.Opening.{IsOpened}
@@ -31,10 +31,10 @@ IsCallReason reason = (reason ≡ REASON_HEAD) ⊎ ((reason ≡ REASON_XID) ⊎ 
 abbrev pub IsCallEnd : End → Type 0
 IsCallEnd end = (at : ℕ) × (reason : ℕ) × (end ≡ ends.Bad at reason) × IsCallReason reason
 
--- what a client makes of a message may end it for these: another version, a kind or lists that can't be used, lists that weren't
--- offered, a payload without an RPC reply head, a head with another xid
+-- what a client makes of a message may end it for these: lists that weren't offered, a payload without an RPC reply head, a head with
+-- another xid
 abbrev pub IsReplyReason : ℕ → Type 0
-IsReplyReason reason = (reason ≡ REASON_VERSION) ⊎ ((reason ≡ REASON_KIND) ⊎ ((reason ≡ REASON_CHUNKS) ⊎ ((reason ≡ REASON_HEAD) ⊎ (reason ≡ REASON_XID))))
+IsReplyReason reason = (reason ≡ REASON_CHUNKS) ⊎ ((reason ≡ REASON_HEAD) ⊎ (reason ≡ REASON_XID))
 
 abbrev pub IsReplyEnd : End → Type 0
 IsReplyEnd end = (at : ℕ) × (reason : ℕ) × (end ≡ ends.Bad at reason) × IsReplyReason reason
@@ -51,8 +51,8 @@ ServerEndsForCalls = (opened : LinkParameters) (link : ℕ) (run : List Mark) �
     end_of_side opened link Initiator run ≡ None → (end : End) → end_of_side opened link Responder run ≡ Some end → IsCallEnd end
 
 -- On a matched link whose server hasn't ended, the client ends only for what it makes of a message, or for an access that its memory
--- denies: no segment of the server breaks a rule of the link, and each message answers a call that is outstanding and whose Send is
--- written.
+-- denies: no segment of the server breaks a rule of the link, each message can be read, and it answers a call that is outstanding and
+-- whose Send is written.
 abbrev pub ClientEndsForReplies : Type 0
 ClientEndsForReplies = (opened : LinkParameters) (link : ℕ) (run : List Mark) → IsOpened opened → IsTyped run → KeepLaws opened link run →
     end_of_side opened link Responder run ≡ None → (end : End) → end_of_side opened link Initiator run ≡ Some end → IsReplyEnd end ⊎ IsDenied end

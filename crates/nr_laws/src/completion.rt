@@ -15,7 +15,8 @@ pub fn calls_complete()
 /// a message: a server for what it makes of a call, a client for what it makes of an answer, or for an access to its memory
 /// that is denied. No segment of either side breaks a rule of the link (RFC 5041 section 7; RFC 5040 section 7): its message
 /// number and offset, its form and its length are right, a Send finds a receive, a Read Response is expected and reaches a
-/// sink, and no side has more Read Requests open than it may.
+/// sink, and no side has more Read Requests open than it may. Each message of the server has a header that can be read
+/// (RFC 8166 section 4), and answers a call that is outstanding.
 pub fn segments_keep_the_rules()
     ensures server { ServerEndsForCalls }
     ensures client { ClientEndsForReplies }
