@@ -27,7 +27,7 @@ use Rattle.nr_laws.proofs.Replies.{IsReply, AreReplies, answer-reply, chunk_erro
 use Rattle.nr_laws.proofs.ReadLimits.{AreWithin, each-append}
 use Rattle.nr_laws.proofs.CallNumbers.{XidsFrom, NumberedCalls, HasOwnXid, IsNumbered}
 use Rattle.nr_laws.proofs.AnsweredSteps.{Answered}
-use Rattle.nr_laws.proofs.OfferLimits.{OfferFits}
+use Rattle.nr_laws.proofs.WritableOffers.{OfferFits}
 use Rattle.nr_laws.proofs.ServerOutput.{CallsFit, execution_frames, for_target, found-fits}
 
 -- a message of a client has the size of one, version 1 and a kind that a client sends

@@ -24,7 +24,7 @@ use Rattle.nr_laws.specs.FrameContents.FrameContent.{SendFrame}
 use Rattle.nr_laws.specs.LinkInvariants.{Transit}
 use Rattle.nr_laws.proofs.TotalsAtClient.{up_more, totals-accepts, totals-writes_up}
 use Rattle.nr_laws.proofs.ReadsAtClient.{AnswersNone, reads-says_up, reads-writes_up}
-use Rattle.nr_laws.proofs.ServerEvents.{server-executes, server-writes}
+use Rattle.nr_laws.proofs.EventsAtServer.{server-executes, server-writes}
 use Rattle.nr_laws.proofs.ReadLimits.{each-append}
 use Rattle.nr_laws.proofs.ServerOutput.{CallsFit}
 use Rattle.nr_laws.proofs.OwnEvents.{planned, totals-revoked, xid-revoked}

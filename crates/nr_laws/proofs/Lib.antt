@@ -11,7 +11,7 @@ pub mod PendingFrames
 pub mod PendingExecuted
 pub mod PendingSends
 pub mod Writable
-pub mod OfferLimits
+pub mod WritableOffers
 pub mod AnswerLists
 pub mod ServerOutput
 pub mod AgreeingEnds
@@ -36,7 +36,7 @@ pub mod ServerInvariant
 pub mod Sinks
 pub mod NewSinks
 pub mod EndsOfFrames
-pub mod ServerEvents
+pub mod EventsAtServer
 pub mod Replies
 pub mod ReadLimits
 pub mod RequestFields

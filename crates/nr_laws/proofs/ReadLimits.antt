@@ -24,7 +24,7 @@ use Rattle.nr_reduce.specs.ServerMessages.{CallVerdict, by_payload, payload_of, 
 use Rattle.nr_reduce.specs.ServerMessages.CallVerdict.{Refuses, IsReady}
 use Rattle.nr_reduce.specs.ServerMessages.Verdict.{EndsLink, OtherVersion, BadChunks, MakesPending}
 use Rattle.nr_reduce.specs.ServerFrames.{FrameEffect, no_effect, with_verdict, ready_if_whole, message_effect, with_refused_call, is_stream_read, read_effect, call_of_number, response_effect, with_access, effect_in, frame_effect}
-use Rattle.nr_laws.proofs.OfferLimits.{EntriesFit, verdict_fits, verdict_few}
+use Rattle.nr_laws.proofs.WritableOffers.{EntriesFit, verdict_fits, verdict_few}
 use Rattle.nr_laws.proofs.ServerInvariant.{length-from}
 
 abbrev pub ReadFits : PendingRead → Type 0

@@ -35,7 +35,7 @@ use Rattle.nr_laws.proofs.TotalsAtServer.{fills-none, long-none}
 use Rattle.nr_laws.proofs.StreamFrames.{spelled-append}
 use Rattle.nr_laws.proofs.OutputFrames.{IsShort, AreShort, send-one, write-said}
 use Rattle.nr_laws.proofs.Writable.{AreWritable, all_proper-append, tagged-proper}
-use Rattle.nr_laws.proofs.OfferLimits.{SegmentsFit, OfferFits, verdict_fits}
+use Rattle.nr_laws.proofs.WritableOffers.{SegmentsFit, OfferFits, verdict_fits}
 
 -- ---- Messages are short
 
