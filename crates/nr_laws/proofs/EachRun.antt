@@ -116,6 +116,7 @@ starts opened link = record {
     credit = refl;
     calls = tt;
     within = record { fit = tt; few = lit< tt; small = tt };
+    sinks = omega arith;
     xids = tt;
     unsaid = λ e. tt;
     numbers = tt;

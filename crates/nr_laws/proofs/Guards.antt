@@ -1,4 +1,5 @@
 -- What keeps both ends of a matched link from ending by a rule of the link: receives, requests, sinks, sizes, numbers.
+use Rattle.nr_laws.proofs.OneChunk.{OneChunk}
 use Rattle.std.proofs.Common.{◌≡◌, ℕ, ◌≤◌, ◌<◌, ◌^◌, min, Bool, true, false, cond, eqb, List, [], ◌∷◌, ◌++◌, length, map, take, drop, Option, Some, None, refl, arith}
 use Rattle.std.specs.List.{AllByRecursion, range_with_len}
 use Rattle.nr_xdr.specs.Fields.{word_at}
@@ -30,10 +31,10 @@ use Rattle.nr_laws.proofs.AnsweredSteps.{Answered}
 use Rattle.nr_laws.proofs.WritableOffers.{OfferFits}
 use Rattle.nr_laws.proofs.ServerOutput.{CallsFit, execution_frames, for_target, found-fits}
 
--- a message of a client has the size of one, version 1 and a kind that a client sends
+-- a message of a client has the size of one, version 1, a kind that a client sends, and at most one read chunk
 abbrev pub ClientContent : FrameContent → Type 0
 ClientContent HelloFrame = Unit {0}
-ClientContent (SendFrame message) = (16 ≤ length message) × (length message ≤ send_max) × (word_at 4 message ≡ 1) × (word_at 12 message ≤ 1)
+ClientContent (SendFrame message) = (16 ≤ length message) × (length message ≤ send_max) × (word_at 4 message ≡ 1) × (word_at 12 message ≤ 1) × OneChunk message
 ClientContent (RequestFrame sink at size stag to) = Unit {0}
 ClientContent (TaggedFrame last opcode stag to payload) = Unit {0}
 
@@ -59,6 +60,7 @@ pub record Guards (opened : LinkParameters) (k : ClientState) (s : ServerState) 
   pub credit : s.credit ≡ opened.granted
   pub calls : AreSized opened k.outstanding
   pub within : AreWithin s.reads s.regions
+  pub sinks : length s.regions ≤ s.received.sends
   pub xids : XidsFrom opened.first_xid all_up
   pub unsaid : k.has_hello ≡ false → NumberedCalls opened.first_xid k.outstanding
   pub numbers : AllByRecursion (IsNumbered opened.first_xid) s.calls

@@ -125,6 +125,7 @@ guards-down opened k t s u d all_up all_down w place p rest said event g server 
   credit = g.credit;
   calls = calls;
   within = g.within;
+  sinks = g.sinks;
   xids = xids-append opened.first_xid all_up said g.xids xids;
   unsaid = λ e. absurd (let wrong : true ≡ false = sym hello ∙ e in cc);
   numbers = g.numbers;

@@ -1,4 +1,5 @@
 -- The guards of both ends are kept where a call is submitted or executed, memory is revoked, and a queue is written.
+use Rattle.nr_laws.proofs.OneChunk.{one-chunk}
 use Rattle.std.proofs.Common.{◌≡◌, ℕ, ◌+◌, ◌≤◌, ◌<◌, ◌^◌, Bool, true, false, cond, not, eqb, List, [], ◌∷◌, ◌++◌, length, map, Option, None, Ok, refl, sym, ap, subst, ◌∙◌, arith, length-append, ◌||◌, append-nil}
 use Rattle.nr_rpc.specs.Reading.{call_of, target_of}
 use Rattle.std.specs.List.{AllByRecursion}
@@ -62,7 +63,7 @@ sized-call opened k a plan is lt =
     let words = call-words a.xid opened.wished k.stag (outstanding_of k a).plan lt in
     let fits = subst (λ (p : Plan). (16 ≤ length (call_message a.xid opened.wished k.stag p)) × (length (call_message a.xid opened.wished k.stag p) ≤ send_max))
     (sym (planned (call_payload a.xid a.call) (plan_for k a.xid a.call a.form) plan is)) (omega (arith, size.0), size.1) in
-    ((fits.0, fits.1, words.version, words.kind), words.xid_is)
+    ((fits.0, fits.1, words.version, words.kind, one-chunk a.xid opened.wished k.stag (outstanding_of k a).plan), words.xid_is)
 
 none-says : (b : Bool) (message : List ℕ) → AnswersNone (cond b (SendFrame message ∷ []) [])
 none-says true message = (refl, refl)
@@ -94,6 +95,7 @@ guards-submit opened k s u d all_up all_down w up place a plan l g is own lt roo
       credit = g.credit;
       calls = each-append (IsAsked opened) k.outstanding (outstanding_of k a ∷ []) g.calls (one, tt);
       within = g.within;
+      sinks = g.sinks;
       xids = xids-append opened.first_xid all_up said g.xids (new-xid k.has_hello refl);
       unsaid = λ e. own_xids-push opened.first_xid k.outstanding (outstanding_of k a) (g.unsaid e) (omega (arith, own, all-waiting e));
       numbers = g.numbers;
@@ -148,6 +150,7 @@ guards-revoke opened k s u d all_up all_down w up place xid g = record {
   credit = g.credit;
   calls = sized-revoked opened xid k.outstanding g.calls;
   within = g.within;
+  sinks = g.sinks;
   xids = g.xids;
   unsaid = λ e. own_xids-map (revoked_call xid) opened.first_xid k.outstanding (xid-revoked xid) (g.unsaid e);
   numbers = g.numbers;
@@ -166,6 +169,7 @@ guards-written_up opened k s u d all_up all_down w up l g = record {
   credit = g.credit;
   calls = sized-written opened k.has_hello k.outstanding g.calls;
   within = g.within;
+  sinks = g.sinks;
   xids = g.xids;
   unsaid = λ e. own_xids-map (written_call k.has_hello) opened.first_xid k.outstanding (λ o. refl) (g.unsaid e);
   numbers = g.numbers;
@@ -214,6 +218,7 @@ guards-execute opened k s u d all_up all_down w up e r rest o l g fits first own
       credit = g.credit;
       calls = g.calls;
       within = g.within;
+      sinks = g.sinks;
       xids = g.xids;
       unsaid = g.unsaid;
       answered = answered-server opened.first_xid k s (server_state_after opened s (CallExecuted e)) u d all_down w (record { queued_up = w.queued_up; up = w.up; queued_down = w.queued_down ++ server_frames opened s (CallExecuted e); down = w.down }) (server_frames opened s (CallExecuted e)) refl refl
@@ -233,6 +238,7 @@ guards-written_down opened k s u d all_up all_down w up g = record {
   credit = g.credit;
   calls = g.calls;
   within = g.within;
+  sinks = g.sinks;
   xids = g.xids;
   unsaid = g.unsaid;
   numbers = g.numbers;

@@ -1,4 +1,6 @@
 -- A server of a matched link ends at a frame only by a refusal of the frame's effect; else the guards are kept.
+use Rattle.std.specs.Prelude.{length}
+use Rattle.nr_laws.proofs.SinkCount.{count-send, count-tagged, count-closed}
 use Rattle.std.proofs.Common.{◌≡◌, ℕ, ◌+◌, ◌≤◌, ◌<◌, ◌^◌, Bool, true, List, [], ◌∷◌, ◌++◌, None, Result, Ok, refl, sym, ap, subst, ◌∙◌, arith, cond, eqb, ◌||◌, false, Some, ◌⊎◌, inl, inr}
 use Rattle.std.specs.List.{AllByRecursion}
 use Rattle.nr_xdr.specs.Item.{IsBytes}
@@ -62,9 +64,9 @@ front-xid opened k s u d all_up all_down w place message rest l g first =
     ∙ ap (λ (n : ℕ). opened.first_xid + n) (sym l.sends_up)
 
 guards-up : (opened : LinkParameters) (k : ClientState) (s t : ServerState) (u d all_up all_down : List FrameContent) (w : Transit) (place end : ℕ) (p : FrameContent) (rest said : List FrameContent) → Guards opened k s u d all_up all_down w place
-    → ServerAgrees opened k t (taken_up w rest said) end → AllByRecursion (ServerContent opened.granted) said → t.credit ≡ s.credit → AreWithin t.reads t.regions → AllByRecursion (IsNumbered opened.first_xid) t.calls → Answered opened.first_xid k t (u ++ p ∷ []) d (all_down ++ said) (taken_up w rest said)
+    → ServerAgrees opened k t (taken_up w rest said) end → AllByRecursion (ServerContent opened.granted) said → t.credit ≡ s.credit → AreWithin t.reads t.regions → length t.regions ≤ t.received.sends → AllByRecursion (IsNumbered opened.first_xid) t.calls → Answered opened.first_xid k t (u ++ p ∷ []) d (all_down ++ said) (taken_up w rest said)
     → Guards opened k t (u ++ p ∷ []) d all_up (all_down ++ said) (taken_up w rest said) end
-guards-up opened k s t u d all_up all_down w place end p rest said g server down credit within numbers answered = record {
+guards-up opened k s t u d all_up all_down w place end p rest said g server down credit within sinks numbers answered = record {
   server = server;
   window = g.window;
   up_said = g.up_said;
@@ -72,6 +74,7 @@ guards-up opened k s t u d all_up all_down w place end p rest said g server down
   credit = credit ∙ g.credit;
   calls = g.calls;
   within = within;
+  sinks = sinks;
   xids = g.xids;
   unsaid = g.unsaid;
   numbers = numbers;
@@ -142,6 +145,11 @@ within-after s f r is h =
     let e = subst (λ (x : FrameEffect). AreWithin x.reads x.regions) (step-is s f r is) h in
     within-closed (is_over (effect_in s f r).calls (effect_in s f r).reads) f.end (effect_in s f r).reads (effect_in s f r).regions e
 
+sinks-after : (s : ServerState) (f : Frame) (r : Result Segment ℕ) → frame_segment f ≡ r → (n : ℕ) → length (frame_effect s f).regions ≤ n → length (with_by s f r (effect_in s f r)).regions ≤ n
+sinks-after s f r is n h =
+    let e = subst (λ (x : FrameEffect). length x.regions ≤ n) (step-is s f r is) h in
+    omega (arith, e, count-closed (is_over (effect_in s f r).calls (effect_in s f r).reads) f.end (effect_in s f r).regions)
+
 pub takes-send : (opened : LinkParameters) (k : ClientState) (s : ServerState) (u d all_up all_down : List FrameContent) (w : Transit) (place : ℕ) (message : List ℕ) (rest : List FrameContent) (f : Frame) → IsOpened opened → EndsAgree opened k s u d all_up all_down w → Guards opened k s u d all_up all_down w place → w.up ≡ SendFrame message ∷ rest
     → Carries s.received.sends s.received.requests f (SendFrame message) → IsBytes f.bytes → f.bytes ≡ frame_bytes Initiator (numbered_segment s.received.sends s.received.requests (SendFrame message)) → place < f.end → ServerTakes opened k s u d all_up all_down w (SendFrame message) rest f
 takes-send opened k s u d all_up all_down w place message rest f o l g first piece bytes is lt =
@@ -164,6 +172,8 @@ takes-send opened k s u d all_up all_down w place message rest f o l g first pie
     (λ x. omega (arith, pending x, ap (λ (xs : List ℕ). times x xs) (effect-xids (frame_effect s f)), ap (λ (xs : List ℕ). times x xs) calls_are, ap (λ (n : ℕ). one_if (eqb n x)) own)) g.answered in
     let numbered = numbered-send opened.first_xid s f message l.counts.whole_up own g.numbers reads in
     let numbers = subst (AllByRecursion (IsNumbered opened.first_xid)) (ap (λ (e : FrameEffect). e.calls) (step-is s f (Ok segment) reads) ∙ ap (λ (x : ServerState). x.calls) (sym after)) numbered in
+    let chunk = count-send s f message l.counts.whole_up (payload_bytes segment (subst IsBytes is bytes)) size.4 reads in
+    let sinks = sinks-after s f (Ok segment) reads (s.received.sends + 1) (omega (arith, chunk, g.sinks)) in
     let within = within-after s f (Ok segment) reads (within-send s f message l.counts.whole_up (payload_bytes segment (subst IsBytes is bytes)) g.within reads) in
     record {
       ends = t.0;
@@ -171,7 +181,7 @@ takes-send opened k s u d all_up all_down w place message rest f o l g first pie
           subst (λ (said : List FrameContent). Guards opened k (server_state_after opened s (FrameReceived f)) (u ++ SendFrame message ∷ []) d all_up (all_down ++ said) (taken_up w rest said) f.end) (sym says)
           (guards-up opened k s (server_state_after opened s (FrameReceived f)) u d all_up all_down w place f.end (SendFrame message) rest (effect_frames (frame_effect s f)) g
           (t.1 (not-refused opened s f piece.behind stays)) (credit-down opened s.credit (effect_frames (frame_effect s f)) g.credit (step-down s.credit (frame_effect s f) (replies-send s f message l.counts.whole_up small_xid (word_below 4 message (payload_bytes segment (subst IsBytes is bytes))) small reads)))
-          (ap (λ (x : ServerState). x.credit) after) (subst (λ (x : ServerState). AreWithin x.reads x.regions) (sym after) within) numbers answered);
+          (ap (λ (x : ServerState). x.credit) after) (subst (λ (x : ServerState). AreWithin x.reads x.regions) (sym after) within) (subst (λ (x : ServerState). length x.regions ≤ x.received.sends) (sym after) sinks) numbers answered);
     }
 
 pub takes-tagged : (opened : LinkParameters) (k : ClientState) (s : ServerState) (u d all_up all_down : List FrameContent) (w : Transit) (place : ℕ) (last : Bool) (opcode stag to : ℕ) (payload : List ℕ) (rest : List FrameContent) (f : Frame) → IsOpened opened → EndsAgree opened k s u d all_up all_down w → Guards opened k s u d all_up all_down w place
@@ -190,6 +200,7 @@ takes-tagged opened k s u d all_up all_down w place last opcode stag to payload 
     (λ x. omega (arith, pending x, ap (λ (xs : List ℕ). times x xs) (effect-xids (frame_effect s f)), ap (λ (xs : List ℕ). times x xs) calls_are)) g.answered in
     let numbered = numbered-tagged opened.first_xid s f last opcode stag to payload g.numbers reads in
     let numbers = subst (AllByRecursion (IsNumbered opened.first_xid)) (ap (λ (e : FrameEffect). e.calls) (step-is s f (Ok segment) reads) ∙ ap (λ (x : ServerState). x.calls) (sym after)) numbered in
+    let sinks = sinks-after s f (Ok segment) reads s.received.sends (omega (arith, count-tagged s f last opcode stag to payload reads, g.sinks)) in
     let within = within-after s f (Ok segment) reads (within-tagged s f last opcode stag to payload g.within reads) in
     record {
       ends = t.0;
@@ -197,7 +208,7 @@ takes-tagged opened k s u d all_up all_down w place last opcode stag to payload 
           subst (λ (said : List FrameContent). Guards opened k (server_state_after opened s (FrameReceived f)) (u ++ TaggedFrame last opcode stag to payload ∷ []) d all_up (all_down ++ said) (taken_up w rest said) f.end) (sym says)
           (guards-up opened k s (server_state_after opened s (FrameReceived f)) u d all_up all_down w place f.end (TaggedFrame last opcode stag to payload) rest (effect_frames (frame_effect s f)) g
           (t.1 (not-refused opened s f piece.behind stays)) (credit-down opened s.credit (effect_frames (frame_effect s f)) g.credit (step-down s.credit (frame_effect s f) (replies-tagged s f last opcode stag to payload (λ n c found. small-xid opened k s u d all_up all_down w place n c l g found) small reads)))
-          (ap (λ (x : ServerState). x.credit) after) (subst (λ (x : ServerState). AreWithin x.reads x.regions) (sym after) within) numbers answered);
+          (ap (λ (x : ServerState). x.credit) after) (subst (λ (x : ServerState). AreWithin x.reads x.regions) (sym after) within) (subst (λ (x : ServerState). length x.regions ≤ x.received.sends) (sym after) sinks) numbers answered);
     }
 
 -- the client's hello
@@ -224,5 +235,5 @@ hello-guards opened k s u d all_up all_down w place rest f g first is le =
     } in
     subst (λ (said : List FrameContent). Guards opened k (server_state_after opened s (FrameReceived f)) (u ++ HelloFrame ∷ []) d all_up (all_down ++ said) (taken_up w rest said) f.end) (sym says)
     (subst (λ (t : ServerState). Guards opened k t (u ++ HelloFrame ∷ []) d all_up (all_down ++ HelloFrame ∷ []) (taken_up w rest (HelloFrame ∷ [])) f.end) (sym after)
-    (guards-up opened k s s u d all_up all_down w place f.end HelloFrame rest (HelloFrame ∷ []) g server (tt, tt) refl g.within g.numbers
+    (guards-up opened k s s u d all_up all_down w place f.end HelloFrame rest (HelloFrame ∷ []) g server (tt, tt) refl g.within g.sinks g.numbers
     (answered-other opened.first_xid k s s u d all_down w HelloFrame rest (HelloFrame ∷ []) first refl (λ x. omega arith) g.answered)))

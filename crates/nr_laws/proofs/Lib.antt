@@ -11,6 +11,7 @@ pub mod PendingFrames
 pub mod PendingExecuted
 pub mod PendingSends
 pub mod Writable
+pub mod OneChunk
 pub mod WritableOffers
 pub mod AnswerLists
 pub mod ServerOutput
@@ -51,3 +52,4 @@ pub mod CallWords
 pub mod CallNumbers
 pub mod AnsweredCalls
 pub mod AnsweredSteps
+pub mod SinkCount

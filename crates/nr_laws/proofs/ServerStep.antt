@@ -1,5 +1,11 @@
 -- A frame at a server: it ends the server only for what the server makes of a call, else the guards are kept.
-use Rattle.std.proofs.Common.{◌≡◌, ◌≢◌, ℕ, ◌+◌, ◌≤◌, ◌<◌, Bool, true, false, cond, not, ◌&&◌, ◌||◌, eqb, ltb, List, [], ◌∷◌, ◌++◌, length, drop, Option, Some, None, Result, Ok, Err, refl, sym, ap, subst, ◌∙◌, arith, inl, inr}
+use Rattle.std.proofs.lemmas.Bool.{le-ltb}
+use Rattle.nr_laws.proofs.AgreeingEnds.{payload_bytes}
+use Rattle.nr_laws.proofs.ClientFrame.{calls_said}
+use Rattle.nr_laws.proofs.GuardsAtServer.{sent_most}
+use Rattle.std.specs.Prelude.{length}
+use Rattle.nr_laws.proofs.OneChunk.{HasOneChunk, OneChunk}
+use Rattle.std.proofs.Common.{◌≡◌, ◌≢◌, ℕ, ◌+◌, ◌≤◌, ◌<◌, Bool, true, false, cond, not, ◌&&◌, ◌||◌, eqb, List, [], ◌∷◌, ◌++◌, length, drop, Option, Some, None, Result, Ok, Err, refl, sym, ap, subst, ◌∙◌, arith, inl, inr}
 use Rattle.nr_xdr.specs.Item.{IsBytes}
 use Rattle.nr_xdr.specs.Fields.{word_at}
 use Rattle.std.proofs.lemmas.Bool.{ne_eqb}
@@ -58,10 +64,7 @@ head-reason : IsCallReason 18
 head-reason = inl refl
 
 xid-reason : IsCallReason 19
-xid-reason = inr (inl refl)
-
-stags-reason : IsCallReason 30
-stags-reason = inr (inr refl)
+xid-reason = inr refl
 
 refused-head : (c : PendingCall) (payload : List ℕ) (r : Result CallHead ℕ) (s : FrameEffect) → s.refusal ≡ None → Refusal (with_verdict (by_head c payload r) s).refusal
 refused-head c payload (Err at) s none = head-reason
@@ -89,45 +92,41 @@ VerdictReason OtherVersion = Unit {0}
 VerdictReason BadChunks = Unit {0}
 VerdictReason (MakesPending c) = Unit {0}
 
-reason-need : (k : ServerState) (c : PendingCall) → VerdictReason (by_need k c)
-reason-need k c = by (ltb 4294967296 (next_stag k + length (chunks_of c.lists)))
-  where
-    by : (b : Bool) → VerdictReason (cond b (EndsLink 30) (MakesPending c))
-    by true = stags-reason
-    by false = tt
+reason-need : (k : ServerState) (c : PendingCall) → next_stag k + length (chunks_of c.lists) ≤ 4294967296 → VerdictReason (by_need k c)
+reason-need k c le = subst (λ (b : Bool). VerdictReason (cond b (EndsLink 30) (MakesPending c))) (sym (le-ltb 4294967296 (next_stag k + length (chunks_of c.lists)) le)) tt
 
-reason-stream : (k : ServerState) (lists : ChunkLists) (xid : ℕ) (stream : Option (List ℕ)) → VerdictReason (by_stream k lists xid stream)
-reason-stream k lists xid None = reason-need k (record { number = k.received.sends + 1; xid = xid; lists = lists; inline = None })
-reason-stream k lists xid (Some stream) = by (is_read_chunk_of_item stream lists.read)
+reason-stream : (k : ServerState) (lists : ChunkLists) (xid : ℕ) (stream : Option (List ℕ)) → next_stag k + length (chunks_of lists) ≤ 4294967296 → VerdictReason (by_stream k lists xid stream)
+reason-stream k lists xid None le = reason-need k (record { number = k.received.sends + 1; xid = xid; lists = lists; inline = None }) le
+reason-stream k lists xid (Some stream) le = by (is_read_chunk_of_item stream lists.read)
   where
     by : (b : Bool) → VerdictReason (cond b (by_need k (record { number = k.received.sends + 1; xid = xid; lists = lists; inline = Some stream })) BadChunks)
-    by true = reason-need k (record { number = k.received.sends + 1; xid = xid; lists = lists; inline = Some stream })
+    by true = reason-need k (record { number = k.received.sends + 1; xid = xid; lists = lists; inline = Some stream }) le
     by false = tt
 
-reason-body : (k : ServerState) (xid : ℕ) (message : List ℕ) (body : Body) → VerdictReason (by_body k xid message body)
-reason-body k xid message (Msg lists at) = reason-stream k lists xid (Some (drop at message))
-reason-body k xid message (Nomsg lists) = by (has_position lists.read)
+reason-body : (k : ServerState) (xid : ℕ) (message : List ℕ) (body : Body) → next_stag k + 1 ≤ 4294967296 → HasOneChunk body → VerdictReason (by_body k xid message body)
+reason-body k xid message (Msg lists at) room one = reason-stream k lists xid (Some (drop at message)) (omega (arith, room, one))
+reason-body k xid message (Nomsg lists) room one = by (has_position lists.read)
   where
     by : (b : Bool) → VerdictReason (cond b (by_stream k lists xid (no_stream lists.read)) BadChunks)
-    by true = reason-stream k lists xid (no_stream lists.read)
+    by true = reason-stream k lists xid (no_stream lists.read) (omega (arith, room, one))
     by false = tt
-reason-body k xid message (ErrVers version low high) = tt
-reason-body k xid message (ErrChunk version) = tt
+reason-body k xid message (ErrVers version low high) room one = tt
+reason-body k xid message (ErrChunk version) room one = tt
 
-reason-header : (k : ServerState) (message : List ℕ) (r : Result Header HeaderFault) → VerdictReason (by_header k message r)
-reason-header k message (Ok h) = reason-body k h.xid message h.body
-reason-header k message (Err fault) = tt
+reason-header : (k : ServerState) (message : List ℕ) (r : Result Header HeaderFault) → header_of message ≡ r → next_stag k + 1 ≤ 4294967296 → IsBytes message → OneChunk message → VerdictReason (by_header k message r)
+reason-header k message (Ok h) is room bytes one = reason-body k h.xid message h.body room (one h bytes is)
+reason-header k message (Err fault) is room bytes one = tt
 
-reason-verdict : (k : ServerState) (message : List ℕ) → word_at 12 message ≤ 1 → is_pending k (word_at 0 message) ≡ false → VerdictReason (verdict k message)
+reason-verdict : (k : ServerState) (message : List ℕ) → word_at 12 message ≤ 1 → is_pending k (word_at 0 message) ≡ false → next_stag k + 1 ≤ 4294967296 → IsBytes message → OneChunk message → VerdictReason (verdict k message)
 unfolding verdict
-reason-verdict k message kind again =
+reason-verdict k message kind again room bytes one =
     subst (λ (b : Bool). VerdictReason (cond (not (eqb (word_at 4 message) 1)) OtherVersion (cond b (EndsLink 17) (cond (is_pending k (word_at 0 message)) (EndsLink 20) (by_header k message (header_of message))))))
     (sym (λ i. ne_eqb (word_at 12 message) 3 (λ e. omega (arith, e, kind)) i || ne_eqb (word_at 12 message) 4 (λ e. omega (arith, e, kind)) i))
     (subst (λ (b : Bool). VerdictReason (cond (not (eqb (word_at 4 message) 1)) OtherVersion (cond b (EndsLink 20) (by_header k message (header_of message))))) (sym again) (by (not (eqb (word_at 4 message) 1))))
   where
     by : (other : Bool) → VerdictReason (cond other OtherVersion (by_header k message (header_of message)))
     by true = tt
-    by false = reason-header k message (header_of message)
+    by false = reason-header k message (header_of message) refl room bytes one
 
 refused-message : (k : ServerState) (place : ℕ) (message : List ℕ) (v : Verdict) → VerdictReason v → Refusal (message_effect k place message v).refusal
 refused-message k place message (EndsLink reason) h = h
@@ -159,16 +158,16 @@ refused-tagged k f last opcode stag to payload is = subst (λ (r : Result Segmen
     by true = refused-response t f.end k.reads
     by false = tt
 
-refused-send : (k : ServerState) (f : Frame) (message : List ℕ) → k.received.begun ≡ None → word_at 12 message ≤ 1 → is_pending k (word_at 0 message) ≡ false
+refused-send : (k : ServerState) (f : Frame) (message : List ℕ) → k.received.begun ≡ None → word_at 12 message ≤ 1 → is_pending k (word_at 0 message) ≡ false → next_stag k + 1 ≤ 4294967296 → IsBytes message → OneChunk message
     → frame_segment f ≡ Ok (Untagged true OPCODE_SEND 0 QUEUE_SEND (msn_word (k.received.sends + 1)) 0 message) → Refusal (frame_effect k f).refusal
 unfolding frame_effect
-refused-send k f message none kind again is =
+refused-send k f message none kind again room bytes one is =
     let segment : Segment = Untagged true OPCODE_SEND 0 QUEUE_SEND (msn_word (k.received.sends + 1)) 0 message in
     let whole : List ℕ = begun_bytes k.received.begun ++ message in
     let same : message ≡ whole = ap (λ (b : Option (List ℕ)). begun_bytes b ++ message) (sym none) in
     subst (λ (r : Result Segment ℕ). Refusal (effect_in k f r).refusal) (sym is)
     (refused-message k f.end whole (verdict k whole)
-    (reason-verdict k whole (omega (arith, kind, ap (λ (xs : List ℕ). word_at 12 xs) same)) (ap (λ (xs : List ℕ). is_pending k (word_at 0 xs)) (sym same) ∙ again)))
+    (reason-verdict k whole (omega (arith, kind, ap (λ (xs : List ℕ). word_at 12 xs) same)) (ap (λ (xs : List ℕ). is_pending k (word_at 0 xs)) (sym same) ∙ again) room (subst IsBytes same bytes) (subst OneChunk same one)))
 
 call-end : (f : Frame) (refusal : Option ℕ) (end : End) → Refusal refusal → refusal_end f refusal ≡ Some end → IsCallEnd end
 call-end f None end h e = absurd cc
@@ -204,7 +203,11 @@ step-piece opened k s u d all_up all_down w place (SendFrame message) rest f o l
     let fine = front-up opened k s u d all_up all_down w place (SendFrame message) rest l g first in
     let xid = front-xid opened k s u d all_up all_down w place message rest l g first in
     let again = none-pending opened.first_xid s.received.sends (word_at 0 message) s.calls g.numbers l.waits.calls_below xid in
-    by-takes opened k s u d all_up all_down w (SendFrame message) rest f (refused-send s f message l.counts.whole_up fine.3 again reads) (takes-send opened k s u d all_up all_down w place message rest f o l g first piece bytes is lt)
+    let some : 0 < total_of sends_in w.up = omega (arith, ap (total_of sends_in) first) in
+    let sent = calls_said opened k s u d all_up all_down w l in
+    let room : next_stag s + 1 ≤ 4294967296 =
+    omega (arith, o.xid, g.sinks, g.answered.room, some, sent, sent_most k, l.sends_up, ap (total_of sends_in) l.parts_up, total-append sends_in u (w.up ++ w.queued_up), total-append sends_in w.up w.queued_up) in
+    by-takes opened k s u d all_up all_down w (SendFrame message) rest f (refused-send s f message l.counts.whole_up fine.3 again room (payload_bytes segment (subst IsBytes is bytes)) fine.4 reads) (takes-send opened k s u d all_up all_down w place message rest f o l g first piece bytes is lt)
 step-piece opened k s u d all_up all_down w place (RequestFrame sink at size stag to) rest f o l g first proper piece bytes is lt =
     absurd (omega (arith, l.no_reads, ap (total_of requests_in) l.parts_up, total-append requests_in u (w.up ++ w.queued_up), total-append requests_in w.up w.queued_up, ap (total_of requests_in) first))
 step-piece opened k s u d all_up all_down w place (TaggedFrame last opcode stag to payload) rest f o l g first proper piece bytes is lt =

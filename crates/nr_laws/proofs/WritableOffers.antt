@@ -1,5 +1,6 @@
 -- What a client offers by a message that makes its call pending is within the limits of a header: so each segment of an answer,
 -- and its message, can be written.
+use Rattle.nr_laws.proofs.OneChunk.{HasOneChunk, OneChunk}
 use Rattle.std.proofs.Common.{◌≡◌, ℕ, ◌+◌, ◌*◌, ◌≤◌, ◌<◌, ◌^◌, Bool, true, false, cond, not, ◌||◌, eqb, ltb, List, [], ◌∷◌, length, sum_by, drop, Option, Some, None, IfSome, Result, Ok, Err, refl, sym, subst, ◌∙◌, arith, inl, inr}
 use Rattle.std.specs.List.{All}
 use Rattle.std.proofs.lemmas.Bool.{cases_lt, lt-ltb}
@@ -203,3 +204,27 @@ verdict_few k message c e = by (not (eqb (word_at 4 message) 1)) (eqb (word_at 1
     by false true open_call e = absurd cc
     by false false true e = absurd cc
     by false false false e = few_from k c (header_need k message (header_of message) c e)
+
+body_one : (k : ServerState) (xid : ℕ) (message : List ℕ) (body : Body) (c : PendingCall) → HasOneChunk body → by_body k xid message body ≡ MakesPending c → length (chunks_of c.lists) ≤ 1
+body_one k xid message (Msg lists at) c one e = subst (λ (l : ChunkLists). length (chunks_of l) ≤ 1) (sym (stream_lists k lists xid (Some (drop at message)) c e)) one
+body_one k xid message (Nomsg lists) c one e = by (has_position lists.read) e
+  where
+    by : (b : Bool) → cond b (by_stream k lists xid (no_stream lists.read)) BadChunks ≡ MakesPending c → length (chunks_of c.lists) ≤ 1
+    by true e = subst (λ (l : ChunkLists). length (chunks_of l) ≤ 1) (sym (stream_lists k lists xid (no_stream lists.read) c e)) one
+    by false e = absurd cc
+body_one k xid message (ErrVers version low high) c one e = absurd cc
+body_one k xid message (ErrChunk version) c one e = absurd cc
+
+header_one : (k : ServerState) (message : List ℕ) (r : Result Header HeaderFault) (c : PendingCall) → IsBytes message → OneChunk message → header_of message ≡ r → by_header k message r ≡ MakesPending c → length (chunks_of c.lists) ≤ 1
+header_one k message (Ok h) c bytes one is e = body_one k h.xid message h.body c (one h bytes is) e
+header_one k message (Err fault) c bytes one is e = absurd cc
+
+pub verdict_one : (k : ServerState) (message : List ℕ) (c : PendingCall) → IsBytes message → OneChunk message → verdict k message ≡ MakesPending c → length (chunks_of c.lists) ≤ 1
+unfolding verdict
+verdict_one k message c bytes one e = by (not (eqb (word_at 4 message) 1)) (eqb (word_at 12 message) 3 || eqb (word_at 12 message) 4) (is_pending k (word_at 0 message)) e
+  where
+    by : (other kind open_call : Bool) → cond other OtherVersion (cond kind (EndsLink 17) (cond open_call (EndsLink 20) (by_header k message (header_of message)))) ≡ MakesPending c → length (chunks_of c.lists) ≤ 1
+    by true kind open_call e = absurd cc
+    by false true open_call e = absurd cc
+    by false false true e = absurd cc
+    by false false false e = header_one k message (header_of message) c bytes one refl e

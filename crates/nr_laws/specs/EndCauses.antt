@@ -4,7 +4,7 @@ use Rattle.nr_wire.specs.declared.hello.Side.TheVariants.{Initiator, Responder}
 use Rattle.nr_regions.specs.declared.denied.Denied.{Denied}
 use Rattle.nr_link.specs.declared.end.End.{End}
 use Rattle.nr_link.specs.declared.end.End.TheVariants as ends
-use Rattle.nr_link.specs.Reasons.{REASON_HEAD, REASON_XID, REASON_CHUNKS, REASON_STAGS}
+use Rattle.nr_link.specs.Reasons.{REASON_HEAD, REASON_XID, REASON_CHUNKS}
 use Rattle.nr_reduce.specs.declared.mark.Mark.{Mark}
 use Rattle.nr_reduce.specs.declared.mark.LinkParameters.{LinkParameters}
 use Rattle.nr_reduce.specs.Opening.{IsOpened}
@@ -23,10 +23,9 @@ pub record KeepLaws (opened : LinkParameters) (link : ℕ) (run : List Mark) : T
   pub matched : Matched link run
   pub grant : KeepsGrant opened link run
 
--- what a server makes of a call may end it for these reasons: a payload without an RPC call head, a head with another xid, no STag
--- left
+-- what a server makes of a call may end it for these reasons: a payload without an RPC call head, a head with another xid
 abbrev pub IsCallReason : ℕ → Type 0
-IsCallReason reason = (reason ≡ REASON_HEAD) ⊎ ((reason ≡ REASON_XID) ⊎ (reason ≡ REASON_STAGS))
+IsCallReason reason = (reason ≡ REASON_HEAD) ⊎ (reason ≡ REASON_XID)
 
 abbrev pub IsCallEnd : End → Type 0
 IsCallEnd end = (at : ℕ) × (reason : ℕ) × (end ≡ ends.Bad at reason) × IsCallReason reason
