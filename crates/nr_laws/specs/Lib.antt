@@ -4,3 +4,7 @@ pub mod Once
 pub mod Grant
 pub mod Touches
 pub mod Places
+pub mod FrameContents
+pub mod LinkInvariants
+pub mod Completion
+pub mod EndCauses

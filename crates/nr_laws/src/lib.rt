@@ -4,6 +4,8 @@
 //! public function has a law as its contract. `docs/LAWS.md` puts each law's sentence beside its premises.
 #![tactic(auto)]
 
+mod completion;
 mod laws;
 
+pub use completion::{calls_complete, segments_keep_the_rules};
 pub use laws::{grant, once, places, touches};
