@@ -1,0 +1,295 @@
+-- Each call that a client accepted is outstanding, has an outcome, or was given up: whatever is received, while the client doesn't end.
+use Rattle.std.proofs.Common.{◌≡◌, ◌≢◌, ℕ, Bool, true, false, cond, not, ◌&&◌, ◌||◌, eqb, List, [], ◌∷◌, ◌++◌, map, drop, filter, Option, Some, None, Result, Ok, Err, refl, sym, ap, subst, ◌∙◌}
+use Rattle.std.specs.List.{list_any, find, AllByRecursion}
+use Rattle.std.proofs.lemmas.Bool.{eqb-true, eq-eqb}
+use Rattle.nr_header.specs.declared.fault.HeaderFault.{HeaderFault}
+use Rattle.nr_header.specs.declared.fault.HeaderFault.TheVariants as faults
+use Rattle.nr_header.specs.declared.header.ChunkLists.{ChunkLists}
+use Rattle.nr_header.specs.declared.header.Body.{Body}
+use Rattle.nr_header.specs.declared.header.Body.TheVariants.{Msg, Nomsg, ErrVers, ErrChunk}
+use Rattle.nr_header.specs.declared.header.Header.{Header}
+use Rattle.nr_header.specs.Reading.{header_of}
+use Rattle.nr_rpc.specs.declared.head.ReplyHead.{ReplyHead}
+use Rattle.nr_rpc.specs.Reading.{reply_of}
+use Rattle.nr_xdr.specs.Fields.{word_at}
+use Rattle.nr_wire.specs.Segment.{Segment}
+use Rattle.nr_link.specs.Frames.{Frame, is_hello}
+use Rattle.nr_link.specs.Ending.{frame_segment}
+use Rattle.nr_link.specs.ReceiveState.{ReadRequest, message_completed, read_request_of}
+use Rattle.nr_reduce.specs.declared.call.Outcome.{Outcome}
+use Rattle.nr_reduce.specs.declared.call.Outcome.TheVariants as outcomes
+use Rattle.nr_reduce.specs.declared.mark.LinkParameters.{LinkParameters}
+use Rattle.nr_reduce.specs.History.{AcceptedCall, CompletedCall}
+use Rattle.nr_reduce.specs.Events.Event.{FrameReceived, CallSubmitted, MemoryRevoked, QueueWritten}
+use Rattle.nr_reduce.specs.Plans.{lists_of}
+use Rattle.nr_reduce.specs.Chunks.{answers_offer, reply_conveyed}
+use Rattle.nr_reduce.specs.ClientState.{ClientState, OutstandingCall, memory_at}
+use Rattle.nr_reduce.specs.ClientMessages.{Verdict, verdict, by_head, by_payload, by_lists, by_body, by_call, answered_call, by_header, reply_xid}
+use Rattle.nr_reduce.specs.ClientMessages.Verdict.{EndsLink, GivesOutcome}
+use Rattle.nr_reduce.specs.Client.{client_end, client_state_after, end_of_verdict, outstanding_of, outcomes_of, revoked_call, written_call, with_message, with_request, with_segment, segment_message, message_end}
+use Rattle.nr_laws.proofs.Keys.{any-append, or-left, or-right}
+use Rattle.nr_laws.proofs.TotalsAtClient.{header-xid, taken}
+
+-- ---- A message that doesn't end the client gives an outcome of the call of its xid, or that call's memory was revoked
+
+record GivenOutcome (gone : ℕ → Bool) (xid : ℕ) (v : Verdict) : Type 0 where
+  outcome : Option Outcome
+  is : v ≡ GivesOutcome xid outcome
+  if_none : outcome ≡ None → gone xid ≡ true
+
+-- the memory of a call is revoked only where it was given up
+abbrev pub RevokedGone : (ℕ → Bool) → OutstandingCall → Type 0
+RevokedGone gone o = o.is_revoked ≡ true → gone o.xid ≡ true
+
+some_not : (x : Outcome) → Some x ≢ None
+some_not x e = cc
+
+given-head : (gone : ℕ → Bool) (f : Frame) (xid : ℕ) (payload : List ℕ) (r : Result ReplyHead ℕ) → end_of_verdict f (by_head xid payload r) ≡ None → GivenOutcome gone xid (by_head xid payload r)
+given-head gone f xid payload (Err at) e = absurd cc
+given-head gone f xid payload (Ok head) e = by (eqb (reply_xid head) xid) e
+  where
+    by : (b : Bool) → end_of_verdict f (cond b (GivesOutcome xid (Some (outcomes.Reply payload))) (EndsLink 19)) ≡ None → GivenOutcome gone xid (cond b (GivesOutcome xid (Some (outcomes.Reply payload))) (EndsLink 19))
+    by true e = record { outcome = Some (outcomes.Reply payload); is = refl; if_none = λ x. absurd (some_not (outcomes.Reply payload) x) }
+    by false e = absurd cc
+
+given-payload : (gone : ℕ → Bool) (f : Frame) (xid : ℕ) (payload : Option (List ℕ)) → end_of_verdict f (by_payload xid payload) ≡ None → GivenOutcome gone xid (by_payload xid payload)
+given-payload gone f xid None e = absurd cc
+given-payload gone f xid (Some payload) e = given-head gone f xid payload (reply_of payload) e
+
+given-lists : (gone : ℕ → Bool) (k : ClientState) (f : Frame) (o : OutstandingCall) (inline : Option (List ℕ)) (lists : ChunkLists) (b : Bool) → RevokedGone gone o → end_of_verdict f (by_lists k f.end o inline lists b) ≡ None
+    → GivenOutcome gone o.xid (by_lists k f.end o inline lists b)
+given-lists gone k f o inline lists false h e = absurd cc
+given-lists gone k f o inline lists true h e = by o.is_revoked refl e
+  where
+    conveyed : Option (List ℕ)
+    conveyed = reply_conveyed o.call.prog o.call.vers o.call.proc inline lists (memory_at k f.end)
+
+    by : (b : Bool) → o.is_revoked ≡ b → end_of_verdict f (cond b (GivesOutcome o.xid None) (by_payload o.xid conveyed)) ≡ None → GivenOutcome gone o.xid (cond b (GivesOutcome o.xid None) (by_payload o.xid conveyed))
+    by true is e = record { outcome = None; is = refl; if_none = λ x. h is }
+    by false is e = given-payload gone f o.xid conveyed e
+
+given-body : (gone : ℕ → Bool) (k : ClientState) (f : Frame) (message : List ℕ) (o : OutstandingCall) (body : Body) → RevokedGone gone o → end_of_verdict f (by_body k f.end o message body) ≡ None → GivenOutcome gone o.xid (by_body k f.end o message body)
+given-body gone k f message o (Msg lists at) h e = given-lists gone k f o (Some (drop at message)) lists (answers_offer false (lists_of o.stag o.plan) lists) h e
+given-body gone k f message o (Nomsg lists) h e = given-lists gone k f o None lists (answers_offer true (lists_of o.stag o.plan) lists) h e
+given-body gone k f message o (ErrVers version low high) h e = record { outcome = Some (outcomes.Version low high); is = refl; if_none = λ x. absurd (some_not (outcomes.Version low high) x) }
+given-body gone k f message o (ErrChunk version) h e = record { outcome = Some outcomes.Chunk; is = refl; if_none = λ x. absurd (some_not outcomes.Chunk x) }
+
+-- what is found
+record FoundCall (gone : ℕ → Bool) (xid : ℕ) (o : OutstandingCall) : Type 0 where
+  own : o.xid ≡ xid
+  revoked : RevokedGone gone o
+
+found-call : (gone : ℕ → Bool) (xid : ℕ) (os : List OutstandingCall) (o : OutstandingCall) → AllByRecursion (RevokedGone gone) os → find (λ (x : OutstandingCall). eqb x.xid xid && x.is_written) os ≡ Some o → FoundCall gone xid o
+found-call gone xid [] o h e = absurd cc
+found-call gone xid (x ∷ os) o h e = by (eqb x.xid xid) x.is_written refl e (found-call gone xid os o h.1)
+  where
+    here : x ≡ o → eqb x.xid xid ≡ true → FoundCall gone xid o
+    here same is = subst (FoundCall gone xid) same (record { own = eqb-true x.xid xid is; revoked = h.0 })
+
+    by : (b c : Bool) → eqb x.xid xid ≡ b → cond (b && c) (Some x) (find (λ (y : OutstandingCall). eqb y.xid xid && y.is_written) os) ≡ Some o → (find (λ (y : OutstandingCall). eqb y.xid xid && y.is_written) os ≡ Some o → FoundCall gone xid o) → FoundCall gone xid o
+    by true true is e later = here (let same : x ≡ o = cc in same) is
+    by true false is e later = later e
+    by false c is e later = later e
+
+given-call : (gone : ℕ → Bool) (k : ClientState) (f : Frame) (message : List ℕ) (xid : ℕ) (body : Body) (o : Option OutstandingCall) → AllByRecursion (RevokedGone gone) k.outstanding → answered_call k xid ≡ o → end_of_verdict f (by_call k f.end message body o) ≡ None
+    → GivenOutcome gone xid (by_call k f.end message body o)
+given-call gone k f message xid body None h is e = absurd cc
+given-call gone k f message xid body (Some o) h is e =
+    let found = found-call gone xid k.outstanding o h is in
+    subst (λ (x : ℕ). GivenOutcome gone x (by_body k f.end o message body)) found.own (given-body gone k f message o body found.revoked e)
+
+given-header : (gone : ℕ → Bool) (k : ClientState) (f : Frame) (message : List ℕ) (r : Result Header HeaderFault) → AllByRecursion (RevokedGone gone) k.outstanding → header_of message ≡ r → end_of_verdict f (by_header k f.end message r) ≡ None
+    → GivenOutcome gone (word_at 0 message) (by_header k f.end message r)
+given-header gone k f message (Ok h) kept is e =
+    subst (λ (x : ℕ). GivenOutcome gone x (by_call k f.end message h.body (answered_call k h.xid))) (header-xid message h is) (given-call gone k f message h.xid h.body (answered_call k h.xid) kept refl e)
+given-header gone k f message (Err faults.Short) kept is e = absurd cc
+given-header gone k f message (Err (faults.Version version)) kept is e = absurd cc
+given-header gone k f message (Err (faults.Kind kind)) kept is e = absurd cc
+given-header gone k f message (Err (faults.BadChunks at)) kept is e = absurd cc
+
+given : (gone : ℕ → Bool) (k : ClientState) (f : Frame) (message : List ℕ) → AllByRecursion (RevokedGone gone) k.outstanding → end_of_verdict f (verdict k f.end message) ≡ None → GivenOutcome gone (word_at 0 message) (verdict k f.end message)
+unfolding verdict
+given gone k f message kept e = given-header gone k f message (header_of message) kept refl e
+
+-- ---- What a client accounts for
+
+abbrev pub is_outstanding : List OutstandingCall → ℕ → Bool
+is_outstanding os xid = list_any (λ (o : OutstandingCall). eqb o.xid xid) os
+
+abbrev pub has_outcome : List CompletedCall → ℕ → Bool
+has_outcome done xid = list_any (λ (c : CompletedCall). eqb c.xid xid) done
+
+abbrev pub IsAccounted : (ℕ → Bool) → ClientState → ℕ → Type 0
+IsAccounted gone k xid = (is_outstanding k.outstanding xid || (has_outcome k.outcomes xid || gone xid)) ≡ true
+
+pub record CallsAccounted (gone : ℕ → Bool) (xids : List ℕ) (k : ClientState) : Type 0 where
+  pub each : AllByRecursion (IsAccounted gone k) xids
+  pub revoked : AllByRecursion (RevokedGone gone) k.outstanding
+
+each-to : (P Q : ℕ → Type 0) (xids : List ℕ) → ((x : ℕ) → P x → Q x) → AllByRecursion P xids → AllByRecursion Q xids
+each-to P Q [] f h = tt
+each-to P Q (x ∷ xids) f h = (f x h.0, each-to P Q xids f h.1)
+
+either : (a b c d e f : Bool) → (a ≡ true → d ≡ true) → (b ≡ true → e ≡ true) → (c ≡ true → f ≡ true) → (a || (b || c)) ≡ true → (d || (e || f)) ≡ true
+either true b c d e f p q r h = or-left d (e || f) (p refl)
+either false true c d e f p q r h = or-right d (e || f) (or-left e f (q refl))
+either false false c d e f p q r h = or-right d (e || f) (or-right e f (r h))
+
+-- ---- A frame
+
+revoked-kept : (gone : ℕ → Bool) (p : OutstandingCall → Bool) (os : List OutstandingCall) → AllByRecursion (RevokedGone gone) os → AllByRecursion (RevokedGone gone) (filter p os)
+revoked-kept gone p [] h = tt
+revoked-kept gone p (o ∷ os) h = by (p o) (revoked-kept gone p os h.1)
+  where
+    by : (b : Bool) → AllByRecursion (RevokedGone gone) (filter p os) → AllByRecursion (RevokedGone gone) (cond b (o ∷ filter p os) (filter p os))
+    by true k = (h.0, k)
+    by false k = k
+
+differ : (n xid : ℕ) → eqb n xid ≡ true → (other : ℕ) → eqb xid other ≡ false → eqb n other ≡ false
+differ n xid e other not_other = ap (λ (x : ℕ). eqb x other) (eqb-true n xid e) ∙ not_other
+
+others-stay : (xid x : ℕ) (os : List OutstandingCall) → eqb x xid ≡ false → is_outstanding os x ≡ true → is_outstanding (filter (λ (o : OutstandingCall). not (eqb o.xid xid)) os) x ≡ true
+others-stay xid x [] ne e = e
+others-stay xid x (o ∷ os) ne e = by (eqb o.xid x) (eqb o.xid xid) refl refl e (others-stay xid x os ne)
+  where
+    rest : List OutstandingCall
+    rest = filter (λ (y : OutstandingCall). not (eqb y.xid xid)) os
+
+    by : (a b : Bool) → eqb o.xid x ≡ a → eqb o.xid xid ≡ b → (a || is_outstanding os x) ≡ true → (is_outstanding os x ≡ true → is_outstanding rest x ≡ true) → is_outstanding (cond (not b) (o ∷ rest) rest) x ≡ true
+    by true true own same e later = absurd (let wrong : true ≡ false = sym same ∙ differ o.xid x own xid ne in cc)
+    by true false own same e later = or-left (eqb o.xid x) (is_outstanding rest x) own
+    by false true own same e later = later e
+    by false false own same e later = or-right (eqb o.xid x) (is_outstanding rest x) (later e)
+
+outcome-more : (done more : List CompletedCall) (x : ℕ) → has_outcome done x ≡ true → has_outcome (done ++ more) x ≡ true
+outcome-more done more x e = any-append (λ (c : CompletedCall). eqb c.xid x) done more ∙ or-left (has_outcome done x) (has_outcome more x) e
+
+outcome-new : (done more : List CompletedCall) (x : ℕ) → has_outcome more x ≡ true → has_outcome (done ++ more) x ≡ true
+outcome-new done more x e = any-append (λ (c : CompletedCall). eqb c.xid x) done more ∙ or-right (has_outcome done x) (has_outcome more x) e
+
+message-each : (gone : ℕ → Bool) (k : ClientState) (place : ℕ) (message : List ℕ) → GivenOutcome gone (word_at 0 message) (verdict k place message) → (x : ℕ) → IsAccounted gone k x → IsAccounted gone (with_message k place (Some message)) x
+message-each gone k place message g x h = by (eqb x (word_at 0 message)) refl
+  where
+    t : ClientState
+    t = with_message k place (Some message)
+
+    new : (o : Option Outcome) → g.outcome ≡ o → x ≡ word_at 0 message → IsAccounted gone t x
+    new (Some outcome) is same =
+        let done : outcomes_of (verdict k place message) ≡ record { xid = word_at 0 message; outcome = outcome } ∷ [] = ap outcomes_of (g.is ∙ ap (λ (o : Option Outcome). GivesOutcome (word_at 0 message) o) is) in
+        let here : has_outcome (outcomes_of (verdict k place message)) x ≡ true =
+        ap (λ (cs : List CompletedCall). has_outcome cs x) done ∙ or-left (eqb (word_at 0 message) x) false (eq-eqb (word_at 0 message) x (sym same)) in
+        or-right (is_outstanding t.outstanding x) (has_outcome t.outcomes x || gone x)
+        (or-left (has_outcome t.outcomes x) (gone x) (outcome-new k.outcomes (outcomes_of (verdict k place message)) x here))
+    new None is same =
+        or-right (is_outstanding t.outstanding x) (has_outcome t.outcomes x || gone x)
+        (or-right (has_outcome t.outcomes x) (gone x) (ap gone same ∙ g.if_none is))
+
+    by : (b : Bool) → eqb x (word_at 0 message) ≡ b → IsAccounted gone t x
+    by true e = new g.outcome refl (eqb-true x (word_at 0 message) e)
+    by false e =
+        either (is_outstanding k.outstanding x) (has_outcome k.outcomes x) (gone x) (is_outstanding t.outstanding x) (has_outcome t.outcomes x) (gone x)
+        (others-stay (word_at 0 message) x k.outstanding e) (outcome-more k.outcomes (outcomes_of (verdict k place message)) x) (λ z. z) h
+
+request-accounts : (gone : ℕ → Bool) (xids : List ℕ) (k : ClientState) (q : Option ReadRequest) → CallsAccounted gone xids k → CallsAccounted gone xids (with_request k q)
+request-accounts gone xids k None h = h
+request-accounts gone xids k (Some r) h = record { each = h.each; revoked = h.revoked }
+
+message-accounts : (gone : ℕ → Bool) (xids : List ℕ) (k : ClientState) (f : Frame) (m : Option (List ℕ)) → ((message : List ℕ) → m ≡ Some message → end_of_verdict f (verdict k f.end message) ≡ None) → CallsAccounted gone xids k → CallsAccounted gone xids (with_message k f.end m)
+message-accounts gone xids k f None stays h = h
+message-accounts gone xids k f (Some message) stays h =
+    let g = given gone k f message h.revoked (stays message refl) in
+    record {
+      each = each-to (IsAccounted gone k) (IsAccounted gone (with_message k f.end (Some message))) xids (message-each gone k f.end message g) h.each;
+      revoked = revoked-kept gone (λ (o : OutstandingCall). not (eqb o.xid (word_at 0 message))) k.outstanding h.revoked;
+    }
+
+segment-accounts : (gone : ℕ → Bool) (xids : List ℕ) (k : ClientState) (f : Frame) (r : Result Segment ℕ) → ((message : List ℕ) → segment_message k r ≡ Some message → end_of_verdict f (verdict k f.end message) ≡ None) → CallsAccounted gone xids k → CallsAccounted gone xids (with_segment k f r)
+segment-accounts gone xids k f (Err reason) stays h = h
+segment-accounts gone xids k f (Ok segment) stays h =
+    let m = request-accounts gone xids (with_message k f.end (message_completed k.received segment)) (read_request_of segment) (message-accounts gone xids k f (message_completed k.received segment) stays h) in
+    record { each = m.each; revoked = m.revoked }
+
+pub frame-accounts : (opened : LinkParameters) (gone : ℕ → Bool) (xids : List ℕ) (k : ClientState) (f : Frame) → client_end k (FrameReceived f) ≡ None → CallsAccounted gone xids k → CallsAccounted gone xids (client_state_after opened k (FrameReceived f))
+unfolding client_state_after
+frame-accounts opened gone xids k f e h = by (is_hello f) refl
+  where
+    by : (b : Bool) → is_hello f ≡ b → CallsAccounted gone xids (cond b (record k { has_hello = true }) (with_segment k f (frame_segment f)))
+    by true is = record { each = h.each; revoked = h.revoked }
+    by false is =
+        let unended = taken k f is e in
+        segment-accounts gone xids k f (frame_segment f)
+        (λ message m. ap (λ (o : Option (List ℕ)). message_end k f o) (sym m) ∙ unended) h
+
+-- ---- Other events
+
+any-map : (f : OutstandingCall → OutstandingCall) (os : List OutstandingCall) (x : ℕ) → ((o : OutstandingCall) → (f o).xid ≡ o.xid) → is_outstanding (map f os) x ≡ is_outstanding os x
+any-map f [] x same = refl
+any-map f (o ∷ os) x same = λ i. eqb (same o i) x || any-map f os x same i
+
+revoked-to : (gone later : ℕ → Bool) (os : List OutstandingCall) → ((x : ℕ) → gone x ≡ true → later x ≡ true) → AllByRecursion (RevokedGone gone) os → AllByRecursion (RevokedGone later) os
+revoked-to gone later [] more h = tt
+revoked-to gone later (o ∷ os) more h = ((λ e. more o.xid (h.0 e)), revoked-to gone later os more h.1)
+
+revoked-map : (gone : ℕ → Bool) (f : OutstandingCall → OutstandingCall) (os : List OutstandingCall) → ((o : OutstandingCall) → RevokedGone gone o → RevokedGone gone (f o)) → AllByRecursion (RevokedGone gone) os → AllByRecursion (RevokedGone gone) (map f os)
+revoked-map gone f [] kept h = tt
+revoked-map gone f (o ∷ os) kept h = (kept o h.0, revoked-map gone f os kept h.1)
+
+-- more is given up
+pub accounts-gone : (gone later : ℕ → Bool) (xids : List ℕ) (k : ClientState) → ((x : ℕ) → gone x ≡ true → later x ≡ true) → CallsAccounted gone xids k → CallsAccounted later xids k
+accounts-gone gone later xids k more h = record {
+  each = each-to (IsAccounted gone k) (IsAccounted later k) xids (λ x. either (is_outstanding k.outstanding x) (has_outcome k.outcomes x) (gone x) (is_outstanding k.outstanding x) (has_outcome k.outcomes x) (later x) (λ z. z) (λ z. z) (more x)) h.each;
+  revoked = revoked-to gone later k.outstanding more h.revoked;
+}
+
+pub written-accounts : (opened : LinkParameters) (gone : ℕ → Bool) (xids : List ℕ) (k : ClientState) → CallsAccounted gone xids k → CallsAccounted gone xids (client_state_after opened k QueueWritten)
+unfolding client_state_after
+written-accounts opened gone xids k h = record {
+  each = each-to (IsAccounted gone k) (IsAccounted gone (client_state_after opened k QueueWritten)) xids
+      (λ x h. ap (λ (b : Bool). b || (has_outcome k.outcomes x || gone x)) (any-map (written_call k.has_hello) k.outstanding x (λ o. refl)) ∙ h) h.each;
+  revoked = revoked-map gone (written_call k.has_hello) k.outstanding (λ o kept. kept) h.revoked;
+}
+
+pub revoked-accounts : (opened : LinkParameters) (gone : ℕ → Bool) (xids : List ℕ) (k : ClientState) (place xid : ℕ) → gone xid ≡ true → CallsAccounted gone xids k → CallsAccounted gone xids (client_state_after opened k (MemoryRevoked place xid))
+unfolding client_state_after
+revoked-accounts opened gone xids k place xid is h = record {
+  each = each-to (IsAccounted gone k) (IsAccounted gone (client_state_after opened k (MemoryRevoked place xid))) xids
+      (λ x h. ap (λ (b : Bool). b || (has_outcome k.outcomes x || gone x)) (any-map (revoked_call xid) k.outstanding x same) ∙ h) h.each;
+  revoked = revoked-map gone (revoked_call xid) k.outstanding kept h.revoked;
+}
+  where
+    same : (o : OutstandingCall) → (revoked_call xid o).xid ≡ o.xid
+    same o = by (eqb o.xid xid)
+      where
+        by : (b : Bool) → (cond b (record o { is_revoked = true }) o).xid ≡ o.xid
+        by true = refl
+        by false = refl
+
+    kept : (o : OutstandingCall) → RevokedGone gone o → RevokedGone gone (revoked_call xid o)
+    kept o h = by (eqb o.xid xid) refl
+      where
+        by : (b : Bool) → eqb o.xid xid ≡ b → RevokedGone gone (cond b (record o { is_revoked = true }) o)
+        by true e = λ z. ap gone (eqb-true o.xid xid e) ∙ is
+        by false e = h
+
+pub submit-accounts : (opened : LinkParameters) (gone : ℕ → Bool) (xids : List ℕ) (k : ClientState) (place : ℕ) (a : AcceptedCall) → CallsAccounted gone xids k → CallsAccounted gone (xids ++ a.xid ∷ []) (client_state_after opened k (CallSubmitted place a))
+unfolding client_state_after
+submit-accounts opened gone xids k place a h = record {
+  each = push xids (each-to (IsAccounted gone k) (IsAccounted gone (client_state_after opened k (CallSubmitted place a))) xids
+      (λ x. either (is_outstanding k.outstanding x) (has_outcome k.outcomes x) (gone x) (is_outstanding (k.outstanding ++ outstanding_of k a ∷ []) x) (has_outcome k.outcomes x) (gone x)
+      (λ e. any-append (λ (o : OutstandingCall). eqb o.xid x) k.outstanding (outstanding_of k a ∷ []) ∙ or-left (is_outstanding k.outstanding x) (is_outstanding (outstanding_of k a ∷ []) x) e) (λ z. z) (λ z. z)) h.each);
+  revoked = more k.outstanding h.revoked;
+}
+  where
+    own : IsAccounted gone (client_state_after opened k (CallSubmitted place a)) a.xid
+    own =
+        or-left (is_outstanding (k.outstanding ++ outstanding_of k a ∷ []) a.xid) (has_outcome k.outcomes a.xid || gone a.xid)
+        (any-append (λ (o : OutstandingCall). eqb o.xid a.xid) k.outstanding (outstanding_of k a ∷ [])
+        ∙ or-right (is_outstanding k.outstanding a.xid) (is_outstanding (outstanding_of k a ∷ []) a.xid) (or-left (eqb a.xid a.xid) false (eq-eqb a.xid a.xid refl)))
+
+    push : (xs : List ℕ) → AllByRecursion (IsAccounted gone (client_state_after opened k (CallSubmitted place a))) xs → AllByRecursion (IsAccounted gone (client_state_after opened k (CallSubmitted place a))) (xs ++ a.xid ∷ [])
+    push [] h = (own, tt)
+    push (x ∷ xs) h = (h.0, push xs h.1)
+
+    more : (os : List OutstandingCall) → AllByRecursion (RevokedGone gone) os → AllByRecursion (RevokedGone gone) (os ++ outstanding_of k a ∷ [])
+    more [] h = ((λ e. absurd cc), tt)
+    more (o ∷ os) h = (h.0, more os h.1)

@@ -1,0 +1,222 @@
+-- Each mark keeps what holds between both ends of a link.
+use Rattle.std.proofs.Common.{◌≡◌, ◌≢◌, ℕ, ◌<◌, eqb, List, [], ◌∷◌, ◌++◌, length, Option, Some, None, refl, sym, ap, subst, ◌∙◌, arith, append-nil}
+use Rattle.std.specs.Prelude.{slice_get}
+use Rattle.nr_xdr.specs.Item.{IsBytes}
+use Rattle.nr_wire.specs.declared.hello.Side.TheVariants.{Initiator, Responder}
+use Rattle.nr_wire.specs.declared.stream.Awaited.TheVariants.{Hello as HelloFrom}
+use Rattle.nr_wire.specs.Stream.{split}
+use Rattle.nr_link.specs.declared.end.End.{End}
+use Rattle.nr_link.specs.Frames.{Frame}
+use Rattle.nr_reduce.specs.declared.call.Call.{Call}
+use Rattle.nr_reduce.specs.declared.call.Form.{Form}
+use Rattle.nr_reduce.specs.declared.call.Submission.TheVariants as submissions
+use Rattle.nr_reduce.specs.declared.mark.Moment.{Moment}
+use Rattle.nr_reduce.specs.declared.mark.Mark.{Mark}
+use Rattle.nr_reduce.specs.declared.mark.Mark.TheVariants as marks
+use Rattle.nr_reduce.specs.declared.mark.LinkParameters.{LinkParameters}
+use Rattle.nr_reduce.specs.History.{AcceptedCall, ExecutedCall, bytes_sent, bytes_received, written_at, fed_at}
+use Rattle.nr_reduce.specs.Events.{Event, events_at}
+use Rattle.nr_reduce.specs.Events.Event.{FrameReceived, CallSubmitted, MemoryRevoked, CallExecuted, QueueWritten}
+use Rattle.nr_reduce.specs.EndRules.{Rules, EndState, live, next_end_state_by, end_state_after, output_for_by, output_for_all}
+use Rattle.nr_reduce.specs.ClientState.{ClientState, plan_for}
+use Rattle.nr_reduce.specs.ServerState.{ServerState, ReadyCall}
+use Rattle.nr_reduce.specs.SubmitAnswer.{next_xid}
+use Rattle.nr_reduce.specs.Client.{client_rules, client_end, client_state_after, client_output}
+use Rattle.nr_reduce.specs.Server.{server_rules, server_end, server_state_after, server_output}
+use Rattle.nr_reduce.specs.Run.{output_due}
+use Rattle.nr_reduce.specs.Opening.{IsOpened}
+use Rattle.nr_reduce.specs.Credits.{WithinGrant, calls_outstanding, credits_granted}
+use Rattle.nr_reduce.specs.Asked.{IsAccepted}
+use Rattle.nr_reduce.specs.Served.{IsExecuted, first_ready, next_call}
+use Rattle.nr_laws.specs.FrameContents.{FrameContent, output_bytes, total_of, sends_in, requests_in, hellos_in}
+use Rattle.nr_laws.specs.FrameContents.FrameContent.{HelloFrame, SendFrame, RequestFrame, TaggedFrame}
+use Rattle.nr_laws.specs.LinkInvariants.{Transit}
+use Rattle.nr_laws.proofs.PendingExecuted.{executed-there}
+use Rattle.nr_laws.proofs.TotalsAtClient.{up_more}
+use Rattle.nr_laws.proofs.Writable.{IsOutput, stream-left}
+use Rattle.nr_laws.proofs.AgreeingEnds.{EndsAgree}
+use Rattle.nr_laws.proofs.OwnEvents.{submitted, revoked, written_up, executed, written_down, some-calls}
+use Rattle.nr_laws.proofs.Guards.{Guards}
+use Rattle.nr_laws.proofs.GuardsAtEvents.{guards-submit, guards-revoke, guards-written_up, guards-execute, guards-written_down}
+use Rattle.nr_laws.proofs.AgreeingRuns.{RunAgrees, MarkAgrees, place_of, guards-up, guards-down, same-up, same-down, own-bytes, other-bytes, own-events, other-events}
+
+pub record OneEvent {S : Type 0} (rules : Rules S) (s : S) (event : Event) : Type 0 where
+  pub state : end_state_after rules (live s) (event ∷ []) ≡ live (rules.state_after s event)
+  pub output : output_for_all rules (live s) (event ∷ []) ≡ rules.output_at s event
+
+one-event : {S : Type 0} (rules : Rules S) (s : S) (event : Event) → rules.end_at s event ≡ None → OneEvent rules s event
+one-event rules s event none = record {
+  state = ap (λ (x : Option End). next_end_state_by rules s event x) none;
+  output = append-nil (output_for_by rules s event (rules.end_at s event)) ∙ ap (λ (x : Option End). output_for_by rules s event x) none;
+}
+
+pub client-event : (opened : LinkParameters) (k : ClientState) (event : Event) → ((f : Frame) → event ≢ FrameReceived f) → OneEvent (client_rules opened) k event
+unfolding client_end
+client-event opened k (FrameReceived f) other = absurd (other f refl)
+client-event opened k (CallSubmitted place a) other = one-event (client_rules opened) k (CallSubmitted place a) refl
+client-event opened k (MemoryRevoked place xid) other = one-event (client_rules opened) k (MemoryRevoked place xid) refl
+client-event opened k (CallExecuted call) other = one-event (client_rules opened) k (CallExecuted call) refl
+client-event opened k QueueWritten other = one-event (client_rules opened) k QueueWritten refl
+
+pub server-event : (opened : LinkParameters) (s : ServerState) (event : Event) → ((f : Frame) → event ≢ FrameReceived f) → OneEvent (server_rules opened) s event
+unfolding server_end
+server-event opened s (FrameReceived f) other = absurd (other f refl)
+server-event opened s (CallSubmitted place a) other = one-event (server_rules opened) s (CallSubmitted place a) refl
+server-event opened s (MemoryRevoked place xid) other = one-event (server_rules opened) s (MemoryRevoked place xid) refl
+server-event opened s (CallExecuted call) other = one-event (server_rules opened) s (CallExecuted call) refl
+server-event opened s QueueWritten other = one-event (server_rules opened) s QueueWritten refl
+
+-- ---- A mark of which one side has one event, and that brings no bytes
+
+none-more : (xs more : List ℕ) → more ≡ [] → xs ++ more ≡ xs
+none-more xs more e = ap (λ (ys : List ℕ). xs ++ ys) e ∙ append-nil xs
+
+goes-client : (opened : LinkParameters) (link : ℕ) (run : List Mark) (mark : Mark) (j : RunAgrees opened link run) (event : Event) (said : List FrameContent) (w : Transit) → ((f : Frame) → event ≢ FrameReceived f)
+    → EndsAgree opened (client_state_after opened j.k event) j.s j.u j.d (j.all_up ++ said) j.all_down w → client_output opened j.k event ≡ output_bytes Initiator (total_of sends_in j.all_up) (total_of requests_in j.all_up) said
+    → events_at link Initiator run mark ≡ event ∷ [] → events_at link Responder run mark ≡ [] → fed_at link Initiator mark ≡ [] → fed_at link Responder mark ≡ [] → written_at link Responder mark ≡ []
+    → bytes_sent link Initiator run ++ written_at link Initiator mark ≡ output_bytes Initiator 0 0 (j.u ++ w.up) → w.down ≡ j.w.down
+    → (IsOpened opened → WithinGrant opened link run mark → Guards opened j.k j.s j.u j.d j.all_up j.all_down j.w (place_of j.u) → Guards opened (client_state_after opened j.k event) j.s j.u j.d (j.all_up ++ said) j.all_down w (place_of j.u))
+    → MarkAgrees opened link run mark j
+goes-client opened link run mark j event said w other linked output own theirs fed_i fed_r wrote_r sent same guarded =
+    let one = client-event opened j.k event other in
+    record {
+      k = client_state_after opened j.k event;
+      s = j.s;
+      u = j.u;
+      d = j.d;
+      said_up = said;
+      said_down = [];
+      w = w;
+      linked = same-up opened (client_state_after opened j.k event) j.s j.u j.d (j.all_up ++ said) j.all_down w linked;
+      client = ap (λ (es : List Event). end_state_after (client_rules opened) (live j.k) es) own ∙ one.state;
+      server = ap (λ (es : List Event). end_state_after (server_rules opened) (live j.s) es) theirs;
+      output_up = ap (λ (es : List Event). output_for_all (client_rules opened) (live j.k) es) own ∙ one.output ∙ output;
+      output_down = ap (λ (es : List Event). output_for_all (server_rules opened) (live j.s) es) theirs;
+      frames_up = ap (λ (xs : List ℕ). (split (HelloFrom Initiator) xs).frames) (none-more (bytes_received link Responder run) (fed_at link Responder mark) fed_r) ∙ j.frames_up;
+      frames_down = ap (λ (xs : List ℕ). (split (HelloFrom Responder) xs).frames) (none-more (bytes_received link Initiator run) (fed_at link Initiator mark) fed_i) ∙ j.frames_down;
+      sent_up = sent;
+      sent_down = none-more (bytes_sent link Responder run) (written_at link Responder mark) wrote_r ∙ j.sent_down ∙ ap (λ (ps : List FrameContent). output_bytes Responder 0 0 (j.d ++ ps)) (sym same);
+      bytes_up = subst IsBytes (sym (none-more (bytes_received link Responder run) (fed_at link Responder mark) fed_r)) j.bytes_up;
+      bytes_down = subst IsBytes (sym (none-more (bytes_received link Initiator run) (fed_at link Initiator mark) fed_i)) j.bytes_down;
+      guarded = λ o within g. guards-up opened (client_state_after opened j.k event) j.s j.u j.d (j.all_up ++ said) j.all_down w (place_of j.u) (guarded o within g);
+    }
+
+goes-server : (opened : LinkParameters) (link : ℕ) (run : List Mark) (mark : Mark) (j : RunAgrees opened link run) (event : Event) (said : List FrameContent) (w : Transit) → ((f : Frame) → event ≢ FrameReceived f)
+    → EndsAgree opened j.k (server_state_after opened j.s event) j.u j.d j.all_up (j.all_down ++ said) w → server_output opened j.s event ≡ output_bytes Responder (total_of sends_in j.all_down) (total_of requests_in j.all_down) said
+    → events_at link Initiator run mark ≡ [] → events_at link Responder run mark ≡ event ∷ [] → fed_at link Initiator mark ≡ [] → fed_at link Responder mark ≡ [] → written_at link Initiator mark ≡ []
+    → bytes_sent link Responder run ++ written_at link Responder mark ≡ output_bytes Responder 0 0 (j.d ++ w.down) → w.up ≡ j.w.up
+    → (IsOpened opened → Guards opened j.k j.s j.u j.d j.all_up j.all_down j.w (place_of j.u) → Guards opened j.k (server_state_after opened j.s event) j.u j.d j.all_up (j.all_down ++ said) w (place_of j.u))
+    → MarkAgrees opened link run mark j
+goes-server opened link run mark j event said w other linked output theirs own fed_i fed_r wrote_i sent same guarded =
+    let one = server-event opened j.s event other in
+    record {
+      k = j.k;
+      s = server_state_after opened j.s event;
+      u = j.u;
+      d = j.d;
+      said_up = [];
+      said_down = said;
+      w = w;
+      linked = same-down opened j.k (server_state_after opened j.s event) j.u j.d j.all_up (j.all_down ++ said) w linked;
+      client = ap (λ (es : List Event). end_state_after (client_rules opened) (live j.k) es) theirs;
+      server = ap (λ (es : List Event). end_state_after (server_rules opened) (live j.s) es) own ∙ one.state;
+      output_up = ap (λ (es : List Event). output_for_all (client_rules opened) (live j.k) es) theirs;
+      output_down = ap (λ (es : List Event). output_for_all (server_rules opened) (live j.s) es) own ∙ one.output ∙ output;
+      frames_up = ap (λ (xs : List ℕ). (split (HelloFrom Initiator) xs).frames) (none-more (bytes_received link Responder run) (fed_at link Responder mark) fed_r) ∙ j.frames_up;
+      frames_down = ap (λ (xs : List ℕ). (split (HelloFrom Responder) xs).frames) (none-more (bytes_received link Initiator run) (fed_at link Initiator mark) fed_i) ∙ j.frames_down;
+      sent_up = none-more (bytes_sent link Initiator run) (written_at link Initiator mark) wrote_i ∙ j.sent_up ∙ ap (λ (ps : List FrameContent). output_bytes Initiator 0 0 (j.u ++ ps)) (sym same);
+      sent_down = sent;
+      bytes_up = subst IsBytes (sym (none-more (bytes_received link Responder run) (fed_at link Responder mark) fed_r)) j.bytes_up;
+      bytes_down = subst IsBytes (sym (none-more (bytes_received link Initiator run) (fed_at link Initiator mark) fed_i)) j.bytes_down;
+      guarded = λ o within g. guards-down opened j.k (server_state_after opened j.s event) j.u j.d j.all_up (j.all_down ++ said) w (place_of j.u) (guarded o g);
+    }
+
+-- ---- Each
+
+room-of : (opened : LinkParameters) (link : ℕ) (run : List Mark) (j : RunAgrees opened link run) → calls_outstanding opened link run < credits_granted opened link run → length j.k.outstanding < j.k.grant
+unfolding calls_outstanding credits_granted
+room-of opened link run j lt = subst (λ (r : EndState ClientState). length r.state.outstanding < r.state.grant) j.client_is lt
+
+pub goes-submit : (opened : LinkParameters) (link : ℕ) (run : List Mark) (call : Call) (form : Form) (xid : ℕ) (j : RunAgrees opened link run) → IsAccepted opened link run call form xid
+    → MarkAgrees opened link run (marks.Submit link call form (submissions.Accepted xid)) j
+goes-submit opened link run call form xid j h =
+    let a : AcceptedCall = record { xid = xid; call = call; form = form } in
+    let place = length (bytes_received link Initiator run) in
+    let own : xid ≡ next_xid opened j.k = h.next ∙ ap (λ (r : EndState ClientState). next_xid opened r.state) j.client_is in
+    let planned = ap (λ (r : EndState ClientState). plan_for r.state xid call form) (sym j.client_is) ∙ h.planned in
+    let m = submitted opened j.k j.s j.u j.d j.all_up j.all_down j.w place a h.plan j.linked own planned in
+    goes-client opened link run (marks.Submit link call form (submissions.Accepted xid)) j (CallSubmitted place a) m.said (up_more j.w m.said) (λ f e. absurd cc) m.linked m.output
+    (own-events link (CallSubmitted place a ∷ [])) (other-events (eqb link link) (CallSubmitted (length (bytes_received link Responder run)) a ∷ [])) refl refl refl
+    (append-nil (bytes_sent link Initiator run) ∙ j.sent_up) refl
+    (λ o within g.
+    let room : length j.k.outstanding < j.k.grant = room-of opened link run j (within refl) in
+    subst (λ (ps : List FrameContent). Guards opened (client_state_after opened j.k (CallSubmitted place a)) j.s j.u j.d (j.all_up ++ ps) j.all_down (up_more j.w ps) (place_of j.u)) (sym m.said_is)
+    (guards-submit opened j.k j.s j.u j.d j.all_up j.all_down j.w (place_of j.u) place a h.plan j.linked g planned own h.xids room))
+
+pub goes-wrote_up : (opened : LinkParameters) (link : ℕ) (run : List Mark) (bytes : List ℕ) (j : RunAgrees opened link run) → bytes_sent link Initiator run ++ bytes ≡ output_due opened link Initiator run
+    → MarkAgrees opened link run (marks.Wrote link Initiator bytes) j
+unfolding client_output
+goes-wrote_up opened link run bytes j all =
+    let l = subst (λ (ps : List FrameContent). EndsAgree opened (client_state_after opened j.k QueueWritten) j.s j.u j.d ps j.all_down (record { queued_up = []; up = j.w.up ++ j.w.queued_up; queued_down = j.w.queued_down; down = j.w.down }))
+    (sym (append-nil j.all_up)) (written_up opened j.k j.s j.u j.d j.all_up j.all_down j.w j.linked) in
+    goes-client opened link run (marks.Wrote link Initiator bytes) j QueueWritten [] (record { queued_up = []; up = j.w.up ++ j.w.queued_up; queued_down = j.w.queued_down; down = j.w.down }) (λ f e. absurd cc) l refl
+    (own-events link (QueueWritten ∷ [])) (other-events (eqb link link) (QueueWritten ∷ [])) refl refl (other-bytes (eqb link link) bytes)
+    (ap (λ (xs : List ℕ). bytes_sent link Initiator run ++ xs) (own-bytes link bytes) ∙ all ∙ j.due_up ∙ ap (λ (ps : List FrameContent). output_bytes Initiator 0 0 ps) (sym j.linked.parts_up)) refl
+    (λ o within g.
+    guards-down opened (client_state_after opened j.k QueueWritten) j.s j.u j.d j.all_up j.all_down (record { queued_up = []; up = j.w.up ++ j.w.queued_up; queued_down = j.w.queued_down; down = j.w.down }) (place_of j.u)
+    (guards-written_up opened j.k j.s j.u j.d j.all_up j.all_down j.w (place_of j.u) j.linked g))
+
+pub goes-revoke : (opened : LinkParameters) (link : ℕ) (run : List Mark) (xid : ℕ) (bytes : List ℕ) (j : RunAgrees opened link run) → MarkAgrees opened link run (marks.Revoke link xid bytes) j
+unfolding client_output
+goes-revoke opened link run xid bytes j =
+    let place = length (bytes_received link Initiator run) in
+    let l = subst (λ (ps : List FrameContent). EndsAgree opened (client_state_after opened j.k (MemoryRevoked place xid)) j.s j.u j.d ps j.all_down j.w) (sym (append-nil j.all_up))
+    (revoked opened j.k j.s j.u j.d j.all_up j.all_down j.w place xid j.linked) in
+    goes-client opened link run (marks.Revoke link xid bytes) j (MemoryRevoked place xid) [] j.w (λ f e. absurd cc) l refl
+    (own-events link (MemoryRevoked place xid ∷ [])) (other-events (eqb link link) (MemoryRevoked (length (bytes_received link Responder run)) xid ∷ [])) refl refl refl
+    (append-nil (bytes_sent link Initiator run) ∙ j.sent_up) refl
+    (λ o within g.
+    guards-down opened (client_state_after opened j.k (MemoryRevoked place xid)) j.s j.u j.d j.all_up j.all_down j.w (place_of j.u) (guards-revoke opened j.k j.s j.u j.d j.all_up j.all_down j.w (place_of j.u) place xid g))
+
+pub goes-wrote_down : (opened : LinkParameters) (link : ℕ) (run : List Mark) (bytes : List ℕ) (j : RunAgrees opened link run) → bytes_sent link Responder run ++ bytes ≡ output_due opened link Responder run
+    → MarkAgrees opened link run (marks.Wrote link Responder bytes) j
+unfolding server_output
+goes-wrote_down opened link run bytes j all =
+    let l = subst (λ (ps : List FrameContent). EndsAgree opened j.k (server_state_after opened j.s QueueWritten) j.u j.d j.all_up ps (record { queued_up = j.w.queued_up; up = j.w.up; queued_down = []; down = j.w.down ++ j.w.queued_down }))
+    (sym (append-nil j.all_down)) (written_down opened j.k j.s j.u j.d j.all_up j.all_down j.w j.linked) in
+    goes-server opened link run (marks.Wrote link Responder bytes) j QueueWritten [] (record { queued_up = j.w.queued_up; up = j.w.up; queued_down = []; down = j.w.down ++ j.w.queued_down }) (λ f e. absurd cc) l refl
+    (other-events (eqb link link) (QueueWritten ∷ [])) (own-events link (QueueWritten ∷ [])) refl refl (other-bytes (eqb link link) bytes)
+    (ap (λ (xs : List ℕ). bytes_sent link Responder run ++ xs) (own-bytes link bytes) ∙ all ∙ j.due_down ∙ ap (λ (ps : List FrameContent). output_bytes Responder 0 0 ps) (sym j.linked.parts_down)) refl
+    (λ o g.
+    guards-up opened j.k (server_state_after opened j.s QueueWritten) j.u j.d j.all_up j.all_down (record { queued_up = j.w.queued_up; up = j.w.up; queued_down = []; down = j.w.down ++ j.w.queued_down }) (place_of j.u)
+    (guards-written_down opened j.k j.s j.u j.d j.all_up j.all_down j.w (place_of j.u) g))
+
+first_is : (ready : List ReadyCall) (r : ReadyCall) → slice_get ready 0 ≡ Some r → (rest : List ReadyCall) × (ready ≡ r ∷ rest)
+first_is [] r e = absurd cc
+first_is (x ∷ rest) r e = (rest, (let same : x ≡ r = cc in ap (λ (y : ReadyCall). y ∷ rest) same))
+
+-- some Send was received behind the hello
+begun : (ps : List FrameContent) → IsOutput ps → 0 < total_of sends_in ps → 0 < total_of hellos_in ps
+begun [] h some = absurd (omega (arith, some))
+begun (HelloFrame ∷ ps) h some = omega arith
+begun (SendFrame message ∷ ps) h some = absurd h
+begun (RequestFrame sink at size stag to ∷ ps) h some = absurd h
+begun (TaggedFrame last opcode stag to payload ∷ ps) h some = absurd h
+
+pub goes-execute : (opened : LinkParameters) (link : ℕ) (run : List Mark) (xid : ℕ) (moment : Moment) (payload : List ℕ) (place : ℕ) (reply : List ℕ) (j : RunAgrees opened link run) → IsExecuted opened link run xid payload
+    → MarkAgrees opened link run (marks.Execute link xid moment payload place reply) j
+unfolding next_call
+goes-execute opened link run xid moment payload place reply j h =
+    let e : ExecutedCall = record { xid = xid; moment = moment; payload = payload; place = place; reply = reply } in
+    let ready : slice_get j.s.ready 0 ≡ Some h.call = ap (λ (r : EndState ServerState). first_ready r.state.ready r.ended) (sym j.server_is) ∙ h.is_next in
+    let first = first_is j.s.ready h.call ready in
+    let there = executed-there j.s xid h.call first.0 j.linked.waits first.1 h.own in
+    let sends : 0 < total_of sends_in j.u = omega (arith, some-calls xid j.s.calls there, j.linked.counts.waiting, j.linked.sends_up) in
+    let hellos = begun j.u (stream-left j.u (j.w.up ++ j.w.queued_up) (subst IsOutput (sym j.linked.parts_up) j.linked.stream_up)) sends in
+    let m = executed opened j.k j.s j.u j.d j.all_up j.all_down j.w e h.call first.0 j.linked first.1 h.own (omega (arith, hellos, j.linked.hellos_down)) in
+    goes-server opened link run (marks.Execute link xid moment payload place reply) j (CallExecuted e) m.said (record { queued_up = j.w.queued_up; up = j.w.up; queued_down = j.w.queued_down ++ m.said; down = j.w.down }) (λ f x. absurd cc) m.linked m.output
+    (other-events (eqb link link) (CallExecuted e ∷ [])) (own-events link (CallExecuted e ∷ [])) refl refl refl
+    (append-nil (bytes_sent link Responder run) ∙ j.sent_down) refl
+    (λ o g.
+    subst (λ (ps : List FrameContent). Guards opened j.k (server_state_after opened j.s (CallExecuted e)) j.u j.d j.all_up (j.all_down ++ ps) (record { queued_up = j.w.queued_up; up = j.w.up; queued_down = j.w.queued_down ++ ps; down = j.w.down }) (place_of j.u)) (sym m.said_is)
+    (guards-execute opened j.k j.s j.u j.d j.all_up j.all_down j.w (place_of j.u) e h.call first.0 o j.linked g j.linked.fits first.1 h.own))

@@ -1,0 +1,160 @@
+-- The lists of an answer are within the limits of a header where those of its call are: so the message of an answer can be read.
+use Rattle.std.proofs.Common.{◌≡◌, ℕ, suc, ◌-◌, ◌^◌, ◌<◌, ◌≤◌, min, Bool, true, false, cond, List, [], ◌∷◌, ◌++◌, length, sum_by, IfSome, Option, Some, None, Ok, refl, ap, subst, arith, append-nil}
+use Rattle.std.proofs.lemmas.List.Sums.{sum_by-cons}
+use Rattle.std.proofs.lemmas.List.Elements.{All-nil, recursion_from_All, All-from_recursion}
+use Rattle.std.specs.List.{AllByRecursion}
+use Rattle.nr_xdr.specs.Item.{Item}
+use Rattle.nr_xdr.specs.Items.{AllFit}
+use Rattle.nr_header.specs.Constants.{PAYLOAD_MAX}
+use Rattle.nr_header.specs.declared.header.RdmaSegment.{RdmaSegment}
+use Rattle.nr_header.specs.declared.header.ReadSegment.{ReadSegment}
+use Rattle.nr_header.specs.declared.header.ChunkLists.{ChunkLists}
+use Rattle.nr_header.specs.declared.header.Body.TheVariants.{Msg, Nomsg, ErrVers, ErrChunk}
+use Rattle.nr_header.specs.declared.header.Header.{Header}
+use Rattle.nr_header.specs.Header.{segments_items, chunk_items, read_items, write_items, reply_items, lists_items, header_encoding, HeaderFits}
+use Rattle.nr_header.specs.WithinLimits.{SegmentsEnd, Ends, ListsWithin, CanRead, header_again}
+use Rattle.nr_header.specs.Reading.{header_of}
+use Rattle.nr_header.proofs.Messages.{header_written}
+use Rattle.nr_reduce.specs.Chunks.{filled_chunk}
+use Rattle.nr_reduce.specs.Holds.{Answer, empty_chunks, written_chunks, no_segments, answer_lists, answer_message, chunk_error, version_error}
+
+abbrev pub IsRead : List ℕ → Type 0
+IsRead message = (h : Header) × (header_of message ≡ Ok h)
+
+length-filled : (chunk : List RdmaSegment) (n : ℕ) → length (filled_chunk chunk n) ≡ length chunk
+length-filled [] n = refl
+length-filled (s ∷ chunk) n = ap (λ (k : ℕ). suc k) (length-filled chunk (n - min s.length n))
+
+-- ---- The items
+
+filled-fit : (chunk : List RdmaSegment) (n : ℕ) (more others : List Item) → AllFit (segments_items chunk more) → AllFit others → AllFit (segments_items (filled_chunk chunk n) others)
+filled-fit [] n more others h k = k
+filled-fit (s ∷ chunk) n more others h k = (h.0, (let l = h.1.0 in omega (arith, l), (h.1.1.0, filled-fit chunk (n - min s.length n) more others h.1.1.1 k)))
+
+segments-tail : (chunk : List RdmaSegment) (more : List Item) → AllFit (segments_items chunk more) → AllFit more
+segments-tail [] more h = h
+segments-tail (s ∷ chunk) more h = segments-tail chunk more h.1.1.1
+
+read-tail : (read : List ReadSegment) (more : List Item) → AllFit (read_items read more) → AllFit more
+read-tail [] more h = h.1
+read-tail (r ∷ read) more h = read-tail read more h.1.1.1.1.1
+
+write-tail : (chunks : List (List RdmaSegment)) (more : List Item) → AllFit (write_items chunks more) → AllFit more
+write-tail [] more h = h.1
+write-tail (chunk ∷ chunks) more h = write-tail chunks more (segments-tail chunk (write_items chunks more) h.1.1)
+
+chunk-fit : (chunk : List RdmaSegment) (n : ℕ) (more others : List Item) → length chunk < 2 ^ 32 → AllFit (segments_items chunk more) → AllFit others → AllFit (chunk_items (filled_chunk chunk n) others)
+chunk-fit chunk n more others count h k = (let l = length-filled chunk n in omega (arith, l, count), filled-fit chunk n more others h k)
+
+empty-fit : (chunks : List (List RdmaSegment)) (more others : List Item) → AllFit (write_items chunks more) → AllFit others → AllFit (write_items (empty_chunks chunks) others)
+empty-fit [] more others h k = (tt, k)
+empty-fit (chunk ∷ chunks) more others h k =
+    (tt, chunk-fit chunk 0 (write_items chunks more) (write_items (empty_chunks chunks) others) h.1.0 h.1.1 (empty-fit chunks more others (segments-tail chunk (write_items chunks more) h.1.1) k))
+
+written-fit : (chunks : List (List RdmaSegment)) (n : ℕ) (more others : List Item) → AllFit (write_items chunks more) → AllFit others → AllFit (write_items (written_chunks chunks n) others)
+written-fit [] n more others h k = (tt, k)
+written-fit (chunk ∷ chunks) n more others h k =
+    (tt, chunk-fit chunk n (write_items chunks more) (write_items (empty_chunks chunks) others) h.1.0 h.1.1 (empty-fit chunks more others (segments-tail chunk (write_items chunks more) h.1.1) k))
+
+returned-fit : (reply : Option (List RdmaSegment)) (b : Bool) (n : ℕ) → AllFit (reply_items reply []) → AllFit (reply_items (cond b (Some (filled_chunk (no_segments reply) n)) None) [])
+returned-fit reply false n h = (tt, tt)
+returned-fit None true n h = (tt, (omega arith, tt))
+returned-fit (Some chunk) true n h = (tt, chunk-fit chunk n [] [] h.1.0 h.1.1 tt)
+
+lists-fit : (offer : ChunkLists) (a : Answer) → AllFit (lists_items offer) → AllFit (lists_items (answer_lists offer a))
+lists-fit offer a h =
+    let writes = read-tail offer.read (write_items offer.write (reply_items offer.reply [])) h in
+    (tt, written-fit offer.write (length a.moved) (reply_items offer.reply []) _ writes (returned-fit offer.reply a.long (length a.stream) (write-tail offer.write (reply_items offer.reply []) writes)))
+
+-- ---- Within the limits
+
+ends-by : (chunk : List RdmaSegment) (n : ℕ) → AllByRecursion (λ s. Ends s.offset s.length) chunk → AllByRecursion (λ s. Ends s.offset s.length) (filled_chunk chunk n)
+ends-by [] n h = tt
+ends-by (s ∷ chunk) n h = (let e = h.0 in omega (arith, e), ends-by chunk (n - min s.length n) h.1)
+
+filled-ends : (chunk : List RdmaSegment) (n : ℕ) → SegmentsEnd chunk → SegmentsEnd (filled_chunk chunk n)
+filled-ends chunk n h = All-from_recursion _ _ (ends-by chunk n (recursion_from_All _ chunk h))
+
+abbrev IsSmall : List RdmaSegment → Type 0
+IsSmall chunk = length chunk ≤ 16
+
+abbrev segment_total : List (List RdmaSegment) → ℕ
+segment_total chunks = sum_by (λ (chunk : List RdmaSegment). length chunk) chunks
+
+record Returned (chunks others : List (List RdmaSegment)) : Type 0 where
+  count : length others ≡ length chunks
+  segments : segment_total others ≡ segment_total chunks
+  small : AllByRecursion IsSmall chunks → AllByRecursion IsSmall others
+  ends : AllByRecursion SegmentsEnd chunks → AllByRecursion SegmentsEnd others
+
+returned-cons : (chunk : List RdmaSegment) (n : ℕ) (chunks others : List (List RdmaSegment)) → Returned chunks others → Returned (chunk ∷ chunks) (filled_chunk chunk n ∷ others)
+returned-cons chunk n chunks others r =
+    let len = length-filled chunk n in record {
+      count = omega (arith, r.count);
+      segments = omega (arith, r.segments, len, sum_by-cons (λ (c : List RdmaSegment). length c) chunk chunks, sum_by-cons (λ (c : List RdmaSegment). length c) (filled_chunk chunk n) others);
+      small = λ h. (let first = h.0 in omega (arith, len, first), r.small h.1);
+      ends = λ h. (filled-ends chunk n h.0, r.ends h.1);
+    }
+
+empty-returned : (chunks : List (List RdmaSegment)) → Returned chunks (empty_chunks chunks)
+empty-returned [] = record { count = refl; segments = refl; small = λ h. h; ends = λ h. h }
+empty-returned (chunk ∷ chunks) = returned-cons chunk 0 chunks (empty_chunks chunks) (empty-returned chunks)
+
+written-returned : (chunks : List (List RdmaSegment)) (n : ℕ) → Returned chunks (written_chunks chunks n)
+written-returned [] n = record { count = refl; segments = refl; small = λ h. h; ends = λ h. h }
+written-returned (chunk ∷ chunks) n = returned-cons chunk n chunks (empty_chunks chunks) (empty-returned chunks)
+
+returned-count : (reply : Option (List RdmaSegment)) (b : Bool) (n : ℕ) → IfSome reply (λ chunk. length chunk ≤ 16) → IfSome (cond b (Some (filled_chunk (no_segments reply) n)) None) (λ chunk. length chunk ≤ 16)
+returned-count reply false n h = tt
+returned-count None true n h = omega arith
+returned-count (Some chunk) true n h = (let l = length-filled chunk n in omega (arith, l, h))
+
+returned-ends : (reply : Option (List RdmaSegment)) (b : Bool) (n : ℕ) → IfSome reply SegmentsEnd → IfSome (cond b (Some (filled_chunk (no_segments reply) n)) None) SegmentsEnd
+returned-ends reply false n h = tt
+returned-ends None true n h = All-nil _
+returned-ends (Some chunk) true n h = filled-ends chunk n h
+
+lists-within : (offer : ChunkLists) (a : Answer) → ListsWithin offer → ListsWithin (answer_lists offer a)
+lists-within offer a h =
+    let r = written-returned offer.write (length a.moved) in record {
+      read_segments = omega arith;
+      read_ends = All-nil _;
+      one_position = (0, All-nil _);
+      write_chunks = omega (arith, r.count, h.write_chunks);
+      chunk_segments = All-from_recursion _ _ (r.small (recursion_from_All _ offer.write h.chunk_segments));
+      write_segments = omega (arith, r.segments, h.write_segments);
+      write_ends = All-from_recursion _ _ (r.ends (recursion_from_All _ offer.write h.write_ends));
+      reply_segments = returned-count offer.reply a.long (length a.stream) h.reply_segments;
+      reply_ends = returned-ends offer.reply a.long (length a.stream) h.reply_ends;
+    }
+
+-- ---- The messages
+
+pub read-answer : (offer : ChunkLists) (xid credit : ℕ) (a : Answer) → xid < 2 ^ 32 → credit < 2 ^ 32 → AllFit (lists_items offer) → ListsWithin offer → (a.long ≡ false → length a.stream ≤ PAYLOAD_MAX) → IsRead (answer_message xid credit offer a)
+unfolding answer_message
+read-answer offer xid credit a fits_x fits_c items within room = by a.long refl
+  where
+    back : ChunkLists
+    back = answer_lists offer a
+
+    fit : AllFit (lists_items back)
+    fit = lists-fit offer a items
+
+    in_limits : ListsWithin back
+    in_limits = lists-within offer a within
+
+    by : (b : Bool) → a.long ≡ b → IsRead (header_encoding (record { xid = xid; credit = credit; body = cond b (Nomsg back) (Msg back 0) }) ++ cond b [] a.stream)
+    by true is = (_, header_written (record { xid = xid; credit = credit; body = Nomsg back }) [] (fits_x, (omega arith, (fits_c, (omega arith, fit)))) (refl, in_limits, omega arith))
+    by false is = (_, header_written (record { xid = xid; credit = credit; body = Msg back 0 }) a.stream (fits_x, (omega arith, (fits_c, (omega arith, fit)))) (in_limits, All-nil _, (let l = room is in omega (arith, l))))
+
+without_stream : (h : Header) → HeaderFits h → CanRead h.body [] → IsRead (header_encoding h)
+without_stream h fits can = (header_again h, subst (λ (xs : List ℕ). header_of xs ≡ Ok (header_again h)) (append-nil (header_encoding h)) (header_written h [] fits can))
+
+pub read-chunk_error : (xid credit : ℕ) → xid < 2 ^ 32 → credit < 2 ^ 32 → IsRead (chunk_error xid credit)
+unfolding chunk_error
+read-chunk_error xid credit x c = without_stream (record { xid = xid; credit = credit; body = ErrChunk 1 }) (x, (omega arith, (c, (omega arith, (omega arith, tt))))) refl
+
+pub read-version_error : (xid version credit : ℕ) → xid < 2 ^ 32 → version < 2 ^ 32 → credit < 2 ^ 32 → IsRead (version_error xid version credit)
+unfolding version_error
+read-version_error xid version credit x v c =
+    without_stream (record { xid = xid; credit = credit; body = ErrVers version 1 1 }) (x, (v, (c, (omega arith, (omega arith, (omega arith, (omega arith, tt))))))) refl

@@ -1,0 +1,249 @@
+-- Each message of a server answers one call that was received: the xids of the messages and those of the pending calls are distinct.
+use Rattle.std.proofs.Common.{◌≡◌, ℕ, ◌+◌, ◌≤◌, ◌<◌, ◌^◌, Bool, true, false, cond, not, ◌&&◌, ◌||◌, eqb, min, List, [], ◌∷◌, ◌++◌, length, map, take, drop, filter, Option, Some, None, Result, Ok, refl, sym, ap, subst, ◌∙◌, arith, append_assoc}
+use Rattle.std.specs.List.{list_any, find, range_with_len}
+use Rattle.std.proofs.lemmas.Bool.{eqb-true, eq-eqb}
+use Rattle.std.proofs.lemmas.List.{map-append}
+use Rattle.nr_xdr.specs.Item.{word, word_of}
+use Rattle.nr_xdr.specs.Items.{encodings}
+use Rattle.nr_xdr.proofs.WordBytes.{length-word, word_of-word}
+use Rattle.nr_xdr.specs.Fields.{word_at}
+use Rattle.nr_wire.specs.Constants.{OPCODE_READ_RESPONSE, OPCODE_SEND, OPCODE_WRITE, QUEUE_SEND}
+use Rattle.nr_wire.specs.Segment.{Segment}
+use Rattle.nr_wire.specs.Segment.Segment.{Tagged, Untagged}
+use Rattle.nr_header.specs.declared.header.RdmaSegment.{RdmaSegment}
+use Rattle.nr_header.specs.declared.header.ChunkLists.{ChunkLists}
+use Rattle.nr_header.specs.declared.header.Body.TheVariants.{Msg, Nomsg}
+use Rattle.nr_header.specs.Header.{header_encoding, lists_items}
+use Rattle.nr_link.specs.Frames.{Frame}
+use Rattle.nr_link.specs.Output.{msn_word, segment_count}
+use Rattle.nr_link.specs.ReceiveState.{begun_bytes}
+use Rattle.nr_link.specs.Ending.{frame_segment}
+use Rattle.nr_reduce.specs.Plans.{one_if}
+use Rattle.nr_reduce.specs.Holds.{Answer, answer_message, answer_lists, chunk_error, version_error, first_chunk, no_segments}
+use Rattle.nr_reduce.specs.Chunks.{is_read_chunk_of_item}
+use Rattle.nr_reduce.specs.ClientState.{OutstandingCall}
+use Rattle.nr_reduce.specs.ServerState.{PendingCall, PendingRead, ServerState, credit_word}
+use Rattle.nr_reduce.specs.ServerReads.{regions_of, reads_of, is_read}
+use Rattle.nr_reduce.specs.ServerMessages.{CallVerdict, by_payload, payload_of, chunk_bytes, Verdict, verdict}
+use Rattle.nr_reduce.specs.ServerMessages.CallVerdict.{Refuses, IsReady}
+use Rattle.nr_reduce.specs.ServerMessages.Verdict.{EndsLink, OtherVersion, BadChunks, MakesPending}
+use Rattle.nr_reduce.specs.ServerFrames.{FrameEffect, no_effect, with_verdict, ready_if_whole, message_effect, with_refused_call, is_stream_read, read_effect, call_of_number, response_effect, with_access, effect_in, frame_effect}
+use Rattle.nr_reduce.specs.Server.{newly_open_reads}
+use Rattle.nr_laws.specs.FrameContents.{FrameContent, effect_frames, request_frame, write_frames, answer_frames, tagged_frames}
+use Rattle.nr_laws.specs.FrameContents.FrameContent.{HelloFrame, SendFrame, RequestFrame, TaggedFrame}
+use Rattle.nr_laws.proofs.PendingSends.{verdict-new}
+use Rattle.nr_laws.proofs.RequestFields.{part_at}
+
+-- the xids of the messages among some frames, and how often a number is among others
+abbrev pub message_xids : List FrameContent → List ℕ
+message_xids [] = []
+message_xids (HelloFrame ∷ ps) = message_xids ps
+message_xids (SendFrame message ∷ ps) = word_at 0 message ∷ message_xids ps
+message_xids (RequestFrame sink at size stag to ∷ ps) = message_xids ps
+message_xids (TaggedFrame last opcode stag to payload ∷ ps) = message_xids ps
+
+abbrev pub times : ℕ → List ℕ → ℕ
+times x [] = 0
+times x (y ∷ ys) = one_if (eqb y x) + times x ys
+
+abbrev pub call_xids : List PendingCall → List ℕ
+call_xids calls = map (λ (c : PendingCall). c.xid) calls
+
+abbrev pub outstanding_xids : List OutstandingCall → List ℕ
+outstanding_xids calls = map (λ (o : OutstandingCall). o.xid) calls
+
+pub xids-append : (ps qs : List FrameContent) → message_xids (ps ++ qs) ≡ message_xids ps ++ message_xids qs
+xids-append [] qs = refl
+xids-append (HelloFrame ∷ ps) qs = xids-append ps qs
+xids-append (SendFrame message ∷ ps) qs = ap (λ (xs : List ℕ). word_at 0 message ∷ xs) (xids-append ps qs)
+xids-append (RequestFrame sink at size stag to ∷ ps) qs = xids-append ps qs
+xids-append (TaggedFrame last opcode stag to payload ∷ ps) qs = xids-append ps qs
+
+pub times-append : (x : ℕ) (xs ys : List ℕ) → times x (xs ++ ys) ≡ times x xs + times x ys
+times-append x [] ys = omega arith
+times-append x (y ∷ xs) ys = omega (arith, times-append x xs ys)
+
+-- ---- What is sent
+
+effect-errors : (messages : List (List ℕ)) (reads : List PendingRead) → message_xids (map SendFrame messages ++ map request_frame reads) ≡ map (λ (m : List ℕ). word_at 0 m) messages
+effect-errors [] [] = refl
+effect-errors [] (r ∷ reads) = effect-errors [] reads
+effect-errors (m ∷ messages) reads = ap (λ (xs : List ℕ). word_at 0 m ∷ xs) (effect-errors messages reads)
+
+pub effect-xids : (s : FrameEffect) → message_xids (effect_frames s) ≡ map (λ (m : List ℕ). word_at 0 m) s.errors
+effect-xids s = effect-errors s.errors (newly_open_reads s)
+
+writes-none : (chunk : List RdmaSegment) (bytes : List ℕ) → message_xids (write_frames chunk bytes) ≡ []
+unfolding tagged_frames
+writes-none [] bytes = refl
+writes-none (p ∷ chunk) bytes =
+    xids-append (cond (eqb (min p.length (length bytes)) 0) [] (tagged_frames OPCODE_WRITE p.handle p.offset (take p.length bytes))) (write_frames chunk (drop p.length bytes))
+    ∙ (λ i. by (eqb (min p.length (length bytes)) 0) i ++ writes-none chunk (drop p.length bytes) i)
+  where
+    cuts : (last : ℕ → Bool) (at : ℕ → ℕ) (payload : ℕ → List ℕ) (is : List ℕ) → message_xids (map (λ i. TaggedFrame (last i) OPCODE_WRITE p.handle (at i) (payload i)) is) ≡ []
+    cuts last at payload [] = refl
+    cuts last at payload (i ∷ is) = cuts last at payload is
+
+    by : (b : Bool) → message_xids (cond b [] (tagged_frames OPCODE_WRITE p.handle p.offset (take p.length bytes))) ≡ []
+    by true = refl
+    by false = cuts _ _ _ (range_with_len 0 (segment_count (take p.length bytes)))
+
+first_word : (a : ℕ) (rest : List ℕ) → a < 2 ^ 32 → word_at 0 (word a ++ rest) ≡ a
+first_word a rest lt = ap word_of (part_at 0 4 [] (word a) rest refl (length-word a)) ∙ word_of-word a lt
+
+chunk_error-xid : (xid credit : ℕ) → xid < 2 ^ 32 → word_at 0 (chunk_error xid credit) ≡ xid
+unfolding chunk_error
+chunk_error-xid xid credit lt = first_word xid _ lt
+
+version_error-xid : (xid version credit : ℕ) → xid < 2 ^ 32 → word_at 0 (version_error xid version credit) ≡ xid
+unfolding version_error
+version_error-xid xid version credit lt = first_word xid _ lt
+
+answer-xid : (xid credit : ℕ) (offer : ChunkLists) (a : Answer) → xid < 2 ^ 32 → word_at 0 (answer_message xid credit offer a) ≡ xid
+unfolding answer_message
+answer-xid xid credit offer a lt = by a.long (cond a.long [] a.stream)
+  where
+    rest : List ℕ
+    rest = encodings (lists_items (answer_lists offer a))
+
+    by : (b : Bool) (stream : List ℕ) → word_at 0 (header_encoding (record { xid = xid; credit = credit; body = cond b (Nomsg (answer_lists offer a)) (Msg (answer_lists offer a) 0) }) ++ stream) ≡ xid
+    by true stream = ap (λ (xs : List ℕ). word_at 0 xs) (append_assoc (word xid) (word 1 ++ (word credit ++ (word 1 ++ rest))) stream) ∙ first_word xid ((word 1 ++ (word credit ++ (word 1 ++ rest))) ++ stream) lt
+    by false stream = ap (λ (xs : List ℕ). word_at 0 xs) (append_assoc (word xid) (word 1 ++ (word credit ++ (word 0 ++ rest))) stream) ∙ first_word xid ((word 1 ++ (word credit ++ (word 0 ++ rest))) ++ stream) lt
+
+-- of an executed call: one message, of its xid
+pub answer-xids : (k : ServerState) (xid : ℕ) (offer : ChunkLists) (o : Option Answer) → xid < 2 ^ 32 → message_xids (answer_frames k xid offer o) ≡ xid ∷ []
+answer-xids k xid offer None lt = ap (λ (x : ℕ). x ∷ []) (chunk_error-xid xid (credit_word k) lt)
+answer-xids k xid offer (Some a) lt =
+    let long = cond a.long (write_frames (no_segments offer.reply) a.stream) [] in
+    let last = SendFrame (answer_message xid (credit_word k) offer a) ∷ [] in
+    xids-append (write_frames (first_chunk offer.write) a.moved) (long ++ last)
+    ∙ (λ i. writes-none (first_chunk offer.write) a.moved i ++ (xids-append long last ∙ (λ j. by a.long j ++ message_xids last)) i)
+    ∙ ap (λ (x : ℕ). x ∷ []) (answer-xid xid (credit_word k) offer a lt)
+  where
+    by : (b : Bool) → message_xids (cond b (write_frames (no_segments offer.reply) a.stream) []) ≡ []
+    by true = writes-none (no_segments offer.reply) a.stream
+    by false = refl
+
+-- ---- Calls that are answered
+
+kept-less : (x : ℕ) (p : PendingCall → Bool) (cs : List PendingCall) → times x (call_xids (filter p cs)) ≤ times x (call_xids cs)
+kept-less x p [] = omega arith
+kept-less x p (c ∷ cs) = by (p c) (kept-less x p cs)
+  where
+    by : (b : Bool) → times x (call_xids (filter p cs)) ≤ times x (call_xids cs) → times x (call_xids (cond b (c ∷ filter p cs) (filter p cs))) ≤ times x (call_xids (c ∷ cs))
+    by true le = omega (arith, le)
+    by false le = omega (arith, le)
+
+-- a call is found by its number, and left out
+removed : (x n : ℕ) (cs : List PendingCall) (c : PendingCall) → find (λ (y : PendingCall). eqb y.number n) cs ≡ Some c
+    → times x (call_xids (filter (λ (y : PendingCall). not (eqb y.number c.number)) cs)) + one_if (eqb c.xid x) ≤ times x (call_xids cs)
+removed x n [] c e = absurd cc
+removed x n (y ∷ cs) c e = by (eqb y.number n) e (removed x n cs c)
+  where
+    rest : List PendingCall
+    rest = filter (λ (z : PendingCall). not (eqb z.number c.number)) cs
+
+    dropped : (b : Bool) → eqb y.number c.number ≡ b → y ≡ c → times x (call_xids (cond (not b) (y ∷ rest) rest)) + one_if (eqb c.xid x) ≤ times x (call_xids (y ∷ cs))
+    dropped true is same =
+        let own : one_if (eqb y.xid x) ≡ one_if (eqb c.xid x) = ap (λ (z : PendingCall). one_if (eqb z.xid x)) same in
+        omega (arith, own, kept-less x (λ (z : PendingCall). not (eqb z.number c.number)) cs)
+    dropped false is same = absurd (let wrong : true ≡ false = sym (eq-eqb y.number c.number (ap (λ (z : PendingCall). z.number) same)) ∙ is in cc)
+
+    later : (b : Bool) → times x (call_xids rest) + one_if (eqb c.xid x) ≤ times x (call_xids cs) → times x (call_xids (cond (not b) (y ∷ rest) rest)) + one_if (eqb c.xid x) ≤ times x (call_xids (y ∷ cs))
+    later true le = omega (arith, le)
+    later false le = omega (arith, le)
+
+    by : (b : Bool) → cond b (Some y) (find (λ (z : PendingCall). eqb z.number n) cs) ≡ Some c
+        → (find (λ (z : PendingCall). eqb z.number n) cs ≡ Some c → times x (call_xids rest) + one_if (eqb c.xid x) ≤ times x (call_xids cs))
+        → times x (call_xids (cond (not (eqb y.number c.number)) (y ∷ rest) rest)) + one_if (eqb c.xid x) ≤ times x (call_xids (y ∷ cs))
+    by true e more = dropped (eqb y.number c.number) refl (let same : y ≡ c = cc in same)
+    by false e more = later (eqb y.number c.number) (more e)
+
+-- or by its xid
+pub executed-less : (x xid : ℕ) (cs : List PendingCall) → list_any (λ (c : PendingCall). eqb c.xid xid) cs ≡ true
+    → times x (call_xids (filter (λ (c : PendingCall). not (eqb c.xid xid)) cs)) + one_if (eqb xid x) ≤ times x (call_xids cs)
+executed-less x xid [] e = absurd cc
+executed-less x xid (c ∷ cs) e = by (eqb c.xid xid) refl e (executed-less x xid cs)
+  where
+    rest : List PendingCall
+    rest = filter (λ (z : PendingCall). not (eqb z.xid xid)) cs
+
+    by : (b : Bool) → eqb c.xid xid ≡ b → (b || list_any (λ (z : PendingCall). eqb z.xid xid) cs) ≡ true
+        → (list_any (λ (z : PendingCall). eqb z.xid xid) cs ≡ true → times x (call_xids rest) + one_if (eqb xid x) ≤ times x (call_xids cs))
+        → times x (call_xids (cond (not b) (c ∷ rest) rest)) + one_if (eqb xid x) ≤ times x (call_xids (c ∷ cs))
+    by true is e more =
+        let own : one_if (eqb c.xid x) ≡ one_if (eqb xid x) = ap (λ (n : ℕ). one_if (eqb n x)) (eqb-true c.xid xid is) in
+        omega (arith, own, kept-less x (λ (z : PendingCall). not (eqb z.xid xid)) cs)
+    by false is e more = omega (arith, more e)
+
+-- ---- Of a frame's effect: what is answered was pending, or is new
+
+abbrev error_xids : FrameEffect → List ℕ
+error_xids s = map (λ (m : List ℕ). word_at 0 m) s.errors
+
+abbrev pub AnswersPending : List PendingCall → (ℕ → ℕ) → FrameEffect → Type 0
+AnswersPending calls new s = (x : ℕ) → times x (error_xids s) + times x (call_xids s.calls) ≤ new x + times x (call_xids calls)
+
+pending-whole : (calls : List PendingCall) (new : ℕ → ℕ) (k : ServerState) (place : ℕ) (c : PendingCall) (s : FrameEffect) → AnswersPending calls new s → AnswersPending calls new (ready_if_whole k place c s)
+pending-whole calls new k place c s h = by (is_read s.reads c.number) (by_payload c (payload_of k place c))
+  where
+    by : (b : Bool) (o : CallVerdict) → AnswersPending calls new (cond b (with_verdict o s) s)
+    by true (Refuses reason) = h
+    by true (IsReady r) = h
+    by false o = h
+
+pending-message : (k : ServerState) (place : ℕ) (message : List ℕ) (v : Verdict) → verdict k message ≡ v → word_at 0 message < 2 ^ 32 → AnswersPending k.calls (λ x. one_if (eqb (word_at 0 message) x)) (message_effect k place message v)
+pending-message k place message (EndsLink reason) is lt = λ x. omega arith
+pending-message k place message OtherVersion is lt = λ x. omega (arith, ap (λ (n : ℕ). one_if (eqb n x)) (version_error-xid (word_at 0 message) (word_at 4 message) (credit_word k) lt))
+pending-message k place message BadChunks is lt = λ x. omega (arith, ap (λ (n : ℕ). one_if (eqb n x)) (chunk_error-xid (word_at 0 message) (credit_word k) lt))
+pending-message k place message (MakesPending c) is lt =
+    let new = verdict-new k message c is in
+    pending-whole k.calls (λ x. one_if (eqb (word_at 0 message) x)) k place c
+    (record (no_effect k) { calls = k.calls ++ c ∷ []; reads = k.reads ++ reads_of (k.regions ++ regions_of k place c) c; regions = k.regions ++ regions_of k place c })
+    (λ x. omega (arith, ap (λ (xs : List ℕ). times x xs) (map-append (λ (y : PendingCall). y.xid) k.calls (c ∷ [])), times-append x (call_xids k.calls) (c.xid ∷ []), ap (λ (n : ℕ). one_if (eqb n x)) new.0.own))
+
+pending-read : (k c_k : ServerState) (place n : ℕ) (r : PendingRead) (o : Option PendingCall) (s : FrameEffect) → s.calls ≡ k.calls → s.errors ≡ [] → find (λ (c : PendingCall). eqb c.number n) k.calls ≡ o → ((c : PendingCall) → o ≡ Some c → c.xid < 2 ^ 32)
+    → AnswersPending k.calls (λ x. 0) (read_effect c_k place r o s)
+pending-read k c_k place n r None s same none found small = λ x. omega (arith, ap (λ (cs : List PendingCall). times x (call_xids cs)) same, ap (λ (ms : List (List ℕ)). times x (map (λ (m : List ℕ). word_at 0 m) ms)) none)
+pending-read k c_k place n r (Some c) s same none found small = by (is_stream_read c r s.reads && not (is_read_chunk_of_item (chunk_bytes c_k place c 0) c.lists.read))
+  where
+    same_times : (x : ℕ) → times x (error_xids s) + times x (call_xids s.calls) ≤ 0 + times x (call_xids k.calls)
+    same_times x = omega (arith, ap (λ (cs : List PendingCall). times x (call_xids cs)) same, ap (λ (ms : List (List ℕ)). times x (map (λ (m : List ℕ). word_at 0 m) ms)) none)
+
+    by : (b : Bool) → AnswersPending k.calls (λ x. 0) (cond b (with_refused_call c_k c s) (ready_if_whole c_k place c s))
+    by true = λ x.
+        omega (
+          arith,
+          removed x n k.calls c found,
+          ap (λ (cs : List PendingCall). times x (call_xids (filter (λ (y : PendingCall). not (eqb y.number c.number)) cs))) same,
+          ap (λ (m : ℕ). one_if (eqb m x)) (chunk_error-xid c.xid (credit_word c_k) (small c refl)),
+        )
+    by false = pending-whole k.calls (λ x. 0) c_k place c s same_times
+
+pub pending-send : (k : ServerState) (f : Frame) (message : List ℕ) → k.received.begun ≡ None → word_at 0 message < 2 ^ 32 → frame_segment f ≡ Ok (Untagged true OPCODE_SEND 0 QUEUE_SEND (msn_word (k.received.sends + 1)) 0 message)
+    → AnswersPending k.calls (λ x. one_if (eqb (word_at 0 message) x)) (frame_effect k f)
+unfolding frame_effect
+pending-send k f message none lt is =
+    let segment : Segment = Untagged true OPCODE_SEND 0 QUEUE_SEND (msn_word (k.received.sends + 1)) 0 message in
+    let whole : List ℕ = begun_bytes k.received.begun ++ message in
+    let same : whole ≡ message = ap (λ (b : Option (List ℕ)). begun_bytes b ++ message) none in
+    subst (λ (r : Result Segment ℕ). AnswersPending k.calls (λ x. one_if (eqb (word_at 0 message) x)) (effect_in k f r)) (sym is)
+    (subst (λ (n : ℕ). AnswersPending k.calls (λ x. one_if (eqb n x)) (effect_in k f (Ok segment))) (ap (λ (xs : List ℕ). word_at 0 xs) same)
+    (pending-message k f.end whole (verdict k whole) refl (subst (λ (xs : List ℕ). word_at 0 xs < 2 ^ 32) (sym same) lt)))
+
+pub pending-tagged : (k : ServerState) (f : Frame) (last : Bool) (opcode stag to : ℕ) (payload : List ℕ) → ((n : ℕ) (c : PendingCall) → find (λ (y : PendingCall). eqb y.number n) k.calls ≡ Some c → c.xid < 2 ^ 32) → frame_segment f ≡ Ok (Tagged last opcode stag to payload)
+    → AnswersPending k.calls (λ x. 0) (frame_effect k f)
+unfolding frame_effect
+pending-tagged k f last opcode stag to payload small is =
+    subst (λ (r : Result Segment ℕ). AnswersPending k.calls (λ x. 0) (effect_in k f r)) (sym is) (by (eqb opcode OPCODE_READ_RESPONSE && last))
+  where
+    t : ServerState
+    t = with_access k f (Tagged last opcode stag to payload)
+
+    response : (reads : List PendingRead) → AnswersPending k.calls (λ x. 0) (response_effect t f.end reads)
+    response [] = λ x. omega arith
+    response (r ∷ reads) = pending-read k t f.end r.number r (call_of_number t r.number) _ refl refl refl (small r.number)
+
+    by : (b : Bool) → AnswersPending k.calls (λ x. 0) (cond b (response_effect t f.end k.reads) (no_effect t))
+    by true = response k.reads
+    by false = λ x. omega arith

@@ -1,0 +1,241 @@
+-- At each moment every call of a matched link is outstanding or has its message, and no call has two; so a message that is received
+-- answers a call that is outstanding and whose Send is written.
+use Rattle.std.proofs.Common.{◌≡◌, ◌≢◌, ℕ, ◌+◌, ◌≤◌, ◌<◌, Bool, true, false, cond, not, ◌&&◌, eqb, List, [], ◌∷◌, ◌++◌, map, filter, Some, refl, sym, ap, subst, ◌∙◌, arith, append_assoc, ◌⊎◌, inl, inr}
+use Rattle.std.specs.List.{AllByRecursion, find}
+use Rattle.std.proofs.lemmas.Bool.{eqb-true, ne_eqb, eq-eqb, cases_lt}
+use Rattle.std.proofs.lemmas.List.{map-append}
+use Rattle.nr_xdr.specs.Fields.{word_at}
+use Rattle.nr_reduce.specs.Limits.{numbers_end}
+use Rattle.nr_reduce.specs.Plans.{one_if}
+use Rattle.nr_reduce.specs.ClientState.{ClientState, OutstandingCall}
+use Rattle.nr_reduce.specs.ServerState.{ServerState, PendingCall}
+use Rattle.nr_laws.specs.FrameContents.{FrameContent, total_of, sends_in}
+use Rattle.nr_laws.specs.FrameContents.FrameContent.{SendFrame}
+use Rattle.nr_laws.specs.LinkInvariants.{Transit}
+use Rattle.nr_laws.proofs.Totals.{total-append}
+use Rattle.nr_laws.proofs.AnsweredCalls.{message_xids, times, call_xids, outstanding_xids, xids-append, times-append}
+
+abbrev pub IsWritten : ℕ → OutstandingCall → Type 0
+IsWritten end o = o.xid < end → o.is_written ≡ true
+
+-- how often an xid is that of a message of the server or of a pending call
+abbrev pub given_to : ℕ → List FrameContent → List PendingCall → ℕ
+given_to x all_down calls = times x (message_xids all_down) + times x (call_xids calls)
+
+pub record Answered (first : ℕ) (k : ClientState) (s : ServerState) (u d all_down : List FrameContent) (w : Transit) : Type 0 where
+  pub once : (x : ℕ) → given_to x all_down s.calls ≤ 1
+  pub later : (x : ℕ) → first + s.received.sends ≤ x → given_to x all_down s.calls ≤ 0
+  pub earlier : (x : ℕ) → x < first → given_to x all_down s.calls ≤ 0
+  pub open_calls : (x : ℕ) → first ≤ x → x < first + k.calls_accepted → 1 ≤ times x (outstanding_xids k.outstanding) + times x (message_xids d)
+  pub written : AllByRecursion (IsWritten (first + total_of sends_in (u ++ w.up))) k.outstanding
+  pub room : first + k.calls_accepted ≤ numbers_end
+
+said-more : (x : ℕ) (all_down said : List FrameContent) → times x (message_xids (all_down ++ said)) ≡ times x (message_xids all_down) + times x (message_xids said)
+said-more x all_down said = ap (λ (xs : List ℕ). times x xs) (xids-append all_down said) ∙ times-append x (message_xids all_down) (message_xids said)
+
+-- ---- A frame at the server
+
+abbrev FrameAt : (first : ℕ) → ClientState → ServerState → ServerState → (u d all_down : List FrameContent) → Transit → FrameContent → (rest said : List FrameContent) → Type 0
+FrameAt first k s t u d all_down w p rest said = Answered first k t (u ++ p ∷ []) d (all_down ++ said) (record { queued_up = w.queued_up; up = rest; queued_down = w.queued_down ++ said; down = w.down })
+
+same-written : (first : ℕ) (k : ClientState) (u : List FrameContent) (w : Transit) (p : FrameContent) (rest : List FrameContent) → w.up ≡ p ∷ rest → AllByRecursion (IsWritten (first + total_of sends_in (u ++ w.up))) k.outstanding
+    → AllByRecursion (IsWritten (first + total_of sends_in ((u ++ p ∷ []) ++ rest))) k.outstanding
+same-written first k u w p rest head h =
+    subst (λ (ps : List FrameContent). AllByRecursion (IsWritten (first + total_of sends_in ps)) k.outstanding) (ap (λ (ps : List FrameContent). u ++ ps) head ∙ sym (append_assoc u (p ∷ []) rest)) h
+
+pub answered-send : (first : ℕ) (k : ClientState) (s t : ServerState) (u d all_down : List FrameContent) (w : Transit) (p : FrameContent) (rest said : List FrameContent) → w.up ≡ p ∷ rest → t.received.sends ≡ s.received.sends + 1
+    → ((x : ℕ) → times x (message_xids said) + times x (call_xids t.calls) ≤ one_if (eqb (first + s.received.sends) x) + times x (call_xids s.calls))
+    → Answered first k s u d all_down w → FrameAt first k s t u d all_down w p rest said
+answered-send first k s t u d all_down w p rest said head sends new h = record {
+  once = λ x. once x (cases_eq x (first + s.received.sends));
+  later = λ x le.
+      omega (arith, le, sends, said-more x all_down said, new x, h.later x (omega (arith, le, sends)), ap one_if (ne_eqb (first + s.received.sends) x (λ e. omega (arith, e, le, sends))));
+  earlier = λ x lt.
+      omega (arith, said-more x all_down said, new x, h.earlier x lt, ap one_if (ne_eqb (first + s.received.sends) x (λ e. omega (arith, e, lt))));
+  open_calls = h.open_calls;
+  written = same-written first k u w p rest head h.written;
+  room = h.room;
+}
+  where
+    cases_eq : (x y : ℕ) → (x ≡ y) ⊎ (x ≢ y)
+    cases_eq x y = by (eqb x y) refl
+      where
+        by : (b : Bool) → eqb x y ≡ b → (x ≡ y) ⊎ (x ≢ y)
+        by true e = inl (eqb-true x y e)
+        by false e = inr (λ same. absurd (let wrong : true ≡ false = sym (eq-eqb x y same) ∙ e in cc))
+
+    one_most : (b : Bool) → one_if b ≤ 1
+    one_most true = omega arith
+    one_most false = omega arith
+
+    once : (x : ℕ) → (x ≡ first + s.received.sends) ⊎ (x ≢ first + s.received.sends) → given_to x (all_down ++ said) t.calls ≤ 1
+    once x (inl e) = omega (arith, said-more x all_down said, new x, h.later x (omega (arith, e)), one_most (eqb (first + s.received.sends) x))
+    once x (inr ne) = omega (arith, said-more x all_down said, new x, h.once x, ap one_if (ne_eqb (first + s.received.sends) x (λ e. ne (sym e))))
+
+pub answered-other : (first : ℕ) (k : ClientState) (s t : ServerState) (u d all_down : List FrameContent) (w : Transit) (p : FrameContent) (rest said : List FrameContent) → w.up ≡ p ∷ rest → t.received.sends ≡ s.received.sends
+    → ((x : ℕ) → times x (message_xids said) + times x (call_xids t.calls) ≤ times x (call_xids s.calls))
+    → Answered first k s u d all_down w → FrameAt first k s t u d all_down w p rest said
+answered-other first k s t u d all_down w p rest said head sends new h = record {
+  once = λ x. omega (arith, said-more x all_down said, new x, h.once x);
+  later = λ x le. omega (arith, said-more x all_down said, new x, h.later x (omega (arith, le, sends)));
+  earlier = λ x lt. omega (arith, said-more x all_down said, new x, h.earlier x lt);
+  open_calls = h.open_calls;
+  written = same-written first k u w p rest head h.written;
+  room = h.room;
+}
+
+-- a call is executed, or the server's queue is written
+pub answered-server : (first : ℕ) (k : ClientState) (s t : ServerState) (u d all_down : List FrameContent) (w v : Transit) (said : List FrameContent) → t.received.sends ≡ s.received.sends → v.up ≡ w.up
+    → ((x : ℕ) → times x (message_xids said) + times x (call_xids t.calls) ≤ times x (call_xids s.calls)) → Answered first k s u d all_down w → Answered first k t u d (all_down ++ said) v
+answered-server first k s t u d all_down w v said sends up new h = record {
+  once = λ x. omega (arith, said-more x all_down said, new x, h.once x);
+  later = λ x le. omega (arith, said-more x all_down said, new x, h.later x (omega (arith, le, sends)));
+  earlier = λ x lt. omega (arith, said-more x all_down said, new x, h.earlier x lt);
+  open_calls = h.open_calls;
+  written = subst (λ (ps : List FrameContent). AllByRecursion (IsWritten (first + total_of sends_in (u ++ ps))) k.outstanding) (sym up) h.written;
+  room = h.room;
+}
+
+-- ---- A frame at the client
+
+kept-written : (end : ℕ) (p : OutstandingCall → Bool) (os : List OutstandingCall) → AllByRecursion (IsWritten end) os → AllByRecursion (IsWritten end) (filter p os)
+kept-written end p [] h = tt
+kept-written end p (o ∷ os) h = by (p o) (kept-written end p os h.1)
+  where
+    by : (b : Bool) → AllByRecursion (IsWritten end) (filter p os) → AllByRecursion (IsWritten end) (cond b (o ∷ filter p os) (filter p os))
+    by true k = (h.0, k)
+    by false k = k
+
+-- the calls of other xids stay
+others-times : (x xid : ℕ) (os : List OutstandingCall) → eqb x xid ≡ false → times x (outstanding_xids (filter (λ (o : OutstandingCall). not (eqb o.xid xid)) os)) ≡ times x (outstanding_xids os)
+others-times x xid [] ne = refl
+others-times x xid (o ∷ os) ne = by (eqb o.xid xid) refl (others-times x xid os ne)
+  where
+    rest : List OutstandingCall
+    rest = filter (λ (y : OutstandingCall). not (eqb y.xid xid)) os
+
+    by : (b : Bool) → eqb o.xid xid ≡ b → times x (outstanding_xids rest) ≡ times x (outstanding_xids os) → times x (outstanding_xids (cond (not b) (o ∷ rest) rest)) ≡ times x (outstanding_xids (o ∷ os))
+    by true is same =
+        let other : eqb o.xid x ≡ false = ne_eqb o.xid x (λ e. absurd (let wrong : true ≡ false = sym (eq-eqb x xid (sym e ∙ eqb-true o.xid xid is)) ∙ ne in cc)) in
+        omega (arith, same, ap one_if other)
+    by false is same = omega (arith, same)
+
+pub answered-message : (first : ℕ) (k t : ClientState) (s : ServerState) (u d all_down : List FrameContent) (w v : Transit) (message : List ℕ) → t.outstanding ≡ filter (λ (o : OutstandingCall). not (eqb o.xid (word_at 0 message))) k.outstanding → t.calls_accepted ≡ k.calls_accepted → v.up ≡ w.up
+    → Answered first k s u d all_down w → Answered first t s u (d ++ SendFrame message ∷ []) all_down v
+answered-message first k t s u d all_down w v message left accepted up h = record {
+  once = h.once;
+  later = h.later;
+  earlier = h.earlier;
+  open_calls = λ x le lt. open_call x le (omega (arith, lt, accepted)) (eqb (word_at 0 message) x) refl;
+  written = subst (λ (ps : List FrameContent). AllByRecursion (IsWritten (first + total_of sends_in (u ++ ps))) t.outstanding) (sym up)
+      (subst (AllByRecursion (IsWritten (first + total_of sends_in (u ++ w.up)))) (sym left) (kept-written (first + total_of sends_in (u ++ w.up)) (λ (o : OutstandingCall). not (eqb o.xid (word_at 0 message))) k.outstanding h.written));
+  room = omega (arith, accepted, h.room);
+}
+  where
+    more : (x : ℕ) → times x (message_xids (d ++ SendFrame message ∷ [])) ≡ times x (message_xids d) + (one_if (eqb (word_at 0 message) x) + 0)
+    more x = said-more x d (SendFrame message ∷ [])
+
+    open_call : (x : ℕ) → first ≤ x → x < first + k.calls_accepted → (b : Bool) → eqb (word_at 0 message) x ≡ b → 1 ≤ times x (outstanding_xids t.outstanding) + times x (message_xids (d ++ SendFrame message ∷ []))
+    open_call x le lt true is = omega (arith, more x, ap one_if is)
+    open_call x le lt false is =
+        let other : eqb x (word_at 0 message) ≡ false = ne_eqb x (word_at 0 message) (λ e. absurd (let wrong : true ≡ false = sym (eq-eqb (word_at 0 message) x (sym e)) ∙ is in cc)) in
+        omega (arith, more x, h.open_calls x le lt, ap (λ (os : List OutstandingCall). times x (outstanding_xids os)) left, others-times x (word_at 0 message) k.outstanding other)
+
+-- a frame without a message
+pub answered-same : (first : ℕ) (k t : ClientState) (s : ServerState) (u d all_down : List FrameContent) (w v : Transit) (p : FrameContent) → t.outstanding ≡ k.outstanding → t.calls_accepted ≡ k.calls_accepted → v.up ≡ w.up → message_xids (p ∷ []) ≡ []
+    → Answered first k s u d all_down w → Answered first t s u (d ++ p ∷ []) all_down v
+answered-same first k t s u d all_down w v p same accepted up none h = record {
+  once = h.once;
+  later = h.later;
+  earlier = h.earlier;
+  open_calls = λ x le lt.
+      omega (arith, h.open_calls x le (omega (arith, lt, accepted)), ap (λ (os : List OutstandingCall). times x (outstanding_xids os)) same, said-more x d (p ∷ []), ap (λ (xs : List ℕ). times x xs) none);
+  written = subst (λ (ps : List FrameContent). AllByRecursion (IsWritten (first + total_of sends_in (u ++ ps))) t.outstanding) (sym up) (subst (AllByRecursion (IsWritten (first + total_of sends_in (u ++ w.up)))) (sym same) h.written);
+  room = omega (arith, accepted, h.room);
+}
+
+-- ---- Events of the client
+
+push-written : (end : ℕ) (os : List OutstandingCall) (o : OutstandingCall) → AllByRecursion (IsWritten end) os → end ≤ o.xid → AllByRecursion (IsWritten end) (os ++ o ∷ [])
+push-written end [] o h le = ((λ lt. absurd (omega (arith, lt, le))), tt)
+push-written end (y ∷ os) o h le = (h.0, push-written end os o h.1 le)
+
+pub answered-submit : (first : ℕ) (k t : ClientState) (s : ServerState) (u d all_down : List FrameContent) (w v : Transit) (o : OutstandingCall) → t.outstanding ≡ k.outstanding ++ o ∷ [] → t.calls_accepted ≡ k.calls_accepted + 1 → o.xid ≡ first + k.calls_accepted → o.xid < numbers_end
+    → total_of sends_in (u ++ w.up) ≤ k.calls_accepted → v.up ≡ w.up → Answered first k s u d all_down w → Answered first t s u d all_down v
+answered-submit first k t s u d all_down w v o outs accepted own small sent up h = record {
+  once = h.once;
+  later = h.later;
+  earlier = h.earlier;
+  open_calls = λ x le lt. open_call x le lt (eqb o.xid x) refl;
+  written = subst (λ (ps : List FrameContent). AllByRecursion (IsWritten (first + total_of sends_in (u ++ ps))) t.outstanding) (sym up)
+      (subst (AllByRecursion (IsWritten (first + total_of sends_in (u ++ w.up)))) (sym outs) (push-written (first + total_of sends_in (u ++ w.up)) k.outstanding o h.written (omega (arith, own, sent))));
+  room = omega (arith, accepted, own, small);
+}
+  where
+    more : (x : ℕ) → times x (outstanding_xids t.outstanding) ≡ times x (outstanding_xids k.outstanding) + (one_if (eqb o.xid x) + 0)
+    more x =
+        ap (λ (os : List OutstandingCall). times x (outstanding_xids os)) outs ∙ ap (λ (xs : List ℕ). times x xs) (map-append (λ (y : OutstandingCall). y.xid) k.outstanding (o ∷ []))
+        ∙ times-append x (outstanding_xids k.outstanding) (o.xid ∷ [])
+
+    open_call : (x : ℕ) → first ≤ x → x < first + t.calls_accepted → (b : Bool) → eqb o.xid x ≡ b → 1 ≤ times x (outstanding_xids t.outstanding) + times x (message_xids d)
+    open_call x le lt true is = omega (arith, more x, ap one_if is)
+    open_call x le lt false is =
+        let ne : o.xid ≢ x = λ e. absurd (let wrong : true ≡ false = sym (eq-eqb o.xid x e) ∙ is in cc) in
+        omega (arith, more x, h.open_calls x le (below (cases_lt x (first + k.calls_accepted)) ne))
+      where
+        below : (x < first + k.calls_accepted) ⊎ (first + k.calls_accepted ≤ x) → o.xid ≢ x → x < first + k.calls_accepted
+        below (inl lt2) ne = lt2
+        below (inr ge) ne = absurd (ne (omega (arith, own, ge, lt, accepted)))
+
+map-times : (f : OutstandingCall → OutstandingCall) (x : ℕ) (os : List OutstandingCall) → ((o : OutstandingCall) → (f o).xid ≡ o.xid) → times x (outstanding_xids (map f os)) ≡ times x (outstanding_xids os)
+map-times f x [] same = refl
+map-times f x (o ∷ os) same = omega (arith, ap (λ (n : ℕ). one_if (eqb n x)) (same o), map-times f x os same)
+
+-- the calls go on as others of the same xids
+pub answered-map : (first : ℕ) (f : OutstandingCall → OutstandingCall) (k t : ClientState) (s : ServerState) (u d all_down : List FrameContent) (w v : Transit) → t.outstanding ≡ map f k.outstanding → ((o : OutstandingCall) → (f o).xid ≡ o.xid) → t.calls_accepted ≡ k.calls_accepted
+    → AllByRecursion (IsWritten (first + total_of sends_in (u ++ v.up))) t.outstanding → Answered first k s u d all_down w → Answered first t s u d all_down v
+answered-map first f k t s u d all_down w v outs same accepted written h = record {
+  once = h.once;
+  later = h.later;
+  earlier = h.earlier;
+  open_calls = λ x le lt.
+      omega (arith, h.open_calls x le (omega (arith, lt, accepted)), ap (λ (os : List OutstandingCall). times x (outstanding_xids os)) outs, map-times f x k.outstanding same);
+  written = written;
+  room = omega (arith, accepted, h.room);
+}
+
+-- ---- The message at the front answers a call
+
+found-written : (x end : ℕ) (os : List OutstandingCall) → AllByRecursion (IsWritten end) os → x < end → 1 ≤ times x (outstanding_xids os) → (o : OutstandingCall) × (find (λ (y : OutstandingCall). eqb y.xid x && y.is_written) os ≡ Some o)
+found-written x end [] h lt some = absurd (omega (arith, some))
+found-written x end (o ∷ os) h lt some = by (eqb o.xid x) refl (found-written x end os h.1 lt)
+  where
+    by : (b : Bool) → eqb o.xid x ≡ b → (1 ≤ times x (outstanding_xids os) → (y : OutstandingCall) × (find (λ (z : OutstandingCall). eqb z.xid x && z.is_written) os ≡ Some y))
+        → (y : OutstandingCall) × (find (λ (z : OutstandingCall). eqb z.xid x && z.is_written) (o ∷ os) ≡ Some y)
+    by true is later =
+        let own = eqb-true o.xid x is in
+        let written = h.0 (omega (arith, own, lt)) in
+        (o, (λ i. cond (is i && written i) (Some o) (find (λ (z : OutstandingCall). eqb z.xid x && z.is_written) os)))
+    by false is later =
+        let m = later (omega (arith, some, ap one_if is)) in
+        (m.0, (λ i. cond (is i && o.is_written) (Some o) (find (λ (z : OutstandingCall). eqb z.xid x && z.is_written) os)) ∙ m.1)
+
+pub answers-one : (first : ℕ) (k : ClientState) (s : ServerState) (u d all_down : List FrameContent) (w : Transit) (message : List ℕ) (rest : List FrameContent) → all_down ≡ d ++ SendFrame message ∷ rest → s.received.sends ≤ k.calls_accepted → s.received.sends ≡ total_of sends_in u
+    → Answered first k s u d all_down w → (o : OutstandingCall) × (find (λ (y : OutstandingCall). eqb y.xid (word_at 0 message) && y.is_written) k.outstanding ≡ Some o)
+answers-one first k s u d all_down w message rest parts sends is h =
+    let x = word_at 0 message in
+    let there : times x (message_xids all_down) ≡ times x (message_xids d) + (1 + times x (message_xids rest)) =
+    ap (λ (ps : List FrameContent). times x (message_xids ps)) parts ∙ said-more x d (SendFrame message ∷ rest)
+    ∙ ap (λ (b : Bool). times x (message_xids d) + (one_if b + times x (message_xids rest))) (eq-eqb x x refl) in
+    let below : x < first + s.received.sends = not-later x there (cases_lt x (first + s.received.sends)) in
+    let above : first ≤ x = not-earlier x there (cases_lt x first) in
+    let some : 1 ≤ times x (outstanding_xids k.outstanding) = omega (arith, there, h.once x, h.open_calls x above (omega (arith, below, sends))) in
+    found-written x (first + total_of sends_in (u ++ w.up)) k.outstanding h.written (omega (arith, below, is, total-append sends_in u w.up)) some
+  where
+    not-later : (x : ℕ) → times x (message_xids all_down) ≡ times x (message_xids d) + (1 + times x (message_xids rest)) → (x < first + s.received.sends) ⊎ (first + s.received.sends ≤ x) → x < first + s.received.sends
+    not-later x there (inl lt) = lt
+    not-later x there (inr le) = absurd (omega (arith, there, h.later x le))
+
+    not-earlier : (x : ℕ) → times x (message_xids all_down) ≡ times x (message_xids d) + (1 + times x (message_xids rest)) → (x < first) ⊎ (first ≤ x) → first ≤ x
+    not-earlier x there (inl lt) = absurd (omega (arith, there, h.earlier x lt))
+    not-earlier x there (inr le) = le

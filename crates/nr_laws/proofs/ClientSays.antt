@@ -1,0 +1,264 @@
+-- What the client of a link says along its events: the message of each call that it accepted, in order, once it has the server's
+-- hello.
+use Rattle.std.proofs.Common.{◌≡◌, ℕ, ◌+◌, ◌^◌, ◌≤◌, ◌<◌, Bool, true, false, cond, ◌||◌, not, eqb, ltb, List, [], ◌∷◌, ◌++◌, length, take, drop, map, Option, None, Some, Result, Ok, refl, sym, ap, subst, ◌∙◌, arith, ◌⊎◌, eqb-true}
+use Rattle.std.proofs.lemmas.List.{length-take}
+use Rattle.std.proofs.lemmas.Bool.{ltb-false}
+use Rattle.std.specs.List.{filter}
+use Rattle.nr_xdr.specs.Item.{IsBytes}
+use Rattle.nr_rpc.specs.Credential.{CanWriteCred}
+use Rattle.nr_wire.specs.declared.hello.Side.TheVariants.{Responder}
+use Rattle.nr_wire.specs.declared.stream.Awaited.TheVariants.{Fpdu}
+use Rattle.nr_wire.specs.Constants.{OPCODE_READ_REQUEST}
+use Rattle.nr_wire.specs.Segment.{Segment}
+use Rattle.nr_wire.specs.Segment.Segment.{Tagged, Untagged}
+use Rattle.nr_wire.specs.Hello.{hello_of}
+use Rattle.nr_regions.specs.declared.denied.Denied.{Denied}
+use Rattle.nr_link.specs.declared.end.End.{End as Stop}
+use Rattle.nr_link.specs.Frames.{Frame, is_hello}
+use Rattle.nr_link.specs.Reasons.{REASON_MSN, REASON_OFFSET, REASON_FORM, REASON_REQUESTS, REASON_SHORT, REASON_LONG}
+use Rattle.nr_link.specs.SegmentFaults.{Readiness, SegmentFault, segment_fault, first_fault, reason_if, next_msn, next_offset, no_buffer, is_malformed, missing_fault, is_too_many, has_length, terminate_fault}
+use Rattle.nr_link.specs.SegmentFaults.SegmentFault.{Reason, NoBuffer, AccessDenied, PeerTerminated}
+use Rattle.nr_link.specs.ReceiveState.{ReadRequest, read_request_in, read_request_of, message_completed, is_send}
+use Rattle.nr_link.specs.Ending.{frame_segment, frame_end, frame_end_by, end_of_fault, hello_end, missing_access}
+use Rattle.nr_reduce.specs.declared.mark.LinkParameters.{LinkParameters}
+use Rattle.nr_reduce.specs.declared.outline.Plan.{Plan}
+use Rattle.nr_reduce.specs.Limits.{numbers_end}
+use Rattle.nr_reduce.specs.History.{AcceptedCall}
+use Rattle.nr_reduce.specs.Events.{Event}
+use Rattle.nr_reduce.specs.Events.Event.{FrameReceived, CallSubmitted, MemoryRevoked, CallExecuted, QueueWritten}
+use Rattle.nr_reduce.specs.EndRules.{EndState}
+use Rattle.nr_reduce.specs.OfferedRegions.{region_grants}
+use Rattle.nr_reduce.specs.Plans.{regions_needed}
+use Rattle.nr_reduce.specs.ClientState.{ClientState, OutstandingCall, call_payload, plan_for, memory_at}
+use Rattle.nr_reduce.specs.Client.{client_end, readiness, or_message_end, outstanding_of, revoked_call, written_call, initial_client}
+use Rattle.nr_reduce.specs.SubmitAnswer.{next_xid}
+use Rattle.nr_reduce.specs.RunLaws.{outstanding_from, as_submitted}
+use Rattle.nr_laws.specs.Typed.{IsTypedForm}
+use Rattle.nr_laws.proofs.Outputs.{Output, IsShort, CallsShort, message_of_call, response_outputs}
+use Rattle.nr_laws.proofs.Brought.{AreFrom}
+use Rattle.nr_laws.proofs.Words.{responses-words, RangeEnds, word-below, hyper-below, payload_by}
+use Rattle.nr_laws.proofs.Messages.{messages, AreOne}
+
+-- ---- A call that is accepted
+
+pub record IsGoodCall (opened : LinkParameters) (r : EndState ClientState) (a : AcceptedCall) : Type 0 where
+  pub stays : r.ended ≡ None
+  pub next : a.xid ≡ next_xid opened r.state
+  pub plan : Plan
+  pub planned : plan_for r.state a.xid a.call a.form ≡ Ok plan
+  pub xids : a.xid < numbers_end
+  pub stags : r.state.stag + regions_needed plan ≤ numbers_end
+  pub writable : CanWriteCred a.call.cred
+  pub bytes : IsBytes (call_payload a.xid a.call)
+  pub form : IsTypedForm a.form
+
+abbrev pub ClientGood : LinkParameters → EndState ClientState → Event → Type 0
+ClientGood opened r (FrameReceived f) = Unit {0}
+ClientGood opened r (CallSubmitted p a) = IsGoodCall opened r a
+ClientGood opened r (MemoryRevoked p xid) = Unit {0}
+ClientGood opened r (CallExecuted e) = Unit {0}
+ClientGood opened r QueueWritten = Unit {0}
+
+-- ---- The calls that were accepted
+
+abbrev pub accepted_in : List Event → List AcceptedCall
+accepted_in [] = []
+accepted_in (FrameReceived f ∷ es) = accepted_in es
+accepted_in (CallSubmitted p a ∷ es) = a ∷ accepted_in es
+accepted_in (MemoryRevoked p xid ∷ es) = accepted_in es
+accepted_in (CallExecuted e ∷ es) = accepted_in es
+accepted_in (QueueWritten ∷ es) = accepted_in es
+
+pub accepted-append : (es more : List Event) → accepted_in (es ++ more) ≡ accepted_in es ++ accepted_in more
+accepted-append [] more = refl
+accepted-append (FrameReceived f ∷ es) more = accepted-append es more
+accepted-append (CallSubmitted p a ∷ es) more = ap (λ (cs : List AcceptedCall). a ∷ cs) (accepted-append es more)
+accepted-append (MemoryRevoked p xid ∷ es) more = accepted-append es more
+accepted-append (CallExecuted e ∷ es) more = accepted-append es more
+accepted-append (QueueWritten ∷ es) more = accepted-append es more
+
+-- the STag that is next after these calls
+abbrev pub stag_behind : ClientState → ℕ → List AcceptedCall → ℕ
+stag_behind k stag [] = stag
+stag_behind k stag (a ∷ accepted) = stag_behind k (stag + regions_needed (outstanding_of (record k { stag = stag }) a).plan) accepted
+
+pub from-more : (k : ClientState) (stag : ℕ) (xs : List AcceptedCall) (a : AcceptedCall) → outstanding_from k stag (xs ++ a ∷ []) ≡ outstanding_from k stag xs ++ outstanding_of (record k { stag = stag_behind k stag xs }) a ∷ []
+from-more k stag [] a = refl
+from-more k stag (x ∷ xs) a = ap (λ (os : List OutstandingCall). outstanding_of (record k { stag = stag }) x ∷ os) (from-more k (stag + regions_needed (outstanding_of (record k { stag = stag }) x).plan) xs a)
+
+pub behind-more : (k : ClientState) (stag : ℕ) (xs : List AcceptedCall) (a : AcceptedCall)
+    → stag_behind k stag (xs ++ a ∷ []) ≡ stag_behind k stag xs + regions_needed (outstanding_of (record k { stag = stag_behind k stag xs }) a).plan
+behind-more k stag [] a = refl
+behind-more k stag (x ∷ xs) a = behind-more k (stag + regions_needed (outstanding_of (record k { stag = stag }) x).plan) xs a
+
+abbrev pub start : LinkParameters → ClientState
+start opened = (initial_client opened).state
+
+-- the calls that were accepted, as they go out
+abbrev pub asked : LinkParameters → List Event → List OutstandingCall
+asked opened es = outstanding_from (start opened) opened.first_stag (accepted_in es)
+
+abbrev next_stag_of : LinkParameters → List Event → ℕ
+next_stag_of opened es = stag_behind (start opened) opened.first_stag (accepted_in es)
+
+-- ---- What a client says
+
+abbrev pub HasHello : ℕ → Bool → Type 0
+HasHello place hello = ((place ≡ 0) × (hello ≡ false)) ⊎ ((0 < place) × (hello ≡ true))
+
+pub record ClientSays (opened : LinkParameters) (es : List Event) (place : ℕ) (k : ClientState) (ended : Option Stop) (outs : List Output) : Type 0 where
+  pub short : CallsShort opened k.outstanding
+  pub stag : k.stag ≡ next_stag_of opened es
+  pub count : k.calls_accepted ≡ length (accepted_in es)
+  pub greeted : ended ≡ None → HasHello place k.has_hello
+  pub waits : k.has_hello ≡ false → map as_submitted k.outstanding ≡ asked opened es
+  pub said : messages outs ≡ cond k.has_hello (map (message_of_call opened) (asked opened es)) []
+  pub words : AreFrom Fpdu outs
+  pub one : AreOne outs
+
+abbrev pub Says : LinkParameters → List Event → ℕ → EndState ClientState → List Output → Type 0
+Says opened es place r outs = ClientSays opened es place r.state r.ended outs
+
+-- ---- Calls in lists
+
+pub short-append : (opened : LinkParameters) (xs ys : List OutstandingCall) → CallsShort opened xs → CallsShort opened ys → CallsShort opened (xs ++ ys)
+short-append opened [] ys h g = g
+short-append opened (x ∷ xs) ys h g = (h.0, short-append opened xs ys h.1 g)
+
+pub short-filter : (opened : LinkParameters) (test : OutstandingCall → Bool) (xs : List OutstandingCall) → CallsShort opened xs → CallsShort opened (filter test xs)
+short-filter opened test [] h = tt
+short-filter opened test (x ∷ xs) h = by (test x) (short-filter opened test xs h.1)
+  where
+    by : (b : Bool) → CallsShort opened (filter test xs) → CallsShort opened (cond b (x ∷ filter test xs) (filter test xs))
+    by true rest = (h.0, rest)
+    by false rest = rest
+
+revoked-message : (opened : LinkParameters) (xid : ℕ) (o : OutstandingCall) → message_of_call opened (revoked_call xid o) ≡ message_of_call opened o
+revoked-message opened xid o = by (eqb o.xid xid)
+  where
+    by : (b : Bool) → message_of_call opened (cond b (record o { is_revoked = true }) o) ≡ message_of_call opened o
+    by true = refl
+    by false = refl
+
+pub short-revoked : (opened : LinkParameters) (xid : ℕ) (xs : List OutstandingCall) → CallsShort opened xs → CallsShort opened (map (revoked_call xid) xs)
+short-revoked opened xid [] h = tt
+short-revoked opened xid (x ∷ xs) h = (subst IsShort (sym (revoked-message opened xid x)) h.0, short-revoked opened xid xs h.1)
+
+pub short-written : (opened : LinkParameters) (b : Bool) (xs : List OutstandingCall) → CallsShort opened xs → CallsShort opened (map (written_call b) xs)
+short-written opened b [] h = tt
+short-written opened b (x ∷ xs) h = (h.0, short-written opened b xs h.1)
+
+pub submitted-append : (xs ys : List OutstandingCall) → map as_submitted (xs ++ ys) ≡ map as_submitted xs ++ map as_submitted ys
+submitted-append [] ys = refl
+submitted-append (x ∷ xs) ys = ap (λ (os : List OutstandingCall). as_submitted x ∷ os) (submitted-append xs ys)
+
+pub submitted-messages : (opened : LinkParameters) (xs : List OutstandingCall) → map (message_of_call opened) (map as_submitted xs) ≡ map (message_of_call opened) xs
+submitted-messages opened [] = refl
+submitted-messages opened (x ∷ xs) = ap (λ (ms : List (List ℕ)). message_of_call opened x ∷ ms) (submitted-messages opened xs)
+
+pub map-more : (opened : LinkParameters) (xs ys : List OutstandingCall) → map (message_of_call opened) (xs ++ ys) ≡ map (message_of_call opened) xs ++ map (message_of_call opened) ys
+map-more opened [] ys = refl
+map-more opened (x ∷ xs) ys = ap (λ (ms : List (List ℕ)). message_of_call opened x ∷ ms) (map-more opened xs ys)
+
+pub revoked-same : (xid : ℕ) (os : List OutstandingCall) → map as_submitted (map (revoked_call xid) os) ≡ map as_submitted os
+revoked-same xid [] = refl
+revoked-same xid (o ∷ os) = ap (λ (x : OutstandingCall). x ∷ map as_submitted (map (revoked_call xid) os)) (by (eqb o.xid xid)) ∙ ap (λ (rest : List OutstandingCall). as_submitted o ∷ rest) (revoked-same xid os)
+  where
+    by : (b : Bool) → as_submitted (cond b (record o { is_revoked = true }) o) ≡ as_submitted o
+    by true = refl
+    by false = refl
+
+or-none : (b : Bool) → (b || false) ≡ b
+or-none true = refl
+or-none false = refl
+
+pub written-same : (hello : Bool) (os : List OutstandingCall) → hello ≡ false → map as_submitted (map (written_call hello) os) ≡ map as_submitted os
+written-same hello [] no_hello = refl
+written-same hello (o ∷ os) no_hello =
+    ap (λ (b : Bool). record o { is_written = b; is_revoked = false } ∷ map as_submitted (map (written_call hello) os)) (ap (λ (b : Bool). o.is_written || b) no_hello ∙ or-none o.is_written)
+    ∙ ap (λ (rest : List OutstandingCall). as_submitted o ∷ rest) (written-same hello os no_hello)
+
+-- ---- A Read Request that is answered
+
+abbrev pub AreNone : {X : Type 0} → List (Option X) → Type 0
+AreNone [] = Unit {0}
+AreNone (x ∷ xs) = (x ≡ None) × AreNone xs
+
+pub all_none : {X : Type 0} (xs : List (Option X)) → first_fault xs ≡ None → AreNone xs
+all_none [] e = tt
+all_none (None ∷ xs) e = (refl, all_none xs e)
+all_none (Some x ∷ xs) e = absurd cc
+
+pub no_fault : (f : Frame) (segment : Segment) (o : Option (SegmentFault Denied)) → end_of_fault f segment o ≡ None → o ≡ None
+no_fault f segment None e = refl
+no_fault f segment (Some (Reason reason)) e = absurd cc
+no_fault f segment (Some (NoBuffer msn)) e = absurd cc
+no_fault f segment (Some (AccessDenied why)) e = absurd cc
+no_fault f segment (Some (PeerTerminated word)) e = absurd cc
+
+pub no_reason : {D : Type 0} (reason : ℕ) (b : Bool) → reason_if {D = D} reason b ≡ None → b ≡ false
+no_reason reason true e = absurd cc
+no_reason reason false e = refl
+
+-- an untagged segment that breaks no rule is well formed
+pub formed : (r : Readiness Denied) (last : Bool) (opcode w queue msn offset : ℕ) (payload : List ℕ) → segment_fault r (Untagged last opcode w queue msn offset payload) ≡ None → is_malformed opcode last payload ≡ false
+unfolding segment_fault
+formed r last opcode w queue msn offset payload e =
+    let message : Option (List ℕ) = message_completed r.received (Untagged last opcode w queue msn offset payload) in
+    let flaws : List (Option (SegmentFault Denied)) =
+    reason_if REASON_MSN (not (eqb msn (next_msn r.received queue)))
+    ∷ reason_if REASON_OFFSET (not (eqb offset (next_offset r.received queue)))
+    ∷ no_buffer r (is_send opcode) msn
+    ∷ reason_if REASON_FORM (is_malformed opcode last payload)
+    ∷ missing_fault r.missing
+    ∷ reason_if REASON_REQUESTS (is_too_many r opcode)
+    ∷ reason_if REASON_LONG (has_length (ltb r.message_max) message)
+    ∷ reason_if REASON_SHORT (has_length (λ n. ltb n 16) message)
+    ∷ terminate_fault opcode payload
+    ∷ [] in
+    let all : AreNone flaws = all_none flaws e in
+    no_reason REASON_FORM (is_malformed opcode last payload) all.1.1.1.0
+
+or-false : (a b : Bool) → (a || b) ≡ false → (a ≡ false) × (b ≡ false)
+or-false true b e = absurd cc
+or-false false b e = (refl, e)
+
+request-ends : (last : Bool) (payload : List ℕ) → IsBytes payload → is_malformed OPCODE_READ_REQUEST last payload ≡ false → RangeEnds (read_request_in payload).sink_to (read_request_in payload).size
+request-ends last payload bytes e =
+    let a = or-false (not last) (not (eqb (length payload) 28) || ltb (2 ^ 64) ((read_request_in payload).sink_to + (read_request_in payload).size)) e in
+    let b = or-false (not (eqb (length payload) 28)) (ltb (2 ^ 64) ((read_request_in payload).sink_to + (read_request_in payload).size)) a.1 in
+    let c = ltb-false (2 ^ 64) ((read_request_in payload).sink_to + (read_request_in payload).size) b.1 in
+    (hyper-below 4 payload bytes, c)
+
+-- why a frame that isn't the hello doesn't end a client: no fault of its segment
+pub client-unharmed : (k : ClientState) (f : Frame) (segment : Segment) → is_hello f ≡ false → frame_segment f ≡ Ok segment → client_end k (FrameReceived f) ≡ None
+    → segment_fault (readiness k (missing_access (region_grants f.end k.regions) f segment)) segment ≡ None
+unfolding client_end frame_end
+client-unharmed k f segment behind is e =
+    let others : or_message_end k f (frame_end (readiness k) (region_grants f.end k.regions) f) ≡ None =
+    ap (λ (b : Bool). cond b (hello_end (hello_of Responder f.bytes)) (or_message_end k f (frame_end (readiness k) (region_grants f.end k.regions) f))) (sym behind) ∙ e in
+    let none : frame_end (readiness k) (region_grants f.end k.regions) f ≡ None = by_end (frame_end (readiness k) (region_grants f.end k.regions) f) others in
+    let by_segment : end_of_fault f segment (segment_fault (readiness k (missing_access (region_grants f.end k.regions) f segment)) segment) ≡ None =
+    ap (λ (r : Result Segment ℕ). frame_end_by (readiness k) (region_grants f.end k.regions) f r) (sym is) ∙ none in
+    no_fault f segment _ by_segment
+  where
+    by_end : (o : Option Stop) → or_message_end k f o ≡ None → o ≡ None
+    by_end None e = refl
+    by_end (Some end) e = absurd cc
+
+-- the segments of a response have numbers in range
+pub response-words : (k : ClientState) (place : ℕ) (segment : Segment) → IsBytes (payload_by segment) → (q : ReadRequest) → read_request_of segment ≡ Some q
+    → ((last : Bool) (opcode w queue msn offset : ℕ) (payload : List ℕ) → segment ≡ Untagged last opcode w queue msn offset payload → is_malformed opcode last payload ≡ false)
+    → AreFrom Fpdu (response_outputs k place (Some q))
+response-words k place (Tagged last opcode stag to payload) bytes q is sound = absurd cc
+response-words k place (Untagged last opcode w queue msn offset payload) bytes q is sound = by (eqb opcode OPCODE_READ_REQUEST) refl is
+  where
+    by : (b : Bool) → eqb opcode OPCODE_READ_REQUEST ≡ b → cond b (Some (read_request_in payload)) None ≡ Some q → AreFrom Fpdu (response_outputs k place (Some q))
+    by true own e =
+        let same : read_request_in payload ≡ q = (let s : Some (read_request_in payload) ≡ Some q = e in cc) in
+        let ends = request-ends last payload bytes (subst (λ (n : ℕ). is_malformed n last payload ≡ false) (eqb-true opcode OPCODE_READ_REQUEST own) (sound last opcode w queue msn offset payload refl)) in
+        subst (λ (x : ReadRequest). AreFrom Fpdu (response_outputs k place (Some x))) same
+        (let x = read_request_in payload in
+        let held : List ℕ = take x.size (drop x.to (memory_at k place x.stag)) in
+        responses-words x.sink x.sink_to x.size held (word-below 0 payload bytes) (let l = length-take x.size (drop x.to (memory_at k place x.stag)) in omega (arith, l)) ends)
+    by false own e = absurd cc

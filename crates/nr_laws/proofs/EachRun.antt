@@ -1,0 +1,211 @@
+-- After each run of a matched link in which each side kept its law in full, and of which no side has ended, both ends agree.
+use Rattle.std.proofs.Common.{◌≡◌, ℕ, Bool, true, false, cond, ◌&&◌, eqb, List, [], ◌∷◌, ◌++◌, Option, Some, None, refl, sym, ap, subst, ◌∙◌, arith, append_assoc, append-nil, lit<}
+use Rattle.std.proofs.lemmas.Bool.{eqb-true}
+use Rattle.nr_wire.specs.declared.hello.Side.TheVariants.{Initiator, Responder}
+use Rattle.nr_wire.specs.Stream.{split}
+use Rattle.nr_link.specs.declared.end.End.{End}
+use Rattle.nr_reduce.specs.declared.call.Submission.TheVariants as submissions
+use Rattle.nr_reduce.specs.declared.mark.Mark.{Mark}
+use Rattle.nr_reduce.specs.declared.mark.Mark.TheVariants as marks
+use Rattle.nr_reduce.specs.declared.mark.LinkParameters.{LinkParameters}
+use Rattle.nr_reduce.specs.History.{bytes_sent, bytes_received}
+use Rattle.nr_reduce.specs.Events.{Event, if_own, events_at, events}
+use Rattle.nr_reduce.specs.EndRules.{Rules, EndState, end_state_after}
+use Rattle.nr_reduce.specs.ClientState.{ClientState, initial_state as client_initial_state}
+use Rattle.nr_reduce.specs.ServerState.{ServerState, initial_state as server_initial_state}
+use Rattle.nr_reduce.specs.Client.{client_rules}
+use Rattle.nr_reduce.specs.Server.{server_rules}
+use Rattle.nr_reduce.specs.Run.{client, server, output_due}
+use Rattle.nr_reduce.specs.AtEachMark.{AtEachMark}
+use Rattle.nr_reduce.specs.Matched.{MatchedMark}
+use Rattle.nr_reduce.specs.Asked.{AskedMark, IsAll}
+use Rattle.nr_reduce.specs.Served.{ServedMark}
+use Rattle.nr_reduce.proofs.Steps.{client-one, server-one, ended-stays}
+use Rattle.nr_laws.specs.Typed.{TypedMark}
+use Rattle.nr_laws.specs.FrameContents.FrameContent.{HelloFrame}
+use Rattle.nr_laws.proofs.TotalsAtClient.{totals-first}
+use Rattle.nr_reduce.specs.Opening.{IsOpened}
+use Rattle.nr_laws.proofs.Guards.{Guards}
+use Rattle.nr_laws.proofs.AgreeingRuns.{place_of, RunAgrees, MarkAgrees, goes-on, goes-none, goes-fed_up, goes-fed_down}
+use Rattle.nr_laws.proofs.AgreeingMarks.{goes-submit, goes-wrote_up, goes-wrote_down, goes-execute, goes-revoke}
+
+-- ---- A side that has ended stays so
+
+stays-ended : {S : Type 0} (rules : Rules S) (r : EndState S) (es : List Event) → (end_state_after rules r es).ended ≡ None → r.ended ≡ None
+stays-ended rules r es e = by r.ended refl
+  where
+    by : (o : Option End) → r.ended ≡ o → r.ended ≡ None
+    by None is = is
+    by (Some end) is =
+        let same : r ≡ record { state = r.state; ended = Some end } = λ i. record { state = r.state; ended = is i } in
+        let ended : (end_state_after rules r es).ended ≡ Some end =
+        ap (λ (x : EndState _). (end_state_after rules x es).ended) same ∙ ap (λ (x : EndState _). x.ended) (ended-stays rules r.state end es).0 in
+        absurd (let wrong : Some end ≡ None = sym ended ∙ e in cc)
+
+pub client-unended : (opened : LinkParameters) (link : ℕ) (before more : List Mark) → (client opened link (before ++ more)).ended ≡ None → (client opened link before).ended ≡ None
+client-unended opened link before [] e = ap (λ (run : List Mark). (client opened link run).ended) (sym (append-nil before)) ∙ e
+client-unended opened link before (m ∷ more) e =
+    let later = client-unended opened link (before ++ m ∷ []) more (ap (λ (run : List Mark). (client opened link run).ended) (append_assoc before (m ∷ []) more) ∙ e) in
+    stays-ended (client_rules opened) (client opened link before) (events_at link Initiator before m) (ap (λ (x : EndState ClientState). x.ended) (sym (client-one opened link before m)) ∙ later)
+
+pub server-unended : (opened : LinkParameters) (link : ℕ) (before more : List Mark) → (server opened link (before ++ more)).ended ≡ None → (server opened link before).ended ≡ None
+server-unended opened link before [] e = ap (λ (run : List Mark). (server opened link run).ended) (sym (append-nil before)) ∙ e
+server-unended opened link before (m ∷ more) e =
+    let later = server-unended opened link (before ++ m ∷ []) more (ap (λ (run : List Mark). (server opened link run).ended) (append_assoc before (m ∷ []) more) ∙ e) in
+    stays-ended (server_rules opened) (server opened link before) (events_at link Responder before m) (ap (λ (x : EndState ServerState). x.ended) (sym (server-one opened link before m)) ∙ later)
+
+-- ---- At the beginning
+
+-- both ends as they are opened, with their guards
+pub record BothOpened (opened : LinkParameters) (link : ℕ) : Type 0 where
+  pub joined : RunAgrees opened link []
+  pub guards : IsOpened opened → Guards opened joined.k joined.s joined.u joined.d joined.all_up joined.all_down joined.w (place_of joined.u)
+
+pub starts : (opened : LinkParameters) (link : ℕ) → BothOpened opened link
+unfolding client server events output_due bytes_received bytes_sent split
+starts opened link = record {
+  joined = record {
+    k = client_initial_state opened;
+    s = server_initial_state opened;
+    u = [];
+    d = [];
+    all_up = HelloFrame ∷ [];
+    all_down = [];
+    w = record { queued_up = HelloFrame ∷ []; up = []; queued_down = []; down = [] };
+    client_is = refl;
+    server_is = refl;
+    linked = record {
+      parts_up = refl;
+      parts_down = refl;
+      counts = totals-first opened;
+      waits = record { numbers = tt; xids = tt; calls_below = tt; reads_below = tt; ready_apart = tt; ready_calls = tt; whole_calls = tt };
+      outs = record { apart = tt; below = tt };
+      fits = tt;
+      short = tt;
+      stream_up = tt;
+      begins_up = omega arith;
+      stream_down = tt;
+      hellos_down = refl;
+      no_reads = refl;
+      sends_up = refl;
+      requests_up = refl;
+      sends_down = refl;
+      requests_down = refl;
+      requests_sent = refl;
+    };
+    frames_up = refl;
+    frames_down = refl;
+    sent_up = refl;
+    sent_down = refl;
+    due_up = refl;
+    due_down = refl;
+    bytes_up = λ i. omega arith;
+    bytes_down = λ i. omega arith;
+  };
+  guards = λ o. record {
+    server = record {
+      counts = totals-first opened;
+      reads = record { answered = []; asked = []; parts = refl; answers = (refl, refl); requests = refl };
+      waits = record { numbers = tt; xids = tt; calls_below = tt; reads_below = tt; ready_apart = tt; ready_calls = tt; whole_calls = tt };
+      sinks = tt;
+      regions = record { stags = tt; calls = tt };
+    };
+    window = record { window = omega arith; grant = omega (arith, o.granted) };
+    up_said = (tt, tt);
+    down_said = tt;
+    credit = refl;
+    calls = tt;
+    within = record { fit = tt; few = lit< tt; small = tt };
+    sinks = omega arith;
+    xids = tt;
+    unsaid = λ e. tt;
+    numbers = tt;
+    answered = record { once = λ x. omega arith; later = λ x le. omega arith; earlier = λ x lt. omega arith; open_calls = λ x le lt. absurd (omega (arith, le, lt)); written = tt; room = omega (arith, o.xid_fits) };
+    reached = ([], refl);
+  };
+}
+
+-- ---- Each mark
+
+pub no-events : (b c : Bool) (es : List Event) → b ≡ false → if_own (b && c) es ≡ []
+no-events true c es e = absurd cc
+no-events false c es e = refl
+
+no-bytes : (b c : Bool) (bytes : List ℕ) → b ≡ false → cond (b && c) bytes [] ≡ []
+no-bytes true c bytes e = absurd cc
+no-bytes false c bytes e = refl
+
+pub goes-mark : (opened : LinkParameters) (link : ℕ) (run : List Mark) (mark : Mark) (j : RunAgrees opened link run) → AskedMark IsAll opened link run mark → ServedMark IsAll opened link run mark → MatchedMark link run mark → TypedMark run mark
+    → (client opened link (run ++ mark ∷ [])).ended ≡ None → (server opened link (run ++ mark ∷ [])).ended ≡ None → MarkAgrees opened link run mark j
+goes-mark opened link run (marks.Submit l call form (submissions.Accepted xid)) j asked served matched typed up down = by (eqb l link) refl
+  where
+    by : (b : Bool) → eqb l link ≡ b → MarkAgrees opened link run (marks.Submit l call form (submissions.Accepted xid)) j
+    by true e =
+        let same = eqb-true l link e in
+        subst (λ (n : ℕ). MarkAgrees opened link run (marks.Submit n call form (submissions.Accepted xid)) j) (sym same) (goes-submit opened link run call form xid j (asked same))
+    by false e = goes-none opened link run (marks.Submit l call form (submissions.Accepted xid)) j (no-events (eqb l link) true _ e) (no-events (eqb l link) false _ e) refl refl refl refl
+goes-mark opened link run (marks.Submit l call form (submissions.Refused why)) j asked served matched typed up down = goes-none opened link run (marks.Submit l call form (submissions.Refused why)) j refl refl refl refl refl refl
+goes-mark opened link run (marks.Submit l call form submissions.Dropped) j asked served matched typed up down = goes-none opened link run (marks.Submit l call form submissions.Dropped) j refl refl refl refl refl refl
+goes-mark opened link run (marks.Wrote l Initiator bytes) j asked served matched typed up down = by (eqb l link) refl
+  where
+    by : (b : Bool) → eqb l link ≡ b → MarkAgrees opened link run (marks.Wrote l Initiator bytes) j
+    by true e =
+        let same = eqb-true l link e in
+        subst (λ (n : ℕ). MarkAgrees opened link run (marks.Wrote n Initiator bytes) j) (sym same) (goes-wrote_up opened link run bytes j (asked same))
+    by false e = goes-none opened link run (marks.Wrote l Initiator bytes) j (no-events (eqb l link) true _ e) (no-events (eqb l link) false _ e) refl refl (no-bytes (eqb l link) true bytes e) (no-bytes (eqb l link) false bytes e)
+goes-mark opened link run (marks.Wrote l Responder bytes) j asked served matched typed up down = by (eqb l link) refl
+  where
+    by : (b : Bool) → eqb l link ≡ b → MarkAgrees opened link run (marks.Wrote l Responder bytes) j
+    by true e =
+        let same = eqb-true l link e in
+        subst (λ (n : ℕ). MarkAgrees opened link run (marks.Wrote n Responder bytes) j) (sym same) (goes-wrote_down opened link run bytes j (served same))
+    by false e = goes-none opened link run (marks.Wrote l Responder bytes) j (no-events (eqb l link) false _ e) (no-events (eqb l link) true _ e) refl refl (no-bytes (eqb l link) false bytes e) (no-bytes (eqb l link) true bytes e)
+goes-mark opened link run (marks.Fed l Initiator bytes) j asked served matched typed up down = by (eqb l link) refl
+  where
+    by : (b : Bool) → eqb l link ≡ b → MarkAgrees opened link run (marks.Fed l Initiator bytes) j
+    by true e =
+        let same = eqb-true l link e in
+        subst (λ (n : ℕ). MarkAgrees opened link run (marks.Fed n Initiator bytes) j) (sym same)
+        (goes-fed_down opened link run bytes j (matched same) typed (ap (λ (n : ℕ). (client opened link (run ++ marks.Fed n Initiator bytes ∷ [])).ended) (sym same) ∙ up))
+    by false e = goes-none opened link run (marks.Fed l Initiator bytes) j (no-events (eqb l link) true _ e) (no-events (eqb l link) false _ e) (no-bytes (eqb l link) true bytes e) (no-bytes (eqb l link) false bytes e) refl refl
+goes-mark opened link run (marks.Fed l Responder bytes) j asked served matched typed up down = by (eqb l link) refl
+  where
+    by : (b : Bool) → eqb l link ≡ b → MarkAgrees opened link run (marks.Fed l Responder bytes) j
+    by true e =
+        let same = eqb-true l link e in
+        subst (λ (n : ℕ). MarkAgrees opened link run (marks.Fed n Responder bytes) j) (sym same)
+        (goes-fed_up opened link run bytes j (matched same) typed (ap (λ (n : ℕ). (server opened link (run ++ marks.Fed n Responder bytes ∷ [])).ended) (sym same) ∙ down))
+    by false e = goes-none opened link run (marks.Fed l Responder bytes) j (no-events (eqb l link) false _ e) (no-events (eqb l link) true _ e) (no-bytes (eqb l link) false bytes e) (no-bytes (eqb l link) true bytes e) refl refl
+goes-mark opened link run (marks.Execute l xid moment payload place reply) j asked served matched typed up down = by (eqb l link) refl
+  where
+    by : (b : Bool) → eqb l link ≡ b → MarkAgrees opened link run (marks.Execute l xid moment payload place reply) j
+    by true e =
+        let same = eqb-true l link e in
+        subst (λ (n : ℕ). MarkAgrees opened link run (marks.Execute n xid moment payload place reply) j) (sym same) (goes-execute opened link run xid moment payload place reply j (served same))
+    by false e = goes-none opened link run (marks.Execute l xid moment payload place reply) j (no-events (eqb l link) false _ e) (no-events (eqb l link) true _ e) refl refl refl refl
+goes-mark opened link run (marks.Done l xid outcome) j asked served matched typed up down = goes-none opened link run (marks.Done l xid outcome) j refl refl refl refl refl refl
+goes-mark opened link run (marks.Lost l xid) j asked served matched typed up down = goes-none opened link run (marks.Lost l xid) j refl refl refl refl refl refl
+goes-mark opened link run (marks.Forget l xid) j asked served matched typed up down = goes-none opened link run (marks.Forget l xid) j refl refl refl refl refl refl
+goes-mark opened link run (marks.Revoke l xid bytes) j asked served matched typed up down = by (eqb l link) refl
+  where
+    by : (b : Bool) → eqb l link ≡ b → MarkAgrees opened link run (marks.Revoke l xid bytes) j
+    by true e = subst (λ (n : ℕ). MarkAgrees opened link run (marks.Revoke n xid bytes) j) (sym (eqb-true l link e)) (goes-revoke opened link run xid bytes j)
+    by false e = goes-none opened link run (marks.Revoke l xid bytes) j (no-events (eqb l link) true _ e) (no-events (eqb l link) false _ e) refl refl refl refl
+goes-mark opened link run (marks.Drop l) j asked served matched typed up down = goes-none opened link run (marks.Drop l) j refl refl refl refl refl refl
+
+-- ---- Each run
+
+joins-from : (opened : LinkParameters) (link : ℕ) (run before : List Mark) → RunAgrees opened link before → AtEachMark (AskedMark IsAll opened link) before run → AtEachMark (ServedMark IsAll opened link) before run → AtEachMark (MatchedMark link) before run
+    → AtEachMark TypedMark before run → (client opened link (before ++ run)).ended ≡ None → (server opened link (before ++ run)).ended ≡ None → RunAgrees opened link (before ++ run)
+joins-from opened link [] before j asked served matched typed up down = subst (RunAgrees opened link) (sym (append-nil before)) j
+joins-from opened link (m ∷ run) before j asked served matched typed up down =
+    let assoc : (before ++ m ∷ []) ++ run ≡ before ++ m ∷ run = append_assoc before (m ∷ []) run in
+    let up_all : (client opened link ((before ++ m ∷ []) ++ run)).ended ≡ None = ap (λ (r : List Mark). (client opened link r).ended) assoc ∙ up in
+    let down_all : (server opened link ((before ++ m ∷ []) ++ run)).ended ≡ None = ap (λ (r : List Mark). (server opened link r).ended) assoc ∙ down in
+    let g = goes-mark opened link before m j asked.0 served.0 matched.0 typed.0 (client-unended opened link (before ++ m ∷ []) run up_all) (server-unended opened link (before ++ m ∷ []) run down_all) in
+    subst (RunAgrees opened link) assoc
+    (joins-from opened link run (before ++ m ∷ []) (goes-on opened link before m j g) asked.1 served.1 matched.1 typed.1 up_all down_all)
+
+pub joins : (opened : LinkParameters) (link : ℕ) (run : List Mark) → AtEachMark (AskedMark IsAll opened link) [] run → AtEachMark (ServedMark IsAll opened link) [] run → AtEachMark (MatchedMark link) [] run
+    → AtEachMark TypedMark [] run → (client opened link run).ended ≡ None → (server opened link run).ended ≡ None → RunAgrees opened link run
+joins opened link run asked served matched typed up down = joins-from opened link run [] (starts opened link).joined asked served matched typed up down

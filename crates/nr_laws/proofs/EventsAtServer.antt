@@ -1,0 +1,42 @@
+-- What a server keeps where it executes a call and writes.
+use Rattle.std.proofs.Common.{◌≡◌, ℕ, List, [], ◌∷◌, ◌++◌, refl}
+use Rattle.nr_rpc.specs.Reading.{call_of, target_of}
+use Rattle.nr_reduce.specs.declared.mark.LinkParameters.{LinkParameters}
+use Rattle.nr_reduce.specs.History.{ExecutedCall}
+use Rattle.nr_reduce.specs.Events.Event.{CallExecuted, QueueWritten}
+use Rattle.nr_reduce.specs.ClientState.{ClientState}
+use Rattle.nr_reduce.specs.ServerState.{ServerState, ReadyCall, down_max}
+use Rattle.nr_reduce.specs.Server.{offer_of, answer_of_target, server_state_after}
+use Rattle.nr_laws.specs.FrameContents.{server_frames}
+use Rattle.nr_laws.specs.LinkInvariants.{Transit}
+use Rattle.nr_laws.proofs.TotalsAtServer.{totals-executes, totals-writes_down}
+use Rattle.nr_laws.proofs.ReadsAtClient.{reads-says_down, reads-writes_down, none-answered}
+use Rattle.nr_laws.proofs.PendingExecuted.{pending_agree-executes, executed-there}
+use Rattle.nr_laws.proofs.ServerInvariant.{ServerAgrees}
+
+-- the call that waits first is executed
+pub server-executes : (opened : LinkParameters) (k : ClientState) (s : ServerState) (w : Transit) (place : ℕ) (e : ExecutedCall) (r : ReadyCall) (rest : List ReadyCall) → ServerAgrees opened k s w place → s.ready ≡ r ∷ rest → e.xid ≡ r.xid
+    → ServerAgrees opened k (server_state_after opened s (CallExecuted e)) (record { queued_up = w.queued_up; up = w.up; queued_down = w.queued_down ++ server_frames opened s (CallExecuted e); down = w.down }) place
+unfolding server_state_after server_frames
+server-executes opened k s w place e r rest j first own =
+    let t = server_state_after opened s (CallExecuted e) in
+    record {
+      counts = totals-executes opened k s w e j.counts j.waits.xids (executed-there s e.xid r rest j.waits first own);
+      reads = reads-says_down s t w (server_frames opened s (CallExecuted e)) j.reads refl refl (none-answered s e.xid (offer_of s e.xid) (answer_of_target (offer_of s e.xid) (down_max s) e.reply (target_of (call_of e.payload))));
+      waits = pending_agree-executes opened s e r rest j.waits first own;
+      sinks = j.sinks;
+      regions = record { stags = j.regions.stags; calls = j.regions.calls };
+    }
+
+pub server-writes : (opened : LinkParameters) (k : ClientState) (s : ServerState) (w : Transit) (place : ℕ) → ServerAgrees opened k s w place
+    → ServerAgrees opened k (server_state_after opened s QueueWritten) (record { queued_up = w.queued_up; up = w.up; queued_down = []; down = w.down ++ w.queued_down }) place
+unfolding server_state_after
+server-writes opened k s w place j =
+    let moved = reads-writes_down s w j.reads in
+    record {
+      counts = totals-writes_down opened k s w j.counts;
+      reads = record { answered = moved.answered; asked = moved.asked; parts = moved.parts; answers = moved.answers; requests = moved.requests };
+      waits = record { numbers = j.waits.numbers; xids = j.waits.xids; calls_below = j.waits.calls_below; reads_below = j.waits.reads_below; ready_apart = j.waits.ready_apart; ready_calls = j.waits.ready_calls; whole_calls = j.waits.whole_calls };
+      sinks = j.sinks;
+      regions = record { stags = j.regions.stags; calls = j.regions.calls };
+    }

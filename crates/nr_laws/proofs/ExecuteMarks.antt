@@ -1,0 +1,137 @@
+-- An executed call among a server's events is an Execute of the run.
+use Rattle.std.proofs.Common.{◌≡◌, ℕ, suc, ◌+◌, Bool, true, false, cond, ◌&&◌, eqb, List, [], ◌∷◌, ◌++◌, length, drop, map, Option, None, Some, refl, sym, ap, subst, ◌∙◌, arith, append_assoc, append-nil, eqb-true, length-append}
+use Rattle.nr_wire.specs.declared.hello.Side.TheVariants.{Initiator, Responder}
+use Rattle.nr_link.specs.Frames.{Frame, frames_completed}
+use Rattle.nr_reduce.specs.declared.call.Submission.TheVariants as submissions
+use Rattle.nr_reduce.specs.declared.mark.Mark.{Mark}
+use Rattle.nr_reduce.specs.declared.mark.Mark.TheVariants as marks
+use Rattle.nr_reduce.specs.History.{ExecutedCall, bytes_received, same_side}
+use Rattle.nr_reduce.specs.Events.{Event, events, events_at, if_own}
+use Rattle.nr_reduce.specs.Events.Event.{FrameReceived, CallSubmitted, MemoryRevoked, CallExecuted, QueueWritten}
+use Rattle.nr_reduce.proofs.Steps.{events-one}
+
+abbrev pub execute_mark : ℕ → ExecutedCall → Mark
+execute_mark link e = marks.Execute link e.xid e.moment e.payload e.place e.reply
+
+pub record ExecuteMark (link : ℕ) (run : List Mark) (es : List Event) (e : ExecutedCall) : Type 0 where
+  pub earlier : List Mark
+  pub later : List Mark
+  pub is : run ≡ earlier ++ execute_mark link e ∷ later
+  pub before : events link Responder earlier ≡ es
+
+-- events of one mark
+abbrev NoExecutes : List Event → Type 0
+NoExecutes [] = Unit {0}
+NoExecutes (FrameReceived f ∷ es) = NoExecutes es
+NoExecutes (CallSubmitted p a ∷ es) = NoExecutes es
+NoExecutes (MemoryRevoked p xid ∷ es) = NoExecutes es
+NoExecutes (CallExecuted e ∷ es) = ⊥
+NoExecutes (QueueWritten ∷ es) = NoExecutes es
+
+no-frames : (fs : List Frame) → NoExecutes (map FrameReceived fs)
+no-frames [] = tt
+no-frames (f ∷ fs) = no-frames fs
+
+no-if : (b : Bool) (es : List Event) → NoExecutes es → NoExecutes (if_own b es)
+no-if true es h = h
+no-if false es h = tt
+
+no-at : (pre : List Event) (e : ExecutedCall) (post : List Event) → NoExecutes (pre ++ CallExecuted e ∷ post) → ⊥
+no-at [] e post h = h
+no-at (FrameReceived f ∷ pre) e post h = no-at pre e post h
+no-at (CallSubmitted p a ∷ pre) e post h = no-at pre e post h
+no-at (MemoryRevoked p xid ∷ pre) e post h = no-at pre e post h
+no-at (CallExecuted x ∷ pre) e post h = h
+no-at (QueueWritten ∷ pre) e post h = no-at pre e post h
+
+data PartedTwo (xs ys pre : List Event) (m : Event) (post : List Event) : Type 0 where
+  InFirst : (more : List Event) → xs ≡ pre ++ m ∷ more → PartedTwo xs ys pre m post
+  InSecond : (rest : List Event) → pre ≡ xs ++ rest → ys ≡ rest ++ m ∷ post → PartedTwo xs ys pre m post
+
+two-more : (x z : Event) (xs ys pre : List Event) (m : Event) (post : List Event) → x ≡ z → PartedTwo xs ys pre m post → PartedTwo (x ∷ xs) ys (z ∷ pre) m post
+two-more x z xs ys pre m post e (InFirst more is) = InFirst more (λ i. e i ∷ is i)
+two-more x z xs ys pre m post e (InSecond rest is then) = InSecond rest (λ i. sym e i ∷ is i) then
+
+head-is : (a b : Event) (xs ys : List Event) → a ∷ xs ≡ b ∷ ys → a ≡ b
+head-is a b xs ys e = cc
+
+parted-two : (xs ys pre : List Event) (m : Event) (post : List Event) → xs ++ ys ≡ pre ++ m ∷ post → PartedTwo xs ys pre m post
+parted-two [] ys pre m post e = InSecond pre refl e
+parted-two (x ∷ xs) ys [] m post e = InFirst xs (λ i. head-is x m (xs ++ ys) post e i ∷ xs)
+parted-two (x ∷ xs) ys (p ∷ pre) m post e = two-more x p xs ys pre m post (head-is x p (xs ++ ys) (pre ++ m ∷ post) e) (parted-two xs ys pre m post (ap (λ (zs : List Event). drop 1 zs) e))
+
+abbrev HasMarks : ℕ → List Mark → Type 0
+HasMarks link run = (pre : List Event) (e : ExecutedCall) (post : List Event) → events link Responder run ≡ pre ++ CallExecuted e ∷ post → ExecuteMark link run pre e
+
+later-mark : (link : ℕ) (run : List Mark) (mark : Mark) (es : List Event) (e : ExecutedCall) → ExecuteMark link run es e → ExecuteMark link (run ++ mark ∷ []) es e
+later-mark link run mark es e m = record {
+  earlier = m.earlier;
+  later = m.later ++ mark ∷ [];
+  is = ap (λ (r : List Mark). r ++ mark ∷ []) m.is ∙ append_assoc m.earlier (execute_mark link e ∷ m.later) (mark ∷ []);
+  before = m.before;
+}
+
+quiet-marks : (link : ℕ) (before : List Mark) (mark : Mark) → NoExecutes (events_at link Responder before mark) → HasMarks link before → HasMarks link (before ++ mark ∷ [])
+quiet-marks link before mark none has pre e post is = by (parted-two (events link Responder before) (events_at link Responder before mark) pre (CallExecuted e) post (sym (events-one link Responder before mark) ∙ is))
+  where
+    by : PartedTwo (events link Responder before) (events_at link Responder before mark) pre (CallExecuted e) post → ExecuteMark link (before ++ mark ∷ []) pre e
+    by (InFirst more own) = later-mark link before mark pre e (has pre e more own)
+    by (InSecond rest own there) = absurd (no-at rest e post (subst NoExecutes there none))
+
+execute-marks : (link : ℕ) (before : List Mark) (x : ExecutedCall) → HasMarks link before → HasMarks link (before ++ execute_mark link x ∷ [])
+execute-marks link before x has pre e post is =
+    by (parted-two (events link Responder before) (CallExecuted x ∷ []) pre (CallExecuted e) post (ap (λ (es : List Event). events link Responder before ++ es) (sym here) ∙ sym (events-one link Responder before (execute_mark link x)) ∙ is))
+  where
+    here : events_at link Responder before (execute_mark link x) ≡ CallExecuted x ∷ []
+    here = ap (λ (b : Bool). if_own (b && true) (CallExecuted x ∷ [])) (Rattle.std.proofs.Common.eq-eqb link link refl)
+
+    at_once : (rest : List Event) → CallExecuted x ∷ [] ≡ rest ++ CallExecuted e ∷ post → (rest ≡ []) × (x ≡ e)
+    at_once [] own = (refl, same (head-is (CallExecuted x) (CallExecuted e) [] post own))
+      where
+        same : {x e : ExecutedCall} → CallExecuted x ≡ CallExecuted e → x ≡ e
+        same own = cc
+    at_once (y ∷ rest) own = absurd (let l = ap (λ (zs : List Event). length zs) own in let n = length-append rest (CallExecuted e ∷ post) in omega (arith, l, n))
+
+    by : PartedTwo (events link Responder before) (CallExecuted x ∷ []) pre (CallExecuted e) post → ExecuteMark link (before ++ execute_mark link x ∷ []) pre e
+    by (InFirst more own) = later-mark link before (execute_mark link x) pre e (has pre e more own)
+    by (InSecond rest own there) =
+        let a = at_once rest there in
+        record {
+          earlier = before;
+          later = [];
+          is = ap (λ (c : ExecutedCall). before ++ execute_mark link c ∷ []) a.1;
+          before = sym (own ∙ ap (λ (r : List Event). events link Responder before ++ r) a.0 ∙ append-nil (events link Responder before));
+        }
+
+mark-marks : (link : ℕ) (before : List Mark) (mark : Mark) → HasMarks link before → HasMarks link (before ++ mark ∷ [])
+mark-marks link before (marks.Execute l xid moment payload place reply) has = by (eqb l link) refl
+  where
+    x : ExecutedCall
+    x = record { xid = xid; moment = moment; payload = payload; place = place; reply = reply }
+
+    by : (b : Bool) → eqb l link ≡ b → HasMarks link (before ++ marks.Execute l xid moment payload place reply ∷ [])
+    by true is = subst (λ (n : ℕ). HasMarks link (before ++ marks.Execute n xid moment payload place reply ∷ [])) (sym (eqb-true l link is)) (execute-marks link before x has)
+    by false is = quiet-marks link before (marks.Execute l xid moment payload place reply) (subst (λ (b : Bool). NoExecutes (if_own (b && true) (CallExecuted x ∷ []))) (sym is) tt) has
+mark-marks link before (marks.Submit l call form (submissions.Accepted xid)) has = quiet-marks link before (marks.Submit l call form (submissions.Accepted xid))
+    (no-if (eqb l link && false) (CallSubmitted (length (bytes_received link Responder before)) (record { xid = xid; call = call; form = form }) ∷ []) tt) has
+mark-marks link before (marks.Submit l call form (submissions.Refused why)) has = quiet-marks link before (marks.Submit l call form (submissions.Refused why)) tt has
+mark-marks link before (marks.Submit l call form submissions.Dropped) has = quiet-marks link before (marks.Submit l call form submissions.Dropped) tt has
+mark-marks link before (marks.Fed l s bytes) has = quiet-marks link before (marks.Fed l s bytes) (no-if (eqb l link && same_side s Responder) (map FrameReceived (frames_completed Initiator (bytes_received link Responder before) bytes)) (no-frames (frames_completed Initiator (bytes_received link Responder before) bytes))) has
+mark-marks link before (marks.Wrote l s bytes) has = quiet-marks link before (marks.Wrote l s bytes) (no-if (eqb l link && same_side s Responder) (QueueWritten ∷ []) tt) has
+mark-marks link before (marks.Revoke l xid bytes) has = quiet-marks link before (marks.Revoke l xid bytes) (no-if (eqb l link && false) (MemoryRevoked (length (bytes_received link Responder before)) xid ∷ []) tt) has
+mark-marks link before (marks.Done l xid outcome) has = quiet-marks link before (marks.Done l xid outcome) tt has
+mark-marks link before (marks.Lost l xid) has = quiet-marks link before (marks.Lost l xid) tt has
+mark-marks link before (marks.Forget l xid) has = quiet-marks link before (marks.Forget l xid) tt has
+mark-marks link before (marks.Drop l) has = quiet-marks link before (marks.Drop l) tt has
+
+marks-from : (link : ℕ) (before run : List Mark) → HasMarks link before → HasMarks link (before ++ run)
+marks-from link before [] has = subst (λ (b : List Mark). HasMarks link b) (sym (append-nil before)) has
+marks-from link before (mark ∷ run) has = subst (λ (b : List Mark). HasMarks link b) (append_assoc before (mark ∷ []) run) (marks-from link (before ++ mark ∷ []) run (mark-marks link before mark has))
+
+pub execute-mark : (link : ℕ) (run : List Mark) → HasMarks link run
+unfolding events
+execute-mark link run = marks-from link [] run none
+  where
+    none : HasMarks link []
+    none [] e post is = absurd cc
+    none (x ∷ pre) e post is = absurd cc

@@ -1,0 +1,238 @@
+-- Of the two sides of a matched link the one that ends first ends for what it makes of a message, or for what its memory denies.
+use Rattle.std.proofs.Common.{◌≡◌, ◌≢◌, ℕ, ◌+◌, Bool, true, false, ◌&&◌, eqb, List, [], ◌∷◌, ◌++◌, length, map, Option, Some, None, refl, sym, ap, subst, ◌∙◌, arith, append_assoc, append-nil, ◌⊎◌}
+use Rattle.std.proofs.lemmas.Bool.{eqb-true}
+use Rattle.std.specs.List.{concat}
+use Rattle.nr_xdr.specs.Item.{IsBytes}
+use Rattle.nr_wire.specs.declared.hello.Side.TheVariants.{Initiator, Responder}
+use Rattle.nr_link.specs.declared.end.End.{End}
+use Rattle.nr_link.specs.Frames.{Frame, frames_completed}
+use Rattle.nr_reduce.specs.declared.call.Submission.TheVariants as submissions
+use Rattle.nr_reduce.specs.declared.mark.Mark.{Mark}
+use Rattle.nr_reduce.specs.declared.mark.Mark.TheVariants as marks
+use Rattle.nr_reduce.specs.declared.mark.LinkParameters.{LinkParameters}
+use Rattle.nr_reduce.specs.Opening.{IsOpened}
+use Rattle.nr_reduce.specs.Credits.{WithinGrant}
+use Rattle.nr_reduce.specs.History.{bytes_sent, bytes_received}
+use Rattle.nr_reduce.specs.Events.{Event, if_own, events_at}
+use Rattle.nr_reduce.specs.Events.Event.{FrameReceived, CallSubmitted, MemoryRevoked, CallExecuted, QueueWritten}
+use Rattle.nr_reduce.specs.EndRules.{EndState, live, end_state_after}
+use Rattle.nr_reduce.specs.ClientState.{ClientState}
+use Rattle.nr_reduce.specs.ServerState.{ServerState}
+use Rattle.nr_reduce.specs.Client.{client_rules}
+use Rattle.nr_reduce.specs.Server.{server_rules}
+use Rattle.nr_reduce.specs.Run.{client, server, end_of_side}
+use Rattle.nr_reduce.specs.AtEachMark.{AtEachMark}
+use Rattle.nr_reduce.specs.Matched.{MatchedMark, IsPrefixOf}
+use Rattle.nr_reduce.specs.Asked.{AskedMark, IsAll}
+use Rattle.nr_reduce.specs.Served.{ServedMark}
+use Rattle.nr_reduce.proofs.Steps.{client-one, server-one, ended-stays}
+use Rattle.nr_laws.specs.Typed.{TypedMark}
+use Rattle.nr_laws.specs.EndCauses.{IsCallEnd, IsReplyEnd, IsDenied, ServerEndsForCalls, ClientEndsForReplies}
+use Rattle.nr_laws.specs.FrameContents.{total_of, sends_in, requests_in}
+use Rattle.nr_laws.proofs.Bytes.{bytes_both}
+use Rattle.nr_laws.proofs.StreamFrames.{frames_at}
+use Rattle.nr_laws.proofs.Writable.{IsOutput}
+use Rattle.nr_laws.proofs.Guards.{Guards}
+use Rattle.nr_laws.proofs.ServerFrames.{events_of, server-ends}
+use Rattle.nr_laws.proofs.ClientFrames.{client-ends}
+use Rattle.nr_laws.proofs.AgreeingRuns.{RunAgrees, MarkAgrees, place_of, goes-on, arrives, other-events}
+use Rattle.nr_laws.proofs.AgreeingMarks.{client-event, server-event}
+use Rattle.nr_laws.proofs.EachRun.{starts, goes-mark, no-events, client-unended, server-unended}
+
+-- ---- With guards, from mark to mark
+
+pub record Guarded (opened : LinkParameters) (link : ℕ) (run : List Mark) : Type 0 where
+  pub joined : RunAgrees opened link run
+  pub guards : Guards opened joined.k joined.s joined.u joined.d joined.all_up joined.all_down joined.w (place_of joined.u)
+
+guarded-more : (opened : LinkParameters) (link : ℕ) (run : List Mark) (mark : Mark) (j : RunAgrees opened link run) → MarkAgrees opened link run mark j → IsOpened opened → WithinGrant opened link run mark
+    → Guards opened j.k j.s j.u j.d j.all_up j.all_down j.w (place_of j.u) → Guarded opened link (run ++ mark ∷ [])
+unfolding goes-on
+guarded-more opened link run mark j g o within guards = record { joined = goes-on opened link run mark j g; guards = g.guarded o within guards }
+
+-- ---- The server
+
+server-last : (opened : LinkParameters) (link : ℕ) (before more : List Mark) (end : End) → (server opened link before).ended ≡ Some end → (server opened link (before ++ more)).ended ≡ Some end
+server-last opened link before [] end e = ap (λ (run : List Mark). (server opened link run).ended) (append-nil before) ∙ e
+server-last opened link before (m ∷ more) end e =
+    let r = server opened link before in
+    let same : r ≡ record { state = r.state; ended = Some end } = λ i. record { state = r.state; ended = e i } in
+    let next : (server opened link (before ++ m ∷ [])).ended ≡ Some end =
+    ap (λ (x : EndState ServerState). x.ended) (server-one opened link before m)
+    ∙ ap (λ (x : EndState ServerState). (end_state_after (server_rules opened) x (events_at link Responder before m)).ended) same
+    ∙ ap (λ (x : EndState ServerState). x.ended) (ended-stays (server_rules opened) r.state end (events_at link Responder before m)).0 in
+    ap (λ (run : List Mark). (server opened link run).ended) (sym (append_assoc before (m ∷ []) more)) ∙ server-last opened link (before ++ m ∷ []) more end next
+
+-- no event, or one that is no frame, ends it
+not-by-none : (opened : LinkParameters) (s : ServerState) (es : List Event) (end : End) → es ≡ [] → (end_state_after (server_rules opened) (live s) es).ended ≡ Some end → IsCallEnd end
+not-by-none opened s es end none e = absurd (let wrong : None ≡ Some end = ap (λ (xs : List Event). (end_state_after (server_rules opened) (live s) xs).ended) (sym none) ∙ e in cc)
+
+not-by-one : (opened : LinkParameters) (s : ServerState) (es : List Event) (event : Event) (b : Bool) (end : End) → ((f : Frame) → event ≢ FrameReceived f) → es ≡ if_own b (event ∷ []) → (end_state_after (server_rules opened) (live s) es).ended ≡ Some end → IsCallEnd end
+not-by-one opened s es event true end other is e =
+    absurd (let wrong : None ≡ Some end = sym (ap (λ (xs : List Event). (end_state_after (server_rules opened) (live s) xs).ended) is ∙ ap (λ (x : EndState ServerState). x.ended) (server-event opened s event other).state) ∙ e in cc)
+not-by-one opened s es event false end other is e = not-by-none opened s es end is e
+
+by-fed : (opened : LinkParameters) (link : ℕ) (run : List Mark) (bytes : List ℕ) (g : Guarded opened link run) → IsOpened opened → IsPrefixOf (bytes_received link Responder run ++ bytes) (bytes_sent link Initiator run) → IsBytes bytes
+    → (end : End) → (end_state_after (server_rules opened) (live g.joined.s) (map FrameReceived (frames_completed Initiator (bytes_received link Responder run) bytes))).ended ≡ Some end → IsCallEnd end
+by-fed opened link run bytes g o prefix typed end e =
+    let j = g.joined in
+    let got = bytes_received link Responder run in
+    let stream : IsOutput (j.u ++ (j.w.up ++ j.w.queued_up)) = subst IsOutput (sym j.linked.parts_up) j.linked.stream_up in
+    let a = arrives Initiator got bytes (bytes_sent link Initiator run) j.u j.w.up j.w.queued_up stream j.frames_up j.sent_up prefix (bytes_both got bytes j.bytes_up typed) in
+    let n = 0 + total_of sends_in j.u in
+    let r = 0 + total_of requests_in j.u in
+    let es = events_of (place_of j.u) (frames_at Initiator n r a.new) in
+    let same : map FrameReceived (frames_completed Initiator got bytes) ≡ es = ap (λ (fs : List Frame). map FrameReceived fs) a.frames in
+    server-ends opened j.k j.d j.all_up a.left o end a.new j.s j.u j.all_down j.w n r (place_of j.u) j.linked g.guards a.parts (omega arith) (omega arith) a.place a.bytes_are a.some
+    (ap (λ (xs : List Event). (end_state_after (server_rules opened) (live j.s) xs).ended) (sym same) ∙ e)
+
+server-mark : (opened : LinkParameters) (link : ℕ) (run : List Mark) (mark : Mark) (g : Guarded opened link run) → IsOpened opened → MatchedMark link run mark → TypedMark run mark → (end : End)
+    → (end_state_after (server_rules opened) (live g.joined.s) (events_at link Responder run mark)).ended ≡ Some end → IsCallEnd end
+server-mark opened link run (marks.Submit l call form (submissions.Accepted xid)) g o matched typed end e = not-by-none opened g.joined.s _ end (other-events (eqb l link) _) e
+server-mark opened link run (marks.Submit l call form (submissions.Refused why)) g o matched typed end e = not-by-none opened g.joined.s _ end refl e
+server-mark opened link run (marks.Submit l call form submissions.Dropped) g o matched typed end e = not-by-none opened g.joined.s _ end refl e
+server-mark opened link run (marks.Wrote l Initiator bytes) g o matched typed end e = not-by-none opened g.joined.s _ end (other-events (eqb l link) _) e
+server-mark opened link run (marks.Wrote l Responder bytes) g o matched typed end e = not-by-one opened g.joined.s _ QueueWritten (eqb l link && true) end (λ f x. absurd cc) refl e
+server-mark opened link run (marks.Fed l Initiator bytes) g o matched typed end e = not-by-none opened g.joined.s _ end (other-events (eqb l link) _) e
+server-mark opened link run (marks.Fed l Responder bytes) g o matched typed end e = by (eqb l link) refl
+  where
+    fs : List Frame
+    fs = frames_completed Initiator (bytes_received link Responder run) bytes
+
+    by : (b : Bool) → eqb l link ≡ b → IsCallEnd end
+    by true is = by-fed opened link run bytes g o (matched (eqb-true l link is)) typed end (ap (λ (b : Bool). (end_state_after (server_rules opened) (live g.joined.s) (if_own (b && true) (map FrameReceived fs))).ended) (sym is) ∙ e)
+    by false is = not-by-none opened g.joined.s _ end (no-events (eqb l link) true (map FrameReceived fs) is) e
+server-mark opened link run (marks.Execute l xid moment payload place reply) g o matched typed end e =
+    not-by-one opened g.joined.s _ (CallExecuted (record { xid = xid; moment = moment; payload = payload; place = place; reply = reply })) (eqb l link && true) end (λ f x. absurd cc) refl e
+server-mark opened link run (marks.Done l xid outcome) g o matched typed end e = not-by-none opened g.joined.s _ end refl e
+server-mark opened link run (marks.Lost l xid) g o matched typed end e = not-by-none opened g.joined.s _ end refl e
+server-mark opened link run (marks.Forget l xid) g o matched typed end e = not-by-none opened g.joined.s _ end refl e
+server-mark opened link run (marks.Revoke l xid bytes) g o matched typed end e = not-by-none opened g.joined.s _ end (other-events (eqb l link) _) e
+server-mark opened link run (marks.Drop l) g o matched typed end e = not-by-none opened g.joined.s _ end refl e
+
+server-from : (opened : LinkParameters) (link : ℕ) (o : IsOpened opened) (end : End) (run before : List Mark) → Guarded opened link before → AtEachMark (AskedMark IsAll opened link) before run → AtEachMark (ServedMark IsAll opened link) before run → AtEachMark (MatchedMark link) before run
+    → AtEachMark (WithinGrant opened link) before run → AtEachMark TypedMark before run → (client opened link (before ++ run)).ended ≡ None → (server opened link (before ++ run)).ended ≡ Some end → IsCallEnd end
+server-from opened link o end [] before g asked served matched grant typed up down =
+    absurd (let wrong : None ≡ Some end = sym (ap (λ (r : List Mark). (server opened link r).ended) (append-nil before) ∙ ap (λ (x : EndState ServerState). x.ended) g.joined.server_is) ∙ down in cc)
+server-from opened link o end (m ∷ run) before g asked served matched grant typed up down =
+    by (server opened link (before ++ m ∷ [])).ended refl (λ next. server-from opened link o end run (before ++ m ∷ []) next asked.1 served.1 matched.1 grant.1 typed.1 up_all down_all)
+  where
+    assoc : (before ++ m ∷ []) ++ run ≡ before ++ m ∷ run
+    assoc = append_assoc before (m ∷ []) run
+
+    up_all : (client opened link ((before ++ m ∷ []) ++ run)).ended ≡ None
+    up_all = ap (λ (r : List Mark). (client opened link r).ended) assoc ∙ up
+
+    down_all : (server opened link ((before ++ m ∷ []) ++ run)).ended ≡ Some end
+    down_all = ap (λ (r : List Mark). (server opened link r).ended) assoc ∙ down
+
+    one : server opened link (before ++ m ∷ []) ≡ end_state_after (server_rules opened) (live g.joined.s) (events_at link Responder before m)
+    one = server-one opened link before m ∙ ap (λ (r : EndState ServerState). end_state_after (server_rules opened) r (events_at link Responder before m)) g.joined.server_is
+
+    by : (x : Option End) → (server opened link (before ++ m ∷ [])).ended ≡ x → (Guarded opened link (before ++ m ∷ []) → IsCallEnd end) → IsCallEnd end
+    by None is later =
+        later (guarded-more opened link before m g.joined (goes-mark opened link before m g.joined asked.0 served.0 matched.0 typed.0 (client-unended opened link (before ++ m ∷ []) run up_all) is) o grant.0 g.guards)
+    by (Some x) is later =
+        let same : Some x ≡ Some end = sym (server-last opened link (before ++ m ∷ []) run x is) ∙ down_all in
+        server-mark opened link before m g o matched.0 typed.0 end (ap (λ (r : EndState ServerState). r.ended) (sym one) ∙ is ∙ same)
+
+pub server-ends-for-calls : ServerEndsForCalls
+unfolding end_of_side
+server-ends-for-calls opened link run o typed laws up end down =
+    let start = starts opened link in
+    server-from opened link o end run [] (record { joined = start.joined; guards = start.guards o }) laws.client laws.server laws.matched laws.grant typed up down
+
+-- ---- The client
+
+client-last : (opened : LinkParameters) (link : ℕ) (before more : List Mark) (end : End) → (client opened link before).ended ≡ Some end → (client opened link (before ++ more)).ended ≡ Some end
+client-last opened link before [] end e = ap (λ (run : List Mark). (client opened link run).ended) (append-nil before) ∙ e
+client-last opened link before (m ∷ more) end e =
+    let r = client opened link before in
+    let same : r ≡ record { state = r.state; ended = Some end } = λ i. record { state = r.state; ended = e i } in
+    let next : (client opened link (before ++ m ∷ [])).ended ≡ Some end =
+    ap (λ (x : EndState ClientState). x.ended) (client-one opened link before m)
+    ∙ ap (λ (x : EndState ClientState). (end_state_after (client_rules opened) x (events_at link Initiator before m)).ended) same
+    ∙ ap (λ (x : EndState ClientState). x.ended) (ended-stays (client_rules opened) r.state end (events_at link Initiator before m)).0 in
+    ap (λ (run : List Mark). (client opened link run).ended) (sym (append_assoc before (m ∷ []) more)) ∙ client-last opened link (before ++ m ∷ []) more end next
+
+abbrev IsClientEnd : End → Type 0
+IsClientEnd end = IsReplyEnd end ⊎ IsDenied end
+
+none-ends : (opened : LinkParameters) (k : ClientState) (es : List Event) (end : End) → es ≡ [] → (end_state_after (client_rules opened) (live k) es).ended ≡ Some end → IsClientEnd end
+none-ends opened k es end none e = absurd (let wrong : None ≡ Some end = ap (λ (xs : List Event). (end_state_after (client_rules opened) (live k) xs).ended) (sym none) ∙ e in cc)
+
+one-ends : (opened : LinkParameters) (k : ClientState) (es : List Event) (event : Event) (b : Bool) (end : End) → ((f : Frame) → event ≢ FrameReceived f) → es ≡ if_own b (event ∷ []) → (end_state_after (client_rules opened) (live k) es).ended ≡ Some end → IsClientEnd end
+one-ends opened k es event true end other is e =
+    absurd (let wrong : None ≡ Some end = sym (ap (λ (xs : List Event). (end_state_after (client_rules opened) (live k) xs).ended) is ∙ ap (λ (x : EndState ClientState). x.ended) (client-event opened k event other).state) ∙ e in cc)
+one-ends opened k es event false end other is e = none-ends opened k es end is e
+
+client-fed : (opened : LinkParameters) (link : ℕ) (run : List Mark) (bytes : List ℕ) (g : Guarded opened link run) → IsOpened opened → IsPrefixOf (bytes_received link Initiator run ++ bytes) (bytes_sent link Responder run) → IsBytes bytes
+    → (end : End) → (end_state_after (client_rules opened) (live g.joined.k) (map FrameReceived (frames_completed Responder (bytes_received link Initiator run) bytes))).ended ≡ Some end → IsClientEnd end
+client-fed opened link run bytes g o prefix typed end e =
+    let j = g.joined in
+    let got = bytes_received link Initiator run in
+    let stream : IsOutput (j.d ++ (j.w.down ++ j.w.queued_down)) = subst IsOutput (sym j.linked.parts_down) j.linked.stream_down in
+    let a = arrives Responder got bytes (bytes_sent link Responder run) j.d j.w.down j.w.queued_down stream j.frames_down j.sent_down prefix (bytes_both got bytes j.bytes_down typed) in
+    let n = 0 + total_of sends_in j.d in
+    let r = 0 + total_of requests_in j.d in
+    let place = length (concat (frames_at Responder 0 0 j.d)) in
+    let es = events_of place (frames_at Responder n r a.new) in
+    let same : map FrameReceived (frames_completed Responder got bytes) ≡ es = ap (λ (fs : List Frame). map FrameReceived fs) a.frames in
+    client-ends opened j.s j.u j.all_down a.left o end (place_of j.u) a.new j.k j.d j.all_up j.w n r place j.linked g.guards a.parts (omega arith) (omega arith) a.place a.bytes_are a.some
+    (ap (λ (xs : List Event). (end_state_after (client_rules opened) (live j.k) xs).ended) (sym same) ∙ e)
+
+client-mark : (opened : LinkParameters) (link : ℕ) (run : List Mark) (mark : Mark) (g : Guarded opened link run) → IsOpened opened → MatchedMark link run mark → TypedMark run mark → (end : End)
+    → (end_state_after (client_rules opened) (live g.joined.k) (events_at link Initiator run mark)).ended ≡ Some end → IsClientEnd end
+client-mark opened link run (marks.Submit l call form (submissions.Accepted xid)) g o matched typed end e =
+    one-ends opened g.joined.k _ (CallSubmitted (length (bytes_received link Initiator run)) (record { xid = xid; call = call; form = form })) (eqb l link && true) end (λ f x. absurd cc) refl e
+client-mark opened link run (marks.Submit l call form (submissions.Refused why)) g o matched typed end e = none-ends opened g.joined.k _ end refl e
+client-mark opened link run (marks.Submit l call form submissions.Dropped) g o matched typed end e = none-ends opened g.joined.k _ end refl e
+client-mark opened link run (marks.Wrote l Initiator bytes) g o matched typed end e = one-ends opened g.joined.k _ QueueWritten (eqb l link && true) end (λ f x. absurd cc) refl e
+client-mark opened link run (marks.Wrote l Responder bytes) g o matched typed end e = none-ends opened g.joined.k _ end (other-events (eqb l link) _) e
+client-mark opened link run (marks.Fed l Initiator bytes) g o matched typed end e = by (eqb l link) refl
+  where
+    fs : List Frame
+    fs = frames_completed Responder (bytes_received link Initiator run) bytes
+
+    by : (b : Bool) → eqb l link ≡ b → IsClientEnd end
+    by true is = client-fed opened link run bytes g o (matched (eqb-true l link is)) typed end (ap (λ (b : Bool). (end_state_after (client_rules opened) (live g.joined.k) (if_own (b && true) (map FrameReceived fs))).ended) (sym is) ∙ e)
+    by false is = none-ends opened g.joined.k _ end (no-events (eqb l link) true (map FrameReceived fs) is) e
+client-mark opened link run (marks.Fed l Responder bytes) g o matched typed end e = none-ends opened g.joined.k _ end (other-events (eqb l link) _) e
+client-mark opened link run (marks.Execute l xid moment payload place reply) g o matched typed end e = none-ends opened g.joined.k _ end (other-events (eqb l link) _) e
+client-mark opened link run (marks.Done l xid outcome) g o matched typed end e = none-ends opened g.joined.k _ end refl e
+client-mark opened link run (marks.Lost l xid) g o matched typed end e = none-ends opened g.joined.k _ end refl e
+client-mark opened link run (marks.Forget l xid) g o matched typed end e = none-ends opened g.joined.k _ end refl e
+client-mark opened link run (marks.Revoke l xid bytes) g o matched typed end e = one-ends opened g.joined.k _ (MemoryRevoked (length (bytes_received link Initiator run)) xid) (eqb l link && true) end (λ f x. absurd cc) refl e
+client-mark opened link run (marks.Drop l) g o matched typed end e = none-ends opened g.joined.k _ end refl e
+
+client-from : (opened : LinkParameters) (link : ℕ) (o : IsOpened opened) (end : End) (run before : List Mark) → Guarded opened link before → AtEachMark (AskedMark IsAll opened link) before run → AtEachMark (ServedMark IsAll opened link) before run → AtEachMark (MatchedMark link) before run
+    → AtEachMark (WithinGrant opened link) before run → AtEachMark TypedMark before run → (server opened link (before ++ run)).ended ≡ None → (client opened link (before ++ run)).ended ≡ Some end → IsClientEnd end
+client-from opened link o end [] before g asked served matched grant typed down up =
+    absurd (let wrong : None ≡ Some end = sym (ap (λ (r : List Mark). (client opened link r).ended) (append-nil before) ∙ ap (λ (x : EndState ClientState). x.ended) g.joined.client_is) ∙ up in cc)
+client-from opened link o end (m ∷ run) before g asked served matched grant typed down up =
+    by (client opened link (before ++ m ∷ [])).ended refl (λ next. client-from opened link o end run (before ++ m ∷ []) next asked.1 served.1 matched.1 grant.1 typed.1 down_all up_all)
+  where
+    assoc : (before ++ m ∷ []) ++ run ≡ before ++ m ∷ run
+    assoc = append_assoc before (m ∷ []) run
+
+    down_all : (server opened link ((before ++ m ∷ []) ++ run)).ended ≡ None
+    down_all = ap (λ (r : List Mark). (server opened link r).ended) assoc ∙ down
+
+    up_all : (client opened link ((before ++ m ∷ []) ++ run)).ended ≡ Some end
+    up_all = ap (λ (r : List Mark). (client opened link r).ended) assoc ∙ up
+
+    one : client opened link (before ++ m ∷ []) ≡ end_state_after (client_rules opened) (live g.joined.k) (events_at link Initiator before m)
+    one = client-one opened link before m ∙ ap (λ (r : EndState ClientState). end_state_after (client_rules opened) r (events_at link Initiator before m)) g.joined.client_is
+
+    by : (x : Option End) → (client opened link (before ++ m ∷ [])).ended ≡ x → (Guarded opened link (before ++ m ∷ []) → IsClientEnd end) → IsClientEnd end
+    by None is later =
+        later (guarded-more opened link before m g.joined (goes-mark opened link before m g.joined asked.0 served.0 matched.0 typed.0 is (server-unended opened link (before ++ m ∷ []) run down_all)) o grant.0 g.guards)
+    by (Some x) is later =
+        let same : Some x ≡ Some end = sym (client-last opened link (before ++ m ∷ []) run x is) ∙ up_all in
+        client-mark opened link before m g o matched.0 typed.0 end (ap (λ (r : EndState ClientState). r.ended) (sym one) ∙ is ∙ same)
+
+pub client-ends-for-replies : ClientEndsForReplies
+unfolding end_of_side
+client-ends-for-replies opened link run o typed laws down end up =
+    let start = starts opened link in
+    client-from opened link o end run [] (record { joined = start.joined; guards = start.guards o }) laws.client laws.server laws.matched laws.grant typed down up

@@ -1,0 +1,112 @@
+-- What keeps both ends of a matched link from ending by a rule of the link: receives, requests, sinks, sizes, numbers.
+use Rattle.nr_laws.proofs.OneChunk.{OneChunk}
+use Rattle.std.proofs.Common.{◌≡◌, ℕ, ◌≤◌, ◌<◌, ◌^◌, min, Bool, true, false, cond, eqb, List, [], ◌∷◌, ◌++◌, length, map, take, drop, Option, Some, None, refl, arith}
+use Rattle.std.specs.List.{AllByRecursion, range_with_len}
+use Rattle.nr_xdr.specs.Fields.{word_at}
+use Rattle.nr_wire.specs.Constants.{OPCODE_WRITE}
+use Rattle.nr_header.specs.declared.header.RdmaSegment.{RdmaSegment}
+use Rattle.nr_header.specs.declared.header.ChunkLists.{ChunkLists}
+use Rattle.nr_rpc.specs.declared.head.CallTarget.{CallTarget}
+use Rattle.nr_rpc.specs.Reading.{call_of, target_of}
+use Rattle.nr_link.specs.Output.{segment_count}
+use Rattle.nr_reduce.specs.declared.mark.LinkParameters.{LinkParameters}
+use Rattle.nr_reduce.specs.Limits.{send_max}
+use Rattle.nr_reduce.specs.Holds.{Answer, answer_message, first_chunk, no_segments}
+use Rattle.nr_reduce.specs.History.{ExecutedCall}
+use Rattle.nr_reduce.specs.Events.{Event}
+use Rattle.nr_reduce.specs.EndRules.{live, end_state_after}
+use Rattle.nr_reduce.specs.ClientState.{ClientState, OutstandingCall}
+use Rattle.nr_reduce.specs.Client.{client_rules, initial_client}
+use Rattle.nr_reduce.specs.ServerState.{ServerState, PendingRead, down_max}
+use Rattle.nr_reduce.specs.ServerFrames.{FrameEffect}
+use Rattle.nr_reduce.specs.Server.{newly_open_reads, offer_of, answer_of_target}
+use Rattle.nr_laws.specs.FrameContents.{FrameContent, request_frame, effect_frames, write_frames, answer_frames, tagged_frames, call_frame}
+use Rattle.nr_laws.specs.FrameContents.FrameContent.{HelloFrame, SendFrame, RequestFrame, TaggedFrame}
+use Rattle.nr_laws.specs.LinkInvariants.{Transit, WithinWindow}
+use Rattle.nr_laws.proofs.ServerInvariant.{ServerAgrees}
+use Rattle.nr_laws.proofs.Replies.{IsReply, AreReplies, answer-reply, chunk_error-reply}
+use Rattle.nr_laws.proofs.ReadLimits.{AreWithin, each-append}
+use Rattle.nr_laws.proofs.CallNumbers.{XidsFrom, NumberedCalls, HasOwnXid, IsNumbered}
+use Rattle.nr_laws.proofs.AnsweredSteps.{Answered}
+use Rattle.nr_laws.proofs.WritableOffers.{OfferFits}
+use Rattle.nr_laws.proofs.ServerOutput.{CallsFit, execution_frames, for_target, found-fits}
+
+-- a message of a client has the size of one, version 1, a kind that a client sends, and at most one read chunk
+abbrev pub ClientContent : FrameContent → Type 0
+ClientContent HelloFrame = Unit {0}
+ClientContent (SendFrame message) = (16 ≤ length message) × (length message ≤ send_max) × (word_at 4 message ≡ 1) × (word_at 12 message ≤ 1) × OneChunk message
+ClientContent (RequestFrame sink at size stag to) = Unit {0}
+ClientContent (TaggedFrame last opcode stag to payload) = Unit {0}
+
+-- a message of a server too, and it grants what the server grants; its tagged segments are of Writes
+abbrev pub ServerContent : ℕ → FrameContent → Type 0
+ServerContent credit HelloFrame = Unit {0}
+ServerContent credit (SendFrame message) = IsReply credit message
+ServerContent credit (RequestFrame sink at size stag to) = Unit {0}
+ServerContent credit (TaggedFrame last opcode stag to payload) = opcode ≡ OPCODE_WRITE
+
+-- the messages of calls are so, and begin with their xids
+abbrev pub IsAsked : LinkParameters → OutstandingCall → Type 0
+IsAsked opened o = ClientContent (call_frame opened o) × HasOwnXid opened o
+
+abbrev pub AreSized : LinkParameters → List OutstandingCall → Type 0
+AreSized opened os = AllByRecursion (IsAsked opened) os
+
+pub record Guards (opened : LinkParameters) (k : ClientState) (s : ServerState) (u d all_up all_down : List FrameContent) (w : Transit) (up : ℕ) : Type 0 where
+  pub server : ServerAgrees opened k s w up
+  pub window : WithinWindow opened k
+  pub up_said : AllByRecursion ClientContent all_up
+  pub down_said : AllByRecursion (ServerContent opened.granted) all_down
+  pub credit : s.credit ≡ opened.granted
+  pub calls : AreSized opened k.outstanding
+  pub within : AreWithin s.reads s.regions
+  pub sinks : length s.regions ≤ s.received.sends
+  pub xids : XidsFrom opened.first_xid all_up
+  pub unsaid : k.has_hello ≡ false → NumberedCalls opened.first_xid k.outstanding
+  pub numbers : AllByRecursion (IsNumbered opened.first_xid) s.calls
+  pub answered : Answered opened.first_xid k s u d all_down w
+  pub reached : (es : List Event) × (end_state_after (client_rules opened) (initial_client opened) es ≡ live k)
+
+-- ---- What is sent
+
+sends-down : (credit : ℕ) (messages : List (List ℕ)) → AreReplies credit messages → AllByRecursion (ServerContent credit) (map SendFrame messages)
+sends-down credit [] h = tt
+sends-down credit (m ∷ messages) h = (h.0, sends-down credit messages h.1)
+
+reads-down : (credit : ℕ) (reads : List PendingRead) → AllByRecursion (ServerContent credit) (map request_frame reads)
+reads-down credit [] = tt
+reads-down credit (r ∷ reads) = (tt, reads-down credit reads)
+
+pub step-down : (credit : ℕ) (s : FrameEffect) → AreReplies credit s.errors → AllByRecursion (ServerContent credit) (effect_frames s)
+step-down credit s h = each-append (ServerContent credit) (map SendFrame s.errors) (map request_frame (newly_open_reads s)) (sends-down credit s.errors h) (reads-down credit (newly_open_reads s))
+
+cuts-down : (credit stag : ℕ) (last : ℕ → Bool) (at : ℕ → ℕ) (payload : ℕ → List ℕ) (is : List ℕ) → AllByRecursion (ServerContent credit) (map (λ i. TaggedFrame (last i) OPCODE_WRITE stag (at i) (payload i)) is)
+cuts-down credit stag last at payload [] = tt
+cuts-down credit stag last at payload (i ∷ is) = (refl, cuts-down credit stag last at payload is)
+
+fills-down : (credit : ℕ) (chunk : List RdmaSegment) (bytes : List ℕ) → AllByRecursion (ServerContent credit) (write_frames chunk bytes)
+unfolding tagged_frames
+fills-down credit [] bytes = tt
+fills-down credit (p ∷ chunk) bytes =
+    each-append (ServerContent credit) (cond (eqb (min p.length (length bytes)) 0) [] (tagged_frames OPCODE_WRITE p.handle p.offset (take p.length bytes))) (write_frames chunk (drop p.length bytes))
+    (by (eqb (min p.length (length bytes)) 0)) (fills-down credit chunk (drop p.length bytes))
+  where
+    by : (b : Bool) → AllByRecursion (ServerContent credit) (cond b [] (tagged_frames OPCODE_WRITE p.handle p.offset (take p.length bytes)))
+    by true = tt
+    by false = cuts-down credit p.handle _ _ _ (range_with_len 0 (segment_count (take p.length bytes)))
+
+answer-down : (k : ServerState) (xid : ℕ) (offer : ChunkLists) (reply : List ℕ) (t : Option CallTarget) (o : Option Answer) → xid < 2 ^ 32 → k.credit < 2 ^ 32 → answer_of_target offer (down_max k) reply t ≡ o → OfferFits offer → AllByRecursion (ServerContent k.credit) (answer_frames k xid offer o)
+answer-down k xid offer reply t None word lt e fits = (chunk_error-reply xid k.credit word lt, tt)
+answer-down k xid offer reply t (Some a) word lt e fits =
+    let target = for_target offer (down_max k) reply t a e in
+    let one = answer-reply offer (down_max k) target.0 target.1 target.2 xid k.credit reply a (omega arith) word lt fits target.3 in
+    each-append (ServerContent k.credit) (write_frames (first_chunk offer.write) a.moved) (cond a.long (write_frames (no_segments offer.reply) a.stream) [] ++ (SendFrame (answer_message xid k.credit offer a) ∷ []))
+    (fills-down k.credit (first_chunk offer.write) a.moved)
+    (each-append (ServerContent k.credit) (cond a.long (write_frames (no_segments offer.reply) a.stream) []) (SendFrame (answer_message xid k.credit offer a) ∷ []) (by a.long) (one, tt))
+  where
+    by : (b : Bool) → AllByRecursion (ServerContent k.credit) (cond b (write_frames (no_segments offer.reply) a.stream) [])
+    by true = fills-down k.credit (no_segments offer.reply) a.stream
+    by false = tt
+
+pub execution-down : (k : ServerState) (e : ExecutedCall) → e.xid < 2 ^ 32 → k.credit < 2 ^ 32 → CallsFit k.calls → AllByRecursion (ServerContent k.credit) (execution_frames k e)
+execution-down k e word lt h = answer-down k e.xid (offer_of k e.xid) e.reply (target_of (call_of e.payload)) _ word lt refl (found-fits e.xid k.calls h)

@@ -1,0 +1,248 @@
+-- The guards of both ends are kept where a call is submitted or executed, memory is revoked, and a queue is written.
+use Rattle.nr_laws.proofs.OneChunk.{one-chunk}
+use Rattle.std.proofs.Common.{◌≡◌, ℕ, ◌+◌, ◌≤◌, ◌<◌, ◌^◌, Bool, true, false, cond, not, eqb, List, [], ◌∷◌, ◌++◌, length, map, Option, None, Ok, refl, sym, ap, subst, ◌∙◌, arith, length-append, ◌||◌, append-nil}
+use Rattle.nr_rpc.specs.Reading.{call_of, target_of}
+use Rattle.std.specs.List.{AllByRecursion}
+use Rattle.std.proofs.lemmas.List.{length-map}
+use Rattle.nr_link.specs.declared.end.End.{End}
+use Rattle.nr_reduce.specs.declared.mark.LinkParameters.{LinkParameters}
+use Rattle.nr_reduce.specs.declared.outline.Plan.{Plan}
+use Rattle.nr_reduce.specs.Opening.{IsOpened}
+use Rattle.nr_reduce.specs.Limits.{send_max, numbers_end}
+use Rattle.nr_reduce.specs.Plans.{plan_size, call_message}
+use Rattle.nr_reduce.specs.History.{AcceptedCall, ExecutedCall}
+use Rattle.nr_reduce.specs.Events.{Event}
+use Rattle.nr_reduce.specs.Events.Event.{CallSubmitted, MemoryRevoked, CallExecuted, QueueWritten}
+use Rattle.nr_reduce.specs.EndRules.{EndState, live, next_end_state_by, end_state_after}
+use Rattle.nr_reduce.specs.ClientState.{ClientState, OutstandingCall, call_payload, plan_for}
+use Rattle.nr_reduce.specs.ServerState.{ServerState, ReadyCall}
+use Rattle.nr_reduce.specs.Client.{client_rules, client_end, client_state_after, initial_client, outstanding_of, revoked_call, written_call}
+use Rattle.nr_reduce.specs.Server.{server_state_after}
+use Rattle.nr_reduce.proofs.Steps.{end_state_after-append}
+use Rattle.nr_reduce.proofs.Sizes.{message_size}
+use Rattle.nr_laws.specs.FrameContents.{FrameContent, call_frame, client_frames, server_frames}
+use Rattle.nr_laws.specs.FrameContents.FrameContent.{SendFrame}
+use Rattle.nr_laws.specs.LinkInvariants.{Transit}
+use Rattle.nr_laws.proofs.TotalsAtClient.{up_more, totals-accepts, totals-writes_up}
+use Rattle.nr_laws.proofs.ReadsAtClient.{AnswersNone, reads-says_up, reads-writes_up}
+use Rattle.nr_laws.proofs.EventsAtServer.{server-executes, server-writes}
+use Rattle.nr_laws.proofs.ReadLimits.{each-append}
+use Rattle.nr_laws.proofs.ServerOutput.{CallsFit}
+use Rattle.nr_laws.proofs.OwnEvents.{planned, totals-revoked, xid-revoked}
+use Rattle.nr_laws.proofs.AgreeingEnds.{EndsAgree}
+use Rattle.nr_reduce.specs.SubmitAnswer.{next_xid}
+use Rattle.nr_laws.specs.FrameContents.{total_of, sends_in}
+use Rattle.nr_laws.proofs.CallWords.{call-words}
+use Rattle.nr_laws.proofs.CallNumbers.{NumberedCalls, XidsFrom, xids-append, own_xids-push, own_xids-map, numbered-kept}
+use Rattle.nr_laws.proofs.ClientFrame.{calls_said}
+use Rattle.nr_reduce.specs.Server.{offer_of, answer_of_target}
+use Rattle.nr_reduce.specs.ServerState.{down_max}
+use Rattle.nr_laws.proofs.Totals.{total-append}
+use Rattle.nr_laws.proofs.PendingExecuted.{executed-there}
+use Rattle.nr_laws.proofs.AnsweredCalls.{times, answer-xids, executed-less}
+use Rattle.nr_laws.proofs.AnsweredSteps.{Answered, IsWritten, answered-submit, answered-map, answered-server}
+use Rattle.nr_laws.proofs.GuardsAtServer.{sent_most, pending-word}
+use Rattle.nr_laws.proofs.Guards.{ClientContent, ServerContent, IsAsked, AreSized, Guards, execution-down}
+
+-- an event of the client that is no frame
+reached-more : (opened : LinkParameters) (k : ClientState) (event : Event) → client_end k event ≡ None → (es : List Event) × (end_state_after (client_rules opened) (initial_client opened) es ≡ live k)
+    → (es : List Event) × (end_state_after (client_rules opened) (initial_client opened) es ≡ live (client_state_after opened k event))
+reached-more opened k event stays r = (
+  r.0 ++ event ∷ [],
+  end_state_after-append (client_rules opened) (initial_client opened) r.0 (event ∷ [])
+      ∙ ap (λ (x : EndState ClientState). end_state_after (client_rules opened) x (event ∷ [])) r.1
+      ∙ ap (λ (x : Option End). next_end_state_by (client_rules opened) k event x) stays,
+)
+
+-- ---- A call is submitted
+
+sized-call : (opened : LinkParameters) (k : ClientState) (a : AcceptedCall) (plan : Plan) → plan_for k a.xid a.call a.form ≡ Ok plan → a.xid < numbers_end → IsAsked opened (outstanding_of k a)
+unfolding plan_for plan_size
+sized-call opened k a plan is lt =
+    let size = message_size (call_payload a.xid a.call) a.form 1024 1024 a.xid opened.wished k.stag plan is in
+    let words = call-words a.xid opened.wished k.stag (outstanding_of k a).plan lt in
+    let fits = subst (λ (p : Plan). (16 ≤ length (call_message a.xid opened.wished k.stag p)) × (length (call_message a.xid opened.wished k.stag p) ≤ send_max))
+    (sym (planned (call_payload a.xid a.call) (plan_for k a.xid a.call a.form) plan is)) (omega (arith, size.0), size.1) in
+    ((fits.0, fits.1, words.version, words.kind, one-chunk a.xid opened.wished k.stag (outstanding_of k a).plan), words.xid_is)
+
+none-says : (b : Bool) (message : List ℕ) → AnswersNone (cond b (SendFrame message ∷ []) [])
+none-says true message = (refl, refl)
+none-says false message = (refl, refl)
+
+up-says : (b : Bool) (message : List ℕ) → ClientContent (SendFrame message) → AllByRecursion ClientContent (cond b (SendFrame message ∷ []) [])
+up-says true message h = (h, tt)
+up-says false message h = tt
+
+pub guards-submit : (opened : LinkParameters) (k : ClientState) (s : ServerState) (u d all_up all_down : List FrameContent) (w : Transit) (up place : ℕ) (a : AcceptedCall) (plan : Plan) → EndsAgree opened k s u d all_up all_down w → Guards opened k s u d all_up all_down w up → plan_for k a.xid a.call a.form ≡ Ok plan → a.xid ≡ next_xid opened k → a.xid < numbers_end → length k.outstanding < k.grant
+    → Guards opened (client_state_after opened k (CallSubmitted place a)) s u d (all_up ++ client_frames opened k (CallSubmitted place a)) all_down (up_more w (client_frames opened k (CallSubmitted place a))) up
+unfolding client_state_after client_frames client_end
+guards-submit opened k s u d all_up all_down w up place a plan l g is own lt room =
+    let t = client_state_after opened k (CallSubmitted place a) in
+    let said = client_frames opened k (CallSubmitted place a) in
+    let message = call_message a.xid opened.wished k.stag (outstanding_of k a).plan in
+    let one = sized-call opened k a plan is lt in
+    record {
+      server = record {
+        counts = totals-accepts opened k s w place a g.server.counts;
+        reads = reads-says_up s w said w.down g.server.reads (none-says k.has_hello message) refl;
+        waits = g.server.waits;
+        sinks = g.server.sinks;
+        regions = g.server.regions;
+      };
+      window = record { window = omega (arith, g.window.grant, room, length-append k.outstanding (outstanding_of k a ∷ [])); grant = g.window.grant };
+      up_said = each-append ClientContent all_up said g.up_said (up-says k.has_hello message one.0);
+      down_said = g.down_said;
+      credit = g.credit;
+      calls = each-append (IsAsked opened) k.outstanding (outstanding_of k a ∷ []) g.calls (one, tt);
+      within = g.within;
+      sinks = g.sinks;
+      xids = xids-append opened.first_xid all_up said g.xids (new-xid k.has_hello refl);
+      unsaid = λ e. own_xids-push opened.first_xid k.outstanding (outstanding_of k a) (g.unsaid e) (omega (arith, own, all-waiting e));
+      numbers = g.numbers;
+      answered = answered-submit opened.first_xid k t s u d all_down w (up_more w said) (outstanding_of k a) refl refl own lt
+          (omega (arith, calls_said opened k s u d all_up all_down w l, sent_most k, ap (total_of sends_in) l.parts_up, total-append sends_in u (w.up ++ w.queued_up), total-append sends_in w.up w.queued_up, total-append sends_in u w.up)) refl g.answered;
+      reached = reached-more opened k (CallSubmitted place a) refl g.reached;
+    }
+  where
+    -- before the hello all accepted calls are outstanding
+    all-waiting : k.has_hello ≡ false → length k.outstanding ≡ k.calls_accepted
+    all-waiting e =
+        let none : total_of sends_in all_up ≡ 0 = calls_said opened k s u d all_up all_down w l ∙ ap (λ (b : Bool). cond b k.calls_accepted 0) e in
+        omega (arith, none, l.counts.calls_up, calls_said opened k s u d all_up all_down w l, l.counts.waiting, l.counts.messages_down, l.counts.out)
+
+    new-xid : (b : Bool) → k.has_hello ≡ b → XidsFrom (opened.first_xid + total_of sends_in all_up) (cond k.has_hello (call_frame opened (outstanding_of k a) ∷ []) [])
+    new-xid true e =
+        let sends : total_of sends_in all_up ≡ k.calls_accepted = calls_said opened k s u d all_up all_down w l ∙ ap (λ (b : Bool). cond b k.calls_accepted 0) e in
+        subst (λ (b : Bool). XidsFrom (opened.first_xid + total_of sends_in all_up) (cond b (call_frame opened (outstanding_of k a) ∷ []) [])) (sym e)
+        ((sized-call opened k a plan is lt).1 ∙ omega (arith, own, sends), tt)
+    new-xid false e = subst (λ (b : Bool). XidsFrom (opened.first_xid + total_of sends_in all_up) (cond b (call_frame opened (outstanding_of k a) ∷ []) [])) (sym e) tt
+
+-- ---- Memory is revoked, and a queue is written
+
+sized-revoked : (opened : LinkParameters) (xid : ℕ) (os : List OutstandingCall) → AreSized opened os → AreSized opened (map (revoked_call xid) os)
+sized-revoked opened xid [] h = tt
+sized-revoked opened xid (o ∷ os) h = (by (eqb o.xid xid), sized-revoked opened xid os h.1)
+  where
+    by : (b : Bool) → IsAsked opened (cond b (record o { is_revoked = true }) o)
+    by true = h.0
+    by false = h.0
+
+sized-written : (opened : LinkParameters) (b : Bool) (os : List OutstandingCall) → AreSized opened os → AreSized opened (map (written_call b) os)
+sized-written opened b [] h = tt
+sized-written opened b (o ∷ os) h = (h.0, sized-written opened b os h.1)
+
+revoked-written : (end xid : ℕ) (os : List OutstandingCall) → AllByRecursion (IsWritten end) os → AllByRecursion (IsWritten end) (map (revoked_call xid) os)
+revoked-written end xid [] h = tt
+revoked-written end xid (o ∷ os) h = (by (eqb o.xid xid), revoked-written end xid os h.1)
+  where
+    by : (b : Bool) → IsWritten end (cond b (record o { is_revoked = true }) o)
+    by true = h.0
+    by false = h.0
+
+pub guards-revoke : (opened : LinkParameters) (k : ClientState) (s : ServerState) (u d all_up all_down : List FrameContent) (w : Transit) (up place xid : ℕ) → Guards opened k s u d all_up all_down w up
+    → Guards opened (client_state_after opened k (MemoryRevoked place xid)) s u d all_up all_down w up
+unfolding client_state_after client_end
+guards-revoke opened k s u d all_up all_down w up place xid g = record {
+  server = record { counts = totals-revoked opened k s w place xid g.server.counts; reads = g.server.reads; waits = g.server.waits; sinks = g.server.sinks; regions = g.server.regions };
+  window = record { window = omega (arith, g.window.window, length-map k.outstanding (revoked_call xid)); grant = g.window.grant };
+  up_said = g.up_said;
+  down_said = g.down_said;
+  credit = g.credit;
+  calls = sized-revoked opened xid k.outstanding g.calls;
+  within = g.within;
+  sinks = g.sinks;
+  xids = g.xids;
+  unsaid = λ e. own_xids-map (revoked_call xid) opened.first_xid k.outstanding (xid-revoked xid) (g.unsaid e);
+  numbers = g.numbers;
+  answered = answered-map opened.first_xid (revoked_call xid) k (client_state_after opened k (MemoryRevoked place xid)) s u d all_down w w refl (xid-revoked xid) refl (revoked-written (opened.first_xid + total_of sends_in (u ++ w.up)) xid k.outstanding g.answered.written) g.answered;
+  reached = reached-more opened k (MemoryRevoked place xid) refl g.reached;
+}
+
+pub guards-written_up : (opened : LinkParameters) (k : ClientState) (s : ServerState) (u d all_up all_down : List FrameContent) (w : Transit) (up : ℕ) → EndsAgree opened k s u d all_up all_down w → Guards opened k s u d all_up all_down w up
+    → Guards opened (client_state_after opened k QueueWritten) s u d all_up all_down (record { queued_up = []; up = w.up ++ w.queued_up; queued_down = w.queued_down; down = w.down }) up
+unfolding client_state_after client_end
+guards-written_up opened k s u d all_up all_down w up l g = record {
+  server = record { counts = totals-writes_up opened k s w g.server.counts; reads = reads-writes_up s w g.server.reads; waits = g.server.waits; sinks = g.server.sinks; regions = g.server.regions };
+  window = record { window = omega (arith, g.window.window, length-map k.outstanding (written_call k.has_hello)); grant = g.window.grant };
+  up_said = g.up_said;
+  down_said = g.down_said;
+  credit = g.credit;
+  calls = sized-written opened k.has_hello k.outstanding g.calls;
+  within = g.within;
+  sinks = g.sinks;
+  xids = g.xids;
+  unsaid = λ e. own_xids-map (written_call k.has_hello) opened.first_xid k.outstanding (λ o. refl) (g.unsaid e);
+  numbers = g.numbers;
+  answered = answered-map opened.first_xid (written_call k.has_hello) k (client_state_after opened k QueueWritten) s u d all_down w (record { queued_up = []; up = w.up ++ w.queued_up; queued_down = w.queued_down; down = w.down }) refl (λ o. refl) refl
+      (by k.has_hello refl) g.answered;
+  reached = reached-more opened k QueueWritten refl g.reached;
+}
+  where
+    or_true : (b : Bool) → (b || true) ≡ true
+    or_true true = refl
+    or_true false = refl
+
+    -- before the hello none was sent
+    none-below : k.has_hello ≡ false → (n : ℕ) → opened.first_xid ≤ n → n < opened.first_xid + total_of sends_in (u ++ (w.up ++ w.queued_up)) → ⊥
+    none-below e n le lt =
+        let none : total_of sends_in all_up ≡ 0 = calls_said opened k s u d all_up all_down w l ∙ ap (λ (b : Bool). cond b k.calls_accepted 0) e in
+        omega (arith, none, le, lt, ap (total_of sends_in) l.parts_up)
+
+    all-written : (end : ℕ) (os : List OutstandingCall) → AllByRecursion (IsWritten end) (map (written_call true) os)
+    all-written end [] = tt
+    all-written end (o ∷ os) = ((λ lt. or_true o.is_written), all-written end os)
+
+    none-written : (e : k.has_hello ≡ false) (n : ℕ) (os : List OutstandingCall) → NumberedCalls n os → opened.first_xid ≤ n → AllByRecursion (IsWritten (opened.first_xid + total_of sends_in (u ++ (w.up ++ w.queued_up)))) (map (written_call false) os)
+    none-written e n [] h le = tt
+    none-written e n (o ∷ os) h le = ((λ lt. absurd (none-below e o.xid (omega (arith, h.0, le)) lt)), none-written e (n + 1) os h.1 (omega (arith, le)))
+
+    by : (b : Bool) → k.has_hello ≡ b → AllByRecursion (IsWritten (opened.first_xid + total_of sends_in (u ++ (w.up ++ w.queued_up)))) (map (written_call k.has_hello) k.outstanding)
+    by true e = subst (λ (b : Bool). AllByRecursion (IsWritten (opened.first_xid + total_of sends_in (u ++ (w.up ++ w.queued_up)))) (map (written_call b) k.outstanding)) (sym e) (all-written (opened.first_xid + total_of sends_in (u ++ (w.up ++ w.queued_up))) k.outstanding)
+    by false e = subst (λ (b : Bool). AllByRecursion (IsWritten (opened.first_xid + total_of sends_in (u ++ (w.up ++ w.queued_up)))) (map (written_call b) k.outstanding)) (sym e) (none-written e opened.first_xid k.outstanding (g.unsaid e) (omega arith))
+
+-- ---- The server
+
+pub guards-execute : (opened : LinkParameters) (k : ClientState) (s : ServerState) (u d all_up all_down : List FrameContent) (w : Transit) (up : ℕ) (e : ExecutedCall) (r : ReadyCall) (rest : List ReadyCall) → IsOpened opened → EndsAgree opened k s u d all_up all_down w → Guards opened k s u d all_up all_down w up → CallsFit s.calls → s.ready ≡ r ∷ rest → e.xid ≡ r.xid
+    → Guards opened k (server_state_after opened s (CallExecuted e)) u d all_up (all_down ++ server_frames opened s (CallExecuted e)) (record { queued_up = w.queued_up; up = w.up; queued_down = w.queued_down ++ server_frames opened s (CallExecuted e); down = w.down }) up
+unfolding server_state_after server_frames
+guards-execute opened k s u d all_up all_down w up e r rest o l g fits first own =
+    let small : s.credit < 2 ^ 32 = omega (arith, g.credit, o.granted_fits) in
+    let there = executed-there s e.xid r rest l.waits first own in
+    let xid_word = pending-word opened k s u d all_up all_down w up e.xid l g there in
+    record {
+      server = server-executes opened k s w up e r rest g.server first own;
+      window = g.window;
+      up_said = g.up_said;
+      down_said = each-append (ServerContent opened.granted) all_down (server_frames opened s (CallExecuted e)) g.down_said
+          (subst (λ (n : ℕ). AllByRecursion (ServerContent n) (server_frames opened s (CallExecuted e))) g.credit (execution-down s e xid_word small fits));
+      credit = g.credit;
+      calls = g.calls;
+      within = g.within;
+      sinks = g.sinks;
+      xids = g.xids;
+      unsaid = g.unsaid;
+      answered = answered-server opened.first_xid k s (server_state_after opened s (CallExecuted e)) u d all_down w (record { queued_up = w.queued_up; up = w.up; queued_down = w.queued_down ++ server_frames opened s (CallExecuted e); down = w.down }) (server_frames opened s (CallExecuted e)) refl refl
+          (λ x. omega (arith, executed-less x e.xid s.calls there, ap (λ (xs : List ℕ). times x xs) (answer-xids s e.xid (offer_of s e.xid) (answer_of_target (offer_of s e.xid) (down_max s) e.reply (target_of (call_of e.payload))) xid_word))) g.answered;
+      numbers = numbered-kept opened.first_xid (λ c. not (eqb c.xid e.xid)) s.calls g.numbers;
+      reached = g.reached;
+    }
+
+pub guards-written_down : (opened : LinkParameters) (k : ClientState) (s : ServerState) (u d all_up all_down : List FrameContent) (w : Transit) (up : ℕ) → Guards opened k s u d all_up all_down w up
+    → Guards opened k (server_state_after opened s QueueWritten) u d all_up all_down (record { queued_up = w.queued_up; up = w.up; queued_down = []; down = w.down ++ w.queued_down }) up
+unfolding server_state_after
+guards-written_down opened k s u d all_up all_down w up g = record {
+  server = server-writes opened k s w up g.server;
+  window = g.window;
+  up_said = g.up_said;
+  down_said = g.down_said;
+  credit = g.credit;
+  calls = g.calls;
+  within = g.within;
+  sinks = g.sinks;
+  xids = g.xids;
+  unsaid = g.unsaid;
+  numbers = g.numbers;
+  answered = subst (λ (ps : List FrameContent). Answered opened.first_xid k (server_state_after opened s QueueWritten) u d ps (record { queued_up = w.queued_up; up = w.up; queued_down = []; down = w.down ++ w.queued_down })) (append-nil all_down)
+      (answered-server opened.first_xid k s (server_state_after opened s QueueWritten) u d all_down w (record { queued_up = w.queued_up; up = w.up; queued_down = []; down = w.down ++ w.queued_down }) [] refl refl (λ x. omega arith) g.answered);
+  reached = g.reached;
+}

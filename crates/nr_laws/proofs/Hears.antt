@@ -1,0 +1,213 @@
+-- What a side has of the messages that its frames brought: each is one segment, and they are counted.
+use Rattle.std.proofs.Common.{◌≡◌, ℕ, ◌+◌, Bool, true, false, cond, ◌&&◌, eqb, List, [], ◌∷◌, ◌++◌, length, length-append, Option, None, Some, Result, Ok, Err, refl, sym, ap, subst, ◌∙◌, arith}
+use Rattle.nr_wire.specs.Constants.{OPCODE_READ_REQUEST}
+use Rattle.nr_wire.specs.Segment.{Segment}
+use Rattle.nr_wire.specs.Segment.Segment.{Tagged, Untagged}
+use Rattle.nr_link.specs.declared.end.End.{End as Stop}
+use Rattle.nr_link.specs.Frames.{Frame, is_hello}
+use Rattle.nr_link.specs.ReceiveState.{ReceiveState, received_after, message_completed, is_send, send_continued, begun_bytes}
+use Rattle.nr_link.specs.Ending.{frame_segment}
+use Rattle.nr_reduce.specs.declared.mark.LinkParameters.{LinkParameters}
+use Rattle.nr_reduce.specs.Events.{Event}
+use Rattle.nr_reduce.specs.Events.Event.{FrameReceived, CallSubmitted, MemoryRevoked, CallExecuted, QueueWritten}
+use Rattle.nr_reduce.specs.EndRules.{Rules, EndState, next_end_state, next_end_state_by, next_end_state_in, end_state_after}
+use Rattle.nr_reduce.specs.ClientState.{ClientState}
+use Rattle.nr_reduce.specs.Client.{client_rules, client_state_after, with_segment}
+use Rattle.nr_reduce.specs.ServerState.{ServerState}
+use Rattle.nr_reduce.specs.Server.{server_rules, server_state_after, received_by}
+use Rattle.nr_reduce.proofs.Steps.{ended-stays, end_state_after-append}
+use Rattle.nr_laws.proofs.Outputs.{Output}
+use Rattle.nr_laws.proofs.Outputs.Output.{AHello, ASegment}
+use Rattle.nr_laws.proofs.Brought.{Brought, Brings}
+use Rattle.nr_laws.proofs.Messages.{message_in, messages, IsOne, AreOne}
+
+-- ---- An end that hasn't ended hadn't before
+
+pub was-live : {S : Type 0} (rules : Rules S) (r : EndState S) (es : List Event) → (end_state_after rules r es).ended ≡ None → r.ended ≡ None
+was-live rules r es e = by r.state r.ended e
+  where
+    by : (s : _) (ended : Option Stop) → (end_state_after rules (record { state = s; ended = ended }) es).ended ≡ None → ended ≡ None
+    by s None e = refl
+    by s (Some end) e = absurd (let t = ap (λ (x : EndState _). x.ended) (ended-stays rules s end es).0 in let u : Some end ≡ None = sym t ∙ e in cc)
+
+pub live-first : {S : Type 0} (rules : Rules S) (r : EndState S) (es more : List Event) → (end_state_after rules r (es ++ more)).ended ≡ None → (end_state_after rules r es).ended ≡ None
+live-first rules r es more e = was-live rules (end_state_after rules r es) more (ap (λ (x : EndState _). x.ended) (sym (end_state_after-append rules r es more)) ∙ e)
+
+-- ---- What is received
+
+abbrev pub received_event : ReceiveState → Event → ReceiveState
+received_event h (FrameReceived f) = cond (is_hello f) h (received_by h (frame_segment f))
+received_event h (CallSubmitted p a) = h
+received_event h (MemoryRevoked p xid) = h
+received_event h (CallExecuted e) = h
+received_event h QueueWritten = h
+
+-- a machine that receives so
+abbrev pub Receiving : {S : Type 0} → Rules S → (S → ReceiveState) → Type 0
+Receiving rules received = (s : _) (e : Event) → received (rules.state_after s e) ≡ received_event (received s) e
+
+pub record Count (before after : ReceiveState) (n : ℕ) : Type 0 where
+  pub sends : after.sends ≡ before.sends + n
+  pub begun : after.begun ≡ None
+
+count-segment : (h : ReceiveState) (s : Segment) → IsOne s → h.begun ≡ None → Count h (received_after h s) (length (message_in s))
+count-segment h (Tagged last opcode stag to payload) one none = record { sends = omega arith; begun = none }
+count-segment h (Untagged last opcode w queue msn offset payload) one none = by (is_send opcode)
+  where
+    by_last : (b : Bool) → b ≡ true → Count h (send_continued h b payload) 1
+    by_last true e = record { sends = refl; begun = refl }
+    by_last false e = absurd cc
+
+    by_read : (b : Bool) → Count h (cond b (record { sends = h.sends; begun = h.begun; requests = h.requests + 1 }) h) 0
+    by_read true = record { sends = omega arith; begun = none }
+    by_read false = record { sends = omega arith; begun = none }
+
+    by : (b : Bool) → Count h (cond b (send_continued h last payload) (cond (eqb opcode OPCODE_READ_REQUEST) (record { sends = h.sends; begun = h.begun; requests = h.requests + 1 }) h)) (length (cond b (payload ∷ []) []))
+    by true = by_last last one
+    by false = by_read (eqb opcode OPCODE_READ_REQUEST)
+
+count-none : (h t : ReceiveState) → t ≡ h → h.begun ≡ None → Count h t 0
+count-none h t e none = record { sends = (let s = ap (λ (x : ReceiveState). x.sends) e in omega (arith, s)); begun = ap (λ (x : ReceiveState). x.begun) e ∙ none }
+
+abbrev messages_of : Output → List (List ℕ)
+messages_of (AHello bytes) = []
+messages_of (ASegment s) = message_in s
+
+abbrev IsOneOutput : Output → Type 0
+IsOneOutput (AHello bytes) = Unit {0}
+IsOneOutput (ASegment s) = IsOne s
+
+count-frame : (h : ReceiveState) (o : Output) (f : Frame) → Brought o f → IsOneOutput o → h.begun ≡ None → Count h (received_event h (FrameReceived f)) (length (messages_of o))
+count-frame h (AHello bytes) f b one none = count-none h (received_event h (FrameReceived f)) (ap (λ (x : Bool). cond x h (received_by h (frame_segment f))) b.0) none
+count-frame h (ASegment s) f b one none =
+    let is : received_event h (FrameReceived f) ≡ received_after h s = (λ i. cond (b.0 i) h (received_by h (b.1 i))) in
+    subst (λ (t : ReceiveState). Count h t (length (message_in s))) (sym is) (count-segment h s one none)
+
+one-first-output : (o : Output) (outs : List Output) → AreOne (o ∷ outs) → IsOneOutput o × AreOne outs
+one-first-output (AHello bytes) outs h = (tt, h)
+one-first-output (ASegment s) outs h = (h.0, h.1)
+
+messages-first : (o : Output) (outs : List Output) → messages (o ∷ outs) ≡ messages_of o ++ messages outs
+messages-first (AHello bytes) outs = refl
+messages-first (ASegment s) outs = refl
+
+one-step : {S : Type 0} (rules : Rules S) (received : S → ReceiveState) → Receiving rules received → (r : EndState S) (e : Event) → (next_end_state rules r e).ended ≡ None → received (next_end_state rules r e).state ≡ received_event (received r.state) e
+one-step {S} rules received goes r e live = by_end r.state r.ended live
+  where
+    by_why : (s : S) (o : Option Stop) → (next_end_state_by rules s e o).ended ≡ None → received (next_end_state_by rules s e o).state ≡ received_event (received s) e
+    by_why s None h = goes s e
+    by_why s (Some end) h = absurd cc
+
+    by_end : (s : S) (o : Option Stop) → (next_end_state_in rules s e o).ended ≡ None → received (next_end_state_in rules s e o).state ≡ received_event (received s) e
+    by_end s None h = by_why s (rules.end_at s e) h
+    by_end s (Some end) h = absurd cc
+
+count-both : (a b c : ReceiveState) (m n : ℕ) → Count a b m → Count b c n → Count a c (m + n)
+count-both a b c m n p q = record { sends = (let x = p.sends in let y = q.sends in omega (arith, x, y)); begun = q.begun }
+
+pub hears : {S : Type 0} (rules : Rules S) (received : S → ReceiveState) → Receiving rules received → (r : EndState S) (es : List Event) (outs : List Output) → Brings es outs → AreOne outs → (received r.state).begun ≡ None
+    → (end_state_after rules r es).ended ≡ None → Count (received r.state) (received (end_state_after rules r es).state) (length (messages outs))
+hears rules received goes r [] outs b one none live =
+    subst (λ (xs : List Output). Count (received r.state) (received r.state) (length (messages xs))) (sym b) (count-none (received r.state) (received r.state) refl none)
+hears rules received goes r (FrameReceived f ∷ es) [] b one none live = absurd b
+hears rules received goes r (FrameReceived f ∷ es) (o ∷ outs) b one none live =
+    let t = next_end_state rules r (FrameReceived f) in
+    let both = one-first-output o outs one in
+    let same = one-step rules received goes r (FrameReceived f) (was-live rules t es live) in
+    let first : Count (received r.state) (received t.state) (length (messages_of o)) =
+    subst (λ (h : ReceiveState). Count (received r.state) h (length (messages_of o))) (sym same) (count-frame (received r.state) o f b.0 both.0 none) in
+    let rest = hears rules received goes t es outs b.1 both.1 first.begun live in
+    subst (λ (n : ℕ). Count (received r.state) (received (end_state_after rules t es).state) n)
+    (sym (length-append (messages_of o) (messages outs)) ∙ ap (λ (ms : List (List ℕ)). length ms) (sym (messages-first o outs)))
+    (count-both (received r.state) (received t.state) (received (end_state_after rules t es).state) (length (messages_of o)) (length (messages outs)) first rest)
+hears rules received goes r (CallSubmitted p a ∷ es) outs b one none live =
+    let t = next_end_state rules r (CallSubmitted p a) in
+    let same = one-step rules received goes r (CallSubmitted p a) (was-live rules t es live) in
+    subst (λ (h : ReceiveState). Count h (received (end_state_after rules t es).state) (length (messages outs))) same
+    (hears rules received goes t es outs b one (ap (λ (h : ReceiveState). h.begun) same ∙ none) live)
+hears rules received goes r (MemoryRevoked p xid ∷ es) outs b one none live =
+    let t = next_end_state rules r (MemoryRevoked p xid) in
+    let same = one-step rules received goes r (MemoryRevoked p xid) (was-live rules t es live) in
+    subst (λ (h : ReceiveState). Count h (received (end_state_after rules t es).state) (length (messages outs))) same
+    (hears rules received goes t es outs b one (ap (λ (h : ReceiveState). h.begun) same ∙ none) live)
+hears rules received goes r (CallExecuted e ∷ es) outs b one none live =
+    let t = next_end_state rules r (CallExecuted e) in
+    let same = one-step rules received goes r (CallExecuted e) (was-live rules t es live) in
+    subst (λ (h : ReceiveState). Count h (received (end_state_after rules t es).state) (length (messages outs))) same
+    (hears rules received goes t es outs b one (ap (λ (h : ReceiveState). h.begun) same ∙ none) live)
+hears rules received goes r (QueueWritten ∷ es) outs b one none live =
+    let t = next_end_state rules r QueueWritten in
+    let same = one-step rules received goes r QueueWritten (was-live rules t es live) in
+    subst (λ (h : ReceiveState). Count h (received (end_state_after rules t es).state) (length (messages outs))) same
+    (hears rules received goes t es outs b one (ap (λ (h : ReceiveState). h.begun) same ∙ none) live)
+
+-- ---- The two machines receive so
+
+pub server-receives : (opened : LinkParameters) → Receiving (server_rules opened) (λ (k : ServerState). k.received)
+unfolding server_state_after
+server-receives opened k (FrameReceived f) = by (is_hello f)
+  where
+    by : (b : Bool) → (cond b k (Rattle.nr_reduce.specs.Server.with_effect k f (Rattle.nr_reduce.specs.ServerFrames.frame_effect k f))).received ≡ cond b k.received (received_by k.received (frame_segment f))
+    by true = refl
+    by false = refl
+server-receives opened k (CallSubmitted p a) = refl
+server-receives opened k (MemoryRevoked p xid) = refl
+server-receives opened k (CallExecuted e) = refl
+server-receives opened k QueueWritten = refl
+
+pub client-receives : (opened : LinkParameters) → Receiving (client_rules opened) (λ (k : ClientState). k.received)
+unfolding client_state_after
+client-receives opened k (FrameReceived f) = by (is_hello f) (frame_segment f)
+  where
+    by : (b : Bool) (r : Result Segment ℕ) → (cond b (record k { has_hello = true }) (with_segment k f r)).received ≡ cond b k.received (received_by k.received r)
+    by true r = refl
+    by false (Ok segment) = refl
+    by false (Err reason) = refl
+client-receives opened k (CallSubmitted p a) = refl
+client-receives opened k (MemoryRevoked p xid) = refl
+client-receives opened k (CallExecuted e) = refl
+client-receives opened k QueueWritten = refl
+
+-- ---- At one frame
+
+pub record BringsAt (es : List Event) (f : Frame) (more : List Event) (outs : List Output) : Type 0 where
+  pub earlier : List Output
+  pub own : Output
+  pub later : List Output
+  pub parts : outs ≡ earlier ++ own ∷ later
+  pub brings : Brings es earlier
+  pub brought : Brought own f
+  pub behind : Brings more later
+
+pub brings-at : (es : List Event) (f : Frame) (more : List Event) (outs : List Output) → Brings (es ++ FrameReceived f ∷ more) outs → BringsAt es f more outs
+brings-at [] f more [] b = absurd b
+brings-at [] f more (o ∷ outs) b = record { earlier = []; own = o; later = outs; parts = refl; brings = refl; brought = b.0; behind = b.1 }
+brings-at (FrameReceived g ∷ es) f more [] b = absurd b
+brings-at (FrameReceived g ∷ es) f more (o ∷ outs) b =
+    let r = brings-at es f more outs b.1 in
+    record { earlier = o ∷ r.earlier; own = r.own; later = r.later; parts = ap (λ (xs : List Output). o ∷ xs) r.parts; brings = (b.0, r.brings); brought = r.brought; behind = r.behind }
+brings-at (CallSubmitted p a ∷ es) f more outs b = (let r = brings-at es f more outs b in record { earlier = r.earlier; own = r.own; later = r.later; parts = r.parts; brings = r.brings; brought = r.brought; behind = r.behind })
+brings-at (MemoryRevoked p xid ∷ es) f more outs b = (let r = brings-at es f more outs b in record { earlier = r.earlier; own = r.own; later = r.later; parts = r.parts; brings = r.brings; brought = r.brought; behind = r.behind })
+brings-at (CallExecuted e ∷ es) f more outs b = (let r = brings-at es f more outs b in record { earlier = r.earlier; own = r.own; later = r.later; parts = r.parts; brings = r.brings; brought = r.brought; behind = r.behind })
+brings-at (QueueWritten ∷ es) f more outs b = (let r = brings-at es f more outs b in record { earlier = r.earlier; own = r.own; later = r.later; parts = r.parts; brings = r.brings; brought = r.brought; behind = r.behind })
+
+-- the output that brought a segment
+pub own-segment : (o : Output) (f : Frame) (s : Segment) → Brought o f → is_hello f ≡ false → frame_segment f ≡ Ok s → o ≡ ASegment s
+own-segment (AHello bytes) f s b behind is = absurd (let t : true ≡ false = sym b.0 ∙ behind in cc)
+own-segment (ASegment t) f s b behind is = (let e : Ok t ≡ Ok s = sym b.1 ∙ is in ap ASegment (let u : t ≡ s = same t s e in u))
+  where
+    same : (t s : Segment) → ◌≡◌ {A = Result Segment ℕ} (Ok t) (Ok s) → t ≡ s
+    same t s e = cc
+
+-- the message that a segment makes whole is its payload
+pub whole-message : (h : ReceiveState) (s : Segment) (message : List ℕ) → h.begun ≡ None → message_completed h s ≡ Some message → message_in s ≡ message ∷ []
+whole-message h (Tagged last opcode stag to payload) message none e = absurd cc
+whole-message h (Untagged last opcode w queue msn offset payload) message none e = by (is_send opcode) last e
+  where
+    same : Some (begun_bytes h.begun ++ payload) ≡ Some message → payload ≡ message
+    same e = (let t : begun_bytes h.begun ++ payload ≡ message = cc in ap (λ (b : Option (List ℕ)). begun_bytes b ++ payload) (sym none) ∙ t)
+
+    by : (b c : Bool) → cond (b && c) (Some (begun_bytes h.begun ++ payload)) None ≡ Some message → cond b (payload ∷ []) [] ≡ message ∷ []
+    by true true e = ap (λ (m : List ℕ). m ∷ []) (same e)
+    by true false e = absurd cc
+    by false c e = absurd cc

@@ -1,0 +1,194 @@
+-- On a matched link each outcome that a client has was brought by a message that its server said.
+use Rattle.std.proofs.Common.{◌≡◌, ℕ, Bool, true, false, cond, List, [], ◌∷◌, ◌++◌, Option, None, Some, Result, Ok, Err, refl, sym, ap, subst, ◌∙◌, append_assoc, append-nil}
+use Rattle.std.specs.Prelude.{Contains}
+use Rattle.std.proofs.lemmas.List.Elements.{All-contains, All-from_recursion}
+use Rattle.std.specs.List.{AllByRecursion}
+use Rattle.nr_wire.specs.declared.hello.Side.TheVariants.{Initiator, Responder}
+use Rattle.nr_wire.specs.Segment.{Segment}
+use Rattle.nr_link.specs.declared.end.End.{End as Stop}
+use Rattle.nr_link.specs.Frames.{Frame, is_hello}
+use Rattle.nr_link.specs.ReceiveState.{ReadRequest, message_completed, read_request_of}
+use Rattle.nr_link.specs.Ending.{frame_segment}
+use Rattle.nr_reduce.specs.declared.mark.Mark.{Mark}
+use Rattle.nr_reduce.specs.declared.mark.LinkParameters.{LinkParameters}
+use Rattle.nr_reduce.specs.History.{CompletedCall}
+use Rattle.nr_reduce.specs.Matched.{Matched}
+use Rattle.nr_reduce.specs.Events.{Event, events}
+use Rattle.nr_reduce.specs.Events.Event.{FrameReceived, CallSubmitted, MemoryRevoked, CallExecuted, QueueWritten}
+use Rattle.nr_reduce.specs.EndRules.{EndState, next_end_state_by, next_end_state_in, end_state_after}
+use Rattle.nr_reduce.specs.ClientState.{ClientState}
+use Rattle.nr_reduce.specs.ClientMessages.{Verdict, verdict}
+use Rattle.nr_reduce.specs.ClientMessages.Verdict.{EndsLink, GivesOutcome}
+use Rattle.nr_reduce.specs.Client.{client_rules, client_end, client_state_after, outcomes_of, with_message, with_request, with_segment, initial_client}
+use Rattle.nr_reduce.specs.Run.{client}
+use Rattle.nr_reduce.specs.Asked.{AskedSoFar}
+use Rattle.nr_reduce.specs.Served.{ServedSoFar}
+use Rattle.nr_reduce.proofs.Steps.{end_state_after-append}
+use Rattle.nr_laws.specs.Typed.{IsTyped}
+use Rattle.nr_laws.proofs.Outputs.{Output}
+use Rattle.nr_laws.proofs.Outputs.Output.{ASegment}
+use Rattle.nr_laws.proofs.Brought.{Brings}
+use Rattle.nr_laws.proofs.Messages.{message_in, AreOne, one-first}
+use Rattle.nr_laws.proofs.Hears.{hears, client-receives, brings-at, own-segment, whole-message}
+use Rattle.nr_laws.proofs.ServerAlong.{outs_of, Said}
+use Rattle.nr_laws.proofs.ServerSide.{server-tells, client-receives-of}
+
+-- the client after these events
+abbrev pub client_by : LinkParameters → List Event → EndState ClientState
+client_by opened es = end_state_after (client_rules opened) (initial_client opened) es
+
+-- a message gave the outcome
+pub record WasGiven (opened : LinkParameters) (es : List Event) (c : CompletedCall) : Type 0 where
+  pub earlier : List Event
+  pub frame : Frame
+  pub later : List Event
+  pub is : es ≡ earlier ++ FrameReceived frame ∷ later
+  pub behind : is_hello frame ≡ false
+  pub live : (client_by opened earlier).ended ≡ None
+  pub stays : client_end (client_by opened earlier).state (FrameReceived frame) ≡ None
+  pub segment : Segment
+  pub is_segment : frame_segment frame ≡ Ok segment
+  pub message : List ℕ
+  pub whole : message_completed (client_by opened earlier).state.received segment ≡ Some message
+  pub given : verdict (client_by opened earlier).state frame.end message ≡ GivesOutcome c.xid (Some c.outcome)
+
+given-later : (opened : LinkParameters) (es : List Event) (e : Event) (c : CompletedCall) → WasGiven opened es c → WasGiven opened (es ++ e ∷ []) c
+given-later opened es e c w = record {
+  earlier = w.earlier;
+  frame = w.frame;
+  later = w.later ++ e ∷ [];
+  is = ap (λ (all : List Event). all ++ e ∷ []) w.is ∙ append_assoc w.earlier (FrameReceived w.frame ∷ w.later) (e ∷ []);
+  behind = w.behind;
+  live = w.live;
+  stays = w.stays;
+  segment = w.segment;
+  is_segment = w.is_segment;
+  message = w.message;
+  whole = w.whole;
+  given = w.given;
+}
+
+abbrev Each : (CompletedCall → Type 0) → List CompletedCall → Type 0
+Each P [] = Unit {0}
+Each P (c ∷ cs) = P c × Each P cs
+
+each-with : (P Q : CompletedCall → Type 0) → ((c : CompletedCall) → P c → Q c) → (cs : List CompletedCall) → Each P cs → Each Q cs
+each-with P Q f [] h = tt
+each-with P Q f (c ∷ cs) h = (f c h.0, each-with P Q f cs h.1)
+
+each-append : (P : CompletedCall → Type 0) (xs ys : List CompletedCall) → Each P xs → Each P ys → Each P (xs ++ ys)
+each-append P [] ys h g = g
+each-append P (x ∷ xs) ys h g = (h.0, each-append P xs ys h.1 g)
+
+each-recursion : (P : CompletedCall → Type 0) (cs : List CompletedCall) → Each P cs → AllByRecursion P cs
+each-recursion P [] h = tt
+each-recursion P (c ∷ cs) h = (h.0, each-recursion P cs h.1)
+
+request-outcomes : (m : ClientState) (o : Option ReadRequest) → (with_request m o).outcomes ≡ m.outcomes
+request-outcomes m None = refl
+request-outcomes m (Some q) = refl
+
+verdict-each : (P : CompletedCall → Type 0) (v : Verdict) → ((c : CompletedCall) → v ≡ GivesOutcome c.xid (Some c.outcome) → P c) → Each P (outcomes_of v)
+verdict-each P (EndsLink reason) h = tt
+verdict-each P (GivesOutcome xid None) h = tt
+verdict-each P (GivesOutcome xid (Some outcome)) h = (h (record { xid = xid; outcome = outcome }) refl, tt)
+
+message-each : (P : CompletedCall → Type 0) (k : ClientState) (place : ℕ) (o : Option (List ℕ)) → Each P k.outcomes → ((m : List ℕ) (c : CompletedCall) → o ≡ Some m → verdict k place m ≡ GivesOutcome c.xid (Some c.outcome) → P c) → Each P (with_message k place o).outcomes
+message-each P k place None h new = h
+message-each P k place (Some m) h new = each-append P k.outcomes (outcomes_of (verdict k place m)) h (verdict-each P (verdict k place m) (λ c is. new m c refl is))
+
+segment-each : (P : CompletedCall → Type 0) (k : ClientState) (f : Frame) (r : Result Segment ℕ) → Each P k.outcomes
+    → ((s : Segment) (m : List ℕ) (c : CompletedCall) → r ≡ Ok s → message_completed k.received s ≡ Some m → verdict k f.end m ≡ GivesOutcome c.xid (Some c.outcome) → P c) → Each P (with_segment k f r).outcomes
+segment-each P k f (Err reason) h new = h
+segment-each P k f (Ok s) h new =
+    subst (λ (cs : List CompletedCall). Each P cs) (sym (request-outcomes (with_message k f.end (message_completed k.received s)) (read_request_of s)))
+    (message-each P k f.end (message_completed k.received s) h (λ m c whole is. new s m c refl whole is))
+
+after-each : (opened : LinkParameters) (es : List Event) (e : Event) → Each (WasGiven opened es) (client_by opened es).state.outcomes → (client_by opened es).ended ≡ None → client_end (client_by opened es).state e ≡ None
+    → Each (WasGiven opened (es ++ e ∷ [])) (client_state_after opened (client_by opened es).state e).outcomes
+unfolding client_state_after
+after-each opened es (FrameReceived f) h live stays = by (is_hello f) refl
+  where
+    k : ClientState
+    k = (client_by opened es).state
+
+    old : Each (WasGiven opened (es ++ FrameReceived f ∷ [])) k.outcomes
+    old = each-with (WasGiven opened es) (WasGiven opened (es ++ FrameReceived f ∷ [])) (given-later opened es (FrameReceived f)) k.outcomes h
+
+    by : (b : Bool) → is_hello f ≡ b → Each (WasGiven opened (es ++ FrameReceived f ∷ [])) (cond b (record k { has_hello = true }) (with_segment k f (frame_segment f))).outcomes
+    by true is = old
+    by false is = segment-each (WasGiven opened (es ++ FrameReceived f ∷ [])) k f (frame_segment f) old (λ s m c own whole given.
+        record { earlier = es; frame = f; later = []; is = refl; behind = is; live = live; stays = stays; segment = s; is_segment = own; message = m; whole = whole; given = given })
+after-each opened es (CallSubmitted p a) h live stays = each-with (WasGiven opened es) (WasGiven opened (es ++ CallSubmitted p a ∷ [])) (given-later opened es (CallSubmitted p a)) (client_by opened es).state.outcomes h
+after-each opened es (MemoryRevoked p xid) h live stays = each-with (WasGiven opened es) (WasGiven opened (es ++ MemoryRevoked p xid ∷ [])) (given-later opened es (MemoryRevoked p xid)) (client_by opened es).state.outcomes h
+after-each opened es (CallExecuted e) h live stays = each-with (WasGiven opened es) (WasGiven opened (es ++ CallExecuted e ∷ [])) (given-later opened es (CallExecuted e)) (client_by opened es).state.outcomes h
+after-each opened es QueueWritten h live stays = each-with (WasGiven opened es) (WasGiven opened (es ++ QueueWritten ∷ [])) (given-later opened es QueueWritten) (client_by opened es).state.outcomes h
+
+next-each : (opened : LinkParameters) (es : List Event) (e : Event) → Each (WasGiven opened es) (client_by opened es).state.outcomes → Each (WasGiven opened (es ++ e ∷ [])) (client_by opened (es ++ e ∷ [])).state.outcomes
+next-each opened es e h =
+    subst (λ (r : EndState ClientState). Each (WasGiven opened (es ++ e ∷ [])) r.state.outcomes) (sym (end_state_after-append (client_rules opened) (initial_client opened) es (e ∷ [])))
+    (one (client_by opened es).ended refl)
+  where
+    k : ClientState
+    k = (client_by opened es).state
+
+    old : Each (WasGiven opened (es ++ e ∷ [])) k.outcomes
+    old = each-with (WasGiven opened es) (WasGiven opened (es ++ e ∷ [])) (given-later opened es e) k.outcomes h
+
+    by_why : (o : Option Stop) → client_end k e ≡ o → (client_by opened es).ended ≡ None → Each (WasGiven opened (es ++ e ∷ [])) (next_end_state_by (client_rules opened) k e o).state.outcomes
+    by_why None is live = after-each opened es e h live is
+    by_why (Some end) is live = old
+
+    one : (ended : Option Stop) → (client_by opened es).ended ≡ ended → Each (WasGiven opened (es ++ e ∷ [])) (next_end_state_in (client_rules opened) k e ended).state.outcomes
+    one None live = by_why (client_end k e) refl live
+    one (Some end) live = old
+
+each-given : (opened : LinkParameters) (es more : List Event) → Each (WasGiven opened es) (client_by opened es).state.outcomes → Each (WasGiven opened (es ++ more)) (client_by opened (es ++ more)).state.outcomes
+each-given opened es [] h = subst (λ (all : List Event). Each (WasGiven opened all) (client_by opened all).state.outcomes) (sym (append-nil es)) h
+each-given opened es (e ∷ more) h =
+    subst (λ (all : List Event). Each (WasGiven opened all) (client_by opened all).state.outcomes) (append_assoc es (e ∷ []) more) (each-given opened (es ++ e ∷ []) more (next-each opened es e h))
+
+pub outcome-given : (opened : LinkParameters) (link : ℕ) (run : List Mark) (c : CompletedCall) → Contains (client opened link run).state.outcomes c → WasGiven opened (events link Initiator run) c
+unfolding client
+outcome-given opened link run c there =
+    let es = events link Initiator run in
+    All-contains (WasGiven opened es) (client opened link run).state.outcomes c
+    (All-from_recursion (WasGiven opened es) (client opened link run).state.outcomes (each-recursion (WasGiven opened es) (client opened link run).state.outcomes (each-given opened [] es tt))) there
+
+-- ---- What the server said
+
+pub record OutcomeSaid (opened : LinkParameters) (link : ℕ) (run : List Mark) (c : CompletedCall) : Type 0 where
+  pub given : WasGiven opened (events link Initiator run) c
+  -- what came before its message, and behind it
+  pub before : List Output
+  pub behind : List Output
+  pub parts : outs_of opened (events link Responder run) ≡ before ++ ASegment given.segment ∷ behind
+  pub brings : Brings given.earlier before
+  pub begun : (client_by opened given.earlier).state.received.begun ≡ None
+  pub one : message_in given.segment ≡ given.message ∷ []
+  pub said : Said opened (events link Responder run) before given.message
+
+pub outcome-said : (opened : LinkParameters) (link : ℕ) (run : List Mark) → IsTyped run → AskedSoFar opened link run → ServedSoFar opened link run → Matched link run → (c : CompletedCall) → Contains (client opened link run).state.outcomes c
+    → OutcomeSaid opened link run c
+outcome-said opened link run typed asked served matched c there =
+    let w = outcome-given opened link run c there in
+    let r = client-receives-of opened link run typed asked served matched in
+    let t = server-tells opened link run typed asked served matched in
+    let at = brings-at w.earlier w.frame w.later r.came (subst (λ (xs : List Event). Brings xs r.came) w.is r.brings) in
+    let ones : AreOne r.came = one-first r.came r.left (subst AreOne (sym r.parts) t.one) in
+    let early : AreOne at.earlier = one-first at.earlier (at.own ∷ at.later) (subst AreOne at.parts ones) in
+    let counted = hears (client_rules opened) (λ (k : ClientState). k.received) (client-receives opened) (initial_client opened) w.earlier at.earlier at.brings early refl w.live in
+    let segment : at.own ≡ ASegment w.segment = own-segment at.own w.frame w.segment at.brought w.behind w.is_segment in
+    let one : message_in w.segment ≡ w.message ∷ [] = whole-message (client_by opened w.earlier).state.received w.segment w.message counted.begun w.whole in
+    let parts : outs_of opened (events link Responder run) ≡ at.earlier ++ ASegment w.segment ∷ (at.later ++ r.left) =
+    sym r.parts ∙ ap (λ (xs : List Output). xs ++ r.left) (at.parts ∙ ap (λ (o : Output). at.earlier ++ o ∷ at.later) segment) ∙ append_assoc at.earlier (ASegment w.segment ∷ at.later) r.left in
+    record {
+      given = w;
+      before = at.earlier;
+      behind = at.later ++ r.left;
+      parts = parts;
+      brings = at.brings;
+      begun = counted.begun;
+      one = one;
+      said = t.said at.earlier w.segment (at.later ++ r.left) w.message parts one;
+    }

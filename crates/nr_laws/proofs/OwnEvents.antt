@@ -1,0 +1,272 @@
+-- What holds between both ends of a link is kept where a call is submitted or executed, memory is revoked, and a queue is written.
+use Rattle.std.proofs.Common.{◌≡◌, ℕ, ◌+◌, ◌<◌, Bool, true, false, cond, not, eqb, List, [], ◌∷◌, ◌++◌, length, map, Result, Ok, refl, sym, ap, subst, ◌∙◌, arith, append_assoc, append-nil}
+use Rattle.std.specs.List.{list_any}
+use Rattle.std.proofs.lemmas.List.{length-map}
+use Rattle.nr_wire.specs.Constants.{OPCODE_SEND, QUEUE_SEND}
+use Rattle.nr_wire.specs.declared.hello.Side.TheVariants.{Initiator, Responder}
+use Rattle.nr_wire.specs.Segment.{encoding}
+use Rattle.nr_wire.specs.Segment.Segment.{Untagged}
+use Rattle.nr_rpc.specs.Reading.{call_of, target_of}
+use Rattle.nr_link.specs.Output.{msn_word}
+use Rattle.nr_link.specs.ReceiveState.{ReceiveState}
+use Rattle.nr_reduce.specs.declared.mark.LinkParameters.{LinkParameters}
+use Rattle.nr_reduce.specs.declared.outline.Plan.{Plan}
+use Rattle.nr_reduce.specs.Plans.{TooLarge, call_message}
+use Rattle.nr_reduce.specs.History.{AcceptedCall, ExecutedCall}
+use Rattle.nr_reduce.specs.Events.Event.{CallSubmitted, MemoryRevoked, CallExecuted, QueueWritten}
+use Rattle.nr_reduce.specs.SubmitAnswer.{next_xid}
+use Rattle.nr_reduce.specs.ClientState.{ClientState, OutstandingCall, call_payload, plan_for}
+use Rattle.nr_reduce.specs.ServerState.{ServerState, PendingCall, ReadyCall, down_max}
+use Rattle.nr_reduce.specs.Client.{client_state_after, client_output, call_output, outstanding_of, plan_or, revoked_call, written_call}
+use Rattle.nr_reduce.specs.Server.{server_state_after, server_output, offer_of, answer_of_target}
+use Rattle.nr_reduce.proofs.Sizes.{message_size}
+use Rattle.nr_laws.specs.FrameContents.{FrameContent, output_bytes, total_of, sends_in, requests_in, hellos_in, call_frame, client_frames, server_frames}
+use Rattle.nr_laws.specs.LinkInvariants.{Transit, TotalsAgree, AreDistinct, AreAtMost, IsUnused}
+use Rattle.nr_laws.proofs.Totals.{total-append}
+use Rattle.nr_laws.proofs.TotalsAtClient.{totals-accepts, totals-writes_up, up_more}
+use Rattle.nr_laws.proofs.TotalsAtServer.{totals-executes, totals-writes_down, answer-counts}
+use Rattle.nr_laws.proofs.PendingExecuted.{pending_agree-executes, executed-there}
+use Rattle.nr_laws.proofs.OwnXids.{OwnXids, own_xids-accepts, own_xids-writes}
+use Rattle.nr_laws.proofs.OutputFrames.{IsShort, AllShort, send-one}
+use Rattle.nr_laws.proofs.Writable.{AreWritable, stream-more}
+use Rattle.nr_laws.proofs.ServerOutput.{calls_fit-kept, execution_frames, execution-proper, execution-said}
+use Rattle.nr_laws.proofs.AgreeingEnds.{EndsAgree, messages_said}
+use Rattle.nr_laws.proofs.ClientFrame.{calls_said}
+
+-- ---- Of a client
+
+-- it sends more, and its calls stay
+up-linked : (opened : LinkParameters) (k t : ClientState) (s : ServerState) (u d all_up all_down : List FrameContent) (w : Transit) (said : List FrameContent) → EndsAgree opened k s u d all_up all_down w
+    → TotalsAgree t s (up_more w said) → OwnXids opened t → AllShort opened t.outstanding → t.received ≡ k.received → AreWritable said → total_of hellos_in said ≡ 0 → total_of requests_in said ≡ 0
+    → EndsAgree opened t s u d (all_up ++ said) all_down (up_more w said)
+up-linked opened k t s u d all_up all_down w said l counts outs short received proper hellos reads = record {
+  parts_up =
+      ap (λ (ps : List FrameContent). u ++ ps) (sym (append_assoc w.up w.queued_up said)) ∙ sym (append_assoc u (w.up ++ w.queued_up) said) ∙ ap (λ (ps : List FrameContent). ps ++ said) l.parts_up;
+  parts_down = l.parts_down;
+  counts = counts;
+  waits = l.waits;
+  outs = outs;
+  fits = l.fits;
+  short = short;
+  stream_up = stream-more all_up said l.stream_up l.begins_up proper;
+  begins_up = omega (arith, l.begins_up, total-append hellos_in all_up said);
+  stream_down = l.stream_down;
+  hellos_down = l.hellos_down;
+  no_reads = omega (arith, l.no_reads, reads, total-append requests_in all_up said);
+  sends_up = l.sends_up;
+  requests_up = l.requests_up;
+  sends_down = ap (λ (h : ReceiveState). h.sends) received ∙ l.sends_down;
+  requests_down = ap (λ (h : ReceiveState). h.requests) received ∙ l.requests_down;
+  requests_sent = l.requests_sent;
+}
+
+pub planned : (payload : List ℕ) (r : Result Plan TooLarge) (p : Plan) → r ≡ Ok p → plan_or payload r ≡ p
+planned payload r p e = ap (λ (x : Result Plan TooLarge). plan_or payload x) e
+
+pub record Submitted (opened : LinkParameters) (k : ClientState) (s : ServerState) (u d all_up all_down : List FrameContent) (w : Transit) (place : ℕ) (a : AcceptedCall) : Type 0 where
+  pub said : List FrameContent
+  pub said_is : said ≡ client_frames opened k (CallSubmitted place a)
+  pub output : client_output opened k (CallSubmitted place a) ≡ output_bytes Initiator (total_of sends_in all_up) (total_of requests_in all_up) said
+  pub linked : EndsAgree opened (client_state_after opened k (CallSubmitted place a)) s u d (all_up ++ said) all_down (up_more w said)
+
+short-call : (opened : LinkParameters) (k : ClientState) (a : AcceptedCall) (plan : Plan) → plan_for k a.xid a.call a.form ≡ Ok plan → IsShort (call_message a.xid opened.wished k.stag (outstanding_of k a).plan)
+unfolding plan_for
+short-call opened k a plan is =
+    let size = message_size (call_payload a.xid a.call) a.form 1024 1024 a.xid opened.wished k.stag plan is in
+    subst (λ (p : Plan). IsShort (call_message a.xid opened.wished k.stag p)) (sym (planned (call_payload a.xid a.call) (plan_for k a.xid a.call a.form) plan is)) (omega (arith, size.1))
+
+short-append : (opened : LinkParameters) (os more : List OutstandingCall) → AllShort opened os → AllShort opened more → AllShort opened (os ++ more)
+short-append opened [] more h k = k
+short-append opened (o ∷ os) more h k = (h.0, short-append opened os more h.1 k)
+
+pub submitted : (opened : LinkParameters) (k : ClientState) (s : ServerState) (u d all_up all_down : List FrameContent) (w : Transit) (place : ℕ) (a : AcceptedCall) (plan : Plan) → EndsAgree opened k s u d all_up all_down w
+    → a.xid ≡ next_xid opened k → plan_for k a.xid a.call a.form ≡ Ok plan → Submitted opened k s u d all_up all_down w place a
+unfolding client_state_after client_frames client_output
+submitted opened k s u d all_up all_down w place a plan l own is = by k.has_hello refl
+  where
+    short : IsShort (call_message a.xid opened.wished k.stag (outstanding_of k a).plan)
+    short = short-call opened k a plan is
+
+    p : FrameContent
+    p = call_frame opened (outstanding_of k a)
+
+    calls : (b : Bool) → k.has_hello ≡ b → total_of sends_in all_up ≡ cond b k.calls_accepted 0
+    calls b e = calls_said opened k s u d all_up all_down w l ∙ ap (λ (x : Bool). cond x k.calls_accepted 0) e
+
+    with_said : (said : List FrameContent) → cond k.has_hello (p ∷ []) [] ≡ said → client_output opened k (CallSubmitted place a) ≡ output_bytes Initiator (total_of sends_in all_up) (total_of requests_in all_up) said → AreWritable said → total_of hellos_in said ≡ 0 → total_of requests_in said ≡ 0
+        → Submitted opened k s u d all_up all_down w place a
+    with_said said says output proper hellos reads = record {
+      said = said;
+      said_is = sym says;
+      output = output;
+      linked =
+          up-linked opened k (client_state_after opened k (CallSubmitted place a)) s u d all_up all_down w said l
+          (subst (λ (ps : List FrameContent). TotalsAgree (client_state_after opened k (CallSubmitted place a)) s (up_more w ps)) says (totals-accepts opened k s w place a l.counts))
+          (own_xids-accepts opened k place a own l.outs) (short-append opened k.outstanding (outstanding_of k a ∷ []) l.short (short, tt)) refl proper hellos reads;
+    }
+
+    by : (b : Bool) → k.has_hello ≡ b → Submitted opened k s u d all_up all_down w place a
+    by true e =
+        with_said (p ∷ []) (ap (λ (x : Bool). cond x (p ∷ []) []) e)
+        (ap (λ (x : Bool). cond x (call_output opened (k.calls_accepted + 1) (outstanding_of k a)) []) e
+        ∙ send-one (k.calls_accepted + 1) (call_message a.xid opened.wished k.stag (outstanding_of k a).plan) short
+        ∙ sym (append-nil (encoding (Untagged true OPCODE_SEND 0 QUEUE_SEND (msn_word (k.calls_accepted + 1)) 0 (call_message a.xid opened.wished k.stag (outstanding_of k a).plan))))
+        ∙ (λ i. output_bytes Initiator (sym (calls true e) i) (total_of requests_in all_up) (p ∷ [])))
+        (short, tt) refl refl
+    by false e =
+        with_said [] (ap (λ (x : Bool). cond x (p ∷ []) []) e) (ap (λ (x : Bool). cond x (call_output opened (k.calls_accepted + 1) (outstanding_of k a)) []) e) tt refl refl
+
+-- the memory of a call is revoked
+pub xid-revoked : (xid : ℕ) (o : OutstandingCall) → (revoked_call xid o).xid ≡ o.xid
+xid-revoked xid o = by (eqb o.xid xid)
+  where
+    by : (b : Bool) → (cond b (record o { is_revoked = true }) o).xid ≡ o.xid
+    by true = refl
+    by false = refl
+
+absent-revoked : (xid n : ℕ) (os : List OutstandingCall) → IsUnused (λ (o : OutstandingCall). o.xid) n os → IsUnused (λ (o : OutstandingCall). o.xid) n (map (revoked_call xid) os)
+absent-revoked xid n [] h = tt
+absent-revoked xid n (o ∷ os) h = ((λ e. h.0 (sym (xid-revoked xid o) ∙ e)), absent-revoked xid n os h.1)
+
+apart-revoked : (xid : ℕ) (os : List OutstandingCall) → AreDistinct (λ (o : OutstandingCall). o.xid) os → AreDistinct (λ (o : OutstandingCall). o.xid) (map (revoked_call xid) os)
+apart-revoked xid [] h = tt
+apart-revoked xid (o ∷ os) h = (subst (λ (n : ℕ). IsUnused (λ (x : OutstandingCall). x.xid) n (map (revoked_call xid) os)) (sym (xid-revoked xid o)) (absent-revoked xid o.xid os h.0), apart-revoked xid os h.1)
+
+below-revoked : (xid n : ℕ) (os : List OutstandingCall) → AreAtMost (λ (o : OutstandingCall). o.xid + 1) n os → AreAtMost (λ (o : OutstandingCall). o.xid + 1) n (map (revoked_call xid) os)
+below-revoked xid n [] h = tt
+below-revoked xid n (o ∷ os) h = (omega (arith, xid-revoked xid o, h.0), below-revoked xid n os h.1)
+
+short-revoked : (opened : LinkParameters) (xid : ℕ) (os : List OutstandingCall) → AllShort opened os → AllShort opened (map (revoked_call xid) os)
+short-revoked opened xid [] h = tt
+short-revoked opened xid (o ∷ os) h = (by (eqb o.xid xid), short-revoked opened xid os h.1)
+  where
+    by : (b : Bool) → IsShort (call_message (cond b (record o { is_revoked = true }) o).xid opened.wished (cond b (record o { is_revoked = true }) o).stag (cond b (record o { is_revoked = true }) o).plan)
+    by true = h.0
+    by false = h.0
+
+same-linked : (opened : LinkParameters) (k t : ClientState) (s : ServerState) (u d all_up all_down : List FrameContent) (w v : Transit) → EndsAgree opened k s u d all_up all_down w
+    → v.up ++ v.queued_up ≡ w.up ++ w.queued_up → v.down ++ v.queued_down ≡ w.down ++ w.queued_down → TotalsAgree t s v → OwnXids opened t → AllShort opened t.outstanding → t.received ≡ k.received
+    → EndsAgree opened t s u d all_up all_down v
+same-linked opened k t s u d all_up all_down w v l up down counts outs short received = record {
+  parts_up = ap (λ (ps : List FrameContent). u ++ ps) up ∙ l.parts_up;
+  parts_down = ap (λ (ps : List FrameContent). d ++ ps) down ∙ l.parts_down;
+  counts = counts;
+  waits = l.waits;
+  outs = outs;
+  fits = l.fits;
+  short = short;
+  stream_up = l.stream_up;
+  begins_up = l.begins_up;
+  stream_down = l.stream_down;
+  hellos_down = l.hellos_down;
+  no_reads = l.no_reads;
+  sends_up = l.sends_up;
+  requests_up = l.requests_up;
+  sends_down = ap (λ (h : ReceiveState). h.sends) received ∙ l.sends_down;
+  requests_down = ap (λ (h : ReceiveState). h.requests) received ∙ l.requests_down;
+  requests_sent = l.requests_sent;
+}
+
+pub totals-revoked : (opened : LinkParameters) (k : ClientState) (s : ServerState) (w : Transit) (place xid : ℕ) → TotalsAgree k s w → TotalsAgree (client_state_after opened k (MemoryRevoked place xid)) s w
+unfolding client_state_after
+totals-revoked opened k s w place xid c = record {
+  hello = c.hello;
+  calls_up = c.calls_up;
+  messages_down = c.messages_down;
+  written = c.written;
+  out = omega (arith, c.out, length-map k.outstanding (revoked_call xid));
+  waiting = c.waiting;
+  whole_up = c.whole_up;
+  whole_down = c.whole_down;
+  reads = c.reads;
+  responses = c.responses;
+}
+
+pub revoked : (opened : LinkParameters) (k : ClientState) (s : ServerState) (u d all_up all_down : List FrameContent) (w : Transit) (place xid : ℕ) → EndsAgree opened k s u d all_up all_down w
+    → EndsAgree opened (client_state_after opened k (MemoryRevoked place xid)) s u d all_up all_down w
+unfolding client_state_after
+revoked opened k s u d all_up all_down w place xid l =
+    same-linked opened k (client_state_after opened k (MemoryRevoked place xid)) s u d all_up all_down w w l refl refl (totals-revoked opened k s w place xid l.counts)
+    (record { apart = apart-revoked xid k.outstanding l.outs.apart; below = below-revoked xid (next_xid opened k) k.outstanding l.outs.below }) (short-revoked opened xid k.outstanding l.short) refl
+
+short-written : (opened : LinkParameters) (b : Bool) (os : List OutstandingCall) → AllShort opened os → AllShort opened (map (written_call b) os)
+short-written opened b [] h = tt
+short-written opened b (o ∷ os) h = (h.0, short-written opened b os h.1)
+
+pub written_up : (opened : LinkParameters) (k : ClientState) (s : ServerState) (u d all_up all_down : List FrameContent) (w : Transit) → EndsAgree opened k s u d all_up all_down w
+    → EndsAgree opened (client_state_after opened k QueueWritten) s u d all_up all_down (record { queued_up = []; up = w.up ++ w.queued_up; queued_down = w.queued_down; down = w.down })
+unfolding client_state_after
+written_up opened k s u d all_up all_down w l =
+    same-linked opened k (client_state_after opened k QueueWritten) s u d all_up all_down w (record { queued_up = []; up = w.up ++ w.queued_up; queued_down = w.queued_down; down = w.down }) l
+    (append-nil (w.up ++ w.queued_up)) refl (totals-writes_up opened k s w l.counts) (own_xids-writes opened k l.outs) (short-written opened k.has_hello k.outstanding l.short) refl
+
+-- ---- Of a server
+
+pub record Executed (opened : LinkParameters) (k : ClientState) (s : ServerState) (u d all_up all_down : List FrameContent) (w : Transit) (e : ExecutedCall) : Type 0 where
+  pub said : List FrameContent
+  pub said_is : said ≡ server_frames opened s (CallExecuted e)
+  pub output : server_output opened s (CallExecuted e) ≡ output_bytes Responder (total_of sends_in all_down) (total_of requests_in all_down) said
+  pub linked : EndsAgree opened k (server_state_after opened s (CallExecuted e)) u d all_up (all_down ++ said) (record { queued_up = w.queued_up; up = w.up; queued_down = w.queued_down ++ said; down = w.down })
+
+pub some-calls : (xid : ℕ) (calls : List PendingCall) → list_any (λ (c : PendingCall). eqb c.xid xid) calls ≡ true → 0 < length calls
+some-calls xid [] e = absurd cc
+some-calls xid (c ∷ calls) e = omega arith
+
+pub executed : (opened : LinkParameters) (k : ClientState) (s : ServerState) (u d all_up all_down : List FrameContent) (w : Transit) (e : ExecutedCall) (r : ReadyCall) (rest : List ReadyCall) → EndsAgree opened k s u d all_up all_down w
+    → s.ready ≡ r ∷ rest → e.xid ≡ r.xid → 0 < total_of hellos_in all_down → Executed opened k s u d all_up all_down w e
+unfolding server_state_after server_frames server_output
+executed opened k s u d all_up all_down w e r rest l first own begun =
+    let said = execution_frames s e in
+    let t = server_state_after opened s (CallExecuted e) in
+    let answer = answer_of_target (offer_of s e.xid) (down_max s) e.reply (target_of (call_of e.payload)) in
+    let there = executed-there s e.xid r rest l.waits first own in
+    let hellos : total_of hellos_in said ≡ 0 = answer-counts hellos_in 0 (λ last stag to payload. refl) (λ message. refl) s e.xid (offer_of s e.xid) answer in
+    let reads : total_of requests_in said ≡ 0 = answer-counts requests_in 0 (λ last stag to payload. refl) (λ message. refl) s e.xid (offer_of s e.xid) answer in
+    record {
+      said = said;
+      said_is = refl;
+      output = execution-said s s.requests_sent e l.fits ∙ (λ i. output_bytes Responder (messages_said opened k s u d all_up all_down w l i) (l.requests_sent i) said);
+      linked = record {
+        parts_up = l.parts_up;
+        parts_down =
+            ap (λ (ps : List FrameContent). d ++ ps) (sym (append_assoc w.down w.queued_down said)) ∙ sym (append_assoc d (w.down ++ w.queued_down) said) ∙ ap (λ (ps : List FrameContent). ps ++ said) l.parts_down;
+        counts = totals-executes opened k s w e l.counts l.waits.xids there;
+        waits = pending_agree-executes opened s e r rest l.waits first own;
+        outs = l.outs;
+        fits = calls_fit-kept (λ c. not (eqb c.xid e.xid)) s.calls l.fits;
+        short = l.short;
+        stream_up = l.stream_up;
+        begins_up = l.begins_up;
+        stream_down = stream-more all_down said l.stream_down begun (execution-proper s e l.fits);
+        hellos_down = omega (arith, l.hellos_down, hellos, total-append hellos_in all_down said);
+        no_reads = l.no_reads;
+        sends_up = l.sends_up;
+        requests_up = l.requests_up;
+        sends_down = l.sends_down;
+        requests_down = l.requests_down;
+        requests_sent = omega (arith, l.requests_sent, reads, total-append requests_in all_down said);
+      };
+    }
+
+pub written_down : (opened : LinkParameters) (k : ClientState) (s : ServerState) (u d all_up all_down : List FrameContent) (w : Transit) → EndsAgree opened k s u d all_up all_down w
+    → EndsAgree opened k (server_state_after opened s QueueWritten) u d all_up all_down (record { queued_up = w.queued_up; up = w.up; queued_down = []; down = w.down ++ w.queued_down })
+unfolding server_state_after
+written_down opened k s u d all_up all_down w l = record {
+  parts_up = l.parts_up;
+  parts_down = ap (λ (ps : List FrameContent). d ++ ps) (append-nil (w.down ++ w.queued_down)) ∙ l.parts_down;
+  counts = totals-writes_down opened k s w l.counts;
+  waits = record { numbers = l.waits.numbers; xids = l.waits.xids; calls_below = l.waits.calls_below; reads_below = l.waits.reads_below; ready_apart = l.waits.ready_apart; ready_calls = l.waits.ready_calls; whole_calls = l.waits.whole_calls };
+  outs = l.outs;
+  fits = l.fits;
+  short = l.short;
+  stream_up = l.stream_up;
+  begins_up = l.begins_up;
+  stream_down = l.stream_down;
+  hellos_down = l.hellos_down;
+  no_reads = l.no_reads;
+  sends_up = l.sends_up;
+  requests_up = l.requests_up;
+  sends_down = l.sends_down;
+  requests_down = l.requests_down;
+  requests_sent = l.requests_sent;
+}

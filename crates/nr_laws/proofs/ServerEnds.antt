@@ -1,0 +1,270 @@
+-- A server that has its client's own hello is not rejected later: the reasons of its later frames are others than those of a hello.
+use Rattle.std.proofs.Common.{◌≡◌, ℕ, ◌+◌, ◌≤◌, Bool, true, false, cond, ◌&&◌, ◌||◌, not, eqb, ltb, List, [], ◌∷◌, length, drop, Option, None, Some, Result, Ok, Err, sym, ap, subst, ◌∙◌, arith}
+use Rattle.nr_xdr.specs.Fields.{word_at}
+use Rattle.nr_header.specs.declared.header.ChunkLists.{ChunkLists}
+use Rattle.nr_header.specs.declared.header.Body.{Body}
+use Rattle.nr_header.specs.declared.header.Body.TheVariants.{Msg, Nomsg, ErrVers, ErrChunk}
+use Rattle.nr_header.specs.declared.header.Header.{Header}
+use Rattle.nr_header.specs.declared.fault.HeaderFault.{HeaderFault}
+use Rattle.nr_header.specs.Reading.{header_of}
+use Rattle.nr_rpc.specs.declared.head.CallHead.{CallHead}
+use Rattle.nr_rpc.specs.Reading.{call_of}
+use Rattle.nr_regions.specs.declared.denied.Denied.{Denied}
+use Rattle.nr_regions.specs.RegisteredMemory.{Access}
+use Rattle.nr_wire.specs.Constants.{OPCODE_READ_RESPONSE}
+use Rattle.nr_wire.specs.declared.hello.Side.TheVariants.{Initiator}
+use Rattle.nr_wire.specs.Hello.{hello_of}
+use Rattle.nr_wire.specs.Segment.{Segment}
+use Rattle.nr_wire.specs.Segment.Segment.{Tagged, Untagged}
+use Rattle.nr_link.specs.declared.end.End.{End as Stop}
+use Rattle.nr_link.specs.declared.end.End.TheVariants as ends
+use Rattle.nr_link.specs.Frames.{Frame, is_hello}
+use Rattle.nr_link.specs.Output.{own_hello}
+use Rattle.nr_link.specs.Reasons.{REASON_MSN, REASON_OFFSET, REASON_FORM, REASON_RESPONSE, REASON_REQUESTS, REASON_SHORT, REASON_LONG}
+use Rattle.nr_link.specs.ReceiveState.{message_completed, is_send}
+use Rattle.nr_link.specs.SegmentFaults.{Readiness, SegmentFault, segment_fault, first_fault, reason_if, next_msn, next_offset, no_buffer, is_begun, is_malformed, missing_fault, is_unexpected, is_too_many, has_length, terminate_fault}
+use Rattle.nr_link.specs.SegmentFaults.SegmentFault.{Reason, NoBuffer, AccessDenied, PeerTerminated}
+use Rattle.nr_link.specs.Ending.{access_of, denied_at, frame_segment, frame_end, frame_end_by, end_of_fault, hello_end, missing_access}
+use Rattle.nr_reduce.specs.declared.mark.LinkParameters.{LinkParameters}
+use Rattle.nr_reduce.specs.OfferedRegions.{region_grants}
+use Rattle.nr_reduce.specs.Chunks.{is_read_chunk_of_item}
+use Rattle.nr_reduce.specs.Events.Event.{FrameReceived}
+use Rattle.nr_reduce.specs.ServerState.{ServerState, PendingCall, PendingRead, next_stag, is_pending}
+use Rattle.nr_reduce.specs.ServerReads.{is_read, chunks_of}
+use Rattle.nr_reduce.specs.ServerMessages.{Verdict, CallVerdict, verdict, by_need, by_stream, by_body, by_header, by_head, by_payload, has_position, no_stream, call_xid, chunk_bytes, payload_of}
+use Rattle.nr_reduce.specs.ServerMessages.Verdict.{EndsLink, OtherVersion, BadChunks, MakesPending}
+use Rattle.nr_reduce.specs.ServerMessages.CallVerdict.{Refuses, IsReady}
+use Rattle.nr_reduce.specs.ServerFrames.{FrameEffect, no_effect, with_verdict, ready_if_whole, message_effect, with_refused_call, is_stream_read, read_effect, call_of_number, response_effect, by_message, with_access, effect_in, frame_effect}
+use Rattle.nr_reduce.specs.Server.{server_end, or_refusal, refusal_end, readiness}
+use Rattle.nr_laws.proofs.Brought.{hello-is}
+
+-- ---- Faults of a segment
+
+abbrev Big : Option (SegmentFault Denied) → Type 0
+Big None = Unit {0}
+Big (Some (Reason reason)) = 5 ≤ reason
+Big (Some (NoBuffer msn)) = Unit {0}
+Big (Some (AccessDenied why)) = Unit {0}
+Big (Some (PeerTerminated word)) = Unit {0}
+
+abbrev AllBig : List (Option (SegmentFault Denied)) → Type 0
+AllBig [] = Unit {0}
+AllBig (x ∷ xs) = Big x × AllBig xs
+
+first-big : (xs : List (Option (SegmentFault Denied))) → AllBig xs → Big (first_fault xs)
+first-big [] h = tt
+first-big (None ∷ xs) h = first-big xs h.1
+first-big (Some x ∷ xs) h = h.0
+
+reason-big : (reason : ℕ) (b : Bool) → 5 ≤ reason → Big (reason_if reason b)
+reason-big reason true h = h
+reason-big reason false h = tt
+
+buffer-big : (r : Readiness Denied) (b : Bool) (msn : ℕ) → Big (no_buffer r b msn)
+buffer-big r true msn = by (is_begun r.received.begun || r.has_receive)
+  where
+    by : (b : Bool) → Big (cond b None (Some (NoBuffer msn)))
+    by true = tt
+    by false = tt
+buffer-big r false msn = tt
+
+missing-big : (o : Option Denied) → Big (missing_fault o)
+missing-big None = tt
+missing-big (Some why) = tt
+
+terminate-big : (opcode : ℕ) (payload : List ℕ) → Big (terminate_fault opcode payload)
+terminate-big opcode payload = by (eqb opcode 7)
+  where
+    by : (b : Bool) → Big (cond b (Some (PeerTerminated (word_at 0 payload))) None)
+    by true = tt
+    by false = tt
+
+fault-big : (r : Readiness Denied) (s : Segment) → Big (segment_fault r s)
+unfolding segment_fault
+fault-big r (Tagged last opcode stag to payload) =
+    first-big (missing_fault r.missing ∷ reason_if REASON_RESPONSE (is_unexpected r opcode last stag to (length payload)) ∷ [])
+    (missing-big r.missing, (reason-big REASON_RESPONSE (is_unexpected r opcode last stag to (length payload)) (omega arith), tt))
+fault-big r (Untagged last opcode w queue msn offset payload) =
+    let message : Option (List ℕ) = message_completed r.received (Untagged last opcode w queue msn offset payload) in
+    first-big
+    (reason_if REASON_MSN (not (eqb msn (next_msn r.received queue)))
+    ∷ reason_if REASON_OFFSET (not (eqb offset (next_offset r.received queue)))
+    ∷ no_buffer r (is_send opcode) msn
+    ∷ reason_if REASON_FORM (is_malformed opcode last payload)
+    ∷ missing_fault r.missing
+    ∷ reason_if REASON_REQUESTS (is_too_many r opcode)
+    ∷ reason_if REASON_LONG (has_length (ltb r.message_max) message)
+    ∷ reason_if REASON_SHORT (has_length (λ n. ltb n 16) message)
+    ∷ terminate_fault opcode payload
+    ∷ []) (
+      reason-big REASON_MSN (not (eqb msn (next_msn r.received queue))) (omega arith),
+      (
+        reason-big REASON_OFFSET (not (eqb offset (next_offset r.received queue))) (omega arith),
+        (
+          buffer-big r (is_send opcode) msn,
+          (
+            reason-big REASON_FORM (is_malformed opcode last payload) (omega arith),
+            (
+              missing-big r.missing,
+              (
+                reason-big REASON_REQUESTS (is_too_many r opcode) (omega arith),
+                (
+                  reason-big REASON_LONG (has_length (ltb r.message_max) message) (omega arith),
+                  (reason-big REASON_SHORT (has_length (λ n. ltb n 16) message) (omega arith), (terminate-big opcode payload, tt)),
+                ),
+              ),
+            ),
+          ),
+        ),
+      ),
+    )
+
+-- ---- Refusals
+
+abbrev BigReason : Option ℕ → Type 0
+BigReason None = Unit {0}
+BigReason (Some reason) = 5 ≤ reason
+
+abbrev BigVerdict : Verdict → Type 0
+BigVerdict (EndsLink reason) = 5 ≤ reason
+BigVerdict OtherVersion = Unit {0}
+BigVerdict BadChunks = Unit {0}
+BigVerdict (MakesPending c) = Unit {0}
+
+abbrev BigCall : CallVerdict → Type 0
+BigCall (Refuses reason) = 5 ≤ reason
+BigCall (IsReady r) = Unit {0}
+
+big-if : (b : Bool) (v w : Verdict) → BigVerdict v → BigVerdict w → BigVerdict (cond b v w)
+big-if true v w h g = h
+big-if false v w h g = g
+
+need-big : (k : ServerState) (c : PendingCall) → BigVerdict (by_need k c)
+need-big k c = big-if (ltb 4294967296 (next_stag k + length (chunks_of c.lists))) (EndsLink 30) (MakesPending c) (omega arith) tt
+
+stream-big : (k : ServerState) (lists : ChunkLists) (xid : ℕ) (o : Option (List ℕ)) → BigVerdict (by_stream k lists xid o)
+stream-big k lists xid None = need-big k (record { number = k.received.sends + 1; xid = xid; lists = lists; inline = None })
+stream-big k lists xid (Some stream) = big-if (is_read_chunk_of_item stream lists.read) (by_need k (record { number = k.received.sends + 1; xid = xid; lists = lists; inline = Some stream })) BadChunks
+    (need-big k (record { number = k.received.sends + 1; xid = xid; lists = lists; inline = Some stream })) tt
+
+header-big : (k : ServerState) (message : List ℕ) (r : Result Header HeaderFault) → BigVerdict (by_header k message r)
+header-big k message (Err fault) = tt
+header-big k message (Ok h) = by h.xid h.body
+  where
+    by : (xid : ℕ) (b : Body) → BigVerdict (by_body k xid message b)
+    by xid (Msg lists at) = stream-big k lists xid (Some (drop at message))
+    by xid (Nomsg lists) = big-if (has_position lists.read) (by_stream k lists xid (no_stream lists.read)) BadChunks (stream-big k lists xid (no_stream lists.read)) tt
+    by xid (ErrVers version low high) = tt
+    by xid (ErrChunk version) = tt
+
+verdict-big : (k : ServerState) (message : List ℕ) → BigVerdict (verdict k message)
+unfolding verdict
+verdict-big k message =
+    big-if (not (eqb (word_at 4 message) 1)) OtherVersion _ tt
+    (big-if (eqb (word_at 12 message) 3 || eqb (word_at 12 message) 4) (EndsLink 17) _ (omega arith)
+    (big-if (is_pending k (word_at 0 message)) (EndsLink 20) (by_header k message (header_of message)) (omega arith) (header-big k message (header_of message))))
+
+head-big : (c : PendingCall) (payload : List ℕ) (r : Result CallHead ℕ) → BigCall (by_head c payload r)
+head-big c payload (Err at) = omega arith
+head-big c payload (Ok head) = by (eqb (call_xid head) c.xid)
+  where
+    by : (b : Bool) → BigCall (cond b (IsReady (record { number = c.number; xid = c.xid; payload = payload })) (Refuses 19))
+    by true = tt
+    by false = omega arith
+
+payload-big : (c : PendingCall) (o : Option (List ℕ)) → BigCall (by_payload c o)
+payload-big c None = omega arith
+payload-big c (Some payload) = head-big c payload (call_of payload)
+
+with-big : (v : CallVerdict) (s : FrameEffect) → BigCall v → BigReason s.refusal → BigReason (with_verdict v s).refusal
+with-big (Refuses reason) s h g = h
+with-big (IsReady r) s h g = g
+
+ready-big : (k : ServerState) (place : ℕ) (c : PendingCall) (s : FrameEffect) → BigReason s.refusal → BigReason (ready_if_whole k place c s).refusal
+ready-big k place c s g = by (is_read s.reads c.number)
+  where
+    by : (b : Bool) → BigReason (cond b (with_verdict (by_payload c (payload_of k place c)) s) s).refusal
+    by true = with-big (by_payload c (payload_of k place c)) s (payload-big c (payload_of k place c)) g
+    by false = g
+
+message-big : (k : ServerState) (place : ℕ) (message : List ℕ) (v : Verdict) → BigVerdict v → BigReason (message_effect k place message v).refusal
+message-big k place message (EndsLink reason) h = h
+message-big k place message OtherVersion h = tt
+message-big k place message BadChunks h = tt
+message-big k place message (MakesPending c) h = ready-big k place c _ tt
+
+read-big : (k : ServerState) (place : ℕ) (r : PendingRead) (o : Option PendingCall) (s : FrameEffect) → BigReason s.refusal → BigReason (read_effect k place r o s).refusal
+read-big k place r None s h = h
+read-big k place r (Some c) s h = by (is_stream_read c r s.reads && not (is_read_chunk_of_item (chunk_bytes k place c 0) c.lists.read))
+  where
+    by : (b : Bool) → BigReason (cond b (with_refused_call k c s) (ready_if_whole k place c s)).refusal
+    by true = h
+    by false = ready-big k place c s h
+
+response-big : (k : ServerState) (place : ℕ) (reads : List PendingRead) → BigReason (response_effect k place reads).refusal
+response-big k place [] = tt
+response-big k place (r ∷ reads) = read-big k place r (call_of_number k r.number) _ tt
+
+by-message-big : (k : ServerState) (place : ℕ) (o : Option (List ℕ)) → BigReason (by_message k place o).refusal
+by-message-big k place None = tt
+by-message-big k place (Some message) = message-big k place message (verdict k message) (verdict-big k message)
+
+effect-big : (k : ServerState) (f : Frame) → BigReason (frame_effect k f).refusal
+unfolding frame_effect
+effect-big k f = by (frame_segment f)
+  where
+    by : (r : Result Segment ℕ) → BigReason (effect_in k f r).refusal
+    by (Err reason) = tt
+    by (Ok (Tagged last opcode stag to payload)) = tagged (eqb opcode OPCODE_READ_RESPONSE && last)
+      where
+        t : ServerState
+        t = with_access k f (Tagged last opcode stag to payload)
+
+        tagged : (b : Bool) → BigReason (cond b (response_effect t f.end t.reads) (no_effect t)).refusal
+        tagged true = response-big t f.end t.reads
+        tagged false = tt
+    by (Ok (Untagged last opcode w queue msn offset payload)) = by-message-big k f.end (message_completed k.received (Untagged last opcode w queue msn offset payload))
+
+-- ---- Ends
+
+abbrev pub BigEnd : Option Stop → Type 0
+BigEnd None = Unit {0}
+BigEnd (Some (ends.Bad at reason)) = 5 ≤ reason
+BigEnd (Some (ends.Denied stag offset why)) = Unit {0}
+BigEnd (Some (ends.NoBuffer msn)) = Unit {0}
+BigEnd (Some (ends.Terminated reason)) = Unit {0}
+BigEnd (Some ends.Memory) = Unit {0}
+
+fault-end : (f : Frame) (s : Segment) (o : Option (SegmentFault Denied)) → Big o → BigEnd (end_of_fault f s o)
+fault-end f s None h = tt
+fault-end f s (Some (Reason reason)) h = h
+fault-end f s (Some (NoBuffer msn)) h = tt
+fault-end f s (Some (AccessDenied why)) h = by (access_of s)
+  where
+    by : (o : Option Access) → BigEnd (Some (denied_at o why))
+    by None = tt
+    by (Some access) = tt
+fault-end f s (Some (PeerTerminated word)) h = tt
+
+refusal-big : (f : Frame) (o : Option ℕ) → BigReason o → BigEnd (refusal_end f o)
+refusal-big f None h = tt
+refusal-big f (Some reason) h = h
+
+pub segment-ends : (opened : LinkParameters) (k : ServerState) (f : Frame) (s : Segment) → is_hello f ≡ false → frame_segment f ≡ Ok s → BigEnd (server_end opened k (FrameReceived f))
+unfolding server_end frame_end
+segment-ends opened k f s behind is =
+    let grants = region_grants f.end k.regions in
+    let whole : server_end opened k (FrameReceived f) ≡ or_refusal k f (end_of_fault f s (segment_fault (readiness opened k (missing_access grants f s)) s)) =
+    (λ i. cond (behind i) (hello_end (hello_of Initiator f.bytes)) (or_refusal k f (frame_end_by (readiness opened k) grants f (is i)))) in
+    subst (λ (o : Option Stop). BigEnd o) (sym whole) (by (end_of_fault f s (segment_fault (readiness opened k (missing_access grants f s)) s)) (fault-end f s _ (fault-big (readiness opened k (missing_access grants f s)) s)))
+  where
+    by : (o : Option Stop) → BigEnd o → BigEnd (or_refusal k f o)
+    by None h = refusal-big f (frame_effect k f).refusal (effect-big k f)
+    by (Some end) h = h
+
+-- the client's own hello ends no server
+pub hello-goes : (opened : LinkParameters) (k : ServerState) (f : Frame) → is_hello f ≡ true → f.bytes ≡ own_hello Initiator → server_end opened k (FrameReceived f) ≡ None
+unfolding server_end
+hello-goes opened k f first bytes =
+    ap (λ (b : Bool). cond b (hello_end (hello_of Initiator f.bytes)) (or_refusal k f (frame_end (readiness opened k) (region_grants f.end k.regions) f))) first
+    ∙ ap (λ (xs : List ℕ). hello_end (hello_of Initiator xs)) bytes ∙ ap hello_end (hello-is Initiator).says

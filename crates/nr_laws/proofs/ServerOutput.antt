@@ -1,0 +1,275 @@
+-- What a server sends can be written, and its output is the bytes of it; the offers of its calls stay within their limits.
+use Rattle.std.proofs.lemmas.List.Elements.{All-nil}
+use Rattle.nr_header.specs.WithinLimits.{ListsWithin}
+use Rattle.std.proofs.Common.{◌≡◌, ℕ, ◌+◌, ◌*◌, ◌≤◌, min, Bool, true, false, cond, not, ◌&&◌, eqb, List, [], ◌∷◌, ◌++◌, length, map, take, drop, filter, Option, Some, None, Result, Ok, refl, sym, ap, subst, ◌∙◌, arith, lit<, length-append, length-take, append_assoc, append-nil}
+use Rattle.std.specs.List.{find}
+use Rattle.nr_xdr.specs.Item.{word, IsBytes}
+use Rattle.nr_xdr.proofs.WordBytes.{length-word}
+use Rattle.nr_xdr.specs.Fields.{word_at}
+use Rattle.nr_wire.specs.Constants.{OPCODE_WRITE, OPCODE_READ_RESPONSE, OPCODE_SEND, QUEUE_SEND}
+use Rattle.nr_wire.specs.declared.hello.Side.TheVariants.{Responder}
+use Rattle.nr_wire.specs.Segment.{Segment, encoding}
+use Rattle.nr_wire.specs.Segment.Segment.{Tagged, Untagged}
+use Rattle.nr_header.specs.declared.header.RdmaSegment.{RdmaSegment}
+use Rattle.nr_header.specs.declared.header.ChunkLists.{ChunkLists}
+use Rattle.nr_rpc.specs.declared.head.CallTarget.{CallTarget}
+use Rattle.nr_rpc.specs.Reading.{call_of, target_of}
+use Rattle.nr_link.specs.Frames.{Frame}
+use Rattle.nr_link.specs.Output.{msn_word, send, write}
+use Rattle.nr_link.specs.Ending.{frame_segment}
+use Rattle.nr_link.specs.ReceiveState.{begun_bytes}
+use Rattle.nr_reduce.specs.Holds.{Answer, answer_for, answer_message, answer_writes, writes_into, chunk_error, version_error, answer_size, first_chunk, no_segments}
+use Rattle.nr_reduce.specs.Chunks.{is_read_chunk_of_item}
+use Rattle.nr_reduce.specs.History.{ExecutedCall}
+use Rattle.nr_reduce.specs.ServerState.{PendingCall, PendingRead, ServerState, credit_word, down_max}
+use Rattle.nr_reduce.specs.ServerReads.{regions_of, reads_of, is_read}
+use Rattle.nr_reduce.specs.ServerMessages.{CallVerdict, by_payload, payload_of, chunk_bytes, Verdict, verdict}
+use Rattle.nr_reduce.specs.ServerMessages.CallVerdict.{Refuses, IsReady}
+use Rattle.nr_reduce.specs.ServerMessages.Verdict.{EndsLink, OtherVersion, BadChunks, MakesPending}
+use Rattle.nr_reduce.specs.ServerFrames.{FrameEffect, no_effect, with_verdict, ready_if_whole, message_effect, with_refused_call, is_stream_read, read_effect, call_of_number, response_effect, with_access, effect_in, frame_effect}
+use Rattle.nr_reduce.specs.Server.{newly_open_reads, offer_by, offer_of, answer_of_target, answer_output, execution_output}
+use Rattle.nr_reduce.proofs.AnswerMessages.{answer_length}
+use Rattle.nr_laws.specs.FrameContents.{FrameContent, output_bytes, total_of, sends_in, requests_in, request_frame, effect_frames, write_frames, answer_frames, tagged_frames}
+use Rattle.nr_laws.specs.FrameContents.FrameContent.{SendFrame}
+use Rattle.nr_laws.proofs.TotalsAtServer.{fills-none, long-none}
+use Rattle.nr_laws.proofs.StreamFrames.{spelled-append}
+use Rattle.nr_laws.proofs.OutputFrames.{IsShort, AreShort, send-one, write-said}
+use Rattle.nr_laws.proofs.Writable.{AreWritable, all_proper-append, tagged-proper}
+use Rattle.nr_laws.proofs.WritableOffers.{SegmentsFit, OfferFits, verdict_fits}
+
+-- ---- Messages are short
+
+pub word_len : (n : ℕ) (more : List ℕ) → length (word n ++ more) ≡ 4 + length more
+word_len n more = omega (arith, length-append (word n) more, length-word n)
+
+chunk_error-short : (xid credit : ℕ) → IsShort (chunk_error xid credit)
+unfolding chunk_error
+chunk_error-short xid credit =
+    omega (arith, word_len xid (word 1 ++ (word credit ++ (word 4 ++ (word 2 ++ [])))), word_len 1 (word credit ++ (word 4 ++ (word 2 ++ []))), word_len credit (word 4 ++ (word 2 ++ [])), word_len 4 (word 2 ++ []), word_len 2 [])
+
+version_error-short : (xid version credit : ℕ) → IsShort (version_error xid version credit)
+unfolding version_error
+version_error-short xid version credit =
+    omega (
+      arith,
+      word_len xid (word version ++ (word credit ++ (word 4 ++ (word 1 ++ (word 1 ++ (word 1 ++ [])))))),
+      word_len version (word credit ++ (word 4 ++ (word 1 ++ (word 1 ++ (word 1 ++ []))))),
+      word_len credit (word 4 ++ (word 1 ++ (word 1 ++ (word 1 ++ [])))),
+      word_len 4 (word 1 ++ (word 1 ++ (word 1 ++ []))),
+      word_len 1 (word 1 ++ (word 1 ++ [])),
+      word_len 1 (word 1 ++ []),
+      word_len 1 [],
+    )
+
+-- ---- The calls of a server
+
+abbrev pub CallsFit : List PendingCall → Type 0
+CallsFit [] = Unit {0}
+CallsFit (c ∷ calls) = OfferFits c.lists × CallsFit calls
+
+calls_fit-append : (xs ys : List PendingCall) → CallsFit xs → CallsFit ys → CallsFit (xs ++ ys)
+calls_fit-append [] ys h k = k
+calls_fit-append (x ∷ xs) ys h k = (h.0, calls_fit-append xs ys h.1 k)
+
+pub calls_fit-kept : (p : PendingCall → Bool) (xs : List PendingCall) → CallsFit xs → CallsFit (filter p xs)
+calls_fit-kept p [] h = tt
+calls_fit-kept p (x ∷ xs) h = by (p x) (calls_fit-kept p xs h.1)
+  where
+    by : (b : Bool) → CallsFit (filter p xs) → CallsFit (cond b (x ∷ filter p xs) (filter p xs))
+    by true k = (h.0, k)
+    by false k = k
+
+-- an effect whose messages are short, and whose calls are within their limits
+record IsFine (s : FrameEffect) : Type 0 where
+  short : AreShort s.errors
+  fit : CallsFit s.calls
+
+fine-verdict : (o : CallVerdict) (s : FrameEffect) → IsFine s → IsFine (with_verdict o s)
+fine-verdict (Refuses reason) s h = record { short = h.short; fit = h.fit }
+fine-verdict (IsReady r) s h = record { short = h.short; fit = h.fit }
+
+fine-whole : (k : ServerState) (place : ℕ) (c : PendingCall) (s : FrameEffect) → IsFine s → IsFine (ready_if_whole k place c s)
+fine-whole k place c s h = by (is_read s.reads c.number)
+  where
+    by : (b : Bool) → IsFine (cond b (with_verdict (by_payload c (payload_of k place c)) s) s)
+    by true = fine-verdict (by_payload c (payload_of k place c)) s h
+    by false = h
+
+fine-message : (k : ServerState) (place : ℕ) (message : List ℕ) (v : Verdict) → verdict k message ≡ v → IsBytes message → CallsFit k.calls → IsFine (message_effect k place message v)
+fine-message k place message (EndsLink reason) is bytes h = record { short = tt; fit = h }
+fine-message k place message OtherVersion is bytes h = record { short = (version_error-short (word_at 0 message) (word_at 4 message) (credit_word k), tt); fit = h }
+fine-message k place message BadChunks is bytes h = record { short = (chunk_error-short (word_at 0 message) (credit_word k), tt); fit = h }
+fine-message k place message (MakesPending c) is bytes h =
+    fine-whole k place c (record (no_effect k) { calls = k.calls ++ c ∷ []; reads = k.reads ++ reads_of (k.regions ++ regions_of k place c) c; regions = k.regions ++ regions_of k place c })
+    (record { short = tt; fit = calls_fit-append k.calls (c ∷ []) h (verdict_fits k message c bytes is, tt) })
+
+fine-read : (k : ServerState) (place : ℕ) (r : PendingRead) (o : Option PendingCall) (s : FrameEffect) → IsFine s → IsFine (read_effect k place r o s)
+fine-read k place r None s h = h
+fine-read k place r (Some c) s h = by (is_stream_read c r s.reads && not (is_read_chunk_of_item (chunk_bytes k place c 0) c.lists.read))
+  where
+    by : (b : Bool) → IsFine (cond b (with_refused_call k c s) (ready_if_whole k place c s))
+    by true = record { short = (chunk_error-short c.xid (credit_word k), tt); fit = calls_fit-kept (λ other. not (eqb other.number c.number)) s.calls h.fit }
+    by false = fine-whole k place c s h
+
+fine-response : (k : ServerState) (place : ℕ) (reads : List PendingRead) → CallsFit k.calls → IsFine (response_effect k place reads)
+fine-response k place [] h = record { short = tt; fit = h }
+fine-response k place (r ∷ reads) h = fine-read k place r (call_of_number k r.number) _ (record { short = tt; fit = h })
+
+-- of a Send, and of a tagged segment
+pub record SaysFine (s : FrameEffect) : Type 0 where
+  pub short : AreShort s.errors
+  pub fit : CallsFit s.calls
+  pub proper : AreWritable (effect_frames s)
+
+sends-proper : (messages : List (List ℕ)) → AreShort messages → AreWritable (map SendFrame messages)
+sends-proper [] h = tt
+sends-proper (m ∷ messages) h = (h.0, sends-proper messages h.1)
+
+reads-proper : (reads : List PendingRead) → AreWritable (map request_frame reads)
+reads-proper [] = tt
+reads-proper (r ∷ reads) = (tt, reads-proper reads)
+
+says_fine : (s : FrameEffect) → IsFine s → SaysFine s
+says_fine s h = record { short = h.short; fit = h.fit; proper = all_proper-append (map SendFrame s.errors) (map request_frame (newly_open_reads s)) (sends-proper s.errors h.short) (reads-proper (newly_open_reads s)) }
+
+pub fine-send : (k : ServerState) (f : Frame) (message : List ℕ) → k.received.begun ≡ None → IsBytes message → CallsFit k.calls → frame_segment f ≡ Ok (Untagged true OPCODE_SEND 0 QUEUE_SEND (msn_word (k.received.sends + 1)) 0 message) → SaysFine (frame_effect k f)
+unfolding frame_effect
+fine-send k f message none bytes h is =
+    let segment : Segment = Untagged true OPCODE_SEND 0 QUEUE_SEND (msn_word (k.received.sends + 1)) 0 message in
+    let whole : List ℕ = begun_bytes k.received.begun ++ message in
+    let same : whole ≡ message = ap (λ (b : Option (List ℕ)). begun_bytes b ++ message) none in
+    subst (λ (r : Result Segment ℕ). SaysFine (effect_in k f r)) (sym is)
+    (says_fine (effect_in k f (Ok segment)) (fine-message k f.end whole (verdict k whole) refl (subst IsBytes (sym same) bytes) h))
+
+pub fine-tagged : (k : ServerState) (f : Frame) (last : Bool) (opcode stag to : ℕ) (payload : List ℕ) → CallsFit k.calls → frame_segment f ≡ Ok (Tagged last opcode stag to payload) → SaysFine (frame_effect k f)
+unfolding frame_effect
+fine-tagged k f last opcode stag to payload h is =
+    subst (λ (r : Result Segment ℕ). SaysFine (effect_in k f r)) (sym is) (says_fine (effect_in k f (Ok (Tagged last opcode stag to payload))) (by (eqb opcode OPCODE_READ_RESPONSE && last)))
+  where
+    t : ServerState
+    t = with_access k f (Tagged last opcode stag to payload)
+
+    by : (b : Bool) → IsFine (cond b (response_effect t f.end k.reads) (no_effect t))
+    by true = fine-response t f.end k.reads h
+    by false = record { short = tt; fit = h }
+
+-- ---- Answers
+
+fills-proper : (chunk : List RdmaSegment) (bytes : List ℕ) → SegmentsFit chunk → AreWritable (write_frames chunk bytes)
+fills-proper [] bytes h = tt
+fills-proper (s ∷ chunk) bytes h =
+    all_proper-append (cond (eqb (min s.length (length bytes)) 0) [] (tagged_frames OPCODE_WRITE s.handle s.offset (take s.length bytes))) (write_frames chunk (drop s.length bytes))
+    (by (eqb (min s.length (length bytes)) 0)) (fills-proper chunk (drop s.length bytes) h.1)
+  where
+    by : (b : Bool) → AreWritable (cond b [] (tagged_frames OPCODE_WRITE s.handle s.offset (take s.length bytes)))
+    by true = tt
+    by false = tagged-proper OPCODE_WRITE s.handle s.offset (take s.length bytes) refl (lit< tt) h.0.0 h.0.1 (omega (arith, h.0.2, length-take s.length bytes))
+
+pub answer-short : (offer : ChunkLists) (down prog vers proc xid credit : ℕ) (reply : List ℕ) (a : Answer) → down ≤ 1024 → OfferFits offer → answer_for offer down prog vers proc reply ≡ Some a → IsShort (answer_message xid credit offer a)
+answer-short offer down prog vers proc xid credit reply a small fits e =
+    let sizes = answer_length offer down prog vers proc xid credit reply a e in
+    by a.long refl sizes.0 sizes.1
+  where
+    by : (b : Bool) → a.long ≡ b
+        → (a.long ≡ false → (length (answer_message xid credit offer a) ≡ answer_size offer.write + length a.stream) × (length (answer_message xid credit offer a) ≤ down))
+        → (a.long ≡ true → length (answer_message xid credit offer a) ≡ answer_size offer.write + (4 + 16 * length (no_segments offer.reply)))
+        → IsShort (answer_message xid credit offer a)
+    by true is short long = omega (arith, long is, fits.size)
+    by false is short long = omega (arith, (short is).1, small)
+
+pub for_target : (offer : ChunkLists) (down : ℕ) (reply : List ℕ) (t : Option CallTarget) (a : Answer) → answer_of_target offer down reply t ≡ Some a
+    → (prog : ℕ) × (vers : ℕ) × (proc : ℕ) × (answer_for offer down prog vers proc reply ≡ Some a)
+for_target offer down reply None a e = (0, 0, 0, e)
+for_target offer down reply (Some t) a e = (t.prog, t.vers, t.proc, e)
+
+answer-proper : (k : ServerState) (xid : ℕ) (offer : ChunkLists) (reply : List ℕ) (t : Option CallTarget) (o : Option Answer) → answer_of_target offer (down_max k) reply t ≡ o → OfferFits offer → AreWritable (answer_frames k xid offer o)
+answer-proper k xid offer reply t None e fits = (chunk_error-short xid (credit_word k), tt)
+answer-proper k xid offer reply t (Some a) e fits =
+    let target = for_target offer (down_max k) reply t a e in
+    let short = answer-short offer (down_max k) target.0 target.1 target.2 xid (credit_word k) reply a (omega arith) fits target.3 in
+    all_proper-append (write_frames (first_chunk offer.write) a.moved) (cond a.long (write_frames (no_segments offer.reply) a.stream) [] ++ (SendFrame (answer_message xid (credit_word k) offer a) ∷ []))
+    (fills-proper (first_chunk offer.write) a.moved fits.writes)
+    (all_proper-append (cond a.long (write_frames (no_segments offer.reply) a.stream) []) (SendFrame (answer_message xid (credit_word k) offer a) ∷ []) (by a.long) (short, tt))
+  where
+    by : (b : Bool) → AreWritable (cond b (write_frames (no_segments offer.reply) a.stream) [])
+    by true = fills-proper (no_segments offer.reply) a.stream fits.replies
+    by false = tt
+
+nothing_within : ListsWithin (record { read = []; write = []; reply = None })
+nothing_within = record {
+  read_segments = omega arith;
+  read_ends = All-nil _;
+  one_position = (0, All-nil _);
+  write_chunks = omega arith;
+  chunk_segments = All-nil _;
+  write_segments = omega arith;
+  write_ends = All-nil _;
+  reply_segments = tt;
+  reply_ends = tt;
+}
+
+pub found-fits : (xid : ℕ) (calls : List PendingCall) → CallsFit calls → OfferFits (offer_by (find (λ (c : PendingCall). eqb c.xid xid) calls))
+found-fits xid [] h = record { reads = tt; total = omega arith; size = omega arith; writes = tt; replies = tt; items = (tt, (tt, (tt, tt))); within = nothing_within }
+found-fits xid (c ∷ calls) h = by (eqb c.xid xid) (found-fits xid calls h.1)
+  where
+    by : (b : Bool) → OfferFits (offer_by (find (λ (c : PendingCall). eqb c.xid xid) calls)) → OfferFits (offer_by (cond b (Some c) (find (λ (c : PendingCall). eqb c.xid xid) calls)))
+    by true k = h.0
+    by false k = k
+
+-- what a server sends of an executed call
+abbrev pub execution_frames : ServerState → ExecutedCall → List FrameContent
+execution_frames k e = answer_frames k e.xid (offer_of k e.xid) (answer_of_target (offer_of k e.xid) (down_max k) e.reply (target_of (call_of e.payload)))
+
+writes-said : (n r : ℕ) (chunk : List RdmaSegment) (bytes : List ℕ) → writes_into chunk bytes ≡ output_bytes Responder n r (write_frames chunk bytes)
+writes-said n r [] bytes = refl
+writes-said n r (s ∷ chunk) bytes =
+    (λ i. by (eqb (min s.length (length bytes)) 0) i ++ writes-said (n + total_of sends_in first) (r + total_of requests_in first) chunk (drop s.length bytes) i)
+    ∙ sym (spelled-append Responder n r first (write_frames chunk (drop s.length bytes)))
+  where
+    first : List FrameContent
+    first = cond (eqb (min s.length (length bytes)) 0) [] (tagged_frames OPCODE_WRITE s.handle s.offset (take s.length bytes))
+
+    by : (b : Bool) → cond b [] (write s.handle s.offset (take s.length bytes)) ≡ output_bytes Responder n r (cond b [] (tagged_frames OPCODE_WRITE s.handle s.offset (take s.length bytes)))
+    by true = refl
+    by false = write-said Responder n r s.handle s.offset (take s.length bytes)
+
+message-said : (n r : ℕ) (message : List ℕ) → IsShort message → send (n + 1) message ≡ output_bytes Responder n r (SendFrame message ∷ [])
+message-said n r message short = send-one (n + 1) message short ∙ sym (append-nil (encoding (Untagged true OPCODE_SEND 0 QUEUE_SEND (msn_word (n + 1)) 0 message)))
+
+long-said : (n r : ℕ) (b : Bool) (chunk : List RdmaSegment) (bytes : List ℕ) → cond b (writes_into chunk bytes) [] ≡ output_bytes Responder n r (cond b (write_frames chunk bytes) [])
+long-said n r true chunk bytes = writes-said n r chunk bytes
+long-said n r false chunk bytes = refl
+
+answer-said : (k : ServerState) (r xid : ℕ) (offer : ChunkLists) (reply : List ℕ) (t : Option CallTarget) (o : Option Answer) → answer_of_target offer (down_max k) reply t ≡ o → OfferFits offer
+    → answer_output k xid offer o ≡ output_bytes Responder k.messages_queued r (answer_frames k xid offer o)
+unfolding answer_writes
+answer-said k r xid offer reply t None e fits = message-said k.messages_queued r (chunk_error xid (credit_word k)) (chunk_error-short xid (credit_word k))
+answer-said k r xid offer reply t (Some a) e fits =
+    let target = for_target offer (down_max k) reply t a e in
+    let short = answer-short offer (down_max k) target.0 target.1 target.2 xid (credit_word k) reply a (omega arith) fits target.3 in
+    let n = k.messages_queued in
+    let message = answer_message xid (credit_word k) offer a in
+    let moved = write_frames (first_chunk offer.write) a.moved in
+    let long = cond a.long (write_frames (no_segments offer.reply) a.stream) [] in
+    let moved_sends : total_of sends_in moved ≡ 0 = fills-none sends_in (λ last stag to payload. refl) (first_chunk offer.write) a.moved in
+    let moved_reads : total_of requests_in moved ≡ 0 = fills-none requests_in (λ last stag to payload. refl) (first_chunk offer.write) a.moved in
+    let long_sends : total_of sends_in long ≡ 0 = long-none sends_in (λ last stag to payload. refl) a.long (no_segments offer.reply) a.stream in
+    let long_reads : total_of requests_in long ≡ 0 = long-none requests_in (λ last stag to payload. refl) a.long (no_segments offer.reply) a.stream in
+    let moved_n : n + total_of sends_in moved ≡ n = omega (arith, moved_sends) in
+    let moved_r : r + total_of requests_in moved ≡ r = omega (arith, moved_reads) in
+    let long_n : n + total_of sends_in long ≡ n = omega (arith, long_sends) in
+    let long_r : r + total_of requests_in long ≡ r = omega (arith, long_reads) in
+    append_assoc (writes_into (first_chunk offer.write) a.moved) (cond a.long (writes_into (no_segments offer.reply) a.stream) []) (send (n + 1) message)
+    ∙ (λ i. writes-said n r (first_chunk offer.write) a.moved i ++ (long-said n r a.long (no_segments offer.reply) a.stream i ++ message-said n r message short i))
+    ∙ ap (λ (xs : List ℕ). output_bytes Responder n r moved ++ xs)
+    ((λ i. output_bytes Responder n r long ++ output_bytes Responder (sym long_n i) (sym long_r i) (SendFrame message ∷ []))
+    ∙ sym (spelled-append Responder n r long (SendFrame message ∷ []))
+    ∙ (λ i. output_bytes Responder (sym moved_n i) (sym moved_r i) (long ++ (SendFrame message ∷ []))))
+    ∙ sym (spelled-append Responder n r moved (long ++ (SendFrame message ∷ [])))
+
+pub execution-proper : (k : ServerState) (e : ExecutedCall) → CallsFit k.calls → AreWritable (execution_frames k e)
+execution-proper k e h = answer-proper k e.xid (offer_of k e.xid) e.reply (target_of (call_of e.payload)) _ refl (found-fits e.xid k.calls h)
+
+pub execution-said : (k : ServerState) (r : ℕ) (e : ExecutedCall) → CallsFit k.calls → execution_output k e ≡ output_bytes Responder k.messages_queued r (execution_frames k e)
+unfolding execution_output
+execution-said k r e h = answer-said k r e.xid (offer_of k e.xid) e.reply (target_of (call_of e.payload)) _ refl (found-fits e.xid k.calls h)

@@ -1,0 +1,249 @@
+-- What the server of a link says along its events: each of its messages answers an executed call, or refuses a Send.
+use Rattle.std.proofs.Common.{◌≡◌, ℕ, ◌+◌, ◌*◌, ◌≤◌, Bool, true, false, cond, ◌&&◌, not, eqb, List, [], ◌∷◌, ◌++◌, length, map, Option, None, Some, Result, Ok, Err, refl, sym, ap, subst, ◌∙◌, arith, append-nil, length-append}
+use Rattle.std.specs.List.{filter, find}
+use Rattle.nr_xdr.specs.Item.{IsBytes, word}
+use Rattle.nr_xdr.specs.Fields.{word_at}
+use Rattle.nr_xdr.proofs.WordBytes.{length-word}
+use Rattle.nr_rpc.specs.declared.head.CallTarget.{CallTarget}
+use Rattle.nr_rpc.specs.Reading.{call_of, target_of}
+use Rattle.nr_header.specs.declared.header.RdmaSegment.{RdmaSegment}
+use Rattle.nr_header.specs.declared.header.ChunkLists.{ChunkLists}
+use Rattle.nr_wire.specs.Constants.{OPCODE_READ_RESPONSE}
+use Rattle.nr_wire.specs.Segment.{Segment}
+use Rattle.nr_wire.specs.Segment.Segment.{Tagged, Untagged}
+use Rattle.nr_wire.specs.declared.stream.Awaited.TheVariants.{Fpdu}
+use Rattle.nr_link.specs.Frames.{Frame}
+use Rattle.nr_link.specs.ReceiveState.{message_completed}
+use Rattle.nr_link.specs.Ending.{frame_segment}
+use Rattle.nr_reduce.specs.History.{ExecutedCall}
+use Rattle.nr_reduce.specs.Chunks.{is_read_chunk_of_item}
+use Rattle.nr_reduce.specs.Holds.{Answer, answer_for, answer_size, answer_message, chunk_error, version_error, first_chunk, no_segments}
+use Rattle.nr_reduce.specs.Undone.{answer_segments, chunk_segments}
+use Rattle.nr_reduce.specs.ServerState.{ServerState, PendingCall, PendingRead, down_max, credit_word}
+use Rattle.nr_reduce.specs.ServerReads.{is_read, reads_of, regions_of}
+use Rattle.nr_reduce.specs.ServerMessages.{Verdict, CallVerdict, verdict, chunk_bytes, payload_of, by_payload}
+use Rattle.nr_reduce.specs.ServerMessages.Verdict.{EndsLink, OtherVersion, BadChunks, MakesPending}
+use Rattle.nr_reduce.specs.ServerMessages.CallVerdict.{Refuses, IsReady}
+use Rattle.nr_reduce.specs.ServerFrames.{FrameEffect, no_effect, with_verdict, ready_if_whole, message_effect, with_refused_call, is_stream_read, read_effect, call_of_number, response_effect, by_message, with_access, effect_in, frame_effect}
+use Rattle.nr_reduce.specs.Server.{offer_by, offer_of, answer_of_target, newly_open_reads}
+use Rattle.nr_reduce.proofs.AnswerMessages.{answer_length}
+use Rattle.nr_laws.proofs.OfferLimits.{OfferFits, SegmentsFit, verdict_fits}
+use Rattle.nr_laws.proofs.Outputs.{Output, IsShort, AreShort, message_sends, request_outputs, effect_outputs, answer_outputs, answer_of_call, AnswerShort, send_segment}
+use Rattle.nr_laws.proofs.Outputs.Output.{ASegment}
+use Rattle.nr_laws.proofs.Brought.{AreFrom}
+use Rattle.nr_laws.proofs.Words.{send-word, request-word, chunk-words, from-append, SegmentsFit as WordsFit}
+use Rattle.nr_laws.proofs.Messages.{messages, AreOne, messages-append, one-append, messages-sends, one-sends, messages-requests, one-requests, AreTagged, tagged-append, tagged-chunk, messages-tagged, one-tagged}
+
+-- ---- Error messages
+
+word_len : (n : ℕ) (more : List ℕ) → length (word n ++ more) ≡ 4 + length more
+word_len n more = omega (arith, length-append (word n) more, length-word n)
+
+pub chunk_error-short : (xid credit : ℕ) → IsShort (chunk_error xid credit)
+unfolding chunk_error
+chunk_error-short xid credit =
+    omega (arith, word_len xid (word 1 ++ (word credit ++ (word 4 ++ (word 2 ++ [])))), word_len 1 (word credit ++ (word 4 ++ (word 2 ++ []))), word_len credit (word 4 ++ (word 2 ++ [])), word_len 4 (word 2 ++ []), word_len 2 [])
+
+version_error-short : (xid version credit : ℕ) → IsShort (version_error xid version credit)
+unfolding version_error
+version_error-short xid version credit =
+    omega (
+      arith,
+      word_len xid (word version ++ (word credit ++ (word 4 ++ (word 1 ++ (word 1 ++ (word 1 ++ [])))))),
+      word_len version (word credit ++ (word 4 ++ (word 1 ++ (word 1 ++ (word 1 ++ []))))),
+      word_len credit (word 4 ++ (word 1 ++ (word 1 ++ (word 1 ++ [])))),
+      word_len 4 (word 1 ++ (word 1 ++ (word 1 ++ []))),
+      word_len 1 (word 1 ++ (word 1 ++ [])),
+      word_len 1 (word 1 ++ []),
+      word_len 1 [],
+    )
+
+-- an error message: ERR_CHUNK or ERR_VERS
+pub data IsError (m : List ℕ) : Type 0 where
+  OfChunks : (xid credit : ℕ) → m ≡ chunk_error xid credit → IsError m
+  OfVersion : (xid version credit : ℕ) → m ≡ version_error xid version credit → IsError m
+
+error-short : (m : List ℕ) → IsError m → IsShort m
+error-short m (OfChunks xid credit is) = subst IsShort (sym is) (chunk_error-short xid credit)
+error-short m (OfVersion xid version credit is) = subst IsShort (sym is) (version_error-short xid version credit)
+
+-- at most one
+pub data AtMostOne : List (List ℕ) → Type 0 where
+  NoError : AtMostOne []
+  OneError : (m : List ℕ) → IsError m → AtMostOne (m ∷ [])
+
+pub errors-short : (ms : List (List ℕ)) → AtMostOne ms → AreShort ms
+errors-short ms NoError = tt
+errors-short ms (OneError m e) = (error-short m e, tt)
+
+-- ---- What a frame leaves
+
+abbrev pub CallsFit : List PendingCall → Type 0
+CallsFit [] = Unit {0}
+CallsFit (c ∷ calls) = OfferFits c.lists × CallsFit calls
+
+fit-append : (xs ys : List PendingCall) → CallsFit xs → CallsFit ys → CallsFit (xs ++ ys)
+fit-append [] ys h k = k
+fit-append (x ∷ xs) ys h k = (h.0, fit-append xs ys h.1 k)
+
+pub fit-filter : (p : PendingCall → Bool) (xs : List PendingCall) → CallsFit xs → CallsFit (filter p xs)
+fit-filter p [] h = tt
+fit-filter p (x ∷ xs) h = by (p x) (fit-filter p xs h.1)
+  where
+    by : (b : Bool) → CallsFit (filter p xs) → CallsFit (cond b (x ∷ filter p xs) (filter p xs))
+    by true k = (h.0, k)
+    by false k = k
+
+pub record IsFine (s : FrameEffect) : Type 0 where
+  pub errors : AtMostOne s.errors
+  pub fit : CallsFit s.calls
+
+fine-verdict : (o : CallVerdict) (s : FrameEffect) → IsFine s → IsFine (with_verdict o s)
+fine-verdict (Refuses reason) s h = record { errors = h.errors; fit = h.fit }
+fine-verdict (IsReady r) s h = record { errors = h.errors; fit = h.fit }
+
+fine-whole : (k : ServerState) (place : ℕ) (c : PendingCall) (s : FrameEffect) → IsFine s → IsFine (ready_if_whole k place c s)
+fine-whole k place c s h = by (is_read s.reads c.number)
+  where
+    by : (b : Bool) → IsFine (cond b (with_verdict (by_payload c (payload_of k place c)) s) s)
+    by true = fine-verdict (by_payload c (payload_of k place c)) s h
+    by false = h
+
+fine-message : (k : ServerState) (place : ℕ) (message : List ℕ) (v : Verdict) → verdict k message ≡ v → IsBytes message → CallsFit k.calls → IsFine (message_effect k place message v)
+fine-message k place message (EndsLink reason) is bytes h = record { errors = NoError; fit = h }
+fine-message k place message OtherVersion is bytes h = record { errors = OneError _ (OfVersion (word_at 0 message) (word_at 4 message) (credit_word k) refl); fit = h }
+fine-message k place message BadChunks is bytes h = record { errors = OneError _ (OfChunks (word_at 0 message) (credit_word k) refl); fit = h }
+fine-message k place message (MakesPending c) is bytes h =
+    fine-whole k place c (record (no_effect k) { calls = k.calls ++ c ∷ []; reads = k.reads ++ reads_of (k.regions ++ regions_of k place c) c; regions = k.regions ++ regions_of k place c })
+    (record { errors = NoError; fit = fit-append k.calls (c ∷ []) h (verdict_fits k message c bytes is, tt) })
+
+fine-read : (k : ServerState) (place : ℕ) (r : PendingRead) (o : Option PendingCall) (s : FrameEffect) → IsFine s → IsFine (read_effect k place r o s)
+fine-read k place r None s h = h
+fine-read k place r (Some c) s h = by (is_stream_read c r s.reads && not (is_read_chunk_of_item (chunk_bytes k place c 0) c.lists.read))
+  where
+    by : (b : Bool) → IsFine (cond b (with_refused_call k c s) (ready_if_whole k place c s))
+    by true = record { errors = OneError _ (OfChunks c.xid (credit_word k) refl); fit = fit-filter (λ other. not (eqb other.number c.number)) s.calls h.fit }
+    by false = fine-whole k place c s h
+
+fine-response : (k : ServerState) (place : ℕ) (reads : List PendingRead) → CallsFit k.calls → IsFine (response_effect k place reads)
+fine-response k place [] h = record { errors = NoError; fit = h }
+fine-response k place (r ∷ reads) h = fine-read k place r (call_of_number k r.number) _ (record { errors = NoError; fit = h })
+
+fine-by-message : (k : ServerState) (place : ℕ) (o : Option (List ℕ)) → ((m : List ℕ) → o ≡ Some m → IsBytes m) → CallsFit k.calls → IsFine (by_message k place o)
+fine-by-message k place None bytes h = record { errors = NoError; fit = h }
+fine-by-message k place (Some message) bytes h = fine-message k place message (verdict k message) refl (bytes message refl) h
+
+pub fine-frame : (k : ServerState) (f : Frame) → ((s : Segment) (m : List ℕ) → frame_segment f ≡ Ok s → message_completed k.received s ≡ Some m → IsBytes m) → CallsFit k.calls → IsFine (frame_effect k f)
+unfolding frame_effect
+fine-frame k f bytes h = by (frame_segment f) refl
+  where
+    by : (r : Result Segment ℕ) → frame_segment f ≡ r → IsFine (effect_in k f r)
+    by (Err reason) is = record { errors = NoError; fit = h }
+    by (Ok (Tagged last opcode stag to payload)) is = tagged (eqb opcode OPCODE_READ_RESPONSE && last)
+      where
+        t : ServerState
+        t = with_access k f (Tagged last opcode stag to payload)
+
+        tagged : (b : Bool) → IsFine (cond b (response_effect t f.end t.reads) (no_effect t))
+        tagged true = fine-response t f.end t.reads h
+        tagged false = record { errors = NoError; fit = h }
+    by (Ok (Untagged last opcode w queue msn offset payload)) is =
+        fine-by-message k f.end (message_completed k.received (Untagged last opcode w queue msn offset payload)) (λ m e. bytes (Untagged last opcode w queue msn offset payload) m is e) h
+
+-- ---- Outputs that can be read
+
+sends-words : (msn : ℕ) (ms : List (List ℕ)) → AreShort ms → AreFrom Fpdu (message_sends msn ms)
+sends-words msn [] h = tt
+sends-words msn (m ∷ ms) h = (send-word msn m h.0, sends-words (msn + 1) ms h.1)
+
+requests-words : (msn : ℕ) (reads : List PendingRead) → AreFrom Fpdu (request_outputs msn reads)
+requests-words msn [] = tt
+requests-words msn (r ∷ reads) = (request-word msn r, requests-words (msn + 1) reads)
+
+pub record AreFine (outs : List Output) (ms : List (List ℕ)) : Type 0 where
+  pub words : AreFrom Fpdu outs
+  pub one : AreOne outs
+  pub messages_are : messages outs ≡ ms
+
+pub fine-effect : (k : ServerState) (s : FrameEffect) → IsFine s → AreFine (effect_outputs k s) s.errors
+fine-effect k s h =
+    let sends = message_sends (k.messages_queued + 1) s.errors in
+    let reads = request_outputs (k.requests_sent + 1) (newly_open_reads s) in
+    record {
+      words = from-append sends reads (sends-words (k.messages_queued + 1) s.errors (errors-short s.errors h.errors)) (requests-words (k.requests_sent + 1) (newly_open_reads s));
+      one = one-append sends reads (one-sends (k.messages_queued + 1) s.errors) (one-requests (k.requests_sent + 1) (newly_open_reads s));
+      messages_are = messages-append sends reads ∙ (λ i. messages-sends (k.messages_queued + 1) s.errors i ++ messages-requests (k.requests_sent + 1) (newly_open_reads s) i) ∙ append-nil s.errors;
+    }
+
+words-fit : (chunk : List RdmaSegment) → SegmentsFit chunk → WordsFit chunk
+words-fit [] h = tt
+words-fit (s ∷ chunk) h = (h.0.0, (h.0.1, h.0.2), words-fit chunk h.1)
+
+map-append : (xs ys : List Segment) → map ASegment (xs ++ ys) ≡ map ASegment xs ++ map ASegment ys
+map-append [] ys = refl
+map-append (x ∷ xs) ys = ap (λ (os : List Output). ASegment x ∷ os) (map-append xs ys)
+
+pub tagged-answer : (offer : ChunkLists) (a : Answer) → AreTagged (answer_segments offer a)
+tagged-answer offer a = tagged-append (chunk_segments (first_chunk offer.write) a.moved) (cond a.long (chunk_segments (no_segments offer.reply) a.stream) []) (tagged-chunk (first_chunk offer.write) a.moved) (by a.long)
+  where
+    by : (b : Bool) → AreTagged (cond b (chunk_segments (no_segments offer.reply) a.stream) [])
+    by true = tagged-chunk (no_segments offer.reply) a.stream
+    by false = tt
+
+answer-words : (offer : ChunkLists) (a : Answer) → OfferFits offer → AreFrom Fpdu (map ASegment (answer_segments offer a))
+answer-words offer a h =
+    subst (λ (os : List Output). AreFrom Fpdu os) (sym (map-append (chunk_segments (first_chunk offer.write) a.moved) (cond a.long (chunk_segments (no_segments offer.reply) a.stream) [])))
+    (from-append (map ASegment (chunk_segments (first_chunk offer.write) a.moved)) (map ASegment (cond a.long (chunk_segments (no_segments offer.reply) a.stream) []))
+    (chunk-words (first_chunk offer.write) a.moved (words-fit (first_chunk offer.write) h.writes)) (by a.long))
+  where
+    by : (b : Bool) → AreFrom Fpdu (map ASegment (cond b (chunk_segments (no_segments offer.reply) a.stream) []))
+    by true = chunk-words (no_segments offer.reply) a.stream (words-fit (no_segments offer.reply) h.replies)
+    by false = tt
+
+answer-short : (offer : ChunkLists) (down prog vers proc xid credit : ℕ) (reply : List ℕ) (a : Answer) → down ≤ 1024 → OfferFits offer → answer_for offer down prog vers proc reply ≡ Some a → IsShort (answer_message xid credit offer a)
+answer-short offer down prog vers proc xid credit reply a small fits e =
+    let sizes = answer_length offer down prog vers proc xid credit reply a e in
+    by a.long refl sizes.0 sizes.1
+  where
+    by : (b : Bool) → a.long ≡ b
+        → (a.long ≡ false → (length (answer_message xid credit offer a) ≡ answer_size offer.write + length a.stream) × (length (answer_message xid credit offer a) ≤ down))
+        → (a.long ≡ true → length (answer_message xid credit offer a) ≡ answer_size offer.write + (4 + 16 * length (no_segments offer.reply)))
+        → IsShort (answer_message xid credit offer a)
+    by true is short long = omega (arith, long is, fits.size)
+    by false is short long = omega (arith, (short is).1, small)
+
+pub for_target : (offer : ChunkLists) (down : ℕ) (reply : List ℕ) (t : Option CallTarget) (a : Answer) → answer_of_target offer down reply t ≡ Some a
+    → (prog : ℕ) × (vers : ℕ) × (proc : ℕ) × (answer_for offer down prog vers proc reply ≡ Some a)
+for_target offer down reply None a e = (0, 0, 0, e)
+for_target offer down reply (Some t) a e = (t.prog, t.vers, t.proc, e)
+
+found-fits : (xid : ℕ) (calls : List PendingCall) → CallsFit calls → OfferFits (offer_by (find (λ (c : PendingCall). eqb c.xid xid) calls))
+found-fits xid [] h = record { size = omega arith; writes = tt; replies = tt }
+found-fits xid (c ∷ calls) h = by (eqb c.xid xid) (found-fits xid calls h.1)
+  where
+    by : (b : Bool) → OfferFits (offer_by (find (λ (c : PendingCall). eqb c.xid xid) calls)) → OfferFits (offer_by (cond b (Some c) (find (λ (c : PendingCall). eqb c.xid xid) calls)))
+    by true k = h.0
+    by false k = k
+
+pub answer-is-short : (k : ServerState) (e : ExecutedCall) → CallsFit k.calls → (o : Option Answer) → answer_of_call k e ≡ o → AnswerShort k e.xid (offer_of k e.xid) o
+answer-is-short k e h None is = chunk_error-short e.xid (credit_word k)
+answer-is-short k e h (Some a) is =
+    let t = for_target (offer_of k e.xid) (down_max k) e.reply (target_of (call_of e.payload)) a is in
+    answer-short (offer_of k e.xid) (down_max k) t.0 t.1 t.2 e.xid (credit_word k) e.reply a (omega arith) (found-fits e.xid k.calls h) t.3
+
+abbrev pub answer_messages : ServerState → ℕ → ChunkLists → Option Answer → List (List ℕ)
+answer_messages k xid offer None = chunk_error xid (credit_word k) ∷ []
+answer_messages k xid offer (Some a) = answer_message xid (credit_word k) offer a ∷ []
+
+pub fine-answer : (k : ServerState) (e : ExecutedCall) → CallsFit k.calls → (o : Option Answer) → answer_of_call k e ≡ o → AreFine (answer_outputs k e.xid (offer_of k e.xid) o) (answer_messages k e.xid (offer_of k e.xid) o)
+fine-answer k e h None is = record { words = (send-word (k.messages_queued + 1) (chunk_error e.xid (credit_word k)) (chunk_error-short e.xid (credit_word k)), tt); one = (refl, tt); messages_are = refl }
+fine-answer k e h (Some a) is =
+    let offer = offer_of k e.xid in
+    let segments = map ASegment (answer_segments offer a) in
+    let m = answer_message e.xid (credit_word k) offer a in
+    let send : List Output = ASegment (send_segment (k.messages_queued + 1) m) ∷ [] in
+    record {
+      words = from-append segments send (answer-words offer a (found-fits e.xid k.calls h)) (send-word (k.messages_queued + 1) m (answer-is-short k e h (Some a) is), tt);
+      one = one-append segments send (one-tagged (answer_segments offer a) (tagged-answer offer a)) (refl, tt);
+      messages_are = messages-append segments send ∙ ap (λ (ms : List (List ℕ)). ms ++ m ∷ []) (messages-tagged (answer_segments offer a) (tagged-answer offer a));
+    }

@@ -1,0 +1,221 @@
+-- The frames of the first bytes of a side's output are its hello and the segments of its first frame contents.
+use Rattle.std.proofs.Common.{◌≡◌, ℕ, suc, ◌+◌, ◌≤◌, ◌<◌, Bool, true, false, cond, ◌⊎◌, inl, inr, List, [], ◌∷◌, ◌++◌, length, take, drop, Option, None, Some, Result, Ok, Err, refl, sym, ap, subst, ◌∙◌, arith, append_assoc, append-nil, length-drop, take-append-drop, take_all, add-zero, lit≤}
+use Rattle.std.specs.List.{concat}
+use Rattle.std.proofs.lemmas.Bool.{cases_lt}
+use Rattle.std.proofs.lemmas.List.{take-append-le}
+use Rattle.nr_wire.specs.declared.hello.Side.{Side}
+use Rattle.nr_wire.specs.declared.hello.Side.TheVariants.{Initiator, Responder}
+use Rattle.nr_wire.specs.declared.stream.Awaited.{Awaited}
+use Rattle.nr_wire.specs.declared.stream.Awaited.TheVariants.{Hello as HelloFrom, Fpdu}
+use Rattle.nr_wire.specs.Hello.{Hello, hello_encoding, hello_of, hello_len, is_refused_by}
+use Rattle.nr_wire.specs.Segment.{Segment, segment_of, encoding, fpdu_len, IsSupported, Fits, ulpdu_size}
+use Rattle.nr_wire.specs.Next.{frame_answer, hello_in, segment_in}
+use Rattle.nr_wire.specs.Next.Next.{Whole, More}
+use Rattle.nr_wire.specs.Stream.{Split, split, is_whole, frame_len, IsFrame, IsPartial}
+use Rattle.nr_wire.proofs.Frames.{whole_from, partial_nil, partial_not_whole, fields_some}
+use Rattle.nr_wire.proofs.Splits.{split-frame, split-partial}
+use Rattle.nr_wire.proofs.Segments.{encoding_again}
+use Rattle.nr_wire.proofs.Hellos.{hello_again}
+use Rattle.nr_link.specs.Output.{own_hello}
+use Rattle.nr_laws.specs.FrameContents.{FrameContent, numbered_segment, frame_bytes, output_bytes, sends_in, requests_in, total_of}
+
+-- ---- Pieces that are frames
+
+pub record HasWords (segment : Segment) : Type 0 where
+  pub through : IsSupported segment
+  pub fits : Fits segment
+  pub size : ulpdu_size segment ≤ 65535
+
+abbrev pub IsWritableAs : Awaited → Option Segment → Type 0
+IsWritableAs (HelloFrom side) None = Unit {0}
+IsWritableAs (HelloFrom side) (Some segment) = ⊥
+IsWritableAs Fpdu None = ⊥
+IsWritableAs Fpdu (Some segment) = HasWords segment
+
+-- the first frame of a side is its hello, and no other; each other is a segment whose numbers are words
+abbrev pub AreWritableFrom : Awaited → (sends requests : ℕ) → List FrameContent → Type 0
+AreWritableFrom a n r [] = Unit {0}
+AreWritableFrom a n r (p ∷ ps) = IsWritableAs a (numbered_segment n r p) × AreWritableFrom Fpdu (n + sends_in p) (r + requests_in p) ps
+
+-- the frames of frames
+abbrev pub frames_at : Side → (sends requests : ℕ) → List FrameContent → List (List ℕ)
+frames_at side n r [] = []
+frames_at side n r (p ∷ ps) = frame_bytes side (numbered_segment n r p) ∷ frames_at side (n + sends_in p) (r + requests_in p) ps
+
+pub spelled-concat : (side : Side) (n r : ℕ) (ps : List FrameContent) → output_bytes side n r ps ≡ concat (frames_at side n r ps)
+spelled-concat side n r [] = refl
+spelled-concat side n r (p ∷ ps) = ap (λ (xs : List ℕ). frame_bytes side (numbered_segment n r p) ++ xs) (spelled-concat side (n + sends_in p) (r + requests_in p) ps)
+
+pub spelled-append : (side : Side) (n r : ℕ) (ps qs : List FrameContent) → output_bytes side n r (ps ++ qs) ≡ output_bytes side n r ps ++ output_bytes side (n + total_of sends_in ps) (r + total_of requests_in ps) qs
+spelled-append side n r [] qs = λ i. output_bytes side (sym (add-zero n) i) (sym (add-zero r) i) qs
+spelled-append side n r (p ∷ ps) qs =
+    let front = frame_bytes side (numbered_segment n r p) in
+    let more_n : n + sends_in p + total_of sends_in ps ≡ n + (sends_in p + total_of sends_in ps) = omega arith in
+    let more_r : r + requests_in p + total_of requests_in ps ≡ r + (requests_in p + total_of requests_in ps) = omega arith in
+    ap (λ (xs : List ℕ). front ++ xs)
+    (spelled-append side (n + sends_in p) (r + requests_in p) ps qs
+    ∙ (λ i. output_bytes side (n + sends_in p) (r + requests_in p) ps ++ output_bytes side (more_n i) (more_r i) qs))
+    ∙ sym (append_assoc front (output_bytes side (n + sends_in p) (r + requests_in p) ps) (output_bytes side (n + total_of sends_in (p ∷ ps)) (r + total_of requests_in (p ∷ ps)) qs))
+
+pub frames-append : (side : Side) (n r : ℕ) (ps qs : List FrameContent) → frames_at side n r (ps ++ qs) ≡ frames_at side n r ps ++ frames_at side (n + total_of sends_in ps) (r + total_of requests_in ps) qs
+frames-append side n r [] qs = λ i. frames_at side (sym (add-zero n) i) (sym (add-zero r) i) qs
+frames-append side n r (p ∷ ps) qs =
+    let more_n : n + sends_in p + total_of sends_in ps ≡ n + (sends_in p + total_of sends_in ps) = omega arith in
+    let more_r : r + requests_in p + total_of requests_in ps ≡ r + (requests_in p + total_of requests_in ps) = omega arith in
+    ap (λ (xs : List (List ℕ)). frame_bytes side (numbered_segment n r p) ∷ xs)
+    (frames-append side (n + sends_in p) (r + requests_in p) ps qs
+    ∙ (λ i. frames_at side (n + sends_in p) (r + requests_in p) ps ++ frames_at side (more_n i) (more_r i) qs))
+
+pub length-frames : (side : Side) (n r : ℕ) (ps : List FrameContent) → length (frames_at side n r ps) ≡ length ps
+length-frames side n r [] = refl
+length-frames side n r (p ∷ ps) = ap (λ (k : ℕ). suc k) (length-frames side (n + sends_in p) (r + requests_in p) ps)
+
+-- ---- Each is a whole frame
+
+record FrameJudged {V : Type 0} (whole : Bool) (r : Result V ℕ) (value : V) (len n : ℕ) : Type 0 where
+  is_whole : whole ≡ true
+  says : r ≡ Ok value
+  len_is : len ≡ n
+
+judged_whole : {V : Type 0} (whole : Bool) (r : Result V ℕ) (value : V) (len n : ℕ) → cond whole (frame_answer r len) More ≡ Whole value n → FrameJudged whole r value len n
+judged_whole true (Ok x) value len n e = record { is_whole = refl; says = cc; len_is = cc }
+judged_whole true (Err f) value len n e = absurd cc
+judged_whole false r value len n e = absurd cc
+
+frame_from : (a : Awaited) (bytes : List ℕ) → is_whole a bytes ≡ true → frame_len a bytes ≡ length bytes → IsFrame a bytes
+frame_from a bytes whole len = record { fields = (whole_from a bytes whole).fields; len = len }
+
+pub record IsSegmentFrame (frame : List ℕ) (segment : Segment) : Type 0 where
+  pub is_frame : IsFrame Fpdu frame
+  pub says : segment_of frame ≡ Ok segment
+
+pub spelling-is : (segment : Segment) → HasWords segment → IsSegmentFrame (encoding segment) segment
+unfolding segment_in
+spelling-is segment w =
+    let frame = encoding segment in
+    let read : segment_in (frame ++ []) ≡ Whole segment (length frame) = encoding_again segment [] w.through w.fits w.size in
+    let found : segment_in frame ≡ Whole segment (length frame) = rw append-nil at read in
+    let j = judged_whole (is_whole Fpdu frame) (segment_of (take (fpdu_len frame) frame)) segment (fpdu_len frame) (length frame) found in
+    let all : take (fpdu_len frame) frame ≡ frame = take_all (fpdu_len frame) frame (omega (arith, j.len_is)) in
+    record { is_frame = frame_from Fpdu frame j.is_whole j.len_is; says = ap segment_of (sym all) ∙ j.says }
+
+unrefused : (side : Side) → is_refused_by side 0 ≡ false
+unrefused Initiator = refl
+unrefused Responder = refl
+
+pub record IsHelloFrame (side : Side) (frame : List ℕ) : Type 0 where
+  pub is_frame : IsFrame (HelloFrom side) frame
+  pub says : hello_of side frame ≡ Ok (record { side = side; flags = 0; private = [] })
+
+pub own_hello-is : (side : Side) → IsHelloFrame side (own_hello side)
+unfolding own_hello hello_in
+own_hello-is side =
+    let hello : Hello = record { side = side; flags = 0; private = [] } in
+    let frame = hello_encoding hello in
+    let read : hello_in side (frame ++ []) ≡ Whole hello (length frame) = hello_again hello [] (unrefused side, lit≤ tt) in
+    let found : hello_in side frame ≡ Whole hello (length frame) = rw append-nil at read in
+    let j = judged_whole (is_whole (HelloFrom side) frame) (hello_of side (take (hello_len side frame) frame)) hello (hello_len side frame) (length frame) found in
+    let all : take (hello_len side frame) frame ≡ frame = take_all (hello_len side frame) frame (omega (arith, j.len_is)) in
+    record { is_frame = frame_from (HelloFrom side) frame j.is_whole j.len_is; says = ap (hello_of side) (sym all) ∙ j.says }
+
+abbrev pub IsOf : Side → Awaited → Type 0
+IsOf side (HelloFrom other) = other ≡ side
+IsOf side Fpdu = Unit {0}
+
+pub proper-frame : (side : Side) (a : Awaited) (s : Option Segment) → IsOf side a → IsWritableAs a s → IsFrame a (frame_bytes side s)
+proper-frame side (HelloFrom other) None is h = subst (λ (x : Side). IsFrame (HelloFrom x) (own_hello side)) (sym is) (own_hello-is side).is_frame
+proper-frame side (HelloFrom other) (Some segment) is h = absurd h
+proper-frame side Fpdu None is h = absurd h
+proper-frame side Fpdu (Some segment) is h = (spelling-is segment h).is_frame
+
+frame-some : (a : Awaited) (frame : List ℕ) → IsFrame a frame → 0 < length frame
+frame-some a frame f = omega (arith, f.fields, fields_some a)
+
+-- ---- The first bytes of frames
+
+pub record FirstFrames (side : Side) (a : Awaited) (n r : ℕ) (ps : List FrameContent) (x y : List ℕ) : Type 0 where
+  pub came : List FrameContent
+  pub left : List FrameContent
+  pub parts : came ++ left ≡ ps
+  pub frames : (split a x).frames ≡ frames_at side n r came
+  pub rest : (split a x).rest ++ y ≡ output_bytes side (n + total_of sends_in came) (r + total_of requests_in came) left
+
+no_bytes : (x y : List ℕ) → x ++ y ≡ [] → x ≡ []
+no_bytes [] y e = refl
+no_bytes (b ∷ x) y e = absurd cc
+
+-- where more bytes than a frame's are there, the frame is at the front
+record AfterEffect (frame more x y : List ℕ) : Type 0 where
+  back : List ℕ
+  front_is : x ≡ frame ++ back
+  back_is : back ++ y ≡ more
+
+behind : (frame more x y : List ℕ) → length frame ≤ length x → x ++ y ≡ frame ++ more → AfterEffect frame more x y
+behind [] more x y le e = record { back = x; front_is = refl; back_is = e }
+behind (b ∷ frame) more [] y le e = absurd (omega (arith, le))
+behind (b ∷ frame) more (c ∷ x) y le e =
+    let tail : x ++ y ≡ frame ++ more = ap (λ (xs : List ℕ). drop 1 xs) e in
+    let rest = behind frame more x y (omega (arith, le)) tail in
+    record { back = rest.back; front_is = cons_same c b (head_same c b (x ++ y) (frame ++ more) e) x (frame ++ rest.back) rest.front_is; back_is = rest.back_is }
+  where
+    head_same : (c b : ℕ) (xs ys : List ℕ) → c ∷ xs ≡ b ∷ ys → c ≡ b
+    head_same c b xs ys e = cc
+
+    cons_same : (c b : ℕ) → c ≡ b → (xs ys : List ℕ) → xs ≡ ys → c ∷ xs ≡ b ∷ ys
+    cons_same c b e xs ys f = λ i. e i ∷ f i
+
+-- where fewer are there, they are less than a frame
+short : (frame more x y : List ℕ) → length x < length frame → x ++ y ≡ frame ++ more → x ++ drop (length x) frame ≡ frame
+short frame more x y lt e =
+    let same : take (length x) frame ≡ x =
+    sym (take-append-le (length x) frame more (omega (arith, lt))) ∙ ap (λ (xs : List ℕ). take (length x) xs) (sym e) ∙ take-append-le (length x) x y (omega arith) ∙ take_all (length x) x (omega arith) in
+    ap (λ (xs : List ℕ). xs ++ drop (length x) frame) (sym same) ∙ take-append-drop (length x) frame
+
+pub front : (side : Side) (a : Awaited) (n r : ℕ) (ps : List FrameContent) (x y : List ℕ) → IsOf side a → AreWritableFrom a n r ps → x ++ y ≡ output_bytes side n r ps → FirstFrames side a n r ps x y
+front side a n r [] x y of proper e =
+    let none : x ≡ [] = no_bytes x y e in
+    let empty : split a x ≡ record { frames = []; rest = [] } = ap (split a) none ∙ split-partial a [] (partial_not_whole a [] (partial_nil a)) in
+    record {
+      came = [];
+      left = [];
+      parts = refl;
+      frames = ap (λ (s : Split). s.frames) empty;
+      rest = ap (λ (s : Split). s.rest ++ y) empty ∙ ap (λ (xs : List ℕ). xs ++ y) (sym none) ∙ e;
+    }
+front side a n r (p ∷ ps) x y of proper e =
+    by (cases_lt (length x) (length frame)) (λ back is. front side Fpdu (n + sends_in p) (r + requests_in p) ps back y tt proper.1 is)
+  where
+    frame : List ℕ
+    frame = frame_bytes side (numbered_segment n r p)
+
+    is_frame : IsFrame a frame
+    is_frame = proper-frame side a (numbered_segment n r p) of proper.0
+
+    more : List ℕ
+    more = output_bytes side (n + sends_in p) (r + requests_in p) ps
+
+    by : (length x < length frame) ⊎ (length frame ≤ length x) → ((back : List ℕ) → back ++ y ≡ more → FirstFrames side Fpdu (n + sends_in p) (r + requests_in p) ps back y) → FirstFrames side a n r (p ∷ ps) x y
+    by (inl lt) later =
+        let whole = short frame more x y lt e in
+        let partial : IsPartial a x = record { more = drop (length x) frame; some = omega (arith, length-drop (length x) frame, lt); frame = subst (λ (xs : List ℕ). IsFrame a xs) (sym whole) is_frame } in
+        let none = split-partial a x (partial_not_whole a x partial) in
+        record {
+          came = [];
+          left = p ∷ ps;
+          parts = refl;
+          frames = ap (λ (s : Split). s.frames) none;
+          rest = ap (λ (s : Split). s.rest ++ y) none ∙ e ∙ (λ i. output_bytes side (sym (add-zero n) i) (sym (add-zero r) i) (p ∷ ps));
+        }
+    by (inr le) later =
+        let b = behind frame more x y le e in
+        let rest = later b.back b.back_is in
+        let is = ap (split a) b.front_is ∙ split-frame a frame b.back is_frame in
+        let more_n : n + sends_in p + total_of sends_in rest.came ≡ n + (sends_in p + total_of sends_in rest.came) = omega arith in
+        let more_r : r + requests_in p + total_of requests_in rest.came ≡ r + (requests_in p + total_of requests_in rest.came) = omega arith in
+        record {
+          came = p ∷ rest.came;
+          left = rest.left;
+          parts = ap (λ (qs : List FrameContent). p ∷ qs) rest.parts;
+          frames = ap (λ (s : Split). s.frames) is ∙ ap (λ (fs : List (List ℕ)). frame ∷ fs) rest.frames;
+          rest = ap (λ (s : Split). s.rest ++ y) is ∙ rest.rest ∙ (λ i. output_bytes side (more_n i) (more_r i) rest.left);
+        }

@@ -1,0 +1,290 @@
+-- Totals agree behind each event of the client.
+use Rattle.std.proofs.Common.{◌≡◌, ℕ, zero, suc, ◌+◌, ◌-◌, ◌*◌, Bool, true, false, cond, ◌&&◌, eqb, ltb, List, [], ◌∷◌, ◌++◌, length, map, take, drop, Option, None, Some, Result, Ok, Err, refl, sym, ap, subst, ◌∙◌, arith, eq-eqb, ne_eqb, length-append}
+use Rattle.std.specs.List.{list_any, range_with_len}
+use Rattle.std.proofs.lemmas.List.{length-map}
+use Rattle.nr_wire.specs.Constants.{OPCODE_READ_REQUEST, OPCODE_READ_RESPONSE, OPCODE_SEND, QUEUE_SEND, QUEUE_READ_REQUEST}
+use Rattle.nr_xdr.specs.Item.{word, hyper}
+use Rattle.nr_wire.specs.Segment.{Segment}
+use Rattle.nr_wire.specs.declared.hello.Side.TheVariants.{Responder}
+use Rattle.nr_wire.specs.Hello.{hello_of}
+use Rattle.nr_wire.specs.Segment.Segment.{Tagged, Untagged}
+use Rattle.nr_header.specs.declared.fault.HeaderFault.{HeaderFault}
+use Rattle.nr_header.specs.declared.fault.HeaderFault.TheVariants as faults
+use Rattle.nr_header.specs.declared.header.Body.{Body}
+use Rattle.nr_header.specs.declared.header.Header.{Header}
+use Rattle.nr_header.specs.Reading.{header_of, header_by}
+use Rattle.nr_xdr.specs.Fields.{word_at}
+use Rattle.nr_link.specs.declared.end.End.{End}
+use Rattle.nr_reduce.specs.declared.mark.LinkParameters.{LinkParameters}
+use Rattle.nr_reduce.specs.History.{AcceptedCall}
+use Rattle.nr_link.specs.Limits.{segment_max}
+use Rattle.nr_link.specs.Output.{msn_word, segment_count, segment_payload}
+use Rattle.nr_link.specs.Frames.{Frame, is_hello}
+use Rattle.nr_link.specs.ReceiveState.{read_request_in, begun_bytes}
+use Rattle.nr_link.specs.Ending.{frame_segment, frame_end, hello_end}
+use Rattle.nr_reduce.specs.OfferedRegions.{region_grants}
+use Rattle.nr_reduce.specs.Events.Event.{FrameReceived, CallSubmitted, QueueWritten}
+use Rattle.nr_reduce.specs.ClientState.{ClientState, OutstandingCall, memory_at, initial_state as client_initial_state}
+use Rattle.nr_reduce.specs.ClientMessages.{verdict, by_header, by_call, answered_call}
+use Rattle.nr_reduce.specs.Client.{end_of_verdict, message_end, or_message_end, segment_message, readiness, client_end, client_state_after, with_segment, outstanding_of, written_call, segment_request}
+use Rattle.nr_reduce.specs.ServerState.{ServerState, initial_state as server_initial_state}
+use Rattle.nr_laws.specs.FrameContents.{FrameContent, Carries, total_of, sends_in, requests_in, responses_in, hellos_in, one_if_response, tagged_frame, tagged_frames, response_frames, call_frame, client_frames}
+use Rattle.nr_laws.specs.FrameContents.FrameContent.{HelloFrame, SendFrame, RequestFrame, TaggedFrame}
+use Rattle.nr_laws.specs.LinkInvariants.{Transit, TotalsAgree, AreDistinct, calls_sent, hello_bit}
+use Rattle.nr_laws.proofs.Totals.{total-append, total-map-zero, total-map-one, length-fewer, any_found, any_first}
+use Rattle.nr_laws.proofs.TotalsAtServer.{segment-is}
+
+-- ---- A message that the client takes is under the xid of a call that is out
+
+headed-xid : (xid credit : ℕ) (r : Result Body HeaderFault) (h : Header) → header_by xid credit r ≡ Ok h → h.xid ≡ xid
+headed-xid xid credit (Ok body) h e = cc
+headed-xid xid credit (Err fault) h e = absurd cc
+
+header-xid-by : (short : Bool) (xid credit : ℕ) (r : Result Body HeaderFault) (h : Header) → cond short (Err faults.Short) (header_by xid credit r) ≡ Ok h → h.xid ≡ xid
+header-xid-by true xid credit r h e = absurd cc
+header-xid-by false xid credit r h e = headed-xid xid credit r h e
+
+pub header-xid : (bytes : List ℕ) (h : Header) → header_of bytes ≡ Ok h → h.xid ≡ word_at 0 bytes
+unfolding header_of
+header-xid bytes h e = header-xid-by (ltb (length bytes) 16) (word_at 0 bytes) (word_at 8 bytes) _ h e
+
+abbrev has_xid : ℕ → OutstandingCall → Bool
+has_xid xid o = eqb o.xid xid
+
+out-found : (k : ClientState) (f : Frame) (message : List ℕ) (h : Header) (o : Option OutstandingCall) → answered_call k h.xid ≡ o → end_of_verdict f (by_call k f.end message h.body o) ≡ None → list_any (has_xid h.xid) k.outstanding ≡ true
+out-found k f message h None is e = absurd cc
+out-found k f message h (Some o) is e =
+    any_first (has_xid h.xid) (λ (x : OutstandingCall). x.is_written) k.outstanding (any_found (λ (x : OutstandingCall). eqb x.xid h.xid && x.is_written) k.outstanding o is)
+
+out-header : (k : ClientState) (f : Frame) (message : List ℕ) (r : Result Header HeaderFault) → header_of message ≡ r → end_of_verdict f (by_header k f.end message r) ≡ None → list_any (has_xid (word_at 0 message)) k.outstanding ≡ true
+out-header k f message (Ok h) is e =
+    subst (λ (n : ℕ). list_any (has_xid n) k.outstanding ≡ true) (header-xid message h is) (out-found k f message h (answered_call k h.xid) refl e)
+out-header k f message (Err faults.Short) is e = absurd cc
+out-header k f message (Err (faults.Version version)) is e = absurd cc
+out-header k f message (Err (faults.Kind kind)) is e = absurd cc
+out-header k f message (Err (faults.BadChunks at)) is e = absurd cc
+
+pub out-there : (k : ClientState) (f : Frame) (message : List ℕ) → end_of_verdict f (verdict k f.end message) ≡ None → list_any (has_xid (word_at 0 message)) k.outstanding ≡ true
+unfolding verdict
+out-there k f message e = out-header k f message (header_of message) refl e
+
+-- a client that a message doesn't end takes it
+or-none : (k : ClientState) (f : Frame) (first : Option End) → or_message_end k f first ≡ None → message_end k f (segment_message k (frame_segment f)) ≡ None
+or-none k f None e = e
+or-none k f (Some end) e = absurd cc
+
+pub taken : (k : ClientState) (f : Frame) → is_hello f ≡ false → client_end k (FrameReceived f) ≡ None → message_end k f (segment_message k (frame_segment f)) ≡ None
+unfolding client_end
+taken k f behind e =
+    or-none k f (frame_end (readiness k) (region_grants f.end k.regions) f)
+    ((λ i. cond (sym behind i) (hello_end (hello_of Responder f.bytes)) (or_message_end k f (frame_end (readiness k) (region_grants f.end k.regions) f))) ∙ e)
+
+-- ---- The client receives a message
+
+pub after-is : (opened : LinkParameters) (k : ClientState) (f : Frame) (r : Result Segment ℕ) → is_hello f ≡ false → frame_segment f ≡ r → client_state_after opened k (FrameReceived f) ≡ with_segment k f r
+unfolding client_state_after
+after-is opened k f r behind is = λ i. cond (behind i) (record k { has_hello = true }) (with_segment k f (is i))
+
+pub says-is : (opened : LinkParameters) (k : ClientState) (f : Frame) (r : Result Segment ℕ) → is_hello f ≡ false → frame_segment f ≡ r → client_frames opened k (FrameReceived f) ≡ response_frames k f.end (segment_request r)
+unfolding client_frames
+says-is opened k f r behind is = λ i. cond (behind i) (map (call_frame opened) k.outstanding) (response_frames k f.end (segment_request (is i)))
+
+abbrev pub down_one : Transit → List FrameContent → List FrameContent → Transit
+down_one w said rest = record { queued_up = w.queued_up ++ said; up = w.up; queued_down = w.queued_down; down = rest }
+
+pub totals-send_down : (opened : LinkParameters) (k : ClientState) (s : ServerState) (w : Transit) (f : Frame) (message : List ℕ) (rest : List FrameContent) → TotalsAgree k s w → w.down ≡ SendFrame message ∷ rest
+    → Carries k.received.sends k.received.requests f (SendFrame message) → client_end k (FrameReceived f) ≡ None → AreDistinct (λ (o : OutstandingCall). o.xid) k.outstanding
+    → TotalsAgree (client_state_after opened k (FrameReceived f)) s (down_one w (client_frames opened k (FrameReceived f)) rest)
+totals-send_down opened k s w f message rest c first p stays apart =
+    let segment : Segment = Untagged true OPCODE_SEND 0 QUEUE_SEND (msn_word (k.received.sends + 1)) 0 message in
+    let is : frame_segment f ≡ Ok segment = segment-is k.received.sends k.received.requests f (SendFrame message) segment p refl in
+    let whole : List ℕ = begun_bytes k.received.begun ++ message in
+    let whole_is : whole ≡ message = ap (λ (b : Option (List ℕ)). begun_bytes b ++ message) c.whole_down in
+    let unended : end_of_verdict f (verdict k f.end whole) ≡ None = ap (λ (r : Result Segment ℕ). message_end k f (segment_message k r)) (sym is) ∙ taken k f p.behind stays in
+    let fewer = length-fewer (λ (o : OutstandingCall). o.xid) (word_at 0 whole) k.outstanding apart (out-there k f whole unended) in
+    let m : TotalsAgree (with_segment k f (Ok segment)) s (down_one w [] rest) = record {
+      hello = omega (arith, c.hello, ap (total_of hellos_in) first, total-append hellos_in w.queued_up []);
+      calls_up = omega (arith, c.calls_up, total-append sends_in w.queued_up []);
+      messages_down = omega (arith, c.messages_down, ap (total_of sends_in) first);
+      written = omega (arith, c.written, ap (total_of sends_in) first);
+      out = omega (arith, c.out, fewer);
+      waiting = c.waiting;
+      whole_up = c.whole_up;
+      whole_down = refl;
+      reads = omega (arith, c.reads, ap (total_of requests_in) first, total-append responses_in w.queued_up []);
+      responses = omega (arith, c.responses, total-append responses_in w.queued_up []);
+    } in
+    subst (λ (said : List FrameContent). TotalsAgree (client_state_after opened k (FrameReceived f)) s (down_one w said rest)) (sym (says-is opened k f (Ok segment) p.behind is))
+    (subst (λ (t : ClientState). TotalsAgree t s (down_one w [] rest)) (sym (after-is opened k f (Ok segment) p.behind is)) m)
+
+-- ---- The client receives a Read Request
+
+one_last : (opcode stag to total : ℕ) (bytes : ℕ → List ℕ) (n a : ℕ) → a + suc n ≡ total
+    → total_of responses_in (map (λ i. TaggedFrame (eqb (i + 1) total) OPCODE_READ_RESPONSE stag (to + segment_max * i) (bytes i)) (range_with_len a (suc n))) ≡ 1
+one_last opcode stag to total bytes zero a e = ap (λ (b : Bool). one_if_response b + 0) (eq-eqb (a + 1) total (omega (arith, e)))
+one_last opcode stag to total bytes (suc n) a e =
+    let later = one_last opcode stag to total bytes n (a + 1) (omega (arith, e)) in
+    ap (λ (b : Bool). one_if_response b + total_of responses_in (map (λ i. TaggedFrame (eqb (i + 1) total) OPCODE_READ_RESPONSE stag (to + segment_max * i) (bytes i)) (range_with_len (a + 1) (suc n))))
+    (ne_eqb (a + 1) total (omega (arith, e)))
+    ∙ omega (arith, later)
+
+some_pieces : (bytes : List ℕ) → (n : ℕ) × (segment_count bytes ≡ suc n)
+some_pieces bytes = (segment_count bytes - 1, omega arith)
+
+pub responses-one : (stag to : ℕ) (bytes : List ℕ) → total_of responses_in (tagged_frames OPCODE_READ_RESPONSE stag to bytes) ≡ 1
+unfolding tagged_frames
+responses-one stag to bytes =
+    let n = some_pieces bytes in
+    ap (λ (k : ℕ). total_of responses_in (map (tagged_frame OPCODE_READ_RESPONSE stag to bytes) (range_with_len 0 k))) n.1
+    ∙ one_last OPCODE_READ_RESPONSE stag to (segment_count bytes) (segment_payload bytes) n.0 0 (omega (arith, n.1))
+
+pub tagged-none : (one : FrameContent → ℕ) (opcode stag to : ℕ) (bytes : List ℕ) → ((last : Bool) (at : ℕ) (payload : List ℕ) → one (TaggedFrame last opcode stag at payload) ≡ 0) → total_of one (tagged_frames opcode stag to bytes) ≡ 0
+unfolding tagged_frames
+tagged-none one opcode stag to bytes none = total-map-zero one (tagged_frame opcode stag to bytes) (range_with_len 0 (segment_count bytes)) (λ i. none _ _ _)
+
+abbrev pub request_payload : (sink at size stag to : ℕ) → List ℕ
+request_payload sink at size stag to = word sink ++ (hyper at ++ (word size ++ (word stag ++ hyper to)))
+
+pub totals-read_down : (opened : LinkParameters) (k : ClientState) (s : ServerState) (w : Transit) (f : Frame) (sink at size stag to : ℕ) (rest : List FrameContent) → TotalsAgree k s w → w.down ≡ RequestFrame sink at size stag to ∷ rest
+    → Carries k.received.sends k.received.requests f (RequestFrame sink at size stag to)
+    → TotalsAgree (client_state_after opened k (FrameReceived f)) s (down_one w (client_frames opened k (FrameReceived f)) rest)
+totals-read_down opened k s w f sink at size stag to rest c first p =
+    let segment : Segment = Untagged true OPCODE_READ_REQUEST 0 QUEUE_READ_REQUEST (msn_word (k.received.requests + 1)) 0 (request_payload sink at size stag to) in
+    let is : frame_segment f ≡ Ok segment = segment-is k.received.sends k.received.requests f (RequestFrame sink at size stag to) segment p refl in
+    let r = read_request_in (request_payload sink at size stag to) in
+    let bytes = take r.size (drop r.to (memory_at k f.end r.stag)) in
+    let said = tagged_frames OPCODE_READ_RESPONSE r.sink r.sink_to bytes in
+    let one = responses-one r.sink r.sink_to bytes in
+    let m : TotalsAgree (with_segment k f (Ok segment)) s (down_one w said rest) = record {
+      hello = omega (arith, c.hello, ap (total_of hellos_in) first, total-append hellos_in w.queued_up said, tagged-none hellos_in OPCODE_READ_RESPONSE r.sink r.sink_to bytes (λ last a b. refl));
+      calls_up = omega (arith, c.calls_up, total-append sends_in w.queued_up said, tagged-none sends_in OPCODE_READ_RESPONSE r.sink r.sink_to bytes (λ last a b. refl));
+      messages_down = omega (arith, c.messages_down, ap (total_of sends_in) first);
+      written = omega (arith, c.written, ap (total_of sends_in) first);
+      out = c.out;
+      waiting = c.waiting;
+      whole_up = c.whole_up;
+      whole_down = c.whole_down;
+      reads = omega (arith, c.reads, ap (total_of requests_in) first, total-append responses_in w.queued_up said, one);
+      responses = omega (arith, c.responses, total-append responses_in w.queued_up said, one);
+    } in
+    subst (λ (x : List FrameContent). TotalsAgree (client_state_after opened k (FrameReceived f)) s (down_one w x rest)) (sym (says-is opened k f (Ok segment) p.behind is))
+    (subst (λ (t : ClientState). TotalsAgree t s (down_one w said rest)) (sym (after-is opened k f (Ok segment) p.behind is)) m)
+
+-- ---- The client receives a tagged segment
+
+pub totals-tagged_down : (opened : LinkParameters) (k : ClientState) (s : ServerState) (w : Transit) (f : Frame) (last : Bool) (opcode stag to : ℕ) (payload : List ℕ) (rest : List FrameContent) → TotalsAgree k s w → w.down ≡ TaggedFrame last opcode stag to payload ∷ rest
+    → Carries k.received.sends k.received.requests f (TaggedFrame last opcode stag to payload)
+    → TotalsAgree (client_state_after opened k (FrameReceived f)) s (down_one w (client_frames opened k (FrameReceived f)) rest)
+totals-tagged_down opened k s w f last opcode stag to payload rest c first p =
+    let segment : Segment = Tagged last opcode stag to payload in
+    let is : frame_segment f ≡ Ok segment = segment-is k.received.sends k.received.requests f (TaggedFrame last opcode stag to payload) segment p refl in
+    let m : TotalsAgree (with_segment k f (Ok segment)) s (down_one w [] rest) = record {
+      hello = omega (arith, c.hello, ap (total_of hellos_in) first, total-append hellos_in w.queued_up []);
+      calls_up = omega (arith, c.calls_up, total-append sends_in w.queued_up []);
+      messages_down = omega (arith, c.messages_down, ap (total_of sends_in) first);
+      written = omega (arith, c.written, ap (total_of sends_in) first);
+      out = c.out;
+      waiting = c.waiting;
+      whole_up = c.whole_up;
+      whole_down = c.whole_down;
+      reads = omega (arith, c.reads, ap (total_of requests_in) first, total-append responses_in w.queued_up []);
+      responses = omega (arith, c.responses, total-append responses_in w.queued_up []);
+    } in
+    subst (λ (x : List FrameContent). TotalsAgree (client_state_after opened k (FrameReceived f)) s (down_one w x rest)) (sym (says-is opened k f (Ok segment) p.behind is))
+    (subst (λ (t : ClientState). TotalsAgree t s (down_one w [] rest)) (sym (after-is opened k f (Ok segment) p.behind is)) m)
+
+-- ---- The client receives the server's hello: the calls that it accepted are sent
+
+bit_of : (b : Bool) → hello_bit b ≡ 0 → b ≡ false
+bit_of true e = absurd cc
+bit_of false e = refl
+
+pub totals-hello_down : (opened : LinkParameters) (k : ClientState) (s : ServerState) (w : Transit) (f : Frame) (rest : List FrameContent) → TotalsAgree k s w → w.down ≡ HelloFrame ∷ rest → is_hello f ≡ true
+    → TotalsAgree (client_state_after opened k (FrameReceived f)) s (down_one w (client_frames opened k (FrameReceived f)) rest)
+unfolding client_state_after client_frames
+totals-hello_down opened k s w f rest c first is =
+    let said = map (call_frame opened) k.outstanding in
+    let hello : hello_bit k.has_hello ≡ 0 = omega (arith, c.hello, ap (total_of hellos_in) first) in
+    let before : calls_sent k ≡ 0 = ap (λ (b : Bool). cond b k.calls_accepted 0) (bit_of k.has_hello hello) in
+    let sends : total_of sends_in said ≡ length k.outstanding = total-map-one sends_in (call_frame opened) k.outstanding (λ o. refl) in
+    let m : TotalsAgree (record k { has_hello = true }) s (down_one w said rest) = record {
+      hello = omega (arith, c.hello, hello, ap (total_of hellos_in) first, total-append hellos_in w.queued_up said, total-map-zero hellos_in (call_frame opened) k.outstanding (λ o. refl));
+      calls_up = omega (arith, c.calls_up, before, c.messages_down, c.waiting, c.out, sends, total-append sends_in w.queued_up said);
+      messages_down = omega (arith, c.messages_down, ap (total_of sends_in) first);
+      written = omega (arith, c.written, ap (total_of sends_in) first);
+      out = c.out;
+      waiting = c.waiting;
+      whole_up = c.whole_up;
+      whole_down = c.whole_down;
+      reads = omega (arith, c.reads, ap (total_of requests_in) first, total-append responses_in w.queued_up said, total-map-zero responses_in (call_frame opened) k.outstanding (λ o. refl));
+      responses = omega (arith, c.responses, total-append responses_in w.queued_up said, total-map-zero responses_in (call_frame opened) k.outstanding (λ o. refl));
+    } in
+    subst (λ (b : Bool). TotalsAgree (cond b (record k { has_hello = true }) (with_segment k f (frame_segment f))) s (down_one w (cond b said (response_frames k f.end (segment_request (frame_segment f)))) rest)) (sym is) m
+
+-- ---- The client accepts a call, and writes
+
+abbrev pub up_more : Transit → List FrameContent → Transit
+up_more w said = record { queued_up = w.queued_up ++ said; up = w.up; queued_down = w.queued_down; down = w.down }
+
+says_call : (b : Bool) (p : FrameContent) (message : List ℕ) → p ≡ SendFrame message → total_of sends_in (cond b (p ∷ []) []) ≡ hello_bit b
+says_call true p message e = ap (λ (x : FrameContent). sends_in x + 0) e
+says_call false p message e = refl
+
+says_no : (one : FrameContent → ℕ) (b : Bool) (p : FrameContent) → one p ≡ 0 → total_of one (cond b (p ∷ []) []) ≡ 0
+says_no one true p e = omega (arith, e)
+says_no one false p e = refl
+
+said_more : (b : Bool) (n : ℕ) → cond b (n + 1) 0 ≡ cond b n 0 + hello_bit b
+said_more true n = refl
+said_more false n = refl
+
+pub totals-accepts : (opened : LinkParameters) (k : ClientState) (s : ServerState) (w : Transit) (place : ℕ) (a : AcceptedCall) → TotalsAgree k s w
+    → TotalsAgree (client_state_after opened k (CallSubmitted place a)) s (up_more w (client_frames opened k (CallSubmitted place a)))
+unfolding client_state_after client_frames
+totals-accepts opened k s w place a c =
+    let p = call_frame opened (outstanding_of k a) in
+    let said = cond k.has_hello (p ∷ []) [] in
+    record {
+      hello = omega (arith, c.hello, total-append hellos_in w.queued_up said, says_no hellos_in k.has_hello p refl);
+      calls_up = omega (arith, c.calls_up, said_more k.has_hello k.calls_accepted, total-append sends_in w.queued_up said, says_call k.has_hello p _ refl);
+      messages_down = c.messages_down;
+      written = c.written;
+      out = omega (arith, c.out, length-append k.outstanding (outstanding_of k a ∷ []));
+      waiting = c.waiting;
+      whole_up = c.whole_up;
+      whole_down = c.whole_down;
+      reads = omega (arith, c.reads, total-append responses_in w.queued_up said, says_no responses_in k.has_hello p refl);
+      responses = omega (arith, c.responses, total-append responses_in w.queued_up said, says_no responses_in k.has_hello p refl);
+    }
+
+pub totals-writes_up : (opened : LinkParameters) (k : ClientState) (s : ServerState) (w : Transit) → TotalsAgree k s w
+    → TotalsAgree (client_state_after opened k QueueWritten) s (record { queued_up = []; up = w.up ++ w.queued_up; queued_down = w.queued_down; down = w.down })
+unfolding client_state_after
+totals-writes_up opened k s w c = record {
+  hello = omega (arith, c.hello, total-append hellos_in w.up w.queued_up);
+  calls_up = omega (arith, c.calls_up, total-append sends_in w.up w.queued_up);
+  messages_down = c.messages_down;
+  written = c.written;
+  out = omega (arith, c.out, length-map k.outstanding (written_call k.has_hello));
+  waiting = c.waiting;
+  whole_up = c.whole_up;
+  whole_down = c.whole_down;
+  reads = omega (arith, c.reads, total-append responses_in w.up w.queued_up);
+  responses = refl;
+}
+
+-- ---- At the beginning
+
+pub totals-first : (opened : LinkParameters) → TotalsAgree (client_initial_state opened) (server_initial_state opened) (record { queued_up = HelloFrame ∷ []; up = []; queued_down = []; down = [] })
+totals-first opened = record {
+  hello = refl;
+  calls_up = refl;
+  messages_down = refl;
+  written = refl;
+  out = refl;
+  waiting = refl;
+  whole_up = refl;
+  whole_down = refl;
+  reads = refl;
+  responses = refl;
+}

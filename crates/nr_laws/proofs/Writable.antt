@@ -1,0 +1,131 @@
+-- What can be written as one frame: the numbers of a segment are words, and its payload fits.
+use Rattle.std.proofs.Common.{◌≡◌, ℕ, zero, suc, ◌+◌, ◌*◌, ◌≤◌, ◌<◌, ◌^◌, true, List, [], ◌∷◌, ◌++◌, length, map, drop, refl, arith, lit<, length-append, length-take}
+use Rattle.std.specs.List.{range_with_len}
+use Rattle.nr_xdr.specs.Item.{word, hyper}
+use Rattle.nr_xdr.proofs.WordBytes.{length-word, length-hyper}
+use Rattle.nr_wire.specs.declared.hello.Side.{Side}
+use Rattle.nr_wire.specs.declared.stream.Awaited.TheVariants.{Hello as HelloFrom, Fpdu}
+use Rattle.nr_wire.specs.Segment.{is_tagged_opcode}
+use Rattle.nr_link.specs.Limits.{segment_max}
+use Rattle.nr_link.specs.Output.{msn_word, segment_count}
+use Rattle.nr_laws.specs.FrameContents.{FrameContent, numbered_segment, sends_in, requests_in, hellos_in, total_of, tagged_frame, tagged_frames}
+use Rattle.nr_laws.specs.FrameContents.FrameContent.{HelloFrame, SendFrame, RequestFrame, TaggedFrame}
+use Rattle.nr_laws.proofs.StreamFrames.{IsWritableAs, AreWritableFrom}
+
+abbrev pub IsWritable : FrameContent → Type 0
+IsWritable HelloFrame = ⊥
+IsWritable (SendFrame message) = length message ≤ segment_max
+IsWritable (RequestFrame sink at size stag to) = Unit {0}
+IsWritable (TaggedFrame last opcode stag to payload) = (is_tagged_opcode opcode ≡ true) × (opcode < 16) × (stag < 2 ^ 32) × (to < 2 ^ 64) × (length payload ≤ segment_max)
+
+abbrev pub AreWritable : List FrameContent → Type 0
+AreWritable [] = Unit {0}
+AreWritable (p ∷ ps) = IsWritable p × AreWritable ps
+
+-- the hello and then no other
+abbrev pub IsOutput : List FrameContent → Type 0
+IsOutput [] = Unit {0}
+IsOutput (HelloFrame ∷ ps) = AreWritable ps
+IsOutput (SendFrame message ∷ ps) = ⊥
+IsOutput (RequestFrame sink at size stag to ∷ ps) = ⊥
+IsOutput (TaggedFrame last opcode stag to payload ∷ ps) = ⊥
+
+word_below : (n : ℕ) → msn_word n < 2 ^ 32
+word_below n = omega arith
+
+len_request : (sink at size stag to : ℕ) → length (word sink ++ (hyper at ++ (word size ++ (word stag ++ hyper to)))) ≡ 28
+len_request sink at size stag to =
+    omega (
+      arith,
+      length-append (word sink) (hyper at ++ (word size ++ (word stag ++ hyper to))),
+      length-append (hyper at) (word size ++ (word stag ++ hyper to)),
+      length-append (word size) (word stag ++ hyper to),
+      length-append (word stag) (hyper to),
+      length-word sink,
+      length-hyper at,
+      length-word size,
+      length-word stag,
+      length-hyper to,
+    )
+
+pub proper_one : (n r : ℕ) (p : FrameContent) → IsWritable p → IsWritableAs Fpdu (numbered_segment n r p)
+proper_one n r HelloFrame h = absurd h
+proper_one n r (SendFrame message) h = record { through = (refl, refl); fits = (lit< tt, lit< tt, lit< tt, word_below (n + 1), lit< tt); size = omega (arith, h) }
+proper_one n r (RequestFrame sink at size stag to) h =
+    record { through = (refl, refl); fits = (lit< tt, lit< tt, lit< tt, word_below (r + 1), lit< tt); size = omega (arith, len_request sink at size stag to) }
+proper_one n r (TaggedFrame last opcode stag to payload) h = record { through = h.0; fits = (h.1, h.2, h.3); size = omega (arith, h.4) }
+
+pub all_proper : (n r : ℕ) (ps : List FrameContent) → AreWritable ps → AreWritableFrom Fpdu n r ps
+all_proper n r [] h = tt
+all_proper n r (p ∷ ps) h = (proper_one n r p h.0, all_proper (n + sends_in p) (r + requests_in p) ps h.1)
+
+pub stream_proper : (side : Side) (ps : List FrameContent) → IsOutput ps → AreWritableFrom (HelloFrom side) 0 0 ps
+stream_proper side [] h = tt
+stream_proper side (HelloFrame ∷ ps) h = (tt, all_proper 0 0 ps h)
+stream_proper side (SendFrame message ∷ ps) h = absurd h
+stream_proper side (RequestFrame sink at size stag to ∷ ps) h = absurd h
+stream_proper side (TaggedFrame last opcode stag to payload ∷ ps) h = absurd h
+
+-- ---- Joined, and parts of them
+
+pub all_proper-append : (ps qs : List FrameContent) → AreWritable ps → AreWritable qs → AreWritable (ps ++ qs)
+all_proper-append [] qs h k = k
+all_proper-append (p ∷ ps) qs h k = (h.0, all_proper-append ps qs h.1 k)
+
+pub all_proper-left : (ps qs : List FrameContent) → AreWritable (ps ++ qs) → AreWritable ps
+all_proper-left [] qs h = tt
+all_proper-left (p ∷ ps) qs h = (h.0, all_proper-left ps qs h.1)
+
+all_proper-at : (ps : List FrameContent) (p : FrameContent) (qs : List FrameContent) → AreWritable (ps ++ p ∷ qs) → IsWritable p
+all_proper-at [] p qs h = h.0
+all_proper-at (x ∷ ps) p qs h = all_proper-at ps p qs h.1
+
+pub stream-left : (ps qs : List FrameContent) → IsOutput (ps ++ qs) → IsOutput ps
+stream-left [] qs h = tt
+stream-left (HelloFrame ∷ ps) qs h = all_proper-left ps qs h
+stream-left (SendFrame message ∷ ps) qs h = h
+stream-left (RequestFrame sink at size stag to ∷ ps) qs h = h
+stream-left (TaggedFrame last opcode stag to payload ∷ ps) qs h = h
+
+-- behind a hello more may come
+pub stream-more : (ps qs : List FrameContent) → IsOutput ps → 0 < total_of hellos_in ps → AreWritable qs → IsOutput (ps ++ qs)
+stream-more [] qs h some k = absurd (omega (arith, some))
+stream-more (HelloFrame ∷ ps) qs h some k = all_proper-append ps qs h k
+stream-more (SendFrame message ∷ ps) qs h some k = h
+stream-more (RequestFrame sink at size stag to ∷ ps) qs h some k = h
+stream-more (TaggedFrame last opcode stag to payload ∷ ps) qs h some k = h
+
+-- where none is, nothing is
+pub stream-none : (ps : List FrameContent) → IsOutput ps → total_of hellos_in ps ≡ 0 → ps ≡ []
+stream-none [] h none = refl
+stream-none (HelloFrame ∷ ps) h none = absurd (omega (arith, none))
+stream-none (SendFrame message ∷ ps) h none = absurd h
+stream-none (RequestFrame sink at size stag to ∷ ps) h none = absurd h
+stream-none (TaggedFrame last opcode stag to payload ∷ ps) h none = absurd h
+
+-- the first one is the hello, and each behind it is another
+pub stream-first : (p : FrameContent) (qs : List FrameContent) → IsOutput (p ∷ qs) → p ≡ HelloFrame
+stream-first HelloFrame qs h = refl
+stream-first (SendFrame message) qs h = absurd h
+stream-first (RequestFrame sink at size stag to) qs h = absurd h
+stream-first (TaggedFrame last opcode stag to payload) qs h = absurd h
+
+pub stream-at : (q : FrameContent) (ps : List FrameContent) (p : FrameContent) (qs : List FrameContent) → IsOutput (q ∷ ps ++ p ∷ qs) → IsWritable p
+stream-at HelloFrame ps p qs h = all_proper-at ps p qs h
+stream-at (SendFrame message) ps p qs h = absurd h
+stream-at (RequestFrame sink at size stag to) ps p qs h = absurd h
+stream-at (TaggedFrame last opcode stag to payload) ps p qs h = absurd h
+
+-- ---- Segments of an access
+
+pieces_from : (opcode stag to : ℕ) (bytes : List ℕ) (a n : ℕ) → is_tagged_opcode opcode ≡ true → opcode < 16 → stag < 2 ^ 32 → to < 2 ^ 64 → to + length bytes ≤ 2 ^ 64 → a + n ≤ segment_count bytes
+    → AreWritable (map (tagged_frame opcode stag to bytes) (range_with_len a n))
+pieces_from opcode stag to bytes a zero tagged small stags tos ends le = tt
+pieces_from opcode stag to bytes a (suc n) tagged small stags tos ends le = (
+  (tagged, small, stags, omega (arith, tos, ends, le), omega (arith, length-take segment_max (drop (segment_max * a) bytes))),
+  pieces_from opcode stag to bytes (a + 1) n tagged small stags tos ends (omega (arith, le)),
+)
+
+pub tagged-proper : (opcode stag to : ℕ) (bytes : List ℕ) → is_tagged_opcode opcode ≡ true → opcode < 16 → stag < 2 ^ 32 → to < 2 ^ 64 → to + length bytes ≤ 2 ^ 64 → AreWritable (tagged_frames opcode stag to bytes)
+unfolding tagged_frames
+tagged-proper opcode stag to bytes tagged small stags tos ends = pieces_from opcode stag to bytes 0 (segment_count bytes) tagged small stags tos ends (omega arith)

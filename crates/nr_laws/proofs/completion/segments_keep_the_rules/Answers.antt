@@ -1,0 +1,8 @@
+use Rattle.nr_laws.proofs.FirstEnds.{server-ends-for-calls, client-ends-for-replies}
+use Rattle.nr_laws.proofs.completion.segments_keep_the_rules.Goals as goal
+
+pub returns-clause-server : goal.returns-clause-server
+returns-clause-server c = server-ends-for-calls
+
+pub returns-clause-client : goal.returns-clause-client
+returns-clause-client c = client-ends-for-replies

@@ -1,0 +1,57 @@
+-- Why a side of a matched link ends first.
+use Rattle.std.specs.Prelude.{◌≡◌, ℕ, List, [], None, Some, ◌⊎◌}
+use Rattle.nr_wire.specs.declared.hello.Side.TheVariants.{Initiator, Responder}
+use Rattle.nr_regions.specs.declared.denied.Denied.{Denied}
+use Rattle.nr_link.specs.declared.end.End.{End}
+use Rattle.nr_link.specs.declared.end.End.TheVariants as ends
+use Rattle.nr_link.specs.Reasons.{REASON_HEAD, REASON_XID, REASON_CHUNKS}
+use Rattle.nr_reduce.specs.declared.mark.Mark.{Mark}
+use Rattle.nr_reduce.specs.declared.mark.LinkParameters.{LinkParameters}
+use Rattle.nr_reduce.specs.Opening.{IsOpened}
+use Rattle.nr_reduce.specs.Run.{end_of_side}
+use Rattle.nr_reduce.specs.AtEachMark.{AtEachMark}
+use Rattle.nr_reduce.specs.Credits.{KeepsGrant}
+use Rattle.nr_reduce.specs.Matched.{Matched}
+use Rattle.nr_reduce.specs.Asked.{AskedMark, IsAll}
+use Rattle.nr_reduce.specs.Served.{ServedMark}
+use Rattle.nr_laws.specs.Typed.{IsTyped}
+
+-- both sides of a link keep their laws at each mark: each Wrote writes all output due
+pub record KeepLaws (opened : LinkParameters) (link : ℕ) (run : List Mark) : Type 0 where
+  pub client : AtEachMark (AskedMark IsAll opened link) [] run
+  pub server : AtEachMark (ServedMark IsAll opened link) [] run
+  pub matched : Matched link run
+  pub grant : KeepsGrant opened link run
+
+-- what a server makes of a call may end it for these reasons: a payload without an RPC call head, a head with another xid
+abbrev pub IsCallReason : ℕ → Type 0
+IsCallReason reason = (reason ≡ REASON_HEAD) ⊎ (reason ≡ REASON_XID)
+
+abbrev pub IsCallEnd : End → Type 0
+IsCallEnd end = (at : ℕ) × (reason : ℕ) × (end ≡ ends.Bad at reason) × IsCallReason reason
+
+-- what a client makes of a message may end it for these: lists that weren't offered, a payload without an RPC reply head, a head with
+-- another xid
+abbrev pub IsReplyReason : ℕ → Type 0
+IsReplyReason reason = (reason ≡ REASON_CHUNKS) ⊎ ((reason ≡ REASON_HEAD) ⊎ (reason ≡ REASON_XID))
+
+abbrev pub IsReplyEnd : End → Type 0
+IsReplyEnd end = (at : ℕ) × (reason : ℕ) × (end ≡ ends.Bad at reason) × IsReplyReason reason
+
+-- or an access to its memory is denied
+abbrev pub IsDenied : End → Type 0
+IsDenied end = (stag : ℕ) × (offset : ℕ) × (why : Denied) × (end ≡ ends.Denied stag offset why)
+
+-- On a matched link whose client hasn't ended, the server ends only for what it makes of a call: no segment of the client breaks a rule
+-- of the link, finds no receive, or is denied by the server's memory; each message is of a kind that a client sends, and none has the
+-- xid of a call that is pending.
+abbrev pub ServerEndsForCalls : Type 0
+ServerEndsForCalls = (opened : LinkParameters) (link : ℕ) (run : List Mark) → IsOpened opened → IsTyped run → KeepLaws opened link run →
+    end_of_side opened link Initiator run ≡ None → (end : End) → end_of_side opened link Responder run ≡ Some end → IsCallEnd end
+
+-- On a matched link whose server hasn't ended, the client ends only for what it makes of a message, or for an access that its memory
+-- denies: no segment of the server breaks a rule of the link, each message can be read, and it answers a call that is outstanding and
+-- whose Send is written.
+abbrev pub ClientEndsForReplies : Type 0
+ClientEndsForReplies = (opened : LinkParameters) (link : ℕ) (run : List Mark) → IsOpened opened → IsTyped run → KeepLaws opened link run →
+    end_of_side opened link Responder run ≡ None → (end : End) → end_of_side opened link Initiator run ≡ Some end → IsReplyEnd end ⊎ IsDenied end

@@ -1,0 +1,141 @@
+-- What each frame of a side carries, without the numbers of messages: a hello, a Send of one segment, a Read Request, or one segment
+-- of an RDMA Write or of a Read Response. What a side sends for an event is a list of these.
+use Rattle.std.specs.Prelude.{◌≡◌, ℕ, ◌+◌, ◌*◌, Bool, true, false, ◌==◌, ◌&&◌, if◌then◌else◌, List, [], ◌∷◌, ◌++◌, length, take, drop, map, Option, None, Some, Ok, min}
+use Rattle.std.specs.List.{range_with_len}
+use Rattle.nr_xdr.specs.Item.{word, hyper}
+use Rattle.nr_wire.specs.Constants.{OPCODE_WRITE, OPCODE_READ_REQUEST, OPCODE_READ_RESPONSE, OPCODE_SEND, QUEUE_SEND, QUEUE_READ_REQUEST}
+use Rattle.nr_wire.specs.declared.hello.Side.{Side}
+use Rattle.nr_wire.specs.Segment.{Segment, encoding}
+use Rattle.nr_wire.specs.Segment.Segment.{Tagged, Untagged}
+use Rattle.nr_header.specs.declared.header.RdmaSegment.{RdmaSegment as Part}
+use Rattle.nr_header.specs.declared.header.ChunkLists.{ChunkLists}
+use Rattle.nr_reduce.specs.declared.mark.LinkParameters.{LinkParameters}
+use Rattle.nr_link.specs.Limits.{segment_max}
+use Rattle.nr_link.specs.Output.{segment_count, segment_payload, msn_word, own_hello}
+use Rattle.nr_link.specs.Frames.{Frame, is_hello}
+use Rattle.nr_link.specs.ReceiveState.{ReadRequest}
+use Rattle.nr_link.specs.Ending.{frame_segment}
+use Rattle.nr_reduce.specs.Holds.{Answer, answer_message, chunk_error, first_chunk, no_segments}
+use Rattle.nr_reduce.specs.Plans.{call_message}
+use Rattle.nr_reduce.specs.Events.{Event}
+use Rattle.nr_reduce.specs.Events.Event.{FrameReceived, CallSubmitted, MemoryRevoked, CallExecuted, QueueWritten}
+use Rattle.nr_reduce.specs.ClientState.{ClientState, OutstandingCall, memory_at}
+use Rattle.nr_reduce.specs.Client.{outstanding_of, segment_request}
+use Rattle.nr_reduce.specs.ServerState.{ServerState, PendingRead, down_max, credit_word}
+use Rattle.nr_reduce.specs.ServerFrames.{FrameEffect, frame_effect}
+use Rattle.nr_reduce.specs.Server.{newly_open_reads, offer_of, answer_of_target}
+use Rattle.nr_rpc.specs.Reading.{call_of, target_of}
+
+pub data FrameContent : Type 0 where
+  HelloFrame : FrameContent
+  SendFrame : (message : List ℕ) → FrameContent
+  RequestFrame : (sink at size stag to : ℕ) → FrameContent
+  TaggedFrame : (last : Bool) → (opcode stag to : ℕ) → (payload : List ℕ) → FrameContent
+
+-- ---- How many Sends, Read Requests, last segments of Read Responses, and hellos are among some frames
+
+abbrev pub sends_in : FrameContent → ℕ
+sends_in HelloFrame = 0
+sends_in (SendFrame message) = 1
+sends_in (RequestFrame sink at size stag to) = 0
+sends_in (TaggedFrame last opcode stag to payload) = 0
+
+abbrev pub requests_in : FrameContent → ℕ
+requests_in HelloFrame = 0
+requests_in (SendFrame message) = 0
+requests_in (RequestFrame sink at size stag to) = 1
+requests_in (TaggedFrame last opcode stag to payload) = 0
+
+abbrev pub one_if_response : Bool → ℕ
+one_if_response true = 1
+one_if_response false = 0
+
+-- the last segment of a Read Response
+abbrev pub responses_in : FrameContent → ℕ
+responses_in HelloFrame = 0
+responses_in (SendFrame message) = 0
+responses_in (RequestFrame sink at size stag to) = 0
+responses_in (TaggedFrame last opcode stag to payload) = one_if_response (opcode == OPCODE_READ_RESPONSE && last)
+
+abbrev pub hellos_in : FrameContent → ℕ
+hellos_in HelloFrame = 1
+hellos_in (SendFrame message) = 0
+hellos_in (RequestFrame sink at size stag to) = 0
+hellos_in (TaggedFrame last opcode stag to payload) = 0
+
+abbrev pub total_of : (FrameContent → ℕ) → List FrameContent → ℕ
+total_of one [] = 0
+total_of one (p ∷ ps) = one p + total_of one ps
+
+-- ---- As segments, behind so many Sends and Read Requests of the side: their message numbers go on (RFC 5041 section 4.3)
+
+abbrev pub numbered_segment : (sends requests : ℕ) → FrameContent → Option Segment
+numbered_segment n r HelloFrame = None
+numbered_segment n r (SendFrame message) = Some (Untagged true OPCODE_SEND 0 QUEUE_SEND (msn_word (n + 1)) 0 message)
+numbered_segment n r (RequestFrame sink at size stag to) =
+    Some (Untagged true OPCODE_READ_REQUEST 0 QUEUE_READ_REQUEST (msn_word (r + 1)) 0
+    (word sink ++ (hyper at ++ (word size ++ (word stag ++ hyper to)))))
+numbered_segment n r (TaggedFrame last opcode stag to payload) = Some (Tagged last opcode stag to payload)
+
+abbrev pub frame_bytes : Side → Option Segment → List ℕ
+frame_bytes side None = own_hello side
+frame_bytes side (Some segment) = encoding segment
+
+-- the bytes of some frames
+abbrev pub output_bytes : Side → (sends requests : ℕ) → List FrameContent → List ℕ
+output_bytes side n r [] = []
+output_bytes side n r (p ∷ ps) = frame_bytes side (numbered_segment n r p) ++ output_bytes side (n + sends_in p) (r + requests_in p) ps
+
+-- a frame carries this content: it isn't the hello, and reads as the numbered segment
+pub record Carries (n r : ℕ) (f : Frame) (p : FrameContent) : Type 0 where
+  pub behind : is_hello f ≡ false
+  pub segment : Segment
+  pub is_segment : numbered_segment n r p ≡ Some segment
+  pub reads : frame_segment f ≡ Ok segment
+
+-- ---- What each side sends for an event
+
+abbrev pub tagged_frame : ℕ → ℕ → ℕ → List ℕ → ℕ → FrameContent
+tagged_frame opcode stag to bytes i = TaggedFrame (i + 1 == segment_count bytes) opcode stag (to + segment_max * i) (segment_payload bytes i)
+
+unfoldable pub tagged_frames : (opcode stag to : ℕ) → List ℕ → List FrameContent
+tagged_frames opcode stag to bytes = map (tagged_frame opcode stag to bytes) (range_with_len 0 (segment_count bytes))
+
+abbrev pub call_frame : LinkParameters → OutstandingCall → FrameContent
+call_frame opened o = SendFrame (call_message o.xid opened.wished o.stag o.plan)
+
+abbrev pub response_frames : ClientState → ℕ → Option ReadRequest → List FrameContent
+response_frames k place None = []
+response_frames k place (Some r) = tagged_frames OPCODE_READ_RESPONSE r.sink r.sink_to (take r.size (drop r.to (memory_at k place r.stag)))
+
+unfoldable pub client_frames : LinkParameters → ClientState → Event → List FrameContent
+client_frames opened k (FrameReceived f) = if is_hello f then map (call_frame opened) k.outstanding else response_frames k f.end (segment_request (frame_segment f))
+client_frames opened k (CallSubmitted place a) = if k.has_hello then call_frame opened (outstanding_of k a) ∷ [] else []
+client_frames opened k (MemoryRevoked place xid) = []
+client_frames opened k (CallExecuted call) = []
+client_frames opened k QueueWritten = []
+
+abbrev pub request_frame : PendingRead → FrameContent
+request_frame r = RequestFrame r.sink r.at r.size r.stag r.to
+
+abbrev pub effect_frames : FrameEffect → List FrameContent
+effect_frames s = map SendFrame s.errors ++ map request_frame (newly_open_reads s)
+
+abbrev pub write_frames : List Part → List ℕ → List FrameContent
+write_frames [] bytes = []
+write_frames (s ∷ chunk) bytes =
+    (if min s.length (length bytes) == 0 then [] else tagged_frames OPCODE_WRITE s.handle s.offset (take s.length bytes)) ++ write_frames chunk (drop s.length bytes)
+
+abbrev pub answer_frames : ServerState → ℕ → ChunkLists → Option Answer → List FrameContent
+answer_frames k xid offer None = SendFrame (chunk_error xid (credit_word k)) ∷ []
+answer_frames k xid offer (Some a) =
+    write_frames (first_chunk offer.write) a.moved ++ ((if a.long then write_frames (no_segments offer.reply) a.stream else [])
+    ++ (SendFrame (answer_message xid (credit_word k) offer a) ∷ []))
+
+unfoldable pub server_frames : LinkParameters → ServerState → Event → List FrameContent
+server_frames opened k (FrameReceived f) = if is_hello f then HelloFrame ∷ [] else effect_frames (frame_effect k f)
+server_frames opened k (CallSubmitted place a) = []
+server_frames opened k (MemoryRevoked place xid) = []
+server_frames opened k (CallExecuted e) =
+    answer_frames k e.xid (offer_of k e.xid) (answer_of_target (offer_of k e.xid) (down_max k) e.reply (target_of (call_of e.payload)))
+server_frames opened k QueueWritten = []

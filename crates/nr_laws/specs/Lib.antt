@@ -1,0 +1,10 @@
+pub mod MarkAt
+pub mod Typed
+pub mod Once
+pub mod Grant
+pub mod Touches
+pub mod Places
+pub mod FrameContents
+pub mod LinkInvariants
+pub mod Completion
+pub mod EndCauses

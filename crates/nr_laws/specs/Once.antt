@@ -1,0 +1,33 @@
+-- Nothing is done twice.
+use Rattle.std.specs.Prelude.{◌≡◌, ◌≢◌, ℕ, List, ◌∷◌, ◌++◌, Some}
+use Rattle.nr_reduce.specs.declared.call.Outcome.{Outcome}
+use Rattle.nr_reduce.specs.declared.mark.Moment.{Moment}
+use Rattle.nr_reduce.specs.declared.mark.Mark.{Mark}
+use Rattle.nr_reduce.specs.declared.mark.Mark.TheVariants as marks
+use Rattle.nr_reduce.specs.declared.mark.LinkParameters.{LinkParameters}
+use Rattle.nr_reduce.specs.ServerState.{ReadyCall}
+use Rattle.nr_reduce.specs.Asked.{AskedSoFar}
+use Rattle.nr_reduce.specs.Served.{ServedSoFar, next_call}
+use Rattle.nr_reduce.specs.SoFar.{SoFar}
+use Rattle.nr_laws.specs.MarkAt.{MarkAt}
+use Rattle.nr_laws.specs.Typed.{IsTyped}
+
+-- On every link of which the server keeps its law, whatever its client sends, two Executes are of two Sends: the calls that are
+-- executed have Sends of other numbers.
+abbrev pub NoSendTwice : Type 0
+NoSendTwice = (opened : LinkParameters) (link : ℕ) (run before between : List Mark) (xid yid : ℕ) (moment now : Moment) (payload asked : List ℕ) (place later : ℕ) (reply answer : List ℕ) →
+    ServedSoFar opened link run →
+    MarkAt run (before ++ marks.Execute link xid moment payload place reply ∷ between) (marks.Execute link yid now asked later answer) →
+    (first second : ReadyCall) → next_call opened link before ≡ Some first →
+    next_call opened link (before ++ marks.Execute link xid moment payload place reply ∷ between) ≡ Some second → first.number ≢ second.number
+
+-- On every link of which the client keeps its law, whatever its server sends, two Dones are of two calls.
+abbrev pub NoCallTwice : Type 0
+NoCallTwice = (opened : LinkParameters) (link : ℕ) (run before between : List Mark) (xid yid : ℕ) (outcome other : Outcome) →
+    AskedSoFar opened link run → MarkAt run (before ++ marks.Done link xid outcome ∷ between) (marks.Done link yid other) → xid ≢ yid
+
+-- On a matched link two Executes are of two xids.
+abbrev pub NoXidTwice : Type 0
+NoXidTwice = (opened : LinkParameters) (link : ℕ) (run before between : List Mark) (xid yid : ℕ) (moment now : Moment) (payload asked : List ℕ) (place later : ℕ) (reply answer : List ℕ) →
+    IsTyped run → SoFar opened link run →
+    MarkAt run (before ++ marks.Execute link xid moment payload place reply ∷ between) (marks.Execute link yid now asked later answer) → xid ≢ yid

@@ -1,0 +1,26 @@
+-- Places in the one journal follow what callers see.
+use Rattle.std.specs.Prelude.{ℕ, ◌≤◌, List, ◌∷◌, ◌++◌}
+use Rattle.nr_reduce.specs.declared.call.Call.{Call}
+use Rattle.nr_reduce.specs.declared.call.Form.{Form}
+use Rattle.nr_reduce.specs.declared.call.Outcome.{Outcome}
+use Rattle.nr_reduce.specs.declared.call.Submission.TheVariants as submissions
+use Rattle.nr_reduce.specs.declared.mark.Moment.{Moment}
+use Rattle.nr_reduce.specs.declared.mark.Entry.{Entry}
+use Rattle.nr_reduce.specs.declared.mark.Mark.{Mark}
+use Rattle.nr_reduce.specs.declared.mark.Mark.TheVariants as marks
+use Rattle.nr_reduce.specs.declared.mark.LinkParameters.{LinkParameters}
+use Rattle.nr_reduce.specs.PlainJournal.{any_that_adds}
+use Rattle.nr_reduce.specs.Journal.{Journaled}
+use Rattle.nr_reduce.specs.SoFar.{SoFar}
+use Rattle.nr_laws.specs.MarkAt.{MarkAt}
+use Rattle.nr_laws.specs.Typed.{IsTyped}
+
+-- On matched links, which may be one, a call is submitted after the outcome of another was handed over. Where both are executed, at
+-- whatever time, its place isn't smaller.
+abbrev pub PlacesFollow : Type 0
+PlacesFollow = (adds : Moment → List ℕ → List ℕ → List Entry) (J : List Entry) (one two : LinkParameters) (link other : ℕ) (run before between first second : List Mark)
+    (call : Call) (form : Form) (xid yid : ℕ) (outcome : Outcome) (moment now : Moment) (payload asked : List ℕ) (place later : ℕ) (reply answer : List ℕ) →
+    IsTyped run → SoFar one link run → SoFar two other run → Journaled (any_that_adds adds) J run →
+    MarkAt run (before ++ marks.Done link xid outcome ∷ between) (marks.Submit other call form (submissions.Accepted yid)) →
+    MarkAt run first (marks.Execute link xid moment payload place reply) →
+    MarkAt run second (marks.Execute other yid now asked later answer) → place ≤ later

@@ -1,0 +1,56 @@
+-- A peer accesses only what is offered to it for that access (RFC 5040 section 5).
+use Rattle.std.specs.Prelude.{◌≡◌, ℕ, false, List, ◌∷◌, ◌++◌, None, Some, Ok, ◌⊎◌, Contains}
+use Rattle.nr_wire.specs.declared.hello.Side.TheVariants.{Initiator, Responder}
+use Rattle.nr_wire.specs.Segment.{Segment}
+use Rattle.nr_regions.specs.Access.{Allowed}
+use Rattle.nr_regions.specs.RegisteredMemory.{Access}
+use Rattle.nr_link.specs.declared.end.End.{End}
+use Rattle.nr_link.specs.Frames.{Frame, is_hello}
+use Rattle.nr_link.specs.Ending.{frame_segment, access_of}
+use Rattle.nr_reduce.specs.declared.mark.Mark.{Mark}
+use Rattle.nr_reduce.specs.declared.mark.Mark.TheVariants as marks
+use Rattle.nr_reduce.specs.declared.mark.LinkParameters.{LinkParameters}
+use Rattle.nr_reduce.specs.Events.{Event, events}
+use Rattle.nr_reduce.specs.Events.Event.{FrameReceived}
+use Rattle.nr_reduce.specs.EndRules.{EndState, end_state_after}
+use Rattle.nr_reduce.specs.OfferedRegions.{Region, region_grants}
+use Rattle.nr_reduce.specs.Client.{client_rules, initial_client}
+use Rattle.nr_reduce.specs.Server.{server_rules, initial_server}
+use Rattle.nr_reduce.specs.ClientState.{ClientState}
+use Rattle.nr_reduce.specs.ServerState.{ServerState}
+use Rattle.nr_reduce.specs.Asked.{AskedSoFar, revoked_bytes}
+use Rattle.nr_reduce.specs.Run.{client, server, placed_bytes}
+use Rattle.nr_laws.specs.MarkAt.{MarkAt}
+use Rattle.nr_laws.specs.Typed.{IsTyped}
+
+-- a side that has ended by a frame, and knows what it knew before it
+pub record StopsAt {S : Type 0} (before after : EndState S) : Type 0 where
+  pub end : End
+  pub ended : after.ended ≡ Some end
+  pub same : after.state ≡ before.state
+
+-- On every link, whatever the server sends. The client hasn't ended when a frame is received that would fill or read its memory:
+-- a region that it offers at that frame allows the access, or that frame is where the client stops, and neither it nor any later
+-- one places or discloses anything.
+abbrev pub ClientIsTouched : Type 0
+ClientIsTouched = (opened : LinkParameters) (link : ℕ) (run : List Mark) (earlier later : List Event) (f : Frame) (segment : Segment) (access : Access) →
+    (let before : EndState ClientState = end_state_after (client_rules opened) (initial_client opened) earlier in
+    events link Initiator run ≡ earlier ++ FrameReceived f ∷ later → before.ended ≡ None → is_hello f ≡ false → frame_segment f ≡ Ok segment → access_of segment ≡ Some access →
+    Allowed (region_grants f.end before.state.regions) access f.end ⊎ StopsAt before (client opened link run))
+
+-- the same of the server, whatever the client sends
+abbrev pub ServerIsTouched : Type 0
+ServerIsTouched = (opened : LinkParameters) (link : ℕ) (run : List Mark) (earlier later : List Event) (f : Frame) (segment : Segment) (access : Access) →
+    (let before : EndState ServerState = end_state_after (server_rules opened) (initial_server opened) earlier in
+    events link Responder run ≡ earlier ++ FrameReceived f ∷ later → before.ended ≡ None → is_hello f ≡ false → frame_segment f ≡ Ok segment → access_of segment ≡ Some access →
+    Allowed (region_grants f.end before.state.regions) access f.end ⊎ StopsAt before (server opened link run))
+
+-- the bytes of a Revoke are what the regions of its call held then, and each of these regions holds the same after the run
+pub record StandsStill (opened : LinkParameters) (link : ℕ) (run before : List Mark) (xid : ℕ) (bytes : List ℕ) : Type 0 where
+  pub what_stood : bytes ≡ revoked_bytes opened link before xid
+  pub stands : (r : Region) → Contains (client opened link before).state.regions r → r.call ≡ xid → placed_bytes opened link Initiator run r.stag ≡ placed_bytes opened link Initiator before r.stag
+
+-- On every link, whatever the server sends. What a Revoke gives back is what stood then, and nothing later changes it.
+abbrev pub RevokeStands : Type 0
+RevokeStands = (opened : LinkParameters) (link : ℕ) (run before : List Mark) (xid : ℕ) (bytes : List ℕ) →
+    IsTyped run → AskedSoFar opened link run → MarkAt run before (marks.Revoke link xid bytes) → StandsStill opened link run before xid bytes

@@ -1,0 +1,24 @@
+//! What a link that stays gives to its callers.
+
+ghost use Rattle.nr_laws.specs.Completion.{CallsComplete};
+ghost use Rattle.nr_laws.specs.EndCauses.{ServerEndsForCalls, ClientEndsForReplies};
+
+/// On a matched link of which no side has ended, where each side wrote all its output, each side received all that the
+/// other sent, and no call that is whole waits to be executed: no call is outstanding, since a message of each accepted call
+/// was received. It brought an outcome of each call that wasn't given up; and once all outcomes that are due are handed over,
+/// each of these calls has its Done.
+pub fn calls_complete()
+    ensures { CallsComplete }
+{}
+
+/// Of a matched link that was opened with numbers and credits in range, the side that ends first ends for what the payload of
+/// a message is: a server where it has no RPC call head (RFC 5531 section 9) or one with another xid; a client where it has no
+/// such reply head, another xid, or chunks that aren't those offered, or where an access to its memory is denied. No segment of
+/// either side breaks a rule of the link (RFC 5041 section 7; RFC 5040 section 7): its message number and offset, its form and
+/// its length are right, a Send finds a receive, a Read Response is expected and reaches a sink, and no side has more Read
+/// Requests open than it may. A server has an STag for each read chunk. Each message of the server has a header that can be read
+/// (RFC 8166 section 4), and answers a call that is outstanding.
+pub fn segments_keep_the_rules()
+    ensures server { ServerEndsForCalls }
+    ensures client { ClientEndsForReplies }
+{}

@@ -1,0 +1,11 @@
+//! What holds of every run of both ends of a link: the laws of a caller and of a peer, proved from the definitions alone.
+//!
+//! It stands on `nr_reduce`, whose definitions say which runs are right, and on what that stands on. Nothing of it runs: each
+//! public function has a law as its contract. `docs/LAWS.md` puts each law's sentence beside its premises.
+#![tactic(auto)]
+
+mod completion;
+mod laws;
+
+pub use completion::{calls_complete, segments_keep_the_rules};
+pub use laws::{grant, once, places, touches};
