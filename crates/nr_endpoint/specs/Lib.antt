@@ -1,0 +1,12 @@
+pub mod SendQueue
+pub mod ReceiveQueue
+pub mod LinkState
+pub mod Judging
+pub mod Calls
+pub mod Carriers
+pub mod Receives
+pub mod Counted
+pub mod Staged
+pub mod Views
+pub mod EndpointState
+pub mod Codes

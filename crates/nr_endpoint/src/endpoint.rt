@@ -1,0 +1,196 @@
+//! The endpoint: the peer's stream in pieces, and the calls of its owner.
+
+ghost use Rattle.std.specs.Prelude.{◌≡◌, ◌≢◌, ℕ, ◌+◌, ◌-◌, ◌*◌, ◌^◌, ◌<◌, ◌≤◌, ◌↔◌, [], ◌∷◌, ◌++◌, length, drop, take, None, Some, is_some, Ok, Err, IfOk, OnOk, IfErr, OnErr, IsOk, IsErrAnd, IfSome, List};
+ghost use Rattle.std.specs.Result.{result_err};
+ghost use Rattle.std.specs.Io.KnownBytes.{Appends};
+ghost use Rattle.nr_outside.specs.Faults.{Rises};
+ghost use Rattle.nr_wire.specs.Feeding.{bytes_taken};
+ghost use Rattle.nr_wire.specs.Stream.{bytes_needed};
+ghost use Rattle.nr_regions.specs.RegisteredMemory.{Claim, IsHeld, bytes_in, claim_of, held_region};
+ghost use Rattle.nr_link.specs.declared.end.End.{End};
+ghost use Rattle.nr_link.specs.declared.end.End.TheVariants as ends;
+ghost use Rattle.nr_link.specs.Limits.{send_max, open_reads_max};
+ghost use Rattle.nr_endpoint.specs.SendQueue.{writable};
+ghost use Rattle.nr_endpoint.specs.LinkState.{initial_link, peer};
+ghost use Rattle.nr_endpoint.specs.Calls.{after_call, after_calls, IsStopReason, StandsFor, StandsOn};
+ghost use Rattle.nr_endpoint.specs.Calls.Call.{Feed, FeedOne, OutOfMemory};
+ghost use Rattle.nr_endpoint.specs.EndpointState.{EndpointState, KeepsStaging};
+ghost use Rattle.nr_endpoint.specs.Receives.{HasBuffer};
+ghost use Rattle.nr_endpoint.specs.Views.{notice};
+
+use crate::link::Link;
+use nr_link::End;
+use nr_wire::constants::FPDU_MAX;
+use nr_wire::{Awaited, Side, bytes_needed, whole_frame};
+use nr_xdr::Memory;
+use std::alloc::Global;
+use std::marker::Model;
+
+/// The endpoint of a link.
+#[derive(Drop)]
+pub struct Endpoint {
+    pub(crate) link: Link,
+    pub(crate) awaited: Awaited,
+    pub(crate) staging: Vec<u8>,
+    pub(crate) staged: usize,
+}
+
+impl Model for Endpoint {
+    ghost use Rattle.std.specs.Prelude.{take};
+    ghost use Rattle.nr_endpoint.specs.EndpointState.{EndpointState};
+    ghost use Rattle.nr_endpoint.specs.Codes.{endpoint_code};
+
+    ghost Value = { EndpointState };
+
+    ghost coded = { endpoint_code };
+
+    ghost use Rattle.nr_endpoint.specs.Staged.{IsStaged};
+
+    ghost view = { λ e. record { link = record { awaited = e.awaited; rest = take e.staged e.staging.items; state = e.link }; staging = e.staging.items } };
+
+    ghost invariant = { λ e. IsStaged e.awaited e.link.ended e.staging.items e.staged };
+}
+
+/// The other side of a link.
+fn peer(side: Side) -> Side
+    ensures { result ≡ peer side }
+{
+    match side {
+        Side::Initiator => Side::Responder,
+        Side::Responder => Side::Initiator,
+    }
+}
+
+impl Endpoint {
+    /// A side of a link, with so many receives. The first region gets this STag, which isn't 0.
+    pub fn open(alloc: Global, side: Side, receives: u32, first_stag: u32) -> Result<Endpoint, Memory>
+        requires { 0 < first_stag }
+        ensures state { IfOk result (λ e. e.link ≡ initial_link side receives first_stag) }
+        ensures stands { IfOk result (λ e. StandsFor (initial_link side receives first_stag) [] e.link) }
+    {
+        Ok(Endpoint {
+            link: Link::new(alloc, side, receives, first_stag)?,
+            awaited: Awaited::Hello(peer(side)),
+            staging: vec![in alloc; 0u8; FPDU_MAX]?,
+            staged: 0,
+        })
+    }
+
+    /// Takes a piece of the peer's stream. `Err` where the side has ended, with why. Want of memory ends the side as it was before the frame
+    /// for which it came; the piece was taken up to there.
+    pub fn feed(&mut self, piece: &[u8]) -> Result<(), End>
+        requires { self.old.link.state.place + length self.old.link.rest + length piece.now ≤ 2 ^ 62 }
+        ensures ended { result_err result ≡ self.new.link.state.ended }
+        ensures state { result ≢ Err ends.Memory → self.new.link ≡ after_call self.old.link (Feed piece.now) }
+        ensures stands { result ≢ Err ends.Memory → StandsOn self.old.link (Feed piece.now) self.new.link }
+        ensures memory { result ≡ Err ends.Memory → (n : ℕ) × (self.new.link ≡ after_calls self.old.link (Feed (take n piece.now) ∷ OutOfMemory ∷ [])) }
+        ensures staging { KeepsStaging self.old self.new piece.now }
+    {
+        let mut left = piece;
+        while self.link.ended.is_none() && !left.is_empty() {
+            let taken = self.step(left);
+            left = &left[taken..];
+        }
+        match self.link.ended {
+            None => Ok(()),
+            Some(end) => Err(end),
+        }
+    }
+
+    /// Takes a piece up to the end of the frame that it makes whole, else all of it. `Ok` has the number of bytes taken. `Err` where the
+    /// side has ended, with why. Want of memory ends the side as it was before the frame.
+    pub fn feed_one(&mut self, piece: &[u8]) -> Result<usize, End>
+        requires { self.old.link.state.place + length self.old.link.rest + length piece.now ≤ 2 ^ 62 }
+        ensures ended { result_err result ≡ self.new.link.state.ended }
+        ensures taken { IfOk result (λ n. n ≡ bytes_taken self.old.link.awaited self.old.link.rest piece.now) }
+        ensures state { result ≢ Err ends.Memory → self.new.link ≡ after_call self.old.link (FeedOne piece.now) }
+        ensures stands { result ≢ Err ends.Memory → StandsOn self.old.link (FeedOne piece.now) self.new.link }
+        ensures memory { result ≡ Err ends.Memory → self.new.link ≡ after_call self.old.link OutOfMemory }
+        ensures staging { KeepsStaging self.old self.new piece.now }
+    {
+        if let Some(end) = self.link.ended {
+            return Err(end);
+        }
+        let taken = self.step(piece);
+        match self.link.ended {
+            None => Ok(taken),
+            Some(end) => Err(end),
+        }
+    }
+
+    /// One frame of a piece: judged where it lies, or staged. Answers the bytes taken.
+    fn step(&mut self, piece: &[u8]) -> usize {
+        if self.staged == 0 {
+            return self.step_whole(piece);
+        }
+        let fields = self.stage(piece);
+        let rest = self.stage(&piece[fields..]);
+        self.judge_staged();
+        fields + rest
+    }
+
+    /// No frame is begun.
+    fn step_whole(&mut self, piece: &[u8]) -> usize {
+        match whole_frame(self.awaited, piece) {
+            Some(len) => {
+                let (frame, _) = piece.split_at(len);
+                self.link.judge(self.awaited, frame);
+                self.awaited = Awaited::Fpdu;
+                len
+            }
+            None => self.stage(piece),
+        }
+    }
+
+    /// Stages the next bytes of a piece that the frame needs: those of its length fields, or the rest. Answers how many.
+    fn stage(&mut self, piece: &[u8]) -> usize {
+        let needed = bytes_needed(self.awaited, &self.staging[..self.staged]);
+        let count = needed.min(piece.len());
+        let end = self.staged + count;
+        self.staging.as_mut_slice()[self.staged..end].copy_from_slice(&piece[..count]);
+        self.staged = end;
+        count
+    }
+
+    /// A frame that is staged whole is judged.
+    fn judge_staged(&mut self) {
+        let staged = &self.staging[..self.staged];
+        if whole_frame(self.awaited, staged).is_some() {
+            self.link.judge(self.awaited, staged);
+            self.awaited = Awaited::Fpdu;
+            self.staged = 0;
+        }
+    }
+
+    /// How many bytes the frame that is begun still needs, as far as its length fields are there; where none is begun, those up to the end
+    /// of the next one's length fields. At least 1.
+    pub fn wants(&self) -> usize
+        ensures exact { result ≡ bytes_needed self.now.link.awaited self.now.link.rest }
+        ensures some { 0 < result }
+    {
+        bytes_needed(self.awaited, &self.staging[..self.staged])
+    }
+
+    /// Whether a frame is begun and not whole.
+    pub fn begun(&self) -> bool
+        ensures { result ≡ nat_lt 0 (length self.now.link.rest) }
+    {
+        self.staged > 0
+    }
+
+    /// The staging buffer, of which the first bytes are those of the frame that isn't whole.
+    pub fn staging(&self) -> &[u8]
+        ensures bytes { result.now ≡ self.now.staging }
+        ensures begins { take (length self.now.link.rest) result.now ≡ self.now.link.rest }
+    {
+        self.staging.as_slice()
+    }
+
+    /// How many bytes of the frame that isn't whole are staged. 0 once the side has ended.
+    pub fn staged(&self) -> usize
+        ensures rest { result ≡ length self.now.link.rest }
+        ensures ended { is_some self.now.link.state.ended ≡ true → result ≡ 0 }
+    {
+        self.staged
+    }
+}
