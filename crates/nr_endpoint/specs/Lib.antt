@@ -2,6 +2,7 @@ pub mod SendQueue
 pub mod ReceiveQueue
 pub mod LinkState
 pub mod Judging
+pub mod SegmentEnds
 pub mod Calls
 pub mod Carriers
 pub mod Receives

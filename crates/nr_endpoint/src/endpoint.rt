@@ -1,6 +1,6 @@
 //! The endpoint: the peer's stream in pieces, and the calls of its owner.
 
-ghost use Rattle.std.specs.Prelude.{◌≡◌, ◌≢◌, ℕ, ◌+◌, ◌-◌, ◌*◌, ◌^◌, ◌<◌, ◌≤◌, ◌↔◌, [], ◌∷◌, ◌++◌, length, drop, take, None, Some, is_some, Ok, Err, IfOk, OnOk, IfErr, OnErr, IsOk, IsErrAnd, IfSome, List};
+ghost use Rattle.std.specs.Prelude.{◌≡◌, ◌≢◌, ℕ, ◌+◌, ◌-◌, ◌*◌, ◌^◌, ◌<◌, ◌≤◌, ◌↔◌, [], ◌∷◌, ◌++◌, length, drop, take, None, Some, is_some, Ok, Err, IfOk, OnOk, IfErr, OnErr, IsOk, IsErrAnd, IfSome, List, nat_lt, true};
 ghost use Rattle.std.specs.Result.{result_err};
 ghost use Rattle.std.specs.Io.KnownBytes.{Appends};
 ghost use Rattle.nr_outside.specs.Faults.{Rises};

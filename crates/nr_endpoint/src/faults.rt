@@ -1,15 +1,16 @@
 //! Why a segment ends a side of a link (RFC 5041 section 7; RFC 5040 section 7). The order is own.
 
-ghost use Rattle.std.specs.Prelude.{◌≡◌, ℕ, ◌+◌, ◌^◌, ◌<◌, ◌≤◌, length, Bool, true, false, nat_lt, Some, None};
+ghost use Rattle.std.specs.Prelude.{◌≡◌, ◌+◌, ◌^◌, ◌<◌, ◌≤◌, length, Some};
 ghost use Rattle.nr_wire.specs.Segment.{IsSupported, payload_in};
-ghost use Rattle.nr_wire.specs.Segment.Segment.{Tagged, Untagged};
 ghost use Rattle.nr_wire.specs.View.{segment as plain};
 ghost use Rattle.nr_link.specs.ReceiveState.{read_request_in};
-ghost use Rattle.nr_link.specs.SegmentFaults.{next_msn, next_offset, is_malformed};
+ghost use Rattle.nr_link.specs.declared.end.End.TheVariants as ends;
+ghost use Rattle.nr_link.specs.SegmentFaults.{is_malformed, next_msn, next_offset};
+ghost use Rattle.nr_link.specs.Frames.{Frame};
+ghost use Rattle.nr_endpoint.specs.SegmentEnds.{tagged_end, message_end, send_end, request_end, terminate_end};
 ghost use Rattle.nr_link.specs.Ending.{kind_of};
-ghost use Rattle.nr_endpoint.specs.Judging.{segment_end, next_frame};
+ghost use Rattle.nr_endpoint.specs.Judging.{segment_end};
 ghost use Rattle.nr_endpoint.specs.Views.{read_request_view};
-ghost use Rattle.nr_endpoint.specs.LinkState.{LinkState};
 
 use crate::constants::{
     OPEN_READS_MAX, READ_REQUEST_LEN, REASON_FORM, REASON_LONG, REASON_MSN, REASON_OFFSET,
@@ -18,7 +19,7 @@ use crate::constants::{
 use crate::link::Link;
 use crate::reads::is_expected;
 use nr_link::End;
-use nr_regions::{Denied, Kind};
+use nr_regions::Kind;
 use nr_wire::constants::{
     OPCODE_READ_REQUEST, OPCODE_READ_RESPONSE, OPCODE_SEND, QUEUE_READ_REQUEST, QUEUE_SEND,
 };
@@ -77,6 +78,7 @@ impl Link {
     pub fn fault(&self, segment: &Segment) -> Option<End>
         requires supported { IsSupported (plain segment.now) }
         requires size { length (payload_in (plain segment.now)) < 2 ^ 16 }
+        requires place { self.now.place ≤ 2 ^ 62 }
         ensures { (frame : Frame) → frame.at ≡ self.now.place → result ≡ segment_end self.now frame (plain segment.now) }
     {
         match *segment {
@@ -86,7 +88,7 @@ impl Link {
                 stag,
                 to,
                 payload,
-            } => self.tagged_fault(last, opcode, (stag, to), payload.len() as u64),
+            } => self.tagged_fault(last, opcode, stag, to, payload),
             Segment::Untagged {
                 last,
                 opcode,
@@ -95,15 +97,38 @@ impl Link {
                 offset,
                 payload,
                 ..
-            } => self
-                .message_fault(queue, msn, offset)
-                .or(self.untagged_fault(last, opcode, msn, payload)),
+            } => {
+                let fault = self.message_fault(queue, msn, offset);
+                if fault.is_some() {
+                    return fault;
+                }
+                if opcode == OPCODE_SEND {
+                    return self.send_fault(last, msn, payload);
+                }
+                if opcode == OPCODE_READ_REQUEST {
+                    return self.request_fault(last, payload);
+                }
+                self.terminate_fault(last, payload)
+            }
         }
     }
 
+    /// The end for a reason, at the frame that is judged.
+    fn bad(&self, reason: u32) -> Option<End>
+        ensures { result ≡ Some (ends.Bad self.now.place reason) }
+    {
+        Some(End::Bad {
+            at: self.place,
+            reason,
+        })
+    }
+
     /// An access that isn't allowed, or a Read Response that isn't expected.
-    fn tagged_fault(&self, last: bool, opcode: u8, place: (u32, u64), len: u64) -> Option<End> {
-        let (stag, to) = place;
+    #[tactic(auto, unfolding(crate::specs::SegmentEnds::tagged_end))]
+    fn tagged_fault(&self, last: bool, opcode: u8, stag: u32, to: u64, payload: &[u8]) -> Option<End>
+        ensures { result ≡ tagged_end self.now last opcode stag to payload.now }
+    {
+        let len = payload.len() as u64;
         if let Some(why) = self.regions.denial(kind_of(opcode), stag, to, len) {
             return Some(End::Denied {
                 stag,
@@ -112,71 +137,85 @@ impl Link {
             });
         }
         if opcode == OPCODE_READ_RESPONSE && !is_expected(&self.reads, last, stag, to, len) {
-            return Some(self.bad(REASON_RESPONSE));
+            return self.bad(REASON_RESPONSE);
         }
         None
     }
 
-    /// The end for a reason, at the frame that is judged.
-    fn bad(&self, reason: u32) -> End
-        ensures { result ≡ ends.Bad self.now.place reason }
+    /// The number of the next message of a queue (RFC 5041 section 4.3).
+    fn next_msn(&self, queue: u32) -> u32
+        requires { self.now.place ≤ 2 ^ 62 }
+        ensures { result ≡ next_msn self.now.receive_queue.received queue }
     {
-        End::Bad {
-            at: self.place,
-            reason,
+        let count = if queue == QUEUE_SEND {
+            self.receive_queue.sends()
+        } else if queue == QUEUE_READ_REQUEST {
+            self.receive_queue.requests()
+        } else {
+            return 1;
+        };
+        ((count + 1) % 0x1_0000_0000) as u32
+    }
+
+    /// The next offset in a queue's message.
+    fn next_offset(&self, queue: u32) -> u64
+        ensures { result ≡ next_offset self.now.receive_queue.received queue }
+    {
+        if queue == QUEUE_SEND {
+            self.receive_queue.begun_len()
+        } else {
+            0
         }
     }
 
     /// A message number that isn't the next of its queue, or an offset that isn't the number of bytes of its message so far.
-    fn message_fault(&self, queue: u32, msn: u32, offset: u32) -> Option<End> {
-        let next = match queue {
-            QUEUE_SEND => self.receive_queue.sends() + 1,
-            QUEUE_READ_REQUEST => self.receive_queue.requests() + 1,
-            _ => 1,
-        };
-        if u64::from(msn) != next % 0x1_0000_0000 {
-            return Some(self.bad(REASON_MSN));
+    #[tactic(auto, unfolding(crate::specs::SegmentEnds::message_end))]
+    fn message_fault(&self, queue: u32, msn: u32, offset: u32) -> Option<End>
+        requires { self.now.place ≤ 2 ^ 62 }
+        ensures { result ≡ message_end self.now queue msn offset }
+    {
+        if msn != self.next_msn(queue) {
+            return self.bad(REASON_MSN);
         }
-        let begun = match queue {
-            QUEUE_SEND => self.receive_queue.begun_len(),
-            _ => 0,
-        };
-        if u64::from(offset) != begun {
-            return Some(self.bad(REASON_OFFSET));
+        if u64::from(offset) != self.next_offset(queue) {
+            return self.bad(REASON_OFFSET);
         }
         None
     }
 
-    fn untagged_fault(&self, last: bool, opcode: u8, msn: u32, payload: &[u8]) -> Option<End> {
-        match opcode {
-            OPCODE_SEND => self.send_fault(last, msn, payload),
-            OPCODE_READ_REQUEST => self.request_fault(last, payload),
-            _ => Some(self.terminate_fault(last, payload)),
-        }
-    }
-
     /// A Send that finds no receive, or one that becomes whole and is too long or too short.
-    fn send_fault(&self, last: bool, msn: u32, payload: &[u8]) -> Option<End> {
-        if !self.receive_queue.is_begun() && !self.receive_queue.has_free() {
+    #[tactic(auto, unfolding(crate::specs::SegmentEnds::send_end))]
+    fn send_fault(&self, last: bool, msn: u32, payload: &[u8]) -> Option<End>
+        requires place { self.now.place ≤ 2 ^ 62 }
+        requires size { length payload.now < 2 ^ 16 }
+        ensures { result ≡ send_end self.now last msn payload.now }
+    {
+        if !(self.receive_queue.is_begun() || self.receive_queue.has_free()) {
             return Some(End::NoBuffer { msn });
         }
         let len = self.receive_queue.begun_len() + payload.len() as u64;
         if last && len > SEND_MAX as u64 {
-            return Some(self.bad(REASON_LONG));
+            return self.bad(REASON_LONG);
         }
         if last && len < SEND_MIN {
-            return Some(self.bad(REASON_SHORT));
+            return self.bad(REASON_SHORT);
         }
         None
     }
 
     /// A Read Request of another form, of bytes that the peer may not read, or while too many responses are owed.
-    fn request_fault(&self, last: bool, payload: &[u8]) -> Option<End> {
+    #[tactic(auto, unfolding(crate::specs::SegmentEnds::request_end))]
+    fn request_fault(&self, last: bool, payload: &[u8]) -> Option<End>
+        ensures { result ≡ request_end self.now last payload.now }
+    {
         if is_bad_request(last, payload) {
-            return Some(self.bad(REASON_FORM));
+            return self.bad(REASON_FORM);
         }
         let request = read_request(payload);
-        if let Err(why) = self.regions.fetch(request.stag, request.to, u64::from(request.size)) {
+        let fetched = self
+            .regions
+            .fetch(request.stag, request.to, u64::from(request.size));
+        if let Err(why) = fetched {
             return Some(End::Denied {
                 stag: request.stag,
                 offset: request.to,
@@ -184,18 +223,21 @@ impl Link {
             });
         }
         if self.send_queue.responses() >= OPEN_READS_MAX {
-            return Some(self.bad(REASON_REQUESTS));
+            return self.bad(REASON_REQUESTS);
         }
         None
     }
 
     /// The peer's Terminate, or one of another form.
-    fn terminate_fault(&self, last: bool, payload: &[u8]) -> End {
+    #[tactic(auto, unfolding(crate::specs::SegmentEnds::terminate_end))]
+    fn terminate_fault(&self, last: bool, payload: &[u8]) -> Option<End>
+        ensures { result ≡ terminate_end self.now last payload.now }
+    {
         if !last || payload.len() < TERMINATE_MIN {
             return self.bad(REASON_FORM);
         }
-        End::Terminated {
+        Some(End::Terminated {
             reason: word_at(payload, 0),
-        }
+        })
     }
 }

@@ -1,31 +1,21 @@
 //! One side of a link: what each frame of the peer makes of it.
 
-ghost use Rattle.std.specs.Prelude.{◌≡◌, ℕ, ◌+◌, ◌^◌, ◌<◌, ◌≤◌, ◌⊎◌, length, map, true, false, None, Some, Ok, Err, OnOk, OnErr, IfOk};
+ghost use Rattle.std.specs.Prelude.{◌≡◌, ◌≢◌, ◌+◌, ◌^◌, ◌<◌, ◌≤◌, ◌⊎◌, length, Some, OnOk, OnErr, IfOk};
 ghost use Rattle.nr_wire.specs.Stream.{IsFrame};
-ghost use Rattle.nr_wire.specs.Segment.{IsSupported, Segment as PlainSegment, segment_of};
-ghost use Rattle.nr_wire.specs.Segment.Segment.{Tagged, Untagged};
+ghost use Rattle.nr_wire.specs.Segment.{IsSupported, payload_in, segment_of};
 ghost use Rattle.nr_wire.specs.View.{segment as plain};
 ghost use Rattle.nr_wire.specs.Hello.{hello_of};
 ghost use Rattle.nr_link.specs.declared.end.End.TheVariants as ends;
-ghost use Rattle.nr_link.specs.ReceiveState.{begun_bytes, read_request_in};
-ghost use Rattle.nr_link.specs.SegmentFaults.{next_msn, next_offset};
-ghost use Rattle.nr_endpoint.specs.LinkState.{LinkState, initial_state};
-ghost use Rattle.nr_endpoint.specs.Judging.{segment_end, with_end_of, with_effect, with_segment_by, with_fpdu, with_peer_hello, with_frame, next_frame, behind_frame};
+ghost use Rattle.nr_endpoint.specs.LinkState.{initial_state};
+ghost use Rattle.nr_endpoint.specs.Judging.{segment_end, with_end_of, with_segment_by, with_fpdu, with_peer_hello, with_frame, next_frame};
 
-use crate::constants::{
-    OPEN_READS_MAX, READ_REQUEST_LEN, REASON_FORM, REASON_LONG, REASON_MSN, REASON_OFFSET,
-    REASON_REQUESTS, REASON_RESPONSE, REASON_SHORT, SEND_MAX, SEND_MIN, TERMINATE_MIN,
-};
-use crate::reads::{Reads, advance, is_expected};
+use crate::reads::Reads;
 use crate::receive_queue::ReceiveQueue;
 use crate::send_queue::SendQueue;
 use nr_link::End;
-use nr_regions::{Kind, Regions};
-use nr_wire::constants::{
-    OPCODE_READ_REQUEST, OPCODE_READ_RESPONSE, OPCODE_SEND, QUEUE_READ_REQUEST, QUEUE_SEND,
-};
+use nr_regions::Regions;
 use nr_wire::{Awaited, NextHello, NextSegment, Segment, Side, next_segment, read_hello};
-use nr_xdr::{Memory, word_at};
+use nr_xdr::Memory;
 use std::alloc::Global;
 use std::marker::Model;
 
@@ -163,17 +153,15 @@ impl Link {
     /// A segment of the peer, which this frame holds.
     fn receive(&mut self, segment: &Segment, frame: &[u8]) -> Result<(), Memory>
         requires supported { IsSupported (plain segment.now) }
-        requires size { length (payload_in (plain segment.now)) ≤ length frame.now }
+        requires payload { length (payload_in (plain segment.now)) < 2 ^ 16 }
+        requires size { length (payload_in (plain segment.now)) + 1 ≤ length frame.now }
         requires within { self.old.place + length frame.now ≤ 2 ^ 62 }
         ensures ok { OnOk result (self.new ≡ with_segment_by (next_frame self.old frame.now) (plain segment.now) (segment_end self.old (next_frame self.old frame.now) (plain segment.now)) self.old) }
         ensures err { OnErr result (self.new ≡ self.old) }
     {
-        if let Some(end) = self.fault(segment) {
-            return self.end_with(end);
+        match self.fault(segment) {
+            Some(end) => self.end_with(end),
+            None => self.take(segment, frame),
         }
-        self.take(segment)?;
-        self.last = self.place;
-        self.place += frame.len() as u64;
-        Ok(())
     }
 }
