@@ -1,1 +1,2 @@
 pub mod FaultList
+pub mod Standing

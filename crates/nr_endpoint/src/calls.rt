@@ -16,11 +16,9 @@ ghost use Rattle.nr_endpoint.specs.EndpointState.{EndpointState};
 ghost use Rattle.nr_endpoint.specs.Receives.{HasBuffer};
 ghost use Rattle.nr_endpoint.specs.Views.{notice};
 
-use crate::constants::{OPEN_READS_MAX, SEND_MAX};
 use crate::endpoint::Endpoint;
 use crate::event::Event;
 use crate::fault::{DrainFault, ReadRefused};
-use crate::reads::OpenRead;
 use nr_link::End;
 use nr_outside::Sink;
 use nr_regions::{Registration, Regions, Right, Why};
@@ -37,7 +35,7 @@ impl Endpoint {
         ensures stands { is_some result ≡ true → StandsOn self.old.link NextEvent self.new.link }
         ensures staging { self.new.staging ≡ self.old.staging }
     {
-        self.link.receive_queue.next_event()
+        self.link.next_event()
     }
 
     /// A buffer that an event lent is a receive again. Takes no memory.
@@ -48,7 +46,7 @@ impl Endpoint {
         ensures stands { StandsOn self.old.link Post self.new.link }
         ensures staging { self.new.staging ≡ self.old.staging }
     {
-        self.link.receive_queue.post(buf);
+        self.link.post(buf);
     }
 
     /// Ends the side for what the layer above made of a message: `Bad` at the last whole frame, with one Terminate queued; or `Memory`, where
@@ -80,10 +78,7 @@ impl Endpoint {
         ensures err { OnErr result (self.new.link ≡ self.old.link) }
         ensures staging { self.new.staging ≡ self.old.staging }
     {
-        if self.link.ended.is_some() {
-            return Ok(());
-        }
-        self.link.send_queue.send(message)
+        self.link.send(message)
     }
 
     /// Queues an RDMA Write of some bytes into the peer's region, from byte `to` on. Where the side has ended, it queues nothing. An `Err`
@@ -95,10 +90,7 @@ impl Endpoint {
         ensures err { OnErr result (self.new.link ≡ self.old.link) }
         ensures staging { self.new.staging ≡ self.old.staging }
     {
-        if self.link.ended.is_some() {
-            return Ok(());
-        }
-        self.link.send_queue.write(stag, to, bytes)
+        self.link.write_remote(stag, to, bytes)
     }
 
     /// Queues a Read Request for `len` bytes of the peer's region, from byte `to` on, into an own region, from byte `at` on. `Full` exactly
@@ -120,25 +112,7 @@ impl Endpoint {
         ensures err { OnErr result (self.new.link ≡ self.old.link) }
         ensures staging { self.new.staging ≡ self.old.staging }
     {
-        if self.link.reads.is_full() {
-            return Err(ReadRefused::Full {
-                reads: OPEN_READS_MAX as u32,
-            });
-        }
-        if self.link.ended.is_some() {
-            return Ok(());
-        }
-        let sink = registration.stag();
-        self.link.receive_queue.make_room()?;
-        self.link
-            .send_queue
-            .request(sink, at, len as u32, stag, to)?;
-        self.link.reads.push(OpenRead {
-            sink,
-            at,
-            end: at + len,
-        });
-        Ok(())
+        self.link.read_remote(registration, at, stag, to, len)
     }
 
     /// Hands the output to a sink, in order: for `Ok` all that may be written, else some of it from the front, and the rest stays.
@@ -152,9 +126,7 @@ impl Endpoint {
         ensures never_falls { K.faults sink.old ≤ K.faults sink.new }
         ensures staging { self.new.staging ≡ self.old.staging }
     {
-        self.link
-            .send_queue
-            .drain_into(self.link.has_hello, sink)?;
+        self.link.drain_into(sink)?;
         Ok(())
     }
 
@@ -170,7 +142,7 @@ impl Endpoint {
         ensures err { OnErr result (self.new.link ≡ self.old.link) }
         ensures staging { self.new.staging ≡ self.old.staging }
     {
-        self.link.regions.register(buf, right)
+        self.link.register(buf, right)
     }
 
     /// Returns a region's buffer with its present content. From then on its STag is invalid. Takes no memory.
@@ -182,7 +154,7 @@ impl Endpoint {
         ensures stands { StandsOn self.old.link (Release registration.stag) self.new.link }
         ensures staging { self.new.staging ≡ self.old.staging }
     {
-        self.link.regions.release(registration)
+        self.link.release(registration)
     }
 
     /// The regions.

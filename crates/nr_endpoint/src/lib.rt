@@ -22,6 +22,7 @@ mod fault;
 mod faults;
 mod framing;
 mod link;
+mod operations;
 mod reads;
 mod receive_queue;
 mod send_queue;
