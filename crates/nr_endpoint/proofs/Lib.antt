@@ -1,0 +1,3 @@
+pub mod ReceiveQueueBuffers
+pub mod ReceiveQueueBytes
+pub mod ReceiveQueueSteps
