@@ -10,15 +10,12 @@ ghost use Rattle.nr_endpoint.specs.ReceiveQueue.{initial_receives, kept_bytes, w
 ghost use Rattle.nr_endpoint.specs.Views.{notice, begun_send, begun as begun_bytes_of};
 ghost use Rattle.nr_endpoint.specs.Receives.{IsReceive, HasBuffer};
 
-use crate::constants::SEND_MAX;
+use crate::constants::{OPEN_READS_MAX, SEND_MAX};
 use crate::event::Event;
 use nr_xdr::{Memory, Octets};
 use std::alloc::Global;
 use std::collections::VecDeque;
 use std::marker::Model;
-
-/// How many events have room from the start beyond one for each receive.
-const SPARE_EVENTS: usize = 8;
 
 /// A Send that is begun: its receive buffer, and how many bytes came. Those beyond the buffer are counted and not kept.
 #[derive(Drop)]
@@ -27,7 +24,7 @@ pub struct BegunSend {
     pub len: u64,
 }
 
-/// The receives, and what came in untagged messages.
+/// The receives, and what came in untagged messages. Of the `receives`, `lent` are with the owner.
 #[derive(Drop)]
 pub struct ReceiveQueue {
     sends: u64,
@@ -127,12 +124,12 @@ fn extend(begun: &mut BegunSend, payload: &[u8])
 }
 
 impl ReceiveQueue {
-    /// So many receives, all free, and room for what they may tell.
+    /// So many receives, all free, and room for the event of each receive and of each Read Request that may be open.
     pub fn new(alloc: Global, receives: u32) -> Result<ReceiveQueue, Memory>
         ensures { IfOk result (λ q. q ≡ initial_receives receives) }
     {
         let receives = receives as usize;
-        let events = VecDeque::with_capacity(alloc, receives + SPARE_EVENTS)?;
+        let events = VecDeque::with_capacity(alloc, receives + OPEN_READS_MAX)?;
         let mut free = Vec::with_capacity(alloc, receives)?;
         fill(&mut free, alloc, receives)?;
         Ok(ReceiveQueue {
@@ -271,8 +268,9 @@ impl ReceiveQueue {
         Ok(())
     }
 
-    /// The next event.
+    /// The next event; `None` exactly where none waits. Takes no memory.
     pub fn next_event(&mut self) -> Option<Event>
+        ensures waits { is_some result ≡ nat_lt 0 (length self.old.notices) }
         ensures event { self.old.notices ≡ option_to_list (option_map notice result) ++ self.new.notices }
         ensures after { self.new ≡ (if is_some result then told self.old else self.old) }
         ensures buffer { IfSome result HasBuffer }
@@ -284,7 +282,7 @@ impl ReceiveQueue {
         Some(event)
     }
 
-    /// A buffer is a receive again.
+    /// A buffer is a receive again. Takes no memory.
     pub fn post(&mut self, buf: Octets)
         requires lent { 0 < self.old.lent }
         requires len { length buf ≡ send_max }
