@@ -1,2 +1,5 @@
 pub mod FaultList
 pub mod Standing
+pub mod ReceiveQueueBuffers
+pub mod ReceiveQueueBytes
+pub mod ReceiveQueueSteps

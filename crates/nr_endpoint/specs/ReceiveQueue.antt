@@ -65,3 +65,18 @@ told q = record q { lent = q.lent + lent_for q.notices; notices = drop 1 q.notic
 
 abbrev pub posted : ReceiveQueue → ReceiveQueue
 posted q = record q { free = q.free + 1; lent = q.lent - 1 }
+
+-- how many Sends are begun, and how many of the notices are of messages
+abbrev pub sends_begun : Option (List ℕ) → ℕ
+sends_begun None = 0
+sends_begun (Some bytes) = 1
+
+abbrev pub messages_in : List Notice → ℕ
+messages_in [] = 0
+messages_in (MessageReceived bytes ∷ notices) = 1 + messages_in notices
+messages_in (ReadDone ∷ notices) = messages_in notices
+
+-- How many receive buffers are kept, each of send_max bytes: those of the free receives, that of a begun Send, and those of the
+-- messages that the owner wasn't told yet. A receive that is lent isn't kept.
+abbrev pub receives_kept : ReceiveQueue → ℕ
+receives_kept q = q.free + (sends_begun q.received.begun + messages_in q.notices)

@@ -43,6 +43,7 @@ pub fn advance(reads: &mut Reads, last: bool, stag: u32, to: u64, n: u64)
     if last {
         reads.remove(0);
     } else {
-        reads.as_mut_slice()[0].at += n;
+        let read = reads.as_slice()[0];
+        reads.as_mut_slice()[0].at = read.at + n;
     }
 }
