@@ -107,8 +107,8 @@ received_code =
 
 abbrev pub receive_queue_code : Coded ReceiveQueue
 receive_queue_code =
-    code_by (ReceiveState × (ℕ × (ℕ × List Notice))) (coded× received_code (coded× coded_ℕ (coded× coded_ℕ (coded_list notice_code)))) (λ q. (q.received, (q.free, (q.lent, q.notices))))
-    (λ p. record { received = p.0; free = p.1.0; lent = p.1.1.0; notices = p.1.1.1 }) (λ _. refl)
+    code_by (ℕ × (ReceiveState × (ℕ × (ℕ × List Notice)))) (coded× coded_ℕ (coded× received_code (coded× coded_ℕ (coded× coded_ℕ (coded_list notice_code))))) (λ q. (q.receives, (q.received, (q.free, (q.lent, q.notices)))))
+    (λ p. record { receives = p.0; received = p.1.0; free = p.1.1.0; lent = p.1.1.1.0; notices = p.1.1.1.1 }) (λ _. refl)
 
 abbrev pub send_queue_code : Coded SendQueue
 send_queue_code =

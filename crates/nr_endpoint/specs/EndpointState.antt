@@ -1,9 +1,12 @@
 -- What contracts see of an endpoint: its side of the link, and the whole staging buffer, which begins with the bytes of the frame
 -- that isn't whole.
-use Rattle.std.specs.Prelude.{◌≡◌, ℕ, ◌+◌, ◌≤◌, min, max, List, [], ◌∷◌, ◌++◌, length, take, drop}
+use Rattle.std.specs.Prelude.{◌≡◌, ℕ, ◌+◌, ◌*◌, ◌≤◌, min, max, List, [], ◌∷◌, ◌++◌, length, take, drop}
 use Rattle.nr_wire.specs.declared.stream.Awaited.{Awaited}
 use Rattle.nr_wire.specs.Stream.{is_whole, frame_len}
-use Rattle.nr_endpoint.specs.LinkState.{Link}
+use Rattle.nr_regions.specs.RegisteredMemory.{bytes_held}
+use Rattle.nr_link.specs.Limits.{send_max}
+use Rattle.nr_endpoint.specs.ReceiveQueue.{receives_kept}
+use Rattle.nr_endpoint.specs.LinkState.{LinkState, Link}
 
 pub record EndpointState : Type 0 where
   pub link : Link
@@ -21,3 +24,11 @@ pub record KeepsStaging (before after : EndpointState) (piece : List ℕ) : Type
   pub others : drop (max (length after.link.rest) (cut_frame_len before.link.awaited before.link.rest piece)) after.staging
       ≡ drop (max (length after.link.rest) (cut_frame_len before.link.awaited before.link.rest piece)) before.staging
   pub len : length after.staging ≡ length before.staging
+
+-- How many bytes the vectors of a side have: its receives that are not lent, its regions, its output; and with the staging buffer.
+abbrev pub bytes_of : LinkState → ℕ
+bytes_of s =
+    send_max * receives_kept s.receive_queue + bytes_held s.memory + (length s.send_queue.hello + length s.send_queue.fpdus)
+
+abbrev pub bytes_kept : EndpointState → ℕ
+bytes_kept e = length e.staging + bytes_of e.link.state

@@ -11,16 +11,17 @@ pub data Notice : Type 0 where
   MessageReceived : (bytes : List ℕ) → Notice
   ReadDone : Notice
 
--- The untagged messages so far. How many receives are free. How many messages were taken whose receive wasn't posted again. What
+-- How many receives the side was opened with. The untagged messages so far. How many receives are free. How many messages were taken whose receive wasn't posted again. What
 -- the owner wasn't told yet, in order.
 pub record ReceiveQueue : Type 0 where
+  pub receives : ℕ
   pub received : ReceiveState
   pub free : ℕ
   pub lent : ℕ
   pub notices : List Notice
 
 abbrev pub initial_receives : ℕ → ReceiveQueue
-initial_receives receives = record { received = nothing_received; free = receives; lent = 0; notices = [] }
+initial_receives receives = record { receives = receives; received = nothing_received; free = receives; lent = 0; notices = [] }
 
 -- Of a Send that is longer than its receive the bytes beyond it are counted and not kept: they stand here as zeros.
 abbrev pub kept_bytes : List ℕ → List ℕ
@@ -45,6 +46,7 @@ message_notices (Some message) = MessageReceived message ∷ []
 -- after one more segment
 unfoldable pub with_segment : Segment → ReceiveQueue → ReceiveQueue
 with_segment segment q = record {
+  receives = q.receives;
   received = kept (received_after q.received segment);
   free = if takes_receive q.received segment then q.free - 1 else q.free;
   lent = q.lent;

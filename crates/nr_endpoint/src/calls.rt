@@ -1,6 +1,6 @@
 //! The calls of an endpoint's owner.
 
-ghost use Rattle.std.specs.Prelude.{◌≡◌, ◌≢◌, ℕ, ◌+◌, ◌-◌, ◌*◌, ◌^◌, ◌<◌, ◌≤◌, ◌↔◌, [], ◌∷◌, ◌++◌, length, drop, take, None, Some, is_some, Ok, Err, IfOk, OnOk, IfErr, OnErr, IsOk, IsErrAnd, IfSome, List, option_to_list, option_map, if◌then◌else◌, true};
+ghost use Rattle.std.specs.Prelude.{◌≡◌, ◌≢◌, ℕ, ◌+◌, ◌-◌, ◌*◌, ◌^◌, ◌<◌, ◌≤◌, ◌↔◌, [], ◌∷◌, ◌++◌, length, drop, take, None, Some, is_some, Ok, Err, IfOk, OnOk, IfErr, OnErr, IsOk, IsErrAnd, IfSome, List, option_to_list, option_map, if◌then◌else◌, true, nat_lt};
 ghost use Rattle.std.specs.Io.KnownBytes.{Appends};
 ghost use Rattle.nr_outside.specs.Faults.{Rises};
 ghost use Rattle.nr_regions.specs.RegisteredMemory.{Claim, IsHeld, bytes_in, bytes_held, claim_of, held_region};
@@ -12,7 +12,8 @@ ghost use Rattle.nr_endpoint.specs.declared.fault.DrainFault.TheVariants as drai
 ghost use Rattle.nr_endpoint.specs.SendQueue.{writable};
 ghost use Rattle.nr_endpoint.specs.Calls.{after_call, IsStopReason, StandsOn};
 ghost use Rattle.nr_endpoint.specs.Calls.Call.{NextEvent, Post, Stop, OutOfMemory, Send, WriteRemote, ReadRemote, Drain, Register, Release};
-ghost use Rattle.nr_endpoint.specs.EndpointState.{EndpointState};
+ghost use Rattle.nr_endpoint.specs.EndpointState.{bytes_kept};
+ghost use Rattle.nr_wire.specs.Constants.{FPDU_MAX};
 ghost use Rattle.nr_endpoint.specs.Receives.{HasBuffer};
 ghost use Rattle.nr_endpoint.specs.Views.{notice};
 
@@ -22,7 +23,6 @@ use crate::fault::{DrainFault, ReadRefused};
 use nr_link::End;
 use nr_outside::Sink;
 use nr_regions::{Registration, Regions, Right, Why};
-use nr_wire::constants::FPDU_MAX;
 use nr_xdr::{Memory, Octets};
 
 impl Endpoint {
@@ -30,6 +30,7 @@ impl Endpoint {
     pub fn next_event(&mut self) -> Option<Event>
         // The events are told in order.
         ensures event { self.old.link.state.receive_queue.notices ≡ option_to_list (option_map notice result) ++ self.new.link.state.receive_queue.notices }
+        ensures waits { is_some result ≡ nat_lt 0 (length self.old.link.state.receive_queue.notices) }
         ensures buffer { IfSome result HasBuffer }
         ensures state { self.new.link ≡ (if is_some result then after_call self.old.link NextEvent else self.old.link) }
         ensures stands { is_some result ≡ true → StandsOn self.old.link NextEvent self.new.link }
@@ -178,10 +179,12 @@ impl Endpoint {
         self.link.ended
     }
 
-    /// The bytes of all vectors that are kept: receives, regions, output and staging.
+    /// How many bytes all vectors have that are kept: the staging buffer, the receives that are not lent, the regions, and the output.
     pub fn held(&self) -> u128
-        ensures bound { result ≤ FPDU_MAX + send_max * self.now.link.state.receive_queue.free }
+        ensures is { result ≡ bytes_kept self.now }
+        ensures bound { result ≤ FPDU_MAX + send_max * self.now.link.state.receive_queue.receives + bytes_held self.now.link.state.memory
+            + length self.now.link.state.send_queue.hello + length self.now.link.state.send_queue.fpdus }
     {
-        0
+        self.staging.len() as u128 + self.link.held()
     }
 }

@@ -1,18 +1,19 @@
 //! What the owner of a side does with it.
 
-ghost use Rattle.std.specs.Prelude.{◌≡◌, ◌+◌, ◌^◌, ◌<◌, ◌≤◌, ◌↔◌, [], ◌∷◌, ◌++◌, ℕ, length, take, is_some, if◌then◌else◌, IfOk, OnOk, IfErr, OnErr, IsErrAnd, IfSome, MatchResult, option_map, option_to_list};
+ghost use Rattle.std.specs.Prelude.{◌≡◌, ◌+◌, ◌*◌, ◌^◌, ◌<◌, ◌≤◌, ◌↔◌, [], ◌∷◌, ◌++◌, ℕ, length, take, is_some, nat_lt, if◌then◌else◌, IfOk, OnOk, IfErr, OnErr, IsErrAnd, IfSome, MatchResult, option_map, option_to_list};
 ghost use Rattle.std.specs.Io.KnownBytes.{Appends};
 ghost use Rattle.nr_outside.specs.Faults.{Rises};
-ghost use Rattle.nr_regions.specs.RegisteredMemory.{IsHeld, after_register, after_release, bytes_in, claim_of, held_region};
+ghost use Rattle.nr_regions.specs.RegisteredMemory.{IsHeld, after_register, after_release, bytes_held, bytes_in, claim_of, held_region};
 ghost use Rattle.nr_link.specs.Limits.{send_max, open_reads_max};
 ghost use Rattle.nr_endpoint.specs.declared.fault.ReadRefused.TheVariants as refusals;
 ghost use Rattle.nr_endpoint.specs.SendQueue.{with_send, with_write, with_request, writable, written};
 ghost use Rattle.nr_endpoint.specs.ReceiveQueue.{told, posted};
+ghost use Rattle.nr_endpoint.specs.EndpointState.{bytes_of};
 ghost use Rattle.nr_endpoint.specs.Calls.{unless_ended};
 ghost use Rattle.nr_endpoint.specs.Receives.{HasBuffer};
 ghost use Rattle.nr_endpoint.specs.Views.{notice};
 
-use crate::constants::OPEN_READS_MAX;
+use crate::constants::{OPEN_READS_MAX, SEND_MAX};
 use crate::event::Event;
 use crate::fault::ReadRefused;
 use crate::link::Link;
@@ -24,6 +25,7 @@ use nr_xdr::{Memory, Octets};
 impl Link {
     pub fn next_event(&mut self) -> Option<Event>
         ensures event { self.old.receive_queue.notices ≡ option_to_list (option_map notice result) ++ self.new.receive_queue.notices }
+        ensures waits { is_some result ≡ nat_lt 0 (length self.old.receive_queue.notices) }
         ensures buffer { IfSome result HasBuffer }
         ensures after { self.new ≡ (if is_some result then record self.old { receive_queue = told self.old.receive_queue } else self.old) }
     {
@@ -125,5 +127,15 @@ impl Link {
         ensures state { self.new ≡ record self.old { memory = after_release self.old.memory registration.stag } }
     {
         self.regions.release(registration)
+    }
+
+    /// How many bytes the vectors of a side have.
+    pub fn held(&self) -> u128
+        ensures is { result ≡ bytes_of self.now }
+        ensures bound { result ≤ send_max * self.now.receive_queue.receives + bytes_held self.now.memory
+            + length self.now.send_queue.hello + length self.now.send_queue.fpdus }
+    {
+        let receives = self.receive_queue.buffers() as u128 * SEND_MAX as u128;
+        receives + self.regions.bytes_held() + self.send_queue.len() as u128
     }
 }

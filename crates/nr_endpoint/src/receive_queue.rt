@@ -48,7 +48,7 @@ impl Model for ReceiveQueue {
     ghost use Rattle.nr_endpoint.specs.Views.{begun as begun_bytes_of, notices};
     ghost use Rattle.nr_endpoint.specs.Receives.{AreReceives};
 
-    ghost view = { λ q. record { received = record { sends = q.sends; begun = begun_bytes_of q.begun; requests = q.requests }; free = length q.free.items; lent = q.lent; notices = notices q.events.items } };
+    ghost view = { λ q. record { receives = q.receives; received = record { sends = q.sends; begun = begun_bytes_of q.begun; requests = q.requests }; free = length q.free.items; lent = q.lent; notices = notices q.events.items } };
 
     ghost invariant = { λ q. AreReceives q.free.items q.begun q.events.items q.lent q.receives (vec_capacity q.free) };
 }
@@ -294,7 +294,8 @@ impl ReceiveQueue {
 
     /// How many receive buffers are kept: all but those that are lent.
     pub fn buffers(&self) -> usize
-        ensures { result ≡ receives_kept self.now }
+        ensures kept { result ≡ receives_kept self.now }
+        ensures most { result ≤ self.now.receives }
     {
         self.receives - self.lent
     }
