@@ -23,7 +23,7 @@ use crate::fault::{DrainFault, ReadRefused};
 use crate::reads::OpenRead;
 use nr_link::End;
 use nr_outside::Sink;
-use nr_regions::{Registration, Regions, Right, Why};
+use nr_regions::{Regions, Registration, Right, Why};
 use nr_wire::constants::FPDU_MAX;
 use nr_xdr::{Memory, Octets};
 
@@ -152,9 +152,7 @@ impl Endpoint {
         ensures never_falls { K.faults sink.old ≤ K.faults sink.new }
         ensures staging { self.new.staging ≡ self.old.staging }
     {
-        self.link
-            .send_queue
-            .drain_into(self.link.has_hello, sink)?;
+        self.link.send_queue.drain_into(self.link.has_hello, sink)?;
         Ok(())
     }
 

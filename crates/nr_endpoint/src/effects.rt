@@ -8,8 +8,8 @@ ghost use Rattle.nr_endpoint.specs.Judging.{segment_end, with_effect, next_frame
 use crate::faults::{kind_of, read_request};
 use crate::link::Link;
 use crate::reads::advance;
-use nr_wire::constants::{OPCODE_READ_REQUEST, OPCODE_READ_RESPONSE, OPCODE_SEND};
 use nr_wire::Segment;
+use nr_wire::constants::{OPCODE_READ_REQUEST, OPCODE_READ_RESPONSE, OPCODE_SEND};
 use nr_xdr::Memory;
 
 impl Link {
@@ -83,7 +83,9 @@ impl Link {
             .regions
             .fetch(request.stag, request.to, u64::from(request.size))
         {
-            Ok(bytes) => self.send_queue.respond(request.sink, request.sink_to, bytes),
+            Ok(bytes) => self
+                .send_queue
+                .respond(request.sink, request.sink_to, bytes),
             Err(_) => unreachable!(),
         }
     }

@@ -176,7 +176,10 @@ impl Link {
             return Some(self.bad(REASON_FORM));
         }
         let request = read_request(payload);
-        if let Err(why) = self.regions.fetch(request.stag, request.to, u64::from(request.size)) {
+        if let Err(why) = self
+            .regions
+            .fetch(request.stag, request.to, u64::from(request.size))
+        {
             return Some(End::Denied {
                 stag: request.stag,
                 offset: request.to,

@@ -60,8 +60,7 @@ fn receive_buffer(alloc: Global) -> Result<Octets, Memory>
 }
 
 /// Puts so many receive buffers into a vector with room for them.
-fn fill(free: &mut Vec<Octets>, alloc: Global, receives: usize) -> Result<(), Memory>
-{
+fn fill(free: &mut Vec<Octets>, alloc: Global, receives: usize) -> Result<(), Memory> {
     for _ in 0..receives {
         free.push(receive_buffer(alloc)?)?;
     }
@@ -131,7 +130,15 @@ impl ReceiveQueue {
     }
 
     /// One more segment of a Send, which is begun or finds a receive, and fits it where it becomes whole. An `Err` changes nothing.
-    pub fn receive(&mut self, last: bool, word: u32, queue: u32, msn: u32, offset: u32, payload: &[u8]) -> Result<(), Memory>
+    pub fn receive(
+        &mut self,
+        last: bool,
+        word: u32,
+        queue: u32,
+        msn: u32,
+        offset: u32,
+        payload: &[u8],
+    ) -> Result<(), Memory>
         requires receive { is_begun self.old.received.begun ≡ false → 0 < self.old.free }
         requires fits { last ≡ true → length (begun_bytes self.old.received.begun) + length payload.now ≤ send_max }
         requires count { self.old.received.sends < 2 ^ 63 }
@@ -164,7 +171,15 @@ impl ReceiveQueue {
     }
 
     /// One more Read Request.
-    pub fn count_request(&mut self, last: bool, word: u32, queue: u32, msn: u32, offset: u32, payload: &[u8])
+    pub fn count_request(
+        &mut self,
+        last: bool,
+        word: u32,
+        queue: u32,
+        msn: u32,
+        offset: u32,
+        payload: &[u8],
+    )
         requires { self.old.received.requests < 2 ^ 63 }
         ensures { self.new ≡ with_segment (Untagged last OPCODE_READ_REQUEST word queue msn offset payload.now) self.old }
     {
@@ -212,8 +227,7 @@ impl ReceiveQueue {
     }
 
     /// How many receive buffers are kept: all but those that are lent.
-    pub fn buffers(&self) -> usize
-    {
+    pub fn buffers(&self) -> usize {
         self.free.len() + usize::from(self.begun.is_some()) + self.events.len()
     }
 }

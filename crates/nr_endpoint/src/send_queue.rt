@@ -17,7 +17,9 @@ use bytes::BytesMut;
 use nr_link::End;
 use nr_outside::{Failed, Sink};
 use nr_regions::Denied;
-use nr_wire::constants::{FLAG_REJECT, OPCODE_READ_REQUEST, QUEUE_READ_REQUEST, REASON_FLAGS, REASON_PRIVATE};
+use nr_wire::constants::{
+    FLAG_REJECT, OPCODE_READ_REQUEST, QUEUE_READ_REQUEST, REASON_FLAGS, REASON_PRIVATE,
+};
 use nr_wire::{Hello, Segment, Side, write_hello};
 use nr_xdr::{Memory, Octets, Writer};
 use std::alloc::Global;
@@ -67,7 +69,14 @@ fn push_hello(out: &mut BytesMut, alloc: Global, side: Side, flags: u8) -> Resul
 
 /// The payload of a Read Request (RFC 5040 section 4.4): `len` bytes of the peer's region `stag`, from `to` on, into the own region
 /// `sink`, from `at` on.
-fn request_payload(alloc: Global, sink: u32, at: u64, len: u32, stag: u32, to: u64) -> Result<Octets, Memory>
+fn request_payload(
+    alloc: Global,
+    sink: u32,
+    at: u64,
+    len: u32,
+    stag: u32,
+    to: u64,
+) -> Result<Octets, Memory>
     ensures { IfOk result (λ o. o ≡ word sink ++ (hyper at ++ (word len ++ (word stag ++ hyper to)))) }
 {
     let mut writer = Writer::new(alloc);
@@ -202,12 +211,24 @@ impl SendQueue {
         ensures ok { OnOk result (self.new ≡ with_write stag to bytes.now self.old) }
         ensures err { OnErr result (self.new ≡ self.old) }
     {
-        push_cut(&mut self.fpdus, self.alloc, Carrier::Write { stag, to }, bytes)
+        push_cut(
+            &mut self.fpdus,
+            self.alloc,
+            Carrier::Write { stag, to },
+            bytes,
+        )
     }
 
     /// A Read Request. An `Err` changes nothing.
     #[tactic(auto, unfolding(nr_link::specs::Output::read_request))]
-    pub fn request(&mut self, sink: u32, at: u64, len: u32, stag: u32, to: u64) -> Result<(), Memory>
+    pub fn request(
+        &mut self,
+        sink: u32,
+        at: u64,
+        len: u32,
+        stag: u32,
+        to: u64,
+    ) -> Result<(), Memory>
         ensures ok { OnOk result (self.new ≡ with_request sink at len stag to self.old) }
         ensures err { OnErr result (self.new ≡ self.old) }
     {
@@ -234,7 +255,12 @@ impl SendQueue {
         ensures err { OnErr result (self.new ≡ self.old) }
     {
         self.response_ends.reserve(1)?;
-        push_cut(&mut self.fpdus, self.alloc, Carrier::Response { stag, to }, bytes)?;
+        push_cut(
+            &mut self.fpdus,
+            self.alloc,
+            Carrier::Response { stag, to },
+            bytes,
+        )?;
         self.response_ends.push_back_reserved(self.fpdus.len());
         Ok(())
     }
