@@ -1,6 +1,6 @@
 //! What a side has to write.
 
-ghost use Rattle.std.specs.Prelude.{◌≡◌, ℕ, ◌+◌, ◌-◌, ◌^◌, ◌<◌, ◌≤◌, [], ◌++◌, if◌then◌else◌, length, take, drop, IfOk, OnOk, OnErr, MatchResult};
+ghost use Rattle.std.specs.Prelude.{◌≡◌, ℕ, ◌+◌, ◌-◌, ◌^◌, ◌<◌, ◌≤◌, [], ◌++◌, if◌then◌else◌, length, take, drop, IfOk, OnOk, OnErr, MatchResult, min};
 ghost use Rattle.std.specs.Io.KnownBytes.{Appends};
 ghost use Rattle.nr_xdr.specs.Item.{word, hyper};
 ghost use Rattle.nr_wire.specs.Hello.{hello_encoding};
@@ -89,6 +89,7 @@ fn request_payload(
 }
 
 /// The word of the Terminate that a side writes last, where it writes one (RFC 5040 section 4.8; the words are own).
+#[tactic(auto, unfolding(nr_link::specs::Ending::final_output))]
 fn terminate_word(end: End) -> Option<u32>
     ensures { final_output end ≡ terminate_by result }
 {
@@ -121,17 +122,32 @@ fn is_rejection(side: Side, end: End) -> bool
     }
 }
 
+/// Drops the first end where `n` more written bytes reach it, and answers 1. Else it goes to the back, counted from there on.
+fn pass_first(ends: &mut VecDeque<usize>, n: usize) -> usize
+    ensures left { ends.new.items ≡ drop 1 ends.old.items ++ ends_left n (take 1 ends.old.items) }
+    ensures passed { result ≡ ends_passed n (take 1 ends.old.items) }
+{
+    match ends.pop_front() {
+        None => 0,
+        Some(end) => {
+            if end > n {
+                ends.push_back_reserved(end - n);
+                0
+            } else {
+                1
+            }
+        }
+    }
+}
+
 /// Drops the ends that `n` more written bytes reach, and answers how many those were. The others are counted from there on.
 fn pass_ends(ends: &mut VecDeque<usize>, n: usize) -> usize
     ensures left { ends.new.items ≡ ends_left n ends.old.items }
     ensures passed { result ≡ ends_passed n ends.old.items }
 {
     let mut passed = 0;
-    for _ in 0..ends.len() {
-        match ends.pop_front() {
-            Some(end) if end > n => ends.push_back_reserved(end - n),
-            _ => passed += 1,
-        }
+    for _i in 0..ends.len() {
+        passed += pass_first(ends, n);
     }
     passed
 }
@@ -146,8 +162,9 @@ fn write_out<K: Sink>(out: &mut BytesMut, sink: &mut K) -> (usize, Result<(), Fa
         (λ _. K.faults sink.new ≡ K.faults sink.old) (λ _. Rises (K.faults sink.old) (K.faults sink.new)) }
     ensures never_falls { K.faults sink.old ≤ K.faults sink.new }
 {
+    let len = out.len();
     let mut count = 0;
-    while !out.is_empty() {
+    while count < len {
         match sink.write(out.as_slice()) {
             Ok(n) => {
                 out.advance(n);
@@ -157,6 +174,30 @@ fn write_out<K: Sink>(out: &mut BytesMut, sink: &mut K) -> (usize, Result<(), Fa
         }
     }
     (count, Ok(()))
+}
+
+/// Writes a hello to a sink, and behind it FPDUs where these may be written, and drops from the front what the sink took. It
+/// answers how many bytes of the FPDUs those were.
+fn write_both<K: Sink>(
+    hello: &mut BytesMut,
+    fpdus: &mut BytesMut,
+    has_hello: bool,
+    sink: &mut K,
+) -> (usize, Result<(), Failed>)
+    ensures written { (n : ℕ) × (result.0 ≡ n - length hello.old.items)
+        × (n ≤ length (hello.old.items ++ (if has_hello then fpdus.old.items else [])))
+        × (hello.new.items ≡ drop n hello.old.items) × (fpdus.new.items ≡ drop (n - length hello.old.items) fpdus.old.items)
+        × Appends (K.taken sink.old) (K.taken sink.new) (take n (hello.old.items ++ (if has_hello then fpdus.old.items else [])))
+        × OnOk result.1 (n ≡ length (hello.old.items ++ (if has_hello then fpdus.old.items else []))) }
+    ensures counted { MatchResult result.1
+        (λ _. K.faults sink.new ≡ K.faults sink.old) (λ _. Rises (K.faults sink.old) (K.faults sink.new)) }
+    ensures never_falls { K.faults sink.old ≤ K.faults sink.new }
+{
+    let (_, greeted) = write_out(hello, sink);
+    if greeted.is_err() || !has_hello {
+        return (0, greeted);
+    }
+    write_out(fpdus, sink)
 }
 
 impl SendQueue {
@@ -301,8 +342,14 @@ impl SendQueue {
         self.hello.len() + self.fpdus.len()
     }
 
-    /// The FPDUs lose their first `n` bytes, which were written.
-    fn fpdus_passed(&mut self, n: usize) {
+    /// The ends of Sends and Read Responses, where the first `n` bytes of the FPDUs were written.
+    fn ends_passed(&mut self, n: usize)
+        ensures { self.new ≡ record self.old {
+          send_ends = ends_left n self.old.send_ends;
+          response_ends = ends_left n self.old.response_ends;
+          sends_left = min (self.old.sends_left + ends_passed n self.old.send_ends) (2 ^ 64 - 1);
+        } }
+    {
         let passed = pass_ends(&mut self.send_ends, n);
         pass_ends(&mut self.response_ends, n);
         self.sends_left = self.sends_left.saturating_add(passed as u64);
@@ -318,13 +365,8 @@ impl SendQueue {
             (λ _. K.faults sink.new ≡ K.faults sink.old) (λ _. Rises (K.faults sink.old) (K.faults sink.new)) }
         ensures never_falls { K.faults sink.old ≤ K.faults sink.new }
     {
-        let (_, greeted) = write_out(&mut self.hello, sink);
-        greeted?;
-        if !has_hello {
-            return Ok(());
-        }
-        let (count, done) = write_out(&mut self.fpdus, sink);
-        self.fpdus_passed(count);
+        let (count, done) = write_both(&mut self.hello, &mut self.fpdus, has_hello, sink);
+        self.ends_passed(count);
         done
     }
 }
