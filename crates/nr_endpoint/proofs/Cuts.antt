@@ -1,12 +1,14 @@
 -- Bytes that are cut into segments, segment by segment.
-use Rattle.std.proofs.Common.{◌≡◌, ℕ, zero, suc, ◌+◌, ◌-◌, ◌*◌, ◌/◌, ◌^◌, ◌<◌, ◌≤◌, Bool, List, [], ◌∷◌, ◌++◌, length, take, drop, eqb, refl, sym, ap, subst, ◌∙◌, arith, append_assoc, length-append}
+use Rattle.std.proofs.Common.{◌≡◌, ℕ, zero, suc, ◌+◌, ◌-◌, ◌*◌, ◌/◌, ◌%◌, ◌^◌, ◌<◌, ◌≤◌, Bool, List, [], ◌∷◌, ◌++◌, length, take, drop, eqb, refl, sym, ap, subst, ◌∙◌, arith, append_assoc, length-append}
 use Rattle.std.specs.Prelude.{min, max, map}
 use Rattle.std.specs.List.{flat_map, range_with_len}
 use Rattle.std.proofs.lemmas.List.{map-id, take_min, drop_min, append-nil, length-take, length-drop, take-append-le}
 use Rattle.std.proofs.lemmas.List.Concat.{flat_map-append}
 use Rattle.std.proofs.lemmas.List.FromFn.{map-range_with_len_more}
 use Rattle.nr_wire.specs.Segment.{IsWritable, encoding, Segment}
-use Rattle.nr_link.specs.Output.{cut, segment_count, segment_payload}
+use Rattle.nr_wire.specs.Constants.{OPCODE_SEND, QUEUE_SEND}
+use Rattle.nr_wire.specs.Segment.Segment.{Untagged}
+use Rattle.nr_link.specs.Output.{cut, segment_count, segment_payload, send, write, read_response}
 use Rattle.nr_endpoint.specs.Carriers.{carried, FitsAt, FitsCarrier}
 use Rattle.nr_endpoint.specs.declared.framing.Carrier.{Carrier}
 use Rattle.nr_endpoint.specs.declared.framing.Carrier.TheVariants as carriers
@@ -83,3 +85,19 @@ all_pushed new start carrier bytes i here so_far =
     so_far
     ∙ ap (λ (n : ℕ). start ++ pieces carrier bytes n) here
     ∙ ap (λ (xs : List ℕ). start ++ xs) (pieces_all carrier bytes)
+
+-- ---- What carries the bytes of each call
+
+pub carried_send : (n : ℕ) (message : List ℕ) → cut (carried (carriers.Send ((n + 1) % 2 ^ 32))) message ≡ send ((n + 1) % 2 ^ 32) message
+unfolding send
+carried_send n message =
+    let same : (n + 1) % 2 ^ 32 ≡ ((n + 1) % 2 ^ 32) % 2 ^ 32 = omega arith in
+    ap (λ (m : ℕ). cut (λ last offset payload. Untagged last OPCODE_SEND 0 QUEUE_SEND m offset payload) message) same
+
+pub carried_write : (stag to : ℕ) (bytes : List ℕ) → cut (carried (carriers.Write stag to)) bytes ≡ write stag to bytes
+unfolding write
+carried_write stag to bytes = refl
+
+pub carried_response : (stag to : ℕ) (bytes : List ℕ) → cut (carried (carriers.Response stag to)) bytes ≡ read_response stag to bytes
+unfolding read_response
+carried_response stag to bytes = refl

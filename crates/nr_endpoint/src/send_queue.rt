@@ -233,6 +233,7 @@ impl SendQueue {
     }
 
     /// A Send. An `Err` changes nothing.
+    #[tactic(auto, using(crate::proofs::Cuts::carried_send))]
     pub fn send(&mut self, message: &[u8]) -> Result<(), Memory>
         requires { length message.now < 2 ^ 32 }
         ensures ok { OnOk result (self.new ≡ with_send message.now self.old) }
@@ -247,6 +248,7 @@ impl SendQueue {
     }
 
     /// An RDMA Write. An `Err` changes nothing.
+    #[tactic(auto, using(crate::proofs::Cuts::carried_write))]
     pub fn write(&mut self, stag: u32, to: u64, bytes: &[u8]) -> Result<(), Memory>
         requires { to + length bytes.now ≤ 2 ^ 64 }
         ensures ok { OnOk result (self.new ≡ with_write stag to bytes.now self.old) }
@@ -290,6 +292,7 @@ impl SendQueue {
     }
 
     /// A Read Response. An `Err` changes nothing.
+    #[tactic(auto, using(crate::proofs::Cuts::carried_response))]
     pub fn respond(&mut self, stag: u32, to: u64, bytes: &[u8]) -> Result<(), Memory>
         requires { to + length bytes.now ≤ 2 ^ 64 }
         ensures ok { OnOk result (self.new ≡ with_response stag to bytes.now self.old) }
