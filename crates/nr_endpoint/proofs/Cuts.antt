@@ -6,6 +6,7 @@ use Rattle.std.proofs.lemmas.List.{map-id, take_min, drop_min, append-nil, lengt
 use Rattle.std.proofs.lemmas.List.Concat.{flat_map-append}
 use Rattle.std.proofs.lemmas.List.FromFn.{map-range_with_len_more}
 use Rattle.nr_wire.specs.Segment.{IsWritable, encoding, Segment}
+use Rattle.nr_xdr.specs.Item.{word, hyper}
 use Rattle.nr_wire.specs.Constants.{OPCODE_SEND, QUEUE_SEND}
 use Rattle.nr_wire.specs.Segment.Segment.{Untagged}
 use Rattle.nr_link.specs.Output.{cut, segment_count, segment_payload, send, write, read_response}
@@ -101,3 +102,8 @@ carried_write stag to bytes = refl
 pub carried_response : (stag to : ℕ) (bytes : List ℕ) → cut (carried (carriers.Response stag to)) bytes ≡ read_response stag to bytes
 unfolding read_response
 carried_response stag to bytes = refl
+
+-- a Read Request has 28 bytes
+pub request_len : (sink at len stag to : ℕ) → length (word sink ++ (hyper at ++ (word len ++ (word stag ++ hyper to)))) ≡ 28
+unfolding word hyper
+request_len sink at len stag to = refl

@@ -1,6 +1,7 @@
 //! What a side has to write.
 
 ghost use Rattle.std.specs.Prelude.{◌≡◌, ℕ, ◌+◌, ◌-◌, ◌^◌, ◌<◌, ◌≤◌, [], ◌++◌, if◌then◌else◌, length, take, drop, IfOk, OnOk, OnErr, MatchResult, min};
+ghost use Rattle.std.specs.Bool.{OnTrue};
 ghost use Rattle.std.specs.Io.KnownBytes.{Appends};
 ghost use Rattle.nr_xdr.specs.Item.{word, hyper};
 ghost use Rattle.nr_wire.specs.Hello.{hello_encoding};
@@ -113,8 +114,11 @@ fn terminate_word(end: End) -> Option<u32>
 }
 
 /// Whether a side answers this end by a hello that rejects the connection (RFC 5044 section 7.1).
+/// Such an end has no Terminate.
+#[tactic(auto, unfolding(nr_link::specs::Ending::final_output))]
 fn is_rejection(side: Side, end: End) -> bool
-    ensures { rejection side end ≡ (if result then refusing_hello else []) }
+    ensures is { rejection side end ≡ (if result then refusing_hello else []) }
+    ensures alone { OnTrue result (final_output end ≡ []) }
 {
     match (side, end) {
         (Side::Responder, End::Bad { at: _, reason }) => reason == REASON_FLAGS,
@@ -202,6 +206,7 @@ fn write_both<K: Sink>(
 
 impl SendQueue {
     /// A side's queue as the link is opened: an initiator has its hello to write.
+    #[tactic(auto, unfolding(nr_link::specs::Output::own_hello))]
     pub fn new(alloc: Global, side: Side) -> Result<SendQueue, Memory>
         ensures { IfOk result (λ q. q ≡ initial_queue side) }
     {
@@ -222,6 +227,7 @@ impl SendQueue {
     }
 
     /// A responder's hello, which answers the initiator's; an initiator's own was queued before. An `Err` changes nothing.
+    #[tactic(auto, unfolding(nr_link::specs::Output::own_hello))]
     pub fn queue_hello(&mut self, side: Side) -> Result<(), Memory>
         ensures ok { OnOk result (self.new ≡ with_hello (reply_hello side) self.old) }
         ensures err { OnErr result (self.new ≡ self.old) }
@@ -310,13 +316,13 @@ impl SendQueue {
     }
 
     /// What a side writes last, where it ends. An `Err` changes nothing.
-    #[tactic(auto, unfolding(crate::specs::SendQueue::with_end))]
+    #[tactic(auto, unfolding(crate::specs::SendQueue::with_end, nr_link::specs::Output::refusing_hello))]
     pub fn finish(&mut self, side: Side, end: End) -> Result<(), Memory>
         ensures ok { OnOk result (self.new ≡ with_end side end self.old) }
         ensures err { OnErr result (self.new ≡ self.old) }
     {
         if is_rejection(side, end) {
-            return push_hello(&mut self.hello, self.alloc, side, FLAG_REJECT);
+            return push_hello(&mut self.hello, self.alloc, Side::Responder, FLAG_REJECT);
         }
         match terminate_word(end) {
             None => Ok(()),
