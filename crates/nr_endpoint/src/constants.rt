@@ -15,6 +15,7 @@ pub const OPEN_READS_MAX: usize = 8;
 
 /// The payload bytes of a Read Request (RFC 5040 section 4.4), and the fewest of a Terminate.
 pub const READ_REQUEST_LEN: usize = 28;
+
 pub const TERMINATE_MIN: usize = 4;
 
 /// A message number isn't the next.
@@ -34,7 +35,9 @@ pub const REASON_LONG: u32 = 22;
 
 /// The word of a Terminate for an access to an STag that isn't live, beyond its region's end, and without the right.
 pub const WORD_NO_STAG: u32 = 101;
+
 pub const WORD_BOUNDS: u32 = 102;
+
 pub const WORD_RIGHT: u32 = 103;
 /// The word of a Terminate for a Send without a receive.
 pub const WORD_NO_BUFFER: u32 = 104;

@@ -85,7 +85,12 @@ fn segment_payload(bytes: &[u8], i: usize) -> &[u8]
 }
 
 /// Puts the segments of some bytes at the end. After an `Err` some of them are there.
-fn push_segments(out: &mut BytesMut, alloc: Global, carrier: Carrier, bytes: &[u8]) -> Result<(), Memory>
+fn push_segments(
+    out: &mut BytesMut,
+    alloc: Global,
+    carrier: Carrier,
+    bytes: &[u8],
+) -> Result<(), Memory>
     requires { FitsCarrier carrier (length bytes.now) }
     ensures ok { OnOk result (out.new.items ≡ out.old.items ++ cut (carried carrier) bytes.now) }
     ensures err { OnErr result (take (length out.old.items) out.new.items ≡ out.old.items) }
@@ -93,13 +98,22 @@ fn push_segments(out: &mut BytesMut, alloc: Global, carrier: Carrier, bytes: &[u
     let count = segment_count(bytes);
     for i in 0..count {
         let payload = segment_payload(bytes, i);
-        push_segment(out, alloc, &segment(carrier, i + 1 == count, SEGMENT_MAX * i, payload))?;
+        push_segment(
+            out,
+            alloc,
+            &segment(carrier, i + 1 == count, SEGMENT_MAX * i, payload),
+        )?;
     }
     Ok(())
 }
 
 /// Puts the segments of some bytes at the end. An `Err` leaves the bytes as they were.
-pub fn push_cut(out: &mut BytesMut, alloc: Global, carrier: Carrier, bytes: &[u8]) -> Result<(), Memory>
+pub fn push_cut(
+    out: &mut BytesMut,
+    alloc: Global,
+    carrier: Carrier,
+    bytes: &[u8],
+) -> Result<(), Memory>
     requires { FitsCarrier carrier (length bytes.now) }
     ensures ok { OnOk result (out.new.items ≡ out.old.items ++ cut (carried carrier) bytes.now) }
     ensures err { OnErr result (out.new.items ≡ out.old.items) }
@@ -113,7 +127,7 @@ pub fn push_cut(out: &mut BytesMut, alloc: Global, carrier: Carrier, bytes: &[u8
 }
 
 /// Puts a Terminate with this word at the end (RFC 5040 section 4.8). An `Err` leaves the bytes as they were.
-#[tactic(auto, unfolding(nr_link::specs::Output::terminate_message))]
+#[tactic(auto, unfolding(nr_link::specs::Output::terminate_message, nr_xdr::specs::Item::word))]
 pub fn push_terminate(out: &mut BytesMut, alloc: Global, word: u32) -> Result<(), Memory>
     ensures ok { OnOk result (out.new.items ≡ out.old.items ++ terminate_message word) }
     ensures err { OnErr result (out.new.items ≡ out.old.items) }

@@ -1,6 +1,7 @@
 //! What a side has to write.
 
-ghost use Rattle.std.specs.Prelude.{◌≡◌, ℕ, ◌+◌, ◌-◌, ◌^◌, ◌<◌, ◌≤◌, [], ◌++◌, if◌then◌else◌, length, take, drop, IfOk, OnOk, OnErr, MatchResult};
+ghost use Rattle.std.specs.Prelude.{◌≡◌, ℕ, ◌+◌, ◌-◌, ◌^◌, ◌<◌, ◌≤◌, [], ◌++◌, if◌then◌else◌, length, take, drop, IfOk, OnOk, OnErr, MatchResult, min};
+ghost use Rattle.std.specs.Bool.{OnTrue};
 ghost use Rattle.std.specs.Io.KnownBytes.{Appends};
 ghost use Rattle.nr_xdr.specs.Item.{word, hyper};
 ghost use Rattle.nr_wire.specs.Hello.{hello_encoding};
@@ -17,7 +18,9 @@ use bytes::BytesMut;
 use nr_link::End;
 use nr_outside::{Failed, Sink};
 use nr_regions::Denied;
-use nr_wire::constants::{FLAG_REJECT, OPCODE_READ_REQUEST, QUEUE_READ_REQUEST, REASON_FLAGS, REASON_PRIVATE};
+use nr_wire::constants::{
+    FLAG_REJECT, OPCODE_READ_REQUEST, QUEUE_READ_REQUEST, REASON_FLAGS, REASON_PRIVATE,
+};
 use nr_wire::{Hello, Segment, Side, write_hello};
 use nr_xdr::{Memory, Octets, Writer};
 use std::alloc::Global;
@@ -67,7 +70,14 @@ fn push_hello(out: &mut BytesMut, alloc: Global, side: Side, flags: u8) -> Resul
 
 /// The payload of a Read Request (RFC 5040 section 4.4): `len` bytes of the peer's region `stag`, from `to` on, into the own region
 /// `sink`, from `at` on.
-fn request_payload(alloc: Global, sink: u32, at: u64, len: u32, stag: u32, to: u64) -> Result<Octets, Memory>
+fn request_payload(
+    alloc: Global,
+    sink: u32,
+    at: u64,
+    len: u32,
+    stag: u32,
+    to: u64,
+) -> Result<Octets, Memory>
     ensures { IfOk result (λ o. o ≡ word sink ++ (hyper at ++ (word len ++ (word stag ++ hyper to)))) }
 {
     let mut writer = Writer::new(alloc);
@@ -80,6 +90,7 @@ fn request_payload(alloc: Global, sink: u32, at: u64, len: u32, stag: u32, to: u
 }
 
 /// The word of the Terminate that a side writes last, where it writes one (RFC 5040 section 4.8; the words are own).
+#[tactic(auto, unfolding(nr_link::specs::Ending::final_output))]
 fn terminate_word(end: End) -> Option<u32>
     ensures { final_output end ≡ terminate_by result }
 {
@@ -103,12 +114,33 @@ fn terminate_word(end: End) -> Option<u32>
 }
 
 /// Whether a side answers this end by a hello that rejects the connection (RFC 5044 section 7.1).
+/// Such an end has no Terminate.
+#[tactic(auto, unfolding(nr_link::specs::Ending::final_output))]
 fn is_rejection(side: Side, end: End) -> bool
-    ensures { rejection side end ≡ (if result then refusing_hello else []) }
+    ensures is { rejection side end ≡ (if result then refusing_hello else []) }
+    ensures alone { OnTrue result (final_output end ≡ []) }
 {
     match (side, end) {
         (Side::Responder, End::Bad { at: _, reason }) => reason == REASON_FLAGS,
         _ => false,
+    }
+}
+
+/// Drops the first end where `n` more written bytes reach it, and answers 1. Else it goes to the back, counted from there on.
+fn pass_first(ends: &mut VecDeque<usize>, n: usize) -> usize
+    ensures left { ends.new.items ≡ drop 1 ends.old.items ++ ends_left n (take 1 ends.old.items) }
+    ensures passed { result ≡ ends_passed n (take 1 ends.old.items) }
+{
+    match ends.pop_front() {
+        None => 0,
+        Some(end) => {
+            if end > n {
+                ends.push_back_reserved(end - n);
+                0
+            } else {
+                1
+            }
+        }
     }
 }
 
@@ -118,11 +150,8 @@ fn pass_ends(ends: &mut VecDeque<usize>, n: usize) -> usize
     ensures passed { result ≡ ends_passed n ends.old.items }
 {
     let mut passed = 0;
-    for _ in 0..ends.len() {
-        match ends.pop_front() {
-            Some(end) if end > n => ends.push_back_reserved(end - n),
-            _ => passed += 1,
-        }
+    for _i in 0..ends.len() {
+        passed += pass_first(ends, n);
     }
     passed
 }
@@ -137,8 +166,9 @@ fn write_out<K: Sink>(out: &mut BytesMut, sink: &mut K) -> (usize, Result<(), Fa
         (λ _. K.faults sink.new ≡ K.faults sink.old) (λ _. Rises (K.faults sink.old) (K.faults sink.new)) }
     ensures never_falls { K.faults sink.old ≤ K.faults sink.new }
 {
+    let len = out.len();
     let mut count = 0;
-    while !out.is_empty() {
+    while count < len {
         match sink.write(out.as_slice()) {
             Ok(n) => {
                 out.advance(n);
@@ -150,8 +180,33 @@ fn write_out<K: Sink>(out: &mut BytesMut, sink: &mut K) -> (usize, Result<(), Fa
     (count, Ok(()))
 }
 
+/// Writes a hello to a sink, and behind it FPDUs where these may be written, and drops from the front what the sink took. It
+/// answers how many bytes of the FPDUs those were.
+fn write_both<K: Sink>(
+    hello: &mut BytesMut,
+    fpdus: &mut BytesMut,
+    has_hello: bool,
+    sink: &mut K,
+) -> (usize, Result<(), Failed>)
+    ensures written { (n : ℕ) × (result.0 ≡ n - length hello.old.items)
+        × (n ≤ length (hello.old.items ++ (if has_hello then fpdus.old.items else [])))
+        × (hello.new.items ≡ drop n hello.old.items) × (fpdus.new.items ≡ drop (n - length hello.old.items) fpdus.old.items)
+        × Appends (K.taken sink.old) (K.taken sink.new) (take n (hello.old.items ++ (if has_hello then fpdus.old.items else [])))
+        × OnOk result.1 (n ≡ length (hello.old.items ++ (if has_hello then fpdus.old.items else []))) }
+    ensures counted { MatchResult result.1
+        (λ _. K.faults sink.new ≡ K.faults sink.old) (λ _. Rises (K.faults sink.old) (K.faults sink.new)) }
+    ensures never_falls { K.faults sink.old ≤ K.faults sink.new }
+{
+    let (_, greeted) = write_out(hello, sink);
+    if greeted.is_err() || !has_hello {
+        return (0, greeted);
+    }
+    write_out(fpdus, sink)
+}
+
 impl SendQueue {
     /// A side's queue as the link is opened: an initiator has its hello to write.
+    #[tactic(auto, unfolding(nr_link::specs::Output::own_hello))]
     pub fn new(alloc: Global, side: Side) -> Result<SendQueue, Memory>
         ensures { IfOk result (λ q. q ≡ initial_queue side) }
     {
@@ -172,6 +227,7 @@ impl SendQueue {
     }
 
     /// A responder's hello, which answers the initiator's; an initiator's own was queued before. An `Err` changes nothing.
+    #[tactic(auto, unfolding(nr_link::specs::Output::own_hello))]
     pub fn queue_hello(&mut self, side: Side) -> Result<(), Memory>
         ensures ok { OnOk result (self.new ≡ with_hello (reply_hello side) self.old) }
         ensures err { OnErr result (self.new ≡ self.old) }
@@ -183,6 +239,7 @@ impl SendQueue {
     }
 
     /// A Send. An `Err` changes nothing.
+    #[tactic(auto, using(crate::proofs::Cuts::carried_send))]
     pub fn send(&mut self, message: &[u8]) -> Result<(), Memory>
         requires { length message.now < 2 ^ 32 }
         ensures ok { OnOk result (self.new ≡ with_send message.now self.old) }
@@ -197,17 +254,30 @@ impl SendQueue {
     }
 
     /// An RDMA Write. An `Err` changes nothing.
+    #[tactic(auto, using(crate::proofs::Cuts::carried_write))]
     pub fn write(&mut self, stag: u32, to: u64, bytes: &[u8]) -> Result<(), Memory>
         requires { to + length bytes.now ≤ 2 ^ 64 }
         ensures ok { OnOk result (self.new ≡ with_write stag to bytes.now self.old) }
         ensures err { OnErr result (self.new ≡ self.old) }
     {
-        push_cut(&mut self.fpdus, self.alloc, Carrier::Write { stag, to }, bytes)
+        push_cut(
+            &mut self.fpdus,
+            self.alloc,
+            Carrier::Write { stag, to },
+            bytes,
+        )
     }
 
     /// A Read Request. An `Err` changes nothing.
     #[tactic(auto, unfolding(nr_link::specs::Output::read_request))]
-    pub fn request(&mut self, sink: u32, at: u64, len: u32, stag: u32, to: u64) -> Result<(), Memory>
+    pub fn request(
+        &mut self,
+        sink: u32,
+        at: u64,
+        len: u32,
+        stag: u32,
+        to: u64,
+    ) -> Result<(), Memory>
         ensures ok { OnOk result (self.new ≡ with_request sink at len stag to self.old) }
         ensures err { OnErr result (self.new ≡ self.old) }
     {
@@ -228,25 +298,31 @@ impl SendQueue {
     }
 
     /// A Read Response. An `Err` changes nothing.
+    #[tactic(auto, using(crate::proofs::Cuts::carried_response))]
     pub fn respond(&mut self, stag: u32, to: u64, bytes: &[u8]) -> Result<(), Memory>
         requires { to + length bytes.now ≤ 2 ^ 64 }
         ensures ok { OnOk result (self.new ≡ with_response stag to bytes.now self.old) }
         ensures err { OnErr result (self.new ≡ self.old) }
     {
         self.response_ends.reserve(1)?;
-        push_cut(&mut self.fpdus, self.alloc, Carrier::Response { stag, to }, bytes)?;
+        push_cut(
+            &mut self.fpdus,
+            self.alloc,
+            Carrier::Response { stag, to },
+            bytes,
+        )?;
         self.response_ends.push_back_reserved(self.fpdus.len());
         Ok(())
     }
 
     /// What a side writes last, where it ends. An `Err` changes nothing.
-    #[tactic(auto, unfolding(crate::specs::SendQueue::with_end))]
+    #[tactic(auto, unfolding(crate::specs::SendQueue::with_end, nr_link::specs::Output::refusing_hello))]
     pub fn finish(&mut self, side: Side, end: End) -> Result<(), Memory>
         ensures ok { OnOk result (self.new ≡ with_end side end self.old) }
         ensures err { OnErr result (self.new ≡ self.old) }
     {
         if is_rejection(side, end) {
-            return push_hello(&mut self.hello, self.alloc, side, FLAG_REJECT);
+            return push_hello(&mut self.hello, self.alloc, Side::Responder, FLAG_REJECT);
         }
         match terminate_word(end) {
             None => Ok(()),
@@ -275,8 +351,14 @@ impl SendQueue {
         self.hello.len() + self.fpdus.len()
     }
 
-    /// The FPDUs lose their first `n` bytes, which were written.
-    fn fpdus_passed(&mut self, n: usize) {
+    /// The ends of Sends and Read Responses, where the first `n` bytes of the FPDUs were written.
+    fn ends_passed(&mut self, n: usize)
+        ensures { self.new ≡ record self.old {
+          send_ends = ends_left n self.old.send_ends;
+          response_ends = ends_left n self.old.response_ends;
+          sends_left = min (self.old.sends_left + ends_passed n self.old.send_ends) (2 ^ 64 - 1);
+        } }
+    {
         let passed = pass_ends(&mut self.send_ends, n);
         pass_ends(&mut self.response_ends, n);
         self.sends_left = self.sends_left.saturating_add(passed as u64);
@@ -292,13 +374,8 @@ impl SendQueue {
             (λ _. K.faults sink.new ≡ K.faults sink.old) (λ _. Rises (K.faults sink.old) (K.faults sink.new)) }
         ensures never_falls { K.faults sink.old ≤ K.faults sink.new }
     {
-        let (_, greeted) = write_out(&mut self.hello, sink);
-        greeted?;
-        if !has_hello {
-            return Ok(());
-        }
-        let (count, done) = write_out(&mut self.fpdus, sink);
-        self.fpdus_passed(count);
+        let (count, done) = write_both(&mut self.hello, &mut self.fpdus, has_hello, sink);
+        self.ends_passed(count);
         done
     }
 }
