@@ -3,3 +3,5 @@ pub mod Standing
 pub mod ReceiveQueueBuffers
 pub mod ReceiveQueueBytes
 pub mod ReceiveQueueSteps
+mod Cuts
+mod SendQueues

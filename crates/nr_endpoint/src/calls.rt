@@ -22,12 +22,7 @@ use crate::event::Event;
 use crate::fault::{DrainFault, ReadRefused};
 use nr_link::End;
 use nr_outside::Sink;
-<<<<<<< HEAD
 use nr_regions::{Registration, Regions, Right, Why};
-=======
-use nr_regions::{Regions, Registration, Right, Why};
-use nr_wire::constants::FPDU_MAX;
->>>>>>> 7337e4c52188713d5bc20b810e20d1b9a250d797
 use nr_xdr::{Memory, Octets};
 
 impl Endpoint {
@@ -132,11 +127,7 @@ impl Endpoint {
         ensures never_falls { K.faults sink.old ≤ K.faults sink.new }
         ensures staging { self.new.staging ≡ self.old.staging }
     {
-<<<<<<< HEAD
         self.link.drain_into(sink)?;
-=======
-        self.link.send_queue.drain_into(self.link.has_hello, sink)?;
->>>>>>> 7337e4c52188713d5bc20b810e20d1b9a250d797
         Ok(())
     }
 

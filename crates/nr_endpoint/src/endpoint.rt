@@ -63,12 +63,7 @@ fn peer(side: Side) -> Side
 
 impl Endpoint {
     /// A side of a link, with so many receives. The first region gets this STag, which isn't 0.
-    pub fn open(
-        alloc: Global,
-        side: Side,
-        receives: u32,
-        first_stag: u32,
-    ) -> Result<Endpoint, Memory>
+    pub fn open(alloc: Global, side: Side, receives: u32, first_stag: u32) -> Result<Endpoint, Memory>
         requires { 0 < first_stag }
         ensures state { IfOk result (λ e. e.link ≡ initial_link side receives first_stag) }
         ensures stands { IfOk result (λ e. StandsFor (initial_link side receives first_stag) [] e.link) }

@@ -212,17 +212,10 @@ impl Link {
             return self.bad(REASON_FORM);
         }
         let request = read_request(payload);
-<<<<<<< HEAD
         let fetched = self
             .regions
             .fetch(request.stag, request.to, u64::from(request.size));
         if let Err(why) = fetched {
-=======
-        if let Err(why) = self
-            .regions
-            .fetch(request.stag, request.to, u64::from(request.size))
-        {
->>>>>>> 7337e4c52188713d5bc20b810e20d1b9a250d797
             return Some(End::Denied {
                 stag: request.stag,
                 offset: request.to,

@@ -61,16 +61,12 @@ fn receive_buffer(alloc: Global) -> Result<Octets, Memory>
 }
 
 /// Puts so many receive buffers into a vector with room for them.
-<<<<<<< HEAD
 fn fill(free: &mut Vec<Octets>, alloc: Global, receives: usize) -> Result<(), Memory>
     requires room { vec_len free.old + receives ≤ vec_capacity free.old }
     ensures count { OnOk result (length free.new.items ≡ length free.old.items + receives) }
     ensures each { All IsReceive free.old.items → All IsReceive free.new.items }
     ensures capacity { vec_capacity free.new ≡ vec_capacity free.old }
 {
-=======
-fn fill(free: &mut Vec<Octets>, alloc: Global, receives: usize) -> Result<(), Memory> {
->>>>>>> 7337e4c52188713d5bc20b810e20d1b9a250d797
     for _ in 0..receives {
         free.push_reserved(receive_buffer(alloc)?);
     }
@@ -184,10 +180,7 @@ impl ReceiveQueue {
     }
 
     /// One more segment of a Send, which is begun or finds a receive, and fits it where it becomes whole. An `Err` changes nothing.
-<<<<<<< HEAD
     #[tactic(auto, unfolding(crate::specs::ReceiveQueue::with_segment))]
-=======
->>>>>>> 7337e4c52188713d5bc20b810e20d1b9a250d797
     pub fn receive(
         &mut self,
         last: bool,
@@ -300,15 +293,10 @@ impl ReceiveQueue {
     }
 
     /// How many receive buffers are kept: all but those that are lent.
-<<<<<<< HEAD
     pub fn buffers(&self) -> usize
         ensures kept { result ≡ receives_kept self.now }
         ensures most { result ≤ self.now.receives }
     {
         self.receives - self.lent
-=======
-    pub fn buffers(&self) -> usize {
-        self.free.len() + usize::from(self.begun.is_some()) + self.events.len()
->>>>>>> 7337e4c52188713d5bc20b810e20d1b9a250d797
     }
 }
