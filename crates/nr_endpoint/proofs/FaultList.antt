@@ -62,7 +62,7 @@ later_faults s last opcode w queue msn offset payload =
     ∷ terminate_fault opcode payload
     ∷ []
 
-untagged-end : (s : LinkState) (f : Frame) (last : Bool) (opcode w queue msn offset : ℕ) (payload : List ℕ) → f.at ≡ s.place →
+pub untagged-end : (s : LinkState) (f : Frame) (last : Bool) (opcode w queue msn offset : ℕ) (payload : List ℕ) → f.at ≡ s.place →
     segment_end s f (Untagged last opcode w queue msn offset payload)
     ≡ or_end (message_end s queue msn offset) (end_of_fault f (Untagged last opcode w queue msn offset payload) (first_fault (later_faults s last opcode w queue msn offset payload)))
 unfolding segment_end segment_fault message_end

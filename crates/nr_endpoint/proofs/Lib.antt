@@ -5,3 +5,4 @@ pub mod ReceiveQueueBytes
 pub mod ReceiveQueueSteps
 mod Cuts
 mod SendQueues
+pub mod Alive

@@ -4,9 +4,10 @@ ghost use Rattle.std.specs.Prelude.{◌≡◌, ◌+◌, ◌^◌, ◌<◌, ◌≤
 ghost use Rattle.nr_wire.specs.Segment.{IsSupported, payload_in};
 ghost use Rattle.nr_wire.specs.Segment.Segment.{Tagged};
 ghost use Rattle.nr_wire.specs.View.{segment as plain};
+ghost use Rattle.nr_regions.specs.RegisteredMemory.{denial};
 ghost use Rattle.nr_link.specs.ReceiveState.{read_request_in};
-ghost use Rattle.nr_endpoint.specs.Judging.{segment_end, with_effect, with_read_request, next_frame, behind_frame};
-ghost use Rattle.nr_endpoint.specs.SegmentEnds.{tagged_end, request_end};
+ghost use Rattle.nr_endpoint.specs.Judging.{segment_end, with_effect, with_read_request, fetch_access, next_frame, behind_frame};
+ghost use Rattle.nr_endpoint.specs.SegmentEnds.{tagged_end};
 
 use crate::faults::{kind_of, read_request};
 use crate::link::Link;
@@ -86,9 +87,10 @@ impl Link {
     }
 
     /// A Read Request is answered with the bytes as they stand (RFC 5040 section 5.2). An `Err` changes nothing.
-    #[tactic(auto, unfolding(crate::specs::SegmentEnds::request_end))]
     fn respond(&mut self, payload: &[u8]) -> Result<(), Memory>
-        requires { request_end self.old true payload.now ≡ None }
+        requires size { length payload.now ≡ 28 }
+        requires within { (read_request_in payload.now).sink_to + (read_request_in payload.now).size ≤ 2 ^ 64 }
+        requires allowed { denial self.old.memory (fetch_access (read_request_in payload.now)) ≡ None }
         ensures ok { OnOk result (self.new ≡ record self.old { send_queue = with_read_request (Some (read_request_in payload.now)) self.old.memory self.old.send_queue }) }
         ensures err { OnErr result (self.new ≡ self.old) }
     {

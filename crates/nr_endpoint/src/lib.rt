@@ -20,6 +20,7 @@ mod endpoint;
 mod event;
 mod fault;
 mod faults;
+mod frames;
 mod framing;
 mod link;
 mod operations;

@@ -9,12 +9,13 @@ ghost use Rattle.nr_link.specs.declared.end.End.TheVariants as ends;
 ghost use Rattle.nr_endpoint.specs.LinkState.{initial_state};
 ghost use Rattle.nr_endpoint.specs.Judging.{segment_end, with_end_of, with_segment_by, with_fpdu, with_peer_hello, with_frame, next_frame};
 
+use crate::frames::{hello_refusal, segment_in_frame};
 use crate::reads::Reads;
 use crate::receive_queue::ReceiveQueue;
 use crate::send_queue::SendQueue;
 use nr_link::End;
 use nr_regions::Regions;
-use nr_wire::{Awaited, NextHello, NextSegment, Segment, Side, next_segment, read_hello};
+use nr_wire::{Awaited, Segment, Side};
 use nr_xdr::Memory;
 use std::alloc::Global;
 use std::marker::Model;
@@ -116,20 +117,17 @@ impl Link {
         ensures ok { OnOk result (self.new ≡ with_peer_hello (next_frame self.old frame.now) (hello_of side frame.now) self.old) }
         ensures err { OnErr result (self.new ≡ self.old) }
     {
-        match read_hello(side, frame) {
-            NextHello::Whole { .. } => {
-                self.send_queue.queue_hello(self.side)?;
-                self.has_hello = true;
-                self.last = self.place;
-                self.place += frame.len() as u64;
-                Ok(())
-            }
-            NextHello::Bad { reason } => self.end_with(End::Bad {
+        if let Some(reason) = hello_refusal(side, frame) {
+            return self.end_with(End::Bad {
                 at: self.place,
                 reason,
-            }),
-            NextHello::More => unreachable!(),
+            });
         }
+        self.send_queue.queue_hello(self.side)?;
+        self.has_hello = true;
+        self.last = self.place;
+        self.place += frame.len() as u64;
+        Ok(())
     }
 
     /// An FPDU of the peer.
@@ -140,13 +138,12 @@ impl Link {
         ensures ok { OnOk result (self.new ≡ with_fpdu (next_frame self.old frame.now) (segment_of frame.now) self.old) }
         ensures err { OnErr result (self.new ≡ self.old) }
     {
-        match next_segment(frame) {
-            NextSegment::Whole { segment, .. } => self.receive(&segment, frame),
-            NextSegment::Bad { reason } => self.end_with(End::Bad {
+        match segment_in_frame(frame) {
+            Ok(segment) => self.receive(&segment, frame),
+            Err(reason) => self.end_with(End::Bad {
                 at: self.place,
                 reason,
             }),
-            NextSegment::More => unreachable!(),
         }
     }
 
