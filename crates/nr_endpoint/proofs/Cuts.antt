@@ -1,8 +1,8 @@
 -- Bytes that are cut into segments, segment by segment.
-use Rattle.std.proofs.Common.{◌≡◌, ℕ, zero, suc, ◌+◌, ◌-◌, ◌*◌, ◌/◌, ◌%◌, ◌^◌, ◌<◌, ◌≤◌, Bool, List, [], ◌∷◌, ◌++◌, length, take, drop, eqb, refl, sym, ap, subst, ◌∙◌, arith, append_assoc, length-append}
-use Rattle.std.specs.Prelude.{min, max, map}
+use Rattle.std.proofs.Common.{◌≡◌, ℕ, ◌+◌, ◌*◌, ◌%◌, ◌^◌, ◌≤◌, Bool, List, [], ◌∷◌, ◌++◌, length, take, drop, eqb, refl, sym, ap, subst, ◌∙◌, arith, append_assoc}
+use Rattle.std.specs.Prelude.{min}
 use Rattle.std.specs.List.{flat_map, range_with_len}
-use Rattle.std.proofs.lemmas.List.{map-id, take_min, drop_min, append-nil, length-take, length-drop, take-append-le}
+use Rattle.std.proofs.lemmas.List.{map-id, take_min, drop_min, append-nil, length-take}
 use Rattle.std.proofs.lemmas.List.Concat.{flat_map-append}
 use Rattle.std.proofs.lemmas.List.FromFn.{map-range_with_len_more}
 use Rattle.nr_wire.specs.Segment.{IsWritable, encoding, Segment}
@@ -10,7 +10,7 @@ use Rattle.nr_xdr.specs.Item.{word, hyper}
 use Rattle.nr_wire.specs.Constants.{OPCODE_SEND, QUEUE_SEND}
 use Rattle.nr_wire.specs.Segment.Segment.{Untagged}
 use Rattle.nr_link.specs.Output.{cut, segment_count, segment_payload, send, write, read_response}
-use Rattle.nr_endpoint.specs.Carriers.{carried, FitsAt, FitsCarrier}
+use Rattle.nr_endpoint.specs.Carriers.{carried}
 use Rattle.nr_endpoint.specs.declared.framing.Carrier.{Carrier}
 use Rattle.nr_endpoint.specs.declared.framing.Carrier.TheVariants as carriers
 
@@ -30,6 +30,7 @@ piece carrier bytes i = encoding (carried carrier (eqb (i + 1) (segment_count by
 unfoldable pub pieces : Carrier → List ℕ → ℕ → List ℕ
 pieces carrier bytes n = flat_map (piece carrier bytes) (range_with_len 0 n)
 
+-- one number more
 range_more : (a n j : ℕ) → a + n ≡ j → range_with_len a (n + 1) ≡ range_with_len a n ++ j ∷ []
 range_more a n j h =
     sym (map-id (range_with_len a (n + 1)))

@@ -1,5 +1,5 @@
 -- What is left of the ends in a queue, end by end, and what a sink took.
-use Rattle.std.proofs.Common.{◌≡◌, ℕ, zero, suc, ◌+◌, ◌-◌, ◌^◌, ◌<◌, ◌≤◌, Bool, true, false, cond, ltb, not, List, [], ◌∷◌, ◌++◌, length, take, drop, get_or, refl, sym, ap, subst, ◌∙◌, arith, rules, append_assoc, length-append}
+use Rattle.std.proofs.Common.{◌≡◌, ℕ, ◌+◌, ◌-◌, ◌<◌, ◌≤◌, ltb, not, List, [], ◌∷◌, ◌++◌, length, take, drop, get_or, refl, sym, ap, ◌∙◌, arith, append_assoc, length-append}
 use Rattle.std.specs.Prelude.{map, Option, Result, OnOk}
 use Rattle.std.specs.Io.KnownBytes.{Appends}
 use Rattle.std.proofs.KnownBytes.{Appends-trans}
@@ -11,6 +11,7 @@ use Rattle.std.proofs.lemmas.List.Elements.{filter-append}
 use Rattle.std.proofs.lemmas.List.Filters.{length-filter_both}
 use Rattle.nr_endpoint.specs.SendQueue.{ends_left, ends_passed}
 
+-- the ends that are left, and how many went by, of two lists
 pub ends_left-append : (n : ℕ) (xs ys : List ℕ) → ends_left n (xs ++ ys) ≡ ends_left n xs ++ ends_left n ys
 ends_left-append n xs ys =
     ap (map (λ (end : ℕ). end - n)) (filter-append (ltb n) xs ys) ∙ map-append (λ (end : ℕ). end - n) (filter (ltb n) xs) (filter (ltb n) ys)
@@ -69,6 +70,7 @@ taken_both hello fpdus count =
     take-add (length hello) count (hello ++ fpdus)
     ∙ (λ t. take_at hello fpdus (length hello) refl t ++ take count (drop_at hello fpdus (length hello) refl t))
 
+-- what `write_both` says where n bytes of those that may be written were written
 abbrev pub Written : {T E : Type 0} → (may hello fpdus hello_left fpdus_left : List ℕ) → ℕ → Option (List ℕ) → Option (List ℕ) → Result T E → ℕ → Type 0
 Written may hello fpdus hello_left fpdus_left count before after r n =
     (count ≡ n - length hello) × (n ≤ length may) × (hello_left ≡ drop n hello) × (fpdus_left ≡ drop (n - length hello) fpdus)

@@ -8,9 +8,8 @@ ghost use Rattle.nr_wire.specs.Hello.{hello_encoding};
 ghost use Rattle.nr_link.specs.Output.{refusing_hello};
 ghost use Rattle.nr_link.specs.Ending.{final_output};
 ghost use Rattle.nr_endpoint.specs.Judging.{reply_hello};
-ghost use Rattle.nr_endpoint.specs.SendQueue.{terminate_by};
 ghost use Rattle.nr_outside.specs.Faults.{Rises};
-ghost use Rattle.nr_endpoint.specs.SendQueue.{initial_queue, next_number, with_hello, with_send, with_write, with_request, with_response, with_end, rejection, writable, written, ends_left, ends_passed, fpdus_written};
+ghost use Rattle.nr_endpoint.specs.SendQueue.{initial_queue, with_hello, with_send, with_write, with_request, with_response, with_end, rejection, terminate_by, writable, written, ends_left, ends_passed};
 
 use crate::constants::{WORD_BOUNDS, WORD_NO_BUFFER, WORD_NO_STAG, WORD_RIGHT};
 use crate::framing::{Carrier, push_cut, push_segment, push_terminate};
@@ -68,6 +67,14 @@ fn push_hello(out: &mut BytesMut, alloc: Global, side: Side, flags: u8) -> Resul
     Ok(())
 }
 
+/// Writes a place in a region: its STag and an offset.
+fn write_place(writer: &mut Writer, stag: u32, to: u64) -> Result<(), Memory>
+    ensures { OnOk result (writer.new ≡ writer.old ++ (word stag ++ hyper to)) }
+{
+    writer.u32(stag)?;
+    writer.u64(to)
+}
+
 /// The payload of a Read Request (RFC 5040 section 4.4): `len` bytes of the peer's region `stag`, from `to` on, into the own region
 /// `sink`, from `at` on.
 fn request_payload(
@@ -81,11 +88,9 @@ fn request_payload(
     ensures { IfOk result (λ o. o ≡ word sink ++ (hyper at ++ (word len ++ (word stag ++ hyper to)))) }
 {
     let mut writer = Writer::new(alloc);
-    writer.u32(sink)?;
-    writer.u64(at)?;
+    write_place(&mut writer, sink, at)?;
     writer.u32(len)?;
-    writer.u32(stag)?;
-    writer.u64(to)?;
+    write_place(&mut writer, stag, to)?;
     Ok(writer.finish())
 }
 
@@ -351,8 +356,9 @@ impl SendQueue {
         self.hello.len() + self.fpdus.len()
     }
 
-    /// The ends of Sends and Read Responses, where the first `n` bytes of the FPDUs were written.
-    fn ends_passed(&mut self, n: usize)
+    /// Drops the ends of Sends and Read Responses that the first `n` bytes of the FPDUs reach, which were written. The Sends are
+    /// counted.
+    fn drop_passed_ends(&mut self, n: usize)
         ensures { self.new ≡ record self.old {
           send_ends = ends_left n self.old.send_ends;
           response_ends = ends_left n self.old.response_ends;
@@ -375,7 +381,7 @@ impl SendQueue {
         ensures never_falls { K.faults sink.old ≤ K.faults sink.new }
     {
         let (count, done) = write_both(&mut self.hello, &mut self.fpdus, has_hello, sink);
-        self.ends_passed(count);
+        self.drop_passed_ends(count);
         done
     }
 }

@@ -1,4 +1,4 @@
-use Rattle.std.proofs.Common.{◌+◌, ◌≤◌, ◌^◌, ◌<◌, ◌≡◌, length, take, refl, arith, sym, ap, ◌∙◌}
+use Rattle.std.proofs.Common.{◌+◌, ◌≤◌, ◌<◌, length, refl, arith, sym, ap, ◌∙◌}
 use Rattle.std.proofs.lemmas.List.{take_all}
 use Rattle.nr_endpoint.specs.SendQueue.{ends_passed}
 use Rattle.nr_endpoint.proofs.SendQueues.{looked_at_none, looked_at_all, looked_at_more, passed_more, passed_within}

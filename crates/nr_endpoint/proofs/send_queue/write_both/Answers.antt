@@ -1,4 +1,4 @@
-use Rattle.std.proofs.Common.{◌≡◌, Bool, true, length, ◌+◌, rules}
+use Rattle.std.proofs.Common.{◌≡◌, true, length, ◌+◌, rules}
 use Rattle.nr_endpoint.proofs.SendQueues.{written_both}
 use Rattle.nr_endpoint.proofs.send_queue.write_both.Goals as goal
 
