@@ -6,3 +6,5 @@ pub mod ReceiveQueueSteps
 mod Cuts
 mod SendQueues
 pub mod Alive
+pub mod WholeFrames
+pub mod Taken

@@ -1,5 +1,5 @@
 -- Why a segment ends a side, one kind of segment at a time: for the code. nr_link has the whole list.
-use Rattle.std.specs.Prelude.{ℕ, ◌+◌, Bool, true, false, not, ◌&&◌, ◌||◌, ◌==◌, nat_lt, nat_le, if◌then◌else◌, List, ◌++◌, length, Option, None, Some}
+use Rattle.std.specs.Prelude.{◌≡◌, ◌<◌, ◌≤◌, ◌^◌, ℕ, ◌+◌, Bool, true, false, not, ◌&&◌, ◌||◌, ◌==◌, nat_lt, nat_le, if◌then◌else◌, List, ◌++◌, length, Option, None, Some}
 use Rattle.nr_wire.specs.Constants.{OPCODE_READ_REQUEST, OPCODE_READ_RESPONSE, OPCODE_TERMINATE}
 use Rattle.nr_regions.specs.declared.denied.Denied.{Denied}
 use Rattle.nr_regions.specs.RegisteredMemory.{denial, right_for}
@@ -59,3 +59,13 @@ request_end s last payload =
 unfoldable pub terminate_end : LinkState → Bool → List ℕ → Option End
 terminate_end s last payload =
     bad_if s.place REASON_FORM (is_malformed OPCODE_TERMINATE last payload) (Some (ends.Terminated (word_at 0 payload)))
+
+-- what holds of a Read Request, and of a segment of a Send, that doesn't end the side
+pub record RequestIsFine (s : LinkState) (payload : List ℕ) : Type 0 where
+  pub size : length payload ≡ 28
+  pub within : (read_request_in payload).sink_to + (read_request_in payload).size ≤ 2 ^ 64
+  pub allowed : denial s.memory (fetch_access (read_request_in payload)) ≡ None
+
+pub record SendIsFine (s : LinkState) (last : Bool) (payload : List ℕ) : Type 0 where
+  pub receive : is_begun s.receive_queue.received.begun ≡ false → 0 < s.receive_queue.free
+  pub fits : last ≡ true → send_len s payload ≤ send_max

@@ -181,20 +181,12 @@ impl ReceiveQueue {
 
     /// One more segment of a Send, which is begun or finds a receive, and fits it where it becomes whole. An `Err` changes nothing.
     #[tactic(auto, unfolding(crate::specs::ReceiveQueue::with_segment))]
-    pub fn receive(
-        &mut self,
-        last: bool,
-        word: u32,
-        queue: u32,
-        msn: u32,
-        offset: u32,
-        payload: &[u8],
-    ) -> Result<(), Memory>
+    pub fn receive(&mut self, last: bool, payload: &[u8]) -> Result<(), Memory>
         requires receive { is_begun self.old.received.begun ≡ false → 0 < self.old.free }
         requires fits { last ≡ true → length (begun_bytes self.old.received.begun) + length payload.now ≤ send_max }
         requires count { self.old.received.sends < 2 ^ 63 }
         requires bytes { length (begun_bytes self.old.received.begun) + length payload.now < 2 ^ 63 }
-        ensures ok { OnOk result (self.new ≡ with_segment (Untagged last OPCODE_SEND word queue msn offset payload.now) self.old) }
+        ensures ok { OnOk result (self.new ≡ with_segment (Untagged last OPCODE_SEND 0 0 0 0 payload.now) self.old) }
         ensures err { OnErr result (self.new ≡ self.old) }
     {
         if last {
@@ -236,17 +228,9 @@ impl ReceiveQueue {
     }
 
     /// One more Read Request.
-    pub fn count_request(
-        &mut self,
-        last: bool,
-        word: u32,
-        queue: u32,
-        msn: u32,
-        offset: u32,
-        payload: &[u8],
-    )
+    pub fn count_request(&mut self)
         requires { self.old.received.requests < 2 ^ 63 }
-        ensures { self.new ≡ with_segment (Untagged last OPCODE_READ_REQUEST word queue msn offset payload.now) self.old }
+        ensures { self.new ≡ with_segment (Untagged true OPCODE_READ_REQUEST 0 0 0 0 []) self.old }
     {
         self.requests += 1;
     }

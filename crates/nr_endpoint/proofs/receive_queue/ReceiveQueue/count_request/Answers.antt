@@ -1,3 +1,4 @@
+use Rattle.std.proofs.Common.{[], true}
 use Rattle.nr_endpoint.proofs.ReceiveQueueBytes.{kept_begun}
 use Rattle.nr_endpoint.proofs.ReceiveQueueSteps.{with_request}
 use Rattle.nr_endpoint.proofs.receive_queue.ReceiveQueue.count_request.Goals as goal
@@ -5,4 +6,4 @@ use Rattle.nr_endpoint.proofs.receive_queue.ReceiveQueue.count_request.Goals as 
 pub returns : goal.returns
 returns c =
     rw (← c.self.view_is)
-    (with_request c.args.last c.args.word c.args.queue c.args.msn c.args.offset c.args.payload.now _ (kept_begun c.self.inside.begun c.self.invariant.begun_len))
+    (with_request true 0 0 0 0 [] _ (kept_begun c.self.inside.begun c.self.invariant.begun_len))
