@@ -56,10 +56,10 @@ request-fine : (s : LinkState) (last : Bool) (payload : List ℕ) → request_en
 unfolding request_end
 request-fine s last payload is =
     let parts : (is_malformed OPCODE_READ_REQUEST last payload ≡ false) × (denied_if (read_request_in payload).stag (read_request_in payload).to (denial s.memory (fetch_access (read_request_in payload)))
-            (bad_if s.place REASON_REQUESTS (nat_le open_reads_max (length s.send_queue.response_ends)) None) ≡ None) =
-        not-bad s.place REASON_FORM (is_malformed OPCODE_READ_REQUEST last payload) _ is in
+    (bad_if s.place REASON_REQUESTS (nat_le open_reads_max (length s.send_queue.response_ends)) None) ≡ None) =
+    not-bad s.place REASON_FORM (is_malformed OPCODE_READ_REQUEST last payload) _ is in
     let form : (eqb (length payload) 28 ≡ true) × (nat_lt (2 ^ 64) ((read_request_in payload).sink_to + (read_request_in payload).size) ≡ false) =
-        well-formed last (eqb (length payload) 28) (nat_lt (2 ^ 64) ((read_request_in payload).sink_to + (read_request_in payload).size)) parts.0 in
+    well-formed last (eqb (length payload) 28) (nat_lt (2 ^ 64) ((read_request_in payload).sink_to + (read_request_in payload).size)) parts.0 in
     record {
       size = eqb-true (length payload) 28 form.0;
       within = ltb-false (2 ^ 64) ((read_request_in payload).sink_to + (read_request_in payload).size) form.1;
@@ -93,8 +93,8 @@ pub send-fine : (s : LinkState) (last : Bool) (msn : ℕ) (payload : List ℕ) �
 unfolding send_end
 send-fine s last msn payload is =
     let parts : (not (is_begun s.receive_queue.received.begun || nat_lt 0 s.receive_queue.free) ≡ false) × (bad_if s.place REASON_LONG (last && nat_lt send_max (send_len s payload))
-            (bad_if s.place REASON_SHORT (last && nat_lt (send_len s payload) 16) None) ≡ None) =
-        has-buffer msn (not (is_begun s.receive_queue.received.begun || nat_lt 0 s.receive_queue.free)) _ is in
+    (bad_if s.place REASON_SHORT (last && nat_lt (send_len s payload) 16) None) ≡ None) =
+    has-buffer msn (not (is_begun s.receive_queue.received.begun || nat_lt 0 s.receive_queue.free)) _ is in
     record {
       receive = free-or-begun (is_begun s.receive_queue.received.begun) s.receive_queue.free parts.0;
       fits = not-long last send_max (send_len s payload) (not-bad s.place REASON_LONG (last && nat_lt send_max (send_len s payload)) _ parts.1).0;

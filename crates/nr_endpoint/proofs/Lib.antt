@@ -8,3 +8,4 @@ mod SendQueues
 pub mod Alive
 pub mod WholeFrames
 pub mod Taken
+pub mod StagedFrames

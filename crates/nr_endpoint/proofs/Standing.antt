@@ -58,8 +58,9 @@ unfolding after_call
 written-state l t stag to bytes is = ap (λ (s : LinkState). with_state s l) is
 
 pub read-state : (l : Link) (t : LinkState) (sink at stag to len : ℕ) → t ≡ unless_ended l.state (record l.state {
-        send_queue = with_request sink at len stag to l.state.send_queue;
-        reads = l.state.reads ++ record { sink = sink; at = at; left = len } ∷ [] }) →
+  send_queue = with_request sink at len stag to l.state.send_queue;
+  reads = l.state.reads ++ record { sink = sink; at = at; left = len } ∷ [];
+}) →
     with_state t l ≡ after_call l (ReadRemote sink at stag to len)
 unfolding after_call
 read-state l t sink at stag to len is = ap (λ (s : LinkState). with_state s l) is

@@ -20,8 +20,8 @@ pub counted_send : (q : ReceiveQueue) (last : Bool) (payload : List ℕ) (place 
 unfolding with_segment
 counted_send q true payload place n counted some = record { bytes = omega (arith, counted.bytes, some) }
 counted_send q false payload place n counted some = record {
-    bytes = omega (arith, counted.bytes, some, kept_len (begun_bytes q.received.begun ++ payload), length-append (begun_bytes q.received.begun) payload);
-  }
+  bytes = omega (arith, counted.bytes, some, kept_len (begun_bytes q.received.begun ++ payload), length-append (begun_bytes q.received.begun) payload);
+}
 
 kept_same : (begun : Option (List ℕ)) → length (begun_bytes (kept_send begun)) ≡ length (begun_bytes begun)
 kept_same None = refl
@@ -45,10 +45,28 @@ pub took_request : (s : LinkState) (q : ReceiveQueue) (sends : SendQueue) (r : R
 unfolding with_effect with_segment
 took_request s q sends r bytes payload frame is queued request fetched =
     (λ i. record { side = s.side; has_hello = s.has_hello; last = s.place; place = s.place + length frame; ended = s.ended; receive_queue = is i; reads = s.reads; memory = s.memory; send_queue = queued i })
-    ∙ (λ i. record { side = s.side; has_hello = s.has_hello; last = s.place; place = s.place + length frame; ended = s.ended; receive_queue = with_segment (Untagged true OPCODE_READ_REQUEST 0 0 0 0 []) s.receive_queue; reads = s.reads; memory = s.memory;
-        send_queue = with_response r.sink r.sink_to (fetched i) s.send_queue })
-    ∙ (λ i. record { side = s.side; has_hello = s.has_hello; last = s.place; place = s.place + length frame; ended = s.ended; receive_queue = with_segment (Untagged true OPCODE_READ_REQUEST 0 0 0 0 []) s.receive_queue; reads = s.reads; memory = s.memory;
-        send_queue = with_response (request i).sink (request i).sink_to (bytes_at s.memory (fetch_access (request i))) s.send_queue })
+    ∙ (λ i. record {
+      side = s.side;
+      has_hello = s.has_hello;
+      last = s.place;
+      place = s.place + length frame;
+      ended = s.ended;
+      receive_queue = with_segment (Untagged true OPCODE_READ_REQUEST 0 0 0 0 []) s.receive_queue;
+      reads = s.reads;
+      memory = s.memory;
+      send_queue = with_response r.sink r.sink_to (fetched i) s.send_queue;
+    })
+    ∙ (λ i. record {
+      side = s.side;
+      has_hello = s.has_hello;
+      last = s.place;
+      place = s.place + length frame;
+      ended = s.ended;
+      receive_queue = with_segment (Untagged true OPCODE_READ_REQUEST 0 0 0 0 []) s.receive_queue;
+      reads = s.reads;
+      memory = s.memory;
+      send_queue = with_response (request i).sink (request i).sink_to (bytes_at s.memory (fetch_access (request i))) s.send_queue;
+    })
 
 -- of an untagged segment, the opcode, the L bit and the payload count
 pub same_request : (s : LinkState) (last : Bool) (w queue msn offset : ℕ) (payload : List ℕ) →

@@ -76,3 +76,7 @@ StandsFor start calls link = link ≡ after_calls start calls
 -- For every list of calls that it stood for before, it stands for that list with this call.
 abbrev pub StandsOn : Link → Call → Link → Type 0
 StandsOn before call after = (start : Link) (calls : List Call) → StandsFor start calls before → StandsFor start (calls ++ call ∷ []) after
+
+-- After one step on a piece: it is taken up to the end of the frame that it makes whole, else all of it; or memory ran out for that frame.
+abbrev pub IsStep : Link → List ℕ → Link → Type 0
+IsStep before piece after = (after ≡ after_call before (FeedOne piece)) ⊎ (after ≡ after_call before OutOfMemory)

@@ -22,7 +22,7 @@ use crate::event::Event;
 use crate::fault::{DrainFault, ReadRefused};
 use nr_link::End;
 use nr_outside::Sink;
-use nr_regions::{Registration, Regions, Right, Why};
+use nr_regions::{Regions, Registration, Right, Why};
 use nr_xdr::{Memory, Octets};
 
 impl Endpoint {

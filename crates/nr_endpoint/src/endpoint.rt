@@ -2,23 +2,16 @@
 
 ghost use Rattle.std.specs.Prelude.{◌≡◌, ◌≢◌, ℕ, ◌+◌, ◌-◌, ◌*◌, ◌^◌, ◌<◌, ◌≤◌, ◌↔◌, [], ◌∷◌, ◌++◌, length, drop, take, None, Some, is_some, Ok, Err, IfOk, OnOk, IfErr, OnErr, IsOk, IsErrAnd, IfSome, List, nat_lt, true};
 ghost use Rattle.std.specs.Result.{result_err};
-ghost use Rattle.std.specs.Io.KnownBytes.{Appends};
-ghost use Rattle.nr_outside.specs.Faults.{Rises};
 ghost use Rattle.nr_wire.specs.Feeding.{bytes_taken};
 ghost use Rattle.nr_wire.specs.Stream.{bytes_needed};
-ghost use Rattle.nr_regions.specs.RegisteredMemory.{Claim, IsHeld, bytes_in, claim_of, held_region};
-ghost use Rattle.nr_link.specs.declared.end.End.{End};
 ghost use Rattle.nr_link.specs.declared.end.End.TheVariants as ends;
-ghost use Rattle.nr_link.specs.Limits.{send_max, open_reads_max};
-ghost use Rattle.nr_endpoint.specs.SendQueue.{writable};
 ghost use Rattle.nr_endpoint.specs.LinkState.{initial_link, peer};
-ghost use Rattle.nr_endpoint.specs.Calls.{after_call, after_calls, IsStopReason, StandsFor, StandsOn};
+ghost use Rattle.nr_endpoint.specs.Calls.{after_call, after_calls, StandsFor, StandsOn, IsStep};
 ghost use Rattle.nr_endpoint.specs.Calls.Call.{Feed, FeedOne, OutOfMemory};
-ghost use Rattle.nr_endpoint.specs.EndpointState.{EndpointState, KeepsStaging};
-ghost use Rattle.nr_endpoint.specs.Receives.{HasBuffer};
-ghost use Rattle.nr_endpoint.specs.Views.{notice};
+ghost use Rattle.nr_endpoint.specs.EndpointState.{KeepsStaging};
 
 use crate::link::Link;
+use crate::staging::stage_frame;
 use nr_link::End;
 use nr_wire::constants::FPDU_MAX;
 use nr_wire::{Awaited, Side, bytes_needed, whole_frame};
@@ -63,7 +56,12 @@ fn peer(side: Side) -> Side
 
 impl Endpoint {
     /// A side of a link, with so many receives. The first region gets this STag, which isn't 0.
-    pub fn open(alloc: Global, side: Side, receives: u32, first_stag: u32) -> Result<Endpoint, Memory>
+    pub fn open(
+        alloc: Global,
+        side: Side,
+        receives: u32,
+        first_stag: u32,
+    ) -> Result<Endpoint, Memory>
         requires { 0 < first_stag }
         ensures state { IfOk result (λ e. e.link ≡ initial_link side receives first_stag) }
         ensures stands { IfOk result (λ e. StandsFor (initial_link side receives first_stag) [] e.link) }
@@ -118,48 +116,36 @@ impl Endpoint {
         }
     }
 
-    /// One frame of a piece: judged where it lies, or staged. Answers the bytes taken.
-    fn step(&mut self, piece: &[u8]) -> usize {
+    /// Takes a piece up to the end of the frame that it makes whole, else all of it, where the side hasn't ended; answers the bytes taken. A
+    /// frame that lies whole in the piece is judged where it lies. Want of memory ends the side as it was before the frame.
+    fn step(&mut self, piece: &[u8]) -> usize
+        requires live { self.old.link.state.ended ≡ None }
+        requires within { self.old.link.state.place + length self.old.link.rest + length piece.now ≤ 2 ^ 62 }
+        ensures taken { result ≡ bytes_taken self.old.link.awaited self.old.link.rest piece.now }
+        ensures state { IsStep self.old.link piece.now self.new.link }
+        ensures staging { KeepsStaging self.old self.new piece.now }
+    {
         if self.staged == 0 {
-            return self.step_whole(piece);
-        }
-        let fields = self.stage(piece);
-        let rest = self.stage(&piece[fields..]);
-        self.judge_staged();
-        fields + rest
-    }
-
-    /// No frame is begun.
-    fn step_whole(&mut self, piece: &[u8]) -> usize {
-        match whole_frame(self.awaited, piece) {
-            Some(len) => {
+            if let Some(len) = whole_frame(self.awaited, piece) {
                 let (frame, _) = piece.split_at(len);
-                self.link.judge(self.awaited, frame);
-                self.awaited = Awaited::Fpdu;
-                len
+                if self.link.judge(self.awaited, frame) {
+                    self.awaited = Awaited::Fpdu;
+                }
+                return len;
             }
-            None => self.stage(piece),
         }
-    }
-
-    /// Stages the next bytes of a piece that the frame needs: those of its length fields, or the rest. Answers how many.
-    fn stage(&mut self, piece: &[u8]) -> usize {
-        let needed = bytes_needed(self.awaited, &self.staging[..self.staged]);
-        let count = needed.min(piece.len());
-        let end = self.staged + count;
-        self.staging.as_mut_slice()[self.staged..end].copy_from_slice(&piece[..count]);
-        self.staged = end;
-        count
-    }
-
-    /// A frame that is staged whole is judged.
-    fn judge_staged(&mut self) {
-        let staged = &self.staging[..self.staged];
-        if whole_frame(self.awaited, staged).is_some() {
-            self.link.judge(self.awaited, staged);
+        let taken = stage_frame(&mut self.staging, self.staged, self.awaited, piece);
+        let end = self.staged + taken;
+        let (frame, _) = self.staging.as_slice().split_at(end);
+        if whole_frame(self.awaited, frame).is_none() {
+            self.staged = end;
+            return taken;
+        }
+        self.staged = 0;
+        if self.link.judge(self.awaited, frame) {
             self.awaited = Awaited::Fpdu;
-            self.staged = 0;
         }
+        taken
     }
 
     /// How many bytes the frame that is begun still needs, as far as its length fields are there; where none is begun, those up to the end

@@ -1,12 +1,12 @@
 //! Why a call of an endpoint is refused.
 
-use nr_outside::Failed;
-use nr_xdr::Memory;
-use thiserror::Error;
-
 ghost use Rattle.std.specs.Prelude.{◌≡◌};
 ghost use Rattle.nr_endpoint.specs.declared.fault.DrainFault.TheVariants as drains;
 ghost use Rattle.nr_endpoint.specs.declared.fault.ReadRefused.TheVariants as reads;
+
+use nr_outside::Failed;
+use nr_xdr::Memory;
+use thiserror::Error;
 
 /// Why not all output was handed on.
 #[derive(Clone, Copy, Debug, PartialEq, Eq, Error)]

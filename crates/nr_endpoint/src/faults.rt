@@ -125,7 +125,14 @@ impl Link {
 
     /// An access that isn't allowed, or a Read Response that isn't expected.
     #[tactic(auto, unfolding(crate::specs::SegmentEnds::tagged_end))]
-    fn tagged_fault(&self, last: bool, opcode: u8, stag: u32, to: u64, payload: &[u8]) -> Option<End>
+    fn tagged_fault(
+        &self,
+        last: bool,
+        opcode: u8,
+        stag: u32,
+        to: u64,
+        payload: &[u8],
+    ) -> Option<End>
         ensures { result ≡ tagged_end self.now last opcode stag to payload.now }
     {
         let len = payload.len() as u64;

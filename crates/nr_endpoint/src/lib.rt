@@ -27,6 +27,7 @@ mod operations;
 mod reads;
 mod receive_queue;
 mod send_queue;
+mod staging;
 
 pub use endpoint::Endpoint;
 pub use event::Event;

@@ -1,6 +1,6 @@
 //! One side of a link: what each frame of the peer makes of it.
 
-ghost use Rattle.std.specs.Prelude.{◌≡◌, ◌≢◌, ◌+◌, ◌^◌, ◌<◌, ◌≤◌, ◌⊎◌, length, Some, OnOk, OnErr, IfOk};
+ghost use Rattle.std.specs.Prelude.{◌≡◌, ◌≢◌, ◌+◌, ◌^◌, ◌<◌, ◌≤◌, if◌then◌else◌, length, Some, OnOk, OnErr, IfOk};
 ghost use Rattle.nr_wire.specs.Stream.{IsFrame};
 ghost use Rattle.nr_wire.specs.Segment.{IsSupported, payload_in, segment_of};
 ghost use Rattle.nr_wire.specs.View.{segment as plain};
@@ -70,12 +70,12 @@ impl Link {
         })
     }
 
-    /// The next frame, which is whole, ends the side or has its effect. Where memory runs out for what it queues, the side ends as it was
-    /// before the frame.
-    pub fn judge(&mut self, awaited: Awaited, frame: &[u8])
+    /// The next frame, which is whole, ends the side or has its effect. False where memory ran out for what it queues: the side has then ended
+    /// as it was before the frame.
+    pub fn judge(&mut self, awaited: Awaited, frame: &[u8]) -> bool
         requires frame { IsFrame awaited frame.now }
         requires within { self.old.place + length frame.now ≤ 2 ^ 62 }
-        ensures { (self.new ≡ with_frame self.old awaited frame.now) ⊎ (self.new ≡ record self.old { ended = Some ends.Memory }) }
+        ensures { self.new ≡ (if result then with_frame self.old awaited frame.now else record self.old { ended = Some ends.Memory }) }
     {
         let judged = match awaited {
             Awaited::Hello(side) => self.greet(side, frame),
@@ -83,7 +83,9 @@ impl Link {
         };
         if judged.is_err() {
             self.ended = Some(End::Memory);
+            return false;
         }
+        true
     }
 
     /// The side ends, and queues what it writes last. An `Err` changes nothing.

@@ -74,8 +74,9 @@ impl Link {
         requires size { len < 2 ^ 32 }
         ensures full { IsErrAnd result (λ e. e ≡ refusals.Full open_reads_max) ↔ (length self.old.reads ≡ open_reads_max) }
         ensures ok { OnOk result (self.new ≡ unless_ended self.old (record self.old {
-            send_queue = with_request registration.now.stag at len stag to self.old.send_queue;
-            reads = self.old.reads ++ record { sink = registration.now.stag; at = at; left = len } ∷ [] })) }
+          send_queue = with_request registration.now.stag at len stag to self.old.send_queue;
+          reads = self.old.reads ++ record { sink = registration.now.stag; at = at; left = len } ∷ [];
+        })) }
         ensures err { OnErr result (self.new ≡ self.old) }
     {
         if self.reads.is_full() {
@@ -92,7 +93,7 @@ impl Link {
         self.reads.push(OpenRead {
             sink,
             at,
-            end: at + len,
+            end: registration.len().min(at + len),
         });
         Ok(())
     }

@@ -106,7 +106,8 @@ impl Regions {
     /// The sum of the lengths of the regions that are held.
     #[tactic(auto, unfolding(crate::specs::RegisteredMemory::bytes_held))]
     pub fn bytes_held(&self) -> u128
-        ensures { result ≡ bytes_held self.now.memory }
+        ensures sum { result ≡ bytes_held self.now.memory }
+        ensures most { result ≤ 2 ^ 96 }
     {
         self.bytes
     }

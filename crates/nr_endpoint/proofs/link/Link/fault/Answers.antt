@@ -36,7 +36,7 @@ returns-then-opcode-eq-OPCODE_READ_REQUEST c = λ frame at.
 pub returns-else-opcode-eq-OPCODE_READ_REQUEST : goal.returns-else-opcode-eq-OPCODE_READ_REQUEST
 returns-else-opcode-eq-OPCODE_READ_REQUEST c = λ frame at.
     let supported : IsSupported (Untagged c.in-Untagged.last c.in-Untagged.opcode c.in-Untagged.word c.in-Untagged.queue c.in-Untagged.msn c.in-Untagged.offset c.in-Untagged.payload.now) =
-        subst (λ (segment : Segment). IsSupported (plain segment)) c.in-Untagged.is c.requires.supported in
+    subst (λ (segment : Segment). IsSupported (plain segment)) c.in-Untagged.is c.requires.supported in
     let opcode : c.in-Untagged.opcode ≡ 7 = is-terminate c.in-Untagged.opcode supported.0 c.if-opcode-eq-OPCODE_SEND.false c.if-opcode-eq-OPCODE_READ_REQUEST.false in
     c.terminate_fault.ensures ∙ terminate-end c.args.self.now frame c.in-Untagged.last c.in-Untagged.word c.in-Untagged.queue c.in-Untagged.msn c.in-Untagged.offset c.in-Untagged.payload.now at
     (none-of c.message_fault-fault.result _ (sym c.is_some.ensures ∙ c.if-is_some.false) c.message_fault-fault.ensures)

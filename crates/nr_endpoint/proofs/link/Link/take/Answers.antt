@@ -25,7 +25,7 @@ take_request-requires-clause-fine c =
 pub take_send-requires-clause-fine : goal.take_send-requires-clause-fine
 take_send-requires-clause-fine c =
     let supported : IsSupported (Untagged c.in-Untagged.last c.in-Untagged.opcode c.in-Untagged.word c.in-Untagged.queue c.in-Untagged.msn c.in-Untagged.offset c.in-Untagged.payload.now) =
-        subst (λ (segment : Segment). IsSupported (plain segment)) c.in-Untagged.is c.requires.supported in
+    subst (λ (segment : Segment). IsSupported (plain segment)) c.in-Untagged.is c.requires.supported in
     (alive-send c.args.self.now (next_frame c.args.self.now c.args.frame.now) c.in-Untagged.last c.in-Untagged.opcode c.in-Untagged.word c.in-Untagged.queue c.in-Untagged.msn c.in-Untagged.offset c.in-Untagged.payload.now refl
     supported.0 c.if-opcode-eq-OPCODE_READ_REQUEST.false
     (subst (λ (s : Segment). segment_end c.args.self.now (next_frame c.args.self.now c.args.frame.now) (plain s) ≡ None) c.in-Untagged.is c.requires.lives)).1
@@ -41,11 +41,11 @@ returns-then-opcode-eq-OPCODE_READ_REQUEST-clause-ok c =
 pub returns-else-opcode-eq-OPCODE_READ_REQUEST-clause-ok : goal.returns-else-opcode-eq-OPCODE_READ_REQUEST-clause-ok
 returns-else-opcode-eq-OPCODE_READ_REQUEST-clause-ok c =
     let supported : IsSupported (Untagged c.in-Untagged.last c.in-Untagged.opcode c.in-Untagged.word c.in-Untagged.queue c.in-Untagged.msn c.in-Untagged.offset c.in-Untagged.payload.now) =
-        subst (λ (segment : Segment). IsSupported (plain segment)) c.in-Untagged.is c.requires.supported in
+    subst (λ (segment : Segment). IsSupported (plain segment)) c.in-Untagged.is c.requires.supported in
     let opcode : c.in-Untagged.opcode ≡ OPCODE_SEND =
-        (alive-send c.args.self.now (next_frame c.args.self.now c.args.frame.now) c.in-Untagged.last c.in-Untagged.opcode c.in-Untagged.word c.in-Untagged.queue c.in-Untagged.msn c.in-Untagged.offset c.in-Untagged.payload.now refl
-        supported.0 c.if-opcode-eq-OPCODE_READ_REQUEST.false
-        (subst (λ (s : Segment). segment_end c.args.self.now (next_frame c.args.self.now c.args.frame.now) (plain s) ≡ None) c.in-Untagged.is c.requires.lives)).0 in
+    (alive-send c.args.self.now (next_frame c.args.self.now c.args.frame.now) c.in-Untagged.last c.in-Untagged.opcode c.in-Untagged.word c.in-Untagged.queue c.in-Untagged.msn c.in-Untagged.offset c.in-Untagged.payload.now refl
+    supported.0 c.if-opcode-eq-OPCODE_READ_REQUEST.false
+    (subst (λ (s : Segment). segment_end c.args.self.now (next_frame c.args.self.now c.args.frame.now) (plain s) ≡ None) c.in-Untagged.is c.requires.lives)).0 in
     on_ok c.take_send.result
     (λ is. is ∙ ap (behind_frame (next_frame c.args.self.now c.args.frame.now)) (same_send c.args.self.now c.in-Untagged.last c.in-Untagged.word c.in-Untagged.queue c.in-Untagged.msn c.in-Untagged.offset c.in-Untagged.payload.now)
     ∙ ap (λ (segment : Segment). behind_frame (next_frame c.args.self.now c.args.frame.now) (with_effect (plain segment) c.args.self.now)) (sym (c.in-Untagged.is

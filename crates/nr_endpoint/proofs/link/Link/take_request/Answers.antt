@@ -15,8 +15,17 @@ invariant_of-self-2 c =
 
 pub returns-clause-ok : goal.returns-clause-ok
 returns-clause-ok c =
-    let s : LinkState = record { side = c.self.inside.side; has_hello = c.self.inside.has_hello; last = c.self.inside.last; place = c.self.inside.place; ended = c.self.inside.ended; receive_queue = c.self.inside.receive_queue;
-        reads = map expected c.self.inside.reads.items; memory = c.self.inside.regions.memory; send_queue = c.self.inside.send_queue } in
+    let s : LinkState = record {
+      side = c.self.inside.side;
+      has_hello = c.self.inside.has_hello;
+      last = c.self.inside.last;
+      place = c.self.inside.place;
+      ended = c.self.inside.ended;
+      receive_queue = c.self.inside.receive_queue;
+      reads = map expected c.self.inside.reads.items;
+      memory = c.self.inside.regions.memory;
+      send_queue = c.self.inside.send_queue;
+    } in
     rw (← c.self.view_is) (took_request s c.count_request.new.self c.respond.new.self (read_request_view c.read_request-request.result) c.in-Ok.bytes.now c.args.payload.now c.args.frame.now
     c.count_request.ensures c.in_ok-respond-in-Ok.ensures.ok c.read_request-request.ensures
     (c.in-Ok.ensures.ok ∙ ap (λ (len : ℕ). bytes_at c.self.inside.regions.memory (record { right = Fetch; stag = c.read_request-request.result.stag; to = c.read_request-request.result.to; len = len })) c.from.ensures))
