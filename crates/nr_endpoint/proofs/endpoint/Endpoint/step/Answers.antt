@@ -12,7 +12,6 @@ use Rattle.nr_endpoint.proofs.StagedFrames.{taken_whole, taken_all, whole_as_sta
 use Rattle.nr_endpoint.proofs.OneStep.{living, stepped_whole, stepped_partial, out_of_memory, judged, not_judged, in_piece, not_in_piece, whole_is, partial_is, StagedFacts, staged_facts, keeps_partial, keeps_whole}
 use Rattle.nr_endpoint.proofs.endpoint.Endpoint.step.Goals as goal
 
-
 -- the rest is none where nothing is staged
 none-staged : (old piece : List ℕ) (s : ℕ) → s ≡ 0 → take s old ++ piece ≡ piece
 none-staged old piece s zero = ap (λ (n : ℕ). take n old ++ piece) zero
