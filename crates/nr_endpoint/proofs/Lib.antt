@@ -10,3 +10,4 @@ pub mod WholeFrames
 pub mod Taken
 pub mod StagedFrames
 pub mod OneStep
+pub mod Pieces

@@ -14,7 +14,7 @@ use Rattle.nr_wire.specs.Constants.{OPCODE_READ_RESPONSE, FPDU_MAX}
 use Rattle.nr_wire.specs.Feeding.{bytes_taken, feeding_after_step}
 use Rattle.nr_wire.specs.Stream.{IsPartial, IsFrame, is_whole, frame_len}
 use Rattle.nr_wire.proofs.Frames.{partial_from, partial_nil, partial_not_whole, shorter_than_frame, whole_from, IsFrame-take}
-use Rattle.nr_wire.proofs.Feedings.{feeding_after_step-whole, feeding_after_step-partial, bytes_taken-whole, bytes_taken-partial, bytes_taken_within}
+use Rattle.nr_wire.proofs.Feedings.{feeding_after_step-whole, feeding_after_step-partial, bytes_taken-whole, bytes_taken-partial, bytes_taken_within, feeding-ended}
 use Rattle.nr_regions.specs.declared.denied.Denied.{Denied}
 use Rattle.nr_link.specs.declared.end.End.{End}
 use Rattle.nr_link.specs.declared.end.End.TheVariants as ends
@@ -220,3 +220,41 @@ hello-not-memory f (Err reason) s none is = absurd cc
 pub frame-not-memory : (s : LinkState) (a : Awaited) (bytes : List ℕ) → s.ended ≡ None → (with_frame s a bytes).ended ≢ Some ends.Memory
 frame-not-memory s (HelloFrom side) bytes none = hello-not-memory (next_frame s bytes) (hello_of side bytes) s none
 frame-not-memory s Fpdu bytes none = fpdu-not-memory (next_frame s bytes) (segment_of bytes) s none
+
+-- ---- One frame at a time
+
+pub ended_stays_one : (st : LinkState) (a : Awaited) (rest piece : List ℕ) (end : End) → st.ended ≡ Some end → rest ≡ [] →
+    record { awaited = a; rest = rest; state = st } ≡ after_call (record { awaited = a; rest = rest; state = st }) (FeedOne piece)
+unfolding after_call
+ended_stays_one st a rest piece end is none =
+    sym ((feeding-ended has_ended with_frame (record { awaited = a; rest = rest; state = st }) piece (ap (λ (e : Option End). is_some e) is) none).1)
+
+pub memory_stays : (st : LinkState) (a : Awaited) (rest : List ℕ) → st.ended ≡ Some ends.Memory → rest ≡ [] →
+    record { awaited = a; rest = rest; state = st } ≡ after_call (record { awaited = a; rest = rest; state = st }) OutOfMemory
+unfolding after_call
+memory_stays st a rest is none = λ i. record { awaited = a; rest = none i; state = record st { ended = is i } }
+
+pub unchanged : (e : EndpointState) (piece : List ℕ) → KeepsStaging e e piece
+unchanged e piece = record { others = refl; len = refl }
+
+-- what one step left, where it wasn't for want of memory, and where it was
+step-not-memory : (before : Link) (piece : List ℕ) → before.state.ended ≡ None → (after_call before (FeedOne piece)).state.ended ≢ Some ends.Memory
+unfolding after_call
+step-not-memory before piece none is = by (is_whole before.awaited (before.rest ++ piece)) refl
+  where
+    by : (w : Bool) → is_whole before.awaited (before.rest ++ piece) ≡ w → ⊥
+    by true whole = frame-not-memory before.state before.awaited (take (frame_len before.awaited (before.rest ++ piece)) (before.rest ++ piece)) none
+        (ap (λ (l : Link). l.state.ended) (sym (feeding_after_step-whole has_ended with_frame before piece (living before.state none) whole)) ∙ is)
+    by false partial = absurd (let h : None ≡ Some ends.Memory = sym none ∙ ap (λ (l : Link). l.state.ended) (sym (feeding_after_step-partial has_ended with_frame before piece (living before.state none) partial)) ∙ is in cc)
+
+memory-ends : (l : Link) → (after_call l OutOfMemory).state.ended ≡ Some ends.Memory
+unfolding after_call
+memory-ends l = refl
+
+pub step_ok : (before after : Link) (piece : List ℕ) → IsStep before piece after → after.state.ended ≢ Some ends.Memory → after ≡ after_call before (FeedOne piece)
+step_ok before after piece (inl is) other = is
+step_ok before after piece (inr is) other = absurd (other (ap (λ (l : Link). l.state.ended) is ∙ memory-ends before))
+
+pub step_memory : (before after : Link) (piece : List ℕ) → IsStep before piece after → before.state.ended ≡ None → after.state.ended ≡ Some ends.Memory → after ≡ after_call before OutOfMemory
+step_memory before after piece (inl is) none memory = absurd (step-not-memory before piece none (ap (λ (l : Link). l.state.ended) (sym is) ∙ memory))
+step_memory before after piece (inr is) none memory = is

@@ -176,7 +176,7 @@ impl Endpoint {
     pub fn end(&self) -> Option<End>
         ensures { result ≡ self.now.link.state.ended }
     {
-        self.link.ended
+        self.link.end()
     }
 
     /// How many bytes all vectors have that are kept: the staging buffer, the receives that are not lent, the regions, and the output.

@@ -85,14 +85,14 @@ impl Endpoint {
         ensures staging { KeepsStaging self.old self.new piece.now }
     {
         let mut left = piece;
-        while self.link.ended.is_none() && !left.is_empty() {
+        while self.link.end().is_none() && !left.is_empty() {
             let taken = self.step(left);
             left = &left[taken..];
         }
-        match self.link.ended {
-            None => Ok(()),
-            Some(end) => Err(end),
+        if let Some(end) = self.link.end() {
+            return Err(end);
         }
+        Ok(())
     }
 
     /// Takes a piece up to the end of the frame that it makes whole, else all of it. `Ok` has the number of bytes taken. `Err` where the
@@ -106,14 +106,14 @@ impl Endpoint {
         ensures memory { result ≡ Err ends.Memory → self.new.link ≡ after_call self.old.link OutOfMemory }
         ensures staging { KeepsStaging self.old self.new piece.now }
     {
-        if let Some(end) = self.link.ended {
+        if let Some(end) = self.link.end() {
             return Err(end);
         }
         let taken = self.step(piece);
-        match self.link.ended {
-            None => Ok(taken),
-            Some(end) => Err(end),
+        if let Some(end) = self.link.end() {
+            return Err(end);
         }
+        Ok(taken)
     }
 
     /// Takes a piece up to the end of the frame that it makes whole, else all of it, where the side hasn't ended; answers the bytes taken. A

@@ -18,11 +18,18 @@ use crate::event::Event;
 use crate::fault::ReadRefused;
 use crate::link::Link;
 use crate::reads::OpenRead;
+use nr_link::End;
 use nr_outside::{Failed, Sink};
 use nr_regions::{Registration, Right, Why};
 use nr_xdr::{Memory, Octets};
 
 impl Link {
+    pub fn end(&self) -> Option<End>
+        ensures { result ≡ self.now.ended }
+    {
+        self.ended
+    }
+
     pub fn next_event(&mut self) -> Option<Event>
         ensures event { self.old.receive_queue.notices ≡ option_to_list (option_map notice result) ++ self.new.receive_queue.notices }
         ensures waits { is_some result ≡ nat_lt 0 (length self.old.receive_queue.notices) }
