@@ -1,11 +1,11 @@
 -- One more call: from the side's new state to the list of calls.
-use Rattle.std.proofs.Common.{◌≡◌, ℕ, ◌<◌, List, [], ◌∷◌, ◌++◌, Bool, true, false, Option, Some, None, cond, Result, Ok, Err, refl, sym, ap, ◌∙◌}
-use Rattle.std.specs.Prelude.{OnOk, is_some}
+use Rattle.std.proofs.Common.{◌≡◌, ℕ, ◌<◌, ◌≤◌, List, [], ◌∷◌, ◌++◌, length, take, Bool, true, false, Option, Some, None, cond, Result, Ok, Err, refl, sym, ap, subst, ◌∙◌, if◌then◌else◌}
+use Rattle.std.specs.Prelude.{OnOk, IsErr, is_some}
 use Rattle.nr_regions.specs.declared.right.Right.{Right}
 use Rattle.nr_regions.specs.RegisteredMemory.{after_register, after_release}
 use Rattle.nr_link.specs.declared.end.End.{End}
 use Rattle.nr_link.specs.declared.end.End.TheVariants as ends
-use Rattle.nr_endpoint.specs.SendQueue.{with_send, with_write, with_request, written}
+use Rattle.nr_endpoint.specs.SendQueue.{with_send, with_write, with_request, writable, written}
 use Rattle.nr_endpoint.specs.ReceiveQueue.{told, posted}
 use Rattle.nr_endpoint.specs.LinkState.{Link, LinkState}
 use Rattle.nr_endpoint.specs.Judging.{with_end_of}
@@ -76,3 +76,49 @@ registered-state l t buf right is = ap (λ (s : LinkState). with_state s l) is
 pub released-state : (l : Link) (t : LinkState) (stag : ℕ) → t ≡ record l.state { memory = after_release l.state.memory stag } → with_state t l ≡ after_call l (Release stag)
 unfolding after_call
 released-state l t stag is = ap (λ (s : LinkState). with_state s l) is
+
+-- ---- Where a call does nothing, or some of it
+
+pub told-if : (b : Bool) (l : Link) (staging : List ℕ) (now : EndpointState) (t : LinkState) → record { link = l; staging = staging } ≡ now →
+    t ≡ (if b then record l.state { receive_queue = told l.state.receive_queue } else l.state) → with_state t l ≡ (if b then after_call now.link NextEvent else now.link)
+told-if true l staging now t view is = seen l staging now (with_state t l) NextEvent view (told-state l t is)
+told-if false l staging now t view is = ap (λ (s : LinkState). with_state s l) is ∙ ap (λ (e : EndpointState). e.link) view
+
+pub told-stands : (b : Bool) (before after : Link) → after ≡ (if b then after_call before NextEvent else before) → b ≡ true → StandsOn before NextEvent after
+told-stands true before after is = λ holds. stands_on before NextEvent after is
+told-stands false before after is = λ holds. absurd cc
+
+-- where a result is an error, nothing is asked of `Ok`
+pub on_err : {T E : Type 0} (r : Result T E) → IsErr r → (Q : Type 0) → OnOk r Q
+on_err (Ok x) is Q = absurd cc
+on_err (Err e) is Q = cc
+
+-- After a drain of some bytes: they were taken, as this says, and they are all, where that was said.
+abbrev pub IsDrained : (List ℕ → Type 0) → (ℕ → ℕ → Type 0) → Link → Link → Type 0
+IsDrained IsTaken IsAll before after =
+    (n : ℕ) × (n ≤ length (writable before.state.has_hello before.state.send_queue)) × IsTaken (take n (writable before.state.has_hello before.state.send_queue))
+    × (after ≡ after_call before (Drain n)) × StandsOn before (Drain n) after
+    × IsAll n (length (writable before.state.has_hello before.state.send_queue))
+
+abbrev pub WasDrained : (List ℕ → Type 0) → (ℕ → ℕ → Type 0) → LinkState → LinkState → Type 0
+WasDrained IsTaken IsAll s t =
+    (n : ℕ) × (n ≤ length (writable s.has_hello s.send_queue)) × (t ≡ record s { send_queue = written n s.send_queue })
+    × IsTaken (take n (writable s.has_hello s.send_queue)) × IsAll n (length (writable s.has_hello s.send_queue))
+
+pub drained : (IsTaken : List ℕ → Type 0) (WasAll IsAll : ℕ → ℕ → Type 0) → ((n len : ℕ) → WasAll n len → IsAll n len) → (before : Link) (staging : List ℕ) (now : EndpointState) (t : LinkState) →
+    record { link = before; staging = staging } ≡ now → WasDrained IsTaken WasAll before.state t → IsDrained IsTaken IsAll now.link (with_state t before)
+drained IsTaken WasAll IsAll on before staging now t view (n, fits, is, took, all) =
+    let same : with_state t before ≡ after_call before (Drain n) = drained-state before t n is in
+    let done : IsDrained IsTaken IsAll before (with_state t before) = (n, fits, took, same, stands_on before (Drain n) (with_state t before) same, on n (length (writable before.state.has_hello before.state.send_queue)) all) in
+    subst (λ (e : EndpointState). IsDrained IsTaken IsAll e.link (with_state t before)) view done
+
+-- ---- An end
+
+-- a side that has ended keeps no input
+pub stopped : (before : Link) (staging : List ℕ) (now : EndpointState) (t : LinkState) (reason : ℕ) → record { link = before; staging = staging } ≡ now →
+    t ≡ with_end_of (ends.Bad before.state.last reason) before.state → ended_link t before ≡ after_call now.link (Stop reason)
+stopped before staging now t reason view is = seen before staging now (ended_link t before) (Stop reason) view (stopped-state before t reason is)
+
+pub out_of_memory : (before : Link) (staging : List ℕ) (now : EndpointState) (t : LinkState) → record { link = before; staging = staging } ≡ now →
+    t ≡ record before.state { ended = Some ends.Memory } → ended_link t before ≡ after_call now.link OutOfMemory
+out_of_memory before staging now t view is = seen before staging now (ended_link t before) OutOfMemory view (out-of-memory-state before t is)

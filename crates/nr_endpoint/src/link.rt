@@ -57,16 +57,18 @@ impl Link {
         requires { 0 < first_stag }
         ensures { IfOk result (λ l. l ≡ initial_state side receives first_stag) }
     {
+        let send_queue = SendQueue::new(alloc, side)?;
+        let receive_queue = ReceiveQueue::new(alloc, receives)?;
         Ok(Link {
             side,
             has_hello: false,
             last: 0,
             place: 0,
             ended: None,
-            receive_queue: ReceiveQueue::new(alloc, receives)?,
+            receive_queue,
             reads: Reads::new(),
             regions: Regions::new(alloc, first_stag),
-            send_queue: SendQueue::new(alloc, side)?,
+            send_queue,
         })
     }
 

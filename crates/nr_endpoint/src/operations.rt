@@ -142,6 +142,7 @@ impl Link {
         ensures is { result ≡ bytes_of self.now }
         ensures bound { result ≤ send_max * self.now.receive_queue.receives + bytes_held self.now.memory
             + length self.now.send_queue.hello + length self.now.send_queue.fpdus }
+        ensures most { result ≤ 2 ^ 127 }
     {
         let receives = self.receive_queue.buffers() as u128 * SEND_MAX as u128;
         receives + self.regions.bytes_held() + self.send_queue.len() as u128
