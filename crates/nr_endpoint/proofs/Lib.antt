@@ -10,3 +10,5 @@ pub mod WholeFrames
 pub mod Taken
 pub mod StagedFrames
 pub mod CutLaws
+pub mod MemoryLaws
+pub mod ReadLaws

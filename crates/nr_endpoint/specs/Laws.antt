@@ -1,11 +1,25 @@
 -- Laws of an endpoint, over the calls that it stands for.
-use Rattle.std.specs.Prelude.{◌≡◌, ℕ, true, List, [], ◌∷◌, ◌++◌, drop}
+use Rattle.std.specs.Prelude.{◌≡◌, ℕ, ◌<◌, true, if◌then◌else◌, List, [], ◌∷◌, ◌++◌, length, take, drop, map, Option, None, Some, Result, Ok, Err, ◌⊎◌}
 use Rattle.nr_wire.specs.declared.hello.Side.{Side}
-use Rattle.nr_wire.specs.Stream.{IsPartial}
+use Rattle.nr_wire.specs.declared.stream.Awaited.{Awaited}
+use Rattle.nr_wire.specs.declared.stream.Awaited.TheVariants.{Hello as HelloFrom, Fpdu}
+use Rattle.nr_wire.specs.Stream.{IsPartial, split}
 use Rattle.nr_wire.specs.Feeding.{bytes_taken}
-use Rattle.nr_endpoint.specs.LinkState.{Link, has_ended, initial_link}
+use Rattle.nr_wire.specs.Segment.{Segment, segment_of}
+use Rattle.nr_regions.specs.declared.right.Right.{Right}
+use Rattle.nr_regions.specs.RegisteredMemory.{RegisteredMemory, denial, live_region, held_region, bytes_in, bytes_at}
+use Rattle.nr_regions.specs.Access.{Grant, access_of, contents}
+use Rattle.nr_regions.specs.Events.{Event, after_event, after_events, tagged_segments, StaysOpen, IsRegisteredAt, IsReleasedAt}
+use Rattle.nr_regions.specs.Events.Event.{Register as RegisterRegion, Release as ReleaseRegion, Arrive}
+use Rattle.nr_link.specs.declared.end.End.{End}
+use Rattle.nr_link.specs.Frames.{Frame}
+use Rattle.nr_link.specs.ReceiveState.{ReadRequest, read_request_of}
+use Rattle.nr_link.specs.Ending.{tagged_access, final_output}
+use Rattle.nr_endpoint.specs.SendQueue.{with_response}
+use Rattle.nr_endpoint.specs.LinkState.{LinkState, Link, has_ended, initial_link}
+use Rattle.nr_endpoint.specs.Judging.{segment_end, fetch_access, next_frame, with_frame}
 use Rattle.nr_endpoint.specs.Calls.{Call, after_call, after_calls}
-use Rattle.nr_endpoint.specs.Calls.Call.{Feed, FeedOne}
+use Rattle.nr_endpoint.specs.Calls.Call.{Feed, FeedOne, NextEvent, Post, Stop, OutOfMemory, Send, WriteRemote, ReadRemote, Drain, Register, Release}
 
 -- ---- However the stream is cut
 
@@ -31,3 +45,120 @@ KeepsLessThanFrame = (side : Side) (receives first_stag : ℕ) (calls : List Cal
 abbrev pub EndedKeepsNothing : Type 0
 EndedKeepsNothing = (side : Side) (receives first_stag : ℕ) (calls : List Call) →
     has_ended (after_calls (initial_link side receives first_stag) calls).state ≡ true → (after_calls (initial_link side receives first_stag) calls).rest ≡ []
+
+-- ---- What the peer does with the memory of a side
+
+-- The tagged segment of a frame that doesn't end the side arrives at the memory, with the end of its frame.
+abbrev pub segment_arrivals : Frame → Segment → Option End → List Event
+segment_arrivals f segment None = map Arrive (tagged_access f segment)
+segment_arrivals f segment (Some end) = []
+
+abbrev pub fpdu_arrivals : LinkState → Frame → Result Segment ℕ → List Event
+fpdu_arrivals s f (Ok segment) = segment_arrivals f segment (segment_end s f segment)
+fpdu_arrivals s f (Err reason) = []
+
+abbrev pub frame_arrivals : LinkState → Awaited → List ℕ → List Event
+frame_arrivals s (HelloFrom side) bytes = []
+frame_arrivals s Fpdu bytes = fpdu_arrivals s (next_frame s bytes) (segment_of bytes)
+
+-- those of frames that come one after the other, up to the one that ends the side
+abbrev pub arrivals : List (List ℕ) → Awaited → LinkState → List Event
+arrivals [] a s = []
+arrivals (frame ∷ frames) a s = if has_ended s then [] else frame_arrivals s a frame ++ arrivals frames Fpdu (with_frame s a frame)
+
+-- the frames that a piece makes whole
+abbrev pub frames_made_whole : Link → List ℕ → List (List ℕ)
+frames_made_whole link piece = (split link.awaited (link.rest ++ piece)).frames
+
+-- What a call does to the memory. A feed of one frame takes the first that the piece makes whole.
+abbrev pub call_events : Link → Call → List Event
+call_events link (Feed piece) = arrivals (frames_made_whole link piece) link.awaited link.state
+call_events link (FeedOne piece) = arrivals (take 1 (frames_made_whole link piece)) link.awaited link.state
+call_events link NextEvent = []
+call_events link Post = []
+call_events link (Stop reason) = []
+call_events link OutOfMemory = []
+call_events link (Send message) = []
+call_events link (WriteRemote stag to bytes) = []
+call_events link (ReadRemote sink at stag to len) = []
+call_events link (Drain count) = []
+call_events link (Register buf right) = RegisterRegion right buf ∷ []
+call_events link (Release stag) = ReleaseRegion stag ∷ []
+
+abbrev pub memory_events : Link → List Call → List Event
+memory_events link [] = []
+memory_events link (call ∷ calls) = call_events link call ++ memory_events (after_call link call) calls
+
+-- Nothing else changes the memory.
+abbrev pub MemoryFollowsEvents : Type 0
+MemoryFollowsEvents = (link : Link) (calls : List Call) → (after_calls link calls).state.memory ≡ after_events link.state.memory (memory_events link calls)
+
+-- the memory denies none of the tagged segments, each as it stands when that segment arrives
+abbrev pub IsUndenied : RegisteredMemory → Event → Type 0
+IsUndenied m (RegisterRegion right buf) = Unit {0}
+IsUndenied m (ReleaseRegion stag) = Unit {0}
+IsUndenied m (Arrive s) = denial m (access_of s) ≡ None
+
+abbrev pub NoneIsDenied : RegisteredMemory → List Event → Type 0
+NoneIsDenied m [] = Unit {0}
+NoneIsDenied m (event ∷ events) = IsUndenied m event × NoneIsDenied (after_event m event) events
+
+abbrev pub PlacesAreAllowed : Type 0
+PlacesAreAllowed = (link : Link) (calls : List Call) → NoneIsDenied link.state.memory (memory_events link calls)
+
+-- ---- What the peer reads of it
+
+-- A Read Request that doesn't end the side makes an access that the memory doesn't deny, and is answered with the bytes of that
+-- access, as they stand at its frame.
+abbrev pub ReadsAreAllowed : Type 0
+ReadsAreAllowed = (s : LinkState) (frame : List ℕ) (segment : Segment) (request : ReadRequest) →
+    segment_of frame ≡ Ok segment → read_request_of segment ≡ Some request → segment_end s (next_frame s frame) segment ≡ None →
+    (denial s.memory (fetch_access request) ≡ None)
+    × ((with_frame s Fpdu frame).send_queue ≡ with_response request.sink request.sink_to (bytes_at s.memory (fetch_access request)) s.send_queue)
+
+-- the frame is such a Read Request
+pub record IsAllowedRead (s : LinkState) (a : Awaited) (frame : List ℕ) : Type 0 where
+  pub segment : Segment
+  pub request : ReadRequest
+  pub fpdu : a ≡ Fpdu
+  pub whole : segment_of frame ≡ Ok segment
+  pub asks : read_request_of segment ≡ Some request
+  pub lives : segment_end s (next_frame s frame) segment ≡ None
+
+-- what a side writes last, where it has ended
+abbrev pub last_output : Option End → List ℕ
+last_output None = []
+last_output (Some end) = final_output end
+
+-- Any other frame queues no FPDU but the one with which the side ends.
+abbrev pub NothingElseIsRead : Type 0
+NothingElseIsRead = (s : LinkState) (a : Awaited) (frame : List ℕ) → s.ended ≡ None →
+    IsAllowedRead s a frame ⊎ ((with_frame s a frame).send_queue.fpdus ≡ s.send_queue.fpdus ++ last_output (with_frame s a frame).ended)
+
+-- ---- A region, from its registration to its release
+
+-- A region that stays open holds what it held, with the payload of each allowed tagged segment over it, the later over the earlier.
+abbrev pub OpenRegionHolds : Type 0
+OpenRegionHolds = (grants : List Grant) (link : Link) (calls : List Call) (stag : ℕ) (right : Right) (buf : List ℕ) →
+    stag < link.state.memory.next → live_region link.state.memory stag ≡ Some (record { right = right; buf = buf }) →
+    StaysOpen grants stag right (length buf) (memory_events link calls) →
+    live_region (after_calls link calls).state.memory stag
+    ≡ Some (record { right = right; buf = contents grants stag buf (tagged_segments (memory_events link calls)) })
+
+-- A buffer that is released is what was registered, with the payload of each allowed tagged segment of all calls over it, those before
+-- and after among them: they don't touch it.
+abbrev pub ReleasedBufferHolds : Type 0
+ReleasedBufferHolds = (grants : List Grant) (link : Link) (from until : ℕ) (right : Right) (buf : List ℕ) (before between after : List Call) →
+    let start = after_calls link before in
+    let stag = start.state.memory.next in
+    let opened = after_call start (Register buf right) in
+    let last = after_calls opened between in
+    IsRegisteredAt grants stag from (memory_events link before) →
+    IsReleasedAt grants stag right (length buf) until (memory_events opened between) (memory_events (after_call last (Release stag)) after) →
+    bytes_in (held_region last.state.memory stag)
+    ≡ contents grants stag buf (tagged_segments (memory_events link (before ++ Register buf right ∷ (between ++ Release stag ∷ after))))
+
+-- Once it is released no call gives its STag a region again.
+abbrev pub ReleasedStaysDead : Type 0
+ReleasedStaysDead = (link : Link) (stag : ℕ) (calls : List Call) → stag < link.state.memory.next →
+    live_region (after_calls (after_call link (Release stag)) calls).state.memory stag ≡ None

@@ -1,6 +1,6 @@
 //! Laws of an endpoint, over the calls that it stands for.
 
-ghost use Rattle.nr_endpoint.specs.Laws.{PiecesJoin, StepsReach, EndStays, KeepsLessThanFrame, EndedKeepsNothing};
+ghost use Rattle.nr_endpoint.specs.Laws.{PiecesJoin, StepsReach, EndStays, KeepsLessThanFrame, EndedKeepsNothing, MemoryFollowsEvents, PlacesAreAllowed, ReadsAreAllowed, NothingElseIsRead, OpenRegionHolds, ReleasedBufferHolds, ReleasedStaysDead};
 
 /// What a side is after some bytes does not depend on how they were cut: to feed two pieces is to feed both joined, and one step on a
 /// piece and then the rest of it is the whole piece. A side that has ended stays as it is.
@@ -11,4 +11,17 @@ pub fn however_cut()
     // What is asked of a link above holds of every link that is reached.
     ensures partial { KeepsLessThanFrame }
     ensures ended_empty { EndedKeepsNothing }
+{}
+
+/// Against any peer, the memory of a side is that of its registrations, its releases, and the tagged segments of the frames that did not
+/// end it, in the order of the stream (RFC 5040 section 5). The regions allowed each of them, and each byte that was read, at that very
+/// frame.
+pub fn memory_follows_accesses()
+    ensures follows { MemoryFollowsEvents }
+    ensures places { PlacesAreAllowed }
+    ensures reads { ReadsAreAllowed }
+    ensures nothing_else { NothingElseIsRead }
+    ensures while_open { OpenRegionHolds }
+    ensures released { ReleasedBufferHolds }
+    ensures dead { ReleasedStaysDead }
 {}
