@@ -12,3 +12,5 @@ pub mod StagedFrames
 pub mod CutLaws
 pub mod MemoryLaws
 pub mod ReadLaws
+pub mod AlongFrames
+pub mod HelloLaws

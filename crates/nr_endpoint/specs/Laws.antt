@@ -1,6 +1,7 @@
 -- Laws of an endpoint, over the calls that it stands for.
-use Rattle.std.specs.Prelude.{◌≡◌, ℕ, ◌<◌, true, if◌then◌else◌, List, [], ◌∷◌, ◌++◌, length, take, drop, map, Option, None, Some, Result, Ok, Err, ◌⊎◌}
+use Rattle.std.specs.Prelude.{◌≡◌, ℕ, ◌<◌, Bool, true, false, if◌then◌else◌, List, [], ◌∷◌, ◌++◌, length, take, drop, map, Option, None, Some, Result, Ok, Err, ◌⊎◌}
 use Rattle.nr_wire.specs.declared.hello.Side.{Side}
+use Rattle.nr_wire.specs.declared.hello.Side.TheVariants.{Initiator, Responder}
 use Rattle.nr_wire.specs.declared.stream.Awaited.{Awaited}
 use Rattle.nr_wire.specs.declared.stream.Awaited.TheVariants.{Hello as HelloFrom, Fpdu}
 use Rattle.nr_wire.specs.Stream.{IsPartial, split}
@@ -15,7 +16,8 @@ use Rattle.nr_link.specs.declared.end.End.{End}
 use Rattle.nr_link.specs.Frames.{Frame}
 use Rattle.nr_link.specs.ReceiveState.{ReadRequest, read_request_of}
 use Rattle.nr_link.specs.Ending.{tagged_access, final_output}
-use Rattle.nr_endpoint.specs.SendQueue.{with_response}
+use Rattle.nr_link.specs.Output.{own_hello, refusing_hello}
+use Rattle.nr_endpoint.specs.SendQueue.{with_response, writable}
 use Rattle.nr_endpoint.specs.LinkState.{LinkState, Link, has_ended, initial_link}
 use Rattle.nr_endpoint.specs.Judging.{segment_end, fetch_access, next_frame, with_frame}
 use Rattle.nr_endpoint.specs.Calls.{Call, after_call, after_calls}
@@ -162,3 +164,56 @@ ReleasedBufferHolds = (grants : List Grant) (link : Link) (from until : ℕ) (ri
 abbrev pub ReleasedStaysDead : Type 0
 ReleasedStaysDead = (link : Link) (stag : ℕ) (calls : List Call) → stag < link.state.memory.next →
     live_region (after_calls (after_call link (Release stag)) calls).state.memory stag ≡ None
+
+-- ---- What a side writes before the peer's hello
+
+-- A side is stopped behind a frame of the peer, and only while it hasn't ended. `stop` asks this of its caller.
+abbrev pub MayBeCalled : Link → Call → Type 0
+MayBeCalled link (Feed piece) = Unit {0}
+MayBeCalled link (FeedOne piece) = Unit {0}
+MayBeCalled link NextEvent = Unit {0}
+MayBeCalled link Post = Unit {0}
+MayBeCalled link (Stop reason) = (link.state.ended ≡ None) × (0 < link.state.place)
+MayBeCalled link OutOfMemory = Unit {0}
+MayBeCalled link (Send message) = Unit {0}
+MayBeCalled link (WriteRemote stag to bytes) = Unit {0}
+MayBeCalled link (ReadRemote sink at stag to len) = Unit {0}
+MayBeCalled link (Drain count) = Unit {0}
+MayBeCalled link (Register buf right) = Unit {0}
+MayBeCalled link (Release stag) = Unit {0}
+
+abbrev pub MayAllBeCalled : Link → List Call → Type 0
+MayAllBeCalled link [] = Unit {0}
+MayAllBeCalled link (call ∷ calls) = MayBeCalled link call × MayAllBeCalled (after_call link call) calls
+
+-- what a sink takes, from the front of what may be written
+abbrev pub bytes_drained : Link → Call → List ℕ
+bytes_drained link (Feed piece) = []
+bytes_drained link (FeedOne piece) = []
+bytes_drained link NextEvent = []
+bytes_drained link Post = []
+bytes_drained link (Stop reason) = []
+bytes_drained link OutOfMemory = []
+bytes_drained link (Send message) = []
+bytes_drained link (WriteRemote stag to bytes) = []
+bytes_drained link (ReadRemote sink at stag to len) = []
+bytes_drained link (Drain count) = take count (writable link.state.has_hello link.state.send_queue)
+bytes_drained link (Register buf right) = []
+bytes_drained link (Release stag) = []
+
+abbrev pub bytes_written : Link → List Call → List ℕ
+bytes_written link [] = []
+bytes_written link (call ∷ calls) = bytes_drained link call ++ bytes_written (after_call link call) calls
+
+-- An initiator writes its hello, and a responder nothing, but for the hello with which it rejects a connection and ends
+-- (RFC 5044 section 7.1).
+abbrev pub IsHelloAlone : Side → Bool → List ℕ → Type 0
+IsHelloAlone Initiator ended bytes = bytes ≡ own_hello Initiator
+IsHelloAlone Responder ended bytes = (bytes ≡ []) ⊎ ((ended ≡ true) × (bytes ≡ refusing_hello))
+
+-- Until the peer's hello was accepted, that is all that was written and that may be written.
+abbrev pub NoFpduBeforeHello : Type 0
+NoFpduBeforeHello = (side : Side) (receives first_stag : ℕ) (calls : List Call) → MayAllBeCalled (initial_link side receives first_stag) calls →
+    let start = initial_link side receives first_stag in
+    let s = (after_calls start calls).state in
+    s.has_hello ≡ false → IsHelloAlone side (has_ended s) (bytes_written start calls ++ writable s.has_hello s.send_queue)

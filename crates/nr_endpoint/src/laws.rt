@@ -1,6 +1,6 @@
 //! Laws of an endpoint, over the calls that it stands for.
 
-ghost use Rattle.nr_endpoint.specs.Laws.{PiecesJoin, StepsReach, EndStays, KeepsLessThanFrame, EndedKeepsNothing, MemoryFollowsEvents, PlacesAreAllowed, ReadsAreAllowed, NothingElseIsRead, OpenRegionHolds, ReleasedBufferHolds, ReleasedStaysDead};
+ghost use Rattle.nr_endpoint.specs.Laws.{PiecesJoin, StepsReach, EndStays, KeepsLessThanFrame, EndedKeepsNothing, MemoryFollowsEvents, PlacesAreAllowed, ReadsAreAllowed, NothingElseIsRead, OpenRegionHolds, ReleasedBufferHolds, ReleasedStaysDead, NoFpduBeforeHello};
 
 /// What a side is after some bytes does not depend on how they were cut: to feed two pieces is to feed both joined, and one step on a
 /// piece and then the rest of it is the whole piece. A side that has ended stays as it is.
@@ -24,4 +24,9 @@ pub fn memory_follows_accesses()
     ensures while_open { OpenRegionHolds }
     ensures released { ReleasedBufferHolds }
     ensures dead { ReleasedStaysDead }
+{}
+
+/// Before the peer's hello was accepted, a side writes its hello alone (RFC 5044 section 7.1).
+pub fn no_fpdu_before_hello()
+    ensures { NoFpduBeforeHello }
 {}
