@@ -14,3 +14,5 @@ pub mod MemoryLaws
 pub mod ReadLaws
 pub mod AlongFrames
 pub mod HelloLaws
+pub mod EndLaws
+pub mod LastOutput

@@ -1,5 +1,6 @@
 -- Laws of an endpoint, over the calls that it stands for.
-use Rattle.std.specs.Prelude.{◌≡◌, ℕ, ◌<◌, Bool, true, false, if◌then◌else◌, List, [], ◌∷◌, ◌++◌, length, take, drop, map, Option, None, Some, Result, Ok, Err, ◌⊎◌}
+use Rattle.std.specs.Prelude.{◌≡◌, ℕ, ◌<◌, Bool, true, false, if◌then◌else◌, List, [], ◌∷◌, ◌++◌, length, take, drop, map, Option, None, Some, Result, Ok, Err, ◌⊎◌, ◌≤◌, IfSome, Contains}
+use Rattle.nr_wire.specs.Constants.{REASON_KEY, REASON_PRIVATE, REASON_LENGTH}
 use Rattle.nr_wire.specs.declared.hello.Side.{Side}
 use Rattle.nr_wire.specs.declared.hello.Side.TheVariants.{Initiator, Responder}
 use Rattle.nr_wire.specs.declared.stream.Awaited.{Awaited}
@@ -13,14 +14,16 @@ use Rattle.nr_regions.specs.Access.{Grant, access_of, contents}
 use Rattle.nr_regions.specs.Events.{Event, after_event, after_events, tagged_segments, StaysOpen, IsRegisteredAt, IsReleasedAt}
 use Rattle.nr_regions.specs.Events.Event.{Register as RegisterRegion, Release as ReleaseRegion, Arrive}
 use Rattle.nr_link.specs.declared.end.End.{End}
+use Rattle.nr_link.specs.declared.end.End.TheVariants as ends
+use Rattle.nr_link.specs.Reasons.{REASON_SHORT, REASON_LONG}
 use Rattle.nr_link.specs.Frames.{Frame}
 use Rattle.nr_link.specs.ReceiveState.{ReadRequest, read_request_of}
 use Rattle.nr_link.specs.Ending.{tagged_access, final_output}
 use Rattle.nr_link.specs.Output.{own_hello, refusing_hello}
-use Rattle.nr_endpoint.specs.SendQueue.{with_response, writable}
+use Rattle.nr_endpoint.specs.SendQueue.{SendQueue, with_response, writable, written}
 use Rattle.nr_endpoint.specs.LinkState.{LinkState, Link, has_ended, initial_link}
 use Rattle.nr_endpoint.specs.Judging.{segment_end, fetch_access, next_frame, with_frame}
-use Rattle.nr_endpoint.specs.Calls.{Call, after_call, after_calls}
+use Rattle.nr_endpoint.specs.Calls.{Call, IsStopReason, after_call, after_calls}
 use Rattle.nr_endpoint.specs.Calls.Call.{Feed, FeedOne, NextEvent, Post, Stop, OutOfMemory, Send, WriteRemote, ReadRemote, Drain, Register, Release}
 
 -- ---- However the stream is cut
@@ -217,3 +220,60 @@ NoFpduBeforeHello = (side : Side) (receives first_stag : ℕ) (calls : List Call
     let start = initial_link side receives first_stag in
     let s = (after_calls start calls).state in
     s.has_hello ≡ false → IsHelloAlone side (has_ended s) (bytes_written start calls ++ writable s.has_hello s.send_queue)
+
+-- ---- Why a side ends
+
+-- the reasons for which a frame ends a side: of a hello, and of an FPDU
+abbrev pub IsFrameReason : Awaited → ℕ → Type 0
+IsFrameReason (HelloFrom side) reason = (REASON_KEY ≤ reason) × (reason ≤ REASON_PRIVATE)
+IsFrameReason Fpdu reason = ((REASON_LENGTH ≤ reason) × (reason ≤ REASON_SHORT)) ⊎ (reason ≡ REASON_LONG)
+
+-- how a frame at this place ends a side, which is never for want of memory
+abbrev pub IsFrameEnd : Awaited → ℕ → End → Type 0
+IsFrameEnd a place (ends.Bad at reason) = (at ≡ place) × IsFrameReason a reason
+IsFrameEnd a place (ends.Denied stag offset why) = a ≡ Fpdu
+IsFrameEnd a place (ends.NoBuffer msn) = a ≡ Fpdu
+IsFrameEnd a place (ends.Terminated reason) = a ≡ Fpdu
+IsFrameEnd a place ends.Memory = ⊥
+
+abbrev pub FramesEndForThese : Type 0
+FramesEndForThese = (s : LinkState) (a : Awaited) (frame : List ℕ) → s.ended ≡ None → IfSome (with_frame s a frame).ended (IsFrameEnd a s.place)
+
+-- None of them is a reason for which the layer above stops a link.
+abbrev pub NoFrameStops : Type 0
+NoFrameStops = (a : Awaited) (reason : ℕ) → IsFrameReason a reason → IsStopReason reason → ⊥
+
+-- So a side that ended for such a reason was stopped for it, and one that ended for want of memory ran out of it.
+abbrev pub OthersComeFromStop : Type 0
+OthersComeFromStop = (side : Side) (receives first_stag : ℕ) (calls : List Call) (at reason : ℕ) →
+    (after_calls (initial_link side receives first_stag) calls).state.ended ≡ Some (ends.Bad at reason) → IsStopReason reason → Contains calls (Stop reason)
+
+abbrev pub MemoryComesFromOutOfMemory : Type 0
+MemoryComesFromOutOfMemory = (side : Side) (receives first_stag : ℕ) (calls : List Call) →
+    (after_calls (initial_link side receives first_stag) calls).state.ended ≡ Some ends.Memory → Contains calls OutOfMemory
+
+-- ---- What a side writes once it has ended
+
+-- the output where nothing more is queued: only what is written leaves it
+abbrev pub queue_drained : Call → SendQueue → SendQueue
+queue_drained (Feed piece) q = q
+queue_drained (FeedOne piece) q = q
+queue_drained NextEvent q = q
+queue_drained Post q = q
+queue_drained (Stop reason) q = q
+queue_drained OutOfMemory q = q
+queue_drained (Send message) q = q
+queue_drained (WriteRemote stag to bytes) q = q
+queue_drained (ReadRemote sink at stag to len) q = q
+queue_drained (Drain count) q = written count q
+queue_drained (Register buf right) q = q
+queue_drained (Release stag) q = q
+
+abbrev pub queue_drained_by : List Call → SendQueue → SendQueue
+queue_drained_by [] q = q
+queue_drained_by (call ∷ calls) q = queue_drained_by calls (queue_drained call q)
+
+-- No call queues anything on a side that has ended: its last FPDU is that with which it ended.
+abbrev pub EndedQueuesNothing : Type 0
+EndedQueuesNothing = (link : Link) (calls : List Call) → MayAllBeCalled link calls → has_ended link.state ≡ true →
+    (after_calls link calls).state.send_queue ≡ queue_drained_by calls link.state.send_queue
