@@ -9,3 +9,4 @@ pub mod Alive
 pub mod WholeFrames
 pub mod Taken
 pub mod StagedFrames
+pub mod OneStep

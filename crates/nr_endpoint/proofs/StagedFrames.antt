@@ -118,7 +118,7 @@ whole_as_staged a rest piece p = by (is_whole a (rest ++ piece)) refl
 
 -- ---- The staging buffer after two parts
 
-front-of : (old piece : List ℕ) (s n : ℕ) → s ≤ length old → n ≤ length piece → take (s + n) (take s old ++ (take n piece ++ drop (s + n) old)) ≡ take s old ++ take n piece
+pub front-of : (old piece : List ℕ) (s n : ℕ) → s ≤ length old → n ≤ length piece → take (s + n) (take s old ++ (take n piece ++ drop (s + n) old)) ≡ take s old ++ take n piece
 front-of old piece s n some few =
     let len : length (take s old ++ take n piece) ≡ s + n = omega (arith, some, few, length-append (take s old) (take n piece), length-take s old, length-take n piece) in
     ap (take (s + n)) (sym (append_assoc (take s old) (take n piece) (drop (s + n) old)))

@@ -11,7 +11,7 @@ ghost use Rattle.nr_endpoint.specs.Calls.Call.{Feed, FeedOne, OutOfMemory};
 ghost use Rattle.nr_endpoint.specs.EndpointState.{KeepsStaging};
 
 use crate::link::Link;
-use crate::staging::stage_frame;
+use crate::staging::{stage_frame, whole_in_piece};
 use nr_link::End;
 use nr_wire::constants::FPDU_MAX;
 use nr_wire::{Awaited, Side, bytes_needed, whole_frame};
@@ -125,14 +125,12 @@ impl Endpoint {
         ensures state { IsStep self.old.link piece.now self.new.link }
         ensures staging { KeepsStaging self.old self.new piece.now }
     {
-        if self.staged == 0 {
-            if let Some(len) = whole_frame(self.awaited, piece) {
-                let (frame, _) = piece.split_at(len);
-                if self.link.judge(self.awaited, frame) {
-                    self.awaited = Awaited::Fpdu;
-                }
-                return len;
+        if let Some(len) = whole_in_piece(self.staged, self.awaited, piece) {
+            let (frame, _) = piece.split_at(len);
+            if self.link.judge(self.awaited, frame) {
+                self.awaited = Awaited::Fpdu;
             }
+            return len;
         }
         let taken = stage_frame(&mut self.staging, self.staged, self.awaited, piece);
         let end = self.staged + taken;

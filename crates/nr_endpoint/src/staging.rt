@@ -1,11 +1,21 @@
 //! The staging buffer: the bytes of a frame that a piece cuts.
 
-ghost use Rattle.std.specs.Prelude.{◌≡◌, ◌+◌, ◌≤◌, ◌++◌, length, take, drop, min};
+ghost use Rattle.std.specs.Prelude.{◌≡◌, ◌+◌, ◌≤◌, ◌++◌, length, take, drop, min, ◌==◌, ◌&&◌, if◌then◌else◌, Some, None};
 ghost use Rattle.nr_wire.specs.Constants.{FPDU_MAX};
 ghost use Rattle.nr_wire.specs.Feeding.{bytes_taken};
-ghost use Rattle.nr_wire.specs.Stream.{IsPartial, bytes_needed};
+ghost use Rattle.nr_wire.specs.Stream.{IsPartial, bytes_needed, is_whole, frame_len};
 
-use nr_wire::{Awaited, bytes_needed};
+use nr_wire::{Awaited, bytes_needed, whole_frame};
+
+/// The length of the awaited frame, where none of it is staged and it lies whole at the front of a piece.
+pub fn whole_in_piece(staged: usize, awaited: Awaited, piece: &[u8]) -> Option<usize>
+    ensures { result ≡ (if staged == 0 && is_whole awaited piece.now then Some (frame_len awaited piece.now) else None) }
+{
+    if staged != 0 {
+        return None;
+    }
+    whole_frame(awaited, piece)
+}
 
 /// Stages the next bytes of a piece that the awaited frame needs, of which `staged` bytes are there: those of its length fields, or
 /// the rest. Answers how many.
