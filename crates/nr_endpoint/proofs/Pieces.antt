@@ -1,5 +1,5 @@
 -- A piece, step by step.
-use Rattle.std.proofs.Common.{◌≡◌, ◌≢◌, ℕ, ◌+◌, ◌-◌, ◌≤◌, ◌<◌, ◌^◌, max, is_some, Bool, true, false, cond, eqb, Result, Ok, Err, List, [], ◌∷◌, ◌++◌, length, take, drop, Option, Some, None, inl, inr, ◌⊎◌, refl, sym, ap, subst, ◌∙◌, arith, append_assoc, append-nil, length-append}
+use Rattle.std.proofs.Common.{◌≡◌, ◌≢◌, ℕ, ◌+◌, ◌-◌, ◌≤◌, ◌<◌, ◌^◌, max, is_some, Bool, true, false, cond, eqb, Result, Ok, Err, List, [], ◌∷◌, ◌++◌, length, take, drop, Option, Some, None, inl, inr, ◌⊎◌, refl, sym, ap, subst, ◌∙◌, arith, append-nil, length-append}
 use Rattle.std.proofs.lemmas.Bool.{cases_lt}
 use Rattle.std.proofs.lemmas.List.{length-take, length-drop, take_all, drop_all, drop-drop, take-append-drop}
 use Rattle.std.proofs.Math.Seq.{take-add}
@@ -11,7 +11,7 @@ use Rattle.nr_wire.specs.Segment.Segment.{Tagged, Untagged}
 use Rattle.nr_wire.specs.Constants.{OPCODE_READ_RESPONSE}
 use Rattle.nr_wire.specs.Feeding.{Feeding, bytes_taken, feeding_after, feeding_after_frames, feeding_in, feeding_after_step}
 use Rattle.nr_wire.specs.Stream.{Split, IsPartial, IsFrame, is_whole, frame_len, split}
-use Rattle.nr_wire.proofs.Frames.{partial_nil, partial_not_whole, shorter_than_frame, whole_from}
+use Rattle.nr_wire.proofs.Frames.{partial_not_whole, whole_from}
 use Rattle.nr_wire.proofs.Splits.{split-partial}
 use Rattle.nr_wire.proofs.Feedings.{feeding_after_step-whole, feeding_after_step-partial, feeding_after_step-rest, feeding_after_step-partial_rest, feeding_after-append, feeding-ended, bytes_taken-whole, bytes_taken-partial}
 use Rattle.nr_link.specs.declared.end.End.{End}
@@ -22,7 +22,7 @@ use Rattle.nr_endpoint.specs.Judging.{with_frame, with_fpdu, with_peer_hello, wi
 use Rattle.nr_endpoint.specs.EndpointState.{EndpointState, KeepsStaging, cut_frame_len}
 use Rattle.nr_endpoint.specs.Calls.{after_call, after_calls, IsStep}
 use Rattle.nr_endpoint.specs.Calls.Call.{Feed, FeedOne, OutOfMemory}
-use Rattle.nr_endpoint.proofs.StagedFrames.{taken_whole, taken_all, whole_as_staged}
+use Rattle.nr_endpoint.proofs.StagedFrames.{taken_whole, whole_as_staged}
 use Rattle.nr_endpoint.proofs.OneStep.{living, memory_stays}
 
 -- ---- Feeding nothing, and one step as a feed

@@ -1,11 +1,11 @@
-use Rattle.std.proofs.Common.{◌≡◌, ◌≢◌, ◌<◌, ℕ, List, [], ◌∷◌, length, take, Option, Some, None, Result, Ok, Err, refl, sym, ap, subst, ◌∙◌, arith}
+use Rattle.std.proofs.Common.{◌≡◌, ℕ, List, [], ◌∷◌, length, Some, None, Result, Ok, Err, refl, sym, ap, subst, ◌∙◌, arith}
 use Rattle.std.proofs.lemmas.Grind.{common_steps}
 use Rattle.nr_link.specs.declared.end.End.{End}
 use Rattle.nr_link.specs.declared.end.End.TheVariants as ends
 use Rattle.nr_endpoint.specs.EndpointState.{EndpointState}
 use Rattle.nr_endpoint.specs.Calls.Call.{Feed}
 use Rattle.nr_endpoint.proofs.Standing.{stands_on}
-use Rattle.nr_endpoint.proofs.Pieces.{IsFedTo, Advanced, fed_none, fed_on, fewer_left, fed_all, fed_memory}
+use Rattle.nr_endpoint.proofs.Pieces.{IsFedTo, fed_none, fed_on, fewer_left, fed_all, fed_memory}
 use Rattle.nr_endpoint.proofs.endpoint.Endpoint.feed.Goals as goal
 
 pub loop-left-init : goal.loop-left-init

@@ -1,4 +1,4 @@
-use Rattle.std.proofs.Common.{ℕ, length}
+use Rattle.std.proofs.Common.{length}
 use Rattle.nr_endpoint.proofs.Pieces.{IsFedTo}
 use Rattle.nr_endpoint.proofs.endpoint.Endpoint.feed.Given as goal
 
