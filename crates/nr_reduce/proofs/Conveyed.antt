@@ -84,7 +84,7 @@ made-verdict k message =
 
 -- ---- All of a list
 
-abbrev Each : {X : Type 0} → (X → Type 0) → List X → Type 0
+abbrev pub Each : {X : Type 0} → (X → Type 0) → List X → Type 0
 Each P [] = Unit {0}
 Each P (x ∷ xs) = P x × Each P xs
 
@@ -108,7 +108,7 @@ each-drop : {X : Type 0} (P : X → Type 0) (xs : List X) → Each P xs → Each
 each-drop P [] h = tt
 each-drop P (x ∷ xs) h = h.1
 
-each-found : (P : PendingCall → Type 0) (number : ℕ) (calls : List PendingCall) (c : PendingCall) → Each P calls → find (λ c. eqb c.number number) calls ≡ Some c → P c
+pub each-found : (P : PendingCall → Type 0) (number : ℕ) (calls : List PendingCall) (c : PendingCall) → Each P calls → find (λ c. eqb c.number number) calls ≡ Some c → P c
 each-found P number [] c h e = absurd cc
 each-found P number (d ∷ calls) c h e = by (eqb d.number number) e (λ f. each-found P number calls c h.1 f)
   where
@@ -193,7 +193,7 @@ ready-later opened es event r h = record {
   xid = h.xid;
 }
 
-record Known (opened : LinkParameters) (es : List Event) (k : ServerState) : Type 0 where
+pub record Known (opened : LinkParameters) (es : List Event) (k : ServerState) : Type 0 where
   pub calls : Each (IsReceivedCall opened es) k.calls
   pub ready : Each (WasConveyed opened es) k.ready
 
@@ -305,7 +305,7 @@ next-known opened es event h =
     one None = by_why (server_end opened k event)
     one (Some end) = known-later opened es event k h
 
-known-from : (opened : LinkParameters) (es more : List Event) → Known opened es (server_by opened es) → Known opened (es ++ more) (server_by opened (es ++ more))
+pub known-from : (opened : LinkParameters) (es more : List Event) → Known opened es (server_by opened es) → Known opened (es ++ more) (server_by opened (es ++ more))
 known-from opened es [] h = subst (λ (all : List Event). Known opened all (server_by opened all)) (sym (append-nil es)) h
 known-from opened es (event ∷ more) h =
     subst (λ (all : List Event). Known opened all (server_by opened all)) (append_assoc es (event ∷ []) more) (known-from opened (es ++ event ∷ []) more (next-known opened es event h))
