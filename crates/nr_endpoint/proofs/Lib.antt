@@ -16,3 +16,4 @@ pub mod AlongFrames
 pub mod HelloLaws
 pub mod EndLaws
 pub mod LastOutput
+pub mod PlaceOrder
