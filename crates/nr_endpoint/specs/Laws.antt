@@ -285,3 +285,11 @@ queue_drained_by (call ∷ calls) q = queue_drained_by calls (queue_drained call
 abbrev pub EndedQueuesNothing : Type 0
 EndedQueuesNothing = (link : Link) (calls : List Call) → MayAllBeCalled link calls → has_ended link.state ≡ true →
     (after_calls link calls).state.send_queue ≡ queue_drained_by calls link.state.send_queue
+
+-- Where a side is stopped it queues what it writes last, and where memory ran out, nothing.
+abbrev pub StopQueuesLast : Type 0
+StopQueuesLast = (link : Link) (reason : ℕ) →
+    (after_call link (Stop reason)).state.send_queue.fpdus ≡ link.state.send_queue.fpdus ++ final_output (ends.Bad link.state.last reason)
+
+abbrev pub OutOfMemoryQueuesNothing : Type 0
+OutOfMemoryQueuesNothing = (link : Link) → (after_call link OutOfMemory).state.send_queue ≡ link.state.send_queue
