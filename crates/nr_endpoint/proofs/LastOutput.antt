@@ -3,12 +3,12 @@ use Rattle.std.proofs.Common.{◌≡◌, Bool, true, false, cond, [], ◌∷◌,
 use Rattle.std.specs.Prelude.{is_some}
 use Rattle.nr_wire.proofs.Feedings.{feeding_after-ended, feeding_after_step-ended}
 use Rattle.nr_link.specs.declared.end.End.{End}
-use Rattle.nr_endpoint.specs.SendQueue.{SendQueue}
+use Rattle.nr_endpoint.specs.SendQueue.{with_end, SendQueue}
 use Rattle.nr_endpoint.specs.LinkState.{LinkState, Link, has_ended}
 use Rattle.nr_endpoint.specs.Judging.{with_frame}
 use Rattle.nr_endpoint.specs.Calls.{Call, after_call, after_calls}
 use Rattle.nr_endpoint.specs.Calls.Call.{Feed, FeedOne, NextEvent, Post, Stop, OutOfMemory, Send, WriteRemote, ReadRemote, Drain, Register, Release}
-use Rattle.nr_endpoint.specs.Laws.{MayBeCalled, queue_drained, queue_drained_by, EndedQueuesNothing}
+use Rattle.nr_endpoint.specs.Laws.{MayBeCalled, queue_drained, queue_drained_by, EndedQueuesNothing, StopQueuesLast, OutOfMemoryQueuesNothing}
 
 abbrev IsDrained : Link → Call → Link → Type 0
 IsDrained link call after = (has_ended after.state ≡ true) × (after.state.send_queue ≡ queue_drained call link.state.send_queue)
@@ -44,3 +44,11 @@ ended-queues-nothing link [] may gone = refl
 ended-queues-nothing link (call ∷ calls) may gone =
     let drained : IsDrained link call (after_call link call) = call-drained link call may.0 gone in
     ended-queues-nothing (after_call link call) calls may.1 drained.0 ∙ ap (λ (q : SendQueue). queue_drained_by calls q) drained.1
+
+pub stop-queues-last : StopQueuesLast
+unfolding after_call with_end
+stop-queues-last link reason = refl
+
+pub out-of-memory-queues-nothing : OutOfMemoryQueuesNothing
+unfolding after_call
+out-of-memory-queues-nothing link = refl

@@ -18,3 +18,4 @@ pub mod AlongFrames
 pub mod HelloLaws
 pub mod EndLaws
 pub mod LastOutput
+pub mod PlaceOrder

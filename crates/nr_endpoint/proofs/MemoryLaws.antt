@@ -122,11 +122,11 @@ fed-memory link piece = frames-memory (frames_made_whole link piece) (split link
 
 -- ---- One frame
 
-ended-arrivals : (frames : List (List ℕ)) (a : Awaited) (s : LinkState) → has_ended s ≡ true → arrivals frames a s ≡ []
+pub ended-arrivals : (frames : List (List ℕ)) (a : Awaited) (s : LinkState) → has_ended s ≡ true → arrivals frames a s ≡ []
 ended-arrivals [] a s is = refl
 ended-arrivals (frame ∷ frames) a s is = ap (λ (w : Bool). cond w [] (frame_arrivals s a frame ++ arrivals frames Fpdu (with_frame s a frame))) is
 
-one-arrival : (frame : List ℕ) (a : Awaited) (s : LinkState) → has_ended s ≡ false → arrivals (frame ∷ []) a s ≡ frame_arrivals s a frame
+pub one-arrival : (frame : List ℕ) (a : Awaited) (s : LinkState) → has_ended s ≡ false → arrivals (frame ∷ []) a s ≡ frame_arrivals s a frame
 one-arrival frame a s is = ap (λ (w : Bool). cond w [] (frame_arrivals s a frame ++ [])) is ∙ append-nil (frame_arrivals s a frame)
 
 no-event : (m after : RegisteredMemory) (events : List Event) → events ≡ [] → after ≡ m → Follows m events after

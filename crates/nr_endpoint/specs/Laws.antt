@@ -1,5 +1,5 @@
 -- Laws of an endpoint, over the calls that it stands for.
-use Rattle.std.specs.Prelude.{◌≡◌, ℕ, ◌<◌, Bool, true, false, if◌then◌else◌, List, [], ◌∷◌, ◌++◌, length, take, drop, map, Option, None, Some, Result, Ok, Err, ◌⊎◌, ◌≤◌, IfSome, Contains}
+use Rattle.std.specs.Prelude.{◌≡◌, ℕ, ◌<◌, Bool, true, false, if◌then◌else◌, List, [], ◌∷◌, ◌++◌, length, take, drop, map, Option, None, Some, Result, Ok, Err, ◌⊎◌, ◌≤◌, IfSome, Contains, All}
 use Rattle.nr_wire.specs.Constants.{REASON_KEY, REASON_PRIVATE, REASON_LENGTH}
 use Rattle.nr_wire.specs.declared.hello.Side.{Side}
 use Rattle.nr_wire.specs.declared.hello.Side.TheVariants.{Initiator, Responder}
@@ -10,7 +10,7 @@ use Rattle.nr_wire.specs.Feeding.{bytes_taken}
 use Rattle.nr_wire.specs.Segment.{Segment, segment_of}
 use Rattle.nr_regions.specs.declared.right.Right.{Right}
 use Rattle.nr_regions.specs.RegisteredMemory.{RegisteredMemory, denial, live_region, held_region, bytes_in, bytes_at}
-use Rattle.nr_regions.specs.Access.{Grant, access_of, contents}
+use Rattle.nr_regions.specs.Access.{Grant, access_of, contents, TaggedSegment}
 use Rattle.nr_regions.specs.Events.{Event, after_event, after_events, tagged_segments, StaysOpen, IsRegisteredAt, IsReleasedAt}
 use Rattle.nr_regions.specs.Events.Event.{Register as RegisterRegion, Release as ReleaseRegion, Arrive}
 use Rattle.nr_link.specs.declared.end.End.{End}
@@ -110,6 +110,14 @@ NoneIsDenied m (event ∷ events) = IsUndenied m event × NoneIsDenied (after_ev
 
 abbrev pub PlacesAreAllowed : Type 0
 PlacesAreAllowed = (link : Link) (calls : List Call) → NoneIsDenied link.state.memory (memory_events link calls)
+
+-- They come in the order of the stream: each ends behind the frames before these calls, and not behind the last of these calls.
+abbrev pub EndsWithin : ℕ → ℕ → TaggedSegment → Type 0
+EndsWithin from until segment = (from < segment.end) × (segment.end ≤ until)
+
+abbrev pub PlacesAreInOrder : Type 0
+PlacesAreInOrder = (link : Link) (calls : List Call) →
+    All (EndsWithin link.state.place (after_calls link calls).state.place) (tagged_segments (memory_events link calls))
 
 -- ---- What the peer reads of it
 
@@ -277,3 +285,11 @@ queue_drained_by (call ∷ calls) q = queue_drained_by calls (queue_drained call
 abbrev pub EndedQueuesNothing : Type 0
 EndedQueuesNothing = (link : Link) (calls : List Call) → MayAllBeCalled link calls → has_ended link.state ≡ true →
     (after_calls link calls).state.send_queue ≡ queue_drained_by calls link.state.send_queue
+
+-- Where a side is stopped it queues what it writes last, and where memory ran out, nothing.
+abbrev pub StopQueuesLast : Type 0
+StopQueuesLast = (link : Link) (reason : ℕ) →
+    (after_call link (Stop reason)).state.send_queue.fpdus ≡ link.state.send_queue.fpdus ++ final_output (ends.Bad link.state.last reason)
+
+abbrev pub OutOfMemoryQueuesNothing : Type 0
+OutOfMemoryQueuesNothing = (link : Link) → (after_call link OutOfMemory).state.send_queue ≡ link.state.send_queue

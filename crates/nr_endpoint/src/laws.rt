@@ -1,6 +1,6 @@
 //! Laws of an endpoint, over the calls that it stands for.
 
-ghost use Rattle.nr_endpoint.specs.Laws.{PiecesJoin, StepsReach, EndStays, KeepsLessThanFrame, EndedKeepsNothing, MemoryFollowsEvents, PlacesAreAllowed, ReadsAreAllowed, NothingElseIsRead, OpenRegionHolds, ReleasedBufferHolds, ReleasedStaysDead, NoFpduBeforeHello, FramesEndForThese, NoFrameStops, OthersComeFromStop, MemoryComesFromOutOfMemory, EndedQueuesNothing};
+ghost use Rattle.nr_endpoint.specs.Laws.{PiecesJoin, StepsReach, EndStays, KeepsLessThanFrame, EndedKeepsNothing, MemoryFollowsEvents, PlacesAreAllowed, PlacesAreInOrder, ReadsAreAllowed, NothingElseIsRead, OpenRegionHolds, ReleasedBufferHolds, ReleasedStaysDead, NoFpduBeforeHello, FramesEndForThese, NoFrameStops, OthersComeFromStop, MemoryComesFromOutOfMemory, EndedQueuesNothing, StopQueuesLast, OutOfMemoryQueuesNothing};
 
 /// What a side is after some bytes does not depend on how they were cut: to feed two pieces is to feed both joined, and one step on a
 /// piece and then the rest of it is the whole piece. A side that has ended stays as it is.
@@ -19,6 +19,7 @@ pub fn however_cut()
 pub fn memory_follows_accesses()
     ensures follows { MemoryFollowsEvents }
     ensures places { PlacesAreAllowed }
+    ensures order { PlacesAreInOrder }
     ensures reads { ReadsAreAllowed }
     ensures nothing_else { NothingElseIsRead }
     ensures while_open { OpenRegionHolds }
@@ -39,4 +40,7 @@ pub fn reasons_of_frames()
     ensures stops { OthersComeFromStop }
     ensures memory { MemoryComesFromOutOfMemory }
     ensures ended { EndedQueuesNothing }
+    // What a frame queues that ends a side is a clause of the law on memory.
+    ensures stop_queues { StopQueuesLast }
+    ensures no_memory { OutOfMemoryQueuesNothing }
 {}

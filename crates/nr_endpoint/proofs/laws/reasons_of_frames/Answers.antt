@@ -1,5 +1,5 @@
 use Rattle.nr_endpoint.proofs.EndLaws.{frames-end-for-these, no-frame-stops, others-come-from-stop, memory-comes-from-out-of-memory}
-use Rattle.nr_endpoint.proofs.LastOutput.{ended-queues-nothing}
+use Rattle.nr_endpoint.proofs.LastOutput.{ended-queues-nothing, stop-queues-last, out-of-memory-queues-nothing}
 use Rattle.nr_endpoint.proofs.laws.reasons_of_frames.Goals as goal
 
 pub returns-clause-frames : goal.returns-clause-frames
@@ -16,3 +16,9 @@ returns-clause-memory c = memory-comes-from-out-of-memory
 
 pub returns-clause-ended : goal.returns-clause-ended
 returns-clause-ended c = ended-queues-nothing
+
+pub returns-clause-stop_queues : goal.returns-clause-stop_queues
+returns-clause-stop_queues c = stop-queues-last
+
+pub returns-clause-no_memory : goal.returns-clause-no_memory
+returns-clause-no_memory c = out-of-memory-queues-nothing
