@@ -1,7 +1,6 @@
 use Rattle.std.proofs.Common.{◌≡◌, List, ℕ, take}
 use Rattle.std.specs.Prelude.{OnOk}
 use Rattle.std.specs.Io.KnownBytes.{Appends}
-use Rattle.nr_endpoint.specs.LinkState.{Link}
 use Rattle.nr_endpoint.proofs.Standing.{drained, on_err}
 use Rattle.nr_endpoint.proofs.endpoint.Endpoint.drain_into.Goals as goal
 

@@ -1,5 +1,4 @@
-use Rattle.std.proofs.Common.{◌≡◌, List, ℕ, take, is_some}
-use Rattle.nr_endpoint.specs.LinkState.{Link}
+use Rattle.std.proofs.Common.{take, is_some}
 use Rattle.nr_endpoint.proofs.Standing.{told-if, told-stands}
 use Rattle.nr_endpoint.proofs.endpoint.Endpoint.next_event.Goals as goal
 

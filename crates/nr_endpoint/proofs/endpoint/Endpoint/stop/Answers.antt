@@ -1,5 +1,4 @@
-use Rattle.std.proofs.Common.{◌≡◌, List, ℕ, ap, ◌∙◌}
-use Rattle.nr_endpoint.specs.LinkState.{Link}
+use Rattle.std.proofs.Common.{ap, ◌∙◌}
 use Rattle.nr_endpoint.specs.Calls.Call.{Stop}
 use Rattle.nr_endpoint.specs.contracts.endpoint.Endpoint.{the_view}
 use Rattle.nr_endpoint.specs.declared.endpoint.Endpoint.TheInside.{Inside}
