@@ -1,5 +1,5 @@
 -- What holds of a segment that doesn't end the side.
-use Rattle.std.proofs.Common.{◌≡◌, ℕ, ◌+◌, ◌^◌, ◌<◌, ◌≤◌, Bool, true, false, not, cond, ◌&&◌, ◌||◌, eqb, nat_lt, nat_le, List, [], ◌∷◌, ◌++◌, length, Option, Some, None, refl, sym, ap, subst, ◌∙◌, arith}
+use Rattle.std.proofs.Common.{◌≡◌, ℕ, ◌+◌, ◌^◌, ◌<◌, ◌≤◌, Bool, true, false, not, ◌&&◌, ◌||◌, eqb, nat_lt, nat_le, List, length, Option, Some, None, refl, subst, ◌∙◌}
 use Rattle.std.specs.Prelude.{IsTrue, ◌≢◌}
 use Rattle.std.proofs.lemmas.Bool.{eqb-true, eqb-false, ltb-false, ltb-true}
 use Rattle.nr_wire.specs.Constants.{OPCODE_READ_REQUEST, OPCODE_SEND, OPCODE_TERMINATE}
@@ -17,7 +17,7 @@ use Rattle.nr_link.specs.SegmentFaults.{is_begun, is_malformed}
 use Rattle.nr_endpoint.specs.LinkState.{LinkState}
 use Rattle.nr_endpoint.specs.Judging.{segment_end, fetch_access}
 use Rattle.nr_endpoint.specs.SegmentEnds.{bad_if, denied_if, no_buffer_if, or_end, tagged_end, message_end, send_end, send_len, request_end, terminate_end, RequestIsFine, SendIsFine}
-use Rattle.nr_endpoint.proofs.FaultList.{tagged-end, untagged-end, send-end, request-end, terminate-end, message-first, is-terminate}
+use Rattle.nr_endpoint.proofs.FaultList.{tagged-end, send-end, request-end, terminate-end, message-first, is-terminate}
 
 pub alive-tagged : (s : LinkState) (f : Frame) (last : Bool) (opcode stag to : ℕ) (payload : List ℕ) → f.at ≡ s.place →
     segment_end s f (Tagged last opcode stag to payload) ≡ None → tagged_end s last opcode stag to payload ≡ None

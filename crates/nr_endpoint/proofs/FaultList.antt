@@ -1,6 +1,6 @@
 -- The list of faults, one kind of segment at a time.
-use Rattle.std.proofs.Common.{◌≡◌, ℕ, ◌+◌, Bool, true, false, not, cond, ◌&&◌, ◌||◌, eqb, nat_lt, nat_le, List, [], ◌∷◌, ◌++◌, length, Option, Some, None, refl, sym, ap, subst, ◌∙◌, length-append, arith}
-use Rattle.std.specs.Prelude.{option_and_then, is_some, IsTrue, ◌≢◌}
+use Rattle.std.proofs.Common.{◌≡◌, ℕ, ◌+◌, Bool, true, false, not, cond, ◌&&◌, ◌||◌, eqb, nat_lt, nat_le, List, [], ◌∷◌, ◌++◌, length, Option, Some, None, refl, sym, ap, ◌∙◌, length-append, arith}
+use Rattle.std.specs.Prelude.{is_some, IsTrue, ◌≢◌}
 use Rattle.nr_wire.specs.Constants.{OPCODE_READ_REQUEST, OPCODE_READ_RESPONSE, OPCODE_SEND, OPCODE_TERMINATE}
 use Rattle.nr_wire.specs.Segment.{Segment, is_untagged_opcode}
 use Rattle.nr_wire.specs.Segment.Segment.{Tagged, Untagged}
@@ -12,12 +12,12 @@ use Rattle.nr_link.specs.Limits.{send_max, open_reads_max}
 use Rattle.nr_link.specs.Frames.{Frame}
 use Rattle.nr_link.specs.Reasons.{REASON_MSN, REASON_OFFSET, REASON_FORM, REASON_RESPONSE, REASON_REQUESTS, REASON_SHORT, REASON_LONG}
 use Rattle.nr_link.specs.ReceiveState.{begun_bytes, read_request_in}
-use Rattle.nr_link.specs.SegmentFaults.{SegmentFault, segment_fault, first_fault, reason_if, missing_fault, no_buffer, has_length, terminate_fault, next_msn, next_offset, is_begun, is_malformed, is_expected, is_unexpected, is_too_many}
-use Rattle.nr_link.specs.SegmentFaults.SegmentFault.{Reason, NoBuffer, AccessDenied, PeerTerminated}
+use Rattle.nr_link.specs.SegmentFaults.{SegmentFault, segment_fault, first_fault, reason_if, missing_fault, no_buffer, has_length, terminate_fault, next_msn, next_offset, is_begun, is_malformed, is_expected}
+use Rattle.nr_link.specs.SegmentFaults.SegmentFault.{NoBuffer, PeerTerminated}
 use Rattle.nr_link.specs.Ending.{end_of_fault, kind_of}
 use Rattle.nr_endpoint.specs.LinkState.{LinkState}
 use Rattle.nr_endpoint.specs.Judging.{readiness, missing_access, segment_end, expected_response, fetch_access}
-use Rattle.nr_endpoint.specs.SegmentEnds.{bad_if, denied_if, no_buffer_if, or_end, tagged_end, message_end, send_end, send_len, request_end, terminate_end}
+use Rattle.nr_endpoint.specs.SegmentEnds.{bad_if, denied_if, no_buffer_if, or_end, tagged_end, message_end, send_end, request_end, terminate_end}
 use Rattle.nr_xdr.specs.Fields.{word_at}
 
 abbrev Faults : Type 0

@@ -11,3 +11,10 @@ pub mod Taken
 pub mod StagedFrames
 pub mod OneStep
 pub mod Pieces
+pub mod CutLaws
+pub mod MemoryLaws
+pub mod ReadLaws
+pub mod AlongFrames
+pub mod HelloLaws
+pub mod EndLaws
+pub mod LastOutput

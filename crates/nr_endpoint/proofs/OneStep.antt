@@ -1,20 +1,19 @@
 -- One step on a piece.
-use Rattle.std.proofs.Common.{◌≡◌, ◌≢◌, ℕ, ◌+◌, ◌-◌, ◌≤◌, ◌<◌, min, max, Bool, true, false, not, cond, ◌&&◌, eqb, List, [], ◌∷◌, ◌++◌, length, take, drop, Option, Some, None, Result, Ok, Err, inl, inr, refl, sym, ap, subst, ◌∙◌, arith, append_assoc, length-append}
+use Rattle.std.proofs.Common.{◌≡◌, ◌≢◌, ℕ, ◌+◌, ◌-◌, ◌≤◌, max, Bool, true, false, cond, ◌&&◌, eqb, List, [], ◌∷◌, ◌++◌, length, take, drop, Option, Some, None, Result, Ok, Err, inl, inr, refl, sym, ap, subst, ◌∙◌, arith, append_assoc, length-append}
 use Rattle.std.specs.Prelude.{is_some}
-use Rattle.std.proofs.lemmas.Bool.{eqb-true, eqb-false}
-use Rattle.std.proofs.lemmas.List.{length-take, length-drop, take_all, drop-drop}
+use Rattle.std.proofs.lemmas.Bool.{eqb-true}
+use Rattle.std.proofs.lemmas.List.{length-take, length-drop, drop-drop}
 use Rattle.std.proofs.Math.Seq.{drop-append-add}
-use Rattle.nr_wire.specs.declared.hello.Side.{Side}
 use Rattle.nr_wire.specs.declared.stream.Awaited.{Awaited}
 use Rattle.nr_wire.specs.declared.stream.Awaited.TheVariants.{Hello as HelloFrom, Fpdu}
 use Rattle.nr_wire.specs.Hello.{Hello, hello_of}
 use Rattle.nr_wire.specs.Segment.{Segment, segment_of}
 use Rattle.nr_wire.specs.Segment.Segment.{Tagged, Untagged}
 use Rattle.nr_wire.specs.Constants.{OPCODE_READ_RESPONSE, FPDU_MAX}
-use Rattle.nr_wire.specs.Feeding.{bytes_taken, feeding_after_step}
+use Rattle.nr_wire.specs.Feeding.{bytes_taken}
 use Rattle.nr_wire.specs.Stream.{IsPartial, IsFrame, is_whole, frame_len}
-use Rattle.nr_wire.proofs.Frames.{partial_from, partial_nil, partial_not_whole, shorter_than_frame, whole_from, IsFrame-take}
-use Rattle.nr_wire.proofs.Feedings.{feeding_after_step-whole, feeding_after_step-partial, bytes_taken-whole, bytes_taken-partial, bytes_taken_within, feeding-ended}
+use Rattle.nr_wire.proofs.Frames.{whole_from}
+use Rattle.nr_wire.proofs.Feedings.{feeding_after_step-whole, feeding_after_step-partial, bytes_taken_within, feeding-ended}
 use Rattle.nr_regions.specs.declared.denied.Denied.{Denied}
 use Rattle.nr_link.specs.declared.end.End.{End}
 use Rattle.nr_link.specs.declared.end.End.TheVariants as ends
@@ -24,11 +23,10 @@ use Rattle.nr_link.specs.SegmentFaults.SegmentFault.{Reason, NoBuffer, AccessDen
 use Rattle.nr_link.specs.Ending.{access_of, denied_at, end_of_fault}
 use Rattle.nr_regions.specs.RegisteredMemory.{Access}
 use Rattle.nr_endpoint.specs.LinkState.{LinkState, Link, has_ended}
-use Rattle.nr_endpoint.specs.Judging.{with_frame, with_fpdu, with_peer_hello, with_segment_by, with_effect, with_end_of, segment_end, next_frame}
-use Rattle.nr_endpoint.specs.Calls.{after_call, ended_link, IsStep}
+use Rattle.nr_endpoint.specs.Judging.{with_frame, with_fpdu, with_peer_hello, with_segment_by, with_effect, segment_end, next_frame}
+use Rattle.nr_endpoint.specs.Calls.{after_call, IsStep}
 use Rattle.nr_endpoint.specs.Calls.Call.{FeedOne, OutOfMemory}
 use Rattle.nr_endpoint.specs.EndpointState.{EndpointState, KeepsStaging, cut_frame_len}
-use Rattle.nr_endpoint.specs.Staged.{IsStaged}
 use Rattle.nr_endpoint.proofs.StagedFrames.{taken_whole, taken_all, whole_as_staged, front-of}
 
 -- ---- The side after it
@@ -165,17 +163,17 @@ staged_facts a old new piece s t len within p taken is =
 pub keeps_partial : (a : Awaited) (st : LinkState) (old new piece : List ℕ) (s t : ℕ) → StagedFacts a old new piece s t → length old ≡ FPDU_MAX →
     KeepsStaging (record { link = record { awaited = a; rest = take s old; state = st }; staging = old }) (record { link = record { awaited = a; rest = take (s + t) new; state = st }; staging = new }) piece
 keeps_partial a st old new piece s t facts len = record {
-    others = facts.behind (max (length (take (s + t) new)) (cut_frame_len a (take s old) piece))
-        (omega (arith, ap (λ (x : List ℕ). length x) facts.front, length-append (take s old) (take t piece), length-take t piece, facts.first, facts.few));
-    len = facts.len ∙ sym len;
-  }
+  others = facts.behind (max (length (take (s + t) new)) (cut_frame_len a (take s old) piece))
+      (omega (arith, ap (λ (x : List ℕ). length x) facts.front, length-append (take s old) (take t piece), length-take t piece, facts.first, facts.few));
+  len = facts.len ∙ sym len;
+}
 
 pub keeps_whole : (a after : Awaited) (st next : LinkState) (old new piece : List ℕ) (s t : ℕ) → StagedFacts a old new piece s t → length old ≡ FPDU_MAX → IsPartial a (take s old) → t ≡ bytes_taken a (take s old) piece →
     is_whole a (take s old ++ piece) ≡ true → (s ≡ 0 → is_whole a piece ≡ false) →
     KeepsStaging (record { link = record { awaited = a; rest = take s old; state = st }; staging = old }) (record { link = record { awaited = after; rest = []; state = next }; staging = new }) piece
 keeps_whole a after st next old new piece s t facts len p taken whole other =
     let cut : length (take s old) + bytes_taken a (take s old) piece ≤ cut_frame_len a (take s old) piece =
-        cut_whole a (take s old) piece p whole (λ none. other (sym facts.first ∙ ap (λ (x : List ℕ). length x) none)) in
+    cut_whole a (take s old) piece p whole (λ none. other (sym facts.first ∙ ap (λ (x : List ℕ). length x) none)) in
     record {
       others = facts.behind (max (length {A = ℕ} []) (cut_frame_len a (take s old) piece)) (omega (arith, cut, facts.first, taken));
       len = facts.len ∙ sym len;

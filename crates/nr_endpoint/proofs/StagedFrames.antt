@@ -1,12 +1,12 @@
 -- A frame that a piece cuts, staged in two parts: its length fields, and the rest.
-use Rattle.std.proofs.Common.{◌≡◌, ℕ, ◌+◌, ◌-◌, ◌<◌, ◌≤◌, min, Bool, true, false, cond, List, [], ◌∷◌, ◌++◌, length, take, drop, inl, inr, refl, sym, ap, subst, ◌∙◌, arith, append_assoc, length-append, length-drop}
+use Rattle.std.proofs.Common.{◌≡◌, ℕ, ◌+◌, ◌-◌, ◌<◌, ◌≤◌, min, Bool, true, false, List, ◌++◌, length, take, drop, inl, inr, refl, sym, ap, subst, ◌∙◌, arith, append_assoc, length-append, length-drop}
 use Rattle.std.proofs.lemmas.Bool.{cases_lt}
 use Rattle.std.proofs.lemmas.List.{length-take, take_all, drop-drop, take-append-drop}
 use Rattle.std.proofs.Math.Seq.{take-append-add, take-append_seam, drop-append-add, take-add}
 use Rattle.nr_wire.specs.declared.stream.Awaited.{Awaited}
 use Rattle.nr_wire.specs.Feeding.{bytes_taken}
 use Rattle.nr_wire.specs.Stream.{IsPartial, IsFrame, is_whole, frame_len, fields_len, bytes_needed}
-use Rattle.nr_wire.proofs.Frames.{needed_some, needed_less, needed_just, partial_from, partial_not_whole, whole_from, is_whole-from, IsFrame-take, frame_len-append, shorter_than_frame, fields_within}
+use Rattle.nr_wire.proofs.Frames.{needed_some, needed_just, partial_from, partial_not_whole, whole_from, is_whole-from, IsFrame-take, shorter_than_frame, fields_within}
 use Rattle.nr_wire.proofs.FrontFrame.{front_frame}
 use Rattle.nr_wire.proofs.Feedings.{bytes_taken-less, bytes_taken-just, bytes_taken-staged, bytes_taken-whole, bytes_taken-partial}
 

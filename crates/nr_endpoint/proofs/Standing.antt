@@ -1,16 +1,15 @@
 -- One more call: from the side's new state to the list of calls.
-use Rattle.std.proofs.Common.{◌≡◌, ℕ, ◌<◌, ◌≤◌, List, [], ◌∷◌, ◌++◌, length, take, Bool, true, false, Option, Some, None, cond, Result, Ok, Err, refl, sym, ap, subst, ◌∙◌, if◌then◌else◌}
-use Rattle.std.specs.Prelude.{OnOk, IsErr, is_some}
+use Rattle.std.proofs.Common.{◌≡◌, ℕ, ◌≤◌, List, [], ◌∷◌, ◌++◌, length, take, Bool, true, false, Some, Result, Ok, Err, refl, sym, ap, subst, ◌∙◌, if◌then◌else◌}
+use Rattle.std.specs.Prelude.{OnOk, IsErr}
 use Rattle.nr_regions.specs.declared.right.Right.{Right}
 use Rattle.nr_regions.specs.RegisteredMemory.{after_register, after_release}
-use Rattle.nr_link.specs.declared.end.End.{End}
 use Rattle.nr_link.specs.declared.end.End.TheVariants as ends
 use Rattle.nr_endpoint.specs.SendQueue.{with_send, with_write, with_request, writable, written}
 use Rattle.nr_endpoint.specs.ReceiveQueue.{told, posted}
 use Rattle.nr_endpoint.specs.LinkState.{Link, LinkState}
 use Rattle.nr_endpoint.specs.Judging.{with_end_of}
 use Rattle.nr_endpoint.specs.EndpointState.{EndpointState}
-use Rattle.nr_endpoint.specs.Calls.{Call, after_call, after_calls, StandsFor, StandsOn, with_state, unless_ended, ended_link}
+use Rattle.nr_endpoint.specs.Calls.{Call, after_call, after_calls, StandsOn, with_state, unless_ended, ended_link}
 use Rattle.nr_endpoint.specs.Calls.Call.{NextEvent, Post, Stop, OutOfMemory, Send, WriteRemote, ReadRemote, Drain, Register, Release}
 
 pub after_calls-append : (link : Link) (calls : List Call) (call : Call) → after_calls link (calls ++ call ∷ []) ≡ after_call (after_calls link calls) call

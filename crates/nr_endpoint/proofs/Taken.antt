@@ -1,10 +1,10 @@
 -- What a segment makes of a side, and its counts.
-use Rattle.std.proofs.Common.{◌≡◌, ℕ, ◌+◌, ◌-◌, ◌≤◌, ◌<◌, Bool, true, false, List, [], ◌∷◌, ◌++◌, length, take, replicate, Option, Some, None, refl, sym, ap, subst, ◌∙◌, arith, length-append}
+use Rattle.std.proofs.Common.{◌≡◌, ℕ, ◌+◌, ◌-◌, ◌≤◌, Bool, true, false, List, [], ◌++◌, length, take, replicate, Option, Some, None, refl, ◌∙◌, arith, length-append}
 use Rattle.std.proofs.lemmas.List.{length-take, length-replicate}
 use Rattle.nr_wire.specs.Constants.{OPCODE_READ_REQUEST, OPCODE_SEND}
 use Rattle.nr_wire.specs.Segment.Segment.{Untagged}
 use Rattle.nr_link.specs.Limits.{send_max}
-use Rattle.nr_link.specs.ReceiveState.{ReadRequest, ReceiveState, begun_bytes, read_request_in}
+use Rattle.nr_link.specs.ReceiveState.{ReadRequest, begun_bytes, read_request_in}
 use Rattle.nr_regions.specs.RegisteredMemory.{bytes_at}
 use Rattle.nr_endpoint.specs.SendQueue.{SendQueue, with_response}
 use Rattle.nr_endpoint.specs.ReceiveQueue.{ReceiveQueue, with_segment, kept_bytes, kept_send}

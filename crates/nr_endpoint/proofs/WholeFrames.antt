@@ -1,16 +1,16 @@
 -- Frames that are whole, as they are read.
-use Rattle.std.proofs.Common.{◌≡◌, ℕ, ◌+◌, ◌≤◌, ◌<◌, ◌^◌, true, false, List, [], ◌++◌, length, take, Option, Some, None, Result, Ok, Err, refl, sym, ap, subst, ◌∙◌, arith, length-append}
+use Rattle.std.proofs.Common.{◌≡◌, ℕ, ◌+◌, ◌≤◌, true, false, List, [], ◌++◌, length, take, Some, None, Result, Ok, Err, refl, sym, ap, ◌∙◌, arith, length-append}
 use Rattle.std.proofs.lemmas.List.{append-nil, length-take}
 use Rattle.std.specs.Result.{result_err}
 use Rattle.nr_wire.specs.declared.hello.Side.{Side}
 use Rattle.nr_wire.specs.declared.stream.Awaited.TheVariants.{Hello as HelloFrom, Fpdu}
-use Rattle.nr_wire.specs.Hello.{Hello, hello_of}
+use Rattle.nr_wire.specs.Hello.{hello_of}
 use Rattle.nr_xdr.specs.Item.{word, hyper}
 use Rattle.nr_wire.specs.Fields.{half_word}
 use Rattle.nr_wire.specs.Segment.{Segment, segment_of, payload_in, Reads, ulpdu_size, fpdu_with, header, control}
 use Rattle.nr_wire.specs.Segment.Segment.{Tagged, Untagged}
 use Rattle.nr_wire.specs.Stream.{IsFrame}
-use Rattle.nr_wire.specs.Next.{Next, hello_in, segment_in, frame_answer}
+use Rattle.nr_wire.specs.Next.{hello_in, segment_in, frame_answer}
 use Rattle.nr_wire.specs.Next.Next.{Whole, More, Bad}
 use Rattle.nr_wire.proofs.FrontFrame.{hello_in-frame, segment_in-frame}
 

@@ -1,15 +1,13 @@
 -- The calls of an endpoint, and what they make of its side of the link.
-use Rattle.std.specs.Prelude.{◌≡◌, ℕ, ◌<◌, Bool, if◌then◌else◌, List, [], ◌∷◌, ◌++◌, Option, None, Some, ◌⊎◌}
-use Rattle.nr_wire.specs.declared.hello.Side.{Side}
+use Rattle.std.specs.Prelude.{◌≡◌, ℕ, if◌then◌else◌, List, [], ◌∷◌, ◌++◌, Some, ◌⊎◌}
 use Rattle.nr_wire.specs.Feeding.{feeding_after, feeding_after_step}
 use Rattle.nr_regions.specs.declared.right.Right.{Right}
 use Rattle.nr_regions.specs.RegisteredMemory.{after_register, after_release}
-use Rattle.nr_link.specs.declared.end.End.{End}
 use Rattle.nr_link.specs.declared.end.End.TheVariants as ends
 use Rattle.nr_link.specs.Reasons.{REASON_KIND, REASON_HEAD, REASON_XID, REASON_CALL, REASON_CHUNKS, REASON_VERSION, REASON_STAGS}
 use Rattle.nr_endpoint.specs.SendQueue.{with_send, with_write, with_request, written}
 use Rattle.nr_endpoint.specs.ReceiveQueue.{told, posted}
-use Rattle.nr_endpoint.specs.LinkState.{LinkState, Link, has_ended, initial_link}
+use Rattle.nr_endpoint.specs.LinkState.{LinkState, Link, has_ended}
 use Rattle.nr_endpoint.specs.Judging.{with_frame, with_end_of}
 
 -- A call with what it was given. `Drain` has the number of bytes that the sink took, `Post` and `NextEvent` nothing. `OutOfMemory`

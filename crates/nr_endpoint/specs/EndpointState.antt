@@ -1,8 +1,8 @@
 -- What contracts see of an endpoint: its side of the link, and the whole staging buffer, which begins with the bytes of the frame
 -- that isn't whole.
-use Rattle.std.specs.Prelude.{◌≡◌, ℕ, ◌+◌, ◌*◌, ◌≤◌, min, max, List, [], ◌∷◌, ◌++◌, length, take, drop}
+use Rattle.std.specs.Prelude.{◌≡◌, ℕ, ◌+◌, ◌*◌, min, max, List, [], ◌∷◌, ◌++◌, length, drop}
 use Rattle.nr_wire.specs.declared.stream.Awaited.{Awaited}
-use Rattle.nr_wire.specs.Stream.{is_whole, frame_len}
+use Rattle.nr_wire.specs.Stream.{frame_len}
 use Rattle.nr_regions.specs.RegisteredMemory.{bytes_held}
 use Rattle.nr_link.specs.Limits.{send_max}
 use Rattle.nr_endpoint.specs.ReceiveQueue.{receives_kept}

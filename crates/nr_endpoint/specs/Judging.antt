@@ -18,10 +18,10 @@ use Rattle.nr_link.specs.Limits.{send_max}
 use Rattle.nr_link.specs.Frames.{Frame}
 use Rattle.nr_link.specs.Output.{own_hello}
 use Rattle.nr_link.specs.ReceiveState.{ReadRequest, read_request_of}
-use Rattle.nr_link.specs.SegmentFaults.{ExpectedResponse, Readiness, SegmentFault, segment_fault}
+use Rattle.nr_link.specs.SegmentFaults.{ExpectedResponse, Readiness, segment_fault}
 use Rattle.nr_link.specs.Ending.{access_of, end_of_fault}
 use Rattle.nr_endpoint.specs.SendQueue.{SendQueue, with_hello, with_response, with_end}
-use Rattle.nr_endpoint.specs.ReceiveQueue.{ReceiveQueue, with_segment, with_read_done}
+use Rattle.nr_endpoint.specs.ReceiveQueue.{with_segment, with_read_done}
 use Rattle.nr_endpoint.specs.LinkState.{LinkState}
 
 -- ---- What ends the side

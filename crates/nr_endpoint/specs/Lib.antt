@@ -11,3 +11,4 @@ pub mod Staged
 pub mod Views
 pub mod EndpointState
 pub mod Codes
+pub mod Laws

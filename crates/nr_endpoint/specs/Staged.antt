@@ -1,5 +1,5 @@
 -- What an endpoint keeps of the frame that isn't whole.
-use Rattle.std.specs.Prelude.{◌≡◌, ℕ, ◌≤◌, List, length, take, Option, None, Some, is_some, true, false}
+use Rattle.std.specs.Prelude.{◌≡◌, ℕ, ◌≤◌, List, length, take, Option, is_some, true}
 use Rattle.nr_wire.specs.Constants.{FPDU_MAX}
 use Rattle.nr_wire.specs.declared.stream.Awaited.{Awaited}
 use Rattle.nr_wire.specs.Stream.{IsPartial}

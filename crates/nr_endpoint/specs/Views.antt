@@ -1,5 +1,5 @@
 -- The values of the code as the definitions see them.
-use Rattle.std.specs.Prelude.{ℕ, ◌-◌, List, [], ◌++◌, take, replicate, map, Option, None, Some}
+use Rattle.std.specs.Prelude.{ℕ, ◌-◌, List, ◌++◌, take, replicate, map, Option, None, Some}
 use Rattle.nr_link.specs.Limits.{send_max}
 use Rattle.nr_link.specs.ReceiveState.{ReadRequest as PlainReadRequest}
 use Rattle.nr_endpoint.specs.declared.faults.ReadRequest.{ReadRequest}

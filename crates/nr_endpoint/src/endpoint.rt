@@ -1,11 +1,11 @@
 //! The endpoint: the peer's stream in pieces, and the calls of its owner.
 
-ghost use Rattle.std.specs.Prelude.{◌≡◌, ◌≢◌, ℕ, ◌+◌, ◌-◌, ◌*◌, ◌^◌, ◌<◌, ◌≤◌, ◌↔◌, [], ◌∷◌, ◌++◌, length, drop, take, None, Some, is_some, Ok, Err, IfOk, OnOk, IfErr, OnErr, IsOk, IsErrAnd, IfSome, List, nat_lt, true};
+ghost use Rattle.std.specs.Prelude.{◌≡◌, ◌≢◌, ℕ, ◌+◌, ◌-◌, ◌*◌, ◌^◌, ◌<◌, ◌≤◌, ◌↔◌, [], ◌∷◌, ◌++◌, length, drop, take, None, Some, is_some, Ok, Err, IfOk, OnOk, IfErr, OnErr, IsOk, IsErrAnd, IfSome, List, nat_lt, true, if◌then◌else◌};
 ghost use Rattle.std.specs.Result.{result_err};
 ghost use Rattle.nr_wire.specs.Feeding.{bytes_taken};
-ghost use Rattle.nr_wire.specs.Stream.{bytes_needed};
+ghost use Rattle.nr_wire.specs.Stream.{bytes_needed, IsPartial};
 ghost use Rattle.nr_link.specs.declared.end.End.TheVariants as ends;
-ghost use Rattle.nr_endpoint.specs.LinkState.{initial_link, peer};
+ghost use Rattle.nr_endpoint.specs.LinkState.{initial_link, peer, has_ended};
 ghost use Rattle.nr_endpoint.specs.Calls.{after_call, after_calls, StandsFor, StandsOn, IsStep};
 ghost use Rattle.nr_endpoint.specs.Calls.Call.{Feed, FeedOne, OutOfMemory};
 ghost use Rattle.nr_endpoint.specs.EndpointState.{KeepsStaging};
@@ -84,15 +84,47 @@ impl Endpoint {
         ensures memory { result ≡ Err ends.Memory → (n : ℕ) × (self.new.link ≡ after_calls self.old.link (Feed (take n piece.now) ∷ OutOfMemory ∷ [])) }
         ensures staging { KeepsStaging self.old self.new piece.now }
     {
+        self.kept_rest();
         let mut left = piece;
-        while self.link.end().is_none() && !left.is_empty() {
-            let taken = self.step(left);
-            left = &left[taken..];
+        while !left.is_empty() {
+            left = self.advance(left);
         }
         if let Some(end) = self.link.end() {
             return Err(end);
         }
         Ok(())
+    }
+
+    /// What is kept of the stream is less than a frame, and nothing once the side has ended.
+    fn kept_rest(&self)
+        ensures partial { IsPartial self.now.link.awaited self.now.link.rest }
+        ensures ended { has_ended self.now.link.state ≡ true → self.now.link.rest ≡ [] }
+    {
+        let _ = &self.staged;
+    }
+
+    /// Takes the next frame of a piece, or all of it; answers what is left, which is nothing once the side has ended.
+    fn advance<'a>(&mut self, left: &'a [u8]) -> &'a [u8]
+        requires { self.old.link.state.ended ≡ None → self.old.link.state.place + length self.old.link.rest + length left.now ≤ 2 ^ 62 }
+        ensures live { self.old.link.state.ended ≡ None → IsStep self.old.link left.now self.new.link }
+        ensures ended { has_ended self.old.link.state ≡ true → self.new ≡ self.old }
+        ensures left { result.now ≡ (if has_ended self.new.link.state then [] else drop (bytes_taken self.old.link.awaited self.old.link.rest left.now) left.now) }
+        ensures staging { KeepsStaging self.old self.new left.now }
+        ensures partial { IsPartial self.new.link.awaited self.new.link.rest }
+        ensures ended_rest { has_ended self.new.link.state ≡ true → self.new.link.rest ≡ [] }
+    {
+        self.kept_rest();
+        let (_, none) = left.split_at(left.len());
+        if self.link.end().is_some() {
+            return none;
+        }
+        let taken = self.step(left);
+        self.kept_rest();
+        if self.link.end().is_some() {
+            return none;
+        }
+        let (_, rest) = left.split_at(taken);
+        rest
     }
 
     /// Takes a piece up to the end of the frame that it makes whole, else all of it. `Ok` has the number of bytes taken. `Err` where the

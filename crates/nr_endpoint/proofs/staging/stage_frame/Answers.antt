@@ -1,4 +1,4 @@
-use Rattle.std.proofs.Common.{◌≤◌, length, arith}
+use Rattle.std.proofs.Common.{arith}
 use Rattle.nr_endpoint.proofs.StagedFrames.{staged_twice, taken_twice}
 use Rattle.nr_endpoint.proofs.staging.stage_frame.Goals as goal
 

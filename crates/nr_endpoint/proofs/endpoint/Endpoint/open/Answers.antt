@@ -1,6 +1,5 @@
-use Rattle.std.proofs.Common.{◌≡◌, ℕ, List, [], length, refl, sym, ap, ◌∙◌, arith}
+use Rattle.std.proofs.Common.{[], refl, arith}
 use Rattle.std.proofs.lemmas.Grind.{common_steps}
-use Rattle.nr_wire.specs.Constants.{FPDU_MAX}
 use Rattle.nr_wire.specs.declared.stream.Awaited.TheVariants.{Hello as HelloFrom}
 use Rattle.nr_wire.proofs.Frames.{partial_nil}
 use Rattle.nr_endpoint.specs.LinkState.{initial_link}
@@ -9,11 +8,11 @@ use Rattle.nr_endpoint.proofs.endpoint.Endpoint.open.Goals as goal
 
 pub invariant_of-result : goal.invariant_of-result
 invariant_of-result c = record {
-    len = grind (arith, common_steps, c.in_ok-vec.ensures.len);
-    within = omega arith;
-    partial = partial_nil (HelloFrom c.peer.result);
-    ended_empty = λ _. refl;
-  }
+  len = grind (arith, common_steps, c.in_ok-vec.ensures.len);
+  within = omega arith;
+  partial = partial_nil (HelloFrom c.peer.result);
+  ended_empty = λ _. refl;
+}
 
 pub returns-clause-state : goal.returns-clause-state
 unfolding initial_link

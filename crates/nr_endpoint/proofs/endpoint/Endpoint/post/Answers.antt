@@ -1,8 +1,6 @@
-use Rattle.std.proofs.Common.{◌≡◌, List, ℕ, take, ap}
-use Rattle.nr_endpoint.specs.LinkState.{Link}
-use Rattle.nr_endpoint.specs.Calls.{after_call}
+use Rattle.std.proofs.Common.{take}
 use Rattle.nr_endpoint.specs.Calls.Call.{Post}
-use Rattle.nr_endpoint.proofs.Standing.{stands_on, seen, on_ok, posted-state}
+use Rattle.nr_endpoint.proofs.Standing.{stands_on, seen, posted-state}
 use Rattle.nr_endpoint.proofs.endpoint.Endpoint.post.Goals as goal
 
 pub returns-clause-state : goal.returns-clause-state

@@ -1,6 +1,4 @@
-use Rattle.std.proofs.Common.{◌≡◌, List, ℕ, take, ap}
-use Rattle.nr_endpoint.specs.LinkState.{Link}
-use Rattle.nr_endpoint.specs.Calls.{after_call}
+use Rattle.std.proofs.Common.{take}
 use Rattle.nr_endpoint.specs.Calls.Call.{ReadRemote}
 use Rattle.nr_endpoint.proofs.Standing.{stands_on, seen, on_ok, read-state}
 use Rattle.nr_endpoint.proofs.endpoint.Endpoint.read_remote.Goals as goal

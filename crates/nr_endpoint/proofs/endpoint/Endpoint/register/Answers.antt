@@ -1,6 +1,4 @@
-use Rattle.std.proofs.Common.{◌≡◌, List, ℕ, take, ap}
-use Rattle.nr_endpoint.specs.LinkState.{Link}
-use Rattle.nr_endpoint.specs.Calls.{after_call}
+use Rattle.std.proofs.Common.{take}
 use Rattle.nr_endpoint.specs.Calls.Call.{Register}
 use Rattle.nr_endpoint.proofs.Standing.{stands_on, seen, on_ok, registered-state}
 use Rattle.nr_endpoint.proofs.endpoint.Endpoint.register.Goals as goal

@@ -1,8 +1,6 @@
-use Rattle.std.proofs.Common.{◌≡◌, List, ℕ, take, ap}
-use Rattle.nr_endpoint.specs.LinkState.{Link}
-use Rattle.nr_endpoint.specs.Calls.{after_call}
+use Rattle.std.proofs.Common.{take}
 use Rattle.nr_endpoint.specs.Calls.Call.{Release}
-use Rattle.nr_endpoint.proofs.Standing.{stands_on, seen, on_ok, released-state}
+use Rattle.nr_endpoint.proofs.Standing.{stands_on, seen, released-state}
 use Rattle.nr_endpoint.proofs.endpoint.Endpoint.release.Goals as goal
 
 pub returns-clause-state : goal.returns-clause-state

@@ -1,17 +1,13 @@
-use Rattle.std.proofs.Common.{◌≡◌, ℕ, ◌+◌, ◌^◌, ◌≤◌, not, List, [], ◌++◌, length, take, drop, Option, Some, None, true, false, inl, inr, refl, sym, ap, subst, ◌∙◌, arith, length-append}
+use Rattle.std.proofs.Common.{◌≡◌, ℕ, ◌+◌, ◌^◌, ◌≤◌, not, List, [], ◌++◌, length, take, None, true, false, inl, inr, refl, sym, ap, subst, ◌∙◌, arith}
 use Rattle.nr_wire.specs.declared.stream.Awaited.TheVariants.{Fpdu}
 use Rattle.nr_wire.specs.declared.stream.Awaited.{Awaited}
-use Rattle.nr_wire.specs.Constants.{FPDU_MAX}
 use Rattle.nr_wire.specs.Feeding.{bytes_taken}
 use Rattle.nr_wire.specs.Stream.{IsPartial, IsFrame, is_whole, frame_len}
 use Rattle.nr_wire.proofs.Frames.{partial_from, partial_nil, whole_from, IsFrame-take}
 use Rattle.nr_wire.proofs.Feedings.{bytes_taken-whole}
 use Rattle.nr_endpoint.specs.EndpointState.{EndpointState}
-use Rattle.nr_endpoint.specs.Staged.{IsStaged}
-use Rattle.nr_endpoint.proofs.StagedFrames.{taken_whole, taken_all, whole_as_staged}
 use Rattle.nr_endpoint.proofs.OneStep.{living, stepped_whole, stepped_partial, out_of_memory, judged, not_judged, in_piece, not_in_piece, whole_is, partial_is, StagedFacts, staged_facts, keeps_partial, keeps_whole}
 use Rattle.nr_endpoint.proofs.endpoint.Endpoint.step.Goals as goal
-
 
 -- the rest is none where nothing is staged
 none-staged : (old piece : List ℕ) (s : ℕ) → s ≡ 0 → take s old ++ piece ≡ piece

@@ -1,11 +1,8 @@
-use Rattle.std.proofs.Common.{◌≡◌, ℕ, Option, sym, ap, ◌∙◌, subst}
-use Rattle.std.specs.Prelude.{is_some}
+use Rattle.std.proofs.Common.{◌≡◌, ℕ, sym, ap, ◌∙◌, subst}
 use Rattle.nr_wire.specs.Segment.{IsSupported}
 use Rattle.nr_wire.specs.Segment.Segment.{Untagged}
 use Rattle.nr_wire.specs.View.{segment as plain}
 use Rattle.nr_wire.specs.declared.segment.Segment.{Segment}
-use Rattle.nr_link.specs.declared.end.End.{End}
-use Rattle.nr_link.specs.Frames.{Frame}
 use Rattle.nr_endpoint.specs.Judging.{segment_end}
 use Rattle.nr_endpoint.proofs.FaultList.{tagged-end, message-ends, none-of, send-end, request-end, terminate-end, is-terminate}
 use Rattle.nr_endpoint.proofs.link.Link.fault.Goals as goal

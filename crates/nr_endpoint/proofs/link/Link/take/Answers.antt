@@ -1,8 +1,8 @@
-use Rattle.std.proofs.Common.{◌≡◌, ℕ, refl, sym, ap, subst, ◌∙◌, true}
+use Rattle.std.proofs.Common.{◌≡◌, ℕ, refl, sym, ap, subst, ◌∙◌}
 use Rattle.std.specs.Prelude.{None}
 use Rattle.nr_wire.specs.declared.segment.Segment.{Segment}
 use Rattle.nr_wire.specs.Segment.{IsSupported}
-use Rattle.nr_wire.specs.Segment.Segment.{Untagged, Tagged}
+use Rattle.nr_wire.specs.Segment.Segment.{Untagged}
 use Rattle.nr_wire.specs.View.{segment as plain}
 use Rattle.nr_endpoint.specs.Judging.{segment_end, with_effect, next_frame, behind_frame}
 use Rattle.nr_wire.specs.Constants.{OPCODE_SEND}

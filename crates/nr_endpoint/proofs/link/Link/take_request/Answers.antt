@@ -1,10 +1,7 @@
-use Rattle.std.proofs.Common.{◌≡◌, ◌≤◌, ◌<◌, ℕ, ◌+◌, length, map, subst, sym, ap, ◌∙◌, arith}
+use Rattle.std.proofs.Common.{ℕ, length, map, ap, ◌∙◌, arith}
 use Rattle.nr_regions.specs.declared.right.Right.TheVariants.{Fetch}
 use Rattle.nr_regions.specs.RegisteredMemory.{bytes_at}
 use Rattle.nr_endpoint.specs.LinkState.{LinkState}
-use Rattle.nr_endpoint.specs.Judging.{fetch_access}
-use Rattle.nr_endpoint.specs.ReceiveQueue.{ReceiveQueue}
-use Rattle.nr_endpoint.specs.Counted.{IsCounted}
 use Rattle.nr_endpoint.specs.Views.{expected, read_request_view}
 use Rattle.nr_endpoint.proofs.Taken.{counted_request, took_request}
 use Rattle.nr_endpoint.proofs.link.Link.take_request.Goals as goal

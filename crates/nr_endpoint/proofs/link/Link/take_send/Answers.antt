@@ -1,6 +1,3 @@
-use Rattle.std.proofs.Common.{subst, sym}
-use Rattle.nr_endpoint.specs.ReceiveQueue.{ReceiveQueue}
-use Rattle.nr_endpoint.specs.Counted.{IsCounted}
 use Rattle.nr_endpoint.proofs.Taken.{counted_send, took_send}
 use Rattle.nr_endpoint.proofs.link.Link.take_send.Goals as goal
 
