@@ -123,6 +123,7 @@ impl Endpoint {
             × (self.new.link ≡ after_call self.old.link (Drain n))
             × StandsOn self.old.link (Drain n) self.new.link
             × OnOk result (n ≡ length (writable self.old.link.state.has_hello self.old.link.state.send_queue)) }
+        ensures ok { OnOk result (K.faults sink.new ≡ K.faults sink.old) }
         ensures link_write { IsErrAnd result (λ e. e ≡ drains.LinkWrite) → Rises (K.faults sink.old) (K.faults sink.new) }
         ensures never_falls { K.faults sink.old ≤ K.faults sink.new }
         ensures staging { self.new.staging ≡ self.old.staging }
