@@ -280,6 +280,10 @@ unless-caused : (calls : List Call) (s after : LinkState) (b : Bool) → after.e
 unless-caused calls s after true same is = is
 unless-caused calls s after false same is = subst (λ (e : Option End). IfSome e (HasCause calls)) (sym same) is
 
+ended-caused : (calls : List Call) (s after : LinkState) (b : Bool) → IfSome s.ended (HasCause calls) → IfSome after.ended (HasCause calls) → IfSome (cond b s after).ended (HasCause calls)
+ended-caused calls s after true is then = is
+ended-caused calls s after false is then = then
+
 call-caused : (done : List Call) (link : Link) (call : Call) → IfSome link.state.ended (HasCause done) → IfSome (after_call link call).state.ended (HasCause (done ++ call ∷ []))
 unfolding after_call
 call-caused done link (Feed piece) is =
@@ -288,8 +292,8 @@ call-caused done link (FeedOne piece) is =
     feed_one-keeps (Caused (done ++ FeedOne piece ∷ [])) (frame-caused (done ++ FeedOne piece ∷ [])) link piece (caused-stays done (FeedOne piece ∷ []) link.state.ended is)
 call-caused done link NextEvent is = caused-stays done (NextEvent ∷ []) link.state.ended is
 call-caused done link Post is = caused-stays done (Post ∷ []) link.state.ended is
-call-caused done link (Stop reason) is = inr (Contains-push done (Stop reason))
-call-caused done link OutOfMemory is = Contains-push done OutOfMemory
+call-caused done link (Stop reason) is = ended-caused (done ++ Stop reason ∷ []) link.state _ (has_ended link.state) (caused-stays done (Stop reason ∷ []) link.state.ended is) (inr (Contains-push done (Stop reason)))
+call-caused done link OutOfMemory is = ended-caused (done ++ OutOfMemory ∷ []) link.state _ (has_ended link.state) (caused-stays done (OutOfMemory ∷ []) link.state.ended is) (Contains-push done OutOfMemory)
 call-caused done link (Send message) is = unless-caused (done ++ Send message ∷ []) link.state _ (has_ended link.state) refl (caused-stays done (Send message ∷ []) link.state.ended is)
 call-caused done link (WriteRemote stag to bytes) is = unless-caused (done ++ WriteRemote stag to bytes ∷ []) link.state _ (has_ended link.state) refl (caused-stays done (WriteRemote stag to bytes ∷ []) link.state.ended is)
 call-caused done link (ReadRemote sink at stag to len) is =

@@ -136,6 +136,10 @@ drained-early side out a s n early = (
 no-more : (side : Side) (out : List ℕ) (a : Awaited) (s : LinkState) → Early side out a s → Early side (out ++ []) a s
 no-more side out a s early = subst (λ (xs : List ℕ). Early side xs a s) (sym (append-nil out)) early
 
+either-early : (side : Side) (out : List ℕ) (a : Awaited) (s after : LinkState) (b : Bool) → Early side out a s → Early side out a after → Early side out a (cond b s after)
+either-early side out a s after true early later = early
+either-early side out a s after false early later = later
+
 call-early : (side : Side) (out : List ℕ) (link : Link) (call : Call) → MayBeCalled link call → Early side out link.awaited link.state →
     Early side (out ++ bytes_drained link call) (after_call link call).awaited (after_call link call).state
 unfolding after_call with_end
@@ -145,15 +149,15 @@ call-early side out link (FeedOne piece) may early =
     no-more side out (after_call link (FeedOne piece)).awaited (after_call link (FeedOne piece)).state (feed_one-keeps (Early side out) (frame-early side out) link piece early)
 call-early side out link NextEvent may early = no-more side out link.awaited _ (early.0, λ none. let e = early.1 none in record { start = e.start; awaited = e.awaited; alone = e.alone })
 call-early side out link Post may early = no-more side out link.awaited _ (early.0, λ none. let e = early.1 none in record { start = e.start; awaited = e.awaited; alone = e.alone })
-call-early side out link (Stop reason) may early = no-more side out link.awaited _ (early.0, λ none. absurd (let e = early.1 none in omega (arith, may.1, e.start)))
-call-early side out link OutOfMemory may early = no-more side out link.awaited _ (
+call-early side out link (Stop reason) may early = no-more side out link.awaited _ (either-early side out link.awaited link.state _ (has_ended link.state) early (early.0, λ none. absurd (let e = early.1 none in omega (arith, may, e.start))))
+call-early side out link OutOfMemory may early = no-more side out link.awaited _ (either-early side out link.awaited link.state _ (has_ended link.state) early (
   early.0,
   λ none. let e = early.1 none in record {
     start = e.start;
     awaited = λ ended. absurd (let h : true ≡ false = ended in cc);
     alone = ended-alone side (has_ended link.state) (out ++ link.state.send_queue.hello) e.alone;
   },
-)
+))
 call-early side out link (Send message) may early = no-more side out link.awaited _ (unless-early side out link.awaited link.state _ (has_ended link.state) refl refl refl refl refl early)
 call-early side out link (WriteRemote stag to bytes) may early = no-more side out link.awaited _ (unless-early side out link.awaited link.state _ (has_ended link.state) refl refl refl refl refl early)
 call-early side out link (ReadRemote sink at stag to len) may early = no-more side out link.awaited _ (unless-early side out link.awaited link.state _ (has_ended link.state) refl refl refl refl refl early)

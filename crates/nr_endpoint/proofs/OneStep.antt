@@ -27,6 +27,7 @@ use Rattle.nr_endpoint.specs.Judging.{with_frame, with_fpdu, with_peer_hello, wi
 use Rattle.nr_endpoint.specs.Calls.{after_call, IsStep}
 use Rattle.nr_endpoint.specs.Calls.Call.{FeedOne, OutOfMemory}
 use Rattle.nr_endpoint.specs.EndpointState.{EndpointState, KeepsStaging, cut_frame_len}
+use Rattle.nr_endpoint.proofs.Standing.{live-state}
 use Rattle.nr_endpoint.proofs.StagedFrames.{taken_whole, taken_all, whole_as_staged, front-of}
 
 -- ---- The side after it
@@ -53,10 +54,10 @@ stepped_partial st a rest piece left none partial is =
     the_link : List ℕ → Link
     the_link bytes = record { awaited = a; rest = bytes; state = st }
 
-pub out_of_memory : (st next : LinkState) (a : Awaited) (rest : List ℕ) → next ≡ record st { ended = Some ends.Memory } →
+pub out_of_memory : (st next : LinkState) (a : Awaited) (rest : List ℕ) → st.ended ≡ None → next ≡ record st { ended = Some ends.Memory } →
     record { awaited = a; rest = []; state = next } ≡ after_call (record { awaited = a; rest = rest; state = st }) OutOfMemory
 unfolding after_call
-out_of_memory st next a rest is = ap (λ (s : LinkState). the_link s) is
+out_of_memory st next a rest none is = ap (λ (s : LinkState). the_link s) (is ∙ sym (live-state st _ none))
   where
     the_link : LinkState → Link
     the_link s = record { awaited = a; rest = []; state = s }
@@ -230,7 +231,8 @@ ended_stays_one st a rest piece end is none =
 pub memory_stays : (st : LinkState) (a : Awaited) (rest : List ℕ) → st.ended ≡ Some ends.Memory → rest ≡ [] →
     record { awaited = a; rest = rest; state = st } ≡ after_call (record { awaited = a; rest = rest; state = st }) OutOfMemory
 unfolding after_call
-memory_stays st a rest is none = λ i. record { awaited = a; rest = none i; state = record st { ended = is i } }
+memory_stays st a rest is none =
+    λ i. record { awaited = a; rest = none i; state = sym (ap (λ (b : Bool). cond b st (record st { ended = Some ends.Memory })) (ap (λ (e : Option End). is_some e) is)) i }
 
 pub unchanged : (e : EndpointState) (piece : List ℕ) → KeepsStaging e e piece
 unchanged e piece = record { others = refl; len = refl }
@@ -245,13 +247,13 @@ step-not-memory before piece none is = by (is_whole before.awaited (before.rest 
         (ap (λ (l : Link). l.state.ended) (sym (feeding_after_step-whole has_ended with_frame before piece (living before.state none) whole)) ∙ is)
     by false partial = absurd (let h : None ≡ Some ends.Memory = sym none ∙ ap (λ (l : Link). l.state.ended) (sym (feeding_after_step-partial has_ended with_frame before piece (living before.state none) partial)) ∙ is in cc)
 
-memory-ends : (l : Link) → (after_call l OutOfMemory).state.ended ≡ Some ends.Memory
+pub memory-ends : (l : Link) → l.state.ended ≡ None → (after_call l OutOfMemory).state.ended ≡ Some ends.Memory
 unfolding after_call
-memory-ends l = refl
+memory-ends l none = ap (λ (s : LinkState). s.ended) (live-state l.state _ none)
 
-pub step_ok : (before after : Link) (piece : List ℕ) → IsStep before piece after → after.state.ended ≢ Some ends.Memory → after ≡ after_call before (FeedOne piece)
-step_ok before after piece (inl is) other = is
-step_ok before after piece (inr is) other = absurd (other (ap (λ (l : Link). l.state.ended) is ∙ memory-ends before))
+pub step_ok : (before after : Link) (piece : List ℕ) → IsStep before piece after → before.state.ended ≡ None → after.state.ended ≢ Some ends.Memory → after ≡ after_call before (FeedOne piece)
+step_ok before after piece (inl is) none other = is
+step_ok before after piece (inr is) none other = absurd (other (ap (λ (l : Link). l.state.ended) is ∙ memory-ends before none))
 
 pub step_memory : (before after : Link) (piece : List ℕ) → IsStep before piece after → before.state.ended ≡ None → after.state.ended ≡ Some ends.Memory → after ≡ after_call before OutOfMemory
 step_memory before after piece (inl is) none memory = absurd (step-not-memory before piece none (ap (λ (l : Link). l.state.ended) (sym is) ∙ memory))

@@ -23,7 +23,7 @@ use Rattle.nr_endpoint.specs.EndpointState.{EndpointState, KeepsStaging, cut_fra
 use Rattle.nr_endpoint.specs.Calls.{after_call, after_calls, IsStep}
 use Rattle.nr_endpoint.specs.Calls.Call.{Feed, FeedOne, OutOfMemory}
 use Rattle.nr_endpoint.proofs.StagedFrames.{taken_whole, whole_as_staged}
-use Rattle.nr_endpoint.proofs.OneStep.{living, memory_stays}
+use Rattle.nr_endpoint.proofs.OneStep.{living, memory_stays, memory-ends}
 
 -- ---- Feeding nothing, and one step as a feed
 
@@ -48,7 +48,7 @@ module _ {S : Type 0} (ended : S → Bool) (advanced : S → Awaited → List �
   )
 
   -- the step on the bytes that are taken
-  step-taken : (f : Feeding S) (piece : List ℕ) (w : Bool) → is_whole f.awaited (f.rest ++ piece) ≡ w → ended f.state ≡ false → IsPartial f.awaited f.rest →
+  pub step-taken : (f : Feeding S) (piece : List ℕ) (w : Bool) → is_whole f.awaited (f.rest ++ piece) ≡ w → ended f.state ≡ false → IsPartial f.awaited f.rest →
       feeding_after_step ended advanced f piece ≡ feeding_after ended advanced f (take (bytes_taken f.awaited f.rest piece) piece)
   step-taken f piece true whole going p =
       let x : List ℕ = take (bytes_taken f.awaited f.rest piece) piece in
@@ -113,14 +113,10 @@ goes_on_by before now after piece left on none p is =
           ∙ ap (feeding_after has_ended with_frame before) (sym (take-add on.count t piece));
     }
 
-memory-is : (l : Link) → (after_call l OutOfMemory).state.ended ≡ Some ends.Memory
-unfolding after_call
-memory-is l = refl
-
-pub runs_out : (before now after : Link) (piece left : List ℕ) → IsOn before piece now left → after ≡ after_call now OutOfMemory → IsOut before piece after
+pub runs_out : (before now after : Link) (piece left : List ℕ) → IsOn before piece now left → now.state.ended ≡ None → after ≡ after_call now OutOfMemory → IsOut before piece after
 unfolding after_calls
-runs_out before now after piece left on is = record {
-  memory = ap (λ (l : Link). l.state.ended) is ∙ memory-is now;
+runs_out before now after piece left on none is = record {
+  memory = ap (λ (l : Link). l.state.ended) is ∙ memory-ends now none;
   count = on.count;
   now_is = is ∙ ap (λ (l : Link). after_call l OutOfMemory) on.now_is;
 }
@@ -347,9 +343,9 @@ fed-live old now new piece left after fed some adv live is false e =
     ]
 
 -- memory ran out
-fed-out : (old now new : EndpointState) (piece left after : List ℕ) → IsFedTo old piece now left → 0 < length left → Advanced now new left after → new.link ≡ after_call now.link OutOfMemory → IsFedTo old piece new after
-fed-out old now new piece left after fed some adv is =
-    let out : IsOut old.link piece new.link = runs_out old.link now.link new.link piece left (on-of old.link now.link piece left fed.far some) is in
+fed-out : (old now new : EndpointState) (piece left after : List ℕ) → IsFedTo old piece now left → 0 < length left → Advanced now new left after → now.link.state.ended ≡ None → new.link ≡ after_call now.link OutOfMemory → IsFedTo old piece new after
+fed-out old now new piece left after fed some adv live is =
+    let out : IsOut old.link piece new.link = runs_out old.link now.link new.link piece left (on-of old.link now.link piece left fed.far some) live is in
     let e : has_ended new.link.state ≡ true = ap (λ (x : Option End). is_some x) out.memory in
     let none : after ≡ [] = none-left (has_ended new.link.state) _ after adv.left_is e in
     record {
@@ -363,7 +359,7 @@ fed-out old now new piece left after fed some adv is =
 
 fed-step : (old now new : EndpointState) (piece left after : List ℕ) → IsFedTo old piece now left → 0 < length left → Advanced now new left after → now.link.state.ended ≡ None → IsStep now.link left new.link → IsFedTo old piece new after
 fed-step old now new piece left after fed some adv live (inl is) = fed-live old now new piece left after fed some adv live is (has_ended new.link.state) refl
-fed-step old now new piece left after fed some adv live (inr is) = fed-out old now new piece left after fed some adv is
+fed-step old now new piece left after fed some adv live (inr is) = fed-out old now new piece left after fed some adv live is
 
 pub fed_on : (old now new : EndpointState) (piece left after : List ℕ) → IsFedTo old piece now left → 0 < length left → Advanced now new left after → IsFedTo old piece new after
 fed_on old now new piece left after fed some adv = by (has_ended now.link.state) refl
@@ -404,3 +400,18 @@ fed_memory old now piece fed memory = by fed.far
     by (On on) = (on.count, again ∙ ap (λ (l : Link). after_call l OutOfMemory) on.now_is)
     by (All is none) = (length piece, again ∙ ap (λ (l : Link). after_call l OutOfMemory) (is ∙ ap (λ (bytes : List ℕ). after_call old.link (Feed bytes)) (sym (take_all (length piece) piece (omega arith)))))
     by (Out out none) = (out.count, out.now_is)
+
+-- ---- A side that had ended
+
+pub ended_all : (l : Link) (piece : List ℕ) (end : End) → l.state.ended ≡ Some end → (has_ended l.state ≡ true → l.rest ≡ []) → l ≡ after_call l (Feed piece)
+unfolding after_call
+ended_all l piece end is none =
+    let ended : has_ended l.state ≡ true = ap (λ (e : Option End). is_some e) is in
+    sym (feeding-ended has_ended with_frame l piece ended (none ended)).0
+
+pub ended_memory : (l : Link) (piece : List ℕ) → l.state.ended ≡ Some ends.Memory → (has_ended l.state ≡ true → l.rest ≡ []) → (n : ℕ) × (l ≡ after_calls l (Feed (take n piece) ∷ OutOfMemory ∷ []))
+unfolding after_calls
+ended_memory l piece is none = (
+  0,
+  memory-again l is (none (ap (λ (e : Option End). is_some e) is)) ∙ ap (λ (k : Link). after_call k OutOfMemory) (ended_all l (take 0 piece) ends.Memory is none),
+)

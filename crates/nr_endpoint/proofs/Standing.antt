@@ -1,6 +1,7 @@
 -- One more call: from the side's new state to the list of calls.
-use Rattle.std.proofs.Common.{◌≡◌, ℕ, ◌≤◌, List, [], ◌∷◌, ◌++◌, length, take, Bool, true, false, Some, Result, Ok, Err, refl, sym, ap, subst, ◌∙◌, if◌then◌else◌}
+use Rattle.std.proofs.Common.{◌≡◌, ℕ, ◌≤◌, List, [], ◌∷◌, ◌++◌, length, take, Bool, true, false, cond, is_some, Option, None, Some, Result, Ok, Err, refl, sym, ap, subst, ◌∙◌, if◌then◌else◌}
 use Rattle.std.specs.Prelude.{OnOk, IsErr}
+use Rattle.nr_link.specs.declared.end.End.{End}
 use Rattle.nr_regions.specs.declared.right.Right.{Right}
 use Rattle.nr_regions.specs.RegisteredMemory.{after_register, after_release}
 use Rattle.nr_link.specs.declared.end.End.TheVariants as ends
@@ -39,13 +40,16 @@ pub posted-state : (l : Link) (t : LinkState) → t ≡ record l.state { receive
 unfolding after_call
 posted-state l t is = ap (λ (s : LinkState). with_state s l) is
 
-pub stopped-state : (l : Link) (t : LinkState) (reason : ℕ) → t ≡ with_end_of (ends.Bad l.state.last reason) l.state → ended_link t l ≡ after_call l (Stop reason)
-unfolding after_call
-stopped-state l t reason is = ap (λ (s : LinkState). ended_link s l) is
+pub live-state : (s after : LinkState) → s.ended ≡ None → unless_ended s after ≡ after
+live-state s after none = ap (λ (b : Bool). cond b s after) (ap (λ (e : Option End). is_some e) none)
 
-pub out-of-memory-state : (l : Link) (t : LinkState) → t ≡ record l.state { ended = Some ends.Memory } → ended_link t l ≡ after_call l OutOfMemory
+pub stopped-state : (l : Link) (t : LinkState) (reason : ℕ) → l.state.ended ≡ None → t ≡ with_end_of (ends.Bad l.state.last reason) l.state → ended_link t l ≡ after_call l (Stop reason)
 unfolding after_call
-out-of-memory-state l t is = ap (λ (s : LinkState). ended_link s l) is
+stopped-state l t reason none is = ap (λ (s : LinkState). ended_link s l) (is ∙ sym (live-state l.state _ none))
+
+pub out-of-memory-state : (l : Link) (t : LinkState) → l.state.ended ≡ None → t ≡ record l.state { ended = Some ends.Memory } → ended_link t l ≡ after_call l OutOfMemory
+unfolding after_call
+out-of-memory-state l t none is = ap (λ (s : LinkState). ended_link s l) (is ∙ sym (live-state l.state _ none))
 
 pub sent-state : (l : Link) (t : LinkState) (message : List ℕ) → t ≡ unless_ended l.state (record l.state { send_queue = with_send message l.state.send_queue }) → with_state t l ≡ after_call l (Send message)
 unfolding after_call
@@ -114,10 +118,12 @@ drained IsTaken WasAll IsAll on before staging now t view (n, fits, is, took, al
 -- ---- An end
 
 -- a side that has ended keeps no input
-pub stopped : (before : Link) (staging : List ℕ) (now : EndpointState) (t : LinkState) (reason : ℕ) → record { link = before; staging = staging } ≡ now →
+pub stopped : (before : Link) (staging : List ℕ) (now : EndpointState) (t : LinkState) (reason : ℕ) → record { link = before; staging = staging } ≡ now → now.link.state.ended ≡ None →
     t ≡ with_end_of (ends.Bad before.state.last reason) before.state → ended_link t before ≡ after_call now.link (Stop reason)
-stopped before staging now t reason view is = seen before staging now (ended_link t before) (Stop reason) view (stopped-state before t reason is)
+stopped before staging now t reason view none is =
+    seen before staging now (ended_link t before) (Stop reason) view (stopped-state before t reason (ap (λ (e : EndpointState). e.link.state.ended) view ∙ none) is)
 
-pub out_of_memory : (before : Link) (staging : List ℕ) (now : EndpointState) (t : LinkState) → record { link = before; staging = staging } ≡ now →
+pub out_of_memory : (before : Link) (staging : List ℕ) (now : EndpointState) (t : LinkState) → record { link = before; staging = staging } ≡ now → now.link.state.ended ≡ None →
     t ≡ record before.state { ended = Some ends.Memory } → ended_link t before ≡ after_call now.link OutOfMemory
-out_of_memory before staging now t view is = seen before staging now (ended_link t before) OutOfMemory view (out-of-memory-state before t is)
+out_of_memory before staging now t view none is =
+    seen before staging now (ended_link t before) OutOfMemory view (out-of-memory-state before t (ap (λ (e : EndpointState). e.link.state.ended) view ∙ none) is)

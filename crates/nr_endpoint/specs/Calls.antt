@@ -39,7 +39,7 @@ with_state s link = record { awaited = link.awaited; rest = link.rest; state = s
 abbrev pub ended_link : LinkState → Link → Link
 ended_link s link = record { awaited = link.awaited; rest = []; state = s }
 
--- a side that has ended queues nothing
+-- a side that has ended stays so, and queues nothing
 abbrev pub unless_ended : LinkState → LinkState → LinkState
 unless_ended s after = if has_ended s then s else after
 
@@ -48,8 +48,8 @@ after_call link (Feed piece) = feeding_after has_ended with_frame link piece
 after_call link (FeedOne piece) = feeding_after_step has_ended with_frame link piece
 after_call link NextEvent = with_state (record link.state { receive_queue = told link.state.receive_queue }) link
 after_call link Post = with_state (record link.state { receive_queue = posted link.state.receive_queue }) link
-after_call link (Stop reason) = ended_link (with_end_of (ends.Bad link.state.last reason) link.state) link
-after_call link OutOfMemory = ended_link (record link.state { ended = Some ends.Memory }) link
+after_call link (Stop reason) = ended_link (unless_ended link.state (with_end_of (ends.Bad link.state.last reason) link.state)) link
+after_call link OutOfMemory = ended_link (unless_ended link.state (record link.state { ended = Some ends.Memory })) link
 after_call link (Send message) =
     with_state (unless_ended link.state (record link.state { send_queue = with_send message link.state.send_queue })) link
 after_call link (WriteRemote stag to bytes) =

@@ -37,6 +37,11 @@ abbrev pub StepsReach : Type 0
 StepsReach = (link : Link) (piece : List ℕ) → IsPartial link.awaited link.rest →
     after_calls link (FeedOne piece ∷ Feed (drop (bytes_taken link.awaited link.rest piece) piece) ∷ []) ≡ after_call link (Feed piece)
 
+-- One step is a feed of the bytes that it takes.
+abbrev pub StepsFeed : Type 0
+StepsFeed = (link : Link) (piece : List ℕ) → has_ended link.state ≡ false → IsPartial link.awaited link.rest →
+    after_call link (FeedOne piece) ≡ after_call link (Feed (take (bytes_taken link.awaited link.rest piece) piece))
+
 -- A side that has ended takes no more bytes.
 abbrev pub EndStays : Type 0
 EndStays = (link : Link) (piece : List ℕ) → has_ended link.state ≡ true → link.rest ≡ [] →
@@ -178,13 +183,13 @@ ReleasedStaysDead = (link : Link) (stag : ℕ) (calls : List Call) → stag < li
 
 -- ---- What a side writes before the peer's hello
 
--- A side is stopped behind a frame of the peer, and only while it hasn't ended. `stop` asks this of its caller.
+-- A side is stopped behind a frame of the peer. `stop` asks this of its caller.
 abbrev pub MayBeCalled : Link → Call → Type 0
 MayBeCalled link (Feed piece) = Unit {0}
 MayBeCalled link (FeedOne piece) = Unit {0}
 MayBeCalled link NextEvent = Unit {0}
 MayBeCalled link Post = Unit {0}
-MayBeCalled link (Stop reason) = (link.state.ended ≡ None) × (0 < link.state.place)
+MayBeCalled link (Stop reason) = 0 < link.state.place
 MayBeCalled link OutOfMemory = Unit {0}
 MayBeCalled link (Send message) = Unit {0}
 MayBeCalled link (WriteRemote stag to bytes) = Unit {0}
@@ -283,13 +288,17 @@ queue_drained_by (call ∷ calls) q = queue_drained_by calls (queue_drained call
 
 -- No call queues anything on a side that has ended: its last FPDU is that with which it ended.
 abbrev pub EndedQueuesNothing : Type 0
-EndedQueuesNothing = (link : Link) (calls : List Call) → MayAllBeCalled link calls → has_ended link.state ≡ true →
+EndedQueuesNothing = (link : Link) (calls : List Call) → has_ended link.state ≡ true →
     (after_calls link calls).state.send_queue ≡ queue_drained_by calls link.state.send_queue
 
 -- Where a side is stopped it queues what it writes last, and where memory ran out, nothing.
 abbrev pub StopQueuesLast : Type 0
-StopQueuesLast = (link : Link) (reason : ℕ) →
+StopQueuesLast = (link : Link) (reason : ℕ) → link.state.ended ≡ None →
     (after_call link (Stop reason)).state.send_queue.fpdus ≡ link.state.send_queue.fpdus ++ final_output (ends.Bad link.state.last reason)
 
 abbrev pub OutOfMemoryQueuesNothing : Type 0
 OutOfMemoryQueuesNothing = (link : Link) → (after_call link OutOfMemory).state.send_queue ≡ link.state.send_queue
+
+-- An End is kept, whatever is called.
+abbrev pub EndIsKept : Type 0
+EndIsKept = (link : Link) (calls : List Call) → has_ended link.state ≡ true → (after_calls link calls).state.ended ≡ link.state.ended

@@ -1,6 +1,6 @@
 //! The calls of an endpoint's owner.
 
-ghost use Rattle.std.specs.Prelude.{◌≡◌, ◌≢◌, ℕ, ◌+◌, ◌-◌, ◌*◌, ◌^◌, ◌<◌, ◌≤◌, ◌↔◌, [], ◌∷◌, ◌++◌, length, drop, take, None, Some, is_some, Ok, Err, IfOk, OnOk, IfErr, OnErr, IsOk, IsErrAnd, IfSome, List, option_to_list, option_map, if◌then◌else◌, true, nat_lt};
+ghost use Rattle.std.specs.Prelude.{◌≡◌, ◌≢◌, ℕ, ◌+◌, ◌-◌, ◌*◌, ◌^◌, ◌<◌, ◌≤◌, ◌↔◌, [], ◌∷◌, ◌++◌, length, drop, take, None, Some, is_some, Ok, Err, IfOk, OnOk, IfErr, OnErr, IsOk, IsErrAnd, IfSome, MatchResult, List, option_to_list, option_map, if◌then◌else◌, true, nat_lt};
 ghost use Rattle.std.specs.Io.KnownBytes.{Appends};
 ghost use Rattle.nr_outside.specs.Faults.{Rises};
 ghost use Rattle.nr_regions.specs.RegisteredMemory.{Claim, IsHeld, bytes_in, bytes_held, claim_of, held_region};
@@ -107,7 +107,8 @@ impl Endpoint {
         requires within { at + len ≤ registration.now.len }
         requires remote { to + len ≤ 2 ^ 64 }
         requires size { len < 2 ^ 32 }
-        ensures full { IsErrAnd result (λ e. e ≡ refusals.Full open_reads_max) ↔ (length self.old.link.state.reads ≡ open_reads_max) }
+        ensures full { IsErrAnd result (λ e. e ≢ refusals.Memory) ↔ (length self.old.link.state.reads ≡ open_reads_max) }
+        ensures reads { IfErr result (λ e. e ≢ refusals.Memory → e ≡ refusals.Full open_reads_max) }
         ensures state { OnOk result (self.new.link ≡ after_call self.old.link (ReadRemote registration.now.stag at stag to len)) }
         ensures stands { OnOk result (StandsOn self.old.link (ReadRemote registration.now.stag at stag to len) self.new.link) }
         ensures err { OnErr result (self.new.link ≡ self.old.link) }
@@ -123,8 +124,9 @@ impl Endpoint {
             × (self.new.link ≡ after_call self.old.link (Drain n))
             × StandsOn self.old.link (Drain n) self.new.link
             × OnOk result (n ≡ length (writable self.old.link.state.has_hello self.old.link.state.send_queue)) }
-        ensures ok { OnOk result (K.faults sink.new ≡ K.faults sink.old) }
-        ensures link_write { IsErrAnd result (λ e. e ≡ drains.LinkWrite) → Rises (K.faults sink.old) (K.faults sink.new) }
+        // It takes no memory: its only fault is the sink's.
+        ensures counted { MatchResult result
+            (λ _. K.faults sink.new ≡ K.faults sink.old) (λ e. (e ≡ drains.LinkWrite) × Rises (K.faults sink.old) (K.faults sink.new)) }
         ensures never_falls { K.faults sink.old ≤ K.faults sink.new }
         ensures staging { self.new.staging ≡ self.old.staging }
     {

@@ -64,6 +64,7 @@ impl Endpoint {
     ) -> Result<Endpoint, Memory>
         requires { 0 < first_stag }
         ensures state { IfOk result (λ e. e.link ≡ initial_link side receives first_stag) }
+        ensures staging { IfOk result (λ e. length e.staging ≡ FPDU_MAX) }
         ensures stands { IfOk result (λ e. StandsFor (initial_link side receives first_stag) [] e.link) }
     {
         Ok(Endpoint {
@@ -82,9 +83,13 @@ impl Endpoint {
         ensures state { result ≢ Err ends.Memory → self.new.link ≡ after_call self.old.link (Feed piece.now) }
         ensures stands { result ≢ Err ends.Memory → StandsOn self.old.link (Feed piece.now) self.new.link }
         ensures memory { result ≡ Err ends.Memory → (n : ℕ) × (self.new.link ≡ after_calls self.old.link (Feed (take n piece.now) ∷ OutOfMemory ∷ [])) }
+        ensures kept { has_ended self.old.link.state ≡ true → self.new ≡ self.old }
         ensures staging { KeepsStaging self.old self.new piece.now }
     {
         self.kept_rest();
+        if let Some(end) = self.link.end() {
+            return Err(end);
+        }
         let mut left = piece;
         while !left.is_empty() {
             left = self.advance(left);
@@ -136,6 +141,7 @@ impl Endpoint {
         ensures state { result ≢ Err ends.Memory → self.new.link ≡ after_call self.old.link (FeedOne piece.now) }
         ensures stands { result ≢ Err ends.Memory → StandsOn self.old.link (FeedOne piece.now) self.new.link }
         ensures memory { result ≡ Err ends.Memory → self.new.link ≡ after_call self.old.link OutOfMemory }
+        ensures kept { has_ended self.old.link.state ≡ true → self.new ≡ self.old }
         ensures staging { KeepsStaging self.old self.new piece.now }
     {
         if let Some(end) = self.link.end() {

@@ -1,12 +1,13 @@
 //! Laws of an endpoint, over the calls that it stands for.
 
-ghost use Rattle.nr_endpoint.specs.Laws.{PiecesJoin, StepsReach, EndStays, KeepsLessThanFrame, EndedKeepsNothing, MemoryFollowsEvents, PlacesAreAllowed, PlacesAreInOrder, ReadsAreAllowed, NothingElseIsRead, OpenRegionHolds, ReleasedBufferHolds, ReleasedStaysDead, NoFpduBeforeHello, FramesEndForThese, NoFrameStops, OthersComeFromStop, MemoryComesFromOutOfMemory, EndedQueuesNothing, StopQueuesLast, OutOfMemoryQueuesNothing};
+ghost use Rattle.nr_endpoint.specs.Laws.{PiecesJoin, StepsReach, StepsFeed, EndStays, KeepsLessThanFrame, EndedKeepsNothing, MemoryFollowsEvents, PlacesAreAllowed, PlacesAreInOrder, ReadsAreAllowed, NothingElseIsRead, OpenRegionHolds, ReleasedBufferHolds, ReleasedStaysDead, NoFpduBeforeHello, FramesEndForThese, NoFrameStops, OthersComeFromStop, MemoryComesFromOutOfMemory, EndedQueuesNothing, EndIsKept, StopQueuesLast, OutOfMemoryQueuesNothing};
 
 /// What a side is after some bytes does not depend on how they were cut: to feed two pieces is to feed both joined, and one step on a
 /// piece and then the rest of it is the whole piece. A side that has ended stays as it is.
 pub fn however_cut()
     ensures pieces { PiecesJoin }
     ensures steps { StepsReach }
+    ensures step { StepsFeed }
     ensures end_stays { EndStays }
     // What is asked of a link above holds of every link that is reached.
     ensures partial { KeepsLessThanFrame }
@@ -40,6 +41,7 @@ pub fn reasons_of_frames()
     ensures stops { OthersComeFromStop }
     ensures memory { MemoryComesFromOutOfMemory }
     ensures ended { EndedQueuesNothing }
+    ensures kept { EndIsKept }
     // What a frame queues that ends a side is a clause of the law on memory.
     ensures stop_queues { StopQueuesLast }
     ensures no_memory { OutOfMemoryQueuesNothing }

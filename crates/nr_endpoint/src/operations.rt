@@ -1,6 +1,6 @@
 //! What the owner of a side does with it.
 
-ghost use Rattle.std.specs.Prelude.{◌≡◌, ◌+◌, ◌*◌, ◌^◌, ◌<◌, ◌≤◌, ◌↔◌, [], ◌∷◌, ◌++◌, ℕ, length, take, is_some, nat_lt, if◌then◌else◌, IfOk, OnOk, IfErr, OnErr, IsErrAnd, IfSome, MatchResult, option_map, option_to_list};
+ghost use Rattle.std.specs.Prelude.{◌≡◌, ◌≢◌, ◌+◌, ◌*◌, ◌^◌, ◌<◌, ◌≤◌, ◌↔◌, [], ◌∷◌, ◌++◌, ℕ, length, take, is_some, nat_lt, if◌then◌else◌, IfOk, OnOk, IfErr, OnErr, IsErrAnd, IfSome, MatchResult, option_map, option_to_list};
 ghost use Rattle.std.specs.Io.KnownBytes.{Appends};
 ghost use Rattle.nr_outside.specs.Faults.{Rises};
 ghost use Rattle.nr_regions.specs.RegisteredMemory.{IsHeld, after_register, after_release, bytes_held, bytes_in, claim_of, held_region};
@@ -79,7 +79,8 @@ impl Link {
     ) -> Result<(), ReadRefused>
         requires within { at + len ≤ registration.now.len }
         requires size { len < 2 ^ 32 }
-        ensures full { IsErrAnd result (λ e. e ≡ refusals.Full open_reads_max) ↔ (length self.old.reads ≡ open_reads_max) }
+        ensures full { IsErrAnd result (λ e. e ≢ refusals.Memory) ↔ (length self.old.reads ≡ open_reads_max) }
+        ensures reads { IfErr result (λ e. e ≢ refusals.Memory → e ≡ refusals.Full open_reads_max) }
         ensures ok { OnOk result (self.new ≡ unless_ended self.old (record self.old {
           send_queue = with_request registration.now.stag at len stag to self.old.send_queue;
           reads = self.old.reads ++ record { sink = registration.now.stag; at = at; left = len } ∷ [];

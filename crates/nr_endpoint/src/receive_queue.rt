@@ -235,11 +235,11 @@ impl ReceiveQueue {
         self.requests += 1;
     }
 
-    /// Room for what a Read Request tells once its response is whole. Changes nothing.
+    /// Room for all that may be told from now on: for each receive, and for each Read Request that may be open. Changes nothing.
     pub fn make_room(&mut self) -> Result<(), Memory>
         ensures { self.new ≡ self.old }
     {
-        self.events.reserve(1)?;
+        self.events.reserve(self.receives + OPEN_READS_MAX)?;
         Ok(())
     }
 

@@ -1,5 +1,5 @@
 use Rattle.nr_endpoint.proofs.EndLaws.{frames-end-for-these, no-frame-stops, others-come-from-stop, memory-comes-from-out-of-memory}
-use Rattle.nr_endpoint.proofs.LastOutput.{ended-queues-nothing, stop-queues-last, out-of-memory-queues-nothing}
+use Rattle.nr_endpoint.proofs.LastOutput.{end-is-kept, ended-queues-nothing, stop-queues-last, out-of-memory-queues-nothing}
 use Rattle.nr_endpoint.proofs.laws.reasons_of_frames.Goals as goal
 
 pub returns-clause-frames : goal.returns-clause-frames
@@ -22,3 +22,6 @@ returns-clause-stop_queues c = stop-queues-last
 
 pub returns-clause-no_memory : goal.returns-clause-no_memory
 returns-clause-no_memory c = out-of-memory-queues-nothing
+
+pub returns-clause-kept : goal.returns-clause-kept
+returns-clause-kept c = end-is-kept

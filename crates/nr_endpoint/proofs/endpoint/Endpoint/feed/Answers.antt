@@ -5,7 +5,7 @@ use Rattle.nr_link.specs.declared.end.End.TheVariants as ends
 use Rattle.nr_endpoint.specs.EndpointState.{EndpointState}
 use Rattle.nr_endpoint.specs.Calls.Call.{Feed}
 use Rattle.nr_endpoint.proofs.Standing.{stands_on}
-use Rattle.nr_endpoint.proofs.Pieces.{IsFedTo, fed_none, fed_on, fewer_left, fed_all, fed_memory}
+use Rattle.nr_endpoint.proofs.Pieces.{IsFedTo, fed_none, fed_on, fewer_left, fed_all, fed_memory, ended_all, ended_memory}
 use Rattle.nr_endpoint.proofs.endpoint.Endpoint.feed.Goals as goal
 
 pub loop-left-init : goal.loop-left-init
@@ -35,25 +35,36 @@ some-same is = cc
 abbrev the_error : End → Result (Unit {0}) End
 the_error e = Err e
 
-pub returns-in-Some-clause-stands : goal.returns-in-Some-clause-stands
-returns-in-Some-clause-stands c = λ other.
+pub returns-in-Some-end-clause-stands : goal.returns-in-Some-end-clause-stands
+returns-in-Some-end-clause-stands c = λ other.
     let none : c.loop-left.left.now ≡ [] = no-bytes c.loop-left.left.now (grind (arith, common_steps, c.is_empty.ensures, c.loop-left-test.false)) in
     let fed : IsFedTo c.args.self.now c.args.piece.now c.loop-left.self [] = subst (λ (x : List ℕ). IsFedTo c.args.self.now c.args.piece.now c.loop-left.self x) none c.loop-left.invariant in
-    let ended : c.loop-left.self.link.state.ended ≡ Some c.in-Some.end = ap (λ (e : EndpointState). e.link.state.ended) (sym c.self-2.view_is) ∙ sym c.end.ensures ∙ c.in-Some.is in
+    let ended : c.loop-left.self.link.state.ended ≡ Some c.in-Some-end.end = ap (λ (e : EndpointState). e.link.state.ended) (sym c.self-2.view_is) ∙ sym c.end-2.ensures ∙ c.in-Some-end.is in
     stands_on c.args.self.now.link (Feed c.args.piece.now) c.loop-left.self.link
     (fed_all c.args.self.now c.loop-left.self c.args.piece.now fed (λ memory. other (ap (λ (e : End). the_error e) (some-same (sym ended ∙ memory)))))
 
-pub returns-in-Some-clause-memory : goal.returns-in-Some-clause-memory
-returns-in-Some-clause-memory c = λ memory.
+pub returns-in-Some-end-clause-memory : goal.returns-in-Some-end-clause-memory
+returns-in-Some-end-clause-memory c = λ memory.
     let none : c.loop-left.left.now ≡ [] = no-bytes c.loop-left.left.now (grind (arith, common_steps, c.is_empty.ensures, c.loop-left-test.false)) in
     let fed : IsFedTo c.args.self.now c.args.piece.now c.loop-left.self [] = subst (λ (x : List ℕ). IsFedTo c.args.self.now c.args.piece.now c.loop-left.self x) none c.loop-left.invariant in
-    let ended : c.loop-left.self.link.state.ended ≡ Some c.in-Some.end = ap (λ (e : EndpointState). e.link.state.ended) (sym c.self-2.view_is) ∙ sym c.end.ensures ∙ c.in-Some.is in
+    let ended : c.loop-left.self.link.state.ended ≡ Some c.in-Some-end.end = ap (λ (e : EndpointState). e.link.state.ended) (sym c.self-2.view_is) ∙ sym c.end-2.ensures ∙ c.in-Some-end.is in
     fed_memory c.args.self.now c.loop-left.self c.args.piece.now fed (ended ∙ ap (λ (e : End). Some e) (ap (λ (r : Result (Unit {0}) End). end_in r) memory))
 
 pub returns-clause-stands : goal.returns-clause-stands
 returns-clause-stands c = λ other.
     let none : c.loop-left.left.now ≡ [] = no-bytes c.loop-left.left.now (grind (arith, common_steps, c.is_empty.ensures, c.loop-left-test.false)) in
     let fed : IsFedTo c.args.self.now c.args.piece.now c.loop-left.self [] = subst (λ (x : List ℕ). IsFedTo c.args.self.now c.args.piece.now c.loop-left.self x) none c.loop-left.invariant in
-    let ended : c.loop-left.self.link.state.ended ≡ None = ap (λ (e : EndpointState). e.link.state.ended) (sym c.self-2.view_is) ∙ sym c.end.ensures ∙ c.in_default.is in
+    let ended : c.loop-left.self.link.state.ended ≡ None = ap (λ (e : EndpointState). e.link.state.ended) (sym c.self-2.view_is) ∙ sym c.end-2.ensures ∙ c.in_default-end.is in
     stands_on c.args.self.now.link (Feed c.args.piece.now) c.loop-left.self.link
     (fed_all c.args.self.now c.loop-left.self c.args.piece.now fed (λ memory. absurd (let h : None ≡ Some ends.Memory = sym ended ∙ memory in cc)))
+
+pub returns-in-Some-clause-state : goal.returns-in-Some-clause-state
+returns-in-Some-clause-state c = λ other. ended_all c.args.self.now.link c.args.piece.now c.in-Some.end (ap (λ (e : EndpointState). e.link.state.ended) (sym c.self.view_is) ∙ sym c.end.ensures ∙ c.in-Some.is) c.kept_rest.ensures.ended
+
+pub returns-in-Some-clause-stands : goal.returns-in-Some-clause-stands
+returns-in-Some-clause-stands c = λ other.
+    stands_on c.args.self.now.link (Feed c.args.piece.now) c.args.self.now.link (ended_all c.args.self.now.link c.args.piece.now c.in-Some.end (ap (λ (e : EndpointState). e.link.state.ended) (sym c.self.view_is) ∙ sym c.end.ensures ∙ c.in-Some.is) c.kept_rest.ensures.ended)
+
+pub returns-in-Some-clause-memory : goal.returns-in-Some-clause-memory
+returns-in-Some-clause-memory c = λ memory.
+    ended_memory c.args.self.now.link c.args.piece.now ((ap (λ (e : EndpointState). e.link.state.ended) (sym c.self.view_is) ∙ sym c.end.ensures ∙ c.in-Some.is) ∙ ap (λ (e : End). Some e) (ap (λ (r : Result (Unit {0}) End). end_in r) memory)) c.kept_rest.ensures.ended

@@ -32,19 +32,19 @@ returns-in-Some-clause-memory c = λ memory.
 
 pub returns-clause-state : goal.returns-clause-state
 returns-clause-state c = λ other.
-    step_ok c.args.self.now.link c.step-taken.new.self.link c.args.piece.now c.step-taken.ensures.state (λ memory. absurd (let h : None ≡ Some ends.Memory = sym (ap (λ (e : EndpointState). e.link.state.ended) (sym c.self-2.view_is) ∙ sym c.end-2.ensures ∙ c.in_default-end.is) ∙ memory in cc))
+    step_ok c.args.self.now.link c.step-taken.new.self.link c.args.piece.now c.step-taken.ensures.state (ap (λ (e : EndpointState). e.link.state.ended) (sym c.self.view_is) ∙ sym c.end.ensures ∙ c.in_default.is) (λ memory. absurd (let h : None ≡ Some ends.Memory = sym (ap (λ (e : EndpointState). e.link.state.ended) (sym c.self-2.view_is) ∙ sym c.end-2.ensures ∙ c.in_default-end.is) ∙ memory in cc))
 
 pub returns-clause-stands : goal.returns-clause-stands
 returns-clause-stands c = λ other.
-    stands_on c.args.self.now.link (FeedOne c.args.piece.now) c.step-taken.new.self.link (step_ok c.args.self.now.link c.step-taken.new.self.link c.args.piece.now c.step-taken.ensures.state (λ memory. absurd (let h : None ≡ Some ends.Memory = sym (ap (λ (e : EndpointState). e.link.state.ended) (sym c.self-2.view_is) ∙ sym c.end-2.ensures ∙ c.in_default-end.is) ∙ memory in cc)))
+    stands_on c.args.self.now.link (FeedOne c.args.piece.now) c.step-taken.new.self.link (step_ok c.args.self.now.link c.step-taken.new.self.link c.args.piece.now c.step-taken.ensures.state (ap (λ (e : EndpointState). e.link.state.ended) (sym c.self.view_is) ∙ sym c.end.ensures ∙ c.in_default.is) (λ memory. absurd (let h : None ≡ Some ends.Memory = sym (ap (λ (e : EndpointState). e.link.state.ended) (sym c.self-2.view_is) ∙ sym c.end-2.ensures ∙ c.in_default-end.is) ∙ memory in cc)))
 
 pub returns-in-Some-end-clause-state : goal.returns-in-Some-end-clause-state
 returns-in-Some-end-clause-state c = λ other.
-    step_ok c.args.self.now.link c.step-taken.new.self.link c.args.piece.now c.step-taken.ensures.state (λ memory. other (ap (λ (e : End). the_error e) (some-same (sym (ap (λ (e : EndpointState). e.link.state.ended) (sym c.self-2.view_is) ∙ sym c.end-2.ensures ∙ c.in-Some-end.is) ∙ memory))))
+    step_ok c.args.self.now.link c.step-taken.new.self.link c.args.piece.now c.step-taken.ensures.state (ap (λ (e : EndpointState). e.link.state.ended) (sym c.self.view_is) ∙ sym c.end.ensures ∙ c.in_default.is) (λ memory. other (ap (λ (e : End). the_error e) (some-same (sym (ap (λ (e : EndpointState). e.link.state.ended) (sym c.self-2.view_is) ∙ sym c.end-2.ensures ∙ c.in-Some-end.is) ∙ memory))))
 
 pub returns-in-Some-end-clause-stands : goal.returns-in-Some-end-clause-stands
 returns-in-Some-end-clause-stands c = λ other.
-    stands_on c.args.self.now.link (FeedOne c.args.piece.now) c.step-taken.new.self.link (step_ok c.args.self.now.link c.step-taken.new.self.link c.args.piece.now c.step-taken.ensures.state (λ memory. other (ap (λ (e : End). the_error e) (some-same (sym (ap (λ (e : EndpointState). e.link.state.ended) (sym c.self-2.view_is) ∙ sym c.end-2.ensures ∙ c.in-Some-end.is) ∙ memory)))))
+    stands_on c.args.self.now.link (FeedOne c.args.piece.now) c.step-taken.new.self.link (step_ok c.args.self.now.link c.step-taken.new.self.link c.args.piece.now c.step-taken.ensures.state (ap (λ (e : EndpointState). e.link.state.ended) (sym c.self.view_is) ∙ sym c.end.ensures ∙ c.in_default.is) (λ memory. other (ap (λ (e : End). the_error e) (some-same (sym (ap (λ (e : EndpointState). e.link.state.ended) (sym c.self-2.view_is) ∙ sym c.end-2.ensures ∙ c.in-Some-end.is) ∙ memory)))))
 
 pub returns-in-Some-end-clause-memory : goal.returns-in-Some-end-clause-memory
 returns-in-Some-end-clause-memory c = λ memory.

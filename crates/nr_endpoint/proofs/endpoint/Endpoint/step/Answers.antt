@@ -68,7 +68,7 @@ returns-else-judge-clause-state c =
     let found = in_piece c.self.inside.staged c.self.inside.awaited c.args.piece.now c.whole_in_piece.result c.in-Some.len c.whole_in_piece.ensures c.in-Some.is in
     let none : take c.self.inside.staged c.self.inside.staging.items ≡ [] = ap (λ (n : ℕ). take n c.self.inside.staging.items) found.0 in
     rw (← c.self.view_is) (inr (ap (λ (rest : List ℕ). record { awaited = c.self.inside.awaited; rest = rest; state = c.judge.new.self }) none
-    ∙ out_of_memory c.self.inside.link c.judge.new.self c.self.inside.awaited (take c.self.inside.staged c.self.inside.staging.items) (not_judged c.judge.result c.judge.new.self _ _ c.judge.ensures c.if-judge.false)))
+    ∙ out_of_memory c.self.inside.link c.judge.new.self c.self.inside.awaited (take c.self.inside.staged c.self.inside.staging.items) (subst (λ (e : EndpointState). e.link.state.ended ≡ None) (sym c.self.view_is) c.requires.live) (not_judged c.judge.result c.judge.new.self _ _ c.judge.ensures c.if-judge.false)))
 
 -- ---- A frame that is staged
 
@@ -134,7 +134,7 @@ returns-then-judge-2-clause-state c =
 
 pub returns-else-judge-2-clause-state : goal.returns-else-judge-2-clause-state
 returns-else-judge-2-clause-state c =
-    rw (← c.self.view_is) (inr (out_of_memory c.self.inside.link c.judge-2.new.self c.self.inside.awaited (take c.self.inside.staged c.self.inside.staging.items) (not_judged c.judge-2.result c.judge-2.new.self _ _ c.judge-2.ensures c.if-judge-2.false)))
+    rw (← c.self.view_is) (inr (out_of_memory c.self.inside.link c.judge-2.new.self c.self.inside.awaited (take c.self.inside.staged c.self.inside.staging.items) (subst (λ (e : EndpointState). e.link.state.ended ≡ None) (sym c.self.view_is) c.requires.live) (not_judged c.judge-2.result c.judge-2.new.self _ _ c.judge-2.ensures c.if-judge-2.false)))
 
 pub returns-then-judge-2-clause-staging : goal.returns-then-judge-2-clause-staging
 returns-then-judge-2-clause-staging c =
