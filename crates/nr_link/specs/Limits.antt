@@ -9,3 +9,7 @@ segment_max = 4096
 -- leaves the number to the sides)
 abbrev pub open_reads_max : ℕ
 open_reads_max = 8
+
+-- the bytes that a Send has at most, in each direction, where the sides agree on nothing else
+abbrev pub send_max : ℕ
+send_max = 1024

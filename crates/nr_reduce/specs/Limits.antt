@@ -1,6 +1,7 @@
 -- Sizes and limits, each by its one name. All are own. The bytes of a stream and of a read list together, and the counts of
 -- segments, stand in nr_header.
 use Rattle.std.specs.Prelude.{ℕ}
+use Rattle.nr_link.specs.Limits.{send_max as link_send_max}
 
 -- the credits that a side may wish for or grant, and the most that a credit word counts for
 abbrev pub most_credits : ℕ
@@ -8,7 +9,7 @@ most_credits = 64
 
 -- the bytes that a Send has at most, in each direction, where the sides agree on nothing else
 abbrev pub send_max : ℕ
-send_max = 1024
+send_max = link_send_max
 
 -- the bytes that one READ or WRITE moves at most
 abbrev pub moved_max : ℕ

@@ -106,7 +106,8 @@ impl Regions {
     /// The sum of the lengths of the regions that are held.
     #[tactic(auto, unfolding(crate::specs::RegisteredMemory::bytes_held))]
     pub fn bytes_held(&self) -> u128
-        ensures { result ≡ bytes_held self.now.memory }
+        ensures sum { result ≡ bytes_held self.now.memory }
+        ensures most { result ≤ 2 ^ 96 }
     {
         self.bytes
     }
@@ -226,6 +227,14 @@ impl Regions {
             }
             Err(denied) => Err(denied),
         }
+    }
+
+    /// Why a tagged segment of `len` payload bytes may not write into its region, the first reason that applies; `None` where it may.
+    #[tactic(auto, unfolding(crate::specs::RegisteredMemory::denial, crate::specs::RegisteredMemory::live_region, crate::specs::RegisteredMemory::held_region))]
+    pub fn denial(&self, kind: Kind, stag: u32, to: u64, len: u64) -> Option<Denied>
+        ensures { result ≡ denial self.now.memory (record { right = right_for kind; stag = stag; to = to; len = len }) }
+    {
+        judge(&self.held, right_for(kind), stag, to, len).err()
     }
 
     /// The bytes that a peer's Read Request asks for. An `Err` says why the access is denied, the first reason that

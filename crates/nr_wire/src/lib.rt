@@ -24,4 +24,5 @@ pub use hello::{Hello, NextHello, Side, read_hello};
 pub use laws::{however_cut, judged_alone, longest_fpdu, one_segment, one_split, round_trip};
 pub use segment::{NextSegment, Segment, next_segment};
 pub use stream::{Awaited, bytes_needed, whole_frame};
+pub use words::hyper_at;
 pub use write::{write_hello, write_segment};

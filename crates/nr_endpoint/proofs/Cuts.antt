@@ -1,0 +1,110 @@
+-- Bytes that are cut into segments, segment by segment.
+use Rattle.std.proofs.Common.{◌≡◌, ℕ, ◌+◌, ◌*◌, ◌%◌, ◌^◌, ◌≤◌, Bool, List, [], ◌∷◌, ◌++◌, length, take, drop, eqb, refl, sym, ap, subst, ◌∙◌, arith, append_assoc}
+use Rattle.std.specs.Prelude.{min}
+use Rattle.std.specs.List.{flat_map, range_with_len}
+use Rattle.std.proofs.lemmas.List.{map-id, take_min, drop_min, append-nil, length-take}
+use Rattle.std.proofs.lemmas.List.Concat.{flat_map-append}
+use Rattle.std.proofs.lemmas.List.FromFn.{map-range_with_len_more}
+use Rattle.nr_wire.specs.Segment.{IsWritable, encoding, Segment}
+use Rattle.nr_xdr.specs.Item.{word, hyper}
+use Rattle.nr_wire.specs.Constants.{OPCODE_SEND, QUEUE_SEND}
+use Rattle.nr_wire.specs.Segment.Segment.{Untagged}
+use Rattle.nr_link.specs.Output.{cut, segment_count, segment_payload, send, write, read_response}
+use Rattle.nr_endpoint.specs.Carriers.{carried}
+use Rattle.nr_endpoint.specs.declared.framing.Carrier.{Carrier}
+use Rattle.nr_endpoint.specs.declared.framing.Carrier.TheVariants as carriers
+
+-- the payload of a segment, cut within the length
+pub payload_within : (bytes : List ℕ) (n m : ℕ) →
+    take (min (length (drop (min (length bytes) n) bytes)) m) (drop (min (length bytes) n) bytes) ≡ take m (drop n bytes)
+payload_within bytes n m =
+    let swap : (a b : ℕ) → min a b ≡ min b a = λ (a b : ℕ). omega arith in
+    let dropped : drop (min (length bytes) n) bytes ≡ drop n bytes = ap (λ (k : ℕ). drop k bytes) (swap (length bytes) n) ∙ drop_min n bytes in
+    ap (λ (xs : List ℕ). take (min (length xs) m) xs) dropped
+    ∙ ap (λ (k : ℕ). take k (drop n bytes)) (swap (length (drop n bytes)) m) ∙ take_min m (drop n bytes)
+
+-- the FPDU of the segment with this number, and those of the first n segments
+abbrev pub piece : Carrier → List ℕ → ℕ → List ℕ
+piece carrier bytes i = encoding (carried carrier (eqb (i + 1) (segment_count bytes)) (4096 * i) (segment_payload bytes i))
+
+unfoldable pub pieces : Carrier → List ℕ → ℕ → List ℕ
+pieces carrier bytes n = flat_map (piece carrier bytes) (range_with_len 0 n)
+
+-- one number more
+range_more : (a n j : ℕ) → a + n ≡ j → range_with_len a (n + 1) ≡ range_with_len a n ++ j ∷ []
+range_more a n j h =
+    sym (map-id (range_with_len a (n + 1)))
+    ∙ map-range_with_len_more (λ (x : ℕ). x) a n j h
+    ∙ ap (λ (xs : List ℕ). xs ++ j ∷ []) (map-id (range_with_len a n))
+
+pub pieces_none : (carrier : Carrier) (bytes : List ℕ) → pieces carrier bytes 0 ≡ []
+unfolding pieces
+pieces_none carrier bytes = refl
+
+pub pieces_more : (carrier : Carrier) (bytes : List ℕ) (n : ℕ) →
+    pieces carrier bytes (n + 1) ≡ pieces carrier bytes n ++ piece carrier bytes n
+unfolding pieces
+pieces_more carrier bytes n =
+    let f = (λ (i : ℕ). piece carrier bytes i) in
+    ap (flat_map f) (range_more 0 n n (omega arith))
+    ∙ flat_map-append f (range_with_len 0 n) (n ∷ [])
+    ∙ ap (λ (xs : List ℕ). flat_map f (range_with_len 0 n) ++ xs) (append-nil (f n))
+
+pub pieces_all : (carrier : Carrier) (bytes : List ℕ) → pieces carrier bytes (segment_count bytes) ≡ cut (carried carrier) bytes
+unfolding pieces cut
+pieces_all carrier bytes = refl
+
+-- a segment of a cut can be written
+pub carried_writable : (carrier : Carrier) (last : Bool) (offset : ℕ) (payload : List ℕ) → length payload ≤ 4096 →
+    IsWritable (carried carrier last offset payload)
+carried_writable (carriers.Send msn) last offset payload h = (omega arith, omega arith)
+carried_writable (carriers.Write stag to) last offset payload h = (omega arith, omega arith)
+carried_writable (carriers.Response stag to) last offset payload h = (omega arith, omega arith)
+
+pub writable_from : (segment : Segment) (carrier : Carrier) (last : Bool) (offset : ℕ) (payload : List ℕ) →
+    segment ≡ carried carrier last offset payload → length payload ≤ 4096 → IsWritable segment
+writable_from segment carrier last offset payload is h =
+    subst (λ (s : Segment). IsWritable s) (sym is) (carried_writable carrier last offset payload h)
+
+pub payload_short : (bytes : List ℕ) (i : ℕ) → length (segment_payload bytes i) ≤ 4096
+payload_short bytes i = omega (arith, length-take 4096 (drop (4096 * i) bytes))
+
+-- one segment more
+pub piece_pushed : (new old start : List ℕ) (segment : Segment) (carrier : Carrier) (bytes : List ℕ) (i : ℕ) →
+    old ≡ start ++ pieces carrier bytes i → new ≡ old ++ encoding segment →
+    segment ≡ carried carrier (eqb (i + 1) (segment_count bytes)) (4096 * i) (segment_payload bytes i) →
+    new ≡ start ++ pieces carrier bytes (i + 1)
+piece_pushed new old start segment carrier bytes i so_far pushed is =
+    pushed
+    ∙ (λ t. so_far t ++ encoding (is t))
+    ∙ append_assoc start (pieces carrier bytes i) (piece carrier bytes i)
+    ∙ ap (λ (xs : List ℕ). start ++ xs) (sym (pieces_more carrier bytes i))
+
+-- and all of them
+pub all_pushed : (new start : List ℕ) (carrier : Carrier) (bytes : List ℕ) (i : ℕ) → i ≡ segment_count bytes →
+    new ≡ start ++ pieces carrier bytes i → new ≡ start ++ cut (carried carrier) bytes
+all_pushed new start carrier bytes i here so_far =
+    so_far
+    ∙ ap (λ (n : ℕ). start ++ pieces carrier bytes n) here
+    ∙ ap (λ (xs : List ℕ). start ++ xs) (pieces_all carrier bytes)
+
+-- ---- What carries the bytes of each call
+
+pub carried_send : (n : ℕ) (message : List ℕ) → cut (carried (carriers.Send ((n + 1) % 2 ^ 32))) message ≡ send ((n + 1) % 2 ^ 32) message
+unfolding send
+carried_send n message =
+    let same : (n + 1) % 2 ^ 32 ≡ ((n + 1) % 2 ^ 32) % 2 ^ 32 = omega arith in
+    ap (λ (m : ℕ). cut (λ last offset payload. Untagged last OPCODE_SEND 0 QUEUE_SEND m offset payload) message) same
+
+pub carried_write : (stag to : ℕ) (bytes : List ℕ) → cut (carried (carriers.Write stag to)) bytes ≡ write stag to bytes
+unfolding write
+carried_write stag to bytes = refl
+
+pub carried_response : (stag to : ℕ) (bytes : List ℕ) → cut (carried (carriers.Response stag to)) bytes ≡ read_response stag to bytes
+unfolding read_response
+carried_response stag to bytes = refl
+
+-- a Read Request has 28 bytes
+pub request_len : (sink at len stag to : ℕ) → length (word sink ++ (hyper at ++ (word len ++ (word stag ++ hyper to)))) ≡ 28
+unfolding word hyper
+request_len sink at len stag to = refl

@@ -1,0 +1,188 @@
+-- What a side writes before the peer's hello.
+use Rattle.std.proofs.Common.{◌≡◌, ℕ, Bool, true, false, cond, List, [], ◌∷◌, ◌++◌, length, take, drop, Option, Some, None, Result, Ok, Err, inl, inr, refl, sym, ap, subst, ◌∙◌, append_assoc, eqb, arith}
+use Rattle.std.specs.Prelude.{◌⊎◌, is_some}
+use Rattle.std.proofs.lemmas.List.{append-nil, take-append-drop}
+use Rattle.nr_wire.specs.Constants.{OPCODE_READ_RESPONSE, REASON_FLAGS}
+use Rattle.nr_wire.specs.declared.hello.Side.{Side}
+use Rattle.nr_wire.specs.declared.hello.Side.TheVariants.{Initiator, Responder}
+use Rattle.nr_wire.specs.declared.stream.Awaited.{Awaited}
+use Rattle.nr_wire.specs.declared.stream.Awaited.TheVariants.{Hello as HelloFrom, Fpdu}
+use Rattle.nr_wire.specs.Hello.{Hello, hello_of}
+use Rattle.nr_wire.specs.Segment.{Segment, segment_of}
+use Rattle.nr_wire.specs.Segment.Segment.{Tagged, Untagged}
+use Rattle.nr_regions.specs.RegisteredMemory.{after_place}
+use Rattle.nr_link.specs.declared.end.End.{End}
+use Rattle.nr_link.specs.declared.end.End.TheVariants as ends
+use Rattle.nr_link.specs.Frames.{Frame}
+use Rattle.nr_link.specs.Output.{refusing_hello}
+use Rattle.nr_endpoint.specs.SendQueue.{with_end, written, rejection, writable}
+use Rattle.nr_endpoint.specs.LinkState.{LinkState, Link, has_ended, initial_link}
+use Rattle.nr_endpoint.specs.Judging.{segment_end, next_frame, with_frame, with_segment_by, with_fpdu, with_peer_hello, with_effect, with_read_response}
+use Rattle.nr_endpoint.specs.Calls.{Call, after_call, after_calls}
+use Rattle.nr_endpoint.specs.Calls.Call.{Feed, FeedOne, NextEvent, Post, Stop, OutOfMemory, Send, WriteRemote, ReadRemote, Drain, Register, Release}
+use Rattle.nr_endpoint.specs.Laws.{MayBeCalled, MayAllBeCalled, bytes_drained, bytes_written, IsHelloAlone, NoFpduBeforeHello}
+use Rattle.nr_endpoint.proofs.AlongFrames.{feed-keeps, feed_one-keeps}
+
+abbrev awaits_hello : Awaited → Bool
+awaits_hello (HelloFrom side) = true
+awaits_hello Fpdu = false
+
+-- a side to which the peer's hello didn't come yet, after so many bytes were written
+record IsEarly (side : Side) (out : List ℕ) (a : Awaited) (s : LinkState) : Type 0 where
+  pub start : s.place ≡ 0
+  pub awaited : has_ended s ≡ false → awaits_hello a ≡ true
+  pub alone : IsHelloAlone side (has_ended s) (out ++ s.send_queue.hello)
+
+abbrev Early : Side → List ℕ → Awaited → LinkState → Type 0
+Early side out a s = (s.side ≡ side) × (s.has_hello ≡ false → IsEarly side out a s)
+
+-- ---- A frame
+
+by-reason : (b : Bool) → (cond b refusing_hello [] ≡ []) ⊎ ((true ≡ true) × (cond b refusing_hello [] ≡ refusing_hello))
+by-reason true = inr (refl, refl)
+by-reason false = inl refl
+
+-- a side that rejects the peer's hello
+rejected : (side : Side) (out hello : List ℕ) (at reason : ℕ) (gone : Bool) → gone ≡ false → IsHelloAlone side gone (out ++ hello) →
+    IsHelloAlone side true (out ++ (hello ++ rejection side (ends.Bad at reason)))
+rejected Initiator out hello at reason gone live alone = ap (λ (xs : List ℕ). out ++ xs) (append-nil hello) ∙ alone
+rejected Responder out hello at reason gone live (inr (ended, is)) = absurd (let h : true ≡ false = sym ended ∙ live in cc)
+rejected Responder out hello at reason gone live (inl none) =
+    let same : out ++ (hello ++ cond (eqb reason REASON_FLAGS) refusing_hello []) ≡ cond (eqb reason REASON_FLAGS) refusing_hello [] =
+    sym (append_assoc out hello (cond (eqb reason REASON_FLAGS) refusing_hello [])) ∙ ap (λ (xs : List ℕ). xs ++ cond (eqb reason REASON_FLAGS) refusing_hello []) none in
+    subst (λ (xs : List ℕ). (xs ≡ []) ⊎ ((true ≡ true) × (xs ≡ refusing_hello))) (sym same) (by-reason (eqb reason REASON_FLAGS))
+
+hello-early : (side : Side) (out : List ℕ) (a : Awaited) (s : LinkState) (f : Frame) (r : Result Hello ℕ) → has_ended s ≡ false → Early side out a s →
+    Early side out Fpdu (with_peer_hello f r s)
+unfolding with_peer_hello with_end
+hello-early side out a s f (Ok hello) live early = (early.0, λ none. absurd (let h : true ≡ false = none in cc))
+hello-early side out a s f (Err reason) live early = (
+  early.0,
+  λ none. record {
+    start = (early.1 none).start;
+    awaited = λ ended. absurd (let h : true ≡ false = ended in cc);
+    alone = subst (λ (own : Side). IsHelloAlone side true (out ++ (s.send_queue.hello ++ rejection own (ends.Bad f.at reason)))) (sym early.0)
+        (rejected side out s.send_queue.hello f.at reason (has_ended s) live (early.1 none).alone);
+  },
+)
+
+-- an FPDU changes neither the side nor whether the hello came
+abbrev SameSide : LinkState → LinkState → Type 0
+SameSide s after = (after.side ≡ s.side) × (after.has_hello ≡ s.has_hello)
+
+placed-side : (s : LinkState) (b last : Bool) (n : ℕ) → SameSide s (cond b (with_read_response last n s) s)
+placed-side s true last n = (refl, refl)
+placed-side s false last n = (refl, refl)
+
+segment-side : (s : LinkState) (f : Frame) (segment : Segment) (e : Option End) → SameSide s (with_segment_by f segment e s)
+unfolding with_effect
+segment-side s f segment (Some end) = (refl, refl)
+segment-side s f (Untagged last opcode w queue msn offset payload) None = (refl, refl)
+segment-side s f (Tagged last opcode stag to payload) None =
+    placed-side (record s { memory = after_place s.memory stag to payload }) (eqb opcode OPCODE_READ_RESPONSE) last (length payload)
+
+fpdu-side : (s : LinkState) (f : Frame) (r : Result Segment ℕ) → SameSide s (with_fpdu f r s)
+unfolding with_fpdu
+fpdu-side s f (Ok segment) = segment-side s f segment (segment_end s f segment)
+fpdu-side s f (Err reason) = (refl, refl)
+
+frame-early : (side : Side) (out : List ℕ) (a : Awaited) (s : LinkState) (frame : List ℕ) → has_ended s ≡ false → Early side out a s → Early side out Fpdu (with_frame s a frame)
+frame-early side out (HelloFrom other) s frame live early = hello-early side out (HelloFrom other) s (next_frame s frame) (hello_of other frame) live early
+frame-early side out Fpdu s frame live early =
+    let same : SameSide s (with_fpdu (next_frame s frame) (segment_of frame) s) = fpdu-side s (next_frame s frame) (segment_of frame) in
+    (same.0 ∙ early.0, λ none. absurd (let h : false ≡ true = (early.1 (sym same.1 ∙ none)).awaited live in cc))
+
+-- ---- A call
+
+-- a call that queues FPDUs at most
+unless-early : (side : Side) (out : List ℕ) (a : Awaited) (s after : LinkState) (b : Bool) → after.side ≡ s.side → after.has_hello ≡ s.has_hello → after.place ≡ s.place →
+    after.ended ≡ s.ended → after.send_queue.hello ≡ s.send_queue.hello → Early side out a s → Early side out a (cond b s after)
+unless-early side out a s after true own has place gone hello early = early
+unless-early side out a s after false own has place gone hello early = (
+  own ∙ early.0,
+  λ none.
+      let e : IsEarly side out a s = early.1 (sym has ∙ none) in
+      record {
+        start = place ∙ e.start;
+        awaited = λ live. e.awaited (ap (λ (x : Option End). is_some x) (sym gone) ∙ live);
+        alone = subst (λ (x : Option End). IsHelloAlone side (is_some x) (out ++ after.send_queue.hello)) (sym gone)
+            (subst (λ (xs : List ℕ). IsHelloAlone side (has_ended s) (out ++ xs)) (sym hello) e.alone);
+      },
+)
+
+ended-alone : (side : Side) (b : Bool) (bytes : List ℕ) → IsHelloAlone side b bytes → IsHelloAlone side true bytes
+ended-alone Initiator b bytes is = is
+ended-alone Responder b bytes (inl none) = inl none
+ended-alone Responder b bytes (inr (gone, is)) = inr (refl, is)
+
+drained-early : (side : Side) (out : List ℕ) (a : Awaited) (s : LinkState) (n : ℕ) → Early side out a s →
+    Early side (out ++ take n (writable s.has_hello s.send_queue)) a (record s { send_queue = written n s.send_queue })
+unfolding written
+drained-early side out a s n early = (
+  early.0,
+  λ none.
+      let e : IsEarly side out a s = early.1 none in
+      let hello : List ℕ = s.send_queue.hello in
+      let all : writable s.has_hello s.send_queue ≡ hello = ap (λ (b : Bool). hello ++ cond b s.send_queue.fpdus []) none ∙ append-nil hello in
+      let same : (out ++ take n (writable s.has_hello s.send_queue)) ++ drop n hello ≡ out ++ hello =
+      ap (λ (xs : List ℕ). (out ++ take n xs) ++ drop n hello) all ∙ append_assoc out (take n hello) (drop n hello) ∙ ap (λ (xs : List ℕ). out ++ xs) (take-append-drop n hello) in
+      record {
+        start = e.start;
+        awaited = e.awaited;
+        alone = subst (λ (xs : List ℕ). IsHelloAlone side (has_ended s) xs) (sym same) e.alone;
+      },
+)
+
+no-more : (side : Side) (out : List ℕ) (a : Awaited) (s : LinkState) → Early side out a s → Early side (out ++ []) a s
+no-more side out a s early = subst (λ (xs : List ℕ). Early side xs a s) (sym (append-nil out)) early
+
+either-early : (side : Side) (out : List ℕ) (a : Awaited) (s after : LinkState) (b : Bool) → Early side out a s → Early side out a after → Early side out a (cond b s after)
+either-early side out a s after true early later = early
+either-early side out a s after false early later = later
+
+call-early : (side : Side) (out : List ℕ) (link : Link) (call : Call) → MayBeCalled link call → Early side out link.awaited link.state →
+    Early side (out ++ bytes_drained link call) (after_call link call).awaited (after_call link call).state
+unfolding after_call with_end
+call-early side out link (Feed piece) may early =
+    no-more side out (after_call link (Feed piece)).awaited (after_call link (Feed piece)).state (feed-keeps (Early side out) (frame-early side out) link piece early)
+call-early side out link (FeedOne piece) may early =
+    no-more side out (after_call link (FeedOne piece)).awaited (after_call link (FeedOne piece)).state (feed_one-keeps (Early side out) (frame-early side out) link piece early)
+call-early side out link NextEvent may early = no-more side out link.awaited _ (early.0, λ none. let e = early.1 none in record { start = e.start; awaited = e.awaited; alone = e.alone })
+call-early side out link Post may early = no-more side out link.awaited _ (early.0, λ none. let e = early.1 none in record { start = e.start; awaited = e.awaited; alone = e.alone })
+call-early side out link (Stop reason) may early = no-more side out link.awaited _ (either-early side out link.awaited link.state _ (has_ended link.state) early (early.0, λ none. absurd (let e = early.1 none in omega (arith, may, e.start))))
+call-early side out link OutOfMemory may early = no-more side out link.awaited _ (either-early side out link.awaited link.state _ (has_ended link.state) early (
+  early.0,
+  λ none. let e = early.1 none in record {
+    start = e.start;
+    awaited = λ ended. absurd (let h : true ≡ false = ended in cc);
+    alone = ended-alone side (has_ended link.state) (out ++ link.state.send_queue.hello) e.alone;
+  },
+))
+call-early side out link (Send message) may early = no-more side out link.awaited _ (unless-early side out link.awaited link.state _ (has_ended link.state) refl refl refl refl refl early)
+call-early side out link (WriteRemote stag to bytes) may early = no-more side out link.awaited _ (unless-early side out link.awaited link.state _ (has_ended link.state) refl refl refl refl refl early)
+call-early side out link (ReadRemote sink at stag to len) may early = no-more side out link.awaited _ (unless-early side out link.awaited link.state _ (has_ended link.state) refl refl refl refl refl early)
+call-early side out link (Drain count) may early = drained-early side out link.awaited link.state count early
+call-early side out link (Register buf right) may early = no-more side out link.awaited _ (early.0, λ none. let e = early.1 none in record { start = e.start; awaited = e.awaited; alone = e.alone })
+call-early side out link (Release stag) may early = no-more side out link.awaited _ (early.0, λ none. let e = early.1 none in record { start = e.start; awaited = e.awaited; alone = e.alone })
+
+calls-early : (side : Side) (out : List ℕ) (link : Link) (calls : List Call) → MayAllBeCalled link calls → Early side out link.awaited link.state →
+    Early side (out ++ bytes_written link calls) (after_calls link calls).awaited (after_calls link calls).state
+unfolding after_calls
+calls-early side out link [] may early = no-more side out link.awaited link.state early
+calls-early side out link (call ∷ calls) may early =
+    subst (λ (xs : List ℕ). Early side xs (after_calls (after_call link call) calls).awaited (after_calls (after_call link call) calls).state)
+    (append_assoc out (bytes_drained link call) (bytes_written (after_call link call) calls))
+    (calls-early side (out ++ bytes_drained link call) (after_call link call) calls may.1 (call-early side out link call may.0 early))
+
+initial-early : (side : Side) (receives first_stag : ℕ) → Early side [] (initial_link side receives first_stag).awaited (initial_link side receives first_stag).state
+unfolding initial_link
+initial-early Initiator receives first_stag = (refl, λ none. record { start = refl; awaited = λ live. refl; alone = refl })
+initial-early Responder receives first_stag = (refl, λ none. record { start = refl; awaited = λ live. refl; alone = inl refl })
+
+pub no-fpdu-before-hello : NoFpduBeforeHello
+no-fpdu-before-hello side receives first_stag calls may none =
+    let start : Link = initial_link side receives first_stag in
+    let s : LinkState = (after_calls start calls).state in
+    let all : writable s.has_hello s.send_queue ≡ s.send_queue.hello = ap (λ (b : Bool). s.send_queue.hello ++ cond b s.send_queue.fpdus []) none ∙ append-nil s.send_queue.hello in
+    subst (λ (xs : List ℕ). IsHelloAlone side (has_ended s) (bytes_written start calls ++ xs)) (sym all)
+    ((calls-early side [] start calls may (initial-early side receives first_stag)).1 none).alone

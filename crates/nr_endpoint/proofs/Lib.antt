@@ -1,0 +1,21 @@
+pub mod FaultList
+pub mod Standing
+pub mod ReceiveQueueBuffers
+pub mod ReceiveQueueBytes
+pub mod ReceiveQueueSteps
+mod Cuts
+mod SendQueues
+pub mod Alive
+pub mod WholeFrames
+pub mod Taken
+pub mod StagedFrames
+pub mod OneStep
+pub mod Pieces
+pub mod CutLaws
+pub mod MemoryLaws
+pub mod ReadLaws
+pub mod AlongFrames
+pub mod HelloLaws
+pub mod EndLaws
+pub mod LastOutput
+pub mod PlaceOrder

@@ -1,0 +1,160 @@
+-- The tagged segments arrive in the order of the stream.
+use Rattle.std.proofs.Common.{◌≡◌, ℕ, ◌<◌, ◌≤◌, Bool, true, false, cond, List, [], ◌∷◌, ◌++◌, take, Option, Some, None, Result, Ok, Err, refl, sym, ap, subst, ◌∙◌, arith}
+use Rattle.std.specs.Prelude.{All}
+use Rattle.std.proofs.lemmas.List.Elements.{All-nil, All-cons}
+use Rattle.nr_wire.specs.declared.stream.Awaited.{Awaited}
+use Rattle.nr_wire.specs.declared.stream.Awaited.TheVariants.{Hello as HelloFrom, Fpdu}
+use Rattle.nr_wire.specs.Hello.{Hello, hello_of}
+use Rattle.nr_wire.specs.Segment.{Segment, segment_of}
+use Rattle.nr_wire.specs.Segment.Segment.{Tagged, Untagged}
+use Rattle.nr_wire.specs.Stream.{is_whole, frame_len, IsFrame, AreFrames, Split, split}
+use Rattle.nr_wire.specs.Feeding.{feeding_after, feeding_after_step, feeding_after_frames}
+use Rattle.nr_wire.proofs.Frames.{IsFrame-take, whole_from}
+use Rattle.nr_wire.proofs.Feedings.{feeding_after_step-ended, feeding_after_step-whole, feeding_after_step-partial}
+use Rattle.nr_wire.proofs.Splits.{split-whole, split-partial, split-Splits}
+use Rattle.nr_regions.specs.Events.{Event, tagged_segments}
+use Rattle.nr_regions.specs.Events.Event.{Register as RegisterRegion, Release as ReleaseRegion, Arrive}
+use Rattle.nr_link.specs.declared.end.End.{End}
+use Rattle.nr_link.specs.Frames.{Frame}
+use Rattle.nr_endpoint.specs.LinkState.{LinkState, Link, has_ended}
+use Rattle.nr_endpoint.specs.Judging.{segment_end, next_frame, with_frame, with_segment_by, with_fpdu, with_peer_hello}
+use Rattle.nr_endpoint.specs.Calls.{Call, after_call, after_calls}
+use Rattle.nr_endpoint.specs.Calls.Call.{Feed, FeedOne, NextEvent, Post, Stop, OutOfMemory, Send, WriteRemote, ReadRemote, Drain, Register, Release}
+use Rattle.nr_endpoint.specs.Laws.{segment_arrivals, fpdu_arrivals, frame_arrivals, arrivals, frames_made_whole, call_events, memory_events, EndsWithin, PlacesAreInOrder}
+use Rattle.nr_endpoint.proofs.MemoryLaws.{ended-arrivals, one-arrival}
+
+abbrev EachWithin : ℕ → ℕ → List Event → Type 0
+EachWithin from until [] = Unit {0}
+EachWithin from until (RegisterRegion right buf ∷ events) = EachWithin from until events
+EachWithin from until (ReleaseRegion stag ∷ events) = EachWithin from until events
+EachWithin from until (Arrive segment ∷ events) = EndsWithin from until segment × EachWithin from until events
+
+-- the events lie between two places, the later not before the earlier
+abbrev Between : ℕ → ℕ → List Event → Type 0
+Between from until events = (from ≤ until) × EachWithin from until events
+
+wider : (a b c d : ℕ) (events : List Event) → a ≤ b → c ≤ d → EachWithin b c events → EachWithin a d events
+wider a b c d [] low high each = tt
+wider a b c d (RegisterRegion right buf ∷ events) low high each = wider a b c d events low high each
+wider a b c d (ReleaseRegion stag ∷ events) low high each = wider a b c d events low high each
+wider a b c d (Arrive segment ∷ events) low high each = ((omega (arith, low, each.0.0), omega (arith, high, each.0.1)), wider a b c d events low high each.1)
+
+each-append : (from until : ℕ) (xs ys : List Event) → EachWithin from until xs → EachWithin from until ys → EachWithin from until (xs ++ ys)
+each-append from until [] ys first second = second
+each-append from until (RegisterRegion right buf ∷ xs) ys first second = each-append from until xs ys first second
+each-append from until (ReleaseRegion stag ∷ xs) ys first second = each-append from until xs ys first second
+each-append from until (Arrive segment ∷ xs) ys first second = (first.0, each-append from until xs ys first.1 second)
+
+joined : (a b c : ℕ) (xs ys : List Event) → Between a b xs → Between b c ys → Between a c (xs ++ ys)
+joined a b c xs ys first second = (
+  omega (arith, first.0, second.0),
+  each-append a c xs ys (wider a a b c xs (omega arith) second.0 first.1) (wider a b c c ys first.0 (omega arith) second.1),
+)
+
+stands : (n : ℕ) → Between n n []
+stands n = (omega arith, tt)
+
+-- ---- A frame
+
+segment-between : (s : LinkState) (f : Frame) (segment : Segment) (e : Option End) → s.place < f.end → Between s.place (with_segment_by f segment e s).place (segment_arrivals f segment e)
+segment-between s f segment (Some end) longer = stands s.place
+segment-between s f (Untagged last opcode w queue msn offset payload) None longer = (omega (arith, longer), tt)
+segment-between s f (Tagged last opcode stag to payload) None longer = (omega (arith, longer), ((longer, omega arith), tt))
+
+fpdu-between : (s : LinkState) (f : Frame) (r : Result Segment ℕ) → s.place < f.end → Between s.place (with_fpdu f r s).place (fpdu_arrivals s f r)
+unfolding with_fpdu
+fpdu-between s f (Ok segment) longer = segment-between s f segment (segment_end s f segment) longer
+fpdu-between s f (Err reason) longer = stands s.place
+
+hello-between : (s : LinkState) (f : Frame) (r : Result Hello ℕ) → s.place < f.end → Between s.place (with_peer_hello f r s).place []
+unfolding with_peer_hello
+hello-between s f (Ok hello) longer = (omega (arith, longer), tt)
+hello-between s f (Err reason) longer = stands s.place
+
+frame-between : (s : LinkState) (a : Awaited) (frame : List ℕ) → IsFrame a frame → Between s.place (with_frame s a frame).place (frame_arrivals s a frame)
+frame-between s (HelloFrom side) frame is = hello-between s (next_frame s frame) (hello_of side frame) (omega (arith, is.fields))
+frame-between s Fpdu frame is = fpdu-between s (next_frame s frame) (segment_of frame) (omega (arith, is.fields))
+
+-- ---- Frames
+
+frames-between : (frames : List (List ℕ)) (rest : List ℕ) (a : Awaited) (s : LinkState) (b : Bool) → has_ended s ≡ b → AreFrames a frames →
+    Between s.place (feeding_after_frames has_ended with_frame frames rest a s).state.place (arrivals frames a s)
+frames-between [] rest a s b is each = stands s.place
+frames-between (frame ∷ frames) rest a s true is each =
+    subst (λ (w : Bool). Between s.place
+    (cond w (record { awaited = a; rest = cond w [] []; state = s }) (feeding_after_frames has_ended with_frame frames rest Fpdu (with_frame s a frame))).state.place
+    (cond w [] (frame_arrivals s a frame ++ arrivals frames Fpdu (with_frame s a frame))))
+    (sym is) (stands s.place)
+frames-between (frame ∷ frames) rest a s false is each =
+    subst (λ (w : Bool). Between s.place
+    (cond w (record { awaited = a; rest = cond w [] []; state = s }) (feeding_after_frames has_ended with_frame frames rest Fpdu (with_frame s a frame))).state.place
+    (cond w [] (frame_arrivals s a frame ++ arrivals frames Fpdu (with_frame s a frame))))
+    (sym is)
+    (joined s.place (with_frame s a frame).place _ (frame_arrivals s a frame) (arrivals frames Fpdu (with_frame s a frame))
+    (frame-between s a frame each.0) (frames-between frames rest Fpdu (with_frame s a frame) (has_ended (with_frame s a frame)) refl each.1))
+
+fed-between : (link : Link) (piece : List ℕ) →
+    Between link.state.place (feeding_after has_ended with_frame link piece).state.place (arrivals (frames_made_whole link piece) link.awaited link.state)
+unfolding feeding_after
+fed-between link piece =
+    frames-between (frames_made_whole link piece) (split link.awaited (link.rest ++ piece)).rest link.awaited link.state (has_ended link.state) refl
+    (split-Splits link.awaited (link.rest ++ piece)).each
+
+no-arrival : (from until : ℕ) (events : List Event) → events ≡ [] → until ≡ from → Between from until events
+no-arrival from until events none is = subst (λ (xs : List Event). Between from until xs) (sym none) (omega (arith, is), tt)
+
+step-between : (link : Link) (piece : List ℕ) (gone whole : Bool) → has_ended link.state ≡ gone → is_whole link.awaited (link.rest ++ piece) ≡ whole →
+    Between link.state.place (feeding_after_step has_ended with_frame link piece).state.place (arrivals (take 1 (frames_made_whole link piece)) link.awaited link.state)
+step-between link piece true whole is w =
+    no-arrival link.state.place _ _ (ended-arrivals (take 1 (frames_made_whole link piece)) link.awaited link.state is)
+    (ap (λ (l : Link). l.state.place) (feeding_after_step-ended has_ended with_frame link piece is))
+step-between link piece false false is w =
+    no-arrival link.state.place _ _ (ap (λ (split : Split). arrivals (take 1 split.frames) link.awaited link.state) (split-partial link.awaited (link.rest ++ piece) w))
+    (ap (λ (l : Link). l.state.place) (feeding_after_step-partial has_ended with_frame link piece is w))
+step-between link piece false true is w =
+    let frame : List ℕ = take (frame_len link.awaited (link.rest ++ piece)) (link.rest ++ piece) in
+    let events : arrivals (take 1 (frames_made_whole link piece)) link.awaited link.state ≡ frame_arrivals link.state link.awaited frame =
+    ap (λ (split : Split). arrivals (take 1 split.frames) link.awaited link.state) (split-whole link.awaited (link.rest ++ piece) w) ∙ one-arrival frame link.awaited link.state is in
+    let after : (feeding_after_step has_ended with_frame link piece).state.place ≡ (with_frame link.state link.awaited frame).place =
+    ap (λ (l : Link). l.state.place) (feeding_after_step-whole has_ended with_frame link piece is w) in
+    let between : Between link.state.place (with_frame link.state link.awaited frame).place (frame_arrivals link.state link.awaited frame) =
+    frame-between link.state link.awaited frame (IsFrame-take link.awaited (link.rest ++ piece) (whole_from link.awaited (link.rest ++ piece) w)) in
+    subst (λ (xs : List Event). Between link.state.place (feeding_after_step has_ended with_frame link piece).state.place xs) (sym events)
+    (subst (λ (n : ℕ). Between link.state.place n (frame_arrivals link.state link.awaited frame)) (sym after) between)
+
+-- ---- Calls
+
+unless-place : (s after : LinkState) (b : Bool) → after.place ≡ s.place → (cond b s after).place ≡ s.place
+unless-place s after true is = refl
+unless-place s after false is = is
+
+call-between : (link : Link) (call : Call) → Between link.state.place (after_call link call).state.place (call_events link call)
+unfolding after_call
+call-between link (Feed piece) = fed-between link piece
+call-between link (FeedOne piece) = step-between link piece (has_ended link.state) (is_whole link.awaited (link.rest ++ piece)) refl refl
+call-between link NextEvent = stands link.state.place
+call-between link Post = stands link.state.place
+call-between link (Stop reason) = no-arrival link.state.place _ [] refl (unless-place link.state _ (has_ended link.state) refl)
+call-between link OutOfMemory = no-arrival link.state.place _ [] refl (unless-place link.state _ (has_ended link.state) refl)
+call-between link (Send message) = no-arrival link.state.place _ [] refl (unless-place link.state _ (has_ended link.state) refl)
+call-between link (WriteRemote stag to bytes) = no-arrival link.state.place _ [] refl (unless-place link.state _ (has_ended link.state) refl)
+call-between link (ReadRemote sink at stag to len) = no-arrival link.state.place _ [] refl (unless-place link.state _ (has_ended link.state) refl)
+call-between link (Drain count) = stands link.state.place
+call-between link (Register buf right) = (omega arith, tt)
+call-between link (Release stag) = (omega arith, tt)
+
+calls-between : (link : Link) (calls : List Call) → Between link.state.place (after_calls link calls).state.place (memory_events link calls)
+unfolding after_calls
+calls-between link [] = stands link.state.place
+calls-between link (call ∷ calls) =
+    joined link.state.place (after_call link call).state.place _ (call_events link call) (memory_events (after_call link call) calls)
+    (call-between link call) (calls-between (after_call link call) calls)
+
+all-within : (from until : ℕ) (events : List Event) → EachWithin from until events → All (EndsWithin from until) (tagged_segments events)
+all-within from until [] each = All-nil (EndsWithin from until)
+all-within from until (RegisterRegion right buf ∷ events) each = all-within from until events each
+all-within from until (ReleaseRegion stag ∷ events) each = all-within from until events each
+all-within from until (Arrive segment ∷ events) each = All-cons (EndsWithin from until) segment (tagged_segments events) each.0 (all-within from until events each.1)
+
+pub places-are-in-order : PlacesAreInOrder
+places-are-in-order link calls = all-within link.state.place (after_calls link calls).state.place (memory_events link calls) (calls-between link calls).1

@@ -1,0 +1,80 @@
+-- What a segment makes of a side, and its counts.
+use Rattle.std.proofs.Common.{◌≡◌, ℕ, ◌+◌, ◌-◌, ◌≤◌, Bool, true, false, List, [], ◌++◌, length, take, replicate, Option, Some, None, refl, ◌∙◌, arith, length-append}
+use Rattle.std.proofs.lemmas.List.{length-take, length-replicate}
+use Rattle.nr_wire.specs.Constants.{OPCODE_READ_REQUEST, OPCODE_SEND}
+use Rattle.nr_wire.specs.Segment.Segment.{Untagged}
+use Rattle.nr_link.specs.Limits.{send_max}
+use Rattle.nr_link.specs.ReceiveState.{ReadRequest, begun_bytes, read_request_in}
+use Rattle.nr_regions.specs.RegisteredMemory.{bytes_at}
+use Rattle.nr_endpoint.specs.SendQueue.{SendQueue, with_response}
+use Rattle.nr_endpoint.specs.ReceiveQueue.{ReceiveQueue, with_segment, kept_bytes, kept_send}
+use Rattle.nr_endpoint.specs.LinkState.{LinkState}
+use Rattle.nr_endpoint.specs.Judging.{with_effect, next_frame, behind_frame, fetch_access}
+use Rattle.nr_endpoint.specs.Counted.{IsCounted}
+
+kept_len : (bytes : List ℕ) → length (kept_bytes bytes) ≡ length bytes
+kept_len bytes = omega (arith, length-append (take send_max bytes) (replicate (length bytes - send_max) 0), length-take send_max bytes, length-replicate {A = ℕ} (length bytes - send_max) 0)
+
+pub counted_send : (q : ReceiveQueue) (last : Bool) (payload : List ℕ) (place n : ℕ) → IsCounted q.received place → length payload + 1 ≤ n →
+    IsCounted (with_segment (Untagged last OPCODE_SEND 0 0 0 0 payload) q).received (place + n)
+unfolding with_segment
+counted_send q true payload place n counted some = record { bytes = omega (arith, counted.bytes, some) }
+counted_send q false payload place n counted some = record {
+  bytes = omega (arith, counted.bytes, some, kept_len (begun_bytes q.received.begun ++ payload), length-append (begun_bytes q.received.begun) payload);
+}
+
+kept_same : (begun : Option (List ℕ)) → length (begun_bytes (kept_send begun)) ≡ length (begun_bytes begun)
+kept_same None = refl
+kept_same (Some bytes) = kept_len bytes
+
+pub counted_request : (q : ReceiveQueue) (place n : ℕ) → IsCounted q.received place → 1 ≤ n → IsCounted (with_segment (Untagged true OPCODE_READ_REQUEST 0 0 0 0 []) q).received (place + n)
+unfolding with_segment
+counted_request q place n counted some = record { bytes = omega (arith, counted.bytes, some, kept_same q.received.begun) }
+
+pub took_send : (s : LinkState) (q : ReceiveQueue) (last : Bool) (payload frame : List ℕ) → q ≡ with_segment (Untagged last OPCODE_SEND 0 0 0 0 payload) s.receive_queue →
+    record { side = s.side; has_hello = s.has_hello; last = s.place; place = s.place + length frame; ended = s.ended; receive_queue = q; reads = s.reads; memory = s.memory; send_queue = s.send_queue }
+    ≡ behind_frame (next_frame s frame) (with_effect (Untagged last OPCODE_SEND 0 0 0 0 payload) s)
+unfolding with_effect
+took_send s q last payload frame is =
+    λ i. record { side = s.side; has_hello = s.has_hello; last = s.place; place = s.place + length frame; ended = s.ended; receive_queue = is i; reads = s.reads; memory = s.memory; send_queue = s.send_queue }
+
+pub took_request : (s : LinkState) (q : ReceiveQueue) (sends : SendQueue) (r : ReadRequest) (bytes payload frame : List ℕ) → q ≡ with_segment (Untagged true OPCODE_READ_REQUEST 0 0 0 0 []) s.receive_queue →
+    sends ≡ with_response r.sink r.sink_to bytes s.send_queue → r ≡ read_request_in payload → bytes ≡ bytes_at s.memory (fetch_access r) →
+    record { side = s.side; has_hello = s.has_hello; last = s.place; place = s.place + length frame; ended = s.ended; receive_queue = q; reads = s.reads; memory = s.memory; send_queue = sends }
+    ≡ behind_frame (next_frame s frame) (with_effect (Untagged true OPCODE_READ_REQUEST 0 0 0 0 payload) s)
+unfolding with_effect with_segment
+took_request s q sends r bytes payload frame is queued request fetched =
+    (λ i. record { side = s.side; has_hello = s.has_hello; last = s.place; place = s.place + length frame; ended = s.ended; receive_queue = is i; reads = s.reads; memory = s.memory; send_queue = queued i })
+    ∙ (λ i. record {
+      side = s.side;
+      has_hello = s.has_hello;
+      last = s.place;
+      place = s.place + length frame;
+      ended = s.ended;
+      receive_queue = with_segment (Untagged true OPCODE_READ_REQUEST 0 0 0 0 []) s.receive_queue;
+      reads = s.reads;
+      memory = s.memory;
+      send_queue = with_response r.sink r.sink_to (fetched i) s.send_queue;
+    })
+    ∙ (λ i. record {
+      side = s.side;
+      has_hello = s.has_hello;
+      last = s.place;
+      place = s.place + length frame;
+      ended = s.ended;
+      receive_queue = with_segment (Untagged true OPCODE_READ_REQUEST 0 0 0 0 []) s.receive_queue;
+      reads = s.reads;
+      memory = s.memory;
+      send_queue = with_response (request i).sink (request i).sink_to (bytes_at s.memory (fetch_access (request i))) s.send_queue;
+    })
+
+-- of an untagged segment, the opcode, the L bit and the payload count
+pub same_request : (s : LinkState) (last : Bool) (w queue msn offset : ℕ) (payload : List ℕ) →
+    with_effect (Untagged true OPCODE_READ_REQUEST 0 0 0 0 payload) s ≡ with_effect (Untagged last OPCODE_READ_REQUEST w queue msn offset payload) s
+unfolding with_effect with_segment
+same_request s last w queue msn offset payload = refl
+
+pub same_send : (s : LinkState) (last : Bool) (w queue msn offset : ℕ) (payload : List ℕ) →
+    with_effect (Untagged last OPCODE_SEND 0 0 0 0 payload) s ≡ with_effect (Untagged last OPCODE_SEND w queue msn offset payload) s
+unfolding with_effect with_segment
+same_send s last w queue msn offset payload = refl

@@ -1,0 +1,134 @@
+-- The codes of the values that contracts see, by which a proof tells them apart.
+use Rattle.std.specs.Prelude.{◌≡◌, ℕ, ◌==◌, Bool, if◌then◌else◌, List, Option, None, Some, refl}
+use Rattle.std.specs.Coded.{Coded, code_by, coded×, coded_ℕ, coded_bool, coded_list, coded_option}
+use Rattle.nr_wire.specs.declared.hello.Side.{Side}
+use Rattle.nr_wire.specs.declared.hello.Side.TheVariants.{Initiator, Responder}
+use Rattle.nr_wire.specs.declared.stream.Awaited.{Awaited}
+use Rattle.nr_wire.specs.declared.stream.Awaited.TheVariants.{Hello as HelloFrom, Fpdu}
+use Rattle.nr_regions.specs.declared.denied.Denied.{Denied}
+use Rattle.nr_regions.specs.declared.denied.Denied.TheVariants.{NoStag, Bounds, Right}
+use Rattle.nr_regions.specs.RegisteredMemory.{RegisteredMemory}
+use Rattle.nr_regions.specs.Code.{memory_code}
+use Rattle.nr_link.specs.declared.end.End.{End}
+use Rattle.nr_link.specs.declared.end.End.TheVariants as ends
+use Rattle.nr_link.specs.ReceiveState.{ReceiveState}
+use Rattle.nr_link.specs.SegmentFaults.{ExpectedResponse}
+use Rattle.nr_endpoint.specs.SendQueue.{SendQueue}
+use Rattle.nr_endpoint.specs.ReceiveQueue.{Notice, ReceiveQueue}
+use Rattle.nr_endpoint.specs.ReceiveQueue.Notice.{MessageReceived, ReadDone}
+use Rattle.nr_endpoint.specs.LinkState.{LinkState, Link}
+use Rattle.nr_endpoint.specs.EndpointState.{EndpointState}
+
+abbrev pub side_number : Side → ℕ
+side_number Initiator = 0
+side_number Responder = 1
+
+abbrev pub side_of : ℕ → Side
+side_of n = if n == 0 then Initiator else Responder
+
+pub side_of-number : (side : Side) → side_of (side_number side) ≡ side
+side_of-number Initiator = refl
+side_of-number Responder = refl
+
+abbrev pub side_code : Coded Side
+side_code = code_by ℕ coded_ℕ side_number side_of side_of-number
+
+abbrev pub awaited_number : Awaited → ℕ
+awaited_number (HelloFrom Initiator) = 0
+awaited_number (HelloFrom Responder) = 1
+awaited_number Fpdu = 2
+
+abbrev pub awaited_of : ℕ → Awaited
+awaited_of n = if n == 0 then HelloFrom Initiator else (if n == 1 then HelloFrom Responder else Fpdu)
+
+pub awaited_of-number : (awaited : Awaited) → awaited_of (awaited_number awaited) ≡ awaited
+awaited_of-number (HelloFrom Initiator) = refl
+awaited_of-number (HelloFrom Responder) = refl
+awaited_of-number Fpdu = refl
+
+abbrev pub awaited_code : Coded Awaited
+awaited_code = code_by ℕ coded_ℕ awaited_number awaited_of awaited_of-number
+
+abbrev pub denied_number : Denied → ℕ
+denied_number NoStag = 0
+denied_number Bounds = 1
+denied_number Right = 2
+
+abbrev pub denied_of : ℕ → Denied
+denied_of n = if n == 0 then NoStag else (if n == 1 then Bounds else Right)
+
+abbrev pub end_numbers : End → ℕ × (ℕ × (ℕ × ℕ))
+end_numbers (ends.Bad at reason) = (0, (at, (reason, 0)))
+end_numbers (ends.Denied stag offset why) = (1, (stag, (offset, denied_number why)))
+end_numbers (ends.NoBuffer msn) = (2, (msn, (0, 0)))
+end_numbers (ends.Terminated reason) = (3, (reason, (0, 0)))
+end_numbers ends.Memory = (4, (0, (0, 0)))
+
+abbrev pub end_of : ℕ × (ℕ × (ℕ × ℕ)) → End
+end_of p =
+    if p.0 == 0 then ends.Bad p.1.0 p.1.1.0
+    else (if p.0 == 1 then ends.Denied p.1.0 p.1.1.0 (denied_of p.1.1.1)
+    else (if p.0 == 2 then ends.NoBuffer p.1.0
+    else (if p.0 == 3 then ends.Terminated p.1.0
+    else ends.Memory)))
+
+pub end_of-numbers : (end : End) → end_of (end_numbers end) ≡ end
+end_of-numbers (ends.Bad at reason) = refl
+end_of-numbers (ends.Denied stag offset NoStag) = refl
+end_of-numbers (ends.Denied stag offset Bounds) = refl
+end_of-numbers (ends.Denied stag offset Right) = refl
+end_of-numbers (ends.NoBuffer msn) = refl
+end_of-numbers (ends.Terminated reason) = refl
+end_of-numbers ends.Memory = refl
+
+abbrev pub end_code : Coded End
+end_code = code_by (ℕ × (ℕ × (ℕ × ℕ))) (coded× coded_ℕ (coded× coded_ℕ (coded× coded_ℕ coded_ℕ))) end_numbers end_of end_of-numbers
+
+abbrev pub message_in : Notice → Option (List ℕ)
+message_in (MessageReceived bytes) = Some bytes
+message_in ReadDone = None
+
+abbrev pub notice_of : Option (List ℕ) → Notice
+notice_of (Some bytes) = MessageReceived bytes
+notice_of None = ReadDone
+
+pub notice_of-message : (notice : Notice) → notice_of (message_in notice) ≡ notice
+notice_of-message (MessageReceived bytes) = refl
+notice_of-message ReadDone = refl
+
+abbrev pub notice_code : Coded Notice
+notice_code = code_by (Option (List ℕ)) (coded_option (coded_list coded_ℕ)) message_in notice_of notice_of-message
+
+abbrev pub received_code : Coded ReceiveState
+received_code =
+    code_by (ℕ × (Option (List ℕ) × ℕ)) (coded× coded_ℕ (coded× (coded_option (coded_list coded_ℕ)) coded_ℕ)) (λ h. (h.sends, (h.begun, h.requests)))
+    (λ p. record { sends = p.0; begun = p.1.0; requests = p.1.1 }) (λ _. refl)
+
+abbrev pub receive_queue_code : Coded ReceiveQueue
+receive_queue_code =
+    code_by (ℕ × (ReceiveState × (ℕ × (ℕ × List Notice)))) (coded× coded_ℕ (coded× received_code (coded× coded_ℕ (coded× coded_ℕ (coded_list notice_code))))) (λ q. (q.receives, (q.received, (q.free, (q.lent, q.notices)))))
+    (λ p. record { receives = p.0; received = p.1.0; free = p.1.1.0; lent = p.1.1.1.0; notices = p.1.1.1.1 }) (λ _. refl)
+
+abbrev pub send_queue_code : Coded SendQueue
+send_queue_code =
+    code_by (List ℕ × (List ℕ × (List ℕ × (List ℕ × (ℕ × (ℕ × ℕ)))))) (coded× (coded_list coded_ℕ) (coded× (coded_list coded_ℕ) (coded× (coded_list coded_ℕ) (coded× (coded_list coded_ℕ) (coded× coded_ℕ (coded× coded_ℕ coded_ℕ))))))
+    (λ q. (q.hello, (q.fpdus, (q.send_ends, (q.response_ends, (q.sends_left, (q.last_send, q.last_request)))))))
+    (λ p. record { hello = p.0; fpdus = p.1.0; send_ends = p.1.1.0; response_ends = p.1.1.1.0; sends_left = p.1.1.1.1.0; last_send = p.1.1.1.1.1.0; last_request = p.1.1.1.1.1.1 }) (λ _. refl)
+
+abbrev pub read_code : Coded ExpectedResponse
+read_code = code_by (ℕ × (ℕ × ℕ)) (coded× coded_ℕ (coded× coded_ℕ coded_ℕ)) (λ r. (r.sink, (r.at, r.left))) (λ p. record { sink = p.0; at = p.1.0; left = p.1.1 }) (λ _. refl)
+
+abbrev pub state_code : Coded LinkState
+state_code =
+    code_by (Side × (Bool × (ℕ × (ℕ × (Option End × (ReceiveQueue × (List ExpectedResponse × (RegisteredMemory × SendQueue))))))))
+    (coded× side_code (coded× coded_bool (coded× coded_ℕ (coded× coded_ℕ (coded× (coded_option end_code) (coded× receive_queue_code (coded× (coded_list read_code) (coded× memory_code send_queue_code))))))))
+    (λ s. (s.side, (s.has_hello, (s.last, (s.place, (s.ended, (s.receive_queue, (s.reads, (s.memory, s.send_queue)))))))))
+    (λ p. record { side = p.0; has_hello = p.1.0; last = p.1.1.0; place = p.1.1.1.0; ended = p.1.1.1.1.0; receive_queue = p.1.1.1.1.1.0; reads = p.1.1.1.1.1.1.0; memory = p.1.1.1.1.1.1.1.0; send_queue = p.1.1.1.1.1.1.1.1 }) (λ _. refl)
+
+abbrev pub link_code : Coded Link
+link_code =
+    code_by (Awaited × (List ℕ × LinkState)) (coded× awaited_code (coded× (coded_list coded_ℕ) state_code)) (λ f. (f.awaited, (f.rest, f.state)))
+    (λ p. record { awaited = p.0; rest = p.1.0; state = p.1.1 }) (λ _. refl)
+
+abbrev pub endpoint_code : Coded EndpointState
+endpoint_code = code_by (Link × List ℕ) (coded× link_code (coded_list coded_ℕ)) (λ e. (e.link, e.staging)) (λ p. record { link = p.0; staging = p.1 }) (λ _. refl)

@@ -1,0 +1,34 @@
+-- What contracts see of an endpoint: its side of the link, and the whole staging buffer, which begins with the bytes of the frame
+-- that isn't whole.
+use Rattle.std.specs.Prelude.{◌≡◌, ℕ, ◌+◌, ◌*◌, min, max, List, [], ◌∷◌, ◌++◌, length, drop}
+use Rattle.nr_wire.specs.declared.stream.Awaited.{Awaited}
+use Rattle.nr_wire.specs.Stream.{frame_len}
+use Rattle.nr_regions.specs.RegisteredMemory.{bytes_held}
+use Rattle.nr_link.specs.Limits.{send_max}
+use Rattle.nr_endpoint.specs.ReceiveQueue.{receives_kept}
+use Rattle.nr_endpoint.specs.LinkState.{LinkState, Link}
+
+pub record EndpointState : Type 0 where
+  pub link : Link
+  pub staging : List ℕ
+
+-- The number of bytes of the frame that was begun before a piece, as far as it was fed with it; none where no frame was begun.
+abbrev pub cut_frame_len : Awaited → List ℕ → List ℕ → ℕ
+cut_frame_len awaited [] piece = 0
+cut_frame_len awaited (byte ∷ rest) piece =
+    min (frame_len awaited ((byte ∷ rest) ++ piece)) (length ((byte ∷ rest) ++ piece))
+
+-- A feed changes the staging buffer only in two prefixes: that of the bytes which are staged after it, and that of the frame which
+-- the bytes staged before it begin, as far as it was fed.
+pub record KeepsStaging (before after : EndpointState) (piece : List ℕ) : Type 0 where
+  pub others : drop (max (length after.link.rest) (cut_frame_len before.link.awaited before.link.rest piece)) after.staging
+      ≡ drop (max (length after.link.rest) (cut_frame_len before.link.awaited before.link.rest piece)) before.staging
+  pub len : length after.staging ≡ length before.staging
+
+-- How many bytes the vectors of a side have: its receives that are not lent, its regions, its output; and with the staging buffer.
+abbrev pub bytes_of : LinkState → ℕ
+bytes_of s =
+    send_max * receives_kept s.receive_queue + bytes_held s.memory + (length s.send_queue.hello + length s.send_queue.fpdus)
+
+abbrev pub bytes_kept : EndpointState → ℕ
+bytes_kept e = length e.staging + bytes_of e.link.state

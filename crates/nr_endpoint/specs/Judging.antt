@@ -1,0 +1,116 @@
+-- What a frame of the peer makes of a side of a link: it ends the side, or it has its effect (RFC 5040 sections 5 and 7; RFC 5041
+-- sections 5 and 7). Why a segment ends a link is nr_link's definition, with what its access lacks of the regions.
+use Rattle.std.specs.Prelude.{ℕ, ◌+◌, ◌-◌, nat_lt, Bool, true, false, ◌==◌, if◌then◌else◌, List, [], ◌∷◌, length, Option, None, Some, option_and_then, Result, Ok, Err}
+use Rattle.nr_wire.specs.Constants.{OPCODE_READ_RESPONSE}
+use Rattle.nr_wire.specs.declared.hello.Side.{Side}
+use Rattle.nr_wire.specs.declared.hello.Side.TheVariants.{Initiator, Responder}
+use Rattle.nr_wire.specs.declared.stream.Awaited.{Awaited}
+use Rattle.nr_wire.specs.declared.stream.Awaited.TheVariants.{Hello as HelloFrom, Fpdu}
+use Rattle.nr_wire.specs.Hello.{Hello, hello_of}
+use Rattle.nr_wire.specs.Segment.{Segment, segment_of}
+use Rattle.nr_wire.specs.Segment.Segment.{Tagged, Untagged}
+use Rattle.nr_regions.specs.declared.denied.Denied.{Denied}
+use Rattle.nr_regions.specs.declared.right.Right.TheVariants.{Fetch}
+use Rattle.nr_regions.specs.RegisteredMemory.{RegisteredMemory, Access, denial, after_place, bytes_at}
+use Rattle.nr_link.specs.declared.end.End.{End}
+use Rattle.nr_link.specs.declared.end.End.TheVariants as ends
+use Rattle.nr_link.specs.Limits.{send_max}
+use Rattle.nr_link.specs.Frames.{Frame}
+use Rattle.nr_link.specs.Output.{own_hello}
+use Rattle.nr_link.specs.ReceiveState.{ReadRequest, read_request_of}
+use Rattle.nr_link.specs.SegmentFaults.{ExpectedResponse, Readiness, segment_fault}
+use Rattle.nr_link.specs.Ending.{access_of, end_of_fault}
+use Rattle.nr_endpoint.specs.SendQueue.{SendQueue, with_hello, with_response, with_end}
+use Rattle.nr_endpoint.specs.ReceiveQueue.{with_segment, with_read_done}
+use Rattle.nr_endpoint.specs.LinkState.{LinkState}
+
+-- ---- What ends the side
+
+-- what the access of a segment lacks of the regions, where it lacks something
+abbrev pub missing_access : RegisteredMemory → Segment → Option Denied
+missing_access m segment = option_and_then (denial m) (access_of segment)
+
+-- the Read Request that was open longest is the one that a response answers
+abbrev pub expected_response : List ExpectedResponse → Option ExpectedResponse
+expected_response [] = None
+expected_response (r ∷ reads) = Some r
+
+abbrev pub readiness : LinkState → Option Denied → Readiness Denied
+readiness s missing = record {
+  received = s.receive_queue.received;
+  has_receive = nat_lt 0 s.receive_queue.free;
+  message_max = send_max;
+  missing = missing;
+  expected = expected_response s.reads;
+  responses = length s.send_queue.response_ends;
+}
+
+unfoldable pub segment_end : LinkState → Frame → Segment → Option End
+segment_end s f segment = end_of_fault f segment (segment_fault (readiness s (missing_access s.memory segment)) segment)
+
+-- The side ends: it writes its last bytes, and nothing that it receives counts from this frame on.
+abbrev pub with_end_of : End → LinkState → LinkState
+with_end_of end s = record s { ended = Some end; send_queue = with_end s.side end s.send_queue }
+
+-- ---- What a segment does that doesn't end the side
+
+-- the open reads after a Read Response with so many bytes, which may be its last segment
+abbrev pub reads_after : Bool → ℕ → List ExpectedResponse → List ExpectedResponse
+reads_after last n [] = []
+reads_after true n (r ∷ reads) = reads
+reads_after false n (r ∷ reads) = record { sink = r.sink; at = r.at + n; left = r.left - n } ∷ reads
+
+abbrev pub with_read_response : Bool → ℕ → LinkState → LinkState
+with_read_response last n s = record s {
+  reads = reads_after last n s.reads;
+  receive_queue = if last then with_read_done s.receive_queue else s.receive_queue;
+}
+
+abbrev pub fetch_access : ReadRequest → Access
+fetch_access r = record { right = Fetch; stag = r.stag; to = r.to; len = r.size }
+
+-- a Read Request is answered with the bytes as they stand (RFC 5040 section 5.2)
+abbrev pub with_read_request : Option ReadRequest → RegisteredMemory → SendQueue → SendQueue
+with_read_request None m q = q
+with_read_request (Some r) m q = with_response r.sink r.sink_to (bytes_at m (fetch_access r)) q
+
+-- A tagged segment puts its payload into its region; a Send, a Read Request or a Terminate is counted in its queue.
+unfoldable pub with_effect : Segment → LinkState → LinkState
+with_effect (Tagged last opcode stag to payload) s =
+    let placed : LinkState = record s { memory = after_place s.memory stag to payload } in
+    if opcode == OPCODE_READ_RESPONSE then with_read_response last (length payload) placed else placed
+with_effect (Untagged last opcode w queue msn offset payload) s = record s {
+  receive_queue = with_segment (Untagged last opcode w queue msn offset payload) s.receive_queue;
+  send_queue = with_read_request (read_request_of (Untagged last opcode w queue msn offset payload)) s.memory s.send_queue;
+}
+
+-- ---- A frame
+
+-- the next frame, with its place
+abbrev pub next_frame : LinkState → List ℕ → Frame
+next_frame s bytes = record { at = s.place; end = s.place + length bytes; bytes = bytes }
+
+abbrev pub behind_frame : Frame → LinkState → LinkState
+behind_frame f s = record s { last = f.at; place = f.end }
+
+abbrev pub with_segment_by : Frame → Segment → Option End → LinkState → LinkState
+with_segment_by f segment (Some end) s = with_end_of end s
+with_segment_by f segment None s = behind_frame f (with_effect segment s)
+
+unfoldable pub with_fpdu : Frame → Result Segment ℕ → LinkState → LinkState
+with_fpdu f (Ok segment) s = with_segment_by f segment (segment_end s f segment) s
+with_fpdu f (Err reason) s = with_end_of (ends.Bad f.at reason) s
+
+-- A responder answers the initiator's hello by its own (RFC 5044 section 7.1).
+abbrev pub reply_hello : Side → List ℕ
+reply_hello Initiator = []
+reply_hello Responder = own_hello Responder
+
+unfoldable pub with_peer_hello : Frame → Result Hello ℕ → LinkState → LinkState
+with_peer_hello f (Ok hello) s = behind_frame f (record s { has_hello = true; send_queue = with_hello (reply_hello s.side) s.send_queue })
+with_peer_hello f (Err reason) s = with_end_of (ends.Bad f.at reason) s
+
+-- after the next frame
+abbrev pub with_frame : LinkState → Awaited → List ℕ → LinkState
+with_frame s (HelloFrom side) bytes = with_peer_hello (next_frame s bytes) (hello_of side bytes) s
+with_frame s Fpdu bytes = with_fpdu (next_frame s bytes) (segment_of bytes) s

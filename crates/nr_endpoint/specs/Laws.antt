@@ -1,0 +1,304 @@
+-- Laws of an endpoint, over the calls that it stands for.
+use Rattle.std.specs.Prelude.{◌≡◌, ℕ, ◌<◌, Bool, true, false, if◌then◌else◌, List, [], ◌∷◌, ◌++◌, length, take, drop, map, Option, None, Some, Result, Ok, Err, ◌⊎◌, ◌≤◌, IfSome, Contains, All}
+use Rattle.nr_wire.specs.Constants.{REASON_KEY, REASON_PRIVATE, REASON_LENGTH}
+use Rattle.nr_wire.specs.declared.hello.Side.{Side}
+use Rattle.nr_wire.specs.declared.hello.Side.TheVariants.{Initiator, Responder}
+use Rattle.nr_wire.specs.declared.stream.Awaited.{Awaited}
+use Rattle.nr_wire.specs.declared.stream.Awaited.TheVariants.{Hello as HelloFrom, Fpdu}
+use Rattle.nr_wire.specs.Stream.{IsPartial, split}
+use Rattle.nr_wire.specs.Feeding.{bytes_taken}
+use Rattle.nr_wire.specs.Segment.{Segment, segment_of}
+use Rattle.nr_regions.specs.declared.right.Right.{Right}
+use Rattle.nr_regions.specs.RegisteredMemory.{RegisteredMemory, denial, live_region, held_region, bytes_in, bytes_at}
+use Rattle.nr_regions.specs.Access.{Grant, access_of, contents, TaggedSegment}
+use Rattle.nr_regions.specs.Events.{Event, after_event, after_events, tagged_segments, StaysOpen, IsRegisteredAt, IsReleasedAt}
+use Rattle.nr_regions.specs.Events.Event.{Register as RegisterRegion, Release as ReleaseRegion, Arrive}
+use Rattle.nr_link.specs.declared.end.End.{End}
+use Rattle.nr_link.specs.declared.end.End.TheVariants as ends
+use Rattle.nr_link.specs.Reasons.{REASON_SHORT, REASON_LONG}
+use Rattle.nr_link.specs.Frames.{Frame}
+use Rattle.nr_link.specs.ReceiveState.{ReadRequest, read_request_of}
+use Rattle.nr_link.specs.Ending.{tagged_access, final_output}
+use Rattle.nr_link.specs.Output.{own_hello, refusing_hello}
+use Rattle.nr_endpoint.specs.SendQueue.{SendQueue, with_response, writable, written}
+use Rattle.nr_endpoint.specs.LinkState.{LinkState, Link, has_ended, initial_link}
+use Rattle.nr_endpoint.specs.Judging.{segment_end, fetch_access, next_frame, with_frame}
+use Rattle.nr_endpoint.specs.Calls.{Call, IsStopReason, after_call, after_calls}
+use Rattle.nr_endpoint.specs.Calls.Call.{Feed, FeedOne, NextEvent, Post, Stop, OutOfMemory, Send, WriteRemote, ReadRemote, Drain, Register, Release}
+
+-- ---- However the stream is cut
+
+-- To feed two pieces is to feed both joined.
+abbrev pub PiecesJoin : Type 0
+PiecesJoin = (link : Link) (x y : List ℕ) → after_calls link (Feed x ∷ Feed y ∷ []) ≡ after_call link (Feed (x ++ y))
+
+-- One step on a piece, and then the rest of the piece, is the whole piece.
+abbrev pub StepsReach : Type 0
+StepsReach = (link : Link) (piece : List ℕ) → IsPartial link.awaited link.rest →
+    after_calls link (FeedOne piece ∷ Feed (drop (bytes_taken link.awaited link.rest piece) piece) ∷ []) ≡ after_call link (Feed piece)
+
+-- One step is a feed of the bytes that it takes.
+abbrev pub StepsFeed : Type 0
+StepsFeed = (link : Link) (piece : List ℕ) → has_ended link.state ≡ false → IsPartial link.awaited link.rest →
+    after_call link (FeedOne piece) ≡ after_call link (Feed (take (bytes_taken link.awaited link.rest piece) piece))
+
+-- A side that has ended takes no more bytes.
+abbrev pub EndStays : Type 0
+EndStays = (link : Link) (piece : List ℕ) → has_ended link.state ≡ true → link.rest ≡ [] →
+    (after_call link (Feed piece) ≡ link) × (after_call link (FeedOne piece) ≡ link)
+
+-- After any calls a side keeps less than a frame, and a side that has ended keeps no input.
+abbrev pub KeepsLessThanFrame : Type 0
+KeepsLessThanFrame = (side : Side) (receives first_stag : ℕ) (calls : List Call) →
+    IsPartial (after_calls (initial_link side receives first_stag) calls).awaited (after_calls (initial_link side receives first_stag) calls).rest
+
+abbrev pub EndedKeepsNothing : Type 0
+EndedKeepsNothing = (side : Side) (receives first_stag : ℕ) (calls : List Call) →
+    has_ended (after_calls (initial_link side receives first_stag) calls).state ≡ true → (after_calls (initial_link side receives first_stag) calls).rest ≡ []
+
+-- ---- What the peer does with the memory of a side
+
+-- The tagged segment of a frame that doesn't end the side arrives at the memory, with the end of its frame.
+abbrev pub segment_arrivals : Frame → Segment → Option End → List Event
+segment_arrivals f segment None = map Arrive (tagged_access f segment)
+segment_arrivals f segment (Some end) = []
+
+abbrev pub fpdu_arrivals : LinkState → Frame → Result Segment ℕ → List Event
+fpdu_arrivals s f (Ok segment) = segment_arrivals f segment (segment_end s f segment)
+fpdu_arrivals s f (Err reason) = []
+
+abbrev pub frame_arrivals : LinkState → Awaited → List ℕ → List Event
+frame_arrivals s (HelloFrom side) bytes = []
+frame_arrivals s Fpdu bytes = fpdu_arrivals s (next_frame s bytes) (segment_of bytes)
+
+-- those of frames that come one after the other, up to the one that ends the side
+abbrev pub arrivals : List (List ℕ) → Awaited → LinkState → List Event
+arrivals [] a s = []
+arrivals (frame ∷ frames) a s = if has_ended s then [] else frame_arrivals s a frame ++ arrivals frames Fpdu (with_frame s a frame)
+
+-- the frames that a piece makes whole
+abbrev pub frames_made_whole : Link → List ℕ → List (List ℕ)
+frames_made_whole link piece = (split link.awaited (link.rest ++ piece)).frames
+
+-- What a call does to the memory. A feed of one frame takes the first that the piece makes whole.
+abbrev pub call_events : Link → Call → List Event
+call_events link (Feed piece) = arrivals (frames_made_whole link piece) link.awaited link.state
+call_events link (FeedOne piece) = arrivals (take 1 (frames_made_whole link piece)) link.awaited link.state
+call_events link NextEvent = []
+call_events link Post = []
+call_events link (Stop reason) = []
+call_events link OutOfMemory = []
+call_events link (Send message) = []
+call_events link (WriteRemote stag to bytes) = []
+call_events link (ReadRemote sink at stag to len) = []
+call_events link (Drain count) = []
+call_events link (Register buf right) = RegisterRegion right buf ∷ []
+call_events link (Release stag) = ReleaseRegion stag ∷ []
+
+abbrev pub memory_events : Link → List Call → List Event
+memory_events link [] = []
+memory_events link (call ∷ calls) = call_events link call ++ memory_events (after_call link call) calls
+
+-- Nothing else changes the memory.
+abbrev pub MemoryFollowsEvents : Type 0
+MemoryFollowsEvents = (link : Link) (calls : List Call) → (after_calls link calls).state.memory ≡ after_events link.state.memory (memory_events link calls)
+
+-- the memory denies none of the tagged segments, each as it stands when that segment arrives
+abbrev pub IsUndenied : RegisteredMemory → Event → Type 0
+IsUndenied m (RegisterRegion right buf) = Unit {0}
+IsUndenied m (ReleaseRegion stag) = Unit {0}
+IsUndenied m (Arrive s) = denial m (access_of s) ≡ None
+
+abbrev pub NoneIsDenied : RegisteredMemory → List Event → Type 0
+NoneIsDenied m [] = Unit {0}
+NoneIsDenied m (event ∷ events) = IsUndenied m event × NoneIsDenied (after_event m event) events
+
+abbrev pub PlacesAreAllowed : Type 0
+PlacesAreAllowed = (link : Link) (calls : List Call) → NoneIsDenied link.state.memory (memory_events link calls)
+
+-- They come in the order of the stream: each ends behind the frames before these calls, and not behind the last of these calls.
+abbrev pub EndsWithin : ℕ → ℕ → TaggedSegment → Type 0
+EndsWithin from until segment = (from < segment.end) × (segment.end ≤ until)
+
+abbrev pub PlacesAreInOrder : Type 0
+PlacesAreInOrder = (link : Link) (calls : List Call) →
+    All (EndsWithin link.state.place (after_calls link calls).state.place) (tagged_segments (memory_events link calls))
+
+-- ---- What the peer reads of it
+
+-- A Read Request that doesn't end the side makes an access that the memory doesn't deny, and is answered with the bytes of that
+-- access, as they stand at its frame.
+abbrev pub ReadsAreAllowed : Type 0
+ReadsAreAllowed = (s : LinkState) (frame : List ℕ) (segment : Segment) (request : ReadRequest) →
+    segment_of frame ≡ Ok segment → read_request_of segment ≡ Some request → segment_end s (next_frame s frame) segment ≡ None →
+    (denial s.memory (fetch_access request) ≡ None)
+    × ((with_frame s Fpdu frame).send_queue ≡ with_response request.sink request.sink_to (bytes_at s.memory (fetch_access request)) s.send_queue)
+
+-- the frame is such a Read Request
+pub record IsAllowedRead (s : LinkState) (a : Awaited) (frame : List ℕ) : Type 0 where
+  pub segment : Segment
+  pub request : ReadRequest
+  pub fpdu : a ≡ Fpdu
+  pub whole : segment_of frame ≡ Ok segment
+  pub asks : read_request_of segment ≡ Some request
+  pub lives : segment_end s (next_frame s frame) segment ≡ None
+
+-- what a side writes last, where it has ended
+abbrev pub last_output : Option End → List ℕ
+last_output None = []
+last_output (Some end) = final_output end
+
+-- Any other frame queues no FPDU but the one with which the side ends.
+abbrev pub NothingElseIsRead : Type 0
+NothingElseIsRead = (s : LinkState) (a : Awaited) (frame : List ℕ) → s.ended ≡ None →
+    IsAllowedRead s a frame ⊎ ((with_frame s a frame).send_queue.fpdus ≡ s.send_queue.fpdus ++ last_output (with_frame s a frame).ended)
+
+-- ---- A region, from its registration to its release
+
+-- A region that stays open holds what it held, with the payload of each allowed tagged segment over it, the later over the earlier.
+abbrev pub OpenRegionHolds : Type 0
+OpenRegionHolds = (grants : List Grant) (link : Link) (calls : List Call) (stag : ℕ) (right : Right) (buf : List ℕ) →
+    stag < link.state.memory.next → live_region link.state.memory stag ≡ Some (record { right = right; buf = buf }) →
+    StaysOpen grants stag right (length buf) (memory_events link calls) →
+    live_region (after_calls link calls).state.memory stag
+    ≡ Some (record { right = right; buf = contents grants stag buf (tagged_segments (memory_events link calls)) })
+
+-- A buffer that is released is what was registered, with the payload of each allowed tagged segment of all calls over it, those before
+-- and after among them: they don't touch it.
+abbrev pub ReleasedBufferHolds : Type 0
+ReleasedBufferHolds = (grants : List Grant) (link : Link) (from until : ℕ) (right : Right) (buf : List ℕ) (before between after : List Call) →
+    let start = after_calls link before in
+    let stag = start.state.memory.next in
+    let opened = after_call start (Register buf right) in
+    let last = after_calls opened between in
+    IsRegisteredAt grants stag from (memory_events link before) →
+    IsReleasedAt grants stag right (length buf) until (memory_events opened between) (memory_events (after_call last (Release stag)) after) →
+    bytes_in (held_region last.state.memory stag)
+    ≡ contents grants stag buf (tagged_segments (memory_events link (before ++ Register buf right ∷ (between ++ Release stag ∷ after))))
+
+-- Once it is released no call gives its STag a region again.
+abbrev pub ReleasedStaysDead : Type 0
+ReleasedStaysDead = (link : Link) (stag : ℕ) (calls : List Call) → stag < link.state.memory.next →
+    live_region (after_calls (after_call link (Release stag)) calls).state.memory stag ≡ None
+
+-- ---- What a side writes before the peer's hello
+
+-- A side is stopped behind a frame of the peer. `stop` asks this of its caller.
+abbrev pub MayBeCalled : Link → Call → Type 0
+MayBeCalled link (Feed piece) = Unit {0}
+MayBeCalled link (FeedOne piece) = Unit {0}
+MayBeCalled link NextEvent = Unit {0}
+MayBeCalled link Post = Unit {0}
+MayBeCalled link (Stop reason) = 0 < link.state.place
+MayBeCalled link OutOfMemory = Unit {0}
+MayBeCalled link (Send message) = Unit {0}
+MayBeCalled link (WriteRemote stag to bytes) = Unit {0}
+MayBeCalled link (ReadRemote sink at stag to len) = Unit {0}
+MayBeCalled link (Drain count) = Unit {0}
+MayBeCalled link (Register buf right) = Unit {0}
+MayBeCalled link (Release stag) = Unit {0}
+
+abbrev pub MayAllBeCalled : Link → List Call → Type 0
+MayAllBeCalled link [] = Unit {0}
+MayAllBeCalled link (call ∷ calls) = MayBeCalled link call × MayAllBeCalled (after_call link call) calls
+
+-- what a sink takes, from the front of what may be written
+abbrev pub bytes_drained : Link → Call → List ℕ
+bytes_drained link (Feed piece) = []
+bytes_drained link (FeedOne piece) = []
+bytes_drained link NextEvent = []
+bytes_drained link Post = []
+bytes_drained link (Stop reason) = []
+bytes_drained link OutOfMemory = []
+bytes_drained link (Send message) = []
+bytes_drained link (WriteRemote stag to bytes) = []
+bytes_drained link (ReadRemote sink at stag to len) = []
+bytes_drained link (Drain count) = take count (writable link.state.has_hello link.state.send_queue)
+bytes_drained link (Register buf right) = []
+bytes_drained link (Release stag) = []
+
+abbrev pub bytes_written : Link → List Call → List ℕ
+bytes_written link [] = []
+bytes_written link (call ∷ calls) = bytes_drained link call ++ bytes_written (after_call link call) calls
+
+-- An initiator writes its hello, and a responder nothing, but for the hello with which it rejects a connection and ends
+-- (RFC 5044 section 7.1).
+abbrev pub IsHelloAlone : Side → Bool → List ℕ → Type 0
+IsHelloAlone Initiator ended bytes = bytes ≡ own_hello Initiator
+IsHelloAlone Responder ended bytes = (bytes ≡ []) ⊎ ((ended ≡ true) × (bytes ≡ refusing_hello))
+
+-- Until the peer's hello was accepted, that is all that was written and that may be written.
+abbrev pub NoFpduBeforeHello : Type 0
+NoFpduBeforeHello = (side : Side) (receives first_stag : ℕ) (calls : List Call) → MayAllBeCalled (initial_link side receives first_stag) calls →
+    let start = initial_link side receives first_stag in
+    let s = (after_calls start calls).state in
+    s.has_hello ≡ false → IsHelloAlone side (has_ended s) (bytes_written start calls ++ writable s.has_hello s.send_queue)
+
+-- ---- Why a side ends
+
+-- the reasons for which a frame ends a side: of a hello, and of an FPDU
+abbrev pub IsFrameReason : Awaited → ℕ → Type 0
+IsFrameReason (HelloFrom side) reason = (REASON_KEY ≤ reason) × (reason ≤ REASON_PRIVATE)
+IsFrameReason Fpdu reason = ((REASON_LENGTH ≤ reason) × (reason ≤ REASON_SHORT)) ⊎ (reason ≡ REASON_LONG)
+
+-- how a frame at this place ends a side, which is never for want of memory
+abbrev pub IsFrameEnd : Awaited → ℕ → End → Type 0
+IsFrameEnd a place (ends.Bad at reason) = (at ≡ place) × IsFrameReason a reason
+IsFrameEnd a place (ends.Denied stag offset why) = a ≡ Fpdu
+IsFrameEnd a place (ends.NoBuffer msn) = a ≡ Fpdu
+IsFrameEnd a place (ends.Terminated reason) = a ≡ Fpdu
+IsFrameEnd a place ends.Memory = ⊥
+
+abbrev pub FramesEndForThese : Type 0
+FramesEndForThese = (s : LinkState) (a : Awaited) (frame : List ℕ) → s.ended ≡ None → IfSome (with_frame s a frame).ended (IsFrameEnd a s.place)
+
+-- None of them is a reason for which the layer above stops a link.
+abbrev pub NoFrameStops : Type 0
+NoFrameStops = (a : Awaited) (reason : ℕ) → IsFrameReason a reason → IsStopReason reason → ⊥
+
+-- So a side that ended for such a reason was stopped for it, and one that ended for want of memory ran out of it.
+abbrev pub OthersComeFromStop : Type 0
+OthersComeFromStop = (side : Side) (receives first_stag : ℕ) (calls : List Call) (at reason : ℕ) →
+    (after_calls (initial_link side receives first_stag) calls).state.ended ≡ Some (ends.Bad at reason) → IsStopReason reason → Contains calls (Stop reason)
+
+abbrev pub MemoryComesFromOutOfMemory : Type 0
+MemoryComesFromOutOfMemory = (side : Side) (receives first_stag : ℕ) (calls : List Call) →
+    (after_calls (initial_link side receives first_stag) calls).state.ended ≡ Some ends.Memory → Contains calls OutOfMemory
+
+-- ---- What a side writes once it has ended
+
+-- the output where nothing more is queued: only what is written leaves it
+abbrev pub queue_drained : Call → SendQueue → SendQueue
+queue_drained (Feed piece) q = q
+queue_drained (FeedOne piece) q = q
+queue_drained NextEvent q = q
+queue_drained Post q = q
+queue_drained (Stop reason) q = q
+queue_drained OutOfMemory q = q
+queue_drained (Send message) q = q
+queue_drained (WriteRemote stag to bytes) q = q
+queue_drained (ReadRemote sink at stag to len) q = q
+queue_drained (Drain count) q = written count q
+queue_drained (Register buf right) q = q
+queue_drained (Release stag) q = q
+
+abbrev pub queue_drained_by : List Call → SendQueue → SendQueue
+queue_drained_by [] q = q
+queue_drained_by (call ∷ calls) q = queue_drained_by calls (queue_drained call q)
+
+-- No call queues anything on a side that has ended: its last FPDU is that with which it ended.
+abbrev pub EndedQueuesNothing : Type 0
+EndedQueuesNothing = (link : Link) (calls : List Call) → has_ended link.state ≡ true →
+    (after_calls link calls).state.send_queue ≡ queue_drained_by calls link.state.send_queue
+
+-- Where a side is stopped it queues what it writes last, and where memory ran out, nothing.
+abbrev pub StopQueuesLast : Type 0
+StopQueuesLast = (link : Link) (reason : ℕ) → link.state.ended ≡ None →
+    (after_call link (Stop reason)).state.send_queue.fpdus ≡ link.state.send_queue.fpdus ++ final_output (ends.Bad link.state.last reason)
+
+abbrev pub OutOfMemoryQueuesNothing : Type 0
+OutOfMemoryQueuesNothing = (link : Link) → (after_call link OutOfMemory).state.send_queue ≡ link.state.send_queue
+
+-- An End is kept, whatever is called.
+abbrev pub EndIsKept : Type 0
+EndIsKept = (link : Link) (calls : List Call) → has_ended link.state ≡ true → (after_calls link calls).state.ended ≡ link.state.ended

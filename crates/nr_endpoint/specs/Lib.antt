@@ -1,0 +1,14 @@
+pub mod SendQueue
+pub mod ReceiveQueue
+pub mod LinkState
+pub mod Judging
+pub mod SegmentEnds
+pub mod Calls
+pub mod Carriers
+pub mod Receives
+pub mod Counted
+pub mod Staged
+pub mod Views
+pub mod EndpointState
+pub mod Codes
+pub mod Laws

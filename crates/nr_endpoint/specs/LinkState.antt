@@ -1,0 +1,54 @@
+-- The state of one side of a link, with its registered memory.
+use Rattle.std.specs.Prelude.{ℕ, Bool, false, List, [], Option, None, is_some}
+use Rattle.nr_wire.specs.declared.hello.Side.{Side}
+use Rattle.nr_wire.specs.declared.hello.Side.TheVariants.{Initiator, Responder}
+use Rattle.nr_wire.specs.declared.stream.Awaited.TheVariants.{Hello as HelloFrom}
+use Rattle.nr_wire.specs.Feeding.{Feeding}
+use Rattle.nr_link.specs.declared.end.End.{End}
+use Rattle.nr_link.specs.SegmentFaults.{ExpectedResponse}
+use Rattle.nr_regions.specs.RegisteredMemory.{RegisteredMemory, initial_memory}
+use Rattle.nr_endpoint.specs.SendQueue.{SendQueue, initial_queue}
+use Rattle.nr_endpoint.specs.ReceiveQueue.{ReceiveQueue, initial_receives}
+
+-- Which side it is. Whether the peer's hello was accepted. The place of the last whole frame of the peer's stream, and the place
+-- behind it, in bytes. Why the side ended, once it has. What came, and what has to be written. The Read Requests that are open,
+-- the oldest first, each with the place in its own region where its response goes on, and how many bytes are left. The regions.
+pub record LinkState : Type 0 where
+  pub side : Side
+  pub has_hello : Bool
+  pub last : ℕ
+  pub place : ℕ
+  pub ended : Option End
+  pub receive_queue : ReceiveQueue
+  pub reads : List ExpectedResponse
+  pub memory : RegisteredMemory
+  pub send_queue : SendQueue
+
+abbrev pub has_ended : LinkState → Bool
+has_ended s = is_some s.ended
+
+-- the other side of the link
+abbrev pub peer : Side → Side
+peer Initiator = Responder
+peer Responder = Initiator
+
+-- What a side was opened with: so many receives, and the STag that its first region gets.
+abbrev pub initial_state : Side → ℕ → ℕ → LinkState
+initial_state side receives first_stag = record {
+  side = side;
+  has_hello = false;
+  last = 0;
+  place = 0;
+  ended = None;
+  receive_queue = initial_receives receives;
+  reads = [];
+  memory = initial_memory first_stag;
+  send_queue = initial_queue side;
+}
+
+-- a side between two pieces of the peer's stream: the kind of the frame that comes next, and the bytes of it so far
+abbrev pub Link : Type 0
+Link = Feeding LinkState
+
+unfoldable pub initial_link : Side → ℕ → ℕ → Link
+initial_link side receives first_stag = record { awaited = HelloFrom (peer side); rest = []; state = initial_state side receives first_stag }

@@ -1,0 +1,84 @@
+-- What came to a side in untagged messages, and its receives (RFC 5041 section 4.3).
+use Rattle.std.specs.Prelude.{ℕ, ◌+◌, ◌-◌, Bool, not, false, ◌&&◌, if◌then◌else◌, List, [], ◌∷◌, ◌++◌, length, take, drop, replicate, Option, None, Some}
+use Rattle.nr_wire.specs.Segment.{Segment}
+use Rattle.nr_wire.specs.Segment.Segment.{Tagged, Untagged}
+use Rattle.nr_link.specs.Limits.{send_max}
+use Rattle.nr_link.specs.ReceiveState.{ReceiveState, nothing_received, is_send, received_after, message_completed}
+use Rattle.nr_link.specs.SegmentFaults.{is_begun}
+
+-- What the owner is told: a Send came whole; the response to the Read Request that was open longest came whole.
+pub data Notice : Type 0 where
+  MessageReceived : (bytes : List ℕ) → Notice
+  ReadDone : Notice
+
+-- How many receives the side was opened with. The untagged messages so far. How many receives are free. How many messages were taken whose receive wasn't posted again. What
+-- the owner wasn't told yet, in order.
+pub record ReceiveQueue : Type 0 where
+  pub receives : ℕ
+  pub received : ReceiveState
+  pub free : ℕ
+  pub lent : ℕ
+  pub notices : List Notice
+
+abbrev pub initial_receives : ℕ → ReceiveQueue
+initial_receives receives = record { receives = receives; received = nothing_received; free = receives; lent = 0; notices = [] }
+
+-- Of a Send that is longer than its receive the bytes beyond it are counted and not kept: they stand here as zeros.
+abbrev pub kept_bytes : List ℕ → List ℕ
+kept_bytes bytes = take send_max bytes ++ replicate (length bytes - send_max) 0
+
+abbrev pub kept_send : Option (List ℕ) → Option (List ℕ)
+kept_send None = None
+kept_send (Some bytes) = Some (kept_bytes bytes)
+
+abbrev pub kept : ReceiveState → ReceiveState
+kept h = record h { begun = kept_send h.begun }
+
+-- the first segment of a Send takes a receive
+abbrev pub takes_receive : ReceiveState → Segment → Bool
+takes_receive h (Tagged last opcode stag to payload) = false
+takes_receive h (Untagged last opcode w queue msn offset payload) = is_send opcode && not (is_begun h.begun)
+
+abbrev pub message_notices : Option (List ℕ) → List Notice
+message_notices None = []
+message_notices (Some message) = MessageReceived message ∷ []
+
+-- after one more segment
+unfoldable pub with_segment : Segment → ReceiveQueue → ReceiveQueue
+with_segment segment q = record {
+  receives = q.receives;
+  received = kept (received_after q.received segment);
+  free = if takes_receive q.received segment then q.free - 1 else q.free;
+  lent = q.lent;
+  notices = q.notices ++ message_notices (message_completed q.received segment);
+}
+
+abbrev pub with_read_done : ReceiveQueue → ReceiveQueue
+with_read_done q = record q { notices = q.notices ++ ReadDone ∷ [] }
+
+-- the owner was told the first notice: the receive of a message is lent until it is posted again
+abbrev pub lent_for : List Notice → ℕ
+lent_for [] = 0
+lent_for (MessageReceived bytes ∷ notices) = 1
+lent_for (ReadDone ∷ notices) = 0
+
+abbrev pub told : ReceiveQueue → ReceiveQueue
+told q = record q { lent = q.lent + lent_for q.notices; notices = drop 1 q.notices }
+
+abbrev pub posted : ReceiveQueue → ReceiveQueue
+posted q = record q { free = q.free + 1; lent = q.lent - 1 }
+
+-- how many Sends are begun, and how many of the notices are of messages
+abbrev pub sends_begun : Option (List ℕ) → ℕ
+sends_begun None = 0
+sends_begun (Some bytes) = 1
+
+abbrev pub messages_in : List Notice → ℕ
+messages_in [] = 0
+messages_in (MessageReceived bytes ∷ notices) = 1 + messages_in notices
+messages_in (ReadDone ∷ notices) = messages_in notices
+
+-- How many receive buffers are kept, each of send_max bytes: those of the free receives, that of a begun Send, and those of the
+-- messages that the owner wasn't told yet. A receive that is lent isn't kept.
+abbrev pub receives_kept : ReceiveQueue → ℕ
+receives_kept q = q.free + (sends_begun q.received.begun + messages_in q.notices)

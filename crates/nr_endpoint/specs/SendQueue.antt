@@ -1,0 +1,112 @@
+-- What a side of a link has to write: its hello, and behind it FPDUs (RFC 5044 sections 4 and 7.1).
+use Rattle.std.specs.Prelude.{ℕ, ◌+◌, ◌-◌, ◌^◌, min, nat_lt, Bool, ◌==◌, if◌then◌else◌, List, [], ◌∷◌, ◌++◌, length, drop, map, Option, None, Some}
+use Rattle.std.specs.List.{filter}
+use Rattle.nr_wire.specs.Constants.{REASON_FLAGS}
+use Rattle.nr_wire.specs.declared.hello.Side.{Side}
+use Rattle.nr_wire.specs.declared.hello.Side.TheVariants.{Initiator, Responder}
+use Rattle.nr_link.specs.declared.end.End.{End}
+use Rattle.nr_link.specs.declared.end.End.TheVariants as ends
+use Rattle.nr_link.specs.Output.{msn_word, terminate_message, send, write, read_response, read_request, own_hello, refusing_hello}
+use Rattle.nr_link.specs.Ending.{final_output}
+
+-- The bytes of the hello and of the FPDUs that weren't written yet. For each Send and for each Read Response among the FPDUs, in
+-- order, how many bytes of them go up to its end. How many Sends were written whole. The numbers of the last Send and of the last
+-- Read Request, modulo 2 ^ 32.
+pub record SendQueue : Type 0 where
+  pub hello : List ℕ
+  pub fpdus : List ℕ
+  pub send_ends : List ℕ
+  pub response_ends : List ℕ
+  pub sends_left : ℕ
+  pub last_send : ℕ
+  pub last_request : ℕ
+
+-- An initiator has its hello to write from the start.
+abbrev pub first_hello : Side → List ℕ
+first_hello Initiator = own_hello Initiator
+first_hello Responder = []
+
+abbrev pub initial_queue : Side → SendQueue
+initial_queue side = record { hello = first_hello side; fpdus = []; send_ends = []; response_ends = []; sends_left = 0; last_send = 0; last_request = 0 }
+
+-- the number behind another (RFC 5041 section 4.3)
+abbrev pub next_number : ℕ → ℕ
+next_number n = msn_word (n + 1)
+
+-- ---- What is queued
+
+abbrev pub with_hello : List ℕ → SendQueue → SendQueue
+with_hello bytes q = record q { hello = q.hello ++ bytes }
+
+abbrev pub with_fpdus : List ℕ → SendQueue → SendQueue
+with_fpdus bytes q = record q { fpdus = q.fpdus ++ bytes }
+
+abbrev pub send_output : SendQueue → List ℕ → List ℕ
+send_output q message = send (next_number q.last_send) message
+
+abbrev pub with_send : List ℕ → SendQueue → SendQueue
+with_send message q = record q {
+  fpdus = q.fpdus ++ send_output q message;
+  send_ends = q.send_ends ++ length (q.fpdus ++ send_output q message) ∷ [];
+  last_send = next_number q.last_send;
+}
+
+-- an RDMA Write of some bytes into the peer's region, from `to` on
+abbrev pub with_write : (stag to : ℕ) → List ℕ → SendQueue → SendQueue
+with_write stag to bytes q = with_fpdus (write stag to bytes) q
+
+-- a Read Request for `len` bytes of the peer's region, from `to` on, into an own region, from `at` on
+abbrev pub with_request : (sink at len stag to : ℕ) → SendQueue → SendQueue
+with_request sink at len stag to q = record q {
+  fpdus = q.fpdus ++ read_request (next_number q.last_request) sink at len stag to;
+  last_request = next_number q.last_request;
+}
+
+abbrev pub with_response : (stag to : ℕ) → List ℕ → SendQueue → SendQueue
+with_response stag to bytes q = record q {
+  fpdus = q.fpdus ++ read_response stag to bytes;
+  response_ends = q.response_ends ++ length (q.fpdus ++ read_response stag to bytes) ∷ [];
+}
+
+-- The hello by which a responder rejects a connection whose hello asks for markers or a CRC (RFC 5044 section 7.1).
+abbrev pub rejection : Side → End → List ℕ
+rejection Initiator end = []
+rejection Responder (ends.Bad at reason) = if reason == REASON_FLAGS then refusing_hello else []
+rejection Responder (ends.Denied stag offset why) = []
+rejection Responder (ends.NoBuffer msn) = []
+rejection Responder (ends.Terminated reason) = []
+rejection Responder ends.Memory = []
+
+-- the Terminate with a word, where there is one
+abbrev pub terminate_by : Option ℕ → List ℕ
+terminate_by None = []
+terminate_by (Some word) = terminate_message word
+
+-- what a side writes last, where it ends
+unfoldable pub with_end : Side → End → SendQueue → SendQueue
+with_end side end q = record q { hello = q.hello ++ rejection side end; fpdus = q.fpdus ++ final_output end }
+
+-- ---- What is written
+
+-- The bytes that may be written: no FPDU goes before the peer's hello was accepted (RFC 5044 section 7.1).
+abbrev pub writable : Bool → SendQueue → List ℕ
+writable has_hello q = q.hello ++ (if has_hello then q.fpdus else [])
+
+-- The ends that are left where n bytes were written, and how many went by. A count stands still at 2 ^ 64 - 1.
+abbrev pub ends_left : ℕ → List ℕ → List ℕ
+ends_left n ends = map (λ end. end - n) (filter (nat_lt n) ends)
+
+abbrev pub ends_passed : ℕ → List ℕ → ℕ
+ends_passed n ends = length ends - length (ends_left n ends)
+
+abbrev pub fpdus_written : ℕ → SendQueue → SendQueue
+fpdus_written n q = record q {
+  fpdus = drop n q.fpdus;
+  send_ends = ends_left n q.send_ends;
+  response_ends = ends_left n q.response_ends;
+  sends_left = min (q.sends_left + ends_passed n q.send_ends) (2 ^ 64 - 1);
+}
+
+-- the first n bytes were written
+unfoldable pub written : ℕ → SendQueue → SendQueue
+written n q = fpdus_written (n - length q.hello) (record q { hello = drop n q.hello })

@@ -1,0 +1,35 @@
+-- The values of the code as the definitions see them.
+use Rattle.std.specs.Prelude.{ℕ, ◌-◌, List, ◌++◌, take, replicate, map, Option, None, Some}
+use Rattle.nr_link.specs.Limits.{send_max}
+use Rattle.nr_link.specs.ReceiveState.{ReadRequest as PlainReadRequest}
+use Rattle.nr_endpoint.specs.declared.faults.ReadRequest.{ReadRequest}
+use Rattle.nr_link.specs.SegmentFaults.{ExpectedResponse}
+use Rattle.nr_endpoint.specs.declared.event.Event.{Event}
+use Rattle.nr_endpoint.specs.declared.event.Event.TheVariants as events
+use Rattle.nr_endpoint.specs.declared.reads.OpenRead.{OpenRead}
+use Rattle.nr_endpoint.specs.declared.receive_queue.BegunSend.{BegunSend}
+use Rattle.nr_endpoint.specs.ReceiveQueue.{Notice}
+use Rattle.nr_endpoint.specs.ReceiveQueue.Notice.{MessageReceived, ReadDone}
+
+-- an event is told with the receive buffer, of which the message is the first bytes
+abbrev pub notice : Event → Notice
+notice (events.Message buf len) = MessageReceived (take len buf)
+notice events.ReadDone = ReadDone
+
+abbrev pub notices : List Event → List Notice
+notices list = map notice list
+
+abbrev pub expected : OpenRead → ExpectedResponse
+expected r = record { sink = r.sink; at = r.at; left = r.end - r.at }
+
+-- the bytes of a begun Send so far: those beyond its receive are counted, and stand as zeros
+abbrev pub begun_send : BegunSend → List ℕ
+begun_send b = take b.len b.buf ++ replicate (b.len - send_max) 0
+
+abbrev pub begun : Option BegunSend → Option (List ℕ)
+begun None = None
+begun (Some b) = Some (begun_send b)
+
+-- the fields of a Read Request
+abbrev pub read_request_view : ReadRequest → PlainReadRequest
+read_request_view r = record { sink = r.sink; sink_to = r.sink_to; size = r.size; stag = r.stag; to = r.to }

@@ -1,0 +1,193 @@
+//! The calls of an endpoint's owner.
+
+ghost use Rattle.std.specs.Prelude.{◌≡◌, ◌≢◌, ℕ, ◌+◌, ◌-◌, ◌*◌, ◌^◌, ◌<◌, ◌≤◌, ◌↔◌, [], ◌∷◌, ◌++◌, length, drop, take, None, Some, is_some, Ok, Err, IfOk, OnOk, IfErr, OnErr, IsOk, IsErrAnd, IfSome, MatchResult, List, option_to_list, option_map, if◌then◌else◌, true, nat_lt};
+ghost use Rattle.std.specs.Io.KnownBytes.{Appends};
+ghost use Rattle.nr_outside.specs.Faults.{Rises};
+ghost use Rattle.nr_regions.specs.RegisteredMemory.{Claim, IsHeld, bytes_in, bytes_held, claim_of, held_region};
+ghost use Rattle.nr_link.specs.declared.end.End.{End};
+ghost use Rattle.nr_link.specs.declared.end.End.TheVariants as ends;
+ghost use Rattle.nr_link.specs.Limits.{send_max, open_reads_max};
+ghost use Rattle.nr_endpoint.specs.declared.fault.ReadRefused.TheVariants as refusals;
+ghost use Rattle.nr_endpoint.specs.declared.fault.DrainFault.TheVariants as drains;
+ghost use Rattle.nr_endpoint.specs.SendQueue.{writable};
+ghost use Rattle.nr_endpoint.specs.Calls.{after_call, IsStopReason, StandsOn};
+ghost use Rattle.nr_endpoint.specs.Calls.Call.{NextEvent, Post, Stop, OutOfMemory, Send, WriteRemote, ReadRemote, Drain, Register, Release};
+ghost use Rattle.nr_endpoint.specs.EndpointState.{bytes_kept};
+ghost use Rattle.nr_wire.specs.Constants.{FPDU_MAX};
+ghost use Rattle.nr_endpoint.specs.Receives.{HasBuffer};
+ghost use Rattle.nr_endpoint.specs.Views.{notice};
+
+use crate::endpoint::Endpoint;
+use crate::event::Event;
+use crate::fault::{DrainFault, ReadRefused};
+use nr_link::End;
+use nr_outside::Sink;
+use nr_regions::{Regions, Registration, Right, Why};
+use nr_xdr::{Memory, Octets};
+
+impl Endpoint {
+    /// Takes the next event; `None` exactly where none waits. It stands behind all tagged segments that came before it. Takes no memory.
+    pub fn next_event(&mut self) -> Option<Event>
+        // The events are told in order.
+        ensures event { self.old.link.state.receive_queue.notices ≡ option_to_list (option_map notice result) ++ self.new.link.state.receive_queue.notices }
+        ensures waits { is_some result ≡ nat_lt 0 (length self.old.link.state.receive_queue.notices) }
+        ensures buffer { IfSome result HasBuffer }
+        ensures state { self.new.link ≡ (if is_some result then after_call self.old.link NextEvent else self.old.link) }
+        ensures stands { is_some result ≡ true → StandsOn self.old.link NextEvent self.new.link }
+        ensures staging { self.new.staging ≡ self.old.staging }
+    {
+        self.link.next_event()
+    }
+
+    /// A buffer that an event lent is a receive again. Takes no memory.
+    pub fn post(&mut self, buf: Octets)
+        requires lent { 0 < self.old.link.state.receive_queue.lent }
+        requires len { length buf ≡ send_max }
+        ensures state { self.new.link ≡ after_call self.old.link Post }
+        ensures stands { StandsOn self.old.link Post self.new.link }
+        ensures staging { self.new.staging ≡ self.old.staging }
+    {
+        self.link.post(buf);
+    }
+
+    /// Ends the side for what the layer above made of a message: `Bad` at the last whole frame, with one Terminate queued; or `Memory`, where
+    /// memory ran out for it.
+    pub fn stop(&mut self, reason: u32) -> End
+        requires live { self.old.link.state.ended ≡ None }
+        requires frame { 0 < self.old.link.state.place }
+        requires reason { IsStopReason reason }
+        ensures ended { self.new.link.state.ended ≡ Some result }
+        ensures end { result ≢ ends.Memory → result ≡ ends.Bad self.old.link.state.last reason }
+        ensures state { result ≢ ends.Memory → self.new.link ≡ after_call self.old.link (Stop reason) }
+        ensures memory { result ≡ ends.Memory → self.new.link ≡ after_call self.old.link OutOfMemory }
+        ensures stands { result ≢ ends.Memory → StandsOn self.old.link (Stop reason) self.new.link }
+        ensures staging { self.new.staging ≡ self.old.staging }
+    {
+        let end = End::Bad {
+            at: self.link.last,
+            reason,
+        };
+        self.staged = 0;
+        self.link.stop(end)
+    }
+
+    /// Queues a Send. Where the side has ended, it queues nothing. An `Err` changes nothing.
+    pub fn send(&mut self, message: &[u8]) -> Result<(), Memory>
+        requires { length message.now < 2 ^ 32 }
+        ensures state { OnOk result (self.new.link ≡ after_call self.old.link (Send message.now)) }
+        ensures stands { OnOk result (StandsOn self.old.link (Send message.now) self.new.link) }
+        ensures err { OnErr result (self.new.link ≡ self.old.link) }
+        ensures staging { self.new.staging ≡ self.old.staging }
+    {
+        self.link.send(message)
+    }
+
+    /// Queues an RDMA Write of some bytes into the peer's region, from byte `to` on. Where the side has ended, it queues nothing. An `Err`
+    /// changes nothing.
+    pub fn write_remote(&mut self, stag: u32, to: u64, bytes: &[u8]) -> Result<(), Memory>
+        requires { to + length bytes.now ≤ 2 ^ 64 }
+        ensures state { OnOk result (self.new.link ≡ after_call self.old.link (WriteRemote stag to bytes.now)) }
+        ensures stands { OnOk result (StandsOn self.old.link (WriteRemote stag to bytes.now) self.new.link) }
+        ensures err { OnErr result (self.new.link ≡ self.old.link) }
+        ensures staging { self.new.staging ≡ self.old.staging }
+    {
+        self.link.write_remote(stag, to, bytes)
+    }
+
+    /// Queues a Read Request for `len` bytes of the peer's region, from byte `to` on, into an own region, from byte `at` on. `Full` exactly
+    /// where as many as may be are open. Where the side has ended, it queues nothing. An `Err` changes nothing.
+    pub fn read_remote(
+        &mut self,
+        registration: &Registration,
+        at: u64,
+        stag: u32,
+        to: u64,
+        len: u64,
+    ) -> Result<(), ReadRefused>
+        requires within { at + len ≤ registration.now.len }
+        requires remote { to + len ≤ 2 ^ 64 }
+        requires size { len < 2 ^ 32 }
+        ensures full { IsErrAnd result (λ e. e ≢ refusals.Memory) ↔ (length self.old.link.state.reads ≡ open_reads_max) }
+        ensures reads { IfErr result (λ e. e ≢ refusals.Memory → e ≡ refusals.Full open_reads_max) }
+        ensures state { OnOk result (self.new.link ≡ after_call self.old.link (ReadRemote registration.now.stag at stag to len)) }
+        ensures stands { OnOk result (StandsOn self.old.link (ReadRemote registration.now.stag at stag to len) self.new.link) }
+        ensures err { OnErr result (self.new.link ≡ self.old.link) }
+        ensures staging { self.new.staging ≡ self.old.staging }
+    {
+        self.link.read_remote(registration, at, stag, to, len)
+    }
+
+    /// Hands the output to a sink, in order: for `Ok` all that may be written, else some of it from the front, and the rest stays.
+    pub fn drain_into<K: Sink>(&mut self, sink: &mut K) -> Result<(), DrainFault>
+        ensures taken { (n : ℕ) × (n ≤ length (writable self.old.link.state.has_hello self.old.link.state.send_queue))
+            × Appends (K.taken sink.old) (K.taken sink.new) (take n (writable self.old.link.state.has_hello self.old.link.state.send_queue))
+            × (self.new.link ≡ after_call self.old.link (Drain n))
+            × StandsOn self.old.link (Drain n) self.new.link
+            × OnOk result (n ≡ length (writable self.old.link.state.has_hello self.old.link.state.send_queue)) }
+        // It takes no memory: its only fault is the sink's.
+        ensures counted { MatchResult result
+            (λ _. K.faults sink.new ≡ K.faults sink.old) (λ e. (e ≡ drains.LinkWrite) × Rises (K.faults sink.old) (K.faults sink.new)) }
+        ensures never_falls { K.faults sink.old ≤ K.faults sink.new }
+        ensures staging { self.new.staging ≡ self.old.staging }
+    {
+        self.link.drain_into(sink)?;
+        Ok(())
+    }
+
+    /// Registers a buffer under the next STag, for a peer that may do this with it. `Spent` exactly where STag 2^32 - 1 was given. The
+    /// buffer comes back with an error, which changes nothing.
+    pub fn register(&mut self, buf: Octets, right: Right) -> Result<Registration, (Octets, Why)>
+        ensures claim { IfOk result (λ claim. claim ≡ claim_of self.old.link.state.memory buf) }
+        ensures held { IfOk result (λ claim. IsHeld self.new.link.state.memory claim) }
+        ensures state { OnOk result (self.new.link ≡ after_call self.old.link (Register buf right)) }
+        ensures stands { OnOk result (StandsOn self.old.link (Register buf right) self.new.link) }
+        ensures spent { IsErrAnd result (λ e. e.1 ≡ Why.Spent) ↔ (self.old.link.state.memory.next ≡ 2 ^ 32) }
+        ensures returned { IfErr result (λ e. e.0 ≡ buf) }
+        ensures err { OnErr result (self.new.link ≡ self.old.link) }
+        ensures staging { self.new.staging ≡ self.old.staging }
+    {
+        self.link.register(buf, right)
+    }
+
+    /// Returns a region's buffer with its present content. From then on its STag is invalid. Takes no memory.
+    pub fn release(&mut self, registration: Registration) -> Octets
+        requires { IsHeld self.old.link.state.memory registration }
+        ensures bytes { result ≡ bytes_in (held_region self.old.link.state.memory registration.stag) }
+        ensures len { length result ≡ registration.len }
+        ensures state { self.new.link ≡ after_call self.old.link (Release registration.stag) }
+        ensures stands { StandsOn self.old.link (Release registration.stag) self.new.link }
+        ensures staging { self.new.staging ≡ self.old.staging }
+    {
+        self.link.release(registration)
+    }
+
+    /// The regions.
+    pub fn regions(&self) -> &Regions
+        ensures { result.now.memory ≡ self.now.link.state.memory }
+    {
+        &self.link.regions
+    }
+
+    /// How many Sends have wholly left the queue, in the order of `send`. It stands still at 2^64 - 1.
+    pub fn sends_left(&self) -> u64
+        ensures { result ≡ self.now.link.state.send_queue.sends_left }
+    {
+        self.link.send_queue.sends_left()
+    }
+
+    /// Why the side takes no more input, once it has ended.
+    pub fn end(&self) -> Option<End>
+        ensures { result ≡ self.now.link.state.ended }
+    {
+        self.link.end()
+    }
+
+    /// How many bytes all vectors have that are kept: the staging buffer, the receives that are not lent, the regions, and the output.
+    pub fn held(&self) -> u128
+        ensures is { result ≡ bytes_kept self.now }
+        ensures bound { result ≤ FPDU_MAX + send_max * self.now.link.state.receive_queue.receives + bytes_held self.now.link.state.memory
+            + length self.now.link.state.send_queue.hello + length self.now.link.state.send_queue.fpdus }
+    {
+        self.staging.len() as u128 + self.link.held()
+    }
+}

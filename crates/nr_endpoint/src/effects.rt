@@ -1,0 +1,119 @@
+//! What a segment does that doesn't end the side.
+
+ghost use Rattle.std.specs.Prelude.{◌≡◌, ◌+◌, ◌^◌, ◌<◌, ◌≤◌, length, true, None, OnOk, OnErr};
+ghost use Rattle.nr_wire.specs.Segment.{IsSupported, payload_in};
+ghost use Rattle.nr_wire.specs.Segment.Segment.{Tagged, Untagged};
+ghost use Rattle.nr_wire.specs.Constants.{OPCODE_SEND};
+ghost use Rattle.nr_wire.specs.View.{segment as plain};
+ghost use Rattle.nr_endpoint.specs.Judging.{segment_end, with_effect, next_frame, behind_frame};
+ghost use Rattle.nr_endpoint.specs.SegmentEnds.{tagged_end, RequestIsFine, SendIsFine};
+
+use crate::faults::{kind_of, read_request};
+use crate::link::Link;
+use crate::reads::advance;
+use nr_wire::Segment;
+use nr_wire::constants::{OPCODE_READ_REQUEST, OPCODE_READ_RESPONSE};
+use nr_xdr::Memory;
+
+impl Link {
+    /// The effect of a frame's segment that doesn't end the side. An `Err` changes nothing.
+    pub fn take(&mut self, segment: &Segment, frame: &[u8]) -> Result<(), Memory>
+        requires supported { IsSupported (plain segment.now) }
+        requires size { length (payload_in (plain segment.now)) + 1 ≤ length frame.now }
+        requires within { self.old.place + length frame.now ≤ 2 ^ 62 }
+        requires lives { segment_end self.old (next_frame self.old frame.now) (plain segment.now) ≡ None }
+        ensures ok { OnOk result (self.new ≡ behind_frame (next_frame self.old frame.now) (with_effect (plain segment.now) self.old)) }
+        ensures err { OnErr result (self.new ≡ self.old) }
+    {
+        match *segment {
+            Segment::Tagged {
+                last,
+                opcode,
+                stag,
+                to,
+                payload,
+            } => self.take_tagged(last, opcode, stag, to, payload, frame),
+            Segment::Untagged {
+                last,
+                opcode,
+                payload,
+                ..
+            } => {
+                if opcode == OPCODE_READ_REQUEST {
+                    return self.take_request(payload, frame);
+                }
+                self.take_send(last, payload, frame)
+            }
+        }
+    }
+
+    /// The payload of a tagged segment goes into its region. The last segment of a Read Response ends the Read Request that was open
+    /// longest. An `Err` changes nothing.
+    #[tactic(auto, unfolding(crate::specs::Judging::with_effect, crate::specs::SegmentEnds::tagged_end))]
+    fn take_tagged(
+        &mut self,
+        last: bool,
+        opcode: u8,
+        stag: u32,
+        to: u64,
+        payload: &[u8],
+        frame: &[u8],
+    ) -> Result<(), Memory>
+        requires lives { tagged_end self.old last opcode stag to payload.now ≡ None }
+        requires within { self.old.place + length frame.now ≤ 2 ^ 62 }
+        ensures ok { OnOk result (self.new ≡ behind_frame (next_frame self.old frame.now) (with_effect (Tagged last opcode stag to payload.now) self.old)) }
+        ensures err { OnErr result (self.new ≡ self.old) }
+    {
+        if opcode == OPCODE_READ_RESPONSE {
+            if last {
+                self.receive_queue.read_done()?;
+            }
+            advance(&mut self.reads, last, stag, to, payload.len() as u64);
+        }
+        let placed = self.regions.place(kind_of(opcode), stag, to, payload);
+        if placed.is_err() {
+            unreachable!();
+        }
+        self.last = self.place;
+        self.place += frame.len() as u64;
+        Ok(())
+    }
+
+    /// A Read Request is answered with the bytes as they stand (RFC 5040 section 5.2). An `Err` changes nothing.
+    fn take_request(&mut self, payload: &[u8], frame: &[u8]) -> Result<(), Memory>
+        requires fine { RequestIsFine self.old payload.now }
+        requires some { 0 < length frame.now }
+        requires within { self.old.place + length frame.now ≤ 2 ^ 62 }
+        ensures ok { OnOk result (self.new ≡ behind_frame (next_frame self.old frame.now) (with_effect (Untagged true OPCODE_READ_REQUEST 0 0 0 0 payload.now) self.old)) }
+        ensures err { OnErr result (self.new ≡ self.old) }
+    {
+        let request = read_request(payload);
+        match self
+            .regions
+            .fetch(request.stag, request.to, u64::from(request.size))
+        {
+            Ok(bytes) => self
+                .send_queue
+                .respond(request.sink, request.sink_to, bytes)?,
+            Err(_) => unreachable!(),
+        }
+        self.receive_queue.count_request();
+        self.last = self.place;
+        self.place += frame.len() as u64;
+        Ok(())
+    }
+
+    /// One more segment of a Send. An `Err` changes nothing.
+    fn take_send(&mut self, last: bool, payload: &[u8], frame: &[u8]) -> Result<(), Memory>
+        requires fine { SendIsFine self.old last payload.now }
+        requires size { length payload.now + 1 ≤ length frame.now }
+        requires within { self.old.place + length frame.now ≤ 2 ^ 62 }
+        ensures ok { OnOk result (self.new ≡ behind_frame (next_frame self.old frame.now) (with_effect (Untagged last OPCODE_SEND 0 0 0 0 payload.now) self.old)) }
+        ensures err { OnErr result (self.new ≡ self.old) }
+    {
+        self.receive_queue.receive(last, payload)?;
+        self.last = self.place;
+        self.place += frame.len() as u64;
+        Ok(())
+    }
+}

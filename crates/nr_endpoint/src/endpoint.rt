@@ -1,0 +1,218 @@
+//! The endpoint: the peer's stream in pieces, and the calls of its owner.
+
+ghost use Rattle.std.specs.Prelude.{◌≡◌, ◌≢◌, ℕ, ◌+◌, ◌-◌, ◌*◌, ◌^◌, ◌<◌, ◌≤◌, ◌↔◌, [], ◌∷◌, ◌++◌, length, drop, take, None, Some, is_some, Ok, Err, IfOk, OnOk, IfErr, OnErr, IsOk, IsErrAnd, IfSome, List, nat_lt, true, if◌then◌else◌};
+ghost use Rattle.std.specs.Result.{result_err};
+ghost use Rattle.nr_wire.specs.Feeding.{bytes_taken};
+ghost use Rattle.nr_wire.specs.Stream.{bytes_needed, IsPartial};
+ghost use Rattle.nr_link.specs.declared.end.End.TheVariants as ends;
+ghost use Rattle.nr_endpoint.specs.LinkState.{initial_link, peer, has_ended};
+ghost use Rattle.nr_endpoint.specs.Calls.{after_call, after_calls, StandsFor, StandsOn, IsStep};
+ghost use Rattle.nr_endpoint.specs.Calls.Call.{Feed, FeedOne, OutOfMemory};
+ghost use Rattle.nr_endpoint.specs.EndpointState.{KeepsStaging};
+
+use crate::link::Link;
+use crate::staging::{stage_frame, whole_in_piece};
+use nr_link::End;
+use nr_wire::constants::FPDU_MAX;
+use nr_wire::{Awaited, Side, bytes_needed, whole_frame};
+use nr_xdr::Memory;
+use std::alloc::Global;
+use std::marker::Model;
+
+/// The endpoint of a link.
+#[derive(Drop)]
+pub struct Endpoint {
+    pub(crate) link: Link,
+    pub(crate) awaited: Awaited,
+    pub(crate) staging: Vec<u8>,
+    pub(crate) staged: usize,
+}
+
+impl Model for Endpoint {
+    ghost use Rattle.std.specs.Prelude.{take};
+    ghost use Rattle.nr_endpoint.specs.EndpointState.{EndpointState};
+    ghost use Rattle.nr_endpoint.specs.Codes.{endpoint_code};
+
+    ghost Value = { EndpointState };
+
+    ghost coded = { endpoint_code };
+
+    ghost use Rattle.nr_endpoint.specs.Staged.{IsStaged};
+
+    ghost view = { λ e. record { link = record { awaited = e.awaited; rest = take e.staged e.staging.items; state = e.link }; staging = e.staging.items } };
+
+    ghost invariant = { λ e. IsStaged e.awaited e.link.ended e.staging.items e.staged };
+}
+
+/// The other side of a link.
+fn peer(side: Side) -> Side
+    ensures { result ≡ peer side }
+{
+    match side {
+        Side::Initiator => Side::Responder,
+        Side::Responder => Side::Initiator,
+    }
+}
+
+impl Endpoint {
+    /// A side of a link, with so many receives. The first region gets this STag, which isn't 0.
+    pub fn open(
+        alloc: Global,
+        side: Side,
+        receives: u32,
+        first_stag: u32,
+    ) -> Result<Endpoint, Memory>
+        requires { 0 < first_stag }
+        ensures state { IfOk result (λ e. e.link ≡ initial_link side receives first_stag) }
+        ensures staging { IfOk result (λ e. length e.staging ≡ FPDU_MAX) }
+        ensures stands { IfOk result (λ e. StandsFor (initial_link side receives first_stag) [] e.link) }
+    {
+        Ok(Endpoint {
+            link: Link::new(alloc, side, receives, first_stag)?,
+            awaited: Awaited::Hello(peer(side)),
+            staging: vec![in alloc; 0u8; FPDU_MAX]?,
+            staged: 0,
+        })
+    }
+
+    /// Takes a piece of the peer's stream. `Err` where the side has ended, with why. Want of memory ends the side as it was before the frame
+    /// for which it came; the piece was taken up to there.
+    pub fn feed(&mut self, piece: &[u8]) -> Result<(), End>
+        requires { self.old.link.state.place + length self.old.link.rest + length piece.now ≤ 2 ^ 62 }
+        ensures ended { result_err result ≡ self.new.link.state.ended }
+        ensures state { result ≢ Err ends.Memory → self.new.link ≡ after_call self.old.link (Feed piece.now) }
+        ensures stands { result ≢ Err ends.Memory → StandsOn self.old.link (Feed piece.now) self.new.link }
+        ensures memory { result ≡ Err ends.Memory → (n : ℕ) × (self.new.link ≡ after_calls self.old.link (Feed (take n piece.now) ∷ OutOfMemory ∷ [])) }
+        ensures kept { has_ended self.old.link.state ≡ true → self.new ≡ self.old }
+        ensures staging { KeepsStaging self.old self.new piece.now }
+    {
+        self.kept_rest();
+        if let Some(end) = self.link.end() {
+            return Err(end);
+        }
+        let mut left = piece;
+        while !left.is_empty() {
+            left = self.advance(left);
+        }
+        if let Some(end) = self.link.end() {
+            return Err(end);
+        }
+        Ok(())
+    }
+
+    /// What is kept of the stream is less than a frame, and nothing once the side has ended.
+    fn kept_rest(&self)
+        ensures partial { IsPartial self.now.link.awaited self.now.link.rest }
+        ensures ended { has_ended self.now.link.state ≡ true → self.now.link.rest ≡ [] }
+    {
+        let _ = &self.staged;
+    }
+
+    /// Takes the next frame of a piece, or all of it; answers what is left, which is nothing once the side has ended.
+    fn advance<'a>(&mut self, left: &'a [u8]) -> &'a [u8]
+        requires { self.old.link.state.ended ≡ None → self.old.link.state.place + length self.old.link.rest + length left.now ≤ 2 ^ 62 }
+        ensures live { self.old.link.state.ended ≡ None → IsStep self.old.link left.now self.new.link }
+        ensures ended { has_ended self.old.link.state ≡ true → self.new ≡ self.old }
+        ensures left { result.now ≡ (if has_ended self.new.link.state then [] else drop (bytes_taken self.old.link.awaited self.old.link.rest left.now) left.now) }
+        ensures staging { KeepsStaging self.old self.new left.now }
+        ensures partial { IsPartial self.new.link.awaited self.new.link.rest }
+        ensures ended_rest { has_ended self.new.link.state ≡ true → self.new.link.rest ≡ [] }
+    {
+        self.kept_rest();
+        let (_, none) = left.split_at(left.len());
+        if self.link.end().is_some() {
+            return none;
+        }
+        let taken = self.step(left);
+        self.kept_rest();
+        if self.link.end().is_some() {
+            return none;
+        }
+        let (_, rest) = left.split_at(taken);
+        rest
+    }
+
+    /// Takes a piece up to the end of the frame that it makes whole, else all of it. `Ok` has the number of bytes taken. `Err` where the
+    /// side has ended, with why. Want of memory ends the side as it was before the frame.
+    pub fn feed_one(&mut self, piece: &[u8]) -> Result<usize, End>
+        requires { self.old.link.state.place + length self.old.link.rest + length piece.now ≤ 2 ^ 62 }
+        ensures ended { result_err result ≡ self.new.link.state.ended }
+        ensures taken { IfOk result (λ n. n ≡ bytes_taken self.old.link.awaited self.old.link.rest piece.now) }
+        ensures state { result ≢ Err ends.Memory → self.new.link ≡ after_call self.old.link (FeedOne piece.now) }
+        ensures stands { result ≢ Err ends.Memory → StandsOn self.old.link (FeedOne piece.now) self.new.link }
+        ensures memory { result ≡ Err ends.Memory → self.new.link ≡ after_call self.old.link OutOfMemory }
+        ensures kept { has_ended self.old.link.state ≡ true → self.new ≡ self.old }
+        ensures staging { KeepsStaging self.old self.new piece.now }
+    {
+        if let Some(end) = self.link.end() {
+            return Err(end);
+        }
+        let taken = self.step(piece);
+        if let Some(end) = self.link.end() {
+            return Err(end);
+        }
+        Ok(taken)
+    }
+
+    /// Takes a piece up to the end of the frame that it makes whole, else all of it, where the side hasn't ended; answers the bytes taken. A
+    /// frame that lies whole in the piece is judged where it lies. Want of memory ends the side as it was before the frame.
+    fn step(&mut self, piece: &[u8]) -> usize
+        requires live { self.old.link.state.ended ≡ None }
+        requires within { self.old.link.state.place + length self.old.link.rest + length piece.now ≤ 2 ^ 62 }
+        ensures taken { result ≡ bytes_taken self.old.link.awaited self.old.link.rest piece.now }
+        ensures state { IsStep self.old.link piece.now self.new.link }
+        ensures staging { KeepsStaging self.old self.new piece.now }
+    {
+        if let Some(len) = whole_in_piece(self.staged, self.awaited, piece) {
+            let (frame, _) = piece.split_at(len);
+            if self.link.judge(self.awaited, frame) {
+                self.awaited = Awaited::Fpdu;
+            }
+            return len;
+        }
+        let taken = stage_frame(&mut self.staging, self.staged, self.awaited, piece);
+        let end = self.staged + taken;
+        let (frame, _) = self.staging.as_slice().split_at(end);
+        if whole_frame(self.awaited, frame).is_none() {
+            self.staged = end;
+            return taken;
+        }
+        self.staged = 0;
+        if self.link.judge(self.awaited, frame) {
+            self.awaited = Awaited::Fpdu;
+        }
+        taken
+    }
+
+    /// How many bytes the frame that is begun still needs, as far as its length fields are there; where none is begun, those up to the end
+    /// of the next one's length fields. At least 1.
+    pub fn wants(&self) -> usize
+        ensures exact { result ≡ bytes_needed self.now.link.awaited self.now.link.rest }
+        ensures some { 0 < result }
+    {
+        bytes_needed(self.awaited, &self.staging[..self.staged])
+    }
+
+    /// Whether a frame is begun and not whole.
+    pub fn begun(&self) -> bool
+        ensures { result ≡ nat_lt 0 (length self.now.link.rest) }
+    {
+        self.staged > 0
+    }
+
+    /// The staging buffer, of which the first bytes are those of the frame that isn't whole.
+    pub fn staging(&self) -> &[u8]
+        ensures bytes { result.now ≡ self.now.staging }
+        ensures begins { take (length self.now.link.rest) result.now ≡ self.now.link.rest }
+    {
+        self.staging.as_slice()
+    }
+
+    /// How many bytes of the frame that isn't whole are staged. 0 once the side has ended.
+    pub fn staged(&self) -> usize
+        ensures rest { result ≡ length self.now.link.rest }
+        ensures ended { is_some self.now.link.state.ended ≡ true → result ≡ 0 }
+    {
+        self.staged
+    }
+}

@@ -1,0 +1,48 @@
+//! Laws of an endpoint, over the calls that it stands for.
+
+ghost use Rattle.nr_endpoint.specs.Laws.{PiecesJoin, StepsReach, StepsFeed, EndStays, KeepsLessThanFrame, EndedKeepsNothing, MemoryFollowsEvents, PlacesAreAllowed, PlacesAreInOrder, ReadsAreAllowed, NothingElseIsRead, OpenRegionHolds, ReleasedBufferHolds, ReleasedStaysDead, NoFpduBeforeHello, FramesEndForThese, NoFrameStops, OthersComeFromStop, MemoryComesFromOutOfMemory, EndedQueuesNothing, EndIsKept, StopQueuesLast, OutOfMemoryQueuesNothing};
+
+/// What a side is after some bytes does not depend on how they were cut: to feed two pieces is to feed both joined, and one step on a
+/// piece and then the rest of it is the whole piece. A side that has ended stays as it is.
+pub fn however_cut()
+    ensures pieces { PiecesJoin }
+    ensures steps { StepsReach }
+    ensures step { StepsFeed }
+    ensures end_stays { EndStays }
+    // What is asked of a link above holds of every link that is reached.
+    ensures partial { KeepsLessThanFrame }
+    ensures ended_empty { EndedKeepsNothing }
+{}
+
+/// Against any peer, the memory of a side is that of its registrations, its releases, and the tagged segments of the frames that did not
+/// end it, in the order of the stream (RFC 5040 section 5). The regions allowed each of them, and each byte that was read, at that very
+/// frame.
+pub fn memory_follows_accesses()
+    ensures follows { MemoryFollowsEvents }
+    ensures places { PlacesAreAllowed }
+    ensures order { PlacesAreInOrder }
+    ensures reads { ReadsAreAllowed }
+    ensures nothing_else { NothingElseIsRead }
+    ensures while_open { OpenRegionHolds }
+    ensures released { ReleasedBufferHolds }
+    ensures dead { ReleasedStaysDead }
+{}
+
+/// Before the peer's hello was accepted, a side writes its hello alone (RFC 5044 section 7.1).
+pub fn no_fpdu_before_hello()
+    ensures { NoFpduBeforeHello }
+{}
+
+/// A frame ends a side for the reasons 1 to 16 and 22 alone, a hello for 1 to 4; for the others the layer above stopped it. Once a side has
+/// ended, it queues nothing: it sends one Terminate at most (RFC 5040 section 4.8).
+pub fn reasons_of_frames()
+    ensures frames { FramesEndForThese }
+    ensures no_stop { NoFrameStops }
+    ensures stops { OthersComeFromStop }
+    ensures memory { MemoryComesFromOutOfMemory }
+    ensures ended { EndedQueuesNothing }
+    ensures kept { EndIsKept }
+    // What a frame queues that ends a side is a clause of the law on memory.
+    ensures stop_queues { StopQueuesLast }
+    ensures no_memory { OutOfMemoryQueuesNothing }
+{}

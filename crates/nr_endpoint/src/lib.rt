@@ -1,0 +1,36 @@
+//! The endpoint of a link: one side of it, with its registered memory and its output queue (RFC 5040, RFC 5041, RFC 5044).
+//!
+//! It stands on `nr_wire`, which frames the stream, on `nr_regions`, which keeps registered memory, and on `nr_link`, which says why
+//! a segment ends a link. The ends above it give it what the peer sent ([`Endpoint::feed`]), take what came
+//! ([`Endpoint::next_event`]), queue messages and accesses, and hand its output to a sink ([`Endpoint::drain_into`]). It knows
+//! nothing of RPC-over-RDMA headers.
+//!
+//! Any bytes may come. Each frame is judged once it is whole, in the order of the stream, and either ends the side or has its effect. A
+//! frame that lies whole in a piece is judged where it lies; only one that a piece cuts goes through the staging buffer. So what an
+//! endpoint is after some pieces does not depend on how the stream was cut.
+//!
+//! An endpoint keeps neither the bytes that it was fed nor its calls. Contracts see its side of the link, and each call says
+//! which list of calls it stands for.
+#![tactic(auto)]
+
+mod calls;
+mod constants;
+mod effects;
+mod endpoint;
+mod event;
+mod fault;
+mod faults;
+mod frames;
+mod framing;
+mod laws;
+mod link;
+mod operations;
+mod reads;
+mod receive_queue;
+mod send_queue;
+mod staging;
+
+pub use endpoint::Endpoint;
+pub use event::Event;
+pub use fault::{DrainFault, ReadRefused};
+pub use laws::{however_cut, memory_follows_accesses, no_fpdu_before_hello, reasons_of_frames};

@@ -1,0 +1,168 @@
+//! One side of a link: what each frame of the peer makes of it.
+
+ghost use Rattle.std.specs.Prelude.{◌≡◌, ◌≢◌, ◌+◌, ◌^◌, ◌<◌, ◌≤◌, if◌then◌else◌, length, Some, OnOk, OnErr, IfOk};
+ghost use Rattle.nr_wire.specs.Stream.{IsFrame};
+ghost use Rattle.nr_wire.specs.Segment.{IsSupported, payload_in, segment_of};
+ghost use Rattle.nr_wire.specs.View.{segment as plain};
+ghost use Rattle.nr_wire.specs.Hello.{hello_of};
+ghost use Rattle.nr_link.specs.declared.end.End.TheVariants as ends;
+ghost use Rattle.nr_endpoint.specs.LinkState.{initial_state};
+ghost use Rattle.nr_endpoint.specs.Judging.{segment_end, with_end_of, with_segment_by, with_fpdu, with_peer_hello, with_frame, next_frame};
+
+use crate::frames::{hello_refusal, segment_in_frame};
+use crate::reads::Reads;
+use crate::receive_queue::ReceiveQueue;
+use crate::send_queue::SendQueue;
+use nr_link::End;
+use nr_regions::Regions;
+use nr_wire::{Awaited, Segment, Side};
+use nr_xdr::Memory;
+use std::alloc::Global;
+use std::marker::Model;
+
+/// One side of a link.
+#[derive(Drop)]
+pub struct Link {
+    pub(crate) side: Side,
+    pub(crate) has_hello: bool,
+    pub(crate) last: u64,
+    pub(crate) place: u64,
+    pub(crate) ended: Option<End>,
+    pub(crate) receive_queue: ReceiveQueue,
+    pub(crate) reads: Reads,
+    pub(crate) regions: Regions,
+    pub(crate) send_queue: SendQueue,
+}
+
+impl Model for Link {
+    ghost use Rattle.std.specs.Prelude.{map};
+    ghost use Rattle.nr_endpoint.specs.LinkState.{LinkState};
+    ghost use Rattle.nr_endpoint.specs.Codes.{state_code};
+
+    ghost Value = { LinkState };
+
+    ghost coded = { state_code };
+
+    ghost use Rattle.nr_endpoint.specs.Views.{expected};
+    ghost use Rattle.nr_endpoint.specs.Counted.{IsCounted};
+
+    ghost view = { λ l. record { side = l.side; has_hello = l.has_hello; last = l.last; place = l.place; ended = l.ended; receive_queue = l.receive_queue; reads = map expected l.reads.items; memory = l.regions.memory; send_queue = l.send_queue } };
+
+    ghost invariant = { λ l. IsCounted l.receive_queue.received l.place };
+}
+
+impl Link {
+    /// A side as the link is opened. The first region gets this STag, which isn't 0.
+    pub fn new(alloc: Global, side: Side, receives: u32, first_stag: u32) -> Result<Link, Memory>
+        requires { 0 < first_stag }
+        ensures { IfOk result (λ l. l ≡ initial_state side receives first_stag) }
+    {
+        let send_queue = SendQueue::new(alloc, side)?;
+        let receive_queue = ReceiveQueue::new(alloc, receives)?;
+        Ok(Link {
+            side,
+            has_hello: false,
+            last: 0,
+            place: 0,
+            ended: None,
+            receive_queue,
+            reads: Reads::new(),
+            regions: Regions::new(alloc, first_stag),
+            send_queue,
+        })
+    }
+
+    /// The next frame, which is whole, ends the side or has its effect. False where memory ran out for what it queues: the side has then ended
+    /// as it was before the frame.
+    pub fn judge(&mut self, awaited: Awaited, frame: &[u8]) -> bool
+        requires frame { IsFrame awaited frame.now }
+        requires within { self.old.place + length frame.now ≤ 2 ^ 62 }
+        ensures { self.new ≡ (if result then with_frame self.old awaited frame.now else record self.old { ended = Some ends.Memory }) }
+    {
+        let judged = match awaited {
+            Awaited::Hello(side) => self.greet(side, frame),
+            Awaited::Fpdu => self.receive_fpdu(frame),
+        };
+        if judged.is_err() {
+            self.ended = Some(End::Memory);
+            return false;
+        }
+        true
+    }
+
+    /// The side ends, and queues what it writes last. An `Err` changes nothing.
+    pub fn end_with(&mut self, end: End) -> Result<(), Memory>
+        ensures ok { OnOk result (self.new ≡ with_end_of end self.old) }
+        ensures err { OnErr result (self.new ≡ self.old) }
+    {
+        self.send_queue.finish(self.side, end)?;
+        self.ended = Some(end);
+        Ok(())
+    }
+
+    /// The side ends for this, or for want of memory; answers which.
+    pub fn stop(&mut self, end: End) -> End
+        requires { end ≢ ends.Memory }
+        ensures end { result ≢ ends.Memory → (result ≡ end) × (self.new ≡ with_end_of end self.old) }
+        ensures memory { result ≡ ends.Memory → self.new ≡ record self.old { ended = Some ends.Memory } }
+    {
+        if self.end_with(end).is_err() {
+            self.ended = Some(End::Memory);
+            return End::Memory;
+        }
+        end
+    }
+
+    /// The peer's hello (RFC 5044 section 7.1).
+    #[tactic(auto, unfolding(crate::specs::Judging::with_peer_hello))]
+    fn greet(&mut self, side: Side, frame: &[u8]) -> Result<(), Memory>
+        requires frame { IsFrame (Awaited.Hello side) frame.now }
+        requires within { self.old.place + length frame.now ≤ 2 ^ 62 }
+        ensures ok { OnOk result (self.new ≡ with_peer_hello (next_frame self.old frame.now) (hello_of side frame.now) self.old) }
+        ensures err { OnErr result (self.new ≡ self.old) }
+    {
+        if let Some(reason) = hello_refusal(side, frame) {
+            return self.end_with(End::Bad {
+                at: self.place,
+                reason,
+            });
+        }
+        self.send_queue.queue_hello(self.side)?;
+        self.has_hello = true;
+        self.last = self.place;
+        self.place += frame.len() as u64;
+        Ok(())
+    }
+
+    /// An FPDU of the peer.
+    #[tactic(auto, unfolding(crate::specs::Judging::with_fpdu))]
+    fn receive_fpdu(&mut self, frame: &[u8]) -> Result<(), Memory>
+        requires frame { IsFrame Awaited.Fpdu frame.now }
+        requires within { self.old.place + length frame.now ≤ 2 ^ 62 }
+        ensures ok { OnOk result (self.new ≡ with_fpdu (next_frame self.old frame.now) (segment_of frame.now) self.old) }
+        ensures err { OnErr result (self.new ≡ self.old) }
+    {
+        match segment_in_frame(frame) {
+            Ok(segment) => self.receive(&segment, frame),
+            Err(reason) => self.end_with(End::Bad {
+                at: self.place,
+                reason,
+            }),
+        }
+    }
+
+    /// A segment of the peer, which this frame holds.
+    fn receive(&mut self, segment: &Segment, frame: &[u8]) -> Result<(), Memory>
+        requires supported { IsSupported (plain segment.now) }
+        requires payload { length (payload_in (plain segment.now)) < 2 ^ 16 }
+        requires size { length (payload_in (plain segment.now)) + 1 ≤ length frame.now }
+        requires within { self.old.place + length frame.now ≤ 2 ^ 62 }
+        ensures ok { OnOk result (self.new ≡ with_segment_by (next_frame self.old frame.now) (plain segment.now) (segment_end self.old (next_frame self.old frame.now) (plain segment.now)) self.old) }
+        ensures err { OnErr result (self.new ≡ self.old) }
+    {
+        match self.fault(segment) {
+            Some(end) => self.end_with(end),
+            None => self.take(segment, frame),
+        }
+    }
+}

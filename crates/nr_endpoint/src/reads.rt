@@ -1,0 +1,49 @@
+//! The Read Requests that are open.
+
+ghost use Rattle.std.specs.Prelude.{◌≡◌, ◌+◌, ◌-◌, ◌^◌, ◌<◌, ◌≤◌, true, false, length, map};
+ghost use Rattle.nr_link.specs.SegmentFaults.{is_expected};
+ghost use Rattle.nr_endpoint.specs.Judging.{expected_response, reads_after};
+ghost use Rattle.nr_endpoint.specs.Views.{expected};
+
+use crate::constants::OPEN_READS_MAX;
+use arrayvec::ArrayVec;
+
+/// A Read Request that is open: its response goes on at byte `at` of the own region `sink`, and ends before byte `end`.
+#[derive(Clone, Copy, Default)]
+pub struct OpenRead {
+    pub sink: u32,
+    pub at: u64,
+    pub end: u64,
+}
+
+/// The open ones, the oldest first.
+pub type Reads = ArrayVec<OpenRead, OPEN_READS_MAX>;
+
+/// Whether a Read Response with `n` payload bytes goes on where the oldest open one stands (RFC 5040 section 5.2).
+pub fn is_expected(reads: &Reads, last: bool, stag: u32, to: u64, n: u64) -> bool
+    ensures { result ≡ is_expected (expected_response (map expected reads.now.items)) last stag to n }
+{
+    match reads.as_slice().first() {
+        None => false,
+        Some(read) => {
+            let left = read.end.saturating_sub(read.at);
+            stag == read.sink && to == read.at && n <= left && last == (n == left)
+        }
+    }
+}
+
+/// After an expected Read Response with `n` payload bytes.
+pub fn advance(reads: &mut Reads, last: bool, stag: u32, to: u64, n: u64)
+    requires { is_expected (expected_response (map expected reads.old.items)) last stag to n ≡ true }
+    ensures { map expected reads.new.items ≡ reads_after last n (map expected reads.old.items) }
+{
+    if reads.is_empty() {
+        return;
+    }
+    if last {
+        reads.remove(0);
+    } else {
+        let read = reads.as_slice()[0];
+        reads.as_mut_slice()[0].at = read.at + n;
+    }
+}

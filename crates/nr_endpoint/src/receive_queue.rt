@@ -1,0 +1,286 @@
+//! What came in untagged messages, and the receives.
+
+ghost use Rattle.std.specs.Prelude.{◌≡◌, ℕ, ◌+◌, ◌-◌, ◌*◌, ◌^◌, ◌<◌, ◌≤◌, [], ◌∷◌, length, take, drop, nat_lt, None, Some, IfOk, OnOk, OnErr, IfSome, is_some, All, not, vec_len, vec_capacity, option_map, option_to_list, true, false, if◌then◌else◌, ◌++◌};
+ghost use Rattle.nr_wire.specs.Segment.Segment.{Untagged};
+ghost use Rattle.nr_wire.specs.Constants.{OPCODE_SEND, OPCODE_READ_REQUEST};
+ghost use Rattle.nr_link.specs.Limits.{send_max};
+ghost use Rattle.nr_link.specs.ReceiveState.{begun_bytes};
+ghost use Rattle.nr_link.specs.SegmentFaults.{is_begun};
+ghost use Rattle.nr_endpoint.specs.ReceiveQueue.{initial_receives, kept_bytes, with_segment, with_read_done, told, posted, receives_kept};
+ghost use Rattle.nr_endpoint.specs.Views.{notice, begun_send, begun as begun_bytes_of};
+ghost use Rattle.nr_endpoint.specs.Receives.{IsReceive, HasBuffer};
+
+use crate::constants::{OPEN_READS_MAX, SEND_MAX};
+use crate::event::Event;
+use nr_xdr::{Memory, Octets};
+use std::alloc::Global;
+use std::collections::VecDeque;
+use std::marker::Model;
+
+/// A Send that is begun: its receive buffer, and how many bytes came. Those beyond the buffer are counted and not kept.
+#[derive(Drop)]
+pub struct BegunSend {
+    pub buf: Octets,
+    pub len: u64,
+}
+
+/// The receives, and what came in untagged messages. Of the `receives`, `lent` are with the owner.
+#[derive(Drop)]
+pub struct ReceiveQueue {
+    sends: u64,
+    requests: u64,
+    begun: Option<BegunSend>,
+    free: Vec<Octets>,
+    lent: usize,
+    receives: usize,
+    events: VecDeque<Event>,
+}
+
+impl Model for ReceiveQueue {
+    ghost use Rattle.std.specs.Prelude.{length, vec_capacity};
+    ghost use Rattle.nr_endpoint.specs.ReceiveQueue.{ReceiveQueue};
+    ghost use Rattle.nr_endpoint.specs.Codes.{receive_queue_code};
+
+    ghost Value = { ReceiveQueue };
+
+    ghost coded = { receive_queue_code };
+
+    ghost use Rattle.nr_endpoint.specs.Views.{begun as begun_bytes_of, notices};
+    ghost use Rattle.nr_endpoint.specs.Receives.{AreReceives};
+
+    ghost view = { λ q. record { receives = q.receives; received = record { sends = q.sends; begun = begun_bytes_of q.begun; requests = q.requests }; free = length q.free.items; lent = q.lent; notices = notices q.events.items } };
+
+    ghost invariant = { λ q. AreReceives q.free.items q.begun q.events.items q.lent q.receives (vec_capacity q.free) };
+}
+
+/// A receive buffer, of zeros.
+fn receive_buffer(alloc: Global) -> Result<Octets, Memory>
+    ensures { IfOk result (λ buf. length buf ≡ send_max) }
+{
+    Ok(Octets::from_vec(vec![in alloc; 0u8; SEND_MAX]?))
+}
+
+/// Puts so many receive buffers into a vector with room for them.
+fn fill(free: &mut Vec<Octets>, alloc: Global, receives: usize) -> Result<(), Memory>
+    requires room { vec_len free.old + receives ≤ vec_capacity free.old }
+    ensures count { OnOk result (length free.new.items ≡ length free.old.items + receives) }
+    ensures each { All IsReceive free.old.items → All IsReceive free.new.items }
+    ensures capacity { vec_capacity free.new ≡ vec_capacity free.old }
+{
+    for _ in 0..receives {
+        free.push_reserved(receive_buffer(alloc)?);
+    }
+    Ok(())
+}
+
+/// Takes the receive of the begun Send, or else a free one.
+fn take_receive(begun: &mut Option<BegunSend>, free: &mut Vec<Octets>) -> BegunSend
+    requires receive { is_begun (begun_bytes_of begun.old) ≡ false → 0 < length free.old.items }
+    requires begun_buf { IfSome begun.old (λ b. IsReceive b.buf) }
+    requires free_bufs { All IsReceive free.old.items }
+    ensures bytes { begun_send result ≡ begun_bytes (begun_bytes_of begun.old) }
+    ensures len { result.len ≡ length (begun_bytes (begun_bytes_of begun.old)) }
+    ensures buf { IsReceive result.buf }
+    ensures taken { begun.new ≡ None }
+    ensures free { length free.new.items ≡ (if not (is_begun (begun_bytes_of begun.old)) then length free.old.items - 1 else length free.old.items) }
+    ensures bufs { All IsReceive free.new.items }
+    ensures capacity { vec_capacity free.new ≡ vec_capacity free.old }
+{
+    match begun.take() {
+        Some(begun) => begun,
+        None => match free.pop() {
+            Some(buf) => BegunSend { buf, len: 0 },
+            None => unreachable!(),
+        },
+    }
+}
+
+/// Writes some bytes into a receive buffer from byte `at` on, as far as it goes.
+fn write_from(buf: &mut Octets, at: usize, bytes: &[u8])
+    requires buf { IsReceive buf.old }
+    requires within { at < send_max }
+    ensures buf { IsReceive buf.new }
+    ensures bytes { buf.new ≡ take send_max (take at buf.old ++ (bytes.now ++ drop (at + length bytes.now) buf.old)) }
+{
+    if bytes.len() <= SEND_MAX - at {
+        buf.overwrite(at, bytes);
+    } else {
+        buf.overwrite(at, &bytes[..SEND_MAX - at]);
+    }
+}
+
+/// Writes a segment's payload behind what a begun Send has, as far as its buffer goes.
+fn extend(begun: &mut BegunSend, payload: &[u8])
+    requires buf { IsReceive begun.old.buf }
+    requires count { begun.old.len + length payload.now < 2 ^ 63 }
+    ensures buf { IsReceive begun.new.buf }
+    ensures bytes { begun_send begun.new ≡ kept_bytes (begun_send begun.old ++ payload.now) }
+    ensures len { begun.new.len ≡ begun.old.len + length payload.now }
+{
+    if begun.len < SEND_MAX as u64 {
+        write_from(&mut begun.buf, begun.len as usize, payload);
+    }
+    begun.len += payload.len() as u64;
+}
+
+impl ReceiveQueue {
+    /// So many receives, all free, and room for the event of each receive and of each Read Request that may be open.
+    pub fn new(alloc: Global, receives: u32) -> Result<ReceiveQueue, Memory>
+        ensures { IfOk result (λ q. q ≡ initial_receives receives) }
+    {
+        let receives = receives as usize;
+        let events = VecDeque::with_capacity(alloc, receives + OPEN_READS_MAX)?;
+        let mut free = Vec::with_capacity(alloc, receives)?;
+        fill(&mut free, alloc, receives)?;
+        Ok(ReceiveQueue {
+            sends: 0,
+            requests: 0,
+            begun: None,
+            free,
+            lent: 0,
+            receives,
+            events,
+        })
+    }
+
+    /// Whether a receive is free.
+    pub fn has_free(&self) -> bool
+        ensures { result ≡ nat_lt 0 self.now.free }
+    {
+        !self.free.is_empty()
+    }
+
+    /// How many Sends were whole, how many Read Requests came, and how many bytes of a begun Send, which is `None` where none is
+    /// begun.
+    pub fn sends(&self) -> u64
+        ensures { result ≡ self.now.received.sends }
+    {
+        self.sends
+    }
+
+    pub fn requests(&self) -> u64
+        ensures { result ≡ self.now.received.requests }
+    {
+        self.requests
+    }
+
+    pub fn is_begun(&self) -> bool
+        ensures { result ≡ is_begun self.now.received.begun }
+    {
+        self.begun.is_some()
+    }
+
+    pub fn begun_len(&self) -> u64
+        ensures { result ≡ length (begun_bytes self.now.received.begun) }
+    {
+        match &self.begun {
+            None => 0,
+            Some(begun) => begun.len,
+        }
+    }
+
+    /// One more segment of a Send, which is begun or finds a receive, and fits it where it becomes whole. An `Err` changes nothing.
+    #[tactic(auto, unfolding(crate::specs::ReceiveQueue::with_segment))]
+    pub fn receive(&mut self, last: bool, payload: &[u8]) -> Result<(), Memory>
+        requires receive { is_begun self.old.received.begun ≡ false → 0 < self.old.free }
+        requires fits { last ≡ true → length (begun_bytes self.old.received.begun) + length payload.now ≤ send_max }
+        requires count { self.old.received.sends < 2 ^ 63 }
+        requires bytes { length (begun_bytes self.old.received.begun) + length payload.now < 2 ^ 63 }
+        ensures ok { OnOk result (self.new ≡ with_segment (Untagged last OPCODE_SEND 0 0 0 0 payload.now) self.old) }
+        ensures err { OnErr result (self.new ≡ self.old) }
+    {
+        if last {
+            return self.complete(payload);
+        }
+        self.continue_send(payload);
+        Ok(())
+    }
+
+    /// The last segment of a Send.
+    fn complete(&mut self, payload: &[u8]) -> Result<(), Memory>
+        requires receive { is_begun self.old.received.begun ≡ false → 0 < self.old.free }
+        requires fits { length (begun_bytes self.old.received.begun) + length payload.now ≤ send_max }
+        requires count { self.old.received.sends < 2 ^ 63 }
+        ensures ok { OnOk result (self.new ≡ with_segment (Untagged true OPCODE_SEND 0 0 0 0 payload.now) self.old) }
+        ensures err { OnErr result (self.new ≡ self.old) }
+    {
+        self.events.reserve(1)?;
+        let mut begun = take_receive(&mut self.begun, &mut self.free);
+        extend(&mut begun, payload);
+        self.events.push_back_reserved(Event::Message {
+            buf: begun.buf,
+            len: begun.len as usize,
+        });
+        self.sends += 1;
+        Ok(())
+    }
+
+    /// A segment of a Send that is not its last.
+    #[tactic(auto, unfolding(crate::specs::ReceiveQueue::with_segment))]
+    fn continue_send(&mut self, payload: &[u8])
+        requires receive { is_begun self.old.received.begun ≡ false → 0 < self.old.free }
+        requires bytes { length (begun_bytes self.old.received.begun) + length payload.now < 2 ^ 63 }
+        ensures { self.new ≡ with_segment (Untagged false OPCODE_SEND 0 0 0 0 payload.now) self.old }
+    {
+        let mut begun = take_receive(&mut self.begun, &mut self.free);
+        extend(&mut begun, payload);
+        self.begun = Some(begun);
+    }
+
+    /// One more Read Request.
+    pub fn count_request(&mut self)
+        requires { self.old.received.requests < 2 ^ 63 }
+        ensures { self.new ≡ with_segment (Untagged true OPCODE_READ_REQUEST 0 0 0 0 []) self.old }
+    {
+        self.requests += 1;
+    }
+
+    /// Room for all that may be told from now on: for each receive, and for each Read Request that may be open. Changes nothing.
+    pub fn make_room(&mut self) -> Result<(), Memory>
+        ensures { self.new ≡ self.old }
+    {
+        self.events.reserve(self.receives + OPEN_READS_MAX)?;
+        Ok(())
+    }
+
+    /// The response to the Read Request that was open longest is whole. An `Err` changes nothing.
+    pub fn read_done(&mut self) -> Result<(), Memory>
+        ensures ok { OnOk result (self.new ≡ with_read_done self.old) }
+        ensures err { OnErr result (self.new ≡ self.old) }
+    {
+        self.events.push_back(Event::ReadDone)?;
+        Ok(())
+    }
+
+    /// The next event; `None` exactly where none waits. Takes no memory.
+    pub fn next_event(&mut self) -> Option<Event>
+        ensures waits { is_some result ≡ nat_lt 0 (length self.old.notices) }
+        ensures event { self.old.notices ≡ option_to_list (option_map notice result) ++ self.new.notices }
+        ensures after { self.new ≡ (if is_some result then told self.old else self.old) }
+        ensures buffer { IfSome result HasBuffer }
+    {
+        let event = self.events.pop_front()?;
+        if let Event::Message { .. } = &event {
+            self.lent += 1;
+        }
+        Some(event)
+    }
+
+    /// A buffer is a receive again. Takes no memory.
+    pub fn post(&mut self, buf: Octets)
+        requires lent { 0 < self.old.lent }
+        requires len { length buf ≡ send_max }
+        ensures { self.new ≡ posted self.old }
+    {
+        self.lent -= 1;
+        self.free.push_reserved(buf);
+    }
+
+    /// How many receive buffers are kept: all but those that are lent.
+    pub fn buffers(&self) -> usize
+        ensures kept { result ≡ receives_kept self.now }
+        ensures most { result ≤ self.now.receives }
+    {
+        self.receives - self.lent
+    }
+}

@@ -1,0 +1,387 @@
+//! What a side has to write.
+
+ghost use Rattle.std.specs.Prelude.{◌≡◌, ℕ, ◌+◌, ◌-◌, ◌^◌, ◌<◌, ◌≤◌, [], ◌++◌, if◌then◌else◌, length, take, drop, IfOk, OnOk, OnErr, MatchResult, min};
+ghost use Rattle.std.specs.Bool.{OnTrue};
+ghost use Rattle.std.specs.Io.KnownBytes.{Appends};
+ghost use Rattle.nr_xdr.specs.Item.{word, hyper};
+ghost use Rattle.nr_wire.specs.Hello.{hello_encoding};
+ghost use Rattle.nr_link.specs.Output.{refusing_hello};
+ghost use Rattle.nr_link.specs.Ending.{final_output};
+ghost use Rattle.nr_endpoint.specs.Judging.{reply_hello};
+ghost use Rattle.nr_outside.specs.Faults.{Rises};
+ghost use Rattle.nr_endpoint.specs.SendQueue.{initial_queue, with_hello, with_send, with_write, with_request, with_response, with_end, rejection, terminate_by, writable, written, ends_left, ends_passed};
+
+use crate::constants::{WORD_BOUNDS, WORD_NO_BUFFER, WORD_NO_STAG, WORD_RIGHT};
+use crate::framing::{Carrier, push_cut, push_segment, push_terminate};
+use bytes::BytesMut;
+use nr_link::End;
+use nr_outside::{Failed, Sink};
+use nr_regions::Denied;
+use nr_wire::constants::{
+    FLAG_REJECT, OPCODE_READ_REQUEST, QUEUE_READ_REQUEST, REASON_FLAGS, REASON_PRIVATE,
+};
+use nr_wire::{Hello, Segment, Side, write_hello};
+use nr_xdr::{Memory, Octets, Writer};
+use std::alloc::Global;
+use std::collections::VecDeque;
+use std::marker::Model;
+
+/// What a side has to write, in order: its hello, and behind it FPDUs.
+#[derive(Drop)]
+pub struct SendQueue {
+    alloc: Global,
+    hello: BytesMut,
+    fpdus: BytesMut,
+    send_ends: VecDeque<usize>,
+    response_ends: VecDeque<usize>,
+    sends_left: u64,
+    last_send: u32,
+    last_request: u32,
+}
+
+impl Model for SendQueue {
+    ghost use Rattle.nr_endpoint.specs.SendQueue.{SendQueue};
+    ghost use Rattle.nr_endpoint.specs.Codes.{send_queue_code};
+
+    ghost Value = { SendQueue };
+
+    ghost coded = { send_queue_code };
+
+    ghost view = { λ q. record { hello = q.hello.items; fpdus = q.fpdus.items; send_ends = q.send_ends.items; response_ends = q.response_ends.items; sends_left = q.sends_left; last_send = q.last_send; last_request = q.last_request } };
+}
+
+/// Puts a side's hello at the end. An `Err` leaves the bytes as they were.
+fn push_hello(out: &mut BytesMut, alloc: Global, side: Side, flags: u8) -> Result<(), Memory>
+    ensures ok { OnOk result (out.new.items ≡ out.old.items ++ hello_encoding (record { side = side; flags = flags; private = [] })) }
+    ensures err { OnErr result (out.new.items ≡ out.old.items) }
+{
+    let hello = write_hello(
+        alloc,
+        &Hello {
+            side,
+            flags,
+            private: &[],
+        },
+    )?;
+    out.extend_from_slice(hello.as_slice())?;
+    Ok(())
+}
+
+/// Writes a place in a region: its STag and an offset.
+fn write_place(writer: &mut Writer, stag: u32, to: u64) -> Result<(), Memory>
+    ensures { OnOk result (writer.new ≡ writer.old ++ (word stag ++ hyper to)) }
+{
+    writer.u32(stag)?;
+    writer.u64(to)
+}
+
+/// The payload of a Read Request (RFC 5040 section 4.4): `len` bytes of the peer's region `stag`, from `to` on, into the own region
+/// `sink`, from `at` on.
+fn request_payload(
+    alloc: Global,
+    sink: u32,
+    at: u64,
+    len: u32,
+    stag: u32,
+    to: u64,
+) -> Result<Octets, Memory>
+    ensures { IfOk result (λ o. o ≡ word sink ++ (hyper at ++ (word len ++ (word stag ++ hyper to)))) }
+{
+    let mut writer = Writer::new(alloc);
+    write_place(&mut writer, sink, at)?;
+    writer.u32(len)?;
+    write_place(&mut writer, stag, to)?;
+    Ok(writer.finish())
+}
+
+/// The word of the Terminate that a side writes last, where it writes one (RFC 5040 section 4.8; the words are own).
+#[tactic(auto, unfolding(nr_link::specs::Ending::final_output))]
+fn terminate_word(end: End) -> Option<u32>
+    ensures { final_output end ≡ terminate_by result }
+{
+    match end {
+        End::Bad { at: _, reason } => {
+            if reason <= REASON_PRIVATE {
+                None
+            } else {
+                Some(reason)
+            }
+        }
+        End::Denied { why, .. } => Some(match why {
+            Denied::NoStag => WORD_NO_STAG,
+            Denied::Bounds => WORD_BOUNDS,
+            Denied::Right => WORD_RIGHT,
+        }),
+        End::NoBuffer { msn: _ } => Some(WORD_NO_BUFFER),
+        End::Terminated { reason: _ } => None,
+        End::Memory => None,
+    }
+}
+
+/// Whether a side answers this end by a hello that rejects the connection (RFC 5044 section 7.1).
+/// Such an end has no Terminate.
+#[tactic(auto, unfolding(nr_link::specs::Ending::final_output))]
+fn is_rejection(side: Side, end: End) -> bool
+    ensures is { rejection side end ≡ (if result then refusing_hello else []) }
+    ensures alone { OnTrue result (final_output end ≡ []) }
+{
+    match (side, end) {
+        (Side::Responder, End::Bad { at: _, reason }) => reason == REASON_FLAGS,
+        _ => false,
+    }
+}
+
+/// Drops the first end where `n` more written bytes reach it, and answers 1. Else it goes to the back, counted from there on.
+fn pass_first(ends: &mut VecDeque<usize>, n: usize) -> usize
+    ensures left { ends.new.items ≡ drop 1 ends.old.items ++ ends_left n (take 1 ends.old.items) }
+    ensures passed { result ≡ ends_passed n (take 1 ends.old.items) }
+{
+    match ends.pop_front() {
+        None => 0,
+        Some(end) => {
+            if end > n {
+                ends.push_back_reserved(end - n);
+                0
+            } else {
+                1
+            }
+        }
+    }
+}
+
+/// Drops the ends that `n` more written bytes reach, and answers how many those were. The others are counted from there on.
+fn pass_ends(ends: &mut VecDeque<usize>, n: usize) -> usize
+    ensures left { ends.new.items ≡ ends_left n ends.old.items }
+    ensures passed { result ≡ ends_passed n ends.old.items }
+{
+    let mut passed = 0;
+    for _i in 0..ends.len() {
+        passed += pass_first(ends, n);
+    }
+    passed
+}
+
+/// Writes the bytes to a sink, and drops from the front what it took; answers how many bytes those were.
+fn write_out<K: Sink>(out: &mut BytesMut, sink: &mut K) -> (usize, Result<(), Failed>)
+    ensures count { result.0 ≤ length out.old.items }
+    ensures left { out.new.items ≡ drop result.0 out.old.items }
+    ensures took { Appends (K.taken sink.old) (K.taken sink.new) (take result.0 out.old.items) }
+    ensures all { OnOk result.1 (result.0 ≡ length out.old.items) }
+    ensures counted { MatchResult result.1
+        (λ _. K.faults sink.new ≡ K.faults sink.old) (λ _. Rises (K.faults sink.old) (K.faults sink.new)) }
+    ensures never_falls { K.faults sink.old ≤ K.faults sink.new }
+{
+    let len = out.len();
+    let mut count = 0;
+    while count < len {
+        match sink.write(out.as_slice()) {
+            Ok(n) => {
+                out.advance(n);
+                count += n;
+            }
+            Err(failed) => return (count, Err(failed)),
+        }
+    }
+    (count, Ok(()))
+}
+
+/// Writes a hello to a sink, and behind it FPDUs where these may be written, and drops from the front what the sink took. It
+/// answers how many bytes of the FPDUs those were.
+fn write_both<K: Sink>(
+    hello: &mut BytesMut,
+    fpdus: &mut BytesMut,
+    has_hello: bool,
+    sink: &mut K,
+) -> (usize, Result<(), Failed>)
+    ensures written { (n : ℕ) × (result.0 ≡ n - length hello.old.items)
+        × (n ≤ length (hello.old.items ++ (if has_hello then fpdus.old.items else [])))
+        × (hello.new.items ≡ drop n hello.old.items) × (fpdus.new.items ≡ drop (n - length hello.old.items) fpdus.old.items)
+        × Appends (K.taken sink.old) (K.taken sink.new) (take n (hello.old.items ++ (if has_hello then fpdus.old.items else [])))
+        × OnOk result.1 (n ≡ length (hello.old.items ++ (if has_hello then fpdus.old.items else []))) }
+    ensures counted { MatchResult result.1
+        (λ _. K.faults sink.new ≡ K.faults sink.old) (λ _. Rises (K.faults sink.old) (K.faults sink.new)) }
+    ensures never_falls { K.faults sink.old ≤ K.faults sink.new }
+{
+    let (_, greeted) = write_out(hello, sink);
+    if greeted.is_err() || !has_hello {
+        return (0, greeted);
+    }
+    write_out(fpdus, sink)
+}
+
+impl SendQueue {
+    /// A side's queue as the link is opened: an initiator has its hello to write.
+    #[tactic(auto, unfolding(nr_link::specs::Output::own_hello))]
+    pub fn new(alloc: Global, side: Side) -> Result<SendQueue, Memory>
+        ensures { IfOk result (λ q. q ≡ initial_queue side) }
+    {
+        let mut hello = BytesMut::new(alloc);
+        if side == Side::Initiator {
+            push_hello(&mut hello, alloc, side, 0)?;
+        }
+        Ok(SendQueue {
+            alloc,
+            hello,
+            fpdus: BytesMut::new(alloc),
+            send_ends: VecDeque::new(alloc),
+            response_ends: VecDeque::new(alloc),
+            sends_left: 0,
+            last_send: 0,
+            last_request: 0,
+        })
+    }
+
+    /// A responder's hello, which answers the initiator's; an initiator's own was queued before. An `Err` changes nothing.
+    #[tactic(auto, unfolding(nr_link::specs::Output::own_hello))]
+    pub fn queue_hello(&mut self, side: Side) -> Result<(), Memory>
+        ensures ok { OnOk result (self.new ≡ with_hello (reply_hello side) self.old) }
+        ensures err { OnErr result (self.new ≡ self.old) }
+    {
+        match side {
+            Side::Initiator => Ok(()),
+            Side::Responder => push_hello(&mut self.hello, self.alloc, side, 0),
+        }
+    }
+
+    /// A Send. An `Err` changes nothing.
+    #[tactic(auto, using(crate::proofs::Cuts::carried_send))]
+    pub fn send(&mut self, message: &[u8]) -> Result<(), Memory>
+        requires { length message.now < 2 ^ 32 }
+        ensures ok { OnOk result (self.new ≡ with_send message.now self.old) }
+        ensures err { OnErr result (self.new ≡ self.old) }
+    {
+        let msn = self.last_send.wrapping_add(1);
+        self.send_ends.reserve(1)?;
+        push_cut(&mut self.fpdus, self.alloc, Carrier::Send { msn }, message)?;
+        self.send_ends.push_back_reserved(self.fpdus.len());
+        self.last_send = msn;
+        Ok(())
+    }
+
+    /// An RDMA Write. An `Err` changes nothing.
+    #[tactic(auto, using(crate::proofs::Cuts::carried_write))]
+    pub fn write(&mut self, stag: u32, to: u64, bytes: &[u8]) -> Result<(), Memory>
+        requires { to + length bytes.now ≤ 2 ^ 64 }
+        ensures ok { OnOk result (self.new ≡ with_write stag to bytes.now self.old) }
+        ensures err { OnErr result (self.new ≡ self.old) }
+    {
+        push_cut(
+            &mut self.fpdus,
+            self.alloc,
+            Carrier::Write { stag, to },
+            bytes,
+        )
+    }
+
+    /// A Read Request. An `Err` changes nothing.
+    #[tactic(auto, unfolding(nr_link::specs::Output::read_request))]
+    pub fn request(
+        &mut self,
+        sink: u32,
+        at: u64,
+        len: u32,
+        stag: u32,
+        to: u64,
+    ) -> Result<(), Memory>
+        ensures ok { OnOk result (self.new ≡ with_request sink at len stag to self.old) }
+        ensures err { OnErr result (self.new ≡ self.old) }
+    {
+        let msn = self.last_request.wrapping_add(1);
+        let payload = request_payload(self.alloc, sink, at, len, stag, to)?;
+        let segment = Segment::Untagged {
+            last: true,
+            opcode: OPCODE_READ_REQUEST,
+            word: 0,
+            queue: QUEUE_READ_REQUEST,
+            msn,
+            offset: 0,
+            payload: payload.as_slice(),
+        };
+        push_segment(&mut self.fpdus, self.alloc, &segment)?;
+        self.last_request = msn;
+        Ok(())
+    }
+
+    /// A Read Response. An `Err` changes nothing.
+    #[tactic(auto, using(crate::proofs::Cuts::carried_response))]
+    pub fn respond(&mut self, stag: u32, to: u64, bytes: &[u8]) -> Result<(), Memory>
+        requires { to + length bytes.now ≤ 2 ^ 64 }
+        ensures ok { OnOk result (self.new ≡ with_response stag to bytes.now self.old) }
+        ensures err { OnErr result (self.new ≡ self.old) }
+    {
+        self.response_ends.reserve(1)?;
+        push_cut(
+            &mut self.fpdus,
+            self.alloc,
+            Carrier::Response { stag, to },
+            bytes,
+        )?;
+        self.response_ends.push_back_reserved(self.fpdus.len());
+        Ok(())
+    }
+
+    /// What a side writes last, where it ends. An `Err` changes nothing.
+    #[tactic(auto, unfolding(crate::specs::SendQueue::with_end, nr_link::specs::Output::refusing_hello))]
+    pub fn finish(&mut self, side: Side, end: End) -> Result<(), Memory>
+        ensures ok { OnOk result (self.new ≡ with_end side end self.old) }
+        ensures err { OnErr result (self.new ≡ self.old) }
+    {
+        if is_rejection(side, end) {
+            return push_hello(&mut self.hello, self.alloc, Side::Responder, FLAG_REJECT);
+        }
+        match terminate_word(end) {
+            None => Ok(()),
+            Some(word) => push_terminate(&mut self.fpdus, self.alloc, word),
+        }
+    }
+
+    /// How many Read Responses were not written whole.
+    pub fn responses(&self) -> usize
+        ensures { result ≡ length self.now.response_ends }
+    {
+        self.response_ends.len()
+    }
+
+    /// How many Sends were written whole.
+    pub fn sends_left(&self) -> u64
+        ensures { result ≡ self.now.sends_left }
+    {
+        self.sends_left
+    }
+
+    /// How many bytes the queue has.
+    pub fn len(&self) -> usize
+        ensures { result ≡ length self.now.hello + length self.now.fpdus }
+    {
+        self.hello.len() + self.fpdus.len()
+    }
+
+    /// Drops the ends of Sends and Read Responses that the first `n` bytes of the FPDUs reach, which were written. The Sends are
+    /// counted.
+    fn drop_passed_ends(&mut self, n: usize)
+        ensures { self.new ≡ record self.old {
+          send_ends = ends_left n self.old.send_ends;
+          response_ends = ends_left n self.old.response_ends;
+          sends_left = min (self.old.sends_left + ends_passed n self.old.send_ends) (2 ^ 64 - 1);
+        } }
+    {
+        let passed = pass_ends(&mut self.send_ends, n);
+        pass_ends(&mut self.response_ends, n);
+        self.sends_left = self.sends_left.saturating_add(passed as u64);
+    }
+
+    /// Hands the bytes that may be written to a sink, in order: for `Ok` all of them, else some from the front, and the rest stays.
+    #[tactic(auto, unfolding(crate::specs::SendQueue::written))]
+    pub fn drain_into<K: Sink>(&mut self, has_hello: bool, sink: &mut K) -> Result<(), Failed>
+        ensures written { (n : ℕ) × (n ≤ length (writable has_hello self.old)) × (self.new ≡ written n self.old)
+            × Appends (K.taken sink.old) (K.taken sink.new) (take n (writable has_hello self.old))
+            × OnOk result (n ≡ length (writable has_hello self.old)) }
+        ensures counted { MatchResult result
+            (λ _. K.faults sink.new ≡ K.faults sink.old) (λ _. Rises (K.faults sink.old) (K.faults sink.new)) }
+        ensures never_falls { K.faults sink.old ≤ K.faults sink.new }
+    {
+        let (count, done) = write_both(&mut self.hello, &mut self.fpdus, has_hello, sink);
+        self.drop_passed_ends(count);
+        done
+    }
+}

@@ -1,0 +1,245 @@
+//! Messages of several segments, receives, staging, and what ends a side beyond its frames.
+
+use crate::compare::same;
+use crate::given::{
+    SIDES, bytes_of, feed_pieces, feed_words, greeted, opened, outcome, own_hello, writes,
+};
+use crate::vectors::{message, receives};
+use nr_endpoint::Endpoint;
+use nr_link::End;
+use nr_wire::Side;
+use std::alloc::Global;
+use std::process::Abort;
+
+/// The Terminate with this word.
+fn terminate(word: u32) -> [u32; 7] {
+    [0x0016_4147, 0, 2, 1, 0, word, 0]
+}
+
+/// Puts a segment of 512 bytes at the end, all 7: not the last of the first Send, from this offset on.
+fn put_long(rt: &impl Abort, bytes: &mut Vec<u8>, offset: u32) {
+    for word in [0x0212_0143, 0, 0, 1, offset] {
+        let word: u32 = word;
+        bytes
+            .extend_from_slice(&word.to_be_bytes())
+            .expect(rt, "memory");
+    }
+    bytes.extend_from_slice(&[7; 512]).expect(rt, "memory");
+    bytes.extend_from_slice(&[0; 4]).expect(rt, "memory");
+}
+
+/// Two segments of 512 bytes, and a last one of these words.
+fn three_segments(rt: &impl Abort, alloc: Global, last: &[u32]) -> Vec<u8> {
+    let mut bytes = Vec::new(alloc);
+    put_long(rt, &mut bytes, 0);
+    put_long(rt, &mut bytes, 512);
+    for word in last {
+        bytes
+            .extend_from_slice(&word.to_be_bytes())
+            .expect(rt, "memory");
+    }
+    bytes
+}
+
+/// A Send of 1025 bytes ends the side at its last segment, behind 20 and twice 536 bytes.
+fn too_long(rt: &impl Abort, alloc: Global, side: Side, piece: usize) {
+    let bytes = three_segments(rt, alloc, &[0x0013_4143, 0, 0, 1, 1024, 0x0700_0000, 0]);
+    let mut endpoint = greeted(rt, alloc, side);
+    feed_pieces(rt, 0, &mut endpoint, &bytes[..1072], piece);
+    outcome(rt, alloc, 1, &mut endpoint, None, &[], &[]);
+    feed_pieces(rt, 2, &mut endpoint, &bytes[1072..], piece);
+    let end = End::Bad {
+        at: 1092,
+        reason: 22,
+    };
+    outcome(rt, alloc, 3, &mut endpoint, Some(end), &terminate(22), &[]);
+}
+
+/// One of 1024 bytes is a message.
+fn longest(rt: &impl Abort, alloc: Global, side: Side, piece: usize) {
+    let bytes = three_segments(rt, alloc, &[0x0012_4143, 0, 0, 1, 1024, 0]);
+    let mut endpoint = greeted(rt, alloc, side);
+    feed_pieces(rt, 0, &mut endpoint, bytes.as_slice(), piece);
+    let (buf, len) = message(rt, &mut endpoint);
+    same(rt, 1, (buf.as_slice(), len), (&[7; 1024], 1024));
+    endpoint.post(buf);
+    outcome(rt, alloc, 2, &mut endpoint, None, &[], &[]);
+}
+
+#[test]
+fn long_sends(rt: HostRuntime) {
+    for side in &SIDES {
+        too_long(&rt, rt.alloc(), *side, 4096);
+        too_long(&rt, rt.alloc(), *side, 1);
+        longest(&rt, rt.alloc(), *side, 4096);
+        longest(&rt, rt.alloc(), *side, 1);
+    }
+}
+
+/// Feeds the Send with this number, of four words.
+fn feed_send(rt: &impl Abort, alloc: Global, endpoint: &mut Endpoint, msn: u32) -> Result<(), End> {
+    let words = [0x0022_4143, 0, 0, msn, 0, msn, 1, 16, 0, 0];
+    feed_words(rt, alloc, endpoint, &words)
+}
+
+/// Of two receives, each takes a Send; once its buffer is back, it takes another.
+fn receives_again(rt: &impl Abort, alloc: Global, side: Side) {
+    let mut endpoint = greeted(rt, alloc, side);
+    same(rt, 0, feed_send(rt, alloc, &mut endpoint, 1), Ok(()));
+    same(rt, 1, feed_send(rt, alloc, &mut endpoint, 2), Ok(()));
+    receives_first(rt, alloc, &mut endpoint);
+    same(rt, 2, feed_send(rt, alloc, &mut endpoint, 3), Ok(()));
+    let end = End::NoBuffer { msn: 4 };
+    same(rt, 3, feed_send(rt, alloc, &mut endpoint, 4), Err(end));
+    // What came before the end is still told.
+    receives_first(rt, alloc, &mut endpoint);
+    receives(rt, alloc, 4, &mut endpoint, &[3, 1, 16, 0]);
+    outcome(rt, alloc, 5, &mut endpoint, Some(end), &terminate(104), &[]);
+}
+
+/// The next message has 16 bytes; its buffer is a receive again.
+fn receives_first(rt: &impl Abort, _alloc: Global, endpoint: &mut Endpoint) {
+    let (buf, len) = message(rt, endpoint);
+    same(rt, 0, (buf.len(), len), (1024, 16));
+    endpoint.post(buf);
+}
+
+#[test]
+fn receives_posted(rt: HostRuntime) {
+    for side in &SIDES {
+        receives_again(&rt, rt.alloc(), *side);
+    }
+}
+
+/// What is kept: the staging buffer of the longest FPDU, of 65544 bytes, and two receives of 1024.
+const HELD: u128 = 65544 + 2048;
+
+/// A message that is begun and never ended.
+fn never_ended(rt: &impl Abort, alloc: Global, side: Side) {
+    let mut endpoint = greeted(rt, alloc, side);
+    same(rt, 0, endpoint.held(), HELD);
+    for segment in 0..200 {
+        let mut bytes = Vec::new(alloc);
+        put_long(rt, &mut bytes, segment * 512);
+        same(rt, 1, endpoint.feed(bytes.as_slice()), Ok(()));
+    }
+    same(rt, 2, endpoint.held(), HELD);
+    outcome(rt, alloc, 3, &mut endpoint, None, &[], &[]);
+}
+
+#[test]
+fn held(rt: HostRuntime) {
+    for side in &SIDES {
+        never_ended(&rt, rt.alloc(), *side);
+    }
+}
+
+/// The FPDU of a NULL call, of 92 bytes.
+static NULL_CALL: [u32; 23] = [
+    0x0056_4143,
+    0,
+    0,
+    1,
+    0,
+    1,
+    1,
+    16,
+    0,
+    0,
+    0,
+    0,
+    1,
+    0,
+    2,
+    0x0001_86a3,
+    3,
+    0,
+    0,
+    0,
+    0,
+    0,
+    0,
+];
+
+/// Ends the test where an endpoint needs another number of bytes, or staged others.
+fn stages(rt: &impl Abort, row: usize, endpoint: &Endpoint, wants: usize, bytes: &[u8]) {
+    let staged = endpoint.staged();
+    same(rt, row, (endpoint.wants(), staged), (wants, bytes.len()));
+    same(rt, row, endpoint.begun(), !bytes.is_empty());
+    same(rt, row, endpoint.staging().get(..staged), Some(bytes));
+    same(rt, row, endpoint.staging().len(), 65544);
+}
+
+/// The hello and 91 bytes of a FPDU of 92 are fed, then its last byte and ten bytes of the next.
+fn staged_bytes(rt: &impl Abort, alloc: Global, side: Side) {
+    let frame = bytes_of(rt, alloc, &NULL_CALL);
+    let mut endpoint = opened(rt, alloc, side);
+    stages(rt, 0, &endpoint, 20, &[]);
+    let mut bytes = bytes_of(rt, alloc, crate::given::peer_hello(side));
+    bytes.extend_from_slice(&frame[..91]).expect(rt, "memory");
+    same(rt, 1, endpoint.feed(bytes.as_slice()), Ok(()));
+    stages(rt, 2, &endpoint, 1, &frame[..91]);
+    bytes.clear();
+    bytes.extend_from_slice(&frame[91..]).expect(rt, "memory");
+    bytes.extend_from_slice(&frame[..10]).expect(rt, "memory");
+    same(rt, 3, endpoint.feed(bytes.as_slice()), Ok(()));
+    stages(rt, 4, &endpoint, 82, &frame[..10]);
+    outcome(rt, alloc, 5, &mut endpoint, None, own_hello(side), &[]);
+}
+
+/// One frame at a time: the bytes taken of a piece with the hello, an FPDU, and one byte of the next.
+fn one_by_one(rt: &impl Abort, alloc: Global, side: Side) {
+    let mut bytes = bytes_of(rt, alloc, crate::given::peer_hello(side));
+    let frame = bytes_of(rt, alloc, &NULL_CALL);
+    bytes
+        .extend_from_slice(frame.as_slice())
+        .expect(rt, "memory");
+    bytes.push(0).expect(rt, "memory");
+    let mut endpoint = opened(rt, alloc, side);
+    same(rt, 0, endpoint.feed_one(bytes.as_slice()), Ok(20));
+    stages(rt, 1, &endpoint, 2, &[]);
+    same(rt, 2, endpoint.feed_one(&bytes[20..]), Ok(92));
+    stages(rt, 3, &endpoint, 2, &[]);
+    same(rt, 4, endpoint.feed_one(&bytes[112..]), Ok(1));
+    stages(rt, 5, &endpoint, 1, &[0]);
+    same(rt, 6, endpoint.feed_one(&[0x56, 0x41]), Ok(2));
+    stages(rt, 7, &endpoint, 89, &[0, 0x56, 0x41]);
+}
+
+#[test]
+fn staging(rt: HostRuntime) {
+    for side in &SIDES {
+        staged_bytes(&rt, rt.alloc(), *side);
+        one_by_one(&rt, rt.alloc(), *side);
+    }
+}
+
+/// The layer above ends a side at its last whole frame: the second FPDU, which is at byte 112.
+fn stops(rt: &impl Abort, alloc: Global, side: Side) {
+    let mut endpoint = greeted(rt, alloc, side);
+    same(
+        rt,
+        0,
+        feed_words(rt, alloc, &mut endpoint, &NULL_CALL),
+        Ok(()),
+    );
+    same(rt, 1, feed_send(rt, alloc, &mut endpoint, 2), Ok(()));
+    same(rt, 2, endpoint.feed(&[0, 0x56, 0x41]), Ok(()));
+    let end = End::Bad {
+        at: 112,
+        reason: 17,
+    };
+    same(rt, 3, endpoint.stop(17), end);
+    // A side that has ended queues nothing.
+    same(rt, 4, endpoint.send(&[1; 16]), Ok(()));
+    same(rt, 5, endpoint.write_remote(1, 0, &[1; 16]), Ok(()));
+    outcome(rt, alloc, 6, &mut endpoint, Some(end), &terminate(17), &[]);
+    writes(rt, alloc, 7, &mut endpoint, &[], &[]);
+}
+
+#[test]
+fn stopped(rt: HostRuntime) {
+    for side in &SIDES {
+        stops(&rt, rt.alloc(), *side);
+    }
+}

@@ -1,0 +1,416 @@
+//! What is queued, and how it is handed on.
+
+use crate::compare::same;
+use crate::given::{
+    SIDES, bytes_of, feed_words, greeted, joined, opened, outcome, own_hello, peer_hello,
+    registered, writes,
+};
+use nr_endpoint::{DrainFault, Endpoint, Event, ReadRefused};
+use nr_link::End;
+use nr_outside::MemSink;
+use nr_regions::{Registration, Right};
+use nr_wire::Side;
+use std::alloc::Global;
+use std::process::Abort;
+
+/// Asks eight times for four bytes of region 9, and once more.
+fn ask_nine_times(rt: &impl Abort, endpoint: &mut Endpoint, sink: &Registration) {
+    for _ in 0..8 {
+        same(rt, 0, endpoint.read_remote(sink, 0, 9, 16, 4), Ok(()));
+    }
+    let full = ReadRefused::Full { reads: 8 };
+    same(rt, 1, endpoint.read_remote(sink, 0, 9, 16, 4), Err(full));
+}
+
+/// The Read Requests with these numbers are written.
+fn writes_requests(
+    rt: &impl Abort,
+    alloc: Global,
+    endpoint: &mut Endpoint,
+    first: u32,
+    count: u32,
+) {
+    let mut words = Vec::new(alloc);
+    for i in 0..count {
+        words
+            .extend_from_slice(&[
+                0x002e_4141,
+                0,
+                1,
+                first.wrapping_add(i),
+                0,
+                1,
+                0,
+                0,
+                4,
+                9,
+                0,
+                16,
+                0,
+            ])
+            .expect(rt, "memory");
+    }
+    writes(rt, alloc, 2, endpoint, words.as_slice(), &[]);
+}
+
+/// Eight Read Requests are open; once a response is whole, there is room for one more.
+fn eight_reads(rt: &impl Abort, alloc: Global, side: Side) {
+    let mut endpoint = greeted(rt, alloc, side);
+    let sink = registered(rt, alloc, &mut endpoint, b"1234", Right::Sink);
+    ask_nine_times(rt, &mut endpoint, &sink);
+    writes_requests(rt, alloc, &mut endpoint, 1, 8);
+    let response = [0x0012_c142, 1, 0, 0, 0x6162_6364, 0];
+    same(
+        rt,
+        3,
+        feed_words(rt, alloc, &mut endpoint, &response),
+        Ok(()),
+    );
+    same(rt, 4, endpoint.read_remote(&sink, 0, 9, 16, 4), Ok(()));
+    let full = ReadRefused::Full { reads: 8 };
+    same(rt, 5, endpoint.read_remote(&sink, 0, 9, 16, 4), Err(full));
+    writes_requests(rt, alloc, &mut endpoint, 9, 1);
+}
+
+/// Feeds the Read Requests with these numbers, for `hell` of region 1.
+fn feed_requests(rt: &impl Abort, alloc: Global, endpoint: &mut Endpoint, first: u32, count: u32) {
+    for i in 0..count {
+        let msn = first.wrapping_add(i);
+        let request = [0x002e_4141, 0, 1, msn, 0, 7, 0, 0, 4, 1, 0, 0, 0];
+        same(rt, 0, feed_words(rt, alloc, endpoint, &request), Ok(()));
+    }
+}
+
+/// Eight responses are owed until they are wholly written; a ninth Read Request ends the side, at byte 20 + 8 * 52.
+fn eight_responses(rt: &impl Abort, alloc: Global, side: Side, written: bool) {
+    let response = [0x0012_c142, 7, 0, 0, 0x6865_6c6c, 0];
+    let ninth = [0x002e_4141, 0, 1, 9, 0, 7, 0, 0, 4, 1, 0, 0, 0];
+    let mut endpoint = greeted(rt, alloc, side);
+    registered(rt, alloc, &mut endpoint, b"hello", Right::Fetch);
+    feed_requests(rt, alloc, &mut endpoint, 1, 8);
+    let mut words = Vec::new(alloc);
+    for _ in 0..8 {
+        words.extend_from_slice(&response).expect(rt, "memory");
+    }
+    if written {
+        writes(rt, alloc, 1, &mut endpoint, words.as_slice(), &[]);
+        same(rt, 2, feed_words(rt, alloc, &mut endpoint, &ninth), Ok(()));
+        outcome(rt, alloc, 3, &mut endpoint, None, &response, &[]);
+        return;
+    }
+    let end = End::Bad {
+        at: 436,
+        reason: 15,
+    };
+    same(
+        rt,
+        4,
+        feed_words(rt, alloc, &mut endpoint, &ninth),
+        Err(end),
+    );
+    let terminate = [0x0016_4147, 0, 2, 1, 0, 15, 0];
+    outcome(
+        rt,
+        alloc,
+        5,
+        &mut endpoint,
+        Some(end),
+        words.as_slice(),
+        &terminate,
+    );
+}
+
+#[test]
+fn eight(rt: HostRuntime) {
+    for side in &SIDES {
+        eight_reads(&rt, rt.alloc(), *side);
+        eight_responses(&rt, rt.alloc(), *side, false);
+        eight_responses(&rt, rt.alloc(), *side, true);
+    }
+}
+
+/// Ends the test where the responses of a Read Request of five bytes into region 1 from byte 2 on come to something else.
+type Row = (&'static [u32], Option<End>);
+
+/// The words that a side is fed behind the hello, and its end. It asked for five bytes, to byte 2 of its region 1 of eight.
+static RESPONSES: [Row; 11] = [
+    // Whole; in two segments; in three, the last of them without bytes.
+    (&[0x0013_c142, 1, 0, 2, 0x4845_4c4c, 0x4f00_0000, 0], None),
+    (
+        &[
+            0x0011_8142,
+            1,
+            0,
+            2,
+            0x4845_4c00,
+            0,
+            0x0010_c142,
+            1,
+            0,
+            5,
+            0x4c4f_0000,
+            0,
+        ],
+        None,
+    ),
+    (
+        &[
+            0x000e_8142,
+            1,
+            0,
+            2,
+            0,
+            0x0013_c142,
+            1,
+            0,
+            2,
+            0x4845_4c4c,
+            0x4f00_0000,
+            0,
+        ],
+        None,
+    ),
+    // Not at the next byte: one later, one earlier, and again.
+    (
+        &[0x0013_c142, 1, 0, 3, 0x4845_4c4c, 0x4f00_0000, 0],
+        Some(End::Bad { at: 20, reason: 14 }),
+    ),
+    (
+        &[0x0013_c142, 1, 0, 1, 0x4845_4c4c, 0x4f00_0000, 0],
+        Some(End::Bad { at: 20, reason: 14 }),
+    ),
+    (
+        &[
+            0x0011_8142,
+            1,
+            0,
+            2,
+            0x4845_4c00,
+            0,
+            0x0010_c142,
+            1,
+            0,
+            2,
+            0x4c4f_0000,
+            0,
+        ],
+        Some(End::Bad { at: 44, reason: 14 }),
+    ),
+    // Past its size, within the region.
+    (
+        &[0x0014_c142, 1, 0, 2, 0x4845_4c4c, 0x4f21_0000, 0],
+        Some(End::Bad { at: 20, reason: 14 }),
+    ),
+    // Not the last segment at its end, and the last one before.
+    (
+        &[0x0013_8142, 1, 0, 2, 0x4845_4c4c, 0x4f00_0000, 0],
+        Some(End::Bad { at: 20, reason: 14 }),
+    ),
+    (
+        &[0x0012_c142, 1, 0, 2, 0x4845_4c4c, 0],
+        Some(End::Bad { at: 20, reason: 14 }),
+    ),
+    (
+        &[0x000e_c142, 1, 0, 2, 0],
+        Some(End::Bad { at: 20, reason: 14 }),
+    ),
+    // Once more.
+    (
+        &[
+            0x0013_c142,
+            1,
+            0,
+            2,
+            0x4845_4c4c,
+            0x4f00_0000,
+            0,
+            0x000e_c142,
+            1,
+            0,
+            7,
+            0,
+        ],
+        Some(End::Bad { at: 48, reason: 14 }),
+    ),
+];
+
+/// Whether the next event is that a Read Request is answered.
+fn read_done(endpoint: &mut Endpoint) -> bool {
+    match endpoint.next_event() {
+        Some(Event::ReadDone) => true,
+        Some(Event::Message { .. }) | None => false,
+    }
+}
+
+/// Ends the test where a row comes to something else.
+fn response_row(
+    rt: &impl Abort,
+    alloc: Global,
+    row: usize,
+    side: Side,
+    words: &[u32],
+    end: Option<End>,
+) {
+    let mut endpoint = greeted(rt, alloc, side);
+    let sink = registered(rt, alloc, &mut endpoint, b"12345678", Right::Sink);
+    same(rt, row, endpoint.read_remote(&sink, 2, 7, 16, 5), Ok(()));
+    let request = [0x002e_4141, 0, 1, 1, 0, 1, 0, 2, 5, 7, 0, 16, 0];
+    writes(rt, alloc, row, &mut endpoint, &request, &[]);
+    same(
+        rt,
+        row,
+        feed_words(rt, alloc, &mut endpoint, words).err(),
+        end,
+    );
+    let terminate: &[u32] = match end {
+        None => &[],
+        Some(_) => &[0x0016_4147, 0, 2, 1, 0, 14, 0],
+    };
+    outcome(rt, alloc, row, &mut endpoint, end, terminate, &[]);
+    if end.is_none() {
+        same(rt, row, read_done(&mut endpoint), true);
+        let buf = endpoint.release(sink);
+        same(rt, row, buf.as_slice(), b"12HELLO8".as_slice());
+    }
+}
+
+#[test]
+fn responses(rt: HostRuntime) {
+    for side in &SIDES {
+        for (row, (words, end)) in RESPONSES.iter().enumerate() {
+            response_row(&rt, rt.alloc(), row, *side, words, *end);
+        }
+    }
+}
+
+/// Two Sends of 16 bytes.
+static TWO_SENDS: [u32; 20] = [
+    0x0022_4143,
+    0,
+    0,
+    1,
+    0,
+    1,
+    1,
+    1,
+    1,
+    0,
+    0x0022_4143,
+    0,
+    0,
+    2,
+    0,
+    1,
+    1,
+    1,
+    1,
+    0,
+];
+
+/// An endpoint with two Sends queued before the peer's hello comes: before it, only an initiator's hello is written.
+fn two_sends(rt: &impl Abort, alloc: Global, side: Side) -> Endpoint {
+    let message = bytes_of(rt, alloc, &[1, 1, 1, 1]);
+    let mut endpoint = opened(rt, alloc, side);
+    same(rt, 0, endpoint.send(message.as_slice()), Ok(()));
+    same(rt, 1, endpoint.send(message.as_slice()), Ok(()));
+    endpoint
+}
+
+fn before_hello(rt: &impl Abort, alloc: Global, side: Side) {
+    let mut endpoint = two_sends(rt, alloc, side);
+    let first: &[u32] = match side {
+        Side::Initiator => own_hello(side),
+        Side::Responder => &[],
+    };
+    writes(rt, alloc, 2, &mut endpoint, first, &[]);
+    same(
+        rt,
+        3,
+        feed_words(rt, alloc, &mut endpoint, peer_hello(side)),
+        Ok(()),
+    );
+    let second: &[u32] = match side {
+        Side::Initiator => &[],
+        Side::Responder => own_hello(side),
+    };
+    same(rt, 4, endpoint.sends_left(), 0);
+    writes(rt, alloc, 5, &mut endpoint, second, &TWO_SENDS);
+    same(rt, 6, endpoint.sends_left(), 2);
+}
+
+/// A sink that fails at the first, second or third write: what it took is a prefix of the hello and the Sends, and the rest comes next.
+fn failing_sink(rt: &impl Abort, alloc: Global, side: Side, at: usize) {
+    let mut endpoint = two_sends(rt, alloc, side);
+    same(
+        rt,
+        at,
+        feed_words(rt, alloc, &mut endpoint, peer_hello(side)),
+        Ok(()),
+    );
+    let mut failing = Vec::new(alloc);
+    failing.push(at).expect(rt, "memory");
+    let mut sink = MemSink::new(alloc, failing);
+    same(
+        rt,
+        at,
+        endpoint.drain_into(&mut sink),
+        Err(DrainFault::LinkWrite),
+    );
+    let all = joined(rt, alloc, own_hello(side), &TWO_SENDS);
+    let taken = sink.bytes().len();
+    same(rt, at, Some(sink.bytes()), all.as_slice().get(..taken));
+    same(rt, at, taken < all.len(), true);
+    same(rt, at, endpoint.drain_into(&mut sink), Ok(()));
+    same(rt, at, sink.bytes(), all.as_slice());
+    same(rt, at, endpoint.sends_left(), 2);
+}
+
+#[test]
+fn drained(rt: HostRuntime) {
+    for side in &SIDES {
+        before_hello(&rt, rt.alloc(), *side);
+        failing_sink(&rt, rt.alloc(), *side, 0);
+        failing_sink(&rt, rt.alloc(), *side, 1);
+    }
+}
+
+/// A Write of 4097 bytes is cut into two segments, and a Send of none is one.
+fn cuts(rt: &impl Abort, alloc: Global, side: Side) {
+    let mut endpoint = greeted(rt, alloc, side);
+    same(
+        rt,
+        0,
+        endpoint.write_remote(7, 0xffff_ffff_ffff_efff, &[0; 4097]),
+        Ok(()),
+    );
+    same(rt, 1, endpoint.send(&[]), Ok(()));
+    let mut words = Vec::new(alloc);
+    words
+        .extend_from_slice(&[0x100e_8140, 7, 0xffff_ffff, 0xffff_efff])
+        .expect(rt, "memory");
+    for _ in 0..1025 {
+        words.push(0).expect(rt, "memory");
+    }
+    let last = [
+        0x000f_c140,
+        7,
+        0xffff_ffff,
+        0xffff_ffff,
+        0,
+        0,
+        0x0012_4143,
+        0,
+        0,
+        1,
+        0,
+        0,
+    ];
+    writes(rt, alloc, 2, &mut endpoint, words.as_slice(), &last);
+}
+
+#[test]
+fn cut_into_segments(rt: HostRuntime) {
+    for side in &SIDES {
+        cuts(&rt, rt.alloc(), *side);
+    }
+}

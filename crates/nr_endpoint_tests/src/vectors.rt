@@ -1,0 +1,268 @@
+//! FPDUs spelled out in words, sent by one side and fed to the other.
+
+use crate::compare::same;
+use crate::given::{
+    SIDES, bytes_of, feed_pieces, feed_words, greeted, outcome, registered, writes,
+};
+use nr_endpoint::{Endpoint, Event};
+use nr_link::End;
+use nr_regions::{Registration, Right};
+use nr_wire::Side;
+use nr_xdr::Octets;
+use std::alloc::Global;
+use std::process::Abort;
+
+/// A message of a first Send, and the words of its FPDU: a NULL call, its reply, and ERR_CHUNK (RFC 8166 section 4.1).
+static SENDS: [(&[u32], &[u32]); 3] = [
+    (
+        &[1, 1, 16, 0, 0, 0, 0, 1, 0, 2, 0x0001_86a3, 3, 0, 0, 0, 0, 0],
+        &[
+            0x0056_4143,
+            0,
+            0,
+            1,
+            0,
+            1,
+            1,
+            16,
+            0,
+            0,
+            0,
+            0,
+            1,
+            0,
+            2,
+            0x0001_86a3,
+            3,
+            0,
+            0,
+            0,
+            0,
+            0,
+            0,
+        ],
+    ),
+    (
+        &[1, 1, 16, 0, 0, 0, 0, 1, 1, 0, 0, 0, 0],
+        &[
+            0x0046_4143,
+            0,
+            0,
+            1,
+            0,
+            1,
+            1,
+            16,
+            0,
+            0,
+            0,
+            0,
+            1,
+            1,
+            0,
+            0,
+            0,
+            0,
+            0,
+        ],
+    ),
+    (
+        &[1, 1, 16, 4, 2],
+        &[0x0026_4143, 0, 0, 1, 0, 1, 1, 16, 4, 2, 0],
+    ),
+];
+
+/// The next event, which is a message: the bytes of its buffer, and how many of them the message has.
+pub fn message(rt: &impl Abort, endpoint: &mut Endpoint) -> (Octets, usize) {
+    match endpoint.next_event() {
+        Some(Event::Message { buf, len }) => (buf, len),
+        Some(Event::ReadDone) | None => panic!(rt; "a message came"),
+    }
+}
+
+/// Ends the test where the next event is not a message of these words, or another one follows. Its buffer is a receive again.
+pub fn receives(
+    rt: &impl Abort,
+    alloc: Global,
+    row: usize,
+    endpoint: &mut Endpoint,
+    words: &[u32],
+) {
+    let (buf, len) = message(rt, endpoint);
+    let want = bytes_of(rt, alloc, words);
+    same(rt, row, buf.as_slice().get(..len), Some(want.as_slice()));
+    endpoint.post(buf);
+    same(rt, row, endpoint.next_event().is_none(), true);
+}
+
+/// Sends a message, and feeds its FPDU to the other side.
+fn send_row(rt: &impl Abort, alloc: Global, row: usize, side: Side, words: &[u32], fpdu: &[u32]) {
+    let bytes = bytes_of(rt, alloc, words);
+    let mut sender = greeted(rt, alloc, side);
+    same(rt, row, sender.send(bytes.as_slice()), Ok(()));
+    writes(rt, alloc, row, &mut sender, fpdu, &[]);
+    same(rt, row, sender.sends_left(), 1);
+}
+
+/// Feeds an FPDU in pieces of this length.
+fn receive_row(
+    rt: &impl Abort,
+    alloc: Global,
+    row: usize,
+    side: Side,
+    cells: (&[u32], &[u32]),
+    piece: usize,
+) {
+    let (words, fpdu) = cells;
+    let bytes = bytes_of(rt, alloc, fpdu);
+    let mut receiver = greeted(rt, alloc, side);
+    feed_pieces(rt, row, &mut receiver, bytes.as_slice(), piece);
+    receives(rt, alloc, row, &mut receiver, words);
+    outcome(rt, alloc, row, &mut receiver, None, &[], &[]);
+}
+
+fn send_rows(rt: &impl Abort, alloc: Global, side: Side) {
+    for (row, (words, fpdu)) in SENDS.iter().enumerate() {
+        send_row(rt, alloc, row, side, words, fpdu);
+        receive_row(rt, alloc, row, side, (words, fpdu), 1000);
+        receive_row(rt, alloc, row, side, (words, fpdu), 1);
+    }
+}
+
+#[test]
+fn sends(rt: HostRuntime) {
+    for side in &SIDES {
+        send_rows(&rt, rt.alloc(), *side);
+    }
+}
+
+/// A Write of `hello`, a Read Request of five bytes, its response `HELLO`, and a Terminate with reason 5.
+static WRITE: [u32; 7] = [0x0013_c140, 1, 0, 0, 0x6865_6c6c, 0x6f00_0000, 0];
+
+static READ_REQUEST: [u32; 13] = [0x002e_4141, 0, 1, 1, 0, 1, 0, 0, 5, 1, 0, 0, 0];
+
+static READ_RESPONSE: [u32; 7] = [0x0013_c142, 1, 0, 0, 0x4845_4c4c, 0x4f00_0000, 0];
+
+static TERMINATE: [u32; 7] = [0x0016_4147, 0, 2, 1, 0, 5, 0];
+
+/// An endpoint whose region 1 has these bytes, which was fed the peer's hello.
+fn with_region(
+    rt: &impl Abort,
+    alloc: Global,
+    side: Side,
+    bytes: &[u8],
+    right: Right,
+) -> (Endpoint, Registration) {
+    let mut endpoint = greeted(rt, alloc, side);
+    let registration = registered(rt, alloc, &mut endpoint, bytes, right);
+    same(rt, 0, registration.stag(), 1);
+    (endpoint, registration)
+}
+
+/// Ends the test where a region has other bytes at its release.
+fn releases(rt: &impl Abort, endpoint: &mut Endpoint, registration: Registration, bytes: &[u8]) {
+    let buf = endpoint.release(registration);
+    same(rt, 0, buf.as_slice(), bytes);
+}
+
+/// Feeds the Write, which goes into a region of seven bytes.
+fn write_fed(rt: &impl Abort, alloc: Global, side: Side) {
+    let (mut endpoint, registration) = with_region(rt, alloc, side, b"1234567", Right::Fill);
+    same(rt, 1, feed_words(rt, alloc, &mut endpoint, &WRITE), Ok(()));
+    same(rt, 2, endpoint.next_event().is_none(), true);
+    same(rt, 3, endpoint.regions().bytes_held(), 7);
+    releases(rt, &mut endpoint, registration, b"hello67");
+    let end = End::Denied {
+        stag: 1,
+        offset: 0,
+        why: nr_regions::Denied::NoStag,
+    };
+    same(
+        rt,
+        4,
+        feed_words(rt, alloc, &mut endpoint, &WRITE),
+        Err(end),
+    );
+}
+
+fn write_sent(rt: &impl Abort, alloc: Global, side: Side) {
+    let mut endpoint = greeted(rt, alloc, side);
+    same(rt, 0, endpoint.write_remote(1, 0, b"hello"), Ok(()));
+    outcome(rt, alloc, 0, &mut endpoint, None, &WRITE, &[]);
+    same(rt, 1, endpoint.sends_left(), 0);
+}
+
+/// Sends the Read Request, and is fed its response.
+fn read_asked(rt: &impl Abort, alloc: Global, side: Side) {
+    let (mut endpoint, registration) = with_region(rt, alloc, side, b"12345", Right::Sink);
+    same(
+        rt,
+        0,
+        endpoint.read_remote(&registration, 0, 1, 0, 5),
+        Ok(()),
+    );
+    outcome(rt, alloc, 1, &mut endpoint, None, &READ_REQUEST, &[]);
+    same(
+        rt,
+        2,
+        feed_words(rt, alloc, &mut endpoint, &READ_RESPONSE),
+        Ok(()),
+    );
+    match endpoint.next_event() {
+        Some(Event::ReadDone) => {}
+        Some(Event::Message { .. }) | None => panic!(rt; "a Read Request is answered"),
+    }
+    releases(rt, &mut endpoint, registration, b"HELLO");
+}
+
+/// Is fed the Read Request, and writes its response.
+fn read_answered(rt: &impl Abort, alloc: Global, side: Side) {
+    let (mut endpoint, registration) = with_region(rt, alloc, side, b"HELLO", Right::Fetch);
+    same(
+        rt,
+        0,
+        feed_words(rt, alloc, &mut endpoint, &READ_REQUEST),
+        Ok(()),
+    );
+    // The response has the bytes as they stood.
+    releases(rt, &mut endpoint, registration, b"HELLO");
+    outcome(rt, alloc, 1, &mut endpoint, None, &READ_RESPONSE, &[]);
+}
+
+#[test]
+fn writes_and_reads(rt: HostRuntime) {
+    for side in &SIDES {
+        write_fed(&rt, rt.alloc(), *side);
+        write_sent(&rt, rt.alloc(), *side);
+        read_asked(&rt, rt.alloc(), *side);
+        read_answered(&rt, rt.alloc(), *side);
+    }
+}
+
+fn terminates(rt: &impl Abort, alloc: Global, side: Side) {
+    let mut sender = greeted(rt, alloc, side);
+    let end = End::Bad { at: 20, reason: 5 };
+    same(
+        rt,
+        0,
+        feed_words(rt, alloc, &mut sender, &[0x0005_4143, 0, 0]),
+        Err(end),
+    );
+    outcome(rt, alloc, 0, &mut sender, Some(end), &TERMINATE, &[]);
+    let mut receiver = greeted(rt, alloc, side);
+    let end = End::Terminated { reason: 5 };
+    same(
+        rt,
+        1,
+        feed_words(rt, alloc, &mut receiver, &TERMINATE),
+        Err(end),
+    );
+    outcome(rt, alloc, 1, &mut receiver, Some(end), &[], &[]);
+}
+
+#[test]
+fn terminate(rt: HostRuntime) {
+    for side in &SIDES {
+        terminates(&rt, rt.alloc(), *side);
+    }
+}
