@@ -30,7 +30,7 @@ use Rattle.nr_reduce.specs.ServerMessages.{Verdict, verdict, by_need, by_stream,
 use Rattle.nr_reduce.specs.ServerMessages.Verdict.{EndsLink, OtherVersion, BadChunks, MakesPending}
 use Rattle.nr_reduce.specs.Holds.{chunk_error}
 use Rattle.nr_reduce.specs.RunLaws.{server_by}
-use Rattle.nr_reduce.specs.SoFar.{SoFar}
+use Rattle.nr_laws.specs.MatchedSoFar.{MatchedSoFar}
 use Rattle.nr_reduce.specs.Run.{client}
 use Rattle.nr_laws.specs.Typed.{IsTyped}
 use Rattle.nr_laws.proofs.HeaderXid.{chunk-error-xid}
@@ -155,7 +155,7 @@ pub data OutcomeCause (opened : LinkParameters) (link : ℕ) (before : List Mark
   OfAnswer : IsReply outcome → OutcomeCause opened link before xid m outcome
   OfChunk : IsChunk outcome → ChunkCause opened link before xid m → OutcomeCause opened link before xid m outcome
 
-pub outcome-cause : (opened : LinkParameters) (link : ℕ) (run before after : List Mark) (xid : ℕ) (outcome : Outcome) → (typed : IsTyped run) → (far : SoFar opened link run) → (is : run ≡ before ++ marks.Done link xid outcome ∷ after)
+pub outcome-cause : (opened : LinkParameters) (link : ℕ) (run before after : List Mark) (xid : ℕ) (outcome : Outcome) → (typed : IsTyped run) → (far : MatchedSoFar opened link run) → (is : run ≡ before ++ marks.Done link xid outcome ∷ after)
     → OutcomeCause opened link before xid (done-at opened link run before after xid outcome typed far is).said.given.message outcome
 outcome-cause opened link run before after xid outcome typed far is = by d.said.said
   where
@@ -198,7 +198,7 @@ outcome-cause opened link run before after xid outcome typed far is = by d.said.
         OfAnswer (plain-reply k place m xid outcome (subst (λ (y : List ℕ). Rattle.nr_laws.proofs.Otherwise.IsPlainKind (word_at 12 y)) (sym s.message) p.kind) d.said.given.given)
 
 -- no call completes with Version
-pub version-never : (opened : LinkParameters) (link : ℕ) (run before after : List Mark) (xid low high : ℕ) → IsTyped run → SoFar opened link run → run ≡ before ++ marks.Done link xid (outcomes.Version low high) ∷ after → ⊥
+pub version-never : (opened : LinkParameters) (link : ℕ) (run before after : List Mark) (xid low high : ℕ) → IsTyped run → MatchedSoFar opened link run → run ≡ before ++ marks.Done link xid (outcomes.Version low high) ∷ after → ⊥
 version-never opened link run before after xid low high typed far is = by (outcomes.Version low high) refl (outcome-cause opened link run before after xid (outcomes.Version low high) typed far is)
   where
     m : List ℕ

@@ -23,7 +23,7 @@ use Rattle.nr_reduce.specs.ClientMessages.{verdict, by_header, by_call, by_body,
 use Rattle.nr_reduce.specs.ClientMessages.Verdict.{EndsLink, GivesOutcome}
 use Rattle.nr_reduce.specs.Plans.{lists_of}
 use Rattle.nr_reduce.specs.Chunks.{answers_offer, reply_conveyed}
-use Rattle.nr_reduce.specs.SoFar.{SoFar}
+use Rattle.nr_laws.specs.MatchedSoFar.{MatchedSoFar}
 use Rattle.nr_laws.specs.Typed.{IsTyped}
 use Rattle.nr_laws.proofs.HeaderXid.{header-xid}
 use Rattle.nr_laws.proofs.ExecuteMarks.{ExecuteMark, execute-mark}
@@ -108,7 +108,7 @@ pub record AnsweredBy (opened : LinkParameters) (link : ℕ) (run : List Mark) (
   pub executed : ExecutedAt opened link mark.earlier e.xid e.payload
   pub fits : e.xid < 4294967296
 
-pub answered-by : (opened : LinkParameters) (link : ℕ) (run : List Mark) → IsTyped run → SoFar opened link run → (es : List Event) (e : ExecutedCall) (more : List Event) → events link Responder run ≡ es ++ CallExecuted e ∷ more → AnsweredBy opened link run e es
+pub answered-by : (opened : LinkParameters) (link : ℕ) (run : List Mark) → IsTyped run → MatchedSoFar opened link run → (es : List Event) (e : ExecutedCall) (more : List Event) → events link Responder run ≡ es ++ CallExecuted e ∷ more → AnsweredBy opened link run e es
 answered-by opened link run typed far es e more is =
     let m = execute-mark link run es e more is in
     let x = executed-at opened link run m.earlier m.later e.xid e.moment e.payload e.place e.reply typed far m.is in

@@ -12,13 +12,12 @@ use Rattle.nr_reduce.specs.declared.mark.Mark.TheVariants as marks
 use Rattle.nr_reduce.specs.declared.mark.LinkParameters.{LinkParameters}
 use Rattle.nr_reduce.specs.PlainJournal.{any_that_adds}
 use Rattle.nr_reduce.specs.History.{ExecutedCall}
-use Rattle.nr_reduce.specs.Credits.{WithinGrant}
 use Rattle.nr_reduce.specs.Matched.{MatchedMark, IsPrefixOf}
 use Rattle.nr_reduce.specs.Events.{Event, events}
 use Rattle.nr_reduce.specs.Events.Event.{FrameReceived, CallExecuted}
 use Rattle.nr_reduce.specs.Asked.{AskedMark, IsCompleted}
 use Rattle.nr_reduce.specs.Served.{ServedMark}
-use Rattle.nr_reduce.specs.SoFar.{SoFar}
+use Rattle.nr_laws.specs.MatchedSoFar.{MatchedSoFar}
 use Rattle.nr_reduce.specs.RunLaws.{server_by}
 use Rattle.nr_reduce.specs.Server.{offer_of}
 use Rattle.nr_reduce.specs.ServerState.{credit_word}
@@ -38,22 +37,21 @@ use Rattle.nr_laws.proofs.DoneCalls.{AnsweredBy, answered-by, verdict-xid}
 use Rattle.nr_laws.proofs.Ordered.{Order, order}
 use Rattle.nr_laws.proofs.Ordered.Order.{Behind, Here, Before}
 
-pub far-before : (opened : LinkParameters) (link : ℕ) (run before : List Mark) (mark : Mark) (after : List Mark) → run ≡ before ++ mark ∷ after → SoFar opened link run → SoFar opened link before
+pub far-before : (opened : LinkParameters) (link : ℕ) (run before : List Mark) (mark : Mark) (after : List Mark) → run ≡ before ++ mark ∷ after → MatchedSoFar opened link run → MatchedSoFar opened link before
 far-before opened link run before mark after is far = record {
   asked = before-mark (AskedMark IsPrefixOf opened link) run before mark after is far.asked;
   served = before-mark (ServedMark IsPrefixOf opened link) run before mark after is far.served;
   matched = before-mark (MatchedMark link) run before mark after is far.matched;
-  grant = before-mark (WithinGrant opened link) run before mark after is far.grant;
 }
 
 -- a completed call at its Done, with what the server said
 pub record DoneAt (opened : LinkParameters) (link : ℕ) (before : List Mark) (xid : ℕ) (outcome : Outcome) : Type 0 where
   pub typed : IsTyped before
-  pub far : SoFar opened link before
+  pub far : MatchedSoFar opened link before
   pub completed : IsCompleted opened link before xid outcome
   pub said : OutcomeSaid opened link before (record { xid = xid; outcome = outcome })
 
-pub done-at : (opened : LinkParameters) (link : ℕ) (run before after : List Mark) (xid : ℕ) (outcome : Outcome) → IsTyped run → SoFar opened link run → run ≡ before ++ marks.Done link xid outcome ∷ after → DoneAt opened link before xid outcome
+pub done-at : (opened : LinkParameters) (link : ℕ) (run before after : List Mark) (xid : ℕ) (outcome : Outcome) → IsTyped run → MatchedSoFar opened link run → run ≡ before ++ marks.Done link xid outcome ∷ after → DoneAt opened link before xid outcome
 done-at opened link run before after xid outcome typed far is =
     let mark = marks.Done link xid outcome in
     let first = far-before opened link run before mark after is far in
@@ -73,7 +71,7 @@ events-more link side run (mark ∷ more) =
     )
 
 -- A call whose outcome was handed over isn't executed after that.
-not-after : (opened : LinkParameters) (link : ℕ) (run before after mid rest : List Mark) (xid : ℕ) (outcome : Outcome) (moment : Moment) (payload : List ℕ) (place : ℕ) (reply : List ℕ) → IsTyped run → SoFar opened link run
+not-after : (opened : LinkParameters) (link : ℕ) (run before after mid rest : List Mark) (xid : ℕ) (outcome : Outcome) (moment : Moment) (payload : List ℕ) (place : ℕ) (reply : List ℕ) → IsTyped run → MatchedSoFar opened link run
     → run ≡ before ++ marks.Done link xid outcome ∷ (mid ++ marks.Execute link xid moment payload place reply ∷ rest) → ⊥
 not-after opened link run before after mid rest xid outcome moment payload place reply typed far is =
     by d.said.said
@@ -125,7 +123,7 @@ not-after opened link run before after mid rest xid outcome moment payload place
         let equal : x.executed.call.number ≡ r.index + 1 = omega (arith, p, q, m, n, u, v, own_xid) in
         refused-never opened link (before ++ done ∷ mid) s.earlier (s.later ++ more.0) s.frame s.segment (r.index + 1) all s.behind s.is_segment r.refuses xid payload x.executed equal
 
-pub executed-before : (opened : LinkParameters) (link : ℕ) (run before after first last : List Mark) (xid : ℕ) (outcome : Outcome) (moment : Moment) (payload : List ℕ) (place : ℕ) (reply : List ℕ) → IsTyped run → SoFar opened link run
+pub executed-before : (opened : LinkParameters) (link : ℕ) (run before after first last : List Mark) (xid : ℕ) (outcome : Outcome) (moment : Moment) (payload : List ℕ) (place : ℕ) (reply : List ℕ) → IsTyped run → MatchedSoFar opened link run
     → run ≡ before ++ marks.Done link xid outcome ∷ after → run ≡ first ++ marks.Execute link xid moment payload place reply ∷ last
     → (mid : List Mark) × (before ≡ first ++ marks.Execute link xid moment payload place reply ∷ mid)
 executed-before opened link run before after first last xid outcome moment payload place reply typed far here there =
@@ -137,7 +135,7 @@ executed-before opened link run before after first last xid outcome moment paylo
     by (Before between is then) = (between, is)
 
 -- of two Submits under one xid there is one
-pub one-submit : (opened : LinkParameters) (link : ℕ) (run early late rest others : List Mark) (call other : Call) (form way : Form) (xid yid : ℕ) → SoFar opened link run → xid ≡ yid
+pub one-submit : (opened : LinkParameters) (link : ℕ) (run early late rest others : List Mark) (call other : Call) (form way : Form) (xid yid : ℕ) → MatchedSoFar opened link run → xid ≡ yid
     → run ≡ early ++ marks.Submit link call form (submissions.Accepted xid) ∷ rest → run ≡ late ++ marks.Submit link other way (submissions.Accepted yid) ∷ others → early ≡ late
 one-submit opened link run early late rest others call other form way xid yid far same here again =
     by (order early (marks.Submit link call form (submissions.Accepted xid)) rest late (marks.Submit link other way (submissions.Accepted yid)) others (sym here ∙ again))

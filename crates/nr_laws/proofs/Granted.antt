@@ -1,45 +1,66 @@
 -- Each accepted Submit stands within the grant.
-use Rattle.std.proofs.Common.{◌≡◌, ℕ, Bool, true, false, List, [], ◌∷◌, ◌++◌}
+use Rattle.std.proofs.Common.{◌≡◌, ℕ, ◌-◌, ◌<◌, Bool, true, false, cond, leb, List, [], ◌∷◌, ◌++◌, length, Option, None, Some, Result, Ok, Err, refl}
+use Rattle.std.proofs.lemmas.Bool.{leb-false}
+use Rattle.nr_link.specs.declared.end.End.{End as Stop}
+use Rattle.nr_reduce.specs.declared.call.Call.{Call}
+use Rattle.nr_reduce.specs.declared.call.Form.{Form}
+use Rattle.nr_reduce.specs.declared.call.Refused.TheVariants as refusals
 use Rattle.nr_reduce.specs.declared.call.Submission.{Submission}
 use Rattle.nr_reduce.specs.declared.call.Submission.TheVariants as submissions
 use Rattle.nr_reduce.specs.declared.mark.Mark.{Mark}
 use Rattle.nr_reduce.specs.declared.mark.Mark.TheVariants as marks
 use Rattle.nr_reduce.specs.declared.mark.LinkParameters.{LinkParameters}
+use Rattle.nr_reduce.specs.declared.outline.Plan.{Plan}
+use Rattle.nr_reduce.specs.Limits.{numbers_end}
+use Rattle.nr_reduce.specs.Plans.{TooLarge, regions_needed}
 use Rattle.nr_reduce.specs.History.{is_dropped}
 use Rattle.nr_reduce.specs.AtEachMark.{AtEachMark}
-use Rattle.nr_reduce.specs.Matched.{IsPrefixOf}
-use Rattle.nr_reduce.specs.Asked.{AskedMark, AskedSoFar}
-use Rattle.nr_reduce.specs.Credits.{WithinGrant}
-use Rattle.nr_reduce.specs.Opening.{IsOpened}
+use Rattle.nr_reduce.specs.Credits.{WithinGrant, calls_outstanding, credits_granted}
+use Rattle.nr_reduce.specs.ClientState.{ClientState, plan_for}
 use Rattle.nr_reduce.specs.Run.{client}
-use Rattle.nr_reduce.specs.SubmitAnswer.{submit_answer, submit_answer_after, unless_dropped}
-use Rattle.nr_reduce.proofs.Standing.{AtEachMark-more}
-use Rattle.nr_reduce.proofs.Submitting.{accepted_keeps}
-use Rattle.nr_laws.specs.Grant.{AnsweredMark, SubmitsWithinGrant}
+use Rattle.nr_reduce.specs.SubmitAnswer.{next_xid, unless_spent, by_plan, answer_by, submit_answer, submit_answer_after, unless_dropped}
+use Rattle.nr_laws.specs.Grant.{AcceptedMark, SubmitsWithinGrant}
 
 not-dropped : (b : Bool) (answer : Submission) (xid : ℕ) → unless_dropped b answer ≡ submissions.Accepted xid → answer ≡ submissions.Accepted xid
 not-dropped true answer xid e = absurd cc
 not-dropped false answer xid e = e
 
-mark-within : (opened : LinkParameters) (link : ℕ) (before : List Mark) (mark : Mark) → IsOpened opened → AskedSoFar opened link before → AskedMark IsPrefixOf opened link before mark → AnsweredMark opened link before mark → WithinGrant opened link before mark
-unfolding submit_answer_after
-mark-within opened link before (marks.Submit l call form (submissions.Accepted xid)) numbers asked h a = λ same.
-    (accepted_keeps opened link before call form xid (not-dropped (is_dropped link before) (submit_answer opened (client opened link before) call form) xid (a same)) numbers asked (h same).writable).1
-mark-within opened link before (marks.Submit l call form (submissions.Refused why)) numbers asked h a = tt
-mark-within opened link before (marks.Submit l call form submissions.Dropped) numbers asked h a = tt
-mark-within opened link before (marks.Fed l s bytes) numbers asked h a = tt
-mark-within opened link before (marks.Wrote l s bytes) numbers asked h a = tt
-mark-within opened link before (marks.Execute l xid moment payload place reply) numbers asked h a = tt
-mark-within opened link before (marks.Done l xid outcome) numbers asked h a = tt
-mark-within opened link before (marks.Lost l xid) numbers asked h a = tt
-mark-within opened link before (marks.Forget l xid) numbers asked h a = tt
-mark-within opened link before (marks.Revoke l xid bytes) numbers asked h a = tt
-mark-within opened link before (marks.Drop l) numbers asked h a = tt
+-- an accepted call found a credit
+granted : (opened : LinkParameters) (k : ClientState) (call : Call) (form : Form) (ended : Option Stop) (xid : ℕ) → answer_by opened k call form ended ≡ submissions.Accepted xid → length k.outstanding < k.grant
+granted opened k call form (Some end) xid e = absurd cc
+granted opened k call form None xid e = by_result (plan_for k (next_xid opened k) call form) e
+  where
+    by_grant : (answer : Submission) (b : Bool) → leb k.grant (length k.outstanding) ≡ b → cond b (submissions.Refused (refusals.NoCredit (length k.outstanding) k.grant)) answer ≡ submissions.Accepted xid → length k.outstanding < k.grant
+    by_grant answer true is e = absurd cc
+    by_grant answer false is e = leb-false k.grant (length k.outstanding) is
 
-within-from : (opened : LinkParameters) (link : ℕ) (before run : List Mark) → IsOpened opened → AskedSoFar opened link before → AtEachMark (AskedMark IsPrefixOf opened link) before run → AtEachMark (AnsweredMark opened link) before run → AtEachMark (WithinGrant opened link) before run
-within-from opened link before [] numbers asked h a = tt
-within-from opened link before (mark ∷ run) numbers asked h a =
-    (mark-within opened link before mark numbers asked h.0 a.0, within-from opened link (before ++ mark ∷ []) run numbers (AtEachMark-more (AskedMark IsPrefixOf opened link) [] before mark asked h.0) h.1 a.1)
+    by_result : (r : Result Plan TooLarge) → by_plan opened k r ≡ submissions.Accepted xid → length k.outstanding < k.grant
+    by_result (Ok plan) e =
+        by_grant (unless_spent (numbers_end - next_xid opened k) 1 (unless_spent (numbers_end - k.stag) (regions_needed plan) (submissions.Accepted (next_xid opened k)))) (leb k.grant (length k.outstanding)) refl e
+    by_result (Err large) e = absurd cc
+
+within : (opened : LinkParameters) (link : ℕ) (before : List Mark) (call : Call) (form : Form) (xid : ℕ) → submit_answer opened (client opened link before) call form ≡ submissions.Accepted xid → calls_outstanding opened link before < credits_granted opened link before
+unfolding submit_answer calls_outstanding credits_granted
+within opened link before call form xid e = granted opened (client opened link before).state call form (client opened link before).ended xid e
+
+mark-within : (opened : LinkParameters) (link : ℕ) (before : List Mark) (mark : Mark) → AcceptedMark opened link before mark → WithinGrant opened link before mark
+unfolding submit_answer_after
+mark-within opened link before (marks.Submit l call form (submissions.Accepted xid)) a = λ same.
+    within opened link before call form xid (not-dropped (is_dropped link before) (submit_answer opened (client opened link before) call form) xid (a same))
+mark-within opened link before (marks.Submit l call form (submissions.Refused why)) a = tt
+mark-within opened link before (marks.Submit l call form submissions.Dropped) a = tt
+mark-within opened link before (marks.Fed l s bytes) a = tt
+mark-within opened link before (marks.Wrote l s bytes) a = tt
+mark-within opened link before (marks.Execute l xid moment payload place reply) a = tt
+mark-within opened link before (marks.Done l xid outcome) a = tt
+mark-within opened link before (marks.Lost l xid) a = tt
+mark-within opened link before (marks.Forget l xid) a = tt
+mark-within opened link before (marks.Revoke l xid bytes) a = tt
+mark-within opened link before (marks.Drop l) a = tt
+
+within-from : (opened : LinkParameters) (link : ℕ) (before run : List Mark) → AtEachMark (AcceptedMark opened link) before run → AtEachMark (WithinGrant opened link) before run
+within-from opened link before [] a = tt
+within-from opened link before (mark ∷ run) a = (mark-within opened link before mark a.0, within-from opened link (before ++ mark ∷ []) run a.1)
 
 pub submits_within : SubmitsWithinGrant
-submits_within opened link run numbers asked answered = within-from opened link [] run numbers tt asked answered
+submits_within opened link run accepts = within-from opened link [] run accepts

@@ -96,3 +96,4 @@ pub mod CallNumbers
 pub mod AnsweredCalls
 pub mod AnsweredSteps
 pub mod SinkCount
+pub mod ReadOutcomes

@@ -8,7 +8,7 @@ use Rattle.nr_reduce.specs.AtEachMark.{AtEachMark}
 use Rattle.nr_reduce.specs.Matched.{MatchedMark, IsPrefixOf}
 use Rattle.nr_reduce.specs.Asked.{AskedMark}
 use Rattle.nr_reduce.specs.Served.{ServedMark, IsExecuted}
-use Rattle.nr_reduce.specs.SoFar.{SoFar}
+use Rattle.nr_laws.specs.MatchedSoFar.{MatchedSoFar}
 use Rattle.nr_reduce.proofs.Steps.{AtEachMark-first}
 use Rattle.nr_reduce.proofs.Placing.{AtEachMark-at}
 use Rattle.nr_reduce.proofs.Once.{executes_once}
@@ -28,7 +28,7 @@ pub record ExecutedAt (opened : LinkParameters) (link : ℕ) (before : List Mark
   pub executed : IsExecuted opened link before xid payload
   pub submit : ExecutedSubmit opened link before xid payload executed
 
-pub executed-at : (opened : LinkParameters) (link : ℕ) (run before after : List Mark) (xid : ℕ) (moment : Moment) (payload : List ℕ) (place : ℕ) (reply : List ℕ) → IsTyped run → SoFar opened link run
+pub executed-at : (opened : LinkParameters) (link : ℕ) (run before after : List Mark) (xid : ℕ) (moment : Moment) (payload : List ℕ) (place : ℕ) (reply : List ℕ) → IsTyped run → MatchedSoFar opened link run
     → run ≡ before ++ marks.Execute link xid moment payload place reply ∷ after → ExecutedAt opened link before xid payload
 executed-at opened link run before after xid moment payload place reply typed far is =
     let mark = marks.Execute link xid moment payload place reply in

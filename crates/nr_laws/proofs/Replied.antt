@@ -25,7 +25,7 @@ use Rattle.nr_reduce.specs.Holds.{chunk_error, version_error}
 use Rattle.nr_reduce.specs.RunLaws.{server_by}
 use Rattle.nr_reduce.specs.Server.{offer_of}
 use Rattle.nr_reduce.specs.ServerState.{credit_word}
-use Rattle.nr_reduce.specs.SoFar.{SoFar}
+use Rattle.nr_laws.specs.MatchedSoFar.{MatchedSoFar}
 use Rattle.nr_laws.specs.Typed.{IsTyped}
 use Rattle.nr_laws.proofs.HeaderXid.{answer-xid}
 use Rattle.nr_laws.proofs.ServerOutputs.{IsError}
@@ -116,7 +116,7 @@ pub record RepliedBy (opened : LinkParameters) (link : ℕ) (before : List Mark)
   pub by : AnsweredBy opened link before answer.call answer.earlier
   pub own : answer.call.xid ≡ xid
 
-pub replied-by : (opened : LinkParameters) (link : ℕ) (run before after : List Mark) (xid : ℕ) (p : List ℕ) → IsTyped run → SoFar opened link run → run ≡ before ++ marks.Done link xid (outcomes.Reply p) ∷ after → RepliedBy opened link before xid p
+pub replied-by : (opened : LinkParameters) (link : ℕ) (run before after : List Mark) (xid : ℕ) (p : List ℕ) → IsTyped run → MatchedSoFar opened link run → run ≡ before ++ marks.Done link xid (outcomes.Reply p) ∷ after → RepliedBy opened link before xid p
 replied-by opened link run before after xid p typed far is = by d.said.said
   where
     d : DoneAt opened link before xid (outcomes.Reply p)

@@ -2,6 +2,7 @@
 use Rattle.std.proofs.Common.{◌≡◌, List, ◌∷◌, Option, None, Some, refl, ap, ◌∙◌, inl, inr, ◌⊎◌}
 use Rattle.nr_regions.specs.Access.{Allowed}
 use Rattle.nr_link.specs.declared.end.End.{End as Stop}
+use Rattle.nr_link.specs.Frames.{Frame}
 use Rattle.nr_reduce.specs.Events.{Event}
 use Rattle.nr_reduce.specs.Events.Event.{FrameReceived}
 use Rattle.nr_reduce.specs.EndRules.{Rules, EndState, next_end_state, next_end_state_by, next_end_state_in, end_state_after}
@@ -16,13 +17,13 @@ use Rattle.nr_reduce.proofs.Steps.{ended-stays, end_state_after-append}
 use Rattle.nr_laws.specs.Touches.{StopsAt, ClientIsTouched, ServerIsTouched}
 
 -- a frame that ends an end leaves what it knew
-stops : {S : Type 0} (rules : Rules S) (r : EndState S) (e : Event) (later : List Event) (end : Stop) → r.ended ≡ None → rules.end_at r.state e ≡ Some end → StopsAt r (end_state_after rules r (e ∷ later))
-stops {S} rules r e later end live is =
-    let one : next_end_state rules r e ≡ record { state = r.state; ended = Some end } =
-    ap (λ (o : Option Stop). next_end_state_in rules r.state e o) live ∙ ap (λ (o : Option Stop). next_end_state_by rules r.state e o) is in
-    let all : end_state_after rules r (e ∷ later) ≡ record { state = r.state; ended = Some end } =
+stops : {S : Type 0} (rules : Rules S) (r : EndState S) (f : Frame) (later : List Event) (end : Stop) → r.ended ≡ None → rules.end_at r.state (FrameReceived f) ≡ Some end → StopsAt rules r f (end_state_after rules r (FrameReceived f ∷ later))
+stops {S} rules r f later end live is =
+    let one : next_end_state rules r (FrameReceived f) ≡ record { state = r.state; ended = Some end } =
+    ap (λ (o : Option Stop). next_end_state_in rules r.state (FrameReceived f) o) live ∙ ap (λ (o : Option Stop). next_end_state_by rules r.state (FrameReceived f) o) is in
+    let all : end_state_after rules r (FrameReceived f ∷ later) ≡ record { state = r.state; ended = Some end } =
     ap (λ (x : EndState S). end_state_after rules x later) one ∙ (ended-stays rules r.state end later).0 in
-    record { end = end; ended = ap (λ (x : EndState S). x.ended) all; same = ap (λ (x : EndState S). x.state) all }
+    record { end = end; stops = one; stays = all }
 
 pub client_touched : ClientIsTouched
 unfolding client
@@ -34,11 +35,11 @@ client_touched opened link run earlier later f segment access is live behind own
     whole : client opened link run ≡ end_state_after (client_rules opened) before (FrameReceived f ∷ later)
     whole = ap (λ (es : List Event). end_state_after (client_rules opened) (initial_client opened) es) is ∙ end_state_after-append (client_rules opened) (initial_client opened) earlier (FrameReceived f ∷ later)
 
-    by : (o : Option Stop) → client_end before.state (FrameReceived f) ≡ o → Allowed (region_grants f.end before.state.regions) access f.end ⊎ StopsAt before (client opened link run)
+    by : (o : Option Stop) → client_end before.state (FrameReceived f) ≡ o → Allowed (region_grants f.end before.state.regions) access f.end ⊎ StopsAt (client_rules opened) before f (client opened link run)
     by None e = inl (client_allows opened earlier f segment access behind own asks e)
     by (Some end) e =
-        let s = stops (client_rules opened) before (FrameReceived f) later end live e in
-        inr (record { end = s.end; ended = ap (λ (x : EndState ClientState). x.ended) whole ∙ s.ended; same = ap (λ (x : EndState ClientState). x.state) whole ∙ s.same })
+        let s = stops (client_rules opened) before f later end live e in
+        inr (record { end = s.end; stops = s.stops; stays = whole ∙ s.stays })
 
 pub server_touched : ServerIsTouched
 unfolding server
@@ -50,8 +51,8 @@ server_touched opened link run earlier later f segment access is live behind own
     whole : server opened link run ≡ end_state_after (server_rules opened) before (FrameReceived f ∷ later)
     whole = ap (λ (es : List Event). end_state_after (server_rules opened) (initial_server opened) es) is ∙ end_state_after-append (server_rules opened) (initial_server opened) earlier (FrameReceived f ∷ later)
 
-    by : (o : Option Stop) → server_end opened before.state (FrameReceived f) ≡ o → Allowed (region_grants f.end before.state.regions) access f.end ⊎ StopsAt before (server opened link run)
+    by : (o : Option Stop) → server_end opened before.state (FrameReceived f) ≡ o → Allowed (region_grants f.end before.state.regions) access f.end ⊎ StopsAt (server_rules opened) before f (server opened link run)
     by None e = inl (server_allows opened earlier f segment access behind own asks e)
     by (Some end) e =
-        let s = stops (server_rules opened) before (FrameReceived f) later end live e in
-        inr (record { end = s.end; ended = ap (λ (x : EndState ServerState). x.ended) whole ∙ s.ended; same = ap (λ (x : EndState ServerState). x.state) whole ∙ s.same })
+        let s = stops (server_rules opened) before f later end live e in
+        inr (record { end = s.end; stops = s.stops; stays = whole ∙ s.stays })

@@ -13,8 +13,8 @@ use Rattle.nr_reduce.specs.Served.{Served, next_call}
 use Rattle.nr_reduce.specs.Matched.{Matched}
 use Rattle.nr_laws.specs.Typed.{IsTyped}
 
--- Nothing is left to do on a link: no side has ended, each side received all that the other sent, and no call that is whole waits to
--- be executed. That each side wrote all its output is part of its law in full.
+-- Nothing is in transit on a link, and nothing waits to be executed: no side has ended, each side received all that the other sent,
+-- and no call that is whole isn't executed yet. That each side wrote all its output is part of its law in full.
 pub record IsSettled (opened : LinkParameters) (link : ℕ) (run : List Mark) : Type 0 where
   pub client_stays : end_of_side opened link Initiator run ≡ None
   pub server_stays : end_of_side opened link Responder run ≡ None

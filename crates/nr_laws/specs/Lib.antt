@@ -1,6 +1,8 @@
 pub mod MarkAt
 pub mod Typed
+pub mod MatchedSoFar
 pub mod Once
+pub mod Completions
 pub mod Grant
 pub mod Touches
 pub mod Places

@@ -8,12 +8,12 @@ use Rattle.nr_reduce.specs.declared.mark.LinkParameters.{LinkParameters}
 use Rattle.nr_reduce.specs.ServerState.{ReadyCall}
 use Rattle.nr_reduce.specs.Asked.{AskedSoFar}
 use Rattle.nr_reduce.specs.Served.{ServedSoFar, next_call}
-use Rattle.nr_reduce.specs.SoFar.{SoFar}
+use Rattle.nr_laws.specs.MatchedSoFar.{MatchedSoFar}
 use Rattle.nr_laws.specs.MarkAt.{MarkAt}
 use Rattle.nr_laws.specs.Typed.{IsTyped}
 
--- On every link of which the server keeps its law, whatever its client sends, two Executes are of two Sends: the calls that are
--- executed have Sends of other numbers.
+-- On every link of which the server keeps its law, whatever its client sends, two Executes are of two Sends: their Sends have
+-- different numbers.
 abbrev pub NoSendTwice : Type 0
 NoSendTwice = (opened : LinkParameters) (link : ℕ) (run before between : List Mark) (xid yid : ℕ) (moment now : Moment) (payload asked : List ℕ) (place later : ℕ) (reply answer : List ℕ) →
     ServedSoFar opened link run →
@@ -29,5 +29,5 @@ NoCallTwice = (opened : LinkParameters) (link : ℕ) (run before between : List 
 -- On a matched link two Executes are of two xids.
 abbrev pub NoXidTwice : Type 0
 NoXidTwice = (opened : LinkParameters) (link : ℕ) (run before between : List Mark) (xid yid : ℕ) (moment now : Moment) (payload asked : List ℕ) (place later : ℕ) (reply answer : List ℕ) →
-    IsTyped run → SoFar opened link run →
+    IsTyped run → MatchedSoFar opened link run →
     MarkAt run (before ++ marks.Execute link xid moment payload place reply ∷ between) (marks.Execute link yid now asked later answer) → xid ≢ yid

@@ -11,7 +11,7 @@ use Rattle.nr_reduce.specs.declared.mark.Mark.TheVariants as marks
 use Rattle.nr_reduce.specs.declared.mark.LinkParameters.{LinkParameters}
 use Rattle.nr_reduce.specs.PlainJournal.{any_that_adds}
 use Rattle.nr_reduce.specs.Journal.{Journaled}
-use Rattle.nr_reduce.specs.SoFar.{SoFar}
+use Rattle.nr_laws.specs.MatchedSoFar.{MatchedSoFar}
 use Rattle.nr_laws.specs.MarkAt.{MarkAt}
 use Rattle.nr_laws.specs.Typed.{IsTyped}
 
@@ -20,7 +20,7 @@ use Rattle.nr_laws.specs.Typed.{IsTyped}
 abbrev pub PlacesFollow : Type 0
 PlacesFollow = (adds : Moment → List ℕ → List ℕ → List Entry) (J : List Entry) (one two : LinkParameters) (link other : ℕ) (run before between first second : List Mark)
     (call : Call) (form : Form) (xid yid : ℕ) (outcome : Outcome) (moment now : Moment) (payload asked : List ℕ) (place later : ℕ) (reply answer : List ℕ) →
-    IsTyped run → SoFar one link run → SoFar two other run → Journaled (any_that_adds adds) J run →
+    IsTyped run → MatchedSoFar one link run → MatchedSoFar two other run → Journaled (any_that_adds adds) J run →
     MarkAt run (before ++ marks.Done link xid outcome ∷ between) (marks.Submit other call form (submissions.Accepted yid)) →
     MarkAt run first (marks.Execute link xid moment payload place reply) →
     MarkAt run second (marks.Execute other yid now asked later answer) → place ≤ later

@@ -12,7 +12,7 @@ use Rattle.nr_reduce.specs.declared.mark.Mark.TheVariants as marks
 use Rattle.nr_reduce.specs.declared.mark.LinkParameters.{LinkParameters}
 use Rattle.nr_reduce.specs.Events.{Event, events}
 use Rattle.nr_reduce.specs.Events.Event.{FrameReceived}
-use Rattle.nr_reduce.specs.EndRules.{EndState, end_state_after}
+use Rattle.nr_reduce.specs.EndRules.{Rules, EndState, next_end_state, end_state_after}
 use Rattle.nr_reduce.specs.OfferedRegions.{Region, region_grants}
 use Rattle.nr_reduce.specs.Client.{client_rules, initial_client}
 use Rattle.nr_reduce.specs.Server.{server_rules, initial_server}
@@ -23,27 +23,27 @@ use Rattle.nr_reduce.specs.Run.{client, server, placed_bytes}
 use Rattle.nr_laws.specs.MarkAt.{MarkAt}
 use Rattle.nr_laws.specs.Typed.{IsTyped}
 
--- a side that has ended by a frame, and knows what it knew before it
-pub record StopsAt {S : Type 0} (before after : EndState S) : Type 0 where
+-- A frame ends a side, which knows then what it knew before it; no later event changes that.
+pub record StopsAt {S : Type 0} (rules : Rules S) (before : EndState S) (f : Frame) (after : EndState S) : Type 0 where
   pub end : End
-  pub ended : after.ended ≡ Some end
-  pub same : after.state ≡ before.state
+  pub stops : next_end_state rules before (FrameReceived f) ≡ record { state = before.state; ended = Some end }
+  pub stays : after ≡ record { state = before.state; ended = Some end }
 
 -- On every link, whatever the server sends. The client hasn't ended when a frame is received that would fill or read its memory:
--- a region that it offers at that frame allows the access, or that frame is where the client stops, and neither it nor any later
--- one places or discloses anything.
+-- a region that it offers at that frame allows the access, or that frame is where the client stops: neither it nor any later one
+-- changes what the client knows, of which its memory is part.
 abbrev pub ClientIsTouched : Type 0
 ClientIsTouched = (opened : LinkParameters) (link : ℕ) (run : List Mark) (earlier later : List Event) (f : Frame) (segment : Segment) (access : Access) →
     (let before : EndState ClientState = end_state_after (client_rules opened) (initial_client opened) earlier in
     events link Initiator run ≡ earlier ++ FrameReceived f ∷ later → before.ended ≡ None → is_hello f ≡ false → frame_segment f ≡ Ok segment → access_of segment ≡ Some access →
-    Allowed (region_grants f.end before.state.regions) access f.end ⊎ StopsAt before (client opened link run))
+    Allowed (region_grants f.end before.state.regions) access f.end ⊎ StopsAt (client_rules opened) before f (client opened link run))
 
 -- the same of the server, whatever the client sends
 abbrev pub ServerIsTouched : Type 0
 ServerIsTouched = (opened : LinkParameters) (link : ℕ) (run : List Mark) (earlier later : List Event) (f : Frame) (segment : Segment) (access : Access) →
     (let before : EndState ServerState = end_state_after (server_rules opened) (initial_server opened) earlier in
     events link Responder run ≡ earlier ++ FrameReceived f ∷ later → before.ended ≡ None → is_hello f ≡ false → frame_segment f ≡ Ok segment → access_of segment ≡ Some access →
-    Allowed (region_grants f.end before.state.regions) access f.end ⊎ StopsAt before (server opened link run))
+    Allowed (region_grants f.end before.state.regions) access f.end ⊎ StopsAt (server_rules opened) before f (server opened link run))
 
 -- the bytes of a Revoke are what the regions of its call held then, and each of these regions holds the same after the run
 pub record StandsStill (opened : LinkParameters) (link : ℕ) (run before : List Mark) (xid : ℕ) (bytes : List ℕ) : Type 0 where

@@ -1,5 +1,5 @@
--- A run is of its types: what is written down as bytes are bytes, and the numbers of an offer are 32-bit words. A run that a program
--- makes is always so.
+-- A run is of its types: what is written down as bytes are bytes, and the position of an offer is a 32-bit word. A run that a
+-- program makes is always so.
 use Rattle.std.specs.Prelude.{◌<◌, ◌^◌, List, []}
 use Rattle.nr_xdr.specs.Item.{IsBytes}
 use Rattle.nr_reduce.specs.declared.call.Form.{Form}

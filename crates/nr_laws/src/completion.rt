@@ -13,8 +13,8 @@ pub fn calls_complete()
 
 /// Of a matched link that was opened with numbers and credits in range, the side that ends first ends for what the payload of
 /// a message is: a server where it has no RPC call head (RFC 5531 section 9) or one with another xid; a client where it has no
-/// such reply head, another xid, or chunks that aren't those offered, or where an access to its memory is denied. No segment of
-/// either side breaks a rule of the link (RFC 5041 section 7; RFC 5040 section 7): its message number and offset, its form and
+/// such reply head, another xid, or chunks that aren't those offered, or where an access to its memory is denied. Up to that end
+/// no segment of either side breaks a rule of the link (RFC 5041 section 7; RFC 5040 section 7): its message number and offset, its form and
 /// its length are right, a Send finds a receive, a Read Response is expected and reaches a sink, and no side has more Read
 /// Requests open than it may. A server has an STag for each read chunk. Each message of the server has a header that can be read
 /// (RFC 8166 section 4), and answers a call that is outstanding.

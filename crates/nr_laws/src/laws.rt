@@ -4,6 +4,7 @@ ghost use Rattle.nr_laws.specs.Touches.{ClientIsTouched, ServerIsTouched, Revoke
 ghost use Rattle.nr_laws.specs.Grant.{SubmitsWithinGrant};
 ghost use Rattle.nr_laws.specs.Places.{PlacesFollow};
 ghost use Rattle.nr_laws.specs.Once.{NoSendTwice, NoCallTwice, NoXidTwice};
+ghost use Rattle.nr_laws.specs.Completions.{RepliesAreExecuted, NoOtherVersion};
 
 /// No Send is executed twice, whatever a client sends, and no accepted call completes twice. On a matched link no xid is executed
 /// twice.
@@ -18,15 +19,21 @@ pub fn places()
     ensures { PlacesFollow }
 {}
 
-/// On every link a peer accesses only live regions that are offered to it for that access; the first access that isn't allowed
-/// is where a side stops. What a Revoke gives back is what stood then, and nothing later changes it.
+/// On every link an access of a frame is allowed by a live region that is offered for that access, or the frame is where the side
+/// stops. What a Revoke gives back is what stood then, and nothing later changes it.
 pub fn touches()
     ensures client { ClientIsTouched }
     ensures server { ServerIsTouched }
     ensures revoked { RevokeStands }
 {}
 
-/// Each accepted call is submitted while fewer calls are outstanding than are granted.
+/// On a matched link a call whose reply is handed over was executed before that, and no call completes with another version.
+pub fn completions()
+    ensures executed { RepliesAreExecuted }
+    ensures version { NoOtherVersion }
+{}
+
+/// On every link whose client accepts by its rule each accepted call is submitted while fewer calls are outstanding than are granted.
 pub fn grant()
     ensures { SubmitsWithinGrant }
 {}

@@ -8,4 +8,4 @@ mod completion;
 mod laws;
 
 pub use completion::{calls_complete, segments_keep_the_rules};
-pub use laws::{grant, once, places, touches};
+pub use laws::{completions, grant, once, places, touches};
