@@ -3,10 +3,14 @@
 //! bytes of each call of `feed` (at most 65536), and `fed`, or `idle` for the same work without the calls.
 #![tactic(auto)]
 
+ghost use Rattle.std.specs.Prelude.{◌≡◌, ◌+◌, ◌*◌, ◌^◌, ◌<◌, ◌≤◌, length, IfOk};
+ghost use Rattle.std.specs.Bool.{OnTrue};
+ghost use Rattle.endpoint_bench.specs.Fed.{fed_bytes};
+
 use nr_endpoint::{Endpoint, Event};
 use nr_regions::Right;
 use nr_wire::constants::{OPCODE_SEND, OPCODE_WRITE, QUEUE_SEND};
-use nr_wire::{Hello, Segment, Side, write_hello, write_segment};
+use nr_wire::{Segment, Side, write_segment};
 use nr_xdr::{Memory, Octets};
 use std::alloc::Global;
 use std::env;
@@ -17,6 +21,9 @@ const PIECE: usize = 65536;
 
 /// The receives: more than Sends come whole within a piece.
 const RECEIVES: u32 = 1024;
+
+/// More pieces than there are.
+const FPDUS_MAX: u64 = 1 << 30;
 
 /// Where an FPDU of a Send has its message number.
 const MSN_AT: usize = 12;
@@ -71,8 +78,10 @@ fn stream(alloc: Global, frame: &[u8]) -> Result<Vec<u8>, Memory> {
 }
 
 /// Gives the Sends of the buffer their message numbers, of which this is the first.
-fn number_sends(bytes: &mut Vec<u8>, len: usize, first: u64) {
-    let mut msn = first as u32;
+fn number_sends(bytes: &mut Vec<u8>, len: usize, first: u64)
+    requires { 0 < len }
+{
+    let mut msn = (first % (1 << 32)) as u32;
     for frame in bytes.as_mut_slice().chunks_exact_mut(len) {
         if let Some(field) = frame.get_mut(MSN_AT..MSN_AT + 4) {
             field.copy_from_slice(&msn.to_be_bytes());
@@ -81,81 +90,132 @@ fn number_sends(bytes: &mut Vec<u8>, len: usize, first: u64) {
     }
 }
 
+/// Feeds some bytes in one call. False once the side has ended.
+#[tactic(auto, using(crate::proofs::FedBytes::fed_stands))]
+fn feed(endpoint: &mut Endpoint, piece: &[u8]) -> bool
+    requires { fed_bytes endpoint.old.link + length piece.now ≤ 2 ^ 62 }
+    ensures { OnTrue result (fed_bytes endpoint.new.link ≤ fed_bytes endpoint.old.link + length piece.now) }
+{
+    endpoint.feed(piece).is_ok()
+}
+
 /// Feeds a piece, so many bytes in each call. False once the side has ended.
-fn feed_piece(endpoint: &mut Endpoint, piece: &[u8], step: usize) -> bool {
+fn feed_piece(endpoint: &mut Endpoint, piece: &[u8], step: usize) -> bool
+    requires { fed_bytes endpoint.old.link + length piece.now ≤ 2 ^ 62 }
+    ensures { OnTrue result (fed_bytes endpoint.new.link ≤ fed_bytes endpoint.old.link + length piece.now) }
+{
     let mut left = piece;
     for _ in 0..piece.len() {
-        if left.is_empty() {
-            break;
-        }
         let (front, rest) = left.split_at(left.len().min(step));
-        if endpoint.feed(front).is_err() {
+        if !feed(endpoint, front) {
             return false;
         }
         left = rest;
+        if left.is_empty() {
+            break;
+        }
     }
     true
 }
 
-/// Takes all messages, and hands their buffers back. Gives their number.
-fn take_messages(endpoint: &mut Endpoint) -> u64 {
-    let mut count = 0;
-    for _ in 0..RECEIVES {
-        match endpoint.next_event() {
-            Some(Event::Message { buf, .. }) => {
-                count += 1;
-                endpoint.post(buf);
-            }
-            Some(Event::ReadDone) => {}
-            None => break,
+/// Takes the next event, if one waits, and hands the buffer of a message back. Gives the number of messages.
+#[tactic(auto, using(crate::proofs::FedBytes::message_lent, crate::proofs::FedBytes::event_stands, crate::proofs::FedBytes::post_stands))]
+fn take_message(endpoint: &mut Endpoint) -> u64
+    ensures fed { fed_bytes endpoint.new.link ≡ fed_bytes endpoint.old.link }
+    ensures one { result ≤ 1 }
+{
+    match endpoint.next_event() {
+        Some(Event::Message { buf, .. }) => {
+            endpoint.post(buf);
+            1
         }
+        Some(Event::ReadDone) => 0,
+        None => 0,
+    }
+}
+
+/// Takes the messages of a piece, and hands their buffers back. Gives their number.
+fn take_messages(endpoint: &mut Endpoint) -> u64
+    ensures { fed_bytes endpoint.new.link ≡ fed_bytes endpoint.old.link }
+{
+    let mut count: u64 = 0;
+    for _ in 0..RECEIVES {
+        let taken = take_message(endpoint);
+        if taken == 0 {
+            break;
+        }
+        count = count.saturating_add(taken);
     }
     count
 }
 
+/// The first FPDU of a piece that begins behind so many bytes, and the bytes of it that are behind.
+fn place_of(fed: u64, len: u64) -> (u64, u64)
+    requires { 0 < len }
+    ensures { result.1 < len }
+{
+    (fed / len, fed % len)
+}
+
+/// Feeds the next piece of the stream, of `left` bytes at most: its length, or 0 once the side has ended.
+fn feed_next(endpoint: &mut Endpoint, bytes: &[u8], at: usize, left: u64, work: Work) -> usize
+    requires { fed_bytes endpoint.old.link ≤ 2 ^ 61 }
+    ensures fed { 0 < result → fed_bytes endpoint.new.link ≤ fed_bytes endpoint.old.link + result }
+    ensures most { result ≤ PIECE }
+{
+    let Some(rest) = bytes.get(at..) else {
+        return 0;
+    };
+    let size = left.min(PIECE as u64) as usize;
+    let Some(piece) = rest.get(..size) else {
+        return 0;
+    };
+    if work.is_fed && !feed_piece(endpoint, piece, work.step) {
+        return 0;
+    }
+    size
+}
+
 /// Feeds all FPDUs, piece by piece. Gives how many Sends came whole, or of Writes how many were fed.
-fn feed_all(endpoint: &mut Endpoint, bytes: &mut Vec<u8>, len: usize, work: Work) -> u64 {
-    let total = work.frames * len as u64;
-    let mut fed = 0;
-    let mut count = 0;
-    for _ in 0..total {
+fn feed_all(endpoint: &mut Endpoint, bytes: &mut Vec<u8>, len: usize, work: Work) -> u64
+    requires few { work.frames ≤ 2 ^ 30 }
+    requires fed { fed_bytes endpoint.old.link ≤ 2 ^ 20 }
+{
+    if len == 0 {
+        return 0;
+    }
+    let total = work.frames.saturating_mul(len as u64);
+    let mut fed: u64 = 0;
+    let mut count: u64 = 0;
+    for _ in 0..FPDUS_MAX {
         if fed >= total {
             break;
         }
+        let (before, at) = place_of(fed, len as u64);
         if work.is_send {
-            number_sends(bytes, len, fed / len as u64 + 1);
+            number_sends(bytes, len, before.wrapping_add(1));
         }
-        let at = (fed % len as u64) as usize;
-        let size = PIECE.min((total - fed) as usize);
-        if work.is_fed && !feed_piece(endpoint, &bytes[at..at + size], work.step) {
-            return 0;
+        let size = feed_next(endpoint, bytes.as_slice(), at as usize, total - fed, work);
+        if size == 0 {
+            break;
         }
-        count += take_messages(endpoint);
+        count = count.saturating_add(take_messages(endpoint));
         fed += size as u64;
     }
     if work.is_send { count } else { work.frames }
 }
 
-/// A responder that was fed the hello, with a region of 4096 bytes to be written.
-fn responder(alloc: Global) -> Result<Option<Endpoint>, Memory> {
+/// A responder, with a region of 4096 bytes to be written.
+#[tactic(auto, using(crate::proofs::FedBytes::open_fed, crate::proofs::FedBytes::register_fed))]
+fn responder(alloc: Global) -> Result<Endpoint, Memory>
+    ensures { IfOk result (λ e. fed_bytes e.link ≡ 0) }
+{
     let mut endpoint = Endpoint::open(alloc, Side::Responder, RECEIVES, 1)?;
     let region = Octets::from_vec(vec![in alloc; 0u8; 4096]?);
-    let registered = endpoint.register(region, Right::Fill);
-    if registered.is_err() {
-        return Err(Memory);
+    match endpoint.register(region, Right::Fill) {
+        Ok(_) => Ok(endpoint),
+        Err(_) => Err(Memory),
     }
-    let hello = write_hello(
-        alloc,
-        &Hello {
-            side: Side::Initiator,
-            flags: 0,
-            private: &[],
-        },
-    )?;
-    if endpoint.feed(hello.as_slice()).is_err() {
-        return Ok(None);
-    }
-    Ok(Some(endpoint))
 }
 
 /// Copies 4096 bytes so often, each time others. Gives the number of copies, less the last one's first byte.
@@ -171,13 +231,16 @@ fn copy(alloc: Global, times: u64) -> Result<u64, Memory> {
     Ok(count)
 }
 
-fn run(alloc: Global, work: Work) -> Result<u64, Memory> {
+fn run(alloc: Global, work: Work) -> Result<u64, Memory>
+    requires { work.frames ≤ 2 ^ 30 }
+{
     let frame = frame(alloc, work.is_send)?;
     let mut bytes = stream(alloc, frame.as_slice())?;
-    match responder(alloc)? {
-        Some(mut endpoint) => Ok(feed_all(&mut endpoint, &mut bytes, frame.len(), work)),
-        None => Ok(0),
+    let mut endpoint = responder(alloc)?;
+    if !feed(&mut endpoint, b"MPA ID Req Frame\0\x01\0\0") {
+        return Ok(0);
     }
+    Ok(feed_all(&mut endpoint, &mut bytes, frame.len(), work))
 }
 
 fn number(word: Option<String>) -> Option<u64> {
@@ -190,7 +253,9 @@ fn measured(
     frames: u64,
     step: usize,
     is_fed: bool,
-) -> Result<u64, Memory> {
+) -> Result<u64, Memory>
+    requires { frames ≤ 2 ^ 30 }
+{
     if what == "copy" {
         return copy(alloc, frames);
     }
