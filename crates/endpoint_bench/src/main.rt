@@ -5,7 +5,7 @@
 
 ghost use Rattle.std.specs.Prelude.{◌≡◌, ◌+◌, ◌*◌, ◌^◌, ◌<◌, ◌≤◌, length, IfOk};
 ghost use Rattle.std.specs.Bool.{OnTrue};
-ghost use Rattle.endpoint_bench.specs.Fed.{fed_bytes};
+ghost use Rattle.nr_endpoint.specs.FedBytes.{fed_bytes};
 
 use nr_endpoint::{Endpoint, Event};
 use nr_regions::Right;
@@ -91,7 +91,7 @@ fn number_sends(bytes: &mut Vec<u8>, len: usize, first: u64)
 }
 
 /// Feeds some bytes in one call. False once the side has ended.
-#[tactic(auto, using(crate::proofs::FedBytes::fed_stands))]
+#[tactic(auto, using(nr_endpoint::proofs::FedBytes::fed_stands))]
 fn feed(endpoint: &mut Endpoint, piece: &[u8]) -> bool
     requires { fed_bytes endpoint.old.link + length piece.now ≤ 2 ^ 62 }
     ensures { OnTrue result (fed_bytes endpoint.new.link ≤ fed_bytes endpoint.old.link + length piece.now) }
@@ -119,7 +119,7 @@ fn feed_piece(endpoint: &mut Endpoint, piece: &[u8], step: usize) -> bool
 }
 
 /// Takes the next event, if one waits, and hands the buffer of a message back. Gives the number of messages.
-#[tactic(auto, using(crate::proofs::FedBytes::message_lent, crate::proofs::FedBytes::event_stands, crate::proofs::FedBytes::post_stands))]
+#[tactic(auto, using(nr_endpoint::proofs::FedBytes::message_lent, nr_endpoint::proofs::FedBytes::event_stands, nr_endpoint::proofs::FedBytes::post_stands))]
 fn take_message(endpoint: &mut Endpoint) -> u64
     ensures fed { fed_bytes endpoint.new.link ≡ fed_bytes endpoint.old.link }
     ensures one { result ≤ 1 }
@@ -206,7 +206,7 @@ fn feed_all(endpoint: &mut Endpoint, bytes: &mut Vec<u8>, len: usize, work: Work
 }
 
 /// A responder, with a region of 4096 bytes to be written.
-#[tactic(auto, using(crate::proofs::FedBytes::open_fed, crate::proofs::FedBytes::register_fed))]
+#[tactic(auto, using(nr_endpoint::proofs::FedBytes::open_fed, nr_endpoint::proofs::FedBytes::register_fed))]
 fn responder(alloc: Global) -> Result<Endpoint, Memory>
     ensures { IfOk result (λ e. fed_bytes e.link ≡ 0) }
 {

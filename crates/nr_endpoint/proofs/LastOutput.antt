@@ -1,5 +1,5 @@
 -- A side that has ended queues nothing.
-use Rattle.std.proofs.Common.{◌≡◌, Bool, true, false, cond, [], ◌∷◌, Option, refl, sym, ap, ◌∙◌, Some, None, is_some}
+use Rattle.std.proofs.Common.{◌≡◌, Bool, true, false, cond, [], ◌∷◌, Option, refl, ap, ◌∙◌, Some, is_some}
 use Rattle.nr_wire.proofs.Feedings.{feeding_after-ended, feeding_after_step-ended}
 use Rattle.nr_link.specs.declared.end.End.{End}
 use Rattle.nr_endpoint.specs.SendQueue.{with_end, SendQueue}

@@ -12,3 +12,4 @@ pub mod Views
 pub mod EndpointState
 pub mod Codes
 pub mod Laws
+pub mod FedBytes

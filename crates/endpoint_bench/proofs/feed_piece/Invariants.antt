@@ -1,5 +1,5 @@
 use Rattle.std.proofs.Common.{◌+◌, ◌≤◌, length}
-use Rattle.endpoint_bench.specs.Fed.{fed_bytes}
+use Rattle.nr_endpoint.specs.FedBytes.{fed_bytes}
 use Rattle.endpoint_bench.proofs.feed_piece.Given as goal
 
 abbrev pub invariant-loop : goal.invariant-loop

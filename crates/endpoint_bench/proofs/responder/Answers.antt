@@ -1,5 +1,5 @@
 use Rattle.std.proofs.Common.{◌≡◌, ◌∙◌}
-use Rattle.endpoint_bench.proofs.FedBytes.{open_fed, register_fed}
+use Rattle.nr_endpoint.proofs.FedBytes.{open_fed, register_fed}
 use Rattle.endpoint_bench.proofs.responder.Goals as goal
 
 pub returns-in-Ok : goal.returns-in-Ok

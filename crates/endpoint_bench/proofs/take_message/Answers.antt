@@ -1,5 +1,5 @@
 use Rattle.std.proofs.Common.{◌≡◌, ◌∙◌}
-use Rattle.endpoint_bench.proofs.FedBytes.{event_stands, post_stands}
+use Rattle.nr_endpoint.proofs.FedBytes.{event_stands, post_stands}
 use Rattle.endpoint_bench.proofs.take_message.Goals as goal
 
 pub returns-in-Some-Message-clause-fed : goal.returns-in-Some-Message-clause-fed

@@ -1,5 +1,5 @@
 use Rattle.std.proofs.Common.{◌≡◌}
-use Rattle.endpoint_bench.specs.Fed.{fed_bytes}
+use Rattle.nr_endpoint.specs.FedBytes.{fed_bytes}
 use Rattle.endpoint_bench.proofs.take_messages.Given as goal
 
 abbrev pub invariant-loop : goal.invariant-loop

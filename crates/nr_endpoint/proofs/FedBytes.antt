@@ -1,30 +1,27 @@
 -- How many bytes of the peer's stream a side has gone over.
-use Rattle.std.proofs.Common.{◌≡◌, ℕ, ◌+◌, ◌≤◌, ◌<◌, Bool, true, false, cond, eqb, Result, Ok, Err, List, [], ◌∷◌, ◌++◌, length, take, Option, Some, None, refl, sym, ap, subst, ◌∙◌, arith, length-append}
+use Rattle.std.proofs.Common.{◌≡◌, ℕ, ◌+◌, ◌≤◌, ◌<◌, Bool, true, false, cond, Result, Ok, Err, List, [], ◌∷◌, ◌++◌, length, take, Option, Some, None, refl, sym, ap, subst, ◌∙◌, arith, length-append}
 use Rattle.std.specs.List.{concat}
 use Rattle.std.proofs.lemmas.List.{length-take}
 use Rattle.nr_wire.specs.declared.stream.Awaited.{Awaited}
 use Rattle.nr_wire.specs.declared.stream.Awaited.TheVariants.{Hello as HelloFrom, Fpdu}
 use Rattle.nr_wire.specs.Hello.{Hello, hello_of}
 use Rattle.nr_wire.specs.Segment.{Segment, segment_of}
-use Rattle.nr_wire.specs.Segment.Segment.{Tagged, Untagged}
-use Rattle.nr_wire.specs.Constants.{OPCODE_READ_RESPONSE}
-use Rattle.nr_wire.specs.Feeding.{Feeding, feeding_after, feeding_after_frames, feeding_in, feeding_after_step}
+use Rattle.nr_wire.specs.Feeding.{feeding_after, feeding_after_frames, feeding_in, feeding_after_step}
 use Rattle.nr_wire.specs.Stream.{is_whole, frame_len, split}
 use Rattle.nr_wire.proofs.Splits.{split-Splits}
 use Rattle.nr_wire.proofs.Frames.{whole_from}
 use Rattle.nr_wire.proofs.Feedings.{feeding_after_step-whole, feeding_after_step-partial, feeding_after_step-ended}
 use Rattle.nr_link.specs.declared.end.End.{End}
-use Rattle.nr_link.specs.declared.end.End.TheVariants as ends
 use Rattle.nr_link.specs.Frames.{Frame}
-use Rattle.endpoint_bench.specs.Fed.{fed_bytes}
+use Rattle.nr_endpoint.specs.FedBytes.{fed_bytes}
 use Rattle.nr_endpoint.specs.ReceiveQueue.{Notice, lent_for}
 use Rattle.nr_endpoint.specs.ReceiveQueue.Notice.{MessageReceived}
 use Rattle.nr_wire.specs.declared.hello.Side.{Side}
 use Rattle.nr_regions.specs.declared.right.Right.{Right}
 use Rattle.nr_endpoint.specs.LinkState.{initial_link, LinkState, Link, has_ended}
-use Rattle.nr_endpoint.specs.Judging.{with_frame, with_fpdu, with_peer_hello, with_segment_by, with_effect, segment_end, next_frame}
-use Rattle.nr_endpoint.specs.Calls.{Call, StandsOn, after_call, after_calls, unless_ended}
-use Rattle.nr_endpoint.specs.Calls.Call.{Feed, FeedOne, NextEvent, Post, Stop, OutOfMemory, Send, WriteRemote, ReadRemote, Drain, Register, Release}
+use Rattle.nr_endpoint.specs.Judging.{with_frame, with_fpdu, with_peer_hello, with_segment_by, segment_end, next_frame}
+use Rattle.nr_endpoint.specs.Calls.{StandsOn, after_call, after_calls}
+use Rattle.nr_endpoint.specs.Calls.Call.{Feed, FeedOne, NextEvent, Post, Send, WriteRemote, ReadRemote, Drain, Register}
 
 -- ---- A frame
 
