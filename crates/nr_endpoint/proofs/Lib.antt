@@ -19,3 +19,4 @@ pub mod HelloLaws
 pub mod EndLaws
 pub mod LastOutput
 pub mod PlaceOrder
+pub mod ClaimLaws

@@ -1,5 +1,5 @@
 -- Laws of an endpoint, over the calls that it stands for.
-use Rattle.std.specs.Prelude.{◌≡◌, ℕ, ◌<◌, Bool, true, false, if◌then◌else◌, List, [], ◌∷◌, ◌++◌, length, take, drop, map, Option, None, Some, Result, Ok, Err, ◌⊎◌, ◌≤◌, IfSome, Contains, All}
+use Rattle.std.specs.Prelude.{◌≡◌, ◌≢◌, ℕ, ◌<◌, Bool, true, false, if◌then◌else◌, List, [], ◌∷◌, ◌++◌, length, take, drop, map, Option, None, Some, Result, Ok, Err, ◌⊎◌, ◌≤◌, IfSome, Contains, All}
 use Rattle.nr_wire.specs.Constants.{REASON_KEY, REASON_PRIVATE, REASON_LENGTH}
 use Rattle.nr_wire.specs.declared.hello.Side.{Side}
 use Rattle.nr_wire.specs.declared.hello.Side.TheVariants.{Initiator, Responder}
@@ -9,7 +9,7 @@ use Rattle.nr_wire.specs.Stream.{IsPartial, split}
 use Rattle.nr_wire.specs.Feeding.{bytes_taken}
 use Rattle.nr_wire.specs.Segment.{Segment, segment_of}
 use Rattle.nr_regions.specs.declared.right.Right.{Right}
-use Rattle.nr_regions.specs.RegisteredMemory.{RegisteredMemory, denial, live_region, held_region, bytes_in, bytes_at}
+use Rattle.nr_regions.specs.RegisteredMemory.{RegisteredMemory, Claim, IsHeld, denial, live_region, held_region, bytes_in, bytes_at}
 use Rattle.nr_regions.specs.Access.{Grant, access_of, contents, TaggedSegment}
 use Rattle.nr_regions.specs.Events.{Event, after_event, after_events, tagged_segments, StaysOpen, IsRegisteredAt, IsReleasedAt}
 use Rattle.nr_regions.specs.Events.Event.{Register as RegisterRegion, Release as ReleaseRegion, Arrive}
@@ -180,6 +180,13 @@ ReleasedBufferHolds = (grants : List Grant) (link : Link) (from until : ℕ) (ri
 abbrev pub ReleasedStaysDead : Type 0
 ReleasedStaysDead = (link : Link) (stag : ℕ) (calls : List Call) → stag < link.state.memory.next →
     live_region (after_calls (after_call link (Release stag)) calls).state.memory stag ≡ None
+
+-- ---- A registration, until its release
+
+-- Whatever else is called, it lasts. `release` asks it of its caller.
+abbrev pub ClaimsStay : Type 0
+ClaimsStay = (link : Link) (claim : Claim) (calls : List Call) → IsHeld link.state.memory claim → All (λ call. call ≢ Release claim.stag) calls →
+    IsHeld (after_calls link calls).state.memory claim
 
 -- ---- What a side writes before the peer's hello
 

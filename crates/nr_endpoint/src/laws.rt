@@ -1,6 +1,6 @@
 //! Laws of an endpoint, over the calls that it stands for.
 
-ghost use Rattle.nr_endpoint.specs.Laws.{PiecesJoin, StepsReach, StepsFeed, EndStays, KeepsLessThanFrame, EndedKeepsNothing, MemoryFollowsEvents, PlacesAreAllowed, PlacesAreInOrder, ReadsAreAllowed, NothingElseIsRead, OpenRegionHolds, ReleasedBufferHolds, ReleasedStaysDead, NoFpduBeforeHello, FramesEndForThese, NoFrameStops, OthersComeFromStop, MemoryComesFromOutOfMemory, EndedQueuesNothing, EndIsKept, StopQueuesLast, OutOfMemoryQueuesNothing};
+ghost use Rattle.nr_endpoint.specs.Laws.{PiecesJoin, StepsReach, StepsFeed, EndStays, KeepsLessThanFrame, EndedKeepsNothing, MemoryFollowsEvents, PlacesAreAllowed, PlacesAreInOrder, ReadsAreAllowed, NothingElseIsRead, OpenRegionHolds, ReleasedBufferHolds, ReleasedStaysDead, ClaimsStay, NoFpduBeforeHello, FramesEndForThese, NoFrameStops, OthersComeFromStop, MemoryComesFromOutOfMemory, EndedQueuesNothing, EndIsKept, StopQueuesLast, OutOfMemoryQueuesNothing};
 
 /// What a side is after some bytes does not depend on how they were cut: to feed two pieces is to feed both joined, and one step on a
 /// piece and then the rest of it is the whole piece. A side that has ended stays as it is.
@@ -26,6 +26,11 @@ pub fn memory_follows_accesses()
     ensures while_open { OpenRegionHolds }
     ensures released { ReleasedBufferHolds }
     ensures dead { ReleasedStaysDead }
+{}
+
+/// A region that was registered stays registered until it is released, whatever is called between: `release` may be called with it.
+pub fn claims_stay()
+    ensures { ClaimsStay }
 {}
 
 /// Before the peer's hello was accepted, a side writes its hello alone (RFC 5044 section 7.1).
