@@ -1,5 +1,5 @@
 -- A registration lasts until its release.
-use Rattle.std.proofs.Common.{◌≡◌, ◌≢◌, ℕ, Bool, true, false, cond, List, [], ◌∷◌, ◌++◌, take, Option, Some, None, Result, Ok, Err, refl, sym, ap, subst, ◌∙◌}
+use Rattle.std.proofs.Common.{◌≢◌, ℕ, Bool, true, false, cond, List, [], ◌∷◌, ◌++◌, take, Option, Some, None, Result, Ok, Err, sym, ap, subst}
 use Rattle.std.specs.Prelude.{All}
 use Rattle.std.proofs.lemmas.List.Elements.{All-head, All-tail}
 use Rattle.nr_wire.specs.declared.stream.Awaited.{Awaited}
@@ -13,7 +13,7 @@ use Rattle.nr_link.specs.declared.end.End.{End}
 use Rattle.nr_link.specs.Frames.{Frame}
 use Rattle.nr_endpoint.specs.LinkState.{LinkState, Link, has_ended}
 use Rattle.nr_endpoint.specs.Judging.{segment_end, next_frame, with_frame}
-use Rattle.nr_endpoint.specs.Calls.{Call, after_call, after_calls}
+use Rattle.nr_endpoint.specs.Calls.{Call, after_call}
 use Rattle.nr_endpoint.specs.Calls.Call.{Feed, FeedOne, NextEvent, Post, Stop, OutOfMemory, Send, WriteRemote, ReadRemote, Drain, Register, Release}
 use Rattle.nr_endpoint.specs.Laws.{segment_arrivals, fpdu_arrivals, frame_arrivals, arrivals, frames_made_whole, call_events, memory_events, ClaimsStay}
 use Rattle.nr_endpoint.proofs.MemoryLaws.{memory-follows-events}

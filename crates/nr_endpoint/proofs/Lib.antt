@@ -20,3 +20,4 @@ pub mod EndLaws
 pub mod LastOutput
 pub mod PlaceOrder
 pub mod ClaimLaws
+pub mod StreamLaws
