@@ -20,3 +20,5 @@ pub mod EndLaws
 pub mod LastOutput
 pub mod PlaceOrder
 pub mod FedBytes
+pub mod ClaimLaws
+pub mod StreamLaws

@@ -177,7 +177,7 @@ unfolding with_peer_hello
 hello-place f (Ok hello) s none = refl
 hello-place f (Err reason) s none = absurd cc
 
-frame-place : (s : LinkState) (a : Awaited) (bytes : List ℕ) → (with_frame s a bytes).ended ≡ None → (with_frame s a bytes).place ≡ s.place + length bytes
+pub frame-place : (s : LinkState) (a : Awaited) (bytes : List ℕ) → (with_frame s a bytes).ended ≡ None → (with_frame s a bytes).place ≡ s.place + length bytes
 frame-place s (HelloFrom side) bytes none = hello-place (next_frame s bytes) (hello_of side bytes) s none
 frame-place s Fpdu bytes none = fpdu-place (next_frame s bytes) (segment_of bytes) s none
 

@@ -1,5 +1,5 @@
 -- Laws of an endpoint, over the calls that it stands for.
-use Rattle.std.specs.Prelude.{◌≡◌, ℕ, ◌<◌, Bool, true, false, if◌then◌else◌, List, [], ◌∷◌, ◌++◌, length, take, drop, map, Option, None, Some, Result, Ok, Err, ◌⊎◌, ◌≤◌, IfSome, Contains, All}
+use Rattle.std.specs.Prelude.{◌≡◌, ◌≢◌, ℕ, ◌+◌, ◌<◌, Bool, true, false, if◌then◌else◌, List, [], ◌∷◌, ◌++◌, length, take, drop, map, Option, None, Some, Result, Ok, Err, ◌⊎◌, ◌≤◌, IfSome, Contains, All}
 use Rattle.nr_wire.specs.Constants.{REASON_KEY, REASON_PRIVATE, REASON_LENGTH}
 use Rattle.nr_wire.specs.declared.hello.Side.{Side}
 use Rattle.nr_wire.specs.declared.hello.Side.TheVariants.{Initiator, Responder}
@@ -9,7 +9,7 @@ use Rattle.nr_wire.specs.Stream.{IsPartial, split}
 use Rattle.nr_wire.specs.Feeding.{bytes_taken}
 use Rattle.nr_wire.specs.Segment.{Segment, segment_of}
 use Rattle.nr_regions.specs.declared.right.Right.{Right}
-use Rattle.nr_regions.specs.RegisteredMemory.{RegisteredMemory, denial, live_region, held_region, bytes_in, bytes_at}
+use Rattle.nr_regions.specs.RegisteredMemory.{RegisteredMemory, Claim, IsHeld, denial, live_region, held_region, bytes_in, bytes_at}
 use Rattle.nr_regions.specs.Access.{Grant, access_of, contents, TaggedSegment}
 use Rattle.nr_regions.specs.Events.{Event, after_event, after_events, tagged_segments, StaysOpen, IsRegisteredAt, IsReleasedAt}
 use Rattle.nr_regions.specs.Events.Event.{Register as RegisterRegion, Release as ReleaseRegion, Arrive}
@@ -17,11 +17,12 @@ use Rattle.nr_link.specs.declared.end.End.{End}
 use Rattle.nr_link.specs.declared.end.End.TheVariants as ends
 use Rattle.nr_link.specs.Reasons.{REASON_SHORT, REASON_LONG}
 use Rattle.nr_link.specs.Frames.{Frame}
+use Rattle.nr_link.specs.Input.{InputState, input_of}
 use Rattle.nr_link.specs.ReceiveState.{ReadRequest, read_request_of}
 use Rattle.nr_link.specs.Ending.{tagged_access, final_output}
 use Rattle.nr_link.specs.Output.{own_hello, refusing_hello}
 use Rattle.nr_endpoint.specs.SendQueue.{SendQueue, with_response, writable, written}
-use Rattle.nr_endpoint.specs.LinkState.{LinkState, Link, has_ended, initial_link}
+use Rattle.nr_endpoint.specs.LinkState.{LinkState, Link, has_ended, peer, initial_link}
 use Rattle.nr_endpoint.specs.Judging.{segment_end, fetch_access, next_frame, with_frame}
 use Rattle.nr_endpoint.specs.Calls.{Call, IsStopReason, after_call, after_calls}
 use Rattle.nr_endpoint.specs.Calls.Call.{Feed, FeedOne, NextEvent, Post, Stop, OutOfMemory, Send, WriteRemote, ReadRemote, Drain, Register, Release}
@@ -55,6 +56,46 @@ KeepsLessThanFrame = (side : Side) (receives first_stag : ℕ) (calls : List Cal
 abbrev pub EndedKeepsNothing : Type 0
 EndedKeepsNothing = (side : Side) (receives first_stag : ℕ) (calls : List Call) →
     has_ended (after_calls (initial_link side receives first_stag) calls).state ≡ true → (after_calls (initial_link side receives first_stag) calls).rest ≡ []
+
+-- ---- What is kept of the stream
+
+-- the bytes of the peer's stream that a call hands over: a feed of one frame only those that it takes
+abbrev pub bytes_in_call : Link → Call → List ℕ
+bytes_in_call link (Feed piece) = piece
+bytes_in_call link (FeedOne piece) = take (bytes_taken link.awaited link.rest piece) piece
+bytes_in_call link NextEvent = []
+bytes_in_call link Post = []
+bytes_in_call link (Stop reason) = []
+bytes_in_call link OutOfMemory = []
+bytes_in_call link (Send message) = []
+bytes_in_call link (WriteRemote stag to bytes) = []
+bytes_in_call link (ReadRemote sink at stag to len) = []
+bytes_in_call link (Drain count) = []
+bytes_in_call link (Register buf right) = []
+bytes_in_call link (Release stag) = []
+
+abbrev pub bytes_fed : Link → List Call → List ℕ
+bytes_fed link [] = []
+bytes_fed link (call ∷ calls) = bytes_in_call link call ++ bytes_fed (after_call link call) calls
+
+pub record KeepsInput (link : Link) (input : InputState) : Type 0 where
+  pub awaited : link.awaited ≡ input.awaited
+  pub rest : link.rest ≡ input.rest
+  pub place : link.state.place ≡ input.place
+
+-- Until a side has ended, what it keeps is the rest of the bytes that were fed behind their whole frames, and its place is the end of
+-- these.
+abbrev pub StreamIsKept : Type 0
+StreamIsKept = (side : Side) (receives first_stag : ℕ) (calls : List Call) →
+    let start = initial_link side receives first_stag in
+    has_ended (after_calls start calls).state ≡ false → KeepsInput (after_calls start calls) (input_of (peer side) (bytes_fed start calls))
+
+-- Ended or not, its place and what it keeps are no more than the bytes that were fed.
+abbrev pub PlaceIsFed : Type 0
+PlaceIsFed = (side : Side) (receives first_stag : ℕ) (calls : List Call) →
+    let start = initial_link side receives first_stag in
+    let link = after_calls start calls in
+    link.state.place + length link.rest ≤ length (bytes_fed start calls)
 
 -- ---- What the peer does with the memory of a side
 
@@ -180,6 +221,13 @@ ReleasedBufferHolds = (grants : List Grant) (link : Link) (from until : ℕ) (ri
 abbrev pub ReleasedStaysDead : Type 0
 ReleasedStaysDead = (link : Link) (stag : ℕ) (calls : List Call) → stag < link.state.memory.next →
     live_region (after_calls (after_call link (Release stag)) calls).state.memory stag ≡ None
+
+-- ---- A registration, until its release
+
+-- Whatever else is called, it lasts. `release` asks it of its caller.
+abbrev pub ClaimsStay : Type 0
+ClaimsStay = (link : Link) (claim : Claim) (calls : List Call) → IsHeld link.state.memory claim → All (λ call. call ≢ Release claim.stag) calls →
+    IsHeld (after_calls link calls).state.memory claim
 
 -- ---- What a side writes before the peer's hello
 

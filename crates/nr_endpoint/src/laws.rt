@@ -1,6 +1,6 @@
 //! Laws of an endpoint, over the calls that it stands for.
 
-ghost use Rattle.nr_endpoint.specs.Laws.{PiecesJoin, StepsReach, StepsFeed, EndStays, KeepsLessThanFrame, EndedKeepsNothing, MemoryFollowsEvents, PlacesAreAllowed, PlacesAreInOrder, ReadsAreAllowed, NothingElseIsRead, OpenRegionHolds, ReleasedBufferHolds, ReleasedStaysDead, NoFpduBeforeHello, FramesEndForThese, NoFrameStops, OthersComeFromStop, MemoryComesFromOutOfMemory, EndedQueuesNothing, EndIsKept, StopQueuesLast, OutOfMemoryQueuesNothing};
+ghost use Rattle.nr_endpoint.specs.Laws.{PiecesJoin, StepsReach, StepsFeed, EndStays, KeepsLessThanFrame, EndedKeepsNothing, StreamIsKept, PlaceIsFed, MemoryFollowsEvents, PlacesAreAllowed, PlacesAreInOrder, ReadsAreAllowed, NothingElseIsRead, OpenRegionHolds, ReleasedBufferHolds, ReleasedStaysDead, ClaimsStay, NoFpduBeforeHello, FramesEndForThese, NoFrameStops, OthersComeFromStop, MemoryComesFromOutOfMemory, EndedQueuesNothing, EndIsKept, StopQueuesLast, OutOfMemoryQueuesNothing};
 
 /// What a side is after some bytes does not depend on how they were cut: to feed two pieces is to feed both joined, and one step on a
 /// piece and then the rest of it is the whole piece. A side that has ended stays as it is.
@@ -12,6 +12,13 @@ pub fn however_cut()
     // What is asked of a link above holds of every link that is reached.
     ensures partial { KeepsLessThanFrame }
     ensures ended_empty { EndedKeepsNothing }
+{}
+
+/// A side keeps of its peer's stream what the bytes that were fed leave behind their whole frames (RFC 5044 section 4). Its place and what
+/// it keeps are no more than those bytes: a caller that feeds at most 2^62 bytes in all stays within the limit of a feed.
+pub fn stream_is_kept()
+    ensures kept { StreamIsKept }
+    ensures within { PlaceIsFed }
 {}
 
 /// Against any peer, the memory of a side is that of its registrations, its releases, and the tagged segments of the frames that did not
@@ -26,6 +33,11 @@ pub fn memory_follows_accesses()
     ensures while_open { OpenRegionHolds }
     ensures released { ReleasedBufferHolds }
     ensures dead { ReleasedStaysDead }
+{}
+
+/// A region that was registered stays registered until it is released, whatever is called between: `release` may be called with it.
+pub fn claims_stay()
+    ensures { ClaimsStay }
 {}
 
 /// Before the peer's hello was accepted, a side writes its hello alone (RFC 5044 section 7.1).

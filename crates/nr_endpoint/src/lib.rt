@@ -33,4 +33,7 @@ mod staging;
 pub use endpoint::Endpoint;
 pub use event::Event;
 pub use fault::{DrainFault, ReadRefused};
-pub use laws::{however_cut, memory_follows_accesses, no_fpdu_before_hello, reasons_of_frames};
+pub use laws::{
+    claims_stay, however_cut, memory_follows_accesses, no_fpdu_before_hello, reasons_of_frames,
+    stream_is_kept,
+};
