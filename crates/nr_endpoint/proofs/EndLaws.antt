@@ -186,7 +186,7 @@ placed-ended : (s : LinkState) (b last : Bool) (n : ℕ) → (cond b (with_read_
 placed-ended s true last n = refl
 placed-ended s false last n = refl
 
-effect-ended : (s : LinkState) (segment : Segment) → (with_effect segment s).ended ≡ s.ended
+pub effect-ended : (s : LinkState) (segment : Segment) → (with_effect segment s).ended ≡ s.ended
 unfolding with_effect
 effect-ended s (Tagged last opcode stag to payload) = placed-ended (record s { memory = after_place s.memory stag to payload }) (eqb opcode OPCODE_READ_RESPONSE) last (length payload)
 effect-ended s (Untagged last opcode w queue msn offset payload) = refl

@@ -22,3 +22,4 @@ pub mod PlaceOrder
 pub mod FedBytes
 pub mod ClaimLaws
 pub mod StreamLaws
+pub mod GrantLaws

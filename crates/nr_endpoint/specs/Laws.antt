@@ -9,8 +9,8 @@ use Rattle.nr_wire.specs.Stream.{IsPartial, split}
 use Rattle.nr_wire.specs.Feeding.{bytes_taken}
 use Rattle.nr_wire.specs.Segment.{Segment, segment_of}
 use Rattle.nr_regions.specs.declared.right.Right.{Right}
-use Rattle.nr_regions.specs.RegisteredMemory.{RegisteredMemory, Claim, IsHeld, denial, live_region, held_region, bytes_in, bytes_at}
-use Rattle.nr_regions.specs.Access.{Grant, access_of, contents, TaggedSegment}
+use Rattle.nr_regions.specs.RegisteredMemory.{RegisteredMemory, Access, Claim, IsHeld, denial, live_region, region_offer, held_region, bytes_in, bytes_at}
+use Rattle.nr_regions.specs.Access.{Grant, access_of, contents, TaggedSegment, grant_at, grant_denial, grant_offer}
 use Rattle.nr_regions.specs.Events.{Event, after_event, after_events, tagged_segments, StaysOpen, IsRegisteredAt, IsReleasedAt}
 use Rattle.nr_regions.specs.Events.Event.{Register as RegisterRegion, Release as ReleaseRegion, Arrive}
 use Rattle.nr_link.specs.declared.end.End.{End}
@@ -19,11 +19,11 @@ use Rattle.nr_link.specs.Reasons.{REASON_SHORT, REASON_LONG}
 use Rattle.nr_link.specs.Frames.{Frame}
 use Rattle.nr_link.specs.Input.{InputState, input_of}
 use Rattle.nr_link.specs.ReceiveState.{ReadRequest, read_request_of}
-use Rattle.nr_link.specs.Ending.{tagged_access, final_output}
+use Rattle.nr_link.specs.Ending.{tagged_access, final_output, frame_end}
 use Rattle.nr_link.specs.Output.{own_hello, refusing_hello}
 use Rattle.nr_endpoint.specs.SendQueue.{SendQueue, with_response, writable, written}
 use Rattle.nr_endpoint.specs.LinkState.{LinkState, Link, has_ended, peer, initial_link}
-use Rattle.nr_endpoint.specs.Judging.{segment_end, fetch_access, next_frame, with_frame}
+use Rattle.nr_endpoint.specs.Judging.{readiness, segment_end, fetch_access, next_frame, with_frame}
 use Rattle.nr_endpoint.specs.Calls.{Call, IsStopReason, after_call, after_calls}
 use Rattle.nr_endpoint.specs.Calls.Call.{Feed, FeedOne, NextEvent, Post, Stop, OutOfMemory, Send, WriteRemote, ReadRemote, Drain, Register, Release}
 
@@ -312,6 +312,20 @@ OthersComeFromStop = (side : Side) (receives first_stag : ℕ) (calls : List Cal
 abbrev pub MemoryComesFromOutOfMemory : Type 0
 MemoryComesFromOutOfMemory = (side : Side) (receives first_stag : ℕ) (calls : List Call) →
     (after_calls (initial_link side receives first_stag) calls).state.ended ≡ Some ends.Memory → Contains calls OutOfMemory
+
+-- Grants deny what the memory denies, of each access of a frame that ends here.
+abbrev pub DeniesAlike : RegisteredMemory → List Grant → ℕ → Type 0
+DeniesAlike m grants end = (access : Access) → denial m access ≡ grant_denial grants access end
+
+-- So an FPDU ends a side exactly where, and as, it ends a side that offered these grants, by the whole list of nr_link.
+abbrev pub GrantsEndAlike : Type 0
+GrantsEndAlike = (s : LinkState) (grants : List Grant) (frame : List ℕ) → s.ended ≡ None →
+    DeniesAlike s.memory grants (next_frame s frame).end → (with_frame s Fpdu frame).ended ≡ frame_end (readiness s) grants (next_frame s frame)
+
+-- They do where memory and grants offer the same under every STag.
+abbrev pub OffersDenyAlike : Type 0
+OffersDenyAlike = (m : RegisteredMemory) (grants : List Grant) (end : ℕ) →
+    ((stag : ℕ) → region_offer (live_region m stag) ≡ grant_offer (grant_at grants stag end)) → DeniesAlike m grants end
 
 -- ---- What a side writes once it has ended
 
