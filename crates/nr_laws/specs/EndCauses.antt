@@ -1,5 +1,5 @@
 -- Why a side of a matched link ends first.
-use Rattle.std.specs.Prelude.{◌≡◌, ℕ, List, [], None, Some, ◌⊎◌}
+use Rattle.std.specs.Prelude.{◌≡◌, ℕ, List, [], ◌++◌, None, Some, ◌⊎◌}
 use Rattle.nr_wire.specs.declared.hello.Side.TheVariants.{Initiator, Responder}
 use Rattle.nr_regions.specs.declared.denied.Denied.{Denied}
 use Rattle.nr_link.specs.declared.end.End.{End}
@@ -22,6 +22,10 @@ pub record KeepLaws (opened : LinkParameters) (link : ℕ) (run : List Mark) : T
   pub server : AtEachMark (ServedMark IsAll opened link) [] run
   pub matched : Matched link run
   pub grant : KeepsGrant opened link run
+
+-- They kept them at the first marks of a run too: so what follows from these laws is said of each side up to its end.
+abbrev pub LawsKeptBefore : Type 0
+LawsKeptBefore = (opened : LinkParameters) (link : ℕ) (run more : List Mark) → KeepLaws opened link (run ++ more) → KeepLaws opened link run
 
 -- what a server makes of a call may end it for these reasons: a payload without an RPC call head, a head with another xid
 abbrev pub IsCallReason : ℕ → Type 0

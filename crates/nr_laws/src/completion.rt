@@ -1,7 +1,7 @@
 //! What a link that stays gives to its callers.
 
 ghost use Rattle.nr_laws.specs.Completion.{CallsComplete};
-ghost use Rattle.nr_laws.specs.EndCauses.{ServerEndsForCalls, ClientEndsForReplies};
+ghost use Rattle.nr_laws.specs.EndCauses.{ServerEndsForCalls, ClientEndsForReplies, LawsKeptBefore};
 
 /// On a matched link of which no side has ended, where each side wrote all its output, each side received all that the
 /// other sent, and no call that is whole waits to be executed: no call is outstanding, since a message of each accepted call
@@ -21,4 +21,6 @@ pub fn calls_complete()
 pub fn segments_keep_the_rules()
     ensures server { ServerEndsForCalls }
     ensures client { ClientEndsForReplies }
+    // Where both sides have ended, the first end is that of a run which stops before the other's.
+    ensures before { LawsKeptBefore }
 {}

@@ -1,3 +1,4 @@
+use Rattle.nr_laws.proofs.LawsBefore.{laws-kept-before}
 use Rattle.nr_laws.proofs.FirstEnds.{server-ends-for-calls, client-ends-for-replies}
 use Rattle.nr_laws.proofs.completion.segments_keep_the_rules.Goals as goal
 
@@ -6,3 +7,6 @@ returns-clause-server c = server-ends-for-calls
 
 pub returns-clause-client : goal.returns-clause-client
 returns-clause-client c = client-ends-for-replies
+
+pub returns-clause-before : goal.returns-clause-before
+returns-clause-before c = laws-kept-before

@@ -1,0 +1,16 @@
+-- The laws of a link at the first marks of a run.
+use Rattle.std.proofs.Common.{[]}
+use Rattle.nr_reduce.specs.Credits.{WithinGrant}
+use Rattle.nr_reduce.specs.Matched.{MatchedMark}
+use Rattle.nr_reduce.specs.Asked.{AskedMark, IsAll}
+use Rattle.nr_reduce.specs.Served.{ServedMark}
+use Rattle.nr_reduce.proofs.Steps.{AtEachMark-first}
+use Rattle.nr_laws.specs.EndCauses.{LawsKeptBefore}
+
+pub laws-kept-before : LawsKeptBefore
+laws-kept-before opened link run more laws = record {
+  client = AtEachMark-first (AskedMark IsAll opened link) [] run more laws.client;
+  server = AtEachMark-first (ServedMark IsAll opened link) [] run more laws.server;
+  matched = AtEachMark-first (MatchedMark link) [] run more laws.matched;
+  grant = AtEachMark-first (WithinGrant opened link) [] run more laws.grant;
+}
