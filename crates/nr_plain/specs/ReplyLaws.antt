@@ -1,5 +1,5 @@
 -- The laws of the plain server's replies.
-use Rattle.std.specs.Prelude.{◌≡◌, ◌≢◌, ℕ, ◌≤◌, List, [], length, Option, None, Some, Result, Ok, Err}
+use Rattle.std.specs.Prelude.{◌≡◌, ◌≢◌, ℕ, ◌≤◌, List, [], length, Option, None, Some, is_some, Result, Ok, Err, is_ok}
 use Rattle.nr_xdr.specs.Item.{IsBytes}
 use Rattle.nr_header.specs.WithinLimits.{ListsWithin}
 use Rattle.nr_header.specs.declared.header.ChunkLists.{ChunkLists}
@@ -18,6 +18,7 @@ use Rattle.nr_tree.specs.Sane.{IsSane}
 use Rattle.nr_plain.specs.Setup.{Parameters, Setup, State}
 use Rattle.nr_plain.specs.Replies.{Answer, plain_answer, plain_reply}
 use Rattle.nr_plain.specs.ReplySizes.{most_reply}
+use Rattle.nr_plain.specs.Added.{entries_of_call}
 
 -- the transaction's number of the reply head that was read, if one was
 abbrev pub xid_of_reply : Result ReplyHead ℕ → Option ℕ
@@ -28,6 +29,16 @@ xid_of_reply (Err at) = None
 abbrev pub RepliesBeginWithTheXid : Type 0
 RepliesBeginWithTheXid = (s : Parameters) (st : State) (m : Moment) (payload : List ℕ) (a : Answer) → IsBytes payload →
     plain_answer s st m payload ≡ Some a → xid_of_reply (reply_of a.reply) ≡ xid_of_call (call_of payload)
+
+-- So does a reply at any place of a journal.
+abbrev pub PlacedRepliesBeginWithTheXid : Type 0
+PlacedRepliesBeginWithTheXid = (s : Setup) (J : List Entry) (place : ℕ) (m : Moment) (payload reply : List ℕ) → IsBytes payload →
+    plain_reply s J place m payload ≡ Some reply → xid_of_reply (reply_of reply) ≡ xid_of_call (call_of payload)
+
+-- There is a reply, at any place, to just the payloads that begin with a call head.
+abbrev pub CallsAloneHaveReplies : Type 0
+CallsAloneHaveReplies = (s : Setup) (J : List Entry) (place : ℕ) (m : Moment) (payload : List ℕ) →
+    is_some (plain_reply s J place m payload) ≡ is_ok (call_of payload)
 
 -- A reply at a place of a journal is no longer than its call's program, version and procedure let it be, where the first tree is sane.
 abbrev pub RepliesAreWithinTheirLimit : Type 0
@@ -44,6 +55,12 @@ abbrev pub ChangesFitEveryOffer : Type 0
 ChangesFitEveryOffer = (s : Parameters) (st : State) (m : Moment) (payload : List ℕ) (a : Answer) (offer : ChunkLists) (down : ℕ) →
     plain_answer s st m payload ≡ Some a → a.entries ≢ [] → ListsWithin offer → send_max ≤ down →
     answer_of_target offer down a.reply (target_of (call_of payload)) ≢ None
+
+-- So does it at any place of a journal, where the call and the reply tell that there is an entry.
+abbrev pub PlacedChangesFitEveryOffer : Type 0
+PlacedChangesFitEveryOffer = (s : Setup) (J : List Entry) (place : ℕ) (m : Moment) (payload reply : List ℕ) (offer : ChunkLists) (down : ℕ) →
+    plain_reply s J place m payload ≡ Some reply → entries_of_call m payload reply ≢ [] → ListsWithin offer → send_max ≤ down →
+    answer_of_target offer down reply (target_of (call_of payload)) ≢ None
 
 -- What a call offers in the form Auto holds its reply at each place of a journal, where the first tree is sane.
 abbrev pub AutoOffersHoldTheirReplies : Type 0

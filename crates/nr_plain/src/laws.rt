@@ -1,10 +1,13 @@
 //! Laws of replies: whose they are, and how long they may be.
 
-ghost use Rattle.nr_plain.specs.ReplyLaws.{RepliesBeginWithTheXid, RepliesAreWithinTheirLimit, ChangesAreShort, ChangesFitEveryOffer, AutoOffersHoldTheirReplies};
+ghost use Rattle.nr_plain.specs.ReplyLaws.{RepliesBeginWithTheXid, PlacedRepliesBeginWithTheXid, CallsAloneHaveReplies, RepliesAreWithinTheirLimit, ChangesAreShort, ChangesFitEveryOffer, PlacedChangesFitEveryOffer, AutoOffersHoldTheirReplies};
 
-/// A reply begins with a reply head whose xid is that of its call (RFC 5531 section 9).
+/// A reply begins with a reply head whose xid is that of its call (RFC 5531 section 9), and there is one just to a payload that begins
+/// with a call head.
 pub fn replies_begin_with_the_xid()
-    ensures { RepliesBeginWithTheXid }
+    ensures answers { RepliesBeginWithTheXid }
+    ensures placed { PlacedRepliesBeginWithTheXid }
+    ensures calls { CallsAloneHaveReplies }
 {}
 
 /// A reply at any place of a journal is at most as long as [`nr_reduce::largest_reply`] says of its call, where a server was opened with
@@ -18,6 +21,7 @@ pub fn replies_are_within_their_limit()
 pub fn changes_fit_every_offer()
     ensures short { ChangesAreShort }
     ensures holds { ChangesFitEveryOffer }
+    ensures placed { PlacedChangesFitEveryOffer }
 {}
 
 /// A call in the form Auto offers enough: its offer holds its reply at any place of a journal, where a server was opened with a sane
