@@ -1,11 +1,11 @@
 -- The laws of the plain server's replies.
-use Rattle.std.specs.Prelude.{◌≡◌, ◌≢◌, ℕ, ◌≤◌, List, [], length, Option, None, Some, is_some, Result, Ok, Err, is_ok}
+use Rattle.std.specs.Prelude.{◌≡◌, ◌≢◌, ℕ, ◌≤◌, List, [], length, None, Some, is_some, Ok, is_ok}
 use Rattle.nr_xdr.specs.Item.{IsBytes}
 use Rattle.nr_header.specs.WithinLimits.{ListsWithin}
 use Rattle.nr_header.specs.declared.header.ChunkLists.{ChunkLists}
 use Rattle.nr_rpc.specs.Reading.{call_of, reply_of, target_of, xid_of_call}
-use Rattle.nr_rpc.specs.declared.head.ReplyHead.{ReplyHead}
-use Rattle.nr_reduce.specs.ClientMessages.{reply_xid}
+use Rattle.nr_reduce.specs.IsPlain.{xid_of_reply, IsPlain}
+use Rattle.nr_reduce.specs.PlainJournal.{PlainServer}
 use Rattle.nr_reduce.specs.declared.mark.Moment.{Moment}
 use Rattle.nr_reduce.specs.declared.mark.Entry.{Entry}
 use Rattle.nr_reduce.specs.declared.call.Form.TheVariants as forms
@@ -19,11 +19,6 @@ use Rattle.nr_plain.specs.Setup.{Parameters, Setup, State}
 use Rattle.nr_plain.specs.Replies.{Answer, plain_answer, plain_reply}
 use Rattle.nr_plain.specs.ReplySizes.{most_reply}
 use Rattle.nr_plain.specs.Added.{entries_of_call}
-
--- the transaction's number of the reply head that was read, if one was
-abbrev pub xid_of_reply : Result ReplyHead ℕ → Option ℕ
-xid_of_reply (Ok head) = Some (reply_xid head)
-xid_of_reply (Err at) = None
 
 -- A reply begins with a reply head, whose xid is that of its call.
 abbrev pub RepliesBeginWithTheXid : Type 0
@@ -67,3 +62,11 @@ abbrev pub AutoOffersHoldTheirReplies : Type 0
 AutoOffersHoldTheirReplies = (s : Setup) (J : List Entry) (place : ℕ) (m : Moment) (payload reply : List ℕ) (up down stag : ℕ) (p : Plan) → IsSane s.tree →
     IsBytes payload → plain_reply s J place m payload ≡ Some reply → send_max ≤ down → plan_of payload forms.Auto up down ≡ Ok p →
     answer_of_target (lists_of stag p) down reply (target_of (call_of payload)) ≢ None
+
+-- the plain server that was opened with this setup: its reply over a journal, at the journal's end
+abbrev pub plain_server : Setup → PlainServer
+plain_server s = record { Replies = λ J m payload reply. plain_reply s J (length J) m payload ≡ Some reply; adds = entries_of_call }
+
+-- It keeps what a run asks of a plain server, where the first tree is sane.
+abbrev pub ServerIsPlain : Type 0
+ServerIsPlain = (s : Setup) → IsSane s.tree → IsPlain (plain_server s)

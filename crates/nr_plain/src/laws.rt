@@ -1,6 +1,6 @@
 //! Laws of replies: whose they are, and how long they may be.
 
-ghost use Rattle.nr_plain.specs.ReplyLaws.{RepliesBeginWithTheXid, PlacedRepliesBeginWithTheXid, CallsAloneHaveReplies, RepliesAreWithinTheirLimit, ChangesAreShort, ChangesFitEveryOffer, PlacedChangesFitEveryOffer, AutoOffersHoldTheirReplies};
+ghost use Rattle.nr_plain.specs.ReplyLaws.{RepliesBeginWithTheXid, PlacedRepliesBeginWithTheXid, CallsAloneHaveReplies, RepliesAreWithinTheirLimit, ChangesAreShort, ChangesFitEveryOffer, PlacedChangesFitEveryOffer, AutoOffersHoldTheirReplies, ServerIsPlain};
 
 /// A reply begins with a reply head whose xid is that of its call (RFC 5531 section 9), and there is one just to a payload that begins
 /// with a call head.
@@ -28,4 +28,9 @@ pub fn changes_fit_every_offer()
 /// tree.
 pub fn auto_offers_hold_their_replies()
     ensures { AutoOffersHoldTheirReplies }
+{}
+
+/// A server that was opened with a sane tree keeps all that a run asks of a plain server.
+pub fn server_is_plain()
+    ensures { ServerIsPlain }
 {}

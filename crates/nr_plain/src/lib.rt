@@ -38,6 +38,6 @@ pub use journal_laws::{
 };
 pub use laws::{
     auto_offers_hold_their_replies, changes_fit_every_offer, replies_are_within_their_limit,
-    replies_begin_with_the_xid,
+    replies_begin_with_the_xid, server_is_plain,
 };
 pub use server::{Reply, Server};

@@ -10,6 +10,7 @@ pub mod Outlines
 pub mod Cuts
 pub mod History
 pub mod PlainJournal
+pub mod IsPlain
 pub mod AtEachMark
 pub mod Matched
 pub mod Events
