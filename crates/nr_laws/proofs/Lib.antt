@@ -97,3 +97,6 @@ pub mod AnsweredCalls
 pub mod AnsweredSteps
 pub mod SinkCount
 pub mod ReadOutcomes
+pub mod WrittenBytes
+pub mod ConveyedCalls
+pub mod ExecutedPayloads
