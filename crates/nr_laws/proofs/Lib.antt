@@ -100,3 +100,4 @@ pub mod ReadOutcomes
 pub mod WrittenBytes
 pub mod ConveyedCalls
 pub mod ExecutedPayloads
+pub mod OwnPayloads

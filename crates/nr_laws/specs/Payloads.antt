@@ -38,3 +38,10 @@ pub record HasSubmit (opened : LinkParameters) (link : ℕ) (run : List Mark) (x
 abbrev pub PayloadsAreSubmitted : Type 0
 PayloadsAreSubmitted = (opened : LinkParameters) (link : ℕ) (run before : List Mark) (xid : ℕ) (moment : Moment) (payload : List ℕ) (place : ℕ) (reply : List ℕ) →
     IsTyped run → MatchedSoFar opened link run → MarkAt run before (marks.Execute link xid moment payload place reply) → HasSubmit opened link before xid payload
+
+-- So it is of each call that was accepted under its xid, anywhere in the run.
+abbrev pub PayloadsAreOwn : Type 0
+PayloadsAreOwn = (opened : LinkParameters) (link : ℕ) (run earlier before : List Mark) (call : Call) (form : Form) (plan : Plan) (xid : ℕ) (moment : Moment) (payload : List ℕ) (place : ℕ) (reply : List ℕ) →
+    IsTyped run → MatchedSoFar opened link run →
+    MarkAt run earlier (marks.Submit link call form (submissions.Accepted xid)) → MarkAt run before (marks.Execute link xid moment payload place reply) →
+    plan_for (client opened link earlier).state xid call form ≡ Ok plan → plan.read ≡ [] → form_conveyed form (call_payload xid call) ≡ Some payload
