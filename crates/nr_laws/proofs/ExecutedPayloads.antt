@@ -45,7 +45,7 @@ unfolding plan_for
 planned-by opened link before xid call form p e = e
 
 -- what is typed of the Submit of an executed call
-submit-typed : (opened : LinkParameters) (link : ℕ) (before : List Mark) (xid : ℕ) (payload : List ℕ) (a : ExecutedAt opened link before xid payload) → IsTyped before
+pub submit-typed : (opened : LinkParameters) (link : ℕ) (before : List Mark) (xid : ℕ) (payload : List ℕ) (a : ExecutedAt opened link before xid payload) → IsTyped before
     → IsBytes (call_payload a.submit.submitted.xid a.submit.submitted.call) × IsTypedForm a.submit.submitted.form
 submit-typed opened link before xid payload a typed =
     let w = a.submit.submitted in

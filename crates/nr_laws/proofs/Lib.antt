@@ -101,3 +101,4 @@ pub mod WrittenBytes
 pub mod ConveyedCalls
 pub mod ExecutedPayloads
 pub mod OwnPayloads
+pub mod ConveyedForms
