@@ -102,3 +102,4 @@ pub mod ConveyedCalls
 pub mod ExecutedPayloads
 pub mod OwnPayloads
 pub mod ConveyedForms
+pub mod ServerReadsOfRuns
