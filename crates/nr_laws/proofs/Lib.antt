@@ -103,3 +103,4 @@ pub mod ExecutedPayloads
 pub mod OwnPayloads
 pub mod ConveyedForms
 pub mod ServerReadsOfRuns
+pub mod ServerMemory
