@@ -98,3 +98,10 @@ pub mod AnsweredSteps
 pub mod SinkCount
 pub mod ReadOutcomes
 pub mod LawsBefore
+pub mod WrittenBytes
+pub mod ConveyedCalls
+pub mod ExecutedPayloads
+pub mod OwnPayloads
+pub mod ConveyedForms
+pub mod ServerReadsOfRuns
+pub mod ServerMemory

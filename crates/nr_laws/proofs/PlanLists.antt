@@ -20,6 +20,8 @@ use Rattle.nr_reduce.specs.Limits.{send_max, given_max}
 use Rattle.nr_reduce.specs.Plans.{TooLarge, plan_of, plan_size, plan_in_form, given_plan, given_read, given_total, within, total, has_segment, one_if, read_stag, write_stag, reply_stag, regions_needed, segments_from, entries_from, read_list, write_list, reply_chunk, lists_of, body_by, call_message}
 use Rattle.nr_reduce.specs.Plans as plans
 use Rattle.nr_reduce.specs.Undone.{IsNotGiven, MessageConveys, lists_by, inline_by}
+use Rattle.nr_reduce.specs.RunLaws.{known_stream}
+use Rattle.nr_reduce.specs.ServerMessages.{no_stream}
 use Rattle.nr_reduce.proofs.Laid.{added_up, sum-added}
 use Rattle.nr_laws.proofs.SameLists.{peel-word, lists-same}
 
@@ -73,7 +75,7 @@ some-true : (ns : List ℕ) → 0 < length ns → has_segment (Some ns) ≡ true
 some-true [] h = absurd (omega (arith, h))
 some-true (n ∷ ns) h = refl
 
-given-fit : (payload : List ℕ) (offer : Offer) (stag : ℕ) → given_total offer ≤ given_max → offer.read_at < 2 ^ 32 → plan_size (given_plan payload offer) ≤ send_max → stag + regions_needed (given_plan payload offer) ≤ 2 ^ 32 → AllFit (lists_items (lists_of stag (given_plan payload offer)))
+pub given-fit : (payload : List ℕ) (offer : Offer) (stag : ℕ) → given_total offer ≤ given_max → offer.read_at < 2 ^ 32 → plan_size (given_plan payload offer) ≤ send_max → stag + regions_needed (given_plan payload offer) ≤ 2 ^ 32 → AllFit (lists_items (lists_of stag (given_plan payload offer)))
 unfolding lists_of regions_needed
 given-fit payload offer stag small at sized stags = by offer.read offer.write offer.reply (omega (arith, small)) (counts (given_plan payload offer) sized) stags
   where
@@ -98,10 +100,17 @@ given-fit payload offer stag small at sized stags = by offer.read offer.write of
 
 -- ---- What is read
 
+-- the stream of a plan, where it is there before anything is read
+abbrev pub stream_known : Option ℕ → List ℕ → List ReadSegment → Option (List ℕ)
+stream_known None stream read = Some stream
+stream_known (Some position) stream read = cond (eqb position 0) (no_stream read) (Some stream)
+
 pub record ReadsLists (stag : ℕ) (p : Plan) (message : List ℕ) (header : Header) : Type 0 where
   pub lists : lists_by header.body ≡ lists_of stag p
   -- a stream that is in the message
   pub inline : inline_by message header.body ≡ plans.inline_stream p
+  -- a stream that is there before anything is read
+  pub known : known_stream message header.body ≡ stream_known p.read_at p.inline (lists_of stag p).read
 
 header-is : (a b : Header) → ◌≡◌ {A = Result Header HeaderFault} (Ok a) (Ok b) → a ≡ b
 header-is a b e = cc
@@ -120,6 +129,7 @@ fixed-same a b c d e f g h more others x y p q is =
 
 msg-reads : (xid credit : ℕ) (header : Header) (ls : ChunkLists) (inline : List ℕ) (at : ℕ) → IsMessage header (header_encoding (record { xid = xid; credit = credit; body = Msg ls at }) ++ inline) → AllFit (lists_items ls) → xid < 2 ^ 32 → credit < 2 ^ 32
     → (lists_by header.body ≡ ls) × (inline_by (header_encoding (record { xid = xid; credit = credit; body = Msg ls at }) ++ inline) header.body ≡ Some inline)
+    × (known_stream (header_encoding (record { xid = xid; credit = credit; body = Msg ls at }) ++ inline) header.body ≡ Some inline)
 msg-reads xid credit header ls inline at m fits fx fc = by header.body m.fits m.parts m.place
   where
     whole : List ℕ
@@ -129,20 +139,21 @@ msg-reads xid credit header ls inline at m fits fx fc = by header.body m.fits m.
     own = (fx, (omega arith, (fc, (omega arith, fits))))
 
     by : (b : Body) → AllFit (body_items header.xid header.credit b) → whole ≡ header_encoding (record { xid = header.xid; credit = header.credit; body = b }) ++ m.stream → Rattle.nr_header.specs.WithinLimits.StreamAt b (length (header_encoding (record { xid = header.xid; credit = header.credit; body = b })))
-        → (lists_by b ≡ ls) × (inline_by whole b ≡ Some inline)
+        → (lists_by b ≡ ls) × (inline_by whole b ≡ Some inline) × (known_stream whole b ≡ Some inline)
     by (Msg ms place) f parts where_is =
         let k = fixed-same xid 1 credit 0 header.xid 1 header.credit 0 (lists_items ls) (lists_items ms) inline m.stream own f parts in
-        let s = lists-same ls ms inline m.stream fits f.1.1.1.1 k.1 in (
-          sym s.same,
-          ap (λ (bytes : List ℕ). Some (drop place bytes)) parts
-              ∙ ap (λ (bytes : List ℕ). Some bytes) (drop_at (header_encoding (record { xid = header.xid; credit = header.credit; body = Msg ms place })) m.stream place (sym where_is)) ∙ ap (λ (bytes : List ℕ). Some bytes) (sym s.rest),
-        )
+        let s = lists-same ls ms inline m.stream fits f.1.1.1.1 k.1 in
+        let stream : Some (drop place whole) ≡ Some inline =
+        ap (λ (bytes : List ℕ). Some (drop place bytes)) parts
+        ∙ ap (λ (bytes : List ℕ). Some bytes) (drop_at (header_encoding (record { xid = header.xid; credit = header.credit; body = Msg ms place })) m.stream place (sym where_is)) ∙ ap (λ (bytes : List ℕ). Some bytes) (sym s.rest) in
+        (sym s.same, stream, stream)
     by (Nomsg ms) f parts where_is = absurd (let k = (fixed-same xid 1 credit 0 header.xid 1 header.credit 1 (lists_items ls) (lists_items ms) inline m.stream own f parts).0 in omega (arith, k))
     by (ErrVers version low high) f parts where_is = absurd (let k = (fixed-same xid 1 credit 0 header.xid version header.credit 4 (lists_items ls) (Unsigned 1 ∷ (Unsigned low ∷ (Unsigned high ∷ []))) inline m.stream own f parts).0 in omega (arith, k))
     by (ErrChunk version) f parts where_is = absurd (let k = (fixed-same xid 1 credit 0 header.xid version header.credit 4 (lists_items ls) (Unsigned 2 ∷ []) inline m.stream own f parts).0 in omega (arith, k))
 
 nomsg-reads : (xid credit : ℕ) (header : Header) (ls : ChunkLists) (inline : List ℕ) → IsMessage header (header_encoding (record { xid = xid; credit = credit; body = Nomsg ls }) ++ inline) → AllFit (lists_items ls) → xid < 2 ^ 32 → credit < 2 ^ 32
     → (lists_by header.body ≡ ls) × (inline_by (header_encoding (record { xid = xid; credit = credit; body = Nomsg ls }) ++ inline) header.body ≡ None)
+    × (known_stream (header_encoding (record { xid = xid; credit = credit; body = Nomsg ls }) ++ inline) header.body ≡ no_stream ls.read)
 nomsg-reads xid credit header ls inline m fits fx fc = by header.body m.fits m.parts
   where
     whole : List ℕ
@@ -151,15 +162,16 @@ nomsg-reads xid credit header ls inline m fits fx fc = by header.body m.fits m.p
     own : AllFit (fixed_items xid 1 credit 1 (lists_items ls))
     own = (fx, (omega arith, (fc, (omega arith, fits))))
 
-    by : (b : Body) → AllFit (body_items header.xid header.credit b) → whole ≡ header_encoding (record { xid = header.xid; credit = header.credit; body = b }) ++ m.stream → (lists_by b ≡ ls) × (inline_by whole b ≡ None)
+    by : (b : Body) → AllFit (body_items header.xid header.credit b) → whole ≡ header_encoding (record { xid = header.xid; credit = header.credit; body = b }) ++ m.stream → (lists_by b ≡ ls) × (inline_by whole b ≡ None) × (known_stream whole b ≡ no_stream ls.read)
     by (Msg ms place) f parts = absurd (let k = (fixed-same xid 1 credit 1 header.xid 1 header.credit 0 (lists_items ls) (lists_items ms) inline m.stream own f parts).0 in omega (arith, k))
     by (Nomsg ms) f parts =
         let k = fixed-same xid 1 credit 1 header.xid 1 header.credit 1 (lists_items ls) (lists_items ms) inline m.stream own f parts in
-        (sym (lists-same ls ms inline m.stream fits f.1.1.1.1 k.1).same, refl)
+        let same : ms ≡ ls = sym (lists-same ls ms inline m.stream fits f.1.1.1.1 k.1).same in
+        (same, refl, ap (λ (l : ChunkLists). no_stream l.read) same)
     by (ErrVers version low high) f parts = absurd (let k = (fixed-same xid 1 credit 1 header.xid version header.credit 4 (lists_items ls) (Unsigned 1 ∷ (Unsigned low ∷ (Unsigned high ∷ []))) inline m.stream own f parts).0 in omega (arith, k))
     by (ErrChunk version) f parts = absurd (let k = (fixed-same xid 1 credit 1 header.xid version header.credit 4 (lists_items ls) (Unsigned 2 ∷ []) inline m.stream own f parts).0 in omega (arith, k))
 
-fitting-reads : (xid credit stag : ℕ) (p : Plan) (header : Header) → IsBytes (call_message xid credit stag p) → header_of (call_message xid credit stag p) ≡ Ok header → AllFit (lists_items (lists_of stag p)) → xid < 2 ^ 32 → credit < 2 ^ 32 → ReadsLists stag p (call_message xid credit stag p) header
+pub fitting-reads : (xid credit stag : ℕ) (p : Plan) (header : Header) → IsBytes (call_message xid credit stag p) → header_of (call_message xid credit stag p) ≡ Ok header → AllFit (lists_items (lists_of stag p)) → xid < 2 ^ 32 → credit < 2 ^ 32 → ReadsLists stag p (call_message xid credit stag p) header
 unfolding call_message
 fitting-reads xid credit stag p header bytes is fits fx fc = by p.read_at refl (header_take _ header bytes is)
   where
@@ -171,13 +183,14 @@ fitting-reads xid credit stag p header bytes is fits fx fc = by p.read_at refl (
 
     by_kind : (position : ℕ) → p.read_at ≡ Some position → (b : Bool) → eqb position 0 ≡ b → IsMessage header (header_encoding (record { xid = xid; credit = credit; body = cond b (Nomsg ls) (Msg ls 0) }) ++ p.inline)
         → (lists_by header.body ≡ ls) × (inline_by (header_encoding (record { xid = xid; credit = credit; body = cond b (Nomsg ls) (Msg ls 0) }) ++ p.inline) header.body ≡ cond b None (Some p.inline))
+        × (known_stream (header_encoding (record { xid = xid; credit = credit; body = cond b (Nomsg ls) (Msg ls 0) }) ++ p.inline) header.body ≡ cond b (no_stream ls.read) (Some p.inline))
     by_kind position own true at_zero m = nomsg-reads xid credit header ls p.inline m fits fx fc
     by_kind position own false at_zero m = msg-reads xid credit header ls p.inline 0 m fits fx fc
 
     by : (o : Option ℕ) → p.read_at ≡ o → IsMessage header (message p.read_at) → ReadsLists stag p (message p.read_at) header
     by None own m =
         let r = msg-reads xid credit header ls p.inline 0 (subst (λ (o : Option ℕ). IsMessage header (message o)) own m) fits fx fc in
-        record { lists = r.0; inline = (λ i. inline_by (message (own i)) header.body) ∙ r.1 ∙ ap (λ (o : Option ℕ). plans.inline_at o p.inline) (sym own) }
+        record { lists = r.0; inline = (λ i. inline_by (message (own i)) header.body) ∙ r.1 ∙ ap (λ (o : Option ℕ). plans.inline_at o p.inline) (sym own); known = (λ i. known_stream (message (own i)) header.body) ∙ r.2 ∙ ap (λ (o : Option ℕ). stream_known o p.inline ls.read) (sym own) }
     by (Some position) own m =
         let r = by_kind position own (eqb position 0) refl (subst (λ (o : Option ℕ). IsMessage header (message o)) own m) in
-        record { lists = r.0; inline = (λ i. inline_by (message (own i)) header.body) ∙ r.1 ∙ ap (λ (o : Option ℕ). plans.inline_at o p.inline) (sym own) }
+        record { lists = r.0; inline = (λ i. inline_by (message (own i)) header.body) ∙ r.1 ∙ ap (λ (o : Option ℕ). plans.inline_at o p.inline) (sym own); known = (λ i. known_stream (message (own i)) header.body) ∙ r.2 ∙ ap (λ (o : Option ℕ). stream_known o p.inline ls.read) (sym own) }

@@ -6,6 +6,8 @@
 
 mod completion;
 mod laws;
+mod payloads;
 
 pub use completion::{calls_complete, segments_keep_the_rules};
 pub use laws::{completions, grant, once, places, touches};
+pub use payloads::executed_payloads;

@@ -1,0 +1,184 @@
+-- A call that was received with the lists and the stream of its plan conveys what its form conveys, where its read chunk brings the
+-- plan's region.
+use Rattle.std.proofs.Common.{◌≡◌, ℕ, zero, suc, ◌+◌, ◌-◌, ◌^◌, ◌≤◌, Bool, true, false, cond, eqb, not, List, [], ◌∷◌, length, take, drop, replicate, Option, None, Some, Ok, refl, sym, ap, subst, ◌∙◌, arith, length-append, eqb-true}
+use Rattle.std.specs.Prelude.{sum, find, IfSome}
+use Rattle.std.proofs.lemmas.Bool.{ne_eqb}
+use Rattle.std.proofs.lemmas.List.{length-take, length-replicate}
+use Rattle.nr_xdr.specs.Item.{IsBytes}
+use Rattle.nr_header.specs.declared.header.ReadSegment.{ReadSegment}
+use Rattle.nr_reduce.specs.declared.call.Form.{Form}
+use Rattle.nr_reduce.specs.declared.call.Form.TheVariants as forms
+use Rattle.nr_reduce.specs.declared.call.Offer.{Offer}
+use Rattle.nr_reduce.specs.declared.item.Of.TheVariants.{Call}
+use Rattle.nr_reduce.specs.declared.outline.Plan.{Plan}
+use Rattle.nr_reduce.specs.Limits.{send_max}
+use Rattle.nr_reduce.specs.Plans.{plan_of, regions_needed, given_read, given_region, entries_from, read_list, lists_of, read_stag, inline_at, inline_stream}
+use Rattle.nr_reduce.specs.Chunks.{total_at, position_of, item_position, call_moved, call_stream, whole, call_conveyed}
+use Rattle.nr_reduce.specs.declared.mark.Mark.{Mark}
+use Rattle.nr_reduce.specs.declared.mark.LinkParameters.{LinkParameters}
+use Rattle.nr_reduce.specs.ClientState.{call_payload}
+use Rattle.nr_reduce.specs.Run.{client}
+use Rattle.nr_reduce.specs.RunLaws.{server_by}
+use Rattle.nr_reduce.specs.ServerFrames.{with_access}
+use Rattle.nr_reduce.specs.ServerMessages.{no_stream, chunk_bytes, payload_of}
+use Rattle.nr_reduce.specs.ServerState.{PendingCall}
+use Rattle.nr_reduce.specs.PayloadLaws.{moved_by, given_conveyed}
+use Rattle.nr_reduce.specs.Undone.{IsNotGiven, ChunkHolds}
+use Rattle.nr_reduce.proofs.Laid.{added_up, sum-added}
+use Rattle.nr_reduce.proofs.Shapes.{MessageKind, IsKind, offered, shape, is_plan}
+use Rattle.nr_reduce.proofs.Shapes.MessageKind.{Short, Chunked, Long}
+use Rattle.nr_reduce.proofs.Asking.{asks}
+use Rattle.nr_reduce.proofs.Sizes.{is_formed}
+use Rattle.nr_reduce.proofs.Undone.{reducible, moved-length}
+use Rattle.nr_laws.specs.Typed.{IsTypedForm, IsTyped}
+use Rattle.nr_laws.specs.Payloads.{form_conveyed}
+use Rattle.nr_laws.proofs.PlanLists.{stream_known}
+use Rattle.nr_laws.proofs.SinkReads.{total-own}
+use Rattle.nr_laws.proofs.ConveyedCalls.{planned-fits, plan-reads}
+use Rattle.nr_laws.proofs.ExecutedPayloads.{IsOfPlan, planned-by, submit-typed, received-of-plan}
+use Rattle.nr_laws.proofs.OnceByXid.{ExecutedAt}
+
+-- ---- The region of a plan is as long as its chunk
+
+pub record HasChunk (p : Plan) : Type 0 where
+  pub size : length p.region ≡ added_up p.read
+  pub apart : p.read_at ≡ None → p.read ≡ []
+
+given-length : (payload : List ℕ) (at size : ℕ) → length (given_region payload at size) ≡ size
+given-length payload at size =
+    omega (arith, length-append (take size (drop at payload)) (replicate (size - length (take size (drop at payload))) 0), length-replicate {A = ℕ} (size - length (take size (drop at payload))) 0, length-take size (drop at payload))
+
+chunk-given : (payload : List ℕ) (offer : Offer) (read : Option (List ℕ)) → HasChunk (given_read payload offer.read_at read (record { inline = payload; read_at = None; read = []; region = []; write = offer.write; reply = offer.reply }))
+chunk-given payload offer None = record { size = refl; apart = λ e. refl }
+chunk-given payload offer (Some ns) = record { size = given-length payload offer.read_at (sum ns) ∙ sum-added ns; apart = λ e. absurd cc }
+
+chunk-shape : (payload : List ℕ) (kind : MessageKind) (w r : Option (List ℕ)) → IsKind payload kind → HasChunk (shape payload kind w r)
+chunk-shape payload Short w r is = record { size = refl; apart = λ e. refl }
+chunk-shape payload (Chunked i) w r is = record { size = (let l = moved-length Call payload i (reducible Call payload i is) in omega (arith, l)); apart = λ e. absurd cc }
+chunk-shape payload Long w r is = record { size = omega arith; apart = λ e. absurd cc }
+
+own-chunk : (payload : List ℕ) (form : Form) (up down : ℕ) (p : Plan) → IsNotGiven form → plan_of payload form up down ≡ Ok p → HasChunk p
+own-chunk payload form up down p own e = (let s = (is_plan payload form up down p own e).shaped in subst HasChunk (sym s.is) (chunk-shape payload s.kind (offered s.write) (offered s.reply) s.is_kind))
+
+pub planned-chunk : (payload : List ℕ) (form : Form) (up down : ℕ) (p : Plan) → plan_of payload form up down ≡ Ok p → HasChunk p
+planned-chunk payload forms.Auto up down p e = own-chunk payload forms.Auto up down p tt e
+planned-chunk payload forms.Inline up down p e = own-chunk payload forms.Inline up down p tt e
+planned-chunk payload forms.Chunk up down p e = own-chunk payload forms.Chunk up down p tt e
+planned-chunk payload forms.Long up down p e = own-chunk payload forms.Long up down p tt e
+planned-chunk payload (forms.Given offer) up down p e = subst HasChunk (is_formed payload (forms.Given offer) up down p e).is (chunk-given payload offer offer.read)
+
+-- ---- A stream that isn't read
+
+no-bytes : (xs : List ℕ) → length xs ≡ 0 → xs ≡ []
+no-bytes [] e = refl
+no-bytes (x ∷ xs) e = absurd (omega (arith, e))
+
+-- a stream whose chunk has no bytes is there before anything is read
+known-zero : (read : List ReadSegment) (chunk : ℕ → List ℕ) → (total_at 0 read ≡ 0 → chunk 0 ≡ []) → call_conveyed (no_stream read) read chunk ≡ call_conveyed None read chunk
+unfolding call_conveyed
+known-zero read chunk none = by (eqb (total_at 0 read) 0) refl
+  where
+    by : (b : Bool) → eqb (total_at 0 read) 0 ≡ b → whole Call (call_stream (cond b (Some []) None) chunk) (call_moved (item_position read) chunk) ≡ whole Call (chunk 0) (call_moved (item_position read) chunk)
+    by true is = ap (λ (xs : List ℕ). whole Call xs (call_moved (item_position read) chunk)) (sym (none (eqb-true (total_at 0 read) 0 is)))
+    by false is = refl
+
+known-as : (o : Option ℕ) (stream : List ℕ) (read : List ReadSegment) (chunk : ℕ → List ℕ) → (o ≡ Some 0 → total_at 0 read ≡ 0 → chunk 0 ≡ []) → call_conveyed (stream_known o stream read) read chunk ≡ call_conveyed (inline_at o stream) read chunk
+known-as None stream read chunk none = refl
+known-as (Some position) stream read chunk none = by (eqb position 0) refl
+  where
+    by : (b : Bool) → eqb position 0 ≡ b → call_conveyed (cond b (no_stream read) (Some stream)) read chunk ≡ call_conveyed (cond b None (Some stream)) read chunk
+    by true is = known-zero read chunk (none (ap (λ (n : ℕ). Some n) (eqb-true position 0 is)))
+    by false is = refl
+
+entries-zero : (stag : ℕ) (p : Plan) → p.read_at ≡ Some 0 → total_at 0 (lists_of stag p).read ≡ added_up p.read
+unfolding lists_of
+entries-zero stag p at = ap (λ (o : Option ℕ). total_at 0 (read_list stag p o)) at ∙ total-own 0 (read_stag stag p) 0 p.read
+
+holds-at : (chunk : ℕ → List ℕ) (region : List ℕ) (o : Option ℕ) (position : ℕ) → o ≡ Some position → IfSome o (λ n. chunk n ≡ region) → chunk position ≡ region
+holds-at chunk region o position e h = (let t : IfSome (Some position) (λ n. chunk n ≡ region) = subst (λ (x : Option ℕ). IfSome x (λ n. chunk n ≡ region)) e h in t)
+
+received-as : (stag : ℕ) (p : Plan) (c : PendingCall) (chunk : ℕ → List ℕ) → HasChunk p → IsOfPlan stag p c → ChunkHolds chunk p → call_conveyed c.inline c.lists.read chunk ≡ call_conveyed (inline_stream p) (lists_of stag p).read chunk
+received-as stag p c chunk size is holds =
+    (λ i. call_conveyed (is.stream i) (is.lists i).read chunk)
+    ∙ known-as p.read_at p.inline (lists_of stag p).read chunk
+    (λ at none. holds-at chunk p.region p.read_at 0 at holds ∙ no-bytes p.region (let l = size.size in let t = entries-zero stag p at in omega (arith, l, t, none)))
+
+-- ---- What the form conveys
+
+own-conveys : (payload : List ℕ) (form : Form) (down stag : ℕ) (p : Plan) (chunk : ℕ → List ℕ) → IsBytes payload → IsNotGiven form → IsTypedForm form → plan_of payload form send_max down ≡ Ok p → stag + regions_needed p ≤ 2 ^ 32 → ChunkHolds chunk p
+    → call_conveyed (inline_stream p) (lists_of stag p).read chunk ≡ Some payload
+own-conveys payload form down stag p chunk bytes own typed e stags holds =
+    let m = asks payload form send_max down 0 0 stag p bytes own e (omega arith) (omega arith) stags in
+    let fine = planned-fits payload form down stag p e bytes typed stags in
+    let r = plan-reads 0 0 stag p (record { xid = 0; credit = 0; body = m.body }) fine.0 fine.1 (omega arith) m.reads in
+    ap (λ (o : Option (List ℕ)). call_conveyed o (lists_of stag p).read chunk) (sym r.inline) ∙ m.conveys chunk holds
+
+no-item : (stag offset : ℕ) (lengths : List ℕ) → item_position (entries_from 0 stag offset lengths) ≡ None
+unfolding item_position
+no-item stag offset [] = refl
+no-item stag offset (n ∷ lengths) = no-item stag (offset + n) lengths
+
+given-stream : (chunk : ℕ → List ℕ) (region : List ℕ) (stag : ℕ) (lengths : List ℕ) → chunk 0 ≡ region → call_conveyed None (entries_from 0 stag 0 lengths) chunk ≡ Some region
+unfolding call_conveyed
+given-stream chunk region stag lengths holds = (λ i. whole Call (holds i) (call_moved (no-item stag 0 lengths i) chunk))
+
+given-item : (stream region : List ℕ) (chunk : ℕ → List ℕ) (at stag : ℕ) (lengths : List ℕ) → eqb at 0 ≡ false → chunk at ≡ region → call_conveyed (Some stream) (entries_from at stag 0 lengths) chunk ≡ whole Call stream (moved_by lengths region)
+unfolding call_conveyed item_position
+given-item stream region chunk at stag [] apart holds = refl
+given-item stream region chunk at stag (n ∷ lengths) apart holds =
+    ap (λ (b : Bool). whole Call stream (call_moved (position_of (cond (not b) (Some (record { position = at; handle = stag; length = n; offset = 0 })) (find (λ (r : ReadSegment). not (eqb r.position 0)) (entries_from at stag (0 + n) lengths)))) chunk)) apart
+    ∙ ap (λ (xs : List ℕ). whole Call stream (Some xs)) holds
+
+given-at : (payload : List ℕ) (chunk : ℕ → List ℕ) (at stag : ℕ) (lengths : List ℕ) → chunk at ≡ given_region payload at (sum lengths)
+    → call_conveyed (inline_at (Some at) (take at payload)) (entries_from at stag 0 lengths) chunk ≡ given_conveyed payload at (Some lengths)
+given-at payload chunk zero stag lengths holds = given-stream chunk (given_region payload 0 (sum lengths)) stag lengths holds
+given-at payload chunk (suc k) stag lengths holds =
+    let region = given_region payload (suc k) (sum lengths) in
+    let apart : eqb (suc k) 0 ≡ false = ne_eqb (suc k) 0 (λ e. omega (arith, e)) in
+    ap (λ (b : Bool). call_conveyed (cond b None (Some (take (suc k) payload))) (entries_from (suc k) stag 0 lengths) chunk) apart
+    ∙ given-item (take (suc k) payload) region chunk (suc k) stag lengths apart holds
+    ∙ ap (λ (b : Bool). cond b (Some region) (whole Call (take (suc k) payload) (moved_by lengths region))) (sym apart)
+
+given-list : (payload : List ℕ) (chunk : ℕ → List ℕ) (at : ℕ) (o w r : Option (List ℕ)) (stag : ℕ) → (let q : Plan = given_read payload at o (record { inline = payload; read_at = None; read = []; region = []; write = w; reply = r }) in
+    ChunkHolds chunk q → call_conveyed (inline_stream q) (lists_of stag q).read chunk ≡ given_conveyed payload at o)
+unfolding lists_of call_conveyed item_position
+given-list payload chunk at None w r stag holds = refl
+given-list payload chunk at (Some lengths) w r stag holds = given-at payload chunk at stag lengths holds
+
+given-conveys : (payload : List ℕ) (offer : Offer) (up down stag : ℕ) (p : Plan) (chunk : ℕ → List ℕ) → plan_of payload (forms.Given offer) up down ≡ Ok p → ChunkHolds chunk p
+    → call_conveyed (inline_stream p) (lists_of stag p).read chunk ≡ given_conveyed payload offer.read_at offer.read
+given-conveys payload offer up down stag p chunk e holds =
+    subst (λ (q : Plan). ChunkHolds chunk q → call_conveyed (inline_stream q) (lists_of stag q).read chunk ≡ given_conveyed payload offer.read_at offer.read) (is_formed payload (forms.Given offer) up down p e).is
+    (given-list payload chunk offer.read_at offer.read offer.write offer.reply stag) holds
+
+plan-conveys : (payload : List ℕ) (form : Form) (down stag : ℕ) (p : Plan) (chunk : ℕ → List ℕ) → IsBytes payload → IsTypedForm form → plan_of payload form send_max down ≡ Ok p → stag + regions_needed p ≤ 2 ^ 32 → ChunkHolds chunk p
+    → call_conveyed (inline_stream p) (lists_of stag p).read chunk ≡ form_conveyed form payload
+plan-conveys payload forms.Auto down stag p chunk bytes typed e stags holds = own-conveys payload forms.Auto down stag p chunk bytes tt tt e stags holds
+plan-conveys payload forms.Inline down stag p chunk bytes typed e stags holds = own-conveys payload forms.Inline down stag p chunk bytes tt tt e stags holds
+plan-conveys payload forms.Chunk down stag p chunk bytes typed e stags holds = own-conveys payload forms.Chunk down stag p chunk bytes tt tt e stags holds
+plan-conveys payload forms.Long down stag p chunk bytes typed e stags holds = own-conveys payload forms.Long down stag p chunk bytes tt tt e stags holds
+plan-conveys payload (forms.Given offer) down stag p chunk bytes typed e stags holds = given-conveys payload offer send_max down stag p chunk e holds
+
+-- What is conveyed to the server by a call with the lists and the stream of its plan, where its read chunk brings the plan's region.
+pub received-conveys : (payload : List ℕ) (form : Form) (down stag : ℕ) (p : Plan) (c : PendingCall) (chunk : ℕ → List ℕ) → IsBytes payload → IsTypedForm form → plan_of payload form send_max down ≡ Ok p → stag + regions_needed p ≤ 2 ^ 32
+    → IsOfPlan stag p c → ChunkHolds chunk p → call_conveyed c.inline c.lists.read chunk ≡ form_conveyed form payload
+received-conveys payload form down stag p c chunk bytes typed e stags is holds =
+    received-as stag p c chunk (planned-chunk payload form send_max down p e) is holds ∙ plan-conveys payload form down stag p chunk bytes typed e stags holds
+
+-- ---- An executed call
+
+-- An executed call has the payload that its form conveys, where the sink of its read chunk holds the plan's region at the frame by
+-- which the call became whole.
+pub executed-conveys : (opened : LinkParameters) (link : ℕ) (before : List Mark) (xid : ℕ) (payload : List ℕ) → IsTyped before → (a : ExecutedAt opened link before xid payload)
+    → ChunkHolds (chunk_bytes (with_access (server_by opened a.submit.was.earlier) a.submit.was.frame a.submit.was.segment) a.submit.was.frame.end a.submit.was.call) a.submit.submitted.accepted.plan
+    → form_conveyed a.submit.submitted.form (call_payload a.submit.submitted.xid a.submit.submitted.call) ≡ Some payload
+unfolding payload_of
+executed-conveys opened link before xid payload typed a holds =
+    let w = a.submit.submitted in
+    let was = a.submit.was in
+    let k = (client opened link w.earlier).state in
+    let ok = submit-typed opened link before xid payload a typed in
+    let chunk = chunk_bytes (with_access (server_by opened was.earlier) was.frame was.segment) was.frame.end was.call in
+    sym (received-conveys (call_payload w.xid w.call) w.form send_max k.stag w.accepted.plan was.call chunk ok.0 ok.1 (planned-by opened link w.earlier w.xid w.call w.form w.accepted.plan w.accepted.planned) w.accepted.stags
+    (received-of-plan opened link before xid payload typed a) holds)
+    ∙ was.payload

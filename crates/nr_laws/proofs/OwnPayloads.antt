@@ -1,0 +1,77 @@
+-- A call that was accepted under an xid is the one that is executed under it.
+use Rattle.std.proofs.Common.{◌≡◌, ℕ, ◌<◌, List, [], ◌∷◌, ◌++◌, drop, Some, Ok, refl, sym, ap, subst, ◌∙◌, arith, append_assoc}
+use Rattle.nr_reduce.specs.declared.call.Call.{Call}
+use Rattle.nr_reduce.specs.declared.call.Form.{Form}
+use Rattle.nr_reduce.specs.declared.call.Submission.TheVariants as submissions
+use Rattle.nr_reduce.specs.declared.mark.Mark.{Mark}
+use Rattle.nr_reduce.specs.declared.mark.Mark.TheVariants as marks
+use Rattle.nr_reduce.specs.declared.mark.LinkParameters.{LinkParameters}
+use Rattle.nr_reduce.specs.declared.outline.Plan.{Plan}
+use Rattle.nr_reduce.specs.Plans.{TooLarge}
+use Rattle.nr_reduce.specs.ClientState.{call_payload, plan_for}
+use Rattle.nr_reduce.specs.Run.{client}
+use Rattle.nr_reduce.specs.Asked.{AskedSoFar}
+use Rattle.nr_reduce.specs.Matched.{IsPrefixOf}
+use Rattle.nr_reduce.proofs.Placing.{xids_differ}
+use Rattle.nr_laws.specs.Payloads.{form_conveyed, PayloadsAreOwn}
+use Rattle.nr_laws.proofs.ExecutedPayloads.{payloads_are_submitted}
+
+-- two places of a list: one, or one behind the other
+data Places (pre : List Mark) (a : Mark) (post one : List Mark) (b : Mark) (two : List Mark) : Type 0 where
+  AtOne : pre ≡ one → a ≡ b → Places pre a post one b two
+  Behind : (between : List Mark) → post ≡ between ++ b ∷ two → Places pre a post one b two
+  Before : (between : List Mark) → two ≡ between ++ a ∷ post → Places pre a post one b two
+
+head-is : (x y : Mark) (xs ys : List Mark) → x ∷ xs ≡ y ∷ ys → x ≡ y
+head-is x y xs ys e = cc
+
+rest-is : (x y : Mark) (xs ys : List Mark) → x ∷ xs ≡ y ∷ ys → xs ≡ ys
+rest-is x y xs ys e = ap (λ (zs : List Mark). drop 1 zs) e
+
+more-places : (x y : Mark) (pre : List Mark) (a : Mark) (post one : List Mark) (b : Mark) (two : List Mark) → x ≡ y → Places pre a post one b two → Places (x ∷ pre) a post (y ∷ one) b two
+more-places x y pre a post one b two e (AtOne p q) = AtOne (λ i. e i ∷ p i) q
+more-places x y pre a post one b two e (Behind between p) = Behind between p
+more-places x y pre a post one b two e (Before between p) = Before between p
+
+places : (pre : List Mark) (a : Mark) (post one : List Mark) (b : Mark) (two : List Mark) → pre ++ a ∷ post ≡ one ++ b ∷ two → Places pre a post one b two
+places [] a post [] b two e = AtOne refl (head-is a b post two e)
+places [] a post (y ∷ one) b two e = Behind one (rest-is a y post (one ++ b ∷ two) e)
+places (x ∷ pre) a post [] b two e = Before pre (sym (rest-is x b (pre ++ a ∷ post) two e))
+places (x ∷ pre) a post (y ∷ one) b two e = more-places x y pre a post one b two (head-is x y _ _ e) (places pre a post one b two (rest-is x y _ _ e))
+
+call-is : (link xid : ℕ) (call other : Call) (form way : Form) → marks.Submit link call form (submissions.Accepted xid) ≡ marks.Submit link other way (submissions.Accepted xid) → (call ≡ other) × (form ≡ way)
+call-is link xid call other form way e = (cc, cc)
+
+-- a run has one accepted Submit of an xid
+record IsOneSubmit (pre : List Mark) (call : Call) (form : Form) (one : List Mark) (other : Call) (way : Form) : Type 0 where
+  before : pre ≡ one
+  call_is : call ≡ other
+  form_is : form ≡ way
+
+one-submit : (opened : LinkParameters) (link : ℕ) (run pre post one two : List Mark) (call other : Call) (form way : Form) (xid : ℕ) → AskedSoFar opened link run
+    → run ≡ pre ++ marks.Submit link call form (submissions.Accepted xid) ∷ post → run ≡ one ++ marks.Submit link other way (submissions.Accepted xid) ∷ two → IsOneSubmit pre call form one other way
+one-submit opened link run pre post one two call other form way xid asked p q = by (places pre a post one b two (sym p ∙ q))
+  where
+    a : Mark
+    a = marks.Submit link call form (submissions.Accepted xid)
+
+    b : Mark
+    b = marks.Submit link other way (submissions.Accepted xid)
+
+    by : Places pre a post one b two → IsOneSubmit pre call form one other way
+    by (AtOne same mark) = (let c = call-is link xid call other form way mark in record { before = same; call_is = c.0; form_is = c.1 })
+    by (Behind between is) = absurd (let lt = xids_differ IsPrefixOf opened link run pre between two call other form way xid xid (p ∙ ap (λ (xs : List Mark). pre ++ a ∷ xs) is) asked in omega (arith, lt))
+    by (Before between is) = absurd (let lt = xids_differ IsPrefixOf opened link run one between post other call way form xid xid (q ∙ ap (λ (xs : List Mark). one ++ b ∷ xs) is) asked in omega (arith, lt))
+
+planned-once : (p q : Plan) → ◌≡◌ {A = Rattle.std.proofs.Common.Result Plan TooLarge} (Ok p) (Ok q) → p ≡ q
+planned-once p q e = cc
+
+pub payloads_are_own : PayloadsAreOwn
+payloads_are_own opened link run earlier before call form plan xid moment payload place reply typed far at h planned none =
+    let s = payloads_are_submitted opened link run before xid moment payload place reply typed far h in
+    let execute = marks.Execute link xid moment payload place reply in
+    let whole : run ≡ s.before ++ marks.Submit link s.call s.form (submissions.Accepted xid) ∷ (s.at.after ++ execute ∷ h.after) =
+    h.is ∙ ap (λ (xs : List Mark). xs ++ execute ∷ h.after) s.at.is ∙ append_assoc s.before (marks.Submit link s.call s.form (submissions.Accepted xid) ∷ s.at.after) (execute ∷ h.after) in
+    let one = one-submit opened link run s.before (s.at.after ++ execute ∷ h.after) earlier at.after s.call call s.form form xid far.asked whole at.is in
+    let same : s.plan ≡ plan = planned-once s.plan plan (sym s.planned ∙ (λ i. plan_for (client opened link (one.before i)).state xid (one.call_is i) (one.form_is i)) ∙ planned) in
+    (λ i. form_conveyed (sym one.form_is i) (call_payload xid (sym one.call_is i))) ∙ s.conveyed (ap (λ (p : Plan). p.read) same ∙ none)

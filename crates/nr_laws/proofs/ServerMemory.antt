@@ -1,0 +1,144 @@
+-- What a server's memory holds: each tagged segment that it received was allowed, so a sink holds its bytes with them laid over.
+use Rattle.std.proofs.Common.{◌≡◌, ℕ, ◌+◌, ◌-◌, ◌≤◌, ◌<◌, Bool, true, false, cond, ◌&&◌, not, eqb, List, [], ◌∷◌, ◌++◌, length, Option, None, Some, Result, Ok, Err, refl, sym, ap, subst, ◌∙◌, arith, append-nil, inl, inr}
+use Rattle.nr_wire.specs.Segment.{Segment}
+use Rattle.nr_wire.specs.Segment.Segment.{Tagged, Untagged}
+use Rattle.nr_regions.specs.Access.{TaggedSegment}
+use Rattle.nr_link.specs.declared.end.End.{End as Stop}
+use Rattle.nr_link.specs.Frames.{Frame, is_hello}
+use Rattle.nr_link.specs.Ending.{frame_segment, tagged_access, missing_access}
+use Rattle.nr_link.specs.ReceiveState.{message_completed}
+use Rattle.nr_reduce.specs.declared.mark.LinkParameters.{LinkParameters}
+use Rattle.nr_reduce.specs.Chunks.{is_read_chunk_of_item}
+use Rattle.nr_reduce.specs.OfferedRegions.{Region, region_grants, regions_closed}
+use Rattle.nr_reduce.specs.Events.{Event}
+use Rattle.nr_reduce.specs.Events.Event.{FrameReceived, CallSubmitted, MemoryRevoked, CallExecuted, QueueWritten}
+use Rattle.nr_reduce.specs.EndRules.{EndState, next_end_state, next_end_state_by, next_end_state_in, end_state_after}
+use Rattle.nr_reduce.specs.ServerState.{ServerState, PendingCall, PendingRead}
+use Rattle.nr_reduce.specs.ServerReads.{open_reads, is_read, reads_of, regions_of, is_over}
+use Rattle.nr_reduce.specs.ServerMessages.{CallVerdict, Verdict, verdict, chunk_bytes, payload_of, by_payload}
+use Rattle.nr_reduce.specs.ServerMessages.CallVerdict.{Refuses, IsReady}
+use Rattle.nr_reduce.specs.ServerMessages.Verdict.{EndsLink, OtherVersion, BadChunks, MakesPending}
+use Rattle.nr_reduce.specs.ServerFrames.{FrameEffect, no_effect, with_verdict, ready_if_whole, with_refused_call, is_stream_read, read_effect, response_effect, call_of_number, message_effect, by_message, with_access, effect_by, effect_in, frame_effect}
+use Rattle.nr_reduce.specs.Server.{server_rules, server_end, server_state_after, initial_server, with_effect, tagged_accesses}
+use Rattle.nr_reduce.proofs.Touches.{server_touched}
+use Rattle.nr_reduce.proofs.Steps.{end_state_after-append}
+use Rattle.nr_laws.proofs.Along.{IsNext, GoesOn, along, place_after, places_after}
+use Rattle.nr_laws.proofs.Memory.{Gathering, Settled, settled-later, settled-closed, settled-append, settled-more}
+use Rattle.nr_laws.proofs.ServerAlong.{ServerGood}
+
+-- ---- The regions of a frame are those before, and new ones behind
+
+record HasNew (old : List Region) (s : FrameEffect) : Type 0 where
+  new : List Region
+  is : s.regions ≡ old ++ new
+
+none-new : (old : List Region) (s : FrameEffect) → s.regions ≡ old → HasNew old s
+none-new old s e = record { new = []; is = e ∙ sym (append-nil old) }
+
+new-verdict : (old : List Region) (v : CallVerdict) (s : FrameEffect) → HasNew old s → HasNew old (with_verdict v s)
+new-verdict old (Refuses reason) s h = record { new = h.new; is = h.is }
+new-verdict old (IsReady r) s h = record { new = h.new; is = h.is }
+
+new-if : (old : List Region) (b : Bool) (s t : FrameEffect) → HasNew old s → HasNew old t → HasNew old (cond b s t)
+new-if old true s t h g = h
+new-if old false s t h g = g
+
+new-whole : (old : List Region) (k : ServerState) (place : ℕ) (c : PendingCall) (s : FrameEffect) → HasNew old s → HasNew old (ready_if_whole k place c s)
+new-whole old k place c s h = new-if old (is_read s.reads c.number) (with_verdict (by_payload c (payload_of k place c)) s) s (new-verdict old (by_payload c (payload_of k place c)) s h) h
+
+new-message : (k : ServerState) (place : ℕ) (message : List ℕ) (v : Verdict) → HasNew k.regions (message_effect k place message v)
+new-message k place message (EndsLink reason) = none-new k.regions (message_effect k place message (EndsLink reason)) refl
+new-message k place message OtherVersion = none-new k.regions (message_effect k place message OtherVersion) refl
+new-message k place message BadChunks = none-new k.regions (message_effect k place message BadChunks) refl
+new-message k place message (MakesPending c) =
+    new-whole k.regions k place c (record (no_effect k) { calls = k.calls ++ c ∷ []; reads = k.reads ++ reads_of (k.regions ++ regions_of k place c) c; regions = k.regions ++ regions_of k place c }) (record { new = regions_of k place c; is = refl })
+
+new-by-message : (k : ServerState) (place : ℕ) (o : Option (List ℕ)) → HasNew k.regions (by_message k place o)
+new-by-message k place None = none-new k.regions (no_effect k) refl
+new-by-message k place (Some message) = new-message k place message (verdict k message)
+
+new-read : (k : ServerState) (place : ℕ) (r : PendingRead) (o : Option PendingCall) (s : FrameEffect) → s.regions ≡ k.regions → HasNew k.regions (read_effect k place r o s)
+new-read k place r None s e = none-new k.regions s e
+new-read k place r (Some c) s e =
+    new-if k.regions (is_stream_read c r s.reads && not (is_read_chunk_of_item (chunk_bytes k place c 0) c.lists.read)) (with_refused_call k c s) (ready_if_whole k place c s)
+    (none-new k.regions (with_refused_call k c s) e) (new-whole k.regions k place c s (none-new k.regions s e))
+
+new-response : (k : ServerState) (place : ℕ) (reads : List PendingRead) → HasNew k.regions (response_effect k place reads)
+new-response k place [] = none-new k.regions (no_effect k) refl
+new-response k place (r ∷ reads) = new-read k place r (call_of_number k r.number) (record (no_effect k) { reads = reads; kept = length (open_reads k) - 1 }) refl
+
+new-segment : (k : ServerState) (f : Frame) (s : Segment) → HasNew k.regions (effect_by k f s)
+new-segment k f (Tagged last opcode stag to payload) =
+    let t : ServerState = with_access k f (Tagged last opcode stag to payload) in
+    new-if k.regions (eqb opcode 2 && last) (response_effect t f.end t.reads) (no_effect t) (new-response t f.end t.reads) (none-new k.regions (no_effect t) refl)
+new-segment k f (Untagged last opcode w queue msn offset payload) = new-by-message k f.end (message_completed k.received (Untagged last opcode w queue msn offset payload))
+
+-- ---- Each access was allowed
+
+access-settled : (opened : LinkParameters) (k : ServerState) (f : Frame) (s : Segment) → is_hello f ≡ false → frame_segment f ≡ Ok s → server_end opened k (FrameReceived f) ≡ None → Settled f.end k.regions (tagged_access f s)
+access-settled opened k f (Tagged last opcode stag to payload) behind is stays =
+    let none : missing_access (region_grants f.end k.regions) f (Tagged last opcode stag to payload) ≡ None = server_touched opened k f (Tagged last opcode stag to payload) behind is stays in
+    (omega arith, none, tt)
+access-settled opened k f (Untagged last opcode w queue msn offset payload) behind is stays = tt
+
+-- with the access of a frame that doesn't end the server, by the regions before it
+pub accesses-settled : (opened : LinkParameters) (place : ℕ) (k : ServerState) (f : Frame) (s : Segment) → place ≤ f.end → is_hello f ≡ false → frame_segment f ≡ Ok s → server_end opened k (FrameReceived f) ≡ None → Settled place k.regions k.accesses_received
+    → Settled f.end k.regions (k.accesses_received ++ tagged_access f s)
+accesses-settled opened place k f s le behind is stays h =
+    settled-more f.end k.regions k.accesses_received (tagged_access f s) (settled-later place f.end k.regions k.accesses_received le h) (access-settled opened k f s behind is stays)
+
+segment-settled : (opened : LinkParameters) (place : ℕ) (k : ServerState) (f : Frame) (s : Segment) → place ≤ f.end → is_hello f ≡ false → frame_segment f ≡ Ok s → server_end opened k (FrameReceived f) ≡ None → Settled place k.regions k.accesses_received
+    → Settled f.end (with_effect k f (frame_effect k f)).regions (with_effect k f (frame_effect k f)).accesses_received
+unfolding frame_effect
+segment-settled opened place k f s le behind is stays h =
+    let law = λ (r : Result Segment ℕ). Settled f.end (regions_closed (is_over (effect_in k f r).calls (effect_in k f r).reads) f.end (effect_in k f r).regions) (k.accesses_received ++ tagged_accesses f r) in
+    subst law (sym is) (by (new-segment k f s))
+  where
+    all : List TaggedSegment
+    all = k.accesses_received ++ tagged_access f s
+
+    by : HasNew k.regions (effect_by k f s) → Settled f.end (regions_closed (is_over (effect_by k f s).calls (effect_by k f s).reads) f.end (effect_by k f s).regions) all
+    by n =
+        settled-closed (is_over (effect_by k f s).calls (effect_by k f s).reads) f.end f.end (effect_by k f s).regions all (omega arith)
+        (subst (λ (rs : List Region). Settled f.end rs all) (sym n.is) (settled-append f.end k.regions n.new all (accesses-settled opened place k f s le behind is stays h)))
+
+frame-settled : (opened : LinkParameters) (place : ℕ) (k : ServerState) (f : Frame) → IsNext place (FrameReceived f) → ServerGood (record { state = k; ended = None }) (FrameReceived f) → Settled place k.regions k.accesses_received
+    → (o : Option Stop) → server_end opened k (FrameReceived f) ≡ o → Settled f.end (next_end_state_by (server_rules opened) k (FrameReceived f) o).state.regions (next_end_state_by (server_rules opened) k (FrameReceived f) o).state.accesses_received
+unfolding server_state_after
+frame-settled opened place k f next good h (Some end) is = settled-later place f.end k.regions k.accesses_received (let l = next.1 in omega (arith, l)) h
+frame-settled opened place k f next (inl g) h None is =
+    subst (λ (b : Bool). Settled f.end (cond b k (with_effect k f (frame_effect k f))).regions (cond b k (with_effect k f (frame_effect k f))).accesses_received) (sym g.0) (settled-later place f.end k.regions k.accesses_received (let l = next.1 in omega (arith, l)) h)
+frame-settled opened place k f next (inr (s, behind, own)) h None is =
+    subst (λ (b : Bool). Settled f.end (cond b k (with_effect k f (frame_effect k f))).regions (cond b k (with_effect k f (frame_effect k f))).accesses_received) (sym behind) (segment-settled opened place k f s (let l = next.1 in omega (arith, l)) behind own is h)
+
+settled-step : (opened : LinkParameters) (place : ℕ) (k : ServerState) (ended : Option Stop) (e : Event) → IsNext place e → ServerGood (record { state = k; ended = ended }) e → Settled place k.regions k.accesses_received
+    → Settled (place_after place e) (next_end_state_in (server_rules opened) k e ended).state.regions (next_end_state_in (server_rules opened) k e ended).state.accesses_received
+unfolding server_end server_state_after
+settled-step opened place k None (FrameReceived f) next good h = frame-settled opened place k f next good h (server_end opened k (FrameReceived f)) refl
+settled-step opened place k None (CallSubmitted q a) next good h = h
+settled-step opened place k None (MemoryRevoked q xid) next good h = h
+settled-step opened place k None (CallExecuted x) next good h = h
+settled-step opened place k None QueueWritten next good h = h
+settled-step opened place k (Some end) (FrameReceived f) next good h = settled-later place f.end k.regions k.accesses_received (let l = next.1 in omega (arith, l)) h
+settled-step opened place k (Some end) (CallSubmitted q a) next good h = h
+settled-step opened place k (Some end) (MemoryRevoked q xid) next good h = h
+settled-step opened place k (Some end) (CallExecuted x) next good h = h
+settled-step opened place k (Some end) QueueWritten next good h = h
+
+pub settled-along : (opened : LinkParameters) (es : List Event) → GoesOn (server_rules opened) ServerGood 0 (initial_server opened) es
+    → Settled (places_after 0 es) (end_state_after (server_rules opened) (initial_server opened) es).state.regions (end_state_after (server_rules opened) (initial_server opened) es).state.accesses_received
+settled-along opened es g =
+    along (server_rules opened) (λ k e. []) (λ end. []) ServerGood (λ es place r outs. Settled place r.state.regions r.state.accesses_received)
+    (λ es place r outs e next good h. settled-step opened place r.state r.ended e next good h) [] 0 (initial_server opened) [] es g tt
+
+pub server-gathers : (opened : LinkParameters) → Gathering (server_rules opened) (λ (k : ServerState). k.accesses_received)
+unfolding server_state_after
+server-gathers opened k (FrameReceived f) = by (is_hello f)
+  where
+    by : (b : Bool) → (cond b k (with_effect k f (frame_effect k f))).accesses_received ≡ cond b k.accesses_received (k.accesses_received ++ tagged_accesses f (frame_segment f))
+    by true = refl
+    by false = refl
+server-gathers opened k (CallSubmitted p a) = refl
+server-gathers opened k (MemoryRevoked p xid) = refl
+server-gathers opened k (CallExecuted e) = refl
+server-gathers opened k QueueWritten = refl
