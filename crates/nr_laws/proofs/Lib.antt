@@ -97,3 +97,4 @@ pub mod AnsweredCalls
 pub mod AnsweredSteps
 pub mod SinkCount
 pub mod ReadOutcomes
+pub mod SubmittedPlans

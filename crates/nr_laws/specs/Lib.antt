@@ -10,3 +10,4 @@ pub mod FrameContents
 pub mod LinkInvariants
 pub mod Completion
 pub mod EndCauses
+pub mod HandedOver

@@ -1,0 +1,116 @@
+-- The call that a message answers at a client is the accepted call of its xid, with that call's plan.
+use Rattle.std.proofs.Common.{◌≡◌, ℕ, ◌+◌, Bool, true, false, ◌&&◌, eqb, List, [], ◌∷◌, ◌++◌, length, Option, None, Some, Result, Ok, refl, sym, ap, subst, ◌∙◌, arith, append_assoc}
+use Rattle.nr_wire.specs.declared.hello.Side.TheVariants.{Initiator}
+use Rattle.nr_reduce.specs.declared.call.Call.{Call}
+use Rattle.nr_reduce.specs.declared.call.Form.{Form}
+use Rattle.nr_reduce.specs.declared.call.Submission.TheVariants as submissions
+use Rattle.nr_reduce.specs.declared.call.Outcome.{Outcome}
+use Rattle.nr_reduce.specs.declared.mark.Mark.{Mark}
+use Rattle.nr_reduce.specs.declared.mark.Mark.TheVariants as marks
+use Rattle.nr_reduce.specs.declared.mark.LinkParameters.{LinkParameters}
+use Rattle.nr_reduce.specs.declared.outline.Plan.{Plan}
+use Rattle.nr_reduce.specs.History.{AcceptedCall}
+use Rattle.nr_reduce.specs.Matched.{IsPrefixOf}
+use Rattle.nr_reduce.specs.Events.{Event, events}
+use Rattle.nr_reduce.specs.Events.Event.{FrameReceived}
+use Rattle.nr_reduce.specs.Plans.{TooLarge, regions_needed}
+use Rattle.nr_reduce.specs.ClientState.{ClientState, OutstandingCall, plan_for}
+use Rattle.nr_reduce.specs.ClientMessages.{answered_call}
+use Rattle.nr_reduce.specs.Client.{client_rules, initial_client, outstanding_of}
+use Rattle.nr_reduce.specs.Run.{client}
+use Rattle.nr_reduce.specs.RunLaws.{outstanding_from}
+use Rattle.nr_reduce.specs.Asked.{AskedSoFar}
+use Rattle.nr_reduce.proofs.Placing.{xids_differ}
+use Rattle.nr_laws.specs.MatchedSoFar.{MatchedSoFar}
+use Rattle.nr_laws.specs.Typed.{IsTyped}
+use Rattle.nr_laws.specs.HandedOver.{HasPlan}
+use Rattle.nr_laws.proofs.Along.{GoesOn, goes-first}
+use Rattle.nr_laws.proofs.ClientSays.{ClientGood, accepted_in, accepted-append, stag_behind, start, asked}
+use Rattle.nr_laws.proofs.ClientRun.{SubmittedCall, client-goes, each-submitted}
+use Rattle.nr_laws.proofs.ClientMemory.{IsAsked, asked-found, keeps-along}
+use Rattle.nr_laws.proofs.Outcomes.{client_by}
+use Rattle.nr_laws.proofs.Ordered.{Order, order}
+use Rattle.nr_laws.proofs.Ordered.Order.{Behind, Here, Before}
+
+-- ---- Calls that were accepted later
+
+from-append : (k : ClientState) (stag : ℕ) (xs ys : List AcceptedCall) → outstanding_from k stag (xs ++ ys) ≡ outstanding_from k stag xs ++ outstanding_from k (stag_behind k stag xs) ys
+from-append k stag [] ys = refl
+from-append k stag (x ∷ xs) ys = ap (λ (os : List OutstandingCall). outstanding_of (record k { stag = stag }) x ∷ os) (from-append k (stag + regions_needed (outstanding_of (record k { stag = stag }) x).plan) xs ys)
+
+asked-append : (opened : LinkParameters) (es more : List Event) → (rest : List OutstandingCall) × (asked opened (es ++ more) ≡ asked opened es ++ rest)
+asked-append opened es more = (
+  outstanding_from (start opened) (stag_behind (start opened) opened.first_stag (accepted_in es)) (accepted_in more),
+  ap (λ (xs : List AcceptedCall). outstanding_from (start opened) opened.first_stag xs) (accepted-append es more) ∙ from-append (start opened) opened.first_stag (accepted_in es) (accepted_in more),
+)
+
+-- ---- The call that is answered
+
+pub record AnsweredSubmit (opened : LinkParameters) (link : ℕ) (run : List Mark) (o : OutstandingCall) : Type 0 where
+  pub index : ℕ
+  pub own : OutstandingCall
+  pub submit : SubmittedCall opened link run index own
+  pub own_xid : o.xid ≡ submit.xid
+  pub own_call : o.call ≡ submit.call
+  pub own_plan : o.plan ≡ submit.accepted.plan
+  pub own_stag : o.stag ≡ (client opened link submit.earlier).state.stag
+
+pub answered-submit : (opened : LinkParameters) (link : ℕ) (run : List Mark) → IsTyped run → AskedSoFar opened link run → (es more : List Event) → events link Initiator run ≡ es ++ more
+    → (xid : ℕ) (o : OutstandingCall) → answered_call (client_by opened es).state xid ≡ Some o → AnsweredSubmit opened link run o
+answered-submit opened link run typed asked_so es more is xid o found =
+    let g = client-goes opened link run typed asked_so in
+    let goes : GoesOn (client_rules opened) (ClientGood opened) 0 (initial_client opened) es =
+    goes-first (client_rules opened) (ClientGood opened) 0 (initial_client opened) es more (subst (λ (xs : List Event). GoesOn (client_rules opened) (ClientGood opened) 0 (initial_client opened) xs) is g.goes) in
+    let k = keeps-along opened es goes in
+    let a = asked-found opened es (λ (x : OutstandingCall). eqb x.xid xid && x.is_written) (client_by opened es).state.outstanding o k.keeps.owns found in
+    let later = asked-append opened es more in
+    let whole : asked opened (events link Initiator run) ≡ a.front ++ a.own ∷ (a.back ++ later.0) =
+    ap (λ (xs : List Event). asked opened xs) is ∙ later.1 ∙ ap (λ (os : List OutstandingCall). os ++ later.0) a.is ∙ append_assoc a.front (a.own ∷ a.back) later.0 in
+    let w = each-submitted opened link run typed asked_so a.front a.own (a.back ++ later.0) whole in
+    record {
+      index = length a.front;
+      own = a.own;
+      submit = w;
+      own_xid = a.own_xid ∙ w.own_xid;
+      own_call = a.own_call ∙ w.own_call;
+      own_plan = a.own_plan ∙ w.own_plan;
+      own_stag = a.own_stag ∙ w.own_stag;
+    }
+
+-- ---- Of two Submits under one xid there is one
+
+record SameSubmit (early late : List Mark) (one two : Mark) : Type 0 where
+  place : early ≡ late
+  mark : one ≡ two
+
+same-submit : (opened : LinkParameters) (link : ℕ) (run early late rest others : List Mark) (call other : Call) (form way : Form) (xid yid : ℕ) → AskedSoFar opened link run → xid ≡ yid
+    → run ≡ early ++ marks.Submit link call form (submissions.Accepted xid) ∷ rest → run ≡ late ++ marks.Submit link other way (submissions.Accepted yid) ∷ others
+    → SameSubmit early late (marks.Submit link call form (submissions.Accepted xid)) (marks.Submit link other way (submissions.Accepted yid))
+same-submit opened link run early late rest others call other form way xid yid asked_so same here again = by (order early one rest late two others (sym here ∙ again))
+  where
+    one : Mark
+    one = marks.Submit link call form (submissions.Accepted xid)
+
+    two : Mark
+    two = marks.Submit link other way (submissions.Accepted yid)
+
+    by : Order early one rest late two others → SameSubmit early late one two
+    by (Here e m) = record { place = e; mark = m }
+    by (Behind gap e then) = absurd (let lt = xids_differ IsPrefixOf opened link run early gap others call other form way xid yid (here ∙ ap (λ (t : List Mark). early ++ one ∷ t) then) asked_so in omega (arith, lt, same))
+    by (Before gap e then) = absurd (let lt = xids_differ IsPrefixOf opened link run late gap rest other call way form yid xid (again ∙ ap (λ (t : List Mark). late ++ two ∷ t) then) asked_so in omega (arith, lt, same))
+
+plan-is : (p q : Plan) (r : Result Plan TooLarge) → r ≡ Ok p → r ≡ Ok q → p ≡ q
+plan-is p q r e f = (let s : Ok p ≡ Ok q = sym e ∙ f in cc)
+
+-- the plan of an accepted call is that of its Submit
+pub own-plan : (opened : LinkParameters) (link : ℕ) (run before : List Mark) (mark : Mark) (after : List Mark) (index : ℕ) (own : OutstandingCall) (xid : ℕ) (plan : Plan) → AskedSoFar opened link run → run ≡ before ++ mark ∷ after
+    → HasPlan opened link run xid plan → (w : SubmittedCall opened link before index own) → w.xid ≡ xid → w.accepted.plan ≡ plan
+own-plan opened link run before mark after index own xid plan asked_so is h w same =
+    let whole : run ≡ w.earlier ++ marks.Submit link w.call w.form (submissions.Accepted w.xid) ∷ (w.later ++ mark ∷ after) =
+    is ∙ ap (λ (b : List Mark). b ++ mark ∷ after) w.is ∙ append_assoc w.earlier (marks.Submit link w.call w.form (submissions.Accepted w.xid) ∷ w.later) (mark ∷ after) in
+    let s = same-submit opened link run w.earlier h.before (w.later ++ mark ∷ after) h.at.after w.call h.call w.form h.form w.xid xid asked_so same whole h.at.is in
+    let m = s.mark in
+    let calls : w.call ≡ h.call = cc in
+    let forms : w.form ≡ h.form = cc in
+    plan-is w.accepted.plan plan (plan_for (client opened link h.before).state xid h.call h.form)
+    ((λ i. plan_for (client opened link (sym s.place i)).state (sym same i) (sym calls i) (sym forms i)) ∙ w.accepted.planned) h.planned
