@@ -98,3 +98,4 @@ pub mod AnsweredSteps
 pub mod SinkCount
 pub mod ReadOutcomes
 pub mod SubmittedPlans
+pub mod InlineReplies
