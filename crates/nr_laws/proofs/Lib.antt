@@ -99,3 +99,4 @@ pub mod SinkCount
 pub mod ReadOutcomes
 pub mod SubmittedPlans
 pub mod InlineReplies
+pub mod HandedOver

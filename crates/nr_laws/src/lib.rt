@@ -5,7 +5,9 @@
 #![tactic(auto)]
 
 mod completion;
+mod handover;
 mod laws;
 
 pub use completion::{calls_complete, segments_keep_the_rules};
+pub use handover::replies_handed_over;
 pub use laws::{completions, grant, once, places, touches};
