@@ -99,4 +99,5 @@ pub mod SinkCount
 pub mod ReadOutcomes
 pub mod SubmittedPlans
 pub mod InlineReplies
+pub mod OfferedLists
 pub mod HandedOver

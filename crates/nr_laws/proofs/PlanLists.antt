@@ -73,7 +73,7 @@ some-true : (ns : List ℕ) → 0 < length ns → has_segment (Some ns) ≡ true
 some-true [] h = absurd (omega (arith, h))
 some-true (n ∷ ns) h = refl
 
-given-fit : (payload : List ℕ) (offer : Offer) (stag : ℕ) → given_total offer ≤ given_max → offer.read_at < 2 ^ 32 → plan_size (given_plan payload offer) ≤ send_max → stag + regions_needed (given_plan payload offer) ≤ 2 ^ 32 → AllFit (lists_items (lists_of stag (given_plan payload offer)))
+pub given-fit : (payload : List ℕ) (offer : Offer) (stag : ℕ) → given_total offer ≤ given_max → offer.read_at < 2 ^ 32 → plan_size (given_plan payload offer) ≤ send_max → stag + regions_needed (given_plan payload offer) ≤ 2 ^ 32 → AllFit (lists_items (lists_of stag (given_plan payload offer)))
 unfolding lists_of regions_needed
 given-fit payload offer stag small at sized stags = by offer.read offer.write offer.reply (omega (arith, small)) (counts (given_plan payload offer) sized) stags
   where
@@ -159,7 +159,7 @@ nomsg-reads xid credit header ls inline m fits fx fc = by header.body m.fits m.p
     by (ErrVers version low high) f parts = absurd (let k = (fixed-same xid 1 credit 1 header.xid version header.credit 4 (lists_items ls) (Unsigned 1 ∷ (Unsigned low ∷ (Unsigned high ∷ []))) inline m.stream own f parts).0 in omega (arith, k))
     by (ErrChunk version) f parts = absurd (let k = (fixed-same xid 1 credit 1 header.xid version header.credit 4 (lists_items ls) (Unsigned 2 ∷ []) inline m.stream own f parts).0 in omega (arith, k))
 
-fitting-reads : (xid credit stag : ℕ) (p : Plan) (header : Header) → IsBytes (call_message xid credit stag p) → header_of (call_message xid credit stag p) ≡ Ok header → AllFit (lists_items (lists_of stag p)) → xid < 2 ^ 32 → credit < 2 ^ 32 → ReadsLists stag p (call_message xid credit stag p) header
+pub fitting-reads : (xid credit stag : ℕ) (p : Plan) (header : Header) → IsBytes (call_message xid credit stag p) → header_of (call_message xid credit stag p) ≡ Ok header → AllFit (lists_items (lists_of stag p)) → xid < 2 ^ 32 → credit < 2 ^ 32 → ReadsLists stag p (call_message xid credit stag p) header
 unfolding call_message
 fitting-reads xid credit stag p header bytes is fits fx fc = by p.read_at refl (header_take _ header bytes is)
   where

@@ -19,7 +19,7 @@ use Rattle.nr_reduce.specs.ClientMessages.{answered_call}
 use Rattle.nr_reduce.specs.Client.{client_rules, initial_client, outstanding_of}
 use Rattle.nr_reduce.specs.Run.{client}
 use Rattle.nr_reduce.specs.RunLaws.{outstanding_from}
-use Rattle.nr_reduce.specs.Asked.{AskedSoFar}
+use Rattle.nr_reduce.specs.Asked.{AskedSoFar, IsAccepted}
 use Rattle.nr_reduce.proofs.Placing.{xids_differ}
 use Rattle.nr_laws.specs.MatchedSoFar.{MatchedSoFar}
 use Rattle.nr_laws.specs.Typed.{IsTyped}
@@ -102,15 +102,23 @@ same-submit opened link run early late rest others call other form way xid yid a
 plan-is : (p q : Plan) (r : Result Plan TooLarge) → r ≡ Ok p → r ≡ Ok q → p ≡ q
 plan-is p q r e f = (let s : Ok p ≡ Ok q = sym e ∙ f in cc)
 
--- the plan of an accepted call is that of its Submit
-pub own-plan : (opened : LinkParameters) (link : ℕ) (run before : List Mark) (mark : Mark) (after : List Mark) (index : ℕ) (own : OutstandingCall) (xid : ℕ) (plan : Plan) → AskedSoFar opened link run → run ≡ before ++ mark ∷ after
-    → HasPlan opened link run xid plan → (w : SubmittedCall opened link before index own) → w.xid ≡ xid → w.accepted.plan ≡ plan
-own-plan opened link run before mark after index own xid plan asked_so is h w same =
-    let whole : run ≡ w.earlier ++ marks.Submit link w.call w.form (submissions.Accepted w.xid) ∷ (w.later ++ mark ∷ after) =
-    is ∙ ap (λ (b : List Mark). b ++ mark ∷ after) w.is ∙ append_assoc w.earlier (marks.Submit link w.call w.form (submissions.Accepted w.xid) ∷ w.later) (mark ∷ after) in
-    let s = same-submit opened link run w.earlier h.before (w.later ++ mark ∷ after) h.at.after w.call h.call w.form h.form w.xid xid asked_so same whole h.at.is in
+-- an accepted call of this xid is the one with the plan
+pub record OwnSubmit (early late : List Mark) (own plan : Plan) : Type 0 where
+  pub place : early ≡ late
+  pub plan_is : own ≡ plan
+
+pub own-submit : (opened : LinkParameters) (link : ℕ) (run before : List Mark) (mark : Mark) (after : List Mark) (xid : ℕ) (plan : Plan) → AskedSoFar opened link run → run ≡ before ++ mark ∷ after
+    → (h : HasPlan opened link run xid plan) → (early later : List Mark) (call : Call) (form : Form) (yid : ℕ) → before ≡ early ++ marks.Submit link call form (submissions.Accepted yid) ∷ later
+    → (a : IsAccepted opened link early call form yid) → yid ≡ xid → OwnSubmit early h.before a.plan plan
+own-submit opened link run before mark after xid plan asked_so is h early later call form yid there a same =
+    let whole : run ≡ early ++ marks.Submit link call form (submissions.Accepted yid) ∷ (later ++ mark ∷ after) =
+    is ∙ ap (λ (b : List Mark). b ++ mark ∷ after) there ∙ append_assoc early (marks.Submit link call form (submissions.Accepted yid) ∷ later) (mark ∷ after) in
+    let s = same-submit opened link run early h.before (later ++ mark ∷ after) h.at.after call h.call form h.form yid xid asked_so same whole h.at.is in
     let m = s.mark in
-    let calls : w.call ≡ h.call = cc in
-    let forms : w.form ≡ h.form = cc in
-    plan-is w.accepted.plan plan (plan_for (client opened link h.before).state xid h.call h.form)
-    ((λ i. plan_for (client opened link (sym s.place i)).state (sym same i) (sym calls i) (sym forms i)) ∙ w.accepted.planned) h.planned
+    let calls : call ≡ h.call = cc in
+    let forms : form ≡ h.form = cc in
+    record {
+      place = s.place;
+      plan_is = plan-is a.plan plan (plan_for (client opened link h.before).state xid h.call h.form)
+          ((λ i. plan_for (client opened link (sym s.place i)).state (sym same i) (sym calls i) (sym forms i)) ∙ a.planned) h.planned;
+    }
