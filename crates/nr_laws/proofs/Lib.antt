@@ -100,4 +100,6 @@ pub mod ReadOutcomes
 pub mod SubmittedPlans
 pub mod InlineReplies
 pub mod OfferedLists
+pub mod KeptOffers
+pub mod RegionLengths
 pub mod HandedOver
