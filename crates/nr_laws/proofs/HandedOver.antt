@@ -78,9 +78,9 @@ inline_replies_are_executed opened link run before xid plan reply typed far has 
     let k = (client_by opened d.given.earlier).state in
     let g = gives-by k d.given.frame.end d.given.message xid (Some (outcomes.Reply reply)) d.given.given in
     let s = answered-submit opened link before r.done.typed r.done.far.asked d.given.earlier (FrameReceived d.given.frame ∷ d.given.later) d.given.is g.header.xid g.call g.is_call in
-    let w = s.submit in
-    let own = own-submit opened link run before (marks.Done link xid (outcomes.Reply reply)) at.after xid plan far.asked at.is has w.earlier w.later w.call w.form w.xid w.is w.accepted (sym s.own_xid ∙ g.call_xid) in
-    let plan_is = s.own_plan ∙ own.plan_is in
+    let w = s.submit.submit in
+    let own = own-submit opened link run before (marks.Done link xid (outcomes.Reply reply)) at.after xid plan far.asked at.is has w.earlier w.later w.call w.form w.xid w.is w.accepted (sym s.submit.own_xid ∙ g.call_xid) in
+    let plan_is = s.submit.own_plan ∙ own.plan_is in
     let i = given-inline k d.given.frame.end g.call d.given.message g.header.body xid reply (ap (λ (p : _). p.write) plan_is ∙ write) (ap (λ (p : _). p.reply) plan_is ∙ none) g.by_its_body in
     let read : IsMessage g.header d.given.message = header_take d.given.message g.header (message-bytes opened link before (record { xid = xid; outcome = outcomes.Reply reply }) r.done.typed r.done.far.asked d) g.is_header in
     let server = server_by opened r.answer.earlier in

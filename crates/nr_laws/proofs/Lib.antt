@@ -102,4 +102,6 @@ pub mod InlineReplies
 pub mod OfferedLists
 pub mod KeptOffers
 pub mod RegionLengths
+pub mod ReplyMemory
+pub mod ReadAnswers
 pub mod HandedOver

@@ -13,7 +13,7 @@ use Rattle.nr_reduce.specs.History.{AcceptedCall}
 use Rattle.nr_reduce.specs.Matched.{IsPrefixOf}
 use Rattle.nr_reduce.specs.Events.{Event, events}
 use Rattle.nr_reduce.specs.Events.Event.{FrameReceived}
-use Rattle.nr_reduce.specs.Plans.{TooLarge, regions_needed}
+use Rattle.nr_reduce.specs.Plans.{TooLarge, Buffer, buffers, regions_needed}
 use Rattle.nr_reduce.specs.ClientState.{ClientState, OutstandingCall, plan_for}
 use Rattle.nr_reduce.specs.ClientMessages.{answered_call}
 use Rattle.nr_reduce.specs.Client.{client_rules, initial_client, outstanding_of}
@@ -24,10 +24,11 @@ use Rattle.nr_reduce.proofs.Placing.{xids_differ}
 use Rattle.nr_laws.specs.MatchedSoFar.{MatchedSoFar}
 use Rattle.nr_laws.specs.Typed.{IsTyped}
 use Rattle.nr_laws.specs.HandedOver.{HasPlan}
-use Rattle.nr_laws.proofs.Along.{GoesOn, goes-first}
+use Rattle.nr_laws.proofs.Along.{GoesOn, goes-first, places_after}
+use Rattle.nr_laws.proofs.Memory.{Settled}
 use Rattle.nr_laws.proofs.ClientSays.{ClientGood, accepted_in, accepted-append, stag_behind, start, asked}
 use Rattle.nr_laws.proofs.ClientRun.{SubmittedCall, client-goes, each-submitted}
-use Rattle.nr_laws.proofs.ClientMemory.{IsAsked, asked-found, keeps-along}
+use Rattle.nr_laws.proofs.ClientMemory.{HasBuffers, AllBacked, backed-at, asked-found, keeps-along}
 use Rattle.nr_laws.proofs.Outcomes.{client_by}
 use Rattle.nr_laws.proofs.Ordered.{Order, order}
 use Rattle.nr_laws.proofs.Ordered.Order.{Behind, Here, Before}
@@ -55,8 +56,14 @@ pub record AnsweredSubmit (opened : LinkParameters) (link : ℕ) (run : List Mar
   pub own_plan : o.plan ≡ submit.accepted.plan
   pub own_stag : o.stag ≡ (client opened link submit.earlier).state.stag
 
+-- with its regions, and the accesses of them so far
+pub record AnsweredCall (opened : LinkParameters) (link : ℕ) (run : List Mark) (es : List Event) (o : OutstandingCall) : Type 0 where
+  pub submit : AnsweredSubmit opened link run o
+  pub backed : HasBuffers (client_by opened es).state.regions (buffers o.stag o.plan)
+  pub settled : Settled (places_after 0 es) (client_by opened es).state.regions (client_by opened es).state.accesses_received
+
 pub answered-submit : (opened : LinkParameters) (link : ℕ) (run : List Mark) → IsTyped run → AskedSoFar opened link run → (es more : List Event) → events link Initiator run ≡ es ++ more
-    → (xid : ℕ) (o : OutstandingCall) → answered_call (client_by opened es).state xid ≡ Some o → AnsweredSubmit opened link run o
+    → (xid : ℕ) (o : OutstandingCall) → answered_call (client_by opened es).state xid ≡ Some o → AnsweredCall opened link run es o
 answered-submit opened link run typed asked_so es more is xid o found =
     let g = client-goes opened link run typed asked_so in
     let goes : GoesOn (client_rules opened) (ClientGood opened) 0 (initial_client opened) es =
@@ -68,13 +75,18 @@ answered-submit opened link run typed asked_so es more is xid o found =
     ap (λ (xs : List Event). asked opened xs) is ∙ later.1 ∙ ap (λ (os : List OutstandingCall). os ++ later.0) a.is ∙ append_assoc a.front (a.own ∷ a.back) later.0 in
     let w = each-submitted opened link run typed asked_so a.front a.own (a.back ++ later.0) whole in
     record {
-      index = length a.front;
-      own = a.own;
-      submit = w;
-      own_xid = a.own_xid ∙ w.own_xid;
-      own_call = a.own_call ∙ w.own_call;
-      own_plan = a.own_plan ∙ w.own_plan;
-      own_stag = a.own_stag ∙ w.own_stag;
+      submit = record {
+        index = length a.front;
+        own = a.own;
+        submit = w;
+        own_xid = a.own_xid ∙ w.own_xid;
+        own_call = a.own_call ∙ w.own_call;
+        own_plan = a.own_plan ∙ w.own_plan;
+        own_stag = a.own_stag ∙ w.own_stag;
+      };
+      backed = (let h = backed-at (client_by opened es).state.regions a.front a.own a.back (subst (λ (os : List OutstandingCall). AllBacked (client_by opened es).state.regions os) a.is k.keeps.backed) in
+          subst (λ (bs : List Buffer). HasBuffers (client_by opened es).state.regions bs) (λ i. buffers (sym a.own_stag i) (sym a.own_plan i)) h);
+      settled = k.keeps.settled;
     }
 
 -- ---- Of two Submits under one xid there is one
@@ -103,13 +115,14 @@ plan-is : (p q : Plan) (r : Result Plan TooLarge) → r ≡ Ok p → r ≡ Ok q 
 plan-is p q r e f = (let s : Ok p ≡ Ok q = sym e ∙ f in cc)
 
 -- an accepted call of this xid is the one with the plan
-pub record OwnSubmit (early late : List Mark) (own plan : Plan) : Type 0 where
+pub record OwnSubmit (early late : List Mark) (call other : Call) (own plan : Plan) : Type 0 where
   pub place : early ≡ late
+  pub call_is : call ≡ other
   pub plan_is : own ≡ plan
 
 pub own-submit : (opened : LinkParameters) (link : ℕ) (run before : List Mark) (mark : Mark) (after : List Mark) (xid : ℕ) (plan : Plan) → AskedSoFar opened link run → run ≡ before ++ mark ∷ after
     → (h : HasPlan opened link run xid plan) → (early later : List Mark) (call : Call) (form : Form) (yid : ℕ) → before ≡ early ++ marks.Submit link call form (submissions.Accepted yid) ∷ later
-    → (a : IsAccepted opened link early call form yid) → yid ≡ xid → OwnSubmit early h.before a.plan plan
+    → (a : IsAccepted opened link early call form yid) → yid ≡ xid → OwnSubmit early h.before call h.call a.plan plan
 own-submit opened link run before mark after xid plan asked_so is h early later call form yid there a same =
     let whole : run ≡ early ++ marks.Submit link call form (submissions.Accepted yid) ∷ (later ++ mark ∷ after) =
     is ∙ ap (λ (b : List Mark). b ++ mark ∷ after) there ∙ append_assoc early (marks.Submit link call form (submissions.Accepted yid) ∷ later) (mark ∷ after) in
@@ -119,6 +132,7 @@ own-submit opened link run before mark after xid plan asked_so is h early later 
     let forms : form ≡ h.form = cc in
     record {
       place = s.place;
+      call_is = calls;
       plan_is = plan-is a.plan plan (plan_for (client opened link h.before).state xid h.call h.form)
           ((λ i. plan_for (client opened link (sym s.place i)).state (sym same i) (sym calls i) (sym forms i)) ∙ a.planned) h.planned;
     }
