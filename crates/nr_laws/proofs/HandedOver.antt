@@ -1,5 +1,5 @@
 -- A reply that is handed over is that of the executed call.
-use Rattle.std.proofs.Common.{◌≡◌, ℕ, Bool, true, false, cond, List, [], ◌∷◌, ◌++◌, None, Some, Ok, sym, ap, subst, ◌∙◌}
+use Rattle.std.proofs.Common.{◌≡◌, ℕ, ◌<◌, Bool, true, false, cond, List, [], ◌∷◌, ◌++◌, None, Some, Ok, sym, ap, subst, ◌∙◌}
 use Rattle.nr_xdr.specs.Item.{IsBytes}
 use Rattle.nr_header.specs.WithinLimits.{IsMessage}
 use Rattle.nr_header.proofs.Messages.{header_take}
@@ -23,7 +23,7 @@ use Rattle.nr_reduce.specs.RunLaws.{server_by}
 use Rattle.nr_reduce.specs.Asked.{AskedSoFar}
 use Rattle.nr_laws.specs.Typed.{IsTyped}
 use Rattle.nr_laws.specs.HandedOver.{HasReply, InlineRepliesAreExecuted}
-use Rattle.nr_laws.proofs.Along.{GoesOn, goes-behind}
+use Rattle.nr_laws.proofs.Along.{GoesOn, goes-behind, places_after}
 use Rattle.nr_laws.proofs.Words.{payload_by, payload-bytes}
 use Rattle.nr_laws.proofs.Messages.{message_in}
 use Rattle.nr_laws.proofs.ClientSays.{ClientGood}
@@ -46,16 +46,22 @@ one-message (Untagged last opcode w queue msn offset payload) m e = by (is_send 
     by true e = cc
     by false e = absurd cc
 
--- it is of bytes
-pub message-bytes : (opened : LinkParameters) (link : ℕ) (run : List Mark) (c : CompletedCall) → IsTyped run → AskedSoFar opened link run → (d : OutcomeSaid opened link run c) → IsBytes d.given.message
-unfolding frame_segment
-message-bytes opened link run c typed asked d =
+-- its frame ends behind what was received before, and is of bytes
+pub outcome-frame : (opened : LinkParameters) (link : ℕ) (run : List Mark) (c : CompletedCall) → IsTyped run → AskedSoFar opened link run → (d : OutcomeSaid opened link run c) → (places_after 0 d.given.earlier < d.given.frame.end) × IsBytes d.given.frame.bytes
+outcome-frame opened link run c typed asked d =
     let w = d.given in
     let g = client-goes opened link run typed asked in
     let rest = goes-behind (client_rules opened) (ClientGood opened) 0 (initial_client opened) w.earlier (FrameReceived w.frame ∷ w.later)
     (subst (λ (xs : List Event). GoesOn (client_rules opened) (ClientGood opened) 0 (initial_client opened) xs) w.is g.goes) in
     let next = rest.0 in
-    subst IsBytes (one-message w.segment w.message d.one) (payload-bytes w.frame.bytes w.segment next.2 w.is_segment)
+    (next.1, next.2)
+
+-- it is of bytes
+pub message-bytes : (opened : LinkParameters) (link : ℕ) (run : List Mark) (c : CompletedCall) → IsTyped run → AskedSoFar opened link run → (d : OutcomeSaid opened link run c) → IsBytes d.given.message
+unfolding frame_segment
+message-bytes opened link run c typed asked d =
+    let w = d.given in
+    subst IsBytes (one-message w.segment w.message d.one) (payload-bytes w.frame.bytes w.segment (outcome-frame opened link run c typed asked d).1 w.is_segment)
 
 -- ---- The Execute of the reply
 

@@ -105,3 +105,4 @@ pub mod RegionLengths
 pub mod ReplyMemory
 pub mod ReadAnswers
 pub mod HandedOver
+pub mod ConveyedReplies
