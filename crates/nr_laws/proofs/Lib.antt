@@ -105,3 +105,12 @@ pub mod OwnPayloads
 pub mod ConveyedForms
 pub mod ServerReadsOfRuns
 pub mod ServerMemory
+pub mod SubmittedPlans
+pub mod InlineReplies
+pub mod OfferedLists
+pub mod KeptOffers
+pub mod RegionLengths
+pub mod ReplyMemory
+pub mod ReadAnswers
+pub mod HandedOver
+pub mod ConveyedReplies

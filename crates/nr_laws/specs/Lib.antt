@@ -11,3 +11,4 @@ pub mod LinkInvariants
 pub mod Completion
 pub mod EndCauses
 pub mod Payloads
+pub mod HandedOver

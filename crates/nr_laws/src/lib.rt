@@ -5,9 +5,11 @@
 #![tactic(auto)]
 
 mod completion;
+mod handover;
 mod laws;
 mod payloads;
 
 pub use completion::{calls_complete, segments_keep_the_rules};
+pub use handover::replies_handed_over;
 pub use laws::{completions, grant, once, places, touches};
 pub use payloads::executed_payloads;

@@ -1,0 +1,211 @@
+-- A reply that is handed over, and the reply of the Execute, are what the same message and the same memory convey.
+use Rattle.std.proofs.Common.{◌≡◌, ℕ, ◌+◌, ◌≤◌, ◌<◌, Bool, true, false, cond, List, [], ◌∷◌, ◌++◌, length, map, Option, None, Some, Ok, refl, sym, ap, subst, ◌∙◌, arith}
+use Rattle.nr_xdr.specs.Item.{IsBytes}
+use Rattle.nr_header.specs.declared.header.ChunkLists.{ChunkLists}
+use Rattle.nr_rpc.specs.Reading.{call_of, target_of}
+use Rattle.nr_rpc.specs.declared.head.CallTarget.{CallTarget}
+use Rattle.nr_reduce.specs.declared.call.Outcome.TheVariants as outcomes
+use Rattle.nr_reduce.specs.declared.call.Call.{Call}
+use Rattle.nr_reduce.specs.declared.mark.Mark.{Mark}
+use Rattle.nr_reduce.specs.declared.mark.Mark.TheVariants as marks
+use Rattle.nr_reduce.specs.declared.mark.LinkParameters.{LinkParameters}
+use Rattle.nr_reduce.specs.declared.outline.Plan.{Plan}
+use Rattle.nr_reduce.specs.History.{ExecutedCall, CompletedCall}
+use Rattle.nr_reduce.specs.Opening.{IsOpened}
+use Rattle.nr_reduce.specs.Events.{Event}
+use Rattle.nr_reduce.specs.Events.Event.{FrameReceived, CallExecuted}
+use Rattle.nr_reduce.specs.OfferedRegions.{Region}
+use Rattle.nr_reduce.specs.Plans.{Buffer, buffers, lists_of, read_list, write_stag, reply_stag, write_list, has_segment}
+use Rattle.nr_reduce.specs.Chunks.{Bytes, reply_conveyed}
+use Rattle.nr_reduce.specs.Holds.{Answer, answer_for, answer_lists, answer_message, written_chunks}
+use Rattle.nr_reduce.specs.Undone.{IsOffer, after, answer_segments}
+use Rattle.nr_reduce.specs.ClientState.{ClientState, memory_at}
+use Rattle.nr_reduce.specs.Client.{client_rules, initial_client}
+use Rattle.nr_reduce.specs.Run.{client}
+use Rattle.nr_reduce.specs.ServerState.{ServerState, credit_word, down_max}
+use Rattle.nr_reduce.specs.Server.{offer_of, answer_of_target}
+use Rattle.nr_reduce.specs.RunLaws.{server_by}
+use Rattle.nr_reduce.proofs.Answering.{conveyed}
+use Rattle.nr_reduce.proofs.OwnStags.{ClientNumbers, client-numbers}
+use Rattle.nr_laws.specs.MarkAt.{MarkAt}
+use Rattle.nr_laws.specs.MatchedSoFar.{MatchedSoFar}
+use Rattle.nr_laws.specs.Typed.{TypedMark, IsTyped}
+use Rattle.nr_laws.specs.HandedOver.{HasPlan, HasTargetOf, StreamRepliesAreExecuted, RepliesByTargetAreExecuted}
+use Rattle.nr_laws.proofs.Along.{places_after}
+use Rattle.nr_laws.proofs.Outputs.Output.{ASegment}
+use Rattle.nr_laws.proofs.ServerAlong.{outs_of}
+use Rattle.nr_laws.proofs.ServerOutputs.{for_target}
+use Rattle.nr_laws.proofs.ExecuteMarks.{execute_mark}
+use Rattle.nr_laws.proofs.OnceByXid.{at-mark}
+use Rattle.nr_laws.proofs.ClientMemory.{HasBuffers, client-gathers}
+use Rattle.nr_laws.proofs.Memory.{Part, parts_of, parts_out, out-append, gathers, Settled, settled-later}
+use Rattle.nr_laws.proofs.Outcomes.{client_by, OutcomeSaid}
+use Rattle.nr_laws.proofs.DoneCalls.{GivesBy, gives-by}
+use Rattle.nr_laws.proofs.Replied.{RepliedBy, replied-by}
+use Rattle.nr_laws.proofs.SubmittedPlans.{AnsweredCall, answered-submit, OwnSubmit, own-submit}
+use Rattle.nr_laws.proofs.OfferedLists.{no_lists, no-offer}
+use Rattle.nr_laws.proofs.KeptOffers.{KeptOffer, kept-offer}
+use Rattle.nr_laws.proofs.KeptOffers.KeptOffer.{Kept, NotKept}
+use Rattle.nr_laws.proofs.ReplyMemory.{memory-conveys, conveyed-same}
+use Rattle.nr_laws.proofs.ReadAnswers.{client-reads, any-target, own-credit}
+use Rattle.nr_laws.proofs.HandedOver.{outcome-frame, reply-executed}
+
+-- both replies are conveyed by the same stream, lists and memory
+record BothConveyed (call : Call) (plan : Plan) (offer : ChunkLists) (down : ℕ) (executed reply : List ℕ) (a : Answer) : Type 0 where
+  inline : Option (List ℕ)
+  lists : ChunkLists
+  memory : Bytes
+  handed : reply_conveyed call.prog call.vers call.proc inline lists memory ≡ Some reply
+  own : (prog vers proc : ℕ) → answer_for offer down prog vers proc executed ≡ Some a → reply_conveyed prog vers proc inline lists memory ≡ Some executed
+  none : plan.write ≡ None → lists.write ≡ []
+
+both-conveyed : (opened : LinkParameters) (link : ℕ) (run before : List Mark) (xid : ℕ) (plan : Plan) (reply : List ℕ) → IsOpened opened → IsTyped run → MatchedSoFar opened link run → (has : HasPlan opened link run xid plan)
+    → (at : MarkAt run before (marks.Done link xid (outcomes.Reply reply))) → (r : RepliedBy opened link before xid reply)
+    → BothConveyed has.call plan (offer_of (server_by opened r.answer.earlier) r.answer.call.xid) 1024 r.answer.call.reply reply r.answer.answer
+unfolding lists_of
+both-conveyed opened link run before xid plan reply opens typed far has at r = by offered
+  where
+    done : Mark
+    done = marks.Done link xid (outcomes.Reply reply)
+
+    d : OutcomeSaid opened link before (record { xid = xid; outcome = outcomes.Reply reply })
+    d = r.done.said
+
+    k : ClientState
+    k = (client_by opened d.given.earlier).state
+
+    place : ℕ
+    place = d.given.frame.end
+
+    g : GivesBy k place d.given.message xid (Some (outcomes.Reply reply))
+    g = gives-by k place d.given.message xid (Some (outcomes.Reply reply)) d.given.given
+
+    s : AnsweredCall opened link before d.given.earlier g.call
+    s = answered-submit opened link before r.done.typed r.done.far.asked d.given.earlier (FrameReceived d.given.frame ∷ d.given.later) d.given.is g.header.xid g.call g.is_call
+
+    own : OwnSubmit s.submit.submit.earlier has.before s.submit.submit.call has.call s.submit.submit.accepted.plan plan
+    own = (let w = s.submit.submit in own-submit opened link run before done at.after xid plan far.asked at.is has w.earlier w.later w.call w.form w.xid w.is w.accepted (sym s.submit.own_xid ∙ g.call_xid))
+
+    stag : ℕ
+    stag = (client opened link has.before).state.stag
+
+    stag_is : g.call.stag ≡ stag
+    stag_is = s.submit.own_stag ∙ ap (λ (b : List Mark). (client opened link b).state.stag) own.place
+
+    plan_is : g.call.plan ≡ plan
+    plan_is = s.submit.own_plan ∙ own.plan_is
+
+    call_is : g.call.call ≡ has.call
+    call_is = s.submit.own_call ∙ own.call_is
+
+    server : ServerState
+    server = server_by opened r.answer.earlier
+
+    e : ExecutedCall
+    e = r.answer.call
+
+    a : Answer
+    a = r.answer.answer
+
+    offered : KeptOffer server xid stag plan
+    offered = kept-offer opened link run before done at.after xid plan opens r.done.typed r.done.far far.asked at.is has r.answer.earlier (CallExecuted e ∷ r.answer.later) r.answer.is r.answer.live
+
+    bytes : IsBytes e.reply
+    bytes = at-mark TypedMark before r.by.mark.earlier (execute_mark link e) r.by.mark.later r.by.mark.is r.done.typed
+
+    credit : credit_word server < 4294967296
+    credit = (let c = own-credit opened r.answer.earlier in let f = opens.granted_fits in omega (arith, c, f))
+
+    word : e.xid < 4294967296
+    word = r.by.fits
+
+    settled : Settled place k.regions k.accesses_received
+    settled = (let next = (outcome-frame opened link before (record { xid = xid; outcome = outcomes.Reply reply }) r.done.typed r.done.far.asked d).0 in settled-later (places_after 0 d.given.earlier) place k.regions k.accesses_received (omega (arith, next)) s.settled)
+
+    backed : HasBuffers k.regions (buffers stag plan)
+    backed = subst (λ (bs : List Buffer). HasBuffers k.regions bs) (λ i. buffers (stag_is i) (plan_is i)) s.backed
+
+    numbers : ClientNumbers opened k
+    numbers = client-numbers opened d.given.earlier
+
+    front : List Part
+    front = parts_out (outs_of opened r.answer.earlier)
+
+    parts : (offer : ChunkLists) → offer_of server e.xid ≡ offer → parts_of k.accesses_received ≡ front ++ parts_out (map ASegment (answer_segments offer a))
+    parts offer is =
+        gathers (client_rules opened) (λ (x : ClientState). x.accesses_received) (client-gathers opened) (initial_client opened) d.given.earlier d.before d.brings d.given.live
+        ∙ ap parts_out r.answer.before ∙ out-append (outs_of opened r.answer.earlier) (map ASegment (answer_segments (offer_of server e.xid) a))
+        ∙ ap (λ (o : ChunkLists). front ++ parts_out (map ASegment (answer_segments o a))) is
+
+    same_call : (inline : Option (List ℕ)) (lists : ChunkLists) → reply_conveyed g.call.call.prog g.call.call.vers g.call.call.proc inline lists (memory_at k place) ≡ Some reply
+        → reply_conveyed has.call.prog has.call.vers has.call.proc inline lists (memory_at k place) ≡ Some reply
+    same_call inline lists h = ap (λ (c : Call). reply_conveyed c.prog c.vers c.proc inline lists (memory_at k place)) (sym call_is) ∙ h
+
+    t : (prog : ℕ) × (vers : ℕ) × (proc : ℕ) × (answer_for (offer_of server e.xid) 1024 prog vers proc e.reply ≡ Some a)
+    t = for_target (offer_of server e.xid) (down_max server) e.reply (target_of (call_of e.payload)) a r.answer.is_answer
+
+    answers : (offer : ChunkLists) → offer_of server e.xid ≡ offer → (prog vers proc : ℕ) → answer_for (offer_of server e.xid) 1024 prog vers proc e.reply ≡ Some a → answer_for offer 1024 prog vers proc e.reply ≡ Some a
+    answers offer is prog vers proc h = ap (λ (o : ChunkLists). answer_for o 1024 prog vers proc e.reply) (sym is) ∙ h
+
+    message : (offer : ChunkLists) → offer_of server e.xid ≡ offer → d.given.message ≡ answer_message e.xid (credit_word server) offer a
+    message offer is = r.answer.message ∙ ap (λ (o : ChunkLists). answer_message e.xid (credit_word server) o a) is
+
+    own_offer : (offer : ChunkLists) → offer_of server xid ≡ offer → offer_of server e.xid ≡ offer
+    own_offer offer is = ap (λ (x : ℕ). offer_of server x) r.own ∙ is
+
+    by : KeptOffer server xid stag plan → BothConveyed has.call plan (offer_of server e.xid) 1024 e.reply reply a
+    by (Kept kept offer) =
+        let is = own_offer (lists_of stag plan) kept in
+        record {
+          inline = cond a.long None (Some a.stream);
+          lists = answer_lists (lists_of stag plan) a;
+          memory = memory_at k place;
+          handed = same_call (cond a.long None (Some a.stream)) (answer_lists (lists_of stag plan) a)
+              (client-reads (read_list stag plan plan.read_at) (write_stag stag plan) (reply_stag stag plan) plan.write plan.reply 1024 t.0 t.1 t.2 e.xid (credit_word server) e.reply a k place g.call d.given.message g.header xid reply bytes offer
+              (answers (lists_of stag plan) is t.0 t.1 t.2 t.3) (omega arith) word credit (message (lists_of stag plan) is) g.is_header g.by_its_body);
+          own = λ prog vers proc h. memory-conveys k place opened.first_stag stag plan a front 1024 prog vers proc e.reply bytes numbers.regions settled backed (parts (lists_of stag plan) is) (answers (lists_of stag plan) is prog vers proc h);
+          none = λ no. ap (λ (w : Option (List ℕ)). written_chunks (write_list (write_stag stag plan) w) (length a.moved)) no;
+        }
+    by (NotKept kept) =
+        let is = own_offer no_lists kept in
+        record {
+          inline = cond a.long None (Some a.stream);
+          lists = answer_lists no_lists a;
+          memory = memory_at k place;
+          handed = same_call (cond a.long None (Some a.stream)) (answer_lists no_lists a)
+              (client-reads [] 0 0 None None 1024 t.0 t.1 t.2 e.xid (credit_word server) e.reply a k place g.call d.given.message g.header xid reply bytes no-offer (answers no_lists is t.0 t.1 t.2 t.3) (omega arith) word credit (message no_lists is) g.is_header g.by_its_body);
+          own = λ prog vers proc h. conveyed-same (memory_at k place) (after (memory_at k place) no_lists a) [] 0 0 None None a prog vers proc (λ no. absurd (let w : false ≡ true = no in cc)) (λ no. absurd (let w : false ≡ true = no in cc))
+              ∙ conveyed [] 0 0 None None 1024 prog vers proc e.reply a (memory_at k place) bytes (record { write = λ no. absurd (let w : false ≡ true = no in cc); reply = λ no. absurd (let w : false ≡ true = no in cc); apart = λ no. absurd (let w : false ≡ true = no in cc) })
+              (answers no_lists is prog vers proc h);
+          none = λ no. refl;
+        }
+
+same-bytes : (x y : List ℕ) → Some x ≡ Some y → x ≡ y
+same-bytes x y e = cc
+
+pub stream_replies_are_executed : StreamRepliesAreExecuted
+stream_replies_are_executed opened link run before xid plan reply opens typed far has write at =
+    let r = replied-by opened link run before at.after xid reply typed far at.is in
+    let b = both-conveyed opened link run before xid plan reply opens typed far has at r in
+    let t = for_target (offer_of (server_by opened r.answer.earlier) r.answer.call.xid) 1024 r.answer.call.reply (target_of (call_of r.answer.call.payload)) r.answer.answer r.answer.is_answer in
+    reply-executed opened link before xid reply r
+    (same-bytes r.answer.call.reply reply (sym (b.own t.0 t.1 t.2 t.3) ∙ any-target t.0 t.1 t.2 has.call.prog has.call.vers has.call.proc b.inline b.lists b.memory (b.none write) ∙ b.handed))
+
+pub replies_by_target_are_executed : RepliesByTargetAreExecuted
+replies_by_target_are_executed opened link run before xid plan reply opens typed far has at =
+    let r = replied-by opened link run before at.after xid reply typed far at.is in
+    let b = both-conveyed opened link run before xid plan reply opens typed far has at r in
+    let e = r.answer.call in
+    let m = r.by.mark in
+    let offer = offer_of (server_by opened r.answer.earlier) e.xid in
+    record {
+      moment = e.moment;
+      payload = e.payload;
+      place = e.place;
+      executed = e.reply;
+      before = m.earlier;
+      at = record { after = m.later; is = m.is ∙ ap (λ (x : ℕ). m.earlier ++ marks.Execute link x e.moment e.payload e.place e.reply ∷ m.later) r.own };
+      same = λ h. same-bytes reply e.reply
+          (sym b.handed ∙ (λ i. reply_conveyed (sym h.prog i) (sym h.vers i) (sym h.proc i) b.inline b.lists b.memory)
+          ∙ b.own h.target.prog h.target.vers h.target.proc (ap (λ (o : Option CallTarget). answer_of_target offer 1024 e.reply o) (sym h.is) ∙ r.answer.is_answer));
+    }

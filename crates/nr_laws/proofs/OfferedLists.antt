@@ -1,0 +1,156 @@
+-- What a server keeps of the offer of a call is what its client offered.
+use Rattle.std.proofs.Common.{◌≡◌, ℕ, ◌+◌, ◌^◌, ◌≤◌, ◌<◌, Bool, true, false, cond, eqb, ltb, List, [], ◌∷◌, ◌++◌, length, Option, None, Some, Result, Ok, Err, refl, sym, ap, subst, ◌∙◌, arith, eqb-true}
+use Rattle.std.specs.List.{find}
+use Rattle.std.proofs.lemmas.Bool.{ltb-false}
+use Rattle.std.proofs.lemmas.List.Elements.{All-nil}
+use Rattle.nr_xdr.specs.Item.{IsBytes}
+use Rattle.nr_xdr.specs.Items.{AllFit}
+use Rattle.nr_xdr.specs.Fields.{word_at}
+use Rattle.nr_header.specs.declared.header.ChunkLists.{ChunkLists}
+use Rattle.nr_header.specs.declared.header.Body.{Body}
+use Rattle.nr_header.specs.declared.header.Body.TheVariants.{Msg, Nomsg, ErrVers, ErrChunk}
+use Rattle.nr_header.specs.declared.header.Header.{Header}
+use Rattle.nr_header.specs.declared.fault.HeaderFault.{HeaderFault}
+use Rattle.nr_header.specs.Header.{lists_items, body_items}
+use Rattle.nr_header.specs.WithinLimits.{IsMessage, ListsWithin, CanRead}
+use Rattle.nr_header.specs.Reading.{header_of}
+use Rattle.nr_header.proofs.Messages.{header_take}
+use Rattle.nr_wire.specs.declared.hello.Side.TheVariants.{Responder}
+use Rattle.nr_wire.specs.Segment.{Segment}
+use Rattle.nr_wire.specs.Segment.Segment.{Tagged, Untagged}
+use Rattle.nr_link.specs.Frames.{Frame, is_hello}
+use Rattle.nr_link.specs.Ending.{frame_segment}
+use Rattle.nr_link.specs.ReceiveState.{message_completed}
+use Rattle.nr_reduce.specs.declared.call.Form.{Form}
+use Rattle.nr_reduce.specs.declared.call.Form.TheVariants as forms
+use Rattle.nr_reduce.specs.declared.call.Offer.{Offer}
+use Rattle.nr_reduce.specs.declared.mark.Mark.{Mark}
+use Rattle.nr_reduce.specs.declared.mark.LinkParameters.{LinkParameters}
+use Rattle.nr_reduce.specs.declared.outline.Plan.{Plan}
+use Rattle.nr_reduce.specs.Limits.{send_max, given_max}
+use Rattle.nr_reduce.specs.Matched.{Matched}
+use Rattle.nr_reduce.specs.Events.{Event, events}
+use Rattle.nr_reduce.specs.Events.Event.{FrameReceived}
+use Rattle.nr_reduce.specs.EndRules.{end_state_after}
+use Rattle.nr_reduce.specs.Plans.{TooLarge, plan_of, plan_size, plan_in_form, given_plan, given_total, within, given_within, regions_needed, lists_of, call_message}
+use Rattle.nr_reduce.specs.Undone.{IsNotGiven, IsOffer, lists_by}
+use Rattle.nr_reduce.specs.Asked.{AskedSoFar}
+use Rattle.nr_reduce.specs.Served.{ServedSoFar}
+use Rattle.nr_reduce.specs.ServerState.{ServerState}
+use Rattle.nr_reduce.specs.Server.{server_rules, initial_server}
+use Rattle.nr_reduce.specs.RunLaws.{server_by}
+use Rattle.nr_reduce.proofs.Asking.{asks}
+use Rattle.nr_laws.specs.Typed.{IsTyped, IsTypedForm}
+use Rattle.nr_laws.proofs.Along.{GoesOn, goes-behind}
+use Rattle.nr_laws.proofs.Words.{payload_by, payload-bytes}
+use Rattle.nr_laws.proofs.Brought.{Brings}
+use Rattle.nr_laws.proofs.Messages.{message_in, AreOne, one-first}
+use Rattle.nr_laws.proofs.Hears.{hears, server-receives, brings-at, whole-message}
+use Rattle.nr_laws.proofs.ClientRun.{client-tells}
+use Rattle.nr_laws.proofs.ServerAlong.{ServerPlain}
+use Rattle.nr_laws.proofs.ServerSide.{server-goes}
+use Rattle.nr_laws.proofs.ExecutedCalls.{server-receives-of}
+use Rattle.nr_laws.proofs.PlanLists.{given-fit, fitting-reads}
+
+-- ---- The lists that are read of the message of an accepted call
+
+record WithinIs (A : Type 0) (need room : ℕ) (answer : Result A TooLarge) (p : A) : Type 0 where
+  fits : need ≤ room
+  is : answer ≡ Ok p
+
+within-is : {A : Type 0} (need room : ℕ) (answer : Result A TooLarge) (p : A) → within need room answer ≡ Ok p → WithinIs A need room answer p
+within-is {A} need room answer p e = by (ltb room need) refl e
+  where
+    by : (b : Bool) → ltb room need ≡ b → cond b (Err (record { need = need; room = room })) answer ≡ Ok p → WithinIs A need room answer p
+    by true is e = absurd cc
+    by false is e = record { fits = ltb-false room need is; is = e }
+
+plan-ok : (p q : Plan) → ◌≡◌ {A = Result Plan TooLarge} (Ok p) (Ok q) → p ≡ q
+plan-ok p q e = cc
+
+given-items : (payload : List ℕ) (offer : Offer) (up down stag : ℕ) (p : Plan) → up ≡ send_max → offer.read_at < 2 ^ 32 → plan_of payload (forms.Given offer) up down ≡ Ok p → stag + regions_needed p ≤ 2 ^ 32 → AllFit (lists_items (lists_of stag p))
+unfolding plan_of
+given-items payload offer up down stag p top at e stags =
+    let plan : Plan = given_plan payload offer in
+    let a = within-is (length payload) 40960 (within (given_total offer) given_max (within (plan_size plan) up (Ok plan))) p e in
+    let b = within-is (given_total offer) given_max (within (plan_size plan) up (Ok plan)) p a.is in
+    let c = within-is (plan_size plan) up (Ok plan) p b.is in
+    let same : plan ≡ p = plan-ok plan p c.is in
+    let small = c.fits in
+    subst (λ (q : Plan). AllFit (lists_items (lists_of stag q))) same
+    (given-fit payload offer stag b.fits at (omega (arith, small, top)) (subst (λ (q : Plan). stag + regions_needed q ≤ 2 ^ 32) (sym same) stags))
+
+body-is : (x credit : ℕ) (b : Body) (h : Header) → ◌≡◌ {A = Result Header HeaderFault} (Ok (record { xid = x; credit = credit; body = b })) (Ok h) → b ≡ h.body
+body-is x credit b h e = cc
+
+pub plan-reads : (payload : List ℕ) (form : Form) (up down xid credit stag : ℕ) (p : Plan) (header : Header) → up ≡ send_max → IsBytes payload → IsTypedForm form → plan_of payload form up down ≡ Ok p → xid < 2 ^ 32 → credit < 2 ^ 32
+    → stag + regions_needed p ≤ 2 ^ 32 → IsBytes (call_message xid credit stag p) → header_of (call_message xid credit stag p) ≡ Ok header → lists_by header.body ≡ lists_of stag p
+plan-reads payload (forms.Given offer) up down xid credit stag p header top bytes typed e fx fc stags own is =
+    (fitting-reads xid credit stag p header own is (given-items payload offer up down stag p top typed e stags) fx fc).lists
+plan-reads payload forms.Auto up down xid credit stag p header top bytes typed e fx fc stags own is =
+    let m = asks payload forms.Auto up down xid credit stag p bytes tt e fx fc stags in ap lists_by (sym (body-is xid credit m.body header (sym m.reads ∙ is))) ∙ m.lists
+plan-reads payload forms.Inline up down xid credit stag p header top bytes typed e fx fc stags own is =
+    let m = asks payload forms.Inline up down xid credit stag p bytes tt e fx fc stags in ap lists_by (sym (body-is xid credit m.body header (sym m.reads ∙ is))) ∙ m.lists
+plan-reads payload forms.Chunk up down xid credit stag p header top bytes typed e fx fc stags own is =
+    let m = asks payload forms.Chunk up down xid credit stag p bytes tt e fx fc stags in ap lists_by (sym (body-is xid credit m.body header (sym m.reads ∙ is))) ∙ m.lists
+plan-reads payload forms.Long up down xid credit stag p header top bytes typed e fx fc stags own is =
+    let m = asks payload forms.Long up down xid credit stag p bytes tt e fx fc stags in ap lists_by (sym (body-is xid credit m.body header (sym m.reads ∙ is))) ∙ m.lists
+
+-- ---- An offer that was read
+
+abbrev pub no_lists : ChunkLists
+no_lists = record { read = []; write = []; reply = None }
+
+pub no-offer : IsOffer no_lists
+no-offer = record {
+  fits = (tt, (tt, (tt, tt)));
+  within = record {
+    read_segments = omega arith;
+    read_ends = All-nil _;
+    one_position = (0, All-nil _);
+    write_chunks = omega arith;
+    chunk_segments = All-nil _;
+    write_segments = omega arith;
+    write_ends = All-nil _;
+    reply_segments = tt;
+    reply_ends = tt;
+  };
+}
+
+pub read-offer : (message : List ℕ) (h : Header) → IsBytes message → header_of message ≡ Ok h → IsOffer (lists_by h.body)
+read-offer message h bytes is =
+    let m = header_take message h bytes is in
+    by h.body m.fits m.can
+  where
+    by : (b : Body) → AllFit (body_items h.xid h.credit b) → CanRead b (header_take message h bytes is).stream → IsOffer (lists_by b)
+    by (Msg lists at) fits can = record { fits = fits.1.1.1.1; within = can.0 }
+    by (Nomsg lists) fits can = record { fits = fits.1.1.1.1; within = can.1 }
+    by (ErrVers version low high) fits can = no-offer
+    by (ErrChunk version) fits can = no-offer
+
+-- ---- A message that a server received is of bytes
+
+one-payload : (s : Segment) (m : List ℕ) → message_in s ≡ m ∷ [] → payload_by s ≡ m
+one-payload (Tagged last opcode stag to payload) m e = absurd cc
+one-payload (Untagged last opcode w queue msn offset payload) m e = by (Rattle.nr_link.specs.ReceiveState.is_send opcode) e
+  where
+    by : (b : Bool) → cond b (payload ∷ []) [] ≡ m ∷ [] → payload ≡ m
+    by true e = cc
+    by false e = absurd cc
+
+pub received-bytes : (opened : LinkParameters) (link : ℕ) (run : List Mark) → IsTyped run → AskedSoFar opened link run → ServedSoFar opened link run → Matched link run
+    → (es : List Event) (f : Frame) (rest : List Event) (s : Segment) (message : List ℕ) → events link Responder run ≡ es ++ FrameReceived f ∷ rest → is_hello f ≡ false → frame_segment f ≡ Ok s
+    → message_completed (server_by opened es).received s ≡ Some message → (end_state_after (server_rules opened) (initial_server opened) es).ended ≡ None → IsBytes message
+unfolding frame_segment
+received-bytes opened link run typed asked served matched es f rest s message all behind is whole live =
+    let r = server-receives-of opened link run typed asked matched in
+    let t = client-tells opened link run typed asked in
+    let at = brings-at es f rest r.came (subst (λ (xs : List Event). Brings xs r.came) all r.brings) in
+    let ones : AreOne r.came = one-first r.came r.left (subst AreOne (sym r.parts) t.says.one) in
+    let early : AreOne at.earlier = one-first at.earlier (at.own ∷ at.later) (subst AreOne at.parts ones) in
+    let counted = hears (server_rules opened) (λ (k : ServerState). k.received) (server-receives opened) (initial_server opened) es at.earlier at.brings early refl live in
+    let one : message_in s ≡ message ∷ [] = whole-message (server_by opened es).received s message counted.begun whole in
+    let g = server-goes opened link run typed served in
+    let goes = goes-behind (server_rules opened) ServerPlain 0 (initial_server opened) es (FrameReceived f ∷ rest) (subst (λ (xs : List Event). GoesOn (server_rules opened) ServerPlain 0 (initial_server opened) xs) all g.goes) in
+    let next = goes.0 in
+    subst IsBytes (one-payload s message one) (payload-bytes f.bytes s next.2 is)
