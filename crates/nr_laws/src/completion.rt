@@ -3,7 +3,7 @@
 ghost use Rattle.nr_laws.specs.Completion.{CallsComplete};
 ghost use Rattle.nr_laws.specs.EndCauses.{ServerEndsForCalls, ClientEndsForReplies, LawsKeptBefore};
 
-/// On a matched link of which no side has ended, where each side wrote all its output, each side received all that the
+/// On a matched link of which no side has ended, where each side wrote all its output whenever it wrote, each side received all that the
 /// other sent, and no call that is whole waits to be executed: no call is outstanding, since a message of each accepted call
 /// was received. It brought an outcome of each call that wasn't given up; and once all outcomes that are due are handed over,
 /// each of these calls has its Done.
