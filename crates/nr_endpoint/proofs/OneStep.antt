@@ -10,8 +10,8 @@ use Rattle.nr_wire.specs.Hello.{Hello, hello_of}
 use Rattle.nr_wire.specs.Segment.{Segment, segment_of}
 use Rattle.nr_wire.specs.Segment.Segment.{Tagged, Untagged}
 use Rattle.nr_wire.specs.Constants.{OPCODE_READ_RESPONSE, FPDU_MAX}
-use Rattle.nr_wire.specs.Feeding.{bytes_taken}
-use Rattle.nr_wire.specs.Stream.{IsPartial, IsFrame, is_whole, frame_len}
+use Rattle.nr_wire.specs.Feeding.{bytes_taken, feeding_in, feeding_after_frames, feeding_after}
+use Rattle.nr_wire.specs.Stream.{IsPartial, IsFrame, is_whole, frame_len, split}
 use Rattle.nr_wire.proofs.Frames.{whole_from}
 use Rattle.nr_wire.proofs.Feedings.{feeding_after_step-whole, feeding_after_step-partial, bytes_taken_within, feeding-ended}
 use Rattle.nr_regions.specs.declared.denied.Denied.{Denied}
@@ -24,8 +24,8 @@ use Rattle.nr_link.specs.Ending.{access_of, denied_at, end_of_fault}
 use Rattle.nr_regions.specs.RegisteredMemory.{Access}
 use Rattle.nr_endpoint.specs.LinkState.{LinkState, Link, has_ended}
 use Rattle.nr_endpoint.specs.Judging.{with_frame, with_fpdu, with_peer_hello, with_segment_by, with_effect, segment_end, next_frame}
-use Rattle.nr_endpoint.specs.Calls.{after_call, IsStep}
-use Rattle.nr_endpoint.specs.Calls.Call.{FeedOne, OutOfMemory}
+use Rattle.nr_endpoint.specs.Calls.{after_call, IsStep, makes_whole}
+use Rattle.nr_endpoint.specs.Calls.Call.{Feed, FeedOne, OutOfMemory}
 use Rattle.nr_endpoint.specs.EndpointState.{EndpointState, KeepsStaging, cut_frame_len}
 use Rattle.nr_endpoint.proofs.Standing.{live-state}
 use Rattle.nr_endpoint.proofs.StagedFrames.{taken_whole, taken_all, whole_as_staged, front-of}
@@ -253,8 +253,33 @@ memory-ends l none = ap (λ (s : LinkState). s.ended) (live-state l.state _ none
 
 pub step_ok : (before after : Link) (piece : List ℕ) → IsStep before piece after → before.state.ended ≡ None → after.state.ended ≢ Some ends.Memory → after ≡ after_call before (FeedOne piece)
 step_ok before after piece (inl is) none other = is
-step_ok before after piece (inr is) none other = absurd (other (ap (λ (l : Link). l.state.ended) is ∙ memory-ends before none))
+step_ok before after piece (inr (is, whole)) none other = absurd (other (ap (λ (l : Link). l.state.ended) is ∙ memory-ends before none))
 
 pub step_memory : (before after : Link) (piece : List ℕ) → IsStep before piece after → before.state.ended ≡ None → after.state.ended ≡ Some ends.Memory → after ≡ after_call before OutOfMemory
 step_memory before after piece (inl is) none memory = absurd (step-not-memory before piece none (ap (λ (l : Link). l.state.ended) (sym is) ∙ memory))
-step_memory before after piece (inr is) none memory = is
+step_memory before after piece (inr (is, whole)) none memory = is
+
+pub step_frame : (before after : Link) (piece : List ℕ) → IsStep before piece after → before.state.ended ≡ None → after.state.ended ≡ Some ends.Memory → makes_whole before piece ≡ true
+step_frame before after piece (inl is) none memory = absurd (step-not-memory before piece none (ap (λ (l : Link). l.state.ended) (sym is) ∙ memory))
+step_frame before after piece (inr (is, whole)) none memory = whole
+
+-- no feed makes want of memory either
+ended-or-on : (b : Bool) (s : LinkState) (one other : Link) → has_ended s ≡ b → s.ended ≢ Some ends.Memory → one.state ≡ s → (has_ended s ≡ false → other.state.ended ≢ Some ends.Memory) → (cond b one other).state.ended ≢ Some ends.Memory
+ended-or-on true s one other e kept same on is = kept (ap (λ (t : LinkState). t.ended) (sym same) ∙ is)
+ended-or-on false s one other e kept same on is = on e is
+
+no-end : (e : Option End) → is_some e ≡ false → e ≡ None
+no-end None h = refl
+no-end (Some end) h = absurd cc
+
+frames-not-memory : (frames : List (List ℕ)) (rest : List ℕ) (a : Awaited) (s : LinkState) → s.ended ≢ Some ends.Memory → (feeding_after_frames has_ended with_frame frames rest a s).state.ended ≢ Some ends.Memory
+frames-not-memory [] rest a s kept is = kept is
+frames-not-memory (frame ∷ frames) rest a s kept is =
+    ended-or-on (has_ended s) s (feeding_in has_ended with_frame a [] s) (feeding_after_frames has_ended with_frame frames rest Fpdu (with_frame s a frame)) refl kept refl
+    (λ e. frames-not-memory frames rest Fpdu (with_frame s a frame) (frame-not-memory s a frame (no-end s.ended e))) is
+
+pub feed-not-memory : (before : Link) (piece : List ℕ) → before.state.ended ≡ None → (after_call before (Feed piece)).state.ended ≢ Some ends.Memory
+unfolding after_call feeding_after
+feed-not-memory before piece none is =
+    let s = split before.awaited (before.rest ++ piece) in
+    frames-not-memory s.frames s.rest before.awaited before.state (λ memory. absurd (let h : None ≡ Some ends.Memory = sym none ∙ memory in cc)) is

@@ -20,10 +20,11 @@ use Rattle.nr_link.specs.Frames.{Frame}
 use Rattle.nr_endpoint.specs.LinkState.{LinkState, Link, has_ended}
 use Rattle.nr_endpoint.specs.Judging.{with_frame, with_fpdu, with_peer_hello, with_segment_by, with_effect, segment_end, next_frame}
 use Rattle.nr_endpoint.specs.EndpointState.{EndpointState, KeepsStaging, cut_frame_len}
-use Rattle.nr_endpoint.specs.Calls.{after_call, after_calls, IsStep}
+use Rattle.nr_endpoint.specs.Calls.{after_call, after_calls, StandsOnAll, IsStep, RanOutAt, makes_whole}
 use Rattle.nr_endpoint.specs.Calls.Call.{Feed, FeedOne, OutOfMemory}
 use Rattle.nr_endpoint.proofs.StagedFrames.{taken_whole, whole_as_staged}
-use Rattle.nr_endpoint.proofs.OneStep.{living, memory_stays, memory-ends}
+use Rattle.nr_endpoint.proofs.OneStep.{living, memory_stays, memory-ends, feed-not-memory}
+use Rattle.nr_endpoint.proofs.Standing.{stands_on_all}
 
 -- ---- Feeding nothing, and one step as a feed
 
@@ -92,6 +93,7 @@ pub record IsOut (before : Link) (piece : List ℕ) (now : Link) : Type 0 where
   pub memory : now.state.ended ≡ Some ends.Memory
   pub count : ℕ
   pub now_is : now ≡ after_calls before (Feed (take count piece) ∷ OutOfMemory ∷ [])
+  pub frame : RanOutAt before piece count
 
 pub begins : (before : Link) (piece : List ℕ) → IsPartial before.awaited before.rest → (has_ended before.state ≡ true → before.rest ≡ []) → IsOn before piece before piece
 unfolding after_call
@@ -113,13 +115,23 @@ goes_on_by before now after piece left on none p is =
           ∙ ap (feeding_after has_ended with_frame before) (sym (take-add on.count t piece));
     }
 
-pub runs_out : (before now after : Link) (piece left : List ℕ) → IsOn before piece now left → now.state.ended ≡ None → after ≡ after_call now OutOfMemory → IsOut before piece after
+pub runs_out : (before now after : Link) (piece left : List ℕ) → IsOn before piece now left → now.state.ended ≡ None → after ≡ after_call now OutOfMemory → makes_whole now left ≡ true →
+    0 < length left → (left ≡ piece) ⊎ (now.rest ≡ []) → IsOut before piece after
 unfolding after_calls
-runs_out before now after piece left on none is = record {
+runs_out before now after piece left on none is whole some first = record {
   memory = ap (λ (l : Link). l.state.ended) is ∙ memory-ends now none;
   count = on.count;
   now_is = is ∙ ap (λ (l : Link). after_call l OutOfMemory) on.now_is;
+  frame = record {
+    live = ap (λ (l : Link). has_ended l.state) (sym on.now_is) ∙ living now.state none;
+    whole = (λ i. makes_whole (sym on.now_is i) (sym on.left_is i)) ∙ whole;
+    front = λ far. ap (λ (l : Link). l.rest) (sym on.now_is) ∙ by first far;
+  };
 }
+  where
+    by : (left ≡ piece) ⊎ (now.rest ≡ []) → 0 < on.count → now.rest ≡ []
+    by (inl same) far = absurd (omega (arith, some, far, ap (λ (x : List ℕ). length x) same, ap (λ (x : List ℕ). length x) on.left_is, length-drop on.count piece))
+    by (inr rest) far = rest
 
 -- at the end of the piece, or where the side ended before it
 pub all_fed : (before now : Link) (piece left : List ℕ) → IsOn before piece now left → left ≡ [] → now ≡ after_call before (Feed piece)
@@ -343,9 +355,15 @@ fed-live old now new piece left after fed some adv live is false e =
     ]
 
 -- memory ran out
-fed-out : (old now new : EndpointState) (piece left after : List ℕ) → IsFedTo old piece now left → 0 < length left → Advanced now new left after → now.link.state.ended ≡ None → new.link ≡ after_call now.link OutOfMemory → IsFedTo old piece new after
-fed-out old now new piece left after fed some adv live is =
-    let out : IsOut old.link piece new.link = runs_out old.link now.link new.link piece left (on-of old.link now.link piece left fed.far some) live is in
+same-or-none : (old now : EndpointState) (piece left : List ℕ) → ((now ≡ old) × (left ≡ piece)) ⊎ (now.link.rest ≡ []) → (left ≡ piece) ⊎ (now.link.rest ≡ [])
+same-or-none old now piece left (inl same) = inl same.1
+same-or-none old now piece left (inr none) = inr none
+
+fed-out : (old now new : EndpointState) (piece left after : List ℕ) → IsFedTo old piece now left → 0 < length left → Advanced now new left after → now.link.state.ended ≡ None → new.link ≡ after_call now.link OutOfMemory →
+    makes_whole now.link left ≡ true → IsFedTo old piece new after
+fed-out old now new piece left after fed some adv live is whole =
+    let out : IsOut old.link piece new.link = runs_out old.link now.link new.link piece left (on-of old.link now.link piece left fed.far some) live is whole some
+    (same-or-none old now piece left (first-of old now piece left some fed.first)) in
     let e : has_ended new.link.state ≡ true = ap (λ (x : Option End). is_some x) out.memory in
     let none : after ≡ [] = none-left (has_ended new.link.state) _ after adv.left_is e in
     record {
@@ -359,7 +377,7 @@ fed-out old now new piece left after fed some adv live is =
 
 fed-step : (old now new : EndpointState) (piece left after : List ℕ) → IsFedTo old piece now left → 0 < length left → Advanced now new left after → now.link.state.ended ≡ None → IsStep now.link left new.link → IsFedTo old piece new after
 fed-step old now new piece left after fed some adv live (inl is) = fed-live old now new piece left after fed some adv live is (has_ended new.link.state) refl
-fed-step old now new piece left after fed some adv live (inr is) = fed-out old now new piece left after fed some adv live is
+fed-step old now new piece left after fed some adv live (inr (is, whole)) = fed-out old now new piece left after fed some adv live is whole
 
 pub fed_on : (old now new : EndpointState) (piece left after : List ℕ) → IsFedTo old piece now left → 0 < length left → Advanced now new left after → IsFedTo old piece new after
 fed_on old now new piece left after fed some adv = by (has_ended now.link.state) refl
@@ -389,17 +407,24 @@ fed_all old now piece fed other = by fed.far
 memory-again : (l : Link) → l.state.ended ≡ Some ends.Memory → l.rest ≡ [] → l ≡ after_call l OutOfMemory
 memory-again l memory none = memory_stays l.state l.awaited l.rest memory none
 
-pub fed_memory : (old now : EndpointState) (piece : List ℕ) → IsFedTo old piece now [] → now.link.state.ended ≡ Some ends.Memory → (n : ℕ) × (now.link ≡ after_calls old.link (Feed (take n piece) ∷ OutOfMemory ∷ []))
-unfolding after_calls
-fed_memory old now piece fed memory = by fed.far
-  where
-    again : now.link ≡ after_call now.link OutOfMemory
-    again = memory-again now.link memory (fed.ended_rest (ap (λ (e : Option End). is_some e) memory))
+-- what a feed leaves where memory ran out
+abbrev pub IsFedOut : Link → List ℕ → Link → Type 0
+IsFedOut before piece after =
+    (n : ℕ) × (after ≡ after_calls before (Feed (take n piece) ∷ OutOfMemory ∷ [])) × StandsOnAll before (Feed (take n piece) ∷ OutOfMemory ∷ []) after
+    × (has_ended before.state ≡ false → RanOutAt before piece n)
 
-    by : HowFar old.link piece now.link [] → (n : ℕ) × (now.link ≡ after_call (after_call old.link (Feed (take n piece))) OutOfMemory)
-    by (On on) = (on.count, again ∙ ap (λ (l : Link). after_call l OutOfMemory) on.now_is)
-    by (All is none) = (length piece, again ∙ ap (λ (l : Link). after_call l OutOfMemory) (is ∙ ap (λ (bytes : List ℕ). after_call old.link (Feed bytes)) (sym (take_all (length piece) piece (omega arith)))))
-    by (Out out none) = (out.count, out.now_is)
+pub fed_memory : (old now : EndpointState) (piece : List ℕ) → IsFedTo old piece now [] → old.link.state.ended ≡ None → now.link.state.ended ≡ Some ends.Memory → IsFedOut old.link piece now.link
+fed_memory old now piece fed live memory = by fed.far
+  where
+    by : HowFar old.link piece now.link [] → IsFedOut old.link piece now.link
+    by (On on) = absurd (feed-not-memory old.link (take on.count piece) live (ap (λ (l : Link). l.state.ended) (sym on.now_is) ∙ memory))
+    by (All is none) = absurd (feed-not-memory old.link piece live (ap (λ (l : Link). l.state.ended) (sym is) ∙ memory))
+    by (Out out none) = (
+      out.count,
+      out.now_is,
+      stands_on_all old.link (Feed (take out.count piece) ∷ OutOfMemory ∷ []) now.link out.now_is,
+      λ _. out.frame,
+    )
 
 -- ---- A side that had ended
 
@@ -409,9 +434,15 @@ ended_all l piece end is none =
     let ended : has_ended l.state ≡ true = ap (λ (e : Option End). is_some e) is in
     sym (feeding-ended has_ended with_frame l piece ended (none ended)).0
 
-pub ended_memory : (l : Link) (piece : List ℕ) → l.state.ended ≡ Some ends.Memory → (has_ended l.state ≡ true → l.rest ≡ []) → (n : ℕ) × (l ≡ after_calls l (Feed (take n piece) ∷ OutOfMemory ∷ []))
+ended-again : (l : Link) (piece : List ℕ) → l.state.ended ≡ Some ends.Memory → (has_ended l.state ≡ true → l.rest ≡ []) → l ≡ after_calls l (Feed (take 0 piece) ∷ OutOfMemory ∷ [])
 unfolding after_calls
+ended-again l piece is none =
+    memory-again l is (none (ap (λ (e : Option End). is_some e) is)) ∙ ap (λ (k : Link). after_call k OutOfMemory) (ended_all l (take 0 piece) ends.Memory is none)
+
+pub ended_memory : (l : Link) (piece : List ℕ) → l.state.ended ≡ Some ends.Memory → (has_ended l.state ≡ true → l.rest ≡ []) → IsFedOut l piece l
 ended_memory l piece is none = (
   0,
-  memory-again l is (none (ap (λ (e : Option End). is_some e) is)) ∙ ap (λ (k : Link). after_call k OutOfMemory) (ended_all l (take 0 piece) ends.Memory is none),
+  ended-again l piece is none,
+  stands_on_all l (Feed (take 0 piece) ∷ OutOfMemory ∷ []) l (ended-again l piece is none),
+  λ going. absurd (let h : true ≡ false = sym (ap (λ (e : Option End). is_some e) is) ∙ going in cc),
 )

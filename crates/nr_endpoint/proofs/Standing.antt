@@ -10,13 +10,21 @@ use Rattle.nr_endpoint.specs.ReceiveQueue.{told, posted}
 use Rattle.nr_endpoint.specs.LinkState.{Link, LinkState}
 use Rattle.nr_endpoint.specs.Judging.{with_end_of}
 use Rattle.nr_endpoint.specs.EndpointState.{EndpointState}
-use Rattle.nr_endpoint.specs.Calls.{Call, after_call, after_calls, StandsOn, with_state, unless_ended, ended_link}
+use Rattle.nr_endpoint.specs.Calls.{Call, after_call, after_calls, StandsOn, StandsOnAll, with_state, unless_ended, ended_link}
 use Rattle.nr_endpoint.specs.Calls.Call.{NextEvent, Post, Stop, OutOfMemory, Send, WriteRemote, ReadRemote, Drain, Register, Release}
 
 pub after_calls-append : (link : Link) (calls : List Call) (call : Call) → after_calls link (calls ++ call ∷ []) ≡ after_call (after_calls link calls) call
 unfolding after_calls
 after_calls-append link [] call = refl
 after_calls-append link (first ∷ calls) call = after_calls-append (after_call link first) calls call
+
+after_calls-append_all : (link : Link) (calls more : List Call) → after_calls link (calls ++ more) ≡ after_calls (after_calls link calls) more
+unfolding after_calls
+after_calls-append_all link [] more = refl
+after_calls-append_all link (first ∷ calls) more = after_calls-append_all (after_call link first) calls more
+
+pub stands_on_all : (before : Link) (more : List Call) (after : Link) → after ≡ after_calls before more → StandsOnAll before more after
+stands_on_all before more after is = λ start calls stands. is ∙ ap (λ (link : Link). after_calls link more) stands ∙ sym (after_calls-append_all start calls more)
 
 pub stands_on : (before : Link) (call : Call) (after : Link) → after ≡ after_call before call → StandsOn before call after
 stands_on before call after is = λ start calls stands. is ∙ ap (λ (link : Link). after_call link call) stands ∙ sym (after_calls-append start calls call)

@@ -1,6 +1,7 @@
 -- The calls of an endpoint, and what they make of its side of the link.
-use Rattle.std.specs.Prelude.{◌≡◌, ℕ, if◌then◌else◌, List, [], ◌∷◌, ◌++◌, Some, ◌⊎◌}
+use Rattle.std.specs.Prelude.{◌≡◌, ℕ, ◌<◌, Bool, true, false, if◌then◌else◌, List, [], ◌∷◌, ◌++◌, take, drop, Some, ◌⊎◌}
 use Rattle.nr_wire.specs.Feeding.{feeding_after, feeding_after_step}
+use Rattle.nr_wire.specs.Stream.{is_whole}
 use Rattle.nr_regions.specs.declared.right.Right.{Right}
 use Rattle.nr_regions.specs.RegisteredMemory.{after_register, after_release}
 use Rattle.nr_link.specs.declared.end.End.TheVariants as ends
@@ -71,10 +72,27 @@ after_calls link (call ∷ calls) = after_calls (after_call link call) calls
 abbrev pub StandsFor : Link → List Call → Link → Type 0
 StandsFor start calls link = link ≡ after_calls start calls
 
--- For every list of calls that it stood for before, it stands for that list with this call.
-abbrev pub StandsOn : Link → Call → Link → Type 0
-StandsOn before call after = (start : Link) (calls : List Call) → StandsFor start calls before → StandsFor start (calls ++ call ∷ []) after
+-- For every list of calls that it stood for before, it stands for that list with these calls.
+abbrev pub StandsOnAll : Link → List Call → Link → Type 0
+StandsOnAll before more after = (start : Link) (calls : List Call) → StandsFor start calls before → StandsFor start (calls ++ more) after
 
--- After one step on a piece: it is taken up to the end of the frame that it makes whole, else all of it; or memory ran out for that frame.
+-- The same with one call.
+abbrev pub StandsOn : Link → Call → Link → Type 0
+StandsOn before call after = StandsOnAll before (call ∷ []) after
+
+-- the frame that a side awaits is whole with these bytes behind what it keeps
+abbrev pub makes_whole : Link → List ℕ → Bool
+makes_whole link bytes = is_whole link.awaited (link.rest ++ bytes)
+
+-- After one step on a piece: it is taken up to the end of the frame that it makes whole, else all of it; or memory ran out for a frame
+-- that it makes whole.
 abbrev pub IsStep : Link → List ℕ → Link → Type 0
-IsStep before piece after = (after ≡ after_call before (FeedOne piece)) ⊎ (after ≡ after_call before OutOfMemory)
+IsStep before piece after =
+    (after ≡ after_call before (FeedOne piece)) ⊎ ((after ≡ after_call before OutOfMemory) × (makes_whole before piece ≡ true))
+
+-- Where memory ran out in a piece: behind its first n bytes the side hasn't ended, and the bytes that follow make the next frame whole. Only
+-- a frame that was begun before the piece can be begun there.
+pub record RanOutAt (before : Link) (piece : List ℕ) (n : ℕ) : Type 0 where
+  pub live : has_ended (after_call before (Feed (take n piece))).state ≡ false
+  pub whole : makes_whole (after_call before (Feed (take n piece))) (drop n piece) ≡ true
+  pub front : 0 < n → (after_call before (Feed (take n piece))).rest ≡ []

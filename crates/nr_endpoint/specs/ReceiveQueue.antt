@@ -11,8 +11,8 @@ pub data Notice : Type 0 where
   MessageReceived : (bytes : List ℕ) → Notice
   ReadDone : Notice
 
--- How many receives the side was opened with. The untagged messages so far. How many receives are free. How many messages were taken whose receive wasn't posted again. What
--- the owner wasn't told yet, in order.
+-- How many receives the side was opened with. The untagged messages so far. How many receives are free. How many messages were taken
+-- whose receive wasn't posted again. What the owner wasn't told yet, in order.
 pub record ReceiveQueue : Type 0 where
   pub receives : ℕ
   pub received : ReceiveState

@@ -61,6 +61,7 @@ impl Endpoint {
         ensures state { result ≢ ends.Memory → self.new.link ≡ after_call self.old.link (Stop reason) }
         ensures memory { result ≡ ends.Memory → self.new.link ≡ after_call self.old.link OutOfMemory }
         ensures stands { result ≢ ends.Memory → StandsOn self.old.link (Stop reason) self.new.link }
+        ensures stands_memory { result ≡ ends.Memory → StandsOn self.old.link OutOfMemory self.new.link }
         ensures staging { self.new.staging ≡ self.old.staging }
     {
         let end = End::Bad {

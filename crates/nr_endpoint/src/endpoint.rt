@@ -1,12 +1,12 @@
 //! The endpoint: the peer's stream in pieces, and the calls of its owner.
 
-ghost use Rattle.std.specs.Prelude.{◌≡◌, ◌≢◌, ℕ, ◌+◌, ◌-◌, ◌*◌, ◌^◌, ◌<◌, ◌≤◌, ◌↔◌, [], ◌∷◌, ◌++◌, length, drop, take, None, Some, is_some, Ok, Err, IfOk, OnOk, IfErr, OnErr, IsOk, IsErrAnd, IfSome, List, nat_lt, true, if◌then◌else◌};
+ghost use Rattle.std.specs.Prelude.{◌≡◌, ◌≢◌, ℕ, ◌+◌, ◌-◌, ◌*◌, ◌^◌, ◌<◌, ◌≤◌, ◌↔◌, [], ◌∷◌, ◌++◌, length, drop, take, None, Some, is_some, Ok, Err, IfOk, OnOk, IfErr, OnErr, IsOk, IsErrAnd, IfSome, List, nat_lt, true, false, if◌then◌else◌};
 ghost use Rattle.std.specs.Result.{result_err};
 ghost use Rattle.nr_wire.specs.Feeding.{bytes_taken};
 ghost use Rattle.nr_wire.specs.Stream.{bytes_needed, IsPartial};
 ghost use Rattle.nr_link.specs.declared.end.End.TheVariants as ends;
 ghost use Rattle.nr_endpoint.specs.LinkState.{initial_link, peer, has_ended};
-ghost use Rattle.nr_endpoint.specs.Calls.{after_call, after_calls, StandsFor, StandsOn, IsStep};
+ghost use Rattle.nr_endpoint.specs.Calls.{after_call, after_calls, StandsFor, StandsOn, StandsOnAll, IsStep, RanOutAt, makes_whole};
 ghost use Rattle.nr_endpoint.specs.Calls.Call.{Feed, FeedOne, OutOfMemory};
 ghost use Rattle.nr_endpoint.specs.EndpointState.{KeepsStaging};
 
@@ -75,14 +75,16 @@ impl Endpoint {
         })
     }
 
-    /// Takes a piece of the peer's stream. `Err` where the side has ended, with why. Want of memory ends the side as it was before the frame
-    /// for which it came; the piece was taken up to there.
+    /// Takes a piece of the peer's stream. `Err` where the side has ended, with why. Want of memory ends the side as it was before a frame that
+    /// the piece makes whole; the piece was taken up to that frame.
     pub fn feed(&mut self, piece: &[u8]) -> Result<(), End>
         requires { self.old.link.state.place + length self.old.link.rest + length piece.now ≤ 2 ^ 62 }
         ensures ended { result_err result ≡ self.new.link.state.ended }
         ensures state { result ≢ Err ends.Memory → self.new.link ≡ after_call self.old.link (Feed piece.now) }
         ensures stands { result ≢ Err ends.Memory → StandsOn self.old.link (Feed piece.now) self.new.link }
-        ensures memory { result ≡ Err ends.Memory → (n : ℕ) × (self.new.link ≡ after_calls self.old.link (Feed (take n piece.now) ∷ OutOfMemory ∷ [])) }
+        ensures memory { result ≡ Err ends.Memory → (n : ℕ) × (self.new.link ≡ after_calls self.old.link (Feed (take n piece.now) ∷ OutOfMemory ∷ []))
+            × StandsOnAll self.old.link (Feed (take n piece.now) ∷ OutOfMemory ∷ []) self.new.link
+            × (has_ended self.old.link.state ≡ false → RanOutAt self.old.link piece.now n) }
         ensures kept { has_ended self.old.link.state ≡ true → self.new ≡ self.old }
         ensures staging { KeepsStaging self.old self.new piece.now }
     {
@@ -133,7 +135,7 @@ impl Endpoint {
     }
 
     /// Takes a piece up to the end of the frame that it makes whole, else all of it. `Ok` has the number of bytes taken. `Err` where the
-    /// side has ended, with why. Want of memory ends the side as it was before the frame.
+    /// side has ended, with why. Want of memory ends the side as it was before the frame, which the piece makes whole.
     pub fn feed_one(&mut self, piece: &[u8]) -> Result<usize, End>
         requires { self.old.link.state.place + length self.old.link.rest + length piece.now ≤ 2 ^ 62 }
         ensures ended { result_err result ≡ self.new.link.state.ended }
@@ -141,6 +143,8 @@ impl Endpoint {
         ensures state { result ≢ Err ends.Memory → self.new.link ≡ after_call self.old.link (FeedOne piece.now) }
         ensures stands { result ≢ Err ends.Memory → StandsOn self.old.link (FeedOne piece.now) self.new.link }
         ensures memory { result ≡ Err ends.Memory → self.new.link ≡ after_call self.old.link OutOfMemory }
+        ensures stands_memory { result ≡ Err ends.Memory → StandsOn self.old.link OutOfMemory self.new.link }
+        ensures frame { result ≡ Err ends.Memory → has_ended self.old.link.state ≡ false → makes_whole self.old.link piece.now ≡ true }
         ensures kept { has_ended self.old.link.state ≡ true → self.new ≡ self.old }
         ensures staging { KeepsStaging self.old self.new piece.now }
     {

@@ -48,7 +48,7 @@ returns-in-Some-end-clause-memory c = λ memory.
     let none : c.loop-left.left.now ≡ [] = no-bytes c.loop-left.left.now (grind (arith, common_steps, c.is_empty.ensures, c.loop-left-test.false)) in
     let fed : IsFedTo c.args.self.now c.args.piece.now c.loop-left.self [] = subst (λ (x : List ℕ). IsFedTo c.args.self.now c.args.piece.now c.loop-left.self x) none c.loop-left.invariant in
     let ended : c.loop-left.self.link.state.ended ≡ Some c.in-Some-end.end = ap (λ (e : EndpointState). e.link.state.ended) (sym c.self-2.view_is) ∙ sym c.end-2.ensures ∙ c.in-Some-end.is in
-    fed_memory c.args.self.now c.loop-left.self c.args.piece.now fed (ended ∙ ap (λ (e : End). Some e) (ap (λ (r : Result (Unit {0}) End). end_in r) memory))
+    fed_memory c.args.self.now c.loop-left.self c.args.piece.now fed (ap (λ (e : EndpointState). e.link.state.ended) (sym c.self.view_is) ∙ sym c.end.ensures ∙ c.in_default.is) (ended ∙ ap (λ (e : End). Some e) (ap (λ (r : Result (Unit {0}) End). end_in r) memory))
 
 pub returns-clause-stands : goal.returns-clause-stands
 returns-clause-stands c = λ other.

@@ -1,5 +1,5 @@
 use Rattle.std.proofs.Common.{ap, ◌∙◌}
-use Rattle.nr_endpoint.specs.Calls.Call.{Stop}
+use Rattle.nr_endpoint.specs.Calls.Call.{Stop, OutOfMemory}
 use Rattle.nr_endpoint.specs.contracts.endpoint.Endpoint.{the_view}
 use Rattle.nr_endpoint.specs.declared.endpoint.Endpoint.TheInside.{Inside}
 use Rattle.nr_endpoint.proofs.Standing.{stands_on, stopped, out_of_memory}
@@ -12,6 +12,10 @@ returns-clause-state c = λ is.
 pub returns-clause-memory : goal.returns-clause-memory
 returns-clause-memory c = λ is.
     out_of_memory _ _ c.args.self.now c.stop.new.self (ap (λ (e : Inside). the_view e) c.self-inside.view_is ∙ c.self.view_is) c.requires.live (c.stop.ensures.memory is)
+
+pub returns-clause-stands_memory : goal.returns-clause-stands_memory
+returns-clause-stands_memory c = λ is.
+    stands_on c.args.self.now.link OutOfMemory _ (out_of_memory _ _ c.args.self.now c.stop.new.self (ap (λ (e : Inside). the_view e) c.self-inside.view_is ∙ c.self.view_is) c.requires.live (c.stop.ensures.memory is))
 
 pub returns-clause-stands : goal.returns-clause-stands
 returns-clause-stands c = λ is.
