@@ -54,11 +54,11 @@ use Rattle.nr_laws.proofs.PlanLists.{given-fit, fitting-reads}
 
 -- ---- The lists that are read of the message of an accepted call
 
-record WithinIs (A : Type 0) (need room : ℕ) (answer : Result A TooLarge) (p : A) : Type 0 where
-  fits : need ≤ room
-  is : answer ≡ Ok p
+pub record WithinIs (A : Type 0) (need room : ℕ) (answer : Result A TooLarge) (p : A) : Type 0 where
+  pub fits : need ≤ room
+  pub is : answer ≡ Ok p
 
-within-is : {A : Type 0} (need room : ℕ) (answer : Result A TooLarge) (p : A) → within need room answer ≡ Ok p → WithinIs A need room answer p
+pub within-is : {A : Type 0} (need room : ℕ) (answer : Result A TooLarge) (p : A) → within need room answer ≡ Ok p → WithinIs A need room answer p
 within-is {A} need room answer p e = by (ltb room need) refl e
   where
     by : (b : Bool) → ltb room need ≡ b → cond b (Err (record { need = need; room = room })) answer ≡ Ok p → WithinIs A need room answer p

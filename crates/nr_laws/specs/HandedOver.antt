@@ -1,5 +1,6 @@
 -- A reply that is handed over is that of the executed call, byte for byte.
-use Rattle.std.specs.Prelude.{◌≡◌, ℕ, List, None, Some, Ok}
+use Rattle.std.specs.Prelude.{◌≡◌, ℕ, ◌<◌, ◌^◌, List, None, Some, Ok}
+use Rattle.nr_rpc.specs.Credential.{CredFits}
 use Rattle.nr_rpc.specs.declared.head.CallTarget.{CallTarget}
 use Rattle.nr_rpc.specs.Reading.{call_of, target_of}
 use Rattle.nr_reduce.specs.declared.call.Call.{Call}
@@ -72,3 +73,13 @@ abbrev pub RepliesByTargetAreExecuted : Type 0
 RepliesByTargetAreExecuted = (opened : LinkParameters) (link : ℕ) (run before : List Mark) (xid : ℕ) (plan : Plan) (reply : List ℕ) →
     IsOpened opened → IsTyped run → MatchedSoFar opened link run → (has : HasPlan opened link run xid plan) →
     MarkAt run before (marks.Done link xid (outcomes.Reply reply)) → HasReplyByTarget link before xid has.call reply
+
+-- the numbers of a call are 32-bit words, so are those of its credential. A call that a program makes is always so.
+abbrev pub HasWords : Call → Type 0
+HasWords call = (call.prog < 2 ^ 32) × (call.vers < 2 ^ 32) × (call.proc < 2 ^ 32) × CredFits call.cred
+
+-- So is that of any call that offers no read chunk, whatever it offers for its reply.
+abbrev pub InlineCallsAreReplied : Type 0
+InlineCallsAreReplied = (opened : LinkParameters) (link : ℕ) (run before : List Mark) (xid : ℕ) (plan : Plan) (reply : List ℕ) →
+    IsOpened opened → IsTyped run → MatchedSoFar opened link run → (has : HasPlan opened link run xid plan) → HasWords has.call → plan.read_at ≡ None →
+    MarkAt run before (marks.Done link xid (outcomes.Reply reply)) → HasReply link before xid reply
