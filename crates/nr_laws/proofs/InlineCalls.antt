@@ -11,9 +11,9 @@ use Rattle.nr_header.specs.Header.{lists_items}
 use Rattle.nr_header.specs.Reading.{header_of}
 use Rattle.nr_xdr.specs.Items.{AllFit}
 use Rattle.nr_rpc.specs.declared.head.CallHead.TheVariants as calls
-use Rattle.nr_rpc.specs.Reading.{call_of, target_of}
+use Rattle.nr_rpc.specs.Reading.{target_of}
 use Rattle.nr_rpc.proofs.Calls.{call_written}
-use Rattle.nr_rpc.specs.Credential.{CanWriteCred, CredFits}
+use Rattle.nr_rpc.specs.Credential.{CanWriteCred}
 use Rattle.nr_wire.specs.declared.hello.Side.TheVariants.{Responder}
 use Rattle.nr_reduce.specs.declared.call.Call.{Call}
 use Rattle.nr_reduce.specs.declared.call.Form.{Form}
@@ -33,7 +33,7 @@ use Rattle.nr_reduce.specs.EndRules.{end_state_after}
 use Rattle.nr_reduce.specs.Plans as plans
 use Rattle.nr_reduce.specs.Plans.{TooLarge, plan_of, plan_size, given_plan, given_total, within, regions_needed, read_list, lists_of, call_message}
 use Rattle.nr_reduce.specs.Chunks.{call_conveyed, item_position}
-use Rattle.nr_reduce.specs.Undone.{IsNotGiven, MessageConveys, ChunkHolds, lists_by, inline_by}
+use Rattle.nr_reduce.specs.Undone.{MessageConveys, ChunkHolds, lists_by, inline_by}
 use Rattle.nr_reduce.specs.ClientState.{call_payload, plan_for}
 use Rattle.nr_reduce.specs.Run.{client}
 use Rattle.nr_reduce.specs.ServerMessages.{payload_of, chunk_bytes}
@@ -50,7 +50,7 @@ use Rattle.nr_laws.proofs.OnceByXid.{at-mark, before-mark, executed-at}
 use Rattle.nr_laws.proofs.ExecutedCalls.{live-part, live-server}
 use Rattle.nr_laws.proofs.SubmittedPlans.{own-submit}
 use Rattle.nr_laws.proofs.PlanLists.{fitting-reads}
-use Rattle.nr_laws.proofs.OfferedLists.{WithinIs, within-is, plan-reads, read-offer, received-bytes}
+use Rattle.nr_laws.proofs.OfferedLists.{within-is, plan-reads, read-offer, received-bytes}
 
 -- ---- The inline stream of such a plan is the payload
 

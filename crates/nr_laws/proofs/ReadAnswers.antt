@@ -10,7 +10,6 @@ use Rattle.nr_header.specs.declared.header.Body.TheVariants.{Msg, Nomsg, ErrVers
 use Rattle.nr_header.specs.declared.header.Header.{Header}
 use Rattle.nr_header.specs.declared.fault.HeaderFault.{HeaderFault}
 use Rattle.nr_header.specs.Reading.{header_of}
-use Rattle.nr_wire.specs.Segment.{Segment}
 use Rattle.nr_reduce.specs.declared.call.Outcome.TheVariants as outcomes
 use Rattle.nr_reduce.specs.declared.item.Of.TheVariants.{Reply}
 use Rattle.nr_reduce.specs.declared.mark.LinkParameters.{LinkParameters}

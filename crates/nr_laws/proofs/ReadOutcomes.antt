@@ -1,6 +1,5 @@
 -- What a completed call tells its caller.
-use Rattle.std.proofs.Common.{◌≡◌, ℕ, List, ◌∷◌, ◌++◌, ap, ◌∙◌}
-use Rattle.nr_reduce.specs.declared.mark.Mark.{Mark}
+use Rattle.std.proofs.Common.{ℕ, ◌∷◌, ◌++◌, ap, ◌∙◌}
 use Rattle.nr_reduce.specs.declared.mark.Mark.TheVariants as marks
 use Rattle.nr_laws.specs.Completions.{RepliesAreExecuted, NoOtherVersion}
 use Rattle.nr_laws.proofs.Replied.{replied-by}
