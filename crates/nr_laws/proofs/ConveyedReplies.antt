@@ -29,7 +29,7 @@ use Rattle.nr_laws.specs.MarkAt.{MarkAt}
 use Rattle.nr_laws.specs.MatchedSoFar.{MatchedSoFar}
 use Rattle.nr_laws.specs.Typed.{TypedMark, IsTyped}
 use Rattle.nr_laws.specs.HandedOver.{HasPlan, HasTargetOf, StreamRepliesAreExecuted, RepliesByTargetAreExecuted, InlineCallsAreReplied}
-use Rattle.nr_laws.proofs.InlineCalls.{inline-executed, own-target}
+use Rattle.nr_laws.proofs.InlineCalls.{same-bytes, inline-executed, own-target}
 use Rattle.nr_reduce.specs.Asked.{AskedMark, IsAccepted}
 use Rattle.nr_reduce.specs.Matched.{IsPrefixOf}
 use Rattle.nr_reduce.specs.declared.call.Submission.TheVariants as submissions
@@ -45,7 +45,8 @@ use Rattle.nr_laws.proofs.Outcomes.{client_by, OutcomeSaid}
 use Rattle.nr_laws.proofs.DoneCalls.{GivesBy, gives-by}
 use Rattle.nr_laws.proofs.Replied.{RepliedBy, replied-by}
 use Rattle.nr_laws.proofs.SubmittedPlans.{AnsweredCall, answered-submit, OwnSubmit, own-submit}
-use Rattle.nr_laws.proofs.OfferedLists.{no_lists, no-offer}
+use Rattle.nr_laws.proofs.InlineReplies.{no_chunks}
+use Rattle.nr_laws.proofs.OfferedLists.{no-offer}
 use Rattle.nr_laws.proofs.KeptOffers.{KeptOffer, kept-offer}
 use Rattle.nr_laws.proofs.KeptOffers.KeptOffer.{Kept, NotKept}
 use Rattle.nr_laws.proofs.ReplyMemory.{memory-conveys, conveyed-same}
@@ -169,21 +170,18 @@ both-conveyed opened link run before xid plan reply opens typed far has at r = b
           none = λ no. ap (λ (w : Option (List ℕ)). written_chunks (write_list (write_stag stag plan) w) (length a.moved)) no;
         }
     by (NotKept kept) =
-        let is = own_offer no_lists kept in
+        let is = own_offer no_chunks kept in
         record {
           inline = cond a.long None (Some a.stream);
-          lists = answer_lists no_lists a;
+          lists = answer_lists no_chunks a;
           memory = memory_at k place;
-          handed = same_call (cond a.long None (Some a.stream)) (answer_lists no_lists a)
-              (client-reads [] 0 0 None None 1024 t.0 t.1 t.2 e.xid (credit_word server) e.reply a k place g.call d.given.message g.header xid reply bytes no-offer (answers no_lists is t.0 t.1 t.2 t.3) (omega arith) word credit (message no_lists is) g.is_header g.by_its_body);
-          own = λ prog vers proc h. conveyed-same (memory_at k place) (after (memory_at k place) no_lists a) [] 0 0 None None a prog vers proc (λ no. absurd (let w : false ≡ true = no in cc)) (λ no. absurd (let w : false ≡ true = no in cc))
+          handed = same_call (cond a.long None (Some a.stream)) (answer_lists no_chunks a)
+              (client-reads [] 0 0 None None 1024 t.0 t.1 t.2 e.xid (credit_word server) e.reply a k place g.call d.given.message g.header xid reply bytes no-offer (answers no_chunks is t.0 t.1 t.2 t.3) (omega arith) word credit (message no_chunks is) g.is_header g.by_its_body);
+          own = λ prog vers proc h. conveyed-same (memory_at k place) (after (memory_at k place) no_chunks a) [] 0 0 None None a prog vers proc (λ no. absurd (let w : false ≡ true = no in cc)) (λ no. absurd (let w : false ≡ true = no in cc))
               ∙ conveyed [] 0 0 None None 1024 prog vers proc e.reply a (memory_at k place) bytes (record { write = λ no. absurd (let w : false ≡ true = no in cc); reply = λ no. absurd (let w : false ≡ true = no in cc); apart = λ no. absurd (let w : false ≡ true = no in cc) })
-              (answers no_lists is prog vers proc h);
+              (answers no_chunks is prog vers proc h);
           none = λ no. refl;
         }
-
-same-bytes : (x y : List ℕ) → Some x ≡ Some y → x ≡ y
-same-bytes x y e = cc
 
 pub stream_replies_are_executed : StreamRepliesAreExecuted
 stream_replies_are_executed opened link run before xid plan reply opens typed far has write at =

@@ -6,7 +6,6 @@ use Rattle.nr_header.specs.declared.header.ChunkLists.{ChunkLists}
 use Rattle.nr_header.specs.declared.header.Body.{Body}
 use Rattle.nr_header.specs.declared.header.Body.TheVariants.{Msg, Nomsg, ErrVers, ErrChunk}
 use Rattle.nr_header.specs.declared.header.Header.{Header}
-use Rattle.nr_header.specs.declared.fault.HeaderFault.{HeaderFault}
 use Rattle.nr_header.specs.Header.{lists_items}
 use Rattle.nr_header.specs.Reading.{header_of}
 use Rattle.nr_xdr.specs.Items.{AllFit}
@@ -50,12 +49,10 @@ use Rattle.nr_laws.proofs.OnceByXid.{at-mark, before-mark, executed-at}
 use Rattle.nr_laws.proofs.ExecutedCalls.{live-part, live-server}
 use Rattle.nr_laws.proofs.SubmittedPlans.{own-submit}
 use Rattle.nr_laws.proofs.PlanLists.{fitting-reads}
-use Rattle.nr_laws.proofs.OfferedLists.{within-is, plan-reads, read-offer, received-bytes}
+use Rattle.nr_laws.proofs.OfferedLists.{within-is, plan-ok, plan-reads, read-offer, received-bytes}
+use Rattle.nr_laws.proofs.Replied.{same-body}
 
 -- ---- The inline stream of such a plan is the payload
-
-plan-ok : (p q : Plan) → ◌≡◌ {A = Result Plan TooLarge} (Ok p) (Ok q) → p ≡ q
-plan-ok p q e = cc
 
 given-inline : (payload : List ℕ) (offer : Offer) (p : Plan) → given_plan payload offer ≡ p → p.read_at ≡ None → p.inline ≡ payload
 given-inline payload offer p same none = by offer.read same
@@ -73,10 +70,7 @@ given-stream payload offer up down p e none =
     let c = within-is (plan_size plan) up (Ok plan) p b.is in
     given-inline payload offer p (plan-ok plan p c.is) none
 
-body-is : (x credit : ℕ) (b : Body) (h : Header) → ◌≡◌ {A = Result Header HeaderFault} (Ok (record { xid = x; credit = credit; body = b })) (Ok h) → b ≡ h.body
-body-is x credit b h e = cc
-
-same-bytes : (x y : List ℕ) → Some x ≡ Some y → x ≡ y
+pub same-bytes : (x y : List ℕ) → Some x ≡ Some y → x ≡ y
 same-bytes x y e = cc
 
 -- a stream without a read list is the payload
@@ -90,7 +84,7 @@ no-reads stag p none = ap (λ (o : Option ℕ). read_list stag p o) none
 
 conveyed-stream : (payload : List ℕ) (xid credit stag : ℕ) (p : Plan) (header : Header) (m : List ℕ) → MessageConveys payload p xid credit stag m → header_of m ≡ Ok header → p.read_at ≡ None → inline_by m header.body ≡ Some p.inline → p.inline ≡ payload
 conveyed-stream payload xid credit stag p header m c is none inline =
-    let own : c.body ≡ header.body = body-is xid credit c.body header (sym c.reads ∙ is) in
+    let own : c.body ≡ header.body = same-body xid credit c.body header (sym c.reads ∙ is) in
     let stream : inline_by m c.body ≡ Some p.inline = ap (λ (b : Body). inline_by m b) own ∙ inline in
     let holds : ChunkHolds (λ (n : ℕ). []) p = subst (λ (o : Option ℕ). IfSome o (λ position. [] ≡ p.region)) (sym none) tt in
     inline-conveys p.inline payload (lists_of stag p).read (λ n. []) (no-reads stag p none)

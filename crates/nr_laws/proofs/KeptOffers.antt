@@ -32,11 +32,12 @@ use Rattle.nr_laws.proofs.HeaderXid.{header-xid, call-xid}
 use Rattle.nr_laws.proofs.OnceByXid.{at-mark}
 use Rattle.nr_laws.proofs.ExecutedCalls.{received-message}
 use Rattle.nr_laws.proofs.SubmittedPlans.{own-submit}
-use Rattle.nr_laws.proofs.OfferedLists.{no_lists, plan-reads, read-offer, received-bytes}
+use Rattle.nr_laws.proofs.InlineReplies.{no_chunks}
+use Rattle.nr_laws.proofs.OfferedLists.{plan-reads, read-offer, received-bytes}
 
 pub data KeptOffer (k : ServerState) (xid stag : ℕ) (plan : Plan) : Type 0 where
   Kept : offer_of k xid ≡ lists_of stag plan → IsOffer (lists_of stag plan) → KeptOffer k xid stag plan
-  NotKept : offer_of k xid ≡ no_lists → KeptOffer k xid stag plan
+  NotKept : offer_of k xid ≡ no_chunks → KeptOffer k xid stag plan
 
 record FoundCall (P : PendingCall → Type 0) (xid : ℕ) (c : PendingCall) : Type 0 where
   holds : P c
