@@ -1,5 +1,5 @@
 -- A reply that is handed over, and the reply of the Execute, are what the same message and the same memory convey.
-use Rattle.std.proofs.Common.{◌≡◌, ℕ, ◌+◌, ◌≤◌, ◌<◌, Bool, true, false, cond, List, [], ◌∷◌, ◌++◌, length, map, Option, None, Some, Ok, refl, sym, ap, subst, ◌∙◌, arith}
+use Rattle.std.proofs.Common.{◌≡◌, ℕ, ◌<◌, true, false, cond, List, [], ◌∷◌, ◌++◌, length, map, Option, None, Some, refl, sym, ap, subst, ◌∙◌, arith, append_assoc}
 use Rattle.nr_xdr.specs.Item.{IsBytes}
 use Rattle.nr_header.specs.declared.header.ChunkLists.{ChunkLists}
 use Rattle.nr_rpc.specs.Reading.{call_of, target_of}
@@ -10,16 +10,14 @@ use Rattle.nr_reduce.specs.declared.mark.Mark.{Mark}
 use Rattle.nr_reduce.specs.declared.mark.Mark.TheVariants as marks
 use Rattle.nr_reduce.specs.declared.mark.LinkParameters.{LinkParameters}
 use Rattle.nr_reduce.specs.declared.outline.Plan.{Plan}
-use Rattle.nr_reduce.specs.History.{ExecutedCall, CompletedCall}
+use Rattle.nr_reduce.specs.History.{ExecutedCall}
 use Rattle.nr_reduce.specs.Opening.{IsOpened}
-use Rattle.nr_reduce.specs.Events.{Event}
 use Rattle.nr_reduce.specs.Events.Event.{FrameReceived, CallExecuted}
-use Rattle.nr_reduce.specs.OfferedRegions.{Region}
-use Rattle.nr_reduce.specs.Plans.{Buffer, buffers, lists_of, read_list, write_stag, reply_stag, write_list, has_segment}
+use Rattle.nr_reduce.specs.Plans.{Buffer, buffers, lists_of, read_list, write_stag, reply_stag, write_list}
 use Rattle.nr_reduce.specs.Chunks.{Bytes, reply_conveyed}
 use Rattle.nr_reduce.specs.Holds.{Answer, answer_for, answer_lists, answer_message, written_chunks}
-use Rattle.nr_reduce.specs.Undone.{IsOffer, after, answer_segments}
-use Rattle.nr_reduce.specs.ClientState.{ClientState, memory_at}
+use Rattle.nr_reduce.specs.Undone.{after, answer_segments}
+use Rattle.nr_reduce.specs.ClientState.{ClientState, call_payload, memory_at}
 use Rattle.nr_reduce.specs.Client.{client_rules, initial_client}
 use Rattle.nr_reduce.specs.Run.{client}
 use Rattle.nr_reduce.specs.ServerState.{ServerState, credit_word, down_max}
@@ -30,7 +28,11 @@ use Rattle.nr_reduce.proofs.OwnStags.{ClientNumbers, client-numbers}
 use Rattle.nr_laws.specs.MarkAt.{MarkAt}
 use Rattle.nr_laws.specs.MatchedSoFar.{MatchedSoFar}
 use Rattle.nr_laws.specs.Typed.{TypedMark, IsTyped}
-use Rattle.nr_laws.specs.HandedOver.{HasPlan, HasTargetOf, StreamRepliesAreExecuted, RepliesByTargetAreExecuted}
+use Rattle.nr_laws.specs.HandedOver.{HasPlan, HasTargetOf, StreamRepliesAreExecuted, RepliesByTargetAreExecuted, InlineCallsAreReplied}
+use Rattle.nr_laws.proofs.InlineCalls.{same-bytes, inline-executed, own-target}
+use Rattle.nr_reduce.specs.Asked.{AskedMark, IsAccepted}
+use Rattle.nr_reduce.specs.Matched.{IsPrefixOf}
+use Rattle.nr_reduce.specs.declared.call.Submission.TheVariants as submissions
 use Rattle.nr_laws.proofs.Along.{places_after}
 use Rattle.nr_laws.proofs.Outputs.Output.{ASegment}
 use Rattle.nr_laws.proofs.ServerAlong.{outs_of}
@@ -43,7 +45,8 @@ use Rattle.nr_laws.proofs.Outcomes.{client_by, OutcomeSaid}
 use Rattle.nr_laws.proofs.DoneCalls.{GivesBy, gives-by}
 use Rattle.nr_laws.proofs.Replied.{RepliedBy, replied-by}
 use Rattle.nr_laws.proofs.SubmittedPlans.{AnsweredCall, answered-submit, OwnSubmit, own-submit}
-use Rattle.nr_laws.proofs.OfferedLists.{no_lists, no-offer}
+use Rattle.nr_laws.proofs.InlineReplies.{no_chunks}
+use Rattle.nr_laws.proofs.OfferedLists.{no-offer}
 use Rattle.nr_laws.proofs.KeptOffers.{KeptOffer, kept-offer}
 use Rattle.nr_laws.proofs.KeptOffers.KeptOffer.{Kept, NotKept}
 use Rattle.nr_laws.proofs.ReplyMemory.{memory-conveys, conveyed-same}
@@ -167,21 +170,18 @@ both-conveyed opened link run before xid plan reply opens typed far has at r = b
           none = λ no. ap (λ (w : Option (List ℕ)). written_chunks (write_list (write_stag stag plan) w) (length a.moved)) no;
         }
     by (NotKept kept) =
-        let is = own_offer no_lists kept in
+        let is = own_offer no_chunks kept in
         record {
           inline = cond a.long None (Some a.stream);
-          lists = answer_lists no_lists a;
+          lists = answer_lists no_chunks a;
           memory = memory_at k place;
-          handed = same_call (cond a.long None (Some a.stream)) (answer_lists no_lists a)
-              (client-reads [] 0 0 None None 1024 t.0 t.1 t.2 e.xid (credit_word server) e.reply a k place g.call d.given.message g.header xid reply bytes no-offer (answers no_lists is t.0 t.1 t.2 t.3) (omega arith) word credit (message no_lists is) g.is_header g.by_its_body);
-          own = λ prog vers proc h. conveyed-same (memory_at k place) (after (memory_at k place) no_lists a) [] 0 0 None None a prog vers proc (λ no. absurd (let w : false ≡ true = no in cc)) (λ no. absurd (let w : false ≡ true = no in cc))
+          handed = same_call (cond a.long None (Some a.stream)) (answer_lists no_chunks a)
+              (client-reads [] 0 0 None None 1024 t.0 t.1 t.2 e.xid (credit_word server) e.reply a k place g.call d.given.message g.header xid reply bytes no-offer (answers no_chunks is t.0 t.1 t.2 t.3) (omega arith) word credit (message no_chunks is) g.is_header g.by_its_body);
+          own = λ prog vers proc h. conveyed-same (memory_at k place) (after (memory_at k place) no_chunks a) [] 0 0 None None a prog vers proc (λ no. absurd (let w : false ≡ true = no in cc)) (λ no. absurd (let w : false ≡ true = no in cc))
               ∙ conveyed [] 0 0 None None 1024 prog vers proc e.reply a (memory_at k place) bytes (record { write = λ no. absurd (let w : false ≡ true = no in cc); reply = λ no. absurd (let w : false ≡ true = no in cc); apart = λ no. absurd (let w : false ≡ true = no in cc) })
-              (answers no_lists is prog vers proc h);
+              (answers no_chunks is prog vers proc h);
           none = λ no. refl;
         }
-
-same-bytes : (x y : List ℕ) → Some x ≡ Some y → x ≡ y
-same-bytes x y e = cc
 
 pub stream_replies_are_executed : StreamRepliesAreExecuted
 stream_replies_are_executed opened link run before xid plan reply opens typed far has write at =
@@ -191,13 +191,19 @@ stream_replies_are_executed opened link run before xid plan reply opens typed fa
     reply-executed opened link before xid reply r
     (same-bytes r.answer.call.reply reply (sym (b.own t.0 t.1 t.2 t.3) ∙ any-target t.0 t.1 t.2 has.call.prog has.call.vers has.call.proc b.inline b.lists b.memory (b.none write) ∙ b.handed))
 
+-- with the call's target they are the same
+by-target : (call : Call) (plan : Plan) (offer : ChunkLists) (payload executed reply : List ℕ) (a : Answer) → BothConveyed call plan offer 1024 executed reply a → answer_of_target offer 1024 executed (target_of (call_of payload)) ≡ Some a → HasTargetOf call payload → executed ≡ reply
+by-target call plan offer payload executed reply a b is h =
+    same-bytes executed reply
+    (sym (b.own h.target.prog h.target.vers h.target.proc (ap (λ (o : Option CallTarget). answer_of_target offer 1024 executed o) (sym h.is) ∙ is))
+    ∙ (λ i. reply_conveyed (h.prog i) (h.vers i) (h.proc i) b.inline b.lists b.memory) ∙ b.handed)
+
 pub replies_by_target_are_executed : RepliesByTargetAreExecuted
 replies_by_target_are_executed opened link run before xid plan reply opens typed far has at =
     let r = replied-by opened link run before at.after xid reply typed far at.is in
     let b = both-conveyed opened link run before xid plan reply opens typed far has at r in
     let e = r.answer.call in
     let m = r.by.mark in
-    let offer = offer_of (server_by opened r.answer.earlier) e.xid in
     record {
       moment = e.moment;
       payload = e.payload;
@@ -205,7 +211,28 @@ replies_by_target_are_executed opened link run before xid plan reply opens typed
       executed = e.reply;
       before = m.earlier;
       at = record { after = m.later; is = m.is ∙ ap (λ (x : ℕ). m.earlier ++ marks.Execute link x e.moment e.payload e.place e.reply ∷ m.later) r.own };
-      same = λ h. same-bytes reply e.reply
-          (sym b.handed ∙ (λ i. reply_conveyed (sym h.prog i) (sym h.vers i) (sym h.proc i) b.inline b.lists b.memory)
-          ∙ b.own h.target.prog h.target.vers h.target.proc (ap (λ (o : Option CallTarget). answer_of_target offer 1024 e.reply o) (sym h.is) ∙ r.answer.is_answer));
+      same = λ h. sym (by-target has.call plan (offer_of (server_by opened r.answer.earlier) e.xid) e.payload e.reply reply r.answer.answer b r.answer.is_answer h);
+    }
+
+pub inline_calls_are_replied : InlineCallsAreReplied
+inline_calls_are_replied opened link run before xid plan reply opens typed far has words none at =
+    let r = replied-by opened link run before at.after xid reply typed far at.is in
+    let b = both-conveyed opened link run before xid plan reply opens typed far has at r in
+    let e = r.answer.call in
+    let m = r.by.mark in
+    let done : Mark = marks.Done link xid (outcomes.Reply reply) in
+    let here : before ≡ m.earlier ++ marks.Execute link xid e.moment e.payload e.place e.reply ∷ m.later = m.is ∙ ap (λ (x : ℕ). m.earlier ++ marks.Execute link x e.moment e.payload e.place e.reply ∷ m.later) r.own in
+    let whole : run ≡ m.earlier ++ marks.Execute link xid e.moment e.payload e.place e.reply ∷ (m.later ++ done ∷ at.after) =
+    at.is ∙ ap (λ (b : List Mark). b ++ done ∷ at.after) here ∙ append_assoc m.earlier (marks.Execute link xid e.moment e.payload e.place e.reply ∷ m.later) (done ∷ at.after) in
+    let payload : e.payload ≡ call_payload xid has.call = inline-executed opened link run m.earlier (m.later ++ done ∷ at.after) xid e.moment e.payload e.place e.reply plan opens typed far whole has none in
+    let accepted : IsAccepted opened link has.before has.call has.form xid =
+    at-mark (AskedMark IsPrefixOf opened link) run has.before (marks.Submit link has.call has.form (submissions.Accepted xid)) has.at.after has.at.is far.asked refl in
+    let small = accepted.xids in
+    let target : HasTargetOf has.call e.payload = subst (HasTargetOf has.call) (sym payload) (own-target xid has.call (omega (arith, small)) words accepted.writable) in
+    let same = by-target has.call plan (offer_of (server_by opened r.answer.earlier) e.xid) e.payload e.reply reply r.answer.answer b r.answer.is_answer target in
+    record {
+      moment = e.moment;
+      place = e.place;
+      before = m.earlier;
+      at = record { after = m.later; is = here ∙ (λ i. m.earlier ++ marks.Execute link xid e.moment (payload i) e.place (same i) ∷ m.later) };
     }

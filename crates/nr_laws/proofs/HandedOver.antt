@@ -1,20 +1,15 @@
 -- A reply that is handed over is that of the executed call.
-use Rattle.std.proofs.Common.{◌≡◌, ℕ, ◌<◌, Bool, true, false, cond, List, [], ◌∷◌, ◌++◌, None, Some, Ok, sym, ap, subst, ◌∙◌}
+use Rattle.std.proofs.Common.{◌≡◌, ℕ, ◌<◌, List, ◌∷◌, ◌++◌, Some, sym, ap, subst, ◌∙◌}
 use Rattle.nr_xdr.specs.Item.{IsBytes}
 use Rattle.nr_header.specs.WithinLimits.{IsMessage}
 use Rattle.nr_header.proofs.Messages.{header_take}
-use Rattle.nr_wire.specs.declared.hello.Side.TheVariants.{Initiator}
-use Rattle.nr_wire.specs.Segment.{Segment}
-use Rattle.nr_wire.specs.Segment.Segment.{Tagged, Untagged}
-use Rattle.nr_link.specs.Frames.{Frame}
-use Rattle.nr_link.specs.ReceiveState.{is_send}
 use Rattle.nr_link.specs.Ending.{frame_segment}
 use Rattle.nr_reduce.specs.declared.mark.Mark.{Mark}
 use Rattle.nr_reduce.specs.declared.mark.Mark.TheVariants as marks
 use Rattle.nr_reduce.specs.declared.mark.LinkParameters.{LinkParameters}
 use Rattle.nr_reduce.specs.declared.call.Outcome.TheVariants as outcomes
 use Rattle.nr_reduce.specs.History.{CompletedCall}
-use Rattle.nr_reduce.specs.Events.{Event, events}
+use Rattle.nr_reduce.specs.Events.{Event}
 use Rattle.nr_reduce.specs.Events.Event.{FrameReceived}
 use Rattle.nr_reduce.specs.Client.{client_rules, initial_client}
 use Rattle.nr_reduce.specs.ServerState.{credit_word, down_max}
@@ -24,8 +19,7 @@ use Rattle.nr_reduce.specs.Asked.{AskedSoFar}
 use Rattle.nr_laws.specs.Typed.{IsTyped}
 use Rattle.nr_laws.specs.HandedOver.{HasReply, InlineRepliesAreExecuted}
 use Rattle.nr_laws.proofs.Along.{GoesOn, goes-behind, places_after}
-use Rattle.nr_laws.proofs.Words.{payload_by, payload-bytes}
-use Rattle.nr_laws.proofs.Messages.{message_in}
+use Rattle.nr_laws.proofs.Words.{payload-bytes}
 use Rattle.nr_laws.proofs.ClientSays.{ClientGood}
 use Rattle.nr_laws.proofs.ClientRun.{client-goes}
 use Rattle.nr_laws.proofs.Outcomes.{OutcomeSaid}
@@ -35,16 +29,9 @@ use Rattle.nr_laws.proofs.Outcomes.{client_by}
 use Rattle.nr_laws.proofs.Replied.{RepliedBy, replied-by}
 use Rattle.nr_laws.proofs.SubmittedPlans.{answered-submit, own-submit}
 use Rattle.nr_laws.proofs.InlineReplies.{given-inline, inline-reply}
+use Rattle.nr_laws.proofs.OfferedLists.{one-payload}
 
 -- ---- The message that brought an outcome
-
-one-message : (s : Segment) (m : List ℕ) → message_in s ≡ m ∷ [] → payload_by s ≡ m
-one-message (Tagged last opcode stag to payload) m e = absurd cc
-one-message (Untagged last opcode w queue msn offset payload) m e = by (is_send opcode) e
-  where
-    by : (b : Bool) → cond b (payload ∷ []) [] ≡ m ∷ [] → payload ≡ m
-    by true e = cc
-    by false e = absurd cc
 
 -- its frame ends behind what was received before, and is of bytes
 pub outcome-frame : (opened : LinkParameters) (link : ℕ) (run : List Mark) (c : CompletedCall) → IsTyped run → AskedSoFar opened link run → (d : OutcomeSaid opened link run c) → (places_after 0 d.given.earlier < d.given.frame.end) × IsBytes d.given.frame.bytes
@@ -61,7 +48,7 @@ pub message-bytes : (opened : LinkParameters) (link : ℕ) (run : List Mark) (c 
 unfolding frame_segment
 message-bytes opened link run c typed asked d =
     let w = d.given in
-    subst IsBytes (one-message w.segment w.message d.one) (payload-bytes w.frame.bytes w.segment (outcome-frame opened link run c typed asked d).1 w.is_segment)
+    subst IsBytes (one-payload w.segment w.message d.one) (payload-bytes w.frame.bytes w.segment (outcome-frame opened link run c typed asked d).1 w.is_segment)
 
 -- ---- The Execute of the reply
 

@@ -1,17 +1,16 @@
 -- A message without chunks that a server says for an executed call brings that call's reply, where its call offers no chunk.
-use Rattle.std.proofs.Common.{◌≡◌, ℕ, ◌+◌, ◌<◌, Bool, true, false, cond, ◌&&◌, eqb, leb, List, [], ◌∷◌, ◌++◌, length, drop, Option, None, Some, Result, Ok, Err, refl, sym, ap, subst, ◌∙◌, arith, append_assoc, length-append, eqb-true}
+use Rattle.std.proofs.Common.{◌≡◌, ℕ, ◌+◌, ◌<◌, Bool, true, false, cond, ◌&&◌, eqb, leb, List, [], ◌∷◌, ◌++◌, length, drop, Option, None, Some, Result, Ok, Err, refl, sym, ap, subst, ◌∙◌, arith, append_assoc, eqb-true}
 use Rattle.std.proofs.lemmas.List.{drop_at}
-use Rattle.nr_xdr.specs.Item.{word, IsBytes}
+use Rattle.nr_xdr.specs.Item.{word}
 use Rattle.nr_xdr.specs.Items.{encodings}
 use Rattle.nr_xdr.specs.Fields.{word_at}
-use Rattle.nr_xdr.proofs.WordBytes.{length-word}
 use Rattle.nr_header.specs.declared.header.RdmaSegment.{RdmaSegment}
 use Rattle.nr_header.specs.declared.header.ReadSegment.{ReadSegment}
 use Rattle.nr_header.specs.declared.header.ChunkLists.{ChunkLists}
 use Rattle.nr_header.specs.declared.header.Body.{Body}
 use Rattle.nr_header.specs.declared.header.Body.TheVariants.{Msg, Nomsg, ErrVers, ErrChunk}
 use Rattle.nr_header.specs.declared.header.Header.{Header}
-use Rattle.nr_header.specs.Header.{chunk_items, lists_items, write_items, reply_items, header_encoding}
+use Rattle.nr_header.specs.Header.{chunk_items, write_items, reply_items, header_encoding}
 use Rattle.nr_header.specs.WithinLimits.{IsMessage}
 use Rattle.nr_rpc.specs.declared.head.ReplyHead.{ReplyHead}
 use Rattle.nr_rpc.specs.Reading.{reply_of}
@@ -19,15 +18,15 @@ use Rattle.nr_link.specs.Reasons.{REASON_XID}
 use Rattle.nr_reduce.specs.declared.call.Outcome.TheVariants as outcomes
 use Rattle.nr_reduce.specs.declared.item.Of.TheVariants.{Reply}
 use Rattle.nr_reduce.specs.Plans.{lists_of, write_list, write_stag, reply_chunk, reply_stag, read_list}
-use Rattle.nr_reduce.specs.Items.{reducible_item}
 use Rattle.nr_reduce.specs.Chunks.{Bytes, answers_offer, returns_each, fills_first, returns_none, returns_stream, reply_conveyed, reply_moved, whole}
-use Rattle.nr_reduce.specs.Holds.{Answer, Parts, answer_for, answer_with, answer_size, parts_in, fits_reply, answer_message, written_chunks, no_segments}
+use Rattle.nr_reduce.specs.Holds.{Answer, answer_for, answer_with, answer_size, parts_in, fits_reply, answer_message, written_chunks, no_segments}
 use Rattle.nr_reduce.specs.Chunks as chunks
 use Rattle.nr_reduce.specs.ClientState.{ClientState, OutstandingCall, memory_at}
-use Rattle.nr_reduce.specs.ClientMessages.{Verdict, by_head, by_payload, by_lists, by_body, reply_xid}
+use Rattle.nr_reduce.specs.ClientMessages.{by_head, by_payload, by_lists, by_body, reply_xid}
 use Rattle.nr_reduce.specs.ClientMessages.Verdict.{EndsLink, GivesOutcome}
 use Rattle.nr_laws.proofs.RefusedCalls.{and-true}
-use Rattle.nr_laws.proofs.Replied.{word-behind, first-word, kind-word}
+use Rattle.nr_laws.proofs.Replied.{word-behind, kind-word}
+use Rattle.nr_laws.proofs.ServerOutput.{word_len}
 
 -- ---- What a client makes of a message, where it offered no chunk
 
@@ -146,22 +145,19 @@ kind-and-write x v c kind e f r s small fits =
           ∙ kind-word c kind e f (r ++ s) fits;
     }
 
--- a header without chunks has 28 bytes
-word-len : (n : ℕ) (more : List ℕ) → length (word n ++ more) ≡ 4 + length more
-word-len n more = (let l = length-append (word n) more in let w = length-word n in omega (arith, l, w))
-
-abbrev no_chunks : ChunkLists
+abbrev pub no_chunks : ChunkLists
 no_chunks = record { read = []; write = []; reply = None }
 
+-- a header without chunks has 28 bytes
 plain-length : (x credit at : ℕ) → length (header_encoding (record { xid = x; credit = credit; body = Msg no_chunks at })) ≡ 28
 plain-length x credit at =
-    let g = word-len 0 [] in
-    let f = word-len 0 (word 0 ++ []) in
-    let e = word-len 0 (word 0 ++ (word 0 ++ [])) in
-    let d = word-len 0 (word 0 ++ (word 0 ++ (word 0 ++ []))) in
-    let c = word-len credit (word 0 ++ (word 0 ++ (word 0 ++ (word 0 ++ [])))) in
-    let b = word-len 1 (word credit ++ (word 0 ++ (word 0 ++ (word 0 ++ (word 0 ++ []))))) in
-    let a = word-len x (word 1 ++ (word credit ++ (word 0 ++ (word 0 ++ (word 0 ++ (word 0 ++ [])))))) in
+    let g = word_len 0 [] in
+    let f = word_len 0 (word 0 ++ []) in
+    let e = word_len 0 (word 0 ++ (word 0 ++ [])) in
+    let d = word_len 0 (word 0 ++ (word 0 ++ (word 0 ++ []))) in
+    let c = word_len credit (word 0 ++ (word 0 ++ (word 0 ++ (word 0 ++ [])))) in
+    let b = word_len 1 (word credit ++ (word 0 ++ (word 0 ++ (word 0 ++ (word 0 ++ []))))) in
+    let a = word_len x (word 1 ++ (word credit ++ (word 0 ++ (word 0 ++ (word 0 ++ (word 0 ++ [])))))) in
     omega (arith, a, b, c, d, e, f, g)
 
 -- one message with a header without chunks, and with that of an answer

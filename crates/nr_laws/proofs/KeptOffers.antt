@@ -1,5 +1,5 @@
 -- The offer that a server keeps of a pending call is the one of its client's plan.
-use Rattle.std.proofs.Common.{◌≡◌, ℕ, ◌+◌, ◌^◌, ◌≤◌, ◌<◌, Bool, true, false, cond, eqb, List, [], ◌∷◌, ◌++◌, Option, None, Some, Ok, refl, sym, ap, subst, ◌∙◌, arith, append_assoc, eqb-true}
+use Rattle.std.proofs.Common.{◌≡◌, ℕ, Bool, true, false, cond, eqb, List, [], ◌∷◌, ◌++◌, Option, None, Some, refl, sym, ap, subst, ◌∙◌, arith, append_assoc, eqb-true}
 use Rattle.std.specs.List.{find}
 use Rattle.nr_xdr.specs.Item.{IsBytes}
 use Rattle.nr_xdr.specs.Fields.{word_at}
@@ -15,7 +15,7 @@ use Rattle.nr_reduce.specs.Opening.{IsOpened}
 use Rattle.nr_reduce.specs.Events.{Event, events}
 use Rattle.nr_reduce.specs.Events.Event.{FrameReceived}
 use Rattle.nr_reduce.specs.EndRules.{end_state_after}
-use Rattle.nr_reduce.specs.Plans.{lists_of, call_message}
+use Rattle.nr_reduce.specs.Plans.{lists_of}
 use Rattle.nr_reduce.specs.Undone.{IsOffer, lists_by}
 use Rattle.nr_reduce.specs.ClientState.{call_payload, plan_for}
 use Rattle.nr_reduce.specs.Asked.{AskedSoFar}
@@ -32,11 +32,12 @@ use Rattle.nr_laws.proofs.HeaderXid.{header-xid, call-xid}
 use Rattle.nr_laws.proofs.OnceByXid.{at-mark}
 use Rattle.nr_laws.proofs.ExecutedCalls.{received-message}
 use Rattle.nr_laws.proofs.SubmittedPlans.{own-submit}
-use Rattle.nr_laws.proofs.OfferedLists.{no_lists, plan-reads, read-offer, received-bytes}
+use Rattle.nr_laws.proofs.InlineReplies.{no_chunks}
+use Rattle.nr_laws.proofs.OfferedLists.{plan-reads, read-offer, received-bytes}
 
 pub data KeptOffer (k : ServerState) (xid stag : ℕ) (plan : Plan) : Type 0 where
   Kept : offer_of k xid ≡ lists_of stag plan → IsOffer (lists_of stag plan) → KeptOffer k xid stag plan
-  NotKept : offer_of k xid ≡ no_lists → KeptOffer k xid stag plan
+  NotKept : offer_of k xid ≡ no_chunks → KeptOffer k xid stag plan
 
 record FoundCall (P : PendingCall → Type 0) (xid : ℕ) (c : PendingCall) : Type 0 where
   holds : P c

@@ -114,3 +114,4 @@ pub mod ReplyMemory
 pub mod ReadAnswers
 pub mod HandedOver
 pub mod ConveyedReplies
+pub mod InlineCalls

@@ -1,18 +1,14 @@
 -- What a server keeps of the offer of a call is what its client offered.
-use Rattle.std.proofs.Common.{◌≡◌, ℕ, ◌+◌, ◌^◌, ◌≤◌, ◌<◌, Bool, true, false, cond, eqb, ltb, List, [], ◌∷◌, ◌++◌, length, Option, None, Some, Result, Ok, Err, refl, sym, ap, subst, ◌∙◌, arith, eqb-true}
-use Rattle.std.specs.List.{find}
+use Rattle.std.proofs.Common.{◌≡◌, ℕ, ◌+◌, ◌^◌, ◌≤◌, ◌<◌, Bool, true, false, cond, ltb, List, [], ◌∷◌, ◌++◌, length, None, Some, Result, Ok, Err, refl, sym, ap, subst, ◌∙◌, arith}
 use Rattle.std.proofs.lemmas.Bool.{ltb-false}
 use Rattle.std.proofs.lemmas.List.Elements.{All-nil}
 use Rattle.nr_xdr.specs.Item.{IsBytes}
 use Rattle.nr_xdr.specs.Items.{AllFit}
-use Rattle.nr_xdr.specs.Fields.{word_at}
-use Rattle.nr_header.specs.declared.header.ChunkLists.{ChunkLists}
 use Rattle.nr_header.specs.declared.header.Body.{Body}
 use Rattle.nr_header.specs.declared.header.Body.TheVariants.{Msg, Nomsg, ErrVers, ErrChunk}
 use Rattle.nr_header.specs.declared.header.Header.{Header}
-use Rattle.nr_header.specs.declared.fault.HeaderFault.{HeaderFault}
 use Rattle.nr_header.specs.Header.{lists_items, body_items}
-use Rattle.nr_header.specs.WithinLimits.{IsMessage, ListsWithin, CanRead}
+use Rattle.nr_header.specs.WithinLimits.{CanRead}
 use Rattle.nr_header.specs.Reading.{header_of}
 use Rattle.nr_header.proofs.Messages.{header_take}
 use Rattle.nr_wire.specs.declared.hello.Side.TheVariants.{Responder}
@@ -32,8 +28,8 @@ use Rattle.nr_reduce.specs.Matched.{Matched}
 use Rattle.nr_reduce.specs.Events.{Event, events}
 use Rattle.nr_reduce.specs.Events.Event.{FrameReceived}
 use Rattle.nr_reduce.specs.EndRules.{end_state_after}
-use Rattle.nr_reduce.specs.Plans.{TooLarge, plan_of, plan_size, plan_in_form, given_plan, given_total, within, given_within, regions_needed, lists_of, call_message}
-use Rattle.nr_reduce.specs.Undone.{IsNotGiven, IsOffer, lists_by}
+use Rattle.nr_reduce.specs.Plans.{TooLarge, plan_of, plan_size, given_plan, given_total, within, regions_needed, lists_of, call_message}
+use Rattle.nr_reduce.specs.Undone.{IsOffer, lists_by}
 use Rattle.nr_reduce.specs.Asked.{AskedSoFar}
 use Rattle.nr_reduce.specs.Served.{ServedSoFar}
 use Rattle.nr_reduce.specs.ServerState.{ServerState}
@@ -51,21 +47,23 @@ use Rattle.nr_laws.proofs.ServerAlong.{ServerPlain}
 use Rattle.nr_laws.proofs.ServerSide.{server-goes}
 use Rattle.nr_laws.proofs.ExecutedCalls.{server-receives-of}
 use Rattle.nr_laws.proofs.PlanLists.{given-fit, fitting-reads}
+use Rattle.nr_laws.proofs.Replied.{same-body}
+use Rattle.nr_laws.proofs.InlineReplies.{no_chunks}
 
 -- ---- The lists that are read of the message of an accepted call
 
-record WithinIs (A : Type 0) (need room : ℕ) (answer : Result A TooLarge) (p : A) : Type 0 where
-  fits : need ≤ room
-  is : answer ≡ Ok p
+pub record WithinIs (A : Type 0) (need room : ℕ) (answer : Result A TooLarge) (p : A) : Type 0 where
+  pub fits : need ≤ room
+  pub is : answer ≡ Ok p
 
-within-is : {A : Type 0} (need room : ℕ) (answer : Result A TooLarge) (p : A) → within need room answer ≡ Ok p → WithinIs A need room answer p
+pub within-is : {A : Type 0} (need room : ℕ) (answer : Result A TooLarge) (p : A) → within need room answer ≡ Ok p → WithinIs A need room answer p
 within-is {A} need room answer p e = by (ltb room need) refl e
   where
     by : (b : Bool) → ltb room need ≡ b → cond b (Err (record { need = need; room = room })) answer ≡ Ok p → WithinIs A need room answer p
     by true is e = absurd cc
     by false is e = record { fits = ltb-false room need is; is = e }
 
-plan-ok : (p q : Plan) → ◌≡◌ {A = Result Plan TooLarge} (Ok p) (Ok q) → p ≡ q
+pub plan-ok : (p q : Plan) → ◌≡◌ {A = Result Plan TooLarge} (Ok p) (Ok q) → p ≡ q
 plan-ok p q e = cc
 
 given-items : (payload : List ℕ) (offer : Offer) (up down stag : ℕ) (p : Plan) → up ≡ send_max → offer.read_at < 2 ^ 32 → plan_of payload (forms.Given offer) up down ≡ Ok p → stag + regions_needed p ≤ 2 ^ 32 → AllFit (lists_items (lists_of stag p))
@@ -80,28 +78,22 @@ given-items payload offer up down stag p top at e stags =
     subst (λ (q : Plan). AllFit (lists_items (lists_of stag q))) same
     (given-fit payload offer stag b.fits at (omega (arith, small, top)) (subst (λ (q : Plan). stag + regions_needed q ≤ 2 ^ 32) (sym same) stags))
 
-body-is : (x credit : ℕ) (b : Body) (h : Header) → ◌≡◌ {A = Result Header HeaderFault} (Ok (record { xid = x; credit = credit; body = b })) (Ok h) → b ≡ h.body
-body-is x credit b h e = cc
-
 pub plan-reads : (payload : List ℕ) (form : Form) (up down xid credit stag : ℕ) (p : Plan) (header : Header) → up ≡ send_max → IsBytes payload → IsTypedForm form → plan_of payload form up down ≡ Ok p → xid < 2 ^ 32 → credit < 2 ^ 32
     → stag + regions_needed p ≤ 2 ^ 32 → IsBytes (call_message xid credit stag p) → header_of (call_message xid credit stag p) ≡ Ok header → lists_by header.body ≡ lists_of stag p
 plan-reads payload (forms.Given offer) up down xid credit stag p header top bytes typed e fx fc stags own is =
     (fitting-reads xid credit stag p header own is (given-items payload offer up down stag p top typed e stags) fx fc).lists
 plan-reads payload forms.Auto up down xid credit stag p header top bytes typed e fx fc stags own is =
-    let m = asks payload forms.Auto up down xid credit stag p bytes tt e fx fc stags in ap lists_by (sym (body-is xid credit m.body header (sym m.reads ∙ is))) ∙ m.lists
+    let m = asks payload forms.Auto up down xid credit stag p bytes tt e fx fc stags in ap lists_by (sym (same-body xid credit m.body header (sym m.reads ∙ is))) ∙ m.lists
 plan-reads payload forms.Inline up down xid credit stag p header top bytes typed e fx fc stags own is =
-    let m = asks payload forms.Inline up down xid credit stag p bytes tt e fx fc stags in ap lists_by (sym (body-is xid credit m.body header (sym m.reads ∙ is))) ∙ m.lists
+    let m = asks payload forms.Inline up down xid credit stag p bytes tt e fx fc stags in ap lists_by (sym (same-body xid credit m.body header (sym m.reads ∙ is))) ∙ m.lists
 plan-reads payload forms.Chunk up down xid credit stag p header top bytes typed e fx fc stags own is =
-    let m = asks payload forms.Chunk up down xid credit stag p bytes tt e fx fc stags in ap lists_by (sym (body-is xid credit m.body header (sym m.reads ∙ is))) ∙ m.lists
+    let m = asks payload forms.Chunk up down xid credit stag p bytes tt e fx fc stags in ap lists_by (sym (same-body xid credit m.body header (sym m.reads ∙ is))) ∙ m.lists
 plan-reads payload forms.Long up down xid credit stag p header top bytes typed e fx fc stags own is =
-    let m = asks payload forms.Long up down xid credit stag p bytes tt e fx fc stags in ap lists_by (sym (body-is xid credit m.body header (sym m.reads ∙ is))) ∙ m.lists
+    let m = asks payload forms.Long up down xid credit stag p bytes tt e fx fc stags in ap lists_by (sym (same-body xid credit m.body header (sym m.reads ∙ is))) ∙ m.lists
 
 -- ---- An offer that was read
 
-abbrev pub no_lists : ChunkLists
-no_lists = record { read = []; write = []; reply = None }
-
-pub no-offer : IsOffer no_lists
+pub no-offer : IsOffer no_chunks
 no-offer = record {
   fits = (tt, (tt, (tt, tt)));
   within = record {
@@ -130,7 +122,7 @@ read-offer message h bytes is =
 
 -- ---- A message that a server received is of bytes
 
-one-payload : (s : Segment) (m : List ℕ) → message_in s ≡ m ∷ [] → payload_by s ≡ m
+pub one-payload : (s : Segment) (m : List ℕ) → message_in s ≡ m ∷ [] → payload_by s ≡ m
 one-payload (Tagged last opcode stag to payload) m e = absurd cc
 one-payload (Untagged last opcode w queue msn offset payload) m e = by (Rattle.nr_link.specs.ReceiveState.is_send opcode) e
   where

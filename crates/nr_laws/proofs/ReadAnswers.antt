@@ -1,5 +1,5 @@
 -- What a client makes of the message of an answer that it can read: what the answer's lists and its memory convey.
-use Rattle.std.proofs.Common.{◌≡◌, ℕ, ◌^◌, ◌≤◌, ◌<◌, Bool, true, false, cond, List, [], ◌∷◌, drop, Option, None, Some, Result, Ok, refl, sym, ap, ◌∙◌}
+use Rattle.std.proofs.Common.{◌≡◌, ℕ, ◌^◌, ◌≤◌, ◌<◌, Bool, true, false, cond, List, [], ◌∷◌, drop, Option, None, Some, Ok, refl, sym, ap, ◌∙◌}
 use Rattle.nr_xdr.specs.Item.{IsBytes}
 use Rattle.nr_header.specs.Constants.{PAYLOAD_MAX}
 use Rattle.nr_header.specs.declared.header.RdmaSegment.{RdmaSegment}
@@ -8,9 +8,7 @@ use Rattle.nr_header.specs.declared.header.ChunkLists.{ChunkLists}
 use Rattle.nr_header.specs.declared.header.Body.{Body}
 use Rattle.nr_header.specs.declared.header.Body.TheVariants.{Msg, Nomsg, ErrVers, ErrChunk}
 use Rattle.nr_header.specs.declared.header.Header.{Header}
-use Rattle.nr_header.specs.declared.fault.HeaderFault.{HeaderFault}
 use Rattle.nr_header.specs.Reading.{header_of}
-use Rattle.nr_wire.specs.Segment.{Segment}
 use Rattle.nr_reduce.specs.declared.call.Outcome.TheVariants as outcomes
 use Rattle.nr_reduce.specs.declared.item.Of.TheVariants.{Reply}
 use Rattle.nr_reduce.specs.declared.mark.LinkParameters.{LinkParameters}
@@ -32,6 +30,7 @@ use Rattle.nr_link.specs.Frames.{is_hello}
 use Rattle.nr_link.specs.declared.end.End.{End as Stop}
 use Rattle.nr_reduce.proofs.AnswerMessages.{answer_again}
 use Rattle.nr_laws.proofs.InlineReplies.{lists-bring}
+use Rattle.nr_laws.proofs.Replied.{same-body}
 
 body-conveys : (k : ClientState) (place : ℕ) (o : OutstandingCall) (m : List ℕ) (b : Body) (y : ℕ) (q : List ℕ) → by_body k place o m b ≡ GivesOutcome y (Some (outcomes.Reply q))
     → reply_conveyed o.call.prog o.call.vers o.call.proc (inline_by m b) (lists_by b) (memory_at k place) ≡ Some q
@@ -40,16 +39,13 @@ body-conveys k place o m (Nomsg lists) y q e = (lists-bring k place o None lists
 body-conveys k place o m (ErrVers version low high) y q e = absurd cc
 body-conveys k place o m (ErrChunk version) y q e = absurd cc
 
-body-is : (x credit : ℕ) (b : Body) (h : Header) → ◌≡◌ {A = Result Header HeaderFault} (Ok (record { xid = x; credit = credit; body = b })) (Ok h) → b ≡ h.body
-body-is x credit b h e = cc
-
 pub client-reads : (read : List ReadSegment) (ws rs : ℕ) (w r : Option (List ℕ)) (down prog vers proc xid credit : ℕ) (reply : List ℕ) (a : Answer) (k : ClientState) (place : ℕ) (o : OutstandingCall) (m : List ℕ) (h : Header) (y : ℕ) (q : List ℕ)
     → IsBytes reply → IsOffer (offering read ws rs w r) → answer_for (offering read ws rs w r) down prog vers proc reply ≡ Some a → down ≤ PAYLOAD_MAX → xid < 2 ^ 32 → credit < 2 ^ 32
     → m ≡ answer_message xid credit (offering read ws rs w r) a → header_of m ≡ Ok h → by_body k place o m h.body ≡ GivesOutcome y (Some (outcomes.Reply q))
     → reply_conveyed o.call.prog o.call.vers o.call.proc (cond a.long None (Some a.stream)) (answer_lists (offering read ws rs w r) a) (memory_at k place) ≡ Some q
 client-reads read ws rs w r down prog vers proc xid credit reply a k place o m h y q bytes offer e room fx fc is reads gives =
     let again = answer_again read ws rs w r down prog vers proc xid credit reply a bytes offer e room fx fc in
-    let own : again.body ≡ h.body = body-is xid credit again.body h (sym again.reads ∙ ap header_of (sym is) ∙ reads) in
+    let own : again.body ≡ h.body = same-body xid credit again.body h (sym again.reads ∙ ap header_of (sym is) ∙ reads) in
     let inline : inline_by m h.body ≡ cond a.long None (Some a.stream) = (λ i. inline_by (is i) (sym own i)) ∙ again.stream in
     let lists : lists_by h.body ≡ answer_lists (offering read ws rs w r) a = ap lists_by (sym own) ∙ again.lists in
     (λ i. reply_conveyed o.call.prog o.call.vers o.call.proc (sym inline i) (sym lists i) (memory_at k place)) ∙ body-conveys k place o m h.body y q gives

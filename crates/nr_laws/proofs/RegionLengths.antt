@@ -1,17 +1,15 @@
 -- What accesses leave in a region of a client has the length of the region.
-use Rattle.std.proofs.Common.{◌≡◌, ℕ, ◌+◌, ◌≤◌, ◌<◌, Bool, true, false, cond, ◌&&◌, eqb, leb, ltb, List, [], ◌∷◌, ◌++◌, length, drop, map, Option, None, Some, refl, sym, ap, subst, ◌∙◌, arith, eqb-true, eq-eqb, ne_eqb}
+use Rattle.std.proofs.Common.{◌≡◌, ℕ, ◌+◌, ◌≤◌, ◌<◌, Bool, true, false, cond, ◌&&◌, eqb, leb, ltb, List, [], ◌∷◌, ◌++◌, length, drop, Option, None, Some, refl, sym, ap, subst, ◌∙◌, arith, eqb-true, ne_eqb}
 use Rattle.std.specs.List.{find}
 use Rattle.std.proofs.lemmas.Bool.{ltb-false}
 use Rattle.nr_regions.specs.declared.right.Right.{Right}
-use Rattle.nr_regions.specs.declared.denied.Denied.{Denied}
 use Rattle.nr_regions.specs.declared.denied.Denied.TheVariants as denials
 use Rattle.nr_regions.specs.RegisteredMemory.{Access, denial_in, same_right, bytes_after_write}
-use Rattle.nr_regions.specs.Access.{Grant, TaggedSegment, access_of, applies, grant_at, grant_offer, grant_denial}
+use Rattle.nr_regions.specs.Access.{Grant, TaggedSegment, access_of, grant_at, grant_offer, grant_denial}
 use Rattle.nr_regions.proofs.Holding.{length-bytes_after_write}
 use Rattle.nr_reduce.specs.OfferedRegions.{Region, until_or, region_grant, region_grants}
 use Rattle.nr_reduce.proofs.OfferedMemory.{found, grants_from, none-found}
 use Rattle.nr_reduce.proofs.OwnStags.{AreNumbered}
-use Rattle.nr_laws.proofs.ClientMemory.{none-from}
 use Rattle.nr_laws.proofs.Memory.{Part, part_of, parts_of, after_part, after_parts, Settled}
 
 -- a number above all regions from one on

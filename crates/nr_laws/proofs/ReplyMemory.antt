@@ -3,7 +3,6 @@ use Rattle.std.proofs.Common.{◌≡◌, ◌≢◌, ℕ, ◌+◌, ◌-◌, min, 
 use Rattle.std.specs.List.{find}
 use Rattle.std.proofs.lemmas.List.{length-replicate}
 use Rattle.nr_xdr.specs.Item.{IsBytes}
-use Rattle.nr_header.specs.declared.header.RdmaSegment.{RdmaSegment}
 use Rattle.nr_header.specs.declared.header.ReadSegment.{ReadSegment}
 use Rattle.nr_header.specs.declared.header.ChunkLists.{ChunkLists}
 use Rattle.nr_wire.specs.Segment.{Segment}
@@ -14,7 +13,7 @@ use Rattle.nr_reduce.specs.declared.item.Of.TheVariants.{Reply}
 use Rattle.nr_reduce.specs.declared.outline.Plan.{Plan}
 use Rattle.nr_reduce.specs.OfferedRegions.{Region, region_grants, region_bytes}
 use Rattle.nr_reduce.specs.Plans.{Buffer, buffer_if, buffers, has_segment, one_if, total, read_stag, write_stag, reply_stag, read_list, segments_from, write_list, reply_chunk, lists_of}
-use Rattle.nr_reduce.specs.Chunks.{Bytes, joined_bytes, segment_bytes, filled_chunk, reply_conveyed, reply_stream, reply_moved, some_bytes, whole}
+use Rattle.nr_reduce.specs.Chunks.{Bytes, joined_bytes, filled_chunk, reply_conveyed, reply_stream, reply_moved, some_bytes, whole}
 use Rattle.nr_reduce.specs.Holds.{Answer, answer_for, answer_lists, written_chunks, no_segments}
 use Rattle.nr_reduce.specs.Undone.{RegionsHaveLengths, after, answer_segments, bytes_after_segments, offering}
 use Rattle.nr_reduce.specs.ClientState.{ClientState, memory_at}

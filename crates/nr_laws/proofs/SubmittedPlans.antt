@@ -1,10 +1,9 @@
 -- The call that a message answers at a client is the accepted call of its xid, with that call's plan.
-use Rattle.std.proofs.Common.{◌≡◌, ℕ, ◌+◌, Bool, true, false, ◌&&◌, eqb, List, [], ◌∷◌, ◌++◌, length, Option, None, Some, Result, Ok, refl, sym, ap, subst, ◌∙◌, arith, append_assoc}
+use Rattle.std.proofs.Common.{◌≡◌, ℕ, ◌+◌, ◌&&◌, eqb, List, [], ◌∷◌, ◌++◌, length, Some, Result, Ok, refl, sym, ap, subst, ◌∙◌, arith, append_assoc}
 use Rattle.nr_wire.specs.declared.hello.Side.TheVariants.{Initiator}
 use Rattle.nr_reduce.specs.declared.call.Call.{Call}
 use Rattle.nr_reduce.specs.declared.call.Form.{Form}
 use Rattle.nr_reduce.specs.declared.call.Submission.TheVariants as submissions
-use Rattle.nr_reduce.specs.declared.call.Outcome.{Outcome}
 use Rattle.nr_reduce.specs.declared.mark.Mark.{Mark}
 use Rattle.nr_reduce.specs.declared.mark.Mark.TheVariants as marks
 use Rattle.nr_reduce.specs.declared.mark.LinkParameters.{LinkParameters}
@@ -12,7 +11,6 @@ use Rattle.nr_reduce.specs.declared.outline.Plan.{Plan}
 use Rattle.nr_reduce.specs.History.{AcceptedCall}
 use Rattle.nr_reduce.specs.Matched.{IsPrefixOf}
 use Rattle.nr_reduce.specs.Events.{Event, events}
-use Rattle.nr_reduce.specs.Events.Event.{FrameReceived}
 use Rattle.nr_reduce.specs.Plans.{TooLarge, Buffer, buffers, regions_needed}
 use Rattle.nr_reduce.specs.ClientState.{ClientState, OutstandingCall, plan_for}
 use Rattle.nr_reduce.specs.ClientMessages.{answered_call}
@@ -21,7 +19,6 @@ use Rattle.nr_reduce.specs.Run.{client}
 use Rattle.nr_reduce.specs.RunLaws.{outstanding_from}
 use Rattle.nr_reduce.specs.Asked.{AskedSoFar, IsAccepted}
 use Rattle.nr_reduce.proofs.Placing.{xids_differ}
-use Rattle.nr_laws.specs.MatchedSoFar.{MatchedSoFar}
 use Rattle.nr_laws.specs.Typed.{IsTyped}
 use Rattle.nr_laws.specs.HandedOver.{HasPlan}
 use Rattle.nr_laws.proofs.Along.{GoesOn, goes-first, places_after}

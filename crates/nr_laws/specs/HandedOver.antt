@@ -1,5 +1,6 @@
 -- A reply that is handed over is that of the executed call, byte for byte.
-use Rattle.std.specs.Prelude.{◌≡◌, ℕ, List, None, Some, Ok}
+use Rattle.std.specs.Prelude.{◌≡◌, ℕ, ◌<◌, ◌^◌, List, None, Some, Ok}
+use Rattle.nr_rpc.specs.Credential.{CredFits}
 use Rattle.nr_rpc.specs.declared.head.CallTarget.{CallTarget}
 use Rattle.nr_rpc.specs.Reading.{call_of, target_of}
 use Rattle.nr_reduce.specs.declared.call.Call.{Call}
@@ -11,7 +12,7 @@ use Rattle.nr_reduce.specs.declared.mark.Mark.{Mark}
 use Rattle.nr_reduce.specs.declared.mark.Mark.TheVariants as marks
 use Rattle.nr_reduce.specs.declared.mark.LinkParameters.{LinkParameters}
 use Rattle.nr_reduce.specs.declared.outline.Plan.{Plan}
-use Rattle.nr_reduce.specs.ClientState.{plan_for}
+use Rattle.nr_reduce.specs.ClientState.{call_payload, plan_for}
 use Rattle.nr_reduce.specs.Opening.{IsOpened}
 use Rattle.nr_reduce.specs.Run.{client}
 use Rattle.nr_laws.specs.MarkAt.{MarkAt}
@@ -72,3 +73,20 @@ abbrev pub RepliesByTargetAreExecuted : Type 0
 RepliesByTargetAreExecuted = (opened : LinkParameters) (link : ℕ) (run before : List Mark) (xid : ℕ) (plan : Plan) (reply : List ℕ) →
     IsOpened opened → IsTyped run → MatchedSoFar opened link run → (has : HasPlan opened link run xid plan) →
     MarkAt run before (marks.Done link xid (outcomes.Reply reply)) → HasReplyByTarget link before xid has.call reply
+
+-- the numbers of a call are 32-bit words, so are those of its credential. A call that a program makes is always so.
+abbrev pub HasWords : Call → Type 0
+HasWords call = (call.prog < 2 ^ 32) × (call.vers < 2 ^ 32) × (call.proc < 2 ^ 32) × CredFits call.cred
+
+-- the call was executed under this xid on the link, with its own payload, and just these bytes are its reply
+pub record HasOwnReply (link : ℕ) (run : List Mark) (xid : ℕ) (call : Call) (reply : List ℕ) : Type 0 where
+  pub moment : Moment
+  pub place : ℕ
+  pub before : List Mark
+  pub at : MarkAt run before (marks.Execute link xid moment (call_payload xid call) place reply)
+
+-- So is that of any call that offers no read chunk, whatever it offers for its reply; and its Execute is of the call's own payload.
+abbrev pub InlineCallsAreReplied : Type 0
+InlineCallsAreReplied = (opened : LinkParameters) (link : ℕ) (run before : List Mark) (xid : ℕ) (plan : Plan) (reply : List ℕ) →
+    IsOpened opened → IsTyped run → MatchedSoFar opened link run → (has : HasPlan opened link run xid plan) → HasWords has.call → plan.read_at ≡ None →
+    MarkAt run before (marks.Done link xid (outcomes.Reply reply)) → HasOwnReply link before xid has.call reply

@@ -1,13 +1,15 @@
 //! What callers are handed.
 
-ghost use Rattle.nr_laws.specs.HandedOver.{InlineRepliesAreExecuted, StreamRepliesAreExecuted, RepliesByTargetAreExecuted};
+ghost use Rattle.nr_laws.specs.HandedOver.{InlineRepliesAreExecuted, StreamRepliesAreExecuted, RepliesByTargetAreExecuted, InlineCallsAreReplied};
 
 /// On a matched link the reply that is handed over of a call is the one with which the call was executed before, byte for byte:
 /// where the call offers neither a write chunk nor a reply chunk (RFC 8166 section 3.4.6), so that the reply comes in the message.
 /// Where numbers and credits are in range as the link is opened, so it is for a call that offers no write chunk, whatever its reply
-/// chunk; and for any call, where the payload with which it was executed has the call's program, version and procedure.
+/// chunk; for any call that offers no read chunk, which is executed with its own payload; and for any other call, where the
+/// payload with which it was executed has the call's program, version and procedure.
 pub fn replies_handed_over()
     ensures inline { InlineRepliesAreExecuted }
     ensures stream { StreamRepliesAreExecuted }
+    ensures call { InlineCallsAreReplied }
     ensures target { RepliesByTargetAreExecuted }
 {}
