@@ -104,3 +104,4 @@ pub mod OwnPayloads
 pub mod ConveyedForms
 pub mod ServerReadsOfRuns
 pub mod ServerMemory
+pub mod FetchedRegions
