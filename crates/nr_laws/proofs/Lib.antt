@@ -105,3 +105,4 @@ pub mod ConveyedForms
 pub mod ServerReadsOfRuns
 pub mod ServerMemory
 pub mod FetchedRegions
+pub mod ClientResponses
