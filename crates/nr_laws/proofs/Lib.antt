@@ -115,3 +115,5 @@ pub mod ReadAnswers
 pub mod HandedOver
 pub mod ConveyedReplies
 pub mod InlineCalls
+pub mod FetchedRegions
+pub mod ClientResponses

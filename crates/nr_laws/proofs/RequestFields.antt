@@ -93,7 +93,7 @@ not_denied g place access e = by (ltb (length g.bytes) (access.to + access.len))
         ]
 
 -- no other of the STag applies
-none-applies : (stag end place : ℕ) (g : Grant) (regions : List Region) → g.stag ≡ stag → HasOwnStag g (map (region_grant place) regions) → find (applies stag end) (map (region_grant place) regions) ≡ None
+pub none-applies : (stag end place : ℕ) (g : Grant) (regions : List Region) → g.stag ≡ stag → HasOwnStag g (map (region_grant place) regions) → find (applies stag end) (map (region_grant place) regions) ≡ None
 none-applies stag end place g [] own h = refl
 none-applies stag end place g (r ∷ regions) own h =
     ap (λ (b : Bool). cond (b && (ltb r.from end && leb end (region_grant place r).until)) (Some (region_grant place r)) (find (applies stag end) (map (region_grant place) regions)))
