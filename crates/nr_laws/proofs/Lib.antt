@@ -117,3 +117,4 @@ pub mod ConveyedReplies
 pub mod InlineCalls
 pub mod FetchedRegions
 pub mod ClientResponses
+pub mod PlainReplies

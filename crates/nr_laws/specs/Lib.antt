@@ -12,3 +12,4 @@ pub mod Completion
 pub mod EndCauses
 pub mod Payloads
 pub mod HandedOver
+pub mod PlainReplies

@@ -1,6 +1,7 @@
 //! What callers are handed.
 
 ghost use Rattle.nr_laws.specs.HandedOver.{InlineRepliesAreExecuted, StreamRepliesAreExecuted, RepliesByTargetAreExecuted, InlineCallsAreReplied};
+ghost use Rattle.nr_laws.specs.PlainReplies.{RepliesArePlain};
 
 /// On a matched link the reply that is handed over of a call is the one with which the call was executed before, byte for byte:
 /// where the call offers neither a write chunk nor a reply chunk (RFC 8166 section 3.4.6), so that the reply comes in the message.
@@ -12,4 +13,11 @@ pub fn replies_handed_over()
     ensures stream { StreamRepliesAreExecuted }
     ensures call { InlineCallsAreReplied }
     ensures target { RepliesByTargetAreExecuted }
+{}
+
+/// Where numbers and credits are in range as a link is opened: on a matched link of a run whose calls have their places in a journal, the
+/// reply that is handed over of a call without a read chunk is what the plain server replies to the call's own payload, over the entries
+/// before its place; what it adds stands at its place.
+pub fn replies_are_plain()
+    ensures { RepliesArePlain }
 {}

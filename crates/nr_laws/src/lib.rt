@@ -10,6 +10,6 @@ mod laws;
 mod payloads;
 
 pub use completion::{calls_complete, segments_keep_the_rules};
-pub use handover::replies_handed_over;
+pub use handover::{replies_are_plain, replies_handed_over};
 pub use laws::{completions, grant, once, places, touches};
 pub use payloads::executed_payloads;

@@ -1,0 +1,25 @@
+-- A reply that is handed over is the plain server's.
+use Rattle.std.proofs.Common.{◌≡◌, List, ◌∷◌, ◌++◌, ap, ◌∙◌, append_assoc}
+use Rattle.nr_reduce.specs.declared.call.Outcome.TheVariants as outcomes
+use Rattle.nr_reduce.specs.declared.mark.Mark.{Mark}
+use Rattle.nr_reduce.specs.declared.mark.Mark.TheVariants as marks
+use Rattle.nr_reduce.specs.ClientState.{call_payload}
+use Rattle.nr_reduce.specs.Journal.{AtPlaceMark}
+use Rattle.nr_laws.specs.PlainReplies.{server_with, RepliesArePlain}
+use Rattle.nr_laws.proofs.OnceByXid.{at-mark}
+use Rattle.nr_laws.proofs.ConveyedReplies.{inline_calls_are_replied}
+
+pub replies_are_plain : RepliesArePlain
+replies_are_plain reply_to adds J opened link run before xid plan reply numbers typed far placed has words none at =
+    let own = inline_calls_are_replied opened link run before xid plan reply numbers typed far has words none at in
+    let done : Mark = marks.Done link xid (outcomes.Reply reply) in
+    let execute : Mark = marks.Execute link xid own.moment (call_payload xid has.call) own.place reply in
+    let whole : run ≡ own.before ++ execute ∷ (own.at.after ++ done ∷ at.after) =
+    at.is ∙ ap (λ (b : List Mark). b ++ done ∷ at.after) own.at.is ∙ append_assoc own.before (execute ∷ own.at.after) (done ∷ at.after) in
+    record {
+      moment = own.moment;
+      place = own.place;
+      before = own.before;
+      at = own.at;
+      plainly = at-mark (AtPlaceMark (server_with reply_to adds) J) run own.before execute (own.at.after ++ done ∷ at.after) whole placed;
+    }
