@@ -165,6 +165,14 @@ abbrev pub PlacesAreInOrder : Type 0
 PlacesAreInOrder = (link : Link) (calls : List Call) →
     All (EndsWithin link.state.place (after_calls link calls).state.place) (tagged_segments (memory_events link calls))
 
+-- Each ends behind the one before it, and the first behind this place.
+abbrev pub EndsRise : ℕ → List TaggedSegment → Type 0
+EndsRise from [] = Unit {0}
+EndsRise from (segment ∷ segments) = (from < segment.end) × EndsRise segment.end segments
+
+abbrev pub ArrivalsRise : Type 0
+ArrivalsRise = (link : Link) (calls : List Call) → EndsRise link.state.place (tagged_segments (memory_events link calls))
+
 -- ---- What the peer reads of it
 
 -- A Read Request that doesn't end the side makes an access that the memory doesn't deny, and is answered with the bytes of that

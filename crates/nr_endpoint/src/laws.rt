@@ -1,6 +1,6 @@
 //! Laws of an endpoint, over the calls that it stands for.
 
-ghost use Rattle.nr_endpoint.specs.Laws.{PiecesJoin, StepsReach, StepsFeed, EndStays, KeepsLessThanFrame, EndedKeepsNothing, StreamIsKept, PlaceIsFed, MemoryFollowsEvents, PlacesAreAllowed, PlacesAreInOrder, ReadsAreAllowed, NothingElseIsRead, OpenRegionHolds, ReleasedBufferHolds, ReleasedStaysDead, ClaimsStay, NoFpduBeforeHello, FramesEndForThese, GrantsEndAlike, OffersDenyAlike, NoFrameStops, OthersComeFromStop, MemoryComesFromOutOfMemory, EndedQueuesNothing, EndIsKept, StopQueuesLast, OutOfMemoryQueuesNothing};
+ghost use Rattle.nr_endpoint.specs.Laws.{PiecesJoin, StepsReach, StepsFeed, EndStays, KeepsLessThanFrame, EndedKeepsNothing, StreamIsKept, PlaceIsFed, MemoryFollowsEvents, PlacesAreAllowed, PlacesAreInOrder, ArrivalsRise, ReadsAreAllowed, NothingElseIsRead, OpenRegionHolds, ReleasedBufferHolds, ReleasedStaysDead, ClaimsStay, NoFpduBeforeHello, FramesEndForThese, GrantsEndAlike, OffersDenyAlike, NoFrameStops, OthersComeFromStop, MemoryComesFromOutOfMemory, EndedQueuesNothing, EndIsKept, StopQueuesLast, OutOfMemoryQueuesNothing};
 
 /// What a side is after some bytes does not depend on how they were cut: to feed two pieces is to feed both joined, and one step on a
 /// piece and then the rest of it is the whole piece. A side that has ended stays as it is.
@@ -28,6 +28,7 @@ pub fn memory_follows_accesses()
     ensures follows { MemoryFollowsEvents }
     ensures places { PlacesAreAllowed }
     ensures order { PlacesAreInOrder }
+    ensures rise { ArrivalsRise }
     ensures reads { ReadsAreAllowed }
     ensures nothing_else { NothingElseIsRead }
     ensures while_open { OpenRegionHolds }
