@@ -19,6 +19,7 @@ pub mod HelloLaws
 pub mod EndLaws
 pub mod LastOutput
 pub mod PlaceOrder
+pub mod NoticeLaws
 pub mod FedBytes
 pub mod ClaimLaws
 pub mod StreamLaws

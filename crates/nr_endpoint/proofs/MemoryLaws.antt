@@ -190,7 +190,7 @@ unfolding after_calls
 calls-append link [] ys = refl
 calls-append link (call ∷ xs) ys = calls-append (after_call link call) xs ys
 
-events-append : (link : Link) (xs ys : List Call) → memory_events link (xs ++ ys) ≡ memory_events link xs ++ memory_events (after_calls link xs) ys
+pub events-append : (link : Link) (xs ys : List Call) → memory_events link (xs ++ ys) ≡ memory_events link xs ++ memory_events (after_calls link xs) ys
 unfolding after_calls
 events-append link [] ys = refl
 events-append link (call ∷ xs) ys =

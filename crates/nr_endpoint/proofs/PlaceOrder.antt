@@ -20,46 +20,37 @@ use Rattle.nr_endpoint.specs.LinkState.{LinkState, Link, has_ended}
 use Rattle.nr_endpoint.specs.Judging.{segment_end, next_frame, with_frame, with_segment_by, with_fpdu, with_peer_hello}
 use Rattle.nr_endpoint.specs.Calls.{Call, after_call, after_calls}
 use Rattle.nr_endpoint.specs.Calls.Call.{Feed, FeedOne, NextEvent, Post, Stop, OutOfMemory, Send, WriteRemote, ReadRemote, Drain, Register, Release}
-use Rattle.nr_endpoint.specs.Laws.{segment_arrivals, fpdu_arrivals, frame_arrivals, arrivals, frames_made_whole, call_events, memory_events, EndsWithin, PlacesAreInOrder}
+use Rattle.nr_endpoint.specs.Laws.{segment_arrivals, fpdu_arrivals, frame_arrivals, arrivals, frames_made_whole, call_events, memory_events, EndsWithin, PlacesAreInOrder, EndsRise, ArrivalsRise}
 use Rattle.nr_endpoint.proofs.MemoryLaws.{ended-arrivals, one-arrival}
 
-abbrev EachWithin : ℕ → ℕ → List Event → Type 0
-EachWithin from until [] = Unit {0}
-EachWithin from until (RegisterRegion right buf ∷ events) = EachWithin from until events
-EachWithin from until (ReleaseRegion stag ∷ events) = EachWithin from until events
-EachWithin from until (Arrive segment ∷ events) = EndsWithin from until segment × EachWithin from until events
+-- from one place to another, the events' segments each end behind the one before
+abbrev pub Between : ℕ → ℕ → List Event → Type 0
+Between from until [] = from ≤ until
+Between from until (RegisterRegion right buf ∷ events) = Between from until events
+Between from until (ReleaseRegion stag ∷ events) = Between from until events
+Between from until (Arrive segment ∷ events) = (from < segment.end) × Between segment.end until events
 
--- the events lie between two places, the later not before the earlier
-abbrev Between : ℕ → ℕ → List Event → Type 0
-Between from until events = (from ≤ until) × EachWithin from until events
-
-wider : (a b c d : ℕ) (events : List Event) → a ≤ b → c ≤ d → EachWithin b c events → EachWithin a d events
-wider a b c d [] low high each = tt
-wider a b c d (RegisterRegion right buf ∷ events) low high each = wider a b c d events low high each
-wider a b c d (ReleaseRegion stag ∷ events) low high each = wider a b c d events low high each
-wider a b c d (Arrive segment ∷ events) low high each = ((omega (arith, low, each.0.0), omega (arith, high, each.0.1)), wider a b c d events low high each.1)
-
-each-append : (from until : ℕ) (xs ys : List Event) → EachWithin from until xs → EachWithin from until ys → EachWithin from until (xs ++ ys)
-each-append from until [] ys first second = second
-each-append from until (RegisterRegion right buf ∷ xs) ys first second = each-append from until xs ys first second
-each-append from until (ReleaseRegion stag ∷ xs) ys first second = each-append from until xs ys first second
-each-append from until (Arrive segment ∷ xs) ys first second = (first.0, each-append from until xs ys first.1 second)
+sooner : (a b c : ℕ) (events : List Event) → a ≤ b → Between b c events → Between a c events
+sooner a b c [] low between = omega (arith, low, between)
+sooner a b c (RegisterRegion right buf ∷ events) low between = sooner a b c events low between
+sooner a b c (ReleaseRegion stag ∷ events) low between = sooner a b c events low between
+sooner a b c (Arrive segment ∷ events) low between = (omega (arith, low, between.0), between.1)
 
 joined : (a b c : ℕ) (xs ys : List Event) → Between a b xs → Between b c ys → Between a c (xs ++ ys)
-joined a b c xs ys first second = (
-  omega (arith, first.0, second.0),
-  each-append a c xs ys (wider a a b c xs (omega arith) second.0 first.1) (wider a b c c ys first.0 (omega arith) second.1),
-)
+joined a b c [] ys first second = sooner a b c ys first second
+joined a b c (RegisterRegion right buf ∷ xs) ys first second = joined a b c xs ys first second
+joined a b c (ReleaseRegion stag ∷ xs) ys first second = joined a b c xs ys first second
+joined a b c (Arrive segment ∷ xs) ys first second = (first.0, joined segment.end b c xs ys first.1 second)
 
 stands : (n : ℕ) → Between n n []
-stands n = (omega arith, tt)
+stands n = omega arith
 
 -- ---- A frame
 
 segment-between : (s : LinkState) (f : Frame) (segment : Segment) (e : Option End) → s.place < f.end → Between s.place (with_segment_by f segment e s).place (segment_arrivals f segment e)
 segment-between s f segment (Some end) longer = stands s.place
-segment-between s f (Untagged last opcode w queue msn offset payload) None longer = (omega (arith, longer), tt)
-segment-between s f (Tagged last opcode stag to payload) None longer = (omega (arith, longer), ((longer, omega arith), tt))
+segment-between s f (Untagged last opcode w queue msn offset payload) None longer = omega (arith, longer)
+segment-between s f (Tagged last opcode stag to payload) None longer = (longer, omega arith)
 
 fpdu-between : (s : LinkState) (f : Frame) (r : Result Segment ℕ) → s.place < f.end → Between s.place (with_fpdu f r s).place (fpdu_arrivals s f r)
 unfolding with_fpdu
@@ -68,7 +59,7 @@ fpdu-between s f (Err reason) longer = stands s.place
 
 hello-between : (s : LinkState) (f : Frame) (r : Result Hello ℕ) → s.place < f.end → Between s.place (with_peer_hello f r s).place []
 unfolding with_peer_hello
-hello-between s f (Ok hello) longer = (omega (arith, longer), tt)
+hello-between s f (Ok hello) longer = omega (arith, longer)
 hello-between s f (Err reason) longer = stands s.place
 
 frame-between : (s : LinkState) (a : Awaited) (frame : List ℕ) → IsFrame a frame → Between s.place (with_frame s a frame).place (frame_arrivals s a frame)
@@ -101,7 +92,7 @@ fed-between link piece =
     (split-Splits link.awaited (link.rest ++ piece)).each
 
 no-arrival : (from until : ℕ) (events : List Event) → events ≡ [] → until ≡ from → Between from until events
-no-arrival from until events none is = subst (λ (xs : List Event). Between from until xs) (sym none) (omega (arith, is), tt)
+no-arrival from until events none is = subst (λ (xs : List Event). Between from until xs) (sym none) (omega (arith, is))
 
 step-between : (link : Link) (piece : List ℕ) (gone whole : Bool) → has_ended link.state ≡ gone → is_whole link.awaited (link.rest ++ piece) ≡ whole →
     Between link.state.place (feeding_after_step has_ended with_frame link piece).state.place (arrivals (take 1 (frames_made_whole link piece)) link.awaited link.state)
@@ -140,21 +131,40 @@ call-between link (Send message) = no-arrival link.state.place _ [] refl (unless
 call-between link (WriteRemote stag to bytes) = no-arrival link.state.place _ [] refl (unless-place link.state _ (has_ended link.state) refl)
 call-between link (ReadRemote sink at stag to len) = no-arrival link.state.place _ [] refl (unless-place link.state _ (has_ended link.state) refl)
 call-between link (Drain count) = stands link.state.place
-call-between link (Register buf right) = (omega arith, tt)
-call-between link (Release stag) = (omega arith, tt)
+call-between link (Register buf right) = omega arith
+call-between link (Release stag) = omega arith
 
-calls-between : (link : Link) (calls : List Call) → Between link.state.place (after_calls link calls).state.place (memory_events link calls)
+pub calls-between : (link : Link) (calls : List Call) → Between link.state.place (after_calls link calls).state.place (memory_events link calls)
 unfolding after_calls
 calls-between link [] = stands link.state.place
 calls-between link (call ∷ calls) =
     joined link.state.place (after_call link call).state.place _ (call_events link call) (memory_events (after_call link call) calls)
     (call-between link call) (calls-between (after_call link call) calls)
 
-all-within : (from until : ℕ) (events : List Event) → EachWithin from until events → All (EndsWithin from until) (tagged_segments events)
-all-within from until [] each = All-nil (EndsWithin from until)
-all-within from until (RegisterRegion right buf ∷ events) each = all-within from until events each
-all-within from until (ReleaseRegion stag ∷ events) each = all-within from until events each
-all-within from until (Arrive segment ∷ events) each = All-cons (EndsWithin from until) segment (tagged_segments events) each.0 (all-within from until events each.1)
+low-end : (from until : ℕ) (events : List Event) → Between from until events → from ≤ until
+low-end from until [] between = between
+low-end from until (RegisterRegion right buf ∷ events) between = low-end from until events between
+low-end from until (ReleaseRegion stag ∷ events) between = low-end from until events between
+low-end from until (Arrive segment ∷ events) between = omega (arith, between.0, low-end segment.end until events between.1)
+
+-- the segments end within wider places
+pub all-within : (first from until : ℕ) (events : List Event) → first ≤ from → Between from until events → All (EndsWithin first until) (tagged_segments events)
+all-within first from until [] low between = All-nil (EndsWithin first until)
+all-within first from until (RegisterRegion right buf ∷ events) low between = all-within first from until events low between
+all-within first from until (ReleaseRegion stag ∷ events) low between = all-within first from until events low between
+all-within first from until (Arrive segment ∷ events) low between =
+    All-cons (EndsWithin first until) segment (tagged_segments events) (omega (arith, low, between.0), low-end segment.end until events between.1)
+    (all-within first segment.end until events (omega (arith, low, between.0)) between.1)
 
 pub places-are-in-order : PlacesAreInOrder
-places-are-in-order link calls = all-within link.state.place (after_calls link calls).state.place (memory_events link calls) (calls-between link calls).1
+places-are-in-order link calls =
+    all-within link.state.place link.state.place (after_calls link calls).state.place (memory_events link calls) (omega arith) (calls-between link calls)
+
+ends-rise : (from until : ℕ) (events : List Event) → Between from until events → EndsRise from (tagged_segments events)
+ends-rise from until [] between = tt
+ends-rise from until (RegisterRegion right buf ∷ events) between = ends-rise from until events between
+ends-rise from until (ReleaseRegion stag ∷ events) between = ends-rise from until events between
+ends-rise from until (Arrive segment ∷ events) between = (between.0, ends-rise segment.end until events between.1)
+
+pub arrivals-rise : ArrivalsRise
+arrivals-rise link calls = ends-rise link.state.place (after_calls link calls).state.place (memory_events link calls) (calls-between link calls)

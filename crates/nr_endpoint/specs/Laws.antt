@@ -1,6 +1,6 @@
 -- Laws of an endpoint, over the calls that it stands for.
-use Rattle.std.specs.Prelude.{◌≡◌, ◌≢◌, ℕ, ◌+◌, ◌<◌, Bool, true, false, if◌then◌else◌, List, [], ◌∷◌, ◌++◌, length, take, drop, map, Option, None, Some, Result, Ok, Err, ◌⊎◌, ◌≤◌, IfSome, Contains, All}
-use Rattle.nr_wire.specs.Constants.{REASON_KEY, REASON_PRIVATE, REASON_LENGTH}
+use Rattle.std.specs.Prelude.{◌≡◌, ◌≢◌, ℕ, ◌+◌, ◌<◌, Bool, true, false, ◌==◌, ◌&&◌, if◌then◌else◌, List, [], ◌∷◌, ◌++◌, length, take, drop, map, Option, None, Some, Result, Ok, Err, ◌⊎◌, ◌≤◌, IfSome, Contains, All}
+use Rattle.nr_wire.specs.Constants.{OPCODE_READ_RESPONSE, REASON_KEY, REASON_PRIVATE, REASON_LENGTH}
 use Rattle.nr_wire.specs.declared.hello.Side.{Side}
 use Rattle.nr_wire.specs.declared.hello.Side.TheVariants.{Initiator, Responder}
 use Rattle.nr_wire.specs.declared.stream.Awaited.{Awaited}
@@ -8,6 +8,7 @@ use Rattle.nr_wire.specs.declared.stream.Awaited.TheVariants.{Hello as HelloFrom
 use Rattle.nr_wire.specs.Stream.{IsPartial, split}
 use Rattle.nr_wire.specs.Feeding.{bytes_taken}
 use Rattle.nr_wire.specs.Segment.{Segment, segment_of}
+use Rattle.nr_wire.specs.Segment.Segment.{Tagged, Untagged}
 use Rattle.nr_regions.specs.declared.right.Right.{Right}
 use Rattle.nr_regions.specs.RegisteredMemory.{RegisteredMemory, Access, Claim, IsHeld, denial, live_region, region_offer, held_region, bytes_in, bytes_at}
 use Rattle.nr_regions.specs.Access.{Grant, access_of, contents, TaggedSegment, grant_at, grant_denial, grant_offer}
@@ -18,10 +19,12 @@ use Rattle.nr_link.specs.declared.end.End.TheVariants as ends
 use Rattle.nr_link.specs.Reasons.{REASON_SHORT, REASON_LONG}
 use Rattle.nr_link.specs.Frames.{Frame}
 use Rattle.nr_link.specs.Input.{InputState, input_of}
-use Rattle.nr_link.specs.ReceiveState.{ReadRequest, read_request_of}
+use Rattle.nr_link.specs.ReceiveState.{ReceiveState, message_completed, ReadRequest, read_request_of}
 use Rattle.nr_link.specs.Ending.{tagged_access, final_output, frame_end}
 use Rattle.nr_link.specs.Output.{own_hello, refusing_hello}
 use Rattle.nr_endpoint.specs.SendQueue.{SendQueue, with_response, writable, written}
+use Rattle.nr_endpoint.specs.ReceiveQueue.{Notice, message_notices}
+use Rattle.nr_endpoint.specs.ReceiveQueue.Notice.{ReadDone}
 use Rattle.nr_endpoint.specs.LinkState.{LinkState, Link, has_ended, peer, initial_link}
 use Rattle.nr_endpoint.specs.Judging.{readiness, segment_end, fetch_access, next_frame, with_frame}
 use Rattle.nr_endpoint.specs.Calls.{Call, IsStopReason, after_call, after_calls}
@@ -164,6 +167,112 @@ EndsWithin from until segment = (from < segment.end) × (segment.end ≤ until)
 abbrev pub PlacesAreInOrder : Type 0
 PlacesAreInOrder = (link : Link) (calls : List Call) →
     All (EndsWithin link.state.place (after_calls link calls).state.place) (tagged_segments (memory_events link calls))
+
+-- Each ends behind the one before it, and the first behind this place.
+abbrev pub EndsRise : ℕ → List TaggedSegment → Type 0
+EndsRise from [] = Unit {0}
+EndsRise from (segment ∷ segments) = (from < segment.end) × EndsRise segment.end segments
+
+abbrev pub ArrivalsRise : Type 0
+ArrivalsRise = (link : Link) (calls : List Call) → EndsRise link.state.place (tagged_segments (memory_events link calls))
+
+-- ---- What the owner is told
+
+-- what a segment that doesn't end the side tells: that a read is done, by its last Read Response, or the message that it completes
+abbrev pub notices_of : ReceiveState → Segment → List Notice
+notices_of received (Tagged last opcode stag to payload) = if (opcode == OPCODE_READ_RESPONSE) && last then ReadDone ∷ [] else []
+notices_of received (Untagged last opcode w queue msn offset payload) = message_notices (message_completed received (Untagged last opcode w queue msn offset payload))
+
+-- a notice, with the end of the frame that made it
+pub record MadeNotice : Type 0 where
+  pub end : ℕ
+  pub notice : Notice
+
+abbrev pub made_at : ℕ → Notice → MadeNotice
+made_at end notice = record { end = end; notice = notice }
+
+abbrev pub segment_notices : LinkState → Frame → Segment → Option End → List MadeNotice
+segment_notices s f segment None = map (made_at f.end) (notices_of s.receive_queue.received segment)
+segment_notices s f segment (Some end) = []
+
+abbrev pub fpdu_notices : LinkState → Frame → Result Segment ℕ → List MadeNotice
+fpdu_notices s f (Ok segment) = segment_notices s f segment (segment_end s f segment)
+fpdu_notices s f (Err reason) = []
+
+abbrev pub frame_notices : LinkState → Awaited → List ℕ → List MadeNotice
+frame_notices s (HelloFrom side) bytes = []
+frame_notices s Fpdu bytes = fpdu_notices s (next_frame s bytes) (segment_of bytes)
+
+-- those of frames that come one after the other, up to the one that ends the side
+abbrev pub notices_of_frames : List (List ℕ) → Awaited → LinkState → List MadeNotice
+notices_of_frames [] a s = []
+notices_of_frames (frame ∷ frames) a s = if has_ended s then [] else frame_notices s a frame ++ notices_of_frames frames Fpdu (with_frame s a frame)
+
+abbrev pub call_notices : Link → Call → List MadeNotice
+call_notices link (Feed piece) = notices_of_frames (frames_made_whole link piece) link.awaited link.state
+call_notices link (FeedOne piece) = notices_of_frames (take 1 (frames_made_whole link piece)) link.awaited link.state
+call_notices link NextEvent = []
+call_notices link Post = []
+call_notices link (Stop reason) = []
+call_notices link OutOfMemory = []
+call_notices link (Send message) = []
+call_notices link (WriteRemote stag to bytes) = []
+call_notices link (ReadRemote sink at stag to len) = []
+call_notices link (Drain count) = []
+call_notices link (Register buf right) = []
+call_notices link (Release stag) = []
+
+abbrev pub notices_made : Link → List Call → List MadeNotice
+notices_made link [] = []
+notices_made link (call ∷ calls) = call_notices link call ++ notices_made (after_call link call) calls
+
+-- what a call tells the owner: `NextEvent` the first notice that waits
+abbrev pub call_tells : Link → Call → List Notice
+call_tells link (Feed piece) = []
+call_tells link (FeedOne piece) = []
+call_tells link NextEvent = take 1 link.state.receive_queue.notices
+call_tells link Post = []
+call_tells link (Stop reason) = []
+call_tells link OutOfMemory = []
+call_tells link (Send message) = []
+call_tells link (WriteRemote stag to bytes) = []
+call_tells link (ReadRemote sink at stag to len) = []
+call_tells link (Drain count) = []
+call_tells link (Register buf right) = []
+call_tells link (Release stag) = []
+
+abbrev pub notices_told : Link → List Call → List Notice
+notices_told link [] = []
+notices_told link (call ∷ calls) = call_tells link call ++ notices_told (after_call link call) calls
+
+-- What the owner was told and then what still waits is what waited before these calls and then what their frames made, in order. So the
+-- owner is told each once, and nothing else.
+abbrev pub EventsAreTold : Type 0
+EventsAreTold = (link : Link) (calls : List Call) →
+    notices_told link calls ++ (after_calls link calls).state.receive_queue.notices
+    ≡ link.state.receive_queue.notices ++ map (λ made. made.notice) (notices_made link calls)
+
+-- They come in the order of the stream: each is made at a frame behind that of the one before it.
+abbrev pub NoticesRise : ℕ → List MadeNotice → ℕ → Type 0
+NoticesRise from [] until = from ≤ until
+NoticesRise from (made ∷ others) until = (from < made.end) × NoticesRise made.end others until
+
+abbrev pub EventsAreInOrder : Type 0
+EventsAreInOrder = (link : Link) (calls : List Call) → NoticesRise link.state.place (notices_made link calls) (after_calls link calls).state.place
+
+-- Once a notice is made, and so when the owner is told it, all tagged segments of the frames up to its own have been placed: the memory
+-- is that of the events so far, and of the events of all calls only those are left whose tagged segments end behind that frame.
+abbrev pub EventsFollowAccesses : Type 0
+EventsFollowAccesses = (link : Link) (before after : List Call) →
+    let now = after_calls link before in
+    (now.state.memory ≡ after_events link.state.memory (memory_events link before))
+    × ((memory_events link (before ++ after) ≡ memory_events link before ++ memory_events now after)
+    × All (λ made. All (λ segment. made.end < segment.end) (tagged_segments (memory_events now after))) (notices_made link before))
+
+-- A feed of one frame makes its notice at the place where the side stands then, so no tagged segment of a later frame has been placed.
+abbrev pub OneFrameTellsAtItsEnd : Type 0
+OneFrameTellsAtItsEnd = (link : Link) (piece : List ℕ) →
+    All (λ made. made.end ≡ (after_call link (FeedOne piece)).state.place) (notices_made link (FeedOne piece ∷ []))
 
 -- ---- What the peer reads of it
 

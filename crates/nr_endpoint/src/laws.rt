@@ -1,6 +1,6 @@
 //! Laws of an endpoint, over the calls that it stands for.
 
-ghost use Rattle.nr_endpoint.specs.Laws.{PiecesJoin, StepsReach, StepsFeed, EndStays, KeepsLessThanFrame, EndedKeepsNothing, StreamIsKept, PlaceIsFed, MemoryFollowsEvents, PlacesAreAllowed, PlacesAreInOrder, ReadsAreAllowed, NothingElseIsRead, OpenRegionHolds, ReleasedBufferHolds, ReleasedStaysDead, ClaimsStay, NoFpduBeforeHello, FramesEndForThese, GrantsEndAlike, OffersDenyAlike, NoFrameStops, OthersComeFromStop, MemoryComesFromOutOfMemory, EndedQueuesNothing, EndIsKept, StopQueuesLast, OutOfMemoryQueuesNothing};
+ghost use Rattle.nr_endpoint.specs.Laws.{PiecesJoin, StepsReach, StepsFeed, EndStays, KeepsLessThanFrame, EndedKeepsNothing, StreamIsKept, PlaceIsFed, MemoryFollowsEvents, PlacesAreAllowed, PlacesAreInOrder, ArrivalsRise, EventsAreTold, EventsAreInOrder, EventsFollowAccesses, OneFrameTellsAtItsEnd, ReadsAreAllowed, NothingElseIsRead, OpenRegionHolds, ReleasedBufferHolds, ReleasedStaysDead, ClaimsStay, NoFpduBeforeHello, FramesEndForThese, GrantsEndAlike, OffersDenyAlike, NoFrameStops, OthersComeFromStop, MemoryComesFromOutOfMemory, EndedQueuesNothing, EndIsKept, StopQueuesLast, OutOfMemoryQueuesNothing};
 
 /// What a side is after some bytes does not depend on how they were cut: to feed two pieces is to feed both joined, and one step on a
 /// piece and then the rest of it is the whole piece. A side that has ended stays as it is.
@@ -28,11 +28,21 @@ pub fn memory_follows_accesses()
     ensures follows { MemoryFollowsEvents }
     ensures places { PlacesAreAllowed }
     ensures order { PlacesAreInOrder }
+    ensures rise { ArrivalsRise }
     ensures reads { ReadsAreAllowed }
     ensures nothing_else { NothingElseIsRead }
     ensures while_open { OpenRegionHolds }
     ensures released { ReleasedBufferHolds }
     ensures dead { ReleasedStaysDead }
+{}
+
+/// The owner is told each message and each read that a frame completes, once and in the order of the stream. When it is told, all tagged
+/// segments of the frames up to that one have been placed, and the later ones end behind it (RFC 5040 section 5.5).
+pub fn events_follow_accesses()
+    ensures told { EventsAreTold }
+    ensures order { EventsAreInOrder }
+    ensures follow { EventsFollowAccesses }
+    ensures one_frame { OneFrameTellsAtItsEnd }
 {}
 
 /// A region that was registered stays registered until it is released, whatever is called between: `release` may be called with it.

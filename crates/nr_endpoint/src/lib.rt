@@ -34,6 +34,6 @@ pub use endpoint::Endpoint;
 pub use event::Event;
 pub use fault::{DrainFault, ReadRefused};
 pub use laws::{
-    claims_stay, ends_by_grants, however_cut, memory_follows_accesses, no_fpdu_before_hello,
-    reasons_of_frames, stream_is_kept,
+    claims_stay, ends_by_grants, events_follow_accesses, however_cut, memory_follows_accesses,
+    no_fpdu_before_hello, reasons_of_frames, stream_is_kept,
 };

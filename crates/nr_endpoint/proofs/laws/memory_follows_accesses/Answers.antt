@@ -1,6 +1,6 @@
 use Rattle.nr_endpoint.proofs.MemoryLaws.{memory-follows-events, places-are-allowed, open-region-holds, released-buffer-holds, released-stays-dead}
 use Rattle.nr_endpoint.proofs.ReadLaws.{reads-are-allowed, nothing-else-is-read}
-use Rattle.nr_endpoint.proofs.PlaceOrder.{places-are-in-order}
+use Rattle.nr_endpoint.proofs.PlaceOrder.{places-are-in-order, arrivals-rise}
 use Rattle.nr_endpoint.proofs.laws.memory_follows_accesses.Goals as goal
 
 pub returns-clause-follows : goal.returns-clause-follows
@@ -26,3 +26,6 @@ returns-clause-dead c = released-stays-dead
 
 pub returns-clause-order : goal.returns-clause-order
 returns-clause-order c = places-are-in-order
+
+pub returns-clause-rise : goal.returns-clause-rise
+returns-clause-rise c = arrivals-rise
