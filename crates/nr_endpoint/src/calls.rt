@@ -183,7 +183,7 @@ impl Endpoint {
         self.link.end()
     }
 
-    /// How many bytes all vectors have that are kept: the staging buffer, the receives that are not lent, the regions, and the output.
+    /// How many bytes all byte buffers have that are kept: the staging buffer, the receives that are not lent, the regions, and the output.
     pub fn held(&self) -> u128
         ensures is { result ≡ bytes_kept self.now }
         ensures bound { result ≤ FPDU_MAX + send_max * self.now.link.state.receive_queue.receives + bytes_held self.now.link.state.memory

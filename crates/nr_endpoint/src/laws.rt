@@ -55,8 +55,9 @@ pub fn no_fpdu_before_hello()
     ensures { NoFpduBeforeHello }
 {}
 
-/// A frame ends a side for the reasons 1 to 16 and 22 alone, a hello for 1 to 4; for the others the layer above stopped it. Once a side has
-/// ended, it queues nothing: it sends one Terminate at most (RFC 5040 section 4.8).
+/// A hello ends a side only for the reasons 1 to 4, an FPDU only for the reasons 5 to 16 and 22, a denied access, a Send without a receive, or
+/// a Terminate. For any other reason the layer above stopped it. Once a side has ended, it queues nothing: it sends one Terminate at most
+/// (RFC 5040 section 4.8).
 pub fn reasons_of_frames()
     ensures frames { FramesEndForThese }
     ensures no_stop { NoFrameStops }
