@@ -1,10 +1,8 @@
 //! FPDUs that end a side, and those that don't, on each side: the reasons 5 to 16, a Send without a receive, a Terminate. The
 //! first FPDU lies at byte 20, behind the hello.
 
-use crate::given::{
-    SIDES, feed_pieces, four_regions, joined, opened, outcome, own_hello, peer_hello,
-};
-use nr_endpoint::Endpoint;
+use crate::endpoint::TestEndpoint;
+use crate::given::{SIDES, feed_pieces, four_regions, joined, outcome, own_hello, peer_hello};
 use nr_link::End;
 use nr_regions::Denied;
 use nr_wire::Side;
@@ -573,9 +571,9 @@ fn fed(
     side: Side,
     words: &[u32],
     piece: usize,
-) -> Endpoint {
+) -> TestEndpoint {
     let bytes = joined(rt, alloc, peer_hello(side), words);
-    let mut endpoint = opened(rt, alloc, side);
+    let mut endpoint = TestEndpoint::open(rt, alloc, side);
     four_regions(rt, alloc, &mut endpoint);
     feed_pieces(rt, row, &mut endpoint, bytes.as_slice(), piece);
     endpoint

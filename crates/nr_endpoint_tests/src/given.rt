@@ -1,12 +1,11 @@
 //! Endpoints that the rows of tables begin with, and bytes in words. Hellos and FPDUs have whole numbers of words.
 
 use crate::compare::same;
-use nr_endpoint::Endpoint;
+use crate::endpoint::TestEndpoint;
 use nr_link::End;
 use nr_outside::MemSink;
-use nr_regions::{Registration, Right};
+use nr_regions::Right;
 use nr_wire::Side;
-use nr_xdr::Octets;
 use std::alloc::Global;
 use std::process::Abort;
 
@@ -69,42 +68,19 @@ pub fn joined(rt: &impl Abort, alloc: Global, words: &[u32], more: &[u32]) -> Ve
     bytes
 }
 
-/// An endpoint with two receives, whose first region has STag 1.
-pub fn opened(rt: &impl Abort, alloc: Global, side: Side) -> Endpoint {
-    Endpoint::open(alloc, side, 2, 1).expect(rt, "memory")
-}
-
-/// Registers a region of these bytes.
-pub fn registered(
-    rt: &impl Abort,
-    alloc: Global,
-    endpoint: &mut Endpoint,
-    bytes: &[u8],
-    right: Right,
-) -> Registration {
-    let buf = Octets::from_slice(alloc, bytes).expect(rt, "memory");
-    match endpoint.register(buf, right) {
-        Ok(registration) => registration,
-        Err(_) => panic!(rt; "a region is registered"),
-    }
-}
-
-/// Registers four regions of eight bytes: 1 is to be read, 2 to be written, 3 for Read Responses; 4 is released. Gives the
-/// registration of 3.
-pub fn four_regions(rt: &impl Abort, alloc: Global, endpoint: &mut Endpoint) -> Registration {
-    registered(rt, alloc, endpoint, b"HELLOyou", Right::Fetch);
-    registered(rt, alloc, endpoint, &[0; 8], Right::Fill);
-    let sink = registered(rt, alloc, endpoint, &[0; 8], Right::Sink);
-    let last = registered(rt, alloc, endpoint, &[0; 8], Right::Fill);
-    endpoint.release(last);
-    sink
+/// Registers four regions of eight bytes: 1 is to be read, 2 to be written, 3 for Read Responses, and is kept; 4 is released.
+pub fn four_regions(rt: &impl Abort, alloc: Global, endpoint: &mut TestEndpoint) {
+    endpoint.register(rt, alloc, b"HELLOyou", Right::Fetch);
+    endpoint.register(rt, alloc, &[0; 8], Right::Fill);
+    endpoint.register(rt, alloc, &[0; 8], Right::Sink);
+    endpoint.register_briefly(rt, alloc, &[0; 8], Right::Fill);
 }
 
 /// Feeds some bytes in pieces of this length. Each answer is the end.
 pub fn feed_pieces(
     rt: &impl Abort,
     row: usize,
-    endpoint: &mut Endpoint,
+    endpoint: &mut TestEndpoint,
     bytes: &[u8],
     piece: usize,
 ) {
@@ -114,8 +90,8 @@ pub fn feed_pieces(
             break;
         }
         let (front, rest) = left.split_at(left.len().min(piece));
-        let fed = endpoint.feed(front);
-        same(rt, row, fed.err(), endpoint.end());
+        let fed = endpoint.feed(rt, front);
+        same(rt, row, fed.err(), endpoint.endpoint().end());
         left = rest;
     }
 }
@@ -124,16 +100,16 @@ pub fn feed_pieces(
 pub fn feed_words(
     rt: &impl Abort,
     alloc: Global,
-    endpoint: &mut Endpoint,
+    endpoint: &mut TestEndpoint,
     words: &[u32],
 ) -> Result<(), End> {
     let bytes = bytes_of(rt, alloc, words);
-    endpoint.feed(bytes.as_slice())
+    endpoint.feed(rt, bytes.as_slice())
 }
 
 /// An endpoint that was fed its peer's hello, and wrote its own.
-pub fn greeted(rt: &impl Abort, alloc: Global, side: Side) -> Endpoint {
-    let mut endpoint = opened(rt, alloc, side);
+pub fn greeted(rt: &impl Abort, alloc: Global, side: Side) -> TestEndpoint {
+    let mut endpoint = TestEndpoint::open(rt, alloc, side);
     let fed = feed_words(rt, alloc, &mut endpoint, peer_hello(side));
     same(rt, 0, fed, Ok(()));
     writes(rt, alloc, 0, &mut endpoint, own_hello(side), &[]);
@@ -145,7 +121,7 @@ pub fn writes(
     rt: &impl Abort,
     alloc: Global,
     row: usize,
-    endpoint: &mut Endpoint,
+    endpoint: &mut TestEndpoint,
     words: &[u32],
     more: &[u32],
 ) {
@@ -160,16 +136,21 @@ pub fn outcome(
     rt: &impl Abort,
     alloc: Global,
     row: usize,
-    endpoint: &mut Endpoint,
+    endpoint: &mut TestEndpoint,
     end: Option<End>,
     words: &[u32],
     more: &[u32],
 ) {
-    same(rt, row, endpoint.end(), end);
+    same(rt, row, endpoint.endpoint().end(), end);
     if let Some(end) = end {
-        same(rt, row, endpoint.feed(&[0; 8]), Err(end));
-        same(rt, row, endpoint.feed_one(&[0; 8]), Err(end));
-        same(rt, row, (endpoint.staged(), endpoint.begun()), (0, false));
+        same(rt, row, endpoint.feed(rt, &[0; 8]), Err(end));
+        same(rt, row, endpoint.feed_one(rt, &[0; 8]), Err(end));
+        same(
+            rt,
+            row,
+            (endpoint.endpoint().staged(), endpoint.endpoint().begun()),
+            (0, false),
+        );
     }
     writes(rt, alloc, row, endpoint, words, more);
 }

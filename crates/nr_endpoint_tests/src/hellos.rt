@@ -1,7 +1,8 @@
 //! Hellos: the reasons 1 to 4, and what is written (RFC 5044 section 7.1). The rows have the words that a side is fed, its
 //! end, and what it writes.
 
-use crate::given::{bytes_of, feed_pieces, opened, outcome};
+use crate::endpoint::TestEndpoint;
+use crate::given::{bytes_of, feed_pieces, outcome};
 use nr_link::End;
 use nr_wire::Side;
 use std::alloc::Global;
@@ -392,7 +393,7 @@ static TO_INITIATOR: [Row; 12] = [
 fn hello_row(rt: &impl Abort, alloc: Global, row: usize, side: Side, cells: Row, piece: usize) {
     let (fed, end, written) = cells;
     let bytes = bytes_of(rt, alloc, fed);
-    let mut endpoint = opened(rt, alloc, side);
+    let mut endpoint = TestEndpoint::open(rt, alloc, side);
     feed_pieces(rt, row, &mut endpoint, bytes.as_slice(), piece);
     outcome(rt, alloc, row, &mut endpoint, end, written, &[]);
 }

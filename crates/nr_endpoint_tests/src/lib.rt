@@ -6,6 +6,8 @@
 #[cfg(test)]
 mod compare;
 #[cfg(test)]
+mod endpoint;
+#[cfg(test)]
 mod frames;
 #[cfg(test)]
 mod given;

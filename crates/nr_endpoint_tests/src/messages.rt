@@ -1,11 +1,9 @@
 //! Messages of several segments, receives, staging, and what ends a side beyond its frames.
 
 use crate::compare::same;
-use crate::given::{
-    SIDES, bytes_of, feed_pieces, feed_words, greeted, opened, outcome, own_hello, writes,
-};
-use crate::vectors::{message, receives};
-use nr_endpoint::Endpoint;
+use crate::endpoint::TestEndpoint;
+use crate::given::{SIDES, bytes_of, feed_pieces, feed_words, greeted, outcome, own_hello, writes};
+use crate::vectors::receives;
 use nr_link::End;
 use nr_wire::Side;
 use std::alloc::Global;
@@ -60,9 +58,8 @@ fn longest(rt: &impl Abort, alloc: Global, side: Side, piece: usize) {
     let bytes = three_segments(rt, alloc, &[0x0012_4143, 0, 0, 1, 1024, 0]);
     let mut endpoint = greeted(rt, alloc, side);
     feed_pieces(rt, 0, &mut endpoint, bytes.as_slice(), piece);
-    let (buf, len) = message(rt, &mut endpoint);
+    let (buf, len) = endpoint.message(rt, alloc);
     same(rt, 1, (buf.as_slice(), len), (&[7; 1024], 1024));
-    endpoint.post(buf);
     outcome(rt, alloc, 2, &mut endpoint, None, &[], &[]);
 }
 
@@ -77,7 +74,12 @@ fn long_sends(rt: HostRuntime) {
 }
 
 /// Feeds the Send with this number, of four words.
-fn feed_send(rt: &impl Abort, alloc: Global, endpoint: &mut Endpoint, msn: u32) -> Result<(), End> {
+fn feed_send(
+    rt: &impl Abort,
+    alloc: Global,
+    endpoint: &mut TestEndpoint,
+    msn: u32,
+) -> Result<(), End> {
     let words = [0x0022_4143, 0, 0, msn, 0, msn, 1, 16, 0, 0];
     feed_words(rt, alloc, endpoint, &words)
 }
@@ -98,10 +100,9 @@ fn receives_again(rt: &impl Abort, alloc: Global, side: Side) {
 }
 
 /// The next message has 16 bytes; its buffer is a receive again.
-fn receives_first(rt: &impl Abort, _alloc: Global, endpoint: &mut Endpoint) {
-    let (buf, len) = message(rt, endpoint);
+fn receives_first(rt: &impl Abort, alloc: Global, endpoint: &mut TestEndpoint) {
+    let (buf, len) = endpoint.message(rt, alloc);
     same(rt, 0, (buf.len(), len), (1024, 16));
-    endpoint.post(buf);
 }
 
 #[test]
@@ -117,13 +118,13 @@ const HELD: u128 = 65544 + 2048;
 /// A message that is begun and never ended.
 fn never_ended(rt: &impl Abort, alloc: Global, side: Side) {
     let mut endpoint = greeted(rt, alloc, side);
-    same(rt, 0, endpoint.held(), HELD);
+    same(rt, 0, endpoint.endpoint().held(), HELD);
     for segment in 0..200 {
         let mut bytes = Vec::new(alloc);
         put_long(rt, &mut bytes, segment * 512);
-        same(rt, 1, endpoint.feed(bytes.as_slice()), Ok(()));
+        same(rt, 1, endpoint.feed(rt, bytes.as_slice()), Ok(()));
     }
-    same(rt, 2, endpoint.held(), HELD);
+    same(rt, 2, endpoint.endpoint().held(), HELD);
     outcome(rt, alloc, 3, &mut endpoint, None, &[], &[]);
 }
 
@@ -162,27 +163,37 @@ static NULL_CALL: [u32; 23] = [
 ];
 
 /// Ends the test where an endpoint needs another number of bytes, or staged others.
-fn stages(rt: &impl Abort, row: usize, endpoint: &Endpoint, wants: usize, bytes: &[u8]) {
-    let staged = endpoint.staged();
-    same(rt, row, (endpoint.wants(), staged), (wants, bytes.len()));
-    same(rt, row, endpoint.begun(), !bytes.is_empty());
-    same(rt, row, endpoint.staging().get(..staged), Some(bytes));
-    same(rt, row, endpoint.staging().len(), 65544);
+fn stages(rt: &impl Abort, row: usize, endpoint: &TestEndpoint, wants: usize, bytes: &[u8]) {
+    let staged = endpoint.endpoint().staged();
+    same(
+        rt,
+        row,
+        (endpoint.endpoint().wants(), staged),
+        (wants, bytes.len()),
+    );
+    same(rt, row, endpoint.endpoint().begun(), !bytes.is_empty());
+    same(
+        rt,
+        row,
+        endpoint.endpoint().staging().get(..staged),
+        Some(bytes),
+    );
+    same(rt, row, endpoint.endpoint().staging().len(), 65544);
 }
 
 /// The hello and 91 bytes of a FPDU of 92 are fed, then its last byte and ten bytes of the next.
 fn staged_bytes(rt: &impl Abort, alloc: Global, side: Side) {
     let frame = bytes_of(rt, alloc, &NULL_CALL);
-    let mut endpoint = opened(rt, alloc, side);
+    let mut endpoint = TestEndpoint::open(rt, alloc, side);
     stages(rt, 0, &endpoint, 20, &[]);
     let mut bytes = bytes_of(rt, alloc, crate::given::peer_hello(side));
     bytes.extend_from_slice(&frame[..91]).expect(rt, "memory");
-    same(rt, 1, endpoint.feed(bytes.as_slice()), Ok(()));
+    same(rt, 1, endpoint.feed(rt, bytes.as_slice()), Ok(()));
     stages(rt, 2, &endpoint, 1, &frame[..91]);
     bytes.clear();
     bytes.extend_from_slice(&frame[91..]).expect(rt, "memory");
     bytes.extend_from_slice(&frame[..10]).expect(rt, "memory");
-    same(rt, 3, endpoint.feed(bytes.as_slice()), Ok(()));
+    same(rt, 3, endpoint.feed(rt, bytes.as_slice()), Ok(()));
     stages(rt, 4, &endpoint, 82, &frame[..10]);
     outcome(rt, alloc, 5, &mut endpoint, None, own_hello(side), &[]);
 }
@@ -195,14 +206,14 @@ fn one_by_one(rt: &impl Abort, alloc: Global, side: Side) {
         .extend_from_slice(frame.as_slice())
         .expect(rt, "memory");
     bytes.push(0).expect(rt, "memory");
-    let mut endpoint = opened(rt, alloc, side);
-    same(rt, 0, endpoint.feed_one(bytes.as_slice()), Ok(20));
+    let mut endpoint = TestEndpoint::open(rt, alloc, side);
+    same(rt, 0, endpoint.feed_one(rt, bytes.as_slice()), Ok(20));
     stages(rt, 1, &endpoint, 2, &[]);
-    same(rt, 2, endpoint.feed_one(&bytes[20..]), Ok(92));
+    same(rt, 2, endpoint.feed_one(rt, &bytes[20..]), Ok(92));
     stages(rt, 3, &endpoint, 2, &[]);
-    same(rt, 4, endpoint.feed_one(&bytes[112..]), Ok(1));
+    same(rt, 4, endpoint.feed_one(rt, &bytes[112..]), Ok(1));
     stages(rt, 5, &endpoint, 1, &[0]);
-    same(rt, 6, endpoint.feed_one(&[0x56, 0x41]), Ok(2));
+    same(rt, 6, endpoint.feed_one(rt, &[0x56, 0x41]), Ok(2));
     stages(rt, 7, &endpoint, 89, &[0, 0x56, 0x41]);
 }
 
@@ -224,15 +235,15 @@ fn stops(rt: &impl Abort, alloc: Global, side: Side) {
         Ok(()),
     );
     same(rt, 1, feed_send(rt, alloc, &mut endpoint, 2), Ok(()));
-    same(rt, 2, endpoint.feed(&[0, 0x56, 0x41]), Ok(()));
+    same(rt, 2, endpoint.feed(rt, &[0, 0x56, 0x41]), Ok(()));
     let end = End::Bad {
         at: 112,
         reason: 17,
     };
-    same(rt, 3, endpoint.stop(17), end);
+    same(rt, 3, endpoint.stop(rt, 17), end);
     // A side that has ended queues nothing.
-    same(rt, 4, endpoint.send(&[1; 16]), Ok(()));
-    same(rt, 5, endpoint.write_remote(1, 0, &[1; 16]), Ok(()));
+    same(rt, 4, endpoint.send(rt, &[1; 16]), Ok(()));
+    same(rt, 5, endpoint.write_remote(rt, 1, 0, &[1; 16]), Ok(()));
     outcome(rt, alloc, 6, &mut endpoint, Some(end), &terminate(17), &[]);
     writes(rt, alloc, 7, &mut endpoint, &[], &[]);
 }

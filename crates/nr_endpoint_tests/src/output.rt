@@ -1,32 +1,32 @@
 //! What is queued, and how it is handed on.
 
 use crate::compare::same;
+use crate::endpoint::TestEndpoint;
 use crate::given::{
-    SIDES, bytes_of, feed_words, greeted, joined, opened, outcome, own_hello, peer_hello,
-    registered, writes,
+    SIDES, bytes_of, feed_words, greeted, joined, outcome, own_hello, peer_hello, writes,
 };
-use nr_endpoint::{DrainFault, Endpoint, Event, ReadRefused};
+use nr_endpoint::{DrainFault, Event, ReadRefused};
 use nr_link::End;
 use nr_outside::MemSink;
-use nr_regions::{Registration, Right};
+use nr_regions::Right;
 use nr_wire::Side;
 use std::alloc::Global;
 use std::process::Abort;
 
 /// Asks eight times for four bytes of region 9, and once more.
-fn ask_nine_times(rt: &impl Abort, endpoint: &mut Endpoint, sink: &Registration) {
+fn ask_nine_times(rt: &impl Abort, endpoint: &mut TestEndpoint) {
     for _ in 0..8 {
-        same(rt, 0, endpoint.read_remote(sink, 0, 9, 16, 4), Ok(()));
+        same(rt, 0, endpoint.read_remote(rt, 0, 9, 16, 4), Ok(()));
     }
     let full = ReadRefused::Full { reads: 8 };
-    same(rt, 1, endpoint.read_remote(sink, 0, 9, 16, 4), Err(full));
+    same(rt, 1, endpoint.read_remote(rt, 0, 9, 16, 4), Err(full));
 }
 
 /// The Read Requests with these numbers are written.
 fn writes_requests(
     rt: &impl Abort,
     alloc: Global,
-    endpoint: &mut Endpoint,
+    endpoint: &mut TestEndpoint,
     first: u32,
     count: u32,
 ) {
@@ -56,8 +56,8 @@ fn writes_requests(
 /// Eight Read Requests are open; once a response is whole, there is room for one more.
 fn eight_reads(rt: &impl Abort, alloc: Global, side: Side) {
     let mut endpoint = greeted(rt, alloc, side);
-    let sink = registered(rt, alloc, &mut endpoint, b"1234", Right::Sink);
-    ask_nine_times(rt, &mut endpoint, &sink);
+    endpoint.register(rt, alloc, b"1234", Right::Sink);
+    ask_nine_times(rt, &mut endpoint);
     writes_requests(rt, alloc, &mut endpoint, 1, 8);
     let response = [0x0012_c142, 1, 0, 0, 0x6162_6364, 0];
     same(
@@ -66,14 +66,20 @@ fn eight_reads(rt: &impl Abort, alloc: Global, side: Side) {
         feed_words(rt, alloc, &mut endpoint, &response),
         Ok(()),
     );
-    same(rt, 4, endpoint.read_remote(&sink, 0, 9, 16, 4), Ok(()));
+    same(rt, 4, endpoint.read_remote(rt, 0, 9, 16, 4), Ok(()));
     let full = ReadRefused::Full { reads: 8 };
-    same(rt, 5, endpoint.read_remote(&sink, 0, 9, 16, 4), Err(full));
+    same(rt, 5, endpoint.read_remote(rt, 0, 9, 16, 4), Err(full));
     writes_requests(rt, alloc, &mut endpoint, 9, 1);
 }
 
 /// Feeds the Read Requests with these numbers, for `hell` of region 1.
-fn feed_requests(rt: &impl Abort, alloc: Global, endpoint: &mut Endpoint, first: u32, count: u32) {
+fn feed_requests(
+    rt: &impl Abort,
+    alloc: Global,
+    endpoint: &mut TestEndpoint,
+    first: u32,
+    count: u32,
+) {
     for i in 0..count {
         let msn = first.wrapping_add(i);
         let request = [0x002e_4141, 0, 1, msn, 0, 7, 0, 0, 4, 1, 0, 0, 0];
@@ -86,7 +92,7 @@ fn eight_responses(rt: &impl Abort, alloc: Global, side: Side, written: bool) {
     let response = [0x0012_c142, 7, 0, 0, 0x6865_6c6c, 0];
     let ninth = [0x002e_4141, 0, 1, 9, 0, 7, 0, 0, 4, 1, 0, 0, 0];
     let mut endpoint = greeted(rt, alloc, side);
-    registered(rt, alloc, &mut endpoint, b"hello", Right::Fetch);
+    endpoint.register(rt, alloc, b"hello", Right::Fetch);
     feed_requests(rt, alloc, &mut endpoint, 1, 8);
     let mut words = Vec::new(alloc);
     for _ in 0..8 {
@@ -235,7 +241,7 @@ static RESPONSES: [Row; 11] = [
 ];
 
 /// Whether the next event is that a Read Request is answered.
-fn read_done(endpoint: &mut Endpoint) -> bool {
+fn read_done(endpoint: &mut TestEndpoint) -> bool {
     match endpoint.next_event() {
         Some(Event::ReadDone) => true,
         Some(Event::Message { .. }) | None => false,
@@ -252,8 +258,8 @@ fn response_row(
     end: Option<End>,
 ) {
     let mut endpoint = greeted(rt, alloc, side);
-    let sink = registered(rt, alloc, &mut endpoint, b"12345678", Right::Sink);
-    same(rt, row, endpoint.read_remote(&sink, 2, 7, 16, 5), Ok(()));
+    endpoint.register(rt, alloc, b"12345678", Right::Sink);
+    same(rt, row, endpoint.read_remote(rt, 2, 7, 16, 5), Ok(()));
     let request = [0x002e_4141, 0, 1, 1, 0, 1, 0, 2, 5, 7, 0, 16, 0];
     writes(rt, alloc, row, &mut endpoint, &request, &[]);
     same(
@@ -269,7 +275,7 @@ fn response_row(
     outcome(rt, alloc, row, &mut endpoint, end, terminate, &[]);
     if end.is_none() {
         same(rt, row, read_done(&mut endpoint), true);
-        let buf = endpoint.release(sink);
+        let buf = endpoint.release(rt);
         same(rt, row, buf.as_slice(), b"12HELLO8".as_slice());
     }
 }
@@ -308,11 +314,11 @@ static TWO_SENDS: [u32; 20] = [
 ];
 
 /// An endpoint with two Sends queued before the peer's hello comes: before it, only an initiator's hello is written.
-fn two_sends(rt: &impl Abort, alloc: Global, side: Side) -> Endpoint {
+fn two_sends(rt: &impl Abort, alloc: Global, side: Side) -> TestEndpoint {
     let message = bytes_of(rt, alloc, &[1, 1, 1, 1]);
-    let mut endpoint = opened(rt, alloc, side);
-    same(rt, 0, endpoint.send(message.as_slice()), Ok(()));
-    same(rt, 1, endpoint.send(message.as_slice()), Ok(()));
+    let mut endpoint = TestEndpoint::open(rt, alloc, side);
+    same(rt, 0, endpoint.send(rt, message.as_slice()), Ok(()));
+    same(rt, 1, endpoint.send(rt, message.as_slice()), Ok(()));
     endpoint
 }
 
@@ -333,9 +339,9 @@ fn before_hello(rt: &impl Abort, alloc: Global, side: Side) {
         Side::Initiator => &[],
         Side::Responder => own_hello(side),
     };
-    same(rt, 4, endpoint.sends_left(), 0);
+    same(rt, 4, endpoint.endpoint().sends_left(), 0);
     writes(rt, alloc, 5, &mut endpoint, second, &TWO_SENDS);
-    same(rt, 6, endpoint.sends_left(), 2);
+    same(rt, 6, endpoint.endpoint().sends_left(), 2);
 }
 
 /// A sink that fails at the first, second or third write: what it took is a prefix of the hello and the Sends, and the rest comes next.
@@ -362,7 +368,7 @@ fn failing_sink(rt: &impl Abort, alloc: Global, side: Side, at: usize) {
     same(rt, at, taken < all.len(), true);
     same(rt, at, endpoint.drain_into(&mut sink), Ok(()));
     same(rt, at, sink.bytes(), all.as_slice());
-    same(rt, at, endpoint.sends_left(), 2);
+    same(rt, at, endpoint.endpoint().sends_left(), 2);
 }
 
 #[test]
@@ -380,10 +386,10 @@ fn cuts(rt: &impl Abort, alloc: Global, side: Side) {
     same(
         rt,
         0,
-        endpoint.write_remote(7, 0xffff_ffff_ffff_efff, &[0; 4097]),
+        endpoint.write_remote(rt, 7, 0xffff_ffff_ffff_efff, &[0; 4097]),
         Ok(()),
     );
-    same(rt, 1, endpoint.send(&[]), Ok(()));
+    same(rt, 1, endpoint.send(rt, &[]), Ok(()));
     let mut words = Vec::new(alloc);
     words
         .extend_from_slice(&[0x100e_8140, 7, 0xffff_ffff, 0xffff_efff])

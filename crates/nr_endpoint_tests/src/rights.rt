@@ -2,8 +2,8 @@
 //! the sum of offset and length passes 2^64; into an STag that was never given, and into a released one.
 
 use crate::compare::same;
+use crate::endpoint::TestEndpoint;
 use crate::given::{SIDES, bytes_of, feed_pieces, four_regions, greeted, outcome, writes};
-use nr_endpoint::Endpoint;
 use nr_link::End;
 use nr_regions::Denied;
 use nr_wire::Side;
@@ -93,10 +93,10 @@ fn end(access: Access) -> Option<End> {
 }
 
 /// An endpoint with the four regions that was fed the peer's hello, and asked for the last four bytes of region 3.
-fn reading(rt: &impl Abort, alloc: Global, side: Side) -> Endpoint {
+fn reading(rt: &impl Abort, alloc: Global, side: Side) -> TestEndpoint {
     let mut endpoint = greeted(rt, alloc, side);
-    let sink = four_regions(rt, alloc, &mut endpoint);
-    same(rt, 0, endpoint.read_remote(&sink, 4, 7, 0, 4), Ok(()));
+    four_regions(rt, alloc, &mut endpoint);
+    same(rt, 0, endpoint.read_remote(rt, 4, 7, 0, 4), Ok(()));
     let request = [0x002e_4141, 0, 1, 1, 0, 3, 0, 4, 4, 7, 0, 0, 0];
     writes(rt, alloc, 0, &mut endpoint, &request, &[]);
     endpoint
@@ -112,7 +112,8 @@ fn access_row(
     piece: usize,
 ) {
     let (words, len) = fpdu(access);
-    let bytes = bytes_of(rt, alloc, &words[..len]);
+    let words = words.get(..len).expect(rt, "13 words or less");
+    let bytes = bytes_of(rt, alloc, words);
     let mut endpoint = reading(rt, alloc, side);
     feed_pieces(rt, row, &mut endpoint, bytes.as_slice(), piece);
     outcome(

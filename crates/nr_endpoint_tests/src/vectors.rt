@@ -1,14 +1,12 @@
 //! FPDUs spelled out in words, sent by one side and fed to the other.
 
 use crate::compare::same;
-use crate::given::{
-    SIDES, bytes_of, feed_pieces, feed_words, greeted, outcome, registered, writes,
-};
-use nr_endpoint::{Endpoint, Event};
+use crate::endpoint::TestEndpoint;
+use crate::given::{SIDES, bytes_of, feed_pieces, feed_words, greeted, outcome, writes};
+use nr_endpoint::Event;
 use nr_link::End;
-use nr_regions::{Registration, Right};
+use nr_regions::Right;
 use nr_wire::Side;
-use nr_xdr::Octets;
 use std::alloc::Global;
 use std::process::Abort;
 
@@ -72,26 +70,17 @@ static SENDS: [(&[u32], &[u32]); 3] = [
     ),
 ];
 
-/// The next event, which is a message: the bytes of its buffer, and how many of them the message has.
-pub fn message(rt: &impl Abort, endpoint: &mut Endpoint) -> (Octets, usize) {
-    match endpoint.next_event() {
-        Some(Event::Message { buf, len }) => (buf, len),
-        Some(Event::ReadDone) | None => panic!(rt; "a message came"),
-    }
-}
-
 /// Ends the test where the next event is not a message of these words, or another one follows. Its buffer is a receive again.
 pub fn receives(
     rt: &impl Abort,
     alloc: Global,
     row: usize,
-    endpoint: &mut Endpoint,
+    endpoint: &mut TestEndpoint,
     words: &[u32],
 ) {
-    let (buf, len) = message(rt, endpoint);
+    let (buf, len) = endpoint.message(rt, alloc);
     let want = bytes_of(rt, alloc, words);
     same(rt, row, buf.as_slice().get(..len), Some(want.as_slice()));
-    endpoint.post(buf);
     same(rt, row, endpoint.next_event().is_none(), true);
 }
 
@@ -99,9 +88,9 @@ pub fn receives(
 fn send_row(rt: &impl Abort, alloc: Global, row: usize, side: Side, words: &[u32], fpdu: &[u32]) {
     let bytes = bytes_of(rt, alloc, words);
     let mut sender = greeted(rt, alloc, side);
-    same(rt, row, sender.send(bytes.as_slice()), Ok(()));
+    same(rt, row, sender.send(rt, bytes.as_slice()), Ok(()));
     writes(rt, alloc, row, &mut sender, fpdu, &[]);
-    same(rt, row, sender.sends_left(), 1);
+    same(rt, row, sender.endpoint().sends_left(), 1);
 }
 
 /// Feeds an FPDU in pieces of this length.
@@ -152,26 +141,26 @@ fn with_region(
     side: Side,
     bytes: &[u8],
     right: Right,
-) -> (Endpoint, Registration) {
+) -> TestEndpoint {
     let mut endpoint = greeted(rt, alloc, side);
-    let registration = registered(rt, alloc, &mut endpoint, bytes, right);
-    same(rt, 0, registration.stag(), 1);
-    (endpoint, registration)
+    let stag = endpoint.register(rt, alloc, bytes, right);
+    same(rt, 0, stag, 1);
+    endpoint
 }
 
 /// Ends the test where a region has other bytes at its release.
-fn releases(rt: &impl Abort, endpoint: &mut Endpoint, registration: Registration, bytes: &[u8]) {
-    let buf = endpoint.release(registration);
+fn releases(rt: &impl Abort, endpoint: &mut TestEndpoint, bytes: &[u8]) {
+    let buf = endpoint.release(rt);
     same(rt, 0, buf.as_slice(), bytes);
 }
 
 /// Feeds the Write, which goes into a region of seven bytes.
 fn write_fed(rt: &impl Abort, alloc: Global, side: Side) {
-    let (mut endpoint, registration) = with_region(rt, alloc, side, b"1234567", Right::Fill);
+    let mut endpoint = with_region(rt, alloc, side, b"1234567", Right::Fill);
     same(rt, 1, feed_words(rt, alloc, &mut endpoint, &WRITE), Ok(()));
     same(rt, 2, endpoint.next_event().is_none(), true);
-    same(rt, 3, endpoint.regions().bytes_held(), 7);
-    releases(rt, &mut endpoint, registration, b"hello67");
+    same(rt, 3, endpoint.endpoint().regions().bytes_held(), 7);
+    releases(rt, &mut endpoint, b"hello67");
     let end = End::Denied {
         stag: 1,
         offset: 0,
@@ -187,20 +176,15 @@ fn write_fed(rt: &impl Abort, alloc: Global, side: Side) {
 
 fn write_sent(rt: &impl Abort, alloc: Global, side: Side) {
     let mut endpoint = greeted(rt, alloc, side);
-    same(rt, 0, endpoint.write_remote(1, 0, b"hello"), Ok(()));
+    same(rt, 0, endpoint.write_remote(rt, 1, 0, b"hello"), Ok(()));
     outcome(rt, alloc, 0, &mut endpoint, None, &WRITE, &[]);
-    same(rt, 1, endpoint.sends_left(), 0);
+    same(rt, 1, endpoint.endpoint().sends_left(), 0);
 }
 
 /// Sends the Read Request, and is fed its response.
 fn read_asked(rt: &impl Abort, alloc: Global, side: Side) {
-    let (mut endpoint, registration) = with_region(rt, alloc, side, b"12345", Right::Sink);
-    same(
-        rt,
-        0,
-        endpoint.read_remote(&registration, 0, 1, 0, 5),
-        Ok(()),
-    );
+    let mut endpoint = with_region(rt, alloc, side, b"12345", Right::Sink);
+    same(rt, 0, endpoint.read_remote(rt, 0, 1, 0, 5), Ok(()));
     outcome(rt, alloc, 1, &mut endpoint, None, &READ_REQUEST, &[]);
     same(
         rt,
@@ -212,12 +196,12 @@ fn read_asked(rt: &impl Abort, alloc: Global, side: Side) {
         Some(Event::ReadDone) => {}
         Some(Event::Message { .. }) | None => panic!(rt; "a Read Request is answered"),
     }
-    releases(rt, &mut endpoint, registration, b"HELLO");
+    releases(rt, &mut endpoint, b"HELLO");
 }
 
 /// Is fed the Read Request, and writes its response.
 fn read_answered(rt: &impl Abort, alloc: Global, side: Side) {
-    let (mut endpoint, registration) = with_region(rt, alloc, side, b"HELLO", Right::Fetch);
+    let mut endpoint = with_region(rt, alloc, side, b"HELLO", Right::Fetch);
     same(
         rt,
         0,
@@ -225,7 +209,7 @@ fn read_answered(rt: &impl Abort, alloc: Global, side: Side) {
         Ok(()),
     );
     // The response has the bytes as they stood.
-    releases(rt, &mut endpoint, registration, b"HELLO");
+    releases(rt, &mut endpoint, b"HELLO");
     outcome(rt, alloc, 1, &mut endpoint, None, &READ_RESPONSE, &[]);
 }
 

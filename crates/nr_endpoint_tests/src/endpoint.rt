@@ -1,0 +1,179 @@
+//! An endpoint of a test. Its calls check at run time what an endpoint asks of its owner, and end the test where it doesn't hold.
+
+ghost use Rattle.std.specs.Prelude.{◌≡◌, ◌+◌, ◌^◌, ◌≤◌, length};
+
+use nr_endpoint::{DrainFault, Endpoint, Event, ReadRefused};
+use nr_link::End;
+use nr_outside::MemSink;
+use nr_regions::{Registration, Right};
+use nr_wire::Side;
+use nr_xdr::{Memory, Octets};
+use std::alloc::Global;
+use std::marker::Model;
+use std::process::Abort;
+
+/// More bytes than a test feeds.
+const MANY: usize = 1 << 32;
+
+/// An endpoint, with bounds of the number of bytes that it was fed, and one of its regions.
+#[derive(Drop)]
+pub struct TestEndpoint {
+    endpoint: Endpoint,
+    most: u64,
+    least: u64,
+    region: Option<Registration>,
+}
+
+impl Model for TestEndpoint {
+    ghost use Rattle.nr_endpoint_tests.specs.Counts.{IsCounted};
+    ghost use Rattle.std.specs.Prelude.{ℕ};
+
+    ghost Value = { ℕ };
+
+    ghost view = { λ e. e.most };
+
+    ghost invariant = { λ e. IsCounted e.endpoint.link e.most e.least e.region };
+}
+
+/// A number of bytes with those of a piece.
+fn with_piece(rt: &impl Abort, fed: u64, piece: &[u8]) -> u64
+    ensures sum { result ≡ fed + length piece.now }
+    ensures most { result ≤ 2 ^ 61 }
+{
+    if fed > MANY as u64 || piece.len() > MANY {
+        panic!(rt; "a piece is too long");
+    }
+    fed + piece.len() as u64
+}
+
+impl TestEndpoint {
+    /// An endpoint with two receives, whose first region has STag 1.
+    pub fn open(rt: &impl Abort, alloc: Global, side: Side) -> TestEndpoint {
+        TestEndpoint {
+            endpoint: Endpoint::open(alloc, side, 2, 1).expect(rt, "memory"),
+            most: 0,
+            least: 0,
+            region: None,
+        }
+    }
+
+    /// The endpoint, for all that changes nothing.
+    pub fn endpoint(&self) -> &Endpoint {
+        &self.endpoint
+    }
+
+    pub fn feed(&mut self, rt: &impl Abort, piece: &[u8]) -> Result<(), End> {
+        self.most = with_piece(rt, self.most, piece);
+        self.least = with_piece(rt, self.least, piece);
+        self.endpoint.feed(piece)
+    }
+
+    pub fn feed_one(&mut self, rt: &impl Abort, piece: &[u8]) -> Result<usize, End> {
+        self.most = with_piece(rt, self.most, piece);
+        self.least = 0;
+        self.endpoint.feed_one(piece)
+    }
+
+    /// Ends the side for what the layer above made of a message. It lives, and a frame of its peer came whole.
+    pub fn stop(&mut self, rt: &impl Abort, reason: u32) -> End {
+        let staged = self.endpoint.staged() as u64;
+        if self.endpoint.end().is_some() || self.least <= staged || reason != 17 {
+            panic!(rt; "a side is not to be stopped");
+        }
+        self.endpoint.stop(reason)
+    }
+
+    pub fn next_event(&mut self) -> Option<Event> {
+        self.endpoint.next_event()
+    }
+
+    /// The next event, which is a message: the bytes of its buffer, and how many of them the message has. The buffer is a receive again.
+    #[tactic(auto, using(nr_endpoint::proofs::FedBytes::message_lent))]
+    pub fn message(&mut self, rt: &impl Abort, alloc: Global) -> (Vec<u8>, usize) {
+        match self.endpoint.next_event() {
+            Some(Event::Message { buf, len }) => {
+                let bytes = Vec::from_slice(alloc, buf.as_slice()).expect(rt, "memory");
+                self.endpoint.post(buf);
+                (bytes, len)
+            }
+            Some(Event::ReadDone) | None => panic!(rt; "a message came"),
+        }
+    }
+
+    pub fn send(&mut self, rt: &impl Abort, message: &[u8]) -> Result<(), Memory> {
+        if message.len() >= MANY {
+            panic!(rt; "a message is too long");
+        }
+        self.endpoint.send(message)
+    }
+
+    pub fn write_remote(
+        &mut self,
+        rt: &impl Abort,
+        stag: u32,
+        to: u64,
+        bytes: &[u8],
+    ) -> Result<(), Memory> {
+        if !bytes.is_empty() && bytes.len() as u64 - 1 > u64::MAX - to {
+            panic!(rt; "a Write is too long");
+        }
+        self.endpoint.write_remote(stag, to, bytes)
+    }
+
+    /// Asks for bytes of the peer's region, into the region that is kept.
+    pub fn read_remote(
+        &mut self,
+        rt: &impl Abort,
+        at: u64,
+        stag: u32,
+        to: u64,
+        len: u64,
+    ) -> Result<(), ReadRefused> {
+        let Some(sink) = &self.region else {
+            panic!(rt; "no region is kept");
+        };
+        if sink.len() < at || sink.len() - at < len {
+            panic!(rt; "a response is longer than its region");
+        }
+        if len >= MANY as u64 || len > u64::MAX - to {
+            panic!(rt; "a Read Request is too long");
+        }
+        self.endpoint.read_remote(sink, at, stag, to, len)
+    }
+
+    pub fn drain_into(&mut self, sink: &mut MemSink) -> Result<(), DrainFault> {
+        self.endpoint.drain_into(sink)
+    }
+
+    /// Registers a region of these bytes, which is the one that is kept. Gives its STag.
+    pub fn register(&mut self, rt: &impl Abort, alloc: Global, bytes: &[u8], right: Right) -> u32 {
+        let buf = Octets::from_slice(alloc, bytes).expect(rt, "memory");
+        match self.endpoint.register(buf, right) {
+            Ok(registration) => {
+                let stag = registration.stag();
+                self.region = Some(registration);
+                stag
+            }
+            Err(_) => panic!(rt; "a region is registered"),
+        }
+    }
+
+    /// Registers a region of these bytes, and releases it.
+    pub fn register_briefly(&mut self, rt: &impl Abort, alloc: Global, bytes: &[u8], right: Right) {
+        let buf = Octets::from_slice(alloc, bytes).expect(rt, "memory");
+        match self.endpoint.register(buf, right) {
+            Ok(registration) => {
+                self.endpoint.release(registration);
+            }
+            Err(_) => panic!(rt; "a region is registered"),
+        }
+    }
+
+    /// Releases the region that is kept.
+    pub fn release(&mut self, rt: &impl Abort) -> Octets {
+        match self.region.take() {
+            Some(registration) => self.endpoint.release(registration),
+            None => panic!(rt; "no region is kept"),
+        }
+    }
+}
