@@ -584,6 +584,7 @@ fn frame_row(rt: &impl Abort, alloc: Global, row: usize, side: Side, cells: Row,
     let (words, end, written) = cells;
     let mut endpoint = fed(rt, alloc, row, side, words, piece);
     outcome(rt, alloc, row, &mut endpoint, end, own_hello(side), written);
+    drop(endpoint);
 }
 
 fn frame_rows(rt: &impl Abort, alloc: Global, side: Side) {

@@ -2,6 +2,7 @@
 
 use crate::compare::same;
 use crate::endpoint::TestEndpoint;
+use nr_endpoint::Event;
 use nr_link::End;
 use nr_outside::MemSink;
 use nr_regions::Right;
@@ -114,6 +115,14 @@ pub fn greeted(rt: &impl Abort, alloc: Global, side: Side) -> TestEndpoint {
     same(rt, 0, fed, Ok(()));
     writes(rt, alloc, 0, &mut endpoint, own_hello(side), &[]);
     endpoint
+}
+
+/// Whether the next event is that a Read Request is answered.
+pub fn read_done(endpoint: &mut TestEndpoint) -> bool {
+    match endpoint.next_event() {
+        Some(Event::ReadDone) => true,
+        Some(Event::Message { .. }) | None => false,
+    }
 }
 
 /// Ends the test where the endpoint has other bytes to write than those of these words, one run behind the other.

@@ -396,6 +396,7 @@ fn hello_row(rt: &impl Abort, alloc: Global, row: usize, side: Side, cells: Row,
     let mut endpoint = TestEndpoint::open(rt, alloc, side);
     feed_pieces(rt, row, &mut endpoint, bytes.as_slice(), piece);
     outcome(rt, alloc, row, &mut endpoint, end, written, &[]);
+    drop(endpoint);
 }
 
 fn hello_rows(rt: &impl Abort, alloc: Global, side: Side, rows: &[Row]) {

@@ -39,18 +39,29 @@ fn three_segments(rt: &impl Abort, alloc: Global, last: &[u32]) -> Vec<u8> {
     bytes
 }
 
+/// The first bytes, so many.
+fn front<'a>(rt: &impl Abort, bytes: &'a Vec<u8>, count: usize) -> &'a [u8] {
+    bytes.as_slice().get(..count).expect(rt, "so many bytes")
+}
+
+/// The bytes behind the first ones.
+fn behind<'a>(rt: &impl Abort, bytes: &'a Vec<u8>, count: usize) -> &'a [u8] {
+    bytes.as_slice().get(count..).expect(rt, "so many bytes")
+}
+
 /// A Send of 1025 bytes ends the side at its last segment, behind 20 and twice 536 bytes.
 fn too_long(rt: &impl Abort, alloc: Global, side: Side, piece: usize) {
     let bytes = three_segments(rt, alloc, &[0x0013_4143, 0, 0, 1, 1024, 0x0700_0000, 0]);
     let mut endpoint = greeted(rt, alloc, side);
-    feed_pieces(rt, 0, &mut endpoint, &bytes[..1072], piece);
+    feed_pieces(rt, 0, &mut endpoint, front(rt, &bytes, 1072), piece);
     outcome(rt, alloc, 1, &mut endpoint, None, &[], &[]);
-    feed_pieces(rt, 2, &mut endpoint, &bytes[1072..], piece);
+    feed_pieces(rt, 2, &mut endpoint, behind(rt, &bytes, 1072), piece);
     let end = End::Bad {
         at: 1092,
         reason: 22,
     };
     outcome(rt, alloc, 3, &mut endpoint, Some(end), &terminate(22), &[]);
+    drop(endpoint);
 }
 
 /// One of 1024 bytes is a message.
@@ -61,6 +72,7 @@ fn longest(rt: &impl Abort, alloc: Global, side: Side, piece: usize) {
     let (buf, len) = endpoint.message(rt, alloc);
     same(rt, 1, (buf.as_slice(), len), (&[7; 1024], 1024));
     outcome(rt, alloc, 2, &mut endpoint, None, &[], &[]);
+    drop(endpoint);
 }
 
 #[test]
@@ -97,6 +109,7 @@ fn receives_again(rt: &impl Abort, alloc: Global, side: Side) {
     receives_first(rt, alloc, &mut endpoint);
     receives(rt, alloc, 4, &mut endpoint, &[3, 1, 16, 0]);
     outcome(rt, alloc, 5, &mut endpoint, Some(end), &terminate(104), &[]);
+    drop(endpoint);
 }
 
 /// The next message has 16 bytes; its buffer is a receive again.
@@ -126,6 +139,7 @@ fn never_ended(rt: &impl Abort, alloc: Global, side: Side) {
     }
     same(rt, 2, endpoint.endpoint().held(), HELD);
     outcome(rt, alloc, 3, &mut endpoint, None, &[], &[]);
+    drop(endpoint);
 }
 
 #[test]
@@ -187,15 +201,22 @@ fn staged_bytes(rt: &impl Abort, alloc: Global, side: Side) {
     let mut endpoint = TestEndpoint::open(rt, alloc, side);
     stages(rt, 0, &endpoint, 20, &[]);
     let mut bytes = bytes_of(rt, alloc, crate::given::peer_hello(side));
-    bytes.extend_from_slice(&frame[..91]).expect(rt, "memory");
+    bytes
+        .extend_from_slice(front(rt, &frame, 91))
+        .expect(rt, "memory");
     same(rt, 1, endpoint.feed(rt, bytes.as_slice()), Ok(()));
-    stages(rt, 2, &endpoint, 1, &frame[..91]);
+    stages(rt, 2, &endpoint, 1, front(rt, &frame, 91));
     bytes.clear();
-    bytes.extend_from_slice(&frame[91..]).expect(rt, "memory");
-    bytes.extend_from_slice(&frame[..10]).expect(rt, "memory");
+    bytes
+        .extend_from_slice(behind(rt, &frame, 91))
+        .expect(rt, "memory");
+    bytes
+        .extend_from_slice(front(rt, &frame, 10))
+        .expect(rt, "memory");
     same(rt, 3, endpoint.feed(rt, bytes.as_slice()), Ok(()));
-    stages(rt, 4, &endpoint, 82, &frame[..10]);
+    stages(rt, 4, &endpoint, 82, front(rt, &frame, 10));
     outcome(rt, alloc, 5, &mut endpoint, None, own_hello(side), &[]);
+    drop(endpoint);
 }
 
 /// One frame at a time: the bytes taken of a piece with the hello, an FPDU, and one byte of the next.
@@ -209,12 +230,13 @@ fn one_by_one(rt: &impl Abort, alloc: Global, side: Side) {
     let mut endpoint = TestEndpoint::open(rt, alloc, side);
     same(rt, 0, endpoint.feed_one(rt, bytes.as_slice()), Ok(20));
     stages(rt, 1, &endpoint, 2, &[]);
-    same(rt, 2, endpoint.feed_one(rt, &bytes[20..]), Ok(92));
+    same(rt, 2, endpoint.feed_one(rt, behind(rt, &bytes, 20)), Ok(92));
     stages(rt, 3, &endpoint, 2, &[]);
-    same(rt, 4, endpoint.feed_one(rt, &bytes[112..]), Ok(1));
+    same(rt, 4, endpoint.feed_one(rt, behind(rt, &bytes, 112)), Ok(1));
     stages(rt, 5, &endpoint, 1, &[0]);
     same(rt, 6, endpoint.feed_one(rt, &[0x56, 0x41]), Ok(2));
     stages(rt, 7, &endpoint, 89, &[0, 0x56, 0x41]);
+    drop(endpoint);
 }
 
 #[test]
@@ -246,6 +268,7 @@ fn stops(rt: &impl Abort, alloc: Global, side: Side) {
     same(rt, 5, endpoint.write_remote(rt, 1, 0, &[1; 16]), Ok(()));
     outcome(rt, alloc, 6, &mut endpoint, Some(end), &terminate(17), &[]);
     writes(rt, alloc, 7, &mut endpoint, &[], &[]);
+    drop(endpoint);
 }
 
 #[test]

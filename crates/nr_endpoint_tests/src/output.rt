@@ -3,9 +3,9 @@
 use crate::compare::same;
 use crate::endpoint::TestEndpoint;
 use crate::given::{
-    SIDES, bytes_of, feed_words, greeted, joined, outcome, own_hello, peer_hello, writes,
+    SIDES, bytes_of, feed_words, greeted, joined, outcome, own_hello, peer_hello, read_done, writes,
 };
-use nr_endpoint::{DrainFault, Event, ReadRefused};
+use nr_endpoint::{DrainFault, ReadRefused};
 use nr_link::End;
 use nr_outside::MemSink;
 use nr_regions::Right;
@@ -70,7 +70,11 @@ fn eight_reads(rt: &impl Abort, alloc: Global, side: Side) {
     let full = ReadRefused::Full { reads: 8 };
     same(rt, 5, endpoint.read_remote(rt, 0, 9, 16, 4), Err(full));
     writes_requests(rt, alloc, &mut endpoint, 9, 1);
+    drop(endpoint);
 }
+
+/// The response to one of these Read Requests.
+static RESPONSE: [u32; 6] = [0x0012_c142, 7, 0, 0, 0x6865_6c6c, 0];
 
 /// Feeds the Read Requests with these numbers, for `hell` of region 1.
 fn feed_requests(
@@ -87,34 +91,42 @@ fn feed_requests(
     }
 }
 
-/// Eight responses are owed until they are wholly written; a ninth Read Request ends the side, at byte 20 + 8 * 52.
-fn eight_responses(rt: &impl Abort, alloc: Global, side: Side, written: bool) {
-    let response = [0x0012_c142, 7, 0, 0, 0x6865_6c6c, 0];
-    let ninth = [0x002e_4141, 0, 1, 9, 0, 7, 0, 0, 4, 1, 0, 0, 0];
-    let mut endpoint = greeted(rt, alloc, side);
+/// Feeds eight Read Requests. Gives the words of their responses, which are owed until they are wholly written.
+fn eight_owed(rt: &impl Abort, alloc: Global, endpoint: &mut TestEndpoint) -> Vec<u32> {
     endpoint.register(rt, alloc, b"hello", Right::Fetch);
-    feed_requests(rt, alloc, &mut endpoint, 1, 8);
+    feed_requests(rt, alloc, endpoint, 1, 8);
     let mut words = Vec::new(alloc);
     for _ in 0..8 {
-        words.extend_from_slice(&response).expect(rt, "memory");
+        words.extend_from_slice(&RESPONSE).expect(rt, "memory");
     }
-    if written {
-        writes(rt, alloc, 1, &mut endpoint, words.as_slice(), &[]);
-        same(rt, 2, feed_words(rt, alloc, &mut endpoint, &ninth), Ok(()));
-        outcome(rt, alloc, 3, &mut endpoint, None, &response, &[]);
-        return;
-    }
+    words
+}
+
+/// Once they are written, a ninth is answered.
+fn ninth_answered(rt: &impl Abort, alloc: Global, side: Side) {
+    let mut endpoint = greeted(rt, alloc, side);
+    let words = eight_owed(rt, alloc, &mut endpoint);
+    writes(rt, alloc, 1, &mut endpoint, words.as_slice(), &[]);
+    feed_requests(rt, alloc, &mut endpoint, 9, 1);
+    outcome(rt, alloc, 3, &mut endpoint, None, &RESPONSE, &[]);
+    drop(endpoint);
+}
+
+/// Until then a ninth ends the side, at byte 20 + 8 * 52.
+fn ninth_ends(rt: &impl Abort, alloc: Global, side: Side) {
+    let mut endpoint = greeted(rt, alloc, side);
+    let words = eight_owed(rt, alloc, &mut endpoint);
     let end = End::Bad {
         at: 436,
         reason: 15,
     };
+    let ninth = [0x002e_4141, 0, 1, 9, 0, 7, 0, 0, 4, 1, 0, 0, 0];
     same(
         rt,
         4,
         feed_words(rt, alloc, &mut endpoint, &ninth),
         Err(end),
     );
-    let terminate = [0x0016_4147, 0, 2, 1, 0, 15, 0];
     outcome(
         rt,
         alloc,
@@ -122,16 +134,17 @@ fn eight_responses(rt: &impl Abort, alloc: Global, side: Side, written: bool) {
         &mut endpoint,
         Some(end),
         words.as_slice(),
-        &terminate,
+        &[0x0016_4147, 0, 2, 1, 0, 15, 0],
     );
+    drop(endpoint);
 }
 
 #[test]
 fn eight(rt: HostRuntime) {
     for side in &SIDES {
         eight_reads(&rt, rt.alloc(), *side);
-        eight_responses(&rt, rt.alloc(), *side, false);
-        eight_responses(&rt, rt.alloc(), *side, true);
+        ninth_answered(&rt, rt.alloc(), *side);
+        ninth_ends(&rt, rt.alloc(), *side);
     }
 }
 
@@ -240,12 +253,11 @@ static RESPONSES: [Row; 11] = [
     ),
 ];
 
-/// Whether the next event is that a Read Request is answered.
-fn read_done(endpoint: &mut TestEndpoint) -> bool {
-    match endpoint.next_event() {
-        Some(Event::ReadDone) => true,
-        Some(Event::Message { .. }) | None => false,
-    }
+/// Ends the test where the Read Request isn't answered, or the region holds other bytes.
+fn holds_response(rt: &impl Abort, row: usize, endpoint: &mut TestEndpoint) {
+    same(rt, row, read_done(endpoint), true);
+    let buf = endpoint.release(rt);
+    same(rt, row, buf.as_slice(), b"12HELLO8".as_slice());
 }
 
 /// Ends the test where a row comes to something else.
@@ -274,10 +286,9 @@ fn response_row(
     };
     outcome(rt, alloc, row, &mut endpoint, end, terminate, &[]);
     if end.is_none() {
-        same(rt, row, read_done(&mut endpoint), true);
-        let buf = endpoint.release(rt);
-        same(rt, row, buf.as_slice(), b"12HELLO8".as_slice());
+        holds_response(rt, row, &mut endpoint);
     }
+    drop(endpoint);
 }
 
 #[test]
@@ -342,6 +353,7 @@ fn before_hello(rt: &impl Abort, alloc: Global, side: Side) {
     same(rt, 4, endpoint.endpoint().sends_left(), 0);
     writes(rt, alloc, 5, &mut endpoint, second, &TWO_SENDS);
     same(rt, 6, endpoint.endpoint().sends_left(), 2);
+    drop(endpoint);
 }
 
 /// A sink that fails at the first, second or third write: what it took is a prefix of the hello and the Sends, and the rest comes next.
@@ -369,6 +381,7 @@ fn failing_sink(rt: &impl Abort, alloc: Global, side: Side, at: usize) {
     same(rt, at, endpoint.drain_into(&mut sink), Ok(()));
     same(rt, at, sink.bytes(), all.as_slice());
     same(rt, at, endpoint.endpoint().sends_left(), 2);
+    drop(endpoint);
 }
 
 #[test]
@@ -412,6 +425,7 @@ fn cuts(rt: &impl Abort, alloc: Global, side: Side) {
         0,
     ];
     writes(rt, alloc, 2, &mut endpoint, words.as_slice(), &last);
+    drop(endpoint);
 }
 
 #[test]

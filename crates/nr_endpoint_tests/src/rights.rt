@@ -125,6 +125,7 @@ fn access_row(
         answer(access),
         &[],
     );
+    drop(endpoint);
 }
 
 fn access_both(rt: &impl Abort, alloc: Global, row: usize, side: Side, access: Access) {

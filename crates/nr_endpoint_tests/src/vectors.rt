@@ -2,8 +2,7 @@
 
 use crate::compare::same;
 use crate::endpoint::TestEndpoint;
-use crate::given::{SIDES, bytes_of, feed_pieces, feed_words, greeted, outcome, writes};
-use nr_endpoint::Event;
+use crate::given::{SIDES, bytes_of, feed_pieces, feed_words, greeted, outcome, read_done, writes};
 use nr_link::End;
 use nr_regions::Right;
 use nr_wire::Side;
@@ -91,6 +90,7 @@ fn send_row(rt: &impl Abort, alloc: Global, row: usize, side: Side, words: &[u32
     same(rt, row, sender.send(rt, bytes.as_slice()), Ok(()));
     writes(rt, alloc, row, &mut sender, fpdu, &[]);
     same(rt, row, sender.endpoint().sends_left(), 1);
+    drop(sender);
 }
 
 /// Feeds an FPDU in pieces of this length.
@@ -108,6 +108,7 @@ fn receive_row(
     feed_pieces(rt, row, &mut receiver, bytes.as_slice(), piece);
     receives(rt, alloc, row, &mut receiver, words);
     outcome(rt, alloc, row, &mut receiver, None, &[], &[]);
+    drop(receiver);
 }
 
 fn send_rows(rt: &impl Abort, alloc: Global, side: Side) {
@@ -172,6 +173,7 @@ fn write_fed(rt: &impl Abort, alloc: Global, side: Side) {
         feed_words(rt, alloc, &mut endpoint, &WRITE),
         Err(end),
     );
+    drop(endpoint);
 }
 
 fn write_sent(rt: &impl Abort, alloc: Global, side: Side) {
@@ -179,6 +181,7 @@ fn write_sent(rt: &impl Abort, alloc: Global, side: Side) {
     same(rt, 0, endpoint.write_remote(rt, 1, 0, b"hello"), Ok(()));
     outcome(rt, alloc, 0, &mut endpoint, None, &WRITE, &[]);
     same(rt, 1, endpoint.endpoint().sends_left(), 0);
+    drop(endpoint);
 }
 
 /// Sends the Read Request, and is fed its response.
@@ -192,11 +195,9 @@ fn read_asked(rt: &impl Abort, alloc: Global, side: Side) {
         feed_words(rt, alloc, &mut endpoint, &READ_RESPONSE),
         Ok(()),
     );
-    match endpoint.next_event() {
-        Some(Event::ReadDone) => {}
-        Some(Event::Message { .. }) | None => panic!(rt; "a Read Request is answered"),
-    }
+    same(rt, 3, read_done(&mut endpoint), true);
     releases(rt, &mut endpoint, b"HELLO");
+    drop(endpoint);
 }
 
 /// Is fed the Read Request, and writes its response.
@@ -211,6 +212,7 @@ fn read_answered(rt: &impl Abort, alloc: Global, side: Side) {
     // The response has the bytes as they stood.
     releases(rt, &mut endpoint, b"HELLO");
     outcome(rt, alloc, 1, &mut endpoint, None, &READ_RESPONSE, &[]);
+    drop(endpoint);
 }
 
 #[test]
@@ -233,6 +235,7 @@ fn terminates(rt: &impl Abort, alloc: Global, side: Side) {
         Err(end),
     );
     outcome(rt, alloc, 0, &mut sender, Some(end), &TERMINATE, &[]);
+    drop(sender);
     let mut receiver = greeted(rt, alloc, side);
     let end = End::Terminated { reason: 5 };
     same(
@@ -242,6 +245,7 @@ fn terminates(rt: &impl Abort, alloc: Global, side: Side) {
         Err(end),
     );
     outcome(rt, alloc, 1, &mut receiver, Some(end), &[], &[]);
+    drop(receiver);
 }
 
 #[test]

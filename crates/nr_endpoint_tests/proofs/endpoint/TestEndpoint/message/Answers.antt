@@ -1,9 +1,5 @@
-use Rattle.nr_endpoint.proofs.FedBytes.{message_lent}
 use Rattle.nr_endpoint_tests.proofs.Counting.{event-counted, post-counted}
 use Rattle.nr_endpoint_tests.proofs.endpoint.TestEndpoint.message.Goals as goal
-
-pub post-requires-clause-lent : goal.post-requires-clause-lent
-post-requires-clause-lent g c = message_lent c.self.inside.endpoint.link c.next_event.new.self.link _ c.in-Some-Message.ensures.event c.in-Some-Message.ensures.state
 
 pub invariant_of-self : goal.invariant_of-self
 invariant_of-self g c =
