@@ -1,13 +1,13 @@
 -- What a test knows of its endpoint lasts over each call.
 use Rattle.std.proofs.Common.{◌≡◌, ◌≢◌, ℕ, ◌+◌, ◌≤◌, ◌<◌, ◌⊎◌, inl, inr, is_some, Bool, true, false, cond, Result, Ok, Err, List, [], ◌∷◌, ◌++◌, length, take, Option, Some, None, refl, sym, ap, subst, ◌∙◌, arith, length-append}
-use Rattle.std.specs.Prelude.{All, IfSome, OnOk, OnErr}
+use Rattle.std.specs.Prelude.{IfSome, OnOk, OnErr}
 use Rattle.std.specs.List.{concat}
 use Rattle.std.proofs.lemmas.List.{length-take}
 use Rattle.std.proofs.lemmas.List.Elements.{All-nil, All-cons}
 use Rattle.nr_wire.specs.declared.stream.Awaited.{Awaited}
 use Rattle.nr_wire.specs.declared.stream.Awaited.TheVariants.{Fpdu}
 use Rattle.nr_wire.specs.declared.hello.Side.{Side}
-use Rattle.nr_wire.specs.Feeding.{feeding_after, feeding_after_frames, feeding_in}
+use Rattle.nr_wire.specs.Feeding.{feeding_after, feeding_after_frames}
 use Rattle.nr_wire.specs.Stream.{split}
 use Rattle.nr_wire.proofs.Splits.{split-Splits}
 use Rattle.nr_regions.specs.declared.right.Right.{Right}
@@ -16,11 +16,11 @@ use Rattle.nr_link.specs.declared.end.End.{End}
 use Rattle.nr_link.specs.declared.end.End.TheVariants as ends
 use Rattle.nr_endpoint.specs.LinkState.{LinkState, Link, has_ended, initial_link}
 use Rattle.nr_endpoint.specs.Judging.{with_frame, with_end_of}
-use Rattle.nr_endpoint.specs.Calls.{Call, StandsOn, after_call, after_calls}
+use Rattle.nr_endpoint.specs.Calls.{Call, after_call, after_calls}
 use Rattle.nr_endpoint.specs.Calls.Call.{Feed, FeedOne, NextEvent, Post, Stop, OutOfMemory, Send, WriteRemote, ReadRemote, Drain, Register, Release}
 use Rattle.nr_endpoint.specs.FedBytes.{fed_bytes}
 use Rattle.nr_endpoint.proofs.Pieces.{frame-place}
-use Rattle.nr_endpoint.proofs.FedBytes.{fed-within, fed_one-within, send-fed, write-fed, read-fed, event-fed, post-fed, drain-fed, register_fed, open_fed}
+use Rattle.nr_endpoint.proofs.FedBytes.{fed-within, fed_one-within, send-fed, write-fed, read-fed, register_fed, open_fed}
 use Rattle.nr_endpoint.proofs.ClaimLaws.{claims-stay}
 use Rattle.nr_endpoint_tests.specs.Counts.{IsCounted}
 
