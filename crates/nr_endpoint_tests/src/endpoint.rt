@@ -1,6 +1,6 @@
 //! An endpoint of a test. Its calls check at run time what an endpoint asks of its owner, and end the test where it doesn't hold.
 
-ghost use Rattle.std.specs.Prelude.{◌≡◌, ◌+◌, ◌^◌, ◌≤◌, length};
+ghost use Rattle.std.specs.Prelude.{◌≡◌, ◌+◌, ◌^◌, ◌≤◌, length, true};
 
 use nr_endpoint::{DrainFault, Endpoint, Event, ReadRefused};
 use nr_link::End;
@@ -35,14 +35,22 @@ impl Model for TestEndpoint {
     ghost invariant = { λ e. IsCounted e.endpoint.link e.most e.least e.region };
 }
 
+/// Ends the test where a call may not be made.
+fn check(rt: &impl Abort, holds: bool)
+    ensures { holds ≡ true }
+{
+    if !holds {
+        panic!(rt; "a call that may not be made");
+    }
+}
+
 /// A number of bytes with those of a piece.
 fn with_piece(rt: &impl Abort, fed: u64, piece: &[u8]) -> u64
     ensures sum { result ≡ fed + length piece.now }
     ensures most { result ≤ 2 ^ 61 }
 {
-    if fed > MANY as u64 || piece.len() > MANY {
-        panic!(rt; "a piece is too long");
-    }
+    check(rt, fed <= MANY as u64);
+    check(rt, piece.len() <= MANY);
     fed + piece.len() as u64
 }
 
@@ -77,9 +85,9 @@ impl TestEndpoint {
     /// Ends the side for what the layer above made of a message. It lives, and a frame of its peer came whole.
     pub fn stop(&mut self, rt: &impl Abort, reason: u32) -> End {
         let staged = self.endpoint.staged() as u64;
-        if self.endpoint.end().is_some() || self.least <= staged || reason != 17 {
-            panic!(rt; "a side is not to be stopped");
-        }
+        check(rt, self.endpoint.end().is_none());
+        check(rt, self.least > staged);
+        check(rt, reason == 17);
         self.endpoint.stop(reason)
     }
 
@@ -101,9 +109,7 @@ impl TestEndpoint {
     }
 
     pub fn send(&mut self, rt: &impl Abort, message: &[u8]) -> Result<(), Memory> {
-        if message.len() >= MANY {
-            panic!(rt; "a message is too long");
-        }
+        check(rt, message.len() < MANY);
         self.endpoint.send(message)
     }
 
@@ -114,9 +120,7 @@ impl TestEndpoint {
         to: u64,
         bytes: &[u8],
     ) -> Result<(), Memory> {
-        if !bytes.is_empty() && bytes.len() as u64 - 1 > u64::MAX - to {
-            panic!(rt; "a Write is too long");
-        }
+        check(rt, u128::from(to) + bytes.len() as u128 <= 1 << 64);
         self.endpoint.write_remote(stag, to, bytes)
     }
 
@@ -132,12 +136,10 @@ impl TestEndpoint {
         let Some(sink) = &self.region else {
             panic!(rt; "no region is kept");
         };
-        if sink.len() < at || sink.len() - at < len {
-            panic!(rt; "a response is longer than its region");
-        }
-        if len >= MANY as u64 || len > u64::MAX - to {
-            panic!(rt; "a Read Request is too long");
-        }
+        check(rt, at <= MANY as u64);
+        check(rt, len < MANY as u64);
+        check(rt, at + len <= sink.len());
+        check(rt, to <= MANY as u64);
         self.endpoint.read_remote(sink, at, stag, to, len)
     }
 
