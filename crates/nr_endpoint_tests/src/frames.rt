@@ -2,7 +2,7 @@
 //! first FPDU lies at byte 20, behind the hello.
 
 use crate::endpoint::TestEndpoint;
-use crate::given::{SIDES, feed_pieces, four_regions, joined, outcome, own_hello, peer_hello};
+use crate::given::{feed_runs, four_regions, outcome, own_hello, peer_hello};
 use nr_link::End;
 use nr_regions::Denied;
 use nr_wire::Side;
@@ -572,10 +572,10 @@ fn fed(
     words: &[u32],
     piece: usize,
 ) -> TestEndpoint {
-    let bytes = joined(rt, alloc, peer_hello(side), words);
     let mut endpoint = TestEndpoint::open(rt, alloc, side);
     four_regions(rt, alloc, &mut endpoint);
-    feed_pieces(rt, row, &mut endpoint, bytes.as_slice(), piece);
+    let runs = (peer_hello(side), words);
+    feed_runs(rt, alloc, row, &mut endpoint, runs, piece);
     endpoint
 }
 
@@ -596,7 +596,6 @@ fn frame_rows(rt: &impl Abort, alloc: Global, side: Side) {
 
 #[test]
 fn frames(rt: HostRuntime) {
-    for side in &SIDES {
-        frame_rows(&rt, rt.alloc(), *side);
-    }
+    frame_rows(&rt, rt.alloc(), Side::Initiator);
+    frame_rows(&rt, rt.alloc(), Side::Responder);
 }

@@ -97,22 +97,37 @@ pub fn feed_pieces(
     }
 }
 
-/// Feeds the bytes of some words in one piece.
+/// Feeds the bytes of two runs of words, one behind the other, in pieces of this length.
+pub fn feed_runs(
+    rt: &impl Abort,
+    alloc: Global,
+    row: usize,
+    endpoint: &mut TestEndpoint,
+    runs: (&[u32], &[u32]),
+    piece: usize,
+) {
+    let bytes = joined(rt, alloc, runs.0, runs.1);
+    feed_pieces(rt, row, endpoint, bytes.as_slice(), piece);
+}
+
+/// Feeds the bytes of some words in one piece. Ends the test where the side then has another end.
 pub fn feed_words(
     rt: &impl Abort,
     alloc: Global,
+    row: usize,
     endpoint: &mut TestEndpoint,
     words: &[u32],
-) -> Result<(), End> {
+    end: Option<End>,
+) {
     let bytes = bytes_of(rt, alloc, words);
-    endpoint.feed(rt, bytes.as_slice())
+    let fed = endpoint.feed(rt, bytes.as_slice());
+    same(rt, row, fed.err(), end);
 }
 
 /// An endpoint that was fed its peer's hello, and wrote its own.
 pub fn greeted(rt: &impl Abort, alloc: Global, side: Side) -> TestEndpoint {
     let mut endpoint = TestEndpoint::open(rt, alloc, side);
-    let fed = feed_words(rt, alloc, &mut endpoint, peer_hello(side));
-    same(rt, 0, fed, Ok(()));
+    feed_words(rt, alloc, 0, &mut endpoint, peer_hello(side), None);
     writes(rt, alloc, 0, &mut endpoint, own_hello(side), &[]);
     endpoint
 }

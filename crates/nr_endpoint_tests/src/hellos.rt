@@ -2,7 +2,7 @@
 //! end, and what it writes.
 
 use crate::endpoint::TestEndpoint;
-use crate::given::{bytes_of, feed_pieces, outcome};
+use crate::given::{feed_runs, outcome};
 use nr_link::End;
 use nr_wire::Side;
 use std::alloc::Global;
@@ -392,9 +392,8 @@ static TO_INITIATOR: [Row; 12] = [
 /// Ends the test where a row, fed in pieces of this length, comes to something else.
 fn hello_row(rt: &impl Abort, alloc: Global, row: usize, side: Side, cells: Row, piece: usize) {
     let (fed, end, written) = cells;
-    let bytes = bytes_of(rt, alloc, fed);
     let mut endpoint = TestEndpoint::open(rt, alloc, side);
-    feed_pieces(rt, row, &mut endpoint, bytes.as_slice(), piece);
+    feed_runs(rt, alloc, row, &mut endpoint, (fed, &[]), piece);
     outcome(rt, alloc, row, &mut endpoint, end, written, &[]);
     drop(endpoint);
 }

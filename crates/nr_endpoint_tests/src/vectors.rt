@@ -2,7 +2,7 @@
 
 use crate::compare::same;
 use crate::endpoint::TestEndpoint;
-use crate::given::{SIDES, bytes_of, feed_pieces, feed_words, greeted, outcome, read_done, writes};
+use crate::given::{SIDES, bytes_of, feed_runs, feed_words, greeted, outcome, read_done, writes};
 use nr_link::End;
 use nr_regions::Right;
 use nr_wire::Side;
@@ -103,9 +103,8 @@ fn receive_row(
     piece: usize,
 ) {
     let (words, fpdu) = cells;
-    let bytes = bytes_of(rt, alloc, fpdu);
     let mut receiver = greeted(rt, alloc, side);
-    feed_pieces(rt, row, &mut receiver, bytes.as_slice(), piece);
+    feed_runs(rt, alloc, row, &mut receiver, (fpdu, &[]), piece);
     receives(rt, alloc, row, &mut receiver, words);
     outcome(rt, alloc, row, &mut receiver, None, &[], &[]);
     drop(receiver);
@@ -121,9 +120,8 @@ fn send_rows(rt: &impl Abort, alloc: Global, side: Side) {
 
 #[test]
 fn sends(rt: HostRuntime) {
-    for side in &SIDES {
-        send_rows(&rt, rt.alloc(), *side);
-    }
+    send_rows(&rt, rt.alloc(), Side::Initiator);
+    send_rows(&rt, rt.alloc(), Side::Responder);
 }
 
 /// A Write of `hello`, a Read Request of five bytes, its response `HELLO`, and a Terminate with reason 5.
@@ -158,7 +156,7 @@ fn releases(rt: &impl Abort, endpoint: &mut TestEndpoint, bytes: &[u8]) {
 /// Feeds the Write, which goes into a region of seven bytes.
 fn write_fed(rt: &impl Abort, alloc: Global, side: Side) {
     let mut endpoint = with_region(rt, alloc, side, b"1234567", Right::Fill);
-    same(rt, 1, feed_words(rt, alloc, &mut endpoint, &WRITE), Ok(()));
+    feed_words(rt, alloc, 1, &mut endpoint, &WRITE, None);
     same(rt, 2, endpoint.next_event().is_none(), true);
     same(rt, 3, endpoint.endpoint().regions().bytes_held(), 7);
     releases(rt, &mut endpoint, b"hello67");
@@ -167,12 +165,7 @@ fn write_fed(rt: &impl Abort, alloc: Global, side: Side) {
         offset: 0,
         why: nr_regions::Denied::NoStag,
     };
-    same(
-        rt,
-        4,
-        feed_words(rt, alloc, &mut endpoint, &WRITE),
-        Err(end),
-    );
+    feed_words(rt, alloc, 4, &mut endpoint, &WRITE, Some(end));
     drop(endpoint);
 }
 
@@ -189,12 +182,7 @@ fn read_asked(rt: &impl Abort, alloc: Global, side: Side) {
     let mut endpoint = with_region(rt, alloc, side, b"12345", Right::Sink);
     same(rt, 0, endpoint.read_remote(rt, 0, 1, 0, 5), Ok(()));
     outcome(rt, alloc, 1, &mut endpoint, None, &READ_REQUEST, &[]);
-    same(
-        rt,
-        2,
-        feed_words(rt, alloc, &mut endpoint, &READ_RESPONSE),
-        Ok(()),
-    );
+    feed_words(rt, alloc, 2, &mut endpoint, &READ_RESPONSE, None);
     same(rt, 3, read_done(&mut endpoint), true);
     releases(rt, &mut endpoint, b"HELLO");
     drop(endpoint);
@@ -203,12 +191,7 @@ fn read_asked(rt: &impl Abort, alloc: Global, side: Side) {
 /// Is fed the Read Request, and writes its response.
 fn read_answered(rt: &impl Abort, alloc: Global, side: Side) {
     let mut endpoint = with_region(rt, alloc, side, b"HELLO", Right::Fetch);
-    same(
-        rt,
-        0,
-        feed_words(rt, alloc, &mut endpoint, &READ_REQUEST),
-        Ok(()),
-    );
+    feed_words(rt, alloc, 0, &mut endpoint, &READ_REQUEST, None);
     // The response has the bytes as they stood.
     releases(rt, &mut endpoint, b"HELLO");
     outcome(rt, alloc, 1, &mut endpoint, None, &READ_RESPONSE, &[]);
@@ -228,29 +211,18 @@ fn writes_and_reads(rt: HostRuntime) {
 fn terminates(rt: &impl Abort, alloc: Global, side: Side) {
     let mut sender = greeted(rt, alloc, side);
     let end = End::Bad { at: 20, reason: 5 };
-    same(
-        rt,
-        0,
-        feed_words(rt, alloc, &mut sender, &[0x0005_4143, 0, 0]),
-        Err(end),
-    );
+    feed_words(rt, alloc, 0, &mut sender, &[0x0005_4143, 0, 0], Some(end));
     outcome(rt, alloc, 0, &mut sender, Some(end), &TERMINATE, &[]);
     drop(sender);
     let mut receiver = greeted(rt, alloc, side);
     let end = End::Terminated { reason: 5 };
-    same(
-        rt,
-        1,
-        feed_words(rt, alloc, &mut receiver, &TERMINATE),
-        Err(end),
-    );
+    feed_words(rt, alloc, 1, &mut receiver, &TERMINATE, Some(end));
     outcome(rt, alloc, 1, &mut receiver, Some(end), &[], &[]);
     drop(receiver);
 }
 
 #[test]
 fn terminate(rt: HostRuntime) {
-    for side in &SIDES {
-        terminates(&rt, rt.alloc(), *side);
-    }
+    terminates(&rt, rt.alloc(), Side::Initiator);
+    terminates(&rt, rt.alloc(), Side::Responder);
 }
