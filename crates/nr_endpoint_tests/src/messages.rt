@@ -2,7 +2,10 @@
 
 use crate::compare::same;
 use crate::endpoint::TestEndpoint;
-use crate::given::{SIDES, bytes_of, feed_pieces, feed_words, greeted, outcome, own_hello, writes};
+use crate::given::{
+    SIDES, bytes_of, feed_pieces, feed_words, greeted, joined, outcome, own_hello, peer_hello,
+    writes,
+};
 use crate::vectors::receives;
 use nr_link::End;
 use nr_wire::Side;
@@ -40,22 +43,34 @@ fn three_segments(rt: &impl Abort, alloc: Global, last: &[u32]) -> Vec<u8> {
 }
 
 /// The first bytes, so many.
-fn front<'a>(rt: &impl Abort, bytes: &'a Vec<u8>, count: usize) -> &'a [u8] {
-    bytes.as_slice().get(..count).expect(rt, "so many bytes")
+fn front<'a>(rt: &impl Abort, bytes: &'a [u8], count: usize) -> &'a [u8] {
+    bytes.get(..count).expect(rt, "so many bytes")
 }
 
 /// The bytes behind the first ones.
-fn behind<'a>(rt: &impl Abort, bytes: &'a Vec<u8>, count: usize) -> &'a [u8] {
-    bytes.as_slice().get(count..).expect(rt, "so many bytes")
+fn behind<'a>(rt: &impl Abort, bytes: &'a [u8], count: usize) -> &'a [u8] {
+    bytes.get(count..).expect(rt, "so many bytes")
 }
 
 /// A Send of 1025 bytes ends the side at its last segment, behind 20 and twice 536 bytes.
 fn too_long(rt: &impl Abort, alloc: Global, side: Side, piece: usize) {
     let bytes = three_segments(rt, alloc, &[0x0013_4143, 0, 0, 1, 1024, 0x0700_0000, 0]);
     let mut endpoint = greeted(rt, alloc, side);
-    feed_pieces(rt, 0, &mut endpoint, front(rt, &bytes, 1072), piece);
+    feed_pieces(
+        rt,
+        0,
+        &mut endpoint,
+        front(rt, bytes.as_slice(), 1072),
+        piece,
+    );
     outcome(rt, alloc, 1, &mut endpoint, None, &[], &[]);
-    feed_pieces(rt, 2, &mut endpoint, behind(rt, &bytes, 1072), piece);
+    feed_pieces(
+        rt,
+        2,
+        &mut endpoint,
+        behind(rt, bytes.as_slice(), 1072),
+        piece,
+    );
     let end = End::Bad {
         at: 1092,
         reason: 22,
@@ -195,47 +210,73 @@ fn stages(rt: &impl Abort, row: usize, endpoint: &TestEndpoint, wants: usize, by
     same(rt, row, endpoint.endpoint().staging().len(), 65544);
 }
 
-/// The hello and 91 bytes of a FPDU of 92 are fed, then its last byte and ten bytes of the next.
+/// Feeds the hello and 91 bytes of an FPDU of 92.
+fn stages_first(
+    rt: &impl Abort,
+    alloc: Global,
+    side: Side,
+    endpoint: &mut TestEndpoint,
+    frame: &[u8],
+) {
+    let begun = front(rt, frame, 91);
+    let mut bytes = bytes_of(rt, alloc, peer_hello(side));
+    bytes.extend_from_slice(begun).expect(rt, "memory");
+    same(rt, 1, endpoint.feed(rt, bytes.as_slice()), Ok(()));
+    stages(rt, 2, endpoint, 1, begun);
+}
+
+/// Feeds its last byte and ten bytes of the next.
+fn stages_next(rt: &impl Abort, alloc: Global, endpoint: &mut TestEndpoint, frame: &[u8]) {
+    let begun = front(rt, frame, 10);
+    let mut bytes = Vec::new(alloc);
+    bytes
+        .extend_from_slice(behind(rt, frame, 91))
+        .expect(rt, "memory");
+    bytes.extend_from_slice(begun).expect(rt, "memory");
+    same(rt, 3, endpoint.feed(rt, bytes.as_slice()), Ok(()));
+    stages(rt, 4, endpoint, 82, begun);
+}
+
 fn staged_bytes(rt: &impl Abort, alloc: Global, side: Side) {
     let frame = bytes_of(rt, alloc, &NULL_CALL);
     let mut endpoint = TestEndpoint::open(rt, alloc, side);
     stages(rt, 0, &endpoint, 20, &[]);
-    let mut bytes = bytes_of(rt, alloc, crate::given::peer_hello(side));
-    bytes
-        .extend_from_slice(front(rt, &frame, 91))
-        .expect(rt, "memory");
-    same(rt, 1, endpoint.feed(rt, bytes.as_slice()), Ok(()));
-    stages(rt, 2, &endpoint, 1, front(rt, &frame, 91));
-    bytes.clear();
-    bytes
-        .extend_from_slice(behind(rt, &frame, 91))
-        .expect(rt, "memory");
-    bytes
-        .extend_from_slice(front(rt, &frame, 10))
-        .expect(rt, "memory");
-    same(rt, 3, endpoint.feed(rt, bytes.as_slice()), Ok(()));
-    stages(rt, 4, &endpoint, 82, front(rt, &frame, 10));
+    stages_first(rt, alloc, side, &mut endpoint, frame.as_slice());
+    stages_next(rt, alloc, &mut endpoint, frame.as_slice());
     outcome(rt, alloc, 5, &mut endpoint, None, own_hello(side), &[]);
     drop(endpoint);
 }
 
+/// Ends the test where of a piece another number of bytes is taken, or others are staged.
+fn takes_one(
+    rt: &impl Abort,
+    row: usize,
+    endpoint: &mut TestEndpoint,
+    piece: &[u8],
+    taken: usize,
+    staged: (usize, &[u8]),
+) {
+    same(rt, row, endpoint.feed_one(rt, piece), Ok(taken));
+    stages(rt, row, endpoint, staged.0, staged.1);
+}
+
 /// One frame at a time: the bytes taken of a piece with the hello, an FPDU, and one byte of the next.
 fn one_by_one(rt: &impl Abort, alloc: Global, side: Side) {
-    let mut bytes = bytes_of(rt, alloc, crate::given::peer_hello(side));
-    let frame = bytes_of(rt, alloc, &NULL_CALL);
-    bytes
-        .extend_from_slice(frame.as_slice())
-        .expect(rt, "memory");
-    bytes.push(0).expect(rt, "memory");
+    let mut piece = joined(rt, alloc, peer_hello(side), &NULL_CALL);
+    piece.push(0).expect(rt, "memory");
+    let bytes = piece.as_slice();
     let mut endpoint = TestEndpoint::open(rt, alloc, side);
-    same(rt, 0, endpoint.feed_one(rt, bytes.as_slice()), Ok(20));
-    stages(rt, 1, &endpoint, 2, &[]);
-    same(rt, 2, endpoint.feed_one(rt, behind(rt, &bytes, 20)), Ok(92));
-    stages(rt, 3, &endpoint, 2, &[]);
-    same(rt, 4, endpoint.feed_one(rt, behind(rt, &bytes, 112)), Ok(1));
-    stages(rt, 5, &endpoint, 1, &[0]);
-    same(rt, 6, endpoint.feed_one(rt, &[0x56, 0x41]), Ok(2));
-    stages(rt, 7, &endpoint, 89, &[0, 0x56, 0x41]);
+    takes_one(rt, 0, &mut endpoint, bytes, 20, (2, &[]));
+    takes_one(rt, 1, &mut endpoint, behind(rt, bytes, 20), 92, (2, &[]));
+    takes_one(rt, 2, &mut endpoint, behind(rt, bytes, 112), 1, (1, &[0]));
+    takes_one(
+        rt,
+        3,
+        &mut endpoint,
+        &[0x56, 0x41],
+        2,
+        (89, &[0, 0x56, 0x41]),
+    );
     drop(endpoint);
 }
 

@@ -336,25 +336,26 @@ fn before_hello(rt: &impl Abort, alloc: Global, side: Side) {
     drop(endpoint);
 }
 
-/// A sink that fails at the first, second or third write: what it took is a prefix of the hello and the Sends, and the rest comes next.
-fn failing_sink(rt: &impl Abort, alloc: Global, side: Side, at: usize) {
-    let mut endpoint = two_sends(rt, alloc, side);
-    feed_words(rt, alloc, at, &mut endpoint, peer_hello(side), None);
+/// A sink that fails at one write: what it took is a prefix of these bytes, and the rest comes next.
+fn fails_once(rt: &impl Abort, alloc: Global, at: usize, endpoint: &mut TestEndpoint, all: &[u8]) {
     let mut failing = Vec::new(alloc);
     failing.push(at).expect(rt, "memory");
     let mut sink = MemSink::new(alloc, failing);
-    same(
-        rt,
-        at,
-        endpoint.drain_into(&mut sink),
-        Err(DrainFault::LinkWrite),
-    );
-    let all = joined(rt, alloc, own_hello(side), &TWO_SENDS);
+    let failed = endpoint.drain_into(&mut sink);
+    same(rt, at, failed, Err(DrainFault::LinkWrite));
     let taken = sink.bytes().len();
-    same(rt, at, Some(sink.bytes()), all.as_slice().get(..taken));
+    same(rt, at, Some(sink.bytes()), all.get(..taken));
     same(rt, at, taken < all.len(), true);
     same(rt, at, endpoint.drain_into(&mut sink), Ok(()));
-    same(rt, at, sink.bytes(), all.as_slice());
+    same(rt, at, sink.bytes(), all);
+}
+
+/// The sink of a hello and two Sends fails at its first or second write.
+fn failing_sink(rt: &impl Abort, alloc: Global, side: Side, at: usize) {
+    let all = joined(rt, alloc, own_hello(side), &TWO_SENDS);
+    let mut endpoint = two_sends(rt, alloc, side);
+    feed_words(rt, alloc, at, &mut endpoint, peer_hello(side), None);
+    fails_once(rt, alloc, at, &mut endpoint, all.as_slice());
     same(rt, at, endpoint.endpoint().sends_left(), 2);
     drop(endpoint);
 }
@@ -368,16 +369,8 @@ fn drained(rt: HostRuntime) {
     }
 }
 
-/// A Write of 4097 bytes is cut into two segments, and a Send of none is one.
-fn cuts(rt: &impl Abort, alloc: Global, side: Side) {
-    let mut endpoint = greeted(rt, alloc, side);
-    same(
-        rt,
-        0,
-        endpoint.write_remote(rt, 7, 0xffff_ffff_ffff_efff, &[0; 4097]),
-        Ok(()),
-    );
-    same(rt, 1, endpoint.send(rt, &[]), Ok(()));
+/// The words of a Write's first segment, of 4096 bytes.
+fn first_segment(rt: &impl Abort, alloc: Global) -> Vec<u32> {
     let mut words = Vec::new(alloc);
     words
         .extend_from_slice(&[0x100e_8140, 7, 0xffff_ffff, 0xffff_efff])
@@ -385,21 +378,40 @@ fn cuts(rt: &impl Abort, alloc: Global, side: Side) {
     for _ in 0..1025 {
         words.push(0).expect(rt, "memory");
     }
-    let last = [
-        0x000f_c140,
-        7,
-        0xffff_ffff,
-        0xffff_ffff,
-        0,
-        0,
-        0x0012_4143,
-        0,
-        0,
-        1,
-        0,
-        0,
-    ];
-    writes(rt, alloc, 2, &mut endpoint, words.as_slice(), &last);
+    words
+}
+
+/// The last one, and the segment of a Send of none.
+static LAST_SEGMENTS: [u32; 12] = [
+    0x000f_c140,
+    7,
+    0xffff_ffff,
+    0xffff_ffff,
+    0,
+    0,
+    0x0012_4143,
+    0,
+    0,
+    1,
+    0,
+    0,
+];
+
+/// A Write of 4097 bytes is cut into two segments, and a Send of none is one.
+fn cuts(rt: &impl Abort, alloc: Global, side: Side) {
+    let mut endpoint = greeted(rt, alloc, side);
+    let written = endpoint.write_remote(rt, 7, 0xffff_ffff_ffff_efff, &[0; 4097]);
+    same(rt, 0, written, Ok(()));
+    same(rt, 1, endpoint.send(rt, &[]), Ok(()));
+    let first = first_segment(rt, alloc);
+    writes(
+        rt,
+        alloc,
+        2,
+        &mut endpoint,
+        first.as_slice(),
+        &LAST_SEGMENTS,
+    );
     drop(endpoint);
 }
 
