@@ -15,7 +15,8 @@ use std::process::Abort;
 /// More bytes than a test feeds.
 const MANY: usize = 1 << 32;
 
-/// An endpoint, with bounds of the number of bytes that it was fed, and one of its regions.
+/// An endpoint; how many bytes it was fed at most, and, until it ends, at least; and the region that was registered last, until it is
+/// released.
 #[derive(Drop)]
 pub struct TestEndpoint {
     endpoint: Endpoint,
@@ -70,19 +71,21 @@ impl TestEndpoint {
         &self.endpoint
     }
 
+    /// Feeds a piece, as [`Endpoint::feed`] does.
     pub fn feed(&mut self, rt: &impl Abort, piece: &[u8]) -> Result<(), End> {
         self.most = with_piece(rt, self.most, piece);
         self.least = with_piece(rt, self.least, piece);
         self.endpoint.feed(piece)
     }
 
+    /// Feeds a piece up to the end of a frame, as [`Endpoint::feed_one`] does.
     pub fn feed_one(&mut self, rt: &impl Abort, piece: &[u8]) -> Result<usize, End> {
         self.most = with_piece(rt, self.most, piece);
         self.least = 0;
         self.endpoint.feed_one(piece)
     }
 
-    /// Ends the side for what the layer above made of a message. It lives, and a frame of its peer came whole.
+    /// Ends the side for what the layer above made of a message: for reason 17, behind a whole frame of the peer.
     pub fn stop(&mut self, rt: &impl Abort, reason: u32) -> End {
         let staged = self.endpoint.staged() as u64;
         check(rt, self.endpoint.end().is_none());
@@ -91,6 +94,7 @@ impl TestEndpoint {
         self.endpoint.stop(reason)
     }
 
+    /// Takes the next event. A buffer in it is no receive again.
     pub fn next_event(&mut self) -> Option<Event> {
         self.endpoint.next_event()
     }
@@ -108,11 +112,13 @@ impl TestEndpoint {
         }
     }
 
+    /// Queues a Send.
     pub fn send(&mut self, rt: &impl Abort, message: &[u8]) -> Result<(), Memory> {
         check(rt, message.len() < MANY);
         self.endpoint.send(message)
     }
 
+    /// Queues an RDMA Write of some bytes into the peer's region, from byte `to` on.
     pub fn write_remote(
         &mut self,
         rt: &impl Abort,
@@ -124,7 +130,7 @@ impl TestEndpoint {
         self.endpoint.write_remote(stag, to, bytes)
     }
 
-    /// Asks for bytes of the peer's region, into the region that is kept.
+    /// Queues a Read Request for `len` bytes of the peer's region, from byte `to` on, into the region that is kept, from byte `at` on.
     pub fn read_remote(
         &mut self,
         rt: &impl Abort,
@@ -143,6 +149,7 @@ impl TestEndpoint {
         self.endpoint.read_remote(sink, at, stag, to, len)
     }
 
+    /// Hands the output to a sink.
     pub fn drain_into(&mut self, sink: &mut MemSink) -> Result<(), DrainFault> {
         self.endpoint.drain_into(sink)
     }
