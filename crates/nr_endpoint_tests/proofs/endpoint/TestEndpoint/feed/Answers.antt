@@ -1,0 +1,7 @@
+use Rattle.nr_endpoint_tests.proofs.Counting.{feed-counted}
+use Rattle.nr_endpoint_tests.proofs.endpoint.TestEndpoint.feed.Goals as goal
+
+pub invariant_of-self : goal.invariant_of-self
+invariant_of-self g c =
+    feed-counted c.self.inside.endpoint.link c.feed.new.self.link _ c.feed.result _ _ _ _ c.self.inside.region c.feed.ensures.state c.feed.ensures.memory
+    c.with_piece-self-inside.ensures.sum c.with_piece-self-inside-2.ensures.sum c.self.invariant

@@ -1,0 +1,188 @@
+//! An endpoint of a test. Its calls check at run time what an endpoint asks of its owner, and end the test where it doesn't hold.
+
+ghost use Rattle.std.specs.Prelude.{◌≡◌, ◌+◌, ◌^◌, ◌≤◌, length, true};
+
+use nr_endpoint::{DrainFault, Endpoint, Event, ReadRefused};
+use nr_link::End;
+use nr_outside::MemSink;
+use nr_regions::{Registration, Right};
+use nr_wire::Side;
+use nr_xdr::{Memory, Octets};
+use std::alloc::Global;
+use std::marker::Model;
+use std::process::Abort;
+
+/// More bytes than a test feeds.
+const MANY: usize = 1 << 32;
+
+/// An endpoint; how many bytes it was fed at most, and, until it ends, at least; and the region that was registered last, until it is
+/// released.
+#[derive(Drop)]
+pub struct TestEndpoint {
+    endpoint: Endpoint,
+    most: u64,
+    least: u64,
+    region: Option<Registration>,
+}
+
+impl Model for TestEndpoint {
+    ghost use Rattle.nr_endpoint_tests.specs.Counts.{IsCounted};
+    ghost use Rattle.std.specs.Prelude.{ℕ};
+
+    ghost Value = { ℕ };
+
+    ghost view = { λ e. e.most };
+
+    ghost invariant = { λ e. IsCounted e.endpoint.link e.most e.least e.region };
+}
+
+/// Ends the test where a call may not be made.
+fn check(rt: &impl Abort, holds: bool)
+    ensures { holds ≡ true }
+{
+    if !holds {
+        panic!(rt; "a call that may not be made");
+    }
+}
+
+/// A number of bytes with those of a piece.
+fn with_piece(rt: &impl Abort, fed: u64, piece: &[u8]) -> u64
+    ensures sum { result ≡ fed + length piece.now }
+    ensures most { result ≤ 2 ^ 61 }
+{
+    check(rt, fed <= MANY as u64);
+    check(rt, piece.len() <= MANY);
+    fed + piece.len() as u64
+}
+
+impl TestEndpoint {
+    /// An endpoint with two receives, whose first region has STag 1.
+    pub fn open(rt: &impl Abort, alloc: Global, side: Side) -> TestEndpoint {
+        TestEndpoint {
+            endpoint: Endpoint::open(alloc, side, 2, 1).expect(rt, "memory"),
+            most: 0,
+            least: 0,
+            region: None,
+        }
+    }
+
+    /// The endpoint, for all that changes nothing.
+    pub fn endpoint(&self) -> &Endpoint {
+        &self.endpoint
+    }
+
+    /// Feeds a piece, as [`Endpoint::feed`] does.
+    pub fn feed(&mut self, rt: &impl Abort, piece: &[u8]) -> Result<(), End> {
+        self.most = with_piece(rt, self.most, piece);
+        self.least = with_piece(rt, self.least, piece);
+        self.endpoint.feed(piece)
+    }
+
+    /// Feeds a piece up to the end of a frame, as [`Endpoint::feed_one`] does.
+    pub fn feed_one(&mut self, rt: &impl Abort, piece: &[u8]) -> Result<usize, End> {
+        self.most = with_piece(rt, self.most, piece);
+        self.least = 0;
+        self.endpoint.feed_one(piece)
+    }
+
+    /// Ends the side for what the layer above made of a message: for reason 17, behind a whole frame of the peer.
+    pub fn stop(&mut self, rt: &impl Abort, reason: u32) -> End {
+        let staged = self.endpoint.staged() as u64;
+        check(rt, self.endpoint.end().is_none());
+        check(rt, self.least > staged);
+        check(rt, reason == 17);
+        self.endpoint.stop(reason)
+    }
+
+    /// Takes the next event. A buffer in it is no receive again.
+    pub fn next_event(&mut self) -> Option<Event> {
+        self.endpoint.next_event()
+    }
+
+    /// The next event, which is a message: the bytes of its buffer, and how many of them the message has. The buffer is a receive again.
+    #[tactic(auto, using(nr_endpoint::proofs::FedBytes::message_lent))]
+    pub fn message(&mut self, rt: &impl Abort, alloc: Global) -> (Vec<u8>, usize) {
+        match self.endpoint.next_event() {
+            Some(Event::Message { buf, len }) => {
+                let bytes = Vec::from_slice(alloc, buf.as_slice()).expect(rt, "memory");
+                self.endpoint.post(buf);
+                (bytes, len)
+            }
+            Some(Event::ReadDone) | None => panic!(rt; "a message came"),
+        }
+    }
+
+    /// Queues a Send.
+    pub fn send(&mut self, rt: &impl Abort, message: &[u8]) -> Result<(), Memory> {
+        check(rt, message.len() < MANY);
+        self.endpoint.send(message)
+    }
+
+    /// Queues an RDMA Write of some bytes into the peer's region, from byte `to` on.
+    pub fn write_remote(
+        &mut self,
+        rt: &impl Abort,
+        stag: u32,
+        to: u64,
+        bytes: &[u8],
+    ) -> Result<(), Memory> {
+        check(rt, u128::from(to) + bytes.len() as u128 <= 1 << 64);
+        self.endpoint.write_remote(stag, to, bytes)
+    }
+
+    /// Queues a Read Request for `len` bytes of the peer's region, from byte `to` on, into the region that is kept, from byte `at` on.
+    pub fn read_remote(
+        &mut self,
+        rt: &impl Abort,
+        at: u64,
+        stag: u32,
+        to: u64,
+        len: u64,
+    ) -> Result<(), ReadRefused> {
+        let Some(sink) = &self.region else {
+            panic!(rt; "no region is kept");
+        };
+        check(rt, at <= MANY as u64);
+        check(rt, len < MANY as u64);
+        check(rt, at + len <= sink.len());
+        check(rt, to <= MANY as u64);
+        self.endpoint.read_remote(sink, at, stag, to, len)
+    }
+
+    /// Hands the output to a sink.
+    pub fn drain_into(&mut self, sink: &mut MemSink) -> Result<(), DrainFault> {
+        self.endpoint.drain_into(sink)
+    }
+
+    /// Registers a region of these bytes, which is the one that is kept. Gives its STag.
+    pub fn register(&mut self, rt: &impl Abort, alloc: Global, bytes: &[u8], right: Right) -> u32 {
+        let buf = Octets::from_slice(alloc, bytes).expect(rt, "memory");
+        match self.endpoint.register(buf, right) {
+            Ok(registration) => {
+                let stag = registration.stag();
+                self.region = Some(registration);
+                stag
+            }
+            Err(_) => panic!(rt; "a region is registered"),
+        }
+    }
+
+    /// Registers a region of these bytes, and releases it.
+    pub fn register_briefly(&mut self, rt: &impl Abort, alloc: Global, bytes: &[u8], right: Right) {
+        let buf = Octets::from_slice(alloc, bytes).expect(rt, "memory");
+        match self.endpoint.register(buf, right) {
+            Ok(registration) => {
+                self.endpoint.release(registration);
+            }
+            Err(_) => panic!(rt; "a region is registered"),
+        }
+    }
+
+    /// Releases the region that is kept.
+    pub fn release(&mut self, rt: &impl Abort) -> Octets {
+        match self.region.take() {
+            Some(registration) => self.endpoint.release(registration),
+            None => panic!(rt; "no region is kept"),
+        }
+    }
+}

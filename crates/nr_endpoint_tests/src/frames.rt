@@ -1,0 +1,601 @@
+//! FPDUs that end a side, and those that don't, on each side: the reasons 5 to 16, a Send without a receive, a Terminate. The
+//! first FPDU lies at byte 20, behind the hello.
+
+use crate::endpoint::TestEndpoint;
+use crate::given::{feed_runs, four_regions, outcome, own_hello, peer_hello};
+use nr_link::End;
+use nr_regions::Denied;
+use nr_wire::Side;
+use std::alloc::Global;
+use std::process::Abort;
+
+/// The words that a side is fed behind the hello, its end, and what it writes behind its own.
+type Row = (&'static [u32], Option<End>, &'static [u32]);
+
+static FRAMES: [Row; 62] = [
+    // The length of the ULPDU: 0, 1, 5, 17 untagged, 13 tagged, and with another fault behind it.
+    (
+        &[0, 0],
+        Some(End::Bad { at: 20, reason: 5 }),
+        &[0x0016_4147, 0, 2, 1, 0, 5, 0],
+    ),
+    (
+        &[0x0001_4100, 0],
+        Some(End::Bad { at: 20, reason: 5 }),
+        &[0x0016_4147, 0, 2, 1, 0, 5, 0],
+    ),
+    (
+        &[0x0005_4143, 0, 0],
+        Some(End::Bad { at: 20, reason: 5 }),
+        &[0x0016_4147, 0, 2, 1, 0, 5, 0],
+    ),
+    (
+        &[0x0011_4143, 0, 0, 1, 0, 0],
+        Some(End::Bad { at: 20, reason: 5 }),
+        &[0x0016_4147, 0, 2, 1, 0, 5, 0],
+    ),
+    (
+        &[0x000d_c140, 1, 0, 0, 0],
+        Some(End::Bad { at: 20, reason: 5 }),
+        &[0x0016_4147, 0, 2, 1, 0, 5, 0],
+    ),
+    (
+        &[0x0011_424f, 0, 9, 9, 9, 0],
+        Some(End::Bad { at: 20, reason: 5 }),
+        &[0x0016_4147, 0, 2, 1, 0, 5, 0],
+    ),
+    // The versions of DDP: 0, 2, 3, and with another fault behind it.
+    (
+        &[0x0012_4043, 0, 0, 1, 0, 0],
+        Some(End::Bad { at: 20, reason: 6 }),
+        &[0x0016_4147, 0, 2, 1, 0, 6, 0],
+    ),
+    (
+        &[0x0012_4243, 0, 0, 1, 0, 0],
+        Some(End::Bad { at: 20, reason: 6 }),
+        &[0x0016_4147, 0, 2, 1, 0, 6, 0],
+    ),
+    (
+        &[0x000e_c340, 2, 0, 0, 0],
+        Some(End::Bad { at: 20, reason: 6 }),
+        &[0x0016_4147, 0, 2, 1, 0, 6, 0],
+    ),
+    (
+        &[0x0012_400f, 0, 9, 9, 9, 0],
+        Some(End::Bad { at: 20, reason: 6 }),
+        &[0x0016_4147, 0, 2, 1, 0, 6, 0],
+    ),
+    // Those of RDMAP.
+    (
+        &[0x0012_4103, 0, 0, 1, 0, 0],
+        Some(End::Bad { at: 20, reason: 7 }),
+        &[0x0016_4147, 0, 2, 1, 0, 7, 0],
+    ),
+    (
+        &[0x0012_4183, 0, 0, 1, 0, 0],
+        Some(End::Bad { at: 20, reason: 7 }),
+        &[0x0016_4147, 0, 2, 1, 0, 7, 0],
+    ),
+    (
+        &[0x000e_c1c0, 2, 0, 0, 0],
+        Some(End::Bad { at: 20, reason: 7 }),
+        &[0x0016_4147, 0, 2, 1, 0, 7, 0],
+    ),
+    (
+        &[0x0012_410f, 0, 9, 9, 9, 0],
+        Some(End::Bad { at: 20, reason: 7 }),
+        &[0x0016_4147, 0, 2, 1, 0, 7, 0],
+    ),
+    // Opcodes: 4, 5, 6, 8 and 15.
+    (
+        &[0x0012_4144, 0, 0, 1, 0, 0],
+        Some(End::Bad { at: 20, reason: 8 }),
+        &[0x0016_4147, 0, 2, 1, 0, 8, 0],
+    ),
+    (
+        &[0x0012_4145, 0, 0, 1, 0, 0],
+        Some(End::Bad { at: 20, reason: 8 }),
+        &[0x0016_4147, 0, 2, 1, 0, 8, 0],
+    ),
+    (
+        &[0x0012_4146, 0, 0, 1, 0, 0],
+        Some(End::Bad { at: 20, reason: 8 }),
+        &[0x0016_4147, 0, 2, 1, 0, 8, 0],
+    ),
+    (
+        &[0x0012_4148, 0, 9, 9, 9, 0],
+        Some(End::Bad { at: 20, reason: 8 }),
+        &[0x0016_4147, 0, 2, 1, 0, 8, 0],
+    ),
+    (
+        &[0x000e_c14f, 2, 0, 0, 0],
+        Some(End::Bad { at: 20, reason: 8 }),
+        &[0x0016_4147, 0, 2, 1, 0, 8, 0],
+    ),
+    // A tagged Send, and an untagged Write and Read Response.
+    (
+        &[0x000e_c143, 2, 0, 0, 0],
+        Some(End::Bad { at: 20, reason: 9 }),
+        &[0x0016_4147, 0, 2, 1, 0, 9, 0],
+    ),
+    (
+        &[0x0012_4140, 0, 0, 1, 0, 0],
+        Some(End::Bad { at: 20, reason: 9 }),
+        &[0x0016_4147, 0, 2, 1, 0, 9, 0],
+    ),
+    (
+        &[0x0012_4142, 0, 9, 9, 9, 0],
+        Some(End::Bad { at: 20, reason: 9 }),
+        &[0x0016_4147, 0, 2, 1, 0, 9, 0],
+    ),
+    // Queues: a Send in 1 and 3, a Read Request in 0, a Terminate in 1.
+    (
+        &[0x0012_4143, 0, 1, 1, 0, 0],
+        Some(End::Bad { at: 20, reason: 10 }),
+        &[0x0016_4147, 0, 2, 1, 0, 10, 0],
+    ),
+    (
+        &[0x0012_4143, 0, 3, 9, 9, 0],
+        Some(End::Bad { at: 20, reason: 10 }),
+        &[0x0016_4147, 0, 2, 1, 0, 10, 0],
+    ),
+    (
+        &[0x0012_4141, 0, 0, 1, 0, 0],
+        Some(End::Bad { at: 20, reason: 10 }),
+        &[0x0016_4147, 0, 2, 1, 0, 10, 0],
+    ),
+    (
+        &[0x0016_4147, 0, 1, 1, 0, 5, 0],
+        Some(End::Bad { at: 20, reason: 10 }),
+        &[0x0016_4147, 0, 2, 1, 0, 10, 0],
+    ),
+    // Message numbers: 0 and 2 of the first, 2 of the second segment of the first, 1 of the second, and of each queue.
+    (
+        &[0x0012_4143, 0, 0, 0, 0, 0],
+        Some(End::Bad { at: 20, reason: 11 }),
+        &[0x0016_4147, 0, 2, 1, 0, 11, 0],
+    ),
+    (
+        &[0x0012_4143, 0, 0, 2, 9, 0],
+        Some(End::Bad { at: 20, reason: 11 }),
+        &[0x0016_4147, 0, 2, 1, 0, 11, 0],
+    ),
+    (
+        &[0x0016_0143, 0, 0, 1, 0, 7, 0, 0x0012_4143, 0, 0, 2, 4, 0],
+        Some(End::Bad { at: 48, reason: 11 }),
+        &[0x0016_4147, 0, 2, 1, 0, 11, 0],
+    ),
+    (
+        &[
+            0x0022_4143,
+            0,
+            0,
+            1,
+            0,
+            1,
+            1,
+            1,
+            1,
+            0,
+            0x0012_4143,
+            0,
+            0,
+            1,
+            0,
+            0,
+        ],
+        Some(End::Bad { at: 60, reason: 11 }),
+        &[0x0016_4147, 0, 2, 1, 0, 11, 0],
+    ),
+    (
+        &[0x002e_4141, 0, 1, 2, 0, 3, 0, 0, 4, 1, 0, 0, 0],
+        Some(End::Bad { at: 20, reason: 11 }),
+        &[0x0016_4147, 0, 2, 1, 0, 11, 0],
+    ),
+    (
+        &[0x0012_0147, 0, 2, 2, 0, 0],
+        Some(End::Bad { at: 20, reason: 11 }),
+        &[0x0016_4147, 0, 2, 1, 0, 11, 0],
+    ),
+    // Message offsets: 1 at the beginning, 0 and 8 behind four bytes, and of each queue.
+    (
+        &[0x0012_4143, 0, 0, 1, 1, 0],
+        Some(End::Bad { at: 20, reason: 12 }),
+        &[0x0016_4147, 0, 2, 1, 0, 12, 0],
+    ),
+    (
+        &[0x0016_0143, 0, 0, 1, 0, 7, 0, 0x0012_4143, 0, 0, 1, 0, 0],
+        Some(End::Bad { at: 48, reason: 12 }),
+        &[0x0016_4147, 0, 2, 1, 0, 12, 0],
+    ),
+    (
+        &[0x0016_0143, 0, 0, 1, 0, 7, 0, 0x0012_4143, 0, 0, 1, 8, 0],
+        Some(End::Bad { at: 48, reason: 12 }),
+        &[0x0016_4147, 0, 2, 1, 0, 12, 0],
+    ),
+    (
+        &[0x002e_4141, 0, 1, 1, 4, 3, 0, 0, 4, 1, 0, 0, 0],
+        Some(End::Bad { at: 20, reason: 12 }),
+        &[0x0016_4147, 0, 2, 1, 0, 12, 0],
+    ),
+    (
+        &[0x0012_0147, 0, 2, 1, 4, 0],
+        Some(End::Bad { at: 20, reason: 12 }),
+        &[0x0016_4147, 0, 2, 1, 0, 12, 0],
+    ),
+    // Two Sends take both receives. The third finds none, also where it is long, and one that is begun has its own.
+    (
+        &[
+            0x0022_4143,
+            0,
+            0,
+            1,
+            0,
+            1,
+            1,
+            1,
+            1,
+            0,
+            0x0022_4143,
+            0,
+            0,
+            2,
+            0,
+            1,
+            1,
+            1,
+            1,
+            0,
+            0x0022_4143,
+            0,
+            0,
+            3,
+            0,
+            1,
+            1,
+            1,
+            1,
+            0,
+        ],
+        Some(End::NoBuffer { msn: 3 }),
+        &[0x0016_4147, 0, 2, 1, 0, 104, 0],
+    ),
+    (
+        &[
+            0x0022_4143,
+            0,
+            0,
+            1,
+            0,
+            1,
+            1,
+            1,
+            1,
+            0,
+            0x0022_4143,
+            0,
+            0,
+            2,
+            0,
+            1,
+            1,
+            1,
+            1,
+            0,
+            0x0012_4143,
+            0,
+            0,
+            3,
+            0,
+            0,
+        ],
+        Some(End::NoBuffer { msn: 3 }),
+        &[0x0016_4147, 0, 2, 1, 0, 104, 0],
+    ),
+    (
+        &[
+            0x0022_4143,
+            0,
+            0,
+            1,
+            0,
+            1,
+            1,
+            1,
+            1,
+            0,
+            0x001e_0143,
+            0,
+            0,
+            2,
+            0,
+            1,
+            1,
+            1,
+            0,
+            0x0016_4143,
+            0,
+            0,
+            2,
+            12,
+            1,
+            0,
+        ],
+        None,
+        &[],
+    ),
+    (
+        &[
+            0x0022_4143,
+            0,
+            0,
+            1,
+            0,
+            1,
+            1,
+            1,
+            1,
+            0,
+            0x0022_4143,
+            0,
+            0,
+            2,
+            0,
+            1,
+            1,
+            1,
+            1,
+            0,
+            0x0012_4143,
+            0,
+            0,
+            4,
+            0,
+            0,
+        ],
+        Some(End::Bad {
+            at: 100,
+            reason: 11,
+        }),
+        &[0x0016_4147, 0, 2, 1, 0, 11, 0],
+    ),
+    // Read Requests: 27 and 32 bytes, not the last segment, and a sink's offset and size of 2^64 + 1, also without a region.
+    (
+        &[0x002d_4141, 0, 1, 1, 0, 3, 0, 0, 4, 1, 0, 0, 0],
+        Some(End::Bad { at: 20, reason: 13 }),
+        &[0x0016_4147, 0, 2, 1, 0, 13, 0],
+    ),
+    (
+        &[0x0032_4141, 0, 1, 1, 0, 3, 0, 0, 4, 1, 0, 0, 0, 0],
+        Some(End::Bad { at: 20, reason: 13 }),
+        &[0x0016_4147, 0, 2, 1, 0, 13, 0],
+    ),
+    (
+        &[0x002e_0141, 0, 1, 1, 0, 3, 0, 0, 4, 9, 0, 0, 0],
+        Some(End::Bad { at: 20, reason: 13 }),
+        &[0x0016_4147, 0, 2, 1, 0, 13, 0],
+    ),
+    (
+        &[
+            0x002e_4141,
+            0,
+            1,
+            1,
+            0,
+            3,
+            0xffff_ffff,
+            0xffff_fffd,
+            4,
+            1,
+            0,
+            0,
+            0,
+        ],
+        Some(End::Bad { at: 20, reason: 13 }),
+        &[0x0016_4147, 0, 2, 1, 0, 13, 0],
+    ),
+    (
+        &[
+            0x002e_4141,
+            0,
+            1,
+            1,
+            0,
+            3,
+            0xffff_ffff,
+            0xffff_fffd,
+            4,
+            9,
+            0,
+            0,
+            0,
+        ],
+        Some(End::Bad { at: 20, reason: 13 }),
+        &[0x0016_4147, 0, 2, 1, 0, 13, 0],
+    ),
+    // A sum of 2^64 is answered, and so is a request for no bytes at the region's end.
+    (
+        &[
+            0x002e_4141,
+            0,
+            1,
+            1,
+            0,
+            3,
+            0xffff_ffff,
+            0xffff_fffc,
+            4,
+            1,
+            0,
+            4,
+            0,
+        ],
+        None,
+        &[0x0012_c142, 3, 0xffff_ffff, 0xffff_fffc, 0x4f79_6f75, 0],
+    ),
+    (
+        &[0x002e_4141, 0, 1, 1, 0, 3, 0, 5, 0, 1, 0, 8, 0],
+        None,
+        &[0x000e_c142, 3, 0, 5, 0],
+    ),
+    // A Read Request past its region's end, of a region without the right, and without a region.
+    (
+        &[0x002e_4141, 0, 1, 1, 0, 3, 0, 0, 8, 1, 0, 1, 0],
+        Some(End::Denied {
+            stag: 1,
+            offset: 1,
+            why: Denied::Bounds,
+        }),
+        &[0x0016_4147, 0, 2, 1, 0, 102, 0],
+    ),
+    (
+        &[0x002e_4141, 0, 1, 1, 0, 3, 0, 0, 8, 2, 0, 0, 0],
+        Some(End::Denied {
+            stag: 2,
+            offset: 0,
+            why: Denied::Right,
+        }),
+        &[0x0016_4147, 0, 2, 1, 0, 103, 0],
+    ),
+    (
+        &[0x002e_4141, 0, 1, 1, 0, 3, 0, 0, 8, 5, 0, 0, 0],
+        Some(End::Denied {
+            stag: 5,
+            offset: 0,
+            why: Denied::NoStag,
+        }),
+        &[0x0016_4147, 0, 2, 1, 0, 101, 0],
+    ),
+    // Terminates: not the last segment, of three bytes, of four, and of more, with an MSN of its own queue.
+    (
+        &[0x0016_0147, 0, 2, 1, 0, 5, 0],
+        Some(End::Bad { at: 20, reason: 13 }),
+        &[0x0016_4147, 0, 2, 1, 0, 13, 0],
+    ),
+    (
+        &[0x0015_4147, 0, 2, 1, 0, 5, 0],
+        Some(End::Bad { at: 20, reason: 13 }),
+        &[0x0016_4147, 0, 2, 1, 0, 13, 0],
+    ),
+    (
+        &[0x0016_4147, 0, 2, 1, 0, 5, 0],
+        Some(End::Terminated { reason: 5 }),
+        &[],
+    ),
+    (
+        &[0x001a_4147, 0, 2, 1, 0, 104, 7, 0],
+        Some(End::Terminated { reason: 104 }),
+        &[],
+    ),
+    (
+        &[
+            0x0022_4143,
+            0,
+            0,
+            1,
+            0,
+            1,
+            1,
+            1,
+            1,
+            0,
+            0x0016_4147,
+            0,
+            2,
+            1,
+            0,
+            0xffff_ffff,
+            0,
+        ],
+        Some(End::Terminated {
+            reason: 0xffff_ffff,
+        }),
+        &[],
+    ),
+    // A Read Response without a Read Request, and one whose region is not for it.
+    (
+        &[0x0012_c142, 3, 0, 0, 7, 0],
+        Some(End::Bad { at: 20, reason: 14 }),
+        &[0x0016_4147, 0, 2, 1, 0, 14, 0],
+    ),
+    (
+        &[0x0012_c142, 2, 0, 0, 7, 0],
+        Some(End::Denied {
+            stag: 2,
+            offset: 0,
+            why: Denied::Right,
+        }),
+        &[0x0016_4147, 0, 2, 1, 0, 103, 0],
+    ),
+    // Sends of 15 bytes, of none, of 16, and of 15 in two segments.
+    (
+        &[0x0021_4143, 0, 0, 1, 0, 1, 1, 1, 1, 0],
+        Some(End::Bad { at: 20, reason: 16 }),
+        &[0x0016_4147, 0, 2, 1, 0, 16, 0],
+    ),
+    (
+        &[0x0012_4143, 0, 0, 1, 0, 0],
+        Some(End::Bad { at: 20, reason: 16 }),
+        &[0x0016_4147, 0, 2, 1, 0, 16, 0],
+    ),
+    (&[0x0022_4143, 0, 0, 1, 0, 1, 1, 1, 1, 0], None, &[]),
+    (
+        &[
+            0x001e_0143,
+            0,
+            0,
+            1,
+            0,
+            1,
+            1,
+            1,
+            0,
+            0x0015_4143,
+            0,
+            0,
+            1,
+            12,
+            1,
+            0,
+        ],
+        Some(End::Bad { at: 56, reason: 16 }),
+        &[0x0016_4147, 0, 2, 1, 0, 16, 0],
+    ),
+];
+
+/// An endpoint with the four regions that was fed the peer's hello and these words, in pieces of this length.
+fn fed(
+    rt: &impl Abort,
+    alloc: Global,
+    row: usize,
+    side: Side,
+    words: &[u32],
+    piece: usize,
+) -> TestEndpoint {
+    let mut endpoint = TestEndpoint::open(rt, alloc, side);
+    four_regions(rt, alloc, &mut endpoint);
+    let runs = (peer_hello(side), words);
+    feed_runs(rt, alloc, row, &mut endpoint, runs, piece);
+    endpoint
+}
+
+/// Ends the test where a row, fed in pieces of this length, comes to something else.
+fn frame_row(rt: &impl Abort, alloc: Global, row: usize, side: Side, cells: Row, piece: usize) {
+    let (words, end, written) = cells;
+    let mut endpoint = fed(rt, alloc, row, side, words, piece);
+    outcome(rt, alloc, row, &mut endpoint, end, own_hello(side), written);
+    drop(endpoint);
+}
+
+fn frame_rows(rt: &impl Abort, alloc: Global, side: Side) {
+    for (row, cells) in FRAMES.iter().enumerate() {
+        frame_row(rt, alloc, row, side, *cells, 1000);
+        frame_row(rt, alloc, row, side, *cells, 1);
+    }
+}
+
+#[test]
+fn frames(rt: HostRuntime) {
+    frame_rows(&rt, rt.alloc(), Side::Initiator);
+    frame_rows(&rt, rt.alloc(), Side::Responder);
+}
