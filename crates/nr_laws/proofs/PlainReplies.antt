@@ -4,13 +4,14 @@ use Rattle.nr_reduce.specs.declared.call.Outcome.TheVariants as outcomes
 use Rattle.nr_reduce.specs.declared.mark.Mark.{Mark}
 use Rattle.nr_reduce.specs.declared.mark.Mark.TheVariants as marks
 use Rattle.nr_reduce.specs.ClientState.{call_payload}
-use Rattle.nr_reduce.specs.Journal.{AtPlaceMark}
+use Rattle.nr_reduce.specs.Journal.{PlainMark}
+use Rattle.nr_reduce.proofs.Placing.{at_place}
 use Rattle.nr_laws.specs.PlainReplies.{server_with, RepliesArePlain}
 use Rattle.nr_laws.proofs.OnceByXid.{at-mark}
 use Rattle.nr_laws.proofs.ConveyedReplies.{inline_calls_are_replied}
 
 pub replies_are_plain : RepliesArePlain
-replies_are_plain reply_to adds J opened link run before xid plan reply numbers typed far placed has words none at =
+replies_are_plain reply_to adds J opened link run before xid plan reply numbers typed far journaled plainly has words none at =
     let own = inline_calls_are_replied opened link run before xid plan reply numbers typed far has words none at in
     let done : Mark = marks.Done link xid (outcomes.Reply reply) in
     let execute : Mark = marks.Execute link xid own.moment (call_payload xid has.call) own.place reply in
@@ -21,5 +22,6 @@ replies_are_plain reply_to adds J opened link run before xid plan reply numbers 
       place = own.place;
       before = own.before;
       at = own.at;
-      plainly = at-mark (AtPlaceMark (server_with reply_to adds) J) run own.before execute (own.at.after ++ done ∷ at.after) whole placed;
+      plainly = at_place (server_with reply_to adds) J run own.before (own.at.after ++ done ∷ at.after) link xid own.moment (call_payload xid has.call) own.place reply whole journaled
+          (at-mark (PlainMark (server_with reply_to adds)) run own.before execute (own.at.after ++ done ∷ at.after) whole plainly);
     }

@@ -85,7 +85,7 @@ pub record HasOwnReply (link : ℕ) (run : List Mark) (xid : ℕ) (call : Call) 
   pub before : List Mark
   pub at : MarkAt run before (marks.Execute link xid moment (call_payload xid call) place reply)
 
--- So is that of any call that offers no read chunk, whatever it offers for its reply; and its Execute is of the call's own payload.
+-- So is that of any call whose plan has no read position, so that its whole payload is in its message, whatever it offers for its reply; and its Execute is of the call's own payload.
 abbrev pub InlineCallsAreReplied : Type 0
 InlineCallsAreReplied = (opened : LinkParameters) (link : ℕ) (run before : List Mark) (xid : ℕ) (plan : Plan) (reply : List ℕ) →
     IsOpened opened → IsTyped run → MatchedSoFar opened link run → (has : HasPlan opened link run xid plan) → HasWords has.call → plan.read_at ≡ None →

@@ -34,7 +34,8 @@ pub record HasSubmit (opened : LinkParameters) (link : ℕ) (run : List Mark) (x
   pub planned : plan_for (client opened link before).state xid call form ≡ Ok plan
   pub conveyed : plan.read ≡ [] → form_conveyed form (call_payload xid call) ≡ Some payload
 
--- On a matched link a call that is executed was accepted before that, and is executed with its own payload, as its form conveys it.
+-- On a matched link a call that is executed was accepted before that, and where its plan has no read chunk, is executed with its own
+-- payload, as its form conveys it.
 abbrev pub PayloadsAreSubmitted : Type 0
 PayloadsAreSubmitted = (opened : LinkParameters) (link : ℕ) (run before : List Mark) (xid : ℕ) (moment : Moment) (payload : List ℕ) (place : ℕ) (reply : List ℕ) →
     IsTyped run → MatchedSoFar opened link run → MarkAt run before (marks.Execute link xid moment payload place reply) → HasSubmit opened link before xid payload

@@ -10,7 +10,7 @@ use Rattle.nr_reduce.specs.declared.mark.LinkParameters.{LinkParameters}
 use Rattle.nr_reduce.specs.declared.outline.Plan.{Plan}
 use Rattle.nr_reduce.specs.ClientState.{call_payload}
 use Rattle.nr_reduce.specs.PlainJournal.{PlainServer}
-use Rattle.nr_reduce.specs.Journal.{AtPlace, AtPlaces}
+use Rattle.nr_reduce.specs.Journal.{AtPlace, Journaled, Plainly}
 use Rattle.nr_reduce.specs.Opening.{IsOpened}
 use Rattle.nr_laws.specs.MarkAt.{MarkAt}
 use Rattle.nr_laws.specs.MatchedSoFar.{MatchedSoFar}
@@ -30,11 +30,11 @@ pub record HasPlainReply (plain : PlainServer) (J : List Entry) (link : ℕ) (ru
   pub at : MarkAt run before (marks.Execute link xid moment (call_payload xid call) place reply)
   pub plainly : AtPlace plain J moment (call_payload xid call) place reply
 
--- On a matched link of a run whose calls have their places in a journal, so it is of each reply that is handed over of a call without a read
--- chunk.
+-- On a matched link of a run whose calls are answered as the plain server answers, each over the journal of its moment, so it is of each reply
+-- that is handed over of a call whose plan has no read position: its whole payload is in its message.
 abbrev pub RepliesArePlain : Type 0
 RepliesArePlain = (reply_to : List Entry → Moment → List ℕ → Option (List ℕ)) (adds : Moment → List ℕ → List ℕ → List Entry) (J : List Entry)
     (opened : LinkParameters) (link : ℕ) (run before : List Mark) (xid : ℕ) (plan : Plan) (reply : List ℕ) →
-    IsOpened opened → IsTyped run → MatchedSoFar opened link run → AtPlaces (server_with reply_to adds) J run →
+    IsOpened opened → IsTyped run → MatchedSoFar opened link run → Journaled (server_with reply_to adds) J run → Plainly (server_with reply_to adds) run →
     (has : HasPlan opened link run xid plan) → HasWords has.call → plan.read_at ≡ None →
     MarkAt run before (marks.Done link xid (outcomes.Reply reply)) → HasPlainReply (server_with reply_to adds) J link before xid has.call reply

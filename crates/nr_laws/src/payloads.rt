@@ -3,8 +3,8 @@
 ghost use Rattle.nr_laws.specs.Payloads.{PayloadsAreSubmitted, PayloadsAreOwn};
 
 /// On a matched link a call that is executed was accepted before that. Where its plan has no read chunk (RFC 8166 section 3.4.5), its
-/// payload is exactly what its form conveys of the call's own: in the forms Auto, Inline, Chunk and Long, and for an offer that is
-/// given without a read list, all of it. So it is of each call that was accepted under its xid.
+/// payload is exactly what its form conveys of the call's own: all of it, in the form Inline, in Auto and Chunk where nothing is reduced,
+/// and for an offer that is given without a read list. So it is of each call that was accepted under its xid.
 pub fn executed_payloads()
     ensures submitted { PayloadsAreSubmitted }
     ensures own { PayloadsAreOwn }
