@@ -3,7 +3,8 @@
 use crate::compare::same;
 use crate::endpoint::TestEndpoint;
 use crate::given::{
-    SIDES, bytes_of, feed_words, greeted, joined, outcome, own_hello, peer_hello, read_done, writes,
+    SIDES, bytes_of, feed_runs, feed_words, greeted, joined, outcome, own_hello, peer_hello,
+    read_done, writes,
 };
 use nr_endpoint::{DrainFault, ReadRefused};
 use nr_link::End;
@@ -107,8 +108,8 @@ fn ninth_answered(rt: &impl Abort, alloc: Global, side: Side) {
     drop(endpoint);
 }
 
-/// Until then a ninth ends the side, at byte 20 + 8 * 52.
-fn ninth_ends(rt: &impl Abort, alloc: Global, side: Side) {
+/// Until then a ninth ends the side, at byte 20 + 8 * 52, fed in pieces of this length.
+fn ninth_ends(rt: &impl Abort, alloc: Global, side: Side, piece: usize) {
     let mut endpoint = greeted(rt, alloc, side);
     let words = eight_owed(rt, alloc, &mut endpoint);
     let end = End::Bad {
@@ -116,7 +117,7 @@ fn ninth_ends(rt: &impl Abort, alloc: Global, side: Side) {
         reason: 15,
     };
     let ninth = [0x002e_4141, 0, 1, 9, 0, 7, 0, 0, 4, 1, 0, 0, 0];
-    feed_words(rt, alloc, 4, &mut endpoint, &ninth, Some(end));
+    feed_runs(rt, alloc, 4, &mut endpoint, (&ninth, &[]), piece);
     outcome(
         rt,
         alloc,
@@ -134,16 +135,17 @@ fn eight(rt: HostRuntime) {
     for side in &SIDES {
         eight_reads(&rt, rt.alloc(), *side);
         ninth_answered(&rt, rt.alloc(), *side);
-        ninth_ends(&rt, rt.alloc(), *side);
+        ninth_ends(&rt, rt.alloc(), *side, 52);
+        ninth_ends(&rt, rt.alloc(), *side, 1);
     }
 }
 
-/// Ends the test where the responses of a Read Request of five bytes into region 1 from byte 2 on come to something else.
+/// The words that a side is fed behind the hello, and its end.
 type Row = (&'static [u32], Option<End>);
 
-/// The words that a side is fed behind the hello, and its end. It asked for five bytes, to byte 2 of its region 1 of eight.
+/// What comes of responses to a Read Request of five bytes, to byte 2 of region 1 of eight.
 static RESPONSES: [Row; 11] = [
-    // Whole; in two segments; in three, the last of them without bytes.
+    // Whole; in two segments; in two, the first of them without bytes.
     (&[0x0013_c142, 1, 0, 2, 0x4845_4c4c, 0x4f00_0000, 0], None),
     (
         &[

@@ -9,8 +9,9 @@ use nr_wire::Side;
 use std::alloc::Global;
 use std::process::Abort;
 
-/// A message of a first Send, and the words of its FPDU: a NULL call, its reply, and ERR_CHUNK (RFC 8166 section 4.1).
-static SENDS: [(&[u32], &[u32]); 3] = [
+/// A message of a first Send, and the words of its FPDU: a NULL call, its reply, ERR_CHUNK, and the header of a reply with a write chunk
+/// of one segment (RFC 8166 section 4.1).
+static SENDS: [(&[u32], &[u32]); 4] = [
     (
         &[1, 1, 16, 0, 0, 0, 0, 1, 0, 2, 0x0001_86a3, 3, 0, 0, 0, 0, 0],
         &[
@@ -66,6 +67,30 @@ static SENDS: [(&[u32], &[u32]); 3] = [
     (
         &[1, 1, 16, 4, 2],
         &[0x0026_4143, 0, 0, 1, 0, 1, 1, 16, 4, 2, 0],
+    ),
+    (
+        &[1, 1, 16, 0, 0, 1, 1, 1, 5, 0, 0, 0, 0],
+        &[
+            0x0046_4143,
+            0,
+            0,
+            1,
+            0,
+            1,
+            1,
+            16,
+            0,
+            0,
+            1,
+            1,
+            1,
+            5,
+            0,
+            0,
+            0,
+            0,
+            0,
+        ],
     ),
 ];
 
@@ -169,6 +194,36 @@ fn write_fed(rt: &impl Abort, alloc: Global, side: Side) {
     drop(endpoint);
 }
 
+/// The words of a Write and of a Send of four words behind it.
+static WRITE_AND_SEND: [u32; 17] = [
+    0x0013_c140,
+    1,
+    0,
+    0,
+    0x6865_6c6c,
+    0x6f00_0000,
+    0,
+    0x0022_4143,
+    0,
+    0,
+    1,
+    0,
+    3,
+    1,
+    16,
+    0,
+    0,
+];
+
+/// Feeds the Write and the Send in pieces of this length: as the message is told, the Write was placed.
+fn write_before_message(rt: &impl Abort, alloc: Global, side: Side, piece: usize) {
+    let mut endpoint = with_region(rt, alloc, side, b"12345", Right::Fill);
+    feed_runs(rt, alloc, 5, &mut endpoint, (&WRITE_AND_SEND, &[]), piece);
+    receives(rt, alloc, 6, &mut endpoint, &[3, 1, 16, 0]);
+    releases(rt, &mut endpoint, b"hello");
+    drop(endpoint);
+}
+
 fn write_sent(rt: &impl Abort, alloc: Global, side: Side) {
     let mut endpoint = greeted(rt, alloc, side);
     same(rt, 0, endpoint.write_remote(rt, 1, 0, b"hello"), Ok(()));
@@ -202,6 +257,8 @@ fn read_answered(rt: &impl Abort, alloc: Global, side: Side) {
 fn writes_and_reads(rt: HostRuntime) {
     for side in &SIDES {
         write_fed(&rt, rt.alloc(), *side);
+        write_before_message(&rt, rt.alloc(), *side, 68);
+        write_before_message(&rt, rt.alloc(), *side, 1);
         write_sent(&rt, rt.alloc(), *side);
         read_asked(&rt, rt.alloc(), *side);
         read_answered(&rt, rt.alloc(), *side);
