@@ -106,3 +106,5 @@ pub mod ServerReadsOfRuns
 pub mod ServerMemory
 pub mod FetchedRegions
 pub mod ClientResponses
+pub mod SplitResponses
+pub mod FilledSinks
