@@ -1,5 +1,6 @@
 -- Read Responses to all reads of a call fill its sink with the bytes of the region that was read.
-use Rattle.std.proofs.Common.{◌≡◌, ◌≢◌, ℕ, zero, suc, ◌+◌, ◌≤◌, ◌<◌, ◌^◌, Bool, true, false, cond, eqb, List, [], ◌∷◌, ◌++◌, length, take, drop, map, Option, Some, refl, sym, ap, subst, ◌∙◌, arith, append-nil, append_assoc, length-append, eqb-true}
+use Rattle.std.proofs.Common.{◌≡◌, ◌≢◌, ℕ, zero, suc, ◌+◌, ◌≤◌, ◌<◌, ◌^◌, Bool, true, false, cond, eqb, List, [], ◌∷◌, ◌++◌, length, take, drop, map, Option, Some, refl, sym, ap, subst, ◌∙◌, arith, append-nil, append_assoc, length-append, eqb-true, eq-eqb}
+use Rattle.std.specs.List.{find}
 use Rattle.std.proofs.Math.Seq.{take-add}
 use Rattle.std.proofs.lemmas.List.{take_all, take_at, length-take, length-drop}
 use Rattle.nr_xdr.specs.Item.{word, hyper, word_of}
@@ -68,9 +69,9 @@ none-own number position sink handle at (n ∷ ns) e = by (eqb n 0) refl e (λ f
 
 -- ---- One response
 
-record IsFilled (at : ℕ) (region old : List ℕ) : Type 0 where
-  size : length old ≡ length region
-  front : take at old ≡ take at region
+pub record IsFilled (at : ℕ) (region old : List ℕ) : Type 0 where
+  pub size : length old ≡ length region
+  pub front : take at old ≡ take at region
 
 filled-more : (at n : ℕ) (region old : List ℕ) → at + n ≤ length region → IsFilled at region old → IsFilled (at + n) region (bytes_after_write old at (take n (drop at region)))
 filled-more at n region old room h =
@@ -90,18 +91,61 @@ sink-word r fits = ap word_of (part_at 0 4 [] (word r.sink) (hyper r.at ++ (word
 
 -- ---- All of them
 
-record Sink : Type 0 where
-  number : ℕ
-  position : ℕ
-  sink : ℕ
-  handle : ℕ
-  region : List ℕ
-  sink_fits : sink < 2 ^ 32
-  handle_fits : handle < 2 ^ 32
-  region_fits : length region < 2 ^ 32
+pub record SinkOf : Type 0 where
+  pub number : ℕ
+  pub position : ℕ
+  pub sink : ℕ
+  pub handle : ℕ
+  pub region : List ℕ
+  pub sink_fits : sink < 2 ^ 32
+  pub handle_fits : handle < 2 ^ 32
+  pub region_fits : length region < 2 ^ 32
 
 head-request : (a : Answered) (others : List Answered) (p : List ℕ) (ps : List (List ℕ)) → a.request ∷ requests_of others ≡ p ∷ ps → (a.request ≡ p) × (requests_of others ≡ ps)
 head-request a others p ps e = (first (a.request) p (requests_of others) ps e, ap (λ (zs : List (List ℕ)). drop 1 zs) e)
   where
     first : (x y : List ℕ) (xs ys : List (List ℕ)) → x ∷ xs ≡ y ∷ ys → x ≡ y
     first x y xs ys e = cc
+
+pub filled : (z : SinkOf) (regions : List Region) → ((f : IsFetched regions z.handle) → f.region.bytes ≡ z.region) → (done : List PendingRead) (others : List Answered) (at : ℕ) (ns old : List ℕ) → requests_of others ≡ map request_payload done
+    → EachData regions others → into z.sink done ≡ own_reads z.number z.position z.sink z.handle at ns → SinksBelow 4294967296 done → at + added_up ns ≡ length z.region → IsFilled at z.region old → bytes_after_segments z.sink old (responses_of others) ≡ z.region
+filled z regions holds [] [] at ns old e d own below sum fill =
+    let none = none-own z.number z.position z.sink z.handle at ns (sym own) in
+    let s = fill.size in
+    sym (take_all at old (omega (arith, none, sum, s))) ∙ fill.front ∙ take_all at z.region (omega (arith, none, sum))
+filled z regions holds [] (a ∷ others) at ns old e d own below sum fill = absurd cc
+filled z regions holds (r ∷ done) [] at ns old e d own below sum fill = absurd cc
+filled z regions holds (r ∷ done) (a ∷ others) at ns old e d own below sum fill =
+    let q = head-request a others (request_payload r) (map request_payload done) e in
+    laid-append z.sink old (response_of a) (responses_of others)
+    ∙ by (eqb r.sink z.sink) refl own q.0 (λ at ns old o s f. filled z regions holds done others at ns old q.1 d.1 o below.2 s f)
+  where
+    Next : Type 0
+    Next = (at : ℕ) (ns old : List ℕ) → into z.sink done ≡ own_reads z.number z.position z.sink z.handle at ns → at + added_up ns ≡ length z.region → IsFilled at z.region old → bytes_after_segments z.sink old (responses_of others) ≡ z.region
+
+    by : (b : Bool) → eqb r.sink z.sink ≡ b → cond b (r ∷ into z.sink done) (into z.sink done) ≡ own_reads z.number z.position z.sink z.handle at ns → a.request ≡ request_payload r → Next
+        → bytes_after_segments z.sink (bytes_after_segments z.sink old (response_of a)) (responses_of others) ≡ z.region
+    by false is own req next =
+        let ne : (read_request_in a.request).sink ≢ z.sink = λ f. (let w : r.sink ≡ z.sink = sym (ap (λ (p : List ℕ). (read_request_in p).sink) req ∙ sink-word r below.1) ∙ f in let t : true ≡ false = sym (eq-eqb r.sink z.sink w) ∙ is in absurd cc) in
+        ap (λ (bytes : List ℕ). bytes_after_segments z.sink bytes (responses_of others)) (laid-other z.sink (read_request_in a.request).sink (read_request_in a.request).sink_to a.bytes old ne)
+        ∙ next at ns old own sum fill
+    by true is own req next =
+        let w = first-own z.number z.position z.sink z.handle at ns r (into z.sink done) (sym own) in
+        let s = w.sum in
+        let fits = z.region_fits in
+        let room : at + w.n ≤ length z.region = omega (arith, s, sum) in
+        let fields : read_request_in a.request ≡ record { sink = z.sink; sink_to = at; size = w.n; stag = z.handle; to = at } =
+        ap read_request_in req ∙ ap (λ (x : PendingRead). read_request_in (request_payload x)) w.is
+        ∙ request-again z.sink at w.n z.handle at z.sink_fits (omega (arith, room, fits)) (omega (arith, room, fits)) z.handle_fits (omega (arith, room, fits)) in
+        let f = d.0.fetched in
+        let stag : (read_request_in a.request).stag ≡ z.handle = ap (λ (x : ReadRequest). x.stag) fields in
+        let held : f.region.bytes ≡ z.region =
+        holds (record { region = f.region; there = ap (λ (n : ℕ). find (λ (x : Region). eqb x.stag n) regions) (sym stag) ∙ f.there; own = f.own ∙ stag; right = f.right }) in
+        let bytes : a.bytes ≡ take w.n (drop at z.region) = d.0.holds ∙ (λ i. take (fields i).size (drop (fields i).to (held i))) in
+        let len : length (take w.n (drop at z.region)) ≤ w.n = (let x = length-take w.n (drop at z.region) in omega (arith, x)) in
+        let size = fill.size in
+        let laid : bytes_after_segments z.sink old (response_of a) ≡ bytes_after_write old at (take w.n (drop at z.region)) =
+        (λ i. bytes_after_segments z.sink old (response_segments (fields i).sink (fields i).sink_to (bytes i)))
+        ∙ laid-own z.sink at (take w.n (drop at z.region)) old (omega (arith, len, size, room)) in
+        ap (λ (xs : List ℕ). bytes_after_segments z.sink xs (responses_of others)) laid
+        ∙ next (at + w.n) w.left (bytes_after_write old at (take w.n (drop at z.region))) w.rest (omega (arith, s, sum)) (filled-more at w.n z.region old room fill)
