@@ -108,3 +108,5 @@ pub mod FetchedRegions
 pub mod ClientResponses
 pub mod SplitResponses
 pub mod FilledSinks
+pub mod AcceptedRegions
+pub mod FewRegions
