@@ -1,5 +1,5 @@
 -- The regions of an accepted call stand in the client's state from its Submit on.
-use Rattle.std.proofs.Common.{◌≡◌, ℕ, ◌+◌, Bool, true, ◌&&◌, eqb, List, [], ◌∷◌, ◌++◌, length, Result, Ok, refl, sym, ap, subst, ◌∙◌, append_assoc, eq-eqb}
+use Rattle.std.proofs.Common.{◌≡◌, ℕ, ◌+◌, Bool, true, ◌&&◌, List, [], ◌∷◌, ◌++◌, length, Result, refl, sym, ap, subst, ◌∙◌, append_assoc, eq-eqb}
 use Rattle.nr_wire.specs.declared.hello.Side.TheVariants.{Initiator}
 use Rattle.nr_reduce.specs.declared.call.Call.{Call}
 use Rattle.nr_reduce.specs.declared.call.Form.{Form}
@@ -11,7 +11,6 @@ use Rattle.nr_reduce.specs.declared.outline.Plan.{Plan}
 use Rattle.nr_reduce.specs.History.{AcceptedCall, bytes_received}
 use Rattle.nr_reduce.specs.Events.{Event, events, if_own}
 use Rattle.nr_reduce.specs.Events.Event.{CallSubmitted}
-use Rattle.nr_reduce.specs.OfferedRegions.{Region}
 use Rattle.nr_reduce.specs.Plans.{TooLarge, buffers, regions_needed}
 use Rattle.nr_reduce.specs.ClientState.{ClientState, OutstandingCall, call_payload, plan_for}
 use Rattle.nr_reduce.specs.Client.{client_rules, initial_client, outstanding_of, plan_or}

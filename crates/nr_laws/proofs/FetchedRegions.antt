@@ -1,15 +1,14 @@
 -- A region that a peer may read holds what it was registered with, whatever the peer writes.
-use Rattle.std.proofs.Common.{◌≡◌, ℕ, ◌+◌, ◌≤◌, ◌<◌, Bool, true, false, cond, ◌&&◌, eqb, ltb, leb, List, [], ◌∷◌, length, map, Option, None, Some, refl, sym, ap, subst, ◌∙◌, eqb-true}
+use Rattle.std.proofs.Common.{◌≡◌, ℕ, ◌+◌, Bool, true, false, cond, ◌&&◌, eqb, ltb, leb, List, [], ◌∷◌, length, map, Option, None, Some, refl, sym, ap, ◌∙◌, eqb-true}
 use Rattle.std.specs.Prelude.{is_none}
 use Rattle.std.specs.List.{find}
 use Rattle.nr_regions.specs.declared.right.Right.{Right}
 use Rattle.nr_regions.specs.declared.right.Right.TheVariants.{Fetch, Fill, Sink}
-use Rattle.nr_regions.specs.declared.denied.Denied.{Denied}
 use Rattle.nr_regions.specs.declared.denied.Denied.TheVariants.{NoStag, Bounds, Right as WrongRight}
 use Rattle.nr_regions.specs.declared.right.Kind.{Kind}
 use Rattle.nr_regions.specs.declared.right.Kind.TheVariants.{Write, Response}
 use Rattle.nr_regions.specs.RegisteredMemory.{Access, right_for, denial_in, same_right, bytes_after_write}
-use Rattle.nr_regions.specs.Access.{Grant, TaggedSegment, access_of, applies, grant_at, grant_offer, grant_denial, HaveOwnStags, after_segment, contents}
+use Rattle.nr_regions.specs.Access.{Grant, TaggedSegment, access_of, applies, grant_at, grant_offer, grant_denial, HaveOwnStags, contents}
 use Rattle.nr_reduce.specs.OfferedRegions.{Region, region_grant, region_grants, region_bytes, region_bytes_by}
 use Rattle.nr_laws.proofs.RequestFields.{none-applies}
 

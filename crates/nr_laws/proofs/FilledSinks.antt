@@ -1,11 +1,10 @@
 -- Read Responses to all reads of a call fill its sink with the bytes of the region that was read.
-use Rattle.std.proofs.Common.{◌≡◌, ◌≢◌, ℕ, zero, suc, ◌+◌, ◌≤◌, ◌<◌, ◌^◌, Bool, true, false, cond, eqb, List, [], ◌∷◌, ◌++◌, length, take, drop, map, Option, Some, refl, sym, ap, subst, ◌∙◌, arith, append-nil, append_assoc, length-append, eqb-true, eq-eqb}
+use Rattle.std.proofs.Common.{◌≡◌, ◌≢◌, ℕ, ◌+◌, ◌≤◌, ◌<◌, ◌^◌, Bool, true, false, cond, eqb, List, [], ◌∷◌, ◌++◌, length, take, drop, map, refl, sym, ap, ◌∙◌, arith, append_assoc, length-append, eqb-true, eq-eqb}
 use Rattle.std.specs.List.{find}
 use Rattle.std.proofs.Math.Seq.{take-add}
 use Rattle.std.proofs.lemmas.List.{take_all, take_at, length-take, length-drop}
 use Rattle.nr_xdr.specs.Item.{word, hyper, word_of}
 use Rattle.nr_xdr.proofs.WordBytes.{length-word, word_of-word}
-use Rattle.nr_wire.specs.Segment.{Segment}
 use Rattle.nr_link.specs.ReceiveState.{ReadRequest, read_request_in}
 use Rattle.nr_regions.specs.RegisteredMemory.{bytes_after_write}
 use Rattle.nr_reduce.specs.OfferedRegions.{Region}
@@ -14,9 +13,9 @@ use Rattle.nr_reduce.specs.Undone.{bytes_after_segments}
 use Rattle.nr_reduce.proofs.Laid.{added_up, laid-append}
 use Rattle.nr_laws.proofs.Outputs.{request_payload, response_segments}
 use Rattle.nr_laws.proofs.RequestFields.{request-again, part_at}
-use Rattle.nr_laws.proofs.SinkReads.{own_reads, one_read, into, SinksBelow}
+use Rattle.nr_laws.proofs.SinkReads.{own_reads, into, SinksBelow}
 use Rattle.nr_laws.proofs.FetchedRegions.{IsFetched}
-use Rattle.nr_laws.proofs.ClientResponses.{Answered, IsData, EachData, response_of, responses_of, requests_of}
+use Rattle.nr_laws.proofs.ClientResponses.{Answered, EachData, response_of, responses_of, requests_of}
 use Rattle.nr_laws.proofs.SplitResponses.{laid-own, laid-other}
 
 -- ---- The first read of a call

@@ -110,3 +110,4 @@ pub mod SplitResponses
 pub mod FilledSinks
 pub mod AcceptedRegions
 pub mod FewRegions
+pub mod CameResponses

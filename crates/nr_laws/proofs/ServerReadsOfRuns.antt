@@ -1,6 +1,6 @@
 -- On a matched link each call that the server receives has reads of one position, so its reads are kept along a run; and what its
 -- memory holds is laid by the tagged segments that came.
-use Rattle.std.proofs.Common.{◌≡◌, ℕ, ◌+◌, ◌^◌, ◌≤◌, ◌<◌, Bool, true, false, cond, ◌||◌, not, eqb, ltb, List, [], ◌∷◌, ◌++◌, length, drop, Option, None, Some, Result, Ok, Err, refl, sym, ap, subst, ◌∙◌, arith, append_assoc, append-nil, inl, inr, ◌⊎◌}
+use Rattle.std.proofs.Common.{◌≡◌, ℕ, ◌+◌, Bool, true, false, cond, ◌||◌, not, eqb, ltb, List, [], ◌∷◌, ◌++◌, length, drop, Option, None, Some, Result, Ok, Err, refl, sym, ap, subst, ◌∙◌, append_assoc, inl, inr}
 use Rattle.nr_xdr.specs.Fields.{word_at}
 use Rattle.nr_header.specs.declared.fault.HeaderFault.{HeaderFault}
 use Rattle.nr_header.specs.declared.header.ChunkLists.{ChunkLists}
@@ -9,18 +9,16 @@ use Rattle.nr_header.specs.declared.header.Body.TheVariants.{Msg, Nomsg, ErrVers
 use Rattle.nr_header.specs.declared.header.Header.{Header}
 use Rattle.nr_header.specs.Reading.{header_of}
 use Rattle.nr_wire.specs.declared.hello.Side.TheVariants.{Responder}
-use Rattle.nr_wire.specs.Segment.{Segment}
 use Rattle.nr_link.specs.declared.end.End.{End as Stop}
 use Rattle.nr_link.specs.Frames.{Frame, is_hello}
 use Rattle.nr_link.specs.Ending.{frame_segment}
-use Rattle.nr_link.specs.ReceiveState.{message_completed}
 use Rattle.nr_reduce.specs.declared.call.Submission.TheVariants as submissions
 use Rattle.nr_reduce.specs.declared.mark.Mark.{Mark}
 use Rattle.nr_reduce.specs.declared.mark.Mark.TheVariants as marks
 use Rattle.nr_reduce.specs.declared.mark.LinkParameters.{LinkParameters}
 use Rattle.nr_reduce.specs.declared.outline.Plan.{Plan}
 use Rattle.nr_reduce.specs.Limits.{send_max}
-use Rattle.nr_reduce.specs.Plans.{entries_from, read_list, read_stag, lists_of}
+use Rattle.nr_reduce.specs.Plans.{read_list, read_stag, lists_of}
 use Rattle.nr_reduce.specs.Chunks.{is_read_chunk_of_item}
 use Rattle.nr_reduce.specs.ClientState.{call_payload}
 use Rattle.nr_reduce.specs.Events.{Event, events}
@@ -31,17 +29,17 @@ use Rattle.nr_reduce.specs.Asked.{AskedSoFar}
 use Rattle.nr_reduce.specs.Served.{ServedSoFar}
 use Rattle.nr_reduce.specs.ServerState.{ServerState, PendingCall, next_stag, is_pending}
 use Rattle.nr_reduce.specs.ServerReads.{chunks_of}
-use Rattle.nr_reduce.specs.ServerMessages.{Verdict, verdict, by_header, by_body, by_stream, by_need, has_position, no_stream}
+use Rattle.nr_reduce.specs.ServerMessages.{verdict, by_header, by_body, by_stream, by_need, has_position, no_stream}
 use Rattle.nr_reduce.specs.ServerMessages.Verdict.{EndsLink, OtherVersion, BadChunks, MakesPending}
 use Rattle.nr_reduce.specs.ServerFrames.{frame_effect}
 use Rattle.nr_reduce.specs.Server.{server_rules, server_end, server_state_after, initial_server, with_effect}
-use Rattle.nr_reduce.specs.Run.{client, server}
+use Rattle.nr_reduce.specs.Run.{client}
 use Rattle.nr_reduce.specs.RunLaws.{server_by}
 use Rattle.nr_reduce.specs.Undone.{lists_by}
 use Rattle.nr_reduce.proofs.OwnStags.{AreNumbered, server-numbers}
 use Rattle.nr_reduce.proofs.Steps.{end_state_after-append}
 use Rattle.nr_laws.specs.Typed.{TypedMark, IsTyped}
-use Rattle.nr_laws.proofs.Along.{GoesOn, along, outputs_by, outputs_in, outputs_for, place_after, places_after}
+use Rattle.nr_laws.proofs.Along.{GoesOn, along, outputs_by, outputs_in, place_after}
 use Rattle.nr_laws.proofs.Outputs.{Output, server_says, server_final_outputs, effect_outputs}
 use Rattle.nr_laws.proofs.ClientRun.{WasSubmitted}
 use Rattle.nr_laws.proofs.ConveyedCalls.{planned-fits, plan-reads}

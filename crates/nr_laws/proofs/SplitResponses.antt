@@ -1,20 +1,19 @@
 -- Read Responses that came whole are the first ones; and what they leave in a sink.
-use Rattle.std.proofs.Common.{◌≡◌, ◌≢◌, ℕ, zero, suc, ◌+◌, ◌*◌, ◌≤◌, ◌<◌, Bool, true, false, cond, ◌&&◌, eqb, List, [], ◌∷◌, ◌++◌, length, take, drop, map, refl, sym, ap, subst, ◌∙◌, arith, append-nil, eq-eqb, ne_eqb}
+use Rattle.std.proofs.Common.{◌≡◌, ◌≢◌, ℕ, zero, suc, ◌+◌, ◌*◌, ◌≤◌, Bool, cond, eqb, List, [], ◌∷◌, ◌++◌, length, take, drop, map, refl, sym, ap, subst, ◌∙◌, arith, eq-eqb, ne_eqb}
 use Rattle.std.specs.List.{range_with_len}
-use Rattle.nr_wire.specs.Constants.{OPCODE_READ_RESPONSE}
 use Rattle.nr_wire.specs.Segment.{Segment}
 use Rattle.nr_wire.specs.Segment.Segment.{Tagged, Untagged}
 use Rattle.nr_link.specs.Limits.{segment_max}
 use Rattle.nr_link.specs.ReceiveState.{read_request_in}
 use Rattle.nr_link.specs.Output.{segment_count, segment_payload}
 use Rattle.nr_regions.specs.RegisteredMemory.{bytes_after_write}
-use Rattle.nr_reduce.specs.Undone.{bytes_after_segments, one_write, write_segments}
+use Rattle.nr_reduce.specs.Undone.{bytes_after_segments, one_write}
 use Rattle.nr_reduce.proofs.Laid.{laid-write}
 use Rattle.nr_laws.proofs.Outputs.{Output, one_response, response_segments}
 use Rattle.nr_laws.proofs.Outputs.Output.{AHello, ASegment}
 use Rattle.nr_laws.proofs.ReadsAlong.{last_in}
 use Rattle.nr_laws.proofs.Memory.{after_parts, parts_out}
-use Rattle.nr_laws.proofs.ClientResponses.{Answered, response_of, responses_of, tagged_one, tagged_in}
+use Rattle.nr_laws.proofs.ClientResponses.{Answered, response_of, responses_of, tagged_in}
 
 -- ---- Last segments
 
