@@ -111,3 +111,4 @@ pub mod FilledSinks
 pub mod AcceptedRegions
 pub mod FewRegions
 pub mod CameResponses
+pub mod HeldChunks
