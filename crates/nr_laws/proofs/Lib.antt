@@ -112,3 +112,4 @@ pub mod AcceptedRegions
 pub mod FewRegions
 pub mod CameResponses
 pub mod HeldChunks
+pub mod ReadPayloads
