@@ -103,7 +103,7 @@ pub record ReadChunk (c : PendingCall) (regions : List Region) : Type 0 where
   pub handle_fits : handle < 2 ^ 32
   pub holds : (f : IsFetched regions handle) → f.region.bytes ≡ region
 
-not-any : (b : Bool) → not b ≡ true → b ≡ false
+pub not-any : (b : Bool) → not b ≡ true → b ≡ false
 not-any true e = absurd cc
 not-any false e = refl
 

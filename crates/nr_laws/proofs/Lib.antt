@@ -113,3 +113,4 @@ pub mod FewRegions
 pub mod CameResponses
 pub mod HeldChunks
 pub mod ReadPayloads
+pub mod ExecutedReads
