@@ -1,5 +1,5 @@
 -- On a matched link a call with bytes to be read is executed with the payload that its form conveys.
-use Rattle.std.proofs.Common.{◌≡◌, ℕ, ◌+◌, ◌^◌, ◌≤◌, ◌<◌, Bool, true, false, eqb, List, [], ◌∷◌, ◌++◌, Option, None, Some, Ok, refl, sym, ap, subst, ◌∙◌, arith, append_assoc, inl, inr, ◌⊎◌}
+use Rattle.std.proofs.Common.{◌≡◌, ℕ, ◌+◌, ◌<◌, true, false, eqb, List, [], ◌∷◌, ◌++◌, Option, None, Some, Ok, refl, sym, ap, subst, ◌∙◌, arith, append_assoc, inl, inr}
 use Rattle.std.specs.Prelude.{IfSome}
 use Rattle.std.specs.List.{list_any}
 use Rattle.nr_xdr.specs.Item.{IsBytes}
@@ -12,7 +12,6 @@ use Rattle.nr_wire.specs.Segment.{Segment}
 use Rattle.nr_link.specs.declared.end.End.{End as Stop}
 use Rattle.nr_link.specs.Frames.{Frame, is_hello}
 use Rattle.nr_link.specs.Ending.{frame_segment}
-use Rattle.nr_link.specs.ReceiveState.{message_completed}
 use Rattle.nr_reduce.specs.declared.call.Submission.TheVariants as submissions
 use Rattle.nr_reduce.specs.declared.mark.Mark.{Mark}
 use Rattle.nr_reduce.specs.declared.mark.Mark.TheVariants as marks
@@ -25,18 +24,17 @@ use Rattle.nr_reduce.specs.OfferedRegions.{Region}
 use Rattle.nr_reduce.specs.ClientState.{call_payload}
 use Rattle.nr_reduce.specs.Events.{Event, events}
 use Rattle.nr_reduce.specs.Events.Event.{FrameReceived}
-use Rattle.nr_reduce.specs.EndRules.{EndState, next_end_state, next_end_state_by, next_end_state_in, end_state_after}
+use Rattle.nr_reduce.specs.EndRules.{EndState, next_end_state_by, next_end_state_in, end_state_after}
 use Rattle.nr_reduce.specs.Matched.{Matched}
 use Rattle.nr_reduce.specs.Asked.{AskedSoFar}
 use Rattle.nr_reduce.specs.Served.{ServedSoFar, IsExecuted}
-use Rattle.nr_reduce.specs.ServerState.{ServerState, PendingCall, PendingRead, ReadyCall}
+use Rattle.nr_reduce.specs.ServerState.{ServerState, PendingCall, PendingRead}
 use Rattle.nr_reduce.specs.ServerReads.{is_read, sink_of, reads_of, reads_from, regions_of}
-use Rattle.nr_reduce.specs.ServerMessages.{Verdict, verdict, payload_of, chunk_bytes}
-use Rattle.nr_reduce.specs.ServerMessages.Verdict.{MakesPending}
-use Rattle.nr_reduce.specs.ServerFrames.{call_of_number, with_access}
+use Rattle.nr_reduce.specs.ServerMessages.{Verdict, payload_of, chunk_bytes}
+use Rattle.nr_reduce.specs.ServerFrames.{with_access}
 use Rattle.nr_reduce.specs.Server.{server_rules, server_end, initial_server}
-use Rattle.nr_reduce.specs.Run.{client, server}
-use Rattle.nr_reduce.specs.RunLaws.{server_by, ends_response, IsReceivedCall}
+use Rattle.nr_reduce.specs.Run.{client}
+use Rattle.nr_reduce.specs.RunLaws.{server_by, IsReceivedCall}
 use Rattle.nr_reduce.specs.Undone.{ChunkHolds}
 use Rattle.nr_reduce.proofs.Conveyed.{Known, known-from, each-found}
 use Rattle.nr_reduce.proofs.Laid.{added_up}
@@ -52,14 +50,14 @@ use Rattle.nr_laws.proofs.ConveyedForms.{HasChunk, planned-chunk, received-conve
 use Rattle.nr_laws.proofs.ExecutedCalls.{frame-message, received-message, live-server, live-part}
 use Rattle.nr_laws.proofs.ExecutedPayloads.{IsOfPlan, planned-by}
 use Rattle.nr_laws.proofs.Hears.{live-first}
-use Rattle.nr_laws.proofs.HeldChunks.{ReadChunk, server-good, sink-holds, not-any}
-use Rattle.nr_laws.proofs.OnceByXid.{ExecutedAt, at-mark}
+use Rattle.nr_laws.proofs.HeldChunks.{server-good, sink-holds, not-any}
+use Rattle.nr_laws.proofs.OnceByXid.{at-mark}
 use Rattle.nr_laws.proofs.PlanLists.{ReadsLists}
 use Rattle.nr_laws.proofs.ReadPayloads.{region-small, stag-small, read-region, region-holds, any-right, own-unread}
-use Rattle.nr_laws.proofs.ReadyCauses.{Conveyed, ReadyBy, ReadyAt, ready-by, executed-ready}
+use Rattle.nr_laws.proofs.ReadyCauses.{ReadyBy, ReadyAt, ready-by, executed-ready}
 use Rattle.nr_laws.proofs.ReadyCauses.ReadyBy.{AtMessage, AtRead}
 use Rattle.nr_laws.proofs.ServerAlong.{ServerGood, FrameGood}
-use Rattle.nr_laws.proofs.ServerReadsOfRuns.{HasLists, verdict-lists}
+use Rattle.nr_laws.proofs.ServerReadsOfRuns.{verdict-lists}
 use Rattle.nr_laws.proofs.SinkReads.{own_reads, reads-own}
 
 -- ---- The message of a Submit, as it is read
@@ -180,7 +178,7 @@ read-call opened link before xid payload typed asked served matched h =
               let backed = read-region regions stag p some (accepted-regions opened link before w.earlier w.later w.call w.form w.xid typed asked w.is w.accepted) in
               let held : (position : ℕ) → c.lists.read ≡ entries_from position stag 0 p.read → chunk position ≡ p.region =
               λ position lists. sink-holds opened link before typed asked served matched ra.earlier ra.frame ra.later s q rest c ra.is ra.behind is live stays ends reads found read
-                  (record { position = position; handle = stag; lengths = p.read; lists = lists; some = some; region = p.region; size = region.size; region_fits = region-small (call_payload w.xid w.call) w.form send_max send_max p planned; handle_fits = stag-small stag p some w.accepted.stags; holds = region-holds regions stag p.region backed }) in
+              (record { position = position; handle = stag; lengths = p.read; lists = lists; some = some; region = p.region; size = region.size; region_fits = region-small (call_payload w.xid w.call) w.form send_max send_max p planned; handle_fits = stag-small stag p some w.accepted.stags; holds = region-holds regions stag p.region backed }) in
               sym (received-conveys (call_payload w.xid w.call) w.form send_max stag p c chunk ok.0 ok.1 planned w.accepted.stags of_plan (chunk-holds c stag p chunk (ap (λ (x : ChunkLists). x.read) of_plan.lists) held))
               ∙ conveyed.payload ∙ ap (λ (x : List ℕ). Some x) (sym h.conveyed);
         }

@@ -1,11 +1,10 @@
 -- A call that became whole at the end of a Read Response: the sink of its read chunk holds the region of its plan.
-use Rattle.std.proofs.Common.{◌≡◌, ℕ, zero, suc, ◌+◌, ◌^◌, ◌≤◌, ◌<◌, Bool, true, false, cond, not, eqb, List, [], ◌∷◌, ◌++◌, length, map, replicate, Option, None, Some, Ok, refl, sym, ap, subst, ◌∙◌, arith, eqb-true}
+use Rattle.std.proofs.Common.{◌≡◌, ℕ, ◌+◌, ◌^◌, ◌<◌, Bool, true, false, cond, not, eqb, List, [], ◌∷◌, ◌++◌, length, replicate, None, Some, Ok, refl, sym, ap, subst, ◌∙◌, arith}
 use Rattle.std.specs.List.{find, list_any}
 use Rattle.std.proofs.lemmas.List.{length-replicate}
 use Rattle.nr_header.specs.declared.header.ReadSegment.{ReadSegment}
 use Rattle.nr_wire.specs.declared.hello.Side.TheVariants.{Responder}
 use Rattle.nr_wire.specs.Segment.{Segment}
-use Rattle.nr_link.specs.declared.end.End.{End as Stop}
 use Rattle.nr_link.specs.Frames.{Frame, is_hello}
 use Rattle.nr_link.specs.Ending.{frame_segment, tagged_access}
 use Rattle.nr_reduce.specs.declared.mark.Mark.{Mark}
@@ -14,7 +13,7 @@ use Rattle.nr_reduce.specs.OfferedRegions.{Region, region_grants, region_bytes}
 use Rattle.nr_reduce.specs.Plans.{entries_from}
 use Rattle.nr_reduce.specs.Events.{Event, events}
 use Rattle.nr_reduce.specs.Events.Event.{FrameReceived}
-use Rattle.nr_reduce.specs.EndRules.{EndState, end_state_after}
+use Rattle.nr_reduce.specs.EndRules.{end_state_after}
 use Rattle.nr_reduce.specs.Matched.{Matched}
 use Rattle.nr_reduce.specs.Asked.{AskedSoFar}
 use Rattle.nr_reduce.specs.Served.{ServedSoFar}
@@ -28,8 +27,8 @@ use Rattle.nr_reduce.specs.RunLaws.{server_by, ends_response}
 use Rattle.nr_reduce.specs.Undone.{bytes_after_segments}
 use Rattle.nr_reduce.proofs.Laid.{added_up}
 use Rattle.nr_laws.specs.Typed.{IsTyped}
-use Rattle.nr_laws.proofs.Along.{IsNext, GoesOn, goes-first, goes-behind, places_after}
-use Rattle.nr_laws.proofs.CameResponses.{Came, came-responses}
+use Rattle.nr_laws.proofs.Along.{GoesOn, goes-first, goes-behind, places_after}
+use Rattle.nr_laws.proofs.CameResponses.{came-responses}
 use Rattle.nr_laws.proofs.ClientResponses.{responses_of}
 use Rattle.nr_laws.proofs.ExecutedCalls.{server-receives-of}
 use Rattle.nr_laws.proofs.FetchedRegions.{IsFetched}

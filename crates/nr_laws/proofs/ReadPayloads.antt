@@ -1,29 +1,20 @@
 -- A call with bytes to be read is executed with what its form conveys.
-use Rattle.std.proofs.Common.{◌≡◌, ℕ, ◌+◌, ◌^◌, ◌≤◌, ◌<◌, Bool, true, false, cond, ◌||◌, not, eqb, List, [], ◌∷◌, ◌++◌, length, take, drop, Option, None, Some, Result, Ok, refl, sym, ap, subst, ◌∙◌, arith, append_assoc, inl, inr, eq-eqb, eqb-true, replicate}
-use Rattle.std.specs.Prelude.{IfSome, sum}
-use Rattle.std.specs.List.{find, list_any}
+use Rattle.std.proofs.Common.{◌≡◌, ℕ, ◌+◌, ◌^◌, ◌≤◌, ◌<◌, Bool, true, false, cond, ◌||◌, eqb, List, [], ◌∷◌, ◌++◌, length, drop, Option, None, Some, Result, Ok, refl, sym, ap, subst, ◌∙◌, arith, eq-eqb, eqb-true, replicate}
+use Rattle.std.specs.Prelude.{sum}
+use Rattle.std.specs.List.{list_any}
 use Rattle.std.proofs.lemmas.List.{length-take, length-drop}
 use Rattle.nr_header.specs.Constants.{PAYLOAD_MAX}
-use Rattle.nr_header.specs.declared.header.ChunkLists.{ChunkLists}
-use Rattle.nr_header.specs.Reading.{header_of}
-use Rattle.nr_wire.specs.declared.hello.Side.TheVariants.{Responder}
-use Rattle.nr_wire.specs.Segment.{Segment}
-use Rattle.nr_link.specs.declared.end.End.{End as Stop}
-use Rattle.nr_link.specs.Frames.{Frame, is_hello}
-use Rattle.nr_link.specs.Ending.{frame_segment}
 use Rattle.nr_regions.specs.declared.right.Right.TheVariants.{Fetch, Fill}
 use Rattle.nr_reduce.specs.declared.call.Form.{Form}
 use Rattle.nr_reduce.specs.declared.call.Form.TheVariants as forms
 use Rattle.nr_reduce.specs.declared.call.Offer.{Offer}
-use Rattle.nr_reduce.specs.declared.mark.Mark.{Mark}
-use Rattle.nr_reduce.specs.declared.mark.LinkParameters.{LinkParameters}
 use Rattle.nr_reduce.specs.declared.outline.Plan.{Plan}
-use Rattle.nr_reduce.specs.Limits.{send_max, given_max}
-use Rattle.nr_reduce.specs.Plans.{TooLarge, Buffer, plan_of, plan_size, given_plan, given_read, given_total, total, within, has_segment, one_if, regions_needed, write_stag, reply_stag, buffer_if, buffers, entries_from, read_list, lists_of}
+use Rattle.nr_reduce.specs.Limits.{given_max}
+use Rattle.nr_reduce.specs.Plans.{TooLarge, plan_of, plan_size, given_plan, given_read, given_total, total, within, has_segment, one_if, regions_needed, write_stag, reply_stag, buffer_if, buffers}
 use Rattle.nr_reduce.specs.OfferedRegions.{Region}
 use Rattle.nr_reduce.specs.Undone.{IsNotGiven}
-use Rattle.nr_reduce.specs.ServerState.{PendingCall, PendingRead}
-use Rattle.nr_reduce.proofs.Laid.{added_up, sum-added}
+use Rattle.nr_reduce.specs.ServerState.{PendingRead}
+use Rattle.nr_reduce.proofs.Laid.{added_up}
 use Rattle.nr_reduce.proofs.Shapes.{MessageKind, offered, shape, is_plan, within-ok}
 use Rattle.nr_reduce.proofs.Shapes.MessageKind.{Short, Chunked, Long}
 use Rattle.nr_laws.proofs.ClientMemory.{HasRegion, HasBuffers}
