@@ -44,7 +44,7 @@ pub record HasChunk (p : Plan) : Type 0 where
   pub size : length p.region ≡ added_up p.read
   pub apart : p.read_at ≡ None → p.read ≡ []
 
-given-length : (payload : List ℕ) (at size : ℕ) → length (given_region payload at size) ≡ size
+pub given-length : (payload : List ℕ) (at size : ℕ) → length (given_region payload at size) ≡ size
 given-length payload at size =
     omega (arith, length-append (take size (drop at payload)) (replicate (size - length (take size (drop at payload))) 0), length-replicate {A = ℕ} (size - length (take size (drop at payload))) 0, length-take size (drop at payload))
 

@@ -118,3 +118,11 @@ pub mod InlineCalls
 pub mod FetchedRegions
 pub mod ClientResponses
 pub mod PlainReplies
+pub mod SplitResponses
+pub mod FilledSinks
+pub mod AcceptedRegions
+pub mod FewRegions
+pub mod CameResponses
+pub mod HeldChunks
+pub mod ReadPayloads
+pub mod ExecutedReads

@@ -86,7 +86,7 @@ output_parts : Output → List Part
 output_parts (AHello bytes) = []
 output_parts (ASegment s) = segment_parts s
 
-access-parts : (f : Frame) (s : Segment) → parts_of (tagged_access f s) ≡ segment_parts s
+pub access-parts : (f : Frame) (s : Segment) → parts_of (tagged_access f s) ≡ segment_parts s
 access-parts f (Tagged last opcode stag to payload) = refl
 access-parts f (Untagged last opcode w queue msn offset payload) = refl
 

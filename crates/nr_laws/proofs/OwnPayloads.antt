@@ -10,10 +10,15 @@ use Rattle.nr_reduce.specs.declared.outline.Plan.{Plan}
 use Rattle.nr_reduce.specs.Plans.{TooLarge}
 use Rattle.nr_reduce.specs.ClientState.{call_payload, plan_for}
 use Rattle.nr_reduce.specs.Run.{client}
-use Rattle.nr_reduce.specs.Asked.{AskedSoFar}
-use Rattle.nr_reduce.specs.Matched.{IsPrefixOf}
+use Rattle.nr_reduce.specs.Asked.{AskedMark, AskedSoFar}
+use Rattle.nr_reduce.specs.Served.{ServedMark}
+use Rattle.nr_reduce.specs.Matched.{IsPrefixOf, MatchedMark}
 use Rattle.nr_reduce.proofs.Placing.{xids_differ}
-use Rattle.nr_laws.specs.Payloads.{form_conveyed, PayloadsAreOwn}
+use Rattle.nr_laws.specs.Payloads.{form_conveyed, PayloadsAreOwn, PayloadsAreRead}
+use Rattle.nr_reduce.proofs.Laid.{added_up, sum-added}
+use Rattle.nr_laws.specs.Typed.{TypedMark}
+use Rattle.nr_laws.proofs.OnceByXid.{executed-at, before-mark}
+use Rattle.nr_laws.proofs.ExecutedReads.{read-call}
 use Rattle.nr_laws.proofs.ExecutedPayloads.{payloads_are_submitted}
 
 -- two places of a list: one, or one behind the other
@@ -75,3 +80,28 @@ payloads_are_own opened link run earlier before call form plan xid moment payloa
     let one = one-submit opened link run s.before (s.at.after ++ execute ∷ h.after) earlier at.after s.call call s.form form xid far.asked whole at.is in
     let same : s.plan ≡ plan = planned-once s.plan plan (sym s.planned ∙ (λ i. plan_for (client opened link (one.before i)).state xid (one.call_is i) (one.form_is i)) ∙ planned) in
     (λ i. form_conveyed (sym one.form_is i) (call_payload xid (sym one.call_is i))) ∙ s.conveyed (ap (λ (p : Plan). p.read) same ∙ none)
+
+pub payloads_are_read : PayloadsAreRead
+payloads_are_read opened link run earlier before call form plan xid moment payload place reply typed far at h planned some =
+    let execute = marks.Execute link xid moment payload place reply in
+    let a = executed-at opened link run before h.after xid moment payload place reply typed far h.is in
+    let r = read-call opened link before xid payload (before-mark TypedMark run before execute h.after h.is typed) (before-mark (AskedMark IsPrefixOf opened link) run before execute h.after h.is far.asked)
+    (before-mark (ServedMark IsPrefixOf opened link) run before execute h.after h.is far.served) (before-mark (MatchedMark link) run before execute h.after h.is far.matched) a.executed in
+    let w = r.submitted in
+    let p = w.accepted.next in
+    let q = a.submit.submitted.accepted.next in
+    let x = a.submit.own_xid in
+    let m = a.submit.number in
+    let n = r.number_is in
+    let c = w.counted in
+    let own : w.xid ≡ xid = omega (arith, p, q, x, m, n, c) in
+    let whole : run ≡ w.earlier ++ marks.Submit link w.call w.form (submissions.Accepted w.xid) ∷ (w.later ++ execute ∷ h.after) =
+    h.is ∙ ap (λ (xs : List Mark). xs ++ execute ∷ h.after) w.is ∙ append_assoc w.earlier (marks.Submit link w.call w.form (submissions.Accepted w.xid) ∷ w.later) (execute ∷ h.after) in
+    let there : run ≡ w.earlier ++ marks.Submit link w.call w.form (submissions.Accepted xid) ∷ (w.later ++ execute ∷ h.after) =
+    whole ∙ ap (λ (y : ℕ). w.earlier ++ marks.Submit link w.call w.form (submissions.Accepted y) ∷ (w.later ++ execute ∷ h.after)) own in
+    let one = one-submit opened link run w.earlier (w.later ++ execute ∷ h.after) earlier at.after w.call call w.form form xid far.asked there at.is in
+    let same : w.accepted.plan ≡ plan =
+    planned-once w.accepted.plan plan (sym w.accepted.planned ∙ (λ i. plan_for (client opened link (one.before i)).state (own i) (one.call_is i) (one.form_is i)) ∙ planned) in
+    let size = ap (λ (y : Plan). added_up y.read) same in
+    let total = sum-added plan.read in
+    (λ i. form_conveyed (sym one.form_is i) (call_payload (sym own i) (sym one.call_is i))) ∙ r.conveyed (omega (arith, size, total, some))

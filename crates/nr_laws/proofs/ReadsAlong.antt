@@ -71,7 +71,7 @@ requests-answer k xid offer (Some a) =
     requests-append (map ASegment (Rattle.nr_reduce.specs.Undone.answer_segments offer a)) (ASegment (send_segment (k.messages_queued + 1) (Rattle.nr_reduce.specs.Holds.answer_message xid (Rattle.nr_reduce.specs.ServerState.credit_word k) offer a)) ∷ [])
     ∙ ap (λ (ps : List (List ℕ)). ps ++ []) (requests-tagged (Rattle.nr_reduce.specs.Undone.answer_segments offer a) (tagged-answer offer a))
 
-map-append : (xs ys : List PendingRead) → map request_payload (xs ++ ys) ≡ map request_payload xs ++ map request_payload ys
+pub map-append : (xs ys : List PendingRead) → map request_payload (xs ++ ys) ≡ map request_payload xs ++ map request_payload ys
 map-append [] ys = refl
 map-append (x ∷ xs) ys = ap (λ (ps : List (List ℕ)). request_payload x ∷ ps) (map-append xs ys)
 

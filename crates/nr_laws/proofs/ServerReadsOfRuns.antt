@@ -55,10 +55,10 @@ use Rattle.nr_laws.proofs.SinksKept.{IsOwnRead}
 
 -- ---- The lists of a call that a message makes pending
 
-record HasLists (message : List ℕ) (c : PendingCall) : Type 0 where
-  header : Header
-  is : header_of message ≡ Ok header
-  lists : c.lists ≡ lists_by header.body
+pub record HasLists (message : List ℕ) (c : PendingCall) : Type 0 where
+  pub header : Header
+  pub is : header_of message ≡ Ok header
+  pub lists : c.lists ≡ lists_by header.body
 
 need-lists : (d c : PendingCall) (b : Bool) → cond b (EndsLink 30) (MakesPending d) ≡ MakesPending c → c.lists ≡ d.lists
 need-lists d c true e = absurd cc
@@ -89,7 +89,7 @@ header-lists : (k : ServerState) (message : List ℕ) (r : Result Header HeaderF
 header-lists k message (Ok h) c is e = record { header = h; is = is; lists = body-lists k h.xid message h.body c e }
 header-lists k message (Err fault) c is e = absurd cc
 
-verdict-lists : (k : ServerState) (message : List ℕ) (c : PendingCall) → verdict k message ≡ MakesPending c → HasLists message c
+pub verdict-lists : (k : ServerState) (message : List ℕ) (c : PendingCall) → verdict k message ≡ MakesPending c → HasLists message c
 unfolding verdict
 verdict-lists k message c e = by (not (eqb (word_at 4 message) 1)) (eqb (word_at 12 message) 3 || eqb (word_at 12 message) 4) (is_pending k (word_at 0 message)) e
   where

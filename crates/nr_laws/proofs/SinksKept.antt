@@ -193,7 +193,7 @@ below-filter n p (r ∷ reads) h = by (p r) (below-filter n p reads h.2)
     by true rest = (h.0, h.1, rest)
     by false rest = rest
 
-below-left : (n : ℕ) (xs ys : List PendingRead) → SinksBelow n (xs ++ ys) → SinksBelow n xs × SinksBelow n ys
+pub below-left : (n : ℕ) (xs ys : List PendingRead) → SinksBelow n (xs ++ ys) → SinksBelow n xs × SinksBelow n ys
 below-left n [] ys h = (tt, h)
 below-left n (x ∷ xs) ys h = (let r = below-left n xs ys h.2 in ((h.0, h.1, r.0), r.1))
 

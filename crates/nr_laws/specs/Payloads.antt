@@ -1,5 +1,5 @@
 -- What a server executes, of what its client submitted.
-use Rattle.std.specs.Prelude.{◌≡◌, ℕ, List, [], Option, Some, Ok}
+use Rattle.std.specs.Prelude.{◌≡◌, ◌<◌, ℕ, List, [], sum, Option, Some, Ok}
 use Rattle.nr_reduce.specs.declared.call.Call.{Call}
 use Rattle.nr_reduce.specs.declared.call.Form.{Form}
 use Rattle.nr_reduce.specs.declared.call.Form.TheVariants as forms
@@ -46,3 +46,10 @@ PayloadsAreOwn = (opened : LinkParameters) (link : ℕ) (run earlier before : Li
     IsTyped run → MatchedSoFar opened link run →
     MarkAt run earlier (marks.Submit link call form (submissions.Accepted xid)) → MarkAt run before (marks.Execute link xid moment payload place reply) →
     plan_for (client opened link earlier).state xid call form ≡ Ok plan → plan.read ≡ [] → form_conveyed form (call_payload xid call) ≡ Some payload
+
+-- So it is where its plan has bytes to be read.
+abbrev pub PayloadsAreRead : Type 0
+PayloadsAreRead = (opened : LinkParameters) (link : ℕ) (run earlier before : List Mark) (call : Call) (form : Form) (plan : Plan) (xid : ℕ) (moment : Moment) (payload : List ℕ) (place : ℕ) (reply : List ℕ) →
+    IsTyped run → MatchedSoFar opened link run →
+    MarkAt run earlier (marks.Submit link call form (submissions.Accepted xid)) → MarkAt run before (marks.Execute link xid moment payload place reply) →
+    plan_for (client opened link earlier).state xid call form ≡ Ok plan → 0 < sum plan.read → form_conveyed form (call_payload xid call) ≡ Some payload
