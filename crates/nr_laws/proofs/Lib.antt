@@ -126,3 +126,4 @@ pub mod CameResponses
 pub mod HeldChunks
 pub mod ReadPayloads
 pub mod ExecutedReads
+pub mod WholeCalls

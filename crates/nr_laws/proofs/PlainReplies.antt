@@ -8,11 +8,11 @@ use Rattle.nr_reduce.specs.Journal.{PlainMark}
 use Rattle.nr_reduce.proofs.Placing.{at_place}
 use Rattle.nr_laws.specs.PlainReplies.{server_with, RepliesArePlain}
 use Rattle.nr_laws.proofs.OnceByXid.{at-mark}
-use Rattle.nr_laws.proofs.ConveyedReplies.{inline_calls_are_replied}
+use Rattle.nr_laws.proofs.WholeCalls.{whole_calls_are_replied}
 
 pub replies_are_plain : RepliesArePlain
-replies_are_plain reply_to adds J opened link run before xid plan reply numbers typed far journaled plainly has words none at =
-    let own = inline_calls_are_replied opened link run before xid plan reply numbers typed far has words none at in
+replies_are_plain reply_to adds J opened link run before xid plan reply numbers typed far journaled plainly has words whole_payload at =
+    let own = whole_calls_are_replied opened link run before xid plan reply numbers typed far has words whole_payload at in
     let done : Mark = marks.Done link xid (outcomes.Reply reply) in
     let execute : Mark = marks.Execute link xid own.moment (call_payload xid has.call) own.place reply in
     let whole : run ≡ own.before ++ execute ∷ (own.at.after ++ done ∷ at.after) =

@@ -1,5 +1,5 @@
 -- A reply that is handed over is that of the executed call, byte for byte.
-use Rattle.std.specs.Prelude.{◌≡◌, ℕ, ◌<◌, ◌^◌, List, None, Some, Ok}
+use Rattle.std.specs.Prelude.{◌≡◌, ℕ, ◌<◌, ◌^◌, List, None, Some, Ok, [], sum, ◌⊎◌}
 use Rattle.nr_rpc.specs.Credential.{CredFits}
 use Rattle.nr_rpc.specs.declared.head.CallTarget.{CallTarget}
 use Rattle.nr_rpc.specs.Reading.{call_of, target_of}
@@ -14,6 +14,7 @@ use Rattle.nr_reduce.specs.declared.mark.LinkParameters.{LinkParameters}
 use Rattle.nr_reduce.specs.declared.outline.Plan.{Plan}
 use Rattle.nr_reduce.specs.ClientState.{call_payload, plan_for}
 use Rattle.nr_reduce.specs.Opening.{IsOpened}
+use Rattle.nr_reduce.specs.Undone.{IsNotGiven}
 use Rattle.nr_reduce.specs.Run.{client}
 use Rattle.nr_laws.specs.MarkAt.{MarkAt}
 use Rattle.nr_laws.specs.MatchedSoFar.{MatchedSoFar}
@@ -89,4 +90,15 @@ pub record HasOwnReply (link : ℕ) (run : List Mark) (xid : ℕ) (call : Call) 
 abbrev pub InlineCallsAreReplied : Type 0
 InlineCallsAreReplied = (opened : LinkParameters) (link : ℕ) (run before : List Mark) (xid : ℕ) (plan : Plan) (reply : List ℕ) →
     IsOpened opened → IsTyped run → MatchedSoFar opened link run → (has : HasPlan opened link run xid plan) → HasWords has.call → plan.read_at ≡ None →
+    MarkAt run before (marks.Done link xid (outcomes.Reply reply)) → HasOwnReply link before xid has.call reply
+
+-- The call's payload goes whole: in its message, where its plan has no read position; or, in a form that isn't given, in its message and
+-- in a read chunk which, if there is one, has bytes.
+abbrev pub GoesWhole : Form → Plan → Type 0
+GoesWhole form plan = (plan.read_at ≡ None) ⊎ (IsNotGiven form × ((plan.read ≡ []) ⊎ (0 < sum plan.read)))
+
+-- So it is of any call whose payload goes whole.
+abbrev pub WholeCallsAreReplied : Type 0
+WholeCallsAreReplied = (opened : LinkParameters) (link : ℕ) (run before : List Mark) (xid : ℕ) (plan : Plan) (reply : List ℕ) →
+    IsOpened opened → IsTyped run → MatchedSoFar opened link run → (has : HasPlan opened link run xid plan) → HasWords has.call → GoesWhole has.form plan →
     MarkAt run before (marks.Done link xid (outcomes.Reply reply)) → HasOwnReply link before xid has.call reply

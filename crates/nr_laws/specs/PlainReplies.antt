@@ -1,5 +1,5 @@
 -- A completed call gives its caller the plain server's reply, at the call's place in the one journal.
-use Rattle.std.specs.Prelude.{◌≡◌, ℕ, List, None, Option, Some}
+use Rattle.std.specs.Prelude.{◌≡◌, ℕ, List, Option, Some}
 use Rattle.nr_reduce.specs.declared.call.Call.{Call}
 use Rattle.nr_reduce.specs.declared.call.Outcome.TheVariants as outcomes
 use Rattle.nr_reduce.specs.declared.mark.Moment.{Moment}
@@ -15,7 +15,7 @@ use Rattle.nr_reduce.specs.Opening.{IsOpened}
 use Rattle.nr_laws.specs.MarkAt.{MarkAt}
 use Rattle.nr_laws.specs.MatchedSoFar.{MatchedSoFar}
 use Rattle.nr_laws.specs.Typed.{IsTyped}
-use Rattle.nr_laws.specs.HandedOver.{HasPlan, HasWords}
+use Rattle.nr_laws.specs.HandedOver.{HasPlan, HasWords, GoesWhole}
 
 -- the plain server that has this reply, if any, to a payload at a moment over a journal, and adds these entries
 abbrev pub server_with : (List Entry → Moment → List ℕ → Option (List ℕ)) → (Moment → List ℕ → List ℕ → List Entry) → PlainServer
@@ -31,10 +31,10 @@ pub record HasPlainReply (plain : PlainServer) (J : List Entry) (link : ℕ) (ru
   pub plainly : AtPlace plain J moment (call_payload xid call) place reply
 
 -- On a matched link of a run whose calls are answered as the plain server answers, each over the journal of its moment, so it is of each reply
--- that is handed over of a call whose plan has no read position: its whole payload is in its message.
+-- that is handed over of a call whose payload goes whole.
 abbrev pub RepliesArePlain : Type 0
 RepliesArePlain = (reply_to : List Entry → Moment → List ℕ → Option (List ℕ)) (adds : Moment → List ℕ → List ℕ → List Entry) (J : List Entry)
     (opened : LinkParameters) (link : ℕ) (run before : List Mark) (xid : ℕ) (plan : Plan) (reply : List ℕ) →
     IsOpened opened → IsTyped run → MatchedSoFar opened link run → Journaled (server_with reply_to adds) J run → Plainly (server_with reply_to adds) run →
-    (has : HasPlan opened link run xid plan) → HasWords has.call → plan.read_at ≡ None →
+    (has : HasPlan opened link run xid plan) → HasWords has.call → GoesWhole has.form plan →
     MarkAt run before (marks.Done link xid (outcomes.Reply reply)) → HasPlainReply (server_with reply_to adds) J link before xid has.call reply

@@ -1,5 +1,6 @@
 use Rattle.nr_laws.proofs.HandedOver.{inline_replies_are_executed}
 use Rattle.nr_laws.proofs.ConveyedReplies.{stream_replies_are_executed, replies_by_target_are_executed, inline_calls_are_replied}
+use Rattle.nr_laws.proofs.WholeCalls.{whole_calls_are_replied}
 use Rattle.nr_laws.proofs.handover.replies_handed_over.Goals as goal
 
 pub returns-clause-inline : goal.returns-clause-inline
@@ -13,3 +14,6 @@ returns-clause-call c = inline_calls_are_replied
 
 pub returns-clause-target : goal.returns-clause-target
 returns-clause-target c = replies_by_target_are_executed
+
+pub returns-clause-whole : goal.returns-clause-whole
+returns-clause-whole c = whole_calls_are_replied
