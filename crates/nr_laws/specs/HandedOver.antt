@@ -36,6 +36,11 @@ pub record HasReply (link : ℕ) (run : List Mark) (xid : ℕ) (reply : List ℕ
   pub before : List Mark
   pub at : MarkAt run before (marks.Execute link xid moment payload place reply)
 
+-- On a matched link a call whose reply is handed over was accepted, and goes out by a plan.
+abbrev pub RepliesHavePlans : Type 0
+RepliesHavePlans = (opened : LinkParameters) (link : ℕ) (run before : List Mark) (xid : ℕ) (reply : List ℕ) →
+    IsTyped run → MatchedSoFar opened link run → MarkAt run before (marks.Done link xid (outcomes.Reply reply)) → (plan : Plan) × HasPlan opened link run xid plan
+
 -- On a matched link the reply that is handed over of a call that offers neither a write chunk nor a reply chunk (RFC 8166 section
 -- 3.4.6) is the one with which its call was executed before.
 abbrev pub InlineRepliesAreExecuted : Type 0

@@ -1,5 +1,6 @@
 use Rattle.nr_laws.proofs.HandedOver.{inline_replies_are_executed}
 use Rattle.nr_laws.proofs.ConveyedReplies.{stream_replies_are_executed, replies_by_target_are_executed, inline_calls_are_replied}
+use Rattle.nr_laws.proofs.RepliedPlans.{replies_have_plans}
 use Rattle.nr_laws.proofs.WholeCalls.{whole_calls_are_replied}
 use Rattle.nr_laws.proofs.handover.replies_handed_over.Goals as goal
 
@@ -17,3 +18,6 @@ returns-clause-target c = replies_by_target_are_executed
 
 pub returns-clause-whole : goal.returns-clause-whole
 returns-clause-whole c = whole_calls_are_replied
+
+pub returns-clause-planned : goal.returns-clause-planned
+returns-clause-planned c = replies_have_plans
