@@ -20,4 +20,6 @@ mod output;
 #[cfg(test)]
 mod rights;
 #[cfg(test)]
+mod segments;
+#[cfg(test)]
 mod vectors;
