@@ -29,7 +29,8 @@ use Rattle.nr_laws.proofs.PendingFrames.{pending_agree-send_up, pending_agree-ta
 use Rattle.nr_laws.proofs.OwnXids.{OwnXids}
 use Rattle.nr_laws.proofs.OutputFrames.{AllShort, step-said}
 use Rattle.nr_laws.proofs.Writable.{IsWritable, IsOutput, proper_one, stream-more, stream-none, stream-first, stream-at}
-use Rattle.nr_laws.proofs.ServerOutput.{CallsFit, SaysFine, fine-send, fine-tagged}
+use Rattle.nr_laws.proofs.ServerOutputs.{CallsFit}
+use Rattle.nr_laws.proofs.ServerOutput.{SaysFine, fine-send, fine-tagged}
 
 -- `u` and `d` are what the server and the client received, `all_up` and `all_down` what the client and the server sent or queued
 pub record EndsAgree (opened : LinkParameters) (k : ClientState) (s : ServerState) (u d all_up all_down : List FrameContent) (w : Transit) : Type 0 where

@@ -42,7 +42,7 @@ use Rattle.nr_laws.specs.FrameContents.{FrameContent, numbered_segment, frame_by
 use Rattle.nr_laws.specs.FrameContents.FrameContent.{HelloFrame, SendFrame, RequestFrame, TaggedFrame}
 use Rattle.nr_laws.specs.LinkInvariants.{Transit, hello_bit}
 use Rattle.nr_laws.proofs.Totals.{total-append}
-use Rattle.nr_laws.proofs.StreamFrames.{own_hello-is}
+use Rattle.nr_laws.proofs.Brought.{hello-is}
 use Rattle.nr_laws.proofs.CompletedFrames.{is-piece}
 use Rattle.nr_laws.proofs.FaultlessSegments.{request-flaw, write-flaw}
 use Rattle.nr_laws.proofs.FreeReceives.{requests}
@@ -257,7 +257,7 @@ step-down opened k s u [] all_up all_down w up p rest n r place o l g first send
     let hello : p ≡ HelloFrame = stream-first p (rest ++ w.queued_down) stream in
     let f = frame_of (frame_bytes Responder (numbered_segment n r p)) place in
     let is : is_hello f ≡ true = ap (λ (x : ℕ). eqb x 0) at in
-    let says = ap (λ (q : FrameContent). hello_of Responder (frame_bytes Responder (numbered_segment n r q))) hello ∙ (own_hello-is Responder).says in
+    let says = ap (λ (q : FrameContent). hello_of Responder (frame_bytes Responder (numbered_segment n r q))) hello ∙ (hello-is Responder).says in
     let none = hello-none k f is says in
     subst (λ (q : FrameContent). ClientStep opened k s u [] all_up all_down w up q rest f) (sym hello) (record {
       only = λ end e. absurd (some-none end (sym e ∙ none));

@@ -10,7 +10,8 @@ use Rattle.nr_wire.proofs.Splits.{split-append}
 use Rattle.nr_link.specs.Frames.{Frame, frames_from, frames_of, frames_completed}
 use Rattle.nr_link.specs.Ending.{frame_segment}
 use Rattle.nr_laws.specs.FrameContents.{FrameContent, numbered_segment, frame_bytes, output_bytes, total_of, sends_in, requests_in, Carries}
-use Rattle.nr_laws.proofs.StreamFrames.{AreWritableFrom, IsWritableAs, frames_at, frames-append, length-frames, front, spelling-is}
+use Rattle.nr_laws.proofs.StreamFrames.{AreWritableFrom, IsWritableAs, frames_at, frames-append, length-frames, front}
+use Rattle.nr_laws.proofs.Brought.{encoding-is}
 use Rattle.nr_link.proofs.Streams.{frames_from-append}
 
 -- of two beginnings of a list the longer one goes on
@@ -79,5 +80,5 @@ is-piece side n r place p proper some = by (numbered_segment n r p) refl proper
       behind = behind;
       segment = segment;
       is_segment = is;
-      reads = ap (λ (o : Option Segment). segment_of (frame_bytes side o)) is ∙ (spelling-is segment h).says;
+      reads = ap (λ (o : Option Segment). segment_of (frame_bytes side o)) is ∙ (encoding-is segment h).says;
     }

@@ -29,7 +29,8 @@ use Rattle.nr_laws.proofs.ReadLimits.{AreWithin, each-append}
 use Rattle.nr_laws.proofs.CallNumbers.{XidsFrom, NumberedCalls, HasOwnXid, IsNumbered}
 use Rattle.nr_laws.proofs.AnsweredSteps.{Answered}
 use Rattle.nr_laws.proofs.WritableOffers.{OfferFits}
-use Rattle.nr_laws.proofs.ServerOutput.{CallsFit, execution_frames, for_target, found-fits}
+use Rattle.nr_laws.proofs.ServerOutputs.{CallsFit, for_target, found-fits}
+use Rattle.nr_laws.proofs.ServerOutput.{execution_frames}
 
 -- a message of a client has the size of one, version 1, a kind that a client sends, and at most one read chunk
 abbrev pub ClientContent : FrameContent → Type 0

@@ -27,7 +27,7 @@ use Rattle.nr_laws.proofs.TotalsAtClient.{up_more, totals-accepts, totals-writes
 use Rattle.nr_laws.proofs.ReadsAtClient.{AnswersNone, reads-says_up, reads-writes_up}
 use Rattle.nr_laws.proofs.EventsAtServer.{server-executes, server-writes}
 use Rattle.nr_laws.proofs.ReadLimits.{each-append}
-use Rattle.nr_laws.proofs.ServerOutput.{CallsFit}
+use Rattle.nr_laws.proofs.ServerOutputs.{CallsFit}
 use Rattle.nr_laws.proofs.OwnEvents.{planned, totals-revoked, xid-revoked}
 use Rattle.nr_laws.proofs.AgreeingEnds.{EndsAgree}
 use Rattle.nr_reduce.specs.SubmitAnswer.{next_xid}

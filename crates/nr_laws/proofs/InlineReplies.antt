@@ -26,7 +26,7 @@ use Rattle.nr_reduce.specs.ClientMessages.{by_head, by_payload, by_lists, by_bod
 use Rattle.nr_reduce.specs.ClientMessages.Verdict.{EndsLink, GivesOutcome}
 use Rattle.nr_laws.proofs.RefusedCalls.{and-true}
 use Rattle.nr_laws.proofs.Replied.{word-behind, kind-word}
-use Rattle.nr_laws.proofs.ServerOutput.{word_len}
+use Rattle.nr_laws.proofs.ServerOutputs.{word_len}
 
 -- ---- What a client makes of a message, where it offered no chunk
 

@@ -10,7 +10,6 @@ pub mod Hears
 pub mod Outputs
 pub mod Messages
 pub mod OnceByXid
-pub mod OfferLimits
 pub mod ServerOutputs
 pub mod ServerEnds
 pub mod ServerAlong

@@ -29,7 +29,8 @@ use Rattle.nr_laws.proofs.PendingExecuted.{pending_agree-executes, executed-ther
 use Rattle.nr_laws.proofs.OwnXids.{OwnXids, own_xids-accepts, own_xids-writes}
 use Rattle.nr_laws.proofs.OutputFrames.{IsShort, AllShort, send-one}
 use Rattle.nr_laws.proofs.Writable.{AreWritable, stream-more}
-use Rattle.nr_laws.proofs.ServerOutput.{calls_fit-kept, execution_frames, execution-proper, execution-said}
+use Rattle.nr_laws.proofs.ServerOutputs.{fit-filter}
+use Rattle.nr_laws.proofs.ServerOutput.{execution_frames, execution-proper, execution-said}
 use Rattle.nr_laws.proofs.AgreeingEnds.{EndsAgree, messages_said}
 use Rattle.nr_laws.proofs.ClientFrame.{calls_said}
 
@@ -233,7 +234,7 @@ executed opened k s u d all_up all_down w e r rest l first own begun =
         counts = totals-executes opened k s w e l.counts l.waits.xids there;
         waits = pending_agree-executes opened s e r rest l.waits first own;
         outs = l.outs;
-        fits = calls_fit-kept (λ c. not (eqb c.xid e.xid)) s.calls l.fits;
+        fits = fit-filter (λ c. not (eqb c.xid e.xid)) s.calls l.fits;
         short = l.short;
         stream_up = l.stream_up;
         begins_up = l.begins_up;

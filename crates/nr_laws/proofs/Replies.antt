@@ -31,7 +31,7 @@ use Rattle.nr_reduce.specs.ServerMessages.Verdict.{EndsLink, OtherVersion, BadCh
 use Rattle.nr_reduce.specs.ServerFrames.{FrameEffect, no_effect, with_verdict, ready_if_whole, message_effect, with_refused_call, is_stream_read, read_effect, call_of_number, response_effect, with_access, effect_in, frame_effect}
 use Rattle.nr_reduce.proofs.AnswerMessages.{answer_length}
 use Rattle.nr_laws.proofs.WritableOffers.{OfferFits}
-use Rattle.nr_laws.proofs.ServerOutput.{word_len}
+use Rattle.nr_laws.proofs.ServerOutputs.{word_len}
 
 pub record IsReply (credit : ℕ) (message : List ℕ) : Type 0 where
   pub least : 16 ≤ length message

@@ -1,10 +1,6 @@
 -- What a server sends can be written, and its output is the bytes of it; the offers of its calls stay within their limits.
-use Rattle.std.proofs.lemmas.List.Elements.{All-nil}
-use Rattle.nr_header.specs.WithinLimits.{ListsWithin}
-use Rattle.std.proofs.Common.{◌≡◌, ℕ, ◌+◌, ◌*◌, ◌≤◌, min, Bool, true, false, cond, not, ◌&&◌, eqb, List, [], ◌∷◌, ◌++◌, length, map, take, drop, filter, Option, Some, None, Result, Ok, refl, sym, ap, subst, ◌∙◌, arith, lit<, length-append, length-take, append_assoc, append-nil}
-use Rattle.std.specs.List.{find}
-use Rattle.nr_xdr.specs.Item.{word, IsBytes}
-use Rattle.nr_xdr.proofs.WordBytes.{length-word}
+use Rattle.std.proofs.Common.{◌≡◌, ℕ, ◌+◌, min, Bool, true, false, cond, not, ◌&&◌, eqb, List, [], ◌∷◌, ◌++◌, length, map, take, drop, Option, Some, None, Result, Ok, refl, sym, ap, subst, ◌∙◌, arith, lit<, length-take, append_assoc, append-nil}
+use Rattle.nr_xdr.specs.Item.{IsBytes}
 use Rattle.nr_xdr.specs.Fields.{word_at}
 use Rattle.nr_wire.specs.Constants.{OPCODE_WRITE, OPCODE_READ_RESPONSE, OPCODE_SEND, QUEUE_SEND}
 use Rattle.nr_wire.specs.declared.hello.Side.TheVariants.{Responder}
@@ -18,7 +14,7 @@ use Rattle.nr_link.specs.Frames.{Frame}
 use Rattle.nr_link.specs.Output.{msn_word, send, write}
 use Rattle.nr_link.specs.Ending.{frame_segment}
 use Rattle.nr_link.specs.ReceiveState.{begun_bytes}
-use Rattle.nr_reduce.specs.Holds.{Answer, answer_for, answer_message, answer_writes, writes_into, chunk_error, version_error, answer_size, first_chunk, no_segments}
+use Rattle.nr_reduce.specs.Holds.{Answer, answer_message, answer_writes, writes_into, chunk_error, first_chunk, no_segments}
 use Rattle.nr_reduce.specs.Chunks.{is_read_chunk_of_item}
 use Rattle.nr_reduce.specs.History.{ExecutedCall}
 use Rattle.nr_reduce.specs.ServerState.{PendingCall, PendingRead, ServerState, credit_word, down_max}
@@ -27,57 +23,17 @@ use Rattle.nr_reduce.specs.ServerMessages.{CallVerdict, by_payload, payload_of, 
 use Rattle.nr_reduce.specs.ServerMessages.CallVerdict.{Refuses, IsReady}
 use Rattle.nr_reduce.specs.ServerMessages.Verdict.{EndsLink, OtherVersion, BadChunks, MakesPending}
 use Rattle.nr_reduce.specs.ServerFrames.{FrameEffect, no_effect, with_verdict, ready_if_whole, message_effect, with_refused_call, is_stream_read, read_effect, call_of_number, response_effect, with_access, effect_in, frame_effect}
-use Rattle.nr_reduce.specs.Server.{newly_open_reads, offer_by, offer_of, answer_of_target, answer_output, execution_output}
-use Rattle.nr_reduce.proofs.AnswerMessages.{answer_length}
+use Rattle.nr_reduce.specs.Server.{newly_open_reads, offer_of, answer_of_target, answer_output, execution_output}
 use Rattle.nr_laws.specs.FrameContents.{FrameContent, output_bytes, total_of, sends_in, requests_in, request_frame, effect_frames, write_frames, answer_frames, tagged_frames}
 use Rattle.nr_laws.specs.FrameContents.FrameContent.{SendFrame}
 use Rattle.nr_laws.proofs.TotalsAtServer.{fills-none, long-none}
 use Rattle.nr_laws.proofs.StreamFrames.{spelled-append}
 use Rattle.nr_laws.proofs.OutputFrames.{IsShort, AreShort, send-one, write-said}
 use Rattle.nr_laws.proofs.Writable.{AreWritable, all_proper-append, tagged-proper}
+use Rattle.nr_laws.proofs.ServerOutputs.{chunk_error-short, version_error-short, CallsFit, fit-append, fit-filter, answer-short, for_target, found-fits}
 use Rattle.nr_laws.proofs.WritableOffers.{SegmentsFit, OfferFits, verdict_fits}
 
--- ---- Messages are short
-
-pub word_len : (n : ℕ) (more : List ℕ) → length (word n ++ more) ≡ 4 + length more
-word_len n more = omega (arith, length-append (word n) more, length-word n)
-
-chunk_error-short : (xid credit : ℕ) → IsShort (chunk_error xid credit)
-unfolding chunk_error
-chunk_error-short xid credit =
-    omega (arith, word_len xid (word 1 ++ (word credit ++ (word 4 ++ (word 2 ++ [])))), word_len 1 (word credit ++ (word 4 ++ (word 2 ++ []))), word_len credit (word 4 ++ (word 2 ++ [])), word_len 4 (word 2 ++ []), word_len 2 [])
-
-version_error-short : (xid version credit : ℕ) → IsShort (version_error xid version credit)
-unfolding version_error
-version_error-short xid version credit =
-    omega (
-      arith,
-      word_len xid (word version ++ (word credit ++ (word 4 ++ (word 1 ++ (word 1 ++ (word 1 ++ [])))))),
-      word_len version (word credit ++ (word 4 ++ (word 1 ++ (word 1 ++ (word 1 ++ []))))),
-      word_len credit (word 4 ++ (word 1 ++ (word 1 ++ (word 1 ++ [])))),
-      word_len 4 (word 1 ++ (word 1 ++ (word 1 ++ []))),
-      word_len 1 (word 1 ++ (word 1 ++ [])),
-      word_len 1 (word 1 ++ []),
-      word_len 1 [],
-    )
-
 -- ---- The calls of a server
-
-abbrev pub CallsFit : List PendingCall → Type 0
-CallsFit [] = Unit {0}
-CallsFit (c ∷ calls) = OfferFits c.lists × CallsFit calls
-
-calls_fit-append : (xs ys : List PendingCall) → CallsFit xs → CallsFit ys → CallsFit (xs ++ ys)
-calls_fit-append [] ys h k = k
-calls_fit-append (x ∷ xs) ys h k = (h.0, calls_fit-append xs ys h.1 k)
-
-pub calls_fit-kept : (p : PendingCall → Bool) (xs : List PendingCall) → CallsFit xs → CallsFit (filter p xs)
-calls_fit-kept p [] h = tt
-calls_fit-kept p (x ∷ xs) h = by (p x) (calls_fit-kept p xs h.1)
-  where
-    by : (b : Bool) → CallsFit (filter p xs) → CallsFit (cond b (x ∷ filter p xs) (filter p xs))
-    by true k = (h.0, k)
-    by false k = k
 
 -- an effect whose messages are short, and whose calls are within their limits
 record IsFine (s : FrameEffect) : Type 0 where
@@ -101,14 +57,14 @@ fine-message k place message OtherVersion is bytes h = record { short = (version
 fine-message k place message BadChunks is bytes h = record { short = (chunk_error-short (word_at 0 message) (credit_word k), tt); fit = h }
 fine-message k place message (MakesPending c) is bytes h =
     fine-whole k place c (record (no_effect k) { calls = k.calls ++ c ∷ []; reads = k.reads ++ reads_of (k.regions ++ regions_of k place c) c; regions = k.regions ++ regions_of k place c })
-    (record { short = tt; fit = calls_fit-append k.calls (c ∷ []) h (verdict_fits k message c bytes is, tt) })
+    (record { short = tt; fit = fit-append k.calls (c ∷ []) h (verdict_fits k message c bytes is, tt) })
 
 fine-read : (k : ServerState) (place : ℕ) (r : PendingRead) (o : Option PendingCall) (s : FrameEffect) → IsFine s → IsFine (read_effect k place r o s)
 fine-read k place r None s h = h
 fine-read k place r (Some c) s h = by (is_stream_read c r s.reads && not (is_read_chunk_of_item (chunk_bytes k place c 0) c.lists.read))
   where
     by : (b : Bool) → IsFine (cond b (with_refused_call k c s) (ready_if_whole k place c s))
-    by true = record { short = (chunk_error-short c.xid (credit_word k), tt); fit = calls_fit-kept (λ other. not (eqb other.number c.number)) s.calls h.fit }
+    by true = record { short = (chunk_error-short c.xid (credit_word k), tt); fit = fit-filter (λ other. not (eqb other.number c.number)) s.calls h.fit }
     by false = fine-whole k place c s h
 
 fine-response : (k : ServerState) (place : ℕ) (reads : List PendingRead) → CallsFit k.calls → IsFine (response_effect k place reads)
@@ -165,23 +121,6 @@ fills-proper (s ∷ chunk) bytes h =
     by true = tt
     by false = tagged-proper OPCODE_WRITE s.handle s.offset (take s.length bytes) refl (lit< tt) h.0.0 h.0.1 (omega (arith, h.0.2, length-take s.length bytes))
 
-pub answer-short : (offer : ChunkLists) (down prog vers proc xid credit : ℕ) (reply : List ℕ) (a : Answer) → down ≤ 1024 → OfferFits offer → answer_for offer down prog vers proc reply ≡ Some a → IsShort (answer_message xid credit offer a)
-answer-short offer down prog vers proc xid credit reply a small fits e =
-    let sizes = answer_length offer down prog vers proc xid credit reply a e in
-    by a.long refl sizes.0 sizes.1
-  where
-    by : (b : Bool) → a.long ≡ b
-        → (a.long ≡ false → (length (answer_message xid credit offer a) ≡ answer_size offer.write + length a.stream) × (length (answer_message xid credit offer a) ≤ down))
-        → (a.long ≡ true → length (answer_message xid credit offer a) ≡ answer_size offer.write + (4 + 16 * length (no_segments offer.reply)))
-        → IsShort (answer_message xid credit offer a)
-    by true is short long = omega (arith, long is, fits.size)
-    by false is short long = omega (arith, (short is).1, small)
-
-pub for_target : (offer : ChunkLists) (down : ℕ) (reply : List ℕ) (t : Option CallTarget) (a : Answer) → answer_of_target offer down reply t ≡ Some a
-    → (prog : ℕ) × (vers : ℕ) × (proc : ℕ) × (answer_for offer down prog vers proc reply ≡ Some a)
-for_target offer down reply None a e = (0, 0, 0, e)
-for_target offer down reply (Some t) a e = (t.prog, t.vers, t.proc, e)
-
 answer-proper : (k : ServerState) (xid : ℕ) (offer : ChunkLists) (reply : List ℕ) (t : Option CallTarget) (o : Option Answer) → answer_of_target offer (down_max k) reply t ≡ o → OfferFits offer → AreWritable (answer_frames k xid offer o)
 answer-proper k xid offer reply t None e fits = (chunk_error-short xid (credit_word k), tt)
 answer-proper k xid offer reply t (Some a) e fits =
@@ -195,28 +134,6 @@ answer-proper k xid offer reply t (Some a) e fits =
     by true = fills-proper (no_segments offer.reply) a.stream fits.replies
     by false = tt
 
-nothing_within : ListsWithin (record { read = []; write = []; reply = None })
-nothing_within = record {
-  read_segments = omega arith;
-  read_ends = All-nil _;
-  one_position = (0, All-nil _);
-  write_chunks = omega arith;
-  chunk_segments = All-nil _;
-  write_segments = omega arith;
-  write_ends = All-nil _;
-  reply_segments = tt;
-  reply_ends = tt;
-}
-
-pub found-fits : (xid : ℕ) (calls : List PendingCall) → CallsFit calls → OfferFits (offer_by (find (λ (c : PendingCall). eqb c.xid xid) calls))
-found-fits xid [] h = record { reads = tt; total = omega arith; size = omega arith; writes = tt; replies = tt; items = (tt, (tt, (tt, tt))); within = nothing_within }
-found-fits xid (c ∷ calls) h = by (eqb c.xid xid) (found-fits xid calls h.1)
-  where
-    by : (b : Bool) → OfferFits (offer_by (find (λ (c : PendingCall). eqb c.xid xid) calls)) → OfferFits (offer_by (cond b (Some c) (find (λ (c : PendingCall). eqb c.xid xid) calls)))
-    by true k = h.0
-    by false k = k
-
--- what a server sends of an executed call
 abbrev pub execution_frames : ServerState → ExecutedCall → List FrameContent
 execution_frames k e = answer_frames k e.xid (offer_of k e.xid) (answer_of_target (offer_of k e.xid) (down_max k) e.reply (target_of (call_of e.payload)))
 

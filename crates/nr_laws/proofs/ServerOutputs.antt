@@ -1,6 +1,8 @@
 -- What the server of a link says along its events: each of its messages answers an executed call, or refuses a Send.
 use Rattle.std.proofs.Common.{◌≡◌, ℕ, ◌+◌, ◌*◌, ◌≤◌, Bool, true, false, cond, ◌&&◌, not, eqb, List, [], ◌∷◌, ◌++◌, length, map, Option, None, Some, Result, Ok, Err, refl, sym, ap, subst, ◌∙◌, arith, append-nil, length-append}
 use Rattle.std.specs.List.{filter, find}
+use Rattle.std.proofs.lemmas.List.Elements.{All-nil}
+use Rattle.nr_header.specs.WithinLimits.{ListsWithin}
 use Rattle.nr_xdr.specs.Item.{IsBytes, word}
 use Rattle.nr_xdr.specs.Fields.{word_at}
 use Rattle.nr_xdr.proofs.WordBytes.{length-word}
@@ -27,7 +29,7 @@ use Rattle.nr_reduce.specs.ServerMessages.CallVerdict.{Refuses, IsReady}
 use Rattle.nr_reduce.specs.ServerFrames.{FrameEffect, no_effect, with_verdict, ready_if_whole, message_effect, with_refused_call, is_stream_read, read_effect, call_of_number, response_effect, by_message, with_access, effect_in, frame_effect}
 use Rattle.nr_reduce.specs.Server.{offer_by, offer_of, answer_of_target, newly_open_reads}
 use Rattle.nr_reduce.proofs.AnswerMessages.{answer_length}
-use Rattle.nr_laws.proofs.OfferLimits.{OfferFits, SegmentsFit, verdict_fits}
+use Rattle.nr_laws.proofs.WritableOffers.{OfferFits, SegmentsFit, verdict_fits}
 use Rattle.nr_laws.proofs.Outputs.{Output, IsShort, AreShort, message_sends, request_outputs, effect_outputs, answer_outputs, answer_of_call, AnswerShort, send_segment}
 use Rattle.nr_laws.proofs.Outputs.Output.{ASegment}
 use Rattle.nr_laws.proofs.Brought.{AreFrom}
@@ -36,7 +38,7 @@ use Rattle.nr_laws.proofs.Messages.{messages, AreOne, messages-append, one-appen
 
 -- ---- Error messages
 
-word_len : (n : ℕ) (more : List ℕ) → length (word n ++ more) ≡ 4 + length more
+pub word_len : (n : ℕ) (more : List ℕ) → length (word n ++ more) ≡ 4 + length more
 word_len n more = omega (arith, length-append (word n) more, length-word n)
 
 pub chunk_error-short : (xid credit : ℕ) → IsShort (chunk_error xid credit)
@@ -44,7 +46,7 @@ unfolding chunk_error
 chunk_error-short xid credit =
     omega (arith, word_len xid (word 1 ++ (word credit ++ (word 4 ++ (word 2 ++ [])))), word_len 1 (word credit ++ (word 4 ++ (word 2 ++ []))), word_len credit (word 4 ++ (word 2 ++ [])), word_len 4 (word 2 ++ []), word_len 2 [])
 
-version_error-short : (xid version credit : ℕ) → IsShort (version_error xid version credit)
+pub version_error-short : (xid version credit : ℕ) → IsShort (version_error xid version credit)
 unfolding version_error
 version_error-short xid version credit =
     omega (
@@ -82,7 +84,7 @@ abbrev pub CallsFit : List PendingCall → Type 0
 CallsFit [] = Unit {0}
 CallsFit (c ∷ calls) = OfferFits c.lists × CallsFit calls
 
-fit-append : (xs ys : List PendingCall) → CallsFit xs → CallsFit ys → CallsFit (xs ++ ys)
+pub fit-append : (xs ys : List PendingCall) → CallsFit xs → CallsFit ys → CallsFit (xs ++ ys)
 fit-append [] ys h k = k
 fit-append (x ∷ xs) ys h k = (h.0, fit-append xs ys h.1 k)
 
@@ -200,7 +202,7 @@ answer-words offer a h =
     by true = chunk-words (no_segments offer.reply) a.stream (words-fit (no_segments offer.reply) h.replies)
     by false = tt
 
-answer-short : (offer : ChunkLists) (down prog vers proc xid credit : ℕ) (reply : List ℕ) (a : Answer) → down ≤ 1024 → OfferFits offer → answer_for offer down prog vers proc reply ≡ Some a → IsShort (answer_message xid credit offer a)
+pub answer-short : (offer : ChunkLists) (down prog vers proc xid credit : ℕ) (reply : List ℕ) (a : Answer) → down ≤ 1024 → OfferFits offer → answer_for offer down prog vers proc reply ≡ Some a → IsShort (answer_message xid credit offer a)
 answer-short offer down prog vers proc xid credit reply a small fits e =
     let sizes = answer_length offer down prog vers proc xid credit reply a e in
     by a.long refl sizes.0 sizes.1
@@ -217,14 +219,28 @@ pub for_target : (offer : ChunkLists) (down : ℕ) (reply : List ℕ) (t : Optio
 for_target offer down reply None a e = (0, 0, 0, e)
 for_target offer down reply (Some t) a e = (t.prog, t.vers, t.proc, e)
 
-found-fits : (xid : ℕ) (calls : List PendingCall) → CallsFit calls → OfferFits (offer_by (find (λ (c : PendingCall). eqb c.xid xid) calls))
-found-fits xid [] h = record { size = omega arith; writes = tt; replies = tt }
+nothing_within : ListsWithin (record { read = []; write = []; reply = None })
+nothing_within = record {
+  read_segments = omega arith;
+  read_ends = All-nil _;
+  one_position = (0, All-nil _);
+  write_chunks = omega arith;
+  chunk_segments = All-nil _;
+  write_segments = omega arith;
+  write_ends = All-nil _;
+  reply_segments = tt;
+  reply_ends = tt;
+}
+
+pub found-fits : (xid : ℕ) (calls : List PendingCall) → CallsFit calls → OfferFits (offer_by (find (λ (c : PendingCall). eqb c.xid xid) calls))
+found-fits xid [] h = record { reads = tt; total = omega arith; size = omega arith; writes = tt; replies = tt; items = (tt, (tt, (tt, tt))); within = nothing_within }
 found-fits xid (c ∷ calls) h = by (eqb c.xid xid) (found-fits xid calls h.1)
   where
     by : (b : Bool) → OfferFits (offer_by (find (λ (c : PendingCall). eqb c.xid xid) calls)) → OfferFits (offer_by (cond b (Some c) (find (λ (c : PendingCall). eqb c.xid xid) calls)))
     by true k = h.0
     by false k = k
 
+-- what a server sends of an executed call
 pub answer-is-short : (k : ServerState) (e : ExecutedCall) → CallsFit k.calls → (o : Option Answer) → answer_of_call k e ≡ o → AnswerShort k e.xid (offer_of k e.xid) o
 answer-is-short k e h None is = chunk_error-short e.xid (credit_word k)
 answer-is-short k e h (Some a) is =

@@ -47,7 +47,7 @@ use Rattle.nr_laws.specs.FrameContents.{FrameContent, numbered_segment, frame_by
 use Rattle.nr_laws.specs.FrameContents.FrameContent.{HelloFrame, SendFrame, RequestFrame, TaggedFrame}
 use Rattle.nr_laws.specs.LinkInvariants.{Transit}
 use Rattle.nr_laws.proofs.Totals.{total-append}
-use Rattle.nr_laws.proofs.StreamFrames.{own_hello-is}
+use Rattle.nr_laws.proofs.Brought.{hello-is}
 use Rattle.nr_laws.proofs.CompletedFrames.{is-piece}
 use Rattle.nr_laws.proofs.Writable.{IsWritable, IsOutput, proper_one, stream-first, stream-at}
 use Rattle.nr_laws.proofs.AgreeingEnds.{EndsAgree, IsPlace, frame_of, taken_up}
@@ -222,7 +222,7 @@ step-up opened k s [] d all_up all_down w p rest n r place o l g first sends req
     let hello : p ≡ HelloFrame = stream-first p (rest ++ w.queued_up) stream in
     let f = frame_of (frame_bytes Initiator (numbered_segment n r p)) place in
     let is : is_hello f ≡ true = ap (λ (x : ℕ). eqb x 0) at in
-    let says = ap (λ (q : FrameContent). hello_of Initiator (frame_bytes Initiator (numbered_segment n r q))) hello ∙ (own_hello-is Initiator).says in
+    let says = ap (λ (q : FrameContent). hello_of Initiator (frame_bytes Initiator (numbered_segment n r q))) hello ∙ (hello-is Initiator).says in
     let none = hello-none opened s f is says in
     subst (λ (q : FrameContent). ServerStep opened k s [] d all_up all_down w q rest f) (sym hello) (record {
       only = λ end e. absurd (some-none end (sym e ∙ none));

@@ -1,36 +1,26 @@
 -- The frames of the first bytes of a side's output are its hello and the segments of its first frame contents.
-use Rattle.std.proofs.Common.{◌≡◌, ℕ, suc, ◌+◌, ◌≤◌, ◌<◌, Bool, true, false, cond, ◌⊎◌, inl, inr, List, [], ◌∷◌, ◌++◌, length, take, drop, Option, None, Some, Result, Ok, Err, refl, sym, ap, subst, ◌∙◌, arith, append_assoc, append-nil, length-drop, take-append-drop, take_all, add-zero, lit≤}
+use Rattle.std.proofs.Common.{◌≡◌, ℕ, suc, ◌+◌, ◌≤◌, ◌<◌, ◌⊎◌, inl, inr, List, [], ◌∷◌, ◌++◌, length, take, drop, Option, None, Some, refl, sym, ap, subst, ◌∙◌, arith, append_assoc, length-drop, take-append-drop, take_all, add-zero}
 use Rattle.std.specs.List.{concat}
 use Rattle.std.proofs.lemmas.Bool.{cases_lt}
 use Rattle.std.proofs.lemmas.List.{take-append-le}
 use Rattle.nr_wire.specs.declared.hello.Side.{Side}
-use Rattle.nr_wire.specs.declared.hello.Side.TheVariants.{Initiator, Responder}
 use Rattle.nr_wire.specs.declared.stream.Awaited.{Awaited}
 use Rattle.nr_wire.specs.declared.stream.Awaited.TheVariants.{Hello as HelloFrom, Fpdu}
-use Rattle.nr_wire.specs.Hello.{Hello, hello_encoding, hello_of, hello_len, is_refused_by}
-use Rattle.nr_wire.specs.Segment.{Segment, segment_of, encoding, fpdu_len, IsSupported, Fits, ulpdu_size}
-use Rattle.nr_wire.specs.Next.{frame_answer, hello_in, segment_in}
-use Rattle.nr_wire.specs.Next.Next.{Whole, More}
-use Rattle.nr_wire.specs.Stream.{Split, split, is_whole, frame_len, IsFrame, IsPartial}
-use Rattle.nr_wire.proofs.Frames.{whole_from, partial_nil, partial_not_whole, fields_some}
+use Rattle.nr_wire.specs.Segment.{Segment}
+use Rattle.nr_wire.specs.Stream.{Split, split, IsFrame, IsPartial}
+use Rattle.nr_wire.proofs.Frames.{partial_nil, partial_not_whole, fields_some}
 use Rattle.nr_wire.proofs.Splits.{split-frame, split-partial}
-use Rattle.nr_wire.proofs.Segments.{encoding_again}
-use Rattle.nr_wire.proofs.Hellos.{hello_again}
 use Rattle.nr_link.specs.Output.{own_hello}
+use Rattle.nr_laws.proofs.Brought.{IsWord, encoding-is, hello-is}
 use Rattle.nr_laws.specs.FrameContents.{FrameContent, numbered_segment, frame_bytes, output_bytes, sends_in, requests_in, total_of}
 
 -- ---- Pieces that are frames
-
-pub record HasWords (segment : Segment) : Type 0 where
-  pub through : IsSupported segment
-  pub fits : Fits segment
-  pub size : ulpdu_size segment ≤ 65535
 
 abbrev pub IsWritableAs : Awaited → Option Segment → Type 0
 IsWritableAs (HelloFrom side) None = Unit {0}
 IsWritableAs (HelloFrom side) (Some segment) = ⊥
 IsWritableAs Fpdu None = ⊥
-IsWritableAs Fpdu (Some segment) = HasWords segment
+IsWritableAs Fpdu (Some segment) = IsWord segment
 
 -- the first frame of a side is its hello, and no other; each other is a segment whose numbers are words
 abbrev pub AreWritableFrom : Awaited → (sends requests : ℕ) → List FrameContent → Type 0
@@ -72,61 +62,15 @@ length-frames side n r (p ∷ ps) = ap (λ (k : ℕ). suc k) (length-frames side
 
 -- ---- Each is a whole frame
 
-record FrameJudged {V : Type 0} (whole : Bool) (r : Result V ℕ) (value : V) (len n : ℕ) : Type 0 where
-  is_whole : whole ≡ true
-  says : r ≡ Ok value
-  len_is : len ≡ n
-
-judged_whole : {V : Type 0} (whole : Bool) (r : Result V ℕ) (value : V) (len n : ℕ) → cond whole (frame_answer r len) More ≡ Whole value n → FrameJudged whole r value len n
-judged_whole true (Ok x) value len n e = record { is_whole = refl; says = cc; len_is = cc }
-judged_whole true (Err f) value len n e = absurd cc
-judged_whole false r value len n e = absurd cc
-
-frame_from : (a : Awaited) (bytes : List ℕ) → is_whole a bytes ≡ true → frame_len a bytes ≡ length bytes → IsFrame a bytes
-frame_from a bytes whole len = record { fields = (whole_from a bytes whole).fields; len = len }
-
-pub record IsSegmentFrame (frame : List ℕ) (segment : Segment) : Type 0 where
-  pub is_frame : IsFrame Fpdu frame
-  pub says : segment_of frame ≡ Ok segment
-
-pub spelling-is : (segment : Segment) → HasWords segment → IsSegmentFrame (encoding segment) segment
-unfolding segment_in
-spelling-is segment w =
-    let frame = encoding segment in
-    let read : segment_in (frame ++ []) ≡ Whole segment (length frame) = encoding_again segment [] w.through w.fits w.size in
-    let found : segment_in frame ≡ Whole segment (length frame) = rw append-nil at read in
-    let j = judged_whole (is_whole Fpdu frame) (segment_of (take (fpdu_len frame) frame)) segment (fpdu_len frame) (length frame) found in
-    let all : take (fpdu_len frame) frame ≡ frame = take_all (fpdu_len frame) frame (omega (arith, j.len_is)) in
-    record { is_frame = frame_from Fpdu frame j.is_whole j.len_is; says = ap segment_of (sym all) ∙ j.says }
-
-unrefused : (side : Side) → is_refused_by side 0 ≡ false
-unrefused Initiator = refl
-unrefused Responder = refl
-
-pub record IsHelloFrame (side : Side) (frame : List ℕ) : Type 0 where
-  pub is_frame : IsFrame (HelloFrom side) frame
-  pub says : hello_of side frame ≡ Ok (record { side = side; flags = 0; private = [] })
-
-pub own_hello-is : (side : Side) → IsHelloFrame side (own_hello side)
-unfolding own_hello hello_in
-own_hello-is side =
-    let hello : Hello = record { side = side; flags = 0; private = [] } in
-    let frame = hello_encoding hello in
-    let read : hello_in side (frame ++ []) ≡ Whole hello (length frame) = hello_again hello [] (unrefused side, lit≤ tt) in
-    let found : hello_in side frame ≡ Whole hello (length frame) = rw append-nil at read in
-    let j = judged_whole (is_whole (HelloFrom side) frame) (hello_of side (take (hello_len side frame) frame)) hello (hello_len side frame) (length frame) found in
-    let all : take (hello_len side frame) frame ≡ frame = take_all (hello_len side frame) frame (omega (arith, j.len_is)) in
-    record { is_frame = frame_from (HelloFrom side) frame j.is_whole j.len_is; says = ap (hello_of side) (sym all) ∙ j.says }
-
 abbrev pub IsOf : Side → Awaited → Type 0
 IsOf side (HelloFrom other) = other ≡ side
 IsOf side Fpdu = Unit {0}
 
 pub proper-frame : (side : Side) (a : Awaited) (s : Option Segment) → IsOf side a → IsWritableAs a s → IsFrame a (frame_bytes side s)
-proper-frame side (HelloFrom other) None is h = subst (λ (x : Side). IsFrame (HelloFrom x) (own_hello side)) (sym is) (own_hello-is side).is_frame
+proper-frame side (HelloFrom other) None is h = subst (λ (x : Side). IsFrame (HelloFrom x) (own_hello side)) (sym is) (hello-is side).is_frame
 proper-frame side (HelloFrom other) (Some segment) is h = absurd h
 proper-frame side Fpdu None is h = absurd h
-proper-frame side Fpdu (Some segment) is h = (spelling-is segment h).is_frame
+proper-frame side Fpdu (Some segment) is h = (encoding-is segment h).is_frame
 
 frame-some : (a : Awaited) (frame : List ℕ) → IsFrame a frame → 0 < length frame
 frame-some a frame f = omega (arith, f.fields, fields_some a)

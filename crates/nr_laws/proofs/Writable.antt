@@ -50,10 +50,10 @@ len_request sink at size stag to =
 
 pub proper_one : (n r : ℕ) (p : FrameContent) → IsWritable p → IsWritableAs Fpdu (numbered_segment n r p)
 proper_one n r HelloFrame h = absurd h
-proper_one n r (SendFrame message) h = record { through = (refl, refl); fits = (lit< tt, lit< tt, lit< tt, word_below (n + 1), lit< tt); size = omega (arith, h) }
+proper_one n r (SendFrame message) h = record { supported = (refl, refl); fits = (lit< tt, lit< tt, lit< tt, word_below (n + 1), lit< tt); size = omega (arith, h) }
 proper_one n r (RequestFrame sink at size stag to) h =
-    record { through = (refl, refl); fits = (lit< tt, lit< tt, lit< tt, word_below (r + 1), lit< tt); size = omega (arith, len_request sink at size stag to) }
-proper_one n r (TaggedFrame last opcode stag to payload) h = record { through = h.0; fits = (h.1, h.2, h.3); size = omega (arith, h.4) }
+    record { supported = (refl, refl); fits = (lit< tt, lit< tt, lit< tt, word_below (r + 1), lit< tt); size = omega (arith, len_request sink at size stag to) }
+proper_one n r (TaggedFrame last opcode stag to payload) h = record { supported = h.0; fits = (h.1, h.2, h.3); size = omega (arith, h.4) }
 
 pub all_proper : (n r : ℕ) (ps : List FrameContent) → AreWritable ps → AreWritableFrom Fpdu n r ps
 all_proper n r [] h = tt
