@@ -28,7 +28,10 @@ use Rattle.nr_reduce.proofs.OwnStags.{ClientNumbers, client-numbers}
 use Rattle.nr_laws.specs.MarkAt.{MarkAt}
 use Rattle.nr_laws.specs.MatchedSoFar.{MatchedSoFar}
 use Rattle.nr_laws.specs.Typed.{TypedMark, IsTyped}
-use Rattle.nr_laws.specs.HandedOver.{HasPlan, HasTargetOf, StreamRepliesAreExecuted, RepliesByTargetAreExecuted, InlineCallsAreReplied}
+use Rattle.nr_laws.specs.Payloads.{HasPlan}
+use Rattle.nr_laws.specs.HandedOver.{HasTargetOf, StreamRepliesAreExecuted, RepliesByTargetAreExecuted, HasWords, HasOwnReply}
+use Rattle.nr_laws.specs.MarkAt.{MarkAt}
+use Rattle.nr_reduce.specs.declared.call.Outcome.TheVariants as outcomes
 use Rattle.nr_laws.proofs.InlineCalls.{same-bytes, inline-executed, own-target}
 use Rattle.nr_reduce.specs.Asked.{AskedMark, IsAccepted}
 use Rattle.nr_reduce.specs.Matched.{IsPrefixOf}
@@ -214,7 +217,8 @@ replies_by_target_are_executed opened link run before xid plan reply opens typed
       same = λ h. sym (by-target has.call plan (offer_of (server_by opened r.answer.earlier) e.xid) e.payload e.reply reply r.answer.answer b r.answer.is_answer h);
     }
 
-pub inline_calls_are_replied : InlineCallsAreReplied
+pub inline_calls_are_replied : (opened : LinkParameters) (link : ℕ) (run before : List Mark) (xid : ℕ) (plan : Plan) (reply : List ℕ) → IsOpened opened → IsTyped run → MatchedSoFar opened link run → (has : HasPlan opened link run xid plan)
+    → HasWords has.call → plan.read_at ≡ None → MarkAt run before (marks.Done link xid (outcomes.Reply reply)) → HasOwnReply link before xid has.call reply
 inline_calls_are_replied opened link run before xid plan reply opens typed far has words none at =
     let r = replied-by opened link run before at.after xid reply typed far at.is in
     let b = both-conveyed opened link run before xid plan reply opens typed far has at r in

@@ -29,7 +29,10 @@ use Rattle.nr_reduce.proofs.Shapes.{MessageKind, offered, shape, is_plan}
 use Rattle.nr_reduce.proofs.Shapes.MessageKind.{Short, Chunked, Long}
 use Rattle.nr_reduce.proofs.Sizes.{is_formed}
 use Rattle.nr_laws.specs.Typed.{TypedMark, IsTypedForm, IsTyped}
-use Rattle.nr_laws.specs.Payloads.{form_conveyed, HasSubmit, PayloadsAreSubmitted}
+use Rattle.nr_reduce.specs.declared.mark.Moment.{Moment}
+use Rattle.nr_laws.specs.MarkAt.{MarkAt}
+use Rattle.nr_laws.specs.MatchedSoFar.{MatchedSoFar}
+use Rattle.nr_laws.specs.Payloads.{form_conveyed, HasPlan, ExecutesHavePlans}
 use Rattle.nr_laws.proofs.PlanLists.{stream_known, ReadsLists}
 use Rattle.nr_laws.proofs.ConveyedCalls.{planned-fits, plan-reads}
 use Rattle.nr_laws.proofs.OnceByXid.{ExecutedAt, executed-at, at-mark, before-mark}
@@ -145,20 +148,28 @@ executed-alone opened link before xid payload typed a none =
     ∙ sym (λ i. call_conveyed (stream i) (read i) chunk)
     ∙ was.payload
 
--- ---- The law
+-- ---- The Submit of an executed call
 
-pub payloads_are_submitted : PayloadsAreSubmitted
-payloads_are_submitted opened link run before xid moment payload place reply typed far h =
+-- with its plan; where that has no read chunk, the payload is what its form conveys of the call's own
+pub record HasSubmit (opened : LinkParameters) (link : ℕ) (run : List Mark) (xid : ℕ) (payload : List ℕ) : Type 0 where
+  pub plan : Plan
+  pub has : HasPlan opened link run xid plan
+  pub conveyed : plan.read ≡ [] → form_conveyed has.form (call_payload xid has.call) ≡ Some payload
+
+pub executed-own : (opened : LinkParameters) (link : ℕ) (run before : List Mark) (xid : ℕ) (moment : Moment) (payload : List ℕ) (place : ℕ) (reply : List ℕ) → IsTyped run → MatchedSoFar opened link run
+    → MarkAt run before (marks.Execute link xid moment payload place reply) → HasSubmit opened link before xid payload
+executed-own opened link run before xid moment payload place reply typed far h =
     let a = executed-at opened link run before h.after xid moment payload place reply typed far h.is in
     let w = a.submit.submitted in
     let own : w.xid ≡ xid = a.submit.own_xid in
     let first = before-mark TypedMark run before (marks.Execute link xid moment payload place reply) h.after h.is typed in
     subst (λ (x : ℕ). HasSubmit opened link before x payload) own (record {
-      call = w.call;
-      form = w.form;
-      before = w.earlier;
-      at = record { after = w.later; is = w.is };
       plan = w.accepted.plan;
-      planned = w.accepted.planned;
+      has = record { call = w.call; form = w.form; before = w.earlier; at = record { after = w.later; is = w.is }; planned = w.accepted.planned };
       conveyed = executed-alone opened link before xid payload first a;
     })
+
+pub executes_have_plans : ExecutesHavePlans
+executes_have_plans opened link run before xid moment payload place reply typed far h =
+    let s = executed-own opened link run before xid moment payload place reply typed far h in
+    (s.plan, s.has)

@@ -26,7 +26,7 @@ use Rattle.nr_reduce.specs.RunLaws.{server_by, IsReceivedCall}
 use Rattle.nr_reduce.proofs.Conveyed.{Each, Known, known-from}
 use Rattle.nr_laws.specs.MatchedSoFar.{MatchedSoFar}
 use Rattle.nr_laws.specs.Typed.{TypedMark, IsTyped}
-use Rattle.nr_laws.specs.HandedOver.{HasPlan}
+use Rattle.nr_laws.specs.Payloads.{HasPlan}
 use Rattle.nr_laws.proofs.Hears.{live-first}
 use Rattle.nr_laws.proofs.HeaderXid.{header-xid, call-xid}
 use Rattle.nr_laws.proofs.OnceByXid.{at-mark}

@@ -1,9 +1,10 @@
 -- A call that was accepted under an xid is the one that is executed under it.
-use Rattle.std.proofs.Common.{◌≡◌, ℕ, ◌<◌, List, [], ◌∷◌, ◌++◌, drop, Some, Ok, refl, sym, ap, subst, ◌∙◌, arith, append_assoc}
+use Rattle.std.proofs.Common.{◌≡◌, ℕ, ◌<◌, List, [], ◌∷◌, ◌++◌, drop, Some, Ok, refl, sym, ap, subst, ◌∙◌, arith, append_assoc, inl, inr, ◌⊎◌, sum}
 use Rattle.nr_reduce.specs.declared.call.Call.{Call}
 use Rattle.nr_reduce.specs.declared.call.Form.{Form}
 use Rattle.nr_reduce.specs.declared.call.Submission.TheVariants as submissions
 use Rattle.nr_reduce.specs.declared.mark.Mark.{Mark}
+use Rattle.nr_reduce.specs.declared.mark.Moment.{Moment}
 use Rattle.nr_reduce.specs.declared.mark.Mark.TheVariants as marks
 use Rattle.nr_reduce.specs.declared.mark.LinkParameters.{LinkParameters}
 use Rattle.nr_reduce.specs.declared.outline.Plan.{Plan}
@@ -14,12 +15,14 @@ use Rattle.nr_reduce.specs.Asked.{AskedMark, AskedSoFar}
 use Rattle.nr_reduce.specs.Served.{ServedMark}
 use Rattle.nr_reduce.specs.Matched.{IsPrefixOf, MatchedMark}
 use Rattle.nr_reduce.proofs.Placing.{xids_differ}
-use Rattle.nr_laws.specs.Payloads.{form_conveyed, PayloadsAreOwn, PayloadsAreRead}
+use Rattle.nr_laws.specs.Payloads.{form_conveyed, ReadsBytes, PayloadsAreOwn}
 use Rattle.nr_reduce.proofs.Laid.{added_up, sum-added}
-use Rattle.nr_laws.specs.Typed.{TypedMark}
+use Rattle.nr_laws.specs.MatchedSoFar.{MatchedSoFar}
+use Rattle.nr_laws.specs.MarkAt.{MarkAt}
+use Rattle.nr_laws.specs.Typed.{TypedMark, IsTyped}
 use Rattle.nr_laws.proofs.OnceByXid.{executed-at, before-mark}
 use Rattle.nr_laws.proofs.ExecutedReads.{read-call}
-use Rattle.nr_laws.proofs.ExecutedPayloads.{payloads_are_submitted}
+use Rattle.nr_laws.proofs.ExecutedPayloads.{executed-own}
 
 -- two places of a list: one, or one behind the other
 data Places (pre : List Mark) (a : Mark) (post one : List Mark) (b : Mark) (two : List Mark) : Type 0 where
@@ -71,18 +74,20 @@ one-submit opened link run pre post one two call other form way xid asked p q = 
 planned-once : (p q : Plan) → ◌≡◌ {A = Rattle.std.proofs.Common.Result Plan TooLarge} (Ok p) (Ok q) → p ≡ q
 planned-once p q e = cc
 
-pub payloads_are_own : PayloadsAreOwn
-payloads_are_own opened link run earlier before call form plan xid moment payload place reply typed far at h planned none =
-    let s = payloads_are_submitted opened link run before xid moment payload place reply typed far h in
+own-alone : (opened : LinkParameters) (link : ℕ) (run earlier before : List Mark) (call : Call) (form : Form) (plan : Plan) (xid : ℕ) (moment : Moment) (payload : List ℕ) (place : ℕ) (reply : List ℕ) → IsTyped run → MatchedSoFar opened link run
+    → MarkAt run earlier (marks.Submit link call form (submissions.Accepted xid)) → MarkAt run before (marks.Execute link xid moment payload place reply) → plan_for (client opened link earlier).state xid call form ≡ Ok plan → plan.read ≡ [] → form_conveyed form (call_payload xid call) ≡ Some payload
+own-alone opened link run earlier before call form plan xid moment payload place reply typed far at h planned none =
+    let s = executed-own opened link run before xid moment payload place reply typed far h in
     let execute = marks.Execute link xid moment payload place reply in
-    let whole : run ≡ s.before ++ marks.Submit link s.call s.form (submissions.Accepted xid) ∷ (s.at.after ++ execute ∷ h.after) =
-    h.is ∙ ap (λ (xs : List Mark). xs ++ execute ∷ h.after) s.at.is ∙ append_assoc s.before (marks.Submit link s.call s.form (submissions.Accepted xid) ∷ s.at.after) (execute ∷ h.after) in
-    let one = one-submit opened link run s.before (s.at.after ++ execute ∷ h.after) earlier at.after s.call call s.form form xid far.asked whole at.is in
-    let same : s.plan ≡ plan = planned-once s.plan plan (sym s.planned ∙ (λ i. plan_for (client opened link (one.before i)).state xid (one.call_is i) (one.form_is i)) ∙ planned) in
+    let whole : run ≡ s.has.before ++ marks.Submit link s.has.call s.has.form (submissions.Accepted xid) ∷ (s.has.at.after ++ execute ∷ h.after) =
+    h.is ∙ ap (λ (xs : List Mark). xs ++ execute ∷ h.after) s.has.at.is ∙ append_assoc s.has.before (marks.Submit link s.has.call s.has.form (submissions.Accepted xid) ∷ s.has.at.after) (execute ∷ h.after) in
+    let one = one-submit opened link run s.has.before (s.has.at.after ++ execute ∷ h.after) earlier at.after s.has.call call s.has.form form xid far.asked whole at.is in
+    let same : s.plan ≡ plan = planned-once s.plan plan (sym s.has.planned ∙ (λ i. plan_for (client opened link (one.before i)).state xid (one.call_is i) (one.form_is i)) ∙ planned) in
     (λ i. form_conveyed (sym one.form_is i) (call_payload xid (sym one.call_is i))) ∙ s.conveyed (ap (λ (p : Plan). p.read) same ∙ none)
 
-pub payloads_are_read : PayloadsAreRead
-payloads_are_read opened link run earlier before call form plan xid moment payload place reply typed far at h planned some =
+own-read : (opened : LinkParameters) (link : ℕ) (run earlier before : List Mark) (call : Call) (form : Form) (plan : Plan) (xid : ℕ) (moment : Moment) (payload : List ℕ) (place : ℕ) (reply : List ℕ) → IsTyped run → MatchedSoFar opened link run
+    → MarkAt run earlier (marks.Submit link call form (submissions.Accepted xid)) → MarkAt run before (marks.Execute link xid moment payload place reply) → plan_for (client opened link earlier).state xid call form ≡ Ok plan → 0 < sum plan.read → form_conveyed form (call_payload xid call) ≡ Some payload
+own-read opened link run earlier before call form plan xid moment payload place reply typed far at h planned some =
     let execute = marks.Execute link xid moment payload place reply in
     let a = executed-at opened link run before h.after xid moment payload place reply typed far h.is in
     let r = read-call opened link before xid payload (before-mark TypedMark run before execute h.after h.is typed) (before-mark (AskedMark IsPrefixOf opened link) run before execute h.after h.is far.asked)
@@ -105,3 +110,10 @@ payloads_are_read opened link run earlier before call form plan xid moment paylo
     let size = ap (λ (y : Plan). added_up y.read) same in
     let total = sum-added plan.read in
     (λ i. form_conveyed (sym one.form_is i) (call_payload (sym own i) (sym one.call_is i))) ∙ r.conveyed (omega (arith, size, total, some))
+
+pub payloads_are_own : PayloadsAreOwn
+payloads_are_own opened link run before xid plan moment payload place reply typed far has reads at = by reads
+  where
+    by : ReadsBytes plan → form_conveyed has.form (call_payload xid has.call) ≡ Some payload
+    by (inl none) = own-alone opened link run has.before before has.call has.form plan xid moment payload place reply typed far has.at at has.planned none
+    by (inr bytes) = own-read opened link run has.before before has.call has.form plan xid moment payload place reply typed far has.at at has.planned bytes

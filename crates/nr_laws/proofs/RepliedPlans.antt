@@ -6,7 +6,7 @@ use Rattle.nr_reduce.specs.declared.mark.Mark.{Mark}
 use Rattle.nr_reduce.specs.declared.mark.Mark.TheVariants as marks
 use Rattle.nr_laws.specs.HandedOver.{RepliesHavePlans}
 use Rattle.nr_laws.proofs.ReadOutcomes.{replies_are_executed}
-use Rattle.nr_laws.proofs.ExecutedPayloads.{payloads_are_submitted}
+use Rattle.nr_laws.proofs.ExecutedPayloads.{executes_have_plans}
 
 pub replies_have_plans : RepliesHavePlans
 replies_have_plans opened link run before xid reply typed far at =
@@ -15,11 +15,12 @@ replies_have_plans opened link run before xid reply typed far at =
     let execute : Mark = marks.Execute link xid e.moment e.payload e.place e.reply in
     let whole : run ≡ e.before ++ execute ∷ (e.at.after ++ done ∷ at.after) =
     at.is ∙ ap (λ (b : List Mark). b ++ done ∷ at.after) e.at.is ∙ append_assoc e.before (execute ∷ e.at.after) (done ∷ at.after) in
-    let s = payloads_are_submitted opened link run e.before xid e.moment e.payload e.place e.reply typed far (record { after = e.at.after ++ done ∷ at.after; is = whole }) in
+    let p = executes_have_plans opened link run e.before xid e.moment e.payload e.place e.reply typed far (record { after = e.at.after ++ done ∷ at.after; is = whole }) in
+    let s = p.1 in
     let submit : Mark = marks.Submit link s.call s.form (submissions.Accepted xid) in
     let all : run ≡ s.before ++ submit ∷ (s.at.after ++ execute ∷ (e.at.after ++ done ∷ at.after)) =
     whole ∙ ap (λ (b : List Mark). b ++ execute ∷ (e.at.after ++ done ∷ at.after)) s.at.is ∙ append_assoc s.before (submit ∷ s.at.after) (execute ∷ (e.at.after ++ done ∷ at.after)) in (
-      s.plan,
+      p.0,
       record {
         call = s.call;
         form = s.form;

@@ -20,7 +20,7 @@ use Rattle.nr_reduce.specs.RunLaws.{outstanding_from}
 use Rattle.nr_reduce.specs.Asked.{AskedSoFar, IsAccepted}
 use Rattle.nr_reduce.proofs.Placing.{xids_differ}
 use Rattle.nr_laws.specs.Typed.{IsTyped}
-use Rattle.nr_laws.specs.HandedOver.{HasPlan}
+use Rattle.nr_laws.specs.Payloads.{HasPlan}
 use Rattle.nr_laws.proofs.Along.{GoesOn, goes-first, places_after}
 use Rattle.nr_laws.proofs.Memory.{Settled}
 use Rattle.nr_laws.proofs.ClientSays.{ClientGood, accepted_in, accepted-append, stag_behind, start, asked}

@@ -1,11 +1,10 @@
 -- A call whose payload goes whole is executed with its own payload, and gets the reply of that.
-use Rattle.std.proofs.Common.{◌≡◌, ℕ, ◌<◌, sum, List, [], ◌∷◌, ◌++◌, Some, inl, inr, ◌⊎◌, sym, ap, subst, ◌∙◌, arith, append_assoc, refl}
+use Rattle.std.proofs.Common.{◌≡◌, ℕ, List, ◌∷◌, ◌++◌, Some, inl, inr, sym, ap, subst, ◌∙◌, arith, append_assoc, refl}
 use Rattle.nr_reduce.specs.declared.call.Form.{Form}
 use Rattle.nr_reduce.specs.declared.call.Form.TheVariants as forms
 use Rattle.nr_reduce.specs.declared.call.Submission.TheVariants as submissions
 use Rattle.nr_reduce.specs.declared.call.Outcome.TheVariants as outcomes
 use Rattle.nr_reduce.specs.declared.mark.Mark.{Mark}
-use Rattle.nr_reduce.specs.declared.mark.Moment.{Moment}
 use Rattle.nr_reduce.specs.declared.mark.Mark.TheVariants as marks
 use Rattle.nr_reduce.specs.declared.mark.LinkParameters.{LinkParameters}
 use Rattle.nr_reduce.specs.declared.outline.Plan.{Plan}
@@ -17,10 +16,10 @@ use Rattle.nr_reduce.specs.Undone.{IsNotGiven}
 use Rattle.nr_laws.specs.Typed.{IsTyped}
 use Rattle.nr_laws.specs.MarkAt.{MarkAt}
 use Rattle.nr_laws.specs.MatchedSoFar.{MatchedSoFar}
-use Rattle.nr_laws.specs.Payloads.{form_conveyed}
-use Rattle.nr_laws.specs.HandedOver.{HasPlan, HasWords, HasTargetOf, HasOwnReply, WholeCallsAreReplied}
+use Rattle.nr_laws.specs.Payloads.{form_conveyed, HasPlan, ReadsBytes}
+use Rattle.nr_laws.specs.HandedOver.{HasWords, HasTargetOf, HasOwnReply, WholeCallsAreReplied}
 use Rattle.nr_laws.proofs.OnceByXid.{at-mark}
-use Rattle.nr_laws.proofs.OwnPayloads.{payloads_are_own, payloads_are_read}
+use Rattle.nr_laws.proofs.OwnPayloads.{payloads_are_own}
 use Rattle.nr_laws.proofs.InlineCalls.{own-target}
 use Rattle.nr_laws.proofs.ConveyedReplies.{replies_by_target_are_executed, inline_calls_are_replied}
 
@@ -32,7 +31,7 @@ whole-conveyed forms.Long own payload free e = cc
 whole-conveyed (forms.Given offer) own payload free e = elim free [ ]
 
 read-calls-are-replied : (opened : LinkParameters) (link : ℕ) (run before : List Mark) (xid : ℕ) (plan : Plan) (reply : List ℕ) → IsOpened opened → IsTyped run → MatchedSoFar opened link run
-    → (has : HasPlan opened link run xid plan) → HasWords has.call → IsNotGiven has.form → (plan.read ≡ []) ⊎ (0 < sum plan.read) → MarkAt run before (marks.Done link xid (outcomes.Reply reply))
+    → (has : HasPlan opened link run xid plan) → HasWords has.call → IsNotGiven has.form → ReadsBytes plan → MarkAt run before (marks.Done link xid (outcomes.Reply reply))
     → HasOwnReply link before xid has.call reply
 read-calls-are-replied opened link run before xid plan reply opens typed far has words free some at =
     let t = replies_by_target_are_executed opened link run before xid plan reply opens typed far has at in
@@ -41,7 +40,8 @@ read-calls-are-replied opened link run before xid plan reply opens typed far has
     let whole : run ≡ t.before ++ execute ∷ (t.at.after ++ done ∷ at.after) =
     at.is ∙ ap (λ (b : List Mark). b ++ done ∷ at.after) t.at.is ∙ append_assoc t.before (execute ∷ t.at.after) (done ∷ at.after) in
     let mark : MarkAt run t.before execute = record { after = t.at.after ++ done ∷ at.after; is = whole } in
-    let own : call_payload xid has.call ≡ t.payload = whole-conveyed has.form (call_payload xid has.call) t.payload free (by some t.before t.moment t.payload t.place t.executed mark) in
+    let own : call_payload xid has.call ≡ t.payload = whole-conveyed has.form (call_payload xid has.call) t.payload free
+    (payloads_are_own opened link run t.before xid plan t.moment t.payload t.place t.executed typed far has some mark) in
     let accepted : IsAccepted opened link has.before has.call has.form xid =
     at-mark (AskedMark IsPrefixOf opened link) run has.before (marks.Submit link has.call has.form (submissions.Accepted xid)) has.at.after has.at.is far.asked refl in
     let small = accepted.xids in
@@ -53,11 +53,6 @@ read-calls-are-replied opened link run before xid plan reply opens typed far has
       before = t.before;
       at = record { after = t.at.after; is = t.at.is ∙ (λ i. t.before ++ marks.Execute link xid t.moment (sym own i) t.place (sym same i) ∷ t.at.after) };
     }
-  where
-    by : (plan.read ≡ []) ⊎ (0 < sum plan.read) → (first : List Mark) (moment : Moment) (payload : List ℕ) (place : ℕ) (executed : List ℕ) → MarkAt run first (marks.Execute link xid moment payload place executed)
-        → form_conveyed has.form (call_payload xid has.call) ≡ Some payload
-    by (inl none) first moment payload place executed mark = payloads_are_own opened link run has.before first has.call has.form plan xid moment payload place executed typed far has.at mark has.planned none
-    by (inr bytes) first moment payload place executed mark = payloads_are_read opened link run has.before first has.call has.form plan xid moment payload place executed typed far has.at mark has.planned bytes
 
 pub whole_calls_are_replied : WholeCallsAreReplied
 whole_calls_are_replied opened link run before xid plan reply opens typed far has words (inl none) at = inline_calls_are_replied opened link run before xid plan reply opens typed far has words none at

@@ -1,32 +1,23 @@
 -- A reply that is handed over is that of the executed call, byte for byte.
-use Rattle.std.specs.Prelude.{◌≡◌, ℕ, ◌<◌, ◌^◌, List, None, Some, Ok, [], sum, ◌⊎◌}
+use Rattle.std.specs.Prelude.{◌≡◌, ℕ, ◌<◌, ◌^◌, List, None, Some, ◌⊎◌}
 use Rattle.nr_rpc.specs.Credential.{CredFits}
 use Rattle.nr_rpc.specs.declared.head.CallTarget.{CallTarget}
 use Rattle.nr_rpc.specs.Reading.{call_of, target_of}
 use Rattle.nr_reduce.specs.declared.call.Call.{Call}
 use Rattle.nr_reduce.specs.declared.call.Form.{Form}
-use Rattle.nr_reduce.specs.declared.call.Submission.TheVariants as submissions
 use Rattle.nr_reduce.specs.declared.call.Outcome.TheVariants as outcomes
 use Rattle.nr_reduce.specs.declared.mark.Moment.{Moment}
 use Rattle.nr_reduce.specs.declared.mark.Mark.{Mark}
 use Rattle.nr_reduce.specs.declared.mark.Mark.TheVariants as marks
 use Rattle.nr_reduce.specs.declared.mark.LinkParameters.{LinkParameters}
 use Rattle.nr_reduce.specs.declared.outline.Plan.{Plan}
-use Rattle.nr_reduce.specs.ClientState.{call_payload, plan_for}
+use Rattle.nr_reduce.specs.ClientState.{call_payload}
 use Rattle.nr_reduce.specs.Opening.{IsOpened}
 use Rattle.nr_reduce.specs.Undone.{IsNotGiven}
-use Rattle.nr_reduce.specs.Run.{client}
 use Rattle.nr_laws.specs.MarkAt.{MarkAt}
+use Rattle.nr_laws.specs.Payloads.{HasPlan, ReadsBytes}
 use Rattle.nr_laws.specs.MatchedSoFar.{MatchedSoFar}
 use Rattle.nr_laws.specs.Typed.{IsTyped}
-
--- a call was accepted under this xid on the link, and goes out by this plan
-pub record HasPlan (opened : LinkParameters) (link : ℕ) (run : List Mark) (xid : ℕ) (plan : Plan) : Type 0 where
-  pub call : Call
-  pub form : Form
-  pub before : List Mark
-  pub at : MarkAt run before (marks.Submit link call form (submissions.Accepted xid))
-  pub planned : plan_for (client opened link before).state xid call form ≡ Ok plan
 
 -- a call of this xid was executed on the link, and just these bytes are its reply
 pub record HasReply (link : ℕ) (run : List Mark) (xid : ℕ) (reply : List ℕ) : Type 0 where
@@ -91,18 +82,12 @@ pub record HasOwnReply (link : ℕ) (run : List Mark) (xid : ℕ) (call : Call) 
   pub before : List Mark
   pub at : MarkAt run before (marks.Execute link xid moment (call_payload xid call) place reply)
 
--- So is that of any call whose plan has no read position, so that its whole payload is in its message, whatever it offers for its reply; and its Execute is of the call's own payload.
-abbrev pub InlineCallsAreReplied : Type 0
-InlineCallsAreReplied = (opened : LinkParameters) (link : ℕ) (run before : List Mark) (xid : ℕ) (plan : Plan) (reply : List ℕ) →
-    IsOpened opened → IsTyped run → MatchedSoFar opened link run → (has : HasPlan opened link run xid plan) → HasWords has.call → plan.read_at ≡ None →
-    MarkAt run before (marks.Done link xid (outcomes.Reply reply)) → HasOwnReply link before xid has.call reply
-
 -- The call's payload goes whole: in its message, where its plan has no read position; or, in a form that isn't given, in its message and
 -- in a read chunk which, if there is one, has bytes.
 abbrev pub GoesWhole : Form → Plan → Type 0
-GoesWhole form plan = (plan.read_at ≡ None) ⊎ (IsNotGiven form × ((plan.read ≡ []) ⊎ (0 < sum plan.read)))
+GoesWhole form plan = (plan.read_at ≡ None) ⊎ (IsNotGiven form × ReadsBytes plan)
 
--- So it is of any call whose payload goes whole.
+-- The reply that is handed over of such a call is the one with which it was executed, with its own payload.
 abbrev pub WholeCallsAreReplied : Type 0
 WholeCallsAreReplied = (opened : LinkParameters) (link : ℕ) (run before : List Mark) (xid : ℕ) (plan : Plan) (reply : List ℕ) →
     IsOpened opened → IsTyped run → MatchedSoFar opened link run → (has : HasPlan opened link run xid plan) → HasWords has.call → GoesWhole has.form plan →

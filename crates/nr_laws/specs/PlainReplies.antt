@@ -15,7 +15,8 @@ use Rattle.nr_reduce.specs.Opening.{IsOpened}
 use Rattle.nr_laws.specs.MarkAt.{MarkAt}
 use Rattle.nr_laws.specs.MatchedSoFar.{MatchedSoFar}
 use Rattle.nr_laws.specs.Typed.{IsTyped}
-use Rattle.nr_laws.specs.HandedOver.{HasPlan, HasWords, GoesWhole}
+use Rattle.nr_laws.specs.Payloads.{HasPlan}
+use Rattle.nr_laws.specs.HandedOver.{HasWords, GoesWhole}
 
 -- the plain server that has this reply, if any, to a payload at a moment over a journal, and adds these entries
 abbrev pub server_with : (List Entry → Moment → List ℕ → Option (List ℕ)) → (Moment → List ℕ → List ℕ → List Entry) → PlainServer

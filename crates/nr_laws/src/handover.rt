@@ -1,6 +1,6 @@
 //! What callers are handed.
 
-ghost use Rattle.nr_laws.specs.HandedOver.{RepliesHavePlans, InlineRepliesAreExecuted, StreamRepliesAreExecuted, RepliesByTargetAreExecuted, InlineCallsAreReplied, WholeCallsAreReplied};
+ghost use Rattle.nr_laws.specs.HandedOver.{RepliesHavePlans, InlineRepliesAreExecuted, StreamRepliesAreExecuted, RepliesByTargetAreExecuted, WholeCallsAreReplied};
 ghost use Rattle.nr_laws.specs.PlainReplies.{RepliesArePlain};
 
 /// On a matched link a call whose reply is handed over was accepted, and goes out by a plan. Its reply is the one with which the call was
@@ -13,7 +13,6 @@ pub fn replies_handed_over()
     ensures planned { RepliesHavePlans }
     ensures inline { InlineRepliesAreExecuted }
     ensures stream { StreamRepliesAreExecuted }
-    ensures call { InlineCallsAreReplied }
     ensures target { RepliesByTargetAreExecuted }
     ensures whole { WholeCallsAreReplied }
 {}

@@ -1,5 +1,5 @@
 use Rattle.nr_laws.proofs.HandedOver.{inline_replies_are_executed}
-use Rattle.nr_laws.proofs.ConveyedReplies.{stream_replies_are_executed, replies_by_target_are_executed, inline_calls_are_replied}
+use Rattle.nr_laws.proofs.ConveyedReplies.{stream_replies_are_executed, replies_by_target_are_executed}
 use Rattle.nr_laws.proofs.RepliedPlans.{replies_have_plans}
 use Rattle.nr_laws.proofs.WholeCalls.{whole_calls_are_replied}
 use Rattle.nr_laws.proofs.handover.replies_handed_over.Goals as goal
@@ -9,9 +9,6 @@ returns-clause-inline c = inline_replies_are_executed
 
 pub returns-clause-stream : goal.returns-clause-stream
 returns-clause-stream c = stream_replies_are_executed
-
-pub returns-clause-call : goal.returns-clause-call
-returns-clause-call c = inline_calls_are_replied
 
 pub returns-clause-target : goal.returns-clause-target
 returns-clause-target c = replies_by_target_are_executed
