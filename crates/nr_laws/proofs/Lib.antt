@@ -128,3 +128,4 @@ pub mod ExecutedReads
 pub mod WholeCalls
 pub mod RepliedPlans
 pub mod EmptyChunks
+pub mod CallTargets
