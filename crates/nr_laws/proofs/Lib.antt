@@ -129,3 +129,4 @@ pub mod WholeCalls
 pub mod RepliedPlans
 pub mod EmptyChunks
 pub mod CallTargets
+pub mod OwnHeads
