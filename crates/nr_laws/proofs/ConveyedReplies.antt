@@ -29,7 +29,8 @@ use Rattle.nr_laws.specs.MarkAt.{MarkAt}
 use Rattle.nr_laws.specs.MatchedSoFar.{MatchedSoFar}
 use Rattle.nr_laws.specs.Typed.{TypedMark, IsTyped}
 use Rattle.nr_laws.specs.Payloads.{HasPlan}
-use Rattle.nr_laws.specs.HandedOver.{HasTargetOf, StreamRepliesAreExecuted, RepliesByTargetAreExecuted, HasWords, HasOwnReply}
+use Rattle.nr_laws.specs.HandedOver.{HasWords}
+use Rattle.nr_laws.proofs.ReplyStatements.{HasTargetOf, StreamRepliesAreExecuted, RepliesByTargetAreExecuted, HasOwnReply}
 use Rattle.nr_laws.specs.MarkAt.{MarkAt}
 use Rattle.nr_reduce.specs.declared.call.Outcome.TheVariants as outcomes
 use Rattle.nr_laws.proofs.InlineCalls.{same-bytes, inline-executed, own-target}
@@ -57,15 +58,15 @@ use Rattle.nr_laws.proofs.ReadAnswers.{client-reads, any-target, own-credit}
 use Rattle.nr_laws.proofs.HandedOver.{outcome-frame, reply-executed}
 
 -- both replies are conveyed by the same stream, lists and memory
-record BothConveyed (call : Call) (plan : Plan) (offer : ChunkLists) (down : ℕ) (executed reply : List ℕ) (a : Answer) : Type 0 where
-  inline : Option (List ℕ)
-  lists : ChunkLists
-  memory : Bytes
-  handed : reply_conveyed call.prog call.vers call.proc inline lists memory ≡ Some reply
-  own : (prog vers proc : ℕ) → answer_for offer down prog vers proc executed ≡ Some a → reply_conveyed prog vers proc inline lists memory ≡ Some executed
-  none : plan.write ≡ None → lists.write ≡ []
+pub record BothConveyed (call : Call) (plan : Plan) (offer : ChunkLists) (down : ℕ) (executed reply : List ℕ) (a : Answer) : Type 0 where
+  pub inline : Option (List ℕ)
+  pub lists : ChunkLists
+  pub memory : Bytes
+  pub handed : reply_conveyed call.prog call.vers call.proc inline lists memory ≡ Some reply
+  pub own : (prog vers proc : ℕ) → answer_for offer down prog vers proc executed ≡ Some a → reply_conveyed prog vers proc inline lists memory ≡ Some executed
+  pub none : plan.write ≡ None → lists.write ≡ []
 
-both-conveyed : (opened : LinkParameters) (link : ℕ) (run before : List Mark) (xid : ℕ) (plan : Plan) (reply : List ℕ) → IsOpened opened → IsTyped run → MatchedSoFar opened link run → (has : HasPlan opened link run xid plan)
+pub both-conveyed : (opened : LinkParameters) (link : ℕ) (run before : List Mark) (xid : ℕ) (plan : Plan) (reply : List ℕ) → IsOpened opened → IsTyped run → MatchedSoFar opened link run → (has : HasPlan opened link run xid plan)
     → (at : MarkAt run before (marks.Done link xid (outcomes.Reply reply))) → (r : RepliedBy opened link before xid reply)
     → BothConveyed has.call plan (offer_of (server_by opened r.answer.earlier) r.answer.call.xid) 1024 r.answer.call.reply reply r.answer.answer
 unfolding lists_of

@@ -17,7 +17,7 @@ use Rattle.nr_reduce.specs.Server.{offer_of}
 use Rattle.nr_reduce.specs.RunLaws.{server_by}
 use Rattle.nr_reduce.specs.Asked.{AskedSoFar}
 use Rattle.nr_laws.specs.Typed.{IsTyped}
-use Rattle.nr_laws.specs.HandedOver.{HasReply, InlineRepliesAreExecuted}
+use Rattle.nr_laws.proofs.ReplyStatements.{HasReply, InlineRepliesAreExecuted}
 use Rattle.nr_laws.proofs.Along.{GoesOn, goes-behind, places_after}
 use Rattle.nr_laws.proofs.Words.{payload-bytes}
 use Rattle.nr_laws.proofs.ClientSays.{ClientGood}

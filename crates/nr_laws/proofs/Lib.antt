@@ -130,3 +130,6 @@ pub mod RepliedPlans
 pub mod EmptyChunks
 pub mod CallTargets
 pub mod OwnHeads
+pub mod ReplyTargets
+pub mod ReplyStatements
+pub mod OwnReplies

@@ -15,7 +15,7 @@ use Rattle.nr_reduce.specs.Asked.{AskedMark, AskedSoFar}
 use Rattle.nr_reduce.specs.Served.{ServedMark}
 use Rattle.nr_reduce.specs.Matched.{IsPrefixOf, MatchedMark}
 use Rattle.nr_reduce.proofs.Placing.{xids_differ}
-use Rattle.nr_laws.specs.Payloads.{form_conveyed, ReadsBytes, PayloadsAreOwn}
+use Rattle.nr_laws.specs.Payloads.{form_conveyed, PayloadsAreOwn}
 use Rattle.nr_reduce.proofs.Laid.{added_up, sum-added}
 use Rattle.nr_laws.specs.MatchedSoFar.{MatchedSoFar}
 use Rattle.nr_laws.specs.MarkAt.{MarkAt}
