@@ -29,8 +29,8 @@ use Rattle.nr_laws.specs.MarkAt.{MarkAt}
 use Rattle.nr_laws.specs.MatchedSoFar.{MatchedSoFar}
 use Rattle.nr_laws.specs.Typed.{TypedMark, IsTyped}
 use Rattle.nr_laws.specs.Payloads.{HasPlan}
-use Rattle.nr_laws.specs.HandedOver.{HasWords}
-use Rattle.nr_laws.proofs.ReplyStatements.{HasTargetOf, StreamRepliesAreExecuted, RepliesByTargetAreExecuted, HasOwnReply}
+use Rattle.nr_laws.specs.HandedOver.{HasWords, HasTargetOf}
+use Rattle.nr_laws.proofs.ReplyStatements.{StreamRepliesAreExecuted, RepliesByTargetAreExecuted, HasOwnReply}
 use Rattle.nr_laws.specs.MarkAt.{MarkAt}
 use Rattle.nr_reduce.specs.declared.call.Outcome.TheVariants as outcomes
 use Rattle.nr_laws.proofs.InlineCalls.{same-bytes, inline-executed, own-target}

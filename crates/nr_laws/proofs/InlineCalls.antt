@@ -43,8 +43,7 @@ use Rattle.nr_reduce.proofs.Asking.{asks}
 use Rattle.nr_laws.specs.MatchedSoFar.{MatchedSoFar}
 use Rattle.nr_laws.specs.Typed.{TypedMark, IsTyped, IsTypedForm}
 use Rattle.nr_laws.specs.Payloads.{HasPlan}
-use Rattle.nr_laws.specs.HandedOver.{HasWords}
-use Rattle.nr_laws.proofs.ReplyStatements.{HasTargetOf}
+use Rattle.nr_laws.specs.HandedOver.{HasWords, HasTargetOf}
 use Rattle.nr_laws.proofs.Hears.{live-first}
 use Rattle.nr_laws.proofs.Following.{far-before}
 use Rattle.nr_laws.proofs.OnceByXid.{at-mark, before-mark, executed-at}

@@ -15,7 +15,7 @@ use Rattle.nr_reduce.specs.Opening.{IsOpened}
 use Rattle.nr_reduce.specs.Undone.{IsNotGiven}
 use Rattle.nr_laws.specs.MarkAt.{MarkAt}
 use Rattle.nr_laws.specs.Payloads.{HasPlan}
-use Rattle.nr_laws.specs.HandedOver.{HasWords}
+use Rattle.nr_laws.specs.HandedOver.{HasWords, HasTargetOf}
 use Rattle.nr_laws.specs.MatchedSoFar.{MatchedSoFar}
 use Rattle.nr_laws.specs.Typed.{IsTyped}
 
@@ -44,14 +44,6 @@ abbrev pub StreamRepliesAreExecuted : Type 0
 StreamRepliesAreExecuted = (opened : LinkParameters) (link : ℕ) (run before : List Mark) (xid : ℕ) (plan : Plan) (reply : List ℕ) →
     IsOpened opened → IsTyped run → MatchedSoFar opened link run → HasPlan opened link run xid plan → plan.write ≡ None →
     MarkAt run before (marks.Done link xid (outcomes.Reply reply)) → HasReply link before xid reply
-
--- a payload has an RPC call head with the program, the version and the procedure of a call (RFC 5531 section 9)
-pub record HasTargetOf (call : Call) (payload : List ℕ) : Type 0 where
-  pub target : CallTarget
-  pub is : target_of (call_of payload) ≡ Some target
-  pub prog : target.prog ≡ call.prog
-  pub vers : target.vers ≡ call.vers
-  pub proc : target.proc ≡ call.proc
 
 -- a call of this xid was executed on the link; where its payload has the target of this call, just these bytes are its reply
 pub record HasReplyByTarget (link : ℕ) (run : List Mark) (xid : ℕ) (call : Call) (reply : List ℕ) : Type 0 where

@@ -17,8 +17,8 @@ use Rattle.nr_laws.specs.Typed.{IsTyped}
 use Rattle.nr_laws.specs.MarkAt.{MarkAt}
 use Rattle.nr_laws.specs.MatchedSoFar.{MatchedSoFar}
 use Rattle.nr_laws.specs.Payloads.{form_conveyed, HasPlan}
-use Rattle.nr_laws.specs.HandedOver.{HasWords}
-use Rattle.nr_laws.proofs.ReplyStatements.{ReadsBytes, HasTargetOf, HasOwnReply, WholeCallsAreReplied}
+use Rattle.nr_laws.specs.HandedOver.{HasWords, HasTargetOf}
+use Rattle.nr_laws.proofs.ReplyStatements.{ReadsBytes, HasOwnReply, WholeCallsAreReplied}
 use Rattle.nr_laws.proofs.OnceByXid.{at-mark}
 use Rattle.nr_laws.proofs.OwnPayloads.{payloads_are_own}
 use Rattle.nr_laws.proofs.InlineCalls.{own-target}
