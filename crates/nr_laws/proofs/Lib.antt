@@ -125,11 +125,9 @@ pub mod CameResponses
 pub mod HeldChunks
 pub mod ReadPayloads
 pub mod ExecutedReads
-pub mod WholeCalls
 pub mod RepliedPlans
 pub mod EmptyChunks
 pub mod CallTargets
 pub mod OwnHeads
 pub mod ReplyTargets
-pub mod ReplyStatements
 pub mod OwnReplies

@@ -22,7 +22,6 @@ use Rattle.nr_laws.specs.MarkAt.{MarkAt}
 use Rattle.nr_laws.specs.Typed.{TypedMark, IsTyped}
 use Rattle.nr_laws.proofs.OnceByXid.{executed-at, before-mark}
 use Rattle.nr_laws.proofs.ExecutedReads.{read-call}
-use Rattle.nr_laws.proofs.ExecutedPayloads.{executed-own}
 
 -- two places of a list: one, or one behind the other
 data Places (pre : List Mark) (a : Mark) (post one : List Mark) (b : Mark) (two : List Mark) : Type 0 where

@@ -50,13 +50,6 @@ client-reads read ws rs w r down prog vers proc xid credit reply a k place o m h
     let lists : lists_by h.body ≡ answer_lists (offering read ws rs w r) a = ap lists_by (sym own) ∙ again.lists in
     (λ i. reply_conveyed o.call.prog o.call.vers o.call.proc (sym inline i) (sym lists i) (memory_at k place)) ∙ body-conveys k place o m h.body y q gives
 
--- without write chunks the target of the call doesn't matter
-pub any-target : (a b c d e f : ℕ) (inline : Option (List ℕ)) (lists : ChunkLists) (memory : Bytes) → lists.write ≡ [] → reply_conveyed a b c inline lists memory ≡ reply_conveyed d e f inline lists memory
-unfolding reply_conveyed
-any-target a b c d e f inline lists memory none =
-    ap (λ (w : List (List RdmaSegment)). whole (Reply a b c) (reply_stream memory inline lists.reply) (reply_moved memory w)) none
-    ∙ ap (λ (w : List (List RdmaSegment)). whole (Reply d e f) (reply_stream memory inline lists.reply) (reply_moved memory w)) (sym none)
-
 -- ---- The credits of a server
 
 credit-after : (opened : LinkParameters) (k : ServerState) (e : Event) → (server_state_after opened k e).credit ≡ k.credit
