@@ -1,12 +1,10 @@
 -- What a form conveys of a call's payload has, where it has an RPC call head, the target and the xid of that payload's own head.
-use Rattle.std.proofs.Common.{◌≡◌, ℕ, zero, suc, ◌+◌, ◌-◌, ◌≤◌, ◌<◌, Bool, true, false, cond, eqb, List, [], ◌∷◌, ◌++◌, length, take, drop, replicate, Option, None, Some, Result, Ok, Err, refl, sym, ap, subst, ◌∙◌, arith, append_assoc, append-nil, take_all, take-append-drop, length-take-le, ne_eqb, inl, inr}
+use Rattle.std.proofs.Common.{◌≡◌, ℕ, zero, suc, ◌-◌, Bool, true, false, cond, eqb, List, [], ◌∷◌, ◌++◌, length, take, drop, replicate, Option, None, Some, Result, Ok, Err, refl, sym, ap, subst, ◌∙◌, arith, append_assoc, append-nil, take_all, take-append-drop, length-take-le, ne_eqb, inl, inr}
 use Rattle.std.specs.Prelude.{sum}
 use Rattle.std.proofs.lemmas.Bool.{cases_lt}
-use Rattle.std.proofs.lemmas.List.{get_or-replicate}
 use Rattle.nr_xdr.specs.Item.{IsBytes, pad_len}
 use Rattle.nr_xdr.proofs.Chains.{IsBytes-left, IsBytes-right}
 use Rattle.nr_rpc.specs.declared.head.CallHead.{CallHead}
-use Rattle.nr_rpc.specs.declared.head.CallTarget.{CallTarget}
 use Rattle.nr_rpc.specs.Reading.{call_of, target_of}
 use Rattle.nr_rpc.proofs.Calls.{call_begins, begins_call}
 use Rattle.nr_reduce.specs.declared.call.Form.{Form}

@@ -14,13 +14,7 @@ use Rattle.nr_reduce.specs.declared.outline.Plan.{Plan}
 use Rattle.nr_reduce.specs.Limits.{send_max}
 use Rattle.nr_reduce.specs.Plans.{plan_of, regions_needed, given_read, given_region, entries_from, read_list, lists_of, read_stag, inline_at, inline_stream}
 use Rattle.nr_reduce.specs.Chunks.{total_at, position_of, item_position, call_moved, call_stream, whole, call_conveyed}
-use Rattle.nr_reduce.specs.declared.mark.Mark.{Mark}
-use Rattle.nr_reduce.specs.declared.mark.LinkParameters.{LinkParameters}
-use Rattle.nr_reduce.specs.ClientState.{call_payload}
-use Rattle.nr_reduce.specs.Run.{client}
-use Rattle.nr_reduce.specs.RunLaws.{server_by}
-use Rattle.nr_reduce.specs.ServerFrames.{with_access}
-use Rattle.nr_reduce.specs.ServerMessages.{no_stream, chunk_bytes, payload_of}
+use Rattle.nr_reduce.specs.ServerMessages.{no_stream}
 use Rattle.nr_reduce.specs.ServerState.{PendingCall}
 use Rattle.nr_reduce.specs.PayloadLaws.{moved_by, given_conveyed}
 use Rattle.nr_reduce.specs.Undone.{IsNotGiven, ChunkHolds}
@@ -30,13 +24,12 @@ use Rattle.nr_reduce.proofs.Shapes.MessageKind.{Short, Chunked, Long}
 use Rattle.nr_reduce.proofs.Asking.{asks}
 use Rattle.nr_reduce.proofs.Sizes.{is_formed}
 use Rattle.nr_reduce.proofs.Undone.{reducible, moved-length}
-use Rattle.nr_laws.specs.Typed.{IsTypedForm, IsTyped}
+use Rattle.nr_laws.specs.Typed.{IsTypedForm}
 use Rattle.nr_laws.specs.Payloads.{form_conveyed}
 use Rattle.nr_laws.proofs.PlanLists.{stream_known}
 use Rattle.nr_laws.proofs.SinkReads.{total-own}
 use Rattle.nr_laws.proofs.ConveyedCalls.{planned-fits, plan-reads}
 use Rattle.nr_laws.proofs.ExecutedPayloads.{IsOfPlan}
-use Rattle.nr_laws.proofs.OnceByXid.{ExecutedAt}
 
 -- ---- The region of a plan is as long as its chunk
 

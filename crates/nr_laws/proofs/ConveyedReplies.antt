@@ -1,9 +1,8 @@
 -- A reply that is handed over, and the reply of the Execute, are what the same message and the same memory convey.
-use Rattle.std.proofs.Common.{◌≡◌, ℕ, ◌<◌, true, false, cond, List, [], ◌∷◌, ◌++◌, length, map, Option, None, Some, refl, sym, ap, subst, ◌∙◌, arith, append_assoc}
+use Rattle.std.proofs.Common.{◌≡◌, ℕ, ◌<◌, true, false, cond, List, [], ◌∷◌, ◌++◌, map, Option, None, Some, sym, ap, subst, ◌∙◌, arith}
 use Rattle.nr_xdr.specs.Item.{IsBytes}
 use Rattle.nr_header.specs.declared.header.ChunkLists.{ChunkLists}
 use Rattle.nr_rpc.specs.Reading.{call_of, target_of}
-use Rattle.nr_rpc.specs.declared.head.CallTarget.{CallTarget}
 use Rattle.nr_reduce.specs.declared.call.Outcome.TheVariants as outcomes
 use Rattle.nr_reduce.specs.declared.call.Call.{Call}
 use Rattle.nr_reduce.specs.declared.mark.Mark.{Mark}
@@ -13,15 +12,15 @@ use Rattle.nr_reduce.specs.declared.outline.Plan.{Plan}
 use Rattle.nr_reduce.specs.History.{ExecutedCall}
 use Rattle.nr_reduce.specs.Opening.{IsOpened}
 use Rattle.nr_reduce.specs.Events.Event.{FrameReceived, CallExecuted}
-use Rattle.nr_reduce.specs.Plans.{Buffer, buffers, lists_of, read_list, write_stag, reply_stag, write_list}
+use Rattle.nr_reduce.specs.Plans.{Buffer, buffers, lists_of, read_list, write_stag, reply_stag}
 use Rattle.nr_reduce.specs.Chunks.{Bytes, reply_conveyed}
-use Rattle.nr_reduce.specs.Holds.{Answer, answer_for, answer_lists, answer_message, written_chunks}
+use Rattle.nr_reduce.specs.Holds.{Answer, answer_for, answer_lists, answer_message}
 use Rattle.nr_reduce.specs.Undone.{after, answer_segments}
-use Rattle.nr_reduce.specs.ClientState.{ClientState, call_payload, memory_at}
+use Rattle.nr_reduce.specs.ClientState.{ClientState, memory_at}
 use Rattle.nr_reduce.specs.Client.{client_rules, initial_client}
 use Rattle.nr_reduce.specs.Run.{client}
 use Rattle.nr_reduce.specs.ServerState.{ServerState, credit_word, down_max}
-use Rattle.nr_reduce.specs.Server.{offer_of, answer_of_target}
+use Rattle.nr_reduce.specs.Server.{offer_of}
 use Rattle.nr_reduce.specs.RunLaws.{server_by}
 use Rattle.nr_reduce.proofs.Answering.{conveyed}
 use Rattle.nr_reduce.proofs.OwnStags.{ClientNumbers, client-numbers}
@@ -31,9 +30,6 @@ use Rattle.nr_laws.specs.Typed.{TypedMark, IsTyped}
 use Rattle.nr_laws.specs.Payloads.{HasPlan}
 use Rattle.nr_laws.specs.MarkAt.{MarkAt}
 use Rattle.nr_reduce.specs.declared.call.Outcome.TheVariants as outcomes
-use Rattle.nr_reduce.specs.Asked.{AskedMark, IsAccepted}
-use Rattle.nr_reduce.specs.Matched.{IsPrefixOf}
-use Rattle.nr_reduce.specs.declared.call.Submission.TheVariants as submissions
 use Rattle.nr_laws.proofs.Along.{places_after}
 use Rattle.nr_laws.proofs.Outputs.Output.{ASegment}
 use Rattle.nr_laws.proofs.ServerAlong.{outs_of}
@@ -44,7 +40,7 @@ use Rattle.nr_laws.proofs.ClientMemory.{HasBuffers, client-gathers}
 use Rattle.nr_laws.proofs.Memory.{Part, parts_of, parts_out, out-append, gathers, Settled, settled-later}
 use Rattle.nr_laws.proofs.Outcomes.{client_by, OutcomeSaid}
 use Rattle.nr_laws.proofs.DoneCalls.{GivesBy, gives-by}
-use Rattle.nr_laws.proofs.Replied.{RepliedBy, replied-by}
+use Rattle.nr_laws.proofs.Replied.{RepliedBy}
 use Rattle.nr_laws.proofs.SubmittedPlans.{AnsweredCall, answered-submit, OwnSubmit, own-submit}
 use Rattle.nr_laws.proofs.InlineReplies.{no_chunks}
 use Rattle.nr_laws.proofs.OfferedLists.{no-offer}

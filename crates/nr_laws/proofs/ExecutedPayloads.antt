@@ -1,41 +1,18 @@
 -- On a matched link a call that is executed was accepted, and goes out by a plan.
-use Rattle.std.proofs.Common.{◌≡◌, ℕ, Bool, true, false, cond, eqb, List, [], ◌∷◌, take, Option, None, Some, Ok, refl, sym, ap, subst, ◌∙◌}
-use Rattle.nr_xdr.specs.Item.{IsBytes}
-use Rattle.nr_header.specs.declared.header.ReadSegment.{ReadSegment}
-use Rattle.nr_header.specs.declared.header.ChunkLists.{ChunkLists}
-use Rattle.nr_header.specs.Reading.{header_of}
+use Rattle.std.proofs.Common.{◌≡◌, ℕ, List, Ok, subst}
 use Rattle.nr_reduce.specs.declared.call.Call.{Call}
 use Rattle.nr_reduce.specs.declared.call.Form.{Form}
-use Rattle.nr_reduce.specs.declared.call.Form.TheVariants as forms
-use Rattle.nr_reduce.specs.declared.call.Offer.{Offer}
-use Rattle.nr_reduce.specs.declared.call.Submission.TheVariants as submissions
 use Rattle.nr_reduce.specs.declared.mark.Mark.{Mark}
-use Rattle.nr_reduce.specs.declared.mark.Mark.TheVariants as marks
 use Rattle.nr_reduce.specs.declared.mark.LinkParameters.{LinkParameters}
 use Rattle.nr_reduce.specs.declared.outline.Plan.{Plan}
 use Rattle.nr_reduce.specs.Limits.{send_max}
-use Rattle.nr_reduce.specs.Plans.{plan_of, given_read, entries_from, read_list, lists_of, read_stag}
-use Rattle.nr_reduce.specs.Chunks.{item_position, call_conveyed}
+use Rattle.nr_reduce.specs.Plans.{plan_of, lists_of}
 use Rattle.nr_reduce.specs.ClientState.{call_payload, plan_for}
 use Rattle.nr_reduce.specs.ServerState.{PendingCall}
-use Rattle.nr_reduce.specs.ServerMessages.{payload_of, chunk_bytes, no_stream}
-use Rattle.nr_reduce.specs.Chunks.{total_at}
-use Rattle.nr_reduce.specs.Undone.{IsNotGiven}
 use Rattle.nr_reduce.specs.Run.{client}
-use Rattle.nr_reduce.specs.RunLaws.{server_by}
-use Rattle.nr_reduce.specs.PayloadLaws.{given_conveyed}
-use Rattle.nr_reduce.specs.ServerFrames.{with_access}
-use Rattle.nr_reduce.proofs.Shapes.{MessageKind, offered, shape, is_plan}
-use Rattle.nr_reduce.proofs.Shapes.MessageKind.{Short, Chunked, Long}
-use Rattle.nr_reduce.proofs.Sizes.{is_formed}
-use Rattle.nr_laws.specs.Typed.{TypedMark, IsTypedForm, IsTyped}
-use Rattle.nr_reduce.specs.declared.mark.Moment.{Moment}
-use Rattle.nr_laws.specs.MarkAt.{MarkAt}
-use Rattle.nr_laws.specs.MatchedSoFar.{MatchedSoFar}
-use Rattle.nr_laws.specs.Payloads.{form_conveyed, HasPlan, ExecutesHavePlans}
-use Rattle.nr_laws.proofs.PlanLists.{stream_known, ReadsLists}
-use Rattle.nr_laws.proofs.ConveyedCalls.{planned-fits, plan-reads}
-use Rattle.nr_laws.proofs.OnceByXid.{ExecutedAt, executed-at, at-mark, before-mark}
+use Rattle.nr_laws.specs.Payloads.{HasPlan, ExecutesHavePlans}
+use Rattle.nr_laws.proofs.PlanLists.{stream_known}
+use Rattle.nr_laws.proofs.OnceByXid.{executed-at}
 
 -- ---- A call that was received has the lists and the stream of its plan
 
@@ -50,8 +27,7 @@ planned-by opened link before xid call form p e = e
 pub executes_have_plans : ExecutesHavePlans
 executes_have_plans opened link run before xid moment payload place reply typed far h =
     let a = executed-at opened link run before h.after xid moment payload place reply typed far h.is in
-    let w = a.submit.submitted in
-    (
+    let w = a.submit.submitted in (
       w.accepted.plan,
       subst (λ (x : ℕ). HasPlan opened link before x w.accepted.plan) a.submit.own_xid
           (record { call = w.call; form = w.form; before = w.earlier; at = record { after = w.later; is = w.is }; planned = w.accepted.planned }),

@@ -1,5 +1,5 @@
 -- A reply that is conveyed for a call, and for the target that its payload has, is one: only with NFS's own numbers does an item move.
-use Rattle.std.proofs.Common.{◌≡◌, ℕ, ◌^◌, ◌<◌, Bool, true, false, cond, ◌&&◌, eqb, List, [], Option, None, Some, refl, sym, ap, ◌∙◌, arith, eqb-true}
+use Rattle.std.proofs.Common.{◌≡◌, ℕ, ◌^◌, ◌<◌, Bool, true, false, cond, ◌&&◌, eqb, List, Option, None, Some, refl, sym, ◌∙◌, arith, eqb-true}
 use Rattle.nr_header.specs.declared.header.ChunkLists.{ChunkLists}
 use Rattle.nr_rpc.specs.Reading.{reply_of}
 use Rattle.nr_reduce.specs.declared.item.Item.{Item}
