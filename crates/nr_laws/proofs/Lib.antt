@@ -127,3 +127,6 @@ pub mod ReadPayloads
 pub mod ExecutedReads
 pub mod WholeCalls
 pub mod RepliedPlans
+pub mod JudgedMessages
+pub mod JudgedReplies
+pub mod JudgedAnswers
