@@ -130,3 +130,5 @@ pub mod RepliedPlans
 pub mod JudgedMessages
 pub mod JudgedReplies
 pub mod JudgedAnswers
+pub mod LawsSoFar
+pub mod ReadReplies
