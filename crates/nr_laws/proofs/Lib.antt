@@ -132,3 +132,6 @@ pub mod JudgedReplies
 pub mod JudgedAnswers
 pub mod LawsSoFar
 pub mod ReadReplies
+pub mod EmptyChunks
+pub mod CallTargets
+pub mod OwnExecutes

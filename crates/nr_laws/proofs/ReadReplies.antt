@@ -48,6 +48,7 @@ use Rattle.nr_laws.proofs.ServerAlong.{Said}
 use Rattle.nr_laws.proofs.ServerAlong.Said.{IsRefusal, IsAnswer, IsNoAnswer}
 use Rattle.nr_laws.proofs.JudgedMessages.{EndsFor, ends-for}
 use Rattle.nr_laws.proofs.JudgedReplies.{JudgedBy, judged-by, error-judged}
+use Rattle.nr_laws.proofs.OwnExecutes.{own-executes}
 use Rattle.nr_laws.proofs.JudgedAnswers.{PendingExecutes, OwnExecutes, answer-ends-none}
 
 client-nothing : (opened : LinkParameters) (link : ℕ) → (client opened link []).ended ≡ None
@@ -132,19 +133,15 @@ no-message-ends reply_to adds opened link run opens typed far words plainly plai
     by (IsNoAnswer s) = error (error-kind d.message (OfChunks s.call.xid (credit_word (server_by opened s.earlier)) s.message))
     by (IsAnswer s) = answer-ends-none reply_to adds opened link run reason opens typed far words plainly plain pending owns d j s
 
-pub client-reads-of : (reply_to : List Entry → Moment → List ℕ → Option (List ℕ)) (adds : Moment → List ℕ → List ℕ → List Entry) (opened : LinkParameters) (link : ℕ) (run : List Mark) → IsOpened opened → IsTyped run → KeepLaws opened link run
-    → HaveWords run → Plainly (server_with reply_to adds) run → IsPlain (server_with reply_to adds) → ((before : List Mark) (mark : Mark) → IsTyped (before ++ mark ∷ []) → MatchedSoFar opened link (before ++ mark ∷ []) → OwnExecutes opened link (before ++ mark ∷ []))
-    → (at reason : ℕ) → IsReplyReason reason → end_of_side opened link Initiator run ≡ Some (ends.Bad at reason) → ⊥
+pub client-reads-replies : (reply_to : List Entry → Moment → List ℕ → Option (List ℕ)) (adds : Moment → List ℕ → List ℕ → List Entry) (opened : LinkParameters) (link : ℕ) (run : List Mark) → IsOpened opened → IsTyped run → KeepLaws opened link run
+    → HaveWords run → Plainly (server_with reply_to adds) run → IsPlain (server_with reply_to adds) → (at reason : ℕ) → IsReplyReason reason → end_of_side opened link Initiator run ≡ Some (ends.Bad at reason) → ⊥
 unfolding end_of_side
-client-reads-of reply_to adds opened link run opens typed laws words plainly plain owns at reason bad e =
-    let f = first-end opened link (ends.Bad at reason) run [] opened-live e in
+client-reads-replies reply_to adds opened link run opens typed laws words plainly plain at reason bad e =
+    let f = first-end opened link (ends.Bad at reason) run [] (client-nothing opened link) e in
     let part = f.before ++ f.mark ∷ [] in
     let own_typed : IsTyped part = AtEachMark-first TypedMark [] part f.more (subst IsTyped f.is typed) in
     let kept : KeepLaws opened link part = laws-kept-before opened link part f.more (subst (KeepLaws opened link) f.is laws) in
     let far = laws-so-far opened link part kept in
     no-message-ends reply_to adds opened link part opens own_typed far (AtEachMark-first WordsMark [] part f.more (subst HaveWords f.is words))
     (AtEachMark-first (PlainMark (server_with reply_to adds)) [] part f.more (subst (Plainly (server_with reply_to adds)) f.is plainly)) plain
-    (pending-executes opened link f.before f.mark own_typed kept f.stays) (owns f.before f.mark own_typed far) at reason bad f.ends
-  where
-    opened-live : (client opened link []).ended ≡ None
-    opened-live = client-nothing opened link
+    (pending-executes opened link f.before f.mark own_typed kept f.stays) (own-executes opened link part own_typed far) at reason bad f.ends
