@@ -1,6 +1,6 @@
 -- What a client makes of a message that it can read: an error message doesn't end it, nor does an answer whose lists suit the offer of its
 -- call, and that conveys a reply of the call's xid.
-use Rattle.std.proofs.Common.{◌≡◌, ℕ, Bool, true, false, cond, eqb, eq-eqb, List, drop, Option, None, Some, Result, Ok, Err, refl, sym, ap, subst, ◌∙◌, arith, inl, inr}
+use Rattle.std.proofs.Common.{◌≡◌, ℕ, Bool, true, false, cond, eq-eqb, List, drop, Option, None, Some, Result, Ok, Err, refl, sym, ap, subst, ◌∙◌, arith, inl, inr}
 use Rattle.nr_header.specs.declared.fault.HeaderFault.{HeaderFault}
 use Rattle.nr_header.specs.declared.fault.HeaderFault.TheVariants as faults
 use Rattle.nr_header.specs.declared.header.ChunkLists.{ChunkLists}
@@ -16,7 +16,7 @@ use Rattle.nr_reduce.specs.Plans.{lists_of}
 use Rattle.nr_reduce.specs.Chunks.{answers_offer, reply_conveyed}
 use Rattle.nr_reduce.specs.Undone.{lists_by, inline_by}
 use Rattle.nr_reduce.specs.ClientState.{ClientState, OutstandingCall, memory_at}
-use Rattle.nr_reduce.specs.ClientMessages.{Verdict, verdict, by_head, by_payload, by_lists, by_body, by_call, answered_call, by_header, reply_xid}
+use Rattle.nr_reduce.specs.ClientMessages.{verdict, by_head, by_payload, by_lists, by_body, by_call, answered_call, by_header, reply_xid}
 use Rattle.nr_reduce.specs.ClientMessages.Verdict.{EndsLink, GivesOutcome}
 use Rattle.nr_laws.specs.EndCauses.{IsReplyReason}
 use Rattle.nr_laws.proofs.DoneCalls.{found-xid}

@@ -1,5 +1,5 @@
 -- The laws of a link hold so far where each Wrote writes all output due.
-use Rattle.std.proofs.Common.{◌≡◌, ℕ, List, [], ◌∙◌, append-nil}
+use Rattle.std.proofs.Common.{ℕ, List, [], ◌∙◌, append-nil}
 use Rattle.nr_wire.specs.declared.hello.Side.TheVariants.{Initiator, Responder}
 use Rattle.nr_reduce.specs.declared.call.Submission.TheVariants as submissions
 use Rattle.nr_reduce.specs.declared.mark.Mark.{Mark}

@@ -1,5 +1,5 @@
 -- On a matched link what a client makes of a message never ends it, where its calls are answered as the plain server answers.
-use Rattle.std.proofs.Common.{◌≡◌, ℕ, Bool, true, false, eqb, List, [], ◌∷◌, ◌++◌, Option, None, Some, refl, sym, ap, subst, ◌∙◌, append_assoc, append-nil}
+use Rattle.std.proofs.Common.{◌≡◌, ℕ, true, eqb, List, [], ◌∷◌, ◌++◌, Option, None, Some, refl, sym, ap, subst, ◌∙◌, append_assoc, append-nil}
 use Rattle.std.specs.Prelude.{slice_get}
 use Rattle.std.specs.List.{list_any}
 use Rattle.nr_xdr.specs.Fields.{word_at}
@@ -15,10 +15,9 @@ use Rattle.nr_reduce.specs.Opening.{IsOpened}
 use Rattle.nr_reduce.specs.IsPlain.{IsPlain}
 use Rattle.nr_reduce.specs.Journal.{PlainMark, Plainly}
 use Rattle.nr_reduce.specs.Events.{Event, events}
-use Rattle.nr_reduce.specs.EndRules.{EndState, end_state_after}
+use Rattle.nr_reduce.specs.EndRules.{EndState}
 use Rattle.nr_reduce.specs.ClientState.{ClientState}
-use Rattle.nr_reduce.specs.ServerState.{ServerState, ReadyCall, PendingCall, credit_word}
-use Rattle.nr_reduce.specs.Server.{server_rules, initial_server}
+use Rattle.nr_reduce.specs.ServerState.{ServerState, PendingCall, credit_word}
 use Rattle.nr_reduce.specs.Run.{client, server, end_of_side}
 use Rattle.nr_reduce.specs.RunLaws.{server_by}
 use Rattle.nr_reduce.specs.Asked.{IsAll}
@@ -38,7 +37,7 @@ use Rattle.nr_laws.proofs.ClientRun.Parted.{Within, Last}
 use Rattle.nr_laws.proofs.AgreeingRuns.{RunAgrees}
 use Rattle.nr_laws.proofs.AgreeingMarks.{first_is}
 use Rattle.nr_laws.proofs.PendingExecuted.{executed-there}
-use Rattle.nr_laws.proofs.ExecuteMarks.{execute_mark, ExecuteMark}
+use Rattle.nr_laws.proofs.ExecuteMarks.{execute_mark}
 use Rattle.nr_laws.proofs.OnceByXid.{at-mark, before-mark}
 use Rattle.nr_laws.proofs.ExecutedCalls.{live-server}
 use Rattle.nr_laws.proofs.Outcomes.{client_by}
