@@ -301,22 +301,22 @@ ends-for opened link run at reason typed far bad e = by a.event a.is a.ends
         sym r.parts ∙ ap (λ (xs : List Output). xs ++ r.left) b.parts ∙ append_assoc b.earlier (b.own ∷ b.later) r.left in
         own b.own b.brought (λ first. absurd (none-some (ends.Bad at reason) (hello-stays k f first (first-hello b.earlier b.later b.own f from b.brought first)) why))
         (λ s behind reads same.
-            let j = segment-judges k f s at reason bad behind reads why in
-            let one : message_in s ≡ j.message ∷ [] = whole-message k.received s j.message counted.begun j.whole in
-            record {
-              earlier = a.earlier;
-              frame = f;
-              later = a.later;
-              is = is;
-              live = a.live;
-              segment = s;
-              is_segment = reads;
-              message = j.message;
-              judged = j.judged;
-              before = b.earlier;
-              brings = b.brings;
-              said = t.said b.earlier s (b.later ++ r.left) j.message (parts ∙ ap (λ (o : Output). b.earlier ++ o ∷ (b.later ++ r.left)) same) one;
-            })
+        let j = segment-judges k f s at reason bad behind reads why in
+        let one : message_in s ≡ j.message ∷ [] = whole-message k.received s j.message counted.begun j.whole in
+        record {
+          earlier = a.earlier;
+          frame = f;
+          later = a.later;
+          is = is;
+          live = a.live;
+          segment = s;
+          is_segment = reads;
+          message = j.message;
+          judged = j.judged;
+          before = b.earlier;
+          brings = b.brings;
+          said = t.said b.earlier s (b.later ++ r.left) j.message (parts ∙ ap (λ (o : Output). b.earlier ++ o ∷ (b.later ++ r.left)) same) one;
+        })
       where
         own : (o : Output) → Brought o f → (is_hello f ≡ true → EndsFor opened link run reason) → ((s : Segment) → is_hello f ≡ false → frame_segment f ≡ Ok s → o ≡ ASegment s → EndsFor opened link run reason) → EndsFor opened link run reason
         own (AHello bytes) h hello segment = hello h.0
