@@ -191,7 +191,7 @@ goes-wrote_down opened link run bytes j all =
     guards-up opened j.k (server_state_after opened j.s QueueWritten) j.u j.d j.all_up j.all_down (record { queued_up = j.w.queued_up; up = j.w.up; queued_down = []; down = j.w.down ++ j.w.queued_down }) (place_of j.u)
     (guards-written_down opened j.k j.s j.u j.d j.all_up j.all_down j.w (place_of j.u) g))
 
-pub first_is : (ready : List ReadyCall) (r : ReadyCall) → slice_get ready 0 ≡ Some r → (rest : List ReadyCall) × (ready ≡ r ∷ rest)
+first_is : (ready : List ReadyCall) (r : ReadyCall) → slice_get ready 0 ≡ Some r → (rest : List ReadyCall) × (ready ≡ r ∷ rest)
 first_is [] r e = absurd cc
 first_is (x ∷ rest) r e = (rest, (let same : x ≡ r = cc in ap (λ (y : ReadyCall). y ∷ rest) same))
 

@@ -41,11 +41,10 @@ use Rattle.nr_reduce.proofs.AnswerMessages.{answer_again}
 use Rattle.nr_reduce.proofs.Answering.{answered, suits_offer}
 use Rattle.nr_reduce.proofs.Calls.{executed-head}
 use Rattle.nr_reduce.proofs.OwnStags.{ClientNumbers, client-numbers}
-use Rattle.nr_laws.specs.MarkAt.{MarkAt}
 use Rattle.nr_laws.specs.MatchedSoFar.{MatchedSoFar}
 use Rattle.nr_laws.specs.Typed.{TypedMark, IsTyped}
 use Rattle.nr_laws.specs.Payloads.{HasPlan}
-use Rattle.nr_laws.specs.HandedOver.{HasTargetOf, HasWords}
+use Rattle.nr_laws.specs.HandedOver.{HasTargetOf}
 use Rattle.nr_laws.specs.PlainReplies.{server_with}
 use Rattle.nr_laws.specs.Stays.{WordsMark, HaveWords}
 use Rattle.nr_laws.proofs.Along.{GoesOn, goes-behind, places_after}
@@ -66,21 +65,10 @@ use Rattle.nr_laws.proofs.SubmittedPlans.{AnsweredCall, answered-submit}
 use Rattle.nr_laws.proofs.KeptOffers.{PendingOffer, pending-offer}
 use Rattle.nr_laws.proofs.ReplyMemory.{memory-conveys}
 use Rattle.nr_laws.proofs.ReadAnswers.{own-credit}
+use Rattle.nr_laws.proofs.PendingRuns.{executes-pending}
+use Rattle.nr_laws.proofs.OwnExecutes.{IsOwnPayload, own-executes}
 use Rattle.nr_laws.proofs.JudgedMessages.{EndsFor}
 use Rattle.nr_laws.proofs.JudgedReplies.{JudgedBy, answer-judged}
-
--- the call of each Execute is pending there
-abbrev pub PendingExecutes : LinkParameters → ℕ → List Mark → Type 0
-PendingExecutes opened link run = (es : List Event) (e : ExecutedCall) → ExecuteMark link run es e → list_any (λ (c : PendingCall). eqb c.xid e.xid) (server_by opened es).calls ≡ true
-
--- each Execute has a payload of bytes, with the target of the call that was accepted under its xid
-pub record IsOwnPayload (call : Call) (payload : List ℕ) : Type 0 where
-  pub bytes : IsBytes payload
-  pub target : HasTargetOf call payload
-
-abbrev pub OwnExecutes : LinkParameters → ℕ → List Mark → Type 0
-OwnExecutes opened link run = (before : List Mark) (xid : ℕ) (plan : Plan) (moment : Moment) (payload : List ℕ) (place : ℕ) (reply : List ℕ) → (has : HasPlan opened link run xid plan) → HasWords has.call
-    → MarkAt run before (marks.Execute link xid moment payload place reply) → IsOwnPayload has.call payload
 
 record FoundOne (xid : ℕ) (calls : List PendingCall) : Type 0 where
   call : PendingCall
@@ -99,10 +87,10 @@ same-xid (calls.Version2 xid prog vers proc cred args_at) = refl
 same-xid (calls.Other xid rpcvers) = refl
 
 pub answer-ends-none : (reply_to : List Entry → Moment → List ℕ → Option (List ℕ)) (adds : Moment → List ℕ → List ℕ → List Entry) (opened : LinkParameters) (link : ℕ) (run : List Mark) (reason : ℕ) → IsOpened opened → IsTyped run → MatchedSoFar opened link run
-    → HaveWords run → Plainly (server_with reply_to adds) run → IsPlain (server_with reply_to adds) → PendingExecutes opened link run → OwnExecutes opened link run
+    → HaveWords run → Plainly (server_with reply_to adds) run → IsPlain (server_with reply_to adds)
     → (d : EndsFor opened link run reason) → JudgedBy (client_by opened d.earlier).state d.frame.end d.message reason → SaidAnswer opened (events link Responder run) d.before d.message → ⊥
 unfolding lists_of
-answer-ends-none reply_to adds opened link run reason opens typed far words plainly plain pending owns d j s =
+answer-ends-none reply_to adds opened link run reason opens typed far words plainly plain d j s =
     answer-judged k place j.call d.message j.header.body a.long a.stream (answer_lists (lists_of stag plan) a) e.reply reason lists inline
     ((λ i. answers_offer a.long (lists_of (stag_is i) (plan_is i)) (answer_lists (lists_of stag plan) a)) ∙ suits)
     (ap (λ (c : Call). reply_conveyed c.prog c.vers c.proc (cond a.long None (Some a.stream)) (answer_lists (lists_of stag plan) a) (memory_at k place)) call_is ∙ conveys)
@@ -171,7 +159,7 @@ answer-ends-none reply_to adds opened link run reason opens typed far words plai
 
     -- its offer
     f : FoundOne e.xid server.calls
-    f = found-one e.xid server.calls (pending s.earlier e m)
+    f = found-one e.xid server.calls (executes-pending opened link run typed far.served s.earlier e s.later s.is)
 
     p : PendingOffer f.call stag plan
     p = pending-offer opened link run m.earlier (execute_mark link e) m.later u.xid plan opens (before-mark TypedMark run m.earlier (execute_mark link e) m.later m.is typed) (far-before opened link run m.earlier (execute_mark link e) m.later m.is far) far.asked m.is
@@ -182,7 +170,7 @@ answer-ends-none reply_to adds opened link run reason opens typed far words plai
 
     -- its target
     own : IsOwnPayload u.call e.payload
-    own = owns m.earlier u.xid plan e.moment e.payload e.place e.reply has (at-mark WordsMark run u.earlier (marks.Submit link u.call u.form (submissions.Accepted u.xid)) u.later u.is words)
+    own = own-executes opened link run m.earlier u.xid plan e.moment e.payload e.place e.reply typed far has (at-mark WordsMark run u.earlier (marks.Submit link u.call u.form (submissions.Accepted u.xid)) u.later u.is words)
         (record { after = m.later; is = m.is ∙ ap (λ (n : ℕ). m.earlier ++ marks.Execute link n e.moment e.payload e.place e.reply ∷ m.later) same })
 
     t : HasTargetOf u.call e.payload

@@ -135,3 +135,4 @@ pub mod ReadReplies
 pub mod EmptyChunks
 pub mod CallTargets
 pub mod OwnExecutes
+pub mod PendingRuns

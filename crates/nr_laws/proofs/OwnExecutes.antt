@@ -14,9 +14,11 @@ use Rattle.nr_reduce.specs.declared.call.Form.TheVariants as forms
 use Rattle.nr_reduce.specs.declared.call.Submission.TheVariants as submissions
 use Rattle.nr_reduce.specs.declared.item.Item.{Item}
 use Rattle.nr_reduce.specs.declared.item.Of.TheVariants as items
+use Rattle.nr_reduce.specs.declared.mark.Moment.{Moment}
 use Rattle.nr_reduce.specs.declared.mark.Mark.{Mark}
 use Rattle.nr_reduce.specs.declared.mark.Mark.TheVariants as marks
 use Rattle.nr_reduce.specs.declared.mark.LinkParameters.{LinkParameters}
+use Rattle.nr_reduce.specs.declared.outline.Plan.{Plan}
 use Rattle.nr_reduce.specs.Items.{item_of, restored_payload}
 use Rattle.nr_reduce.specs.Plans.{given_region}
 use Rattle.nr_reduce.specs.Chunks.{whole}
@@ -26,16 +28,16 @@ use Rattle.nr_reduce.specs.Matched.{IsPrefixOf}
 use Rattle.nr_reduce.specs.Asked.{AskedMark, IsAccepted}
 use Rattle.nr_reduce.specs.Served.{ServedMark, IsExecuted}
 use Rattle.nr_reduce.proofs.Calls.{executed-head}
+use Rattle.nr_laws.specs.MarkAt.{MarkAt}
 use Rattle.nr_laws.specs.MatchedSoFar.{MatchedSoFar}
 use Rattle.nr_laws.specs.Typed.{TypedMark, IsTyped}
-use Rattle.nr_laws.specs.Payloads.{form_conveyed}
-use Rattle.nr_laws.specs.HandedOver.{HasWords}
+use Rattle.nr_laws.specs.Payloads.{HasPlan, form_conveyed}
+use Rattle.nr_laws.specs.HandedOver.{HasWords, HasTargetOf}
 use Rattle.nr_laws.proofs.Bytes.{bytes_both}
 use Rattle.nr_laws.proofs.OnceByXid.{at-mark}
 use Rattle.nr_laws.proofs.InlineCalls.{own-target}
 use Rattle.nr_laws.proofs.CallTargets.{some-is, bytes-zeros, bytes-region, item-by, conveyed-head}
 use Rattle.nr_laws.proofs.OwnPayloads.{payloads_are_own}
-use Rattle.nr_laws.proofs.JudgedAnswers.{OwnExecutes}
 
 -- ---- What a form conveys is of bytes
 
@@ -78,8 +80,14 @@ own-head xid call small words can = (_, call_written (calls.Version2 xid call.pr
 
 -- ---- An Execute
 
-pub own-executes : (opened : LinkParameters) (link : ℕ) (run : List Mark) → IsTyped run → MatchedSoFar opened link run → OwnExecutes opened link run
-own-executes opened link run typed far before xid plan moment payload place reply has words at =
+-- the payload is of bytes, and has the target of the call
+pub record IsOwnPayload (call : Call) (payload : List ℕ) : Type 0 where
+  pub bytes : IsBytes payload
+  pub target : HasTargetOf call payload
+
+pub own-executes : (opened : LinkParameters) (link : ℕ) (run before : List Mark) (xid : ℕ) (plan : Plan) (moment : Moment) (payload : List ℕ) (place : ℕ) (reply : List ℕ) → IsTyped run → MatchedSoFar opened link run
+    → (has : HasPlan opened link run xid plan) → HasWords has.call → MarkAt run before (marks.Execute link xid moment payload place reply) → IsOwnPayload has.call payload
+own-executes opened link run before xid plan moment payload place reply typed far has words at =
     let submit = marks.Submit link has.call has.form (submissions.Accepted xid) in
     let execute = marks.Execute link xid moment payload place reply in
     let accepted : IsAccepted opened link has.before has.call has.form xid = at-mark (AskedMark IsPrefixOf opened link) run has.before submit has.at.after has.at.is far.asked refl in
