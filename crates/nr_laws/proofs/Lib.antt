@@ -127,3 +127,6 @@ pub mod ReadPayloads
 pub mod ExecutedReads
 pub mod WholeCalls
 pub mod RepliedPlans
+pub mod SuitedCalls
+pub mod EmptyChunks
+pub mod CallRefusals

@@ -34,7 +34,7 @@ use Rattle.nr_reduce.specs.ServerMessages.Verdict.{EndsLink, OtherVersion, BadCh
 use Rattle.nr_reduce.specs.ServerFrames.{frame_effect}
 use Rattle.nr_reduce.specs.Server.{server_rules, server_end, server_state_after, initial_server, with_effect}
 use Rattle.nr_reduce.specs.Run.{client}
-use Rattle.nr_reduce.specs.RunLaws.{server_by}
+use Rattle.nr_reduce.specs.RunLaws.{known_stream, server_by}
 use Rattle.nr_reduce.specs.Undone.{lists_by}
 use Rattle.nr_reduce.proofs.OwnStags.{AreNumbered, server-numbers}
 use Rattle.nr_reduce.proofs.Steps.{end_state_after-append}
@@ -59,34 +59,37 @@ pub record HasLists (message : List ℕ) (c : PendingCall) : Type 0 where
   pub header : Header
   pub is : header_of message ≡ Ok header
   pub lists : c.lists ≡ lists_by header.body
+  pub stream : c.inline ≡ known_stream message header.body
 
-need-lists : (d c : PendingCall) (b : Bool) → cond b (EndsLink 30) (MakesPending d) ≡ MakesPending c → c.lists ≡ d.lists
-need-lists d c true e = absurd cc
-need-lists d c false e = cc
+need-is : (d c : PendingCall) (b : Bool) → cond b (EndsLink 30) (MakesPending d) ≡ MakesPending c → c ≡ d
+need-is d c true e = absurd cc
+need-is d c false e = cc
 
-stream-lists : (k : ServerState) (lists : ChunkLists) (xid : ℕ) (stream : Option (List ℕ)) (c : PendingCall) → by_stream k lists xid stream ≡ MakesPending c → c.lists ≡ lists
-stream-lists k lists xid None c e = need-lists (record { number = k.received.sends + 1; xid = xid; lists = lists; inline = None }) c (ltb 4294967296 (next_stag k + length (chunks_of lists))) e
-stream-lists k lists xid (Some stream) c e = by (is_read_chunk_of_item stream lists.read) e
+stream-is : (k : ServerState) (lists : ChunkLists) (xid : ℕ) (stream : Option (List ℕ)) (c : PendingCall) → by_stream k lists xid stream ≡ MakesPending c → c ≡ record { number = k.received.sends + 1; xid = xid; lists = lists; inline = stream }
+stream-is k lists xid None c e = need-is (record { number = k.received.sends + 1; xid = xid; lists = lists; inline = None }) c (ltb 4294967296 (next_stag k + length (chunks_of lists))) e
+stream-is k lists xid (Some stream) c e = by (is_read_chunk_of_item stream lists.read) e
   where
     call : PendingCall
     call = record { number = k.received.sends + 1; xid = xid; lists = lists; inline = Some stream }
 
-    by : (b : Bool) → cond b (by_need k call) BadChunks ≡ MakesPending c → c.lists ≡ lists
-    by true e = need-lists call c (ltb 4294967296 (next_stag k + length (chunks_of lists))) e
+    by : (b : Bool) → cond b (by_need k call) BadChunks ≡ MakesPending c → c ≡ call
+    by true e = need-is call c (ltb 4294967296 (next_stag k + length (chunks_of lists))) e
     by false e = absurd cc
 
-body-lists : (k : ServerState) (xid : ℕ) (message : List ℕ) (body : Body) (c : PendingCall) → by_body k xid message body ≡ MakesPending c → c.lists ≡ lists_by body
-body-lists k xid message (Msg lists at) c e = stream-lists k lists xid (Some (drop at message)) c e
-body-lists k xid message (Nomsg lists) c e = by (has_position lists.read) e
+body-is : (k : ServerState) (xid : ℕ) (message : List ℕ) (body : Body) (c : PendingCall) → by_body k xid message body ≡ MakesPending c → c ≡ record { number = k.received.sends + 1; xid = xid; lists = lists_by body; inline = known_stream message body }
+body-is k xid message (Msg lists at) c e = stream-is k lists xid (Some (drop at message)) c e
+body-is k xid message (Nomsg lists) c e = by (has_position lists.read) e
   where
-    by : (b : Bool) → cond b (by_stream k lists xid (no_stream lists.read)) BadChunks ≡ MakesPending c → c.lists ≡ lists
-    by true e = stream-lists k lists xid (no_stream lists.read) c e
+    by : (b : Bool) → cond b (by_stream k lists xid (no_stream lists.read)) BadChunks ≡ MakesPending c → c ≡ record { number = k.received.sends + 1; xid = xid; lists = lists; inline = no_stream lists.read }
+    by true e = stream-is k lists xid (no_stream lists.read) c e
     by false e = absurd cc
-body-lists k xid message (ErrVers version low high) c e = absurd cc
-body-lists k xid message (ErrChunk version) c e = absurd cc
+body-is k xid message (ErrVers version low high) c e = absurd cc
+body-is k xid message (ErrChunk version) c e = absurd cc
 
 header-lists : (k : ServerState) (message : List ℕ) (r : Result Header HeaderFault) (c : PendingCall) → header_of message ≡ r → by_header k message r ≡ MakesPending c → HasLists message c
-header-lists k message (Ok h) c is e = record { header = h; is = is; lists = body-lists k h.xid message h.body c e }
+header-lists k message (Ok h) c is e =
+    let same = body-is k h.xid message h.body c e in
+    record { header = h; is = is; lists = ap (λ (x : PendingCall). x.lists) same; stream = ap (λ (x : PendingCall). x.inline) same }
 header-lists k message (Err fault) c is e = absurd cc
 
 pub verdict-lists : (k : ServerState) (message : List ℕ) (c : PendingCall) → verdict k message ≡ MakesPending c → HasLists message c
