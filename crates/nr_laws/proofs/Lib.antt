@@ -130,3 +130,5 @@ pub mod RepliedPlans
 pub mod SuitedCalls
 pub mod EmptyChunks
 pub mod CallRefusals
+pub mod CallTargets
+pub mod LawsSoFar
