@@ -136,3 +136,5 @@ pub mod EmptyChunks
 pub mod CallTargets
 pub mod OwnExecutes
 pub mod PendingRuns
+pub mod SuitedCalls
+pub mod CallRefusals
