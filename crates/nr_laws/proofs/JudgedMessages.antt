@@ -1,11 +1,9 @@
 -- A client that ends for what it makes of a message: no rule of the link has such a reason, so a frame made that message whole.
-use Rattle.std.proofs.Common.{◌≡◌, ℕ, ◌<◌, Bool, true, false, cond, not, ◌||◌, eqb, ltb, List, [], ◌∷◌, ◌++◌, length, Option, None, Some, Result, Ok, refl, sym, ap, subst, ◌∙◌, arith, append_assoc, ◌⊎◌, inl, inr}
-use Rattle.nr_xdr.specs.Fields.{word_at}
+use Rattle.std.proofs.Common.{◌≡◌, ℕ, Bool, true, false, cond, List, [], ◌∷◌, ◌++◌, Option, None, Some, Result, Ok, refl, sym, ap, subst, ◌∙◌, append_assoc}
 use Rattle.nr_wire.specs.declared.hello.Side.TheVariants.{Initiator, Responder}
 use Rattle.nr_wire.specs.declared.stream.Awaited.TheVariants.{Hello as HelloFrom, Fpdu}
 use Rattle.nr_wire.specs.Hello.{hello_of}
 use Rattle.nr_wire.specs.Segment.{Segment}
-use Rattle.nr_wire.specs.Segment.Segment.{Tagged, Untagged}
 use Rattle.nr_regions.specs.declared.denied.Denied.{Denied}
 use Rattle.nr_regions.specs.RegisteredMemory.{Access}
 use Rattle.nr_regions.specs.Access.{Grant}
@@ -13,9 +11,8 @@ use Rattle.nr_link.specs.declared.end.End.{End as Stop}
 use Rattle.nr_link.specs.declared.end.End.TheVariants as ends
 use Rattle.nr_link.specs.Frames.{Frame, is_hello}
 use Rattle.nr_link.specs.Output.{own_hello}
-use Rattle.nr_link.specs.Reasons.{REASON_MSN, REASON_OFFSET, REASON_FORM, REASON_RESPONSE, REASON_REQUESTS, REASON_SHORT, REASON_LONG}
-use Rattle.nr_link.specs.ReceiveState.{is_send, message_completed}
-use Rattle.nr_link.specs.SegmentFaults.{Readiness, SegmentFault, reason_if, next_msn, next_offset, is_begun, no_buffer, missing_fault, is_malformed, is_unexpected, is_too_many, has_length, terminate_fault, first_fault, segment_fault}
+use Rattle.nr_link.specs.ReceiveState.{message_completed}
+use Rattle.nr_link.specs.SegmentFaults.{Readiness, SegmentFault, segment_fault}
 use Rattle.nr_link.specs.SegmentFaults.SegmentFault.{Reason, NoBuffer, AccessDenied, PeerTerminated}
 use Rattle.nr_link.specs.Ending.{frame_segment, frame_end, frame_end_by, end_of_fault, denied_at, access_of, hello_end, missing_access}
 use Rattle.nr_reduce.specs.declared.mark.Mark.{Mark}
@@ -41,101 +38,7 @@ use Rattle.nr_laws.proofs.Hears.{hears, client-receives, brings-at, whole-messag
 use Rattle.nr_laws.proofs.ServerAlong.{outs_of, Said}
 use Rattle.nr_laws.proofs.ServerSide.{server-tells, client-receives-of}
 use Rattle.nr_laws.proofs.Outcomes.{client_by}
-
--- ---- The reasons of the rules of the link are others
-
-abbrev Apart : ℕ → Type 0
-Apart reason = IsReplyReason reason → ⊥
-
-pub apart : (reason : ℕ) → (reason < 18) ⊎ ((reason ≡ 20) ⊎ (21 < reason)) → IsReplyReason reason → ⊥
-apart reason (inl lt) (inl e) = omega (arith, lt, e)
-apart reason (inl lt) (inr (inl e)) = omega (arith, lt, e)
-apart reason (inl lt) (inr (inr e)) = omega (arith, lt, e)
-apart reason (inr (inl same)) (inl e) = omega (arith, same, e)
-apart reason (inr (inl same)) (inr (inl e)) = omega (arith, same, e)
-apart reason (inr (inl same)) (inr (inr e)) = omega (arith, same, e)
-apart reason (inr (inr lt)) (inl e) = omega (arith, lt, e)
-apart reason (inr (inr lt)) (inr (inl e)) = omega (arith, lt, e)
-apart reason (inr (inr lt)) (inr (inr e)) = omega (arith, lt, e)
-
-abbrev OtherFault : Option (SegmentFault Denied) → Type 0
-OtherFault None = Unit {0}
-OtherFault (Some (Reason reason)) = Apart reason
-OtherFault (Some (NoBuffer msn)) = Unit {0}
-OtherFault (Some (AccessDenied why)) = Unit {0}
-OtherFault (Some (PeerTerminated word)) = Unit {0}
-
-abbrev OtherFaults : List (Option (SegmentFault Denied)) → Type 0
-OtherFaults [] = Unit {0}
-OtherFaults (x ∷ xs) = OtherFault x × OtherFaults xs
-
-first-other : (xs : List (Option (SegmentFault Denied))) → OtherFaults xs → OtherFault (first_fault xs)
-first-other [] h = tt
-first-other (None ∷ xs) h = first-other xs h.1
-first-other (Some x ∷ xs) h = h.0
-
-reason-other : (reason : ℕ) (b : Bool) → Apart reason → OtherFault (reason_if reason b)
-reason-other reason true h = h
-reason-other reason false h = tt
-
-buffer-other : (r : Readiness Denied) (b : Bool) (msn : ℕ) → OtherFault (no_buffer r b msn)
-buffer-other r true msn = by (is_begun r.received.begun || r.has_receive)
-  where
-    by : (b : Bool) → OtherFault (cond b None (Some (NoBuffer msn)))
-    by true = tt
-    by false = tt
-buffer-other r false msn = tt
-
-missing-other : (o : Option Denied) → OtherFault (missing_fault o)
-missing-other None = tt
-missing-other (Some why) = tt
-
-terminate-other : (opcode : ℕ) (payload : List ℕ) → OtherFault (terminate_fault opcode payload)
-terminate-other opcode payload = by (eqb opcode 7)
-  where
-    by : (b : Bool) → OtherFault (cond b (Some (PeerTerminated (word_at 0 payload))) None)
-    by true = tt
-    by false = tt
-
-fault-other : (r : Readiness Denied) (s : Segment) → OtherFault (segment_fault r s)
-unfolding segment_fault
-fault-other r (Tagged last opcode stag to payload) =
-    first-other (missing_fault r.missing ∷ reason_if REASON_RESPONSE (is_unexpected r opcode last stag to (length payload)) ∷ [])
-    (missing-other r.missing, (reason-other REASON_RESPONSE (is_unexpected r opcode last stag to (length payload)) (apart REASON_RESPONSE (inl (omega arith))), tt))
-fault-other r (Untagged last opcode w queue msn offset payload) =
-    let message : Option (List ℕ) = message_completed r.received (Untagged last opcode w queue msn offset payload) in
-    first-other
-    (reason_if REASON_MSN (not (eqb msn (next_msn r.received queue)))
-    ∷ reason_if REASON_OFFSET (not (eqb offset (next_offset r.received queue)))
-    ∷ no_buffer r (is_send opcode) msn
-    ∷ reason_if REASON_FORM (is_malformed opcode last payload)
-    ∷ missing_fault r.missing
-    ∷ reason_if REASON_REQUESTS (is_too_many r opcode)
-    ∷ reason_if REASON_LONG (has_length (ltb r.message_max) message)
-    ∷ reason_if REASON_SHORT (has_length (λ n. ltb n 16) message)
-    ∷ terminate_fault opcode payload
-    ∷ []) (
-      reason-other REASON_MSN (not (eqb msn (next_msn r.received queue))) (apart REASON_MSN (inl (omega arith))),
-      (
-        reason-other REASON_OFFSET (not (eqb offset (next_offset r.received queue))) (apart REASON_OFFSET (inl (omega arith))),
-        (
-          buffer-other r (is_send opcode) msn,
-          (
-            reason-other REASON_FORM (is_malformed opcode last payload) (apart REASON_FORM (inl (omega arith))),
-            (
-              missing-other r.missing,
-              (
-                reason-other REASON_REQUESTS (is_too_many r opcode) (apart REASON_REQUESTS (inl (omega arith))),
-                (
-                  reason-other REASON_LONG (has_length (ltb r.message_max) message) (apart REASON_LONG (inr (inr (omega arith)))),
-                  (reason-other REASON_SHORT (has_length (λ n. ltb n 16) message) (apart REASON_SHORT (inl (omega arith))), (terminate-other opcode payload, tt)),
-                ),
-              ),
-            ),
-          ),
-        ),
-      ),
-    )
+use Rattle.nr_laws.proofs.OtherReasons.{OtherFault, fault-other}
 
 -- ---- A segment that ends a client by such a reason
 

@@ -22,7 +22,7 @@ use Rattle.nr_laws.specs.EndCauses.{IsReplyReason}
 use Rattle.nr_laws.proofs.DoneCalls.{found-xid}
 use Rattle.nr_laws.proofs.Replied.{IsErrorBody}
 use Rattle.nr_laws.proofs.Replied.IsErrorBody.{OtherVersions, NoChunks}
-use Rattle.nr_laws.proofs.JudgedMessages.{apart}
+use Rattle.nr_laws.proofs.OtherReasons.{apart}
 
 -- what such a verdict goes by: a header, and the call that is answered
 pub record JudgedBy (k : ClientState) (place : ℕ) (message : List ℕ) (reason : ℕ) : Type 0 where

@@ -138,3 +138,4 @@ pub mod OwnExecutes
 pub mod PendingRuns
 pub mod SuitedCalls
 pub mod CallRefusals
+pub mod OtherReasons
