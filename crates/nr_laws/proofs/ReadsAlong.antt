@@ -113,7 +113,7 @@ pub record ReadsAt (opened : LinkParameters) (es : List Event) (k : ServerState)
 abbrev pub OwnMessages : ServerState → Frame → Type 0
 OwnMessages k f = (s : Segment) (message : List ℕ) (c : PendingCall) → frame_segment f ≡ Ok s → message_completed k.received s ≡ Some message → verdict k message ≡ MakesPending c → IsOwnRead c.lists.read
 
-sends-grow : (h : ReceiveState) (s : Segment) → h.sends ≤ (received_after h s).sends
+pub sends-grow : (h : ReceiveState) (s : Segment) → h.sends ≤ (received_after h s).sends
 sends-grow h (Tagged last opcode stag to payload) = omega arith
 sends-grow h (Untagged last opcode w queue msn offset payload) = by (is_send opcode)
   where

@@ -74,17 +74,15 @@ new-segment k f (Untagged last opcode w queue msn offset payload) = new-by-messa
 
 -- ---- Each access was allowed
 
-access-settled : (opened : LinkParameters) (k : ServerState) (f : Frame) (s : Segment) → is_hello f ≡ false → frame_segment f ≡ Ok s → server_end opened k (FrameReceived f) ≡ None → Settled f.end k.regions (tagged_access f s)
-access-settled opened k f (Tagged last opcode stag to payload) behind is stays =
-    let none : missing_access (region_grants f.end k.regions) f (Tagged last opcode stag to payload) ≡ None = server_touched opened k f (Tagged last opcode stag to payload) behind is stays in
-    (omega arith, none, tt)
-access-settled opened k f (Untagged last opcode w queue msn offset payload) behind is stays = tt
+access-settled : (k : ServerState) (f : Frame) (s : Segment) → missing_access (region_grants f.end k.regions) f s ≡ None → Settled f.end k.regions (tagged_access f s)
+access-settled k f (Tagged last opcode stag to payload) none = (omega arith, none, tt)
+access-settled k f (Untagged last opcode w queue msn offset payload) none = tt
 
--- with the access of a frame that doesn't end the server, by the regions before it
-pub accesses-settled : (opened : LinkParameters) (place : ℕ) (k : ServerState) (f : Frame) (s : Segment) → place ≤ f.end → is_hello f ≡ false → frame_segment f ≡ Ok s → server_end opened k (FrameReceived f) ≡ None → Settled place k.regions k.accesses_received
+-- with the access of a frame that is allowed, by the regions before it
+pub accesses-settled : (place : ℕ) (k : ServerState) (f : Frame) (s : Segment) → place ≤ f.end → missing_access (region_grants f.end k.regions) f s ≡ None → Settled place k.regions k.accesses_received
     → Settled f.end k.regions (k.accesses_received ++ tagged_access f s)
-accesses-settled opened place k f s le behind is stays h =
-    settled-more f.end k.regions k.accesses_received (tagged_access f s) (settled-later place f.end k.regions k.accesses_received le h) (access-settled opened k f s behind is stays)
+accesses-settled place k f s le none h =
+    settled-more f.end k.regions k.accesses_received (tagged_access f s) (settled-later place f.end k.regions k.accesses_received le h) (access-settled k f s none)
 
 segment-settled : (opened : LinkParameters) (place : ℕ) (k : ServerState) (f : Frame) (s : Segment) → place ≤ f.end → is_hello f ≡ false → frame_segment f ≡ Ok s → server_end opened k (FrameReceived f) ≡ None → Settled place k.regions k.accesses_received
     → Settled f.end (with_effect k f (frame_effect k f)).regions (with_effect k f (frame_effect k f)).accesses_received
@@ -99,7 +97,7 @@ segment-settled opened place k f s le behind is stays h =
     by : HasNew k.regions (effect_by k f s) → Settled f.end (regions_closed (is_over (effect_by k f s).calls (effect_by k f s).reads) f.end (effect_by k f s).regions) all
     by n =
         settled-closed (is_over (effect_by k f s).calls (effect_by k f s).reads) f.end f.end (effect_by k f s).regions all (omega arith)
-        (subst (λ (rs : List Region). Settled f.end rs all) (sym n.is) (settled-append f.end k.regions n.new all (accesses-settled opened place k f s le behind is stays h)))
+        (subst (λ (rs : List Region). Settled f.end rs all) (sym n.is) (settled-append f.end k.regions n.new all (accesses-settled place k f s le (server_touched opened k f s behind is stays) h)))
 
 frame-settled : (opened : LinkParameters) (place : ℕ) (k : ServerState) (f : Frame) → IsNext place (FrameReceived f) → ServerGood (record { state = k; ended = None }) (FrameReceived f) → Settled place k.regions k.accesses_received
     → (o : Option Stop) → server_end opened k (FrameReceived f) ≡ o → Settled f.end (next_end_state_by (server_rules opened) k (FrameReceived f) o).state.regions (next_end_state_by (server_rules opened) k (FrameReceived f) o).state.accesses_received

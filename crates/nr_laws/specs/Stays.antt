@@ -1,0 +1,78 @@
+-- Neither side of a matched link ends, where no memory is taken back and each payload that is conveyed is that of a call.
+use Rattle.std.specs.Prelude.{◌≡◌, ◌≢◌, ℕ, List, [], Option, None, Some, Ok, IsOk, ◌⊎◌}
+use Rattle.nr_header.specs.Reading.{header_of, HeaderBad}
+use Rattle.nr_rpc.specs.Reading.{call_of}
+use Rattle.nr_wire.specs.declared.hello.Side.TheVariants.{Initiator, Responder}
+use Rattle.nr_reduce.specs.declared.call.Form.{Form}
+use Rattle.nr_reduce.specs.declared.call.Form.TheVariants as forms
+use Rattle.nr_reduce.specs.declared.call.Submission.TheVariants as submissions
+use Rattle.nr_reduce.specs.declared.mark.Moment.{Moment}
+use Rattle.nr_reduce.specs.declared.mark.Entry.{Entry}
+use Rattle.nr_reduce.specs.declared.mark.Mark.{Mark}
+use Rattle.nr_reduce.specs.declared.mark.Mark.TheVariants as marks
+use Rattle.nr_reduce.specs.declared.mark.LinkParameters.{LinkParameters}
+use Rattle.nr_reduce.specs.declared.outline.Plan.{Plan}
+use Rattle.nr_reduce.specs.AtEachMark.{AtEachMark}
+use Rattle.nr_reduce.specs.ClientState.{call_payload, plan_for}
+use Rattle.nr_reduce.specs.IsPlain.{IsPlain}
+use Rattle.nr_reduce.specs.Journal.{Plainly}
+use Rattle.nr_reduce.specs.Opening.{IsOpened}
+use Rattle.nr_reduce.specs.PayloadLaws.{given_conveyed}
+use Rattle.nr_reduce.specs.Plans.{call_message}
+use Rattle.nr_reduce.specs.Run.{client, end_of_side}
+use Rattle.nr_reduce.specs.RunLaws.{HasOtherChunk}
+use Rattle.nr_laws.specs.EndCauses.{KeepLaws}
+use Rattle.nr_laws.specs.HandedOver.{HasWords}
+use Rattle.nr_laws.specs.PlainReplies.{server_with}
+use Rattle.nr_laws.specs.Typed.{IsTyped}
+
+-- no memory of this link's calls is taken back
+abbrev pub NotRevokedMark : ℕ → List Mark → Mark → Type 0
+NotRevokedMark link before (marks.Revoke l xid bytes) = l ≢ link
+NotRevokedMark link before mark = Unit {0}
+
+abbrev pub HasNoRevoke : ℕ → List Mark → Type 0
+HasNoRevoke link run = AtEachMark (NotRevokedMark link) [] run
+
+-- the numbers of each accepted call are words
+abbrev pub WordsMark : List Mark → Mark → Type 0
+WordsMark before (marks.Submit l call form (submissions.Accepted xid)) = HasWords call
+WordsMark before mark = Unit {0}
+
+abbrev pub HaveWords : List Mark → Type 0
+HaveWords run = AtEachMark WordsMark [] run
+
+-- something is conveyed, and it begins with an RPC call head (RFC 5531 section 9)
+abbrev pub HasCallHead : Option (List ℕ) → Type 0
+HasCallHead None = ⊥
+HasCallHead (Some payload) = IsOk (call_of payload)
+
+-- A server answers a call's message by ERR_CHUNK: its header is bad, or its stream is there and its read chunk isn't that of the stream's
+-- item (RFC 8166 sections 3.4.5 and 4.5). A plan has one read position, so where a stream has to be read no other chunk is there to be judged.
+abbrev pub IsRefusedMessage : List ℕ → Type 0
+IsRefusedMessage message = HeaderBad message ⊎ HasOtherChunk message (header_of message)
+
+-- An offer that is given conveys a payload with a call head, or its message is refused. Other forms convey the call's own payload.
+abbrev pub IsConveyedOrRefused : Form → (payload message : List ℕ) → Type 0
+IsConveyedOrRefused forms.Auto payload message = Unit {0}
+IsConveyedOrRefused forms.Inline payload message = Unit {0}
+IsConveyedOrRefused forms.Chunk payload message = Unit {0}
+IsConveyedOrRefused forms.Long payload message = Unit {0}
+IsConveyedOrRefused (forms.Given offer) payload message = HasCallHead (given_conveyed payload offer.read_at offer.read) ⊎ IsRefusedMessage message
+
+-- so it is of each accepted call of a link, with the message of its plan
+abbrev pub ConveyedMark : LinkParameters → ℕ → List Mark → Mark → Type 0
+ConveyedMark opened link before (marks.Submit l call form (submissions.Accepted xid)) = l ≡ link → (plan : Plan) → plan_for (client opened link before).state xid call form ≡ Ok plan →
+    IsConveyedOrRefused form (call_payload xid call) (call_message xid opened.wished (client opened link before).state.stag plan)
+ConveyedMark opened link before mark = Unit {0}
+
+abbrev pub AreConveyedOrRefused : LinkParameters → ℕ → List Mark → Type 0
+AreConveyedOrRefused opened link run = AtEachMark (ConveyedMark opened link) [] run
+
+-- On a matched link that was opened with numbers and credits in range, where each Wrote writes all output due, no memory is taken back, each
+-- offer that is given conveys a payload with a call head or is refused, and calls are answered as a plain server answers that keeps
+-- what `IsPlain` says: neither side ends.
+abbrev pub MatchedLinksStay : Type 0
+MatchedLinksStay = (reply_to : List Entry → Moment → List ℕ → Option (List ℕ)) (adds : Moment → List ℕ → List ℕ → List Entry) (opened : LinkParameters) (link : ℕ) (run : List Mark) →
+    IsOpened opened → IsTyped run → HaveWords run → KeepLaws opened link run → HasNoRevoke link run → AreConveyedOrRefused opened link run → IsPlain (server_with reply_to adds) → Plainly (server_with reply_to adds) run →
+    (end_of_side opened link Initiator run ≡ None) × (end_of_side opened link Responder run ≡ None)
