@@ -127,3 +127,7 @@ pub mod ReadPayloads
 pub mod ExecutedReads
 pub mod WholeCalls
 pub mod RepliedPlans
+pub mod PendingReads
+pub mod ServerHolds
+pub mod PlannedOffers
+pub mod RefusedSends
