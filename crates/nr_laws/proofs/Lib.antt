@@ -131,3 +131,5 @@ pub mod PendingReads
 pub mod ServerHolds
 pub mod PlannedOffers
 pub mod RefusedSends
+pub mod ChunkCauses
+pub mod AnsweredChanges
