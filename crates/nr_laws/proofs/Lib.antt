@@ -133,3 +133,5 @@ pub mod PlannedOffers
 pub mod RefusedSends
 pub mod ChunkCauses
 pub mod AnsweredChanges
+pub mod OwnPlans
+pub mod AutoReplies
