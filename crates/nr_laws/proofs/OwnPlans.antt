@@ -45,14 +45,12 @@ use Rattle.nr_reduce.proofs.Asking.{lists, lists-shape}
 use Rattle.nr_reduce.proofs.Opens.{opens_call}
 use Rattle.nr_reduce.proofs.Once.{found-number}
 use Rattle.nr_reduce.proofs.Conveyed.{known-from, each-found}
-use Rattle.nr_reduce.proofs.Placing.{xids_differ}
 use Rattle.nr_reduce.specs.declared.item.Of.TheVariants.{Call as OfCall}
 use Rattle.nr_laws.specs.Typed.{TypedMark}
 use Rattle.nr_laws.specs.ChunkOutcomes.{RefusesChunks, NoOwnPlanIsRefused}
 use Rattle.nr_laws.proofs.HeaderXid.{call-xid}
 use Rattle.nr_laws.proofs.OnceByXid.{at-mark}
-use Rattle.nr_laws.proofs.Ordered.{Order, order}
-use Rattle.nr_laws.proofs.Ordered.Order.{Behind, Here, Before}
+use Rattle.nr_laws.proofs.SubmittedPlans.{same-submit}
 use Rattle.nr_laws.proofs.ClientRun.{WasSubmitted}
 use Rattle.nr_laws.proofs.ExecutedCalls.{frame-message, received-message}
 use Rattle.nr_laws.proofs.ExecutedPayloads.{planned-by}
@@ -130,18 +128,9 @@ stream-suits k f segment c payload form stag p bytes own planned read are h =
 
 pub one-form : (opened : LinkParameters) (link : ℕ) (run early late rest others : List Mark) (call other : Call) (form way : Form) (xid yid : ℕ) → AskedSoFar opened link run → xid ≡ yid
     → run ≡ early ++ marks.Submit link call form (submissions.Accepted xid) ∷ rest → run ≡ late ++ marks.Submit link other way (submissions.Accepted yid) ∷ others → form ≡ way
-one-form opened link run early late rest others call other form way xid yid asked_so same here again = by (order early one rest late two others (sym here ∙ again))
-  where
-    one : Mark
-    one = marks.Submit link call form (submissions.Accepted xid)
-
-    two : Mark
-    two = marks.Submit link other way (submissions.Accepted yid)
-
-    by : Order early one rest late two others → form ≡ way
-    by (Here e m) = cc
-    by (Behind gap e then) = absurd (let lt = xids_differ IsPrefixOf opened link run early gap others call other form way xid yid (here ∙ ap (λ (t : List Mark). early ++ one ∷ t) then) asked_so in omega (arith, lt, same))
-    by (Before gap e then) = absurd (let lt = xids_differ IsPrefixOf opened link run late gap rest other call way form yid xid (again ∙ ap (λ (t : List Mark). late ++ two ∷ t) then) asked_so in omega (arith, lt, same))
+one-form opened link run early late rest others call other form way xid yid asked_so same here again =
+    let m = (same-submit opened link run early late rest others call other form way xid yid asked_so same here again).mark in
+    cc
 
 pub no_own_plan_is_refused : NoOwnPlanIsRefused
 no_own_plan_is_refused opened link run xid opens typed far r own = by r.refuses

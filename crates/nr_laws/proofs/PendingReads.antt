@@ -1,5 +1,5 @@
 -- Each read of a pending call is of its read list: at a position that has an entry there.
-use Rattle.std.proofs.Common.{◌≡◌, ◌≢◌, ℕ, zero, suc, ◌+◌, ◌-◌, ◌≤◌, ◌<◌, Bool, true, false, cond, not, ◌&&◌, ◌||◌, eqb, List, [], ◌∷◌, ◌++◌, length, take, drop, Option, None, Some, Result, Ok, Err, refl, sym, ap, subst, ◌∙◌, arith, append_assoc, eq-eqb}
+use Rattle.std.proofs.Common.{◌≡◌, ◌≢◌, ℕ, ◌+◌, ◌-◌, ◌≤◌, ◌<◌, Bool, true, false, cond, not, ◌&&◌, ◌||◌, eqb, List, [], ◌∷◌, ◌++◌, length, take, drop, Option, None, Some, Result, Ok, Err, refl, sym, ap, subst, ◌∙◌, arith, append_assoc, eq-eqb}
 use Rattle.std.specs.List.{list_any, filter, find, AllByRecursion}
 use Rattle.nr_header.specs.declared.header.ReadSegment.{ReadSegment}
 use Rattle.nr_wire.specs.Constants.{OPCODE_READ_RESPONSE}
@@ -17,7 +17,7 @@ use Rattle.nr_reduce.specs.ServerMessages.CallVerdict.{Refuses, IsReady}
 use Rattle.nr_reduce.specs.ServerFrames.{FrameEffect, no_effect, with_verdict, ready_if_whole, with_refused_call, is_stream_read, read_effect, call_of_number, response_effect, message_effect, by_message, with_access, effect_in}
 use Rattle.nr_laws.specs.LinkInvariants.{AreAtMost, PendingAgree}
 use Rattle.nr_laws.proofs.Keys.{any-right}
-use Rattle.nr_laws.proofs.ReadLimits.{each-append, each-take, each-kept}
+use Rattle.nr_laws.proofs.ReadLimits.{each-append, each-take, each-drop, each-kept}
 use Rattle.nr_laws.proofs.PendingSends.{verdict-new}
 
 abbrev pub HasPosition : ℕ → List ReadSegment → Type 0
@@ -29,13 +29,6 @@ IsOwn c r = r.number ≡ c.number → HasPosition r.position c.lists.read
 -- each read of each of these calls
 abbrev pub AreOwn : List PendingRead → List PendingCall → Type 0
 AreOwn reads calls = AllByRecursion (λ (c : PendingCall). AllByRecursion (IsOwn c) reads) calls
-
--- ---- Lists
-
-each-dropped : {X : Type 0} (P : X → Type 0) (n : ℕ) (xs : List X) → AllByRecursion P xs → AllByRecursion P (drop n xs)
-each-dropped P zero xs h = h
-each-dropped P (suc n) [] h = tt
-each-dropped P (suc n) (x ∷ xs) h = each-dropped P n xs h.1
 
 other-reads : (reads others : List PendingRead) → ((c : PendingCall) → AllByRecursion (IsOwn c) reads → AllByRecursion (IsOwn c) others) → (calls : List PendingCall) → AreOwn reads calls → AreOwn others calls
 other-reads reads others f [] h = tt
@@ -120,7 +113,7 @@ own-read k place r (Some c) s h =
     let left : List PendingRead = take s.kept s.reads ++ filter mine (drop s.kept s.reads) in
     own-if (is_stream_read c r s.reads && not (is_read_chunk_of_item (chunk_bytes k place c 0) c.lists.read)) (with_refused_call k c s) (ready_if_whole k place c s)
     (each-kept (λ (d : PendingCall). AllByRecursion (IsOwn d) left) (λ (d : PendingCall). not (eqb d.number c.number)) s.calls
-    (other-reads s.reads left (λ d g. each-append (IsOwn d) _ _ (each-take (IsOwn d) s.kept s.reads g) (each-kept (IsOwn d) mine (drop s.kept s.reads) (each-dropped (IsOwn d) s.kept s.reads g))) s.calls h))
+    (other-reads s.reads left (λ d g. each-append (IsOwn d) _ _ (each-take (IsOwn d) s.kept s.reads g) (each-kept (IsOwn d) mine (drop s.kept s.reads) (each-drop (IsOwn d) s.kept s.reads g))) s.calls h))
     (own-whole k place c s h)
 
 own-response : (k : ServerState) (place : ℕ) (reads : List PendingRead) → k.reads ≡ reads → AreOwn reads k.calls → AreOwn (response_effect k place reads).reads (response_effect k place reads).calls

@@ -8,7 +8,7 @@ use Rattle.nr_reduce.specs.declared.mark.Mark.TheVariants as marks
 use Rattle.nr_reduce.specs.Matched.{IsPrefixOf}
 use Rattle.nr_reduce.specs.Events.{Event, events}
 use Rattle.nr_reduce.specs.ServerState.{ServerState, PendingCall, ReadyCall}
-use Rattle.nr_reduce.specs.Served.{ServedMark, IsExecuted, first_ready}
+use Rattle.nr_reduce.specs.Served.{ServedMark, IsExecuted, first_ready, next_call}
 use Rattle.nr_reduce.specs.Run.{server}
 use Rattle.nr_laws.specs.Typed.{TypedMark}
 use Rattle.nr_laws.specs.ChunkOutcomes.{OffersArePlanned}
@@ -35,7 +35,7 @@ found-any xid (d ∷ calls) e = by (eqb d.xid xid) e (found-any xid calls)
     by false e later = later e
 
 pub offers_are_planned : OffersArePlanned
-unfolding server Rattle.nr_reduce.specs.Served.next_call
+unfolding server next_call
 offers_are_planned opened link run before xid plan moment payload place reply opens typed far has at =
     let mark : Mark = marks.Execute link xid moment payload place reply in
     let x : IsExecuted opened link before xid payload = at-mark (ServedMark IsPrefixOf opened link) run before mark at.after at.is far.served refl in

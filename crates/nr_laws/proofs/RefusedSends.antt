@@ -20,7 +20,7 @@ use Rattle.nr_reduce.specs.Server.{server_rules, server_end, server_state_after,
 use Rattle.nr_reduce.specs.Run.{client, server}
 use Rattle.nr_reduce.specs.RunLaws.{server_by, RefusesSend}
 use Rattle.nr_reduce.specs.Asked.{AskedMark, IsAccepted}
-use Rattle.nr_reduce.specs.Served.{IsExecuted}
+use Rattle.nr_reduce.specs.Served.{IsExecuted, next_call}
 use Rattle.nr_reduce.proofs.Steps.{events-one, end_state_after-append}
 use Rattle.nr_reduce.proofs.Once.{times_ready, read_for, found-number, Sound, Settled, settled-goes, kept, sound, first-times_ready}
 use Rattle.nr_reduce.proofs.Refusals.{refused-never}
@@ -29,7 +29,9 @@ use Rattle.nr_laws.specs.Typed.{IsTyped}
 use Rattle.nr_laws.specs.MarkAt.{MarkAt}
 use Rattle.nr_laws.specs.MatchedSoFar.{MatchedSoFar}
 use Rattle.nr_laws.specs.ChunkOutcomes.{RefusesChunks, HasRefusedSend}
-use Rattle.nr_laws.proofs.OnceByXid.{at-mark, executed-at}
+use Rattle.nr_laws.proofs.ExecuteMarks.{PartedTwo, parted-two, head-is}
+use Rattle.nr_laws.proofs.ExecuteMarks.PartedTwo.{InFirst, InSecond}
+use Rattle.nr_laws.proofs.OnceByXid.{ExecutedAt, at-mark, executed-at}
 use Rattle.nr_laws.proofs.Following.{events-more}
 
 as-refused : (k : ServerState) (f : Frame) (segment : Segment) (n : ℕ) → RefusesChunks k f segment n → RefusesSend k f segment n
@@ -42,33 +44,26 @@ data FrameOrder (pre : List Event) (f : Frame) (one : List Event) (e : ExecutedC
   FrameFirst : (between : List Event) → one ≡ pre ++ FrameReceived f ∷ between → FrameOrder pre f one e
   ExecuteFirst : (between : List Event) → pre ≡ one ++ CallExecuted e ∷ between → FrameOrder pre f one e
 
-head-is : (x y : Event) (xs ys : List Event) → x ∷ xs ≡ y ∷ ys → x ≡ y
-head-is x y xs ys e = cc
-
-rest-is : (x y : Event) (xs ys : List Event) → x ∷ xs ≡ y ∷ ys → xs ≡ ys
-rest-is x y xs ys e = ap (λ (zs : List Event). drop 1 zs) e
-
-order-more : (x y : Event) (pre : List Event) (f : Frame) (one : List Event) (e : ExecutedCall) → x ≡ y → FrameOrder pre f one e → FrameOrder (x ∷ pre) f (y ∷ one) e
-order-more x y pre f one e same (FrameFirst between is) = FrameFirst between (λ i. sym same i ∷ is i)
-order-more x y pre f one e same (ExecuteFirst between is) = ExecuteFirst between (λ i. same i ∷ is i)
-
 no-frame : (f : Frame) (e : ExecutedCall) → FrameReceived f ≡ CallExecuted e → ⊥
 no-frame f e h = absurd cc
 
 frame-order : (pre : List Event) (f : Frame) (post one : List Event) (e : ExecutedCall) (two : List Event) → pre ++ FrameReceived f ∷ post ≡ one ++ CallExecuted e ∷ two → FrameOrder pre f one e
-frame-order [] f post [] e two h = absurd (no-frame f e (head-is (FrameReceived f) (CallExecuted e) post two h))
-frame-order [] f post (y ∷ one) e two h = FrameFirst one (λ i. sym (head-is (FrameReceived f) y post (one ++ CallExecuted e ∷ two) h) i ∷ one)
-frame-order (x ∷ pre) f post [] e two h = ExecuteFirst pre (λ i. head-is x (CallExecuted e) (pre ++ FrameReceived f ∷ post) two h i ∷ pre)
-frame-order (x ∷ pre) f post (y ∷ one) e two h =
-    order-more x y pre f one e (head-is x y (pre ++ FrameReceived f ∷ post) (one ++ CallExecuted e ∷ two) h)
-    (frame-order pre f post one e two (rest-is x y (pre ++ FrameReceived f ∷ post) (one ++ CallExecuted e ∷ two) h))
+frame-order pre f post one e two h = by (parted-two pre (FrameReceived f ∷ post) one (CallExecuted e) two h)
+  where
+    behind : (rest : List Event) → one ≡ pre ++ rest → FrameReceived f ∷ post ≡ rest ++ CallExecuted e ∷ two → FrameOrder pre f one e
+    behind [] is same = absurd (no-frame f e (head-is (FrameReceived f) (CallExecuted e) post two same))
+    behind (x ∷ rest) is same = FrameFirst rest (is ∙ ap (λ (y : Event). pre ++ y ∷ rest) (sym (head-is (FrameReceived f) x post (rest ++ CallExecuted e ∷ two) same)))
+
+    by : PartedTwo pre (FrameReceived f ∷ post) one (CallExecuted e) two → FrameOrder pre f one e
+    by (InFirst between is) = ExecuteFirst between is
+    by (InSecond rest is same) = behind rest is same
 
 -- ---- A Send that is executed
 
 -- from then on nothing of it is read or ready
 executed-settled : (opened : LinkParameters) (link : ℕ) (before : List Mark) (xid : ℕ) (payload : List ℕ) (e : ExecutedCall) → (h : IsExecuted opened link before xid payload)
     → Settled h.call.number (end_state_after (server_rules opened) (initial_server opened) (events link Responder before ++ CallExecuted e ∷ [])).state
-unfolding Rattle.nr_reduce.specs.Served.next_call server server_state_after server_end
+unfolding next_call server server_state_after server_end
 executed-settled opened link before xid payload e h =
     let es : List Event = events link Responder before in
     let r : EndState ServerState = server opened link before in
@@ -111,7 +106,7 @@ refused-unexecuted opened link run before xid moment payload place reply typed f
     es : List Event
     es = events link Responder before
 
-    x : Rattle.nr_laws.proofs.OnceByXid.ExecutedAt opened link before xid payload
+    x : ExecutedAt opened link before xid payload
     x = executed-at opened link run before at.after xid moment payload place reply typed far at.is
 
     more : (rest : List Event) × (events link Responder ((before ++ mark ∷ []) ++ at.after) ≡ events link Responder (before ++ mark ∷ []) ++ rest)
