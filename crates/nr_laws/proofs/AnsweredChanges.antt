@@ -1,27 +1,24 @@
 -- Each executed call that adds an entry is answered by its reply, whatever was offered.
-use Rattle.std.proofs.Common.{◌≡◌, ◌≢◌, ℕ, List, [], ◌∷◌, ◌++◌, Option, None, Some, refl, sym, ap, subst, ◌∙◌, arith, append-nil, inl, inr, ◌⊎◌}
+use Rattle.std.proofs.Common.{◌≡◌, ◌≢◌, List, [], ◌∷◌, ◌++◌, Option, None, Some, refl, sym, ◌∙◌, arith, append-nil, inl, inr, ◌⊎◌}
 use Rattle.nr_wire.specs.declared.hello.Side.TheVariants.{Responder}
 use Rattle.nr_reduce.specs.declared.call.Outcome.TheVariants as outcomes
-use Rattle.nr_reduce.specs.declared.mark.Moment.{Moment}
 use Rattle.nr_reduce.specs.declared.mark.Entry.{Entry}
 use Rattle.nr_reduce.specs.declared.mark.Mark.{Mark}
 use Rattle.nr_reduce.specs.declared.mark.Mark.TheVariants as marks
-use Rattle.nr_reduce.specs.declared.mark.LinkParameters.{LinkParameters}
 use Rattle.nr_reduce.specs.Holds.{Answer}
 use Rattle.nr_reduce.specs.Matched.{IsPrefixOf}
 use Rattle.nr_reduce.specs.Events.{events}
 use Rattle.nr_reduce.specs.ServerState.{ServerState, down_max}
 use Rattle.nr_reduce.specs.Server.{offer_of}
 use Rattle.nr_reduce.specs.Run.{server}
-use Rattle.nr_reduce.specs.Served.{ServedSoFar, ServedMark, IsExecuted}
+use Rattle.nr_reduce.specs.Served.{ServedMark, IsExecuted}
 use Rattle.nr_reduce.specs.PlainJournal.{journal}
-use Rattle.nr_reduce.specs.Journal.{PlainMark, Plainly}
-use Rattle.nr_reduce.specs.IsPlain.{IsPlain}
+use Rattle.nr_reduce.specs.Journal.{PlainMark}
 use Rattle.nr_reduce.proofs.Calls.{execute-answered}
-use Rattle.nr_laws.specs.Typed.{TypedMark, IsTyped}
+use Rattle.nr_laws.specs.Typed.{TypedMark}
 use Rattle.nr_laws.specs.MarkAt.{MarkAt}
 use Rattle.nr_laws.specs.PlainReplies.{server_with}
-use Rattle.nr_laws.specs.ChunkOutcomes.{HasRefusedSend, HasUnheldReply, answer_held, IsAnswered, ChangesAreAnswered, ChunkAddsNothing}
+use Rattle.nr_laws.specs.ChunkOutcomes.{HasRefusedSend, HasUnheldReply, answer_held, ChangesAreAnswered, ChunkAddsNothing}
 use Rattle.nr_laws.proofs.OnceByXid.{at-mark, before-mark}
 use Rattle.nr_laws.proofs.Following.{far-before, executed-before}
 use Rattle.nr_laws.proofs.ServerOutputs.{found-fits}

@@ -1,5 +1,5 @@
 -- On a matched link no call whose Send is refused is executed, before or after that.
-use Rattle.std.proofs.Common.{◌≡◌, ℕ, ◌+◌, ◌≤◌, true, ◌&&◌, ◌||◌, eqb, Bool, List, [], ◌∷◌, ◌++◌, drop, Option, None, refl, sym, ap, subst, ◌∙◌, arith, append_assoc, inl, inr, eq-eqb}
+use Rattle.std.proofs.Common.{◌≡◌, ℕ, ◌+◌, true, ◌&&◌, ◌||◌, Bool, List, [], ◌∷◌, ◌++◌, Option, refl, sym, ap, subst, ◌∙◌, arith, append_assoc, inl, inr, eq-eqb}
 use Rattle.nr_wire.specs.declared.hello.Side.TheVariants.{Responder}
 use Rattle.nr_wire.specs.Segment.{Segment}
 use Rattle.nr_link.specs.declared.end.End.{End}
@@ -13,7 +13,7 @@ use Rattle.nr_reduce.specs.History.{ExecutedCall}
 use Rattle.nr_reduce.specs.Matched.{IsPrefixOf}
 use Rattle.nr_reduce.specs.Events.{Event, if_own, events_at, events}
 use Rattle.nr_reduce.specs.Events.Event.{FrameReceived, CallExecuted}
-use Rattle.nr_reduce.specs.EndRules.{EndState, next_end_state, next_end_state_in, end_state_after}
+use Rattle.nr_reduce.specs.EndRules.{EndState, next_end_state_in, end_state_after}
 use Rattle.nr_reduce.specs.Plans.{one_if}
 use Rattle.nr_reduce.specs.ServerState.{ServerState, PendingRead}
 use Rattle.nr_reduce.specs.Server.{server_rules, server_end, server_state_after, initial_server}
@@ -22,7 +22,7 @@ use Rattle.nr_reduce.specs.RunLaws.{server_by, RefusesSend}
 use Rattle.nr_reduce.specs.Asked.{AskedMark, IsAccepted}
 use Rattle.nr_reduce.specs.Served.{IsExecuted, next_call}
 use Rattle.nr_reduce.proofs.Steps.{events-one, end_state_after-append}
-use Rattle.nr_reduce.proofs.Once.{times_ready, read_for, found-number, Sound, Settled, settled-goes, kept, sound, first-times_ready}
+use Rattle.nr_reduce.proofs.Once.{read_for, found-number, Sound, Settled, settled-goes, kept, sound, first-times_ready}
 use Rattle.nr_reduce.proofs.Refusals.{refused-never}
 use Rattle.std.proofs.lemmas.Bool.{cases_lt}
 use Rattle.nr_laws.specs.Typed.{IsTyped}

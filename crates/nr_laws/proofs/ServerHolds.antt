@@ -22,8 +22,6 @@ use Rattle.nr_reduce.specs.RunLaws.{server_by}
 use Rattle.nr_reduce.specs.Served.{ServedSoFar}
 use Rattle.nr_reduce.proofs.Once.{after-goes, whole-with}
 use Rattle.nr_laws.specs.Typed.{IsTyped}
-use Rattle.nr_laws.specs.FrameContents.{Carries}
-use Rattle.nr_laws.specs.FrameContents.FrameContent.{TaggedFrame}
 use Rattle.nr_laws.specs.LinkInvariants.{PendingAgree}
 use Rattle.nr_laws.proofs.Along.{IsNext, place_after, GoesOn, goes-first}
 use Rattle.nr_laws.proofs.Words.{payload-bytes}
