@@ -1,5 +1,5 @@
 -- A call completes with Chunk exactly where its Send was refused, or its offer doesn't hold the reply.
-use Rattle.std.proofs.Common.{◌≡◌, ℕ, ◌+◌, List, ◌∷◌, ◌++◌, None, Some, refl, sym, ap, subst, ◌∙◌, inl, inr, ◌⊎◌}
+use Rattle.std.proofs.Common.{◌≡◌, ◌≢◌, ℕ, ◌+◌, List, ◌∷◌, ◌++◌, None, Some, refl, sym, ap, subst, ◌∙◌, append_assoc, inl, inr}
 use Rattle.nr_xdr.specs.Fields.{word_at}
 use Rattle.nr_wire.specs.declared.hello.Side.TheVariants.{Responder}
 use Rattle.nr_rpc.specs.Reading.{call_of, target_of}
@@ -16,19 +16,19 @@ use Rattle.nr_reduce.specs.ServerState.{down_max}
 use Rattle.nr_reduce.specs.Server.{offer_of, answer_of_target}
 use Rattle.nr_reduce.specs.Run.{client, server}
 use Rattle.nr_reduce.specs.RunLaws.{server_by, RefusesSend}
-use Rattle.nr_laws.specs.Typed.{IsTyped}
+use Rattle.nr_reduce.specs.Holds.{Answer}
+use Rattle.nr_laws.specs.Typed.{TypedMark, IsTyped}
 use Rattle.nr_laws.specs.MarkAt.{MarkAt}
 use Rattle.nr_laws.specs.MatchedSoFar.{MatchedSoFar}
-use Rattle.nr_laws.specs.ChunkOutcomes.{RefusesChunks, HasRefusedSend, HasUnheldReply, answer_held, ChunkHasCause}
+use Rattle.nr_laws.specs.ChunkOutcomes.{RefusesChunks, HasChunkCause, answer_held, ChunkHasCause, OthersHaveNoCause}
 use Rattle.nr_laws.proofs.Outputs.{answer_of_call}
 use Rattle.nr_laws.proofs.ServerAlong.{SaidError}
 use Rattle.nr_laws.proofs.ExecutedCalls.{frame-message}
-use Rattle.nr_laws.proofs.ExecuteMarks.{ExecuteMark}
-use Rattle.nr_laws.proofs.OnceByXid.{no_xid_twice}
+use Rattle.nr_laws.proofs.OnceByXid.{before-mark, no_xid_twice}
 use Rattle.nr_laws.proofs.Ordered.{Order, order}
 use Rattle.nr_laws.proofs.Ordered.Order.{Behind, Here, Before}
-use Rattle.nr_laws.proofs.Following.{DoneAt, done-at}
-use Rattle.nr_laws.proofs.Replied.{RepliedBy, replied-by}
+use Rattle.nr_laws.proofs.Following.{DoneAt, done-at, far-before}
+use Rattle.nr_laws.proofs.Replied.{replied-by}
 use Rattle.nr_laws.proofs.Completed.{ChunkCause, OutcomeCause, outcome-cause, version-never, call-plainly, version-not}
 use Rattle.nr_laws.proofs.Completed.ChunkCause.{SendRefused, NotHeld}
 use Rattle.nr_laws.proofs.Completed.OutcomeCause.{OfAnswer, OfChunk}
@@ -74,7 +74,7 @@ chunks-refused opened link run m typed far s number (inl (message, (whole, (is, 
     (ap (λ (y : List ℕ). word_at 4 y) w.message_is ∙ (call-plainly w.xid opened.wished (client opened link w.earlier).state.stag w.accepted.plan).version) bad)
 chunks-refused opened link run m typed far s number (inr stream) = inr stream
 
-cause-of : (opened : LinkParameters) (link : ℕ) (run : List Mark) (xid : ℕ) (m : List ℕ) → IsTyped run → MatchedSoFar opened link run → ChunkCause opened link run xid m → HasRefusedSend opened link run xid ⊎ HasUnheldReply opened link run xid
+cause-of : (opened : LinkParameters) (link : ℕ) (run : List Mark) (xid : ℕ) (m : List ℕ) → IsTyped run → MatchedSoFar opened link run → ChunkCause opened link run xid m → HasChunkCause opened link run xid
 cause-of opened link run xid m typed far (SendRefused s r own) =
     let w = r.submitted in
     inl (record {
@@ -107,48 +107,77 @@ cause-of opened link run xid m typed far (NotHeld s a own) =
     })
 
 chunk-caused : (opened : LinkParameters) (link : ℕ) (run before after : List Mark) (xid : ℕ) → IsTyped run → MatchedSoFar opened link run → run ≡ before ++ marks.Done link xid outcomes.Chunk ∷ after
-    → HasRefusedSend opened link before xid ⊎ HasUnheldReply opened link before xid
+    → HasChunkCause opened link before xid
 chunk-caused opened link run before after xid typed far is = by (outcome-cause opened link run before after xid outcomes.Chunk typed far is)
   where
     d : DoneAt opened link before xid outcomes.Chunk
     d = done-at opened link run before after xid outcomes.Chunk typed far is
 
-    by : OutcomeCause opened link before xid d.said.given.message outcomes.Chunk → HasRefusedSend opened link before xid ⊎ HasUnheldReply opened link before xid
+    by : OutcomeCause opened link before xid d.said.given.message outcomes.Chunk → HasChunkCause opened link before xid
     by (OfAnswer w) = elim w [ ]
     by (OfChunk w cause) = cause-of opened link before xid d.said.given.message d.typed d.far cause
 
 -- ---- Where one of them stands, no reply is handed over
 
-caused-unreplied : (opened : LinkParameters) (link : ℕ) (run before after : List Mark) (xid : ℕ) (reply : List ℕ) → IsTyped run → MatchedSoFar opened link run → run ≡ before ++ marks.Done link xid (outcomes.Reply reply) ∷ after
-    → HasRefusedSend opened link before xid ⊎ HasUnheldReply opened link before xid → ⊥
-caused-unreplied opened link run before after xid reply typed far is = by
-  where
-    r : RepliedBy opened link before xid reply
-    r = replied-by opened link run before after xid reply typed far is
+executed-uncaused : (opened : LinkParameters) (link : ℕ) (run before : List Mark) (xid : ℕ) (moment : Moment) (payload : List ℕ) (place : ℕ) (reply : List ℕ) (a : Answer) → IsTyped run → MatchedSoFar opened link run
+    → MarkAt run before (marks.Execute link xid moment payload place reply) → answer_held opened link before xid payload reply ≡ Some a → HasChunkCause opened link run xid → ⊥
+executed-uncaused opened link run before xid moment payload place reply a typed far at is (inl refused) = refused-unexecuted opened link run before xid moment payload place reply typed far refused at
+executed-uncaused opened link run before xid moment payload place reply a typed far at is (inr u) =
+    let s = one-execute opened link run before u.before xid moment u.moment payload u.payload place u.place reply u.reply typed far at u.at in
+    let wrong : Some a ≡ None = sym is ∙ (λ i. answer_held opened link (s.place i) xid (s.payload_is i) (s.reply_is i)) ∙ u.none in
+    absurd cc
 
-    e : ExecutedCall
-    e = r.answer.call
+-- the Execute of a reply that was handed over, whose offer held it
+record HeldExecute (opened : LinkParameters) (link : ℕ) (run : List Mark) (xid : ℕ) : Type 0 where
+  moment : Moment
+  payload : List ℕ
+  place : ℕ
+  reply : List ℕ
+  before : List Mark
+  at : MarkAt run before (marks.Execute link xid moment payload place reply)
+  answer : Answer
+  held : answer_held opened link before xid payload reply ≡ Some answer
 
-    mark : ExecuteMark link before r.answer.earlier e
-    mark = r.by.mark
-
-    at : MarkAt before mark.earlier (marks.Execute link xid e.moment e.payload e.place e.reply)
-    at = record { after = mark.later; is = mark.is ∙ ap (λ (x : ℕ). mark.earlier ++ marks.Execute link x e.moment e.payload e.place e.reply ∷ mark.later) r.own }
-
-    by : HasRefusedSend opened link before xid ⊎ HasUnheldReply opened link before xid → ⊥
-    by (inl refused) = refused-unexecuted opened link before mark.earlier xid e.moment e.payload e.place e.reply r.done.typed r.done.far refused at
-    by (inr u) =
-        let s = one-execute opened link before mark.earlier u.before xid e.moment u.moment e.payload u.payload e.place u.place e.reply u.reply r.done.typed r.done.far at u.at in
-        let wrong : Some r.answer.answer ≡ None =
-        sym r.answer.is_answer ∙ sym (held-at opened link mark.earlier r.answer.earlier xid e mark.before r.own)
-        ∙ (λ i. answer_held opened link (s.place i) xid (s.payload_is i) (s.reply_is i)) ∙ u.none in
-        absurd cc
+held-execute : (opened : LinkParameters) (link : ℕ) (run before after : List Mark) (xid : ℕ) (reply : List ℕ) → IsTyped run → MatchedSoFar opened link run → run ≡ before ++ marks.Done link xid (outcomes.Reply reply) ∷ after → HeldExecute opened link before xid
+held-execute opened link run before after xid reply typed far is =
+    let r = replied-by opened link run before after xid reply typed far is in
+    let e = r.answer.call in
+    let mark = r.by.mark in
+    record {
+      moment = e.moment;
+      payload = e.payload;
+      place = e.place;
+      reply = e.reply;
+      before = mark.earlier;
+      at = record { after = mark.later; is = mark.is ∙ ap (λ (x : ℕ). mark.earlier ++ marks.Execute link x e.moment e.payload e.place e.reply ∷ mark.later) r.own };
+      answer = r.answer.answer;
+      held = held-at opened link mark.earlier r.answer.earlier xid e mark.before r.own ∙ r.answer.is_answer;
+    }
 
 pub chunk_has_cause : ChunkHasCause
 chunk_has_cause opened link run before xid outcome typed far at =
     ((λ e. chunk-caused opened link run before at.after xid typed far (at.is ∙ ap (λ (o : Outcome). before ++ marks.Done link xid o ∷ at.after) e)), by outcome at.is)
   where
-    by : (o : Outcome) → run ≡ before ++ marks.Done link xid o ∷ at.after → HasRefusedSend opened link before xid ⊎ HasUnheldReply opened link before xid → o ≡ outcomes.Chunk
-    by (outcomes.Reply reply) is cause = absurd (caused-unreplied opened link run before at.after xid reply typed far is cause)
+    by : (o : Outcome) → run ≡ before ++ marks.Done link xid o ∷ at.after → HasChunkCause opened link before xid → o ≡ outcomes.Chunk
+    by (outcomes.Reply reply) is cause =
+        let mark : Mark = marks.Done link xid (outcomes.Reply reply) in
+        let h = held-execute opened link run before at.after xid reply typed far is in
+        absurd (executed-uncaused opened link before h.before xid h.moment h.payload h.place h.reply h.answer (before-mark TypedMark run before mark at.after is typed) (far-before opened link run before mark at.after is far) h.at h.held cause)
     by outcomes.Chunk is cause = refl
     by (outcomes.Version low high) is cause = absurd (version-never opened link run before at.after xid low high typed far is)
+
+pub others_have_no_cause : OthersHaveNoCause
+others_have_no_cause opened link run before xid outcome typed far at other cause = by outcome at.is other
+  where
+    by : (o : Outcome) → run ≡ before ++ marks.Done link xid o ∷ at.after → o ≢ outcomes.Chunk → ⊥
+    by (outcomes.Reply reply) is other =
+        let mark : Mark = marks.Done link xid (outcomes.Reply reply) in
+        let h = held-execute opened link run before at.after xid reply typed far is in
+        let execute : Mark = marks.Execute link xid h.moment h.payload h.place h.reply in
+        let there : MarkAt run h.before execute = record {
+          after = h.at.after ++ mark ∷ at.after;
+          is = is ∙ ap (λ (b : List Mark). b ++ mark ∷ at.after) h.at.is ∙ append_assoc h.before (execute ∷ h.at.after) (mark ∷ at.after);
+        } in
+        executed-uncaused opened link run h.before xid h.moment h.payload h.place h.reply h.answer typed far there h.held cause
+    by outcomes.Chunk is other = other refl
+    by (outcomes.Version low high) is other = version-never opened link run before at.after xid low high typed far is

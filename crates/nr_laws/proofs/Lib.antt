@@ -135,3 +135,4 @@ pub mod ChunkCauses
 pub mod AnsweredChanges
 pub mod OwnPlans
 pub mod AutoReplies
+pub mod CausedCalls

@@ -1,6 +1,6 @@
 -- Which calls complete without a reply: by ERR_CHUNK (RFC 8166 section 4.5), where the Send of the call was refused or its offer doesn't hold
 -- the reply.
-use Rattle.std.specs.Prelude.{◌≡◌, ◌≢◌, ℕ, ◌+◌, false, List, [], ◌∷◌, ◌++◌, Option, None, Some, Ok, ◌⊎◌, ◌↔◌}
+use Rattle.std.specs.Prelude.{◌≡◌, ◌≢◌, ℕ, ◌+◌, false, List, [], ◌∷◌, ◌++◌, Option, None, Some, Ok, Contains, ◌⊎◌, ◌↔◌}
 use Rattle.nr_wire.specs.declared.hello.Side.TheVariants.{Responder}
 use Rattle.nr_wire.specs.Segment.{Segment}
 use Rattle.nr_rpc.specs.Reading.{call_of, target_of}
@@ -20,6 +20,7 @@ use Rattle.nr_reduce.specs.declared.mark.Mark.{Mark}
 use Rattle.nr_reduce.specs.declared.mark.Mark.TheVariants as marks
 use Rattle.nr_reduce.specs.declared.mark.LinkParameters.{LinkParameters}
 use Rattle.nr_reduce.specs.declared.outline.Plan.{Plan}
+use Rattle.nr_reduce.specs.History.{AcceptedCall, completed_calls}
 use Rattle.nr_reduce.specs.Plans.{lists_of}
 use Rattle.nr_reduce.specs.Undone.{IsNotGiven}
 use Rattle.nr_reduce.specs.Holds.{Answer, answer_writes, answer_message}
@@ -33,12 +34,16 @@ use Rattle.nr_reduce.specs.ServerMessages.Verdict.{BadChunks}
 use Rattle.nr_reduce.specs.Server.{server_rules, server_end, initial_server, offer_of, answer_of_target}
 use Rattle.nr_reduce.specs.Run.{client, server, output_due}
 use Rattle.nr_reduce.specs.RunLaws.{server_by, IsStreamRefused}
-use Rattle.nr_reduce.specs.Served.{ServedSoFar}
+use Rattle.nr_reduce.specs.OutcomesDue.{outcomes_due}
+use Rattle.nr_reduce.specs.Asked.{Asked}
+use Rattle.nr_reduce.specs.Served.{Served, ServedSoFar}
+use Rattle.nr_reduce.specs.Matched.{Matched}
 use Rattle.nr_reduce.specs.Journal.{Plainly}
 use Rattle.nr_reduce.specs.IsPlain.{IsPlain}
 use Rattle.nr_laws.specs.MarkAt.{MarkAt}
 use Rattle.nr_laws.specs.MatchedSoFar.{MatchedSoFar}
 use Rattle.nr_laws.specs.Typed.{IsTyped}
+use Rattle.nr_laws.specs.Completion.{IsSettled, IsKept}
 use Rattle.nr_laws.specs.Payloads.{HasPlan}
 use Rattle.nr_laws.specs.PlainReplies.{server_with}
 
@@ -84,11 +89,25 @@ pub record HasUnheldReply (opened : LinkParameters) (link : ℕ) (run : List Mar
   pub at : MarkAt run before (marks.Execute link xid moment payload place reply)
   pub none : answer_held opened link before xid payload reply ≡ None
 
+abbrev pub HasChunkCause : LinkParameters → ℕ → List Mark → ℕ → Type 0
+HasChunkCause opened link run xid = HasRefusedSend opened link run xid ⊎ HasUnheldReply opened link run xid
+
 -- On a matched link a call completes with Chunk exactly where one of these two stands before.
 abbrev pub ChunkHasCause : Type 0
 ChunkHasCause = (opened : LinkParameters) (link : ℕ) (run before : List Mark) (xid : ℕ) (outcome : Outcome) →
-    IsTyped run → MatchedSoFar opened link run → MarkAt run before (marks.Done link xid outcome) →
-    (outcome ≡ outcomes.Chunk) ↔ (HasRefusedSend opened link before xid ⊎ HasUnheldReply opened link before xid)
+    IsTyped run → MatchedSoFar opened link run → MarkAt run before (marks.Done link xid outcome) → (outcome ≡ outcomes.Chunk) ↔ HasChunkCause opened link before xid
+
+-- A call that completes with another outcome has none of them, before or after.
+abbrev pub OthersHaveNoCause : Type 0
+OthersHaveNoCause = (opened : LinkParameters) (link : ℕ) (run before : List Mark) (xid : ℕ) (outcome : Outcome) →
+    IsTyped run → MatchedSoFar opened link run → MarkAt run before (marks.Done link xid outcome) → outcome ≢ outcomes.Chunk → HasChunkCause opened link run xid → ⊥
+
+-- On a matched link where nothing is left to do, and once all outcomes that are due are handed over, each accepted call with such a cause that wasn't
+-- given up has its Done with Chunk.
+abbrev pub CausedCallsComplete : Type 0
+CausedCallsComplete = (opened : LinkParameters) (link : ℕ) (run : List Mark) → IsTyped run → Asked opened link run → Served opened link run → Matched link run → IsSettled opened link run →
+    outcomes_due opened link run ≡ [] → (a : AcceptedCall) → IsKept link run a → HasChunkCause opened link run a.xid →
+    Contains (completed_calls link run) (record { xid = a.xid; outcome = outcomes.Chunk })
 
 -- ---- What is offered, and what is refused
 

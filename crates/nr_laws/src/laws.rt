@@ -5,7 +5,7 @@ ghost use Rattle.nr_laws.specs.Grant.{SubmitsWithinGrant};
 ghost use Rattle.nr_laws.specs.Places.{PlacesFollow};
 ghost use Rattle.nr_laws.specs.Once.{NoSendTwice, NoCallTwice, NoXidTwice};
 ghost use Rattle.nr_laws.specs.Completions.{RepliesAreExecuted, NoOtherVersion};
-ghost use Rattle.nr_laws.specs.ChunkOutcomes.{ChunkHasCause, OffersArePlanned, NoOwnPlanIsRefused, AutoHasReplies, ChangesAreAnswered, ChunkAddsNothing};
+ghost use Rattle.nr_laws.specs.ChunkOutcomes.{ChunkHasCause, OthersHaveNoCause, CausedCallsComplete, OffersArePlanned, NoOwnPlanIsRefused, AutoHasReplies, ChangesAreAnswered, ChunkAddsNothing};
 
 /// No Send is executed twice, whatever a client sends, and no accepted call completes twice. On a matched link no xid is executed
 /// twice.
@@ -44,6 +44,9 @@ pub fn grant()
 /// isn't that of its item (RFC 8166 section 3.4.5).
 pub fn chunk_outcomes()
     ensures causes { ChunkHasCause }
+    ensures others { OthersHaveNoCause }
+    // Where nothing is left to do, and all outcomes that are due are handed over, each such call that wasn't given up completed with Chunk.
+    ensures completed { CausedCallsComplete }
     // Where numbers and credits are in range as the link is opened, that offer is what the plan of the call offers.
     ensures offers { OffersArePlanned }
     // There a Send is refused only of a call whose offer is given.

@@ -1,4 +1,5 @@
-use Rattle.nr_laws.proofs.ChunkCauses.{chunk_has_cause}
+use Rattle.nr_laws.proofs.ChunkCauses.{chunk_has_cause, others_have_no_cause}
+use Rattle.nr_laws.proofs.CausedCalls.{caused_calls_complete}
 use Rattle.nr_laws.proofs.PlannedOffers.{offers_are_planned}
 use Rattle.nr_laws.proofs.OwnPlans.{no_own_plan_is_refused}
 use Rattle.nr_laws.proofs.AutoReplies.{auto_has_replies}
@@ -7,6 +8,12 @@ use Rattle.nr_laws.proofs.laws.chunk_outcomes.Goals as goal
 
 pub returns-clause-causes : goal.returns-clause-causes
 returns-clause-causes c = chunk_has_cause
+
+pub returns-clause-others : goal.returns-clause-others
+returns-clause-others c = others_have_no_cause
+
+pub returns-clause-completed : goal.returns-clause-completed
+returns-clause-completed c = caused_calls_complete
 
 pub returns-clause-offers : goal.returns-clause-offers
 returns-clause-offers c = offers_are_planned
