@@ -18,12 +18,12 @@ use Rattle.nr_reduce.proofs.Calls.{execute-answered}
 use Rattle.nr_laws.specs.Typed.{TypedMark}
 use Rattle.nr_laws.specs.MarkAt.{MarkAt}
 use Rattle.nr_laws.specs.PlainReplies.{server_with}
-use Rattle.nr_laws.specs.ChunkOutcomes.{HasRefusedSend, HasUnheldReply, answer_held, ChangesAreAnswered, ChunkAddsNothing}
+use Rattle.nr_laws.specs.ChunkOutcomes.{HasRefusedSend, HasReplyNotHeld, answer_held, ChangesAreAnswered, ChunkAddsNothing}
 use Rattle.nr_laws.proofs.OnceByXid.{at-mark, before-mark}
 use Rattle.nr_laws.proofs.Following.{far-before, executed-before}
 use Rattle.nr_laws.proofs.ServerOutputs.{found-fits}
-use Rattle.nr_laws.proofs.ServerHolds.{server-holds}
-use Rattle.nr_laws.proofs.RefusedSends.{refused-unexecuted}
+use Rattle.nr_laws.proofs.KeptAtServer.{kept-at-server}
+use Rattle.nr_laws.proofs.RefusedSends.{refused-not-executed}
 use Rattle.nr_laws.proofs.ChunkCauses.{one-execute, chunk_has_cause}
 
 some-of : (o : Option Answer) → o ≢ None → (a : Answer) × (o ≡ Some a)
@@ -39,7 +39,7 @@ changes_are_answered reply_to adds opened link run before xid moment payload pla
     let kept = before-mark (ServedMark IsPrefixOf opened link) run before mark at.after at.is served in
     let es = events link Responder before in
     let k : ServerState = (server opened link before).state in
-    let holds = server-holds opened link before first kept es [] (sym (append-nil es)) in
+    let holds = kept-at-server opened link before first kept es [] (sym (append-nil es)) in
     let replied = at-mark (PlainMark (server_with reply_to adds)) run before mark at.after at.is plainly in
     let held = plain.change (journal (server_with reply_to adds) before) moment payload reply (offer_of k xid) (down_max k) replied more (found-fits xid k.calls holds.fit).within (omega arith) in
     let a = some-of (answer_held opened link before xid payload reply) held in
@@ -57,9 +57,9 @@ chunk_adds_nothing reply_to adds opened link run before done xid moment payload 
     there : MarkAt done before mark
     there = record { after = then.0; is = then.1 }
 
-    none : HasRefusedSend opened link done xid ⊎ HasUnheldReply opened link done xid → adds moment payload reply ≢ [] → ⊥
+    none : HasRefusedSend opened link done xid ⊎ HasReplyNotHeld opened link done xid → adds moment payload reply ≢ [] → ⊥
     none (inl refused) more =
-        refused-unexecuted opened link done before xid moment payload place reply (before-mark TypedMark run done (marks.Done link xid outcomes.Chunk) chunk.after chunk.is typed)
+        refused-not-executed opened link done before xid moment payload place reply (before-mark TypedMark run done (marks.Done link xid outcomes.Chunk) chunk.after chunk.is typed)
         (far-before opened link run done (marks.Done link xid outcomes.Chunk) chunk.after chunk.is far) refused there
     none (inr u) more =
         let s = one-execute opened link done before u.before xid moment u.moment payload u.payload place u.place reply u.reply (before-mark TypedMark run done (marks.Done link xid outcomes.Chunk) chunk.after chunk.is typed)

@@ -31,7 +31,7 @@ use Rattle.nr_laws.specs.Typed.{TypedMark}
 use Rattle.nr_laws.specs.MarkAt.{MarkAt}
 use Rattle.nr_laws.specs.Payloads.{HasPlan, ReadsBytes}
 use Rattle.nr_laws.specs.PlainReplies.{server_with}
-use Rattle.nr_laws.specs.ChunkOutcomes.{HasRefusedSend, HasUnheldReply, AutoHasReplies}
+use Rattle.nr_laws.specs.ChunkOutcomes.{HasRefusedSend, HasReplyNotHeld, AutoHasReplies}
 use Rattle.nr_laws.proofs.OnceByXid.{at-mark, before-mark}
 use Rattle.nr_laws.proofs.Following.{far-before}
 use Rattle.nr_laws.proofs.Completed.{version-never}
@@ -125,7 +125,7 @@ auto_has_replies reply_to adds opened link run earlier before call xid outcome p
         no_own_plan_is_refused opened link before xid opens (before-mark TypedMark run before mark chunk.after chunk.is typed) (far-before opened link run before mark chunk.after chunk.is far) r
         (subst IsNotGiven (one-form opened link run earlier r.before at.after (r.at.after ++ mark ∷ chunk.after) call r.call forms.Auto r.form xid xid far.asked refl at.is there) tt)
 
-    held : MarkAt run before (marks.Done link xid outcomes.Chunk) → HasUnheldReply opened link before xid → ⊥
+    held : MarkAt run before (marks.Done link xid outcomes.Chunk) → HasReplyNotHeld opened link before xid → ⊥
     held chunk u =
         let mark : Mark = marks.Done link xid outcomes.Chunk in
         let execute : Mark = marks.Execute link xid u.moment u.payload u.place u.reply in
@@ -140,11 +140,11 @@ auto_has_replies reply_to adds opened link run earlier before call xid outcome p
         (ap (λ (x : List ℕ). plan_of x forms.Auto send_max send_max) (sym own) ∙ planned)
         (ap (λ (o : ChunkLists). answer_of_target o send_max u.reply (target_of (call_of u.payload))) (sym offer) ∙ u.none)
 
-    uncaused : MarkAt run before (marks.Done link xid outcomes.Chunk) → HasRefusedSend opened link before xid ⊎ HasUnheldReply opened link before xid → ⊥
-    uncaused chunk (inl r) = not_refused chunk r
-    uncaused chunk (inr u) = held chunk u
+    no_cause : MarkAt run before (marks.Done link xid outcomes.Chunk) → HasRefusedSend opened link before xid ⊎ HasReplyNotHeld opened link before xid → ⊥
+    no_cause chunk (inl r) = not_refused chunk r
+    no_cause chunk (inr u) = held chunk u
 
     by : (o : Outcome) → MarkAt run before (marks.Done link xid o) → (reply : List ℕ) × (o ≡ outcomes.Reply reply)
     by (outcomes.Reply reply) there = (reply, refl)
-    by outcomes.Chunk there = absurd (uncaused there ((chunk_has_cause opened link run before xid outcomes.Chunk typed far there).0 refl))
+    by outcomes.Chunk there = absurd (no_cause there ((chunk_has_cause opened link run before xid outcomes.Chunk typed far there).0 refl))
     by (outcomes.Version low high) there = absurd (version-never opened link run before there.after xid low high typed far there.is)

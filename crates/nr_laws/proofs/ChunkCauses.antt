@@ -32,7 +32,7 @@ use Rattle.nr_laws.proofs.Replied.{replied-by}
 use Rattle.nr_laws.proofs.Completed.{ChunkCause, OutcomeCause, outcome-cause, version-never, call-plainly, version-not}
 use Rattle.nr_laws.proofs.Completed.ChunkCause.{SendRefused, NotHeld}
 use Rattle.nr_laws.proofs.Completed.OutcomeCause.{OfAnswer, OfChunk}
-use Rattle.nr_laws.proofs.RefusedSends.{refused-unexecuted}
+use Rattle.nr_laws.proofs.RefusedSends.{refused-not-executed}
 
 -- ---- Of two Executes under one xid there is one
 
@@ -119,10 +119,10 @@ chunk-caused opened link run before after xid typed far is = by (outcome-cause o
 
 -- ---- Where one of them stands, no reply is handed over
 
-executed-uncaused : (opened : LinkParameters) (link : ℕ) (run before : List Mark) (xid : ℕ) (moment : Moment) (payload : List ℕ) (place : ℕ) (reply : List ℕ) (a : Answer) → IsTyped run → MatchedSoFar opened link run
+executed-without-cause : (opened : LinkParameters) (link : ℕ) (run before : List Mark) (xid : ℕ) (moment : Moment) (payload : List ℕ) (place : ℕ) (reply : List ℕ) (a : Answer) → IsTyped run → MatchedSoFar opened link run
     → MarkAt run before (marks.Execute link xid moment payload place reply) → answer_held opened link before xid payload reply ≡ Some a → HasChunkCause opened link run xid → ⊥
-executed-uncaused opened link run before xid moment payload place reply a typed far at is (inl refused) = refused-unexecuted opened link run before xid moment payload place reply typed far refused at
-executed-uncaused opened link run before xid moment payload place reply a typed far at is (inr u) =
+executed-without-cause opened link run before xid moment payload place reply a typed far at is (inl refused) = refused-not-executed opened link run before xid moment payload place reply typed far refused at
+executed-without-cause opened link run before xid moment payload place reply a typed far at is (inr u) =
     let s = one-execute opened link run before u.before xid moment u.moment payload u.payload place u.place reply u.reply typed far at u.at in
     let wrong : Some a ≡ None = sym is ∙ (λ i. answer_held opened link (s.place i) xid (s.payload_is i) (s.reply_is i)) ∙ u.none in
     absurd cc
@@ -162,7 +162,7 @@ chunk_has_cause opened link run before xid outcome typed far at =
     by (outcomes.Reply reply) is cause =
         let mark : Mark = marks.Done link xid (outcomes.Reply reply) in
         let h = held-execute opened link run before at.after xid reply typed far is in
-        absurd (executed-uncaused opened link before h.before xid h.moment h.payload h.place h.reply h.answer (before-mark TypedMark run before mark at.after is typed) (far-before opened link run before mark at.after is far) h.at h.held cause)
+        absurd (executed-without-cause opened link before h.before xid h.moment h.payload h.place h.reply h.answer (before-mark TypedMark run before mark at.after is typed) (far-before opened link run before mark at.after is far) h.at h.held cause)
     by outcomes.Chunk is cause = refl
     by (outcomes.Version low high) is cause = absurd (version-never opened link run before at.after xid low high typed far is)
 
@@ -178,6 +178,6 @@ others_have_no_cause opened link run before xid outcome typed far at other cause
           after = h.at.after ++ mark ∷ at.after;
           is = is ∙ ap (λ (b : List Mark). b ++ mark ∷ at.after) h.at.is ∙ append_assoc h.before (execute ∷ h.at.after) (mark ∷ at.after);
         } in
-        executed-uncaused opened link run h.before xid h.moment h.payload h.place h.reply h.answer typed far there h.held cause
+        executed-without-cause opened link run h.before xid h.moment h.payload h.place h.reply h.answer typed far there h.held cause
     by outcomes.Chunk is other = other refl
     by (outcomes.Version low high) is other = version-never opened link run before at.after xid low high typed far is

@@ -128,7 +128,7 @@ pub mod ExecutedReads
 pub mod WholeCalls
 pub mod RepliedPlans
 pub mod PendingReads
-pub mod ServerHolds
+pub mod KeptAtServer
 pub mod PlannedOffers
 pub mod RefusedSends
 pub mod ChunkCauses

@@ -57,7 +57,7 @@ use Rattle.nr_laws.proofs.ExecutedPayloads.{planned-by}
 use Rattle.nr_laws.proofs.ConveyedCalls.{planned-fits, plan-reads}
 use Rattle.nr_laws.proofs.RefusedCalls.{and-true}
 use Rattle.nr_laws.proofs.PendingReads.{HasPosition, IsOwn, AreOwn}
-use Rattle.nr_laws.proofs.ServerHolds.{server-holds}
+use Rattle.nr_laws.proofs.KeptAtServer.{kept-at-server}
 
 -- a call's payload isn't empty: it begins with the xid
 pub payload-some : (xid : ℕ) (call : Call) → 0 < length (call_payload xid call)
@@ -177,4 +177,4 @@ no_own_plan_is_refused opened link run xid opens typed far r own = by r.refuses
         let fine = planned-fits (call_payload w.xid w.call) w.form send_max stag p planned bytes.0 bytes.1 (omega (arith, stags)) in
         let reads = plan-reads w.xid opened.wished stag p known.header fine.0 fine.1 (omega (arith, fits)) (ap header_of (sym w.message_is) ∙ known.is_header) in
         stream-suits k r.frame r.segment c (call_payload w.xid w.call) w.form stag p bytes.0 (own_form index known.message w (omega (arith, number, counted))) planned
-        (ap (λ (l : ChunkLists). l.read) (known.lists ∙ reads.lists)) (server-holds opened link run typed far.served r.earlier (FrameReceived r.frame ∷ r.later) r.is_received).own h
+        (ap (λ (l : ChunkLists). l.read) (known.lists ∙ reads.lists)) (kept-at-server opened link run typed far.served r.earlier (FrameReceived r.frame ∷ r.later) r.is_received).own h

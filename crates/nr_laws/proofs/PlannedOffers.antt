@@ -17,7 +17,7 @@ use Rattle.nr_laws.proofs.Following.{far-before}
 use Rattle.nr_laws.proofs.ExecutedCalls.{live-server}
 use Rattle.nr_laws.proofs.PendingExecuted.{executed-there}
 use Rattle.nr_laws.proofs.KeptOffers.{pending-offer}
-use Rattle.nr_laws.proofs.ServerHolds.{server-holds}
+use Rattle.nr_laws.proofs.KeptAtServer.{kept-at-server}
 
 first-others : (ready : List ReadyCall) (ended : Option End) (r : ReadyCall) → first_ready ready ended ≡ Some r → (others : List ReadyCall) × (ready ≡ r ∷ others)
 first-others ready (Some end) r e = absurd cc
@@ -44,7 +44,7 @@ offers_are_planned opened link run before xid plan moment payload place reply op
     let es : List Event = events link Responder before in
     let k : ServerState = (server opened link before).state in
     let all : es ≡ es ++ [] = sym (append-nil es) in
-    let holds = server-holds opened link before first so_far.served es [] all in
+    let holds = kept-at-server opened link before first so_far.served es [] all in
     let ready = first-others k.ready (server opened link before).ended x.call x.is_next in
     let c = found-any xid k.calls (executed-there k xid x.call ready.0 holds.agree ready.1 x.own) in
     (pending-offer opened link run before mark at.after xid plan opens first so_far far.asked at.is has es [] all (live-server opened link before x.call x.is_next) c.0 c.1).is

@@ -83,18 +83,18 @@ executed-settled opened link before xid payload e h =
     (subst (λ (o : Option End). Settled n (next_end_state_in (server_rules opened) k (CallExecuted e) o).state) (sym f.0) there)
 
 -- so no frame refuses it
-settled-unrefused : (k : ServerState) (f : Frame) (segment : Segment) (n : ℕ) → Settled n k → RefusesChunks k f segment n → ⊥
-settled-unrefused k f segment n s (inl (message, (whole, (number, bad)))) = (let sent = s.number_sent in omega (arith, sent, number))
-settled-unrefused k f segment n s (inr (c, (h, number))) =
+settled-not-refused : (k : ServerState) (f : Frame) (segment : Segment) (n : ℕ) → Settled n k → RefusesChunks k f segment n → ⊥
+settled-not-refused k f segment n s (inl (message, (whole, (number, bad)))) = (let sent = s.number_sent in omega (arith, sent, number))
+settled-not-refused k f segment n s (inr (c, (h, number))) =
     let own : n ≡ h.read.number = number ∙ found-number h.read.number k.calls c h.call in
     let read : one_if (read_for n k.reads) ≡ 1 =
     ap (λ (rs : List PendingRead). one_if (read_for n rs)) h.reads ∙ ap (λ (b : Bool). one_if (b || read_for n h.others)) (eq-eqb h.read.number n (sym own)) in
     let none = s.none in
     omega (arith, read, none)
 
-pub refused-unexecuted : (opened : LinkParameters) (link : ℕ) (run before : List Mark) (xid : ℕ) (moment : Moment) (payload : List ℕ) (place : ℕ) (reply : List ℕ) → IsTyped run → MatchedSoFar opened link run
+pub refused-not-executed : (opened : LinkParameters) (link : ℕ) (run before : List Mark) (xid : ℕ) (moment : Moment) (payload : List ℕ) (place : ℕ) (reply : List ℕ) → IsTyped run → MatchedSoFar opened link run
     → HasRefusedSend opened link run xid → MarkAt run before (marks.Execute link xid moment payload place reply) → ⊥
-refused-unexecuted opened link run before xid moment payload place reply typed far r at =
+refused-not-executed opened link run before xid moment payload place reply typed far r at =
     by (frame-order r.earlier r.frame r.later es e more.0 (sym r.is_received ∙ all))
   where
     mark : Mark
@@ -137,4 +137,4 @@ refused-unexecuted opened link run before xid moment payload place reply typed f
         subst (λ (xs : List Event). Settled n (server_by opened xs)) (sym whole)
         (subst (λ (q : EndState ServerState). Settled n q.state) (sym (end_state_after-append (server_rules opened) (initial_server opened) (es ++ CallExecuted e ∷ []) between))
         (kept opened (Settled n) (settled-goes n) (end_state_after (server_rules opened) (initial_server opened) (es ++ CallExecuted e ∷ [])) between (executed-settled opened link before xid payload e x.executed))) in
-        settled-unrefused (server_by opened r.earlier) r.frame r.segment n settled (subst (λ (m : ℕ). RefusesChunks (server_by opened r.earlier) r.frame r.segment m) (sym same) r.refuses)
+        settled-not-refused (server_by opened r.earlier) r.frame r.segment n settled (subst (λ (m : ℕ). RefusesChunks (server_by opened r.earlier) r.frame r.segment m) (sym same) r.refuses)

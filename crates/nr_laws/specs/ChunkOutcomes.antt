@@ -80,7 +80,7 @@ answer_held opened link before xid payload reply =
     answer_of_target (offer_of (server opened link before).state xid) (down_max (server opened link before).state) reply (target_of (call_of payload))
 
 -- a call was executed under this xid with a reply that its offer doesn't hold
-pub record HasUnheldReply (opened : LinkParameters) (link : ℕ) (run : List Mark) (xid : ℕ) : Type 0 where
+pub record HasReplyNotHeld (opened : LinkParameters) (link : ℕ) (run : List Mark) (xid : ℕ) : Type 0 where
   pub moment : Moment
   pub payload : List ℕ
   pub place : ℕ
@@ -89,8 +89,9 @@ pub record HasUnheldReply (opened : LinkParameters) (link : ℕ) (run : List Mar
   pub at : MarkAt run before (marks.Execute link xid moment payload place reply)
   pub none : answer_held opened link before xid payload reply ≡ None
 
+-- one of the two
 abbrev pub HasChunkCause : LinkParameters → ℕ → List Mark → ℕ → Type 0
-HasChunkCause opened link run xid = HasRefusedSend opened link run xid ⊎ HasUnheldReply opened link run xid
+HasChunkCause opened link run xid = HasRefusedSend opened link run xid ⊎ HasReplyNotHeld opened link run xid
 
 -- On a matched link a call completes with Chunk exactly where one of these two stands before.
 abbrev pub ChunkHasCause : Type 0

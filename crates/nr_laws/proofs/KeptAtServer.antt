@@ -36,7 +36,7 @@ use Rattle.nr_laws.proofs.PendingFrames.{pending_agree-tagged_up}
 use Rattle.nr_laws.proofs.PendingExecuted.{pending_agree-executes}
 use Rattle.nr_laws.proofs.PendingReads.{AreOwn, own-in, own-executed}
 
-pub record ServerHolds (k : ServerState) : Type 0 where
+pub record KeptAtServer (k : ServerState) : Type 0 where
   pub agree : PendingAgree k
   pub own : AreOwn k.reads k.calls
   pub begun : IsBytes (begun_bytes k.received.begun)
@@ -70,7 +70,7 @@ unfolding frame_segment
 begun-after s f (Err reason) is bytes h = h
 begun-after s f (Ok segment) is bytes h = received-bytes s.received segment h (payload-bytes f.bytes segment bytes is)
 
-segment-holds : (opened : LinkParameters) (s : ServerState) (f : Frame) → is_hello f ≡ false → IsBytes f.bytes → server_end opened s (FrameReceived f) ≡ None → ServerHolds s → ServerHolds (server_state_after opened s (FrameReceived f))
+segment-holds : (opened : LinkParameters) (s : ServerState) (f : Frame) → is_hello f ≡ false → IsBytes f.bytes → server_end opened s (FrameReceived f) ≡ None → KeptAtServer s → KeptAtServer (server_state_after opened s (FrameReceived f))
 unfolding frame_segment
 segment-holds opened s f behind bytes stays h =
     let after = after-is opened s f (frame_segment f) behind refl in
@@ -84,17 +84,17 @@ segment-holds opened s f behind bytes stays h =
           (fine-frame s f (λ x m is whole. completed-bytes s.received x m h.begun (payload-bytes f.bytes x bytes is) whole) h.fit).fit);
     }
 
-frame-holds : (opened : LinkParameters) (s : ServerState) (f : Frame) → IsBytes f.bytes → server_end opened s (FrameReceived f) ≡ None → ServerHolds s → ServerHolds (server_state_after opened s (FrameReceived f))
+frame-holds : (opened : LinkParameters) (s : ServerState) (f : Frame) → IsBytes f.bytes → server_end opened s (FrameReceived f) ≡ None → KeptAtServer s → KeptAtServer (server_state_after opened s (FrameReceived f))
 unfolding server_state_after
 frame-holds opened s f bytes stays h = by (is_hello f) refl
   where
-    by : (b : Bool) → is_hello f ≡ b → ServerHolds (server_state_after opened s (FrameReceived f))
-    by true is = subst ServerHolds (sym (ap (λ (b : Bool). cond b s (with_effect s f (frame_effect s f))) is)) h
+    by : (b : Bool) → is_hello f ≡ b → KeptAtServer (server_state_after opened s (FrameReceived f))
+    by true is = subst KeptAtServer (sym (ap (λ (b : Bool). cond b s (with_effect s f (frame_effect s f))) is)) h
     by false is = segment-holds opened s f is bytes stays h
 
 -- ---- Each event
 
-live-holds : (opened : LinkParameters) (place : ℕ) (s : ServerState) (e : Event) → IsNext place e → ServerPlain (record { state = s; ended = None }) e → server_end opened s e ≡ None → ServerHolds s → ServerHolds (server_state_after opened s e)
+live-holds : (opened : LinkParameters) (place : ℕ) (s : ServerState) (e : Event) → IsNext place e → ServerPlain (record { state = s; ended = None }) e → server_end opened s e ≡ None → KeptAtServer s → KeptAtServer (server_state_after opened s e)
 unfolding server_state_after
 live-holds opened place s (FrameReceived f) next good stays h = frame-holds opened s f next.2 stays h
 live-holds opened place s (CallSubmitted p a) next good stays h = h
@@ -112,21 +112,21 @@ live-holds opened place s QueueWritten next good stays h = record {
   fit = h.fit;
 }
 
-next-holds : (opened : LinkParameters) (place : ℕ) (s : ServerState) (ended : Option End) (e : Event) → IsNext place e → ServerPlain (record { state = s; ended = ended }) e → ServerHolds s → ServerHolds (next_end_state_in (server_rules opened) s e ended).state
+next-holds : (opened : LinkParameters) (place : ℕ) (s : ServerState) (ended : Option End) (e : Event) → IsNext place e → ServerPlain (record { state = s; ended = ended }) e → KeptAtServer s → KeptAtServer (next_end_state_in (server_rules opened) s e ended).state
 next-holds opened place s (Some end) e next good h = h
 next-holds opened place s None e next good h = by (server_end opened s e) refl
   where
-    by : (o : Option End) → server_end opened s e ≡ o → ServerHolds (next_end_state_by (server_rules opened) s e o).state
+    by : (o : Option End) → server_end opened s e ≡ o → KeptAtServer (next_end_state_by (server_rules opened) s e o).state
     by None stays = live-holds opened place s e next good stays h
     by (Some end) stays = h
 
-holds-along : (opened : LinkParameters) (place : ℕ) (r : EndState ServerState) (es : List Event) → GoesOn (server_rules opened) ServerPlain place r es → ServerHolds r.state → ServerHolds (end_state_after (server_rules opened) r es).state
+holds-along : (opened : LinkParameters) (place : ℕ) (r : EndState ServerState) (es : List Event) → GoesOn (server_rules opened) ServerPlain place r es → KeptAtServer r.state → KeptAtServer (end_state_after (server_rules opened) r es).state
 holds-along opened place r [] g h = h
 holds-along opened place r (e ∷ es) g h = holds-along opened (place_after place e) (next_end_state (server_rules opened) r e) es g.2 (next-holds opened place r.state r.ended e g.0 g.1 h)
 
 -- ---- A run
 
-initial-holds : (opened : LinkParameters) → ServerHolds (initial_server opened).state
+initial-holds : (opened : LinkParameters) → KeptAtServer (initial_server opened).state
 initial-holds opened = record {
   agree = record { numbers = tt; xids = tt; calls_below = tt; reads_below = tt; ready_apart = tt; ready_calls = tt; whole_calls = tt };
   own = tt;
@@ -135,8 +135,8 @@ initial-holds opened = record {
 }
 
 -- after the first events of a run
-pub server-holds : (opened : LinkParameters) (link : ℕ) (run : List Mark) → IsTyped run → ServedSoFar opened link run → (es more : List Event) → events link Responder run ≡ es ++ more → ServerHolds (server_by opened es)
-server-holds opened link run typed served es more is =
+pub kept-at-server : (opened : LinkParameters) (link : ℕ) (run : List Mark) → IsTyped run → ServedSoFar opened link run → (es more : List Event) → events link Responder run ≡ es ++ more → KeptAtServer (server_by opened es)
+kept-at-server opened link run typed served es more is =
     let g = server-goes opened link run typed served in
     holds-along opened 0 (initial_server opened) es
     (goes-first (server_rules opened) ServerPlain 0 (initial_server opened) es more (subst (λ (xs : List Event). GoesOn (server_rules opened) ServerPlain 0 (initial_server opened) xs) is g.goes))
