@@ -44,7 +44,7 @@ no-at (MemoryRevoked p xid ∷ pre) e post h = no-at pre e post h
 no-at (CallExecuted x ∷ pre) e post h = h
 no-at (QueueWritten ∷ pre) e post h = no-at pre e post h
 
-data PartedTwo (xs ys pre : List Event) (m : Event) (post : List Event) : Type 0 where
+pub data PartedTwo (xs ys pre : List Event) (m : Event) (post : List Event) : Type 0 where
   InFirst : (more : List Event) → xs ≡ pre ++ m ∷ more → PartedTwo xs ys pre m post
   InSecond : (rest : List Event) → pre ≡ xs ++ rest → ys ≡ rest ++ m ∷ post → PartedTwo xs ys pre m post
 
@@ -52,10 +52,10 @@ two-more : (x z : Event) (xs ys pre : List Event) (m : Event) (post : List Event
 two-more x z xs ys pre m post e (InFirst more is) = InFirst more (λ i. e i ∷ is i)
 two-more x z xs ys pre m post e (InSecond rest is then) = InSecond rest (λ i. sym e i ∷ is i) then
 
-head-is : (a b : Event) (xs ys : List Event) → a ∷ xs ≡ b ∷ ys → a ≡ b
+pub head-is : (a b : Event) (xs ys : List Event) → a ∷ xs ≡ b ∷ ys → a ≡ b
 head-is a b xs ys e = cc
 
-parted-two : (xs ys pre : List Event) (m : Event) (post : List Event) → xs ++ ys ≡ pre ++ m ∷ post → PartedTwo xs ys pre m post
+pub parted-two : (xs ys pre : List Event) (m : Event) (post : List Event) → xs ++ ys ≡ pre ++ m ∷ post → PartedTwo xs ys pre m post
 parted-two [] ys pre m post e = InSecond pre refl e
 parted-two (x ∷ xs) ys [] m post e = InFirst xs (λ i. head-is x m (xs ++ ys) post e i ∷ xs)
 parted-two (x ∷ xs) ys (p ∷ pre) m post e = two-more x p xs ys pre m post (head-is x p (xs ++ ys) (pre ++ m ∷ post) e) (parted-two xs ys pre m post (ap (λ (zs : List Event). drop 1 zs) e))

@@ -141,3 +141,12 @@ pub mod PendingRuns
 pub mod SuitedCalls
 pub mod CallRefusals
 pub mod OtherReasons
+pub mod PendingReads
+pub mod KeptAtServer
+pub mod PlannedOffers
+pub mod RefusedSends
+pub mod ChunkCauses
+pub mod AnsweredChanges
+pub mod OwnPlans
+pub mod AutoReplies
+pub mod CausedCalls

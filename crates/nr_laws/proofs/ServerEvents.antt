@@ -39,7 +39,7 @@ use Rattle.nr_laws.proofs.ServerAlong.Said.{IsRefusal, IsAnswer, IsNoAnswer}
 
 -- ---- The bytes that are received
 
-received-bytes : (h : ReceiveState) (s : Segment) → IsBytes (begun_bytes h.begun) → IsBytes (payload_by s) → IsBytes (begun_bytes (received_after h s).begun)
+pub received-bytes : (h : ReceiveState) (s : Segment) → IsBytes (begun_bytes h.begun) → IsBytes (payload_by s) → IsBytes (begun_bytes (received_after h s).begun)
 received-bytes h (Tagged last opcode stag to payload) b p = b
 received-bytes h (Untagged last opcode w queue msn offset payload) b p = by (is_send opcode)
   where
@@ -55,7 +55,7 @@ received-bytes h (Untagged last opcode w queue msn offset payload) b p = by (is_
     by true = by_last last
     by false = by_read (eqb opcode OPCODE_READ_REQUEST)
 
-completed-bytes : (h : ReceiveState) (s : Segment) (m : List ℕ) → IsBytes (begun_bytes h.begun) → IsBytes (payload_by s) → message_completed h s ≡ Some m → IsBytes m
+pub completed-bytes : (h : ReceiveState) (s : Segment) (m : List ℕ) → IsBytes (begun_bytes h.begun) → IsBytes (payload_by s) → message_completed h s ≡ Some m → IsBytes m
 completed-bytes h (Tagged last opcode stag to payload) m b p e = absurd cc
 completed-bytes h (Untagged last opcode w queue msn offset payload) m b p e = by (is_send opcode && last) e
   where

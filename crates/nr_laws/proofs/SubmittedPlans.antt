@@ -88,11 +88,11 @@ answered-submit opened link run typed asked_so es more is xid o found =
 
 -- ---- Of two Submits under one xid there is one
 
-record SameSubmit (early late : List Mark) (one two : Mark) : Type 0 where
-  place : early ≡ late
-  mark : one ≡ two
+pub record SameSubmit (early late : List Mark) (one two : Mark) : Type 0 where
+  pub place : early ≡ late
+  pub mark : one ≡ two
 
-same-submit : (opened : LinkParameters) (link : ℕ) (run early late rest others : List Mark) (call other : Call) (form way : Form) (xid yid : ℕ) → AskedSoFar opened link run → xid ≡ yid
+pub same-submit : (opened : LinkParameters) (link : ℕ) (run early late rest others : List Mark) (call other : Call) (form way : Form) (xid yid : ℕ) → AskedSoFar opened link run → xid ≡ yid
     → run ≡ early ++ marks.Submit link call form (submissions.Accepted xid) ∷ rest → run ≡ late ++ marks.Submit link other way (submissions.Accepted yid) ∷ others
     → SameSubmit early late (marks.Submit link call form (submissions.Accepted xid)) (marks.Submit link other way (submissions.Accepted yid))
 same-submit opened link run early late rest others call other form way xid yid asked_so same here again = by (order early one rest late two others (sym here ∙ again))

@@ -14,3 +14,4 @@ pub mod Payloads
 pub mod HandedOver
 pub mod PlainReplies
 pub mod Stays
+pub mod ChunkOutcomes

@@ -5,6 +5,7 @@ ghost use Rattle.nr_laws.specs.Grant.{SubmitsWithinGrant};
 ghost use Rattle.nr_laws.specs.Places.{PlacesFollow};
 ghost use Rattle.nr_laws.specs.Once.{NoSendTwice, NoCallTwice, NoXidTwice};
 ghost use Rattle.nr_laws.specs.Completions.{RepliesAreExecuted, NoOtherVersion};
+ghost use Rattle.nr_laws.specs.ChunkOutcomes.{ChunkHasCause, OthersHaveNoCause, CausedCallsComplete, OffersArePlanned, NoOwnPlanIsRefused, AutoHasReplies, ChangesAreAnswered, ChunkAddsNothing};
 
 /// No Send is executed twice, whatever a client sends, and no accepted call completes twice. On a matched link no xid is executed
 /// twice.
@@ -36,4 +37,24 @@ pub fn completions()
 /// On every link whose client accepts by its rule each accepted call is submitted while fewer calls are outstanding than are granted.
 pub fn grant()
     ensures { SubmitsWithinGrant }
+{}
+
+/// On a matched link a call completes with Chunk (ERR_CHUNK, RFC 8166 section 4.5) exactly where its Send was refused before, or where it was
+/// executed before with a reply that its offer doesn't hold. A Send is refused where its header can't be read, or where its read chunk
+/// isn't that of its item (RFC 8166 section 3.4.5).
+pub fn chunk_outcomes()
+    ensures causes { ChunkHasCause }
+    ensures others { OthersHaveNoCause }
+    // Where nothing is left to do, and all outcomes that are due are handed over, each such call that wasn't given up completed with Chunk.
+    ensures completed { CausedCallsComplete }
+    // Where numbers and credits are in range as the link is opened, that offer is what the plan of the call offers.
+    ensures offers { OffersArePlanned }
+    // There a Send is refused only of a call whose offer is given.
+    ensures own_plans { NoOwnPlanIsRefused }
+    // Where calls are answered as a plain server answers, a call in form Auto that completes has a reply.
+    ensures auto { AutoHasReplies }
+    // On every link, whatever its client sends, an executed call that adds an entry to the journal is then answered by its reply.
+    ensures changes { ChangesAreAnswered }
+    // So a call that completes with Chunk on a matched link added no entry.
+    ensures nothing_added { ChunkAddsNothing }
 {}

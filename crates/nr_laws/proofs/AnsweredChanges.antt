@@ -1,0 +1,73 @@
+-- Each executed call that adds an entry is answered by its reply, whatever was offered.
+use Rattle.std.proofs.Common.{◌≡◌, ◌≢◌, List, [], ◌∷◌, ◌++◌, Option, None, Some, refl, sym, ◌∙◌, arith, append-nil, inl, inr, ◌⊎◌}
+use Rattle.nr_wire.specs.declared.hello.Side.TheVariants.{Responder}
+use Rattle.nr_reduce.specs.declared.call.Outcome.TheVariants as outcomes
+use Rattle.nr_reduce.specs.declared.mark.Entry.{Entry}
+use Rattle.nr_reduce.specs.declared.mark.Mark.{Mark}
+use Rattle.nr_reduce.specs.declared.mark.Mark.TheVariants as marks
+use Rattle.nr_reduce.specs.Holds.{Answer}
+use Rattle.nr_reduce.specs.Matched.{IsPrefixOf}
+use Rattle.nr_reduce.specs.Events.{events}
+use Rattle.nr_reduce.specs.ServerState.{ServerState, down_max}
+use Rattle.nr_reduce.specs.Server.{offer_of}
+use Rattle.nr_reduce.specs.Run.{server}
+use Rattle.nr_reduce.specs.Served.{ServedMark, IsExecuted}
+use Rattle.nr_reduce.specs.PlainJournal.{journal}
+use Rattle.nr_reduce.specs.Journal.{PlainMark}
+use Rattle.nr_reduce.proofs.Calls.{execute-answered}
+use Rattle.nr_laws.specs.Typed.{TypedMark}
+use Rattle.nr_laws.specs.MarkAt.{MarkAt}
+use Rattle.nr_laws.specs.PlainReplies.{server_with}
+use Rattle.nr_laws.specs.ChunkOutcomes.{HasRefusedSend, HasReplyNotHeld, answer_held, ChangesAreAnswered, ChunkAddsNothing}
+use Rattle.nr_laws.proofs.OnceByXid.{at-mark, before-mark}
+use Rattle.nr_laws.proofs.Following.{far-before, executed-before}
+use Rattle.nr_laws.proofs.ServerOutputs.{found-fits}
+use Rattle.nr_laws.proofs.KeptAtServer.{kept-at-server}
+use Rattle.nr_laws.proofs.RefusedSends.{refused-not-executed}
+use Rattle.nr_laws.proofs.ChunkCauses.{one-execute, chunk_has_cause}
+
+some-of : (o : Option Answer) → o ≢ None → (a : Answer) × (o ≡ Some a)
+some-of None h = absurd (h refl)
+some-of (Some a) h = (a, refl)
+
+pub changes_are_answered : ChangesAreAnswered
+unfolding server
+changes_are_answered reply_to adds opened link run before xid moment payload place reply plain plainly typed served at more =
+    let mark : Mark = marks.Execute link xid moment payload place reply in
+    let x : IsExecuted opened link before xid payload = at-mark (ServedMark IsPrefixOf opened link) run before mark at.after at.is served refl in
+    let first = before-mark TypedMark run before mark at.after at.is typed in
+    let kept = before-mark (ServedMark IsPrefixOf opened link) run before mark at.after at.is served in
+    let es = events link Responder before in
+    let k : ServerState = (server opened link before).state in
+    let holds = kept-at-server opened link before first kept es [] (sym (append-nil es)) in
+    let replied = at-mark (PlainMark (server_with reply_to adds)) run before mark at.after at.is plainly in
+    let held = plain.change (journal (server_with reply_to adds) before) moment payload reply (offer_of k xid) (down_max k) replied more (found-fits xid k.calls holds.fit).within (omega arith) in
+    let a = some-of (answer_held opened link before xid payload reply) held in
+    record { answer = a.0; is_held = a.1; due = (execute-answered opened link before xid moment payload place reply x).0 a.0 a.1 }
+
+pub chunk_adds_nothing : ChunkAddsNothing
+chunk_adds_nothing reply_to adds opened link run before done xid moment payload place reply plain plainly typed far at chunk = by (adds moment payload reply) refl
+  where
+    mark : Mark
+    mark = marks.Execute link xid moment payload place reply
+
+    then : (mid : List Mark) × (done ≡ before ++ mark ∷ mid)
+    then = executed-before opened link run done chunk.after before at.after xid outcomes.Chunk moment payload place reply typed far chunk.is at.is
+
+    there : MarkAt done before mark
+    there = record { after = then.0; is = then.1 }
+
+    none : HasRefusedSend opened link done xid ⊎ HasReplyNotHeld opened link done xid → adds moment payload reply ≢ [] → ⊥
+    none (inl refused) more =
+        refused-not-executed opened link done before xid moment payload place reply (before-mark TypedMark run done (marks.Done link xid outcomes.Chunk) chunk.after chunk.is typed)
+        (far-before opened link run done (marks.Done link xid outcomes.Chunk) chunk.after chunk.is far) refused there
+    none (inr u) more =
+        let s = one-execute opened link done before u.before xid moment u.moment payload u.payload place u.place reply u.reply (before-mark TypedMark run done (marks.Done link xid outcomes.Chunk) chunk.after chunk.is typed)
+        (far-before opened link run done (marks.Done link xid outcomes.Chunk) chunk.after chunk.is far) there u.at in
+        let a = changes_are_answered reply_to adds opened link run before xid moment payload place reply plain plainly typed far.served at more in
+        let wrong : Some a.answer ≡ None = sym a.is_held ∙ (λ i. answer_held opened link (s.place i) xid (s.payload_is i) (s.reply_is i)) ∙ u.none in
+        absurd cc
+
+    by : (entries : List Entry) → adds moment payload reply ≡ entries → adds moment payload reply ≡ []
+    by [] is = is
+    by (entry ∷ entries) is = absurd (none ((chunk_has_cause opened link run done xid outcomes.Chunk typed far chunk).0 refl) (λ e. (let wrong : entry ∷ entries ≡ [] = sym is ∙ e in cc)))

@@ -1,0 +1,183 @@
+-- A call completes with Chunk exactly where its Send was refused, or its offer doesn't hold the reply.
+use Rattle.std.proofs.Common.{◌≡◌, ◌≢◌, ℕ, ◌+◌, List, ◌∷◌, ◌++◌, None, Some, refl, sym, ap, subst, ◌∙◌, append_assoc, inl, inr}
+use Rattle.nr_xdr.specs.Fields.{word_at}
+use Rattle.nr_wire.specs.declared.hello.Side.TheVariants.{Responder}
+use Rattle.nr_rpc.specs.Reading.{call_of, target_of}
+use Rattle.nr_reduce.specs.declared.call.Outcome.{Outcome}
+use Rattle.nr_reduce.specs.declared.call.Outcome.TheVariants as outcomes
+use Rattle.nr_reduce.specs.declared.call.Submission.TheVariants as submissions
+use Rattle.nr_reduce.specs.declared.mark.Moment.{Moment}
+use Rattle.nr_reduce.specs.declared.mark.Mark.{Mark}
+use Rattle.nr_reduce.specs.declared.mark.Mark.TheVariants as marks
+use Rattle.nr_reduce.specs.declared.mark.LinkParameters.{LinkParameters}
+use Rattle.nr_reduce.specs.History.{ExecutedCall}
+use Rattle.nr_reduce.specs.Events.{Event, events}
+use Rattle.nr_reduce.specs.ServerState.{down_max}
+use Rattle.nr_reduce.specs.Server.{offer_of, answer_of_target}
+use Rattle.nr_reduce.specs.Run.{client, server}
+use Rattle.nr_reduce.specs.RunLaws.{server_by, RefusesSend}
+use Rattle.nr_reduce.specs.Holds.{Answer}
+use Rattle.nr_laws.specs.Typed.{TypedMark, IsTyped}
+use Rattle.nr_laws.specs.MarkAt.{MarkAt}
+use Rattle.nr_laws.specs.MatchedSoFar.{MatchedSoFar}
+use Rattle.nr_laws.specs.ChunkOutcomes.{RefusesChunks, HasChunkCause, answer_held, ChunkHasCause, OthersHaveNoCause}
+use Rattle.nr_laws.proofs.Outputs.{answer_of_call}
+use Rattle.nr_laws.proofs.ServerAlong.{SaidError}
+use Rattle.nr_laws.proofs.ExecutedCalls.{frame-message}
+use Rattle.nr_laws.proofs.OnceByXid.{before-mark, no_xid_twice}
+use Rattle.nr_laws.proofs.Ordered.{Order, order}
+use Rattle.nr_laws.proofs.Ordered.Order.{Behind, Here, Before}
+use Rattle.nr_laws.proofs.Following.{DoneAt, done-at, far-before}
+use Rattle.nr_laws.proofs.Replied.{replied-by}
+use Rattle.nr_laws.proofs.Completed.{ChunkCause, OutcomeCause, outcome-cause, version-never, call-plainly, version-not}
+use Rattle.nr_laws.proofs.Completed.ChunkCause.{SendRefused, NotHeld}
+use Rattle.nr_laws.proofs.Completed.OutcomeCause.{OfAnswer, OfChunk}
+use Rattle.nr_laws.proofs.RefusedSends.{refused-not-executed}
+
+-- ---- Of two Executes under one xid there is one
+
+pub record SameExecute (before others : List Mark) (payload asked reply answer : List ℕ) : Type 0 where
+  pub place : before ≡ others
+  pub payload_is : payload ≡ asked
+  pub reply_is : reply ≡ answer
+
+pub one-execute : (opened : LinkParameters) (link : ℕ) (run before others : List Mark) (xid : ℕ) (moment now : Moment) (payload asked : List ℕ) (place later : ℕ) (reply answer : List ℕ) → IsTyped run → MatchedSoFar opened link run
+    → MarkAt run before (marks.Execute link xid moment payload place reply) → MarkAt run others (marks.Execute link xid now asked later answer) → SameExecute before others payload asked reply answer
+one-execute opened link run before others xid moment now payload asked place later reply answer typed far at there = by (order before one at.after others two there.after (sym at.is ∙ there.is))
+  where
+    one : Mark
+    one = marks.Execute link xid moment payload place reply
+
+    two : Mark
+    two = marks.Execute link xid now asked later answer
+
+    by : Order before one at.after others two there.after → SameExecute before others payload asked reply answer
+    by (Here e m) = record { place = e; payload_is = cc; reply_is = cc }
+    by (Behind gap e then) = absurd (no_xid_twice opened link run before gap xid xid moment now payload asked place later reply answer typed far
+        (record { after = there.after; is = there.is ∙ ap (λ (b : List Mark). b ++ two ∷ there.after) e }) refl)
+    by (Before gap e then) = absurd (no_xid_twice opened link run others gap xid xid now moment asked payload later place answer reply typed far
+        (record { after = at.after; is = at.is ∙ ap (λ (b : List Mark). b ++ one ∷ at.after) e }) refl)
+
+-- what an executed call is answered, by its mark
+pub held-at : (opened : LinkParameters) (link : ℕ) (before : List Mark) (es : List Event) (xid : ℕ) (e : ExecutedCall) → events link Responder before ≡ es → e.xid ≡ xid → answer_held opened link before xid e.payload e.reply ≡ answer_of_call (server_by opened es) e
+unfolding server
+held-at opened link before es xid e is own = λ i. answer_of_target (offer_of (server_by opened (is i)) (sym own i)) (down_max (server_by opened (is i))) e.reply (target_of (call_of e.payload))
+
+-- ---- What ERR_CHUNK tells
+
+chunks-refused : (opened : LinkParameters) (link : ℕ) (run : List Mark) (m : List ℕ) → IsTyped run → MatchedSoFar opened link run → (s : SaidError opened (events link Responder run) m) → (number : ℕ)
+    → RefusesSend (server_by opened s.earlier) s.frame s.segment number → RefusesChunks (server_by opened s.earlier) s.frame s.segment number
+chunks-refused opened link run m typed far s number (inl (message, (whole, (is, inl bad)))) = inl (message, (whole, (is, bad)))
+chunks-refused opened link run m typed far s number (inl (message, (whole, (is, inr bad)))) =
+    let w = frame-message opened link run typed far.asked far.matched s.earlier s.frame s.later s.segment message s.is s.behind s.is_segment whole s.live in
+    absurd (version-not (server_by opened s.earlier) message
+    (ap (λ (y : List ℕ). word_at 4 y) w.message_is ∙ (call-plainly w.xid opened.wished (client opened link w.earlier).state.stag w.accepted.plan).version) bad)
+chunks-refused opened link run m typed far s number (inr stream) = inr stream
+
+cause-of : (opened : LinkParameters) (link : ℕ) (run : List Mark) (xid : ℕ) (m : List ℕ) → IsTyped run → MatchedSoFar opened link run → ChunkCause opened link run xid m → HasChunkCause opened link run xid
+cause-of opened link run xid m typed far (SendRefused s r own) =
+    let w = r.submitted in
+    inl (record {
+      call = w.call;
+      form = w.form;
+      before = w.earlier;
+      at = record { after = w.later; is = w.is ∙ ap (λ (x : ℕ). w.earlier ++ marks.Submit link w.call w.form (submissions.Accepted x) ∷ w.later) own };
+      earlier = s.earlier;
+      later = s.later;
+      frame = s.frame;
+      segment = s.segment;
+      is_received = s.is;
+      behind_hello = s.behind;
+      is_segment = s.is_segment;
+      live = s.live;
+      stays = s.stays;
+      refuses = subst (λ (n : ℕ). RefusesChunks (server_by opened s.earlier) s.frame s.segment (n + 1)) (sym w.counted) (chunks-refused opened link run m typed far s (r.index + 1) r.refuses);
+    })
+cause-of opened link run xid m typed far (NotHeld s a own) =
+    let e = s.call in
+    let k = a.mark in
+    inr (record {
+      moment = e.moment;
+      payload = e.payload;
+      place = e.place;
+      reply = e.reply;
+      before = k.earlier;
+      at = record { after = k.later; is = k.is ∙ ap (λ (x : ℕ). k.earlier ++ marks.Execute link x e.moment e.payload e.place e.reply ∷ k.later) own };
+      none = held-at opened link k.earlier s.earlier xid e k.before own ∙ s.none;
+    })
+
+chunk-caused : (opened : LinkParameters) (link : ℕ) (run before after : List Mark) (xid : ℕ) → IsTyped run → MatchedSoFar opened link run → run ≡ before ++ marks.Done link xid outcomes.Chunk ∷ after
+    → HasChunkCause opened link before xid
+chunk-caused opened link run before after xid typed far is = by (outcome-cause opened link run before after xid outcomes.Chunk typed far is)
+  where
+    d : DoneAt opened link before xid outcomes.Chunk
+    d = done-at opened link run before after xid outcomes.Chunk typed far is
+
+    by : OutcomeCause opened link before xid d.said.given.message outcomes.Chunk → HasChunkCause opened link before xid
+    by (OfAnswer w) = elim w [ ]
+    by (OfChunk w cause) = cause-of opened link before xid d.said.given.message d.typed d.far cause
+
+-- ---- Where one of them stands, no reply is handed over
+
+executed-without-cause : (opened : LinkParameters) (link : ℕ) (run before : List Mark) (xid : ℕ) (moment : Moment) (payload : List ℕ) (place : ℕ) (reply : List ℕ) (a : Answer) → IsTyped run → MatchedSoFar opened link run
+    → MarkAt run before (marks.Execute link xid moment payload place reply) → answer_held opened link before xid payload reply ≡ Some a → HasChunkCause opened link run xid → ⊥
+executed-without-cause opened link run before xid moment payload place reply a typed far at is (inl refused) = refused-not-executed opened link run before xid moment payload place reply typed far refused at
+executed-without-cause opened link run before xid moment payload place reply a typed far at is (inr u) =
+    let s = one-execute opened link run before u.before xid moment u.moment payload u.payload place u.place reply u.reply typed far at u.at in
+    let wrong : Some a ≡ None = sym is ∙ (λ i. answer_held opened link (s.place i) xid (s.payload_is i) (s.reply_is i)) ∙ u.none in
+    absurd cc
+
+-- the Execute of a reply that was handed over, whose offer held it
+record HeldExecute (opened : LinkParameters) (link : ℕ) (run : List Mark) (xid : ℕ) : Type 0 where
+  moment : Moment
+  payload : List ℕ
+  place : ℕ
+  reply : List ℕ
+  before : List Mark
+  at : MarkAt run before (marks.Execute link xid moment payload place reply)
+  answer : Answer
+  held : answer_held opened link before xid payload reply ≡ Some answer
+
+held-execute : (opened : LinkParameters) (link : ℕ) (run before after : List Mark) (xid : ℕ) (reply : List ℕ) → IsTyped run → MatchedSoFar opened link run → run ≡ before ++ marks.Done link xid (outcomes.Reply reply) ∷ after → HeldExecute opened link before xid
+held-execute opened link run before after xid reply typed far is =
+    let r = replied-by opened link run before after xid reply typed far is in
+    let e = r.answer.call in
+    let mark = r.by.mark in
+    record {
+      moment = e.moment;
+      payload = e.payload;
+      place = e.place;
+      reply = e.reply;
+      before = mark.earlier;
+      at = record { after = mark.later; is = mark.is ∙ ap (λ (x : ℕ). mark.earlier ++ marks.Execute link x e.moment e.payload e.place e.reply ∷ mark.later) r.own };
+      answer = r.answer.answer;
+      held = held-at opened link mark.earlier r.answer.earlier xid e mark.before r.own ∙ r.answer.is_answer;
+    }
+
+pub chunk_has_cause : ChunkHasCause
+chunk_has_cause opened link run before xid outcome typed far at =
+    ((λ e. chunk-caused opened link run before at.after xid typed far (at.is ∙ ap (λ (o : Outcome). before ++ marks.Done link xid o ∷ at.after) e)), by outcome at.is)
+  where
+    by : (o : Outcome) → run ≡ before ++ marks.Done link xid o ∷ at.after → HasChunkCause opened link before xid → o ≡ outcomes.Chunk
+    by (outcomes.Reply reply) is cause =
+        let mark : Mark = marks.Done link xid (outcomes.Reply reply) in
+        let h = held-execute opened link run before at.after xid reply typed far is in
+        absurd (executed-without-cause opened link before h.before xid h.moment h.payload h.place h.reply h.answer (before-mark TypedMark run before mark at.after is typed) (far-before opened link run before mark at.after is far) h.at h.held cause)
+    by outcomes.Chunk is cause = refl
+    by (outcomes.Version low high) is cause = absurd (version-never opened link run before at.after xid low high typed far is)
+
+pub others_have_no_cause : OthersHaveNoCause
+others_have_no_cause opened link run before xid outcome typed far at other cause = by outcome at.is other
+  where
+    by : (o : Outcome) → run ≡ before ++ marks.Done link xid o ∷ at.after → o ≢ outcomes.Chunk → ⊥
+    by (outcomes.Reply reply) is other =
+        let mark : Mark = marks.Done link xid (outcomes.Reply reply) in
+        let h = held-execute opened link run before at.after xid reply typed far is in
+        let execute : Mark = marks.Execute link xid h.moment h.payload h.place h.reply in
+        let there : MarkAt run h.before execute = record {
+          after = h.at.after ++ mark ∷ at.after;
+          is = is ∙ ap (λ (b : List Mark). b ++ mark ∷ at.after) h.at.is ∙ append_assoc h.before (execute ∷ h.at.after) (mark ∷ at.after);
+        } in
+        executed-without-cause opened link run h.before xid h.moment h.payload h.place h.reply h.answer typed far there h.held cause
+    by outcomes.Chunk is other = other refl
+    by (outcomes.Version low high) is other = version-never opened link run before at.after xid low high typed far is
