@@ -1,22 +1,17 @@
 -- A call in form Auto that completes has a reply, where a plain server replies.
-use Rattle.std.proofs.Common.{◌≡◌, ℕ, ◌+◌, ◌≤◌, ◌<◌, Bool, true, false, cond, not, ◌&&◌, eqb, leb, List, [], ◌∷◌, ◌++◌, length, Option, None, Some, Ok, refl, sym, ap, subst, ◌∙◌, arith, append_assoc, inl, inr, ◌⊎◌}
-use Rattle.std.proofs.lemmas.List.{length-take-le}
-use Rattle.nr_xdr.specs.Item.{IsBytes, pad_len}
+use Rattle.std.proofs.Common.{◌≡◌, ℕ, List, ◌∷◌, ◌++◌, Some, Ok, refl, sym, ap, subst, ◌∙◌, arith, append_assoc, inl, inr, ◌⊎◌}
+use Rattle.nr_xdr.specs.Item.{IsBytes}
 use Rattle.nr_rpc.specs.Reading.{call_of, target_of}
 use Rattle.nr_header.specs.declared.header.ChunkLists.{ChunkLists}
 use Rattle.nr_reduce.specs.declared.call.Form.TheVariants as forms
 use Rattle.nr_reduce.specs.declared.call.Outcome.{Outcome}
 use Rattle.nr_reduce.specs.declared.call.Outcome.TheVariants as outcomes
 use Rattle.nr_reduce.specs.declared.call.Submission.TheVariants as submissions
-use Rattle.nr_reduce.specs.declared.item.Item.{Item}
-use Rattle.nr_reduce.specs.declared.item.Of.TheVariants.{Call as OfCall}
 use Rattle.nr_reduce.specs.declared.mark.Mark.{Mark}
 use Rattle.nr_reduce.specs.declared.mark.Mark.TheVariants as marks
 use Rattle.nr_reduce.specs.declared.outline.Plan.{Plan}
-use Rattle.nr_reduce.specs.Items.{reducible_item}
-use Rattle.nr_reduce.specs.Largest.{largest_reply}
 use Rattle.nr_reduce.specs.Limits.{send_max}
-use Rattle.nr_reduce.specs.Plans.{plan_of, plan_size, inline_plan, write_offer, offering, auto_offer, reduced_plan, reduced_plan_by, long_plan}
+use Rattle.nr_reduce.specs.Plans.{plan_of}
 use Rattle.nr_reduce.specs.Undone.{IsNotGiven}
 use Rattle.nr_reduce.specs.Matched.{IsPrefixOf}
 use Rattle.nr_reduce.specs.Server.{answer_of_target}
@@ -25,11 +20,9 @@ use Rattle.nr_reduce.specs.Run.{client}
 use Rattle.nr_reduce.specs.Asked.{AskedMark, IsAccepted}
 use Rattle.nr_reduce.specs.PlainJournal.{journal}
 use Rattle.nr_reduce.specs.Journal.{PlainMark}
-use Rattle.nr_reduce.proofs.Sizes.{is_formed}
-use Rattle.nr_reduce.proofs.Undone.{reducible}
 use Rattle.nr_laws.specs.Typed.{TypedMark}
 use Rattle.nr_laws.specs.MarkAt.{MarkAt}
-use Rattle.nr_laws.specs.Payloads.{HasPlan, ReadsBytes}
+use Rattle.nr_laws.specs.Payloads.{HasPlan}
 use Rattle.nr_laws.specs.PlainReplies.{server_with}
 use Rattle.nr_laws.specs.ChunkOutcomes.{HasRefusedSend, HasReplyNotHeld, AutoHasReplies}
 use Rattle.nr_laws.proofs.OnceByXid.{at-mark, before-mark}
@@ -39,59 +32,7 @@ use Rattle.nr_laws.proofs.ExecutedPayloads.{planned-by}
 use Rattle.nr_laws.proofs.OwnPayloads.{payloads_are_own}
 use Rattle.nr_laws.proofs.PlannedOffers.{offers_are_planned}
 use Rattle.nr_laws.proofs.ChunkCauses.{chunk_has_cause}
-use Rattle.nr_laws.proofs.OwnPlans.{payload-some, one-form, no_own_plan_is_refused}
-
--- ---- A read chunk of such a call has bytes
-
-record IsInline (payload : List ℕ) (q : Plan) : Type 0 where
-  read : q.read ≡ []
-  inline : q.inline ≡ payload
-
-offer-inline : (payload : List ℕ) (down : ℕ) → IsInline payload (auto_offer payload down (inline_plan payload))
-offer-inline payload down = by (leb (28 + largest_reply payload) down) (write_offer payload)
-  where
-    by : (b : Bool) (o : Option ℕ) → IsInline payload (cond b (inline_plan payload) (offering payload o (inline_plan payload)))
-    by true o = record { read = refl; inline = refl }
-    by false None = record { read = refl; inline = refl }
-    by false (Some n) = record { read = refl; inline = refl }
-
-pad-small : (n : ℕ) → pad_len n ≤ 3
-unfolding pad_len
-pad-small n = omega arith
-
--- a plan with a read chunk for the item is chosen where it is shorter: then the item isn't empty
-reduced-reads : (payload : List ℕ) (up : ℕ) (q : Plan) → IsInline payload q → leb (plan_size q) up ≡ false → leb (plan_size (reduced_plan payload q)) up ≡ true → ReadsBytes (reduced_plan payload q)
-unfolding reduced_plan plan_size
-reduced-reads payload up q h long short = by (reducible_item OfCall payload) refl short
-  where
-    by : (o : Option Item) → reducible_item OfCall payload ≡ o → leb (plan_size (reduced_plan_by payload q o)) up ≡ true → ReadsBytes (reduced_plan_by payload q o)
-    by None is fits = inl h.read
-    by (Some i) is fits =
-        let size = (reducible OfCall payload i is).size in
-        let stream = length-take-le i.pos payload (omega (arith, size)) in
-        let pad = pad-small i.len in
-        let none = ap (λ (xs : List ℕ). length xs) h.read in
-        let whole = ap (λ (xs : List ℕ). length xs) h.inline in
-        let some : 0 < i.len = grind (arith, long, fits, size, stream, pad, none, whole) in
-        inr (omega (arith, some))
-
-auto-reads : (payload : List ℕ) (up down : ℕ) (p : Plan) → plan_of payload forms.Auto up down ≡ Ok p → 0 < length payload → ReadsBytes p
-auto-reads payload up down p e some =
-    subst ReadsBytes (is_formed payload forms.Auto up down p e).is (by (leb (plan_size q) up) refl (not (eqb (length (reduced_plan payload q).read) 0)) (leb (plan_size (reduced_plan payload q)) up) refl)
-  where
-    q : Plan
-    q = auto_offer payload down (inline_plan payload)
-
-    h : IsInline payload q
-    h = offer-inline payload down
-
-    by : (a : Bool) → leb (plan_size q) up ≡ a → (b c : Bool) → leb (plan_size (reduced_plan payload q)) up ≡ c → ReadsBytes (cond a q (cond (b && c) (reduced_plan payload q) (long_plan payload q)))
-    by true is b c short = inl h.read
-    by false is true true short = reduced-reads payload up q h is short
-    by false is true false short = inr (omega (arith, some))
-    by false is false c short = inr (omega (arith, some))
-
--- ---- No cause of Chunk is left
+use Rattle.nr_laws.proofs.OwnPlans.{one-form, no_own_plan_is_refused}
 
 some-payload : (own payload : List ℕ) → Some own ≡ Some payload → own ≡ payload
 some-payload own payload e = cc
@@ -133,7 +74,7 @@ auto_has_replies reply_to adds opened link run earlier before call xid outcome p
         chunk.is ∙ ap (λ (b : List Mark). b ++ mark ∷ chunk.after) u.at.is ∙ append_assoc u.before (execute ∷ u.at.after) (mark ∷ chunk.after) in
         let executed : MarkAt run u.before execute = record { after = u.at.after ++ mark ∷ chunk.after; is = there } in
         let own : call_payload xid call ≡ u.payload =
-        some-payload (call_payload xid call) u.payload (payloads_are_own opened link run u.before xid plan u.moment u.payload u.place u.reply typed far has (auto-reads (call_payload xid call) send_max send_max plan planned (payload-some xid call)) executed) in
+        some-payload (call_payload xid call) u.payload (payloads_are_own opened link run u.before xid plan u.moment u.payload u.place u.reply typed far has executed) in
         let offer = offers_are_planned opened link run u.before xid plan u.moment u.payload u.place u.reply opens typed far has executed in
         let replied = at-mark (PlainMark (server_with reply_to adds)) run u.before execute executed.after there plainly in
         plain.auto (journal (server_with reply_to adds) u.before) u.moment u.payload u.reply send_max send_max (client opened link earlier).state.stag plan (subst IsBytes own bytes) replied (omega arith)

@@ -22,7 +22,6 @@ use Rattle.nr_link.specs.SegmentFaults.SegmentFault.{Reason, NoBuffer, AccessDen
 use Rattle.nr_link.specs.Ending.{access_of, denied_at, frame_segment, frame_end, frame_end_by, end_of_fault, missing_access}
 use Rattle.nr_regions.specs.Access.{Grant}
 use Rattle.nr_reduce.specs.Chunks.{is_read_chunk_of_item}
-use Rattle.nr_reduce.specs.OfferedRegions.{Region}
 use Rattle.nr_reduce.specs.ServerState.{ServerState, PendingCall, PendingRead, next_stag, is_pending}
 use Rattle.nr_reduce.specs.ServerReads.{open_reads, is_read, reads_of, regions_of, chunks_of}
 use Rattle.nr_reduce.specs.ServerMessages.{Verdict, CallVerdict, verdict, by_need, by_stream, by_body, by_header, by_payload, payload_of, chunk_bytes, has_position, no_stream}

@@ -23,7 +23,7 @@ use Rattle.nr_reduce.specs.Run.{client}
 use Rattle.nr_reduce.specs.ServerState.{ServerState, PendingCall}
 use Rattle.nr_reduce.specs.Server.{server_rules, initial_server, offer_by, offer_of}
 use Rattle.nr_reduce.specs.RunLaws.{server_by, IsReceivedCall}
-use Rattle.nr_reduce.proofs.Conveyed.{Each, known-from}
+use Rattle.nr_reduce.proofs.Conveyed.{Each, Known, known-from}
 use Rattle.nr_laws.specs.MatchedSoFar.{MatchedSoFar}
 use Rattle.nr_laws.specs.Typed.{TypedMark, IsTyped}
 use Rattle.nr_laws.specs.Payloads.{HasPlan}
