@@ -127,3 +127,5 @@ pub mod ReadPayloads
 pub mod ExecutedReads
 pub mod WholeCalls
 pub mod RepliedPlans
+pub mod BroughtBytes
+pub mod AllowedBytes
