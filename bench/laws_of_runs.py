@@ -10,6 +10,7 @@ says isn't so. Exit status: 0 none, 1 some."""
 import json
 import multiprocessing
 import os
+import subprocess
 import sys
 
 ROOT = os.path.dirname(os.path.dirname(os.path.abspath(__file__)))
@@ -53,7 +54,7 @@ ROLES = {
     'placed': 'λ opened link side run stag. placed_bytes opened link side run stag',
     'waits': 'λ state ended. first_ready state.ready ended',
 }
-LAWS = ('once', 'places', 'completions', 'executed_payloads', 'replies_handed_over', 'completed_otherwise: chunk', 'completed_otherwise: reply',
+LAWS = ('once', 'places', 'completions', 'executed_payloads', 'replies_handed_over', 'replies_are_plain', 'completed_otherwise: chunk', 'completed_otherwise: reply',
         'completed_otherwise: auto', 'completed_otherwise: change', 'touches: client', 'touches: server', 'touches: revoked', 'grant', 'calls_complete',
         'segments_keep_the_rules: client', 'segments_keep_the_rules: server', 'matched_links_stay')
 CALL_REASONS, REPLY_REASONS = (18, 19), (18, 19, 21)
@@ -179,6 +180,8 @@ class Link:
         self.note('completions', kind != 'Version' and (kind != 'Reply' or e is not None), self.kind(x))
         if kind == 'Reply':
             self.note('replies_handed_over', e is not None and e['reply'] == bytes_of(m['outcome']['payload']), self.kind(x))
+            if self.run['plainly'] is not None:
+                self.note('replies_are_plain', self.run['plainly'] and e is not None and e['reply'] == bytes_of(m['outcome']['payload']), self.kind(x))
             self.note('completed_otherwise: reply', not refused and e is not None and e['held'], self.kind(x))
         if kind == 'Chunk':
             self.note('completed_otherwise: chunk', refused != (e is not None and not e['held']), self.kind(x) + (('refused',) if refused else ('not held',)))
@@ -229,18 +232,27 @@ def prepare(spec):
     STATE['names'] = deeply(Roles, ROOT, spec)
 
 
-def placed(run):
-    """Each Execute with whether it added an entry: the next one's place is higher."""
-    found, executes = [], [m for m in run['marks'] if m['mark'] == 'Execute']
+PLAIN_CALLS = os.path.join(ROOT, 'crates', 'plain_calls', 'out', 'plain_calls')
+CAPACITIES = (1 << 40, 0, 103, 116)  # that runs were made with; they aren't recorded
+
+
+def look_at_executes(run):
+    """Each Execute gets whether it added an entry (the next one's place is higher), and the run whether its replies are the plain server's."""
+    executes = [m for m in run['marks'] if m['mark'] == 'Execute']
     for m, after in zip(executes, executes[1:]):
         m['adds'] = after['place'] == m['place'] + 1
-    return found
+    run['plainly'] = None
+    if os.path.exists(PLAIN_CALLS):
+        calls = ''.join('%d %s\n' % (m['seconds'], m['payload'] or '-') for m in executes)
+        want = ['%d %s' % (m['place'], m['reply']) for m in executes]
+        run['plainly'] = any(want == subprocess.run([PLAIN_CALLS], input='capacity %d\n%s' % (c, calls), stdout=subprocess.PIPE, text=True).stdout.split('\n')[:len(want)]
+                             for c in CAPACITIES)
 
 
 def check(run):
     def body():
         found = []
-        placed(run)
+        look_at_executes(run)
         links = [Link(STATE['names'], run, o['link'], found) for o in run['opened']]
         for m in run['marks']:
             for link in links:
@@ -283,7 +295,7 @@ def main():
                 for k in ('',) + tuple(kinds):
                     here = seen.setdefault(law, {}).setdefault(k, [0, name, 0])
                     here[0] += 1
-                    here[1] = min(here[1], name, key=lambda x: (len(x), x))
+                    here[1] = min(here[1], name, key=lambda x: (x.startswith(('random_', 'hostile_')), len(x), x))
                 if not holds:
                     wrong.append('%s: not so in %s at mark %d %s' % (law, name, at, ' '.join(kinds)))
     for law in LAWS:
