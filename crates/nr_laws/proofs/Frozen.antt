@@ -255,7 +255,7 @@ run-holds opened link stag bytes run typed asked h =
     held-parts (length (bytes_received link Initiator run)) stag k.regions k.accesses_received h.region (run-settled opened link run typed asked) h.there h.own
     ∙ ap (λ (b : List ℕ). after_parts stag b (parts_of k.accesses_received)) h.holds
 
-found-at : (n k : ℕ) (regions : List Region) (r : Region) → AreNumbered n regions → k < length regions → slice_index_or regions k r ≡ r → find (λ x. eqb x.stag r.stag) regions ≡ Some r
+pub found-at : (n k : ℕ) (regions : List Region) (r : Region) → AreNumbered n regions → k < length regions → slice_index_or regions k r ≡ r → find (λ x. eqb x.stag r.stag) regions ≡ Some r
 found-at n k [] r numbers lt is = absurd (omega (arith, lt))
 found-at n zero (x ∷ regions) r numbers lt is =
     ap (λ (b : Bool). cond b (Some x) (find (λ x. eqb x.stag r.stag) regions)) (eq-eqb x.stag r.stag (ap (λ (q : Region). q.stag) is)) ∙ ap (λ (q : Region). Some q) is

@@ -150,3 +150,5 @@ pub mod AnsweredChanges
 pub mod OwnPlans
 pub mod AutoReplies
 pub mod CausedCalls
+pub mod BroughtBytes
+pub mod AllowedBytes

@@ -27,7 +27,7 @@ within right len a e = by (ltb len (a.to + a.len)) refl e
     by false is e = ltb-false len (a.to + a.len) is
 
 -- an access that lacks nothing lies within the region of its STag
-fits-found : (place n stag end : ℕ) (regions : List Region) (r : Region) (a : Access) → AreNumbered n regions → find (λ x. eqb x.stag stag) regions ≡ Some r → denial_in (grant_offer (found stag end (grants_from place regions))) a ≡ None → a.to + a.len ≤ length r.bytes
+pub fits-found : (place n stag end : ℕ) (regions : List Region) (r : Region) (a : Access) → AreNumbered n regions → find (λ x. eqb x.stag stag) regions ≡ Some r → denial_in (grant_offer (found stag end (grants_from place regions))) a ≡ None → a.to + a.len ≤ length r.bytes
 fits-found place n stag end [] r a numbers there e = absurd cc
 fits-found place n stag end (x ∷ regions) r a numbers there e = by (eqb x.stag stag) refl there e (λ f g. fits-found place (n + 1) stag end regions r a numbers.1 f g)
   where
@@ -45,7 +45,7 @@ fits-found place n stag end (x ∷ regions) r a numbers there e = by (eqb x.stag
     by true is there e more = here (let t : Some x ≡ Some r = there in cc) is rest (ap (λ (b : Bool). denial_in (grant_offer (cond (b && rest) (Some (region_grant place x)) (found stag end (grants_from place regions)))) a) (sym is) ∙ e)
     by false is there e more = more there (ap (λ (b : Bool). denial_in (grant_offer (cond (b && rest) (Some (region_grant place x)) (found stag end (grants_from place regions)))) a) (sym is) ∙ e)
 
-settled-fits : (place n : ℕ) (regions : List Region) (r : Region) (a : TaggedSegment) → AreNumbered n regions → find (λ x. eqb x.stag a.stag) regions ≡ Some r → grant_denial (region_grants place regions) (access_of a) a.end ≡ None → a.to + length a.payload ≤ length r.bytes
+pub settled-fits : (place n : ℕ) (regions : List Region) (r : Region) (a : TaggedSegment) → AreNumbered n regions → find (λ x. eqb x.stag a.stag) regions ≡ Some r → grant_denial (region_grants place regions) (access_of a) a.end ≡ None → a.to + length a.payload ≤ length r.bytes
 unfolding grant_denial grant_at region_grants
 settled-fits place n regions r a numbers there e = fits-found place n a.stag a.end regions r (access_of a) numbers there e
 

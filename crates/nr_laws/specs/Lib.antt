@@ -15,3 +15,4 @@ pub mod HandedOver
 pub mod PlainReplies
 pub mod Stays
 pub mod ChunkOutcomes
+pub mod PlacedBytes

@@ -1,6 +1,7 @@
 //! The laws, each by its statement in `specs/`.
 
 ghost use Rattle.nr_laws.specs.Touches.{ClientIsTouched, ServerIsTouched, RevokeStands};
+ghost use Rattle.nr_laws.specs.PlacedBytes.{ClientBytesAreAllowed, ServerBytesAreAllowed, ReadsAreAllowed};
 ghost use Rattle.nr_laws.specs.Grant.{SubmitsWithinGrant};
 ghost use Rattle.nr_laws.specs.Places.{PlacesFollow};
 ghost use Rattle.nr_laws.specs.Once.{NoSendTwice, NoCallTwice, NoXidTwice};
@@ -21,10 +22,14 @@ pub fn places()
 {}
 
 /// On every link an access of a frame is allowed by a live region that is offered for that access, or the frame is where the side
-/// stops. What a Revoke gives back is what stood then, and nothing later changes it.
+/// stops. Each byte of a region is the one that was registered, or that of an allowed segment, and a Read Request is answered with just
+/// the bytes of a region that it is allowed to read. What a Revoke gives back is what stood then, and nothing later changes it.
 pub fn touches()
     ensures client { ClientIsTouched }
     ensures server { ServerIsTouched }
+    ensures client_bytes { ClientBytesAreAllowed }
+    ensures server_bytes { ServerBytesAreAllowed }
+    ensures reads { ReadsAreAllowed }
     ensures revoked { RevokeStands }
 {}
 

@@ -1,4 +1,5 @@
 use Rattle.nr_laws.proofs.Touched.{client_touched, server_touched}
+use Rattle.nr_laws.proofs.AllowedBytes.{client_bytes_are_allowed, server_bytes_are_allowed, reads_are_allowed}
 use Rattle.nr_laws.proofs.Frozen.{revoke_stands}
 use Rattle.nr_laws.proofs.laws.touches.Goals as goal
 
@@ -10,3 +11,12 @@ returns-clause-server c = server_touched
 
 pub returns-clause-revoked : goal.returns-clause-revoked
 returns-clause-revoked c = revoke_stands
+
+pub returns-clause-client_bytes : goal.returns-clause-client_bytes
+returns-clause-client_bytes c = client_bytes_are_allowed
+
+pub returns-clause-server_bytes : goal.returns-clause-server_bytes
+returns-clause-server_bytes c = server_bytes_are_allowed
+
+pub returns-clause-reads : goal.returns-clause-reads
+returns-clause-reads c = reads_are_allowed

@@ -1,0 +1,311 @@
+"""Asks of recorded runs what the laws of nr_laws say: on which runs the premises of a law are met, and whether what it says is so.
+
+    python3 bench/laws_of_runs.py RUNDEFS [WORD]
+
+RUNDEFS is the folder of the evaluator of definitions and of the recorded runs; WORD chooses the runs that have it in their names. That
+the recorded runs keep the laws of a link (Asked, Served) is what `check_definitions.py` there compares; here the other premises and what
+each law says are computed, from the same definitions, mark by mark. It proves nothing. It prints, for each law, on how many links and how
+often its premises were met, how often with a read chunk and with a write chunk, the first run of each, and each mark where what it
+says isn't so. Exit status: 0 none, 1 some."""
+import json
+import multiprocessing
+import os
+import subprocess
+import sys
+
+ROOT = os.path.dirname(os.path.dirname(os.path.abspath(__file__)))
+sys.path.insert(0, sys.argv[1])
+from antt import call, deeply  # noqa: E402
+from check_definitions import Names, bytes_of, recorded  # noqa: E402
+
+USES = [
+    'use Rattle.nr_reduce.specs.ClientState.{call_payload, plan_for}',
+    'use Rattle.nr_reduce.specs.Plans.{lists_of}',
+    'use Rattle.nr_reduce.specs.Chunks.{is_read_chunk_of_item}',
+    'use Rattle.nr_reduce.specs.Run.{client, server, placed_bytes}',
+    'use Rattle.nr_reduce.specs.Server.{answer_of_target, offer_of}',
+    'use Rattle.nr_reduce.specs.ServerState.{down_max}',
+    'use Rattle.nr_reduce.specs.ServerFrames.{frame_effect}',
+    'use Rattle.nr_rpc.specs.Reading.{call_of, target_of}',
+    'use Rattle.nr_link.specs.Frames.{is_hello}',
+    'use Rattle.nr_link.specs.Ending.{frame_segment, access_of}',
+    'use Rattle.nr_regions.specs.Access.{grant_denial}',
+    'use Rattle.nr_reduce.specs.OfferedRegions.{region_grants}',
+    'use Rattle.nr_reduce.specs.Events.{events_at}',
+    'use Rattle.nr_reduce.specs.EndRules.{next_end_state}',
+    'use Rattle.nr_reduce.specs.Client.{client_rules, initial_client}',
+    'use Rattle.nr_reduce.specs.Server.{server_rules, initial_server}',
+    'use Rattle.nr_reduce.specs.Credits.{outstanding_in, granted_in}',
+    'use Rattle.nr_laws.specs.Payloads.{form_conveyed}',
+    'use Rattle.nr_reduce.specs.Served.{first_ready}',
+]
+ROLES = {
+    'events': 'λ link side before mark. events_at link side before mark',
+    'first_client': 'λ opened. initial_client opened', 'first_server': 'λ opened. initial_server opened',
+    'next_client': 'λ opened state event. next_end_state (client_rules opened) state event',
+    'next_server': 'λ opened state event. next_end_state (server_rules opened) state event',
+    'payload': 'λ xid call. call_payload xid call', 'conveyed': 'λ form payload. form_conveyed form payload',
+    'plan': 'λ state xid call form. plan_for state xid call form',
+    'has_head': 'λ payload. call_of payload',
+    'answer': 'λ state xid payload reply. answer_of_target (offer_of state xid) (down_max state) reply (target_of (call_of payload))',
+    'effect': 'λ state frame. frame_effect state frame', 'hello': 'λ frame. is_hello frame',
+    'access': 'λ frame. access_of frame', 'segment': 'λ frame. frame_segment frame',
+    'denial': 'λ frame regions access. grant_denial (region_grants frame.end regions) access frame.end',
+    'placed': 'λ opened link side run stag. placed_bytes opened link side run stag',
+    'waits': 'λ state ended. first_ready state.ready ended',
+}
+LAWS = ('once', 'places', 'completions', 'executed_payloads', 'replies_handed_over', 'replies_are_plain', 'completed_otherwise: chunk', 'completed_otherwise: reply',
+        'completed_otherwise: auto', 'completed_otherwise: change', 'touches: client', 'touches: server', 'touches: revoked', 'grant', 'calls_complete',
+        'segments_keep_the_rules: client', 'segments_keep_the_rules: server', 'matched_links_stay')
+CALL_REASONS, REPLY_REASONS = (18, 19), (18, 19, 21)
+
+
+class Roles(Names):
+    def __init__(self, root, spec):
+        super().__init__(root, spec)
+        for u in USES:
+            self.project.use(self.module, u)
+        self.role = {}
+        for k, text in ROLES.items():
+            self.role[k] = self.project.expression(self.module, text)
+
+    def ask(self, role, *args):
+        return call(self.role[role], *args)
+
+
+class Link:
+    """One link of a run: what both ends are after each mark, and what is found on the way."""
+
+    def __init__(self, names, run, number, found):
+        self.names, self.run, self.number, self.found = names, run, number, found
+        self.opened = names.make('opened', dict(next(x for x in run['opened'] if x['link'] == number)))
+        self.ends = {'client': names.ask('first_client', self.opened), 'server': names.ask('first_server', self.opened)}
+        self.marks, self.sent, self.got = [], {'client': [], 'server': []}, {'client': [], 'server': []}
+        self.matched = self.is_matched()
+        self.submits, self.executes, self.dones, self.refused, self.revoked = {}, {}, {}, {}, []
+
+    def is_matched(self):
+        sent, got = {'client': b'', 'server': b''}, {'client': b'', 'server': b''}
+        for m in self.run['marks']:
+            if m['link'] == self.number and m['mark'] == 'Wrote':
+                sent[m['side']] += bytes.fromhex(m['bytes'])
+            if m['link'] == self.number and m['mark'] == 'Fed':
+                got[m['side']] += bytes.fromhex(m['bytes'])
+                if not sent['server' if m['side'] == 'client' else 'client'].startswith(got[m['side']]):
+                    return False
+        return True
+
+    def kind(self, xid):
+        """whether the plan of a call has a read chunk, one with bytes, a write chunk"""
+        if xid not in self.submits:
+            return ()
+        p = self.submits[xid]['plan']
+        out = []
+        if p['read']:
+            out.append('read chunk' if sum(p['read']) else 'read chunk without bytes')
+        if p['write'].n == 'Some' and p['write'].a[0]:
+            out.append('write chunk')
+        if self.submits[xid]['form']['kind'] == 'Given':
+            out.append('given')
+        return tuple(out)
+
+    def note(self, law, holds, kinds=()):
+        self.found.append((law, bool(holds), kinds, self.run['name'], len(self.marks) + 1))
+
+    def step(self, mark, made):
+        n, ask = self.number, self.names.ask
+        for side in ('client', 'server'):
+            for event in ask('events', n, self.names.side(side), list(self.marks), made):
+                before = self.ends[side]
+                self.ends[side] = ask('next_' + side, self.opened, before, event)
+                if event.n == 'FrameReceived' and before['ended'].n == 'None':
+                    self.frame(side, before, event.a[0])
+
+    def frame(self, side, before, f):
+        ask = self.names.ask
+        if ask('hello', f):
+            return
+        segment = ask('segment', f)
+        if segment.n != 'Ok':
+            return
+        access = ask('access', segment.a[0])
+        if access.n == 'Some':
+            denied = ask('denial', f, before['state']['regions'], access.a[0]).n == 'Some'
+            stops = self.ends[side]['ended'].n == 'Some' and self.ends[side]['state'] == before['state']
+            self.note('touches: ' + side, not denied or stops, ('stops',) if denied else ())
+        if side == 'server' and self.ends[side]['ended'].n == 'None':
+            for e in ask('effect', before['state'], f)['errors']:
+                if int.from_bytes(bytes(e[16:20]), 'big') == 2:
+                    self.refused.setdefault(int.from_bytes(bytes(e[0:4]), 'big'), len(self.marks))
+
+    def mark(self, m):
+        if m['mark'] == 'Submit' and m['answer']['kind'] == 'Dropped' and self.names.data.get('refused_dropped') is None:
+            return
+        made = self.names.mark(m)
+        if m['link'] == self.number:
+            getattr(self, 'on_' + m['mark'].lower(), lambda m, made: None)(m, made)
+            self.step(m, made)
+        self.marks.append(made)
+
+    def on_submit(self, m, made):
+        if m['answer']['kind'] != 'Accepted':
+            return
+        x, state = m['answer']['xid'], self.ends['client']['state']
+        c, form = self.names.call(m['call']), self.names.form(m['form'])
+        run = list(self.marks)
+        self.note('grant', call(self.names.run['out'], self.opened, self.number, run) < call(self.names.run['grant'], self.opened, self.number, run),
+                  () if self.matched else ('not matched',))
+        self.submits[x] = {'payload': self.names.ask('payload', x, c), 'form': m['form'], 'made': form, 'plan': self.names.ask('plan', state, x, c, form).a[0]}
+
+    def on_execute(self, m, made):
+        x, q, state = m['xid'], bytes_of(m['payload']), self.ends['server']['state']
+        reply = bytes_of(m['reply'])
+        answer = self.names.ask('answer', state, x, q, reply)
+        if self.matched:
+            self.note('once', x not in self.executes, self.kind(x))
+            s = self.submits[x]
+            conveyed = self.names.ask('conveyed', s['made'], s['payload'])
+            self.note('executed_payloads', conveyed.n == 'Some' and conveyed.a[0] == q, self.kind(x))
+        self.executes[x] = {'reply': reply, 'held': answer.n == 'Some', 'at': len(self.marks)}
+        if m.get('adds'):
+            self.note('completed_otherwise: change', answer.n == 'Some', self.kind(x))
+
+    def on_done(self, m, made):
+        x, kind = m['xid'], m['outcome']['kind']
+        self.note('once', x not in self.dones, self.kind(x))
+        self.dones[x] = kind
+        if not self.matched:
+            return
+        e, refused = self.executes.get(x), x in self.refused
+        self.note('completions', kind != 'Version' and (kind != 'Reply' or e is not None), self.kind(x))
+        if kind == 'Reply':
+            self.note('replies_handed_over', e is not None and e['reply'] == bytes_of(m['outcome']['payload']), self.kind(x))
+            if self.run['plainly'] is not None:
+                self.note('replies_are_plain', self.run['plainly'] and e is not None and e['reply'] == bytes_of(m['outcome']['payload']), self.kind(x))
+            self.note('completed_otherwise: reply', not refused and e is not None and e['held'], self.kind(x))
+        if kind == 'Chunk':
+            self.note('completed_otherwise: chunk', refused != (e is not None and not e['held']), self.kind(x) + (('refused',) if refused else ('not held',)))
+        if self.submits[x]['form']['kind'] == 'Auto':
+            self.note('completed_otherwise: auto', kind == 'Reply', self.kind(x))
+
+    def on_revoke(self, m, made):
+        held = [r['stag'] for r in self.ends['client']['state']['regions'] if r['call'] == m['xid']]
+        side = self.names.side('client')
+        self.revoked.append((len(self.marks), {s: self.names.ask('placed', self.opened, self.number, side, list(self.marks), s) for s in held}, bytes_of(m['bytes'])))
+
+    def finish(self):
+        side = self.names.side('client')
+        for at, held, bytes_ in self.revoked:
+            same = all(self.names.ask('placed', self.opened, self.number, side, list(self.marks), s) == b for s, b in held.items())
+            self.note('touches: revoked', same and sum(held.values(), []) == bytes_, () if self.matched else ('not matched',))
+        if not self.matched:
+            return
+        mine = [m for m in self.run['marks'] if m['link'] == self.number]
+        ends = self.run['ends'][str(self.number)]
+        kinds = tuple(sorted({k for x in self.submits for k in self.kind(x)}))
+        stops = [s for s in ('client', 'server') if ends[s] is not None]
+        for s in ('client', 'server'):
+            first, other = ends[s], ends['server' if s == 'client' else 'client']
+            if first is not None and (other is None or other['kind'] == 'Terminated'):
+                bad = first['kind'] == 'Bad' and first['reason'] in (CALL_REASONS if s == 'server' else REPLY_REASONS)
+                self.note('segments_keep_the_rules: ' + s, bad or s == 'client' and first['kind'] == 'Denied', kinds)
+        conveys = all(s['form']['kind'] != 'Given' or self.conveys(s, x) for x, s in self.submits.items())
+        if conveys and not any(m['mark'] == 'Revoke' for m in mine):
+            self.note('matched_links_stay', not stops, kinds)
+        joined = {k: {s: b''.join(bytes.fromhex(m['bytes']) for m in mine if m['mark'] == k and m['side'] == s) for s in ('client', 'server')} for k in ('Wrote', 'Fed')}
+        settled = not stops and joined['Wrote']['client'] == joined['Fed']['server'] and joined['Wrote']['server'] == joined['Fed']['client']
+        waits = self.names.ask('waits', self.ends['server']['state'], self.ends['server']['ended']).n == 'Some'
+        if settled and not waits:
+            out = self.run['out'][str(self.number)]
+            given_up = {m['xid'] for m in mine if m['mark'] in ('Forget', 'Revoke', 'Lost')}
+            self.note('calls_complete', out == 0 and all(x in self.dones for x in self.submits if x not in given_up), kinds)
+
+    def conveys(self, s, xid):
+        q = self.names.ask('conveyed', s['made'], s['payload'])
+        return q.n == 'Some' and self.names.ask('has_head', q.a[0]).n == 'Ok' or xid in self.refused
+
+
+STATE = {}
+
+
+def prepare(spec):
+    STATE['names'] = deeply(Roles, ROOT, spec)
+
+
+PLAIN_CALLS = os.path.join(ROOT, 'crates', 'plain_calls', 'out', 'plain_calls')
+CAPACITIES = (1 << 40, 0, 103, 116)  # that runs were made with; they aren't recorded
+
+
+def look_at_executes(run):
+    """Each Execute gets whether it added an entry (the next one's place is higher), and the run whether its replies are the plain server's."""
+    executes = [m for m in run['marks'] if m['mark'] == 'Execute']
+    for m, after in zip(executes, executes[1:]):
+        m['adds'] = after['place'] == m['place'] + 1
+    run['plainly'] = None
+    if os.path.exists(PLAIN_CALLS):
+        calls = ''.join('%d %s\n' % (m['seconds'], m['payload'] or '-') for m in executes)
+        want = ['%d %s' % (m['place'], m['reply']) for m in executes]
+        run['plainly'] = any(want == subprocess.run([PLAIN_CALLS], input='capacity %d\n%s' % (c, calls), stdout=subprocess.PIPE, text=True).stdout.split('\n')[:len(want)]
+                             for c in CAPACITIES)
+
+
+def check(run):
+    def body():
+        found = []
+        look_at_executes(run)
+        links = [Link(STATE['names'], run, o['link'], found) for o in run['opened']]
+        for m in run['marks']:
+            for link in links:
+                link.mark(m)
+        for link in links:
+            link.finish()
+        places(run, {link.number: link for link in links}, found)
+        return found
+    return deeply(body)
+
+
+def places(run, links, found):
+    """A call that is submitted behind the outcome of another has a place that isn't smaller."""
+    place, done = {}, 0
+    for m in run['marks']:
+        if m['mark'] == 'Execute':
+            place[(m['link'], m['xid'])] = m['place']
+    seen = []
+    for i, m in enumerate(run['marks']):
+        if not links[m['link']].matched:
+            continue
+        if m['mark'] == 'Done' and (m['link'], m['xid']) in place:
+            seen.append(place[(m['link'], m['xid'])])
+        if m['mark'] == 'Submit' and m['answer']['kind'] == 'Accepted' and seen:
+            p = place.get((m['link'], m['answer']['xid']))
+            if p is not None:
+                found.append(('places', p >= max(seen), links[m['link']].kind(m['answer']['xid']), run['name'], i + 1))
+
+
+def main():
+    with open(os.path.join(ROOT, 'docs', 'run-names.json'), encoding='utf-8') as h:
+        spec = json.load(h)
+    word = sys.argv[2] if len(sys.argv) > 2 else ''
+    runs = [r for r in recorded(os.path.join(sys.argv[1], 'runs')) if not r['needs'] and word in r['name']]
+    runs.sort(key=lambda r: -sum(len(m.get('bytes', '')) + 200 for m in r['marks']))
+    seen, wrong = {}, []
+    with multiprocessing.Pool(int(os.environ.get('JOBS', '2')), prepare, (spec,)) as pool:
+        for found in pool.imap_unordered(check, runs):
+            for law, holds, kinds, name, at in found:
+                for k in ('',) + tuple(kinds):
+                    here = seen.setdefault(law, {}).setdefault(k, [0, name, 0])
+                    here[0] += 1
+                    here[1] = min(here[1], name, key=lambda x: (x.startswith(('random_', 'hostile_')), len(x), x))
+                if not holds:
+                    wrong.append('%s: not so in %s at mark %d %s' % (law, name, at, ' '.join(kinds)))
+    for law in LAWS:
+        for k, (n, name, _) in sorted(seen.get(law, {'none': [0, '-', 0]}).items()):
+            print('%-34s %-26s %6d  %s' % (law, k or 'in all', n, name))
+    for w in sorted(wrong):
+        print(w)
+    print('%d runs, %d not so' % (len(runs), len(wrong)))
+    return 1 if wrong else 0
+
+
+if __name__ == '__main__':
+    sys.exit(main())
