@@ -132,3 +132,5 @@ pub mod EmptyChunks
 pub mod CallRefusals
 pub mod CallTargets
 pub mod LawsSoFar
+pub mod JudgedCalls
+pub mod ReadCalls
