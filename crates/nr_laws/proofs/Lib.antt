@@ -133,4 +133,5 @@ pub mod CallRefusals
 pub mod CallTargets
 pub mod LawsSoFar
 pub mod JudgedCalls
+pub mod CallEnds
 pub mod ReadCalls

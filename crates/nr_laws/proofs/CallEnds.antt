@@ -1,0 +1,181 @@
+-- The frame at which a server ends for a call.
+use Rattle.std.proofs.Common.{◌≡◌, ◌≢◌, ℕ, zero, suc, ◌+◌, ◌^◌, ◌≤◌, ◌<◌, Bool, true, false, cond, eqb, List, [], ◌∷◌, ◌++◌, length, Option, None, Some, Result, Ok, Err, refl, sym, ap, subst, ◌∙◌, arith, append_assoc, inl, inr}
+use Rattle.std.specs.Prelude.{IfSome}
+use Rattle.std.specs.List.{list_any}
+use Rattle.nr_xdr.specs.Item.{IsBytes}
+use Rattle.nr_xdr.specs.Fields.{word_at}
+use Rattle.nr_header.specs.declared.header.ChunkLists.{ChunkLists}
+use Rattle.nr_header.specs.declared.header.ReadSegment.{ReadSegment}
+use Rattle.nr_header.specs.declared.header.Header.{Header}
+use Rattle.nr_header.specs.Reading.{header_of}
+use Rattle.nr_regions.specs.declared.denied.Denied.{Denied}
+use Rattle.nr_regions.specs.Access.{Grant}
+use Rattle.nr_wire.specs.declared.hello.Side.TheVariants.{Initiator, Responder}
+use Rattle.nr_wire.specs.Hello.{hello_of}
+use Rattle.nr_wire.specs.Segment.{Segment}
+use Rattle.nr_wire.specs.Segment.Segment.{Tagged, Untagged}
+use Rattle.nr_link.specs.declared.end.End.{End as Stop}
+use Rattle.nr_link.specs.declared.end.End.TheVariants as ends
+use Rattle.nr_link.specs.Frames.{Frame, is_hello}
+use Rattle.nr_link.specs.Ending.{frame_segment, frame_end, frame_end_by, hello_end, end_of_fault, missing_access}
+use Rattle.nr_link.specs.SegmentFaults.{Readiness, SegmentFault, segment_fault}
+use Rattle.nr_link.specs.SegmentFaults.SegmentFault.{Reason, NoBuffer, AccessDenied, PeerTerminated}
+use Rattle.nr_link.specs.ReceiveState.{message_completed}
+use Rattle.nr_reduce.specs.declared.call.Submission.TheVariants as submissions
+use Rattle.nr_reduce.specs.declared.mark.Mark.{Mark}
+use Rattle.nr_reduce.specs.declared.mark.Mark.TheVariants as marks
+use Rattle.nr_reduce.specs.declared.mark.LinkParameters.{LinkParameters}
+use Rattle.nr_reduce.specs.declared.outline.Plan.{Plan}
+use Rattle.nr_reduce.specs.Limits.{send_max}
+use Rattle.nr_reduce.specs.Plans.{entries_from, read_list, lists_of}
+use Rattle.nr_reduce.specs.Chunks.{total_at, call_conveyed}
+use Rattle.nr_reduce.specs.OfferedRegions.{Region, region_grants}
+use Rattle.nr_reduce.specs.ClientState.{call_payload, plan_for}
+use Rattle.nr_reduce.specs.Events.{Event, events}
+use Rattle.nr_reduce.specs.Events.Event.{FrameReceived, CallSubmitted, MemoryRevoked, CallExecuted, QueueWritten}
+use Rattle.nr_reduce.specs.EndRules.{Rules, EndState, next_end_state, next_end_state_by, next_end_state_in, end_state_after}
+use Rattle.nr_reduce.specs.ServerState.{ServerState, PendingCall, PendingRead}
+use Rattle.nr_reduce.specs.ServerReads.{is_read, sink_of, reads_of, reads_from, regions_of}
+use Rattle.nr_reduce.specs.ServerMessages.{Verdict, verdict, payload_of, chunk_bytes, by_payload}
+use Rattle.nr_reduce.specs.ServerMessages.CallVerdict.{Refuses}
+use Rattle.nr_reduce.specs.ServerMessages.Verdict.{MakesPending}
+use Rattle.nr_reduce.specs.ServerFrames.{call_of_number, with_access, frame_effect}
+use Rattle.nr_reduce.specs.Server.{server_rules, server_end, initial_server, readiness, or_refusal, refusal_end}
+use Rattle.nr_reduce.specs.Run.{client, server, end_of_side}
+use Rattle.nr_reduce.specs.RunLaws.{server_by, known_stream, ends_response, IsReceivedCall}
+use Rattle.nr_reduce.specs.Undone.{ChunkHolds, lists_by}
+use Rattle.nr_reduce.proofs.Conveyed.{Known, known-from, each-found}
+use Rattle.nr_reduce.proofs.Laid.{added_up}
+use Rattle.nr_reduce.proofs.Once.{NumberIs, verdict-number}
+use Rattle.nr_reduce.proofs.Steps.{ended-stays}
+use Rattle.nr_laws.specs.EndCauses.{KeepLaws, IsCallReason, IsCallEnd}
+use Rattle.nr_laws.specs.MatchedSoFar.{MatchedSoFar}
+use Rattle.nr_laws.specs.LinkInvariants.{IsUnused}
+use Rattle.nr_laws.specs.Payloads.{form_conveyed}
+use Rattle.nr_laws.specs.Stays.{WordsMark, HaveWords, IsRefusedMessage, ConveyedMark, AreConveyedOrRefused}
+use Rattle.nr_laws.specs.Typed.{TypedMark, IsTypedForm, IsTyped}
+use Rattle.nr_laws.proofs.AcceptedRegions.{accepted-regions}
+use Rattle.nr_laws.proofs.Along.{GoesOn, goes-behind}
+use Rattle.nr_laws.proofs.CallRefusals.{RefusedBy, refused-by, frame-other}
+use Rattle.nr_laws.proofs.CallRefusals.RefusedBy.{AtMessage, AtRead}
+use Rattle.nr_laws.proofs.ClientRun.{WasSubmitted}
+use Rattle.nr_laws.proofs.ConveyedCalls.{planned-fits, plan-reads}
+use Rattle.nr_laws.proofs.ConveyedForms.{HasChunk, planned-chunk, received-conveys}
+use Rattle.nr_laws.proofs.EmptyChunks.{new-empty, pending-empty}
+use Rattle.nr_laws.proofs.ExecutedCalls.{frame-message, received-message}
+use Rattle.nr_laws.proofs.ExecutedPayloads.{IsOfPlan, planned-by}
+use Rattle.nr_laws.proofs.HeaderXid.{header-xid, call-xid}
+use Rattle.nr_laws.proofs.HeldChunks.{server-good, sink-brings, not-any}
+use Rattle.nr_laws.proofs.JudgedCalls.{conveyed-ready, conveyed-head-there, pending-fine, read-fine}
+use Rattle.nr_laws.proofs.LawsSoFar.{laws-so-far}
+use Rattle.nr_laws.proofs.OnceByXid.{at-mark}
+use Rattle.nr_laws.proofs.PendingSends.{verdict-new}
+use Rattle.nr_laws.proofs.PlanLists.{ReadsLists}
+use Rattle.nr_laws.proofs.ReadPayloads.{region-small, stag-small, read-region, region-holds, any-right, own-unread}
+use Rattle.nr_laws.proofs.ServerAlong.{ServerGood, FrameGood}
+use Rattle.nr_laws.proofs.ServerEnds.{hello-goes}
+use Rattle.nr_laws.proofs.ServerReadsOfRuns.{verdict-lists}
+use Rattle.nr_laws.proofs.SinkReads.{own_reads, total-own, reads-own}
+use Rattle.nr_laws.proofs.SuitedCalls.{HasNoBytes, calls-suit, IsSuited}
+use Rattle.nr_laws.proofs.TotalsAtServer.{found_has}
+
+-- ---- The event that ends a side
+
+pub record EndsAt {S : Type 0} (rules : Rules S) (start : EndState S) (es : List Event) (end : Stop) : Type 0 where
+  pub earlier : List Event
+  pub event : Event
+  pub later : List Event
+  pub is : es ≡ earlier ++ event ∷ later
+  pub live : (end_state_after rules start earlier).ended ≡ None
+  pub ends : rules.end_at (end_state_after rules start earlier).state event ≡ Some end
+
+pub ends-at : {S : Type 0} (rules : Rules S) (start : EndState S) (es : List Event) (end : Stop) → start.ended ≡ None → (end_state_after rules start es).ended ≡ Some end → EndsAt rules start es end
+ends-at rules start [] end live e = absurd (let wrong : None ≡ Some end = sym live ∙ e in cc)
+ends-at {S} rules start (x ∷ es) end live e = by (rules.end_at start.state x) refl (λ next. ends-at rules (next_end_state rules start x) es end next e)
+  where
+    step : next_end_state rules start x ≡ next_end_state_by rules start.state x (rules.end_at start.state x)
+    step = ap (λ (o : Option Stop). next_end_state_in rules start.state x o) live
+
+    by : (o : Option Stop) → rules.end_at start.state x ≡ o → ((next_end_state rules start x).ended ≡ None → EndsAt rules (next_end_state rules start x) es end) → EndsAt rules start (x ∷ es) end
+    by None is rest =
+        let r = rest (ap (λ (y : EndState S). y.ended) step ∙ ap (λ (o : Option Stop). (next_end_state_by rules start.state x o).ended) is) in
+        record { earlier = x ∷ r.earlier; event = r.event; later = r.later; is = ap (λ (all : List Event). x ∷ all) r.is; live = r.live; ends = r.ends }
+    by (Some other) is rest =
+        let next : next_end_state rules start x ≡ record { state = start.state; ended = Some other } = step ∙ ap (λ (o : Option Stop). next_end_state_by rules start.state x o) is in
+        let stays : (end_state_after rules (next_end_state rules start x) es).ended ≡ Some other =
+        ap (λ (y : EndState S). (end_state_after rules y es).ended) next ∙ ap (λ (y : EndState S). y.ended) (ended-stays rules start.state other es).0 in
+        record { earlier = []; event = x; later = es; is = refl; live = live; ends = is ∙ sym stays ∙ e }
+
+-- ---- The frame that ends a server for a call
+
+pub record RefusedAt (opened : LinkParameters) (link : ℕ) (run : List Mark) : Type 0 where
+  pub earlier : List Event
+  pub frame : Frame
+  pub later : List Event
+  pub segment : Segment
+  pub reason : ℕ
+  pub is : events link Responder run ≡ earlier ++ FrameReceived frame ∷ later
+  pub behind : is_hello frame ≡ false
+  pub is_segment : frame_segment frame ≡ Ok segment
+  pub live : (end_state_after (server_rules opened) (initial_server opened) earlier).ended ≡ None
+  pub fits : frame_end (readiness opened (server_by opened earlier)) (region_grants frame.end (server_by opened earlier).regions) frame ≡ None
+  pub cause : RefusedBy (server_by opened earlier) frame segment reason
+
+none-some : {X : Type 0} (x : X) (o : Option X) → o ≡ None → o ≡ Some x → ⊥
+none-some x o none some = (let wrong : None ≡ Some x = sym none ∙ some in cc)
+
+reason-same : (a b n m : ℕ) → Some (ends.Bad a n) ≡ Some (ends.Bad b m) → n ≡ m
+reason-same a b n m e = cc
+
+refused-frame : (opened : LinkParameters) (link : ℕ) (run : List Mark) (es : List Event) (f : Frame) (more : List Event) (at reason : ℕ) → events link Responder run ≡ es ++ FrameReceived f ∷ more
+    → (end_state_after (server_rules opened) (initial_server opened) es).ended ≡ None → FrameGood f → IsCallReason reason → server_end opened (server_by opened es) (FrameReceived f) ≡ Some (ends.Bad at reason) → RefusedAt opened link run
+unfolding server_end
+refused-frame opened link run es f more at reason all live (inl h) own e =
+    absurd (none-some (ends.Bad at reason) (server_end opened (server_by opened es) (FrameReceived f)) (hello-goes opened (server_by opened es) f h.0 h.1) e)
+refused-frame opened link run es f more at reason all live (inr (s, behind, is)) own e =
+    by (frame_end (readiness opened k) grants f) refl (ap (λ (b : Bool). cond b (hello_end (hello_of Initiator f.bytes)) (or_refusal k f (frame_end (readiness opened k) grants f))) (sym behind) ∙ e)
+  where
+    k : ServerState
+    k = server_by opened es
+
+    grants : List Grant
+    grants = region_grants f.end k.regions
+
+    by_refusal : frame_end (readiness opened k) grants f ≡ None → (o : Option ℕ) → (frame_effect k f).refusal ≡ o → refusal_end f o ≡ Some (ends.Bad at reason) → RefusedAt opened link run
+    by_refusal fits None refusal e = absurd cc
+    by_refusal fits (Some n) refusal e =
+        let same : n ≡ reason = reason-same f.at at n reason e in
+        record {
+          earlier = es;
+          frame = f;
+          later = more;
+          segment = s;
+          reason = n;
+          is = all;
+          behind = behind;
+          is_segment = is;
+          live = live;
+          fits = fits;
+          cause = refused-by k f s n (subst IsCallReason (sym same) own) is refusal;
+        }
+
+    by : (o : Option Stop) → frame_end (readiness opened k) grants f ≡ o → or_refusal k f o ≡ Some (ends.Bad at reason) → RefusedAt opened link run
+    by (Some end) fits e = absurd (frame-other (readiness opened k) grants f s at reason is own (fits ∙ e))
+    by None fits e = by_refusal fits (frame_effect k f).refusal refl e
+
+pub refused-at : (opened : LinkParameters) (link : ℕ) (run : List Mark) → IsTyped run → MatchedSoFar opened link run → (at reason : ℕ) → IsCallReason reason → (server opened link run).ended ≡ Some (ends.Bad at reason) → RefusedAt opened link run
+unfolding server server_end
+refused-at opened link run typed far at reason own e =
+    let es : List Event = events link Responder run in
+    let r = ends-at (server_rules opened) (initial_server opened) es (ends.Bad at reason) refl e in
+    let good = goes-behind (server_rules opened) ServerGood 0 (initial_server opened) r.earlier (r.event ∷ r.later)
+    (subst (λ (ev : List Event). GoesOn (server_rules opened) ServerGood 0 (initial_server opened) ev) r.is (server-good opened link run typed far.asked far.served far.matched)) in
+    by r.earlier r.event r.later r.is r.live good.1 r.ends
+  where
+    by : (es : List Event) (x : Event) (more : List Event) → events link Responder run ≡ es ++ x ∷ more → (end_state_after (server_rules opened) (initial_server opened) es).ended ≡ None
+        → ServerGood (end_state_after (server_rules opened) (initial_server opened) es) x → server_end opened (server_by opened es) x ≡ Some (ends.Bad at reason) → RefusedAt opened link run
+    by es (FrameReceived f) more is live good e = refused-frame opened link run es f more at reason is live good own e
+    by es (CallSubmitted p a) more is live good e = absurd cc
+    by es (MemoryRevoked p xid) more is live good e = absurd cc
+    by es (CallExecuted x) more is live good e = absurd cc
+    by es QueueWritten more is live good e = absurd cc
