@@ -135,3 +135,4 @@ pub mod LawsSoFar
 pub mod JudgedCalls
 pub mod CallEnds
 pub mod ReadCalls
+pub mod NeitherEnds
