@@ -26,13 +26,13 @@ use Rattle.nr_laws.proofs.Bytes.{bytes_both}
 bytes-drop : (n : ℕ) (xs : List ℕ) → IsBytes xs → IsBytes (drop n xs)
 bytes-drop n xs fits = IsBytes-right (take n xs) (drop n xs) (subst IsBytes (sym (take-append-drop n xs)) fits)
 
-bytes-zeros : (n : ℕ) → IsBytes (replicate n 0)
+pub bytes-zeros : (n : ℕ) → IsBytes (replicate n 0)
 bytes-zeros zero zero = omega arith
 bytes-zeros zero (suc i) = omega arith
 bytes-zeros (suc n) zero = omega arith
 bytes-zeros (suc n) (suc i) = bytes-zeros n i
 
-bytes-region : (payload : List ℕ) (at size : ℕ) → IsBytes payload → IsBytes (given_region payload at size)
+pub bytes-region : (payload : List ℕ) (at size : ℕ) → IsBytes payload → IsBytes (given_region payload at size)
 bytes-region payload at size fits =
     bytes_both (take size (drop at payload)) (replicate (size - length (take size (drop at payload))) 0) (IsBytes-take size (drop at payload) (bytes-drop at payload fits)) (bytes-zeros (size - length (take size (drop at payload))))
 
@@ -93,7 +93,7 @@ restored-head own region at i fits bytes e =
     (bytes_both (replicate (pad_len i.len) 0) (drop i.pos stream) (bytes-zeros (pad_len i.len)) (bytes-drop i.pos stream ok))) in
     same-front front back (drop i.pos stream ++ drop at own) head.0 one (subst IsBytes (sym parts) fits) head.1 ∙ ap call_of parts
 
-item-by : (stream moved q : List ℕ) (o : Option Item) → whole_by Call stream moved o ≡ Some q → (i : Item) × (o ≡ Some i) × (restored_payload i stream moved ≡ q)
+pub item-by : (stream moved q : List ℕ) (o : Option Item) → whole_by Call stream moved o ≡ Some q → (i : Item) × (o ≡ Some i) × (restored_payload i stream moved ≡ q)
 item-by stream moved q None e = absurd cc
 item-by stream moved q (Some i) e = by (has_length Call i moved) e
   where
@@ -101,7 +101,7 @@ item-by stream moved q (Some i) e = by (has_length Call i moved) e
     by true e = (i, refl, (let same : Some (restored_payload i stream moved) ≡ Some q = e in cc))
     by false e = absurd cc
 
-some-is : (x y : List ℕ) → Some x ≡ Some y → x ≡ y
+pub some-is : (x y : List ℕ) → Some x ≡ Some y → x ≡ y
 some-is x y e = cc
 
 -- a prefix, with its item put back

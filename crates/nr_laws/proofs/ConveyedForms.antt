@@ -69,7 +69,7 @@ planned-chunk payload (forms.Given offer) up down p e = subst HasChunk (is_forme
 
 -- ---- A stream that isn't read
 
-no-bytes : (xs : List ℕ) → length xs ≡ 0 → xs ≡ []
+pub no-bytes : (xs : List ℕ) → length xs ≡ 0 → xs ≡ []
 no-bytes [] e = refl
 no-bytes (x ∷ xs) e = absurd (omega (arith, e))
 

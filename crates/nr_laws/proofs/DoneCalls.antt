@@ -31,7 +31,7 @@ use Rattle.nr_laws.proofs.OnceByXid.{ExecutedAt, executed-at}
 
 -- ---- The xid of a verdict
 
-found-xid : (xid : ℕ) (outs : List OutstandingCall) (o : OutstandingCall) → find (λ o. eqb o.xid xid && o.is_written) outs ≡ Some o → o.xid ≡ xid
+pub found-xid : (xid : ℕ) (outs : List OutstandingCall) (o : OutstandingCall) → find (λ o. eqb o.xid xid && o.is_written) outs ≡ Some o → o.xid ≡ xid
 found-xid xid [] o e = absurd cc
 found-xid xid (x ∷ outs) o e = by (eqb x.xid xid) refl x.is_written e (λ more. found-xid xid outs o more)
   where

@@ -51,41 +51,45 @@ found-call P xid (x ∷ calls) c h e = by (eqb x.xid xid) refl e (λ f. found-ca
     by true is e more = subst (FoundCall P xid) (let t : Some x ≡ Some c = e in cc) (record { holds = h.0; own = eqb-true x.xid xid is })
     by false is e more = more e
 
+-- a pending call has the lists of its plan
+pub record PendingOffer (c : PendingCall) (stag : ℕ) (plan : Plan) : Type 0 where
+  pub lists : c.lists ≡ lists_of stag plan
+  pub offer : IsOffer (lists_of stag plan)
+
+pub pending-offer : (opened : LinkParameters) (link : ℕ) (run before : List Mark) (mark : Mark) (after : List Mark) (xid : ℕ) (plan : Plan) → IsOpened opened → IsTyped before → MatchedSoFar opened link before → AskedSoFar opened link run → run ≡ before ++ mark ∷ after
+    → (h : HasPlan opened link run xid plan) → (es rest : List Event) → events link Responder before ≡ es ++ rest → (end_state_after (server_rules opened) (initial_server opened) es).ended ≡ None
+    → (c : PendingCall) → find (λ (x : PendingCall). eqb x.xid xid) (server_by opened es).calls ≡ Some c → PendingOffer c (client opened link h.before).state.stag plan
+unfolding plan_for
+pending-offer opened link run before mark after xid plan opens typed far asked_so is h es rest all live c there =
+    let known : Known opened es (server_by opened es) = known-from opened [] es (record { calls = tt; ready = tt }) in
+    let found = found-call (IsReceivedCall opened es) xid (server_by opened es).calls c known.calls there in
+    let own = found.holds in
+    let w = received-message opened link before typed far.asked far.matched c rest es all own live in
+    let stag = (client opened link w.earlier).state.stag in
+    let p = w.accepted.plan in
+    let fits = w.accepted.xids in
+    let wished = opens.wished_fits in
+    let stags = w.accepted.stags in
+    let xid_is : w.xid ≡ xid = sym (call-xid w.xid opened.wished stag p (omega (arith, fits))) ∙ ap (λ (m : List ℕ). word_at 0 m) (sym w.message_is) ∙ sym (header-xid own.message own.header own.is_header) ∙ sym own.xid ∙ found.own in
+    let o = own-submit opened link run before mark after xid plan asked_so is h w.earlier w.later w.call w.form w.xid w.is w.accepted xid_is in
+    let typed_at : TypedMark w.earlier (marks.Submit link w.call w.form (submissions.Accepted w.xid)) =
+    at-mark TypedMark before w.earlier (marks.Submit link w.call w.form (submissions.Accepted w.xid)) w.later w.is typed in
+    let whole : events link Responder before ≡ own.earlier ++ FrameReceived own.frame ∷ (own.later ++ rest) =
+    all ∙ ap (λ (xs : List Event). xs ++ rest) own.is_received ∙ append_assoc own.earlier (FrameReceived own.frame ∷ own.later) rest in
+    let not_yet : (end_state_after (server_rules opened) (initial_server opened) own.earlier).ended ≡ None =
+    live-first (server_rules opened) (initial_server opened) own.earlier (FrameReceived own.frame ∷ own.later) (ap (λ (xs : List Event). (end_state_after (server_rules opened) (initial_server opened) xs).ended) (sym own.is_received) ∙ live) in
+    let bytes : IsBytes own.message = received-bytes opened link before typed far.asked far.served far.matched own.earlier own.frame (own.later ++ rest) own.segment own.message whole own.behind_hello own.is_segment own.whole not_yet in
+    let reads : lists_by own.header.body ≡ lists_of stag p =
+    plan-reads (call_payload w.xid w.call) w.form send_max send_max w.xid opened.wished stag p own.header refl typed_at.0 typed_at.1 w.accepted.planned (omega (arith, fits)) (omega (arith, wished)) (omega (arith, stags))
+    (subst IsBytes w.message_is bytes) (ap header_of (sym w.message_is) ∙ own.is_header) in
+    let moved : lists_of stag p ≡ lists_of (client opened link h.before).state.stag plan = (λ i. lists_of (client opened link (o.place i)).state.stag (o.plan_is i)) in
+    record { lists = own.lists ∙ reads ∙ moved; offer = subst IsOffer (reads ∙ moved) (read-offer own.message own.header bytes own.is_header) }
+
 pub kept-offer : (opened : LinkParameters) (link : ℕ) (run before : List Mark) (mark : Mark) (after : List Mark) (xid : ℕ) (plan : Plan) → IsOpened opened → IsTyped before → MatchedSoFar opened link before → AskedSoFar opened link run → run ≡ before ++ mark ∷ after
     → (h : HasPlan opened link run xid plan) → (es rest : List Event) → events link Responder before ≡ es ++ rest → (end_state_after (server_rules opened) (initial_server opened) es).ended ≡ None
     → KeptOffer (server_by opened es) xid (client opened link h.before).state.stag plan
-unfolding plan_for
 kept-offer opened link run before mark after xid plan opens typed far asked_so is h es rest all live = by (find (λ (c : PendingCall). eqb c.xid xid) (server_by opened es).calls) refl
   where
-    k : ServerState
-    k = server_by opened es
-
-    known : Known opened es k
-    known = known-from opened [] es (record { calls = tt; ready = tt })
-
-    pending : (c : PendingCall) → IsReceivedCall opened es c → c.xid ≡ xid → find (λ (x : PendingCall). eqb x.xid xid) k.calls ≡ Some c → KeptOffer k xid (client opened link h.before).state.stag plan
-    pending c own same there =
-        let w = received-message opened link before typed far.asked far.matched c rest es all own live in
-        let stag = (client opened link w.earlier).state.stag in
-        let p = w.accepted.plan in
-        let fits = w.accepted.xids in
-        let wished = opens.wished_fits in
-        let stags = w.accepted.stags in
-        let xid_is : w.xid ≡ xid = sym (call-xid w.xid opened.wished stag p (omega (arith, fits))) ∙ ap (λ (m : List ℕ). word_at 0 m) (sym w.message_is) ∙ sym (header-xid own.message own.header own.is_header) ∙ sym own.xid ∙ same in
-        let o = own-submit opened link run before mark after xid plan asked_so is h w.earlier w.later w.call w.form w.xid w.is w.accepted xid_is in
-        let typed_at : TypedMark w.earlier (marks.Submit link w.call w.form (submissions.Accepted w.xid)) =
-        at-mark TypedMark before w.earlier (marks.Submit link w.call w.form (submissions.Accepted w.xid)) w.later w.is typed in
-        let whole : events link Responder before ≡ own.earlier ++ FrameReceived own.frame ∷ (own.later ++ rest) =
-        all ∙ ap (λ (xs : List Event). xs ++ rest) own.is_received ∙ append_assoc own.earlier (FrameReceived own.frame ∷ own.later) rest in
-        let not_yet : (end_state_after (server_rules opened) (initial_server opened) own.earlier).ended ≡ None =
-        live-first (server_rules opened) (initial_server opened) own.earlier (FrameReceived own.frame ∷ own.later) (ap (λ (xs : List Event). (end_state_after (server_rules opened) (initial_server opened) xs).ended) (sym own.is_received) ∙ live) in
-        let bytes : IsBytes own.message = received-bytes opened link before typed far.asked far.served far.matched own.earlier own.frame (own.later ++ rest) own.segment own.message whole own.behind_hello own.is_segment own.whole not_yet in
-        let reads : lists_by own.header.body ≡ lists_of stag p =
-        plan-reads (call_payload w.xid w.call) w.form send_max send_max w.xid opened.wished stag p own.header refl typed_at.0 typed_at.1 w.accepted.planned (omega (arith, fits)) (omega (arith, wished)) (omega (arith, stags))
-        (subst IsBytes w.message_is bytes) (ap header_of (sym w.message_is) ∙ own.is_header) in
-        let moved : lists_of stag p ≡ lists_of (client opened link h.before).state.stag plan = (λ i. lists_of (client opened link (o.place i)).state.stag (o.plan_is i)) in
-        Kept (ap offer_by there ∙ own.lists ∙ reads ∙ moved) (subst IsOffer (reads ∙ moved) (read-offer own.message own.header bytes own.is_header))
-
-    by : (o : Option PendingCall) → find (λ (c : PendingCall). eqb c.xid xid) k.calls ≡ o → KeptOffer k xid (client opened link h.before).state.stag plan
+    by : (o : Option PendingCall) → find (λ (c : PendingCall). eqb c.xid xid) (server_by opened es).calls ≡ o → KeptOffer (server_by opened es) xid (client opened link h.before).state.stag plan
     by None there = NotKept (ap offer_by there)
-    by (Some c) there = (let f = found-call (IsReceivedCall opened es) xid k.calls c known.calls there in pending c f.holds f.own there)
+    by (Some c) there = (let p = pending-offer opened link run before mark after xid plan opens typed far asked_so is h es rest all live c there in Kept (ap offer_by there ∙ p.lists) p.offer)

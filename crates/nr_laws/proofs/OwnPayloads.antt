@@ -71,27 +71,12 @@ one-submit opened link run pre post one two call other form way xid asked p q = 
     by (Behind between is) = absurd (let lt = xids_differ IsPrefixOf opened link run pre between two call other form way xid xid (p ∙ ap (λ (xs : List Mark). pre ++ a ∷ xs) is) asked in omega (arith, lt))
     by (Before between is) = absurd (let lt = xids_differ IsPrefixOf opened link run one between post other call way form xid xid (q ∙ ap (λ (xs : List Mark). one ++ b ∷ xs) is) asked in omega (arith, lt))
 
-planned-once : (p q : Plan) → ◌≡◌ {A = Rattle.std.proofs.Common.Result Plan TooLarge} (Ok p) (Ok q) → p ≡ q
-planned-once p q e = cc
-
-own-alone : (opened : LinkParameters) (link : ℕ) (run earlier before : List Mark) (call : Call) (form : Form) (plan : Plan) (xid : ℕ) (moment : Moment) (payload : List ℕ) (place : ℕ) (reply : List ℕ) → IsTyped run → MatchedSoFar opened link run
-    → MarkAt run earlier (marks.Submit link call form (submissions.Accepted xid)) → MarkAt run before (marks.Execute link xid moment payload place reply) → plan_for (client opened link earlier).state xid call form ≡ Ok plan → plan.read ≡ [] → form_conveyed form (call_payload xid call) ≡ Some payload
-own-alone opened link run earlier before call form plan xid moment payload place reply typed far at h planned none =
-    let s = executed-own opened link run before xid moment payload place reply typed far h in
+pub payloads_are_own : PayloadsAreOwn
+payloads_are_own opened link run before xid plan moment payload place reply typed far has at =
     let execute = marks.Execute link xid moment payload place reply in
-    let whole : run ≡ s.has.before ++ marks.Submit link s.has.call s.has.form (submissions.Accepted xid) ∷ (s.has.at.after ++ execute ∷ h.after) =
-    h.is ∙ ap (λ (xs : List Mark). xs ++ execute ∷ h.after) s.has.at.is ∙ append_assoc s.has.before (marks.Submit link s.has.call s.has.form (submissions.Accepted xid) ∷ s.has.at.after) (execute ∷ h.after) in
-    let one = one-submit opened link run s.has.before (s.has.at.after ++ execute ∷ h.after) earlier at.after s.has.call call s.has.form form xid far.asked whole at.is in
-    let same : s.plan ≡ plan = planned-once s.plan plan (sym s.has.planned ∙ (λ i. plan_for (client opened link (one.before i)).state xid (one.call_is i) (one.form_is i)) ∙ planned) in
-    (λ i. form_conveyed (sym one.form_is i) (call_payload xid (sym one.call_is i))) ∙ s.conveyed (ap (λ (p : Plan). p.read) same ∙ none)
-
-own-read : (opened : LinkParameters) (link : ℕ) (run earlier before : List Mark) (call : Call) (form : Form) (plan : Plan) (xid : ℕ) (moment : Moment) (payload : List ℕ) (place : ℕ) (reply : List ℕ) → IsTyped run → MatchedSoFar opened link run
-    → MarkAt run earlier (marks.Submit link call form (submissions.Accepted xid)) → MarkAt run before (marks.Execute link xid moment payload place reply) → plan_for (client opened link earlier).state xid call form ≡ Ok plan → 0 < sum plan.read → form_conveyed form (call_payload xid call) ≡ Some payload
-own-read opened link run earlier before call form plan xid moment payload place reply typed far at h planned some =
-    let execute = marks.Execute link xid moment payload place reply in
-    let a = executed-at opened link run before h.after xid moment payload place reply typed far h.is in
-    let r = read-call opened link before xid payload (before-mark TypedMark run before execute h.after h.is typed) (before-mark (AskedMark IsPrefixOf opened link) run before execute h.after h.is far.asked)
-    (before-mark (ServedMark IsPrefixOf opened link) run before execute h.after h.is far.served) (before-mark (MatchedMark link) run before execute h.after h.is far.matched) a.executed in
+    let a = executed-at opened link run before at.after xid moment payload place reply typed far at.is in
+    let r = read-call opened link before xid payload (before-mark TypedMark run before execute at.after at.is typed) (before-mark (AskedMark IsPrefixOf opened link) run before execute at.after at.is far.asked)
+    (before-mark (ServedMark IsPrefixOf opened link) run before execute at.after at.is far.served) (before-mark (MatchedMark link) run before execute at.after at.is far.matched) a.executed in
     let w = r.submitted in
     let p = w.accepted.next in
     let q = a.submit.submitted.accepted.next in
@@ -100,20 +85,9 @@ own-read opened link run earlier before call form plan xid moment payload place 
     let n = r.number_is in
     let c = w.counted in
     let own : w.xid ≡ xid = omega (arith, p, q, x, m, n, c) in
-    let whole : run ≡ w.earlier ++ marks.Submit link w.call w.form (submissions.Accepted w.xid) ∷ (w.later ++ execute ∷ h.after) =
-    h.is ∙ ap (λ (xs : List Mark). xs ++ execute ∷ h.after) w.is ∙ append_assoc w.earlier (marks.Submit link w.call w.form (submissions.Accepted w.xid) ∷ w.later) (execute ∷ h.after) in
-    let there : run ≡ w.earlier ++ marks.Submit link w.call w.form (submissions.Accepted xid) ∷ (w.later ++ execute ∷ h.after) =
-    whole ∙ ap (λ (y : ℕ). w.earlier ++ marks.Submit link w.call w.form (submissions.Accepted y) ∷ (w.later ++ execute ∷ h.after)) own in
-    let one = one-submit opened link run w.earlier (w.later ++ execute ∷ h.after) earlier at.after w.call call w.form form xid far.asked there at.is in
-    let same : w.accepted.plan ≡ plan =
-    planned-once w.accepted.plan plan (sym w.accepted.planned ∙ (λ i. plan_for (client opened link (one.before i)).state (own i) (one.call_is i) (one.form_is i)) ∙ planned) in
-    let size = ap (λ (y : Plan). added_up y.read) same in
-    let total = sum-added plan.read in
-    (λ i. form_conveyed (sym one.form_is i) (call_payload (sym own i) (sym one.call_is i))) ∙ r.conveyed (omega (arith, size, total, some))
-
-pub payloads_are_own : PayloadsAreOwn
-payloads_are_own opened link run before xid plan moment payload place reply typed far has reads at = by reads
-  where
-    by : ReadsBytes plan → form_conveyed has.form (call_payload xid has.call) ≡ Some payload
-    by (inl none) = own-alone opened link run has.before before has.call has.form plan xid moment payload place reply typed far has.at at has.planned none
-    by (inr bytes) = own-read opened link run has.before before has.call has.form plan xid moment payload place reply typed far has.at at has.planned bytes
+    let whole : run ≡ w.earlier ++ marks.Submit link w.call w.form (submissions.Accepted w.xid) ∷ (w.later ++ execute ∷ at.after) =
+    at.is ∙ ap (λ (xs : List Mark). xs ++ execute ∷ at.after) w.is ∙ append_assoc w.earlier (marks.Submit link w.call w.form (submissions.Accepted w.xid) ∷ w.later) (execute ∷ at.after) in
+    let there : run ≡ w.earlier ++ marks.Submit link w.call w.form (submissions.Accepted xid) ∷ (w.later ++ execute ∷ at.after) =
+    whole ∙ ap (λ (y : ℕ). w.earlier ++ marks.Submit link w.call w.form (submissions.Accepted y) ∷ (w.later ++ execute ∷ at.after)) own in
+    let one = one-submit opened link run w.earlier (w.later ++ execute ∷ at.after) has.before has.at.after w.call has.call w.form has.form xid far.asked there has.at.is in
+    (λ i. form_conveyed (sym one.form_is i) (call_payload (sym own i) (sym one.call_is i))) ∙ r.conveyed

@@ -41,7 +41,7 @@ read-calls-are-replied opened link run before xid plan reply opens typed far has
     at.is ∙ ap (λ (b : List Mark). b ++ done ∷ at.after) t.at.is ∙ append_assoc t.before (execute ∷ t.at.after) (done ∷ at.after) in
     let mark : MarkAt run t.before execute = record { after = t.at.after ++ done ∷ at.after; is = whole } in
     let own : call_payload xid has.call ≡ t.payload = whole-conveyed has.form (call_payload xid has.call) t.payload free
-    (payloads_are_own opened link run t.before xid plan t.moment t.payload t.place t.executed typed far has some mark) in
+    (payloads_are_own opened link run t.before xid plan t.moment t.payload t.place t.executed typed far has mark) in
     let accepted : IsAccepted opened link has.before has.call has.form xid =
     at-mark (AskedMark IsPrefixOf opened link) run has.before (marks.Submit link has.call has.form (submissions.Accepted xid)) has.at.after has.at.is far.asked refl in
     let small = accepted.xids in

@@ -41,8 +41,8 @@ form_conveyed (forms.Given offer) payload = given_conveyed payload offer.read_at
 abbrev pub ReadsBytes : Plan → Type 0
 ReadsBytes plan = (plan.read ≡ []) ⊎ (0 < sum plan.read)
 
--- On a matched link a call is executed with what its form conveys of its own payload, unless its read chunk has no bytes.
+-- On a matched link a call is executed with what its form conveys of its own payload.
 abbrev pub PayloadsAreOwn : Type 0
 PayloadsAreOwn = (opened : LinkParameters) (link : ℕ) (run before : List Mark) (xid : ℕ) (plan : Plan) (moment : Moment) (payload : List ℕ) (place : ℕ) (reply : List ℕ) →
-    IsTyped run → MatchedSoFar opened link run → (has : HasPlan opened link run xid plan) → ReadsBytes plan →
+    IsTyped run → MatchedSoFar opened link run → (has : HasPlan opened link run xid plan) →
     MarkAt run before (marks.Execute link xid moment payload place reply) → form_conveyed has.form (call_payload xid has.call) ≡ Some payload

@@ -1,0 +1,235 @@
+-- The answer of an executed call doesn't end its client: its lists suit what the call offered, and what they convey is the plain server's
+-- reply, which has the call's xid.
+use Rattle.std.proofs.Common.{◌≡◌, ℕ, ◌<◌, Bool, true, false, cond, ◌||◌, eqb, List, [], ◌∷◌, ◌++◌, map, Option, None, Some, refl, sym, ap, subst, ◌∙◌, arith, append-nil}
+use Rattle.std.specs.List.{find, list_any}
+use Rattle.nr_xdr.specs.Item.{IsBytes}
+use Rattle.nr_xdr.specs.Fields.{word_at}
+use Rattle.nr_header.specs.declared.header.ChunkLists.{ChunkLists}
+use Rattle.nr_header.specs.Reading.{header_of}
+use Rattle.nr_wire.specs.declared.hello.Side.TheVariants.{Responder}
+use Rattle.nr_rpc.specs.declared.head.CallHead.{CallHead}
+use Rattle.nr_rpc.specs.declared.head.CallHead.TheVariants as calls
+use Rattle.nr_rpc.specs.declared.head.CallTarget.{CallTarget}
+use Rattle.nr_rpc.specs.Reading.{reply_of, head_xid, xid_of_call}
+use Rattle.nr_reduce.specs.declared.call.Call.{Call}
+use Rattle.nr_reduce.specs.declared.call.Submission.TheVariants as submissions
+use Rattle.nr_reduce.specs.declared.mark.Moment.{Moment}
+use Rattle.nr_reduce.specs.declared.mark.Entry.{Entry}
+use Rattle.nr_reduce.specs.declared.mark.Mark.{Mark}
+use Rattle.nr_reduce.specs.declared.mark.Mark.TheVariants as marks
+use Rattle.nr_reduce.specs.declared.mark.LinkParameters.{LinkParameters}
+use Rattle.nr_reduce.specs.declared.outline.Plan.{Plan}
+use Rattle.nr_reduce.specs.History.{ExecutedCall}
+use Rattle.nr_reduce.specs.Opening.{IsOpened}
+use Rattle.nr_reduce.specs.IsPlain.{IsPlain, xid_of_reply}
+use Rattle.nr_reduce.specs.Journal.{PlainMark, Plainly}
+use Rattle.nr_reduce.specs.PlainJournal.{journal}
+use Rattle.nr_reduce.specs.Events.{Event, events}
+use Rattle.nr_reduce.specs.Events.Event.{FrameReceived}
+use Rattle.nr_reduce.specs.Plans.{Buffer, buffers, lists_of, read_list, write_stag, reply_stag}
+use Rattle.nr_reduce.specs.Chunks.{answers_offer, reply_conveyed}
+use Rattle.nr_reduce.specs.Holds.{Answer, answer_for, answer_lists, answer_message}
+use Rattle.nr_reduce.specs.Undone.{answer_segments, lists_by, inline_by, ReadsAsAnswer}
+use Rattle.nr_reduce.specs.ClientState.{ClientState, memory_at}
+use Rattle.nr_reduce.specs.Client.{client_rules, initial_client}
+use Rattle.nr_reduce.specs.Run.{client}
+use Rattle.nr_reduce.specs.ServerState.{ServerState, PendingCall, credit_word}
+use Rattle.nr_reduce.specs.ServerMessages.{call_xid}
+use Rattle.nr_reduce.specs.Server.{offer_by, offer_of, answer_of_target}
+use Rattle.nr_reduce.specs.RunLaws.{server_by}
+use Rattle.nr_reduce.proofs.AnswerMessages.{answer_again}
+use Rattle.nr_reduce.proofs.Answering.{answered, suits_offer}
+use Rattle.nr_reduce.proofs.Calls.{executed-head}
+use Rattle.nr_reduce.proofs.OwnStags.{ClientNumbers, client-numbers}
+use Rattle.nr_laws.specs.MatchedSoFar.{MatchedSoFar}
+use Rattle.nr_laws.specs.Typed.{TypedMark, IsTyped}
+use Rattle.nr_laws.specs.Payloads.{HasPlan}
+use Rattle.nr_laws.specs.HandedOver.{HasTargetOf}
+use Rattle.nr_laws.specs.PlainReplies.{server_with}
+use Rattle.nr_laws.specs.Stays.{WordsMark, HaveWords}
+use Rattle.nr_laws.proofs.Along.{GoesOn, goes-behind, places_after}
+use Rattle.nr_laws.proofs.Outputs.Output.{ASegment}
+use Rattle.nr_laws.proofs.ServerAlong.{outs_of, SaidAnswer}
+use Rattle.nr_laws.proofs.ExecuteMarks.{execute_mark, ExecuteMark}
+use Rattle.nr_laws.proofs.OnceByXid.{at-mark, before-mark}
+use Rattle.nr_laws.proofs.HeaderXid.{header-xid, answer-xid}
+use Rattle.nr_laws.proofs.ClientSays.{ClientGood}
+use Rattle.nr_laws.proofs.ClientRun.{SubmittedCall, client-goes}
+use Rattle.nr_laws.proofs.ClientMemory.{HasBuffers, client-gathers}
+use Rattle.nr_laws.proofs.Memory.{Part, parts_of, parts_out, out-append, gathers, Settled, settled-later}
+use Rattle.nr_laws.proofs.Outcomes.{client_by}
+use Rattle.nr_laws.proofs.DoneCalls.{AnsweredBy, answered-by}
+use Rattle.nr_laws.proofs.Following.{far-before}
+use Rattle.nr_laws.proofs.Replied.{same-body}
+use Rattle.nr_laws.proofs.SubmittedPlans.{AnsweredCall, answered-submit}
+use Rattle.nr_laws.proofs.KeptOffers.{PendingOffer, pending-offer}
+use Rattle.nr_laws.proofs.ReplyMemory.{memory-conveys}
+use Rattle.nr_laws.proofs.ReadAnswers.{own-credit}
+use Rattle.nr_laws.proofs.PendingRuns.{executes-pending}
+use Rattle.nr_laws.proofs.OwnExecutes.{IsOwnPayload, own-executes}
+use Rattle.nr_laws.proofs.JudgedMessages.{EndsFor}
+use Rattle.nr_laws.proofs.JudgedReplies.{JudgedBy, answer-judged}
+
+record FoundOne (xid : ℕ) (calls : List PendingCall) : Type 0 where
+  call : PendingCall
+  there : find (λ (c : PendingCall). eqb c.xid xid) calls ≡ Some call
+
+found-one : (xid : ℕ) (calls : List PendingCall) → list_any (λ (c : PendingCall). eqb c.xid xid) calls ≡ true → FoundOne xid calls
+found-one xid [] e = absurd (let wrong : false ≡ true = e in cc)
+found-one xid (c ∷ calls) e = by (eqb c.xid xid) refl e (found-one xid calls)
+  where
+    by : (b : Bool) → eqb c.xid xid ≡ b → (b || list_any (λ (x : PendingCall). eqb x.xid xid) calls) ≡ true → (list_any (λ (x : PendingCall). eqb x.xid xid) calls ≡ true → FoundOne xid calls) → FoundOne xid (c ∷ calls)
+    by true is e more = record { call = c; there = ap (λ (b : Bool). cond b (Some c) (find (λ (x : PendingCall). eqb x.xid xid) calls)) is }
+    by false is e more = (let f = more e in record { call = f.call; there = ap (λ (b : Bool). cond b (Some c) (find (λ (x : PendingCall). eqb x.xid xid) calls)) is ∙ f.there })
+
+same-xid : (head : CallHead) → call_xid head ≡ head_xid head
+same-xid (calls.Version2 xid prog vers proc cred args_at) = refl
+same-xid (calls.Other xid rpcvers) = refl
+
+pub answer-ends-none : (reply_to : List Entry → Moment → List ℕ → Option (List ℕ)) (adds : Moment → List ℕ → List ℕ → List Entry) (opened : LinkParameters) (link : ℕ) (run : List Mark) (reason : ℕ) → IsOpened opened → IsTyped run → MatchedSoFar opened link run
+    → HaveWords run → Plainly (server_with reply_to adds) run → IsPlain (server_with reply_to adds)
+    → (d : EndsFor opened link run reason) → JudgedBy (client_by opened d.earlier).state d.frame.end d.message reason → SaidAnswer opened (events link Responder run) d.before d.message → ⊥
+unfolding lists_of
+answer-ends-none reply_to adds opened link run reason opens typed far words plainly plain d j s =
+    answer-judged k place j.call d.message j.header.body a.long a.stream (answer_lists (lists_of stag plan) a) e.reply reason lists inline
+    ((λ i. answers_offer a.long (lists_of (stag_is i) (plan_is i)) (answer_lists (lists_of stag plan) a)) ∙ suits)
+    (ap (λ (c : Call). reply_conveyed c.prog c.vers c.proc (cond a.long None (Some a.stream)) (answer_lists (lists_of stag plan) a) (memory_at k place)) call_is ∙ conveys)
+    reply_xid j.by_its_body
+  where
+    k : ClientState
+    k = (client_by opened d.earlier).state
+
+    place : ℕ
+    place = d.frame.end
+
+    server : ServerState
+    server = server_by opened s.earlier
+
+    e : ExecutedCall
+    e = s.call
+
+    a : Answer
+    a = s.answer
+
+    x : AnsweredBy opened link run e s.earlier
+    x = answered-by opened link run typed far s.earlier e s.later s.is
+
+    m : ExecuteMark link run s.earlier e
+    m = x.mark
+
+    word : e.xid < 4294967296
+    word = x.fits
+
+    credit : credit_word server < 4294967296
+    credit = (let c = own-credit opened s.earlier in let f = opens.granted_fits in omega (arith, c, f))
+
+    bytes : IsBytes e.reply
+    bytes = at-mark TypedMark run m.earlier (execute_mark link e) m.later m.is typed
+
+    -- the call that is answered is the one that was executed
+    own_xid : j.call.xid ≡ e.xid
+    own_xid = j.own ∙ header-xid d.message j.header j.is_header ∙ ap (λ (xs : List ℕ). word_at 0 xs) s.message ∙ answer-xid e.xid (credit_word server) (offer_of server e.xid) a (omega (arith, word))
+
+    w : AnsweredCall opened link run d.earlier j.call
+    w = answered-submit opened link run typed far.asked d.earlier (FrameReceived d.frame ∷ d.later) d.is j.header.xid j.call j.is_call
+
+    u : SubmittedCall opened link run w.submit.index w.submit.own
+    u = w.submit.submit
+
+    plan : Plan
+    plan = u.accepted.plan
+
+    stag : ℕ
+    stag = (client opened link u.earlier).state.stag
+
+    stag_is : j.call.stag ≡ stag
+    stag_is = w.submit.own_stag
+
+    plan_is : j.call.plan ≡ plan
+    plan_is = w.submit.own_plan
+
+    call_is : j.call.call ≡ u.call
+    call_is = w.submit.own_call
+
+    same : e.xid ≡ u.xid
+    same = sym own_xid ∙ w.submit.own_xid
+
+    has : HasPlan opened link run u.xid plan
+    has = record { call = u.call; form = u.form; before = u.earlier; at = record { after = u.later; is = u.is }; planned = u.accepted.planned }
+
+    -- its offer
+    f : FoundOne e.xid server.calls
+    f = found-one e.xid server.calls (executes-pending opened link run typed far.served s.earlier e s.later s.is)
+
+    p : PendingOffer f.call stag plan
+    p = pending-offer opened link run m.earlier (execute_mark link e) m.later u.xid plan opens (before-mark TypedMark run m.earlier (execute_mark link e) m.later m.is typed) (far-before opened link run m.earlier (execute_mark link e) m.later m.is far) far.asked m.is
+        has s.earlier [] (m.before ∙ sym (append-nil s.earlier)) s.live f.call (ap (λ (n : ℕ). find (λ (c : PendingCall). eqb c.xid n) server.calls) (sym same) ∙ f.there)
+
+    offer : offer_of server e.xid ≡ lists_of stag plan
+    offer = ap offer_by f.there ∙ p.lists
+
+    -- its target
+    own : IsOwnPayload u.call e.payload
+    own = own-executes opened link run m.earlier u.xid plan e.moment e.payload e.place e.reply typed far has (at-mark WordsMark run u.earlier (marks.Submit link u.call u.form (submissions.Accepted u.xid)) u.later u.is words)
+        (record { after = m.later; is = m.is ∙ ap (λ (n : ℕ). m.earlier ++ marks.Execute link n e.moment e.payload e.place e.reply ∷ m.later) same })
+
+    t : HasTargetOf u.call e.payload
+    t = own.target
+
+    answer : answer_for (lists_of stag plan) 1024 u.call.prog u.call.vers u.call.proc e.reply ≡ Some a
+    answer = (λ i. answer_for (sym offer i) 1024 (sym t.prog i) (sym t.vers i) (sym t.proc i) e.reply) ∙ ap (λ (o : Option CallTarget). answer_of_target (offer_of server e.xid) 1024 e.reply o) (sym t.is) ∙ s.is_answer
+
+    -- what is read of its message
+    message : d.message ≡ answer_message e.xid (credit_word server) (lists_of stag plan) a
+    message = s.message ∙ ap (λ (o : ChunkLists). answer_message e.xid (credit_word server) o a) offer
+
+    again : ReadsAsAnswer (lists_of stag plan) a e.xid (credit_word server) (answer_message e.xid (credit_word server) (lists_of stag plan) a)
+    again = answer_again (read_list stag plan plan.read_at) (write_stag stag plan) (reply_stag stag plan) plan.write plan.reply 1024 u.call.prog u.call.vers u.call.proc e.xid (credit_word server) e.reply a bytes p.offer answer (omega arith) word credit
+
+    body : again.body ≡ j.header.body
+    body = same-body e.xid (credit_word server) again.body j.header (sym again.reads ∙ ap header_of (sym message) ∙ j.is_header)
+
+    inline : inline_by d.message j.header.body ≡ cond a.long None (Some a.stream)
+    inline = (λ i. inline_by (message i) (sym body i)) ∙ again.stream
+
+    lists : lists_by j.header.body ≡ answer_lists (lists_of stag plan) a
+    lists = ap lists_by (sym body) ∙ again.lists
+
+    suits : answers_offer a.long (lists_of stag plan) (answer_lists (lists_of stag plan) a) ≡ true
+    suits = suits_offer (read_list stag plan plan.read_at) (write_stag stag plan) (reply_stag stag plan) plan.write plan.reply 1024 u.call.prog u.call.vers u.call.proc e.reply a
+        (answered (read_list stag plan plan.read_at) (write_stag stag plan) (reply_stag stag plan) plan.write plan.reply 1024 u.call.prog u.call.vers u.call.proc e.reply a bytes answer)
+
+    -- what the client's memory holds
+    next : places_after 0 d.earlier < place
+    next = (let g = client-goes opened link run typed far.asked in let rest = goes-behind (client_rules opened) (ClientGood opened) 0 (initial_client opened) d.earlier (FrameReceived d.frame ∷ d.later)
+        (subst (λ (xs : List Event). GoesOn (client_rules opened) (ClientGood opened) 0 (initial_client opened) xs) d.is g.goes) in let one = rest.0 in one.1)
+
+    settled : Settled place k.regions k.accesses_received
+    settled = settled-later (places_after 0 d.earlier) place k.regions k.accesses_received (omega (arith, next)) w.settled
+
+    backed : HasBuffers k.regions (buffers stag plan)
+    backed = subst (λ (bs : List Buffer). HasBuffers k.regions bs) (λ i. buffers (stag_is i) (plan_is i)) w.backed
+
+    numbers : ClientNumbers opened k
+    numbers = client-numbers opened d.earlier
+
+    front : List Part
+    front = parts_out (outs_of opened s.earlier)
+
+    parts : parts_of k.accesses_received ≡ front ++ parts_out (map ASegment (answer_segments (lists_of stag plan) a))
+    parts = gathers (client_rules opened) (λ (x : ClientState). x.accesses_received) (client-gathers opened) (initial_client opened) d.earlier d.before d.brings d.live
+        ∙ ap parts_out s.before ∙ out-append (outs_of opened s.earlier) (map ASegment (answer_segments (offer_of server e.xid) a))
+        ∙ ap (λ (o : ChunkLists). front ++ parts_out (map ASegment (answer_segments o a))) offer
+
+    conveys : reply_conveyed u.call.prog u.call.vers u.call.proc (cond a.long None (Some a.stream)) (answer_lists (lists_of stag plan) a) (memory_at k place) ≡ Some e.reply
+    conveys = memory-conveys k place opened.first_stag stag plan a front 1024 u.call.prog u.call.vers u.call.proc e.reply bytes numbers.regions settled backed parts answer
+
+    -- the reply has the call's xid
+    replied : (server_with reply_to adds).Replies (journal (server_with reply_to adds) m.earlier) e.moment e.payload e.reply
+    replied = at-mark (PlainMark (server_with reply_to adds)) run m.earlier (execute_mark link e) m.later m.is plainly
+
+    reply_xid : xid_of_reply (reply_of e.reply) ≡ Some j.call.xid
+    reply_xid =
+        let h = executed-head opened link m.earlier e.xid e.payload x.executed.executed in
+        plain.xid (journal (server_with reply_to adds) m.earlier) e.moment e.payload e.reply own.bytes replied
+        ∙ ap xid_of_call h.1.0 ∙ ap (λ (n : ℕ). Some n) (sym (same-xid h.0) ∙ h.1.1 ∙ sym own_xid)

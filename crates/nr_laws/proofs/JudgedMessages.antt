@@ -1,0 +1,233 @@
+-- A client that ends for what it makes of a message: no rule of the link has such a reason, so a frame made that message whole.
+use Rattle.std.proofs.Common.{◌≡◌, ℕ, Bool, true, false, cond, List, [], ◌∷◌, ◌++◌, Option, None, Some, Result, Ok, refl, sym, ap, subst, ◌∙◌, append_assoc}
+use Rattle.nr_wire.specs.declared.hello.Side.TheVariants.{Initiator, Responder}
+use Rattle.nr_wire.specs.declared.stream.Awaited.TheVariants.{Hello as HelloFrom, Fpdu}
+use Rattle.nr_wire.specs.Hello.{hello_of}
+use Rattle.nr_wire.specs.Segment.{Segment}
+use Rattle.nr_regions.specs.declared.denied.Denied.{Denied}
+use Rattle.nr_regions.specs.RegisteredMemory.{Access}
+use Rattle.nr_regions.specs.Access.{Grant}
+use Rattle.nr_link.specs.declared.end.End.{End as Stop}
+use Rattle.nr_link.specs.declared.end.End.TheVariants as ends
+use Rattle.nr_link.specs.Frames.{Frame, is_hello}
+use Rattle.nr_link.specs.Output.{own_hello}
+use Rattle.nr_link.specs.ReceiveState.{message_completed}
+use Rattle.nr_link.specs.SegmentFaults.{Readiness, SegmentFault, segment_fault}
+use Rattle.nr_link.specs.SegmentFaults.SegmentFault.{Reason, NoBuffer, AccessDenied, PeerTerminated}
+use Rattle.nr_link.specs.Ending.{frame_segment, frame_end, frame_end_by, end_of_fault, denied_at, access_of, hello_end, missing_access}
+use Rattle.nr_reduce.specs.declared.mark.Mark.{Mark}
+use Rattle.nr_reduce.specs.declared.mark.LinkParameters.{LinkParameters}
+use Rattle.nr_reduce.specs.OfferedRegions.{region_grants}
+use Rattle.nr_reduce.specs.Events.{Event, events}
+use Rattle.nr_reduce.specs.Events.Event.{FrameReceived, CallSubmitted, MemoryRevoked, CallExecuted, QueueWritten}
+use Rattle.nr_reduce.specs.EndRules.{Rules, EndState, next_end_state, next_end_state_by, end_state_after}
+use Rattle.nr_reduce.specs.ClientState.{ClientState}
+use Rattle.nr_reduce.specs.ClientMessages.{Verdict, verdict}
+use Rattle.nr_reduce.specs.ClientMessages.Verdict.{EndsLink, GivesOutcome}
+use Rattle.nr_reduce.specs.Client.{client_rules, client_end, initial_client, readiness, or_message_end, message_end, end_of_verdict, segment_message}
+use Rattle.nr_reduce.specs.Run.{client}
+use Rattle.nr_reduce.proofs.Steps.{ended-stays}
+use Rattle.nr_laws.specs.EndCauses.{IsReplyReason}
+use Rattle.nr_laws.specs.MatchedSoFar.{MatchedSoFar}
+use Rattle.nr_laws.specs.Typed.{IsTyped}
+use Rattle.nr_laws.proofs.Outputs.{Output}
+use Rattle.nr_laws.proofs.Outputs.Output.{AHello, ASegment}
+use Rattle.nr_laws.proofs.Brought.{Brings, Brought, AreFrom, hello-is}
+use Rattle.nr_laws.proofs.Messages.{message_in, AreOne, one-first}
+use Rattle.nr_laws.proofs.Hears.{hears, client-receives, brings-at, whole-message}
+use Rattle.nr_laws.proofs.ServerAlong.{outs_of, Said}
+use Rattle.nr_laws.proofs.ServerSide.{server-tells, client-receives-of}
+use Rattle.nr_laws.proofs.Outcomes.{client_by}
+use Rattle.nr_laws.proofs.OtherReasons.{OtherFault, fault-other}
+
+-- ---- A segment that ends a client by such a reason
+
+-- it makes a message whole, for which the client ends
+record JudgesMessage (k : ClientState) (f : Frame) (s : Segment) (reason : ℕ) : Type 0 where
+  message : List ℕ
+  whole : message_completed k.received s ≡ Some message
+  judged : verdict k f.end message ≡ EndsLink reason
+
+bad-reason : (at place reason other : ℕ) → ◌≡◌ {A = Option Stop} (Some (ends.Bad at reason)) (Some (ends.Bad place other)) → reason ≡ other
+bad-reason at place reason other e = cc
+
+by-fault : (f : Frame) (s : Segment) (o : Option (SegmentFault Denied)) → OtherFault o → (at reason : ℕ) → IsReplyReason reason → end_of_fault f s o ≡ Some (ends.Bad at reason) → ⊥
+by-fault f s None h at reason is e = cc
+by-fault f s (Some (Reason x)) h at reason is e = h (subst IsReplyReason (sym (bad-reason f.at at x reason e)) is)
+by-fault f s (Some (NoBuffer msn)) h at reason is e = cc
+by-fault f s (Some (AccessDenied why)) h at reason is e = by (access_of s) e
+  where
+    by : (o : Option Access) → Some (denied_at o why) ≡ Some (ends.Bad at reason) → ⊥
+    by None e = cc
+    by (Some access) e = cc
+by-fault f s (Some (PeerTerminated word)) h at reason is e = cc
+
+by-verdict : (f : Frame) (v : Verdict) (at reason : ℕ) → end_of_verdict f v ≡ Some (ends.Bad at reason) → v ≡ EndsLink reason
+by-verdict f (EndsLink x) at reason e = ap EndsLink (bad-reason f.at at x reason e)
+by-verdict f (GivesOutcome xid outcome) at reason e = absurd cc
+
+by-message : (k : ClientState) (f : Frame) (s : Segment) (at reason : ℕ) (o : Option (List ℕ)) → message_completed k.received s ≡ o → message_end k f o ≡ Some (ends.Bad at reason) → JudgesMessage k f s reason
+by-message k f s at reason None whole e = absurd cc
+by-message k f s at reason (Some message) whole e = record { message = message; whole = whole; judged = by-verdict f (verdict k f.end message) at reason e }
+
+segment-judges : (k : ClientState) (f : Frame) (s : Segment) (at reason : ℕ) → IsReplyReason reason → is_hello f ≡ false → frame_segment f ≡ Ok s → client_end k (FrameReceived f) ≡ Some (ends.Bad at reason) → JudgesMessage k f s reason
+unfolding client_end frame_end
+segment-judges k f s at reason is behind own e =
+    by (end_of_fault f s (segment_fault ready s)) (by-fault f s (segment_fault ready s) (fault-other ready s) at reason is)
+    (sym (λ i. cond (behind i) (hello_end (hello_of Responder f.bytes)) (or_message_end k f (frame_end_by (readiness k) grants f (own i)))) ∙ e)
+  where
+    grants : List Grant
+    grants = region_grants f.end k.regions
+
+    ready : Readiness Denied
+    ready = readiness k (missing_access grants f s)
+
+    by : (o : Option Stop) → (o ≡ Some (ends.Bad at reason) → ⊥) → or_message_end k f o ≡ Some (ends.Bad at reason) → JudgesMessage k f s reason
+    by (Some end) none e = absurd (none e)
+    by None none e = by-message k f s at reason (message_completed k.received s) refl (ap (λ (r : Result Segment ℕ). message_end k f (segment_message k r)) (sym own) ∙ e)
+
+-- the hello of the other side ends no client
+hello-stays : (k : ClientState) (f : Frame) → is_hello f ≡ true → f.bytes ≡ own_hello Responder → client_end k (FrameReceived f) ≡ None
+unfolding client_end
+hello-stays k f first bytes =
+    ap (λ (b : Bool). cond b (hello_end (hello_of Responder f.bytes)) (or_message_end k f (frame_end (readiness k) (region_grants f.end k.regions) f))) first
+    ∙ ap (λ (xs : List ℕ). hello_end (hello_of Responder xs)) bytes ∙ ap hello_end (hello-is Responder).says
+
+-- ---- The event that ends a client
+
+abbrev NoFrame : Event → Type 0
+NoFrame (FrameReceived f) = ⊥
+NoFrame (CallSubmitted place a) = Unit {0}
+NoFrame (MemoryRevoked place xid) = Unit {0}
+NoFrame (CallExecuted call) = Unit {0}
+NoFrame QueueWritten = Unit {0}
+
+only-frames : (k : ClientState) (e : Event) → NoFrame e → client_end k e ≡ None
+unfolding client_end
+only-frames k (FrameReceived f) h = absurd h
+only-frames k (CallSubmitted place a) h = refl
+only-frames k (MemoryRevoked place xid) h = refl
+only-frames k (CallExecuted call) h = refl
+only-frames k QueueWritten h = refl
+
+none-some : {o : Option Stop} (end : Stop) → o ≡ None → o ≡ Some end → ⊥
+none-some end none some = (let wrong : None ≡ Some end = sym none ∙ some in cc)
+
+record EndsAt (opened : LinkParameters) (r : EndState ClientState) (es : List Event) (end : Stop) : Type 0 where
+  earlier : List Event
+  event : Event
+  later : List Event
+  is : es ≡ earlier ++ event ∷ later
+  live : (end_state_after (client_rules opened) r earlier).ended ≡ None
+  ends : client_end (end_state_after (client_rules opened) r earlier).state event ≡ Some end
+
+ends-at : (opened : LinkParameters) (k : ClientState) (es : List Event) (end : Stop) → (end_state_after (client_rules opened) (record { state = k; ended = None }) es).ended ≡ Some end → EndsAt opened (record { state = k; ended = None }) es end
+ends-at opened k [] end e = absurd cc
+ends-at opened k (x ∷ es) end e = by (client_end k x) refl (λ f. ends-at opened ((client_rules opened).state_after k x) es end f)
+  where
+    rules : Rules ClientState
+    rules = client_rules opened
+
+    after : EndState ClientState
+    after = record { state = rules.state_after k x; ended = None }
+
+    by : (o : Option Stop) → client_end k x ≡ o → ((end_state_after rules after es).ended ≡ Some end → EndsAt opened after es end) → EndsAt opened (record { state = k; ended = None }) (x ∷ es) end
+    by None is more =
+        let next : next_end_state rules (record { state = k; ended = None }) x ≡ after = ap (λ (o : Option Stop). next_end_state_by rules k x o) is in
+        let a = more (ap (λ (r : EndState ClientState). (end_state_after rules r es).ended) (sym next) ∙ e) in
+        record {
+          earlier = x ∷ a.earlier;
+          event = a.event;
+          later = a.later;
+          is = ap (λ (xs : List Event). x ∷ xs) a.is;
+          live = ap (λ (r : EndState ClientState). (end_state_after rules r a.earlier).ended) next ∙ a.live;
+          ends = ap (λ (r : EndState ClientState). client_end (end_state_after rules r a.earlier).state a.event) next ∙ a.ends;
+        }
+    by (Some why) is more =
+        let next : next_end_state rules (record { state = k; ended = None }) x ≡ record { state = k; ended = Some why } = ap (λ (o : Option Stop). next_end_state_by rules k x o) is in
+        let stays = ap (λ (r : EndState ClientState). (end_state_after rules r es).ended) (sym next) ∙ e in
+        record { earlier = []; event = x; later = es; is = refl; live = refl; ends = is ∙ sym (ap (λ (r : EndState ClientState). r.ended) (ended-stays rules k why es).0) ∙ stays }
+
+-- ---- On a matched link
+
+-- what the server writes first is its hello
+first-hello : (xs ys : List Output) (o : Output) (f : Frame) → AreFrom (HelloFrom Responder) (xs ++ o ∷ ys) → Brought o f → is_hello f ≡ true → f.bytes ≡ own_hello Responder
+first-hello [] ys (AHello bytes) f from b is = b.1 ∙ from.0
+first-hello [] ys (ASegment s) f from b is = absurd from
+first-hello (AHello bytes ∷ xs) ys o f from b is = absurd (later xs from.1)
+  where
+    later : (zs : List Output) → AreFrom Fpdu (zs ++ o ∷ ys) → ⊥
+    later [] h = here o b h
+      where
+        here : (x : Output) → Brought x f → AreFrom Fpdu (x ∷ ys) → ⊥
+        here (AHello bytes) b h = h
+        here (ASegment s) b h = (let wrong : false ≡ true = sym b.0 ∙ is in cc)
+    later (AHello bytes ∷ zs) h = h
+    later (ASegment s ∷ zs) h = later zs h.1
+first-hello (ASegment s ∷ xs) ys o f from b is = absurd from
+
+-- the message for which the client ends, with what came before it, and why the server said it
+pub record EndsFor (opened : LinkParameters) (link : ℕ) (run : List Mark) (reason : ℕ) : Type 0 where
+  pub earlier : List Event
+  pub frame : Frame
+  pub later : List Event
+  pub is : events link Initiator run ≡ earlier ++ FrameReceived frame ∷ later
+  pub live : (client_by opened earlier).ended ≡ None
+  pub segment : Segment
+  pub is_segment : frame_segment frame ≡ Ok segment
+  pub message : List ℕ
+  pub judged : verdict (client_by opened earlier).state frame.end message ≡ EndsLink reason
+  pub before : List Output
+  pub brings : Brings earlier before
+  pub said : Said opened (events link Responder run) before message
+
+pub ends-for : (opened : LinkParameters) (link : ℕ) (run : List Mark) (at reason : ℕ) → IsTyped run → MatchedSoFar opened link run → IsReplyReason reason → (client opened link run).ended ≡ Some (ends.Bad at reason) → EndsFor opened link run reason
+unfolding client
+ends-for opened link run at reason typed far bad e = by a.event a.is a.ends
+  where
+    a : EndsAt opened (initial_client opened) (events link Initiator run) (ends.Bad at reason)
+    a = ends-at opened (initial_client opened).state (events link Initiator run) (ends.Bad at reason) e
+
+    k : ClientState
+    k = (client_by opened a.earlier).state
+
+    by-frame : (f : Frame) → events link Initiator run ≡ a.earlier ++ FrameReceived f ∷ a.later → client_end k (FrameReceived f) ≡ Some (ends.Bad at reason) → EndsFor opened link run reason
+    by-frame f is why =
+        let r = client-receives-of opened link run typed far.asked far.served far.matched in
+        let t = server-tells opened link run typed far.asked far.served far.matched in
+        let b = brings-at a.earlier f a.later r.came (subst (λ (xs : List Event). Brings xs r.came) is r.brings) in
+        let ones : AreOne r.came = one-first r.came r.left (subst AreOne (sym r.parts) t.one) in
+        let early : AreOne b.earlier = one-first b.earlier (b.own ∷ b.later) (subst AreOne b.parts ones) in
+        let counted = hears (client_rules opened) (λ (x : ClientState). x.received) (client-receives opened) (initial_client opened) a.earlier b.earlier b.brings early refl a.live in
+        let from : AreFrom (HelloFrom Responder) (b.earlier ++ b.own ∷ b.later) = subst (λ (xs : List Output). AreFrom (HelloFrom Responder) xs) b.parts r.from in
+        let parts : outs_of opened (events link Responder run) ≡ b.earlier ++ b.own ∷ (b.later ++ r.left) =
+        sym r.parts ∙ ap (λ (xs : List Output). xs ++ r.left) b.parts ∙ append_assoc b.earlier (b.own ∷ b.later) r.left in
+        own b.own b.brought (λ first. absurd (none-some (ends.Bad at reason) (hello-stays k f first (first-hello b.earlier b.later b.own f from b.brought first)) why))
+        (λ s behind reads same.
+        let j = segment-judges k f s at reason bad behind reads why in
+        let one : message_in s ≡ j.message ∷ [] = whole-message k.received s j.message counted.begun j.whole in
+        record {
+          earlier = a.earlier;
+          frame = f;
+          later = a.later;
+          is = is;
+          live = a.live;
+          segment = s;
+          is_segment = reads;
+          message = j.message;
+          judged = j.judged;
+          before = b.earlier;
+          brings = b.brings;
+          said = t.said b.earlier s (b.later ++ r.left) j.message (parts ∙ ap (λ (o : Output). b.earlier ++ o ∷ (b.later ++ r.left)) same) one;
+        })
+      where
+        own : (o : Output) → Brought o f → (is_hello f ≡ true → EndsFor opened link run reason) → ((s : Segment) → is_hello f ≡ false → frame_segment f ≡ Ok s → o ≡ ASegment s → EndsFor opened link run reason) → EndsFor opened link run reason
+        own (AHello bytes) h hello segment = hello h.0
+        own (ASegment s) h hello segment = segment s h.0 h.1 refl
+
+    by : (x : Event) → events link Initiator run ≡ a.earlier ++ x ∷ a.later → client_end k x ≡ Some (ends.Bad at reason) → EndsFor opened link run reason
+    by (FrameReceived f) is why = by-frame f is why
+    by (CallSubmitted place call) is why = absurd (none-some (ends.Bad at reason) (only-frames k (CallSubmitted place call) tt) why)
+    by (MemoryRevoked place xid) is why = absurd (none-some (ends.Bad at reason) (only-frames k (MemoryRevoked place xid) tt) why)
+    by (CallExecuted call) is why = absurd (none-some (ends.Bad at reason) (only-frames k (CallExecuted call) tt) why)
+    by QueueWritten is why = absurd (none-some (ends.Bad at reason) (only-frames k QueueWritten tt) why)
