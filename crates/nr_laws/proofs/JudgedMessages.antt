@@ -51,7 +51,7 @@ record JudgesMessage (k : ClientState) (f : Frame) (s : Segment) (reason : ℕ) 
 bad-reason : (at place reason other : ℕ) → ◌≡◌ {A = Option Stop} (Some (ends.Bad at reason)) (Some (ends.Bad place other)) → reason ≡ other
 bad-reason at place reason other e = cc
 
-by-fault : (f : Frame) (s : Segment) (o : Option (SegmentFault Denied)) → OtherFault o → (at reason : ℕ) → IsReplyReason reason → end_of_fault f s o ≡ Some (ends.Bad at reason) → ⊥
+pub by-fault : (f : Frame) (s : Segment) (o : Option (SegmentFault Denied)) → OtherFault o → (at reason : ℕ) → IsReplyReason reason → end_of_fault f s o ≡ Some (ends.Bad at reason) → ⊥
 by-fault f s None h at reason is e = cc
 by-fault f s (Some (Reason x)) h at reason is e = h (subst IsReplyReason (sym (bad-reason f.at at x reason e)) is)
 by-fault f s (Some (NoBuffer msn)) h at reason is e = cc
