@@ -21,8 +21,7 @@ use Rattle.nr_reduce.specs.Client.{client_rules}
 use Rattle.nr_reduce.specs.Server.{server_rules}
 use Rattle.nr_reduce.specs.Run.{client, server, end_of_side}
 use Rattle.nr_reduce.proofs.Steps.{AtEachMark-first, client-one, server-one}
-use Rattle.nr_laws.specs.EndCauses.{KeepLaws, IsReplyReason, IsReplyEnd, IsDenied}
-use Rattle.nr_laws.specs.MatchedSoFar.{MatchedSoFar}
+use Rattle.nr_laws.specs.EndCauses.{KeepLaws, IsReplyEnd, IsDenied}
 use Rattle.nr_laws.specs.PlainReplies.{server_with}
 use Rattle.nr_laws.specs.Stays.{NotRevokedMark, HasNoRevoke, WordsMark, HaveWords, ConveyedMark, AreConveyedOrRefused, MatchedLinksStay}
 use Rattle.nr_laws.specs.Typed.{TypedMark, IsTyped}
@@ -31,6 +30,7 @@ use Rattle.nr_laws.proofs.FirstEnds.{client-ends-for-replies}
 use Rattle.nr_laws.proofs.LawsBefore.{laws-kept-before}
 use Rattle.nr_laws.proofs.LawsSoFar.{laws-so-far}
 use Rattle.nr_laws.proofs.ReadCalls.{server-stays}
+use Rattle.nr_laws.proofs.ReadReplies.{client-reads-replies}
 
 -- ---- A mark is an event of one side
 
@@ -87,17 +87,12 @@ abbrev pub NotDenied : Type 0
 NotDenied = (opened : LinkParameters) (link : ℕ) (run : List Mark) → IsOpened opened → IsTyped run → KeepLaws opened link run → HasNoRevoke link run → end_of_side opened link Responder run ≡ None
     → (stag offset : ℕ) (why : Denied) → end_of_side opened link Initiator run ≡ Some (ends.Denied stag offset why) → ⊥
 
--- what the client makes of a message never ends it
-abbrev pub ReadsReplies : Type 0
-ReadsReplies = (reply_to : List Entry → Moment → List ℕ → Option (List ℕ)) (adds : Moment → List ℕ → List ℕ → List Entry) (opened : LinkParameters) (link : ℕ) (run : List Mark) → IsOpened opened → IsTyped run → MatchedSoFar opened link run → HaveWords run
-    → Plainly (server_with reply_to adds) run → IsPlain (server_with reply_to adds) → (at reason : ℕ) → IsReplyReason reason → end_of_side opened link Initiator run ≡ Some (ends.Bad at reason) → ⊥
-
-module _ (denied : NotDenied) (replies : ReadsReplies) (reply_to : List Entry → Moment → List ℕ → Option (List ℕ)) (adds : Moment → List ℕ → List ℕ → List Entry) (plain : IsPlain (server_with reply_to adds)) (opened : LinkParameters) (link : ℕ) (opens : IsOpened opened) where
+module _ (denied : NotDenied) (reply_to : List Entry → Moment → List ℕ → Option (List ℕ)) (adds : Moment → List ℕ → List ℕ → List Entry) (plain : IsPlain (server_with reply_to adds)) (opened : LinkParameters) (link : ℕ) (opens : IsOpened opened) where
   client-stays : (run : List Mark) → AreAsked reply_to adds opened link run → end_of_side opened link Responder run ≡ None → (end : End) → end_of_side opened link Initiator run ≡ Some end → ⊥
   client-stays run h down end up = by (client-ends-for-replies opened link run opens h.typed h.laws down end up)
     where
       by : IsReplyEnd end ⊎ IsDenied end → ⊥
-      by (inl (at, reason, is, own)) = replies reply_to adds opened link run opens h.typed (laws-so-far opened link run h.laws) h.words h.plainly plain at reason own (up ∙ ap (λ (x : End). Some x) is)
+      by (inl (at, reason, is, own)) = client-reads-replies reply_to adds opened link run opens h.typed (laws-so-far opened link run h.laws) h.words h.plainly plain at reason own (up ∙ ap (λ (x : End). Some x) is)
       by (inr (stag, offset, why, is)) = denied opened link run opens h.typed h.laws h.kept down stag offset why (up ∙ ap (λ (x : End). Some x) is)
 
   mark-stays : (before : List Mark) (mark : Mark) → AreAsked reply_to adds opened link (before ++ mark ∷ []) → (client opened link before).ended ≡ None → (server opened link before).ended ≡ None
@@ -137,7 +132,7 @@ server-nothing : (opened : LinkParameters) (link : ℕ) → (server opened link 
 unfolding server events
 server-nothing opened link = refl
 
-pub links-stay : NotDenied → ReadsReplies → MatchedLinksStay
+pub links-stay : NotDenied → MatchedLinksStay
 unfolding end_of_side
-links-stay denied replies reply_to adds opened link run opens typed words laws kept conveyed plain plainly =
-    run-stays denied replies reply_to adds plain opened link opens run [] (record { typed = typed; words = words; laws = laws; kept = kept; conveyed = conveyed; plainly = plainly }) (client-nothing opened link) (server-nothing opened link)
+links-stay denied reply_to adds opened link run opens typed words laws kept conveyed plain plainly =
+    run-stays denied reply_to adds plain opened link opens run [] (record { typed = typed; words = words; laws = laws; kept = kept; conveyed = conveyed; plainly = plainly }) (client-nothing opened link) (server-nothing opened link)
