@@ -1,83 +1,33 @@
 -- The frame at which a server ends for a call.
-use Rattle.std.proofs.Common.{◌≡◌, ◌≢◌, ℕ, zero, suc, ◌+◌, ◌^◌, ◌≤◌, ◌<◌, Bool, true, false, cond, eqb, List, [], ◌∷◌, ◌++◌, length, Option, None, Some, Result, Ok, Err, refl, sym, ap, subst, ◌∙◌, arith, append_assoc, inl, inr}
-use Rattle.std.specs.Prelude.{IfSome}
-use Rattle.std.specs.List.{list_any}
-use Rattle.nr_xdr.specs.Item.{IsBytes}
-use Rattle.nr_xdr.specs.Fields.{word_at}
-use Rattle.nr_header.specs.declared.header.ChunkLists.{ChunkLists}
-use Rattle.nr_header.specs.declared.header.ReadSegment.{ReadSegment}
-use Rattle.nr_header.specs.declared.header.Header.{Header}
-use Rattle.nr_header.specs.Reading.{header_of}
-use Rattle.nr_regions.specs.declared.denied.Denied.{Denied}
+use Rattle.std.proofs.Common.{◌≡◌, ℕ, Bool, false, cond, List, [], ◌∷◌, ◌++◌, Option, None, Some, Ok, refl, sym, ap, subst, ◌∙◌, inl, inr}
 use Rattle.nr_regions.specs.Access.{Grant}
 use Rattle.nr_wire.specs.declared.hello.Side.TheVariants.{Initiator, Responder}
 use Rattle.nr_wire.specs.Hello.{hello_of}
 use Rattle.nr_wire.specs.Segment.{Segment}
-use Rattle.nr_wire.specs.Segment.Segment.{Tagged, Untagged}
 use Rattle.nr_link.specs.declared.end.End.{End as Stop}
 use Rattle.nr_link.specs.declared.end.End.TheVariants as ends
 use Rattle.nr_link.specs.Frames.{Frame, is_hello}
-use Rattle.nr_link.specs.Ending.{frame_segment, frame_end, frame_end_by, hello_end, end_of_fault, missing_access}
-use Rattle.nr_link.specs.SegmentFaults.{Readiness, SegmentFault, segment_fault}
-use Rattle.nr_link.specs.SegmentFaults.SegmentFault.{Reason, NoBuffer, AccessDenied, PeerTerminated}
-use Rattle.nr_link.specs.ReceiveState.{message_completed}
-use Rattle.nr_reduce.specs.declared.call.Submission.TheVariants as submissions
+use Rattle.nr_link.specs.Ending.{frame_segment, frame_end, hello_end}
 use Rattle.nr_reduce.specs.declared.mark.Mark.{Mark}
-use Rattle.nr_reduce.specs.declared.mark.Mark.TheVariants as marks
 use Rattle.nr_reduce.specs.declared.mark.LinkParameters.{LinkParameters}
-use Rattle.nr_reduce.specs.declared.outline.Plan.{Plan}
-use Rattle.nr_reduce.specs.Limits.{send_max}
-use Rattle.nr_reduce.specs.Plans.{entries_from, read_list, lists_of}
-use Rattle.nr_reduce.specs.Chunks.{total_at, call_conveyed}
-use Rattle.nr_reduce.specs.OfferedRegions.{Region, region_grants}
-use Rattle.nr_reduce.specs.ClientState.{call_payload, plan_for}
+use Rattle.nr_reduce.specs.OfferedRegions.{region_grants}
 use Rattle.nr_reduce.specs.Events.{Event, events}
 use Rattle.nr_reduce.specs.Events.Event.{FrameReceived, CallSubmitted, MemoryRevoked, CallExecuted, QueueWritten}
 use Rattle.nr_reduce.specs.EndRules.{Rules, EndState, next_end_state, next_end_state_by, next_end_state_in, end_state_after}
-use Rattle.nr_reduce.specs.ServerState.{ServerState, PendingCall, PendingRead}
-use Rattle.nr_reduce.specs.ServerReads.{is_read, sink_of, reads_of, reads_from, regions_of}
-use Rattle.nr_reduce.specs.ServerMessages.{Verdict, verdict, payload_of, chunk_bytes, by_payload}
-use Rattle.nr_reduce.specs.ServerMessages.CallVerdict.{Refuses}
-use Rattle.nr_reduce.specs.ServerMessages.Verdict.{MakesPending}
-use Rattle.nr_reduce.specs.ServerFrames.{call_of_number, with_access, frame_effect}
+use Rattle.nr_reduce.specs.ServerState.{ServerState}
+use Rattle.nr_reduce.specs.ServerFrames.{frame_effect}
 use Rattle.nr_reduce.specs.Server.{server_rules, server_end, initial_server, readiness, or_refusal, refusal_end}
-use Rattle.nr_reduce.specs.Run.{client, server, end_of_side}
-use Rattle.nr_reduce.specs.RunLaws.{server_by, known_stream, ends_response, IsReceivedCall}
-use Rattle.nr_reduce.specs.Undone.{ChunkHolds, lists_by}
-use Rattle.nr_reduce.proofs.Conveyed.{Known, known-from, each-found}
-use Rattle.nr_reduce.proofs.Laid.{added_up}
-use Rattle.nr_reduce.proofs.Once.{NumberIs, verdict-number}
+use Rattle.nr_reduce.specs.Run.{server}
+use Rattle.nr_reduce.specs.RunLaws.{server_by}
 use Rattle.nr_reduce.proofs.Steps.{ended-stays}
-use Rattle.nr_laws.specs.EndCauses.{KeepLaws, IsCallReason, IsCallEnd}
+use Rattle.nr_laws.specs.EndCauses.{IsCallReason}
 use Rattle.nr_laws.specs.MatchedSoFar.{MatchedSoFar}
-use Rattle.nr_laws.specs.LinkInvariants.{IsUnused}
-use Rattle.nr_laws.specs.Payloads.{form_conveyed}
-use Rattle.nr_laws.specs.Stays.{WordsMark, HaveWords, IsRefusedMessage, ConveyedMark, AreConveyedOrRefused}
-use Rattle.nr_laws.specs.Typed.{TypedMark, IsTypedForm, IsTyped}
-use Rattle.nr_laws.proofs.AcceptedRegions.{accepted-regions}
+use Rattle.nr_laws.specs.Typed.{IsTyped}
 use Rattle.nr_laws.proofs.Along.{GoesOn, goes-behind}
 use Rattle.nr_laws.proofs.CallRefusals.{RefusedBy, refused-by, frame-other}
-use Rattle.nr_laws.proofs.CallRefusals.RefusedBy.{AtMessage, AtRead}
-use Rattle.nr_laws.proofs.ClientRun.{WasSubmitted}
-use Rattle.nr_laws.proofs.ConveyedCalls.{planned-fits, plan-reads}
-use Rattle.nr_laws.proofs.ConveyedForms.{HasChunk, planned-chunk, received-conveys}
-use Rattle.nr_laws.proofs.EmptyChunks.{new-empty, pending-empty}
-use Rattle.nr_laws.proofs.ExecutedCalls.{frame-message, received-message}
-use Rattle.nr_laws.proofs.ExecutedPayloads.{IsOfPlan, planned-by}
-use Rattle.nr_laws.proofs.HeaderXid.{header-xid, call-xid}
-use Rattle.nr_laws.proofs.HeldChunks.{server-good, sink-brings, not-any}
-use Rattle.nr_laws.proofs.JudgedCalls.{conveyed-ready, conveyed-head-there, pending-fine, read-fine}
-use Rattle.nr_laws.proofs.LawsSoFar.{laws-so-far}
-use Rattle.nr_laws.proofs.OnceByXid.{at-mark}
-use Rattle.nr_laws.proofs.PendingSends.{verdict-new}
-use Rattle.nr_laws.proofs.PlanLists.{ReadsLists}
-use Rattle.nr_laws.proofs.ReadPayloads.{region-small, stag-small, read-region, region-holds, any-right, own-unread}
+use Rattle.nr_laws.proofs.HeldChunks.{server-good}
 use Rattle.nr_laws.proofs.ServerAlong.{ServerGood, FrameGood}
 use Rattle.nr_laws.proofs.ServerEnds.{hello-goes}
-use Rattle.nr_laws.proofs.ServerReadsOfRuns.{verdict-lists}
-use Rattle.nr_laws.proofs.SinkReads.{own_reads, total-own, reads-own}
-use Rattle.nr_laws.proofs.SuitedCalls.{HasNoBytes, calls-suit, IsSuited}
-use Rattle.nr_laws.proofs.TotalsAtServer.{found_has}
 
 -- ---- The event that ends a side
 

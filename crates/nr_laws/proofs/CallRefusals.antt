@@ -8,21 +8,16 @@ use Rattle.nr_header.specs.declared.header.Header.{Header}
 use Rattle.nr_header.specs.Reading.{header_of}
 use Rattle.nr_xdr.specs.Fields.{word_at}
 use Rattle.nr_regions.specs.declared.denied.Denied.{Denied}
-use Rattle.nr_regions.specs.RegisteredMemory.{Access}
 use Rattle.nr_wire.specs.Constants.{OPCODE_READ_RESPONSE}
 use Rattle.nr_wire.specs.Segment.{Segment}
 use Rattle.nr_wire.specs.Segment.Segment.{Tagged, Untagged}
-use Rattle.nr_link.specs.declared.end.End.{End as Stop}
 use Rattle.nr_link.specs.declared.end.End.TheVariants as ends
 use Rattle.nr_link.specs.Frames.{Frame}
-use Rattle.nr_link.specs.Reasons.{REASON_MSN, REASON_OFFSET, REASON_FORM, REASON_RESPONSE, REASON_REQUESTS, REASON_SHORT, REASON_LONG}
-use Rattle.nr_link.specs.ReceiveState.{message_completed, is_send}
-use Rattle.nr_link.specs.SegmentFaults.{Readiness, SegmentFault, segment_fault, first_fault, reason_if, next_msn, next_offset, no_buffer, is_begun, is_malformed, missing_fault, is_unexpected, is_too_many, has_length, terminate_fault}
-use Rattle.nr_link.specs.SegmentFaults.SegmentFault.{Reason, NoBuffer, AccessDenied, PeerTerminated}
-use Rattle.nr_link.specs.Ending.{access_of, denied_at, frame_segment, frame_end, frame_end_by, end_of_fault, missing_access}
+use Rattle.nr_link.specs.ReceiveState.{message_completed}
+use Rattle.nr_link.specs.SegmentFaults.{Readiness, segment_fault}
+use Rattle.nr_link.specs.Ending.{frame_segment, frame_end, frame_end_by, missing_access}
 use Rattle.nr_regions.specs.Access.{Grant}
 use Rattle.nr_reduce.specs.Chunks.{is_read_chunk_of_item}
-use Rattle.nr_reduce.specs.OfferedRegions.{Region}
 use Rattle.nr_reduce.specs.ServerState.{ServerState, PendingCall, PendingRead, next_stag, is_pending}
 use Rattle.nr_reduce.specs.ServerReads.{open_reads, is_read, reads_of, regions_of, chunks_of}
 use Rattle.nr_reduce.specs.ServerMessages.{Verdict, CallVerdict, verdict, by_need, by_stream, by_body, by_header, by_payload, payload_of, chunk_bytes, has_position, no_stream}

@@ -1,6 +1,6 @@
 -- What a form conveys of a call is judged to be ready, where it has a call head; a message that makes a call pending isn't refused.
-use Rattle.std.proofs.Common.{◌≡◌, ◌≢◌, ℕ, ◌+◌, ◌^◌, ◌≤◌, ◌<◌, Bool, true, false, cond, ◌||◌, not, eqb, ltb, List, [], ◌∷◌, length, take, drop, Option, None, Some, Result, Ok, Err, refl, sym, ap, subst, ◌∙◌, arith, eqb-true, eq-eqb, inl, inr, ◌⊎◌}
-use Rattle.std.specs.Prelude.{IfSome, IsOk, is_ok}
+use Rattle.std.proofs.Common.{◌≡◌, ◌≢◌, ℕ, ◌+◌, ◌^◌, ◌≤◌, ◌<◌, Bool, true, false, cond, ◌||◌, not, eqb, ltb, List, [], ◌∷◌, length, Option, None, Some, Result, Ok, Err, refl, sym, ap, subst, ◌∙◌, eqb-true, eq-eqb, inl, inr}
+use Rattle.std.specs.Prelude.{IfSome, is_ok}
 use Rattle.std.proofs.lemmas.Bool.{cases_lt, lt-ltb, eqb-false}
 use Rattle.std.proofs.lemmas.List.Elements.{All-head}
 use Rattle.nr_xdr.specs.Item.{IsBytes}
@@ -12,7 +12,7 @@ use Rattle.nr_header.specs.declared.header.ChunkLists.{ChunkLists}
 use Rattle.nr_header.specs.declared.header.Body.{Body}
 use Rattle.nr_header.specs.declared.header.Body.TheVariants.{Msg, Nomsg, ErrVers, ErrChunk}
 use Rattle.nr_header.specs.declared.header.Header.{Header}
-use Rattle.nr_header.specs.Reading.{header_of, header_by, body_by, error_by, HeaderBad, HasNoStream, IsBad}
+use Rattle.nr_header.specs.Reading.{header_of, header_by, body_by, error_by, HasNoStream, IsBad}
 use Rattle.nr_rpc.specs.declared.head.CallHead.{CallHead}
 use Rattle.nr_rpc.specs.declared.head.CallHead.TheVariants as calls
 use Rattle.nr_rpc.specs.Credential.{CanWriteCred}
@@ -26,7 +26,7 @@ use Rattle.nr_reduce.specs.Plans.{entries_from, read_list, read_stag, lists_of, 
 use Rattle.nr_reduce.specs.Chunks.{is_read_chunk_of_item}
 use Rattle.nr_reduce.specs.ClientState.{call_payload}
 use Rattle.nr_reduce.specs.ServerState.{ServerState, PendingCall, ReadyCall, is_pending}
-use Rattle.nr_reduce.specs.ServerMessages.{CallVerdict, Verdict, verdict, by_head, by_payload, by_header, call_xid}
+use Rattle.nr_reduce.specs.ServerMessages.{verdict, by_head, by_payload, by_header, call_xid}
 use Rattle.nr_reduce.specs.ServerMessages.CallVerdict.{Refuses, IsReady}
 use Rattle.nr_reduce.specs.ServerMessages.Verdict.{EndsLink, OtherVersion, BadChunks, MakesPending}
 use Rattle.nr_reduce.specs.RunLaws.{known_stream, OtherChunk, HasOtherChunk}

@@ -1,6 +1,6 @@
 -- On a matched link what a server makes of a call never ends it: at the frame by which the call became whole, what is conveyed is what its
 -- form conveys of its own payload.
-use Rattle.std.proofs.Common.{◌≡◌, ℕ, zero, suc, ◌+◌, ◌^◌, ◌<◌, Bool, true, false, eqb, List, [], ◌∷◌, ◌++◌, length, Option, None, Some, Result, Ok, refl, sym, ap, subst, ◌∙◌, arith}
+use Rattle.std.proofs.Common.{◌≡◌, ℕ, zero, suc, ◌<◌, true, false, eqb, List, [], ◌∷◌, ◌++◌, length, Option, None, Some, Result, Ok, refl, sym, ap, subst, ◌∙◌, arith}
 use Rattle.std.specs.Prelude.{IfSome}
 use Rattle.std.specs.List.{list_any}
 use Rattle.nr_xdr.specs.Item.{IsBytes}
@@ -16,9 +16,8 @@ use Rattle.nr_wire.specs.Segment.Segment.{Tagged, Untagged}
 use Rattle.nr_link.specs.declared.end.End.{End}
 use Rattle.nr_link.specs.Frames.{Frame}
 use Rattle.nr_link.specs.Reasons.{REASON_RESPONSE}
-use Rattle.nr_link.specs.Ending.{frame_segment, frame_end, frame_end_by, end_of_fault, missing_access}
+use Rattle.nr_link.specs.Ending.{frame_segment, frame_end, frame_end_by, missing_access}
 use Rattle.nr_link.specs.SegmentFaults.{SegmentFault, segment_fault, missing_fault, reason_if, is_unexpected}
-use Rattle.nr_link.specs.ReceiveState.{message_completed}
 use Rattle.nr_reduce.specs.declared.call.Submission.TheVariants as submissions
 use Rattle.nr_reduce.specs.declared.mark.Mark.{Mark}
 use Rattle.nr_reduce.specs.declared.mark.Mark.TheVariants as marks
@@ -29,22 +28,20 @@ use Rattle.nr_reduce.specs.Opening.{IsOpened}
 use Rattle.nr_reduce.specs.Plans.{plan_of, entries_from, read_list, lists_of}
 use Rattle.nr_reduce.specs.Chunks.{total_at, call_conveyed}
 use Rattle.nr_reduce.specs.OfferedRegions.{Region, region_grants}
-use Rattle.nr_reduce.specs.ClientState.{call_payload, plan_for}
-use Rattle.nr_reduce.specs.Events.{Event, events}
+use Rattle.nr_reduce.specs.ClientState.{call_payload}
 use Rattle.nr_reduce.specs.Events.Event.{FrameReceived}
 use Rattle.nr_reduce.specs.ServerState.{ServerState, PendingCall, PendingRead}
 use Rattle.nr_reduce.specs.ServerReads.{is_read, sink_of, reads_of, reads_from, regions_of}
-use Rattle.nr_reduce.specs.ServerMessages.{verdict, payload_of, chunk_bytes, by_payload}
+use Rattle.nr_reduce.specs.ServerMessages.{payload_of, chunk_bytes, by_payload}
 use Rattle.nr_reduce.specs.ServerMessages.CallVerdict.{Refuses}
-use Rattle.nr_reduce.specs.ServerMessages.Verdict.{MakesPending}
-use Rattle.nr_reduce.specs.ServerFrames.{call_of_number, with_access}
+use Rattle.nr_reduce.specs.ServerFrames.{with_access}
 use Rattle.nr_reduce.specs.Server.{readiness}
-use Rattle.nr_reduce.specs.Run.{client, server, end_of_side}
+use Rattle.nr_reduce.specs.Run.{client, end_of_side}
 use Rattle.nr_reduce.specs.RunLaws.{server_by, known_stream, ends_response, IsReceivedCall}
 use Rattle.nr_reduce.specs.Undone.{ChunkHolds, lists_by}
 use Rattle.nr_reduce.proofs.Conveyed.{Known, known-from, each-found}
 use Rattle.nr_reduce.proofs.Laid.{added_up}
-use Rattle.nr_laws.specs.EndCauses.{KeepLaws, IsCallReason, IsCallEnd}
+use Rattle.nr_laws.specs.EndCauses.{KeepLaws, IsCallEnd}
 use Rattle.nr_laws.specs.LinkInvariants.{IsUnused}
 use Rattle.nr_laws.specs.MatchedSoFar.{MatchedSoFar}
 use Rattle.nr_laws.specs.Payloads.{form_conveyed}
