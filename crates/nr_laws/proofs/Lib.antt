@@ -127,3 +127,4 @@ pub mod ReadPayloads
 pub mod ExecutedReads
 pub mod WholeCalls
 pub mod RepliedPlans
+pub mod OfferedAccesses

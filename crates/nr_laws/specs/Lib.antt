@@ -13,3 +13,4 @@ pub mod EndCauses
 pub mod Payloads
 pub mod HandedOver
 pub mod PlainReplies
+pub mod Stays
