@@ -128,3 +128,5 @@ pub mod ExecutedReads
 pub mod WholeCalls
 pub mod RepliedPlans
 pub mod OfferedAccesses
+pub mod OfferedPlans
+pub mod AccessesAtClient

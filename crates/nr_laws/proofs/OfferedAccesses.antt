@@ -56,6 +56,10 @@ MessageOffered regions (SendFrame message) = (h : Header) → header_of message 
 MessageOffered regions (RequestFrame sink at size stag to) = Unit {0}
 MessageOffered regions (TaggedFrame last opcode stag to payload) = Unit {0}
 
+-- and of an outstanding call
+abbrev pub CallAsked : LinkParameters → List Region → OutstandingCall → Type 0
+CallAsked opened regions o = MessageOffered regions (call_frame opened o)
+
 -- a read is of a pending call, which offers it
 abbrev pub ReadOffered : List Region → List PendingCall → PendingRead → Type 0
 ReadOffered regions [] r = ⊥
@@ -88,7 +92,7 @@ pub record AccessesAgree (opened : LinkParameters) (k : ClientState) (s : Server
   pub early : AllByRecursion (IsEarly place) k.regions
   pub lives : AllByRecursion (IsLive (message_xids d)) k.regions
   pub up_said : AllByRecursion (MessageOffered k.regions) all_up
-  pub unsaid : k.has_hello ≡ false → AllByRecursion (λ (o : OutstandingCall). MessageOffered k.regions (call_frame opened o)) k.outstanding
+  pub asked : AllByRecursion (CallAsked opened k.regions) k.outstanding
   pub calls : AllByRecursion (CallOffered k.regions) s.calls
   pub waiting : AllByRecursion (ReadOffered k.regions s.calls) (drop open_reads_max s.reads)
   pub down_said : AreAccesses k.regions [] all_down
