@@ -130,3 +130,4 @@ pub mod RepliedPlans
 pub mod OfferedAccesses
 pub mod OfferedPlans
 pub mod AccessesAtClient
+pub mod EffectsOffered
