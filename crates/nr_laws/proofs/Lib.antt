@@ -131,3 +131,4 @@ pub mod OfferedAccesses
 pub mod OfferedPlans
 pub mod AccessesAtClient
 pub mod EffectsOffered
+pub mod AccessesAtServer
