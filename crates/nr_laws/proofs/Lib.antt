@@ -132,3 +132,4 @@ pub mod OfferedPlans
 pub mod AccessesAtClient
 pub mod EffectsOffered
 pub mod AccessesAtServer
+pub mod AccessesSteps
