@@ -133,3 +133,4 @@ pub mod AccessesAtClient
 pub mod EffectsOffered
 pub mod AccessesAtServer
 pub mod AccessesSteps
+pub mod AllowedAccesses
