@@ -134,3 +134,4 @@ pub mod EffectsOffered
 pub mod AccessesAtServer
 pub mod AccessesSteps
 pub mod AllowedAccesses
+pub mod NotDenied
