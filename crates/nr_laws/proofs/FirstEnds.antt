@@ -144,7 +144,7 @@ server-ends-for-calls opened link run o typed laws up end down =
 
 -- ---- The client
 
-client-last : (opened : LinkParameters) (link : ℕ) (before more : List Mark) (end : End) → (client opened link before).ended ≡ Some end → (client opened link (before ++ more)).ended ≡ Some end
+pub client-last : (opened : LinkParameters) (link : ℕ) (before more : List Mark) (end : End) → (client opened link before).ended ≡ Some end → (client opened link (before ++ more)).ended ≡ Some end
 client-last opened link before [] end e = ap (λ (run : List Mark). (client opened link run).ended) (append-nil before) ∙ e
 client-last opened link before (m ∷ more) end e =
     let r = client opened link before in

@@ -143,3 +143,11 @@ pub mod PendingRuns
 pub mod SuitedCalls
 pub mod CallRefusals
 pub mod OtherReasons
+pub mod OfferedAccesses
+pub mod OfferedPlans
+pub mod AccessesAtClient
+pub mod EffectsOffered
+pub mod AccessesAtServer
+pub mod AccessesSteps
+pub mod AllowedAccesses
+pub mod NotDenied

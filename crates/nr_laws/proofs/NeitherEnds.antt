@@ -29,6 +29,7 @@ use Rattle.nr_laws.proofs.AgreeingRuns.{other-events}
 use Rattle.nr_laws.proofs.FirstEnds.{client-ends-for-replies}
 use Rattle.nr_laws.proofs.LawsBefore.{laws-kept-before}
 use Rattle.nr_laws.proofs.LawsSoFar.{laws-so-far}
+use Rattle.nr_laws.proofs.NotDenied.{client-not-denied}
 use Rattle.nr_laws.proofs.ReadCalls.{server-stays}
 use Rattle.nr_laws.proofs.ReadReplies.{client-reads-replies}
 
@@ -82,18 +83,13 @@ asked-before reply_to adds opened link run more h = record {
 
 -- ---- From mark to mark
 
--- no access to the client's memory is denied
-abbrev pub NotDenied : Type 0
-NotDenied = (opened : LinkParameters) (link : ℕ) (run : List Mark) → IsOpened opened → IsTyped run → KeepLaws opened link run → HasNoRevoke link run → end_of_side opened link Responder run ≡ None
-    → (stag offset : ℕ) (why : Denied) → end_of_side opened link Initiator run ≡ Some (ends.Denied stag offset why) → ⊥
-
-module _ (denied : NotDenied) (reply_to : List Entry → Moment → List ℕ → Option (List ℕ)) (adds : Moment → List ℕ → List ℕ → List Entry) (plain : IsPlain (server_with reply_to adds)) (opened : LinkParameters) (link : ℕ) (opens : IsOpened opened) where
+module _ (reply_to : List Entry → Moment → List ℕ → Option (List ℕ)) (adds : Moment → List ℕ → List ℕ → List Entry) (plain : IsPlain (server_with reply_to adds)) (opened : LinkParameters) (link : ℕ) (opens : IsOpened opened) where
   client-stays : (run : List Mark) → AreAsked reply_to adds opened link run → end_of_side opened link Responder run ≡ None → (end : End) → end_of_side opened link Initiator run ≡ Some end → ⊥
   client-stays run h down end up = by (client-ends-for-replies opened link run opens h.typed h.laws down end up)
     where
       by : IsReplyEnd end ⊎ IsDenied end → ⊥
       by (inl (at, reason, is, own)) = client-reads-replies reply_to adds opened link run opens h.typed (laws-so-far opened link run h.laws) h.words h.plainly plain at reason own (up ∙ ap (λ (x : End). Some x) is)
-      by (inr (stag, offset, why, is)) = denied opened link run opens h.typed h.laws h.kept down stag offset why (up ∙ ap (λ (x : End). Some x) is)
+      by (inr (stag, offset, why, is)) = client-not-denied opened link run opens h.typed h.laws h.kept down stag offset why (up ∙ ap (λ (x : End). Some x) is)
 
   mark-stays : (before : List Mark) (mark : Mark) → AreAsked reply_to adds opened link (before ++ mark ∷ []) → (client opened link before).ended ≡ None → (server opened link before).ended ≡ None
       → ((client opened link (before ++ mark ∷ [])).ended ≡ None) × ((server opened link (before ++ mark ∷ [])).ended ≡ None)
@@ -132,7 +128,7 @@ server-nothing : (opened : LinkParameters) (link : ℕ) → (server opened link 
 unfolding server events
 server-nothing opened link = refl
 
-pub links-stay : NotDenied → MatchedLinksStay
+pub links-stay : MatchedLinksStay
 unfolding end_of_side
-links-stay denied reply_to adds opened link run opens typed words laws kept conveyed plain plainly =
-    run-stays denied reply_to adds plain opened link opens run [] (record { typed = typed; words = words; laws = laws; kept = kept; conveyed = conveyed; plainly = plainly }) (client-nothing opened link) (server-nothing opened link)
+links-stay reply_to adds opened link run opens typed words laws kept conveyed plain plainly =
+    run-stays reply_to adds plain opened link opens run [] (record { typed = typed; words = words; laws = laws; kept = kept; conveyed = conveyed; plainly = plainly }) (client-nothing opened link) (server-nothing opened link)
