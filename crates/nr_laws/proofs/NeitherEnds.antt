@@ -23,7 +23,7 @@ use Rattle.nr_reduce.specs.Run.{client, server, end_of_side}
 use Rattle.nr_reduce.proofs.Steps.{AtEachMark-first, client-one, server-one}
 use Rattle.nr_laws.specs.EndCauses.{KeepLaws, IsReplyEnd, IsDenied}
 use Rattle.nr_laws.specs.PlainReplies.{server_with}
-use Rattle.nr_laws.specs.Stays.{NotRevokedMark, HasNoRevoke, WordsMark, HaveWords, ConveyedMark, AreConveyedOrRefused, MatchedLinksStay}
+use Rattle.nr_laws.specs.Stays.{NotRevokedMark, HasNoRevoke, WordsMark, HaveWords, ConveyedMark, AreConveyedOrRefused, MatchedLinksStay, MatchedCallsComplete}
 use Rattle.nr_laws.specs.Typed.{TypedMark, IsTyped}
 use Rattle.nr_laws.proofs.AgreeingRuns.{other-events}
 use Rattle.nr_laws.proofs.FirstEnds.{client-ends-for-replies}
@@ -32,6 +32,7 @@ use Rattle.nr_laws.proofs.LawsSoFar.{laws-so-far}
 use Rattle.nr_laws.proofs.NotDenied.{client-not-denied}
 use Rattle.nr_laws.proofs.ReadCalls.{server-stays}
 use Rattle.nr_laws.proofs.ReadReplies.{client-reads-replies}
+use Rattle.nr_laws.proofs.SettledLinks.{calls-complete}
 
 -- ---- A mark is an event of one side
 
@@ -132,3 +133,9 @@ pub links-stay : MatchedLinksStay
 unfolding end_of_side
 links-stay reply_to adds opened link run opens typed words laws kept conveyed plain plainly =
     run-stays reply_to adds plain opened link opens run [] (record { typed = typed; words = words; laws = laws; kept = kept; conveyed = conveyed; plainly = plainly }) (client-nothing opened link) (server-nothing opened link)
+
+pub matched-calls-complete : MatchedCallsComplete
+matched-calls-complete reply_to adds opened link run opens typed words full kept conveyed plain plainly nothing_waits =
+    let laws : KeepLaws opened link run = record { client = full.asked.each; server = full.served.each; matched = full.matched; grant = full.grant } in
+    let stays = links-stay reply_to adds opened link run opens typed words laws kept conveyed plain plainly in
+    calls-complete opened link run typed full.asked full.served full.matched (record { client_stays = stays.0; server_stays = stays.1; nothing_waits = nothing_waits })
