@@ -1,9 +1,7 @@
 -- Neither side of a matched link ends: of the first marks by which one has ended, the last is fed to that side alone.
 use Rattle.std.proofs.Common.{◌≡◌, ℕ, eqb, List, [], ◌∷◌, ◌++◌, Option, Some, None, refl, sym, ap, subst, ◌∙◌, append_assoc, append-nil, inl, inr, ◌⊎◌}
-use Rattle.nr_regions.specs.declared.denied.Denied.{Denied}
 use Rattle.nr_wire.specs.declared.hello.Side.TheVariants.{Initiator, Responder}
 use Rattle.nr_link.specs.declared.end.End.{End}
-use Rattle.nr_link.specs.declared.end.End.TheVariants as ends
 use Rattle.nr_reduce.specs.declared.call.Submission.TheVariants as submissions
 use Rattle.nr_reduce.specs.declared.mark.Moment.{Moment}
 use Rattle.nr_reduce.specs.declared.mark.Entry.{Entry}
