@@ -25,12 +25,12 @@ use Rattle.nr_reduce.specs.Server.{server_state_after, with_effect, newly_open_r
 use Rattle.nr_laws.specs.FrameContents.{FrameContent, tagged_frame, tagged_frames, write_frames, answer_frames, request_frame, effect_frames, server_frames}
 use Rattle.nr_laws.specs.FrameContents.FrameContent.{HelloFrame, SendFrame, RequestFrame, TaggedFrame}
 use Rattle.nr_laws.specs.LinkInvariants.{AreWhole}
-use Rattle.nr_laws.proofs.ReadLimits.{each-append, each-kept}
+use Rattle.nr_laws.proofs.ReadLimits.{each-append, each-drop, each-kept}
 use Rattle.nr_laws.proofs.AgreeingEnds.{says-hello, says-frame, after-hello}
 use Rattle.nr_laws.proofs.CallNumbers.{IsNumbered}
 use Rattle.nr_laws.proofs.AnsweredCalls.{message_xids, times, call_xids, xids-append, times-append}
 use Rattle.nr_laws.proofs.AnsweredSteps.{given_to}
-use Rattle.nr_laws.proofs.EffectsOffered.{EffectOffered, each-drop, read-kept}
+use Rattle.nr_laws.proofs.EffectsOffered.{EffectOffered, read-kept}
 use Rattle.nr_laws.proofs.OfferedAccesses.{IsOffered, PartOffered, ListsOffered, CallOffered, ReadOffered, IsAccess, AreAccesses, AccessesAgree, offered-less, accesses-append, accesses-each, accesses-messages}
 
 -- ---- What the server says more
@@ -124,12 +124,9 @@ cuts-offered regions xid stag at size total bytes (suc n) a h le needed within =
   cuts-offered regions xid stag at size total bytes n (a + 1) h le needed (omega (arith, within)),
 )
 
-count-needed : (bytes : List ℕ) → 0 < length bytes → segment_max * segment_count bytes < length bytes + segment_max
-count-needed bytes some = omega arith
-
 write-offered : (regions : List Region) (xid : ℕ) (p : Part) (bytes : List ℕ) → PartOffered regions xid p → 0 < length bytes → length bytes ≤ p.length → AllByRecursion (WriteOffered regions xid) (tagged_frames OPCODE_WRITE p.handle p.offset bytes)
 unfolding tagged_frames
-write-offered regions xid p bytes h some le = cuts-offered regions xid p.handle p.offset p.length (segment_count bytes) bytes (segment_count bytes) 0 h le (count-needed bytes some) (omega arith)
+write-offered regions xid p bytes h some le = cuts-offered regions xid p.handle p.offset p.length (segment_count bytes) bytes (segment_count bytes) 0 h le (omega (arith, some)) (omega arith)
 
 some-bytes : (n m : ℕ) → eqb (min n m) 0 ≡ false → 0 < min n m
 some-bytes n m e = by (min n m) e
