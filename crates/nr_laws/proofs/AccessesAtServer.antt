@@ -1,12 +1,11 @@
 -- What a server accesses stays offered where it receives a frame, executes a call, and writes its queue.
-use Rattle.std.proofs.Common.{◌≡◌, ◌≢◌, ℕ, zero, suc, ◌+◌, ◌-◌, ◌*◌, ◌≤◌, ◌<◌, min, Bool, true, false, cond, not, ◌&&◌, ◌||◌, eqb, List, [], ◌∷◌, ◌++◌, length, map, take, drop, filter, Option, None, Some, Result, Ok, refl, sym, ap, subst, ◌∙◌, arith, ◌⊎◌, inl, inr, eqb-true, length-take, length-drop, append_assoc}
+use Rattle.std.proofs.Common.{◌≡◌, ◌≢◌, ℕ, zero, suc, ◌+◌, ◌*◌, ◌≤◌, ◌<◌, min, Bool, true, false, cond, not, ◌&&◌, ◌||◌, eqb, List, [], ◌∷◌, ◌++◌, length, map, take, drop, filter, Option, None, Some, refl, sym, ap, subst, ◌∙◌, arith, inl, inr, eqb-true, length-take, length-drop, append_assoc}
 use Rattle.std.specs.List.{AllByRecursion, find, list_any, range_with_len}
 use Rattle.std.proofs.lemmas.Bool.{eq-eqb, ne_eqb}
 use Rattle.nr_wire.specs.Constants.{OPCODE_WRITE}
-use Rattle.nr_wire.specs.Segment.{Segment}
 use Rattle.nr_header.specs.declared.header.RdmaSegment.{RdmaSegment as Part}
 use Rattle.nr_header.specs.declared.header.ChunkLists.{ChunkLists}
-use Rattle.nr_regions.specs.declared.right.Right.TheVariants.{Fetch, Fill}
+use Rattle.nr_regions.specs.declared.right.Right.TheVariants.{Fill}
 use Rattle.nr_rpc.specs.Reading.{call_of, target_of}
 use Rattle.nr_link.specs.Frames.{Frame, is_hello}
 use Rattle.nr_link.specs.Limits.{segment_max, open_reads_max}
@@ -22,7 +21,7 @@ use Rattle.nr_reduce.specs.ServerState.{ServerState, PendingCall, PendingRead, R
 use Rattle.nr_reduce.specs.ServerReads.{is_read}
 use Rattle.nr_reduce.specs.ServerFrames.{FrameEffect, frame_effect}
 use Rattle.nr_reduce.specs.Server.{server_state_after, with_effect, newly_open_reads, offer_by, offer_of, answer_of_target}
-use Rattle.nr_laws.specs.FrameContents.{FrameContent, tagged_frame, tagged_frames, write_frames, answer_frames, request_frame, effect_frames, server_frames}
+use Rattle.nr_laws.specs.FrameContents.{FrameContent, tagged_frames, write_frames, answer_frames, request_frame, effect_frames, server_frames}
 use Rattle.nr_laws.specs.FrameContents.FrameContent.{HelloFrame, SendFrame, RequestFrame, TaggedFrame}
 use Rattle.nr_laws.specs.LinkInvariants.{AreWhole}
 use Rattle.nr_laws.proofs.ReadLimits.{each-append, each-drop, each-kept}
