@@ -1,5 +1,5 @@
 -- What a server accesses stays offered where its client receives a frame, accepts a call, and writes its queue.
-use Rattle.std.proofs.Common.{◌≡◌, ℕ, ◌+◌, ◌≤◌, ◌<◌, ◌^◌, Bool, true, false, cond, not, eqb, List, [], ◌∷◌, ◌++◌, length, map, take, drop, filter, Option, None, Some, Result, Ok, Err, refl, sym, ap, subst, ◌∙◌, arith, ◌⊎◌, inl, inr}
+use Rattle.std.proofs.Common.{◌≡◌, ℕ, ◌+◌, ◌≤◌, ◌<◌, Bool, true, false, cond, not, eqb, List, [], ◌∷◌, ◌++◌, map, take, drop, Option, None, Some, Ok, refl, sym, ap, subst, ◌∙◌, arith, inl, inr}
 use Rattle.std.specs.List.{AllByRecursion, range_with_len}
 use Rattle.std.proofs.lemmas.Bool.{eqb-true, eq-eqb}
 use Rattle.nr_xdr.specs.Item.{IsBytes}
@@ -22,7 +22,7 @@ use Rattle.nr_reduce.specs.ClientState.{ClientState, OutstandingCall, call_paylo
 use Rattle.nr_reduce.specs.Client.{client_state_after, outstanding_of, region_of, written_call, with_segment, segment_request}
 use Rattle.nr_reduce.specs.ServerState.{ServerState}
 use Rattle.nr_laws.specs.Typed.{IsTypedForm}
-use Rattle.nr_laws.specs.FrameContents.{FrameContent, total_of, sends_in, requests_in, call_frame, client_frames, response_frames, tagged_frame, tagged_frames, numbered_segment, frame_bytes, Carries}
+use Rattle.nr_laws.specs.FrameContents.{FrameContent, call_frame, client_frames, response_frames, tagged_frame, tagged_frames, Carries}
 use Rattle.nr_laws.specs.FrameContents.FrameContent.{HelloFrame, SendFrame, RequestFrame, TaggedFrame}
 use Rattle.nr_laws.proofs.ReadLimits.{each-append, each-kept}
 use Rattle.nr_laws.proofs.TotalsAtServer.{segment-is}
@@ -31,7 +31,7 @@ use Rattle.nr_laws.proofs.ClientFrame.{says-hello, after-hello}
 use Rattle.nr_laws.proofs.OwnEvents.{planned}
 use Rattle.nr_laws.proofs.AnsweredCalls.{message_xids, times, xids-append, times-append}
 use Rattle.nr_laws.proofs.OfferedPlans.{planned-offered}
-use Rattle.nr_laws.proofs.OfferedAccesses.{IsOffered, CallOffered, MessageOffered, CallAsked, ReadOffered, IsLive, IsEarly, AccessesAgree, OffersMore, offers-same, offers-left, offers-right, offers-closed, each-all, lists-more, message-more, read-more, accesses-more}
+use Rattle.nr_laws.proofs.OfferedAccesses.{CallOffered, MessageOffered, CallAsked, ReadOffered, IsLive, IsEarly, AccessesAgree, OffersMore, offers-same, offers-left, offers-right, offers-closed, each-all, lists-more, message-more, read-more, accesses-more}
 
 -- ---- More regions, and more that is received
 

@@ -1,12 +1,11 @@
 -- What a server accesses stays offered where it receives a frame, executes a call, and writes its queue.
-use Rattle.std.proofs.Common.{◌≡◌, ◌≢◌, ℕ, zero, suc, ◌+◌, ◌-◌, ◌*◌, ◌≤◌, ◌<◌, min, Bool, true, false, cond, not, ◌&&◌, ◌||◌, eqb, List, [], ◌∷◌, ◌++◌, length, map, take, drop, filter, Option, None, Some, Result, Ok, refl, sym, ap, subst, ◌∙◌, arith, ◌⊎◌, inl, inr, eqb-true, length-take, length-drop, append_assoc}
+use Rattle.std.proofs.Common.{◌≡◌, ◌≢◌, ℕ, zero, suc, ◌+◌, ◌*◌, ◌≤◌, ◌<◌, min, Bool, true, false, cond, not, ◌&&◌, ◌||◌, eqb, List, [], ◌∷◌, ◌++◌, length, map, take, drop, filter, Option, None, Some, refl, sym, ap, subst, ◌∙◌, arith, inl, inr, eqb-true, length-take, length-drop, append_assoc}
 use Rattle.std.specs.List.{AllByRecursion, find, list_any, range_with_len}
 use Rattle.std.proofs.lemmas.Bool.{eq-eqb, ne_eqb}
 use Rattle.nr_wire.specs.Constants.{OPCODE_WRITE}
-use Rattle.nr_wire.specs.Segment.{Segment}
 use Rattle.nr_header.specs.declared.header.RdmaSegment.{RdmaSegment as Part}
 use Rattle.nr_header.specs.declared.header.ChunkLists.{ChunkLists}
-use Rattle.nr_regions.specs.declared.right.Right.TheVariants.{Fetch, Fill}
+use Rattle.nr_regions.specs.declared.right.Right.TheVariants.{Fill}
 use Rattle.nr_rpc.specs.Reading.{call_of, target_of}
 use Rattle.nr_link.specs.Frames.{Frame, is_hello}
 use Rattle.nr_link.specs.Limits.{segment_max, open_reads_max}
@@ -22,15 +21,15 @@ use Rattle.nr_reduce.specs.ServerState.{ServerState, PendingCall, PendingRead, R
 use Rattle.nr_reduce.specs.ServerReads.{is_read}
 use Rattle.nr_reduce.specs.ServerFrames.{FrameEffect, frame_effect}
 use Rattle.nr_reduce.specs.Server.{server_state_after, with_effect, newly_open_reads, offer_by, offer_of, answer_of_target}
-use Rattle.nr_laws.specs.FrameContents.{FrameContent, tagged_frame, tagged_frames, write_frames, answer_frames, request_frame, effect_frames, server_frames}
+use Rattle.nr_laws.specs.FrameContents.{FrameContent, tagged_frames, write_frames, answer_frames, request_frame, effect_frames, server_frames}
 use Rattle.nr_laws.specs.FrameContents.FrameContent.{HelloFrame, SendFrame, RequestFrame, TaggedFrame}
 use Rattle.nr_laws.specs.LinkInvariants.{AreWhole}
-use Rattle.nr_laws.proofs.ReadLimits.{each-append, each-kept}
+use Rattle.nr_laws.proofs.ReadLimits.{each-append, each-drop, each-kept}
 use Rattle.nr_laws.proofs.AgreeingEnds.{says-hello, says-frame, after-hello}
 use Rattle.nr_laws.proofs.CallNumbers.{IsNumbered}
 use Rattle.nr_laws.proofs.AnsweredCalls.{message_xids, times, call_xids, xids-append, times-append}
 use Rattle.nr_laws.proofs.AnsweredSteps.{given_to}
-use Rattle.nr_laws.proofs.EffectsOffered.{EffectOffered, each-drop, read-kept}
+use Rattle.nr_laws.proofs.EffectsOffered.{EffectOffered, read-kept}
 use Rattle.nr_laws.proofs.OfferedAccesses.{IsOffered, PartOffered, ListsOffered, CallOffered, ReadOffered, IsAccess, AreAccesses, AccessesAgree, offered-less, accesses-append, accesses-each, accesses-messages}
 
 -- ---- What the server says more
@@ -124,12 +123,9 @@ cuts-offered regions xid stag at size total bytes (suc n) a h le needed within =
   cuts-offered regions xid stag at size total bytes n (a + 1) h le needed (omega (arith, within)),
 )
 
-count-needed : (bytes : List ℕ) → 0 < length bytes → segment_max * segment_count bytes < length bytes + segment_max
-count-needed bytes some = omega arith
-
 write-offered : (regions : List Region) (xid : ℕ) (p : Part) (bytes : List ℕ) → PartOffered regions xid p → 0 < length bytes → length bytes ≤ p.length → AllByRecursion (WriteOffered regions xid) (tagged_frames OPCODE_WRITE p.handle p.offset bytes)
 unfolding tagged_frames
-write-offered regions xid p bytes h some le = cuts-offered regions xid p.handle p.offset p.length (segment_count bytes) bytes (segment_count bytes) 0 h le (count-needed bytes some) (omega arith)
+write-offered regions xid p bytes h some le = cuts-offered regions xid p.handle p.offset p.length (segment_count bytes) bytes (segment_count bytes) 0 h le (omega (arith, some)) (omega arith)
 
 some-bytes : (n m : ℕ) → eqb (min n m) 0 ≡ false → 0 < min n m
 some-bytes n m e = by (min n m) e

@@ -44,9 +44,9 @@ use Rattle.nr_laws.specs.Stays.{NotRevokedMark}
 use Rattle.nr_laws.proofs.OfferedAccesses.{AccessesAgree}
 use Rattle.nr_laws.proofs.AccessesAtClient.{accessed-submit, accessed-written_up}
 use Rattle.nr_laws.proofs.AccessesAtServer.{accessed-execute, accessed-written_down}
-use Rattle.nr_laws.proofs.AccessesSteps.{pending-unanswered}
+use Rattle.nr_laws.proofs.AccessSteps.{pending-unanswered}
 use Rattle.nr_laws.proofs.GuardsAtEvents.{guards-submit, guards-revoke, guards-written_up, guards-execute, guards-written_down}
-use Rattle.nr_laws.proofs.AgreeingRuns.{RunAgrees, MarkAgrees, place_of, guards-up, guards-down, same-up, same-down, accessed-up, accessed-down, own-bytes, other-bytes, own-events, other-events}
+use Rattle.nr_laws.proofs.AgreeingRuns.{RunAgrees, MarkAgrees, place_of, guards-up, guards-down, same-up, same-down, accesses-up, accesses-down, own-bytes, other-bytes, own-events, other-events}
 
 pub record OneEvent {S : Type 0} (rules : Rules S) (s : S) (event : Event) : Type 0 where
   pub state : end_state_after rules (live s) (event ∷ []) ≡ live (rules.state_after s event)
@@ -109,7 +109,7 @@ goes-client opened link run mark j event said w other linked output own theirs f
       bytes_up = subst IsBytes (sym (none-more (bytes_received link Responder run) (fed_at link Responder mark) fed_r)) j.bytes_up;
       bytes_down = subst IsBytes (sym (none-more (bytes_received link Initiator run) (fed_at link Initiator mark) fed_i)) j.bytes_down;
       guarded = λ o within g. guards-up opened (client_state_after opened j.k event) j.s j.u j.d (j.all_up ++ said) j.all_down w (place_of j.u) (guarded o within g);
-      accessed = λ o typed kept g h. accessed-up opened (client_state_after opened j.k event) j.s j.d (j.all_up ++ said) j.all_down (length (bytes_received link Initiator run)) (accessed typed kept h);
+      accessed = λ o typed kept g h. accesses-up opened (client_state_after opened j.k event) j.s j.d (j.all_up ++ said) j.all_down (length (bytes_received link Initiator run)) (accessed typed kept h);
     }
 
 goes-server : (opened : LinkParameters) (link : ℕ) (run : List Mark) (mark : Mark) (j : RunAgrees opened link run) (event : Event) (said : List FrameContent) (w : Transit) → ((f : Frame) → event ≢ FrameReceived f)
@@ -142,7 +142,7 @@ goes-server opened link run mark j event said w other linked output theirs own f
       bytes_up = subst IsBytes (sym (none-more (bytes_received link Responder run) (fed_at link Responder mark) fed_r)) j.bytes_up;
       bytes_down = subst IsBytes (sym (none-more (bytes_received link Initiator run) (fed_at link Initiator mark) fed_i)) j.bytes_down;
       guarded = λ o within g. guards-down opened j.k (server_state_after opened j.s event) j.u j.d j.all_up (j.all_down ++ said) w (place_of j.u) (guarded o g);
-      accessed = λ o typed kept g h. accessed-down opened j.k (server_state_after opened j.s event) j.d j.all_up (j.all_down ++ said) (length (bytes_received link Initiator run)) (accessed g h);
+      accessed = λ o typed kept g h. accesses-down opened j.k (server_state_after opened j.s event) j.d j.all_up (j.all_down ++ said) (length (bytes_received link Initiator run)) (accessed g h);
     }
 
 -- ---- Each
@@ -184,7 +184,7 @@ goes-wrote_up opened link run bytes j all =
     guards-down opened (client_state_after opened j.k QueueWritten) j.s j.u j.d j.all_up j.all_down (record { queued_up = []; up = j.w.up ++ j.w.queued_up; queued_down = j.w.queued_down; down = j.w.down }) (place_of j.u)
     (guards-written_up opened j.k j.s j.u j.d j.all_up j.all_down j.w (place_of j.u) j.linked g))
     (λ typed kept agree.
-    accessed-down opened (client_state_after opened j.k QueueWritten) j.s j.d j.all_up j.all_down (length (bytes_received link Initiator run))
+    accesses-down opened (client_state_after opened j.k QueueWritten) j.s j.d j.all_up j.all_down (length (bytes_received link Initiator run))
     (accessed-written_up opened j.k j.s j.d j.all_up j.all_down (length (bytes_received link Initiator run)) agree))
 
 pub goes-revoke : (opened : LinkParameters) (link : ℕ) (run : List Mark) (xid : ℕ) (bytes : List ℕ) (j : RunAgrees opened link run) → MarkAgrees opened link run (marks.Revoke link xid bytes) j
@@ -213,7 +213,7 @@ goes-wrote_down opened link run bytes j all =
     guards-up opened j.k (server_state_after opened j.s QueueWritten) j.u j.d j.all_up j.all_down (record { queued_up = j.w.queued_up; up = j.w.up; queued_down = []; down = j.w.down ++ j.w.queued_down }) (place_of j.u)
     (guards-written_down opened j.k j.s j.u j.d j.all_up j.all_down j.w (place_of j.u) g))
     (λ g agree.
-    accessed-up opened j.k (server_state_after opened j.s QueueWritten) j.d j.all_up j.all_down (length (bytes_received link Initiator run))
+    accesses-up opened j.k (server_state_after opened j.s QueueWritten) j.d j.all_up j.all_down (length (bytes_received link Initiator run))
     (accessed-written_down opened j.k j.s j.d j.all_up j.all_down (length (bytes_received link Initiator run)) agree))
 
 first_is : (ready : List ReadyCall) (r : ReadyCall) → slice_get ready 0 ≡ Some r → (rest : List ReadyCall) × (ready ≡ r ∷ rest)

@@ -154,11 +154,11 @@ guards-up opened k s u d all_up all_down w place g = subst (λ (ps : List FrameC
 pub guards-down : (opened : LinkParameters) (k : ClientState) (s : ServerState) (u d all_up all_down : List FrameContent) (w : Transit) (place : ℕ) → Guards opened k s u d all_up all_down w place → Guards opened k s u d (all_up ++ []) all_down w place
 guards-down opened k s u d all_up all_down w place g = subst (λ (ps : List FrameContent). Guards opened k s u d ps all_down w place) (sym (append-nil all_up)) g
 
-pub accessed-up : (opened : LinkParameters) (k : ClientState) (s : ServerState) (d all_up all_down : List FrameContent) (place : ℕ) → AccessesAgree opened k s d all_up all_down place → AccessesAgree opened k s d all_up (all_down ++ []) place
-accessed-up opened k s d all_up all_down place h = subst (λ (ps : List FrameContent). AccessesAgree opened k s d all_up ps place) (sym (append-nil all_down)) h
+pub accesses-up : (opened : LinkParameters) (k : ClientState) (s : ServerState) (d all_up all_down : List FrameContent) (place : ℕ) → AccessesAgree opened k s d all_up all_down place → AccessesAgree opened k s d all_up (all_down ++ []) place
+accesses-up opened k s d all_up all_down place h = subst (λ (ps : List FrameContent). AccessesAgree opened k s d all_up ps place) (sym (append-nil all_down)) h
 
-pub accessed-down : (opened : LinkParameters) (k : ClientState) (s : ServerState) (d all_up all_down : List FrameContent) (place : ℕ) → AccessesAgree opened k s d all_up all_down place → AccessesAgree opened k s d (all_up ++ []) all_down place
-accessed-down opened k s d all_up all_down place h = subst (λ (ps : List FrameContent). AccessesAgree opened k s d ps all_down place) (sym (append-nil all_up)) h
+pub accesses-down : (opened : LinkParameters) (k : ClientState) (s : ServerState) (d all_up all_down : List FrameContent) (place : ℕ) → AccessesAgree opened k s d all_up all_down place → AccessesAgree opened k s d (all_up ++ []) all_down place
+accesses-down opened k s d all_up all_down place h = subst (λ (ps : List FrameContent). AccessesAgree opened k s d ps all_down place) (sym (append-nil all_up)) h
 
 -- a mark that is no event of this link, and brings no bytes
 pub goes-none : (opened : LinkParameters) (link : ℕ) (run : List Mark) (mark : Mark) (j : RunAgrees opened link run) → events_at link Initiator run mark ≡ [] → events_at link Responder run mark ≡ []
@@ -184,7 +184,7 @@ goes-none opened link run mark j own theirs fed_i fed_r wrote_i wrote_r = record
   bytes_down = subst IsBytes (sym (ap (λ (xs : List ℕ). bytes_received link Initiator run ++ xs) fed_i ∙ append-nil (bytes_received link Initiator run))) j.bytes_down;
   guarded = λ o within g. guards-all opened j.k j.s j.u j.d j.all_up j.all_down j.w (place_of j.u) g;
   accessed = λ o typed kept g h.
-      accessed-down opened j.k j.s j.d j.all_up (j.all_down ++ []) (length (bytes_received link Initiator run)) (accessed-up opened j.k j.s j.d j.all_up j.all_down (length (bytes_received link Initiator run)) h);
+      accesses-down opened j.k j.s j.d j.all_up (j.all_down ++ []) (length (bytes_received link Initiator run)) (accesses-up opened j.k j.s j.d j.all_up j.all_down (length (bytes_received link Initiator run)) h);
 }
 
 -- ---- A Fed
@@ -311,7 +311,7 @@ goes-fed_up opened link run bytes j prefix typed unended =
           (guards-down opened j.k m.after (j.u ++ a.new) j.d j.all_up (j.all_down ++ m.said) (taken_up j.w a.left m.said) (place_of j.u + length (concat (frames_at Initiator n r a.new))) (m.guarded o g));
       accessed = λ o typed_mark kept g h.
           let reached = length (bytes_received link Initiator run) in
-          accessed-down opened j.k m.after j.d j.all_up (j.all_down ++ m.said) reached (m.accessed o g reached h);
+          accesses-down opened j.k m.after j.d j.all_up (j.all_down ++ m.said) reached (m.accessed o g reached h);
       bytes_down = subst IsBytes (sym (ap (λ (xs : List ℕ). bytes_received link Initiator run ++ xs) down ∙ append-nil (bytes_received link Initiator run))) j.bytes_down;
     }
 
@@ -359,5 +359,5 @@ goes-fed_down opened link run bytes j prefix typed unended =
           guards-up opened m.after j.s j.u (j.d ++ a.new) (j.all_up ++ m.said) j.all_down (down_one j.w m.said a.left) (place_of j.u) (m.guarded o (place_of j.u) g);
       accessed = λ o typed_mark kept g h.
           let reached = length (bytes_received link Initiator run) in
-          accessed-up opened m.after j.s (j.d ++ a.new) (j.all_up ++ m.said) j.all_down reached (m.accessed reached h);
+          accesses-up opened m.after j.s (j.d ++ a.new) (j.all_up ++ m.said) j.all_down reached (m.accessed reached h);
     }

@@ -1,5 +1,5 @@
 -- A client receives some frames one after the other.
-use Rattle.std.proofs.Common.{◌≡◌, ℕ, ◌+◌, List, [], ◌∷◌, ◌++◌, length, Some, None, refl, sym, ap, subst, ◌∙◌, arith, append_assoc, append-nil, ◌⊎◌}
+use Rattle.std.proofs.Common.{◌≡◌, ℕ, ◌+◌, List, [], ◌∷◌, ◌++◌, length, Some, None, refl, sym, ap, subst, ◌∙◌, arith, append_assoc, append-nil, ◌⊎◌, inl, inr}
 use Rattle.std.specs.List.{concat}
 use Rattle.nr_xdr.specs.Item.{IsBytes}
 use Rattle.nr_xdr.proofs.Chains.{IsBytes-left, IsBytes-right}
@@ -8,6 +8,7 @@ use Rattle.nr_reduce.specs.declared.mark.LinkParameters.{LinkParameters}
 use Rattle.nr_reduce.specs.Opening.{IsOpened}
 use Rattle.nr_reduce.specs.Events.{Event}
 use Rattle.nr_link.specs.declared.end.End.{End}
+use Rattle.nr_link.specs.Frames.{Frame}
 use Rattle.nr_reduce.specs.Events.Event.{FrameReceived}
 use Rattle.nr_reduce.specs.EndRules.{EndState, live, end_state_after, output_for_all}
 use Rattle.nr_reduce.specs.ClientState.{ClientState}
@@ -20,12 +21,12 @@ use Rattle.nr_laws.proofs.StreamFrames.{frames_at, spelled-append}
 use Rattle.nr_laws.proofs.TotalsAtClient.{down_one}
 use Rattle.nr_laws.specs.EndCauses.{IsReplyEnd, IsDenied}
 use Rattle.nr_laws.proofs.Guards.{Guards}
-use Rattle.nr_laws.proofs.ClientStep.{step-down}
+use Rattle.nr_laws.proofs.ClientStep.{LacksAccess, step-down}
 use Rattle.nr_laws.proofs.AgreeingEnds.{EndsAgree, IsPlace, frame_of}
 use Rattle.nr_laws.proofs.ServerFrames.{lives, place-next, events_of, AreSome, ends-first}
 use Rattle.nr_laws.proofs.ClientFrame.{client-took}
 use Rattle.nr_laws.proofs.OfferedAccesses.{AccessesAgree}
-use Rattle.nr_laws.proofs.AccessesSteps.{accessed-down}
+use Rattle.nr_laws.proofs.AccessSteps.{accessed-down}
 
 pub record ClientRan (opened : LinkParameters) (k : ClientState) (s : ServerState) (u d all_up all_down : List FrameContent) (w : Transit) (new left : List FrameContent) (es : List Event) : Type 0 where
   pub after : ClientState
@@ -109,7 +110,7 @@ client-ends opened s u all_down left o end up (p ∷ new) k d all_up w n r place
     let event = FrameReceived (frame_of frame place) in
     let es = events_of (place + length frame) later in
     let step = step-down opened k s u d all_up all_down w up p (new ++ left) n r place o l g first sends requests at in
-    (ends-first rules k event es end (IsReplyEnd end ⊎ IsDenied end) e).first (λ now. step.only end now)
+    (ends-first rules k event es end (IsReplyEnd end ⊎ IsDenied end) e).first (λ now. by (step.only end now))
     (λ stays rest.
     let t = client-took opened k s u d all_up all_down w p (new ++ left) n r place l first sends requests at (IsBytes-left frame (concat later) bytes) stays in
     let after = client_state_after opened k event in
@@ -117,3 +118,7 @@ client-ends opened s u all_down left o end up (p ∷ new) k d all_up w n r place
     client-ends opened s u all_down left o end up new after (d ++ p ∷ []) (all_up ++ t.said) (down_one w t.said (new ++ left)) (n + sends_in p) (r + requests_in p) (place + length frame) t.linked one refl
     (omega (arith, sends, total-append sends_in d (p ∷ []))) (omega (arith, requests, total-append requests_in d (p ∷ []))) (place-next d p frame place at some.0)
     (IsBytes-right frame (concat later) bytes) some.1 rest)
+  where
+    by : {f : Frame} → IsReplyEnd end ⊎ LacksAccess k f end → IsReplyEnd end ⊎ IsDenied end
+    by (inl h) = inl h
+    by (inr h) = inr h.denied

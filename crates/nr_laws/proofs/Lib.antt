@@ -148,6 +148,6 @@ pub mod OfferedPlans
 pub mod AccessesAtClient
 pub mod EffectsOffered
 pub mod AccessesAtServer
-pub mod AccessesSteps
+pub mod AccessSteps
 pub mod AllowedAccesses
 pub mod NotDenied

@@ -1,7 +1,6 @@
 -- The memory of a matched link's client, none of which is revoked, denies no access of its server.
-use Rattle.std.proofs.Common.{◌≡◌, ◌≢◌, ℕ, ◌+◌, ◌≤◌, ◌<◌, Bool, true, false, ◌&&◌, eqb, List, [], ◌∷◌, ◌++◌, length, map, Option, Some, None, Ok, refl, sym, ap, subst, ◌∙◌, arith, append_assoc, append-nil, length-append}
-use Rattle.std.proofs.lemmas.Bool.{eqb-true}
-use Rattle.std.specs.List.{AllByRecursion, concat}
+use Rattle.std.proofs.Common.{◌≡◌, ℕ, ◌+◌, ◌≤◌, ◌<◌, true, false, eqb, List, [], ◌∷◌, ◌++◌, length, map, Option, Some, None, Ok, refl, sym, ap, subst, ◌∙◌, arith, append_assoc, append-nil, length-append, ◌⊎◌, inl, inr}
+use Rattle.std.specs.List.{concat}
 use Rattle.nr_xdr.specs.Item.{IsBytes}
 use Rattle.nr_xdr.proofs.Chains.{IsBytes-left, IsBytes-right}
 use Rattle.nr_wire.specs.Constants.{OPCODE_WRITE, OPCODE_READ_REQUEST, OPCODE_SEND, QUEUE_SEND, QUEUE_READ_REQUEST}
@@ -14,23 +13,21 @@ use Rattle.nr_regions.specs.Access.{grant_denial}
 use Rattle.nr_link.specs.declared.end.End.{End}
 use Rattle.nr_link.specs.declared.end.End.TheVariants as ends
 use Rattle.nr_link.specs.Output.{msn_word}
-use Rattle.nr_link.specs.Frames.{Frame, frames_from, frames_completed}
+use Rattle.nr_link.specs.Frames.{Frame, is_hello, frames_from, frames_completed}
 use Rattle.nr_link.specs.ReceiveState.{ReadRequest}
 use Rattle.nr_link.specs.Ending.{frame_segment, missing_access}
-use Rattle.nr_reduce.specs.declared.call.Submission.TheVariants as submissions
 use Rattle.nr_reduce.specs.declared.mark.Mark.{Mark}
-use Rattle.nr_reduce.specs.declared.mark.Mark.TheVariants as marks
 use Rattle.nr_reduce.specs.declared.mark.LinkParameters.{LinkParameters}
 use Rattle.nr_reduce.specs.Opening.{IsOpened}
 use Rattle.nr_reduce.specs.Credits.{WithinGrant}
 use Rattle.nr_reduce.specs.History.{bytes_sent, bytes_received, fed_at}
-use Rattle.nr_reduce.specs.Events.{Event, if_own, events_at}
-use Rattle.nr_reduce.specs.Events.Event.{FrameReceived, CallSubmitted, MemoryRevoked, QueueWritten}
+use Rattle.nr_reduce.specs.Events.{Event, events_at}
+use Rattle.nr_reduce.specs.Events.Event.{FrameReceived}
 use Rattle.nr_reduce.specs.EndRules.{EndState, live, end_state_after}
-use Rattle.nr_reduce.specs.OfferedRegions.{Region, region_grants}
+use Rattle.nr_reduce.specs.OfferedRegions.{region_grants}
 use Rattle.nr_reduce.specs.ClientState.{ClientState}
 use Rattle.nr_reduce.specs.ServerState.{ServerState}
-use Rattle.nr_reduce.specs.Client.{client_rules, client_end, client_state_after, initial_client}
+use Rattle.nr_reduce.specs.Client.{client_rules, client_state_after, initial_client}
 use Rattle.nr_reduce.specs.Run.{client, server, end_of_side}
 use Rattle.nr_reduce.specs.AtEachMark.{AtEachMark}
 use Rattle.nr_reduce.specs.Matched.{MatchedMark, IsPrefixOf}
@@ -40,7 +37,7 @@ use Rattle.nr_reduce.proofs.Steps.{client-one}
 use Rattle.nr_reduce.proofs.OwnStags.{AreNumbered, client-numbers}
 use Rattle.nr_laws.specs.Typed.{TypedMark, IsTyped}
 use Rattle.nr_laws.specs.Stays.{NotRevokedMark, HasNoRevoke}
-use Rattle.nr_laws.specs.EndCauses.{KeepLaws}
+use Rattle.nr_laws.specs.EndCauses.{KeepLaws, IsReplyEnd}
 use Rattle.nr_laws.specs.FrameContents.{FrameContent, numbered_segment, frame_bytes, total_of, sends_in, requests_in, Carries}
 use Rattle.nr_laws.specs.FrameContents.FrameContent.{HelloFrame, SendFrame, RequestFrame, TaggedFrame}
 use Rattle.nr_laws.specs.LinkInvariants.{Transit}
@@ -55,56 +52,62 @@ use Rattle.nr_laws.proofs.RequestFields.{request-again}
 use Rattle.nr_laws.proofs.AgreeingEnds.{EndsAgree, IsPlace, frame_of}
 use Rattle.nr_laws.proofs.Guards.{Guards}
 use Rattle.nr_laws.proofs.GuardsAtClient.{front-down, asked-of}
-use Rattle.nr_laws.proofs.ClientStep.{step-down}
+use Rattle.nr_laws.proofs.ClientStep.{LacksAccess, step-down}
 use Rattle.nr_laws.proofs.ClientFrame.{client-took}
 use Rattle.nr_laws.proofs.ServerFrames.{AreSome, events_of, place-next, ends-first}
-use Rattle.nr_laws.proofs.AgreeingRuns.{RunAgrees, MarkAgrees, place_of, goes-on, arrives, other-events}
-use Rattle.nr_laws.proofs.AgreeingMarks.{client-event}
-use Rattle.nr_laws.proofs.EachRun.{starts, goes-mark, no-events, client-unended, server-unended}
-use Rattle.nr_laws.proofs.FirstEnds.{Guarded, client-last}
+use Rattle.nr_laws.proofs.AgreeingRuns.{MarkAgrees, place_of, goes-on, arrives}
+use Rattle.nr_laws.proofs.EachRun.{starts, goes-mark, server-unended}
+use Rattle.nr_laws.proofs.FirstEnds.{Guarded, fed-ends, client-last}
 use Rattle.nr_laws.proofs.AnsweredCalls.{message_xids}
-use Rattle.nr_laws.proofs.OfferedAccesses.{IsAccess, IsEarly, AccessesAgree, access-at, each-all}
-use Rattle.nr_laws.proofs.AccessesSteps.{front-piece_down, accessed-down}
-use Rattle.nr_laws.proofs.AllowedAccesses.{offered-granted, allowed-end, hello-end}
+use Rattle.nr_laws.proofs.OfferedAccesses.{IsAccess, AreAccesses, IsEarly, AccessesAgree, access-at, each-all}
+use Rattle.nr_laws.proofs.AccessSteps.{front-piece_down, accessed-down}
+use Rattle.nr_laws.proofs.AllowedAccesses.{offered-granted}
 
 -- ---- One frame
 
 numbered-regions : (opened : LinkParameters) (k : ClientState) (es : List Event) → end_state_after (client_rules opened) (initial_client opened) es ≡ live k → AreNumbered opened.first_stag k.regions
 numbered-regions opened k es is = subst (λ (r : EndState ClientState). AreNumbered opened.first_stag r.state.regions) is (client-numbers opened es).regions
 
+-- the access of a frame is allowed
+abbrev LacksNothing : ClientState → Frame → Type 0
+LacksNothing k f = (segment : Segment) → frame_segment f ≡ Ok segment → missing_access (region_grants f.end k.regions) f segment ≡ None
+
+same-segment : (k : ClientState) (f : Frame) (segment : Segment) → frame_segment f ≡ Ok segment → missing_access (region_grants f.end k.regions) f segment ≡ None → LacksNothing k f
+same-segment k f segment is none other own = (let same : Ok segment ≡ Ok other = sym is ∙ own in subst (λ (x : Segment). missing_access (region_grants f.end k.regions) f x ≡ None) (let e : segment ≡ other = cc in e) none)
+
 piece-allowed : (opened : LinkParameters) (k : ClientState) (s : ServerState) (u d all_up all_down : List FrameContent) (w : Transit) (up : ℕ) (p : FrameContent) (rest : List FrameContent) (at : ℕ) (f : Frame) → EndsAgree opened k s u d all_up all_down w → Guards opened k s u d all_up all_down w up → w.down ≡ p ∷ rest
-    → Carries k.received.sends k.received.requests f p → at < f.end → AccessesAgree opened k s d all_up all_down at → IsAccess k.regions (message_xids d) p → (stag offset : ℕ) (why : Denied) → client_end k (FrameReceived f) ≡ Some (ends.Denied stag offset why) → ⊥
-piece-allowed opened k s u d all_up all_down w up HelloFrame rest at f l g first piece lt h own stag offset why e = absurd (let wrong = piece.is_segment in cc)
-piece-allowed opened k s u d all_up all_down w up (SendFrame message) rest at f l g first piece lt h own stag offset why e =
+    → Carries k.received.sends k.received.requests f p → at < f.end → AccessesAgree opened k s d all_up all_down at → IsAccess k.regions (message_xids d) p → LacksNothing k f
+piece-allowed opened k s u d all_up all_down w up HelloFrame rest at f l g first piece lt h own = absurd (let wrong = piece.is_segment in cc)
+piece-allowed opened k s u d all_up all_down w up (SendFrame message) rest at f l g first piece lt h own =
     let segment : Segment = Untagged true OPCODE_SEND 0 QUEUE_SEND (msn_word (k.received.sends + 1)) 0 message in
-    allowed-end k f segment stag offset why piece.behind (segment-is k.received.sends k.received.requests f (SendFrame message) segment piece refl) refl e
-piece-allowed opened k s u d all_up all_down w up (RequestFrame sink to_sink size from to) rest at f l g first piece lt h own stag offset why e =
-    let payload = request_payload sink to_sink size from to in
-    let segment : Segment = Untagged true OPCODE_READ_REQUEST 0 QUEUE_READ_REQUEST (msn_word (k.received.requests + 1)) 0 payload in
-    let grants = region_grants f.end k.regions in
-    let a = asked-of s w up sink to_sink size from to rest g.server.reads first g.server.sinks g.server.regions.stags g.within in
-    let again = request-again sink to_sink size from to a.sink_word a.at_word a.size_word a.stag_word a.to_word in
-    let granted = offered-granted at f.end opened.first_stag own.0 from Fetch to size (message_xids d) k.regions (numbered-regions opened k g.reached.0 g.reached.1) own.1 h.lives h.early lt own.2 in
-    let none : missing_access grants f segment ≡ None = ap (λ (q : ReadRequest). grant_denial grants (record { right = Fetch; stag = q.stag; to = q.to; len = q.size }) f.end) again ∙ granted in
-    allowed-end k f segment stag offset why piece.behind (segment-is k.received.sends k.received.requests f (RequestFrame sink to_sink size from to) segment piece refl) none e
-piece-allowed opened k s u d all_up all_down w up (TaggedFrame last opcode to_stag to payload) rest at f l g first piece lt h own stag offset why e =
-    let write : opcode ≡ OPCODE_WRITE = front-down opened k s u d all_up all_down w up (TaggedFrame last opcode to_stag to payload) rest l g first in
-    let segment : Segment = Tagged last OPCODE_WRITE to_stag to payload in
-    let reads : frame_segment f ≡ Ok segment =
-    segment-is k.received.sends k.received.requests f (TaggedFrame last opcode to_stag to payload) (Tagged last opcode to_stag to payload) piece refl ∙ ap (λ (c : ℕ). Ok (Tagged last c to_stag to payload)) write in
-    let granted = offered-granted at f.end opened.first_stag own.0 to_stag Fill to (length payload) (message_xids d) k.regions (numbered-regions opened k g.reached.0 g.reached.1) own.1 h.lives h.early lt own.2 in
-    allowed-end k f segment stag offset why piece.behind reads granted e
+    same-segment k f segment (segment-is k.received.sends k.received.requests f (SendFrame message) segment piece refl) refl
+piece-allowed opened k s u d all_up all_down w up (RequestFrame sink sink_to size stag to) rest at f l g first piece lt h own =
+    let segment : Segment = Untagged true OPCODE_READ_REQUEST 0 QUEUE_READ_REQUEST (msn_word (k.received.requests + 1)) 0 (request_payload sink sink_to size stag to) in
+    let a = asked-of s w up sink sink_to size stag to rest g.server.reads first g.server.sinks g.server.regions.stags g.within in
+    let again = request-again sink sink_to size stag to a.sink_word a.at_word a.size_word a.stag_word a.to_word in
+    let granted = offered-granted at f.end opened.first_stag own.0 stag Fetch to size (message_xids d) k.regions (numbered-regions opened k g.reached.0 g.reached.1) own.1 h.lives h.early lt own.2 in
+    same-segment k f segment (segment-is k.received.sends k.received.requests f (RequestFrame sink sink_to size stag to) segment piece refl)
+    (ap (λ (q : ReadRequest). grant_denial (region_grants f.end k.regions) (record { right = Fetch; stag = q.stag; to = q.to; len = q.size }) f.end) again ∙ granted)
+piece-allowed opened k s u d all_up all_down w up (TaggedFrame last opcode stag to payload) rest at f l g first piece lt h own =
+    let write : opcode ≡ OPCODE_WRITE = front-down opened k s u d all_up all_down w up (TaggedFrame last opcode stag to payload) rest l g first in
+    let reads = segment-is k.received.sends k.received.requests f (TaggedFrame last opcode stag to payload) (Tagged last opcode stag to payload) piece refl in
+    let granted = offered-granted at f.end opened.first_stag own.0 stag Fill to (length payload) (message_xids d) k.regions (numbered-regions opened k g.reached.0 g.reached.1) own.1 h.lives h.early lt own.2 in
+    same-segment k f (Tagged last OPCODE_WRITE stag to payload) (reads ∙ ap (λ (c : ℕ). Ok (Tagged last c stag to payload)) write) granted
 
 frame-allowed : (opened : LinkParameters) (k : ClientState) (s : ServerState) (u d all_up all_down : List FrameContent) (w : Transit) (up : ℕ) (p : FrameContent) (rest : List FrameContent) (n r place at : ℕ) → EndsAgree opened k s u d all_up all_down w → Guards opened k s u d all_up all_down w up → w.down ≡ p ∷ rest
-    → n ≡ total_of sends_in d → r ≡ total_of requests_in d → IsPlace d place → at < place + length (frame_bytes Responder (numbered_segment n r p)) → AccessesAgree opened k s d all_up all_down at → (stag offset : ℕ) (why : Denied)
-    → client_end k (FrameReceived (frame_of (frame_bytes Responder (numbered_segment n r p)) place)) ≡ Some (ends.Denied stag offset why) → ⊥
-frame-allowed opened k s u [] all_up all_down w up p rest n r place at l g first sends requests is lt h stag offset why e =
-    hello-end k (frame_of (frame_bytes Responder (numbered_segment n r p)) place) stag offset why (ap (λ (x : ℕ). eqb x 0) is) e
-frame-allowed opened k s u (q ∷ d) all_up all_down w up p rest n r place at l g first sends requests is lt h stag offset why e =
+    → n ≡ total_of sends_in d → r ≡ total_of requests_in d → IsPlace d place → at < place + length (frame_bytes Responder (numbered_segment n r p)) → AccessesAgree opened k s d all_up all_down at
+    → is_hello (frame_of (frame_bytes Responder (numbered_segment n r p)) place) ≡ false → LacksNothing k (frame_of (frame_bytes Responder (numbered_segment n r p)) place)
+frame-allowed opened k s u [] all_up all_down w up p rest n r place at l g first sends requests is lt h behind = absurd (let wrong : true ≡ false = sym (ap (λ (x : ℕ). eqb x 0) is) ∙ behind in cc)
+frame-allowed opened k s u (q ∷ d) all_up all_down w up p rest n r place at l g first sends requests is lt h behind =
     let own : IsAccess k.regions (message_xids (q ∷ d)) p =
-    access-at k.regions [] (q ∷ d) p (rest ++ w.queued_down) (subst (λ (ps : List FrameContent). Rattle.nr_laws.proofs.OfferedAccesses.AreAccesses k.regions [] ps) (sym l.parts_down ∙ ap (λ (ps : List FrameContent). (q ∷ d) ++ (ps ++ w.queued_down)) first) h.down_said) in
+    access-at k.regions [] (q ∷ d) p (rest ++ w.queued_down) (subst (AreAccesses k.regions []) (sym l.parts_down ∙ ap (λ (ps : List FrameContent). (q ∷ d) ++ (ps ++ w.queued_down)) first) h.down_said) in
     piece-allowed opened k s u (q ∷ d) all_up all_down w up p rest at (frame_of (frame_bytes Responder (numbered_segment n r p)) place) l g first
-    (front-piece_down opened k s u q d all_up all_down w p rest n r place l first sends requests is) lt h own stag offset why e
+    (front-piece_down opened k s u q d all_up all_down w p rest n r place l first sends requests is) lt h own
+
+-- so it doesn't end the client
+not-lacking : (k : ClientState) (f : Frame) (stag offset : ℕ) (why : Denied) → (is_hello f ≡ false → LacksNothing k f) → IsReplyEnd (ends.Denied stag offset why) ⊎ LacksAccess k f (ends.Denied stag offset why) → ⊥
+not-lacking k f stag offset why allowed (inl (at, reason, is, own)) = cc
+not-lacking k f stag offset why allowed (inr h) = (let wrong : None ≡ Some h.why = sym (allowed h.behind h.segment h.is_segment) ∙ h.lacks in cc)
 
 -- ---- Some frames
 
@@ -118,10 +121,10 @@ frames-allowed opened s u all_down left o up at stag offset why (p ∷ new) k d 
     let later = frames_at Responder (n + sends_in p) (r + requests_in p) new in
     let event = FrameReceived (frame_of frame place) in
     let es = events_of (place + length frame) later in
-    (ends-first rules k event es (ends.Denied stag offset why) ⊥ e).first
-    (λ now. frame-allowed opened k s u d all_up all_down w up p (new ++ left) n r place at l g first sends requests is behind.0 h stag offset why now)
-    (λ stays rest.
     let step = step-down opened k s u d all_up all_down w up p (new ++ left) n r place o l g first sends requests is in
+    (ends-first rules k event es (ends.Denied stag offset why) ⊥ e).first
+    (λ now. not-lacking k (frame_of frame place) stag offset why (frame-allowed opened k s u d all_up all_down w up p (new ++ left) n r place at l g first sends requests is behind.0 h) (step.only (ends.Denied stag offset why) now))
+    (λ stays rest.
     let t = client-took opened k s u d all_up all_down w p (new ++ left) n r place l first sends requests is (IsBytes-left frame (concat later) bytes) stays in
     let after = client_state_after opened k event in
     let one = subst (λ (ps : List FrameContent). Guards opened after s u (d ++ p ∷ []) (all_up ++ ps) all_down (down_one w ps (new ++ left)) up) (sym t.said_is) (step.kept stays) in
@@ -159,14 +162,6 @@ accessed-more opened link run mark a g o within typed kept =
       agree = later opened g.k g.s g.d (j.all_up ++ g.said_up) (j.all_down ++ g.said_down) (length (bytes_received link Initiator run)) (length (bytes_received link Initiator (run ++ mark ∷ []))) longer (g.accessed o typed kept a.guarded.guards a.agree);
     }
 
-none-denied : (opened : LinkParameters) (k : ClientState) (es : List Event) (end : End) → es ≡ [] → (end_state_after (client_rules opened) (live k) es).ended ≡ Some end → ⊥
-none-denied opened k es end none e = absurd (let wrong : None ≡ Some end = ap (λ (xs : List Event). (end_state_after (client_rules opened) (live k) xs).ended) (sym none) ∙ e in cc)
-
-one-denied : (opened : LinkParameters) (k : ClientState) (es : List Event) (event : Event) (b : Bool) (end : End) → ((f : Frame) → event ≢ FrameReceived f) → es ≡ if_own b (event ∷ []) → (end_state_after (client_rules opened) (live k) es).ended ≡ Some end → ⊥
-one-denied opened k es event true end other is e =
-    absurd (let wrong : None ≡ Some end = sym (ap (λ (xs : List Event). (end_state_after (client_rules opened) (live k) xs).ended) is ∙ ap (λ (x : EndState ClientState). x.ended) (client-event opened k event other).state) ∙ e in cc)
-one-denied opened k es event false end other is e = none-denied opened k es end is e
-
 fed-denied : (opened : LinkParameters) (link : ℕ) (run : List Mark) (bytes : List ℕ) (a : Accessed opened link run) → IsOpened opened → IsPrefixOf (bytes_received link Initiator run ++ bytes) (bytes_sent link Responder run) → IsBytes bytes → (stag offset : ℕ) (why : Denied)
     → (end_state_after (client_rules opened) (live a.guarded.joined.k) (map FrameReceived (frames_completed Responder (bytes_received link Initiator run) bytes))).ended ≡ Some (ends.Denied stag offset why) → ⊥
 fed-denied opened link run bytes a o prefix typed stag offset why e =
@@ -182,32 +177,6 @@ fed-denied opened link run bytes a o prefix typed stag offset why e =
     let behind : EndBehind (length got) (frames_from place (frames_at Responder n r m.new)) = subst (EndBehind (length got)) m.frames (frames-behind Responder got bytes) in
     frames-allowed opened j.s j.u j.all_down m.left o (place_of j.u) (length got) stag offset why m.new j.k j.d j.all_up j.w n r place j.linked a.guarded.guards m.parts (omega arith) (omega arith) m.place m.bytes_are m.some behind a.agree
     (ap (λ (xs : List Event). (end_state_after (client_rules opened) (live j.k) xs).ended) (sym same) ∙ e)
-
-mark-denied : (opened : LinkParameters) (link : ℕ) (run : List Mark) (mark : Mark) (a : Accessed opened link run) → IsOpened opened → MatchedMark link run mark → TypedMark run mark → (stag offset : ℕ) (why : Denied)
-    → (end_state_after (client_rules opened) (live a.guarded.joined.k) (events_at link Initiator run mark)).ended ≡ Some (ends.Denied stag offset why) → ⊥
-mark-denied opened link run (marks.Submit l call form (submissions.Accepted xid)) a o matched typed stag offset why e =
-    one-denied opened a.guarded.joined.k _ (CallSubmitted (length (bytes_received link Initiator run)) (record { xid = xid; call = call; form = form })) (eqb l link && true) (ends.Denied stag offset why) (λ f x. absurd cc) refl e
-mark-denied opened link run (marks.Submit l call form (submissions.Refused reason)) a o matched typed stag offset why e = none-denied opened a.guarded.joined.k _ (ends.Denied stag offset why) refl e
-mark-denied opened link run (marks.Submit l call form submissions.Dropped) a o matched typed stag offset why e = none-denied opened a.guarded.joined.k _ (ends.Denied stag offset why) refl e
-mark-denied opened link run (marks.Wrote l Initiator bytes) a o matched typed stag offset why e = one-denied opened a.guarded.joined.k _ QueueWritten (eqb l link && true) (ends.Denied stag offset why) (λ f x. absurd cc) refl e
-mark-denied opened link run (marks.Wrote l Responder bytes) a o matched typed stag offset why e = none-denied opened a.guarded.joined.k _ (ends.Denied stag offset why) (other-events (eqb l link) _) e
-mark-denied opened link run (marks.Fed l Initiator bytes) a o matched typed stag offset why e = by (eqb l link) refl
-  where
-    fs : List Frame
-    fs = frames_completed Responder (bytes_received link Initiator run) bytes
-
-    by : (b : Bool) → eqb l link ≡ b → ⊥
-    by true is =
-        fed-denied opened link run bytes a o (matched (eqb-true l link is)) typed stag offset why (ap (λ (b : Bool). (end_state_after (client_rules opened) (live a.guarded.joined.k) (if_own (b && true) (map FrameReceived fs))).ended) (sym is) ∙ e)
-    by false is = none-denied opened a.guarded.joined.k _ (ends.Denied stag offset why) (no-events (eqb l link) true (map FrameReceived fs) is) e
-mark-denied opened link run (marks.Fed l Responder bytes) a o matched typed stag offset why e = none-denied opened a.guarded.joined.k _ (ends.Denied stag offset why) (other-events (eqb l link) _) e
-mark-denied opened link run (marks.Execute l xid moment payload place reply) a o matched typed stag offset why e = none-denied opened a.guarded.joined.k _ (ends.Denied stag offset why) (other-events (eqb l link) _) e
-mark-denied opened link run (marks.Done l xid outcome) a o matched typed stag offset why e = none-denied opened a.guarded.joined.k _ (ends.Denied stag offset why) refl e
-mark-denied opened link run (marks.Lost l xid) a o matched typed stag offset why e = none-denied opened a.guarded.joined.k _ (ends.Denied stag offset why) refl e
-mark-denied opened link run (marks.Forget l xid) a o matched typed stag offset why e = none-denied opened a.guarded.joined.k _ (ends.Denied stag offset why) refl e
-mark-denied opened link run (marks.Revoke l xid bytes) a o matched typed stag offset why e =
-    one-denied opened a.guarded.joined.k _ (MemoryRevoked (length (bytes_received link Initiator run)) xid) (eqb l link && true) (ends.Denied stag offset why) (λ f x. absurd cc) refl e
-mark-denied opened link run (marks.Drop l) a o matched typed stag offset why e = none-denied opened a.guarded.joined.k _ (ends.Denied stag offset why) refl e
 
 -- ---- Each run
 
@@ -235,7 +204,7 @@ denied-from opened link o stag offset why (m ∷ run) before a asked served matc
         next (accessed-more opened link before m a (goes-mark opened link before m a.guarded.joined asked.0 served.0 matched.0 typed.0 is (server-unended opened link (before ++ m ∷ []) run down_all)) o grant.0 typed.0 kept.0)
     by (Some x) is next =
         let same : Some x ≡ Some (ends.Denied stag offset why) = sym (client-last opened link (before ++ m ∷ []) run x is) ∙ up_all in
-        mark-denied opened link before m a o matched.0 typed.0 stag offset why (ap (λ (r : EndState ClientState). r.ended) (sym one) ∙ is ∙ same)
+        fed-ends opened link before m a.guarded.joined.k (ends.Denied stag offset why) ⊥ matched.0 typed.0 (λ bytes prefix typed e. fed-denied opened link before bytes a o prefix typed stag offset why e) (ap (λ (r : EndState ClientState). r.ended) (sym one) ∙ is ∙ same)
 
 -- On a matched link of which nothing is revoked, and whose server hasn't ended, no access ends the client.
 pub client-not-denied : (opened : LinkParameters) (link : ℕ) (run : List Mark) → IsOpened opened → IsTyped run → KeepLaws opened link run → HasNoRevoke link run → end_of_side opened link Responder run ≡ None

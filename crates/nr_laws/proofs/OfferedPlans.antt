@@ -1,11 +1,8 @@
 -- The regions of an accepted call offer what the lists of its message say.
-use Rattle.std.proofs.Common.{◌≡◌, ℕ, ◌+◌, ◌^◌, ◌≤◌, ◌<◌, Bool, true, false, List, [], ◌∷◌, ◌++◌, length, map, replicate, Option, None, Some, Result, Ok, refl, sym, ap, subst, ◌∙◌, arith, inl, inr}
+use Rattle.std.proofs.Common.{◌≡◌, ℕ, ◌+◌, ◌^◌, ◌≤◌, ◌<◌, Bool, true, false, List, [], ◌∷◌, ◌++◌, length, map, replicate, Option, None, Some, Ok, refl, sym, subst, arith, inl}
 use Rattle.std.specs.List.{AllByRecursion}
 use Rattle.std.proofs.lemmas.List.{length-replicate, map-append}
 use Rattle.nr_xdr.specs.Item.{IsBytes}
-use Rattle.nr_xdr.specs.Fields.{word_at}
-use Rattle.nr_header.specs.declared.header.Header.{Header}
-use Rattle.nr_header.specs.Reading.{header_of}
 use Rattle.nr_regions.specs.declared.right.Right.{Right}
 use Rattle.nr_regions.specs.declared.right.Right.TheVariants.{Fetch, Fill}
 use Rattle.nr_reduce.specs.declared.call.Form.{Form}
@@ -21,8 +18,8 @@ use Rattle.nr_laws.specs.Typed.{IsTypedForm}
 use Rattle.nr_laws.specs.FrameContents.FrameContent.{SendFrame}
 use Rattle.nr_laws.proofs.CallWords.{call-words}
 use Rattle.nr_laws.proofs.ConveyedCalls.{planned-fits, plan-reads}
-use Rattle.nr_laws.proofs.ConveyedForms.{HasChunk, planned-chunk}
-use Rattle.nr_laws.proofs.OfferedAccesses.{IsRegionOf, IsOffered, PartOffered, EntryOffered, ListsOffered, MessageOffered, offers-left, offers-right, offered-less}
+use Rattle.nr_laws.proofs.ConveyedForms.{planned-chunk}
+use Rattle.nr_laws.proofs.OfferedAccesses.{IsOffered, PartOffered, EntryOffered, ListsOffered, MessageOffered, offers-left, offers-right, offered-less}
 
 -- ---- The segments of one region
 

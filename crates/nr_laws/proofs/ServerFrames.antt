@@ -24,7 +24,7 @@ use Rattle.nr_laws.proofs.Guards.{Guards}
 use Rattle.nr_laws.proofs.ServerStep.{step-up}
 use Rattle.nr_laws.proofs.AgreeingEnds.{EndsAgree, IsPlace, frame_of, taken_up, server-took}
 use Rattle.nr_laws.proofs.OfferedAccesses.{AccessesAgree}
-use Rattle.nr_laws.proofs.AccessesSteps.{accessed-up}
+use Rattle.nr_laws.proofs.AccessSteps.{accessed-up}
 
 -- ---- An end that hasn't ended by some events
 
