@@ -1,12 +1,11 @@
 -- What a form conveys of a call's payload has, where it has an RPC call head, the target and the xid of that payload's own head.
-use Rattle.std.proofs.Common.{◌≡◌, ℕ, zero, suc, ◌+◌, ◌-◌, ◌≤◌, ◌<◌, Bool, true, false, cond, eqb, List, [], ◌∷◌, ◌++◌, length, take, drop, replicate, Option, None, Some, Result, Ok, Err, refl, sym, ap, subst, ◌∙◌, arith, append_assoc, append-nil, take_all, take-append-drop, length-take-le, ne_eqb, inl, inr}
+use Rattle.std.proofs.Common.{◌≡◌, ℕ, zero, suc, ◌-◌, Bool, true, false, cond, eqb, List, [], ◌∷◌, ◌++◌, length, take, drop, replicate, Option, None, Some, Result, Ok, Err, refl, sym, ap, subst, ◌∙◌, arith, append_assoc, append-nil, take_all, take-append-drop, length-take-le, ne_eqb, inl, inr}
 use Rattle.std.specs.Prelude.{sum}
 use Rattle.std.proofs.lemmas.Bool.{cases_lt}
-use Rattle.std.proofs.lemmas.List.{get_or-replicate}
 use Rattle.nr_xdr.specs.Item.{IsBytes, pad_len}
-use Rattle.nr_xdr.proofs.Chains.{IsBytes-left, IsBytes-right}
+use Rattle.nr_xdr.proofs.Chains.{IsBytes-left}
+use Rattle.nr_xdr.proofs.WordBytes.{IsBytes-drop, IsBytes-take}
 use Rattle.nr_rpc.specs.declared.head.CallHead.{CallHead}
-use Rattle.nr_rpc.specs.declared.head.CallTarget.{CallTarget}
 use Rattle.nr_rpc.specs.Reading.{call_of, target_of}
 use Rattle.nr_rpc.proofs.Calls.{call_begins, begins_call}
 use Rattle.nr_reduce.specs.declared.call.Form.{Form}
@@ -17,14 +16,11 @@ use Rattle.nr_reduce.specs.Items.{item_of, target_item, call_item, restored_payl
 use Rattle.nr_reduce.specs.Plans.{given_region}
 use Rattle.nr_reduce.specs.Chunks.{whole, whole_by, has_length}
 use Rattle.nr_reduce.specs.PayloadLaws.{moved_by, given_conveyed}
-use Rattle.nr_reduce.proofs.Looks.{IsBytes-take, item_stands}
+use Rattle.nr_reduce.proofs.Looks.{item_stands}
 use Rattle.nr_laws.specs.Payloads.{form_conveyed}
 use Rattle.nr_laws.proofs.Bytes.{bytes_both}
 
 -- ---- Bytes
-
-bytes-drop : (n : ℕ) (xs : List ℕ) → IsBytes xs → IsBytes (drop n xs)
-bytes-drop n xs fits = IsBytes-right (take n xs) (drop n xs) (subst IsBytes (sym (take-append-drop n xs)) fits)
 
 pub bytes-zeros : (n : ℕ) → IsBytes (replicate n 0)
 bytes-zeros zero zero = omega arith
@@ -34,7 +30,7 @@ bytes-zeros (suc n) (suc i) = bytes-zeros n i
 
 pub bytes-region : (payload : List ℕ) (at size : ℕ) → IsBytes payload → IsBytes (given_region payload at size)
 bytes-region payload at size fits =
-    bytes_both (take size (drop at payload)) (replicate (size - length (take size (drop at payload))) 0) (IsBytes-take size (drop at payload) (bytes-drop at payload fits)) (bytes-zeros (size - length (take size (drop at payload))))
+    bytes_both (take size (drop at payload)) (replicate (size - length (take size (drop at payload))) 0) (IsBytes-take size (drop at payload) (IsBytes-drop at payload fits)) (bytes-zeros (size - length (take size (drop at payload))))
 
 -- ---- A head that is read is read with bytes behind it
 
@@ -90,7 +86,7 @@ restored-head own region at i fits bytes e =
     let one : IsBytes (front ++ back) =
     bytes_both front back (IsBytes-take i.pos stream ok)
     (bytes_both (take i.len region) (replicate (pad_len i.len) 0 ++ drop i.pos stream) (IsBytes-take i.len region bytes)
-    (bytes_both (replicate (pad_len i.len) 0) (drop i.pos stream) (bytes-zeros (pad_len i.len)) (bytes-drop i.pos stream ok))) in
+    (bytes_both (replicate (pad_len i.len) 0) (drop i.pos stream) (bytes-zeros (pad_len i.len)) (IsBytes-drop i.pos stream ok))) in
     same-front front back (drop i.pos stream ++ drop at own) head.0 one (subst IsBytes (sym parts) fits) head.1 ∙ ap call_of parts
 
 pub item-by : (stream moved q : List ℕ) (o : Option Item) → whole_by Call stream moved o ≡ Some q → (i : Item) × (o ≡ Some i) × (restored_payload i stream moved ≡ q)

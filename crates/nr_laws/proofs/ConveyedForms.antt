@@ -14,13 +14,7 @@ use Rattle.nr_reduce.specs.declared.outline.Plan.{Plan}
 use Rattle.nr_reduce.specs.Limits.{send_max}
 use Rattle.nr_reduce.specs.Plans.{plan_of, regions_needed, given_read, given_region, entries_from, read_list, lists_of, read_stag, inline_at, inline_stream}
 use Rattle.nr_reduce.specs.Chunks.{total_at, position_of, item_position, call_moved, call_stream, whole, call_conveyed}
-use Rattle.nr_reduce.specs.declared.mark.Mark.{Mark}
-use Rattle.nr_reduce.specs.declared.mark.LinkParameters.{LinkParameters}
-use Rattle.nr_reduce.specs.ClientState.{call_payload}
-use Rattle.nr_reduce.specs.Run.{client}
-use Rattle.nr_reduce.specs.RunLaws.{server_by}
-use Rattle.nr_reduce.specs.ServerFrames.{with_access}
-use Rattle.nr_reduce.specs.ServerMessages.{no_stream, chunk_bytes, payload_of}
+use Rattle.nr_reduce.specs.ServerMessages.{no_stream}
 use Rattle.nr_reduce.specs.ServerState.{PendingCall}
 use Rattle.nr_reduce.specs.PayloadLaws.{moved_by, given_conveyed}
 use Rattle.nr_reduce.specs.Undone.{IsNotGiven, ChunkHolds}
@@ -30,13 +24,12 @@ use Rattle.nr_reduce.proofs.Shapes.MessageKind.{Short, Chunked, Long}
 use Rattle.nr_reduce.proofs.Asking.{asks}
 use Rattle.nr_reduce.proofs.Sizes.{is_formed}
 use Rattle.nr_reduce.proofs.Undone.{reducible, moved-length}
-use Rattle.nr_laws.specs.Typed.{IsTypedForm, IsTyped}
+use Rattle.nr_laws.specs.Typed.{IsTypedForm}
 use Rattle.nr_laws.specs.Payloads.{form_conveyed}
 use Rattle.nr_laws.proofs.PlanLists.{stream_known}
 use Rattle.nr_laws.proofs.SinkReads.{total-own}
 use Rattle.nr_laws.proofs.ConveyedCalls.{planned-fits, plan-reads}
-use Rattle.nr_laws.proofs.ExecutedPayloads.{IsOfPlan, planned-by, submit-typed, received-of-plan}
-use Rattle.nr_laws.proofs.OnceByXid.{ExecutedAt}
+use Rattle.nr_laws.proofs.ExecutedPayloads.{IsOfPlan}
 
 -- ---- The region of a plan is as long as its chunk
 
@@ -164,21 +157,3 @@ pub received-conveys : (payload : List ℕ) (form : Form) (down stag : ℕ) (p :
     → IsOfPlan stag p c → ChunkHolds chunk p → call_conveyed c.inline c.lists.read chunk ≡ form_conveyed form payload
 received-conveys payload form down stag p c chunk bytes typed e stags is holds =
     received-as stag p c chunk (planned-chunk payload form send_max down p e) is holds ∙ plan-conveys payload form down stag p chunk bytes typed e stags holds
-
--- ---- An executed call
-
--- An executed call has the payload that its form conveys, where the sink of its read chunk holds the plan's region at the frame by
--- which the call became whole.
-pub executed-conveys : (opened : LinkParameters) (link : ℕ) (before : List Mark) (xid : ℕ) (payload : List ℕ) → IsTyped before → (a : ExecutedAt opened link before xid payload)
-    → ChunkHolds (chunk_bytes (with_access (server_by opened a.submit.was.earlier) a.submit.was.frame a.submit.was.segment) a.submit.was.frame.end a.submit.was.call) a.submit.submitted.accepted.plan
-    → form_conveyed a.submit.submitted.form (call_payload a.submit.submitted.xid a.submit.submitted.call) ≡ Some payload
-unfolding payload_of
-executed-conveys opened link before xid payload typed a holds =
-    let w = a.submit.submitted in
-    let was = a.submit.was in
-    let k = (client opened link w.earlier).state in
-    let ok = submit-typed opened link before xid payload a typed in
-    let chunk = chunk_bytes (with_access (server_by opened was.earlier) was.frame was.segment) was.frame.end was.call in
-    sym (received-conveys (call_payload w.xid w.call) w.form send_max k.stag w.accepted.plan was.call chunk ok.0 ok.1 (planned-by opened link w.earlier w.xid w.call w.form w.accepted.plan w.accepted.planned) w.accepted.stags
-    (received-of-plan opened link before xid payload typed a) holds)
-    ∙ was.payload

@@ -1,9 +1,8 @@
 -- A reply that is handed over, and the reply of the Execute, are what the same message and the same memory convey.
-use Rattle.std.proofs.Common.{◌≡◌, ℕ, ◌<◌, true, false, cond, List, [], ◌∷◌, ◌++◌, length, map, Option, None, Some, refl, sym, ap, subst, ◌∙◌, arith, append_assoc}
+use Rattle.std.proofs.Common.{◌≡◌, ℕ, ◌<◌, true, false, cond, List, [], ◌∷◌, ◌++◌, map, Option, None, Some, sym, ap, subst, ◌∙◌, arith}
 use Rattle.nr_xdr.specs.Item.{IsBytes}
 use Rattle.nr_header.specs.declared.header.ChunkLists.{ChunkLists}
 use Rattle.nr_rpc.specs.Reading.{call_of, target_of}
-use Rattle.nr_rpc.specs.declared.head.CallTarget.{CallTarget}
 use Rattle.nr_reduce.specs.declared.call.Outcome.TheVariants as outcomes
 use Rattle.nr_reduce.specs.declared.call.Call.{Call}
 use Rattle.nr_reduce.specs.declared.mark.Mark.{Mark}
@@ -13,15 +12,15 @@ use Rattle.nr_reduce.specs.declared.outline.Plan.{Plan}
 use Rattle.nr_reduce.specs.History.{ExecutedCall}
 use Rattle.nr_reduce.specs.Opening.{IsOpened}
 use Rattle.nr_reduce.specs.Events.Event.{FrameReceived, CallExecuted}
-use Rattle.nr_reduce.specs.Plans.{Buffer, buffers, lists_of, read_list, write_stag, reply_stag, write_list}
+use Rattle.nr_reduce.specs.Plans.{Buffer, buffers, lists_of, read_list, write_stag, reply_stag}
 use Rattle.nr_reduce.specs.Chunks.{Bytes, reply_conveyed}
-use Rattle.nr_reduce.specs.Holds.{Answer, answer_for, answer_lists, answer_message, written_chunks}
+use Rattle.nr_reduce.specs.Holds.{Answer, answer_for, answer_lists, answer_message}
 use Rattle.nr_reduce.specs.Undone.{after, answer_segments}
-use Rattle.nr_reduce.specs.ClientState.{ClientState, call_payload, memory_at}
+use Rattle.nr_reduce.specs.ClientState.{ClientState, memory_at}
 use Rattle.nr_reduce.specs.Client.{client_rules, initial_client}
 use Rattle.nr_reduce.specs.Run.{client}
 use Rattle.nr_reduce.specs.ServerState.{ServerState, credit_word, down_max}
-use Rattle.nr_reduce.specs.Server.{offer_of, answer_of_target}
+use Rattle.nr_reduce.specs.Server.{offer_of}
 use Rattle.nr_reduce.specs.RunLaws.{server_by}
 use Rattle.nr_reduce.proofs.Answering.{conveyed}
 use Rattle.nr_reduce.proofs.OwnStags.{ClientNumbers, client-numbers}
@@ -29,13 +28,8 @@ use Rattle.nr_laws.specs.MarkAt.{MarkAt}
 use Rattle.nr_laws.specs.MatchedSoFar.{MatchedSoFar}
 use Rattle.nr_laws.specs.Typed.{TypedMark, IsTyped}
 use Rattle.nr_laws.specs.Payloads.{HasPlan}
-use Rattle.nr_laws.specs.HandedOver.{HasTargetOf, StreamRepliesAreExecuted, RepliesByTargetAreExecuted, HasWords, HasOwnReply}
 use Rattle.nr_laws.specs.MarkAt.{MarkAt}
 use Rattle.nr_reduce.specs.declared.call.Outcome.TheVariants as outcomes
-use Rattle.nr_laws.proofs.InlineCalls.{same-bytes, inline-executed, own-target}
-use Rattle.nr_reduce.specs.Asked.{AskedMark, IsAccepted}
-use Rattle.nr_reduce.specs.Matched.{IsPrefixOf}
-use Rattle.nr_reduce.specs.declared.call.Submission.TheVariants as submissions
 use Rattle.nr_laws.proofs.Along.{places_after}
 use Rattle.nr_laws.proofs.Outputs.Output.{ASegment}
 use Rattle.nr_laws.proofs.ServerAlong.{outs_of}
@@ -46,26 +40,25 @@ use Rattle.nr_laws.proofs.ClientMemory.{HasBuffers, client-gathers}
 use Rattle.nr_laws.proofs.Memory.{Part, parts_of, parts_out, out-append, gathers, Settled, settled-later}
 use Rattle.nr_laws.proofs.Outcomes.{client_by, OutcomeSaid}
 use Rattle.nr_laws.proofs.DoneCalls.{GivesBy, gives-by}
-use Rattle.nr_laws.proofs.Replied.{RepliedBy, replied-by}
+use Rattle.nr_laws.proofs.Replied.{RepliedBy}
 use Rattle.nr_laws.proofs.SubmittedPlans.{AnsweredCall, answered-submit, OwnSubmit, own-submit}
 use Rattle.nr_laws.proofs.InlineReplies.{no_chunks}
 use Rattle.nr_laws.proofs.OfferedLists.{no-offer}
 use Rattle.nr_laws.proofs.KeptOffers.{KeptOffer, kept-offer}
 use Rattle.nr_laws.proofs.KeptOffers.KeptOffer.{Kept, NotKept}
 use Rattle.nr_laws.proofs.ReplyMemory.{memory-conveys, conveyed-same}
-use Rattle.nr_laws.proofs.ReadAnswers.{client-reads, any-target, own-credit}
-use Rattle.nr_laws.proofs.HandedOver.{outcome-frame, reply-executed}
+use Rattle.nr_laws.proofs.ReadAnswers.{client-reads, own-credit}
+use Rattle.nr_laws.proofs.HandedOver.{outcome-frame}
 
 -- both replies are conveyed by the same stream, lists and memory
-record BothConveyed (call : Call) (plan : Plan) (offer : ChunkLists) (down : ℕ) (executed reply : List ℕ) (a : Answer) : Type 0 where
-  inline : Option (List ℕ)
-  lists : ChunkLists
-  memory : Bytes
-  handed : reply_conveyed call.prog call.vers call.proc inline lists memory ≡ Some reply
-  own : (prog vers proc : ℕ) → answer_for offer down prog vers proc executed ≡ Some a → reply_conveyed prog vers proc inline lists memory ≡ Some executed
-  none : plan.write ≡ None → lists.write ≡ []
+pub record BothConveyed (call : Call) (plan : Plan) (offer : ChunkLists) (down : ℕ) (executed reply : List ℕ) (a : Answer) : Type 0 where
+  pub inline : Option (List ℕ)
+  pub lists : ChunkLists
+  pub memory : Bytes
+  pub handed : reply_conveyed call.prog call.vers call.proc inline lists memory ≡ Some reply
+  pub own : (prog vers proc : ℕ) → answer_for offer down prog vers proc executed ≡ Some a → reply_conveyed prog vers proc inline lists memory ≡ Some executed
 
-both-conveyed : (opened : LinkParameters) (link : ℕ) (run before : List Mark) (xid : ℕ) (plan : Plan) (reply : List ℕ) → IsOpened opened → IsTyped run → MatchedSoFar opened link run → (has : HasPlan opened link run xid plan)
+pub both-conveyed : (opened : LinkParameters) (link : ℕ) (run before : List Mark) (xid : ℕ) (plan : Plan) (reply : List ℕ) → IsOpened opened → IsTyped run → MatchedSoFar opened link run → (has : HasPlan opened link run xid plan)
     → (at : MarkAt run before (marks.Done link xid (outcomes.Reply reply))) → (r : RepliedBy opened link before xid reply)
     → BothConveyed has.call plan (offer_of (server_by opened r.answer.earlier) r.answer.call.xid) 1024 r.answer.call.reply reply r.answer.answer
 unfolding lists_of
@@ -170,7 +163,6 @@ both-conveyed opened link run before xid plan reply opens typed far has at r = b
               (client-reads (read_list stag plan plan.read_at) (write_stag stag plan) (reply_stag stag plan) plan.write plan.reply 1024 t.0 t.1 t.2 e.xid (credit_word server) e.reply a k place g.call d.given.message g.header xid reply bytes offer
               (answers (lists_of stag plan) is t.0 t.1 t.2 t.3) (omega arith) word credit (message (lists_of stag plan) is) g.is_header g.by_its_body);
           own = λ prog vers proc h. memory-conveys k place opened.first_stag stag plan a front 1024 prog vers proc e.reply bytes numbers.regions settled backed (parts (lists_of stag plan) is) (answers (lists_of stag plan) is prog vers proc h);
-          none = λ no. ap (λ (w : Option (List ℕ)). written_chunks (write_list (write_stag stag plan) w) (length a.moved)) no;
         }
     by (NotKept kept) =
         let is = own_offer no_chunks kept in
@@ -183,60 +175,4 @@ both-conveyed opened link run before xid plan reply opens typed far has at r = b
           own = λ prog vers proc h. conveyed-same (memory_at k place) (after (memory_at k place) no_chunks a) [] 0 0 None None a prog vers proc (λ no. absurd (let w : false ≡ true = no in cc)) (λ no. absurd (let w : false ≡ true = no in cc))
               ∙ conveyed [] 0 0 None None 1024 prog vers proc e.reply a (memory_at k place) bytes (record { write = λ no. absurd (let w : false ≡ true = no in cc); reply = λ no. absurd (let w : false ≡ true = no in cc); apart = λ no. absurd (let w : false ≡ true = no in cc) })
               (answers no_chunks is prog vers proc h);
-          none = λ no. refl;
         }
-
-pub stream_replies_are_executed : StreamRepliesAreExecuted
-stream_replies_are_executed opened link run before xid plan reply opens typed far has write at =
-    let r = replied-by opened link run before at.after xid reply typed far at.is in
-    let b = both-conveyed opened link run before xid plan reply opens typed far has at r in
-    let t = for_target (offer_of (server_by opened r.answer.earlier) r.answer.call.xid) 1024 r.answer.call.reply (target_of (call_of r.answer.call.payload)) r.answer.answer r.answer.is_answer in
-    reply-executed opened link before xid reply r
-    (same-bytes r.answer.call.reply reply (sym (b.own t.0 t.1 t.2 t.3) ∙ any-target t.0 t.1 t.2 has.call.prog has.call.vers has.call.proc b.inline b.lists b.memory (b.none write) ∙ b.handed))
-
--- with the call's target they are the same
-by-target : (call : Call) (plan : Plan) (offer : ChunkLists) (payload executed reply : List ℕ) (a : Answer) → BothConveyed call plan offer 1024 executed reply a → answer_of_target offer 1024 executed (target_of (call_of payload)) ≡ Some a → HasTargetOf call payload → executed ≡ reply
-by-target call plan offer payload executed reply a b is h =
-    same-bytes executed reply
-    (sym (b.own h.target.prog h.target.vers h.target.proc (ap (λ (o : Option CallTarget). answer_of_target offer 1024 executed o) (sym h.is) ∙ is))
-    ∙ (λ i. reply_conveyed (h.prog i) (h.vers i) (h.proc i) b.inline b.lists b.memory) ∙ b.handed)
-
-pub replies_by_target_are_executed : RepliesByTargetAreExecuted
-replies_by_target_are_executed opened link run before xid plan reply opens typed far has at =
-    let r = replied-by opened link run before at.after xid reply typed far at.is in
-    let b = both-conveyed opened link run before xid plan reply opens typed far has at r in
-    let e = r.answer.call in
-    let m = r.by.mark in
-    record {
-      moment = e.moment;
-      payload = e.payload;
-      place = e.place;
-      executed = e.reply;
-      before = m.earlier;
-      at = record { after = m.later; is = m.is ∙ ap (λ (x : ℕ). m.earlier ++ marks.Execute link x e.moment e.payload e.place e.reply ∷ m.later) r.own };
-      same = λ h. sym (by-target has.call plan (offer_of (server_by opened r.answer.earlier) e.xid) e.payload e.reply reply r.answer.answer b r.answer.is_answer h);
-    }
-
-pub inline_calls_are_replied : (opened : LinkParameters) (link : ℕ) (run before : List Mark) (xid : ℕ) (plan : Plan) (reply : List ℕ) → IsOpened opened → IsTyped run → MatchedSoFar opened link run → (has : HasPlan opened link run xid plan)
-    → HasWords has.call → plan.read_at ≡ None → MarkAt run before (marks.Done link xid (outcomes.Reply reply)) → HasOwnReply link before xid has.call reply
-inline_calls_are_replied opened link run before xid plan reply opens typed far has words none at =
-    let r = replied-by opened link run before at.after xid reply typed far at.is in
-    let b = both-conveyed opened link run before xid plan reply opens typed far has at r in
-    let e = r.answer.call in
-    let m = r.by.mark in
-    let done : Mark = marks.Done link xid (outcomes.Reply reply) in
-    let here : before ≡ m.earlier ++ marks.Execute link xid e.moment e.payload e.place e.reply ∷ m.later = m.is ∙ ap (λ (x : ℕ). m.earlier ++ marks.Execute link x e.moment e.payload e.place e.reply ∷ m.later) r.own in
-    let whole : run ≡ m.earlier ++ marks.Execute link xid e.moment e.payload e.place e.reply ∷ (m.later ++ done ∷ at.after) =
-    at.is ∙ ap (λ (b : List Mark). b ++ done ∷ at.after) here ∙ append_assoc m.earlier (marks.Execute link xid e.moment e.payload e.place e.reply ∷ m.later) (done ∷ at.after) in
-    let payload : e.payload ≡ call_payload xid has.call = inline-executed opened link run m.earlier (m.later ++ done ∷ at.after) xid e.moment e.payload e.place e.reply plan opens typed far whole has none in
-    let accepted : IsAccepted opened link has.before has.call has.form xid =
-    at-mark (AskedMark IsPrefixOf opened link) run has.before (marks.Submit link has.call has.form (submissions.Accepted xid)) has.at.after has.at.is far.asked refl in
-    let small = accepted.xids in
-    let target : HasTargetOf has.call e.payload = subst (HasTargetOf has.call) (sym payload) (own-target xid has.call (omega (arith, small)) words accepted.writable) in
-    let same = by-target has.call plan (offer_of (server_by opened r.answer.earlier) e.xid) e.payload e.reply reply r.answer.answer b r.answer.is_answer target in
-    record {
-      moment = e.moment;
-      place = e.place;
-      before = m.earlier;
-      at = record { after = m.later; is = here ∙ (λ i. m.earlier ++ marks.Execute link xid e.moment (payload i) e.place (same i) ∷ m.later) };
-    }

@@ -125,7 +125,6 @@ pub mod CameResponses
 pub mod HeldChunks
 pub mod ReadPayloads
 pub mod ExecutedReads
-pub mod WholeCalls
 pub mod RepliedPlans
 pub mod JudgedMessages
 pub mod JudgedReplies
@@ -151,3 +150,6 @@ pub mod AccessesAtServer
 pub mod AccessSteps
 pub mod AllowedAccesses
 pub mod NotDenied
+pub mod OwnHeads
+pub mod ReplyTargets
+pub mod OwnReplies

@@ -1,28 +1,20 @@
 -- A call that was accepted under an xid is the one that is executed under it.
-use Rattle.std.proofs.Common.{◌≡◌, ℕ, ◌<◌, List, [], ◌∷◌, ◌++◌, drop, Some, Ok, refl, sym, ap, subst, ◌∙◌, arith, append_assoc, inl, inr, ◌⊎◌, sum}
+use Rattle.std.proofs.Common.{◌≡◌, ℕ, List, [], ◌∷◌, ◌++◌, drop, refl, sym, ap, ◌∙◌, arith, append_assoc}
 use Rattle.nr_reduce.specs.declared.call.Call.{Call}
 use Rattle.nr_reduce.specs.declared.call.Form.{Form}
 use Rattle.nr_reduce.specs.declared.call.Submission.TheVariants as submissions
 use Rattle.nr_reduce.specs.declared.mark.Mark.{Mark}
-use Rattle.nr_reduce.specs.declared.mark.Moment.{Moment}
 use Rattle.nr_reduce.specs.declared.mark.Mark.TheVariants as marks
 use Rattle.nr_reduce.specs.declared.mark.LinkParameters.{LinkParameters}
-use Rattle.nr_reduce.specs.declared.outline.Plan.{Plan}
-use Rattle.nr_reduce.specs.Plans.{TooLarge}
-use Rattle.nr_reduce.specs.ClientState.{call_payload, plan_for}
-use Rattle.nr_reduce.specs.Run.{client}
+use Rattle.nr_reduce.specs.ClientState.{call_payload}
 use Rattle.nr_reduce.specs.Asked.{AskedMark, AskedSoFar}
 use Rattle.nr_reduce.specs.Served.{ServedMark}
 use Rattle.nr_reduce.specs.Matched.{IsPrefixOf, MatchedMark}
 use Rattle.nr_reduce.proofs.Placing.{xids_differ}
-use Rattle.nr_laws.specs.Payloads.{form_conveyed, ReadsBytes, PayloadsAreOwn}
-use Rattle.nr_reduce.proofs.Laid.{added_up, sum-added}
-use Rattle.nr_laws.specs.MatchedSoFar.{MatchedSoFar}
-use Rattle.nr_laws.specs.MarkAt.{MarkAt}
-use Rattle.nr_laws.specs.Typed.{TypedMark, IsTyped}
+use Rattle.nr_laws.specs.Payloads.{form_conveyed, PayloadsAreOwn}
+use Rattle.nr_laws.specs.Typed.{TypedMark}
 use Rattle.nr_laws.proofs.OnceByXid.{executed-at, before-mark}
 use Rattle.nr_laws.proofs.ExecutedReads.{read-call}
-use Rattle.nr_laws.proofs.ExecutedPayloads.{executed-own}
 
 -- two places of a list: one, or one behind the other
 data Places (pre : List Mark) (a : Mark) (post one : List Mark) (b : Mark) (two : List Mark) : Type 0 where

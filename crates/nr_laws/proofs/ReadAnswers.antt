@@ -2,21 +2,18 @@
 use Rattle.std.proofs.Common.{◌≡◌, ℕ, ◌^◌, ◌≤◌, ◌<◌, Bool, true, false, cond, List, [], ◌∷◌, drop, Option, None, Some, Ok, refl, sym, ap, ◌∙◌}
 use Rattle.nr_xdr.specs.Item.{IsBytes}
 use Rattle.nr_header.specs.Constants.{PAYLOAD_MAX}
-use Rattle.nr_header.specs.declared.header.RdmaSegment.{RdmaSegment}
 use Rattle.nr_header.specs.declared.header.ReadSegment.{ReadSegment}
-use Rattle.nr_header.specs.declared.header.ChunkLists.{ChunkLists}
 use Rattle.nr_header.specs.declared.header.Body.{Body}
 use Rattle.nr_header.specs.declared.header.Body.TheVariants.{Msg, Nomsg, ErrVers, ErrChunk}
 use Rattle.nr_header.specs.declared.header.Header.{Header}
 use Rattle.nr_header.specs.Reading.{header_of}
 use Rattle.nr_reduce.specs.declared.call.Outcome.TheVariants as outcomes
-use Rattle.nr_reduce.specs.declared.item.Of.TheVariants.{Reply}
 use Rattle.nr_reduce.specs.declared.mark.LinkParameters.{LinkParameters}
 use Rattle.nr_reduce.specs.Events.{Event}
 use Rattle.nr_reduce.specs.Events.Event.{FrameReceived, CallSubmitted, MemoryRevoked, CallExecuted, QueueWritten}
 use Rattle.nr_reduce.specs.EndRules.{EndState, next_end_state, next_end_state_by, next_end_state_in, end_state_after}
 use Rattle.nr_reduce.specs.Plans.{lists_of}
-use Rattle.nr_reduce.specs.Chunks.{Bytes, answers_offer, reply_conveyed, reply_stream, reply_moved, whole}
+use Rattle.nr_reduce.specs.Chunks.{answers_offer, reply_conveyed}
 use Rattle.nr_reduce.specs.Holds.{Answer, answer_for, answer_lists, answer_message}
 use Rattle.nr_reduce.specs.Undone.{IsOffer, offering, lists_by, inline_by}
 use Rattle.nr_reduce.specs.ClientState.{ClientState, OutstandingCall, memory_at}
@@ -49,13 +46,6 @@ client-reads read ws rs w r down prog vers proc xid credit reply a k place o m h
     let inline : inline_by m h.body ≡ cond a.long None (Some a.stream) = (λ i. inline_by (is i) (sym own i)) ∙ again.stream in
     let lists : lists_by h.body ≡ answer_lists (offering read ws rs w r) a = ap lists_by (sym own) ∙ again.lists in
     (λ i. reply_conveyed o.call.prog o.call.vers o.call.proc (sym inline i) (sym lists i) (memory_at k place)) ∙ body-conveys k place o m h.body y q gives
-
--- without write chunks the target of the call doesn't matter
-pub any-target : (a b c d e f : ℕ) (inline : Option (List ℕ)) (lists : ChunkLists) (memory : Bytes) → lists.write ≡ [] → reply_conveyed a b c inline lists memory ≡ reply_conveyed d e f inline lists memory
-unfolding reply_conveyed
-any-target a b c d e f inline lists memory none =
-    ap (λ (w : List (List RdmaSegment)). whole (Reply a b c) (reply_stream memory inline lists.reply) (reply_moved memory w)) none
-    ∙ ap (λ (w : List (List RdmaSegment)). whole (Reply d e f) (reply_stream memory inline lists.reply) (reply_moved memory w)) (sym none)
 
 -- ---- The credits of a server
 

@@ -1,5 +1,5 @@
 -- A reply that is handed over is that of the executed call, byte for byte.
-use Rattle.std.specs.Prelude.{◌≡◌, ℕ, ◌<◌, ◌^◌, List, None, Some, ◌⊎◌}
+use Rattle.std.specs.Prelude.{◌≡◌, ℕ, ◌<◌, ◌^◌, List, Some}
 use Rattle.nr_rpc.specs.Credential.{CredFits}
 use Rattle.nr_rpc.specs.declared.head.CallTarget.{CallTarget}
 use Rattle.nr_rpc.specs.Reading.{call_of, target_of}
@@ -13,38 +13,35 @@ use Rattle.nr_reduce.specs.declared.mark.LinkParameters.{LinkParameters}
 use Rattle.nr_reduce.specs.declared.outline.Plan.{Plan}
 use Rattle.nr_reduce.specs.ClientState.{call_payload}
 use Rattle.nr_reduce.specs.Opening.{IsOpened}
-use Rattle.nr_reduce.specs.Undone.{IsNotGiven}
 use Rattle.nr_laws.specs.MarkAt.{MarkAt}
-use Rattle.nr_laws.specs.Payloads.{HasPlan, ReadsBytes}
+use Rattle.nr_laws.specs.Payloads.{HasPlan, form_conveyed}
 use Rattle.nr_laws.specs.MatchedSoFar.{MatchedSoFar}
 use Rattle.nr_laws.specs.Typed.{IsTyped}
-
--- a call of this xid was executed on the link, and just these bytes are its reply
-pub record HasReply (link : ℕ) (run : List Mark) (xid : ℕ) (reply : List ℕ) : Type 0 where
-  pub moment : Moment
-  pub payload : List ℕ
-  pub place : ℕ
-  pub before : List Mark
-  pub at : MarkAt run before (marks.Execute link xid moment payload place reply)
 
 -- On a matched link a call whose reply is handed over was accepted, and goes out by a plan.
 abbrev pub RepliesHavePlans : Type 0
 RepliesHavePlans = (opened : LinkParameters) (link : ℕ) (run before : List Mark) (xid : ℕ) (reply : List ℕ) →
     IsTyped run → MatchedSoFar opened link run → MarkAt run before (marks.Done link xid (outcomes.Reply reply)) → (plan : Plan) × HasPlan opened link run xid plan
 
--- On a matched link the reply that is handed over of a call that offers neither a write chunk nor a reply chunk (RFC 8166 section
--- 3.4.6) is the one with which its call was executed before.
-abbrev pub InlineRepliesAreExecuted : Type 0
-InlineRepliesAreExecuted = (opened : LinkParameters) (link : ℕ) (run before : List Mark) (xid : ℕ) (plan : Plan) (reply : List ℕ) →
-    IsTyped run → MatchedSoFar opened link run → HasPlan opened link run xid plan → plan.write ≡ None → plan.reply ≡ None →
-    MarkAt run before (marks.Done link xid (outcomes.Reply reply)) → HasReply link before xid reply
+-- The call was executed under this xid on the link, with what its form conveys of its own payload, and just these bytes are its reply.
+pub record HasReply (link : ℕ) (run : List Mark) (xid : ℕ) (call : Call) (form : Form) (reply : List ℕ) : Type 0 where
+  pub moment : Moment
+  pub payload : List ℕ
+  pub place : ℕ
+  pub before : List Mark
+  pub at : MarkAt run before (marks.Execute link xid moment payload place reply)
+  pub conveyed : form_conveyed form (call_payload xid call) ≡ Some payload
 
--- So is that of a call that offers no write chunk, whatever it offers as a reply chunk (RFC 8166 section 3.5): the reply comes in the
--- message, or in the reply chunk.
-abbrev pub StreamRepliesAreExecuted : Type 0
-StreamRepliesAreExecuted = (opened : LinkParameters) (link : ℕ) (run before : List Mark) (xid : ℕ) (plan : Plan) (reply : List ℕ) →
-    IsOpened opened → IsTyped run → MatchedSoFar opened link run → HasPlan opened link run xid plan → plan.write ≡ None →
-    MarkAt run before (marks.Done link xid (outcomes.Reply reply)) → HasReply link before xid reply
+-- On a matched link the reply that is handed over of a call, whatever its plan, is the one with which that call was executed before, byte
+-- for byte: with its own payload, and for an offer that is given with what that offer conveys of it.
+abbrev pub ExecutedRepliesAreHandedOver : Type 0
+ExecutedRepliesAreHandedOver = (opened : LinkParameters) (link : ℕ) (run before : List Mark) (xid : ℕ) (plan : Plan) (reply : List ℕ) →
+    IsOpened opened → IsTyped run → MatchedSoFar opened link run → (has : HasPlan opened link run xid plan) →
+    MarkAt run before (marks.Done link xid (outcomes.Reply reply)) → HasReply link before xid has.call has.form reply
+
+-- the numbers of a call are 32-bit words, so are those of its credential. A call that a program makes is always so.
+abbrev pub HasWords : Call → Type 0
+HasWords call = (call.prog < 2 ^ 32) × (call.vers < 2 ^ 32) × (call.proc < 2 ^ 32) × CredFits call.cred
 
 -- a payload has an RPC call head with the program, the version and the procedure of a call (RFC 5531 section 9)
 pub record HasTargetOf (call : Call) (payload : List ℕ) : Type 0 where
@@ -53,42 +50,3 @@ pub record HasTargetOf (call : Call) (payload : List ℕ) : Type 0 where
   pub prog : target.prog ≡ call.prog
   pub vers : target.vers ≡ call.vers
   pub proc : target.proc ≡ call.proc
-
--- a call of this xid was executed on the link; where its payload has the target of this call, just these bytes are its reply
-pub record HasReplyByTarget (link : ℕ) (run : List Mark) (xid : ℕ) (call : Call) (reply : List ℕ) : Type 0 where
-  pub moment : Moment
-  pub payload : List ℕ
-  pub place : ℕ
-  pub executed : List ℕ
-  pub before : List Mark
-  pub at : MarkAt run before (marks.Execute link xid moment payload place executed)
-  pub same : HasTargetOf call payload → reply ≡ executed
-
--- So is that of any call, where the payload with which it was executed has the call's target: which item moves into a write chunk is
--- told by the target (RFC 8267 section 4).
-abbrev pub RepliesByTargetAreExecuted : Type 0
-RepliesByTargetAreExecuted = (opened : LinkParameters) (link : ℕ) (run before : List Mark) (xid : ℕ) (plan : Plan) (reply : List ℕ) →
-    IsOpened opened → IsTyped run → MatchedSoFar opened link run → (has : HasPlan opened link run xid plan) →
-    MarkAt run before (marks.Done link xid (outcomes.Reply reply)) → HasReplyByTarget link before xid has.call reply
-
--- the numbers of a call are 32-bit words, so are those of its credential. A call that a program makes is always so.
-abbrev pub HasWords : Call → Type 0
-HasWords call = (call.prog < 2 ^ 32) × (call.vers < 2 ^ 32) × (call.proc < 2 ^ 32) × CredFits call.cred
-
--- the call was executed under this xid on the link, with its own payload, and just these bytes are its reply
-pub record HasOwnReply (link : ℕ) (run : List Mark) (xid : ℕ) (call : Call) (reply : List ℕ) : Type 0 where
-  pub moment : Moment
-  pub place : ℕ
-  pub before : List Mark
-  pub at : MarkAt run before (marks.Execute link xid moment (call_payload xid call) place reply)
-
--- The call's payload goes whole: in its message, where its plan has no read position; or, in a form that isn't given, in its message and
--- in a read chunk which, if there is one, has bytes.
-abbrev pub GoesWhole : Form → Plan → Type 0
-GoesWhole form plan = (plan.read_at ≡ None) ⊎ (IsNotGiven form × ReadsBytes plan)
-
--- The reply that is handed over of such a call is the one with which it was executed, with its own payload.
-abbrev pub WholeCallsAreReplied : Type 0
-WholeCallsAreReplied = (opened : LinkParameters) (link : ℕ) (run before : List Mark) (xid : ℕ) (plan : Plan) (reply : List ℕ) →
-    IsOpened opened → IsTyped run → MatchedSoFar opened link run → (has : HasPlan opened link run xid plan) → HasWords has.call → GoesWhole has.form plan →
-    MarkAt run before (marks.Done link xid (outcomes.Reply reply)) → HasOwnReply link before xid has.call reply

@@ -1,5 +1,5 @@
 -- What a server executes, of what its client submitted.
-use Rattle.std.specs.Prelude.{◌≡◌, ◌<◌, ℕ, List, [], sum, Option, Some, Ok, ◌⊎◌}
+use Rattle.std.specs.Prelude.{◌≡◌, ℕ, List, Option, Some, Ok}
 use Rattle.nr_reduce.specs.declared.call.Call.{Call}
 use Rattle.nr_reduce.specs.declared.call.Form.{Form}
 use Rattle.nr_reduce.specs.declared.call.Form.TheVariants as forms
@@ -36,10 +36,6 @@ form_conveyed forms.Inline payload = Some payload
 form_conveyed forms.Chunk payload = Some payload
 form_conveyed forms.Long payload = Some payload
 form_conveyed (forms.Given offer) payload = given_conveyed payload offer.read_at offer.read
-
--- the read chunk of a plan, if it has one, has bytes
-abbrev pub ReadsBytes : Plan → Type 0
-ReadsBytes plan = (plan.read ≡ []) ⊎ (0 < sum plan.read)
 
 -- On a matched link a call is executed with what its form conveys of its own payload.
 abbrev pub PayloadsAreOwn : Type 0

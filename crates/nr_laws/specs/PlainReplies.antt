@@ -1,6 +1,7 @@
 -- A completed call gives its caller the plain server's reply, at the call's place in the one journal.
 use Rattle.std.specs.Prelude.{◌≡◌, ℕ, List, Option, Some}
 use Rattle.nr_reduce.specs.declared.call.Call.{Call}
+use Rattle.nr_reduce.specs.declared.call.Form.{Form}
 use Rattle.nr_reduce.specs.declared.call.Outcome.TheVariants as outcomes
 use Rattle.nr_reduce.specs.declared.mark.Moment.{Moment}
 use Rattle.nr_reduce.specs.declared.mark.Entry.{Entry}
@@ -15,27 +16,28 @@ use Rattle.nr_reduce.specs.Opening.{IsOpened}
 use Rattle.nr_laws.specs.MarkAt.{MarkAt}
 use Rattle.nr_laws.specs.MatchedSoFar.{MatchedSoFar}
 use Rattle.nr_laws.specs.Typed.{IsTyped}
-use Rattle.nr_laws.specs.Payloads.{HasPlan}
-use Rattle.nr_laws.specs.HandedOver.{HasWords, GoesWhole}
+use Rattle.nr_laws.specs.Payloads.{HasPlan, form_conveyed}
 
 -- the plain server that has this reply, if any, to a payload at a moment over a journal, and adds these entries
 abbrev pub server_with : (List Entry → Moment → List ℕ → Option (List ℕ)) → (Moment → List ℕ → List ℕ → List Entry) → PlainServer
 server_with reply_to adds = record { Replies = λ entries moment payload reply. reply_to entries moment payload ≡ Some reply; adds = adds }
 
--- The call was executed under this xid on the link, with its own payload, and these bytes are what the server replies to that over the first
--- `place` entries of the journal; what the call adds stands behind them.
-pub record HasPlainReply (plain : PlainServer) (J : List Entry) (link : ℕ) (run : List Mark) (xid : ℕ) (call : Call) (reply : List ℕ) : Type 0 where
+-- The call was executed under this xid on the link, with what its form conveys of its own payload, and these bytes are what the server
+-- replies to that over the first `place` entries of the journal; what the call adds stands behind them.
+pub record HasPlainReply (plain : PlainServer) (J : List Entry) (link : ℕ) (run : List Mark) (xid : ℕ) (call : Call) (form : Form) (reply : List ℕ) : Type 0 where
   pub moment : Moment
+  pub payload : List ℕ
   pub place : ℕ
   pub before : List Mark
-  pub at : MarkAt run before (marks.Execute link xid moment (call_payload xid call) place reply)
-  pub plainly : AtPlace plain J moment (call_payload xid call) place reply
+  pub at : MarkAt run before (marks.Execute link xid moment payload place reply)
+  pub conveyed : form_conveyed form (call_payload xid call) ≡ Some payload
+  pub plainly : AtPlace plain J moment payload place reply
 
 -- On a matched link of a run whose calls are answered as the plain server answers, each over the journal of its moment, so it is of each reply
--- that is handed over of a call whose payload goes whole.
+-- that is handed over.
 abbrev pub RepliesArePlain : Type 0
 RepliesArePlain = (reply_to : List Entry → Moment → List ℕ → Option (List ℕ)) (adds : Moment → List ℕ → List ℕ → List Entry) (J : List Entry)
     (opened : LinkParameters) (link : ℕ) (run before : List Mark) (xid : ℕ) (plan : Plan) (reply : List ℕ) →
     IsOpened opened → IsTyped run → MatchedSoFar opened link run → Journaled (server_with reply_to adds) J run → Plainly (server_with reply_to adds) run →
-    (has : HasPlan opened link run xid plan) → HasWords has.call → GoesWhole has.form plan →
-    MarkAt run before (marks.Done link xid (outcomes.Reply reply)) → HasPlainReply (server_with reply_to adds) J link before xid has.call reply
+    (has : HasPlan opened link run xid plan) →
+    MarkAt run before (marks.Done link xid (outcomes.Reply reply)) → HasPlainReply (server_with reply_to adds) J link before xid has.call has.form reply
