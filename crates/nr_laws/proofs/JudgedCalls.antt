@@ -17,7 +17,6 @@ use Rattle.nr_rpc.specs.declared.head.CallHead.{CallHead}
 use Rattle.nr_rpc.specs.declared.head.CallHead.TheVariants as calls
 use Rattle.nr_rpc.specs.Credential.{CanWriteCred}
 use Rattle.nr_rpc.specs.Reading.{call_of}
-use Rattle.nr_rpc.proofs.Calls.{call_written}
 use Rattle.nr_reduce.specs.declared.call.Call.{Call}
 use Rattle.nr_reduce.specs.declared.call.Form.{Form}
 use Rattle.nr_reduce.specs.declared.call.Form.TheVariants as forms
@@ -32,25 +31,13 @@ use Rattle.nr_reduce.specs.ServerMessages.Verdict.{EndsLink, OtherVersion, BadCh
 use Rattle.nr_reduce.specs.RunLaws.{known_stream, OtherChunk, HasOtherChunk}
 use Rattle.nr_reduce.specs.Undone.{lists_by, inline_by}
 use Rattle.nr_reduce.proofs.BadMessages.{bad-refused}
-use Rattle.nr_laws.specs.HandedOver.{HasWords}
 use Rattle.nr_laws.specs.Payloads.{form_conveyed}
 use Rattle.nr_laws.specs.Stays.{HasCallHead, IsRefusedMessage, IsConveyedOrRefused}
 use Rattle.nr_laws.proofs.CallTargets.{conveyed-head}
+use Rattle.nr_laws.proofs.OwnHeads.{OwnHead, own-head}
 use Rattle.nr_laws.proofs.SuitedCalls.{HasNoBytes, Suits}
 
 -- ---- A payload with a call head
-
--- a call's own payload has its head, with its xid
-pub record OwnHead (xid : ℕ) (call : Call) : Type 0 where
-  pub head : CallHead
-  pub is : call_of (call_payload xid call) ≡ Ok head
-  pub xid_is : call_xid head ≡ xid
-
-pub own-head : (xid : ℕ) (call : Call) → xid < 2 ^ 32 → HasWords call → CanWriteCred call.cred → OwnHead xid call
-unfolding call_payload
-own-head xid call small words can =
-    let read = call_written (calls.Version2 xid call.prog call.vers call.proc call.cred 0) call.args can (small, words.0, words.1, words.2, words.3) in
-    record { head = _; is = read; xid_is = refl }
 
 ready-not : (r : ReadyCall) (reason : ℕ) → IsReady r ≡ Refuses reason → ⊥
 ready-not r reason e = cc
@@ -59,29 +46,32 @@ head-same : (a b : CallHead) → ◌≡◌ {A = Result CallHead ℕ} (Ok a) (Ok 
 head-same a b e = cc
 
 -- what a form conveys of it is that of a call under the same xid, where it has a head
-pub conveyed-ready : (xid : ℕ) (call : Call) (form : Form) (c : PendingCall) (reason : ℕ) → xid < 2 ^ 32 → HasWords call → CanWriteCred call.cred → IsBytes (call_payload xid call) → c.xid ≡ xid
+pub conveyed-ready : (xid : ℕ) (call : Call) (form : Form) (c : PendingCall) (reason : ℕ) → xid < 2 ^ 32 → CanWriteCred call.cred → IsBytes (call_payload xid call) → c.xid ≡ xid
     → (o : Option (List ℕ)) → o ≡ form_conveyed form (call_payload xid call) → HasCallHead o → by_payload c o ≡ Refuses reason → ⊥
-conveyed-ready xid call form c reason small words can bytes same None is h e = h
-conveyed-ready xid call form c reason small words can bytes same (Some q) is h e = by (call_of q) refl h e
+conveyed-ready xid call form c reason small can bytes same None is h e = h
+conveyed-ready xid call form c reason small can bytes same (Some q) is h e = by (call_of q) refl h e
   where
     own : OwnHead xid call
-    own = own-head xid call small words can
+    own = own-head xid call small can
+
+    own_head : CallHead
+    own_head = calls.Version2 xid own.prog.number own.vers.number own.proc.number own.cred own.args_at
 
     by : (r : Result CallHead ℕ) → call_of q ≡ r → is_ok r ≡ true → by_head c q r ≡ Refuses reason → ⊥
     by (Err at) read ok e = (let wrong : false ≡ true = ok in cc)
     by (Ok head) read ok e =
-        let one : head ≡ own.head = head-same head own.head (sym read ∙ conveyed-head form (call_payload xid call) q own.head head bytes own.is (sym is) read ∙ own.is) in
-        let number : eqb (call_xid head) c.xid ≡ true = eq-eqb (call_xid head) c.xid (ap call_xid one ∙ own.xid_is ∙ sym same) in
+        let one : head ≡ own_head = head-same head own_head (sym read ∙ conveyed-head form (call_payload xid call) q own_head head bytes own.is (sym is) read ∙ own.is) in
+        let number : eqb (call_xid head) c.xid ≡ true = eq-eqb (call_xid head) c.xid (ap call_xid one ∙ sym same) in
         ready-not (record { number = c.number; xid = c.xid; payload = q }) reason
         (ap (λ (b : Bool). cond b (IsReady (record { number = c.number; xid = c.xid; payload = q })) (Refuses 19)) (sym number) ∙ e)
 
 -- what is conveyed has a head, where the message isn't refused
-pub conveyed-head-there : (xid : ℕ) (call : Call) (form : Form) (message : List ℕ) → xid < 2 ^ 32 → HasWords call → CanWriteCred call.cred → IsConveyedOrRefused form (call_payload xid call) message → (IsRefusedMessage message → ⊥)
+pub conveyed-head-there : (xid : ℕ) (call : Call) (form : Form) (message : List ℕ) → xid < 2 ^ 32 → CanWriteCred call.cred → IsConveyedOrRefused form (call_payload xid call) message → (IsRefusedMessage message → ⊥)
     → HasCallHead (form_conveyed form (call_payload xid call))
-conveyed-head-there xid call form message small words can given fine = by form given
+conveyed-head-there xid call form message small can given fine = by form given
   where
     own : is_ok (call_of (call_payload xid call)) ≡ true
-    own = ap (λ (r : Result CallHead ℕ). is_ok r) (own-head xid call small words can).is
+    own = ap (λ (r : Result CallHead ℕ). is_ok r) (own-head xid call small can).is
 
     by : (form : Form) → IsConveyedOrRefused form (call_payload xid call) message → HasCallHead (form_conveyed form (call_payload xid call))
     by forms.Auto given = own

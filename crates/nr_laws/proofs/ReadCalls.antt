@@ -45,7 +45,7 @@ use Rattle.nr_laws.specs.EndCauses.{KeepLaws, IsCallEnd}
 use Rattle.nr_laws.specs.LinkInvariants.{IsUnused}
 use Rattle.nr_laws.specs.MatchedSoFar.{MatchedSoFar}
 use Rattle.nr_laws.specs.Payloads.{form_conveyed}
-use Rattle.nr_laws.specs.Stays.{WordsMark, HaveWords, IsRefusedMessage, HasCallHead, ConveyedMark, AreConveyedOrRefused}
+use Rattle.nr_laws.specs.Stays.{IsRefusedMessage, HasCallHead, ConveyedMark, AreConveyedOrRefused}
 use Rattle.nr_laws.specs.Typed.{TypedMark, IsTypedForm, IsTyped}
 use Rattle.nr_laws.proofs.AcceptedRegions.{accepted-regions}
 use Rattle.nr_laws.proofs.CallEnds.{RefusedAt, refused-at}
@@ -164,22 +164,21 @@ module _ (opened : LinkParameters) (link : ℕ) (run : List Mark) (typed : IsTyp
       received-conveys (call_payload w.xid w.call) w.form send_max stag p c chunk submit_typed.0 submit_typed.1 submit_plan w.accepted.stags of_plan (plan-holds c stag p chunk (ap (λ (x : ChunkLists). x.read) of_plan.lists) held)
 
   -- it isn't refused
-  submit_ready : HaveWords run → AreConveyedOrRefused opened link run → (c : PendingCall) (reason : ℕ) (o : Option (List ℕ)) → c.xid ≡ word_at 0 m → (IsRefusedMessage m → ⊥) → o ≡ form_conveyed w.form (call_payload w.xid w.call)
+  submit_ready : AreConveyedOrRefused opened link run → (c : PendingCall) (reason : ℕ) (o : Option (List ℕ)) → c.xid ≡ word_at 0 m → (IsRefusedMessage m → ⊥) → o ≡ form_conveyed w.form (call_payload w.xid w.call)
       → by_payload c o ≡ Refuses reason → ⊥
-  submit_ready words conveyed c reason o xid fine is e =
+  submit_ready conveyed c reason o xid fine is e =
       let mark = marks.Submit link w.call w.form (submissions.Accepted w.xid) in
       let small = w.accepted.xids in
-      let own = at-mark WordsMark run w.earlier mark w.later w.is words in
       let given = at-mark (ConveyedMark opened link) run w.earlier mark w.later w.is conveyed refl w.accepted.plan w.accepted.planned in
       let head : HasCallHead (form_conveyed w.form (call_payload w.xid w.call)) =
-      conveyed-head-there w.xid w.call w.form _ (omega (arith, small)) own w.accepted.writable given (λ refused. fine (subst IsRefusedMessage (sym w.message_is) refused)) in
-      conveyed-ready w.xid w.call w.form c reason (omega (arith, small)) own w.accepted.writable submit_typed.0 (xid ∙ submit_xid) o is (subst HasCallHead (sym is) head) e
+      conveyed-head-there w.xid w.call w.form _ (omega (arith, small)) w.accepted.writable given (λ refused. fine (subst IsRefusedMessage (sym w.message_is) refused)) in
+      conveyed-ready w.xid w.call w.form c reason (omega (arith, small)) w.accepted.writable submit_typed.0 (xid ∙ submit_xid) o is (subst HasCallHead (sym is) head) e
 
 -- ---- At the frame
 
-not-refused : (opened : LinkParameters) (link : ℕ) (run : List Mark) → IsTyped run → MatchedSoFar opened link run → HaveWords run → AreConveyedOrRefused opened link run → RefusedAt opened link run → ⊥
+not-refused : (opened : LinkParameters) (link : ℕ) (run : List Mark) → IsTyped run → MatchedSoFar opened link run → AreConveyedOrRefused opened link run → RefusedAt opened link run → ⊥
 unfolding payload_of
-not-refused opened link run typed far words conveyed r = by r.cause
+not-refused opened link run typed far conveyed r = by r.cause
   where
     k : ServerState
     k = server_by opened r.earlier
@@ -195,7 +194,7 @@ not-refused opened link run typed far words conveyed r = by r.cause
         let region = planned-chunk (call_payload w.xid w.call) w.form send_max send_max p (submit_plan opened link run typed w) in
         let lists = l.lists ∙ (submit_reads opened link run typed w l.header l.is).lists in
         let none : added_up p.read ≡ 0 = nothing-read (k.regions ++ regions_of k r.frame.end c) k.reads c stag p region (ap (λ (x : ChunkLists). x.read) lists) read in
-        submit_ready opened link run typed w words conveyed c r.reason (payload_of k r.frame.end c) new.own (pending-fine k message c v)
+        submit_ready opened link run typed w conveyed c r.reason (payload_of k r.frame.end c) new.own (pending-fine k message c v)
         (submit_conveys opened link run typed w c chunk l.header l.is l.lists l.stream
         (λ position own. empty-brings c stag position p (chunk position) region own none (λ e. new-empty opened r.earlier r.frame.end c position new.number))) e
     by (AtRead q rest c ends reads found read e) =
@@ -224,15 +223,15 @@ not-refused opened link run typed far words conveyed r = by r.cause
         λ position lists.
         none-or-some (added_up p.read) (chunk position ≡ p.region)
         (λ none. empty-brings c stag position p (chunk position) region lists none (λ zero_is. pending-empty opened r.earlier r.frame r.segment q.number c position found zero_is)) (with_bytes position lists) in
-        submit_ready opened link run typed w words conveyed c r.reason (payload_of t r.frame.end c) (own.xid ∙ header-xid own.message own.header own.is_header)
+        submit_ready opened link run typed w conveyed c r.reason (payload_of t r.frame.end c) (own.xid ∙ header-xid own.message own.header own.is_header)
         (read-fine stag p own.message own.header c own.is_header own.lists own.stream reading.inline reading.lists suits.suits some)
         (submit_conveys opened link run typed w c chunk own.header own.is_header own.lists own.stream held) e
 
 -- On a matched link whose client hasn't ended, nor has the server.
-pub server-stays : (opened : LinkParameters) (link : ℕ) (run : List Mark) → IsOpened opened → IsTyped run → KeepLaws opened link run → HaveWords run → AreConveyedOrRefused opened link run → end_of_side opened link Initiator run ≡ None
+pub server-stays : (opened : LinkParameters) (link : ℕ) (run : List Mark) → IsOpened opened → IsTyped run → KeepLaws opened link run → AreConveyedOrRefused opened link run → end_of_side opened link Initiator run ≡ None
     → (end : End) → end_of_side opened link Responder run ≡ Some end → ⊥
 unfolding end_of_side
-server-stays opened link run opens typed laws words conveyed up end down =
+server-stays opened link run opens typed laws conveyed up end down =
     let c : IsCallEnd end = server-ends-for-calls opened link run opens typed laws up end down in
     let far = laws-so-far opened link run laws in
-    not-refused opened link run typed far words conveyed (refused-at opened link run typed far c.0 c.1 c.3 (down ∙ ap (λ (x : End). Some x) c.2))
+    not-refused opened link run typed far conveyed (refused-at opened link run typed far c.0 c.1 c.3 (down ∙ ap (λ (x : End). Some x) c.2))
