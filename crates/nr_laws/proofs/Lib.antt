@@ -153,3 +153,4 @@ pub mod NotDenied
 pub mod OwnHeads
 pub mod ReplyTargets
 pub mod OwnReplies
+pub mod CallsAtFrames
