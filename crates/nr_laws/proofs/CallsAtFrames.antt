@@ -1,6 +1,6 @@
 -- What is conveyed of a call at the frame by which it becomes whole, whether that ends the server or not: what its form conveys of its own
 -- payload.
-use Rattle.std.proofs.Common.{◌≡◌, ℕ, ◌+◌, zero, suc, ◌<◌, true, false, eqb, List, [], ◌∷◌, ◌++◌, length, Option, None, Some, Result, Ok, refl, sym, ap, subst, ◌∙◌, arith}
+use Rattle.std.proofs.Common.{◌≡◌, ℕ, ◌+◌, zero, suc, ◌<◌, true, false, eqb, List, [], ◌∷◌, ◌++◌, Option, None, Some, Ok, refl, sym, ap, subst, ◌∙◌, arith}
 use Rattle.std.specs.Prelude.{IfSome}
 use Rattle.std.specs.List.{list_any}
 use Rattle.nr_xdr.specs.Item.{IsBytes}
@@ -9,33 +9,26 @@ use Rattle.nr_header.specs.declared.header.ChunkLists.{ChunkLists}
 use Rattle.nr_header.specs.declared.header.ReadSegment.{ReadSegment}
 use Rattle.nr_header.specs.declared.header.Header.{Header}
 use Rattle.nr_header.specs.Reading.{header_of}
-use Rattle.nr_regions.specs.declared.denied.Denied.{Denied}
-use Rattle.nr_wire.specs.declared.hello.Side.TheVariants.{Initiator, Responder}
+use Rattle.nr_wire.specs.declared.hello.Side.TheVariants.{Responder}
 use Rattle.nr_wire.specs.Segment.{Segment}
-use Rattle.nr_wire.specs.Segment.Segment.{Tagged, Untagged}
-use Rattle.nr_link.specs.declared.end.End.{End}
 use Rattle.nr_link.specs.Frames.{Frame, is_hello}
-use Rattle.nr_link.specs.Reasons.{REASON_RESPONSE}
-use Rattle.nr_link.specs.Ending.{frame_segment, frame_end, frame_end_by, missing_access}
-use Rattle.nr_link.specs.SegmentFaults.{SegmentFault, segment_fault, missing_fault, reason_if, is_unexpected}
+use Rattle.nr_link.specs.Ending.{frame_segment, missing_access}
 use Rattle.nr_reduce.specs.declared.call.Submission.TheVariants as submissions
 use Rattle.nr_reduce.specs.declared.mark.Mark.{Mark}
 use Rattle.nr_reduce.specs.declared.mark.Mark.TheVariants as marks
 use Rattle.nr_reduce.specs.declared.mark.LinkParameters.{LinkParameters}
 use Rattle.nr_reduce.specs.declared.outline.Plan.{Plan}
 use Rattle.nr_reduce.specs.Limits.{send_max}
-use Rattle.nr_reduce.specs.Opening.{IsOpened}
 use Rattle.nr_reduce.specs.Plans.{plan_of, entries_from, read_list, lists_of}
 use Rattle.nr_reduce.specs.Chunks.{total_at, call_conveyed}
 use Rattle.nr_reduce.specs.OfferedRegions.{Region, region_grants}
 use Rattle.nr_reduce.specs.ClientState.{call_payload}
 use Rattle.nr_reduce.specs.Events.{Event, events}
 use Rattle.nr_reduce.specs.Events.Event.{FrameReceived}
-use Rattle.nr_reduce.specs.ServerState.{ServerState, PendingCall, PendingRead}
+use Rattle.nr_reduce.specs.ServerState.{PendingCall, PendingRead}
 use Rattle.nr_reduce.specs.ServerReads.{is_read, sink_of, reads_of, reads_from, regions_of}
 use Rattle.nr_reduce.specs.ServerMessages.{verdict, payload_of, chunk_bytes}
 use Rattle.nr_reduce.specs.ServerMessages.Verdict.{MakesPending}
-use Rattle.nr_reduce.specs.ServerMessages.CallVerdict.{Refuses}
 use Rattle.nr_link.specs.ReceiveState.{message_completed}
 use Rattle.nr_reduce.specs.ServerFrames.{call_of_number, with_access}
 use Rattle.nr_reduce.specs.Server.{server_rules, initial_server}
@@ -43,20 +36,17 @@ use Rattle.nr_reduce.specs.Matched.{Matched}
 use Rattle.nr_reduce.specs.Asked.{AskedSoFar}
 use Rattle.nr_reduce.specs.Served.{ServedSoFar}
 use Rattle.nr_reduce.specs.EndRules.{end_state_after}
-use Rattle.nr_reduce.specs.Run.{client, end_of_side}
+use Rattle.nr_reduce.specs.Run.{client}
 use Rattle.nr_reduce.specs.RunLaws.{server_by, known_stream, ends_response, IsReceivedCall}
 use Rattle.nr_reduce.specs.Undone.{ChunkHolds, lists_by}
 use Rattle.nr_reduce.proofs.Conveyed.{Known, known-from, each-found}
 use Rattle.nr_reduce.proofs.Laid.{added_up}
-use Rattle.nr_laws.specs.EndCauses.{KeepLaws, IsCallEnd}
 use Rattle.nr_laws.specs.LinkInvariants.{IsUnused}
-use Rattle.nr_laws.specs.MatchedSoFar.{MatchedSoFar}
 use Rattle.nr_laws.specs.Payloads.{form_conveyed}
-use Rattle.nr_laws.specs.Stays.{IsRefusedMessage, HasCallHead, ConveyedMark, AreConveyedOrRefused}
+use Rattle.nr_laws.specs.Stays.{IsRefusedMessage}
 use Rattle.nr_laws.specs.Typed.{TypedMark, IsTypedForm, IsTyped}
 use Rattle.nr_laws.proofs.AcceptedRegions.{accepted-regions}
 use Rattle.nr_laws.proofs.ClientRun.{WasSubmitted}
-use Rattle.nr_laws.proofs.ClientSays.{AreNone, all_none, no_fault}
 use Rattle.nr_laws.proofs.ConveyedCalls.{planned-fits, plan-reads}
 use Rattle.nr_laws.proofs.ConveyedForms.{HasChunk, no-bytes, planned-chunk, received-conveys}
 use Rattle.nr_laws.proofs.EmptyChunks.{new-empty, pending-empty}
@@ -64,7 +54,7 @@ use Rattle.nr_laws.proofs.ExecutedCalls.{frame-message, received-message}
 use Rattle.nr_laws.proofs.ExecutedPayloads.{IsOfPlan, planned-by}
 use Rattle.nr_laws.proofs.HeaderXid.{header-xid, call-xid}
 use Rattle.nr_laws.proofs.HeldChunks.{sink-holds, not-any}
-use Rattle.nr_laws.proofs.JudgedCalls.{conveyed-ready, conveyed-head-there, pending-fine, read-fine}
+use Rattle.nr_laws.proofs.JudgedCalls.{pending-fine, read-fine}
 use Rattle.nr_laws.proofs.OnceByXid.{at-mark}
 use Rattle.nr_laws.proofs.PendingSends.{verdict-new}
 use Rattle.nr_laws.proofs.PlanLists.{ReadsLists}

@@ -1,26 +1,12 @@
 -- On a matched link a call is executed with the payload that its form conveys.
-use Rattle.std.proofs.Common.{◌≡◌, ℕ, zero, suc, ◌+◌, ◌<◌, true, false, eqb, List, [], ◌∷◌, ◌++◌, Option, None, Some, Ok, refl, sym, ap, subst, ◌∙◌, arith, append_assoc, inl, inr}
-use Rattle.std.specs.Prelude.{IfSome}
-use Rattle.std.specs.List.{list_any}
-use Rattle.nr_xdr.specs.Item.{IsBytes}
-use Rattle.nr_header.specs.declared.header.ChunkLists.{ChunkLists}
-use Rattle.nr_header.specs.declared.header.ReadSegment.{ReadSegment}
-use Rattle.nr_header.specs.declared.header.Header.{Header}
-use Rattle.nr_header.specs.Reading.{header_of}
+use Rattle.std.proofs.Common.{◌≡◌, ℕ, ◌+◌, true, false, List, [], ◌∷◌, ◌++◌, Option, None, Some, Ok, refl, sym, ap, subst, ◌∙◌, append_assoc, inl, inr}
 use Rattle.nr_wire.specs.declared.hello.Side.TheVariants.{Responder}
 use Rattle.nr_wire.specs.Segment.{Segment}
 use Rattle.nr_link.specs.declared.end.End.{End as Stop}
 use Rattle.nr_link.specs.Frames.{Frame, is_hello}
 use Rattle.nr_link.specs.Ending.{frame_segment}
-use Rattle.nr_reduce.specs.declared.call.Submission.TheVariants as submissions
 use Rattle.nr_reduce.specs.declared.mark.Mark.{Mark}
-use Rattle.nr_reduce.specs.declared.mark.Mark.TheVariants as marks
 use Rattle.nr_reduce.specs.declared.mark.LinkParameters.{LinkParameters}
-use Rattle.nr_reduce.specs.declared.outline.Plan.{Plan}
-use Rattle.nr_reduce.specs.Limits.{send_max}
-use Rattle.nr_reduce.specs.Plans.{entries_from, read_list, lists_of}
-use Rattle.nr_reduce.specs.Chunks.{total_at, call_conveyed}
-use Rattle.nr_reduce.specs.OfferedRegions.{Region}
 use Rattle.nr_reduce.specs.ClientState.{call_payload}
 use Rattle.nr_reduce.specs.Events.{Event, events}
 use Rattle.nr_reduce.specs.Events.Event.{FrameReceived}
@@ -28,40 +14,22 @@ use Rattle.nr_reduce.specs.EndRules.{EndState, next_end_state_by, next_end_state
 use Rattle.nr_reduce.specs.Matched.{Matched}
 use Rattle.nr_reduce.specs.Asked.{AskedSoFar}
 use Rattle.nr_reduce.specs.Served.{ServedSoFar, IsExecuted}
-use Rattle.nr_reduce.specs.ServerState.{ServerState, PendingCall, PendingRead}
-use Rattle.nr_reduce.specs.ServerReads.{is_read, sink_of, reads_of, reads_from, regions_of}
-use Rattle.nr_reduce.specs.ServerMessages.{Verdict, payload_of, chunk_bytes}
-use Rattle.nr_reduce.specs.ServerFrames.{with_access}
+use Rattle.nr_reduce.specs.ServerState.{ServerState}
 use Rattle.nr_reduce.specs.Server.{server_rules, server_end, initial_server}
-use Rattle.nr_reduce.specs.Run.{client}
-use Rattle.nr_reduce.specs.RunLaws.{known_stream, server_by, IsReceivedCall}
-use Rattle.nr_reduce.specs.Undone.{ChunkHolds, lists_by}
-use Rattle.nr_reduce.proofs.Conveyed.{Known, known-from, each-found}
-use Rattle.nr_reduce.proofs.Laid.{added_up}
+use Rattle.nr_reduce.specs.RunLaws.{server_by}
 use Rattle.nr_reduce.proofs.Touches.{server_touched}
-use Rattle.nr_reduce.proofs.Once.{NumberIs, verdict-number}
 use Rattle.nr_reduce.proofs.Steps.{end_state_after-append}
-use Rattle.nr_laws.specs.Typed.{TypedMark, IsTypedForm, IsTyped}
+use Rattle.nr_laws.specs.Typed.{IsTyped}
 use Rattle.nr_laws.specs.Payloads.{form_conveyed}
-use Rattle.nr_laws.proofs.AcceptedRegions.{accepted-regions}
 use Rattle.nr_laws.proofs.Along.{GoesOn, goes-behind}
 use Rattle.nr_laws.proofs.CallsAtFrames.{conveyed-by-message, conveyed-by-read}
 use Rattle.nr_laws.proofs.ClientRun.{WasSubmitted}
-use Rattle.nr_laws.proofs.ConveyedCalls.{planned-fits, plan-reads}
-use Rattle.nr_laws.proofs.ConveyedForms.{HasChunk, no-bytes, planned-chunk, received-conveys}
-use Rattle.nr_laws.proofs.ExecutedCalls.{frame-message, received-message, live-server, live-part}
-use Rattle.nr_laws.proofs.EmptyChunks.{new-empty, pending-empty}
-use Rattle.nr_laws.proofs.ExecutedPayloads.{IsOfPlan, planned-by}
+use Rattle.nr_laws.proofs.ExecutedCalls.{live-server, live-part}
 use Rattle.nr_laws.proofs.Hears.{live-first}
 use Rattle.nr_laws.proofs.HeldChunks.{server-good}
-use Rattle.nr_laws.proofs.OnceByXid.{at-mark}
-use Rattle.nr_laws.proofs.PlanLists.{ReadsLists}
-use Rattle.nr_laws.proofs.ReadPayloads.{region-small, stag-small, read-region, region-holds, any-right, own-unread}
 use Rattle.nr_laws.proofs.ReadyCauses.{ReadyBy, ReadyAt, ready-by, executed-ready}
 use Rattle.nr_laws.proofs.ReadyCauses.ReadyBy.{AtMessage, AtRead}
 use Rattle.nr_laws.proofs.ServerAlong.{ServerGood, FrameGood}
-use Rattle.nr_laws.proofs.ServerReadsOfRuns.{verdict-lists}
-use Rattle.nr_laws.proofs.SinkReads.{own_reads, total-own, reads-own}
 
 -- ---- The call
 

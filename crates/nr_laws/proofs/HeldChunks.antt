@@ -21,7 +21,7 @@ use Rattle.nr_reduce.specs.ServerState.{ServerState, PendingCall, PendingRead}
 use Rattle.nr_reduce.specs.ServerReads.{is_read, sink_of}
 use Rattle.nr_reduce.specs.ServerMessages.{chunk_bytes}
 use Rattle.nr_reduce.specs.ServerFrames.{call_of_number, with_access}
-use Rattle.nr_reduce.specs.Server.{server_rules, server_end, initial_server}
+use Rattle.nr_reduce.specs.Server.{server_rules, initial_server}
 use Rattle.nr_reduce.specs.Run.{client}
 use Rattle.nr_reduce.specs.RunLaws.{server_by, ends_response}
 use Rattle.nr_reduce.specs.Undone.{bytes_after_segments}

@@ -1,13 +1,5 @@
 -- On a matched link what a server makes of a call never ends it.
-use Rattle.std.proofs.Common.{◌≡◌, ℕ, zero, suc, ◌<◌, true, false, eqb, List, [], ◌∷◌, ◌++◌, length, Option, None, Some, Result, Ok, refl, sym, ap, subst, ◌∙◌, arith}
-use Rattle.std.specs.Prelude.{IfSome}
-use Rattle.std.specs.List.{list_any}
-use Rattle.nr_xdr.specs.Item.{IsBytes}
-use Rattle.nr_xdr.specs.Fields.{word_at}
-use Rattle.nr_header.specs.declared.header.ChunkLists.{ChunkLists}
-use Rattle.nr_header.specs.declared.header.ReadSegment.{ReadSegment}
-use Rattle.nr_header.specs.declared.header.Header.{Header}
-use Rattle.nr_header.specs.Reading.{header_of}
+use Rattle.std.proofs.Common.{◌≡◌, ℕ, true, List, [], ◌∷◌, length, Option, None, Some, Result, Ok, refl, sym, ap, subst, ◌∙◌, arith}
 use Rattle.nr_regions.specs.declared.denied.Denied.{Denied}
 use Rattle.nr_wire.specs.declared.hello.Side.TheVariants.{Initiator, Responder}
 use Rattle.nr_wire.specs.Segment.{Segment}
@@ -21,54 +13,29 @@ use Rattle.nr_reduce.specs.declared.call.Submission.TheVariants as submissions
 use Rattle.nr_reduce.specs.declared.mark.Mark.{Mark}
 use Rattle.nr_reduce.specs.declared.mark.Mark.TheVariants as marks
 use Rattle.nr_reduce.specs.declared.mark.LinkParameters.{LinkParameters}
-use Rattle.nr_reduce.specs.declared.outline.Plan.{Plan}
-use Rattle.nr_reduce.specs.Limits.{send_max}
 use Rattle.nr_reduce.specs.Opening.{IsOpened}
-use Rattle.nr_reduce.specs.Plans.{plan_of, entries_from, read_list, lists_of}
-use Rattle.nr_reduce.specs.Chunks.{total_at, call_conveyed}
-use Rattle.nr_reduce.specs.OfferedRegions.{Region, region_grants}
+use Rattle.nr_reduce.specs.OfferedRegions.{region_grants}
 use Rattle.nr_reduce.specs.ClientState.{call_payload}
-use Rattle.nr_reduce.specs.Events.Event.{FrameReceived}
-use Rattle.nr_reduce.specs.ServerState.{ServerState, PendingCall, PendingRead}
-use Rattle.nr_reduce.specs.ServerReads.{is_read, sink_of, reads_of, reads_from, regions_of}
-use Rattle.nr_reduce.specs.ServerMessages.{payload_of, chunk_bytes, by_payload}
+use Rattle.nr_reduce.specs.ServerState.{ServerState, PendingCall}
+use Rattle.nr_reduce.specs.ServerMessages.{payload_of, by_payload}
 use Rattle.nr_reduce.specs.ServerMessages.CallVerdict.{Refuses}
 use Rattle.nr_reduce.specs.ServerFrames.{with_access}
 use Rattle.nr_reduce.specs.Server.{readiness}
-use Rattle.nr_reduce.specs.Run.{client, end_of_side}
-use Rattle.nr_reduce.specs.RunLaws.{server_by, known_stream, ends_response, IsReceivedCall}
-use Rattle.nr_reduce.specs.Undone.{ChunkHolds, lists_by}
-use Rattle.nr_reduce.proofs.Conveyed.{Known, known-from, each-found}
-use Rattle.nr_reduce.proofs.Laid.{added_up}
+use Rattle.nr_reduce.specs.Run.{end_of_side}
+use Rattle.nr_reduce.specs.RunLaws.{server_by, ends_response}
 use Rattle.nr_laws.specs.EndCauses.{KeepLaws, IsCallEnd}
-use Rattle.nr_laws.specs.LinkInvariants.{IsUnused}
 use Rattle.nr_laws.specs.MatchedSoFar.{MatchedSoFar}
 use Rattle.nr_laws.specs.Payloads.{form_conveyed}
 use Rattle.nr_laws.specs.Stays.{IsRefusedMessage, HasCallHead, ConveyedMark, AreConveyedOrRefused}
-use Rattle.nr_laws.specs.Typed.{TypedMark, IsTypedForm, IsTyped}
-use Rattle.nr_laws.proofs.AcceptedRegions.{accepted-regions}
+use Rattle.nr_laws.specs.Typed.{IsTyped}
 use Rattle.nr_laws.proofs.CallEnds.{RefusedAt, refused-at}
 use Rattle.nr_laws.proofs.CallRefusals.{RefusedBy}
 use Rattle.nr_laws.proofs.CallRefusals.RefusedBy.{AtMessage, AtRead}
-use Rattle.nr_laws.proofs.ClientRun.{WasSubmitted}
 use Rattle.nr_laws.proofs.ClientSays.{AreNone, all_none, no_fault}
-use Rattle.nr_laws.proofs.ConveyedCalls.{planned-fits, plan-reads}
-use Rattle.nr_laws.proofs.ConveyedForms.{HasChunk, planned-chunk, received-conveys}
-use Rattle.nr_laws.proofs.EmptyChunks.{new-empty, pending-empty}
-use Rattle.nr_laws.proofs.ExecutedCalls.{frame-message, received-message}
-use Rattle.nr_laws.proofs.ExecutedPayloads.{IsOfPlan, planned-by}
 use Rattle.nr_laws.proofs.FirstEnds.{server-ends-for-calls}
-use Rattle.nr_laws.proofs.HeaderXid.{header-xid, call-xid}
-use Rattle.nr_laws.proofs.JudgedCalls.{conveyed-ready, conveyed-head-there, pending-fine, read-fine}
+use Rattle.nr_laws.proofs.JudgedCalls.{conveyed-ready, conveyed-head-there}
 use Rattle.nr_laws.proofs.LawsSoFar.{laws-so-far}
 use Rattle.nr_laws.proofs.OnceByXid.{at-mark}
-use Rattle.nr_laws.proofs.PendingSends.{verdict-new}
-use Rattle.nr_laws.proofs.PlanLists.{ReadsLists}
-use Rattle.nr_laws.proofs.ReadPayloads.{region-small, stag-small, read-region, region-holds, any-right, own-unread}
-use Rattle.nr_laws.proofs.ServerReadsOfRuns.{verdict-lists}
-use Rattle.nr_laws.proofs.SinkReads.{own_reads, total-own, reads-own}
-use Rattle.nr_laws.proofs.SuitedCalls.{HasNoBytes, calls-suit, IsSuited}
-use Rattle.nr_laws.proofs.TotalsAtServer.{found_has}
 use Rattle.nr_laws.proofs.CallsAtFrames.{ConveyedAt, submit_typed, submit_xid, conveyed-by-message, conveyed-by-read}
 
 -- ---- A frame that breaks no rule is allowed its access
