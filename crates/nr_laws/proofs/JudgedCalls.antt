@@ -1,7 +1,7 @@
 -- What a form conveys of a call is judged to be ready, where it has a call head; a message that makes a call pending isn't refused.
 use Rattle.std.proofs.Common.{◌≡◌, ◌≢◌, ℕ, ◌+◌, ◌^◌, ◌≤◌, ◌<◌, Bool, true, false, cond, ◌||◌, not, eqb, ltb, List, [], ◌∷◌, length, Option, None, Some, Result, Ok, Err, refl, sym, ap, subst, ◌∙◌, eqb-true, eq-eqb, inl, inr}
 use Rattle.std.specs.Prelude.{IfSome, is_ok}
-use Rattle.std.proofs.lemmas.Bool.{cases_lt, lt-ltb, eqb-false}
+use Rattle.std.proofs.lemmas.Bool.{eqb-false}
 use Rattle.std.proofs.lemmas.List.Elements.{All-head}
 use Rattle.nr_xdr.specs.Item.{IsBytes}
 use Rattle.nr_xdr.specs.Fields.{word_at}
@@ -36,6 +36,7 @@ use Rattle.nr_laws.specs.Stays.{HasCallHead, IsRefusedMessage, IsConveyedOrRefus
 use Rattle.nr_laws.proofs.CallTargets.{conveyed-head}
 use Rattle.nr_laws.proofs.OwnHeads.{OwnHead, own-head}
 use Rattle.nr_laws.proofs.SuitedCalls.{HasNoBytes, Suits}
+use Rattle.nr_laws.proofs.WritableOffers.{not_above}
 
 -- ---- A payload with a call head
 
@@ -83,20 +84,13 @@ conveyed-head-there xid call form message small can given fine = by form given
 
 -- ---- A message that makes a call pending isn't refused
 
-not-above : (n m : ℕ) → ltb n m ≡ false → m ≤ n
-not-above n m e =
-    elim (cases_lt n m) [
-      | inl lt ↦ absurd (let wrong : true ≡ false = sym (lt-ltb n m lt) ∙ e in cc)
-      | inr le ↦ le
-    ]
-
 header-long : (message : List ℕ) (h : Header) → header_of message ≡ Ok h → 16 ≤ length message
 unfolding header_of
 header-long message h e = by (ltb (length message) 16) refl (body_by (error_by (word_at 12 message) message) (word_at 4 message) (word_at 12 message) message) e
   where
     by : (b : Bool) → ltb (length message) 16 ≡ b → (r : Result Body HeaderFault) → cond b (Err faults.Short) (header_by (word_at 0 message) (word_at 8 message) r) ≡ Ok h → 16 ≤ length message
     by true is r e = absurd cc
-    by false is r e = not-above (length message) 16 is
+    by false is r e = not_above (length message) 16 is
 
 -- the tests that a message passed
 record Passed (k : ServerState) (message : List ℕ) : Type 0 where

@@ -154,3 +154,4 @@ pub mod OwnHeads
 pub mod ReplyTargets
 pub mod OwnReplies
 pub mod CallsAtFrames
+pub mod EndingEvents
