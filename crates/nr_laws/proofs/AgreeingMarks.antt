@@ -1,5 +1,5 @@
 -- Each mark keeps what holds between both ends of a link.
-use Rattle.std.proofs.Common.{◌≡◌, ◌≢◌, ℕ, ◌<◌, eqb, List, [], ◌∷◌, ◌++◌, length, Option, Some, None, refl, sym, ap, subst, ◌∙◌, arith, append-nil}
+use Rattle.std.proofs.Common.{◌≡◌, ◌≢◌, ℕ, ◌+◌, ◌≤◌, ◌<◌, eqb, List, [], ◌∷◌, ◌++◌, length, Option, Some, None, refl, sym, ap, subst, ◌∙◌, arith, append-nil}
 use Rattle.std.specs.Prelude.{slice_get}
 use Rattle.nr_xdr.specs.Item.{IsBytes}
 use Rattle.nr_wire.specs.declared.hello.Side.TheVariants.{Initiator, Responder}
@@ -19,6 +19,8 @@ use Rattle.nr_reduce.specs.Events.{Event, events_at}
 use Rattle.nr_reduce.specs.Events.Event.{FrameReceived, CallSubmitted, MemoryRevoked, CallExecuted, QueueWritten}
 use Rattle.nr_reduce.specs.EndRules.{Rules, EndState, live, next_end_state_by, end_state_after, output_for_by, output_for_all}
 use Rattle.nr_reduce.specs.ClientState.{ClientState, plan_for}
+use Rattle.nr_reduce.specs.Limits.{numbers_end}
+use Rattle.nr_reduce.specs.Plans.{regions_needed}
 use Rattle.nr_reduce.specs.ServerState.{ServerState, ReadyCall}
 use Rattle.nr_reduce.specs.SubmitAnswer.{next_xid}
 use Rattle.nr_reduce.specs.Client.{client_rules, client_end, client_state_after, client_output}
@@ -37,8 +39,14 @@ use Rattle.nr_laws.proofs.Writable.{IsOutput, stream-left}
 use Rattle.nr_laws.proofs.AgreeingEnds.{EndsAgree}
 use Rattle.nr_laws.proofs.OwnEvents.{submitted, revoked, written_up, executed, written_down, some-calls}
 use Rattle.nr_laws.proofs.Guards.{Guards}
+use Rattle.nr_laws.specs.Typed.{TypedMark}
+use Rattle.nr_laws.specs.Stays.{NotRevokedMark}
+use Rattle.nr_laws.proofs.OfferedAccesses.{AccessesAgree}
+use Rattle.nr_laws.proofs.AccessesAtClient.{accessed-submit, accessed-written_up}
+use Rattle.nr_laws.proofs.AccessesAtServer.{accessed-execute, accessed-written_down}
+use Rattle.nr_laws.proofs.AccessSteps.{pending-unanswered}
 use Rattle.nr_laws.proofs.GuardsAtEvents.{guards-submit, guards-revoke, guards-written_up, guards-execute, guards-written_down}
-use Rattle.nr_laws.proofs.AgreeingRuns.{RunAgrees, MarkAgrees, place_of, guards-up, guards-down, same-up, same-down, own-bytes, other-bytes, own-events, other-events}
+use Rattle.nr_laws.proofs.AgreeingRuns.{RunAgrees, MarkAgrees, place_of, guards-up, guards-down, same-up, same-down, accesses-up, accesses-down, own-bytes, other-bytes, own-events, other-events}
 
 pub record OneEvent {S : Type 0} (rules : Rules S) (s : S) (event : Event) : Type 0 where
   pub state : end_state_after rules (live s) (event ∷ []) ≡ live (rules.state_after s event)
@@ -76,8 +84,10 @@ goes-client : (opened : LinkParameters) (link : ℕ) (run : List Mark) (mark : M
     → events_at link Initiator run mark ≡ event ∷ [] → events_at link Responder run mark ≡ [] → fed_at link Initiator mark ≡ [] → fed_at link Responder mark ≡ [] → written_at link Responder mark ≡ []
     → bytes_sent link Initiator run ++ written_at link Initiator mark ≡ output_bytes Initiator 0 0 (j.u ++ w.up) → w.down ≡ j.w.down
     → (IsOpened opened → WithinGrant opened link run mark → Guards opened j.k j.s j.u j.d j.all_up j.all_down j.w (place_of j.u) → Guards opened (client_state_after opened j.k event) j.s j.u j.d (j.all_up ++ said) j.all_down w (place_of j.u))
+    → (TypedMark run mark → NotRevokedMark link run mark → AccessesAgree opened j.k j.s j.d j.all_up j.all_down (length (bytes_received link Initiator run))
+    → AccessesAgree opened (client_state_after opened j.k event) j.s j.d (j.all_up ++ said) j.all_down (length (bytes_received link Initiator run)))
     → MarkAgrees opened link run mark j
-goes-client opened link run mark j event said w other linked output own theirs fed_i fed_r wrote_r sent same guarded =
+goes-client opened link run mark j event said w other linked output own theirs fed_i fed_r wrote_r sent same guarded accessed =
     let one = client-event opened j.k event other in
     record {
       k = client_state_after opened j.k event;
@@ -99,6 +109,7 @@ goes-client opened link run mark j event said w other linked output own theirs f
       bytes_up = subst IsBytes (sym (none-more (bytes_received link Responder run) (fed_at link Responder mark) fed_r)) j.bytes_up;
       bytes_down = subst IsBytes (sym (none-more (bytes_received link Initiator run) (fed_at link Initiator mark) fed_i)) j.bytes_down;
       guarded = λ o within g. guards-up opened (client_state_after opened j.k event) j.s j.u j.d (j.all_up ++ said) j.all_down w (place_of j.u) (guarded o within g);
+      accessed = λ o typed kept g h. accesses-up opened (client_state_after opened j.k event) j.s j.d (j.all_up ++ said) j.all_down (length (bytes_received link Initiator run)) (accessed typed kept h);
     }
 
 goes-server : (opened : LinkParameters) (link : ℕ) (run : List Mark) (mark : Mark) (j : RunAgrees opened link run) (event : Event) (said : List FrameContent) (w : Transit) → ((f : Frame) → event ≢ FrameReceived f)
@@ -106,8 +117,10 @@ goes-server : (opened : LinkParameters) (link : ℕ) (run : List Mark) (mark : M
     → events_at link Initiator run mark ≡ [] → events_at link Responder run mark ≡ event ∷ [] → fed_at link Initiator mark ≡ [] → fed_at link Responder mark ≡ [] → written_at link Initiator mark ≡ []
     → bytes_sent link Responder run ++ written_at link Responder mark ≡ output_bytes Responder 0 0 (j.d ++ w.down) → w.up ≡ j.w.up
     → (IsOpened opened → Guards opened j.k j.s j.u j.d j.all_up j.all_down j.w (place_of j.u) → Guards opened j.k (server_state_after opened j.s event) j.u j.d j.all_up (j.all_down ++ said) w (place_of j.u))
+    → (Guards opened j.k j.s j.u j.d j.all_up j.all_down j.w (place_of j.u) → AccessesAgree opened j.k j.s j.d j.all_up j.all_down (length (bytes_received link Initiator run))
+    → AccessesAgree opened j.k (server_state_after opened j.s event) j.d j.all_up (j.all_down ++ said) (length (bytes_received link Initiator run)))
     → MarkAgrees opened link run mark j
-goes-server opened link run mark j event said w other linked output theirs own fed_i fed_r wrote_i sent same guarded =
+goes-server opened link run mark j event said w other linked output theirs own fed_i fed_r wrote_i sent same guarded accessed =
     let one = server-event opened j.s event other in
     record {
       k = j.k;
@@ -129,6 +142,7 @@ goes-server opened link run mark j event said w other linked output theirs own f
       bytes_up = subst IsBytes (sym (none-more (bytes_received link Responder run) (fed_at link Responder mark) fed_r)) j.bytes_up;
       bytes_down = subst IsBytes (sym (none-more (bytes_received link Initiator run) (fed_at link Initiator mark) fed_i)) j.bytes_down;
       guarded = λ o within g. guards-down opened j.k (server_state_after opened j.s event) j.u j.d j.all_up (j.all_down ++ said) w (place_of j.u) (guarded o g);
+      accessed = λ o typed kept g h. accesses-down opened j.k (server_state_after opened j.s event) j.d j.all_up (j.all_down ++ said) (length (bytes_received link Initiator run)) (accessed g h);
     }
 
 -- ---- Each
@@ -152,6 +166,10 @@ goes-submit opened link run call form xid j h =
     let room : length j.k.outstanding < j.k.grant = room-of opened link run j (within refl) in
     subst (λ (ps : List FrameContent). Guards opened (client_state_after opened j.k (CallSubmitted place a)) j.s j.u j.d (j.all_up ++ ps) j.all_down (up_more j.w ps) (place_of j.u)) (sym m.said_is)
     (guards-submit opened j.k j.s j.u j.d j.all_up j.all_down j.w (place_of j.u) place a h.plan j.linked g planned own h.xids room))
+    (λ typed kept agree.
+    let stags : j.k.stag + regions_needed h.plan ≤ numbers_end = subst (λ (r : EndState ClientState). r.state.stag + regions_needed h.plan ≤ numbers_end) j.client_is h.stags in
+    subst (λ (ps : List FrameContent). AccessesAgree opened (client_state_after opened j.k (CallSubmitted place a)) j.s j.d (j.all_up ++ ps) j.all_down place) (sym m.said_is)
+    (accessed-submit opened j.k j.s j.d j.all_up j.all_down place a h.plan agree planned h.xids stags typed.0 typed.1))
 
 pub goes-wrote_up : (opened : LinkParameters) (link : ℕ) (run : List Mark) (bytes : List ℕ) (j : RunAgrees opened link run) → bytes_sent link Initiator run ++ bytes ≡ output_due opened link Initiator run
     → MarkAgrees opened link run (marks.Wrote link Initiator bytes) j
@@ -165,6 +183,9 @@ goes-wrote_up opened link run bytes j all =
     (λ o within g.
     guards-down opened (client_state_after opened j.k QueueWritten) j.s j.u j.d j.all_up j.all_down (record { queued_up = []; up = j.w.up ++ j.w.queued_up; queued_down = j.w.queued_down; down = j.w.down }) (place_of j.u)
     (guards-written_up opened j.k j.s j.u j.d j.all_up j.all_down j.w (place_of j.u) j.linked g))
+    (λ typed kept agree.
+    accesses-down opened (client_state_after opened j.k QueueWritten) j.s j.d j.all_up j.all_down (length (bytes_received link Initiator run))
+    (accessed-written_up opened j.k j.s j.d j.all_up j.all_down (length (bytes_received link Initiator run)) agree))
 
 pub goes-revoke : (opened : LinkParameters) (link : ℕ) (run : List Mark) (xid : ℕ) (bytes : List ℕ) (j : RunAgrees opened link run) → MarkAgrees opened link run (marks.Revoke link xid bytes) j
 unfolding client_output
@@ -177,6 +198,7 @@ goes-revoke opened link run xid bytes j =
     (append-nil (bytes_sent link Initiator run) ∙ j.sent_up) refl
     (λ o within g.
     guards-down opened (client_state_after opened j.k (MemoryRevoked place xid)) j.s j.u j.d j.all_up j.all_down j.w (place_of j.u) (guards-revoke opened j.k j.s j.u j.d j.all_up j.all_down j.w (place_of j.u) place xid g))
+    (λ typed kept agree. absurd (kept refl))
 
 pub goes-wrote_down : (opened : LinkParameters) (link : ℕ) (run : List Mark) (bytes : List ℕ) (j : RunAgrees opened link run) → bytes_sent link Responder run ++ bytes ≡ output_due opened link Responder run
     → MarkAgrees opened link run (marks.Wrote link Responder bytes) j
@@ -190,6 +212,9 @@ goes-wrote_down opened link run bytes j all =
     (λ o g.
     guards-up opened j.k (server_state_after opened j.s QueueWritten) j.u j.d j.all_up j.all_down (record { queued_up = j.w.queued_up; up = j.w.up; queued_down = []; down = j.w.down ++ j.w.queued_down }) (place_of j.u)
     (guards-written_down opened j.k j.s j.u j.d j.all_up j.all_down j.w (place_of j.u) g))
+    (λ g agree.
+    accesses-up opened j.k (server_state_after opened j.s QueueWritten) j.d j.all_up j.all_down (length (bytes_received link Initiator run))
+    (accessed-written_down opened j.k j.s j.d j.all_up j.all_down (length (bytes_received link Initiator run)) agree))
 
 first_is : (ready : List ReadyCall) (r : ReadyCall) → slice_get ready 0 ≡ Some r → (rest : List ReadyCall) × (ready ≡ r ∷ rest)
 first_is [] r e = absurd cc
@@ -220,3 +245,7 @@ goes-execute opened link run xid moment payload place reply j h =
     (λ o g.
     subst (λ (ps : List FrameContent). Guards opened j.k (server_state_after opened j.s (CallExecuted e)) j.u j.d j.all_up (j.all_down ++ ps) (record { queued_up = j.w.queued_up; up = j.w.up; queued_down = j.w.queued_down ++ ps; down = j.w.down }) (place_of j.u)) (sym m.said_is)
     (guards-execute opened j.k j.s j.u j.d j.all_up j.all_down j.w (place_of j.u) e h.call first.0 o j.linked g j.linked.fits first.1 h.own))
+    (λ g agree.
+    subst (λ (ps : List FrameContent). AccessesAgree opened j.k (server_state_after opened j.s (CallExecuted e)) j.d j.all_up (j.all_down ++ ps) (length (bytes_received link Initiator run))) (sym m.said_is)
+    (accessed-execute opened j.k j.s j.d j.all_up j.all_down (length (bytes_received link Initiator run)) e h.call first.0 agree first.1 h.own j.linked.waits.whole_calls g.numbers
+    (pending-unanswered xid j.all_down j.s.calls g.answered.once there)))

@@ -37,6 +37,9 @@ use Rattle.nr_laws.proofs.CompletedFrames.{fed}
 use Rattle.nr_laws.proofs.Writable.{IsOutput, stream_proper, stream-left}
 use Rattle.nr_laws.proofs.TotalsAtClient.{down_one}
 use Rattle.nr_laws.proofs.Guards.{Guards}
+use Rattle.nr_laws.specs.Typed.{TypedMark}
+use Rattle.nr_laws.specs.Stays.{NotRevokedMark}
+use Rattle.nr_laws.proofs.OfferedAccesses.{AccessesAgree}
 use Rattle.nr_laws.proofs.AgreeingEnds.{EndsAgree, IsPlace, taken_up}
 use Rattle.nr_laws.proofs.ServerFrames.{AreSome, events_of, server-runs}
 use Rattle.nr_laws.proofs.ClientFrames.{client-runs}
@@ -95,6 +98,8 @@ pub record MarkAgrees (opened : LinkParameters) (link : ℕ) (run : List Mark) (
   pub bytes_down : IsBytes (bytes_received link Initiator run ++ fed_at link Initiator mark)
   pub guarded : IsOpened opened → WithinGrant opened link run mark → Guards opened j.k j.s j.u j.d j.all_up j.all_down j.w (place_of j.u)
       → Guards opened k s u d (j.all_up ++ said_up) (j.all_down ++ said_down) w (place_of u)
+  pub accessed : IsOpened opened → TypedMark run mark → NotRevokedMark link run mark → Guards opened j.k j.s j.u j.d j.all_up j.all_down j.w (place_of j.u)
+      → AccessesAgree opened j.k j.s j.d j.all_up j.all_down (length (bytes_received link Initiator run)) → AccessesAgree opened k s d (j.all_up ++ said_up) (j.all_down ++ said_down) (length (bytes_received link Initiator run))
 
 unfoldable pub goes-on : (opened : LinkParameters) (link : ℕ) (run : List Mark) (mark : Mark) (j : RunAgrees opened link run) → MarkAgrees opened link run mark j → RunAgrees opened link (run ++ mark ∷ [])
 goes-on opened link run mark j g =
@@ -149,6 +154,12 @@ guards-up opened k s u d all_up all_down w place g = subst (λ (ps : List FrameC
 pub guards-down : (opened : LinkParameters) (k : ClientState) (s : ServerState) (u d all_up all_down : List FrameContent) (w : Transit) (place : ℕ) → Guards opened k s u d all_up all_down w place → Guards opened k s u d (all_up ++ []) all_down w place
 guards-down opened k s u d all_up all_down w place g = subst (λ (ps : List FrameContent). Guards opened k s u d ps all_down w place) (sym (append-nil all_up)) g
 
+pub accesses-up : (opened : LinkParameters) (k : ClientState) (s : ServerState) (d all_up all_down : List FrameContent) (place : ℕ) → AccessesAgree opened k s d all_up all_down place → AccessesAgree opened k s d all_up (all_down ++ []) place
+accesses-up opened k s d all_up all_down place h = subst (λ (ps : List FrameContent). AccessesAgree opened k s d all_up ps place) (sym (append-nil all_down)) h
+
+pub accesses-down : (opened : LinkParameters) (k : ClientState) (s : ServerState) (d all_up all_down : List FrameContent) (place : ℕ) → AccessesAgree opened k s d all_up all_down place → AccessesAgree opened k s d (all_up ++ []) all_down place
+accesses-down opened k s d all_up all_down place h = subst (λ (ps : List FrameContent). AccessesAgree opened k s d ps all_down place) (sym (append-nil all_up)) h
+
 -- a mark that is no event of this link, and brings no bytes
 pub goes-none : (opened : LinkParameters) (link : ℕ) (run : List Mark) (mark : Mark) (j : RunAgrees opened link run) → events_at link Initiator run mark ≡ [] → events_at link Responder run mark ≡ []
     → fed_at link Initiator mark ≡ [] → fed_at link Responder mark ≡ [] → written_at link Initiator mark ≡ [] → written_at link Responder mark ≡ [] → MarkAgrees opened link run mark j
@@ -172,6 +183,8 @@ goes-none opened link run mark j own theirs fed_i fed_r wrote_i wrote_r = record
   bytes_up = subst IsBytes (sym (ap (λ (xs : List ℕ). bytes_received link Responder run ++ xs) fed_r ∙ append-nil (bytes_received link Responder run))) j.bytes_up;
   bytes_down = subst IsBytes (sym (ap (λ (xs : List ℕ). bytes_received link Initiator run ++ xs) fed_i ∙ append-nil (bytes_received link Initiator run))) j.bytes_down;
   guarded = λ o within g. guards-all opened j.k j.s j.u j.d j.all_up j.all_down j.w (place_of j.u) g;
+  accessed = λ o typed kept g h.
+      accesses-down opened j.k j.s j.d j.all_up (j.all_down ++ []) (length (bytes_received link Initiator run)) (accesses-up opened j.k j.s j.d j.all_up j.all_down (length (bytes_received link Initiator run)) h);
 }
 
 -- ---- A Fed
@@ -296,6 +309,9 @@ goes-fed_up opened link run bytes j prefix typed unended =
       guarded = λ o within g.
           subst (λ (x : ℕ). Guards opened j.k m.after (j.u ++ a.new) j.d (j.all_up ++ []) (j.all_down ++ m.said) (taken_up j.w a.left m.said) x) (place-more j.u a.new)
           (guards-down opened j.k m.after (j.u ++ a.new) j.d j.all_up (j.all_down ++ m.said) (taken_up j.w a.left m.said) (place_of j.u + length (concat (frames_at Initiator n r a.new))) (m.guarded o g));
+      accessed = λ o typed_mark kept g h.
+          let reached = length (bytes_received link Initiator run) in
+          accesses-down opened j.k m.after j.d j.all_up (j.all_down ++ m.said) reached (m.accessed o g reached h);
       bytes_down = subst IsBytes (sym (ap (λ (xs : List ℕ). bytes_received link Initiator run ++ xs) down ∙ append-nil (bytes_received link Initiator run))) j.bytes_down;
     }
 
@@ -341,4 +357,7 @@ goes-fed_down opened link run bytes j prefix typed unended =
       bytes_down = subst (λ (xs : List ℕ). IsBytes (got ++ xs)) (sym down) all_typed;
       guarded = λ o within g.
           guards-up opened m.after j.s j.u (j.d ++ a.new) (j.all_up ++ m.said) j.all_down (down_one j.w m.said a.left) (place_of j.u) (m.guarded o (place_of j.u) g);
+      accessed = λ o typed_mark kept g h.
+          let reached = length (bytes_received link Initiator run) in
+          accesses-up opened m.after j.s (j.d ++ a.new) (j.all_up ++ m.said) j.all_down reached (m.accessed reached h);
     }

@@ -1,5 +1,5 @@
 -- Where a server ends for a call: at the frame by which the call became whole, its payload is refused.
-use Rattle.std.proofs.Common.{◌≡◌, ◌≢◌, ℕ, ◌+◌, ◌-◌, Bool, true, false, cond, ◌&&◌, ◌||◌, not, eqb, ltb, List, [], ◌∷◌, ◌++◌, length, drop, Option, None, Some, Result, Ok, Err, refl, sym, ap, subst, ◌∙◌, arith, inl, inr}
+use Rattle.std.proofs.Common.{◌≡◌, ℕ, ◌+◌, ◌-◌, ◌<◌, Bool, true, false, cond, ◌&&◌, ◌||◌, not, eqb, ltb, List, [], ◌∷◌, ◌++◌, length, drop, Option, None, Some, Result, Ok, Err, refl, sym, ap, subst, ◌∙◌, arith, inl, inr, ◌⊎◌}
 use Rattle.nr_header.specs.declared.fault.HeaderFault.{HeaderFault}
 use Rattle.nr_header.specs.declared.header.ChunkLists.{ChunkLists}
 use Rattle.nr_header.specs.declared.header.Body.{Body}
@@ -8,18 +8,14 @@ use Rattle.nr_header.specs.declared.header.Header.{Header}
 use Rattle.nr_header.specs.Reading.{header_of}
 use Rattle.nr_xdr.specs.Fields.{word_at}
 use Rattle.nr_regions.specs.declared.denied.Denied.{Denied}
-use Rattle.nr_regions.specs.RegisteredMemory.{Access}
 use Rattle.nr_wire.specs.Constants.{OPCODE_READ_RESPONSE}
 use Rattle.nr_wire.specs.Segment.{Segment}
 use Rattle.nr_wire.specs.Segment.Segment.{Tagged, Untagged}
-use Rattle.nr_link.specs.declared.end.End.{End as Stop}
 use Rattle.nr_link.specs.declared.end.End.TheVariants as ends
 use Rattle.nr_link.specs.Frames.{Frame}
-use Rattle.nr_link.specs.Reasons.{REASON_MSN, REASON_OFFSET, REASON_FORM, REASON_RESPONSE, REASON_REQUESTS, REASON_SHORT, REASON_LONG}
-use Rattle.nr_link.specs.ReceiveState.{message_completed, is_send}
-use Rattle.nr_link.specs.SegmentFaults.{Readiness, SegmentFault, segment_fault, first_fault, reason_if, next_msn, next_offset, no_buffer, is_begun, is_malformed, missing_fault, is_unexpected, is_too_many, has_length, terminate_fault}
-use Rattle.nr_link.specs.SegmentFaults.SegmentFault.{Reason, NoBuffer, AccessDenied, PeerTerminated}
-use Rattle.nr_link.specs.Ending.{access_of, denied_at, frame_segment, frame_end, frame_end_by, end_of_fault, missing_access}
+use Rattle.nr_link.specs.ReceiveState.{message_completed}
+use Rattle.nr_link.specs.SegmentFaults.{Readiness, segment_fault}
+use Rattle.nr_link.specs.Ending.{frame_segment, frame_end, frame_end_by, missing_access}
 use Rattle.nr_regions.specs.Access.{Grant}
 use Rattle.nr_reduce.specs.Chunks.{is_read_chunk_of_item}
 use Rattle.nr_reduce.specs.ServerState.{ServerState, PendingCall, PendingRead, next_stag, is_pending}
@@ -30,120 +26,23 @@ use Rattle.nr_reduce.specs.ServerMessages.CallVerdict.{Refuses, IsReady}
 use Rattle.nr_reduce.specs.ServerFrames.{FrameEffect, no_effect, with_verdict, ready_if_whole, message_effect, with_refused_call, is_stream_read, read_effect, call_of_number, response_effect, by_message, with_access, effect_in, frame_effect}
 use Rattle.nr_reduce.specs.RunLaws.{ends_response}
 use Rattle.nr_laws.specs.EndCauses.{IsCallReason}
+use Rattle.nr_laws.proofs.JudgedMessages.{by-fault}
+use Rattle.nr_laws.proofs.OtherReasons.{apart, fault-other}
 
 -- ---- Reasons that aren't those of a call
 
 abbrev IsOther : ℕ → Type 0
 IsOther reason = IsCallReason reason → ⊥
 
-other : (reason : ℕ) → reason ≢ 18 → reason ≢ 19 → IsOther reason
-other reason a b (inl e) = a e
-other reason a b (inr e) = b e
-
-abbrev OtherFault : Option (SegmentFault Denied) → Type 0
-OtherFault None = Unit {0}
-OtherFault (Some (Reason reason)) = IsOther reason
-OtherFault (Some (NoBuffer msn)) = Unit {0}
-OtherFault (Some (AccessDenied why)) = Unit {0}
-OtherFault (Some (PeerTerminated word)) = Unit {0}
-
-abbrev OtherFaults : List (Option (SegmentFault Denied)) → Type 0
-OtherFaults [] = Unit {0}
-OtherFaults (x ∷ xs) = OtherFault x × OtherFaults xs
-
-first-other : (xs : List (Option (SegmentFault Denied))) → OtherFaults xs → OtherFault (first_fault xs)
-first-other [] h = tt
-first-other (None ∷ xs) h = first-other xs h.1
-first-other (Some x ∷ xs) h = h.0
-
-reason-other : (reason : ℕ) (b : Bool) → IsOther reason → OtherFault (reason_if reason b)
-reason-other reason true h = h
-reason-other reason false h = tt
-
-buffer-other : (r : Readiness Denied) (b : Bool) (msn : ℕ) → OtherFault (no_buffer r b msn)
-buffer-other r true msn = by (is_begun r.received.begun || r.has_receive)
-  where
-    by : (b : Bool) → OtherFault (cond b None (Some (NoBuffer msn)))
-    by true = tt
-    by false = tt
-buffer-other r false msn = tt
-
-missing-other : (o : Option Denied) → OtherFault (missing_fault o)
-missing-other None = tt
-missing-other (Some why) = tt
-
-terminate-other : (opcode : ℕ) (payload : List ℕ) → OtherFault (terminate_fault opcode payload)
-terminate-other opcode payload = by (eqb opcode 7)
-  where
-    by : (b : Bool) → OtherFault (cond b (Some (PeerTerminated (word_at 0 payload))) None)
-    by true = tt
-    by false = tt
-
-fault-other : (r : Readiness Denied) (s : Segment) → OtherFault (segment_fault r s)
-unfolding segment_fault
-fault-other r (Tagged last opcode stag to payload) =
-    first-other (missing_fault r.missing ∷ reason_if REASON_RESPONSE (is_unexpected r opcode last stag to (length payload)) ∷ [])
-    (missing-other r.missing, (reason-other REASON_RESPONSE (is_unexpected r opcode last stag to (length payload)) (other 14 (λ e. omega (arith, e)) (λ e. omega (arith, e))), tt))
-fault-other r (Untagged last opcode w queue msn offset payload) =
-    let message : Option (List ℕ) = message_completed r.received (Untagged last opcode w queue msn offset payload) in
-    first-other
-    (reason_if REASON_MSN (not (eqb msn (next_msn r.received queue)))
-    ∷ reason_if REASON_OFFSET (not (eqb offset (next_offset r.received queue)))
-    ∷ no_buffer r (is_send opcode) msn
-    ∷ reason_if REASON_FORM (is_malformed opcode last payload)
-    ∷ missing_fault r.missing
-    ∷ reason_if REASON_REQUESTS (is_too_many r opcode)
-    ∷ reason_if REASON_LONG (has_length (ltb r.message_max) message)
-    ∷ reason_if REASON_SHORT (has_length (λ n. ltb n 16) message)
-    ∷ terminate_fault opcode payload
-    ∷ []) (
-      reason-other REASON_MSN (not (eqb msn (next_msn r.received queue))) (other 11 (λ e. omega (arith, e)) (λ e. omega (arith, e))),
-      (
-        reason-other REASON_OFFSET (not (eqb offset (next_offset r.received queue))) (other 12 (λ e. omega (arith, e)) (λ e. omega (arith, e))),
-        (
-          buffer-other r (is_send opcode) msn,
-          (
-            reason-other REASON_FORM (is_malformed opcode last payload) (other 13 (λ e. omega (arith, e)) (λ e. omega (arith, e))),
-            (
-              missing-other r.missing,
-              (
-                reason-other REASON_REQUESTS (is_too_many r opcode) (other 15 (λ e. omega (arith, e)) (λ e. omega (arith, e))),
-                (
-                  reason-other REASON_LONG (has_length (ltb r.message_max) message) (other 22 (λ e. omega (arith, e)) (λ e. omega (arith, e))),
-                  (reason-other REASON_SHORT (has_length (λ n. ltb n 16) message) (other 16 (λ e. omega (arith, e)) (λ e. omega (arith, e))), (terminate-other opcode payload, tt)),
-                ),
-              ),
-            ),
-          ),
-        ),
-      ),
-    )
-
-abbrev OtherEnd : Option Stop → Type 0
-OtherEnd None = Unit {0}
-OtherEnd (Some (ends.Bad at reason)) = IsOther reason
-OtherEnd (Some (ends.Denied stag offset why)) = Unit {0}
-OtherEnd (Some (ends.NoBuffer msn)) = Unit {0}
-OtherEnd (Some (ends.Terminated reason)) = Unit {0}
-OtherEnd (Some ends.Memory) = Unit {0}
-
-fault-end : (f : Frame) (s : Segment) (o : Option (SegmentFault Denied)) → OtherFault o → OtherEnd (end_of_fault f s o)
-fault-end f s None h = tt
-fault-end f s (Some (Reason reason)) h = h
-fault-end f s (Some (NoBuffer msn)) h = tt
-fault-end f s (Some (AccessDenied why)) h = by (access_of s)
-  where
-    by : (o : Option Access) → OtherEnd (Some (denied_at o why))
-    by None = tt
-    by (Some access) = tt
-fault-end f s (Some (PeerTerminated word)) h = tt
+other : (reason : ℕ) → (reason < 18) ⊎ ((reason ≡ 20) ⊎ (21 < reason)) → IsOther reason
+other reason h own = apart reason h (inr own)
 
 -- the rules of a link end no side for such a reason
 pub frame-other : (ready : Option Denied → Readiness Denied) (grants : List Grant) (f : Frame) (s : Segment) (at reason : ℕ) → frame_segment f ≡ Ok s → IsCallReason reason → frame_end ready grants f ≡ Some (ends.Bad at reason) → ⊥
 unfolding frame_end
 frame-other ready grants f s at reason is own e =
-    let made : frame_end_by ready grants f (Ok s) ≡ Some (ends.Bad at reason) = ap (λ (r : Result Segment ℕ). frame_end_by ready grants f r) (sym is) ∙ e in
-    subst OtherEnd made (fault-end f s _ (fault-other (ready (missing_access grants f s)) s)) own
+    by-fault f s (segment_fault (ready (missing_access grants f s)) s) (fault-other (ready (missing_access grants f s)) s) at reason (inr own)
+    (ap (λ (r : Result Segment ℕ). frame_end_by ready grants f r) (sym is) ∙ e)
 
 -- ---- The verdict on a message gives no such reason
 
@@ -158,7 +57,7 @@ other-if true v w h g = h
 other-if false v w h g = g
 
 need-other : (k : ServerState) (c : PendingCall) → OtherVerdict (by_need k c)
-need-other k c = other-if (ltb 4294967296 (next_stag k + length (chunks_of c.lists))) (EndsLink 30) (MakesPending c) (other 30 (λ e. omega (arith, e)) (λ e. omega (arith, e))) tt
+need-other k c = other-if (ltb 4294967296 (next_stag k + length (chunks_of c.lists))) (EndsLink 30) (MakesPending c) (other 30 (inr (inr (omega arith)))) tt
 
 stream-other : (k : ServerState) (lists : ChunkLists) (xid : ℕ) (o : Option (List ℕ)) → OtherVerdict (by_stream k lists xid o)
 stream-other k lists xid None = need-other k (record { number = k.received.sends + 1; xid = xid; lists = lists; inline = None })
@@ -179,8 +78,8 @@ verdict-other : (k : ServerState) (message : List ℕ) → OtherVerdict (verdict
 unfolding verdict
 verdict-other k message =
     other-if (not (eqb (word_at 4 message) 1)) OtherVersion _ tt
-    (other-if (eqb (word_at 12 message) 3 || eqb (word_at 12 message) 4) (EndsLink 17) _ (other 17 (λ e. omega (arith, e)) (λ e. omega (arith, e)))
-    (other-if (is_pending k (word_at 0 message)) (EndsLink 20) (by_header k message (header_of message)) (other 20 (λ e. omega (arith, e)) (λ e. omega (arith, e))) (header-other k message (header_of message))))
+    (other-if (eqb (word_at 12 message) 3 || eqb (word_at 12 message) 4) (EndsLink 17) _ (other 17 (inl (omega arith)))
+    (other-if (is_pending k (word_at 0 message)) (EndsLink 20) (by_header k message (header_of message)) (other 20 (inr (inl refl))) (header-other k message (header_of message))))
 
 -- ---- Why the effect of a frame refuses for such a reason
 

@@ -1,5 +1,5 @@
 -- A client receives some frames one after the other.
-use Rattle.std.proofs.Common.{◌≡◌, ℕ, ◌+◌, List, [], ◌∷◌, ◌++◌, length, Some, None, refl, sym, ap, subst, ◌∙◌, arith, append_assoc, append-nil, ◌⊎◌}
+use Rattle.std.proofs.Common.{◌≡◌, ℕ, ◌+◌, List, [], ◌∷◌, ◌++◌, length, Some, None, refl, sym, ap, subst, ◌∙◌, arith, append_assoc, append-nil, ◌⊎◌, inl, inr}
 use Rattle.std.specs.List.{concat}
 use Rattle.nr_xdr.specs.Item.{IsBytes}
 use Rattle.nr_xdr.proofs.Chains.{IsBytes-left, IsBytes-right}
@@ -8,6 +8,7 @@ use Rattle.nr_reduce.specs.declared.mark.LinkParameters.{LinkParameters}
 use Rattle.nr_reduce.specs.Opening.{IsOpened}
 use Rattle.nr_reduce.specs.Events.{Event}
 use Rattle.nr_link.specs.declared.end.End.{End}
+use Rattle.nr_link.specs.Frames.{Frame}
 use Rattle.nr_reduce.specs.Events.Event.{FrameReceived}
 use Rattle.nr_reduce.specs.EndRules.{EndState, live, end_state_after, output_for_all}
 use Rattle.nr_reduce.specs.ClientState.{ClientState}
@@ -20,10 +21,12 @@ use Rattle.nr_laws.proofs.StreamFrames.{frames_at, spelled-append}
 use Rattle.nr_laws.proofs.TotalsAtClient.{down_one}
 use Rattle.nr_laws.specs.EndCauses.{IsReplyEnd, IsDenied}
 use Rattle.nr_laws.proofs.Guards.{Guards}
-use Rattle.nr_laws.proofs.ClientStep.{step-down}
+use Rattle.nr_laws.proofs.ClientStep.{LacksAccess, step-down}
 use Rattle.nr_laws.proofs.AgreeingEnds.{EndsAgree, IsPlace, frame_of}
 use Rattle.nr_laws.proofs.ServerFrames.{lives, place-next, events_of, AreSome, ends-first}
 use Rattle.nr_laws.proofs.ClientFrame.{client-took}
+use Rattle.nr_laws.proofs.OfferedAccesses.{AccessesAgree}
+use Rattle.nr_laws.proofs.AccessSteps.{accessed-down}
 
 pub record ClientRan (opened : LinkParameters) (k : ClientState) (s : ServerState) (u d all_up all_down : List FrameContent) (w : Transit) (new left : List FrameContent) (es : List Event) : Type 0 where
   pub after : ClientState
@@ -32,6 +35,7 @@ pub record ClientRan (opened : LinkParameters) (k : ClientState) (s : ServerStat
   pub output : output_for_all (client_rules opened) (live k) es ≡ output_bytes Initiator (total_of sends_in all_up) (total_of requests_in all_up) said
   pub linked : EndsAgree opened after s u (d ++ new) (all_up ++ said) all_down (down_one w said left)
   pub guarded : IsOpened opened → (up : ℕ) → Guards opened k s u d all_up all_down w up → Guards opened after s u (d ++ new) (all_up ++ said) all_down (down_one w said left) up
+  pub accessed : (at : ℕ) → AccessesAgree opened k s d all_up all_down at → AccessesAgree opened after s (d ++ new) (all_up ++ said) all_down at
 
 pub client-runs : (opened : LinkParameters) (s : ServerState) (u all_down left new : List FrameContent) (k : ClientState) (d all_up : List FrameContent) (w : Transit) (n r place : ℕ) → EndsAgree opened k s u d all_up all_down w → w.down ≡ new ++ left
     → n ≡ total_of sends_in d → r ≡ total_of requests_in d → IsPlace d place → IsBytes (concat (frames_at Responder n r new)) → AreSome (frames_at Responder n r new)
@@ -49,7 +53,11 @@ client-runs opened s u all_down left [] k d all_up w n r place l first sends req
     (subst (λ (ps : List FrameContent). Guards opened k s u d ps all_down (down_one w [] left) up) (sym (append-nil all_up))
     (subst (λ (ps : List FrameContent). Guards opened k s u d all_up all_down (record { queued_up = ps; up = w.up; queued_down = w.queued_down; down = left }) up) (sym (append-nil w.queued_up))
     (subst (λ (ps : List FrameContent). Guards opened k s u d all_up all_down (record { queued_up = w.queued_up; up = w.up; queued_down = w.queued_down; down = ps }) up) first g))) in
-    record { after = k; said = []; state = refl; output = refl; linked = same; guarded = guarded }
+    let accessed : (at : ℕ) → AccessesAgree opened k s d all_up all_down at → AccessesAgree opened k s (d ++ []) (all_up ++ []) all_down at =
+    λ at h.
+    subst (λ (ps : List FrameContent). AccessesAgree opened k s ps (all_up ++ []) all_down at) (sym (append-nil d))
+    (subst (λ (ps : List FrameContent). AccessesAgree opened k s d ps all_down at) (sym (append-nil all_up)) h) in
+    record { after = k; said = []; state = refl; output = refl; linked = same; guarded = guarded; accessed = accessed }
 client-runs opened s u all_down left (p ∷ new) k d all_up w n r place l first sends requests at bytes some e =
     let rules = client_rules opened in
     let frame = frame_bytes Responder (numbered_segment n r p) in
@@ -71,6 +79,11 @@ client-runs opened s u all_down left (p ∷ new) k d all_up w n r place l first 
           (subst (λ (ps : List FrameContent). Guards opened m.after s u ((d ++ p ∷ []) ++ new) ps all_down (down_one w (t.said ++ m.said) left) up) (append_assoc all_up t.said m.said)
           (subst (λ (ps : List FrameContent). Guards opened m.after s u ((d ++ p ∷ []) ++ new) ((all_up ++ t.said) ++ m.said) all_down (record { queued_up = ps; up = w.up; queued_down = w.queued_down; down = left }) up) (append_assoc w.queued_up t.said m.said)
           (m.guarded o up one)));
+      accessed = λ reached h.
+          let one = subst (λ (ps : List FrameContent). AccessesAgree opened after s (d ++ p ∷ []) (all_up ++ ps) all_down reached) (sym t.said_is)
+          (accessed-down opened k s u d all_up all_down w p (new ++ left) n r place reached l first sends requests at h) in
+          subst (λ (ps : List FrameContent). AccessesAgree opened m.after s ps (all_up ++ (t.said ++ m.said)) all_down reached) (append_assoc d (p ∷ []) new)
+          (subst (λ (ps : List FrameContent). AccessesAgree opened m.after s ((d ++ p ∷ []) ++ new) ps all_down reached) (append_assoc all_up t.said m.said) (m.accessed reached one));
       after = m.after;
       said = t.said ++ m.said;
       state = ap (λ (x : EndState ClientState). end_state_after rules x es) a.next ∙ m.state;
@@ -97,7 +110,7 @@ client-ends opened s u all_down left o end up (p ∷ new) k d all_up w n r place
     let event = FrameReceived (frame_of frame place) in
     let es = events_of (place + length frame) later in
     let step = step-down opened k s u d all_up all_down w up p (new ++ left) n r place o l g first sends requests at in
-    (ends-first rules k event es end (IsReplyEnd end ⊎ IsDenied end) e).first (λ now. step.only end now)
+    (ends-first rules k event es end (IsReplyEnd end ⊎ IsDenied end) e).first (λ now. by (step.only end now))
     (λ stays rest.
     let t = client-took opened k s u d all_up all_down w p (new ++ left) n r place l first sends requests at (IsBytes-left frame (concat later) bytes) stays in
     let after = client_state_after opened k event in
@@ -105,3 +118,7 @@ client-ends opened s u all_down left o end up (p ∷ new) k d all_up w n r place
     client-ends opened s u all_down left o end up new after (d ++ p ∷ []) (all_up ++ t.said) (down_one w t.said (new ++ left)) (n + sends_in p) (r + requests_in p) (place + length frame) t.linked one refl
     (omega (arith, sends, total-append sends_in d (p ∷ []))) (omega (arith, requests, total-append requests_in d (p ∷ []))) (place-next d p frame place at some.0)
     (IsBytes-right frame (concat later) bytes) some.1 rest)
+  where
+    by : {f : Frame} → IsReplyEnd end ⊎ LacksAccess k f end → IsReplyEnd end ⊎ IsDenied end
+    by (inl h) = inl h
+    by (inr h) = inr h.denied

@@ -124,9 +124,25 @@ denied-end : (access : Option Access) (why : Denied) → IsDenied (denied_at acc
 denied-end None why = (0, 0, why, refl)
 denied-end (Some access) why = (access.stag, access.to, why, refl)
 
-lacks-end : (f : Frame) (segment : Segment) (lack : Option Denied) (end : End) → end_of_fault f segment (first_fault (missing_fault lack ∷ [])) ≡ Some end → IsDenied end
-lacks-end f segment None end e = absurd cc
-lacks-end f segment (Some why) end e = subst IsDenied (let same : denied_at (access_of segment) why ≡ end = cc in same) (denied-end (access_of segment) why)
+-- a frame behind the hello, and what its access lacks
+pub record LacksAccess (k : ClientState) (f : Frame) (end : End) : Type 0 where
+  pub behind : is_hello f ≡ false
+  pub segment : Segment
+  pub is_segment : frame_segment f ≡ Ok segment
+  pub why : Denied
+  pub lacks : missing_access (region_grants f.end k.regions) f segment ≡ Some why
+  pub denied : IsDenied end
+
+lacks-end : (k : ClientState) (f : Frame) (segment : Segment) (lack : Option Denied) (end : End) → is_hello f ≡ false → frame_segment f ≡ Ok segment → missing_access (region_grants f.end k.regions) f segment ≡ lack → end_of_fault f segment (first_fault (missing_fault lack ∷ [])) ≡ Some end → LacksAccess k f end
+lacks-end k f segment None end behind is lacks e = absurd cc
+lacks-end k f segment (Some why) end behind is lacks e = record {
+  behind = behind;
+  segment = segment;
+  is_segment = is;
+  why = why;
+  lacks = lacks;
+  denied = subst IsDenied (let same : denied_at (access_of segment) why ≡ end = cc in same) (denied-end (access_of segment) why);
+}
 
 or-message-some : (k : ClientState) (f : Frame) (o : Option End) (end : End) → message_end k f (segment_message k (frame_segment f)) ≡ None → or_message_end k f o ≡ Some end → o ≡ Some end
 or-message-some k f None end none e = absurd (let wrong : None ≡ Some end = sym none ∙ e in cc)
@@ -135,7 +151,7 @@ or-message-some k f (Some x) end none e = e
 -- ---- The frame of a frame
 
 pub record ClientStep (opened : LinkParameters) (k : ClientState) (s : ServerState) (u d all_up all_down : List FrameContent) (w : Transit) (place : ℕ) (p : FrameContent) (rest : List FrameContent) (f : Frame) : Type 0 where
-  pub only : (end : End) → client_end k (FrameReceived f) ≡ Some end → IsReplyEnd end ⊎ IsDenied end
+  pub only : (end : End) → client_end k (FrameReceived f) ≡ Some end → IsReplyEnd end ⊎ LacksAccess k f end
   pub kept : client_end k (FrameReceived f) ≡ None → Guards opened (client_state_after opened k (FrameReceived f)) s u (d ++ p ∷ []) (all_up ++ client_frames opened k (FrameReceived f)) all_down (down_one w (client_frames opened k (FrameReceived f)) rest) place
 
 hello-none : (k : ClientState) (f : Frame) → is_hello f ≡ true → hello_of Responder f.bytes ≡ Ok (record { side = Responder; flags = 0; private = [] }) → client_end k (FrameReceived f) ≡ None
@@ -194,7 +210,7 @@ step-piece opened k s u d all_up all_down w place (RequestFrame sink at size sta
     let ends = client-by k f (end_of_fault f segment (first_fault (missing_fault (missing_access grants f segment) ∷ []))) piece.behind found in
     let none : message_end k f (segment_message k (frame_segment f)) ≡ None = ap (λ (r : Result Segment ℕ). message_end k f (segment_message k r)) reads in
     record {
-      only = λ end e. inr (lacks-end f segment (missing_access grants f segment) end (or-message-some k f (end_of_fault f segment (first_fault (missing_fault (missing_access grants f segment) ∷ []))) end none (sym ends ∙ e)));
+      only = λ end e. inr (lacks-end k f segment (missing_access grants f segment) end piece.behind reads refl (or-message-some k f (end_of_fault f segment (first_fault (missing_fault (missing_access grants f segment) ∷ []))) end none (sym ends ∙ e)));
       kept = λ stays. guards-read_down opened k s u d all_up all_down w place sink at size stag to rest f l g first piece hello stays;
     }
 step-piece opened k s u d all_up all_down w place (TaggedFrame last opcode stag to payload) rest f o l g first proper piece hello =
@@ -208,7 +224,7 @@ step-piece opened k s u d all_up all_down w place (TaggedFrame last opcode stag 
     let ends = client-by k f (end_of_fault f segment (first_fault (missing_fault (missing_access grants f segment) ∷ []))) piece.behind found in
     let none : message_end k f (segment_message k (frame_segment f)) ≡ None = ap (λ (r : Result Segment ℕ). message_end k f (segment_message k r)) reads in
     record {
-      only = λ end e. inr (lacks-end f segment (missing_access grants f segment) end (or-message-some k f (end_of_fault f segment (first_fault (missing_fault (missing_access grants f segment) ∷ []))) end none (sym ends ∙ e)));
+      only = λ end e. inr (lacks-end k f segment (missing_access grants f segment) end piece.behind reads refl (or-message-some k f (end_of_fault f segment (first_fault (missing_fault (missing_access grants f segment) ∷ []))) end none (sym ends ∙ e)));
       kept = λ stays. guards-tagged_down opened k s u d all_up all_down w place last opcode stag to payload rest f g first piece hello stays;
     }
 

@@ -1,5 +1,5 @@
 -- After each run of a matched link in which each side kept its law in full, and of which no side has ended, both ends agree.
-use Rattle.std.proofs.Common.{◌≡◌, ℕ, Bool, true, false, cond, ◌&&◌, eqb, List, [], ◌∷◌, ◌++◌, Option, Some, None, refl, sym, ap, subst, ◌∙◌, arith, append_assoc, append-nil, lit<}
+use Rattle.std.proofs.Common.{◌≡◌, ℕ, Bool, true, false, cond, ◌&&◌, eqb, List, [], ◌∷◌, ◌++◌, length, Option, Some, None, refl, sym, ap, subst, ◌∙◌, arith, append_assoc, append-nil, lit<}
 use Rattle.std.proofs.lemmas.Bool.{eqb-true}
 use Rattle.nr_wire.specs.declared.hello.Side.TheVariants.{Initiator, Responder}
 use Rattle.nr_wire.specs.Stream.{split}
@@ -26,6 +26,7 @@ use Rattle.nr_laws.specs.FrameContents.FrameContent.{HelloFrame}
 use Rattle.nr_laws.proofs.TotalsAtClient.{totals-first}
 use Rattle.nr_reduce.specs.Opening.{IsOpened}
 use Rattle.nr_laws.proofs.Guards.{Guards}
+use Rattle.nr_laws.proofs.OfferedAccesses.{AccessesAgree}
 use Rattle.nr_laws.proofs.AgreeingRuns.{place_of, RunAgrees, MarkAgrees, goes-on, goes-none, goes-fed_up, goes-fed_down}
 use Rattle.nr_laws.proofs.AgreeingMarks.{goes-submit, goes-wrote_up, goes-wrote_down, goes-execute, goes-revoke}
 
@@ -60,6 +61,7 @@ server-unended opened link before (m ∷ more) e =
 pub record BothOpened (opened : LinkParameters) (link : ℕ) : Type 0 where
   pub joined : RunAgrees opened link []
   pub guards : IsOpened opened → Guards opened joined.k joined.s joined.u joined.d joined.all_up joined.all_down joined.w (place_of joined.u)
+  pub accessed : AccessesAgree opened joined.k joined.s joined.d joined.all_up joined.all_down (length (bytes_received link Initiator []))
 
 pub starts : (opened : LinkParameters) (link : ℕ) → BothOpened opened link
 unfolding client server events output_due bytes_received bytes_sent split
@@ -123,6 +125,7 @@ starts opened link = record {
     answered = record { once = λ x. omega arith; later = λ x le. omega arith; earlier = λ x lt. omega arith; open_calls = λ x le lt. absurd (omega (arith, le, lt)); written = tt; room = omega (arith, o.xid_fits) };
     reached = ([], refl);
   };
+  accessed = record { early = tt; lives = tt; up_said = (tt, tt); asked = tt; calls = tt; waiting = tt; down_said = tt };
 }
 
 -- ---- Each mark

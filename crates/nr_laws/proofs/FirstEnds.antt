@@ -144,7 +144,7 @@ server-ends-for-calls opened link run o typed laws up end down =
 
 -- ---- The client
 
-client-last : (opened : LinkParameters) (link : ℕ) (before more : List Mark) (end : End) → (client opened link before).ended ≡ Some end → (client opened link (before ++ more)).ended ≡ Some end
+pub client-last : (opened : LinkParameters) (link : ℕ) (before more : List Mark) (end : End) → (client opened link before).ended ≡ Some end → (client opened link (before ++ more)).ended ≡ Some end
 client-last opened link before [] end e = ap (λ (run : List Mark). (client opened link run).ended) (append-nil before) ∙ e
 client-last opened link before (m ∷ more) end e =
     let r = client opened link before in
@@ -158,13 +158,42 @@ client-last opened link before (m ∷ more) end e =
 abbrev IsClientEnd : End → Type 0
 IsClientEnd end = IsReplyEnd end ⊎ IsDenied end
 
-none-ends : (opened : LinkParameters) (k : ClientState) (es : List Event) (end : End) → es ≡ [] → (end_state_after (client_rules opened) (live k) es).ended ≡ Some end → IsClientEnd end
+-- an event that is no frame ends no client
+none-ends : (opened : LinkParameters) (k : ClientState) (es : List Event) (end : End) → es ≡ [] → (end_state_after (client_rules opened) (live k) es).ended ≡ Some end → ⊥
 none-ends opened k es end none e = absurd (let wrong : None ≡ Some end = ap (λ (xs : List Event). (end_state_after (client_rules opened) (live k) xs).ended) (sym none) ∙ e in cc)
 
-one-ends : (opened : LinkParameters) (k : ClientState) (es : List Event) (event : Event) (b : Bool) (end : End) → ((f : Frame) → event ≢ FrameReceived f) → es ≡ if_own b (event ∷ []) → (end_state_after (client_rules opened) (live k) es).ended ≡ Some end → IsClientEnd end
+one-ends : (opened : LinkParameters) (k : ClientState) (es : List Event) (event : Event) (b : Bool) (end : End) → ((f : Frame) → event ≢ FrameReceived f) → es ≡ if_own b (event ∷ []) → (end_state_after (client_rules opened) (live k) es).ended ≡ Some end → ⊥
 one-ends opened k es event true end other is e =
     absurd (let wrong : None ≡ Some end = sym (ap (λ (xs : List Event). (end_state_after (client_rules opened) (live k) xs).ended) is ∙ ap (λ (x : EndState ClientState). x.ended) (client-event opened k event other).state) ∙ e in cc)
 one-ends opened k es event false end other is e = none-ends opened k es end is e
+
+-- so a client ends where it is fed bytes
+pub fed-ends : (opened : LinkParameters) (link : ℕ) (run : List Mark) (mark : Mark) (k : ClientState) (end : End) (Lasting : Type 0) → MatchedMark link run mark → TypedMark run mark
+    → ((bytes : List ℕ) → IsPrefixOf (bytes_received link Initiator run ++ bytes) (bytes_sent link Responder run) → IsBytes bytes
+    → (end_state_after (client_rules opened) (live k) (map FrameReceived (frames_completed Responder (bytes_received link Initiator run) bytes))).ended ≡ Some end → Lasting)
+    → (end_state_after (client_rules opened) (live k) (events_at link Initiator run mark)).ended ≡ Some end → Lasting
+fed-ends opened link run (marks.Submit l call form (submissions.Accepted xid)) k end Lasting matched typed fed e =
+    absurd (one-ends opened k _ (CallSubmitted (length (bytes_received link Initiator run)) (record { xid = xid; call = call; form = form })) (eqb l link && true) end (λ f x. absurd cc) refl e)
+fed-ends opened link run (marks.Submit l call form (submissions.Refused why)) k end Lasting matched typed fed e = absurd (none-ends opened k _ end refl e)
+fed-ends opened link run (marks.Submit l call form submissions.Dropped) k end Lasting matched typed fed e = absurd (none-ends opened k _ end refl e)
+fed-ends opened link run (marks.Wrote l Initiator bytes) k end Lasting matched typed fed e = absurd (one-ends opened k _ QueueWritten (eqb l link && true) end (λ f x. absurd cc) refl e)
+fed-ends opened link run (marks.Wrote l Responder bytes) k end Lasting matched typed fed e = absurd (none-ends opened k _ end (other-events (eqb l link) _) e)
+fed-ends opened link run (marks.Fed l Initiator bytes) k end Lasting matched typed fed e = by (eqb l link) refl
+  where
+    fs : List Frame
+    fs = frames_completed Responder (bytes_received link Initiator run) bytes
+
+    by : (b : Bool) → eqb l link ≡ b → Lasting
+    by true is = fed bytes (matched (eqb-true l link is)) typed (ap (λ (b : Bool). (end_state_after (client_rules opened) (live k) (if_own (b && true) (map FrameReceived fs))).ended) (sym is) ∙ e)
+    by false is = absurd (none-ends opened k _ end (no-events (eqb l link) true (map FrameReceived fs) is) e)
+fed-ends opened link run (marks.Fed l Responder bytes) k end Lasting matched typed fed e = absurd (none-ends opened k _ end (other-events (eqb l link) _) e)
+fed-ends opened link run (marks.Execute l xid moment payload place reply) k end Lasting matched typed fed e = absurd (none-ends opened k _ end (other-events (eqb l link) _) e)
+fed-ends opened link run (marks.Done l xid outcome) k end Lasting matched typed fed e = absurd (none-ends opened k _ end refl e)
+fed-ends opened link run (marks.Lost l xid) k end Lasting matched typed fed e = absurd (none-ends opened k _ end refl e)
+fed-ends opened link run (marks.Forget l xid) k end Lasting matched typed fed e = absurd (none-ends opened k _ end refl e)
+fed-ends opened link run (marks.Revoke l xid bytes) k end Lasting matched typed fed e =
+    absurd (one-ends opened k _ (MemoryRevoked (length (bytes_received link Initiator run)) xid) (eqb l link && true) end (λ f x. absurd cc) refl e)
+fed-ends opened link run (marks.Drop l) k end Lasting matched typed fed e = absurd (none-ends opened k _ end refl e)
 
 client-fed : (opened : LinkParameters) (link : ℕ) (run : List Mark) (bytes : List ℕ) (g : Guarded opened link run) → IsOpened opened → IsPrefixOf (bytes_received link Initiator run ++ bytes) (bytes_sent link Responder run) → IsBytes bytes
     → (end : End) → (end_state_after (client_rules opened) (live g.joined.k) (map FrameReceived (frames_completed Responder (bytes_received link Initiator run) bytes))).ended ≡ Some end → IsClientEnd end
@@ -180,30 +209,6 @@ client-fed opened link run bytes g o prefix typed end e =
     let same : map FrameReceived (frames_completed Responder got bytes) ≡ es = ap (λ (fs : List Frame). map FrameReceived fs) a.frames in
     client-ends opened j.s j.u j.all_down a.left o end (place_of j.u) a.new j.k j.d j.all_up j.w n r place j.linked g.guards a.parts (omega arith) (omega arith) a.place a.bytes_are a.some
     (ap (λ (xs : List Event). (end_state_after (client_rules opened) (live j.k) xs).ended) (sym same) ∙ e)
-
-client-mark : (opened : LinkParameters) (link : ℕ) (run : List Mark) (mark : Mark) (g : Guarded opened link run) → IsOpened opened → MatchedMark link run mark → TypedMark run mark → (end : End)
-    → (end_state_after (client_rules opened) (live g.joined.k) (events_at link Initiator run mark)).ended ≡ Some end → IsClientEnd end
-client-mark opened link run (marks.Submit l call form (submissions.Accepted xid)) g o matched typed end e =
-    one-ends opened g.joined.k _ (CallSubmitted (length (bytes_received link Initiator run)) (record { xid = xid; call = call; form = form })) (eqb l link && true) end (λ f x. absurd cc) refl e
-client-mark opened link run (marks.Submit l call form (submissions.Refused why)) g o matched typed end e = none-ends opened g.joined.k _ end refl e
-client-mark opened link run (marks.Submit l call form submissions.Dropped) g o matched typed end e = none-ends opened g.joined.k _ end refl e
-client-mark opened link run (marks.Wrote l Initiator bytes) g o matched typed end e = one-ends opened g.joined.k _ QueueWritten (eqb l link && true) end (λ f x. absurd cc) refl e
-client-mark opened link run (marks.Wrote l Responder bytes) g o matched typed end e = none-ends opened g.joined.k _ end (other-events (eqb l link) _) e
-client-mark opened link run (marks.Fed l Initiator bytes) g o matched typed end e = by (eqb l link) refl
-  where
-    fs : List Frame
-    fs = frames_completed Responder (bytes_received link Initiator run) bytes
-
-    by : (b : Bool) → eqb l link ≡ b → IsClientEnd end
-    by true is = client-fed opened link run bytes g o (matched (eqb-true l link is)) typed end (ap (λ (b : Bool). (end_state_after (client_rules opened) (live g.joined.k) (if_own (b && true) (map FrameReceived fs))).ended) (sym is) ∙ e)
-    by false is = none-ends opened g.joined.k _ end (no-events (eqb l link) true (map FrameReceived fs) is) e
-client-mark opened link run (marks.Fed l Responder bytes) g o matched typed end e = none-ends opened g.joined.k _ end (other-events (eqb l link) _) e
-client-mark opened link run (marks.Execute l xid moment payload place reply) g o matched typed end e = none-ends opened g.joined.k _ end (other-events (eqb l link) _) e
-client-mark opened link run (marks.Done l xid outcome) g o matched typed end e = none-ends opened g.joined.k _ end refl e
-client-mark opened link run (marks.Lost l xid) g o matched typed end e = none-ends opened g.joined.k _ end refl e
-client-mark opened link run (marks.Forget l xid) g o matched typed end e = none-ends opened g.joined.k _ end refl e
-client-mark opened link run (marks.Revoke l xid bytes) g o matched typed end e = one-ends opened g.joined.k _ (MemoryRevoked (length (bytes_received link Initiator run)) xid) (eqb l link && true) end (λ f x. absurd cc) refl e
-client-mark opened link run (marks.Drop l) g o matched typed end e = none-ends opened g.joined.k _ end refl e
 
 client-from : (opened : LinkParameters) (link : ℕ) (o : IsOpened opened) (end : End) (run before : List Mark) → Guarded opened link before → AtEachMark (AskedMark IsAll opened link) before run → AtEachMark (ServedMark IsAll opened link) before run → AtEachMark (MatchedMark link) before run
     → AtEachMark (WithinGrant opened link) before run → AtEachMark TypedMark before run → (server opened link (before ++ run)).ended ≡ None → (client opened link (before ++ run)).ended ≡ Some end → IsClientEnd end
@@ -229,7 +234,7 @@ client-from opened link o end (m ∷ run) before g asked served matched grant ty
         later (guarded-more opened link before m g.joined (goes-mark opened link before m g.joined asked.0 served.0 matched.0 typed.0 is (server-unended opened link (before ++ m ∷ []) run down_all)) o grant.0 g.guards)
     by (Some x) is later =
         let same : Some x ≡ Some end = sym (client-last opened link (before ++ m ∷ []) run x is) ∙ up_all in
-        client-mark opened link before m g o matched.0 typed.0 end (ap (λ (r : EndState ClientState). r.ended) (sym one) ∙ is ∙ same)
+        fed-ends opened link before m g.joined.k end (IsClientEnd end) matched.0 typed.0 (λ bytes prefix typed e. client-fed opened link before bytes g o prefix typed end e) (ap (λ (r : EndState ClientState). r.ended) (sym one) ∙ is ∙ same)
 
 pub client-ends-for-replies : ClientEndsForReplies
 unfolding end_of_side

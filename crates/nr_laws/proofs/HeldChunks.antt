@@ -21,12 +21,11 @@ use Rattle.nr_reduce.specs.ServerState.{ServerState, PendingCall, PendingRead}
 use Rattle.nr_reduce.specs.ServerReads.{is_read, sink_of}
 use Rattle.nr_reduce.specs.ServerMessages.{chunk_bytes}
 use Rattle.nr_reduce.specs.ServerFrames.{call_of_number, with_access}
-use Rattle.nr_reduce.specs.Server.{server_rules, server_end, initial_server}
+use Rattle.nr_reduce.specs.Server.{server_rules, initial_server}
 use Rattle.nr_reduce.specs.Run.{client}
 use Rattle.nr_reduce.specs.RunLaws.{server_by, ends_response}
 use Rattle.nr_reduce.specs.Undone.{bytes_after_segments}
 use Rattle.nr_reduce.proofs.Laid.{added_up}
-use Rattle.nr_reduce.proofs.Touches.{server_touched}
 use Rattle.nr_laws.specs.Typed.{IsTyped}
 use Rattle.nr_laws.proofs.Along.{GoesOn, goes-first, goes-behind, places_after}
 use Rattle.nr_laws.proofs.CameResponses.{came-responses}
@@ -108,12 +107,12 @@ not-any true e = absurd cc
 not-any false e = refl
 
 -- at a frame whose access is allowed
-pub sink-brings : (opened : LinkParameters) (link : ℕ) (run : List Mark) → IsTyped run → AskedSoFar opened link run → ServedSoFar opened link run → Matched link run
+pub sink-holds : (opened : LinkParameters) (link : ℕ) (run : List Mark) → IsTyped run → AskedSoFar opened link run → ServedSoFar opened link run → Matched link run
     → (es : List Event) (f : Frame) (more : List Event) (segment : Segment) (q : PendingRead) (rest : List PendingRead) (c : PendingCall) → events link Responder run ≡ es ++ FrameReceived f ∷ more → is_hello f ≡ false → frame_segment f ≡ Ok segment
     → (end_state_after (server_rules opened) (initial_server opened) es).ended ≡ None → missing_access (region_grants f.end (server_by opened es).regions) f segment ≡ None → ends_response segment ≡ true → (server_by opened es).reads ≡ q ∷ rest
     → call_of_number (server_by opened es) q.number ≡ Some c → is_read rest c.number ≡ true → (p : ReadChunk c (client opened link run).state.regions)
     → chunk_bytes (with_access (server_by opened es) f segment) f.end c p.position ≡ p.region
-sink-brings opened link run typed asked served matched es f more segment q rest c all behind is live allowed ends reads found whole p =
+sink-holds opened link run typed asked served matched es f more segment q rest c all behind is live allowed ends reads found whole p =
     let k : ServerState = server_by opened es in
     let came = came-responses opened link run typed asked served matched es f more segment q rest all behind is live ends reads in
     let x = reads-found (came.done ++ k.reads) k.regions q.number k.calls c came.kept.calls found in
@@ -149,12 +148,3 @@ sink-brings opened link run typed asked served matched es f more segment q rest 
     ∙ held-parts f.end x.sink k.regions (k.accesses_received ++ tagged_access f segment) r.region fine r.there r.own
     ∙ (λ i. after_parts x.sink (r.holds i) (came.parts i))
     ∙ laid-tagged x.sink old came.outs ∙ ap (λ (ss : List Segment). bytes_after_segments x.sink old ss) came.tagged ∙ laid
-
--- at a frame that doesn't end the server
-pub sink-holds : (opened : LinkParameters) (link : ℕ) (run : List Mark) → IsTyped run → AskedSoFar opened link run → ServedSoFar opened link run → Matched link run
-    → (es : List Event) (f : Frame) (more : List Event) (segment : Segment) (q : PendingRead) (rest : List PendingRead) (c : PendingCall) → events link Responder run ≡ es ++ FrameReceived f ∷ more → is_hello f ≡ false → frame_segment f ≡ Ok segment
-    → (end_state_after (server_rules opened) (initial_server opened) es).ended ≡ None → server_end opened (server_by opened es) (FrameReceived f) ≡ None → ends_response segment ≡ true → (server_by opened es).reads ≡ q ∷ rest
-    → call_of_number (server_by opened es) q.number ≡ Some c → is_read rest c.number ≡ true → (p : ReadChunk c (client opened link run).state.regions)
-    → chunk_bytes (with_access (server_by opened es) f segment) f.end c p.position ≡ p.region
-sink-holds opened link run typed asked served matched es f more segment q rest c all behind is live stays ends reads found whole p =
-    sink-brings opened link run typed asked served matched es f more segment q rest c all behind is live (server_touched opened (server_by opened es) f segment behind is stays) ends reads found whole p

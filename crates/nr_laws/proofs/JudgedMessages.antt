@@ -20,13 +20,11 @@ use Rattle.nr_reduce.specs.declared.mark.LinkParameters.{LinkParameters}
 use Rattle.nr_reduce.specs.OfferedRegions.{region_grants}
 use Rattle.nr_reduce.specs.Events.{Event, events}
 use Rattle.nr_reduce.specs.Events.Event.{FrameReceived, CallSubmitted, MemoryRevoked, CallExecuted, QueueWritten}
-use Rattle.nr_reduce.specs.EndRules.{Rules, EndState, next_end_state, next_end_state_by, end_state_after}
 use Rattle.nr_reduce.specs.ClientState.{ClientState}
 use Rattle.nr_reduce.specs.ClientMessages.{Verdict, verdict}
 use Rattle.nr_reduce.specs.ClientMessages.Verdict.{EndsLink, GivesOutcome}
 use Rattle.nr_reduce.specs.Client.{client_rules, client_end, initial_client, readiness, or_message_end, message_end, end_of_verdict, segment_message}
 use Rattle.nr_reduce.specs.Run.{client}
-use Rattle.nr_reduce.proofs.Steps.{ended-stays}
 use Rattle.nr_laws.specs.EndCauses.{IsReplyReason}
 use Rattle.nr_laws.specs.MatchedSoFar.{MatchedSoFar}
 use Rattle.nr_laws.specs.Typed.{IsTyped}
@@ -38,6 +36,7 @@ use Rattle.nr_laws.proofs.Hears.{hears, client-receives, brings-at, whole-messag
 use Rattle.nr_laws.proofs.ServerAlong.{outs_of, Said}
 use Rattle.nr_laws.proofs.ServerSide.{server-tells, client-receives-of}
 use Rattle.nr_laws.proofs.Outcomes.{client_by}
+use Rattle.nr_laws.proofs.EndingEvents.{EndsAt, ends-at}
 use Rattle.nr_laws.proofs.OtherReasons.{OtherFault, fault-other}
 
 -- ---- A segment that ends a client by such a reason
@@ -51,7 +50,7 @@ record JudgesMessage (k : ClientState) (f : Frame) (s : Segment) (reason : ℕ) 
 bad-reason : (at place reason other : ℕ) → ◌≡◌ {A = Option Stop} (Some (ends.Bad at reason)) (Some (ends.Bad place other)) → reason ≡ other
 bad-reason at place reason other e = cc
 
-by-fault : (f : Frame) (s : Segment) (o : Option (SegmentFault Denied)) → OtherFault o → (at reason : ℕ) → IsReplyReason reason → end_of_fault f s o ≡ Some (ends.Bad at reason) → ⊥
+pub by-fault : (f : Frame) (s : Segment) (o : Option (SegmentFault Denied)) → OtherFault o → (at reason : ℕ) → IsReplyReason reason → end_of_fault f s o ≡ Some (ends.Bad at reason) → ⊥
 by-fault f s None h at reason is e = cc
 by-fault f s (Some (Reason x)) h at reason is e = h (subst IsReplyReason (sym (bad-reason f.at at x reason e)) is)
 by-fault f s (Some (NoBuffer msn)) h at reason is e = cc
@@ -113,41 +112,6 @@ only-frames k QueueWritten h = refl
 none-some : {o : Option Stop} (end : Stop) → o ≡ None → o ≡ Some end → ⊥
 none-some end none some = (let wrong : None ≡ Some end = sym none ∙ some in cc)
 
-record EndsAt (opened : LinkParameters) (r : EndState ClientState) (es : List Event) (end : Stop) : Type 0 where
-  earlier : List Event
-  event : Event
-  later : List Event
-  is : es ≡ earlier ++ event ∷ later
-  live : (end_state_after (client_rules opened) r earlier).ended ≡ None
-  ends : client_end (end_state_after (client_rules opened) r earlier).state event ≡ Some end
-
-ends-at : (opened : LinkParameters) (k : ClientState) (es : List Event) (end : Stop) → (end_state_after (client_rules opened) (record { state = k; ended = None }) es).ended ≡ Some end → EndsAt opened (record { state = k; ended = None }) es end
-ends-at opened k [] end e = absurd cc
-ends-at opened k (x ∷ es) end e = by (client_end k x) refl (λ f. ends-at opened ((client_rules opened).state_after k x) es end f)
-  where
-    rules : Rules ClientState
-    rules = client_rules opened
-
-    after : EndState ClientState
-    after = record { state = rules.state_after k x; ended = None }
-
-    by : (o : Option Stop) → client_end k x ≡ o → ((end_state_after rules after es).ended ≡ Some end → EndsAt opened after es end) → EndsAt opened (record { state = k; ended = None }) (x ∷ es) end
-    by None is more =
-        let next : next_end_state rules (record { state = k; ended = None }) x ≡ after = ap (λ (o : Option Stop). next_end_state_by rules k x o) is in
-        let a = more (ap (λ (r : EndState ClientState). (end_state_after rules r es).ended) (sym next) ∙ e) in
-        record {
-          earlier = x ∷ a.earlier;
-          event = a.event;
-          later = a.later;
-          is = ap (λ (xs : List Event). x ∷ xs) a.is;
-          live = ap (λ (r : EndState ClientState). (end_state_after rules r a.earlier).ended) next ∙ a.live;
-          ends = ap (λ (r : EndState ClientState). client_end (end_state_after rules r a.earlier).state a.event) next ∙ a.ends;
-        }
-    by (Some why) is more =
-        let next : next_end_state rules (record { state = k; ended = None }) x ≡ record { state = k; ended = Some why } = ap (λ (o : Option Stop). next_end_state_by rules k x o) is in
-        let stays = ap (λ (r : EndState ClientState). (end_state_after rules r es).ended) (sym next) ∙ e in
-        record { earlier = []; event = x; later = es; is = refl; live = refl; ends = is ∙ sym (ap (λ (r : EndState ClientState). r.ended) (ended-stays rules k why es).0) ∙ stays }
-
 -- ---- On a matched link
 
 -- what the server writes first is its hello
@@ -185,8 +149,8 @@ pub ends-for : (opened : LinkParameters) (link : ℕ) (run : List Mark) (at reas
 unfolding client
 ends-for opened link run at reason typed far bad e = by a.event a.is a.ends
   where
-    a : EndsAt opened (initial_client opened) (events link Initiator run) (ends.Bad at reason)
-    a = ends-at opened (initial_client opened).state (events link Initiator run) (ends.Bad at reason) e
+    a : EndsAt (client_rules opened) (initial_client opened) (events link Initiator run) (ends.Bad at reason)
+    a = ends-at (client_rules opened) (initial_client opened) (events link Initiator run) (ends.Bad at reason) refl e
 
     k : ClientState
     k = (client_by opened a.earlier).state

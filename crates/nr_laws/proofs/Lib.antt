@@ -130,6 +130,10 @@ pub mod JudgedMessages
 pub mod JudgedReplies
 pub mod JudgedAnswers
 pub mod LawsSoFar
+pub mod JudgedCalls
+pub mod CallEnds
+pub mod ReadCalls
+pub mod NeitherEnds
 pub mod ReadReplies
 pub mod EmptyChunks
 pub mod CallTargets
@@ -152,3 +156,13 @@ pub mod AutoReplies
 pub mod CausedCalls
 pub mod BroughtBytes
 pub mod AllowedBytes
+pub mod OfferedAccesses
+pub mod OfferedPlans
+pub mod AccessesAtClient
+pub mod EffectsOffered
+pub mod AccessesAtServer
+pub mod AccessSteps
+pub mod AllowedAccesses
+pub mod NotDenied
+pub mod CallsAtFrames
+pub mod EndingEvents

@@ -23,6 +23,8 @@ use Rattle.nr_laws.specs.EndCauses.{IsCallEnd}
 use Rattle.nr_laws.proofs.Guards.{Guards}
 use Rattle.nr_laws.proofs.ServerStep.{step-up}
 use Rattle.nr_laws.proofs.AgreeingEnds.{EndsAgree, IsPlace, frame_of, taken_up, server-took}
+use Rattle.nr_laws.proofs.OfferedAccesses.{AccessesAgree}
+use Rattle.nr_laws.proofs.AccessSteps.{accessed-up}
 
 -- ---- An end that hasn't ended by some events
 
@@ -59,6 +61,7 @@ pub record ServerRan (opened : LinkParameters) (k : ClientState) (s : ServerStat
   pub output : output_for_all (server_rules opened) (live s) es ≡ output_bytes Responder (total_of sends_in all_down) (total_of requests_in all_down) said
   pub linked : EndsAgree opened k after (u ++ new) d all_up (all_down ++ said) (taken_up w left said)
   pub guarded : IsOpened opened → Guards opened k s u d all_up all_down w place → Guards opened k after (u ++ new) d all_up (all_down ++ said) (taken_up w left said) end
+  pub accessed : IsOpened opened → Guards opened k s u d all_up all_down w place → (at : ℕ) → AccessesAgree opened k s d all_up all_down at → AccessesAgree opened k after d all_up (all_down ++ said) at
 
 abbrev pub AreSome : List (List ℕ) → Type 0
 AreSome [] = Unit {0}
@@ -81,7 +84,9 @@ server-runs opened k d all_up left [] s u all_down w n r place l first sends req
     (subst (λ (ps : List FrameContent). Guards opened k s u d all_up ps (taken_up w left []) place) (sym (append-nil all_down))
     (subst (λ (ps : List FrameContent). Guards opened k s u d all_up all_down (record { queued_up = w.queued_up; up = left; queued_down = ps; down = w.down }) place) (sym (append-nil w.queued_down))
     (subst (λ (ps : List FrameContent). Guards opened k s u d all_up all_down (record { queued_up = w.queued_up; up = ps; queued_down = w.queued_down; down = w.down }) place) first g)))) in
-    record { after = s; said = []; state = refl; output = refl; linked = same; guarded = guarded }
+    let accessed : IsOpened opened → Guards opened k s u d all_up all_down w place → (reached : ℕ) → AccessesAgree opened k s d all_up all_down reached → AccessesAgree opened k s d all_up (all_down ++ []) reached =
+    λ o g reached h. subst (λ (ps : List FrameContent). AccessesAgree opened k s d all_up ps reached) (sym (append-nil all_down)) h in
+    record { after = s; said = []; state = refl; output = refl; linked = same; guarded = guarded; accessed = accessed }
 server-runs opened k d all_up left (p ∷ new) s u all_down w n r place l first sends requests at bytes some e =
     let rules = server_rules opened in
     let frame = frame_bytes Initiator (numbered_segment n r p) in
@@ -105,6 +110,13 @@ server-runs opened k d all_up left (p ∷ new) s u all_down w n r place l first 
           (subst (λ (ps : List FrameContent). Guards opened k m.after ((u ++ p ∷ []) ++ new) d all_up ps (taken_up w left (t.said ++ m.said)) ((place + length frame) + length (concat later))) (append_assoc all_down t.said m.said)
           (subst (λ (ps : List FrameContent). Guards opened k m.after ((u ++ p ∷ []) ++ new) d all_up ((all_down ++ t.said) ++ m.said) (record { queued_up = w.queued_up; up = left; queued_down = ps; down = w.down }) ((place + length frame) + length (concat later))) (append_assoc w.queued_down t.said m.said)
           (m.guarded o one))));
+      accessed = λ o g reached h.
+          let step = step-up opened k s u d all_up all_down w p (new ++ left) n r place o l g first sends requests at (IsBytes-left frame (concat later) bytes) some.0 in
+          let kept = step.kept a.stays in
+          let one = subst (λ (ps : List FrameContent). Guards opened k after (u ++ p ∷ []) d all_up (all_down ++ ps) (taken_up w (new ++ left) ps) (place + length frame)) (sym t.said_is) kept in
+          let two = subst (λ (ps : List FrameContent). AccessesAgree opened k after d all_up (all_down ++ ps) reached) (sym t.said_is)
+          (accessed-up opened k s u d all_up all_down w p (new ++ left) n r place reached l first sends requests at kept.answered.once h) in
+          subst (λ (ps : List FrameContent). AccessesAgree opened k m.after d all_up ps reached) (append_assoc all_down t.said m.said) (m.accessed o one reached two);
       after = m.after;
       said = t.said ++ m.said;
       state = ap (λ (x : EndState ServerState). end_state_after rules x es) a.next ∙ m.state;

@@ -85,11 +85,11 @@ unfolding end_of_side next_call
 none-outstanding opened link run typed asked served matched settled =
     let j = joins opened link run asked.each served.each matched typed settled.client_stays settled.server_stays in
     let up = empties Initiator (bytes_received link Responder run) (bytes_sent link Initiator run) (output_due opened link Initiator run) j.u j.w.up j.w.queued_up j.all_up
-    j.linked.stream_up j.linked.parts_up j.frames_up j.sent_up j.due_up settled.up asked.written in
+    j.linked.stream_up j.linked.parts_up j.frames_up j.sent_up j.due_up settled.nothing_waits.up asked.written in
     let down = empties Responder (bytes_received link Initiator run) (bytes_sent link Responder run) (output_due opened link Responder run) j.d j.w.down j.w.queued_down j.all_down
-    j.linked.stream_down j.linked.parts_down j.frames_down j.sent_down j.due_down settled.down served.written in
+    j.linked.stream_down j.linked.parts_down j.frames_down j.sent_down j.due_down settled.nothing_waits.down served.written in
     let way : j.w ≡ nothing_in_transit = λ i. record { queued_up = up.queued_none i; up = up.under_way_none i; queued_down = down.queued_none i; down = down.under_way_none i } in
-    let ready : j.s.ready ≡ [] = none-ready j.s.ready (ap (λ (r : EndState ServerState). first_ready r.state.ready r.ended) (sym j.server_is) ∙ settled.executed) in
+    let ready : j.s.ready ≡ [] = none-ready j.s.ready (ap (λ (r : EndState ServerState). first_ready r.state.ready r.ended) (sym j.server_is) ∙ settled.nothing_waits.executed) in
     ap (λ (r : EndState ClientState). r.state.outstanding) j.client_is
     ∙ quiet opened j.k j.s (subst (λ (w : Transit). TotalsAgree j.k j.s w) way j.linked.counts) j.linked.waits.ready_calls ready
 

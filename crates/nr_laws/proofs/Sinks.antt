@@ -2,7 +2,8 @@
 use Rattle.std.proofs.Common.{◌≡◌, ◌≢◌, ℕ, zero, suc, ◌+◌, ◌≤◌, ◌<◌, Bool, true, false, not, cond, ◌||◌, ◌&&◌, eqb, ltb, leb, inl, inr, List, [], ◌∷◌, ◌++◌, length, map, take, drop, Option, None, Some, refl, sym, ap, subst, ◌∙◌, arith, eq-eqb, ne_eqb, lt-ltb, le-ltb, le-leb, append_assoc}
 use Rattle.std.specs.Prelude.{find}
 use Rattle.std.specs.List.{filter, list_any}
-use Rattle.nr_regions.specs.declared.right.Right.TheVariants.{Sink}
+use Rattle.nr_regions.specs.declared.right.Right.{Right}
+use Rattle.nr_regions.specs.declared.right.Right.TheVariants.{Fetch, Fill, Sink}
 use Rattle.nr_regions.specs.declared.denied.Denied.TheVariants.{Bounds, Right as WrongRight}
 use Rattle.nr_regions.specs.RegisteredMemory.{Access, same_right, denial_in}
 use Rattle.nr_regions.specs.Access.{Grant, applies, grant_at, grant_offer, grant_denial}
@@ -12,28 +13,33 @@ use Rattle.nr_reduce.specs.ServerReads.{is_read, is_read_at, is_over}
 use Rattle.nr_laws.specs.LinkInvariants.{IsSink, HasSink, HaveSinks}
 use Rattle.nr_laws.proofs.Totals.{any_first}
 
-abbrev access : ℕ → ℕ → ℕ → Access
-access stag to n = record { right = Sink; stag = stag; to = to; len = n }
+same-itself : (right : Right) → same_right right right ≡ true
+same-itself Fetch = refl
+same-itself Fill = refl
+same-itself Sink = refl
 
-found : (end : ℕ) (stag to n : ℕ) (g : Region) (rest : Option Grant) → g.stag ≡ stag → g.until ≡ None → g.right ≡ Sink → g.from < end → to + n ≤ length g.bytes
-    → denial_in (grant_offer (cond (applies stag end (region_grant end g)) (Some (region_grant end g)) rest)) (access stag to n) ≡ None
-found end stag to n g rest same lives right before room =
+-- a live region that has the right and the room, behind regions of other STags
+pub found : (end : ℕ) (right : Right) (stag to n : ℕ) (g : Region) (rest : Option Grant) → g.stag ≡ stag → g.until ≡ None → g.right ≡ right → g.from < end → to + n ≤ length g.bytes
+    → denial_in (grant_offer (cond (applies stag end (region_grant end g)) (Some (region_grant end g)) rest)) (record { right = right; stag = stag; to = to; len = n }) ≡ None
+found end right stag to n g rest same lives own before room =
+    let access : Access = record { right = right; stag = stag; to = to; len = n } in
     let live : applies stag end (region_grant end g) ≡ true =
     (λ i. eq-eqb g.stag stag same i && (lt-ltb g.from end before i && leb end (until_or end (lives i)))) ∙ le-leb end end (omega arith) in
-    ap (λ (b : Bool). denial_in (grant_offer (cond b (Some (region_grant end g)) rest)) (access stag to n)) live
-    ∙ (λ i. cond (le-ltb (length g.bytes) (to + n) room i) (Some Bounds) (cond (same_right (right i) Sink) None (Some WrongRight)))
+    ap (λ (b : Bool). denial_in (grant_offer (cond b (Some (region_grant end g)) rest)) access) live
+    ∙ (λ i. cond (le-ltb (length g.bytes) (to + n) room i) (Some Bounds) (cond (same_right (own i) right) None (Some WrongRight)))
+    ∙ ap (λ (b : Bool). cond b None (Some WrongRight)) (same-itself right)
 
-skipped : (end : ℕ) (stag : ℕ) (g : Region) (rest : Option Grant) → g.stag ≢ stag → cond (applies stag end (region_grant end g)) (Some (region_grant end g)) rest ≡ rest
+pub skipped : (end : ℕ) (stag : ℕ) (g : Region) (rest : Option Grant) → g.stag ≢ stag → cond (applies stag end (region_grant end g)) (Some (region_grant end g)) rest ≡ rest
 skipped end stag g rest ne = ap (λ (b : Bool). cond (b && (ltb g.from end && leb end (until_or end g.until))) (Some (region_grant end g)) rest) (ne_eqb g.stag stag ne)
 
 -- the access is allowed
-pub sink-allowed : (place end : ℕ) (r : PendingRead) (regions : List Region) (to n : ℕ) → HasSink place r regions → place < end → to + n ≤ r.at + r.size → grant_denial (region_grants end regions) (access r.sink to n) end ≡ None
+pub sink-allowed : (place end : ℕ) (r : PendingRead) (regions : List Region) (to n : ℕ) → HasSink place r regions → place < end → to + n ≤ r.at + r.size → grant_denial (region_grants end regions) (record { right = Sink; stag = r.sink; to = to; len = n }) end ≡ None
 unfolding grant_denial grant_at region_grants
 sink-allowed place end r [] to n h lt room = absurd h
 sink-allowed place end r (g ∷ regions) to n (inl s) lt room =
-    found end r.sink to n g (find (applies r.sink end) (map (region_grant end) regions)) s.stag s.lives s.right (omega (arith, s.before, lt)) (omega (arith, s.room, room))
+    found end Sink r.sink to n g (find (applies r.sink end) (map (region_grant end) regions)) s.stag s.lives s.right (omega (arith, s.before, lt)) (omega (arith, s.room, room))
 sink-allowed place end r (g ∷ regions) to n (inr s) lt room =
-    ap (λ (found : Option Grant). denial_in (grant_offer found) (access r.sink to n)) (skipped end r.sink g (find (applies r.sink end) (map (region_grant end) regions)) s.0)
+    ap (λ (found : Option Grant). denial_in (grant_offer found) (record { right = Sink; stag = r.sink; to = to; len = n })) (skipped end r.sink g (find (applies r.sink end) (map (region_grant end) regions)) s.0)
     ∙ sink-allowed place end r regions to n s.1 lt room
 
 -- ---- It is kept

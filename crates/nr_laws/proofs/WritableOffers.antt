@@ -181,7 +181,7 @@ header_need : (k : ServerState) (message : List ℕ) (r : Result Header HeaderFa
 header_need k message (Ok h) c e = body_need k h.xid message h.body c e
 header_need k message (Err fault) c e = absurd cc
 
-not_above : (n m : ℕ) → ltb n m ≡ false → m ≤ n
+pub not_above : (n m : ℕ) → ltb n m ≡ false → m ≤ n
 not_above n m e =
     elim (cases_lt n m) [
       | inl lt ↦ absurd (let wrong : true ≡ false = sym (lt-ltb n m lt) ∙ e in cc)

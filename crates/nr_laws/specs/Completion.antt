@@ -13,14 +13,18 @@ use Rattle.nr_reduce.specs.Served.{Served, next_call}
 use Rattle.nr_reduce.specs.Matched.{Matched}
 use Rattle.nr_laws.specs.Typed.{IsTyped}
 
--- Nothing is in transit on a link, and nothing waits to be executed: no side has ended, each side received all that the other sent,
--- and no call that is whole isn't executed yet. That each side wrote all its output is part of its law in full.
-pub record IsSettled (opened : LinkParameters) (link : ℕ) (run : List Mark) : Type 0 where
-  pub client_stays : end_of_side opened link Initiator run ≡ None
-  pub server_stays : end_of_side opened link Responder run ≡ None
+-- Nothing is in transit on a link, and nothing waits to be executed: each side received all that the other sent, and no call that is whole
+-- isn't executed yet. That each side wrote all its output is part of its law in full.
+pub record NothingWaits (opened : LinkParameters) (link : ℕ) (run : List Mark) : Type 0 where
   pub up : bytes_received link Responder run ≡ bytes_sent link Initiator run
   pub down : bytes_received link Initiator run ≡ bytes_sent link Responder run
   pub executed : next_call opened link run ≡ None
+
+-- nor has a side ended
+pub record IsSettled (opened : LinkParameters) (link : ℕ) (run : List Mark) : Type 0 where
+  pub client_stays : end_of_side opened link Initiator run ≡ None
+  pub server_stays : end_of_side opened link Responder run ≡ None
+  pub nothing_waits : NothingWaits opened link run
 
 -- an accepted call that wasn't given up
 pub record IsKept (link : ℕ) (run : List Mark) (a : AcceptedCall) : Type 0 where
@@ -31,10 +35,14 @@ pub record IsKept (link : ℕ) (run : List Mark) (a : AcceptedCall) : Type 0 whe
 abbrev pub HasOutcome : List CompletedCall → ℕ → Type 0
 HasOutcome calls xid = (outcome : Outcome) × Contains calls (record { xid = xid; outcome = outcome })
 
--- On a matched link where nothing is left to do, no call is outstanding: a message of each accepted call was received. It brought an
--- outcome of each that wasn't given up; and once all outcomes that are due are handed over, each of these has its Done.
-abbrev pub CallsComplete : Type 0
-CallsComplete = (opened : LinkParameters) (link : ℕ) (run : List Mark) → IsTyped run → Asked opened link run → Served opened link run → Matched link run → IsSettled opened link run →
+-- No call is outstanding: a message of each accepted call was received. It brought an outcome of each that wasn't given up; and once all
+-- outcomes that are due are handed over, each of these has its Done.
+abbrev pub HaveCompleted : LinkParameters → ℕ → List Mark → Type 0
+HaveCompleted opened link run =
     (calls_outstanding opened link run ≡ 0)
     × ((a : AcceptedCall) → IsKept link run a → HasOutcome (client opened link run).state.outcomes a.xid)
     × (outcomes_due opened link run ≡ [] → (a : AcceptedCall) → IsKept link run a → HasOutcome (completed_calls link run) a.xid)
+
+-- On a matched link where nothing is left to do, all calls have completed.
+abbrev pub CallsComplete : Type 0
+CallsComplete = (opened : LinkParameters) (link : ℕ) (run : List Mark) → IsTyped run → Asked opened link run → Served opened link run → Matched link run → IsSettled opened link run → HaveCompleted opened link run

@@ -21,6 +21,8 @@ use Rattle.nr_reduce.specs.PayloadLaws.{given_conveyed}
 use Rattle.nr_reduce.specs.Plans.{call_message}
 use Rattle.nr_reduce.specs.Run.{client, end_of_side}
 use Rattle.nr_reduce.specs.RunLaws.{HasOtherChunk}
+use Rattle.nr_reduce.specs.SoFar.{InFull}
+use Rattle.nr_laws.specs.Completion.{NothingWaits, HaveCompleted}
 use Rattle.nr_laws.specs.EndCauses.{KeepLaws}
 use Rattle.nr_laws.specs.HandedOver.{HasWords}
 use Rattle.nr_laws.specs.PlainReplies.{server_with}
@@ -76,3 +78,9 @@ abbrev pub MatchedLinksStay : Type 0
 MatchedLinksStay = (reply_to : List Entry → Moment → List ℕ → Option (List ℕ)) (adds : Moment → List ℕ → List ℕ → List Entry) (opened : LinkParameters) (link : ℕ) (run : List Mark) →
     IsOpened opened → IsTyped run → HaveWords run → KeepLaws opened link run → HasNoRevoke link run → AreConveyedOrRefused opened link run → IsPlain (server_with reply_to adds) → Plainly (server_with reply_to adds) run →
     (end_of_side opened link Initiator run ≡ None) × (end_of_side opened link Responder run ≡ None)
+
+-- So where its laws hold in full and nothing waits, all its calls have completed.
+abbrev pub MatchedCallsComplete : Type 0
+MatchedCallsComplete = (reply_to : List Entry → Moment → List ℕ → Option (List ℕ)) (adds : Moment → List ℕ → List ℕ → List Entry) (opened : LinkParameters) (link : ℕ) (run : List Mark) →
+    IsOpened opened → IsTyped run → HaveWords run → InFull opened link run → HasNoRevoke link run → AreConveyedOrRefused opened link run → IsPlain (server_with reply_to adds) → Plainly (server_with reply_to adds) run →
+    NothingWaits opened link run → HaveCompleted opened link run

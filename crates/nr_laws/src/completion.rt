@@ -2,6 +2,7 @@
 
 ghost use Rattle.nr_laws.specs.Completion.{CallsComplete};
 ghost use Rattle.nr_laws.specs.EndCauses.{ServerEndsForCalls, ClientEndsForReplies, LawsKeptBefore};
+ghost use Rattle.nr_laws.specs.Stays.{MatchedLinksStay, MatchedCallsComplete};
 
 /// On a matched link of which no side has ended, where each side wrote all its output whenever it wrote, each side received all that the
 /// other sent, and no call that is whole waits to be executed: no call is outstanding, since a message of each accepted call
@@ -23,4 +24,14 @@ pub fn segments_keep_the_rules()
     ensures client { ClientEndsForReplies }
     // Where both sides have ended, the first end is that of a run which stops before the other's.
     ensures before { LawsKeptBefore }
+{}
+
+/// Neither side of a matched link ends that was opened with numbers and credits in range, where each side wrote all its output whenever it
+/// wrote; no memory of a call is taken back; each offer that is given conveys a payload with an RPC call head (RFC 5531 section 9), or its
+/// message is refused by ERR_CHUNK (RFC 8166 section 4.5); and calls are answered as a plain server answers, each of whose replies has the
+/// head of a reply to its call and fits. So where nothing waits on such a link, all its calls have completed. A mark that the link was
+/// dropped changes nothing here.
+pub fn matched_links_stay()
+    ensures stays { MatchedLinksStay }
+    ensures complete { MatchedCallsComplete }
 {}

@@ -1,0 +1,104 @@
+-- The frame at which a server ends for a call.
+use Rattle.std.proofs.Common.{◌≡◌, ℕ, Bool, false, cond, List, ◌∷◌, ◌++◌, Option, None, Some, Ok, refl, sym, ap, subst, ◌∙◌, inl, inr}
+use Rattle.nr_regions.specs.Access.{Grant}
+use Rattle.nr_wire.specs.declared.hello.Side.TheVariants.{Initiator, Responder}
+use Rattle.nr_wire.specs.Hello.{hello_of}
+use Rattle.nr_wire.specs.Segment.{Segment}
+use Rattle.nr_link.specs.declared.end.End.{End as Stop}
+use Rattle.nr_link.specs.declared.end.End.TheVariants as ends
+use Rattle.nr_link.specs.Frames.{Frame, is_hello}
+use Rattle.nr_link.specs.Ending.{frame_segment, frame_end, hello_end}
+use Rattle.nr_reduce.specs.declared.mark.Mark.{Mark}
+use Rattle.nr_reduce.specs.declared.mark.LinkParameters.{LinkParameters}
+use Rattle.nr_reduce.specs.OfferedRegions.{region_grants}
+use Rattle.nr_reduce.specs.Events.{Event, events}
+use Rattle.nr_reduce.specs.Events.Event.{FrameReceived, CallSubmitted, MemoryRevoked, CallExecuted, QueueWritten}
+use Rattle.nr_reduce.specs.EndRules.{end_state_after}
+use Rattle.nr_reduce.specs.ServerState.{ServerState}
+use Rattle.nr_reduce.specs.ServerFrames.{frame_effect}
+use Rattle.nr_reduce.specs.Server.{server_rules, server_end, initial_server, readiness, or_refusal, refusal_end}
+use Rattle.nr_reduce.specs.Run.{server}
+use Rattle.nr_reduce.specs.RunLaws.{server_by}
+use Rattle.nr_laws.specs.EndCauses.{IsCallReason}
+use Rattle.nr_laws.specs.MatchedSoFar.{MatchedSoFar}
+use Rattle.nr_laws.specs.Typed.{IsTyped}
+use Rattle.nr_laws.proofs.Along.{GoesOn, goes-behind}
+use Rattle.nr_laws.proofs.CallRefusals.{RefusedBy, refused-by, frame-other}
+use Rattle.nr_laws.proofs.EndingEvents.{ends-at}
+use Rattle.nr_laws.proofs.HeldChunks.{server-good}
+use Rattle.nr_laws.proofs.ServerAlong.{ServerGood, FrameGood}
+use Rattle.nr_laws.proofs.ServerEnds.{hello-goes}
+
+-- ---- The frame that ends a server for a call
+
+pub record RefusedAt (opened : LinkParameters) (link : ℕ) (run : List Mark) : Type 0 where
+  pub earlier : List Event
+  pub frame : Frame
+  pub later : List Event
+  pub segment : Segment
+  pub reason : ℕ
+  pub is : events link Responder run ≡ earlier ++ FrameReceived frame ∷ later
+  pub behind : is_hello frame ≡ false
+  pub is_segment : frame_segment frame ≡ Ok segment
+  pub live : (end_state_after (server_rules opened) (initial_server opened) earlier).ended ≡ None
+  pub fits : frame_end (readiness opened (server_by opened earlier)) (region_grants frame.end (server_by opened earlier).regions) frame ≡ None
+  pub cause : RefusedBy (server_by opened earlier) frame segment reason
+
+none-some : {X : Type 0} (x : X) (o : Option X) → o ≡ None → o ≡ Some x → ⊥
+none-some x o none some = (let wrong : None ≡ Some x = sym none ∙ some in cc)
+
+reason-same : (a b n m : ℕ) → Some (ends.Bad a n) ≡ Some (ends.Bad b m) → n ≡ m
+reason-same a b n m e = cc
+
+refused-frame : (opened : LinkParameters) (link : ℕ) (run : List Mark) (es : List Event) (f : Frame) (more : List Event) (at reason : ℕ) → events link Responder run ≡ es ++ FrameReceived f ∷ more
+    → (end_state_after (server_rules opened) (initial_server opened) es).ended ≡ None → FrameGood f → IsCallReason reason → server_end opened (server_by opened es) (FrameReceived f) ≡ Some (ends.Bad at reason) → RefusedAt opened link run
+unfolding server_end
+refused-frame opened link run es f more at reason all live (inl h) own e =
+    absurd (none-some (ends.Bad at reason) (server_end opened (server_by opened es) (FrameReceived f)) (hello-goes opened (server_by opened es) f h.0 h.1) e)
+refused-frame opened link run es f more at reason all live (inr (s, behind, is)) own e =
+    by (frame_end (readiness opened k) grants f) refl (ap (λ (b : Bool). cond b (hello_end (hello_of Initiator f.bytes)) (or_refusal k f (frame_end (readiness opened k) grants f))) (sym behind) ∙ e)
+  where
+    k : ServerState
+    k = server_by opened es
+
+    grants : List Grant
+    grants = region_grants f.end k.regions
+
+    by_refusal : frame_end (readiness opened k) grants f ≡ None → (o : Option ℕ) → (frame_effect k f).refusal ≡ o → refusal_end f o ≡ Some (ends.Bad at reason) → RefusedAt opened link run
+    by_refusal fits None refusal e = absurd cc
+    by_refusal fits (Some n) refusal e =
+        let same : n ≡ reason = reason-same f.at at n reason e in
+        record {
+          earlier = es;
+          frame = f;
+          later = more;
+          segment = s;
+          reason = n;
+          is = all;
+          behind = behind;
+          is_segment = is;
+          live = live;
+          fits = fits;
+          cause = refused-by k f s n (subst IsCallReason (sym same) own) is refusal;
+        }
+
+    by : (o : Option Stop) → frame_end (readiness opened k) grants f ≡ o → or_refusal k f o ≡ Some (ends.Bad at reason) → RefusedAt opened link run
+    by (Some end) fits e = absurd (frame-other (readiness opened k) grants f s at reason is own (fits ∙ e))
+    by None fits e = by_refusal fits (frame_effect k f).refusal refl e
+
+pub refused-at : (opened : LinkParameters) (link : ℕ) (run : List Mark) → IsTyped run → MatchedSoFar opened link run → (at reason : ℕ) → IsCallReason reason → (server opened link run).ended ≡ Some (ends.Bad at reason) → RefusedAt opened link run
+unfolding server server_end
+refused-at opened link run typed far at reason own e =
+    let es : List Event = events link Responder run in
+    let r = ends-at (server_rules opened) (initial_server opened) es (ends.Bad at reason) refl e in
+    let good = goes-behind (server_rules opened) ServerGood 0 (initial_server opened) r.earlier (r.event ∷ r.later)
+    (subst (λ (ev : List Event). GoesOn (server_rules opened) ServerGood 0 (initial_server opened) ev) r.is (server-good opened link run typed far.asked far.served far.matched)) in
+    by r.earlier r.event r.later r.is r.live good.1 r.ends
+  where
+    by : (es : List Event) (x : Event) (more : List Event) → events link Responder run ≡ es ++ x ∷ more → (end_state_after (server_rules opened) (initial_server opened) es).ended ≡ None
+        → ServerGood (end_state_after (server_rules opened) (initial_server opened) es) x → server_end opened (server_by opened es) x ≡ Some (ends.Bad at reason) → RefusedAt opened link run
+    by es (FrameReceived f) more is live good e = refused-frame opened link run es f more at reason is live good own e
+    by es (CallSubmitted p a) more is live good e = absurd cc
+    by es (MemoryRevoked p xid) more is live good e = absurd cc
+    by es (CallExecuted x) more is live good e = absurd cc
+    by es QueueWritten more is live good e = absurd cc

@@ -1,0 +1,186 @@
+-- Behind a frame that a server receives each read that waits, or is newly open, is of a pending call that offers it.
+use Rattle.std.proofs.Common.{◌≡◌, ℕ, zero, suc, ◌+◌, ◌-◌, ◌≤◌, Bool, true, false, cond, not, ◌&&◌, eqb, List, [], ◌∷◌, ◌++◌, length, take, drop, filter, Option, None, Some, Result, Ok, refl, sym, ap, subst, ◌∙◌, arith, inl, inr, length-take}
+use Rattle.std.specs.List.{AllByRecursion}
+use Rattle.nr_xdr.specs.Fields.{word_at}
+use Rattle.nr_wire.specs.Constants.{OPCODE_READ_RESPONSE, OPCODE_SEND, QUEUE_SEND}
+use Rattle.nr_wire.specs.Segment.{Segment}
+use Rattle.nr_wire.specs.Segment.Segment.{Tagged, Untagged}
+use Rattle.nr_header.specs.declared.header.ReadSegment.{ReadSegment}
+use Rattle.nr_link.specs.Frames.{Frame}
+use Rattle.nr_link.specs.Limits.{open_reads_max}
+use Rattle.nr_link.specs.Output.{msn_word}
+use Rattle.nr_link.specs.ReceiveState.{begun_bytes}
+use Rattle.nr_link.specs.Ending.{frame_segment}
+use Rattle.nr_reduce.specs.Chunks.{is_read_chunk_of_item, total_at}
+use Rattle.nr_reduce.specs.OfferedRegions.{Region}
+use Rattle.nr_reduce.specs.ServerState.{ServerState, PendingCall, PendingRead}
+use Rattle.nr_reduce.specs.ServerReads.{open_reads, is_read, read_of, reads_from, reads_of, regions_of}
+use Rattle.nr_reduce.specs.ServerMessages.{CallVerdict, by_payload, payload_of, chunk_bytes, Verdict, verdict}
+use Rattle.nr_reduce.specs.ServerMessages.CallVerdict.{Refuses, IsReady}
+use Rattle.nr_reduce.specs.ServerMessages.Verdict.{EndsLink, OtherVersion, BadChunks, MakesPending}
+use Rattle.nr_reduce.specs.ServerFrames.{FrameEffect, no_effect, with_verdict, ready_if_whole, message_effect, with_refused_call, is_stream_read, read_effect, call_of_number, response_effect, with_access, effect_in, frame_effect}
+use Rattle.nr_laws.specs.FrameContents.FrameContent.{SendFrame}
+use Rattle.nr_laws.proofs.ReadLimits.{each-append, each-drop, each-kept}
+use Rattle.nr_laws.proofs.PendingSends.{verdict-new}
+use Rattle.nr_laws.proofs.ServerReadsOfRuns.{verdict-lists}
+use Rattle.nr_laws.proofs.OfferedAccesses.{EntryOffered, ListsOffered, CallOffered, MessageOffered, ReadOffered, each-all}
+
+-- ---- Lists
+
+drop-taken : {X : Type 0} (n : ℕ) (xs : List X) → drop (length (take n xs)) xs ≡ drop n xs
+drop-taken zero xs = refl
+drop-taken (suc n) [] = refl
+drop-taken (suc n) (x ∷ xs) = drop-taken n xs
+
+each-dropped : {X : Type 0} (P : X → Type 0) (n : ℕ) (xs ys : List X) → AllByRecursion P (drop n xs) → AllByRecursion P ys → AllByRecursion P (drop n (xs ++ ys))
+each-dropped P zero xs ys h k = each-append P xs ys h k
+each-dropped P (suc n) [] ys h k = each-drop P (suc n) ys k
+each-dropped P (suc n) (x ∷ xs) ys h k = each-dropped P n xs ys h k
+
+none-behind : {X : Type 0} (P : X → Type 0) (n : ℕ) (xs : List X) → AllByRecursion P (drop n (take n xs))
+none-behind P zero xs = tt
+none-behind P (suc n) [] = tt
+none-behind P (suc n) (x ∷ xs) = none-behind P n xs
+
+each-filter : {X : Type 0} (P Q : X → Type 0) (p : X → Bool) (xs : List X) → ((x : X) → p x ≡ true → P x → Q x) → AllByRecursion P xs → AllByRecursion Q (filter p xs)
+each-filter {X} P Q p [] f h = tt
+each-filter {X} P Q p (x ∷ xs) f h = by (p x) refl (each-filter P Q p xs f h.1)
+  where
+    by : (b : Bool) → p x ≡ b → AllByRecursion Q (filter p xs) → AllByRecursion Q (cond b (x ∷ filter p xs) (filter p xs))
+    by true e rest = (f x e h.0, rest)
+    by false e rest = rest
+
+-- ---- Reads of pending calls
+
+pub read-left : (regions : List Region) (calls more : List PendingCall) (r : PendingRead) → ReadOffered regions calls r → ReadOffered regions (calls ++ more) r
+read-left regions [] more r h = absurd h
+read-left regions (c ∷ calls) more r (inl h) = inl h
+read-left regions (c ∷ calls) more r (inr h) = inr (read-left regions calls more r h)
+
+read-right : (regions : List Region) (calls more : List PendingCall) (r : PendingRead) → ReadOffered regions more r → ReadOffered regions (calls ++ more) r
+read-right regions [] more r h = h
+read-right regions (c ∷ calls) more r h = inr (read-right regions calls more r h)
+
+pub read-kept : (regions : List Region) (Q : PendingCall → Type 0) (p : PendingCall → Bool) (calls : List PendingCall) (r : PendingRead) → AllByRecursion Q calls → ((c : PendingCall) → Q c → c.number ≡ r.number → p c ≡ true) → ReadOffered regions calls r
+    → ReadOffered regions (filter p calls) r
+read-kept regions Q p [] r each own h = absurd h
+read-kept regions Q p (c ∷ calls) r each own (inl h) = by (p c) (own c each.0 h.0)
+  where
+    by : (b : Bool) → b ≡ true → ReadOffered regions (cond b (c ∷ filter p calls) (filter p calls)) r
+    by true e = inl h
+    by false e = absurd cc
+read-kept regions Q p (c ∷ calls) r each own (inr h) = by (p c) (read-kept regions Q p calls r each.1 own h)
+  where
+    by : (b : Bool) → ReadOffered regions (filter p calls) r → ReadOffered regions (cond b (c ∷ filter p calls) (filter p calls)) r
+    by true rest = inr rest
+    by false rest = rest
+
+-- ---- The effect of a frame
+
+pub record EffectOffered (regions : List Region) (s : FrameEffect) : Type 0 where
+  pub calls : AllByRecursion (CallOffered regions) s.calls
+  pub waiting : AllByRecursion (ReadOffered regions s.calls) (drop s.kept s.reads)
+  pub few : s.kept ≤ open_reads_max
+
+none-more : (regions : List Region) (k : ServerState) (calls : AllByRecursion (CallOffered regions) k.calls) (waiting : AllByRecursion (ReadOffered regions k.calls) (drop open_reads_max k.reads)) → EffectOffered regions (no_effect k)
+none-more regions k calls waiting = record {
+  calls = calls;
+  waiting = subst (AllByRecursion (ReadOffered regions k.calls)) (sym (drop-taken open_reads_max k.reads)) waiting;
+  few = omega (arith, length-take open_reads_max k.reads);
+}
+
+whole-more : (regions : List Region) (k : ServerState) (place : ℕ) (c : PendingCall) (s : FrameEffect) → EffectOffered regions s → EffectOffered regions (ready_if_whole k place c s)
+whole-more regions k place c s h = by (is_read s.reads c.number) (by_payload c (payload_of k place c))
+  where
+    by : (b : Bool) (v : CallVerdict) → EffectOffered regions (cond b (with_verdict v s) s)
+    by true (Refuses reason) = record { calls = h.calls; waiting = h.waiting; few = h.few }
+    by true (IsReady r) = record { calls = h.calls; waiting = h.waiting; few = h.few }
+    by false v = h
+
+-- the reads of a new call
+new-reads : (regions : List Region) (sinks : List Region) (c : PendingCall) (before read : List ReadSegment) → AllByRecursion (EntryOffered regions c.xid) read → AllByRecursion (ReadOffered regions (c ∷ [])) (reads_from sinks c.number before read)
+new-reads regions sinks c before [] h = tt
+new-reads regions sinks c before (r ∷ read) h = by (eqb r.length 0) (new-reads regions sinks c (before ++ r ∷ []) read h.1)
+  where
+    rest : List PendingRead
+    rest = reads_from sinks c.number (before ++ r ∷ []) read
+
+    by : (b : Bool) → AllByRecursion (ReadOffered regions (c ∷ [])) rest → AllByRecursion (ReadOffered regions (c ∷ [])) (cond b [] (read_of sinks c.number (total_at r.position before) r ∷ []) ++ rest)
+    by true others = others
+    by false others = (inl (refl, h.0), others)
+
+message-more : (regions : List Region) (k : ServerState) (place : ℕ) (message : List ℕ) (v : Verdict) → verdict k message ≡ v → MessageOffered regions (SendFrame message) → AllByRecursion (CallOffered regions) k.calls → AllByRecursion (ReadOffered regions k.calls) (drop open_reads_max k.reads)
+    → EffectOffered regions (message_effect k place message v)
+message-more regions k place message (EndsLink reason) is own calls waiting = (let h = none-more regions k calls waiting in record { calls = h.calls; waiting = h.waiting; few = h.few })
+message-more regions k place message OtherVersion is own calls waiting = (let h = none-more regions k calls waiting in record { calls = h.calls; waiting = h.waiting; few = h.few })
+message-more regions k place message BadChunks is own calls waiting = (let h = none-more regions k calls waiting in record { calls = h.calls; waiting = h.waiting; few = h.few })
+message-more regions k place message (MakesPending c) is own calls waiting =
+    let h = none-more regions k calls waiting in
+    let sinks = k.regions ++ regions_of k place c in
+    let new = verdict-new k message c is in
+    let l = verdict-lists k message c is in
+    let one : CallOffered regions c =
+    subst (λ (n : ℕ). ListsOffered regions n c.lists) (sym new.0.own) (subst (ListsOffered regions (word_at 0 message)) (sym l.lists) (own l.header l.is)) in
+    whole-more regions k place c (record (no_effect k) { calls = k.calls ++ c ∷ []; reads = k.reads ++ reads_of sinks c; regions = sinks })
+    (record {
+      calls = each-append (CallOffered regions) k.calls (c ∷ []) calls (one, tt);
+      waiting = each-dropped (ReadOffered regions (k.calls ++ c ∷ [])) (length (open_reads k)) k.reads (reads_of sinks c)
+          (each-all (ReadOffered regions k.calls) (ReadOffered regions (k.calls ++ c ∷ [])) (drop (length (open_reads k)) k.reads) (read-left regions k.calls (c ∷ [])) h.waiting)
+          (each-all (ReadOffered regions (c ∷ [])) (ReadOffered regions (k.calls ++ c ∷ [])) (reads_of sinks c) (read-right regions k.calls (c ∷ [])) (new-reads regions sinks c [] c.lists.read one.read));
+      few = h.few;
+    })
+
+-- a call that is refused, and its reads that wait
+refused-more : (regions : List Region) (k : ServerState) (c : PendingCall) (s : FrameEffect) → EffectOffered regions s → EffectOffered regions (with_refused_call k c s)
+refused-more regions k c s h =
+    let other = λ (x : PendingCall). not (eqb x.number c.number) in
+    let left = λ (r : PendingRead). not (eqb r.number c.number) in
+    record {
+      calls = each-kept (CallOffered regions) other s.calls h.calls;
+      waiting = each-dropped (ReadOffered regions (filter other s.calls)) s.kept (take s.kept s.reads) (filter left (drop s.kept s.reads)) (none-behind (ReadOffered regions (filter other s.calls)) s.kept s.reads)
+          (each-filter (ReadOffered regions s.calls) (ReadOffered regions (filter other s.calls)) left (drop s.kept s.reads)
+          (λ r e x. read-kept regions (CallOffered regions) other s.calls r h.calls (λ y own same. ap (λ (n : ℕ). not (eqb n c.number)) same ∙ e) x) h.waiting);
+      few = h.few;
+    }
+
+read-effect-more : (regions : List Region) (k : ServerState) (place : ℕ) (r : PendingRead) (o : Option PendingCall) (s : FrameEffect) → EffectOffered regions s → EffectOffered regions (read_effect k place r o s)
+read-effect-more regions k place r None s h = h
+read-effect-more regions k place r (Some c) s h = by (is_stream_read c r s.reads && not (is_read_chunk_of_item (chunk_bytes k place c 0) c.lists.read))
+  where
+    by : (b : Bool) → EffectOffered regions (cond b (with_refused_call k c s) (ready_if_whole k place c s))
+    by true = refused-more regions k c s h
+    by false = whole-more regions k place c s h
+
+response-more : (regions : List Region) (k : ServerState) (place : ℕ) (reads : List PendingRead) → k.reads ≡ reads → AllByRecursion (CallOffered regions) k.calls → AllByRecursion (ReadOffered regions k.calls) (drop open_reads_max k.reads) → EffectOffered regions (response_effect k place reads)
+response-more regions k place [] is calls waiting = none-more regions k calls waiting
+response-more regions k place (r ∷ reads) is calls waiting =
+    let kept : length (open_reads k) - 1 ≡ length (take 7 reads) = ap (λ (xs : List PendingRead). length (take open_reads_max xs) - 1) is ∙ omega arith in
+    read-effect-more regions k place r (call_of_number k r.number) (record (no_effect k) { reads = reads; kept = length (open_reads k) - 1 })
+    (record {
+      calls = calls;
+      waiting = subst (λ (n : ℕ). AllByRecursion (ReadOffered regions k.calls) (drop n reads)) (sym kept)
+          (subst (AllByRecursion (ReadOffered regions k.calls)) (ap (λ (xs : List PendingRead). drop open_reads_max xs) is ∙ sym (drop-taken 7 reads)) waiting);
+      few = omega (arith, length-take open_reads_max k.reads);
+    })
+
+pub effect-send : (regions : List Region) (k : ServerState) (f : Frame) (message : List ℕ) → k.received.begun ≡ None → MessageOffered regions (SendFrame message) → AllByRecursion (CallOffered regions) k.calls → AllByRecursion (ReadOffered regions k.calls) (drop open_reads_max k.reads)
+    → frame_segment f ≡ Ok (Untagged true OPCODE_SEND 0 QUEUE_SEND (msn_word (k.received.sends + 1)) 0 message) → EffectOffered regions (frame_effect k f)
+unfolding frame_effect
+effect-send regions k f message none own calls waiting is =
+    let whole : List ℕ = begun_bytes k.received.begun ++ message in
+    let same : message ≡ whole = ap (λ (b : Option (List ℕ)). begun_bytes b ++ message) (sym none) in
+    subst (λ (r : Result Segment ℕ). EffectOffered regions (effect_in k f r)) (sym is)
+    (message-more regions k f.end whole (verdict k whole) refl (subst (λ (m : List ℕ). MessageOffered regions (SendFrame m)) same own) calls waiting)
+
+pub effect-tagged : (regions : List Region) (k : ServerState) (f : Frame) (last : Bool) (opcode stag to : ℕ) (payload : List ℕ) → AllByRecursion (CallOffered regions) k.calls → AllByRecursion (ReadOffered regions k.calls) (drop open_reads_max k.reads)
+    → frame_segment f ≡ Ok (Tagged last opcode stag to payload) → EffectOffered regions (frame_effect k f)
+unfolding frame_effect
+effect-tagged regions k f last opcode stag to payload calls waiting is =
+    subst (λ (r : Result Segment ℕ). EffectOffered regions (effect_in k f r)) (sym is) (by (eqb opcode OPCODE_READ_RESPONSE && last))
+  where
+    t : ServerState
+    t = with_access k f (Tagged last opcode stag to payload)
+
+    by : (b : Bool) → EffectOffered regions (cond b (response_effect t f.end t.reads) (no_effect t))
+    by true = response-more regions t f.end t.reads refl calls waiting
+    by false = none-more regions t calls waiting

@@ -1,0 +1,174 @@
+-- What a form conveys of a call is judged to be ready, where it has a call head; a message that makes a call pending isn't refused.
+use Rattle.std.proofs.Common.{◌≡◌, ◌≢◌, ℕ, ◌+◌, ◌^◌, ◌≤◌, ◌<◌, Bool, true, false, cond, ◌||◌, not, eqb, ltb, List, [], ◌∷◌, length, Option, None, Some, Result, Ok, Err, refl, sym, ap, subst, ◌∙◌, eqb-true, eq-eqb, inl, inr}
+use Rattle.std.specs.Prelude.{IfSome, is_ok}
+use Rattle.std.proofs.lemmas.Bool.{eqb-false}
+use Rattle.std.proofs.lemmas.List.Elements.{All-head}
+use Rattle.nr_xdr.specs.Item.{IsBytes}
+use Rattle.nr_xdr.specs.Fields.{word_at}
+use Rattle.nr_header.specs.declared.fault.HeaderFault.{HeaderFault}
+use Rattle.nr_header.specs.declared.fault.HeaderFault.TheVariants as faults
+use Rattle.nr_header.specs.declared.header.ReadSegment.{ReadSegment}
+use Rattle.nr_header.specs.declared.header.ChunkLists.{ChunkLists}
+use Rattle.nr_header.specs.declared.header.Body.{Body}
+use Rattle.nr_header.specs.declared.header.Body.TheVariants.{Msg, Nomsg, ErrVers, ErrChunk}
+use Rattle.nr_header.specs.declared.header.Header.{Header}
+use Rattle.nr_header.specs.Reading.{header_of, header_by, body_by, error_by, HasNoStream, IsBad}
+use Rattle.nr_rpc.specs.declared.head.CallHead.{CallHead}
+use Rattle.nr_rpc.specs.declared.head.CallHead.TheVariants as calls
+use Rattle.nr_rpc.specs.Credential.{CanWriteCred}
+use Rattle.nr_rpc.specs.Reading.{call_of}
+use Rattle.nr_reduce.specs.declared.call.Call.{Call}
+use Rattle.nr_reduce.specs.declared.call.Form.{Form}
+use Rattle.nr_reduce.specs.declared.call.Form.TheVariants as forms
+use Rattle.nr_reduce.specs.declared.outline.Plan.{Plan}
+use Rattle.nr_reduce.specs.Plans.{entries_from, read_list, read_stag, lists_of, inline_at, inline_stream}
+use Rattle.nr_reduce.specs.Chunks.{is_read_chunk_of_item}
+use Rattle.nr_reduce.specs.ClientState.{call_payload}
+use Rattle.nr_reduce.specs.ServerState.{ServerState, PendingCall, ReadyCall, is_pending}
+use Rattle.nr_reduce.specs.ServerMessages.{verdict, by_head, by_payload, by_header, call_xid}
+use Rattle.nr_reduce.specs.ServerMessages.CallVerdict.{Refuses, IsReady}
+use Rattle.nr_reduce.specs.ServerMessages.Verdict.{EndsLink, OtherVersion, BadChunks, MakesPending}
+use Rattle.nr_reduce.specs.RunLaws.{known_stream, OtherChunk, HasOtherChunk}
+use Rattle.nr_reduce.specs.Undone.{lists_by, inline_by}
+use Rattle.nr_reduce.proofs.BadMessages.{bad-refused}
+use Rattle.nr_laws.specs.Payloads.{form_conveyed}
+use Rattle.nr_laws.specs.Stays.{HasCallHead, IsRefusedMessage, IsConveyedOrRefused}
+use Rattle.nr_laws.proofs.CallTargets.{conveyed-head}
+use Rattle.nr_laws.proofs.OwnHeads.{OwnHead, own-head}
+use Rattle.nr_laws.proofs.SuitedCalls.{HasNoBytes, Suits}
+use Rattle.nr_laws.proofs.WritableOffers.{not_above}
+
+-- ---- A payload with a call head
+
+ready-not : (r : ReadyCall) (reason : ℕ) → IsReady r ≡ Refuses reason → ⊥
+ready-not r reason e = cc
+
+head-same : (a b : CallHead) → ◌≡◌ {A = Result CallHead ℕ} (Ok a) (Ok b) → a ≡ b
+head-same a b e = cc
+
+-- what a form conveys of it is that of a call under the same xid, where it has a head
+pub conveyed-ready : (xid : ℕ) (call : Call) (form : Form) (c : PendingCall) (reason : ℕ) → xid < 2 ^ 32 → CanWriteCred call.cred → IsBytes (call_payload xid call) → c.xid ≡ xid
+    → (o : Option (List ℕ)) → o ≡ form_conveyed form (call_payload xid call) → HasCallHead o → by_payload c o ≡ Refuses reason → ⊥
+conveyed-ready xid call form c reason small can bytes same None is h e = h
+conveyed-ready xid call form c reason small can bytes same (Some q) is h e = by (call_of q) refl h e
+  where
+    own : OwnHead xid call
+    own = own-head xid call small can
+
+    own_head : CallHead
+    own_head = calls.Version2 xid own.prog.number own.vers.number own.proc.number own.cred own.args_at
+
+    by : (r : Result CallHead ℕ) → call_of q ≡ r → is_ok r ≡ true → by_head c q r ≡ Refuses reason → ⊥
+    by (Err at) read ok e = (let wrong : false ≡ true = ok in cc)
+    by (Ok head) read ok e =
+        let one : head ≡ own_head = head-same head own_head (sym read ∙ conveyed-head form (call_payload xid call) q own_head head bytes own.is (sym is) read ∙ own.is) in
+        let number : eqb (call_xid head) c.xid ≡ true = eq-eqb (call_xid head) c.xid (ap call_xid one ∙ sym same) in
+        ready-not (record { number = c.number; xid = c.xid; payload = q }) reason
+        (ap (λ (b : Bool). cond b (IsReady (record { number = c.number; xid = c.xid; payload = q })) (Refuses 19)) (sym number) ∙ e)
+
+-- what is conveyed has a head, where the message isn't refused
+pub conveyed-head-there : (xid : ℕ) (call : Call) (form : Form) (message : List ℕ) → xid < 2 ^ 32 → CanWriteCred call.cred → IsConveyedOrRefused form (call_payload xid call) message → (IsRefusedMessage message → ⊥)
+    → HasCallHead (form_conveyed form (call_payload xid call))
+conveyed-head-there xid call form message small can given fine = by form given
+  where
+    own : is_ok (call_of (call_payload xid call)) ≡ true
+    own = ap (λ (r : Result CallHead ℕ). is_ok r) (own-head xid call small can).is
+
+    by : (form : Form) → IsConveyedOrRefused form (call_payload xid call) message → HasCallHead (form_conveyed form (call_payload xid call))
+    by forms.Auto given = own
+    by forms.Inline given = own
+    by forms.Chunk given = own
+    by forms.Long given = own
+    by (forms.Given offer) (inl h) = h
+    by (forms.Given offer) (inr refused) = absurd (fine refused)
+
+-- ---- A message that makes a call pending isn't refused
+
+header-long : (message : List ℕ) (h : Header) → header_of message ≡ Ok h → 16 ≤ length message
+unfolding header_of
+header-long message h e = by (ltb (length message) 16) refl (body_by (error_by (word_at 12 message) message) (word_at 4 message) (word_at 12 message) message) e
+  where
+    by : (b : Bool) → ltb (length message) 16 ≡ b → (r : Result Body HeaderFault) → cond b (Err faults.Short) (header_by (word_at 0 message) (word_at 8 message) r) ≡ Ok h → 16 ≤ length message
+    by true is r e = absurd cc
+    by false is r e = not_above (length message) 16 is
+
+-- the tests that a message passed
+record Passed (k : ServerState) (message : List ℕ) : Type 0 where
+  long : 16 ≤ length message
+  version : word_at 4 message ≡ 1
+  done : word_at 12 message ≢ 3
+  error : word_at 12 message ≢ 4
+  free : is_pending k (word_at 0 message) ≡ false
+
+or-false : (a b : Bool) → (a || b) ≡ false → (a ≡ false) × (b ≡ false)
+or-false true b e = absurd cc
+or-false false b e = (refl, e)
+
+not-false : (a : Bool) → not a ≡ false → a ≡ true
+not-false true e = refl
+not-false false e = absurd cc
+
+passed : (k : ServerState) (message : List ℕ) (c : PendingCall) → verdict k message ≡ MakesPending c → Passed k message
+unfolding verdict
+passed k message c e = by (not (eqb (word_at 4 message) 1)) refl (eqb (word_at 12 message) 3 || eqb (word_at 12 message) 4) refl (is_pending k (word_at 0 message)) refl (header_of message) refl e
+  where
+    by : (other : Bool) → not (eqb (word_at 4 message) 1) ≡ other → (kind : Bool) → (eqb (word_at 12 message) 3 || eqb (word_at 12 message) 4) ≡ kind → (open_call : Bool) → is_pending k (word_at 0 message) ≡ open_call
+        → (r : Result Header HeaderFault) → header_of message ≡ r → cond other OtherVersion (cond kind (EndsLink 17) (cond open_call (EndsLink 20) (by_header k message r))) ≡ MakesPending c → Passed k message
+    by true a kind b open_call d r h e = absurd cc
+    by false a true b open_call d r h e = absurd cc
+    by false a false b true d r h e = absurd cc
+    by false a false b false d (Err fault) h e = absurd cc
+    by false a false b false d (Ok header) h e =
+        let kinds = or-false (eqb (word_at 12 message) 3) (eqb (word_at 12 message) 4) b in
+        record {
+          long = header-long message header h;
+          version = eqb-true (word_at 4 message) 1 (not-false (eqb (word_at 4 message) 1) a);
+          done = eqb-false (word_at 12 message) 3 kinds.0;
+          error = eqb-false (word_at 12 message) 4 kinds.1;
+          free = d;
+        }
+
+pub pending-fine : (k : ServerState) (message : List ℕ) (c : PendingCall) → verdict k message ≡ MakesPending c → IsRefusedMessage message → ⊥
+pending-fine k message c is refused =
+    let p = passed k message c is in
+    let bad : verdict k message ≡ BadChunks = (bad-refused k message p.long p.version p.done p.error p.free).1 refused in
+    wrong (sym is ∙ bad)
+  where
+    wrong : MakesPending c ≡ BadChunks → ⊥
+    wrong e = cc
+
+-- ---- Nor is one of a call that suits its lists and has bytes to be read
+
+suited-fine : (lists : ChunkLists) (o : Option (List ℕ)) → IfSome o (λ stream. is_read_chunk_of_item stream lists.read ≡ true) → OtherChunk lists o → ⊥
+suited-fine lists None s h = h
+suited-fine lists (Some stream) s h = (let wrong : true ≡ false = sym s ∙ h in cc)
+
+entries-none : (position stag offset : ℕ) (lengths : List ℕ) → position ≡ 0 → HasNoStream (Nomsg (record { read = entries_from position stag offset lengths; write = []; reply = None })) → HasNoBytes (entries_from position stag offset lengths)
+entries-none position stag offset [] zero_is none = tt
+entries-none position stag offset (n ∷ lengths) zero_is none =
+    absurd (All-head (λ (r : ReadSegment). r.position ≢ 0) (record { position = position; handle = stag; length = n; offset = offset }) (entries_from position stag (offset + n) lengths) none zero_is)
+
+-- RDMA_NOMSG without a stream has no bytes to be read, where it goes out by a plan
+no-stream : (stag : ℕ) (p : Plan) (message : List ℕ) (body : Body) → HasNoStream body → inline_by message body ≡ inline_stream p → lists_by body ≡ lists_of stag p → HasNoBytes (lists_by body).read
+unfolding lists_of
+no-stream stag p message (Msg lists at) none inline is = absurd none
+no-stream stag p message (Nomsg lists) none inline is = by p.read_at inline (ap (λ (l : ChunkLists). l.read) is)
+  where
+    by_place : (position : ℕ) (b : Bool) → eqb position 0 ≡ b → None ≡ cond b None (Some p.inline) → lists.read ≡ entries_from position (read_stag stag p) 0 p.read → HasNoBytes lists.read
+    by_place position false at e read = absurd cc
+    by_place position true at e read =
+        subst HasNoBytes (sym read)
+        (entries-none position (read_stag stag p) 0 p.read (eqb-true position 0 at) (subst (λ (rs : List ReadSegment). HasNoStream (Nomsg (record { read = rs; write = []; reply = None }))) read none))
+
+    by : (o : Option ℕ) → None ≡ inline_at o p.inline → lists.read ≡ read_list stag p o → HasNoBytes lists.read
+    by None e read = absurd cc
+    by (Some position) e read = by_place position (eqb position 0) refl e read
+no-stream stag p message (ErrVers version low high) none inline is = absurd none
+no-stream stag p message (ErrChunk version) none inline is = absurd none
+
+pub read-fine : (stag : ℕ) (p : Plan) (message : List ℕ) (header : Header) (c : PendingCall) → header_of message ≡ Ok header → c.lists ≡ lists_by header.body → c.inline ≡ known_stream message header.body → inline_by message header.body ≡ inline_stream p
+    → lists_by header.body ≡ lists_of stag p → Suits c → (HasNoBytes c.lists.read → ⊥) → IsRefusedMessage message → ⊥
+read-fine stag p message header c is lists stream inline own suits some (inl bad) =
+    some (subst (λ (l : ChunkLists). HasNoBytes l.read) (sym lists) (no-stream stag p message header.body (subst IsBad is bad) inline own))
+read-fine stag p message header c is lists stream inline own suits some (inr other) =
+    suited-fine c.lists c.inline suits (subst (λ (l : ChunkLists). OtherChunk l c.inline) (sym lists) (subst (λ (o : Option (List ℕ)). OtherChunk (lists_by header.body) o) (sym stream) (subst (HasOtherChunk message) is other)))

@@ -1,0 +1,90 @@
+-- On a matched link what a server makes of a call never ends it.
+use Rattle.std.proofs.Common.{◌≡◌, ℕ, true, List, [], ◌∷◌, length, Option, None, Some, Result, Ok, refl, sym, ap, subst, ◌∙◌, arith}
+use Rattle.nr_regions.specs.declared.denied.Denied.{Denied}
+use Rattle.nr_wire.specs.declared.hello.Side.TheVariants.{Initiator, Responder}
+use Rattle.nr_wire.specs.Segment.{Segment}
+use Rattle.nr_wire.specs.Segment.Segment.{Tagged, Untagged}
+use Rattle.nr_link.specs.declared.end.End.{End}
+use Rattle.nr_link.specs.Frames.{Frame}
+use Rattle.nr_link.specs.Reasons.{REASON_RESPONSE}
+use Rattle.nr_link.specs.Ending.{frame_segment, frame_end, frame_end_by, missing_access}
+use Rattle.nr_link.specs.SegmentFaults.{SegmentFault, segment_fault, missing_fault, reason_if, is_unexpected}
+use Rattle.nr_reduce.specs.declared.call.Submission.TheVariants as submissions
+use Rattle.nr_reduce.specs.declared.mark.Mark.{Mark}
+use Rattle.nr_reduce.specs.declared.mark.Mark.TheVariants as marks
+use Rattle.nr_reduce.specs.declared.mark.LinkParameters.{LinkParameters}
+use Rattle.nr_reduce.specs.Opening.{IsOpened}
+use Rattle.nr_reduce.specs.OfferedRegions.{region_grants}
+use Rattle.nr_reduce.specs.ClientState.{call_payload}
+use Rattle.nr_reduce.specs.ServerState.{ServerState, PendingCall}
+use Rattle.nr_reduce.specs.ServerMessages.{payload_of, by_payload}
+use Rattle.nr_reduce.specs.ServerMessages.CallVerdict.{Refuses}
+use Rattle.nr_reduce.specs.ServerFrames.{with_access}
+use Rattle.nr_reduce.specs.Server.{readiness}
+use Rattle.nr_reduce.specs.Run.{end_of_side}
+use Rattle.nr_reduce.specs.RunLaws.{server_by, ends_response}
+use Rattle.nr_laws.specs.EndCauses.{KeepLaws, IsCallEnd}
+use Rattle.nr_laws.specs.MatchedSoFar.{MatchedSoFar}
+use Rattle.nr_laws.specs.Payloads.{form_conveyed}
+use Rattle.nr_laws.specs.Stays.{IsRefusedMessage, HasCallHead, ConveyedMark, AreConveyedOrRefused}
+use Rattle.nr_laws.specs.Typed.{IsTyped}
+use Rattle.nr_laws.proofs.CallEnds.{RefusedAt, refused-at}
+use Rattle.nr_laws.proofs.CallRefusals.{RefusedBy}
+use Rattle.nr_laws.proofs.CallRefusals.RefusedBy.{AtMessage, AtRead}
+use Rattle.nr_laws.proofs.ClientSays.{AreNone, all_none, no_fault}
+use Rattle.nr_laws.proofs.FirstEnds.{server-ends-for-calls}
+use Rattle.nr_laws.proofs.JudgedCalls.{conveyed-ready, conveyed-head-there}
+use Rattle.nr_laws.proofs.LawsSoFar.{laws-so-far}
+use Rattle.nr_laws.proofs.OnceByXid.{at-mark}
+use Rattle.nr_laws.proofs.CallsAtFrames.{ConveyedAt, submit_typed, submit_xid, conveyed-by-message, conveyed-by-read}
+
+-- ---- A frame that breaks no rule is allowed its access
+
+no-lack : (o : Option Denied) → missing_fault o ≡ None → o ≡ None
+no-lack None e = refl
+no-lack (Some why) e = absurd cc
+
+response-allowed : (opened : LinkParameters) (k : ServerState) (f : Frame) (s : Segment) → frame_segment f ≡ Ok s → ends_response s ≡ true → frame_end (readiness opened k) (region_grants f.end k.regions) f ≡ None → missing_access (region_grants f.end k.regions) f s ≡ None
+unfolding frame_end segment_fault
+response-allowed opened k f (Tagged last opcode stag to payload) is ends fits =
+    let s : Segment = Tagged last opcode stag to payload in
+    let lack : Option Denied = missing_access (region_grants f.end k.regions) f s in
+    let flaws : List (Option (SegmentFault Denied)) = missing_fault lack ∷ reason_if REASON_RESPONSE (is_unexpected (readiness opened k lack) opcode last stag to (length payload)) ∷ [] in
+    let none : AreNone flaws = all_none flaws (no_fault f s (segment_fault (readiness opened k lack) s) (ap (λ (r : Result Segment ℕ). frame_end_by (readiness opened k) (region_grants f.end k.regions) f r) (sym is) ∙ fits)) in
+    no-lack lack none.0
+response-allowed opened k f (Untagged last opcode w queue msn offset payload) is ends fits = absurd cc
+
+-- ---- At the frame
+
+-- what a call conveys that was accepted makes it ready
+conveyed-refuses : (opened : LinkParameters) (link : ℕ) (run : List Mark) → IsTyped run → AreConveyedOrRefused opened link run → (c : PendingCall) (reason : ℕ) (o : Option (List ℕ)) → ConveyedAt opened link run c o → by_payload c o ≡ Refuses reason → ⊥
+conveyed-refuses opened link run typed conveyed c reason o x e =
+    let w = x.submitted in
+    let small = w.accepted.xids in
+    let given = at-mark (ConveyedMark opened link) run w.earlier (marks.Submit link w.call w.form (submissions.Accepted w.xid)) w.later w.is conveyed refl w.accepted.plan w.accepted.planned in
+    let head : HasCallHead (form_conveyed w.form (call_payload w.xid w.call)) =
+    conveyed-head-there w.xid w.call w.form _ (omega (arith, small)) w.accepted.writable given (λ refused. x.accepted (subst IsRefusedMessage (sym w.message_is) refused)) in
+    conveyed-ready w.xid w.call w.form c reason (omega (arith, small)) w.accepted.writable (submit_typed opened link run typed w).0 (x.xid ∙ submit_xid opened link run typed w) o x.conveyed (subst HasCallHead (sym x.conveyed) head) e
+
+not-refused : (opened : LinkParameters) (link : ℕ) (run : List Mark) → IsTyped run → MatchedSoFar opened link run → AreConveyedOrRefused opened link run → RefusedAt opened link run → ⊥
+not-refused opened link run typed far conveyed r = by r.cause
+  where
+    k : ServerState
+    k = server_by opened r.earlier
+
+    by : RefusedBy k r.frame r.segment r.reason → ⊥
+    by (AtMessage message c whole v read e) =
+        conveyed-refuses opened link run typed conveyed c r.reason (payload_of k r.frame.end c)
+        (conveyed-by-message opened link run typed far.asked far.served far.matched r.earlier r.frame r.later r.segment r.is r.behind r.is_segment r.live message c whole v read) e
+    by (AtRead q rest c ends reads found read e) =
+        conveyed-refuses opened link run typed conveyed c r.reason (payload_of (with_access k r.frame r.segment) r.frame.end c)
+        (conveyed-by-read opened link run typed far.asked far.served far.matched r.earlier r.frame r.later r.segment r.is r.behind r.is_segment r.live (response-allowed opened k r.frame r.segment r.is_segment ends r.fits) q rest c ends reads found read) e
+
+-- On a matched link whose client hasn't ended, nor has the server.
+pub server-stays : (opened : LinkParameters) (link : ℕ) (run : List Mark) → IsOpened opened → IsTyped run → KeepLaws opened link run → AreConveyedOrRefused opened link run → end_of_side opened link Initiator run ≡ None
+    → (end : End) → end_of_side opened link Responder run ≡ Some end → ⊥
+unfolding end_of_side
+server-stays opened link run opens typed laws conveyed up end down =
+    let c : IsCallEnd end = server-ends-for-calls opened link run opens typed laws up end down in
+    let far = laws-so-far opened link run laws in
+    not-refused opened link run typed far conveyed (refused-at opened link run typed far c.0 c.1 c.3 (down ∙ ap (λ (x : End). Some x) c.2))
