@@ -1,6 +1,6 @@
 -- What a side's memory holds is by allowed segments alone, and what a client discloses by allowed requests.
-use Rattle.std.proofs.Common.{◌≡◌, ℕ, ◌+◌, ◌≤◌, Bool, true, false, cond, not, eqb, List, [], ◌∷◌, ◌++◌, length, take, drop, Option, None, Some, Result, Ok, Err, refl, sym, ap, subst, ◌∙◌, arith, inl, inr, ◌⊎◌, eqb-true}
-use Rattle.std.specs.Prelude.{slice_get, Contains}
+use Rattle.std.proofs.Common.{◌≡◌, ℕ, ◌+◌, ◌≤◌, Bool, true, false, cond, eqb, List, [], ◌∷◌, length, take, drop, Option, None, Some, Result, refl, sym, ap, subst, ◌∙◌, arith, inl, inr, ◌⊎◌, eqb-true}
+use Rattle.std.specs.Prelude.{slice_get}
 use Rattle.std.specs.List.{find}
 use Rattle.std.proofs.lemmas.List.{length-take-le, length-drop}
 use Rattle.nr_wire.specs.declared.hello.Side.TheVariants.{Initiator, Responder}
@@ -10,20 +10,17 @@ use Rattle.nr_wire.specs.Constants.{OPCODE_READ_REQUEST}
 use Rattle.nr_regions.specs.declared.right.Right.TheVariants.{Fetch}
 use Rattle.nr_regions.specs.declared.denied.Denied.TheVariants as denials
 use Rattle.nr_regions.specs.RegisteredMemory.{Access, denial_in}
-use Rattle.nr_regions.specs.Access.{Allowed, Grant, TaggedSegment, HaveOwnStags, access_of, grant_at, grant_offer, grant_denial, contents}
+use Rattle.nr_regions.specs.Access.{Allowed, Grant, TaggedSegment, access_of, grant_at, grant_offer, grant_denial, contents}
 use Rattle.nr_regions.proofs.Contents.{allowed-iff}
 use Rattle.nr_link.specs.declared.end.End.{End as Stop}
-use Rattle.nr_link.specs.Frames.{Frame, is_hello}
 use Rattle.nr_link.specs.ReceiveState.{ReadRequest, read_request_of, read_request_in}
 use Rattle.nr_link.specs.Ending.{frame_segment, tagged_access}
 use Rattle.nr_link.specs.Ending as ending
-use Rattle.nr_link.specs.Output.{read_response}
-use Rattle.nr_reduce.specs.declared.mark.LinkParameters.{LinkParameters}
 use Rattle.nr_reduce.specs.Events.{Event, events}
 use Rattle.nr_reduce.specs.Events.Event.{FrameReceived}
-use Rattle.nr_reduce.specs.EndRules.{Rules, EndState, output_for, output_for_by, output_for_in, next_end_state, next_end_state_by, next_end_state_in, end_state_after}
-use Rattle.nr_reduce.specs.OfferedRegions.{Region, region_grant, region_grants, region_bytes, region_bytes_by}
-use Rattle.nr_reduce.specs.Client.{client_rules, client_end, client_output, initial_client, calls_output, response_output, segment_request}
+use Rattle.nr_reduce.specs.EndRules.{Rules, EndState, output_for_by, output_for_in, next_end_state, next_end_state_by, next_end_state_in, end_state_after}
+use Rattle.nr_reduce.specs.OfferedRegions.{Region, region_grants, region_bytes, region_bytes_by}
+use Rattle.nr_reduce.specs.Client.{client_rules, client_output, initial_client, calls_output, response_output, segment_request}
 use Rattle.nr_reduce.specs.Server.{server_rules, initial_server}
 use Rattle.nr_reduce.specs.ClientState.{ClientState, memory_at}
 use Rattle.nr_reduce.specs.ServerState.{ServerState}
@@ -31,7 +28,7 @@ use Rattle.nr_reduce.specs.Run.{client, server, grants_of, placed_bytes}
 use Rattle.nr_reduce.proofs.OfferedMemory.{none-found}
 use Rattle.nr_reduce.proofs.Touches.{client_allows}
 use Rattle.nr_reduce.proofs.OwnStags.{AreNumbered, own-stags, client-numbers, server-numbers}
-use Rattle.nr_laws.specs.PlacedBytes.{IsBrought, HoldsAllowed, ClientBytesAreAllowed, ServerBytesAreAllowed, IsDisclosed, ReadsAreAllowed}
+use Rattle.nr_laws.specs.PlacedBytes.{IsBrought, HoldsAllowed, ClientBytesAreAllowed, ServerBytesAreAllowed, ReadsAreAllowed}
 use Rattle.nr_laws.proofs.Memory.{Gathering}
 use Rattle.nr_laws.proofs.ClientMemory.{client-gathers}
 use Rattle.nr_laws.proofs.ServerMemory.{server-gathers}

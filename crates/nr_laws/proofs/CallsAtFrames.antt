@@ -44,7 +44,7 @@ use Rattle.nr_reduce.proofs.Laid.{added_up}
 use Rattle.nr_laws.specs.LinkInvariants.{IsUnused}
 use Rattle.nr_laws.specs.Payloads.{form_conveyed}
 use Rattle.nr_laws.specs.Stays.{IsRefusedMessage}
-use Rattle.nr_laws.specs.Typed.{TypedMark, IsTypedForm, IsTyped}
+use Rattle.nr_laws.specs.Typed.{TypedMark, IsTypedForm, IsTypedCall, IsTyped}
 use Rattle.nr_laws.proofs.AcceptedRegions.{accepted-regions}
 use Rattle.nr_laws.proofs.ClientRun.{WasSubmitted}
 use Rattle.nr_laws.proofs.ConveyedCalls.{planned-fits, plan-reads}
@@ -105,7 +105,7 @@ none-or-some (suc n) P none some = some (omega arith)
 -- ---- What is conveyed of a call that was received
 
 module _ (opened : LinkParameters) (link : ℕ) (run : List Mark) (typed : IsTyped run) {n : ℕ} {m : List ℕ} (w : WasSubmitted opened link run n m) where
-  pub submit_typed : IsBytes (call_payload w.xid w.call) × IsTypedForm w.form
+  pub submit_typed : IsBytes (call_payload w.xid w.call) × IsTypedForm w.form × IsTypedCall w.call
   submit_typed = at-mark TypedMark run w.earlier (marks.Submit link w.call w.form (submissions.Accepted w.xid)) w.later w.is typed
 
   submit_plan : plan_of (call_payload w.xid w.call) w.form send_max send_max ≡ Ok w.accepted.plan

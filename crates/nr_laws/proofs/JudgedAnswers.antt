@@ -1,6 +1,6 @@
 -- The answer of an executed call doesn't end its client: its lists suit what the call offered, and what they convey is the plain server's
 -- reply, which has the call's xid.
-use Rattle.std.proofs.Common.{◌≡◌, ℕ, ◌<◌, Bool, true, false, cond, ◌||◌, eqb, List, [], ◌∷◌, ◌++◌, map, Option, None, Some, refl, sym, ap, subst, ◌∙◌, arith, append-nil}
+use Rattle.std.proofs.Common.{◌≡◌, ℕ, ◌<◌, Bool, true, false, cond, ◌||◌, eqb, List, [], ◌∷◌, ◌++◌, map, Option, None, Some, Result, refl, sym, ap, subst, ◌∙◌, arith, append-nil}
 use Rattle.std.specs.List.{find, list_any}
 use Rattle.nr_xdr.specs.Item.{IsBytes}
 use Rattle.nr_xdr.specs.Fields.{word_at}
@@ -9,10 +9,8 @@ use Rattle.nr_header.specs.Reading.{header_of}
 use Rattle.nr_wire.specs.declared.hello.Side.TheVariants.{Responder}
 use Rattle.nr_rpc.specs.declared.head.CallHead.{CallHead}
 use Rattle.nr_rpc.specs.declared.head.CallHead.TheVariants as calls
-use Rattle.nr_rpc.specs.declared.head.CallTarget.{CallTarget}
-use Rattle.nr_rpc.specs.Reading.{reply_of, head_xid, xid_of_call}
+use Rattle.nr_rpc.specs.Reading.{reply_of, head_xid, xid_of_call, target_of}
 use Rattle.nr_reduce.specs.declared.call.Call.{Call}
-use Rattle.nr_reduce.specs.declared.call.Submission.TheVariants as submissions
 use Rattle.nr_reduce.specs.declared.mark.Moment.{Moment}
 use Rattle.nr_reduce.specs.declared.mark.Entry.{Entry}
 use Rattle.nr_reduce.specs.declared.mark.Mark.{Mark}
@@ -44,9 +42,7 @@ use Rattle.nr_reduce.proofs.OwnStags.{ClientNumbers, client-numbers}
 use Rattle.nr_laws.specs.MatchedSoFar.{MatchedSoFar}
 use Rattle.nr_laws.specs.Typed.{TypedMark, IsTyped}
 use Rattle.nr_laws.specs.Payloads.{HasPlan}
-use Rattle.nr_laws.specs.HandedOver.{HasTargetOf}
 use Rattle.nr_laws.specs.PlainReplies.{server_with}
-use Rattle.nr_laws.specs.Stays.{WordsMark, HaveWords}
 use Rattle.nr_laws.proofs.Along.{GoesOn, goes-behind, places_after}
 use Rattle.nr_laws.proofs.Outputs.Output.{ASegment}
 use Rattle.nr_laws.proofs.ServerAlong.{outs_of, SaidAnswer}
@@ -87,10 +83,10 @@ same-xid (calls.Version2 xid prog vers proc cred args_at) = refl
 same-xid (calls.Other xid rpcvers) = refl
 
 pub answer-ends-none : (reply_to : List Entry → Moment → List ℕ → Option (List ℕ)) (adds : Moment → List ℕ → List ℕ → List Entry) (opened : LinkParameters) (link : ℕ) (run : List Mark) (reason : ℕ) → IsOpened opened → IsTyped run → MatchedSoFar opened link run
-    → HaveWords run → Plainly (server_with reply_to adds) run → IsPlain (server_with reply_to adds)
+    → Plainly (server_with reply_to adds) run → IsPlain (server_with reply_to adds)
     → (d : EndsFor opened link run reason) → JudgedBy (client_by opened d.earlier).state d.frame.end d.message reason → SaidAnswer opened (events link Responder run) d.before d.message → ⊥
 unfolding lists_of
-answer-ends-none reply_to adds opened link run reason opens typed far words plainly plain d j s =
+answer-ends-none reply_to adds opened link run reason opens typed far plainly plain d j s =
     answer-judged k place j.call d.message j.header.body a.long a.stream (answer_lists (lists_of stag plan) a) e.reply reason lists inline
     ((λ i. answers_offer a.long (lists_of (stag_is i) (plan_is i)) (answer_lists (lists_of stag plan) a)) ∙ suits)
     (ap (λ (c : Call). reply_conveyed c.prog c.vers c.proc (cond a.long None (Some a.stream)) (answer_lists (lists_of stag plan) a) (memory_at k place)) call_is ∙ conveys)
@@ -169,15 +165,13 @@ answer-ends-none reply_to adds opened link run reason opens typed far words plai
     offer = ap offer_by f.there ∙ p.lists
 
     -- its target
-    own : IsOwnPayload u.call e.payload
-    own = own-executes opened link run m.earlier u.xid plan e.moment e.payload e.place e.reply typed far has (at-mark WordsMark run u.earlier (marks.Submit link u.call u.form (submissions.Accepted u.xid)) u.later u.is words)
+    own : IsOwnPayload u.xid u.call e.payload
+    own = own-executes opened link run m.earlier u.xid plan e.moment e.payload e.place e.reply typed far has
         (record { after = m.later; is = m.is ∙ ap (λ (n : ℕ). m.earlier ++ marks.Execute link n e.moment e.payload e.place e.reply ∷ m.later) same })
 
-    t : HasTargetOf u.call e.payload
-    t = own.target
-
     answer : answer_for (lists_of stag plan) 1024 u.call.prog u.call.vers u.call.proc e.reply ≡ Some a
-    answer = (λ i. answer_for (sym offer i) 1024 (sym t.prog i) (sym t.vers i) (sym t.proc i) e.reply) ∙ ap (λ (o : Option CallTarget). answer_of_target (offer_of server e.xid) 1024 e.reply o) (sym t.is) ∙ s.is_answer
+    answer = ap (λ (o : ChunkLists). answer_for o 1024 u.call.prog u.call.vers u.call.proc e.reply) (sym offer)
+        ∙ ap (λ (r : Result CallHead ℕ). answer_of_target (offer_of server e.xid) 1024 e.reply (target_of r)) (sym own.head) ∙ s.is_answer
 
     -- what is read of its message
     message : d.message ≡ answer_message e.xid (credit_word server) (lists_of stag plan) a

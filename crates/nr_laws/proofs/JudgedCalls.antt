@@ -32,6 +32,7 @@ use Rattle.nr_reduce.specs.RunLaws.{known_stream, OtherChunk, HasOtherChunk}
 use Rattle.nr_reduce.specs.Undone.{lists_by, inline_by}
 use Rattle.nr_reduce.proofs.BadMessages.{bad-refused}
 use Rattle.nr_laws.specs.Payloads.{form_conveyed}
+use Rattle.nr_laws.specs.Typed.{IsTypedCall}
 use Rattle.nr_laws.specs.Stays.{HasCallHead, IsRefusedMessage, IsConveyedOrRefused}
 use Rattle.nr_laws.proofs.CallTargets.{conveyed-head}
 use Rattle.nr_laws.proofs.OwnHeads.{OwnHead, own-head}
@@ -47,16 +48,16 @@ head-same : (a b : CallHead) → ◌≡◌ {A = Result CallHead ℕ} (Ok a) (Ok 
 head-same a b e = cc
 
 -- what a form conveys of it is that of a call under the same xid, where it has a head
-pub conveyed-ready : (xid : ℕ) (call : Call) (form : Form) (c : PendingCall) (reason : ℕ) → xid < 2 ^ 32 → CanWriteCred call.cred → IsBytes (call_payload xid call) → c.xid ≡ xid
+pub conveyed-ready : (xid : ℕ) (call : Call) (form : Form) (c : PendingCall) (reason : ℕ) → xid < 2 ^ 32 → IsTypedCall call → CanWriteCred call.cred → IsBytes (call_payload xid call) → c.xid ≡ xid
     → (o : Option (List ℕ)) → o ≡ form_conveyed form (call_payload xid call) → HasCallHead o → by_payload c o ≡ Refuses reason → ⊥
-conveyed-ready xid call form c reason small can bytes same None is h e = h
-conveyed-ready xid call form c reason small can bytes same (Some q) is h e = by (call_of q) refl h e
+conveyed-ready xid call form c reason small typed can bytes same None is h e = h
+conveyed-ready xid call form c reason small typed can bytes same (Some q) is h e = by (call_of q) refl h e
   where
     own : OwnHead xid call
-    own = own-head xid call small can
+    own = own-head xid call small typed can
 
     own_head : CallHead
-    own_head = calls.Version2 xid own.prog.number own.vers.number own.proc.number own.cred own.args_at
+    own_head = calls.Version2 xid call.prog call.vers call.proc call.cred own.args_at
 
     by : (r : Result CallHead ℕ) → call_of q ≡ r → is_ok r ≡ true → by_head c q r ≡ Refuses reason → ⊥
     by (Err at) read ok e = (let wrong : false ≡ true = ok in cc)
@@ -67,12 +68,12 @@ conveyed-ready xid call form c reason small can bytes same (Some q) is h e = by 
         (ap (λ (b : Bool). cond b (IsReady (record { number = c.number; xid = c.xid; payload = q })) (Refuses 19)) (sym number) ∙ e)
 
 -- what is conveyed has a head, where the message isn't refused
-pub conveyed-head-there : (xid : ℕ) (call : Call) (form : Form) (message : List ℕ) → xid < 2 ^ 32 → CanWriteCred call.cred → IsConveyedOrRefused form (call_payload xid call) message → (IsRefusedMessage message → ⊥)
+pub conveyed-head-there : (xid : ℕ) (call : Call) (form : Form) (message : List ℕ) → xid < 2 ^ 32 → IsTypedCall call → CanWriteCred call.cred → IsConveyedOrRefused form (call_payload xid call) message → (IsRefusedMessage message → ⊥)
     → HasCallHead (form_conveyed form (call_payload xid call))
-conveyed-head-there xid call form message small can given fine = by form given
+conveyed-head-there xid call form message small typed can given fine = by form given
   where
     own : is_ok (call_of (call_payload xid call)) ≡ true
-    own = ap (λ (r : Result CallHead ℕ). is_ok r) (own-head xid call small can).is
+    own = ap (λ (r : Result CallHead ℕ). is_ok r) (own-head xid call small typed can).is
 
     by : (form : Form) → IsConveyedOrRefused form (call_payload xid call) message → HasCallHead (form_conveyed form (call_payload xid call))
     by forms.Auto given = own

@@ -113,7 +113,6 @@ pub mod ReplyMemory
 pub mod ReadAnswers
 pub mod HandedOver
 pub mod ConveyedReplies
-pub mod InlineCalls
 pub mod FetchedRegions
 pub mod ClientResponses
 pub mod PlainReplies
@@ -138,7 +137,6 @@ pub mod ReadReplies
 pub mod EmptyChunks
 pub mod CallTargets
 pub mod OwnHeads
-pub mod ReplyTargets
 pub mod OwnReplies
 pub mod OwnExecutes
 pub mod PendingRuns

@@ -21,7 +21,7 @@ use Rattle.nr_reduce.specs.Run.{client, server, end_of_side}
 use Rattle.nr_reduce.proofs.Steps.{AtEachMark-first, client-one, server-one}
 use Rattle.nr_laws.specs.EndCauses.{KeepLaws, IsReplyEnd, IsDenied}
 use Rattle.nr_laws.specs.PlainReplies.{server_with}
-use Rattle.nr_laws.specs.Stays.{NotRevokedMark, HasNoRevoke, WordsMark, HaveWords, ConveyedMark, AreConveyedOrRefused, MatchedLinksStay, MatchedCallsComplete}
+use Rattle.nr_laws.specs.Stays.{NotRevokedMark, HasNoRevoke, ConveyedMark, AreConveyedOrRefused, MatchedLinksStay, MatchedCallsComplete}
 use Rattle.nr_laws.specs.Typed.{TypedMark, IsTyped}
 use Rattle.nr_laws.proofs.AgreeingRuns.{other-events}
 use Rattle.nr_laws.proofs.FirstEnds.{client-ends-for-replies}
@@ -64,7 +64,6 @@ none-some x o none some = (let wrong : None ≡ Some x = sym none ∙ some in cc
 
 record AreAsked (reply_to : List Entry → Moment → List ℕ → Option (List ℕ)) (adds : Moment → List ℕ → List ℕ → List Entry) (opened : LinkParameters) (link : ℕ) (run : List Mark) : Type 0 where
   typed : IsTyped run
-  words : HaveWords run
   laws : KeepLaws opened link run
   kept : HasNoRevoke link run
   conveyed : AreConveyedOrRefused opened link run
@@ -73,7 +72,6 @@ record AreAsked (reply_to : List Entry → Moment → List ℕ → Option (List 
 asked-before : (reply_to : List Entry → Moment → List ℕ → Option (List ℕ)) (adds : Moment → List ℕ → List ℕ → List Entry) (opened : LinkParameters) (link : ℕ) (run more : List Mark) → AreAsked reply_to adds opened link (run ++ more) → AreAsked reply_to adds opened link run
 asked-before reply_to adds opened link run more h = record {
   typed = AtEachMark-first TypedMark [] run more h.typed;
-  words = AtEachMark-first WordsMark [] run more h.words;
   laws = laws-kept-before opened link run more h.laws;
   kept = AtEachMark-first (NotRevokedMark link) [] run more h.kept;
   conveyed = AtEachMark-first (ConveyedMark opened link) [] run more h.conveyed;
@@ -87,7 +85,7 @@ module _ (reply_to : List Entry → Moment → List ℕ → Option (List ℕ)) (
   client-stays run h down end up = by (client-ends-for-replies opened link run opens h.typed h.laws down end up)
     where
       by : IsReplyEnd end ⊎ IsDenied end → ⊥
-      by (inl (at, reason, is, own)) = client-reads-replies reply_to adds opened link run opens h.typed (laws-so-far opened link run h.laws) h.words h.plainly plain at reason own (up ∙ ap (λ (x : End). Some x) is)
+      by (inl (at, reason, is, own)) = client-reads-replies reply_to adds opened link run opens h.typed (laws-so-far opened link run h.laws) h.plainly plain at reason own (up ∙ ap (λ (x : End). Some x) is)
       by (inr (stag, offset, why, is)) = client-not-denied opened link run opens h.typed h.laws h.kept down stag offset why (up ∙ ap (λ (x : End). Some x) is)
 
   mark-stays : (before : List Mark) (mark : Mark) → AreAsked reply_to adds opened link (before ++ mark ∷ []) → (client opened link before).ended ≡ None → (server opened link before).ended ≡ None
@@ -129,11 +127,11 @@ server-nothing opened link = refl
 
 pub links-stay : MatchedLinksStay
 unfolding end_of_side
-links-stay reply_to adds opened link run opens typed words laws kept conveyed plain plainly =
-    run-stays reply_to adds plain opened link opens run [] (record { typed = typed; words = words; laws = laws; kept = kept; conveyed = conveyed; plainly = plainly }) (client-nothing opened link) (server-nothing opened link)
+links-stay reply_to adds opened link run opens typed laws kept conveyed plain plainly =
+    run-stays reply_to adds plain opened link opens run [] (record { typed = typed; laws = laws; kept = kept; conveyed = conveyed; plainly = plainly }) (client-nothing opened link) (server-nothing opened link)
 
 pub matched-calls-complete : MatchedCallsComplete
-matched-calls-complete reply_to adds opened link run opens typed words full kept conveyed plain plainly nothing_waits =
+matched-calls-complete reply_to adds opened link run opens typed full kept conveyed plain plainly nothing_waits =
     let laws : KeepLaws opened link run = record { client = full.asked.each; server = full.served.each; matched = full.matched; grant = full.grant } in
-    let stays = links-stay reply_to adds opened link run opens typed words laws kept conveyed plain plainly in
+    let stays = links-stay reply_to adds opened link run opens typed laws kept conveyed plain plainly in
     calls-complete opened link run typed full.asked full.served full.matched (record { client_stays = stays.0; server_stays = stays.1; nothing_waits = nothing_waits })

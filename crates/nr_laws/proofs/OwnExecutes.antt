@@ -1,13 +1,10 @@
 -- On a matched link the payload of an Execute is of bytes, and has the RPC call head of the call that was accepted under its xid.
-use Rattle.std.proofs.Common.{◌≡◌, ℕ, ◌<◌, ◌^◌, Bool, true, false, cond, eqb, List, [], ◌∷◌, ◌++◌, take, drop, replicate, Option, None, Some, Ok, refl, ap, subst, ◌∙◌, arith}
+use Rattle.std.proofs.Common.{◌≡◌, ℕ, Bool, true, false, cond, eqb, List, [], ◌∷◌, ◌++◌, take, drop, replicate, Option, None, Some, Ok, refl, subst, ◌∙◌, arith}
 use Rattle.std.specs.Prelude.{sum}
 use Rattle.nr_xdr.specs.Item.{IsBytes, pad_len}
 use Rattle.nr_xdr.proofs.WordBytes.{IsBytes-take, IsBytes-drop}
-use Rattle.nr_rpc.specs.declared.head.CallHead.{CallHead}
 use Rattle.nr_rpc.specs.declared.head.CallHead.TheVariants as calls
-use Rattle.nr_rpc.specs.Credential.{CanWriteCred}
-use Rattle.nr_rpc.specs.Reading.{call_of, target_of}
-use Rattle.nr_rpc.proofs.Calls.{call_written}
+use Rattle.nr_rpc.specs.Reading.{call_of}
 use Rattle.nr_reduce.specs.declared.call.Call.{Call}
 use Rattle.nr_reduce.specs.declared.call.Form.{Form}
 use Rattle.nr_reduce.specs.declared.call.Form.TheVariants as forms
@@ -32,10 +29,9 @@ use Rattle.nr_laws.specs.MarkAt.{MarkAt}
 use Rattle.nr_laws.specs.MatchedSoFar.{MatchedSoFar}
 use Rattle.nr_laws.specs.Typed.{TypedMark, IsTyped}
 use Rattle.nr_laws.specs.Payloads.{HasPlan, form_conveyed}
-use Rattle.nr_laws.specs.HandedOver.{HasWords, HasTargetOf}
 use Rattle.nr_laws.proofs.Bytes.{bytes_both}
 use Rattle.nr_laws.proofs.OnceByXid.{at-mark}
-use Rattle.nr_laws.proofs.InlineCalls.{own-target}
+use Rattle.nr_laws.proofs.OwnHeads.{own-head}
 use Rattle.nr_laws.proofs.CallTargets.{some-is, bytes-zeros, bytes-region, item-by, conveyed-head}
 use Rattle.nr_laws.proofs.OwnPayloads.{payloads_are_own}
 
@@ -72,22 +68,17 @@ conveyed-bytes forms.Chunk own q fits e = subst IsBytes (some-is own q e) fits
 conveyed-bytes forms.Long own q fits e = subst IsBytes (some-is own q e) fits
 conveyed-bytes (forms.Given offer) own q fits e = given-bytes own q offer.read_at offer.read fits e
 
--- ---- The own payload of a call has its head
-
-own-head : (xid : ℕ) (call : Call) → xid < 2 ^ 32 → HasWords call → CanWriteCred call.cred → (head : CallHead) × (call_of (call_payload xid call) ≡ Ok head)
-unfolding call_payload
-own-head xid call small words can = (_, call_written (calls.Version2 xid call.prog call.vers call.proc call.cred 0) call.args can (small, words.0, words.1, words.2, words.3))
-
 -- ---- An Execute
 
--- the payload is of bytes, and has the target of the call
-pub record IsOwnPayload (call : Call) (payload : List ℕ) : Type 0 where
+-- the payload is of bytes, and has the call head of the call's own
+pub record IsOwnPayload (xid : ℕ) (call : Call) (payload : List ℕ) : Type 0 where
   pub bytes : IsBytes payload
-  pub target : HasTargetOf call payload
+  pub args_at : ℕ
+  pub head : call_of payload ≡ Ok (calls.Version2 xid call.prog call.vers call.proc call.cred args_at)
 
 pub own-executes : (opened : LinkParameters) (link : ℕ) (run before : List Mark) (xid : ℕ) (plan : Plan) (moment : Moment) (payload : List ℕ) (place : ℕ) (reply : List ℕ) → IsTyped run → MatchedSoFar opened link run
-    → (has : HasPlan opened link run xid plan) → HasWords has.call → MarkAt run before (marks.Execute link xid moment payload place reply) → IsOwnPayload has.call payload
-own-executes opened link run before xid plan moment payload place reply typed far has words at =
+    → (has : HasPlan opened link run xid plan) → MarkAt run before (marks.Execute link xid moment payload place reply) → IsOwnPayload xid has.call payload
+own-executes opened link run before xid plan moment payload place reply typed far has at =
     let submit = marks.Submit link has.call has.form (submissions.Accepted xid) in
     let execute = marks.Execute link xid moment payload place reply in
     let accepted : IsAccepted opened link has.before has.call has.form xid = at-mark (AskedMark IsPrefixOf opened link) run has.before submit has.at.after has.at.is far.asked refl in
@@ -95,11 +86,10 @@ own-executes opened link run before xid plan moment payload place reply typed fa
     let small = accepted.xids in
     let typed_at : TypedMark has.before submit = at-mark TypedMark run has.before submit has.at.after has.at.is typed in
     let conveyed = payloads_are_own opened link run before xid plan moment payload place reply typed far has at in
-    let own = own-head xid has.call (omega (arith, small)) words accepted.writable in
+    let own = own-head xid has.call (omega (arith, small)) typed_at.2 accepted.writable in
     let head = executed-head opened link before xid payload executed in
-    let same = conveyed-head has.form (call_payload xid has.call) payload own.0 head.0 typed_at.0 own.1 conveyed head.1.0 in
-    let target = own-target xid has.call (omega (arith, small)) words accepted.writable in
     record {
       bytes = conveyed-bytes has.form (call_payload xid has.call) payload typed_at.0 conveyed;
-      target = record { target = target.target; is = ap target_of same ∙ target.is; prog = target.prog; vers = target.vers; proc = target.proc };
+      args_at = own.args_at;
+      head = conveyed-head has.form (call_payload xid has.call) payload (calls.Version2 xid has.call.prog has.call.vers has.call.proc has.call.cred own.args_at) head.0 typed_at.0 own.is conveyed head.1.0 ∙ own.is;
     }

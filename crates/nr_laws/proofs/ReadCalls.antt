@@ -63,8 +63,8 @@ conveyed-refuses opened link run typed conveyed c reason o x e =
     let small = w.accepted.xids in
     let given = at-mark (ConveyedMark opened link) run w.earlier (marks.Submit link w.call w.form (submissions.Accepted w.xid)) w.later w.is conveyed refl w.accepted.plan w.accepted.planned in
     let head : HasCallHead (form_conveyed w.form (call_payload w.xid w.call)) =
-    conveyed-head-there w.xid w.call w.form _ (omega (arith, small)) w.accepted.writable given (λ refused. x.accepted (subst IsRefusedMessage (sym w.message_is) refused)) in
-    conveyed-ready w.xid w.call w.form c reason (omega (arith, small)) w.accepted.writable (submit_typed opened link run typed w).0 (x.xid ∙ submit_xid opened link run typed w) o x.conveyed (subst HasCallHead (sym x.conveyed) head) e
+    conveyed-head-there w.xid w.call w.form _ (omega (arith, small)) (submit_typed opened link run typed w).2 w.accepted.writable given (λ refused. x.accepted (subst IsRefusedMessage (sym w.message_is) refused)) in
+    conveyed-ready w.xid w.call w.form c reason (omega (arith, small)) (submit_typed opened link run typed w).2 w.accepted.writable (submit_typed opened link run typed w).0 (x.xid ∙ submit_xid opened link run typed w) o x.conveyed (subst HasCallHead (sym x.conveyed) head) e
 
 not-refused : (opened : LinkParameters) (link : ℕ) (run : List Mark) → IsTyped run → MatchedSoFar opened link run → AreConveyedOrRefused opened link run → RefusedAt opened link run → ⊥
 not-refused opened link run typed far conveyed r = by r.cause

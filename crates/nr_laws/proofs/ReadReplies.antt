@@ -18,7 +18,6 @@ use Rattle.nr_reduce.specs.RunLaws.{server_by}
 use Rattle.nr_laws.specs.EndCauses.{IsReplyReason}
 use Rattle.nr_laws.specs.MatchedSoFar.{MatchedSoFar}
 use Rattle.nr_laws.specs.PlainReplies.{server_with}
-use Rattle.nr_laws.specs.Stays.{HaveWords}
 use Rattle.nr_laws.specs.Typed.{IsTyped}
 use Rattle.nr_laws.proofs.Outcomes.{client_by}
 use Rattle.nr_laws.proofs.Replied.{error-kind, error-header}
@@ -32,9 +31,9 @@ use Rattle.nr_laws.proofs.JudgedAnswers.{answer-ends-none}
 -- On a matched link what a client makes of a message never ends it, where its calls are answered as a plain server answers: the lists of an
 -- answer are those that its call offered, and it conveys a reply with an RPC reply head of the call's xid.
 pub client-reads-replies : (reply_to : List Entry → Moment → List ℕ → Option (List ℕ)) (adds : Moment → List ℕ → List ℕ → List Entry) (opened : LinkParameters) (link : ℕ) (run : List Mark) → IsOpened opened → IsTyped run → MatchedSoFar opened link run
-    → HaveWords run → Plainly (server_with reply_to adds) run → IsPlain (server_with reply_to adds) → (at reason : ℕ) → IsReplyReason reason → end_of_side opened link Initiator run ≡ Some (ends.Bad at reason) → ⊥
+    → Plainly (server_with reply_to adds) run → IsPlain (server_with reply_to adds) → (at reason : ℕ) → IsReplyReason reason → end_of_side opened link Initiator run ≡ Some (ends.Bad at reason) → ⊥
 unfolding end_of_side
-client-reads-replies reply_to adds opened link run opens typed far words plainly plain at reason bad e = by d.said
+client-reads-replies reply_to adds opened link run opens typed far plainly plain at reason bad e = by d.said
   where
     d : EndsFor opened link run reason
     d = ends-for opened link run at reason typed far bad e
@@ -51,4 +50,4 @@ client-reads-replies reply_to adds opened link run opens typed far words plainly
     by : Said opened (events link Responder run) d.before d.message → ⊥
     by (IsRefusal s) = error (error-kind d.message s.kind)
     by (IsNoAnswer s) = error (error-kind d.message (OfChunks s.call.xid (credit_word (server_by opened s.earlier)) s.message))
-    by (IsAnswer s) = answer-ends-none reply_to adds opened link run reason opens typed far words plainly plain d j s
+    by (IsAnswer s) = answer-ends-none reply_to adds opened link run reason opens typed far plainly plain d j s

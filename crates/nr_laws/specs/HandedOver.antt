@@ -1,8 +1,5 @@
 -- A reply that is handed over is that of the executed call, byte for byte.
-use Rattle.std.specs.Prelude.{◌≡◌, ℕ, ◌<◌, ◌^◌, List, Some}
-use Rattle.nr_rpc.specs.Credential.{CredFits}
-use Rattle.nr_rpc.specs.declared.head.CallTarget.{CallTarget}
-use Rattle.nr_rpc.specs.Reading.{call_of, target_of}
+use Rattle.std.specs.Prelude.{◌≡◌, ℕ, List, Some}
 use Rattle.nr_reduce.specs.declared.call.Call.{Call}
 use Rattle.nr_reduce.specs.declared.call.Form.{Form}
 use Rattle.nr_reduce.specs.declared.call.Outcome.TheVariants as outcomes
@@ -38,15 +35,3 @@ abbrev pub ExecutedRepliesAreHandedOver : Type 0
 ExecutedRepliesAreHandedOver = (opened : LinkParameters) (link : ℕ) (run before : List Mark) (xid : ℕ) (plan : Plan) (reply : List ℕ) →
     IsOpened opened → IsTyped run → MatchedSoFar opened link run → (has : HasPlan opened link run xid plan) →
     MarkAt run before (marks.Done link xid (outcomes.Reply reply)) → HasReply link before xid has.call has.form reply
-
--- the numbers of a call are 32-bit words, so are those of its credential. A call that a program makes is always so.
-abbrev pub HasWords : Call → Type 0
-HasWords call = (call.prog < 2 ^ 32) × (call.vers < 2 ^ 32) × (call.proc < 2 ^ 32) × CredFits call.cred
-
--- a payload has an RPC call head with the program, the version and the procedure of a call (RFC 5531 section 9)
-pub record HasTargetOf (call : Call) (payload : List ℕ) : Type 0 where
-  pub target : CallTarget
-  pub is : target_of (call_of payload) ≡ Some target
-  pub prog : target.prog ≡ call.prog
-  pub vers : target.vers ≡ call.vers
-  pub proc : target.proc ≡ call.proc

@@ -24,7 +24,6 @@ use Rattle.nr_reduce.specs.RunLaws.{HasOtherChunk}
 use Rattle.nr_reduce.specs.SoFar.{InFull}
 use Rattle.nr_laws.specs.Completion.{NothingWaits, HaveCompleted}
 use Rattle.nr_laws.specs.EndCauses.{KeepLaws}
-use Rattle.nr_laws.specs.HandedOver.{HasWords}
 use Rattle.nr_laws.specs.PlainReplies.{server_with}
 use Rattle.nr_laws.specs.Typed.{IsTyped}
 
@@ -35,14 +34,6 @@ NotRevokedMark link before mark = Unit {0}
 
 abbrev pub HasNoRevoke : ℕ → List Mark → Type 0
 HasNoRevoke link run = AtEachMark (NotRevokedMark link) [] run
-
--- the numbers of each accepted call are words
-abbrev pub WordsMark : List Mark → Mark → Type 0
-WordsMark before (marks.Submit l call form (submissions.Accepted xid)) = HasWords call
-WordsMark before mark = Unit {0}
-
-abbrev pub HaveWords : List Mark → Type 0
-HaveWords run = AtEachMark WordsMark [] run
 
 -- something is conveyed, and it begins with an RPC call head (RFC 5531 section 9)
 abbrev pub HasCallHead : Option (List ℕ) → Type 0
@@ -76,11 +67,11 @@ AreConveyedOrRefused opened link run = AtEachMark (ConveyedMark opened link) [] 
 -- what `IsPlain` says: neither side ends.
 abbrev pub MatchedLinksStay : Type 0
 MatchedLinksStay = (reply_to : List Entry → Moment → List ℕ → Option (List ℕ)) (adds : Moment → List ℕ → List ℕ → List Entry) (opened : LinkParameters) (link : ℕ) (run : List Mark) →
-    IsOpened opened → IsTyped run → HaveWords run → KeepLaws opened link run → HasNoRevoke link run → AreConveyedOrRefused opened link run → IsPlain (server_with reply_to adds) → Plainly (server_with reply_to adds) run →
+    IsOpened opened → IsTyped run → KeepLaws opened link run → HasNoRevoke link run → AreConveyedOrRefused opened link run → IsPlain (server_with reply_to adds) → Plainly (server_with reply_to adds) run →
     (end_of_side opened link Initiator run ≡ None) × (end_of_side opened link Responder run ≡ None)
 
 -- So where its laws hold in full and nothing waits, all its calls have completed.
 abbrev pub MatchedCallsComplete : Type 0
 MatchedCallsComplete = (reply_to : List Entry → Moment → List ℕ → Option (List ℕ)) (adds : Moment → List ℕ → List ℕ → List Entry) (opened : LinkParameters) (link : ℕ) (run : List Mark) →
-    IsOpened opened → IsTyped run → HaveWords run → InFull opened link run → HasNoRevoke link run → AreConveyedOrRefused opened link run → IsPlain (server_with reply_to adds) → Plainly (server_with reply_to adds) run →
+    IsOpened opened → IsTyped run → InFull opened link run → HasNoRevoke link run → AreConveyedOrRefused opened link run → IsPlain (server_with reply_to adds) → Plainly (server_with reply_to adds) run →
     NothingWaits opened link run → HaveCompleted opened link run

@@ -1,6 +1,8 @@
--- A run is of its types: what is written down as bytes are bytes, and the position of an offer is a 32-bit word. A run that a
--- program makes is always so.
+-- A run is of its types: what is written down as bytes are bytes, and the numbers of a call and the position of an offer are 32-bit words. A
+-- run that a program makes is always so.
 use Rattle.std.specs.Prelude.{◌<◌, ◌^◌, List, []}
+use Rattle.nr_rpc.specs.Credential.{CredFits}
+use Rattle.nr_reduce.specs.declared.call.Call.{Call}
 use Rattle.nr_xdr.specs.Item.{IsBytes}
 use Rattle.nr_reduce.specs.declared.call.Form.{Form}
 use Rattle.nr_reduce.specs.declared.call.Form.TheVariants as forms
@@ -17,9 +19,13 @@ IsTypedForm forms.Chunk = Unit {0}
 IsTypedForm forms.Long = Unit {0}
 IsTypedForm (forms.Given offer) = offer.read_at < 2 ^ 32
 
+-- the program, the version, the procedure and the credential of a call (RFC 5531 section 9)
+abbrev pub IsTypedCall : Call → Type 0
+IsTypedCall call = (call.prog < 2 ^ 32) × (call.vers < 2 ^ 32) × (call.proc < 2 ^ 32) × CredFits call.cred
+
 -- the payload of an accepted call is bytes, so are the bytes that a side is fed, and replies
 abbrev pub TypedMark : List Mark → Mark → Type 0
-TypedMark before (marks.Submit l call form (submissions.Accepted xid)) = IsBytes (call_payload xid call) × IsTypedForm form
+TypedMark before (marks.Submit l call form (submissions.Accepted xid)) = IsBytes (call_payload xid call) × IsTypedForm form × IsTypedCall call
 TypedMark before (marks.Fed l side bytes) = IsBytes bytes
 TypedMark before (marks.Execute l xid moment payload place reply) = IsBytes reply
 TypedMark before mark = Unit {0}
