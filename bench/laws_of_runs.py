@@ -54,8 +54,8 @@ ROLES = {
     'placed': 'λ opened link side run stag. placed_bytes opened link side run stag',
     'waits': 'λ state ended. first_ready state.ready ended',
 }
-LAWS = ('once', 'places', 'completions', 'executed_payloads', 'replies_handed_over', 'replies_are_plain', 'completed_otherwise: chunk', 'completed_otherwise: reply',
-        'completed_otherwise: auto', 'completed_otherwise: change', 'touches: client', 'touches: server', 'touches: revoked', 'grant', 'calls_complete',
+LAWS = ('once', 'places', 'completions', 'executed_payloads', 'replies_handed_over', 'replies_are_plain', 'chunk_outcomes: chunk', 'chunk_outcomes: reply',
+        'chunk_outcomes: auto', 'chunk_outcomes: change', 'touches: client', 'touches: server', 'touches: revoked', 'grant', 'calls_complete',
         'segments_keep_the_rules: client', 'segments_keep_the_rules: server', 'matched_links_stay')
 CALL_REASONS, REPLY_REASONS = (18, 19), (18, 19, 21)
 
@@ -168,7 +168,7 @@ class Link:
             self.note('executed_payloads', conveyed.n == 'Some' and conveyed.a[0] == q, self.kind(x))
         self.executes[x] = {'reply': reply, 'held': answer.n == 'Some', 'at': len(self.marks)}
         if m.get('adds'):
-            self.note('completed_otherwise: change', answer.n == 'Some', self.kind(x))
+            self.note('chunk_outcomes: change', answer.n == 'Some', self.kind(x))
 
     def on_done(self, m, made):
         x, kind = m['xid'], m['outcome']['kind']
@@ -182,11 +182,11 @@ class Link:
             self.note('replies_handed_over', e is not None and e['reply'] == bytes_of(m['outcome']['payload']), self.kind(x))
             if self.run['plainly'] is not None:
                 self.note('replies_are_plain', self.run['plainly'] and e is not None and e['reply'] == bytes_of(m['outcome']['payload']), self.kind(x))
-            self.note('completed_otherwise: reply', not refused and e is not None and e['held'], self.kind(x))
+            self.note('chunk_outcomes: reply', not refused and e is not None and e['held'], self.kind(x))
         if kind == 'Chunk':
-            self.note('completed_otherwise: chunk', refused != (e is not None and not e['held']), self.kind(x) + (('refused',) if refused else ('not held',)))
+            self.note('chunk_outcomes: chunk', refused != (e is not None and not e['held']), self.kind(x) + (('refused',) if refused else ('not held',)))
         if self.submits[x]['form']['kind'] == 'Auto':
-            self.note('completed_otherwise: auto', kind == 'Reply', self.kind(x))
+            self.note('chunk_outcomes: auto', kind == 'Reply', self.kind(x))
 
     def on_revoke(self, m, made):
         held = [r['stag'] for r in self.ends['client']['state']['regions'] if r['call'] == m['xid']]
