@@ -6,7 +6,7 @@ RUNDEFS is the folder of the evaluator of definitions and of the recorded runs; 
 the recorded runs keep the laws of a link (Asked, Served) is what `check_definitions.py` there compares; here the other premises and what
 each law says are computed, from the same definitions, mark by mark. It proves nothing. It prints, for each law, on how many links and how
 often its premises were met, how often with a read chunk and with a write chunk, the first run of each, and each mark where what it
-says isn't so. Exit status: 0 none, 1 some."""
+says isn't so. Exit status: 0 none, 1 some, 2 plain_calls isn't built."""
 import json
 import multiprocessing
 import os
@@ -15,14 +15,22 @@ import sys
 
 ROOT = os.path.dirname(os.path.dirname(os.path.abspath(__file__)))
 sys.path.insert(0, sys.argv[1])
+import antt  # noqa: E402
 from antt import call, deeply  # noqa: E402
 from check_definitions import Names, bytes_of, recorded  # noqa: E402
 
+# a function of std that the evaluator's table has not
+antt.STD.setdefault('pointwise', antt.Fn(3, lambda f, a, b: len(a) == len(b) and all(antt.truth(call(f, x, y)) for x, y in zip(a, b))))
+
 USES = [
     'use Rattle.nr_reduce.specs.ClientState.{call_payload, plan_for}',
-    'use Rattle.nr_reduce.specs.Plans.{lists_of}',
+    'use Rattle.nr_reduce.specs.Plans.{lists_of, call_message}',
+    'use Rattle.nr_header.specs.Reading.{header_of}',
+    'use Rattle.nr_reduce.specs.RunLaws.{known_stream}',
+    'use Rattle.nr_reduce.specs.Undone.{lists_by}',
+    'use Rattle.nr_plain.specs.Added.{entries_of_call}',
     'use Rattle.nr_reduce.specs.Chunks.{is_read_chunk_of_item}',
-    'use Rattle.nr_reduce.specs.Run.{client, server, placed_bytes}',
+    'use Rattle.nr_reduce.specs.Run.{placed_bytes}',
     'use Rattle.nr_reduce.specs.Server.{answer_of_target, offer_of}',
     'use Rattle.nr_reduce.specs.ServerState.{down_max}',
     'use Rattle.nr_reduce.specs.ServerFrames.{frame_effect}',
@@ -35,7 +43,6 @@ USES = [
     'use Rattle.nr_reduce.specs.EndRules.{next_end_state}',
     'use Rattle.nr_reduce.specs.Client.{client_rules, initial_client}',
     'use Rattle.nr_reduce.specs.Server.{server_rules, initial_server}',
-    'use Rattle.nr_reduce.specs.Credits.{outstanding_in, granted_in}',
     'use Rattle.nr_laws.specs.Payloads.{form_conveyed}',
     'use Rattle.nr_reduce.specs.Served.{first_ready}',
 ]
@@ -47,16 +54,21 @@ ROLES = {
     'payload': 'λ xid call. call_payload xid call', 'conveyed': 'λ form payload. form_conveyed form payload',
     'plan': 'λ state xid call form. plan_for state xid call form',
     'has_head': 'λ payload. call_of payload',
-    'answer': 'λ state xid payload reply. answer_of_target (offer_of state xid) (down_max state) reply (target_of (call_of payload))',
+    'message': 'λ opened state xid plan. call_message xid opened.wished state.stag plan', 'lists_of': 'λ stag plan. lists_of stag plan',
+    'header': 'λ message. header_of message', 'known': 'λ message body. known_stream message body', 'lists': 'λ body. lists_by body',
+    'suits': 'λ stream read. is_read_chunk_of_item stream read', 'adds': 'λ moment payload reply. entries_of_call moment payload reply',
+    'offer': 'λ state xid. offer_of state xid',
+    'answer': 'λ offer state payload reply. answer_of_target offer (down_max state) reply (target_of (call_of payload))',
     'effect': 'λ state frame. frame_effect state frame', 'hello': 'λ frame. is_hello frame',
     'access': 'λ frame. access_of frame', 'segment': 'λ frame. frame_segment frame',
     'denial': 'λ frame regions access. grant_denial (region_grants frame.end regions) access frame.end',
     'placed': 'λ opened link side run stag. placed_bytes opened link side run stag',
     'waits': 'λ state ended. first_ready state.ready ended',
 }
-LAWS = ('once', 'places', 'completions', 'executed_payloads', 'replies_handed_over', 'replies_are_plain', 'chunk_outcomes: chunk', 'chunk_outcomes: reply',
-        'chunk_outcomes: auto', 'chunk_outcomes: change', 'touches: client', 'touches: server', 'touches: revoked', 'grant', 'calls_complete',
-        'segments_keep_the_rules: client', 'segments_keep_the_rules: server', 'matched_links_stay')
+LAWS = ('once: Sends', 'once: calls', 'once: xids', 'places', 'completions', 'executed_payloads', 'replies_handed_over', 'replies_are_plain', 'journal: places',
+        'chunk_outcomes: causes', 'chunk_outcomes: completed', 'chunk_outcomes: offers', 'chunk_outcomes: own plans', 'chunk_outcomes: auto', 'chunk_outcomes: changes',
+        'touches: client', 'touches: server', 'touches: revoked', 'grant', 'calls_complete', 'segments_keep_the_rules: client', 'segments_keep_the_rules: server',
+        'matched_links_stay')
 CALL_REASONS, REPLY_REASONS = (18, 19), (18, 19, 21)
 
 
@@ -82,7 +94,7 @@ class Link:
         self.ends = {'client': names.ask('first_client', self.opened), 'server': names.ask('first_server', self.opened)}
         self.marks, self.sent, self.got = [], {'client': [], 'server': []}, {'client': [], 'server': []}
         self.matched = self.is_matched()
-        self.submits, self.executes, self.dones, self.refused, self.revoked = {}, {}, {}, {}, []
+        self.submits, self.executes, self.dones, self.numbers, self.revoked = {}, {}, {}, set(), []
 
     def is_matched(self):
         sent, got = {'client': b'', 'server': b''}, {'client': b'', 'server': b''}
@@ -96,7 +108,7 @@ class Link:
         return True
 
     def kind(self, xid):
-        """whether the plan of a call has a read chunk, one with bytes, a write chunk"""
+        """what the plan of a call has: a read chunk (with bytes or without), a write chunk, a reply chunk; an offer that is given"""
         if xid not in self.submits:
             return ()
         p = self.submits[xid]['plan']
@@ -105,6 +117,8 @@ class Link:
             out.append('read chunk' if sum(p['read']) else 'read chunk without bytes')
         if p['write'].n == 'Some' and p['write'].a[0]:
             out.append('write chunk')
+        if p['reply'].n == 'Some':
+            out.append('reply chunk')
         if self.submits[xid]['form']['kind'] == 'Given':
             out.append('given')
         return tuple(out)
@@ -133,10 +147,6 @@ class Link:
             denied = ask('denial', f, before['state']['regions'], access.a[0]).n == 'Some'
             stops = self.ends[side]['ended'].n == 'Some' and self.ends[side]['state'] == before['state']
             self.note('touches: ' + side, not denied or stops, ('stops',) if denied else ())
-        if side == 'server' and self.ends[side]['ended'].n == 'None':
-            for e in ask('effect', before['state'], f)['errors']:
-                if int.from_bytes(bytes(e[16:20]), 'big') == 2:
-                    self.refused.setdefault(int.from_bytes(bytes(e[0:4]), 'big'), len(self.marks))
 
     def mark(self, m):
         if m['mark'] == 'Submit' and m['answer']['kind'] == 'Dropped' and self.names.data.get('refused_dropped') is None:
@@ -155,36 +165,64 @@ class Link:
         run = list(self.marks)
         self.note('grant', call(self.names.run['out'], self.opened, self.number, run) < call(self.names.run['grant'], self.opened, self.number, run),
                   () if self.matched else ('not matched',))
-        self.submits[x] = {'payload': self.names.ask('payload', x, c), 'form': m['form'], 'made': form, 'plan': self.names.ask('plan', state, x, c, form).a[0]}
+        plan = self.names.ask('plan', state, x, c, form).a[0]
+        self.submits[x] = {'payload': self.names.ask('payload', x, c), 'form': m['form'], 'made': form, 'plan': plan, 'offer': self.names.ask('lists_of', state['stag'], plan),
+                           'refused': self.is_refused(self.names.ask('message', self.opened, state, x, plan))}
+        if m['form']['kind'] != 'Given':
+            self.note('chunk_outcomes: own plans', not self.submits[x]['refused'], self.kind(x))
+
+    def is_refused(self, message):
+        """a bad header, or a stream that is there with another read chunk than its item's"""
+        header = self.names.ask('header', message)
+        if header.n == 'Err':
+            fault = header.a[0]
+            return fault.n == 'BadChunks' or fault.n == 'Kind' and fault.a[0] not in (3, 4)
+        body = header.a[0]['body']
+        read = self.names.ask('lists', body)['read']
+        if body.n == 'Nomsg' and all(r['position'] != 0 for r in read):
+            return True
+        known = self.names.ask('known', message, body)
+        return known.n == 'Some' and not self.names.ask('suits', known.a[0], read)
 
     def on_execute(self, m, made):
-        x, q, state = m['xid'], bytes_of(m['payload']), self.ends['server']['state']
-        reply = bytes_of(m['reply'])
-        answer = self.names.ask('answer', state, x, q, reply)
+        x, q, reply, state, ask = m['xid'], bytes_of(m['payload']), bytes_of(m['reply']), self.ends['server']['state'], self.names.ask
+        number = state['ready'][0]['number']
+        self.note('once: Sends', number not in self.numbers, () if self.matched else ('not matched',))
+        self.numbers.add(number)
+        adds = ask('adds', {'seconds': m['seconds'], 'nanos': m['nanos']}, q, reply)
+        self.note('journal: places', self.run['journal'] == m['place'], ('adds',) if adds else ())
+        self.run['journal'] += len(adds)
+        kept = ask('offer', state, x)
+        if adds:
+            self.note('chunk_outcomes: changes', ask('answer', kept, state, q, reply).n == 'Some', (self.kind(x) if self.matched else ('not matched',)))
+        held = None
         if self.matched:
-            self.note('once', x not in self.executes, self.kind(x))
             s = self.submits[x]
-            conveyed = self.names.ask('conveyed', s['made'], s['payload'])
+            self.note('once: xids', x not in self.executes, self.kind(x))
+            conveyed = ask('conveyed', s['made'], s['payload'])
             self.note('executed_payloads', conveyed.n == 'Some' and conveyed.a[0] == q, self.kind(x))
-        self.executes[x] = {'reply': reply, 'held': answer.n == 'Some', 'at': len(self.marks)}
-        if m.get('adds'):
-            self.note('chunk_outcomes: change', answer.n == 'Some', self.kind(x))
+            self.note('chunk_outcomes: offers', kept == s['offer'], self.kind(x))
+            held = ask('answer', s['offer'], state, q, reply).n == 'Some'
+        self.executes[x] = {'reply': reply, 'held': held}
+
+    def has_cause(self, x):
+        return self.submits[x]['refused'] or x in self.executes and not self.executes[x]['held']
 
     def on_done(self, m, made):
         x, kind = m['xid'], m['outcome']['kind']
-        self.note('once', x not in self.dones, self.kind(x))
+        self.note('once: calls', x not in self.dones, self.kind(x))
         self.dones[x] = kind
         if not self.matched:
             return
-        e, refused = self.executes.get(x), x in self.refused
+        e = self.executes.get(x)
         self.note('completions', kind != 'Version' and (kind != 'Reply' or e is not None), self.kind(x))
         if kind == 'Reply':
-            self.note('replies_handed_over', e is not None and e['reply'] == bytes_of(m['outcome']['payload']), self.kind(x))
-            if self.run['plainly'] is not None:
-                self.note('replies_are_plain', self.run['plainly'] and e is not None and e['reply'] == bytes_of(m['outcome']['payload']), self.kind(x))
-            self.note('chunk_outcomes: reply', not refused and e is not None and e['held'], self.kind(x))
-        if kind == 'Chunk':
-            self.note('chunk_outcomes: chunk', refused != (e is not None and not e['held']), self.kind(x) + (('refused',) if refused else ('not held',)))
+            same = e is not None and e['reply'] == bytes_of(m['outcome']['payload'])
+            self.note('replies_handed_over', same, self.kind(x))
+            if self.run['plainly']:
+                self.note('replies_are_plain', same, self.kind(x))
+        why = () if kind != 'Chunk' else ('is refused',) if self.submits[x]['refused'] else ('is not held',)
+        self.note('chunk_outcomes: causes', (kind == 'Chunk') == self.has_cause(x), self.kind(x) + why)
         if self.submits[x]['form']['kind'] == 'Auto':
             self.note('chunk_outcomes: auto', kind == 'Reply', self.kind(x))
 
@@ -219,10 +257,13 @@ class Link:
             out = self.run['out'][str(self.number)]
             given_up = {m['xid'] for m in mine if m['mark'] in ('Forget', 'Revoke', 'Lost')}
             self.note('calls_complete', out == 0 and all(x in self.dones for x in self.submits if x not in given_up), kinds)
+            for x in self.submits:
+                if x not in given_up and self.has_cause(x):
+                    self.note('chunk_outcomes: completed', self.dones.get(x) == 'Chunk', self.kind(x))
 
     def conveys(self, s, xid):
         q = self.names.ask('conveyed', s['made'], s['payload'])
-        return q.n == 'Some' and self.names.ask('has_head', q.a[0]).n == 'Ok' or xid in self.refused
+        return q.n == 'Some' and self.names.ask('has_head', q.a[0]).n == 'Ok' or s['refused']
 
 
 STATE = {}
@@ -236,23 +277,19 @@ PLAIN_CALLS = os.path.join(ROOT, 'crates', 'plain_calls', 'out', 'plain_calls')
 CAPACITIES = (1 << 40, 0, 103, 116)  # that runs were made with; they aren't recorded
 
 
-def look_at_executes(run):
-    """Each Execute gets whether it added an entry (the next one's place is higher), and the run whether its replies are the plain server's."""
+def is_plainly(run):
+    """Whether the replies of a run and their places are the plain server's."""
     executes = [m for m in run['marks'] if m['mark'] == 'Execute']
-    for m, after in zip(executes, executes[1:]):
-        m['adds'] = after['place'] == m['place'] + 1
-    run['plainly'] = None
-    if os.path.exists(PLAIN_CALLS):
-        calls = ''.join('%d %s\n' % (m['seconds'], m['payload'] or '-') for m in executes)
-        want = ['%d %s' % (m['place'], m['reply']) for m in executes]
-        run['plainly'] = any(want == subprocess.run([PLAIN_CALLS], input='capacity %d\n%s' % (c, calls), stdout=subprocess.PIPE, text=True).stdout.split('\n')[:len(want)]
-                             for c in CAPACITIES)
+    calls = ''.join('%d %s\n' % (m['seconds'], m['payload'] or '-') for m in executes)
+    want = ['%d %s' % (m['place'], m['reply']) for m in executes]
+    return any(want == subprocess.run([PLAIN_CALLS], input='capacity %d\n%s' % (c, calls), stdout=subprocess.PIPE, text=True).stdout.split('\n')[:len(want)]
+               for c in CAPACITIES)
 
 
 def check(run):
     def body():
         found = []
-        look_at_executes(run)
+        run['plainly'], run['journal'] = is_plainly(run), 0
         links = [Link(STATE['names'], run, o['link'], found) for o in run['opened']]
         for m in run['marks']:
             for link in links:
@@ -283,6 +320,9 @@ def places(run, links, found):
 
 
 def main():
+    if not os.path.exists(PLAIN_CALLS):
+        print('build it first: cd crates/plain_calls && rt run')
+        return 2
     with open(os.path.join(ROOT, 'docs', 'run-names.json'), encoding='utf-8') as h:
         spec = json.load(h)
     word = sys.argv[2] if len(sys.argv) > 2 else ''
