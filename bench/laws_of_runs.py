@@ -19,7 +19,7 @@ from antt import call, deeply  # noqa: E402
 from check_definitions import Names, bytes_of, recorded  # noqa: E402
 
 USES = [
-    'use Rattle.nr_reduce.specs.ClientState.{call_payload, plan_for}',
+    'use Rattle.nr_reduce.specs.ClientState.{call_payload, plan_for, memory_at}',
     'use Rattle.nr_reduce.specs.Plans.{lists_of}',
     'use Rattle.nr_reduce.specs.Chunks.{is_read_chunk_of_item}',
     'use Rattle.nr_reduce.specs.Run.{client, server, placed_bytes}',
@@ -32,10 +32,12 @@ USES = [
     'use Rattle.nr_regions.specs.Access.{grant_denial}',
     'use Rattle.nr_reduce.specs.OfferedRegions.{region_grants}',
     'use Rattle.nr_reduce.specs.Events.{events_at}',
-    'use Rattle.nr_reduce.specs.EndRules.{next_end_state}',
+    'use Rattle.nr_reduce.specs.EndRules.{next_end_state, output_for}',
+    'use Rattle.nr_link.specs.ReceiveState.{read_request_of}',
+    'use Rattle.nr_link.specs.Output.{read_response}',
+    'use Rattle.nr_link.specs.Ending.{tagged_access}',
     'use Rattle.nr_reduce.specs.Client.{client_rules, initial_client}',
     'use Rattle.nr_reduce.specs.Server.{server_rules, initial_server}',
-    'use Rattle.nr_reduce.specs.Credits.{outstanding_in, granted_in}',
     'use Rattle.nr_laws.specs.Payloads.{form_conveyed}',
     'use Rattle.nr_reduce.specs.Served.{first_ready}',
 ]
@@ -52,10 +54,12 @@ ROLES = {
     'access': 'λ frame. access_of frame', 'segment': 'λ frame. frame_segment frame',
     'denial': 'λ frame regions access. grant_denial (region_grants frame.end regions) access frame.end',
     'placed': 'λ opened link side run stag. placed_bytes opened link side run stag',
+    'output': 'λ opened state event. output_for (client_rules opened) state event', 'request': 'λ segment. read_request_of segment',
+    'response': 'λ sink to bytes. read_response sink to bytes', 'memory': 'λ state place stag. memory_at state place stag', 'tagged': 'λ frame segment. tagged_access frame segment',
     'waits': 'λ state ended. first_ready state.ready ended',
 }
 LAWS = ('once', 'places', 'completions', 'executed_payloads', 'replies_handed_over', 'replies_are_plain', 'completed_otherwise: chunk', 'completed_otherwise: reply',
-        'completed_otherwise: auto', 'completed_otherwise: change', 'touches: client', 'touches: server', 'touches: revoked', 'grant', 'calls_complete',
+        'completed_otherwise: auto', 'completed_otherwise: change', 'touches: client', 'touches: server', 'touches: client_bytes', 'touches: server_bytes', 'touches: reads', 'touches: revoked', 'grant', 'calls_complete',
         'segments_keep_the_rules: client', 'segments_keep_the_rules: server', 'matched_links_stay')
 CALL_REASONS, REPLY_REASONS = (18, 19), (18, 19, 21)
 
@@ -83,6 +87,7 @@ class Link:
         self.marks, self.sent, self.got = [], {'client': [], 'server': []}, {'client': [], 'server': []}
         self.matched = self.is_matched()
         self.submits, self.executes, self.dones, self.refused, self.revoked = {}, {}, {}, {}, []
+        self.brought = {'client': [], 'server': []}
 
     def is_matched(self):
         sent, got = {'client': b'', 'server': b''}, {'client': b'', 'server': b''}
@@ -120,6 +125,7 @@ class Link:
                 self.ends[side] = ask('next_' + side, self.opened, before, event)
                 if event.n == 'FrameReceived' and before['ended'].n == 'None':
                     self.frame(side, before, event.a[0])
+                    self.memory(side, before, event)
 
     def frame(self, side, before, f):
         ask = self.names.ask
@@ -137,6 +143,29 @@ class Link:
             for e in ask('effect', before['state'], f)['errors']:
                 if int.from_bytes(bytes(e[16:20]), 'big') == 2:
                     self.refused.setdefault(int.from_bytes(bytes(e[0:4]), 'big'), len(self.marks))
+
+    def memory(self, side, before, event):
+        ask, f = self.names.ask, event.a[0]
+        segment = ask('segment', f)
+        if ask('hello', f) or segment.n != 'Ok' or self.ends[side]['ended'].n != 'None':
+            return
+        for t in ask('tagged', f, segment.a[0]):
+            self.brought[side].append((t['stag'], t['to'], list(t['payload'])))
+        request = ask('request', segment.a[0])
+        if side == 'client' and request.n == 'Some':
+            q = request.a[0]
+            got = list(ask('memory', before['state'], f['end'], q['stag']))[q['to']:q['to'] + q['size']]
+            same = list(ask('output', self.opened, before, event)) == list(ask('response', q['sink'], q['sink_to'], got))
+            self.note('touches: reads', same and len(got) == q['size'])
+
+    def bytes_of_regions(self):
+        for side in ('client', 'server'):
+            for r in self.ends[side]['state']['regions']:
+                held = list(self.names.ask('placed', self.opened, self.number, self.names.side(side), list(self.marks), r['stag']))
+                own = list(r['bytes'])
+                here = [(to, b) for s, to, b in self.brought[side] if s == r['stag']]
+                holds = len(held) == len(own) and all(b == own[i] or any(to <= i < to + len(x) and x[i - to] == b for to, x in here) for i, b in enumerate(held))
+                self.note('touches: %s_bytes' % side, holds, ('brought',) if here else ())
 
     def mark(self, m):
         if m['mark'] == 'Submit' and m['answer']['kind'] == 'Dropped' and self.names.data.get('refused_dropped') is None:
@@ -194,6 +223,7 @@ class Link:
         self.revoked.append((len(self.marks), {s: self.names.ask('placed', self.opened, self.number, side, list(self.marks), s) for s in held}, bytes_of(m['bytes'])))
 
     def finish(self):
+        self.bytes_of_regions()
         side = self.names.side('client')
         for at, held, bytes_ in self.revoked:
             same = all(self.names.ask('placed', self.opened, self.number, side, list(self.marks), s) == b for s, b in held.items())

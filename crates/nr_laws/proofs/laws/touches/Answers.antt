@@ -1,5 +1,5 @@
 use Rattle.nr_laws.proofs.Touched.{client_touched, server_touched}
-use Rattle.nr_laws.proofs.AllowedBytes.{client_bytes_are_allowed, server_bytes_are_allowed, reads_are_allowed}
+use Rattle.nr_laws.proofs.AllowedBytes.{client_bytes_are_allowed, server_bytes_are_allowed, reads_are_allowed, nothing_else_is_disclosed}
 use Rattle.nr_laws.proofs.Frozen.{revoke_stands}
 use Rattle.nr_laws.proofs.laws.touches.Goals as goal
 
@@ -20,3 +20,6 @@ returns-clause-server_bytes c = server_bytes_are_allowed
 
 pub returns-clause-reads : goal.returns-clause-reads
 returns-clause-reads c = reads_are_allowed
+
+pub returns-clause-else_ : goal.returns-clause-else_
+returns-clause-else_ c = nothing_else_is_disclosed
