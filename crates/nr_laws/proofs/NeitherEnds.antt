@@ -10,7 +10,6 @@ use Rattle.nr_reduce.specs.declared.mark.Mark.TheVariants as marks
 use Rattle.nr_reduce.specs.declared.mark.LinkParameters.{LinkParameters}
 use Rattle.nr_reduce.specs.Opening.{IsOpened}
 use Rattle.nr_reduce.specs.IsPlain.{IsPlain}
-use Rattle.nr_reduce.specs.Journal.{PlainMark, Plainly}
 use Rattle.nr_reduce.specs.Events.{Event, events, events_at}
 use Rattle.nr_reduce.specs.EndRules.{EndState, end_state_after}
 use Rattle.nr_reduce.specs.ClientState.{ClientState}
@@ -20,7 +19,7 @@ use Rattle.nr_reduce.specs.Server.{server_rules}
 use Rattle.nr_reduce.specs.Run.{client, server, end_of_side}
 use Rattle.nr_reduce.proofs.Steps.{AtEachMark-first, client-one, server-one}
 use Rattle.nr_laws.specs.EndCauses.{KeepLaws, IsReplyEnd, IsDenied}
-use Rattle.nr_laws.specs.PlainReplies.{server_with}
+use Rattle.nr_laws.specs.PlainReplies.{server_with, PlainlyOn, PlainOnMark}
 use Rattle.nr_laws.specs.Stays.{NotRevokedMark, HasNoRevoke, ConveyedMark, AreConveyedOrRefused, MatchedLinksStay, MatchedCallsComplete}
 use Rattle.nr_laws.specs.Typed.{TypedMark, IsTyped}
 use Rattle.nr_laws.proofs.AgreeingRuns.{other-events}
@@ -67,7 +66,7 @@ record AreAsked (reply_to : List Entry → Moment → List ℕ → Option (List 
   laws : KeepLaws opened link run
   kept : HasNoRevoke link run
   conveyed : AreConveyedOrRefused opened link run
-  plainly : Plainly (server_with reply_to adds) run
+  plainly : PlainlyOn (server_with reply_to adds) link run
 
 asked-before : (reply_to : List Entry → Moment → List ℕ → Option (List ℕ)) (adds : Moment → List ℕ → List ℕ → List Entry) (opened : LinkParameters) (link : ℕ) (run more : List Mark) → AreAsked reply_to adds opened link (run ++ more) → AreAsked reply_to adds opened link run
 asked-before reply_to adds opened link run more h = record {
@@ -75,7 +74,7 @@ asked-before reply_to adds opened link run more h = record {
   laws = laws-kept-before opened link run more h.laws;
   kept = AtEachMark-first (NotRevokedMark link) [] run more h.kept;
   conveyed = AtEachMark-first (ConveyedMark opened link) [] run more h.conveyed;
-  plainly = AtEachMark-first (PlainMark (server_with reply_to adds)) [] run more h.plainly;
+  plainly = AtEachMark-first (PlainOnMark (server_with reply_to adds) link) [] run more h.plainly;
 }
 
 -- ---- From mark to mark

@@ -15,7 +15,6 @@ use Rattle.nr_reduce.specs.declared.outline.Plan.{Plan}
 use Rattle.nr_reduce.specs.AtEachMark.{AtEachMark}
 use Rattle.nr_reduce.specs.ClientState.{call_payload, plan_for}
 use Rattle.nr_reduce.specs.IsPlain.{IsPlain}
-use Rattle.nr_reduce.specs.Journal.{Plainly}
 use Rattle.nr_reduce.specs.Opening.{IsOpened}
 use Rattle.nr_reduce.specs.PayloadLaws.{given_conveyed}
 use Rattle.nr_reduce.specs.Plans.{call_message}
@@ -24,7 +23,7 @@ use Rattle.nr_reduce.specs.RunLaws.{HasOtherChunk}
 use Rattle.nr_reduce.specs.SoFar.{InFull}
 use Rattle.nr_laws.specs.Completion.{NothingWaits, HaveCompleted}
 use Rattle.nr_laws.specs.EndCauses.{KeepLaws}
-use Rattle.nr_laws.specs.PlainReplies.{server_with}
+use Rattle.nr_laws.specs.PlainReplies.{server_with, PlainlyOn}
 use Rattle.nr_laws.specs.Typed.{IsTyped}
 
 -- no memory of this link's calls is taken back
@@ -67,11 +66,11 @@ AreConveyedOrRefused opened link run = AtEachMark (ConveyedMark opened link) [] 
 -- what `IsPlain` says: neither side ends.
 abbrev pub MatchedLinksStay : Type 0
 MatchedLinksStay = (reply_to : List Entry → Moment → List ℕ → Option (List ℕ)) (adds : Moment → List ℕ → List ℕ → List Entry) (opened : LinkParameters) (link : ℕ) (run : List Mark) →
-    IsOpened opened → IsTyped run → KeepLaws opened link run → HasNoRevoke link run → AreConveyedOrRefused opened link run → IsPlain (server_with reply_to adds) → Plainly (server_with reply_to adds) run →
+    IsOpened opened → IsTyped run → KeepLaws opened link run → HasNoRevoke link run → AreConveyedOrRefused opened link run → IsPlain (server_with reply_to adds) → PlainlyOn (server_with reply_to adds) link run →
     (end_of_side opened link Initiator run ≡ None) × (end_of_side opened link Responder run ≡ None)
 
 -- So where its laws hold in full and nothing waits, all its calls have completed.
 abbrev pub MatchedCallsComplete : Type 0
 MatchedCallsComplete = (reply_to : List Entry → Moment → List ℕ → Option (List ℕ)) (adds : Moment → List ℕ → List ℕ → List Entry) (opened : LinkParameters) (link : ℕ) (run : List Mark) →
-    IsOpened opened → IsTyped run → InFull opened link run → HasNoRevoke link run → AreConveyedOrRefused opened link run → IsPlain (server_with reply_to adds) → Plainly (server_with reply_to adds) run →
+    IsOpened opened → IsTyped run → InFull opened link run → HasNoRevoke link run → AreConveyedOrRefused opened link run → IsPlain (server_with reply_to adds) → PlainlyOn (server_with reply_to adds) link run →
     NothingWaits opened link run → HaveCompleted opened link run
