@@ -21,8 +21,7 @@ use Rattle.nr_reduce.specs.Events.Event.{FrameReceived, CallSubmitted, MemoryRev
 use Rattle.nr_link.specs.Frames.{Frame, is_hello}
 use Rattle.nr_link.specs.Ending.{final_output}
 use Rattle.nr_reduce.specs.declared.mark.LinkParameters.{LinkParameters}
-use Rattle.nr_reduce.specs.declared.mark.Mark.{Mark}
-use Rattle.nr_reduce.specs.EndRules.{Rules, EndState, output_for, output_for_by, output_for_in, next_end_state, next_end_state_by, next_end_state_in, end_state_after}
+use Rattle.nr_reduce.specs.EndRules.{Rules, EndState, output_for_by, output_for_in, next_end_state, next_end_state_by, next_end_state_in, end_state_after}
 use Rattle.nr_reduce.specs.OfferedRegions.{Region, region_grants, region_bytes, region_bytes_by}
 use Rattle.nr_reduce.specs.Client.{client_rules, client_output, initial_client, calls_output, call_output, outstanding_of, client_end, response_output, segment_request}
 use Rattle.nr_reduce.specs.Server.{server_rules, initial_server}
@@ -32,7 +31,7 @@ use Rattle.nr_reduce.specs.Run.{client, server, grants_of, placed_bytes}
 use Rattle.nr_reduce.proofs.OfferedMemory.{none-found}
 use Rattle.nr_reduce.proofs.Touches.{client_allows}
 use Rattle.nr_reduce.proofs.OwnStags.{AreNumbered, own-stags, client-numbers, server-numbers}
-use Rattle.nr_laws.specs.PlacedBytes.{IsBrought, HoldsAllowed, ClientBytesAreAllowed, ServerBytesAreAllowed, ReadsAreAllowed, IsOwnOutput, IsDisclosed, AnswersRequest, NothingElseIsDisclosed}
+use Rattle.nr_laws.specs.PlacedBytes.{IsBrought, HoldsAllowed, ClientBytesAreAllowed, ServerBytesAreAllowed, ReadsAreAllowed, IsOwnOutput, AnswersRequest, NothingElseIsDisclosed}
 use Rattle.nr_laws.proofs.Memory.{Gathering}
 use Rattle.nr_laws.proofs.ClientMemory.{client-gathers}
 use Rattle.nr_laws.proofs.ServerMemory.{server-gathers}
@@ -120,7 +119,7 @@ goes-on {S} rules r e stays = by r.ended refl stays
     by (Some end) is stays = absurd (let t : Some end ≡ None = stays in cc)
 
 -- a Read Request is an access to what it asks for
-request-access : (s : Segment) (q : ReadRequest) → read_request_of s ≡ Some q → ending.access_of s ≡ Some (record { right = Fetch; stag = q.stag; to = q.to; len = q.size })
+pub request-access : (s : Segment) (q : ReadRequest) → read_request_of s ≡ Some q → ending.access_of s ≡ Some (record { right = Fetch; stag = q.stag; to = q.to; len = q.size })
 request-access (Tagged last opcode stag to payload) q e = absurd cc
 request-access (Untagged last opcode w queue msn offset payload) q e = by (eqb opcode OPCODE_READ_REQUEST) e
   where

@@ -1,6 +1,6 @@
 //! The laws, each by its statement in `specs/`.
 
-ghost use Rattle.nr_laws.specs.Touches.{ClientIsTouched, ServerIsTouched, RevokeStands};
+ghost use Rattle.nr_laws.specs.Touches.{ClientIsTouched, ServerIsTouched, ServerRefusesRequests, RevokeStands};
 ghost use Rattle.nr_laws.specs.PlacedBytes.{ClientBytesAreAllowed, ServerBytesAreAllowed, ReadsAreAllowed, NothingElseIsDisclosed};
 ghost use Rattle.nr_laws.specs.Grant.{SubmitsWithinGrant};
 ghost use Rattle.nr_laws.specs.Places.{PlacesFollow};
@@ -30,6 +30,7 @@ pub fn touches()
     ensures client_bytes { ClientBytesAreAllowed }
     ensures server_bytes { ServerBytesAreAllowed }
     ensures reads { ReadsAreAllowed }
+    ensures requests { ServerRefusesRequests }
     ensures else_ { NothingElseIsDisclosed }
     ensures revoked { RevokeStands }
 {}
