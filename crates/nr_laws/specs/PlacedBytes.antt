@@ -1,5 +1,5 @@
 -- What a side's memory holds, and what it discloses, is by allowed accesses alone (RFC 5040 section 5).
-use Rattle.std.specs.Prelude.{◌≡◌, ℕ, ◌-◌, ◌≤◌, false, List, [], ◌∷◌, ◌++◌, length, take, drop, None, Some, Ok, ◌⊎◌, Contains, slice_get}
+use Rattle.std.specs.Prelude.{◌≡◌, ℕ, ◌-◌, ◌≤◌, false, List, [], ◌∷◌, ◌++◌, length, map, take, drop, None, Some, Ok, ◌⊎◌, Contains, slice_get}
 use Rattle.nr_wire.specs.declared.hello.Side.TheVariants.{Initiator, Responder}
 use Rattle.nr_wire.specs.Segment.{Segment}
 use Rattle.nr_regions.specs.declared.right.Right.TheVariants.{Fetch}
@@ -12,10 +12,12 @@ use Rattle.nr_link.specs.Output.{read_response}
 use Rattle.nr_reduce.specs.declared.mark.Mark.{Mark}
 use Rattle.nr_reduce.specs.declared.mark.LinkParameters.{LinkParameters}
 use Rattle.nr_reduce.specs.Events.{Event, events}
-use Rattle.nr_reduce.specs.Events.Event.{FrameReceived}
+use Rattle.nr_reduce.specs.Events.Event.{FrameReceived, CallSubmitted}
+use Rattle.nr_reduce.specs.History.{AcceptedCall}
+use Rattle.nr_reduce.specs.Plans.{buffers}
 use Rattle.nr_reduce.specs.EndRules.{Rules, EndState, output_for, next_end_state, end_state_after}
 use Rattle.nr_reduce.specs.OfferedRegions.{Region, region_grants}
-use Rattle.nr_reduce.specs.Client.{client_rules, initial_client, calls_output}
+use Rattle.nr_reduce.specs.Client.{client_rules, initial_client, outstanding_of, region_of, calls_output}
 use Rattle.nr_reduce.specs.Server.{server_rules, initial_server}
 use Rattle.nr_reduce.specs.ClientState.{ClientState, OutstandingCall, memory_at}
 use Rattle.nr_reduce.specs.Run.{client, server, grants_of, placed_bytes}
@@ -89,3 +91,17 @@ abbrev pub NothingElseIsDisclosed : Type 0
 NothingElseIsDisclosed = (opened : LinkParameters) (link : ℕ) (run : List Mark) (earlier later : List Event) (event : Event) →
     (let before : EndState ClientState = end_state_after (client_rules opened) (initial_client opened) earlier in
     events link Initiator run ≡ earlier ++ event ∷ later → IsOwnOutput opened (output_for (client_rules opened) before event) ⊎ AnswersRequest opened before event)
+
+-- A region is a chunk of a call that was accepted among these events, under the STag and with the right of that chunk, from there on: but
+-- for where it is closed.
+pub record IsChunkOfCall (opened : LinkParameters) (received : List Event) (r : Region) : Type 0 where
+  pub earlier : List Event
+  pub later : List Event
+  pub place : ℕ
+  pub call : AcceptedCall
+  pub is_submitted : received ≡ earlier ++ CallSubmitted place call ∷ later
+  pub chunk : (let k : ClientState = (end_state_after (client_rules opened) (initial_client opened) earlier).state in
+      Contains (map (region_of call.xid place) (buffers k.stag (outstanding_of k call).plan)) (record r { until = None }))
+
+abbrev pub RegionsAreChunks : Type 0
+RegionsAreChunks = (opened : LinkParameters) (link : ℕ) (run : List Mark) (r : Region) → Contains (client opened link run).state.regions r → IsChunkOfCall opened (events link Initiator run) r

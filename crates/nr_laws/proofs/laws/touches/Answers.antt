@@ -2,6 +2,7 @@ use Rattle.nr_laws.proofs.Touched.{client_touched, server_touched}
 use Rattle.nr_laws.proofs.AllowedBytes.{client_bytes_are_allowed, server_bytes_are_allowed, reads_are_allowed, nothing_else_is_disclosed}
 use Rattle.nr_laws.proofs.Frozen.{revoke_stands}
 use Rattle.nr_laws.proofs.SinkRegions.{server_refuses_requests}
+use Rattle.nr_laws.proofs.OfferedChunks.{regions_are_chunks}
 use Rattle.nr_laws.proofs.laws.touches.Goals as goal
 
 pub returns-clause-client : goal.returns-clause-client
@@ -27,3 +28,6 @@ returns-clause-else_ c = nothing_else_is_disclosed
 
 pub returns-clause-requests : goal.returns-clause-requests
 returns-clause-requests c = server_refuses_requests
+
+pub returns-clause-chunks : goal.returns-clause-chunks
+returns-clause-chunks c = regions_are_chunks
