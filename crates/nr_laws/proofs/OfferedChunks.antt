@@ -1,13 +1,11 @@
 -- Each region of a client is a chunk of a call that it accepted.
-use Rattle.std.proofs.Common.{◌≡◌, ℕ, zero, suc, ◌+◌, ◌<◌, Bool, true, false, cond, List, [], ◌∷◌, ◌++◌, length, map, Option, None, Some, refl, sym, ap, subst, ◌∙◌, arith, append_assoc, append-nil}
+use Rattle.std.proofs.Common.{◌≡◌, ℕ, zero, suc, ◌<◌, Bool, true, false, cond, List, [], ◌∷◌, ◌++◌, length, map, Option, None, Some, refl, sym, ap, subst, ◌∙◌, arith, append_assoc, append-nil}
 use Rattle.std.specs.Prelude.{slice_index_or, Contains}
 use Rattle.nr_wire.specs.declared.hello.Side.TheVariants.{Initiator}
 use Rattle.nr_link.specs.declared.end.End.{End as Stop}
 use Rattle.nr_link.specs.Frames.{Frame, is_hello}
 use Rattle.nr_link.specs.Ending.{frame_segment}
-use Rattle.nr_reduce.specs.declared.mark.Mark.{Mark}
 use Rattle.nr_reduce.specs.declared.mark.LinkParameters.{LinkParameters}
-use Rattle.nr_reduce.specs.History.{AcceptedCall}
 use Rattle.nr_reduce.specs.Plans.{Buffer, buffers}
 use Rattle.nr_reduce.specs.Events.{Event, events}
 use Rattle.nr_reduce.specs.Events.Event.{FrameReceived, CallSubmitted, MemoryRevoked, CallExecuted, QueueWritten}
@@ -17,7 +15,16 @@ use Rattle.nr_reduce.specs.ClientState.{ClientState}
 use Rattle.nr_reduce.specs.Client.{client_rules, client_end, client_state_after, initial_client, outstanding_of, region_of, with_segment}
 use Rattle.nr_reduce.specs.Run.{client}
 use Rattle.nr_reduce.proofs.Steps.{end_state_after-append}
-use Rattle.nr_laws.specs.PlacedBytes.{IsChunkOfCall, RegionsAreChunks}
+use Rattle.nr_reduce.proofs.OwnStags.{kept-after}
+use Rattle.std.proofs.Common.{not, eqb, inl, inr, ◌⊎◌, Result, Ok, Err}
+use Rattle.std.specs.List.{filter}
+use Rattle.nr_xdr.specs.Fields.{word_at}
+use Rattle.nr_wire.specs.Segment.{Segment}
+use Rattle.nr_link.specs.ReceiveState.{ReadRequest, message_completed, read_request_of}
+use Rattle.nr_reduce.specs.OfferedRegions.{until_at}
+use Rattle.nr_reduce.specs.ClientState.{OutstandingCall}
+use Rattle.nr_reduce.specs.Client.{with_message, with_request, revoked_call, written_call}
+use Rattle.nr_laws.specs.PlacedBytes.{IsChunkOfCall, RegionsAreChunks, LiveRegionsAreOfOutstanding}
 use Rattle.nr_laws.proofs.Revoked.{frame-regions}
 
 abbrev AllOf : (Region → Type 0) → List Region → Type 0
@@ -117,3 +124,108 @@ pub regions_are_chunks : RegionsAreChunks
 unfolding client
 regions_are_chunks opened link run r there =
     all-at (IsChunkOfCall opened (events link Initiator run)) there.0 _ r (all-events opened [] (events link Initiator run) tt) there.1 there.2
+
+-- ---- Until when they live
+
+abbrev HasCall : ℕ → List OutstandingCall → Type 0
+HasCall xid [] = ⊥
+HasCall xid (o ∷ os) = ((o.xid ≡ xid) × (o.is_revoked ≡ false)) ⊎ HasCall xid os
+
+abbrev Lives : List OutstandingCall → Region → Type 0
+Lives os r = r.until ≡ None → HasCall r.call os
+
+abbrev AllLive : ClientState → Type 0
+AllLive k = AllOf (Lives k.outstanding) k.regions
+
+has-more : (xid : ℕ) (os more : List OutstandingCall) → HasCall xid os → HasCall xid (os ++ more)
+has-more xid [] more h = absurd h
+has-more xid (o ∷ os) more (inl h) = inl h
+has-more xid (o ∷ os) more (inr h) = inr (has-more xid os more h)
+
+has-last : (xid : ℕ) (os : List OutstandingCall) (o : OutstandingCall) → o.xid ≡ xid → o.is_revoked ≡ false → HasCall xid (os ++ o ∷ [])
+has-last xid [] o own kept = inl (own, kept)
+has-last xid (x ∷ os) o own kept = inr (has-last xid os o own kept)
+
+has-filtered : (w xid : ℕ) (os : List OutstandingCall) → eqb xid w ≡ false → HasCall xid os → HasCall xid (filter (λ o. not (eqb o.xid w)) os)
+has-filtered w xid [] other h = absurd h
+has-filtered w xid (o ∷ os) other (inl h) = by (eqb o.xid w) (ap (λ (x : ℕ). eqb x w) h.0 ∙ other)
+  where
+    by : (b : Bool) → b ≡ false → HasCall xid (cond (not b) (o ∷ filter (λ o. not (eqb o.xid w)) os) (filter (λ o. not (eqb o.xid w)) os))
+    by false e = inl h
+    by true e = absurd cc
+has-filtered w xid (o ∷ os) other (inr h) = by (eqb o.xid w) (has-filtered w xid os other h)
+  where
+    by : (b : Bool) → HasCall xid (filter (λ o. not (eqb o.xid w)) os) → HasCall xid (cond (not b) (o ∷ filter (λ o. not (eqb o.xid w)) os) (filter (λ o. not (eqb o.xid w)) os))
+    by false g = inr g
+    by true g = g
+
+has-revoked : (w xid : ℕ) (os : List OutstandingCall) → eqb xid w ≡ false → HasCall xid os → HasCall xid (map (revoked_call w) os)
+has-revoked w xid [] other h = absurd h
+has-revoked w xid (o ∷ os) other (inl h) = inl (by (eqb o.xid w) (ap (λ (x : ℕ). eqb x w) h.0 ∙ other))
+  where
+    by : (b : Bool) → b ≡ false → ((cond b (record o { is_revoked = true }) o).xid ≡ xid) × ((cond b (record o { is_revoked = true }) o).is_revoked ≡ false)
+    by false e = h
+    by true e = absurd cc
+has-revoked w xid (o ∷ os) other (inr h) = inr (has-revoked w xid os other h)
+
+has-written : (b : Bool) (xid : ℕ) (os : List OutstandingCall) → HasCall xid os → HasCall xid (map (written_call b) os)
+has-written b xid [] h = absurd h
+has-written b xid (o ∷ os) (inl h) = inl h
+has-written b xid (o ∷ os) (inr h) = inr (has-written b xid os h)
+
+lives-closed : (os after : List OutstandingCall) (w place : ℕ) → ((xid : ℕ) → eqb xid w ≡ false → HasCall xid os → HasCall xid after) → (xs : List Region) → AllOf (Lives os) xs → AllOf (Lives after) (regions_closed (λ r. eqb r.call w) place xs)
+unfolding regions_closed
+lives-closed os after w place keeps [] h = tt
+lives-closed os after w place keeps (r ∷ xs) h = (by (eqb r.call w) refl, lives-closed os after w place keeps xs h.1)
+  where
+    some : (u : Option ℕ) → until_at place u ≡ None → ⊥
+    some None e = (let t : Some place ≡ None = e in cc)
+    some (Some u) e = (let t : Some u ≡ None = e in cc)
+
+    by : (b : Bool) → eqb r.call w ≡ b → Lives after (closed_if b place r)
+    by true is = λ none. absurd (some r.until none)
+    by false is = λ none. keeps r.call is (h.0 none)
+
+lives-new : (os : List OutstandingCall) (xid place : ℕ) (bs : List Buffer) → HasCall xid os → AllOf (Lives os) (map (region_of xid place) bs)
+lives-new os xid place [] h = tt
+lives-new os xid place (b ∷ bs) h = ((λ none. h), lives-new os xid place bs h)
+
+lives-message : (k : ClientState) (place : ℕ) (m : Option (List ℕ)) → AllLive k → AllLive (with_message k place m)
+lives-message k place None h = h
+lives-message k place (Some m) h = lives-closed k.outstanding (filter (λ o. not (eqb o.xid (word_at 0 m))) k.outstanding) (word_at 0 m) place (λ xid other g. has-filtered (word_at 0 m) xid k.outstanding other g) k.regions h
+
+lives-request : (k : ClientState) (q : Option ReadRequest) → AllLive k → AllLive (with_request k q)
+lives-request k None h = h
+lives-request k (Some q) h = h
+
+lives-segment : (k : ClientState) (f : Frame) (r : Result Segment ℕ) → AllLive k → AllLive (with_segment k f r)
+lives-segment k f (Err reason) h = h
+lives-segment k f (Ok s) h = lives-request (with_message k f.end (message_completed k.received s)) (read_request_of s) (lives-message k f.end (message_completed k.received s) h)
+
+lives-after : (opened : LinkParameters) (k : ClientState) (e : Event) → AllLive k → AllLive (client_state_after opened k e)
+unfolding client_state_after
+lives-after opened k (FrameReceived f) h = by (is_hello f)
+  where
+    by : (b : Bool) → AllLive (cond b (record k { has_hello = true }) (with_segment k f (frame_segment f)))
+    by true = h
+    by false = lives-segment k f (frame_segment f) h
+lives-after opened k (CallSubmitted place a) h =
+    let os : List OutstandingCall = k.outstanding ++ outstanding_of k a ∷ [] in
+    all-append (Lives os) k.regions (map (region_of a.xid place) (buffers k.stag (outstanding_of k a).plan))
+    (all-map (Lives k.outstanding) (Lives os) (λ r g none. has-more r.call k.outstanding (outstanding_of k a ∷ []) (g none)) k.regions h)
+    (lives-new os a.xid place (buffers k.stag (outstanding_of k a).plan) (has-last a.xid k.outstanding (outstanding_of k a) refl refl))
+lives-after opened k (MemoryRevoked place xid) h = lives-closed k.outstanding (map (revoked_call xid) k.outstanding) xid place (λ x other g. has-revoked xid x k.outstanding other g) k.regions h
+lives-after opened k (CallExecuted call) h = h
+lives-after opened k QueueWritten h = all-map (Lives k.outstanding) (Lives (map (written_call k.has_hello) k.outstanding)) (λ r g none. has-written k.has_hello r.call k.outstanding (g none)) k.regions h
+
+of-outstanding : (xid : ℕ) (os : List OutstandingCall) → HasCall xid os → (o : OutstandingCall) × (Contains os o × ((o.xid ≡ xid) × (o.is_revoked ≡ false)))
+of-outstanding xid [] h = absurd h
+of-outstanding xid (o ∷ os) (inl h) = (o, ((zero, omega (arith), refl), h))
+of-outstanding xid (o ∷ os) (inr h) = (let m = of-outstanding xid os h in (m.0, ((suc m.1.0.0, (let lt = m.1.0.1 in omega (arith, lt)), m.1.0.2), m.1.1)))
+
+pub live_regions_are_of_outstanding : LiveRegionsAreOfOutstanding
+live_regions_are_of_outstanding opened link run earlier later r is there none =
+    let k : ClientState = (state_at opened earlier).state in
+    let all : AllLive k = kept-after (client_rules opened) AllLive (lives-after opened) (initial_client opened) earlier tt in
+    let m = of-outstanding r.call k.outstanding (all-at (Lives k.outstanding) there.0 k.regions r all there.1 there.2 none) in
+    record { call = m.0; there = m.1.0; own = m.1.1.0; kept = m.1.1.1; }

@@ -105,3 +105,16 @@ pub record IsChunkOfCall (opened : LinkParameters) (received : List Event) (r : 
 
 abbrev pub RegionsAreChunks : Type 0
 RegionsAreChunks = (opened : LinkParameters) (link : ℕ) (run : List Mark) (r : Region) → Contains (client opened link run).state.regions r → IsChunkOfCall opened (events link Initiator run) r
+
+-- A region of a client lives only while its call is outstanding and its memory isn't taken back: with the message of its call it is closed, and
+-- with a Revoke.
+pub record IsOfOutstanding (k : ClientState) (xid : ℕ) : Type 0 where
+  pub call : OutstandingCall
+  pub there : Contains k.outstanding call
+  pub own : call.xid ≡ xid
+  pub kept : call.is_revoked ≡ false
+
+abbrev pub LiveRegionsAreOfOutstanding : Type 0
+LiveRegionsAreOfOutstanding = (opened : LinkParameters) (link : ℕ) (run : List Mark) (earlier later : List Event) (r : Region) → events link Initiator run ≡ earlier ++ later →
+    (let k : ClientState = (end_state_after (client_rules opened) (initial_client opened) earlier).state in
+    Contains k.regions r → r.until ≡ None → IsOfOutstanding k r.call)
