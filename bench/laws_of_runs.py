@@ -23,7 +23,7 @@ from check_definitions import Names, bytes_of, recorded  # noqa: E402
 antt.STD.setdefault('pointwise', antt.Fn(3, lambda f, a, b: len(a) == len(b) and all(antt.truth(call(f, x, y)) for x, y in zip(a, b))))
 
 USES = [
-    'use Rattle.nr_reduce.specs.ClientState.{call_payload, plan_for}',
+    'use Rattle.nr_reduce.specs.ClientState.{call_payload, plan_for, memory_at}',
     'use Rattle.nr_reduce.specs.Plans.{lists_of, call_message}',
     'use Rattle.nr_header.specs.Reading.{header_of}',
     'use Rattle.nr_reduce.specs.RunLaws.{known_stream}',
@@ -33,14 +33,16 @@ USES = [
     'use Rattle.nr_reduce.specs.Run.{placed_bytes}',
     'use Rattle.nr_reduce.specs.Server.{answer_of_target, offer_of}',
     'use Rattle.nr_reduce.specs.ServerState.{down_max}',
-    'use Rattle.nr_reduce.specs.ServerFrames.{frame_effect}',
     'use Rattle.nr_rpc.specs.Reading.{call_of, target_of}',
     'use Rattle.nr_link.specs.Frames.{is_hello}',
     'use Rattle.nr_link.specs.Ending.{frame_segment, access_of}',
     'use Rattle.nr_regions.specs.Access.{grant_denial}',
     'use Rattle.nr_reduce.specs.OfferedRegions.{region_grants}',
     'use Rattle.nr_reduce.specs.Events.{events_at}',
-    'use Rattle.nr_reduce.specs.EndRules.{next_end_state}',
+    'use Rattle.nr_reduce.specs.EndRules.{next_end_state, output_for}',
+    'use Rattle.nr_link.specs.ReceiveState.{read_request_of}',
+    'use Rattle.nr_link.specs.Output.{read_response}',
+    'use Rattle.nr_link.specs.Ending.{tagged_access}',
     'use Rattle.nr_reduce.specs.Client.{client_rules, initial_client}',
     'use Rattle.nr_reduce.specs.Server.{server_rules, initial_server}',
     'use Rattle.nr_laws.specs.Payloads.{form_conveyed}',
@@ -59,15 +61,17 @@ ROLES = {
     'suits': 'λ stream read. is_read_chunk_of_item stream read', 'adds': 'λ moment payload reply. entries_of_call moment payload reply',
     'offer': 'λ state xid. offer_of state xid',
     'answer': 'λ offer state payload reply. answer_of_target offer (down_max state) reply (target_of (call_of payload))',
-    'effect': 'λ state frame. frame_effect state frame', 'hello': 'λ frame. is_hello frame',
+    'hello': 'λ frame. is_hello frame',
     'access': 'λ frame. access_of frame', 'segment': 'λ frame. frame_segment frame',
     'denial': 'λ frame regions access. grant_denial (region_grants frame.end regions) access frame.end',
     'placed': 'λ opened link side run stag. placed_bytes opened link side run stag',
+    'output': 'λ opened state event. output_for (client_rules opened) state event', 'request': 'λ segment. read_request_of segment',
+    'response': 'λ sink to bytes. read_response sink to bytes', 'memory': 'λ state place stag. memory_at state place stag', 'tagged': 'λ frame segment. tagged_access frame segment',
     'waits': 'λ state ended. first_ready state.ready ended',
 }
 LAWS = ('once: Sends', 'once: calls', 'once: xids', 'places', 'completions', 'executed_payloads', 'replies_handed_over', 'replies_are_plain', 'journal: places',
         'chunk_outcomes: causes', 'chunk_outcomes: completed', 'chunk_outcomes: offers', 'chunk_outcomes: own plans', 'chunk_outcomes: auto', 'chunk_outcomes: changes',
-        'touches: client', 'touches: server', 'touches: revoked', 'grant', 'calls_complete', 'segments_keep_the_rules: client', 'segments_keep_the_rules: server',
+        'touches: client', 'touches: server', 'touches: client_bytes', 'touches: server_bytes', 'touches: reads', 'touches: revoked', 'grant', 'calls_complete', 'segments_keep_the_rules: client', 'segments_keep_the_rules: server',
         'matched_links_stay')
 CALL_REASONS, REPLY_REASONS = (18, 19), (18, 19, 21)
 
@@ -95,6 +99,7 @@ class Link:
         self.marks, self.sent, self.got = [], {'client': [], 'server': []}, {'client': [], 'server': []}
         self.matched = self.is_matched()
         self.submits, self.executes, self.dones, self.numbers, self.revoked = {}, {}, {}, set(), []
+        self.brought = {'client': [], 'server': []}
 
     def is_matched(self):
         sent, got = {'client': b'', 'server': b''}, {'client': b'', 'server': b''}
@@ -134,6 +139,7 @@ class Link:
                 self.ends[side] = ask('next_' + side, self.opened, before, event)
                 if event.n == 'FrameReceived' and before['ended'].n == 'None':
                     self.frame(side, before, event.a[0])
+                    self.memory(side, before, event)
 
     def frame(self, side, before, f):
         ask = self.names.ask
@@ -147,6 +153,29 @@ class Link:
             denied = ask('denial', f, before['state']['regions'], access.a[0]).n == 'Some'
             stops = self.ends[side]['ended'].n == 'Some' and self.ends[side]['state'] == before['state']
             self.note('touches: ' + side, not denied or stops, ('stops',) if denied else ())
+
+    def memory(self, side, before, event):
+        ask, f = self.names.ask, event.a[0]
+        segment = ask('segment', f)
+        if ask('hello', f) or segment.n != 'Ok' or self.ends[side]['ended'].n != 'None':
+            return
+        for t in ask('tagged', f, segment.a[0]):
+            self.brought[side].append((t['stag'], t['to'], list(t['payload'])))
+        request = ask('request', segment.a[0])
+        if side == 'client' and request.n == 'Some':
+            q = request.a[0]
+            got = list(ask('memory', before['state'], f['end'], q['stag']))[q['to']:q['to'] + q['size']]
+            same = list(ask('output', self.opened, before, event)) == list(ask('response', q['sink'], q['sink_to'], got))
+            self.note('touches: reads', same and len(got) == q['size'])
+
+    def bytes_of_regions(self):
+        for side in ('client', 'server'):
+            for r in self.ends[side]['state']['regions']:
+                held = list(self.names.ask('placed', self.opened, self.number, self.names.side(side), list(self.marks), r['stag']))
+                own = list(r['bytes'])
+                here = [(to, b) for s, to, b in self.brought[side] if s == r['stag']]
+                holds = len(held) == len(own) and all(b == own[i] or any(to <= i < to + len(x) and x[i - to] == b for to, x in here) for i, b in enumerate(held))
+                self.note('touches: %s_bytes' % side, holds, ('brought',) if here else ())
 
     def mark(self, m):
         if m['mark'] == 'Submit' and m['answer']['kind'] == 'Dropped' and self.names.data.get('refused_dropped') is None:
@@ -232,6 +261,7 @@ class Link:
         self.revoked.append((len(self.marks), {s: self.names.ask('placed', self.opened, self.number, side, list(self.marks), s) for s in held}, bytes_of(m['bytes'])))
 
     def finish(self):
+        self.bytes_of_regions()
         side = self.names.side('client')
         for at, held, bytes_ in self.revoked:
             same = all(self.names.ask('placed', self.opened, self.number, side, list(self.marks), s) == b for s, b in held.items())

@@ -1,5 +1,5 @@
 -- What a side's memory holds is by allowed segments alone, and what a client discloses by allowed requests.
-use Rattle.std.proofs.Common.{◌≡◌, ℕ, ◌+◌, ◌≤◌, Bool, true, false, cond, eqb, List, [], ◌∷◌, length, take, drop, Option, None, Some, Result, refl, sym, ap, subst, ◌∙◌, arith, inl, inr, ◌⊎◌, eqb-true}
+use Rattle.std.proofs.Common.{◌≡◌, ℕ, ◌+◌, ◌≤◌, Bool, true, false, cond, eqb, List, [], ◌∷◌, ◌++◌, length, take, drop, Option, None, Some, Result, Ok, Err, append-nil, refl, sym, ap, subst, ◌∙◌, arith, inl, inr, ◌⊎◌, eqb-true}
 use Rattle.std.specs.Prelude.{slice_get}
 use Rattle.std.specs.List.{find}
 use Rattle.std.proofs.lemmas.List.{length-take-le, length-drop}
@@ -17,10 +17,13 @@ use Rattle.nr_link.specs.ReceiveState.{ReadRequest, read_request_of, read_reques
 use Rattle.nr_link.specs.Ending.{frame_segment, tagged_access}
 use Rattle.nr_link.specs.Ending as ending
 use Rattle.nr_reduce.specs.Events.{Event, events}
-use Rattle.nr_reduce.specs.Events.Event.{FrameReceived}
+use Rattle.nr_reduce.specs.Events.Event.{FrameReceived, CallSubmitted, MemoryRevoked, CallExecuted, QueueWritten}
+use Rattle.nr_link.specs.Frames.{Frame, is_hello}
+use Rattle.nr_link.specs.Ending.{final_output}
+use Rattle.nr_reduce.specs.declared.mark.LinkParameters.{LinkParameters}
 use Rattle.nr_reduce.specs.EndRules.{Rules, EndState, output_for_by, output_for_in, next_end_state, next_end_state_by, next_end_state_in, end_state_after}
 use Rattle.nr_reduce.specs.OfferedRegions.{Region, region_grants, region_bytes, region_bytes_by}
-use Rattle.nr_reduce.specs.Client.{client_rules, client_output, initial_client, calls_output, response_output, segment_request}
+use Rattle.nr_reduce.specs.Client.{client_rules, client_output, initial_client, calls_output, call_output, outstanding_of, client_end, response_output, segment_request}
 use Rattle.nr_reduce.specs.Server.{server_rules, initial_server}
 use Rattle.nr_reduce.specs.ClientState.{ClientState, memory_at}
 use Rattle.nr_reduce.specs.ServerState.{ServerState}
@@ -28,7 +31,7 @@ use Rattle.nr_reduce.specs.Run.{client, server, grants_of, placed_bytes}
 use Rattle.nr_reduce.proofs.OfferedMemory.{none-found}
 use Rattle.nr_reduce.proofs.Touches.{client_allows}
 use Rattle.nr_reduce.proofs.OwnStags.{AreNumbered, own-stags, client-numbers, server-numbers}
-use Rattle.nr_laws.specs.PlacedBytes.{IsBrought, HoldsAllowed, ClientBytesAreAllowed, ServerBytesAreAllowed, ReadsAreAllowed}
+use Rattle.nr_laws.specs.PlacedBytes.{IsBrought, HoldsAllowed, ClientBytesAreAllowed, ServerBytesAreAllowed, ReadsAreAllowed, IsOwnOutput, AnswersRequest, NothingElseIsDisclosed}
 use Rattle.nr_laws.proofs.Memory.{Gathering}
 use Rattle.nr_laws.proofs.ClientMemory.{client-gathers}
 use Rattle.nr_laws.proofs.ServerMemory.{server-gathers}
@@ -116,7 +119,7 @@ goes-on {S} rules r e stays = by r.ended refl stays
     by (Some end) is stays = absurd (let t : Some end ≡ None = stays in cc)
 
 -- a Read Request is an access to what it asks for
-request-access : (s : Segment) (q : ReadRequest) → read_request_of s ≡ Some q → ending.access_of s ≡ Some (record { right = Fetch; stag = q.stag; to = q.to; len = q.size })
+pub request-access : (s : Segment) (q : ReadRequest) → read_request_of s ≡ Some q → ending.access_of s ≡ Some (record { right = Fetch; stag = q.stag; to = q.to; len = q.size })
 request-access (Tagged last opcode stag to payload) q e = absurd cc
 request-access (Untagged last opcode w queue msn offset payload) q e = by (eqb opcode OPCODE_READ_REQUEST) e
   where
@@ -199,3 +202,72 @@ reads_are_allowed opened link run earlier later f segment request is behind own 
 
     access : Access
     access = record { right = Fetch; stag = request.stag; to = request.to; len = request.size }
+
+-- ---- What else it writes
+
+own-none : (opened : LinkParameters) → IsOwnOutput opened []
+own-none opened = inl (1, [], refl)
+
+own-by : (opened : LinkParameters) (bytes more : List ℕ) → bytes ≡ more → IsOwnOutput opened more → IsOwnOutput opened bytes
+own-by opened bytes more e h = subst (λ (xs : List ℕ). IsOwnOutput opened xs) (sym e) h
+
+pub nothing_else_is_disclosed : NothingElseIsDisclosed
+unfolding client_output
+nothing_else_is_disclosed opened link run earlier later event is = by_ended before.ended refl
+  where
+    before : EndState ClientState
+    before = end_state_after (client_rules opened) (initial_client opened) earlier
+
+    k : ClientState
+    k = before.state
+
+    output : Option Stop → List ℕ
+    output o = output_for_in (client_rules opened) k event o
+
+    sent : (a : List ℕ) (b : Bool) → IsOwnOutput opened a → IsOwnOutput opened (cond b a [])
+    sent a true h = h
+    sent a false h = own-none opened
+
+    frame : (f : Frame) → event ≡ FrameReceived f → before.ended ≡ None → client_end k (FrameReceived f) ≡ None → IsOwnOutput opened (client_output opened k (FrameReceived f)) ⊎ AnswersRequest opened before event
+    frame f same live none = by_hello (is_hello f) refl
+      where
+        stays : (next_end_state (client_rules opened) before (FrameReceived f)).ended ≡ None
+        stays = ap (λ (o : Option Stop). (next_end_state_in (client_rules opened) k (FrameReceived f) o).ended) live ∙ ap (λ (o : Option Stop). (next_end_state_by (client_rules opened) k (FrameReceived f) o).ended) none
+
+        by_request : (s : Segment) → frame_segment f ≡ Ok s → is_hello f ≡ false → (o : Option ReadRequest) → read_request_of s ≡ o → IsOwnOutput opened (response_output k f.end o) ⊎ AnswersRequest opened before event
+        by_request s own behind None asks = inl (own-none opened)
+        by_request s own behind (Some q) asks = inr (record {
+          frame = f;
+          segment = s;
+          request = q;
+          is = same;
+          behind_hello = behind;
+          is_segment = own;
+          asks = asks;
+          disclosed = reads_are_allowed opened link run earlier later f s q (is ∙ ap (λ (e : Event). earlier ++ e ∷ later) same) behind own asks stays;
+        })
+
+        by_segment : (r : Result Segment ℕ) → frame_segment f ≡ r → is_hello f ≡ false → IsOwnOutput opened (response_output k f.end (segment_request r)) ⊎ AnswersRequest opened before event
+        by_segment (Err reason) own behind = inl (own-none opened)
+        by_segment (Ok s) own behind = by_request s own behind (read_request_of s) refl
+
+        by_hello : (b : Bool) → is_hello f ≡ b → IsOwnOutput opened (cond b (calls_output opened 1 k.outstanding) (response_output k f.end (segment_request (frame_segment f)))) ⊎ AnswersRequest opened before event
+        by_hello true e = inl (inl (1, k.outstanding, refl))
+        by_hello false e = by_segment (frame_segment f) refl e
+
+    by_event : (e : Event) → event ≡ e → before.ended ≡ None → client_end k e ≡ None → IsOwnOutput opened (client_output opened k e) ⊎ AnswersRequest opened before event
+    by_event (FrameReceived f) same live none = frame f same live none
+    by_event (CallSubmitted place a) same live none =
+        inl (sent (call_output opened (k.calls_accepted + 1) (outstanding_of k a)) k.has_hello
+        (inl (k.calls_accepted + 1, outstanding_of k a ∷ [], sym (append-nil (call_output opened (k.calls_accepted + 1) (outstanding_of k a))))))
+    by_event (MemoryRevoked place xid) same live none = inl (own-none opened)
+    by_event (CallExecuted call) same live none = inl (own-none opened)
+    by_event QueueWritten same live none = inl (own-none opened)
+
+    by_why : (o : Option Stop) → client_end k event ≡ o → before.ended ≡ None → IsOwnOutput opened (output_for_by (client_rules opened) k event o) ⊎ AnswersRequest opened before event
+    by_why None none live = by_event event refl live none
+    by_why (Some end) none live = inl (inr (end, refl))
+
+    by_ended : (o : Option Stop) → before.ended ≡ o → IsOwnOutput opened (output_for_in (client_rules opened) k event o) ⊎ AnswersRequest opened before event
+    by_ended None live = by_why (client_end k event) refl live
+    by_ended (Some end) live = inl (own-none opened)

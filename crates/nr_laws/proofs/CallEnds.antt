@@ -31,12 +31,11 @@ use Rattle.nr_laws.proofs.ServerEnds.{hello-goes}
 
 -- ---- The frame that ends a server for a call
 
-pub record RefusedAt (opened : LinkParameters) (link : ℕ) (run : List Mark) : Type 0 where
+pub record RefusedAt (opened : LinkParameters) (link : ℕ) (run : List Mark) (reason : ℕ) : Type 0 where
   pub earlier : List Event
   pub frame : Frame
   pub later : List Event
   pub segment : Segment
-  pub reason : ℕ
   pub is : events link Responder run ≡ earlier ++ FrameReceived frame ∷ later
   pub behind : is_hello frame ≡ false
   pub is_segment : frame_segment frame ≡ Ok segment
@@ -51,7 +50,7 @@ reason-same : (a b n m : ℕ) → Some (ends.Bad a n) ≡ Some (ends.Bad b m) �
 reason-same a b n m e = cc
 
 refused-frame : (opened : LinkParameters) (link : ℕ) (run : List Mark) (es : List Event) (f : Frame) (more : List Event) (at reason : ℕ) → events link Responder run ≡ es ++ FrameReceived f ∷ more
-    → (end_state_after (server_rules opened) (initial_server opened) es).ended ≡ None → FrameGood f → IsCallReason reason → server_end opened (server_by opened es) (FrameReceived f) ≡ Some (ends.Bad at reason) → RefusedAt opened link run
+    → (end_state_after (server_rules opened) (initial_server opened) es).ended ≡ None → FrameGood f → IsCallReason reason → server_end opened (server_by opened es) (FrameReceived f) ≡ Some (ends.Bad at reason) → RefusedAt opened link run reason
 unfolding server_end
 refused-frame opened link run es f more at reason all live (inl h) own e =
     absurd (none-some (ends.Bad at reason) (server_end opened (server_by opened es) (FrameReceived f)) (hello-goes opened (server_by opened es) f h.0 h.1) e)
@@ -64,7 +63,7 @@ refused-frame opened link run es f more at reason all live (inr (s, behind, is))
     grants : List Grant
     grants = region_grants f.end k.regions
 
-    by_refusal : frame_end (readiness opened k) grants f ≡ None → (o : Option ℕ) → (frame_effect k f).refusal ≡ o → refusal_end f o ≡ Some (ends.Bad at reason) → RefusedAt opened link run
+    by_refusal : frame_end (readiness opened k) grants f ≡ None → (o : Option ℕ) → (frame_effect k f).refusal ≡ o → refusal_end f o ≡ Some (ends.Bad at reason) → RefusedAt opened link run reason
     by_refusal fits None refusal e = absurd cc
     by_refusal fits (Some n) refusal e =
         let same : n ≡ reason = reason-same f.at at n reason e in
@@ -73,20 +72,19 @@ refused-frame opened link run es f more at reason all live (inr (s, behind, is))
           frame = f;
           later = more;
           segment = s;
-          reason = n;
           is = all;
           behind = behind;
           is_segment = is;
           live = live;
           fits = fits;
-          cause = refused-by k f s n (subst IsCallReason (sym same) own) is refusal;
+          cause = subst (λ (x : ℕ). RefusedBy k f s x) same (refused-by k f s n (subst IsCallReason (sym same) own) is refusal);
         }
 
-    by : (o : Option Stop) → frame_end (readiness opened k) grants f ≡ o → or_refusal k f o ≡ Some (ends.Bad at reason) → RefusedAt opened link run
+    by : (o : Option Stop) → frame_end (readiness opened k) grants f ≡ o → or_refusal k f o ≡ Some (ends.Bad at reason) → RefusedAt opened link run reason
     by (Some end) fits e = absurd (frame-other (readiness opened k) grants f s at reason is own (fits ∙ e))
     by None fits e = by_refusal fits (frame_effect k f).refusal refl e
 
-pub refused-at : (opened : LinkParameters) (link : ℕ) (run : List Mark) → IsTyped run → MatchedSoFar opened link run → (at reason : ℕ) → IsCallReason reason → (server opened link run).ended ≡ Some (ends.Bad at reason) → RefusedAt opened link run
+pub refused-at : (opened : LinkParameters) (link : ℕ) (run : List Mark) → IsTyped run → MatchedSoFar opened link run → (at reason : ℕ) → IsCallReason reason → (server opened link run).ended ≡ Some (ends.Bad at reason) → RefusedAt opened link run reason
 unfolding server server_end
 refused-at opened link run typed far at reason own e =
     let es : List Event = events link Responder run in
@@ -96,7 +94,7 @@ refused-at opened link run typed far at reason own e =
     by r.earlier r.event r.later r.is r.live good.1 r.ends
   where
     by : (es : List Event) (x : Event) (more : List Event) → events link Responder run ≡ es ++ x ∷ more → (end_state_after (server_rules opened) (initial_server opened) es).ended ≡ None
-        → ServerGood (end_state_after (server_rules opened) (initial_server opened) es) x → server_end opened (server_by opened es) x ≡ Some (ends.Bad at reason) → RefusedAt opened link run
+        → ServerGood (end_state_after (server_rules opened) (initial_server opened) es) x → server_end opened (server_by opened es) x ≡ Some (ends.Bad at reason) → RefusedAt opened link run reason
     by es (FrameReceived f) more is live good e = refused-frame opened link run es f more at reason is live good own e
     by es (CallSubmitted p a) more is live good e = absurd cc
     by es (MemoryRevoked p xid) more is live good e = absurd cc

@@ -20,7 +20,6 @@ use Rattle.nr_reduce.specs.declared.outline.Plan.{Plan}
 use Rattle.nr_reduce.specs.History.{ExecutedCall}
 use Rattle.nr_reduce.specs.Opening.{IsOpened}
 use Rattle.nr_reduce.specs.IsPlain.{IsPlain, xid_of_reply}
-use Rattle.nr_reduce.specs.Journal.{PlainMark, Plainly}
 use Rattle.nr_reduce.specs.PlainJournal.{journal}
 use Rattle.nr_reduce.specs.Events.{Event, events}
 use Rattle.nr_reduce.specs.Events.Event.{FrameReceived}
@@ -42,7 +41,7 @@ use Rattle.nr_reduce.proofs.OwnStags.{ClientNumbers, client-numbers}
 use Rattle.nr_laws.specs.MatchedSoFar.{MatchedSoFar}
 use Rattle.nr_laws.specs.Typed.{TypedMark, IsTyped}
 use Rattle.nr_laws.specs.Payloads.{HasPlan}
-use Rattle.nr_laws.specs.PlainReplies.{server_with}
+use Rattle.nr_laws.specs.PlainReplies.{server_with, PlainlyOn, PlainOnMark}
 use Rattle.nr_laws.proofs.Along.{GoesOn, goes-behind, places_after}
 use Rattle.nr_laws.proofs.Outputs.Output.{ASegment}
 use Rattle.nr_laws.proofs.ServerAlong.{outs_of, SaidAnswer}
@@ -83,7 +82,7 @@ same-xid (calls.Version2 xid prog vers proc cred args_at) = refl
 same-xid (calls.Other xid rpcvers) = refl
 
 pub answer-ends-none : (reply_to : List Entry → Moment → List ℕ → Option (List ℕ)) (adds : Moment → List ℕ → List ℕ → List Entry) (opened : LinkParameters) (link : ℕ) (run : List Mark) (reason : ℕ) → IsOpened opened → IsTyped run → MatchedSoFar opened link run
-    → Plainly (server_with reply_to adds) run → IsPlain (server_with reply_to adds)
+    → PlainlyOn (server_with reply_to adds) link run → IsPlain (server_with reply_to adds)
     → (d : EndsFor opened link run reason) → JudgedBy (client_by opened d.earlier).state d.frame.end d.message reason → SaidAnswer opened (events link Responder run) d.before d.message → ⊥
 unfolding lists_of
 answer-ends-none reply_to adds opened link run reason opens typed far plainly plain d j s =
@@ -220,7 +219,7 @@ answer-ends-none reply_to adds opened link run reason opens typed far plainly pl
 
     -- the reply has the call's xid
     replied : (server_with reply_to adds).Replies (journal (server_with reply_to adds) m.earlier) e.moment e.payload e.reply
-    replied = at-mark (PlainMark (server_with reply_to adds)) run m.earlier (execute_mark link e) m.later m.is plainly
+    replied = at-mark (PlainOnMark (server_with reply_to adds) link) run m.earlier (execute_mark link e) m.later m.is plainly refl
 
     reply_xid : xid_of_reply (reply_of e.reply) ≡ Some j.call.xid
     reply_xid =

@@ -164,3 +164,5 @@ pub mod AllowedAccesses
 pub mod NotDenied
 pub mod CallsAtFrames
 pub mod EndingEvents
+pub mod SinkRegions
+pub mod OfferedChunks

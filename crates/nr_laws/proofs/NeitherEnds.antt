@@ -10,7 +10,6 @@ use Rattle.nr_reduce.specs.declared.mark.Mark.TheVariants as marks
 use Rattle.nr_reduce.specs.declared.mark.LinkParameters.{LinkParameters}
 use Rattle.nr_reduce.specs.Opening.{IsOpened}
 use Rattle.nr_reduce.specs.IsPlain.{IsPlain}
-use Rattle.nr_reduce.specs.Journal.{PlainMark, Plainly}
 use Rattle.nr_reduce.specs.Events.{Event, events, events_at}
 use Rattle.nr_reduce.specs.EndRules.{EndState, end_state_after}
 use Rattle.nr_reduce.specs.ClientState.{ClientState}
@@ -20,8 +19,8 @@ use Rattle.nr_reduce.specs.Server.{server_rules}
 use Rattle.nr_reduce.specs.Run.{client, server, end_of_side}
 use Rattle.nr_reduce.proofs.Steps.{AtEachMark-first, client-one, server-one}
 use Rattle.nr_laws.specs.EndCauses.{KeepLaws, IsReplyEnd, IsDenied}
-use Rattle.nr_laws.specs.PlainReplies.{server_with}
-use Rattle.nr_laws.specs.Stays.{NotRevokedMark, HasNoRevoke, ConveyedMark, AreConveyedOrRefused, MatchedLinksStay, MatchedCallsComplete}
+use Rattle.nr_laws.specs.PlainReplies.{server_with, PlainlyOn, PlainOnMark}
+use Rattle.nr_laws.specs.Stays.{NotRevokedMark, HasNoRevoke, ConveyedMark, AreConveyedOrRefused, MatchedLinksStay, MatchedCallsComplete, NoAccessIsDenied, ClientsStay}
 use Rattle.nr_laws.specs.Typed.{TypedMark, IsTyped}
 use Rattle.nr_laws.proofs.AgreeingRuns.{other-events}
 use Rattle.nr_laws.proofs.FirstEnds.{client-ends-for-replies}
@@ -67,7 +66,7 @@ record AreAsked (reply_to : List Entry → Moment → List ℕ → Option (List 
   laws : KeepLaws opened link run
   kept : HasNoRevoke link run
   conveyed : AreConveyedOrRefused opened link run
-  plainly : Plainly (server_with reply_to adds) run
+  plainly : PlainlyOn (server_with reply_to adds) link run
 
 asked-before : (reply_to : List Entry → Moment → List ℕ → Option (List ℕ)) (adds : Moment → List ℕ → List ℕ → List Entry) (opened : LinkParameters) (link : ℕ) (run more : List Mark) → AreAsked reply_to adds opened link (run ++ more) → AreAsked reply_to adds opened link run
 asked-before reply_to adds opened link run more h = record {
@@ -75,7 +74,7 @@ asked-before reply_to adds opened link run more h = record {
   laws = laws-kept-before opened link run more h.laws;
   kept = AtEachMark-first (NotRevokedMark link) [] run more h.kept;
   conveyed = AtEachMark-first (ConveyedMark opened link) [] run more h.conveyed;
-  plainly = AtEachMark-first (PlainMark (server_with reply_to adds)) [] run more h.plainly;
+  plainly = AtEachMark-first (PlainOnMark (server_with reply_to adds) link) [] run more h.plainly;
 }
 
 -- ---- From mark to mark
@@ -135,3 +134,20 @@ matched-calls-complete reply_to adds opened link run opens typed full kept conve
     let laws : KeepLaws opened link run = record { client = full.asked.each; server = full.served.each; matched = full.matched; grant = full.grant } in
     let stays = links-stay reply_to adds opened link run opens typed laws kept conveyed plain plainly in
     calls-complete opened link run typed full.asked full.served full.matched (record { client_stays = stays.0; server_stays = stays.1; nothing_waits = nothing_waits })
+
+pub no-access-denied : NoAccessIsDenied
+no-access-denied opened link run opens typed laws kept down end up = by (client-ends-for-replies opened link run opens typed laws down end up)
+  where
+    by : IsReplyEnd end ⊎ IsDenied end → IsReplyEnd end
+    by (inl reply) = reply
+    by (inr (stag, offset, why, is)) = absurd (client-not-denied opened link run opens typed laws kept down stag offset why (up ∙ ap (λ (x : End). Some x) is))
+
+pub clients-stay : ClientsStay
+clients-stay reply_to adds opened link run opens typed laws kept plain plainly down = by (end_of_side opened link Initiator run) refl
+  where
+    ends : (end : End) → end_of_side opened link Initiator run ≡ Some end → IsReplyEnd end → ⊥
+    ends end up (at, reason, is, own) = client-reads-replies reply_to adds opened link run opens typed (laws-so-far opened link run laws) plainly plain at reason own (up ∙ ap (λ (x : End). Some x) is)
+
+    by : (o : Option End) → end_of_side opened link Initiator run ≡ o → end_of_side opened link Initiator run ≡ None
+    by None e = e
+    by (Some end) e = absurd (ends end e (no-access-denied opened link run opens typed laws kept down end e))

@@ -1,5 +1,5 @@
 -- On a matched link what a server makes of a call never ends it.
-use Rattle.std.proofs.Common.{◌≡◌, ℕ, true, List, [], ◌∷◌, length, Option, None, Some, Result, Ok, refl, sym, ap, subst, ◌∙◌, arith}
+use Rattle.std.proofs.Common.{◌≡◌, ℕ, true, List, [], ◌∷◌, length, Option, None, Some, Result, Ok, Err, is_ok, inl, inr, refl, sym, ap, subst, ◌∙◌, arith}
 use Rattle.nr_regions.specs.declared.denied.Denied.{Denied}
 use Rattle.nr_wire.specs.declared.hello.Side.TheVariants.{Initiator, Responder}
 use Rattle.nr_wire.specs.Segment.{Segment}
@@ -17,13 +17,18 @@ use Rattle.nr_reduce.specs.Opening.{IsOpened}
 use Rattle.nr_reduce.specs.OfferedRegions.{region_grants}
 use Rattle.nr_reduce.specs.ClientState.{call_payload}
 use Rattle.nr_reduce.specs.ServerState.{ServerState, PendingCall}
-use Rattle.nr_reduce.specs.ServerMessages.{payload_of, by_payload}
-use Rattle.nr_reduce.specs.ServerMessages.CallVerdict.{Refuses}
+use Rattle.nr_reduce.specs.ServerMessages.{payload_of, by_payload, by_head}
+use Rattle.nr_rpc.specs.declared.head.CallHead.{CallHead}
+use Rattle.nr_rpc.specs.Reading.{call_of}
+use Rattle.nr_link.specs.declared.end.End.TheVariants as ends
+use Rattle.nr_reduce.specs.ServerMessages.{CallVerdict}
+use Rattle.nr_reduce.specs.ServerMessages.CallVerdict.{Refuses, IsReady}
 use Rattle.nr_reduce.specs.ServerFrames.{with_access}
 use Rattle.nr_reduce.specs.Server.{readiness}
 use Rattle.nr_reduce.specs.Run.{end_of_side}
 use Rattle.nr_reduce.specs.RunLaws.{server_by, ends_response}
-use Rattle.nr_laws.specs.EndCauses.{KeepLaws, IsCallEnd}
+use Rattle.nr_laws.specs.EndCauses.{KeepLaws, IsCallReason, IsCallEnd}
+use Rattle.nr_link.specs.Reasons.{REASON_HEAD, REASON_XID}
 use Rattle.nr_laws.specs.MatchedSoFar.{MatchedSoFar}
 use Rattle.nr_laws.specs.Payloads.{form_conveyed}
 use Rattle.nr_laws.specs.Stays.{IsRefusedMessage, HasCallHead, ConveyedMark, AreConveyedOrRefused}
@@ -66,19 +71,53 @@ conveyed-refuses opened link run typed conveyed c reason o x e =
     conveyed-head-there w.xid w.call w.form _ (omega (arith, small)) (submit_typed opened link run typed w).2 w.accepted.writable given (λ refused. x.accepted (subst IsRefusedMessage (sym w.message_is) refused)) in
     conveyed-ready w.xid w.call w.form c reason (omega (arith, small)) (submit_typed opened link run typed w).2 w.accepted.writable (submit_typed opened link run typed w).0 (x.xid ∙ submit_xid opened link run typed w) o x.conveyed (subst HasCallHead (sym x.conveyed) head) e
 
-not-refused : (opened : LinkParameters) (link : ℕ) (run : List Mark) → IsTyped run → MatchedSoFar opened link run → AreConveyedOrRefused opened link run → RefusedAt opened link run → ⊥
-not-refused opened link run typed far conveyed r = by r.cause
+not-refused : (opened : LinkParameters) (link : ℕ) (run : List Mark) (reason : ℕ) → IsTyped run → MatchedSoFar opened link run → ((c : PendingCall) (o : Option (List ℕ)) → ConveyedAt opened link run c o → by_payload c o ≡ Refuses reason → ⊥) → RefusedAt opened link run reason → ⊥
+not-refused opened link run reason typed far refuses r = by r.cause
   where
     k : ServerState
     k = server_by opened r.earlier
 
-    by : RefusedBy k r.frame r.segment r.reason → ⊥
+    by : RefusedBy k r.frame r.segment reason → ⊥
     by (AtMessage message c whole v read e) =
-        conveyed-refuses opened link run typed conveyed c r.reason (payload_of k r.frame.end c)
+        refuses c (payload_of k r.frame.end c)
         (conveyed-by-message opened link run typed far.asked far.served far.matched r.earlier r.frame r.later r.segment r.is r.behind r.is_segment r.live message c whole v read) e
     by (AtRead q rest c ends reads found read e) =
-        conveyed-refuses opened link run typed conveyed c r.reason (payload_of (with_access k r.frame r.segment) r.frame.end c)
+        refuses c (payload_of (with_access k r.frame r.segment) r.frame.end c)
         (conveyed-by-read opened link run typed far.asked far.served far.matched r.earlier r.frame r.later r.segment r.is r.behind r.is_segment r.live (response-allowed opened k r.frame r.segment r.is_segment ends r.fits) q rest c ends reads found read) e
+
+abbrev reason_in : CallVerdict → ℕ
+reason_in (Refuses reason) = reason
+reason_in (IsReady r) = 0
+
+-- a payload with a head is refused for its xid alone
+head-there : (c : PendingCall) (o : Option (List ℕ)) → by_payload c o ≡ Refuses REASON_XID → HasCallHead o
+head-there c None e = (let n : REASON_HEAD ≡ REASON_XID = ap reason_in e in omega (arith, n))
+head-there c (Some q) e = by (call_of q) e
+  where
+    by : (r : Result CallHead ℕ) → by_head c q r ≡ Refuses REASON_XID → is_ok r ≡ true
+    by (Ok head) e = refl
+    by (Err at) e = absurd (let n : REASON_HEAD ≡ REASON_XID = ap reason_in e in omega (arith, n))
+
+-- what a call conveys never has another xid
+own-xid : (opened : LinkParameters) (link : ℕ) (run : List Mark) → IsTyped run → (c : PendingCall) (o : Option (List ℕ)) → ConveyedAt opened link run c o → by_payload c o ≡ Refuses REASON_XID → ⊥
+own-xid opened link run typed c o x e =
+    let w = x.submitted in
+    let small = w.accepted.xids in
+    conveyed-ready w.xid w.call w.form c REASON_XID (omega (arith, small)) (submit_typed opened link run typed w).2 w.accepted.writable (submit_typed opened link run typed w).0 (x.xid ∙ submit_xid opened link run typed w) o x.conveyed (head-there c o e) e
+
+-- so a server that ends first ends for a payload without a call head
+pub server-ends-for-heads : (opened : LinkParameters) (link : ℕ) (run : List Mark) → IsOpened opened → IsTyped run → KeepLaws opened link run → end_of_side opened link Initiator run ≡ None
+    → (end : End) → end_of_side opened link Responder run ≡ Some end → (at : ℕ) × (end ≡ ends.Bad at REASON_HEAD)
+unfolding end_of_side
+server-ends-for-heads opened link run opens typed laws up end down =
+    let c : IsCallEnd end = server-ends-for-calls opened link run opens typed laws up end down in
+    (c.0, c.2 ∙ ap (λ (n : ℕ). ends.Bad c.0 n) (by c.0 c.1 c.3 (down ∙ ap (λ (x : End). Some x) c.2)))
+  where
+    by : (at reason : ℕ) → IsCallReason reason → end_of_side opened link Responder run ≡ Some (ends.Bad at reason) → reason ≡ REASON_HEAD
+    by at reason (inl is) e = is
+    by at reason (inr is) e =
+        let same : Some (ends.Bad at reason) ≡ Some (ends.Bad at REASON_XID) = ap (λ (n : ℕ). Some (ends.Bad at n)) is in
+        absurd (not-refused opened link run REASON_XID typed (laws-so-far opened link run laws) (own-xid opened link run typed) (refused-at opened link run typed (laws-so-far opened link run laws) at REASON_XID (inr refl) (e ∙ same)))
 
 -- On a matched link whose client hasn't ended, nor has the server.
 pub server-stays : (opened : LinkParameters) (link : ℕ) (run : List Mark) → IsOpened opened → IsTyped run → KeepLaws opened link run → AreConveyedOrRefused opened link run → end_of_side opened link Initiator run ≡ None
@@ -87,4 +126,4 @@ unfolding end_of_side
 server-stays opened link run opens typed laws conveyed up end down =
     let c : IsCallEnd end = server-ends-for-calls opened link run opens typed laws up end down in
     let far = laws-so-far opened link run laws in
-    not-refused opened link run typed far conveyed (refused-at opened link run typed far c.0 c.1 c.3 (down ∙ ap (λ (x : End). Some x) c.2))
+    not-refused opened link run c.1 typed far (λ p o x e. conveyed-refuses opened link run typed conveyed p c.1 o x e) (refused-at opened link run typed far c.0 c.1 c.3 (down ∙ ap (λ (x : End). Some x) c.2))

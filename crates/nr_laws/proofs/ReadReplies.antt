@@ -9,7 +9,6 @@ use Rattle.nr_reduce.specs.declared.mark.Mark.{Mark}
 use Rattle.nr_reduce.specs.declared.mark.LinkParameters.{LinkParameters}
 use Rattle.nr_reduce.specs.Opening.{IsOpened}
 use Rattle.nr_reduce.specs.IsPlain.{IsPlain}
-use Rattle.nr_reduce.specs.Journal.{Plainly}
 use Rattle.nr_reduce.specs.Events.{events}
 use Rattle.nr_reduce.specs.ClientState.{ClientState}
 use Rattle.nr_reduce.specs.ServerState.{credit_word}
@@ -17,7 +16,7 @@ use Rattle.nr_reduce.specs.Run.{end_of_side}
 use Rattle.nr_reduce.specs.RunLaws.{server_by}
 use Rattle.nr_laws.specs.EndCauses.{IsReplyReason}
 use Rattle.nr_laws.specs.MatchedSoFar.{MatchedSoFar}
-use Rattle.nr_laws.specs.PlainReplies.{server_with}
+use Rattle.nr_laws.specs.PlainReplies.{server_with, PlainlyOn}
 use Rattle.nr_laws.specs.Typed.{IsTyped}
 use Rattle.nr_laws.proofs.Outcomes.{client_by}
 use Rattle.nr_laws.proofs.Replied.{error-kind, error-header}
@@ -31,7 +30,7 @@ use Rattle.nr_laws.proofs.JudgedAnswers.{answer-ends-none}
 -- On a matched link what a client makes of a message never ends it, where its calls are answered as a plain server answers: the lists of an
 -- answer are those that its call offered, and it conveys a reply with an RPC reply head of the call's xid.
 pub client-reads-replies : (reply_to : List Entry → Moment → List ℕ → Option (List ℕ)) (adds : Moment → List ℕ → List ℕ → List Entry) (opened : LinkParameters) (link : ℕ) (run : List Mark) → IsOpened opened → IsTyped run → MatchedSoFar opened link run
-    → Plainly (server_with reply_to adds) run → IsPlain (server_with reply_to adds) → (at reason : ℕ) → IsReplyReason reason → end_of_side opened link Initiator run ≡ Some (ends.Bad at reason) → ⊥
+    → PlainlyOn (server_with reply_to adds) link run → IsPlain (server_with reply_to adds) → (at reason : ℕ) → IsReplyReason reason → end_of_side opened link Initiator run ≡ Some (ends.Bad at reason) → ⊥
 unfolding end_of_side
 client-reads-replies reply_to adds opened link run opens typed far plainly plain at reason bad e = by d.said
   where

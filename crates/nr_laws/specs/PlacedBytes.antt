@@ -1,22 +1,25 @@
 -- What a side's memory holds, and what it discloses, is by allowed accesses alone (RFC 5040 section 5).
-use Rattle.std.specs.Prelude.{◌≡◌, ℕ, ◌-◌, ◌≤◌, false, List, [], ◌∷◌, ◌++◌, length, take, drop, None, Some, Ok, ◌⊎◌, Contains, slice_get}
+use Rattle.std.specs.Prelude.{◌≡◌, ℕ, ◌-◌, ◌≤◌, false, List, [], ◌∷◌, ◌++◌, length, map, take, drop, None, Some, Ok, ◌⊎◌, Contains, slice_get}
 use Rattle.nr_wire.specs.declared.hello.Side.TheVariants.{Initiator, Responder}
 use Rattle.nr_wire.specs.Segment.{Segment}
 use Rattle.nr_regions.specs.declared.right.Right.TheVariants.{Fetch}
 use Rattle.nr_regions.specs.Access.{Allowed, Grant, TaggedSegment, access_of}
 use Rattle.nr_link.specs.Frames.{Frame, is_hello}
 use Rattle.nr_link.specs.ReceiveState.{ReadRequest, read_request_of}
-use Rattle.nr_link.specs.Ending.{frame_segment, tagged_access}
+use Rattle.nr_link.specs.declared.end.End.{End}
+use Rattle.nr_link.specs.Ending.{frame_segment, tagged_access, final_output}
 use Rattle.nr_link.specs.Output.{read_response}
 use Rattle.nr_reduce.specs.declared.mark.Mark.{Mark}
 use Rattle.nr_reduce.specs.declared.mark.LinkParameters.{LinkParameters}
 use Rattle.nr_reduce.specs.Events.{Event, events}
-use Rattle.nr_reduce.specs.Events.Event.{FrameReceived}
+use Rattle.nr_reduce.specs.Events.Event.{FrameReceived, CallSubmitted}
+use Rattle.nr_reduce.specs.History.{AcceptedCall}
+use Rattle.nr_reduce.specs.Plans.{buffers}
 use Rattle.nr_reduce.specs.EndRules.{Rules, EndState, output_for, next_end_state, end_state_after}
 use Rattle.nr_reduce.specs.OfferedRegions.{Region, region_grants}
-use Rattle.nr_reduce.specs.Client.{client_rules, initial_client}
+use Rattle.nr_reduce.specs.Client.{client_rules, initial_client, outstanding_of, region_of, calls_output}
 use Rattle.nr_reduce.specs.Server.{server_rules, initial_server}
-use Rattle.nr_reduce.specs.ClientState.{ClientState, memory_at}
+use Rattle.nr_reduce.specs.ClientState.{ClientState, OutstandingCall, memory_at}
 use Rattle.nr_reduce.specs.Run.{client, server, grants_of, placed_bytes}
 
 -- A frame brought the byte that the region under an STag has at a place: the frame doesn't end the side, its tagged segment is
@@ -66,3 +69,52 @@ ReadsAreAllowed = (opened : LinkParameters) (link : ℕ) (run : List Mark) (earl
     (let before : EndState ClientState = end_state_after (client_rules opened) (initial_client opened) earlier in
     events link Initiator run ≡ earlier ++ FrameReceived f ∷ later → is_hello f ≡ false → frame_segment f ≡ Ok segment → read_request_of segment ≡ Some request →
     (next_end_state (client_rules opened) before (FrameReceived f)).ended ≡ None → IsDisclosed opened before f request)
+
+-- Output that isn't read from memory: the Sends of some calls, in order, or the last output of a side.
+abbrev pub IsOwnOutput : LinkParameters → List ℕ → Type 0
+IsOwnOutput opened bytes =
+    ((msn : ℕ) × (calls : List OutstandingCall) × (bytes ≡ calls_output opened msn calls)) ⊎ ((end : End) × (bytes ≡ final_output end))
+
+-- the event is the frame of a Read Request that is answered by an allowed access
+pub record AnswersRequest (opened : LinkParameters) (before : EndState ClientState) (event : Event) : Type 0 where
+  pub frame : Frame
+  pub segment : Segment
+  pub request : ReadRequest
+  pub is : event ≡ FrameReceived frame
+  pub behind_hello : is_hello frame ≡ false
+  pub is_segment : frame_segment frame ≡ Ok segment
+  pub asks : read_request_of segment ≡ Some request
+  pub disclosed : IsDisclosed opened before frame request
+
+-- On every link, whatever the server sends: all else that a client writes is of its own.
+abbrev pub NothingElseIsDisclosed : Type 0
+NothingElseIsDisclosed = (opened : LinkParameters) (link : ℕ) (run : List Mark) (earlier later : List Event) (event : Event) →
+    (let before : EndState ClientState = end_state_after (client_rules opened) (initial_client opened) earlier in
+    events link Initiator run ≡ earlier ++ event ∷ later → IsOwnOutput opened (output_for (client_rules opened) before event) ⊎ AnswersRequest opened before event)
+
+-- A region is a chunk of a call that was accepted among these events, under the STag and with the right of that chunk, from there on: but
+-- for where it is closed.
+pub record IsChunkOfCall (opened : LinkParameters) (received : List Event) (r : Region) : Type 0 where
+  pub earlier : List Event
+  pub later : List Event
+  pub place : ℕ
+  pub call : AcceptedCall
+  pub is_submitted : received ≡ earlier ++ CallSubmitted place call ∷ later
+  pub chunk : (let k : ClientState = (end_state_after (client_rules opened) (initial_client opened) earlier).state in
+      Contains (map (region_of call.xid place) (buffers k.stag (outstanding_of k call).plan)) (record r { until = None }))
+
+abbrev pub RegionsAreChunks : Type 0
+RegionsAreChunks = (opened : LinkParameters) (link : ℕ) (run : List Mark) (r : Region) → Contains (client opened link run).state.regions r → IsChunkOfCall opened (events link Initiator run) r
+
+-- A region of a client lives only while its call is outstanding and its memory isn't taken back: with the message of its call it is closed, and
+-- with a Revoke.
+pub record IsOfOutstanding (k : ClientState) (xid : ℕ) : Type 0 where
+  pub call : OutstandingCall
+  pub there : Contains k.outstanding call
+  pub own : call.xid ≡ xid
+  pub kept : call.is_revoked ≡ false
+
+abbrev pub LiveRegionsAreOfOutstanding : Type 0
+LiveRegionsAreOfOutstanding = (opened : LinkParameters) (link : ℕ) (run : List Mark) (earlier later : List Event) (r : Region) → events link Initiator run ≡ earlier ++ later →
+    (let k : ClientState = (end_state_after (client_rules opened) (initial_client opened) earlier).state in
+    Contains k.regions r → r.until ≡ None → IsOfOutstanding k r.call)

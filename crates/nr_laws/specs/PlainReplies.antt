@@ -1,5 +1,5 @@
 -- A completed call gives its caller the plain server's reply, at the call's place in the one journal.
-use Rattle.std.specs.Prelude.{◌≡◌, ℕ, List, Option, Some}
+use Rattle.std.specs.Prelude.{◌≡◌, ℕ, List, [], Option, Some}
 use Rattle.nr_reduce.specs.declared.call.Call.{Call}
 use Rattle.nr_reduce.specs.declared.call.Form.{Form}
 use Rattle.nr_reduce.specs.declared.call.Outcome.TheVariants as outcomes
@@ -10,7 +10,8 @@ use Rattle.nr_reduce.specs.declared.mark.Mark.TheVariants as marks
 use Rattle.nr_reduce.specs.declared.mark.LinkParameters.{LinkParameters}
 use Rattle.nr_reduce.specs.declared.outline.Plan.{Plan}
 use Rattle.nr_reduce.specs.ClientState.{call_payload}
-use Rattle.nr_reduce.specs.PlainJournal.{PlainServer}
+use Rattle.nr_reduce.specs.PlainJournal.{PlainServer, journal}
+use Rattle.nr_reduce.specs.AtEachMark.{AtEachMark}
 use Rattle.nr_reduce.specs.Journal.{AtPlace, Journaled, Plainly}
 use Rattle.nr_reduce.specs.Opening.{IsOpened}
 use Rattle.nr_laws.specs.MarkAt.{MarkAt}
@@ -41,3 +42,11 @@ RepliesArePlain = (reply_to : List Entry → Moment → List ℕ → Option (Lis
     IsOpened opened → IsTyped run → MatchedSoFar opened link run → Journaled (server_with reply_to adds) J run → Plainly (server_with reply_to adds) run →
     (has : HasPlan opened link run xid plan) →
     MarkAt run before (marks.Done link xid (outcomes.Reply reply)) → HasPlainReply (server_with reply_to adds) J link before xid has.call has.form reply
+
+-- each call of a link is answered as the plain server answers, over the journal of its moment
+abbrev pub PlainOnMark : PlainServer → ℕ → List Mark → Mark → Type 0
+PlainOnMark plain link before (marks.Execute l xid moment payload place reply) = l ≡ link → plain.Replies (journal plain before) moment payload reply
+PlainOnMark plain link before mark = Unit {0}
+
+abbrev pub PlainlyOn : PlainServer → ℕ → List Mark → Type 0
+PlainlyOn plain link run = AtEachMark (PlainOnMark plain link) [] run

@@ -3,6 +3,7 @@ use Rattle.std.specs.Prelude.{◌≡◌, ◌≢◌, ℕ, List, [], Option, None,
 use Rattle.nr_header.specs.Reading.{header_of, HeaderBad}
 use Rattle.nr_rpc.specs.Reading.{call_of}
 use Rattle.nr_wire.specs.declared.hello.Side.TheVariants.{Initiator, Responder}
+use Rattle.nr_link.specs.declared.end.End.{End}
 use Rattle.nr_reduce.specs.declared.call.Form.{Form}
 use Rattle.nr_reduce.specs.declared.call.Form.TheVariants as forms
 use Rattle.nr_reduce.specs.declared.call.Submission.TheVariants as submissions
@@ -15,7 +16,6 @@ use Rattle.nr_reduce.specs.declared.outline.Plan.{Plan}
 use Rattle.nr_reduce.specs.AtEachMark.{AtEachMark}
 use Rattle.nr_reduce.specs.ClientState.{call_payload, plan_for}
 use Rattle.nr_reduce.specs.IsPlain.{IsPlain}
-use Rattle.nr_reduce.specs.Journal.{Plainly}
 use Rattle.nr_reduce.specs.Opening.{IsOpened}
 use Rattle.nr_reduce.specs.PayloadLaws.{given_conveyed}
 use Rattle.nr_reduce.specs.Plans.{call_message}
@@ -23,8 +23,8 @@ use Rattle.nr_reduce.specs.Run.{client, end_of_side}
 use Rattle.nr_reduce.specs.RunLaws.{HasOtherChunk}
 use Rattle.nr_reduce.specs.SoFar.{InFull}
 use Rattle.nr_laws.specs.Completion.{NothingWaits, HaveCompleted}
-use Rattle.nr_laws.specs.EndCauses.{KeepLaws}
-use Rattle.nr_laws.specs.PlainReplies.{server_with}
+use Rattle.nr_laws.specs.EndCauses.{KeepLaws, IsReplyEnd}
+use Rattle.nr_laws.specs.PlainReplies.{server_with, PlainlyOn}
 use Rattle.nr_laws.specs.Typed.{IsTyped}
 
 -- no memory of this link's calls is taken back
@@ -67,11 +67,23 @@ AreConveyedOrRefused opened link run = AtEachMark (ConveyedMark opened link) [] 
 -- what `IsPlain` says: neither side ends.
 abbrev pub MatchedLinksStay : Type 0
 MatchedLinksStay = (reply_to : List Entry → Moment → List ℕ → Option (List ℕ)) (adds : Moment → List ℕ → List ℕ → List Entry) (opened : LinkParameters) (link : ℕ) (run : List Mark) →
-    IsOpened opened → IsTyped run → KeepLaws opened link run → HasNoRevoke link run → AreConveyedOrRefused opened link run → IsPlain (server_with reply_to adds) → Plainly (server_with reply_to adds) run →
+    IsOpened opened → IsTyped run → KeepLaws opened link run → HasNoRevoke link run → AreConveyedOrRefused opened link run → IsPlain (server_with reply_to adds) → PlainlyOn (server_with reply_to adds) link run →
     (end_of_side opened link Initiator run ≡ None) × (end_of_side opened link Responder run ≡ None)
 
 -- So where its laws hold in full and nothing waits, all its calls have completed.
 abbrev pub MatchedCallsComplete : Type 0
 MatchedCallsComplete = (reply_to : List Entry → Moment → List ℕ → Option (List ℕ)) (adds : Moment → List ℕ → List ℕ → List Entry) (opened : LinkParameters) (link : ℕ) (run : List Mark) →
-    IsOpened opened → IsTyped run → InFull opened link run → HasNoRevoke link run → AreConveyedOrRefused opened link run → IsPlain (server_with reply_to adds) → Plainly (server_with reply_to adds) run →
+    IsOpened opened → IsTyped run → InFull opened link run → HasNoRevoke link run → AreConveyedOrRefused opened link run → IsPlain (server_with reply_to adds) → PlainlyOn (server_with reply_to adds) link run →
     NothingWaits opened link run → HaveCompleted opened link run
+
+-- Where no memory is taken back, no access to the memory of a client is denied before its server ends, whatever its offers convey and
+-- whatever is replied.
+abbrev pub NoAccessIsDenied : Type 0
+NoAccessIsDenied = (opened : LinkParameters) (link : ℕ) (run : List Mark) → IsOpened opened → IsTyped run → KeepLaws opened link run → HasNoRevoke link run →
+    end_of_side opened link Responder run ≡ None → (end : End) → end_of_side opened link Initiator run ≡ Some end → IsReplyEnd end
+
+-- Where calls are answered as a plain server answers, the client doesn't end before its server, whatever its offers convey.
+abbrev pub ClientsStay : Type 0
+ClientsStay = (reply_to : List Entry → Moment → List ℕ → Option (List ℕ)) (adds : Moment → List ℕ → List ℕ → List Entry) (opened : LinkParameters) (link : ℕ) (run : List Mark) →
+    IsOpened opened → IsTyped run → KeepLaws opened link run → HasNoRevoke link run → IsPlain (server_with reply_to adds) → PlainlyOn (server_with reply_to adds) link run →
+    end_of_side opened link Responder run ≡ None → end_of_side opened link Initiator run ≡ None

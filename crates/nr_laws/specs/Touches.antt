@@ -6,6 +6,7 @@ use Rattle.nr_regions.specs.Access.{Allowed}
 use Rattle.nr_regions.specs.RegisteredMemory.{Access}
 use Rattle.nr_link.specs.declared.end.End.{End}
 use Rattle.nr_link.specs.Frames.{Frame, is_hello}
+use Rattle.nr_link.specs.ReceiveState.{ReadRequest, read_request_of}
 use Rattle.nr_link.specs.Ending.{frame_segment, access_of}
 use Rattle.nr_reduce.specs.declared.mark.Mark.{Mark}
 use Rattle.nr_reduce.specs.declared.mark.Mark.TheVariants as marks
@@ -44,6 +45,13 @@ ServerIsTouched = (opened : LinkParameters) (link : ℕ) (run : List Mark) (earl
     (let before : EndState ServerState = end_state_after (server_rules opened) (initial_server opened) earlier in
     events link Responder run ≡ earlier ++ FrameReceived f ∷ later → before.ended ≡ None → is_hello f ≡ false → frame_segment f ≡ Ok segment → access_of segment ≡ Some access →
     Allowed (region_grants f.end before.state.regions) access f.end ⊎ StopsAt (server_rules opened) before f (server opened link run))
+
+-- A server offers nothing to be read: a Read Request is where it stops, whatever the client sends.
+abbrev pub ServerRefusesRequests : Type 0
+ServerRefusesRequests = (opened : LinkParameters) (link : ℕ) (run : List Mark) (earlier later : List Event) (f : Frame) (segment : Segment) (request : ReadRequest) →
+    (let before : EndState ServerState = end_state_after (server_rules opened) (initial_server opened) earlier in
+    events link Responder run ≡ earlier ++ FrameReceived f ∷ later → before.ended ≡ None → is_hello f ≡ false → frame_segment f ≡ Ok segment → read_request_of segment ≡ Some request →
+    StopsAt (server_rules opened) before f (server opened link run))
 
 -- the bytes of a Revoke are what the regions of its call held then, and each of these regions holds the same after the run
 pub record StandsStill (opened : LinkParameters) (link : ℕ) (run before : List Mark) (xid : ℕ) (bytes : List ℕ) : Type 0 where

@@ -2,7 +2,7 @@
 
 ghost use Rattle.nr_laws.specs.Completion.{CallsComplete};
 ghost use Rattle.nr_laws.specs.EndCauses.{ServerEndsForCalls, ClientEndsForReplies, LawsKeptBefore};
-ghost use Rattle.nr_laws.specs.Stays.{MatchedLinksStay, MatchedCallsComplete};
+ghost use Rattle.nr_laws.specs.Stays.{MatchedLinksStay, MatchedCallsComplete, NoAccessIsDenied, ClientsStay};
 
 /// On a matched link of which no side has ended, where each side wrote all its output whenever it wrote, each side received all that the
 /// other sent, and no call that is whole waits to be executed: no call is outstanding, since a message of each accepted call
@@ -33,5 +33,7 @@ pub fn segments_keep_the_rules()
 /// dropped changes nothing here.
 pub fn matched_links_stay()
     ensures stays { MatchedLinksStay }
+    ensures allowed { NoAccessIsDenied }
+    ensures clients { ClientsStay }
     ensures complete { MatchedCallsComplete }
 {}

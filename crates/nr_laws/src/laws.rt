@@ -1,7 +1,7 @@
 //! The laws, each by its statement in `specs/`.
 
-ghost use Rattle.nr_laws.specs.Touches.{ClientIsTouched, ServerIsTouched, RevokeStands};
-ghost use Rattle.nr_laws.specs.PlacedBytes.{ClientBytesAreAllowed, ServerBytesAreAllowed, ReadsAreAllowed};
+ghost use Rattle.nr_laws.specs.Touches.{ClientIsTouched, ServerIsTouched, ServerRefusesRequests, RevokeStands};
+ghost use Rattle.nr_laws.specs.PlacedBytes.{ClientBytesAreAllowed, ServerBytesAreAllowed, ReadsAreAllowed, NothingElseIsDisclosed, RegionsAreChunks, LiveRegionsAreOfOutstanding};
 ghost use Rattle.nr_laws.specs.Grant.{SubmitsWithinGrant};
 ghost use Rattle.nr_laws.specs.Places.{PlacesFollow};
 ghost use Rattle.nr_laws.specs.Once.{NoSendTwice, NoCallTwice, NoXidTwice};
@@ -30,6 +30,10 @@ pub fn touches()
     ensures client_bytes { ClientBytesAreAllowed }
     ensures server_bytes { ServerBytesAreAllowed }
     ensures reads { ReadsAreAllowed }
+    ensures requests { ServerRefusesRequests }
+    ensures chunks { RegionsAreChunks }
+    ensures live { LiveRegionsAreOfOutstanding }
+    ensures else_ { NothingElseIsDisclosed }
     ensures revoked { RevokeStands }
 {}
 
