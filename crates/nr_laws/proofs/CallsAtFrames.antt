@@ -43,7 +43,7 @@ use Rattle.nr_reduce.proofs.Conveyed.{Known, known-from, each-found}
 use Rattle.nr_reduce.proofs.Laid.{added_up}
 use Rattle.nr_laws.specs.LinkInvariants.{IsUnused}
 use Rattle.nr_laws.specs.Payloads.{form_conveyed}
-use Rattle.nr_laws.specs.Stays.{IsRefusedMessage}
+use Rattle.nr_laws.specs.RefusedMessages.{IsRefusedMessage}
 use Rattle.nr_laws.specs.Typed.{TypedMark, IsTypedForm, IsTypedCall, IsTyped}
 use Rattle.nr_laws.proofs.AcceptedRegions.{accepted-regions}
 use Rattle.nr_laws.proofs.ClientRun.{WasSubmitted}

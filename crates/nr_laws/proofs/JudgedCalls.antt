@@ -33,7 +33,8 @@ use Rattle.nr_reduce.specs.Undone.{lists_by, inline_by}
 use Rattle.nr_reduce.proofs.BadMessages.{bad-refused}
 use Rattle.nr_laws.specs.Payloads.{form_conveyed}
 use Rattle.nr_laws.specs.Typed.{IsTypedCall}
-use Rattle.nr_laws.specs.Stays.{HasCallHead, IsRefusedMessage, IsConveyedOrRefused}
+use Rattle.nr_laws.specs.RefusedMessages.{IsRefusedMessage}
+use Rattle.nr_laws.specs.Stays.{HasCallHead, IsConveyedOrRefused}
 use Rattle.nr_laws.proofs.CallTargets.{conveyed-head}
 use Rattle.nr_laws.proofs.OwnHeads.{OwnHead, own-head}
 use Rattle.nr_laws.proofs.SuitedCalls.{HasNoBytes, Suits}

@@ -146,7 +146,6 @@ pub mod OtherReasons
 pub mod PendingReads
 pub mod KeptAtServer
 pub mod PlannedOffers
-pub mod RefusedSends
 pub mod ChunkCauses
 pub mod AnsweredChanges
 pub mod OwnPlans
@@ -164,3 +163,6 @@ pub mod AllowedAccesses
 pub mod NotDenied
 pub mod CallsAtFrames
 pub mod EndingEvents
+pub mod LaterMarks
+pub mod RefusedMessages
+pub mod OwnMessages

@@ -26,7 +26,8 @@ use Rattle.nr_reduce.specs.RunLaws.{server_by, ends_response}
 use Rattle.nr_laws.specs.EndCauses.{KeepLaws, IsCallEnd}
 use Rattle.nr_laws.specs.MatchedSoFar.{MatchedSoFar}
 use Rattle.nr_laws.specs.Payloads.{form_conveyed}
-use Rattle.nr_laws.specs.Stays.{IsRefusedMessage, HasCallHead, ConveyedMark, AreConveyedOrRefused}
+use Rattle.nr_laws.specs.RefusedMessages.{IsRefusedMessage}
+use Rattle.nr_laws.specs.Stays.{HasCallHead, ConveyedMark, AreConveyedOrRefused}
 use Rattle.nr_laws.specs.Typed.{IsTyped}
 use Rattle.nr_laws.proofs.CallEnds.{RefusedAt, refused-at}
 use Rattle.nr_laws.proofs.CallRefusals.{RefusedBy}

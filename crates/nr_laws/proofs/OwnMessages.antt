@@ -1,0 +1,61 @@
+-- The message of a call in a form that isn't given is never refused.
+use Rattle.std.proofs.Common.{◌≡◌, ◌≢◌, ℕ, ◌+◌, ◌≤◌, refl, subst, arith}
+use Rattle.nr_xdr.specs.Fields.{word_at}
+use Rattle.nr_xdr.specs.Item.{IsBytes}
+use Rattle.nr_reduce.specs.declared.call.Submission.TheVariants as submissions
+use Rattle.nr_reduce.specs.declared.mark.Mark.TheVariants as marks
+use Rattle.nr_reduce.specs.declared.outline.Plan.{Plan}
+use Rattle.nr_reduce.specs.Limits.{numbers_end}
+use Rattle.nr_reduce.specs.Plans.{call_message, regions_needed}
+use Rattle.nr_reduce.specs.Matched.{IsPrefixOf}
+use Rattle.nr_reduce.specs.ClientState.{call_payload, plan_for}
+use Rattle.nr_reduce.specs.ServerState.{ServerState}
+use Rattle.nr_reduce.specs.ServerMessages.{verdict}
+use Rattle.nr_reduce.specs.ServerMessages.Verdict.{BadChunks}
+use Rattle.nr_reduce.specs.Server.{initial_server}
+use Rattle.nr_reduce.specs.Run.{client}
+use Rattle.nr_reduce.specs.Asked.{AskedMark, IsAccepted}
+use Rattle.nr_reduce.proofs.BadMessages.{bad-refused}
+use Rattle.nr_laws.specs.Typed.{TypedMark}
+use Rattle.nr_laws.specs.Payloads.{HasPlan}
+use Rattle.nr_laws.specs.ChunkOutcomes.{NoOwnPlanIsRefused}
+use Rattle.nr_laws.proofs.CallWords.{CallWords, call-words}
+use Rattle.nr_laws.proofs.OnceByXid.{at-mark}
+use Rattle.nr_laws.proofs.ExecutedPayloads.{planned-by}
+use Rattle.nr_laws.proofs.OwnPlans.{payload-some, plan-suits}
+use Rattle.nr_laws.proofs.RefusedMessages.{long-enough, plan-same}
+
+pub no_own_plan_is_refused : NoOwnPlanIsRefused
+no_own_plan_is_refused opened link run xid opens typed asked m own =
+    plan-suits k (call_payload xid has.call) has.form xid opened.wished stag m.plan bytes own (planned-by opened link has.before xid has.call has.form m.plan has.planned) (payload-some xid has.call)
+    (let fits = accepted.xids in omega (arith, fits)) (let wished = opens.wished_fits in omega (arith, wished)) (let fit = stags in omega (arith, fit)) bad
+  where
+    has : HasPlan opened link run xid m.plan
+    has = m.has
+
+    stag : ℕ
+    stag = (client opened link has.before).state.stag
+
+    k : ServerState
+    k = (initial_server opened).state
+
+    accepted : IsAccepted opened link has.before has.call has.form xid
+    accepted = at-mark (AskedMark IsPrefixOf opened link) run has.before (marks.Submit link has.call has.form (submissions.Accepted xid)) has.at.after has.at.is asked refl
+
+    bytes : IsBytes (call_payload xid has.call)
+    bytes = (at-mark TypedMark run has.before (marks.Submit link has.call has.form (submissions.Accepted xid)) has.at.after has.at.is typed).0
+
+    stags : stag + regions_needed m.plan ≤ numbers_end
+    stags = subst (λ (p : Plan). stag + regions_needed p ≤ numbers_end) (plan-same accepted.plan m.plan (plan_for (client opened link has.before).state xid has.call has.form) accepted.planned has.planned) accepted.stags
+
+    words : CallWords xid (call_message xid opened.wished stag m.plan)
+    words = (let fits = accepted.xids in call-words xid opened.wished stag m.plan (omega (arith, fits)))
+
+    done : word_at 12 (call_message xid opened.wished stag m.plan) ≢ 3
+    done e = (let kind = words.kind in omega (arith, e, kind))
+
+    error : word_at 12 (call_message xid opened.wished stag m.plan) ≢ 4
+    error e = (let kind = words.kind in omega (arith, e, kind))
+
+    bad : verdict k (call_message xid opened.wished stag m.plan) ≡ BadChunks
+    bad = (bad-refused k (call_message xid opened.wished stag m.plan) (long-enough opened (client opened link has.before).state xid has.call has.form m.plan has.planned) words.version done error refl).1 m.refused
