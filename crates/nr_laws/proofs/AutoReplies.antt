@@ -41,7 +41,7 @@ some-payload : (own payload : List ℕ) → Some own ≡ Some payload → own �
 some-payload own payload e = cc
 
 pub auto_has_replies : AutoHasReplies
-auto_has_replies reply_to adds opened link run earlier before call xid outcome plain plainly opens typed far at done = by outcome done
+auto_has_replies reply_to adds opened link run earlier before call xid outcome plain plainly typed far at done = by outcome done
   where
     submit : Mark
     submit = marks.Submit link call forms.Auto (submissions.Accepted xid)
@@ -65,7 +65,7 @@ auto_has_replies reply_to adds opened link run earlier before call xid outcome p
     not_refused chunk m =
         let mark : Mark = marks.Done link xid outcomes.Chunk in
         let there = mark-later run before mark chunk.after m.has.before (marks.Submit link m.has.call m.has.form (submissions.Accepted xid)) chunk.is m.has.at in
-        no_own_plan_is_refused opened link before xid opens (before-mark TypedMark run before mark chunk.after chunk.is typed) (far-before opened link run before mark chunk.after chunk.is far).asked m
+        no_own_plan_is_refused opened link before xid (before-mark TypedMark run before mark chunk.after chunk.is typed) (far-before opened link run before mark chunk.after chunk.is far).asked m
         (subst IsNotGiven (one-form opened link run earlier m.has.before at.after there.after call m.has.call forms.Auto m.has.form xid xid far.asked refl at.is there.is) tt)
 
     held : MarkAt run before (marks.Done link xid outcomes.Chunk) → ExecuteNotHeld opened link before xid → ⊥
@@ -75,7 +75,7 @@ auto_has_replies reply_to adds opened link run earlier before call xid outcome p
         let executed = mark-later run before mark chunk.after u.before execute chunk.is u.at in
         let own : call_payload xid call ≡ u.payload =
         some-payload (call_payload xid call) u.payload (payloads_are_own opened link run u.before xid plan u.moment u.payload u.place u.reply typed far has executed) in
-        let offer = offers_are_planned opened link run u.before xid plan u.moment u.payload u.place u.reply opens typed far has executed in
+        let offer = offers_are_planned opened link run u.before xid plan u.moment u.payload u.place u.reply typed far has executed in
         let replied = at-mark (PlainMark (server_with reply_to adds)) run u.before execute executed.after executed.is plainly in
         plain.auto (journal (server_with reply_to adds) u.before) u.moment u.payload u.reply send_max send_max (client opened link earlier).state.stag plan (subst IsBytes own bytes) replied (omega arith)
         (ap (λ (x : List ℕ). plan_of x forms.Auto send_max send_max) (sym own) ∙ planned)

@@ -103,7 +103,7 @@ chunk-or-not outcomes.Chunk = inl refl
 chunk-or-not (outcomes.Version low high) = inr (λ e. absurd cc)
 
 pub caused_calls_complete : CausedCallsComplete
-caused_calls_complete opened link run opens typed asked served matched settled due a kept cause = by (chunk-or-not c.0)
+caused_calls_complete opened link run typed asked served matched settled due a kept cause = by (chunk-or-not c.0)
   where
     c : (outcome : Outcome) × Contains (completed_calls link run) (record { xid = a.xid; outcome = outcome })
     c = (calls-complete opened link run typed asked served matched settled).2 due a kept
@@ -113,4 +113,4 @@ caused_calls_complete opened link run opens typed asked served matched settled d
 
     by : (c.0 ≡ outcomes.Chunk) ⊎ ((c.0 ≡ outcomes.Chunk) → ⊥) → Contains (completed_calls link run) (record { xid = a.xid; outcome = outcomes.Chunk })
     by (inl is) = subst (λ (o : Outcome). Contains (completed_calls link run) (record { xid = a.xid; outcome = o })) is c.1
-    by (inr other) = absurd (others_have_no_cause opened link run m.0 a.xid c.0 opens typed (full-so-far opened link run asked served matched) m.1 other cause)
+    by (inr other) = absurd (others_have_no_cause opened link run m.0 a.xid c.0 typed (full-so-far opened link run asked served matched) m.1 other cause)

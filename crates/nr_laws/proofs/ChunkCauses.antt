@@ -13,7 +13,6 @@ use Rattle.nr_reduce.specs.declared.outline.Plan.{Plan}
 use Rattle.nr_reduce.specs.History.{ExecutedCall}
 use Rattle.nr_reduce.specs.Limits.{send_max}
 use Rattle.nr_reduce.specs.Plans.{lists_of}
-use Rattle.nr_reduce.specs.Opening.{IsOpened}
 use Rattle.nr_reduce.specs.Events.{Event, events}
 use Rattle.nr_reduce.specs.ServerState.{down_max}
 use Rattle.nr_reduce.specs.Server.{offer_of, answer_of_target}
@@ -110,15 +109,15 @@ chunk-caused opened link run before after xid typed far is = by (outcome-cause o
 -- ---- The offer by the call's plan
 
 -- what the offer holds which the server keeps is what the plan's offer holds
-held-by-plan : (opened : LinkParameters) (link : ℕ) (run before : List Mark) (xid : ℕ) (plan : Plan) (moment : Moment) (payload : List ℕ) (place : ℕ) (reply : List ℕ) → IsOpened opened → IsTyped run → MatchedSoFar opened link run
+held-by-plan : (opened : LinkParameters) (link : ℕ) (run before : List Mark) (xid : ℕ) (plan : Plan) (moment : Moment) (payload : List ℕ) (place : ℕ) (reply : List ℕ) → IsTyped run → MatchedSoFar opened link run
     → (has : HasPlan opened link run xid plan) → MarkAt run before (marks.Execute link xid moment payload place reply)
     → answer_held opened link before xid payload reply ≡ answer_of_target (lists_of (client opened link has.before).state.stag plan) send_max reply (target_of (call_of payload))
-held-by-plan opened link run before xid plan moment payload place reply opens typed far has at =
-    ap (λ (o : ChunkLists). answer_of_target o send_max reply (target_of (call_of payload))) (offers_are_planned opened link run before xid plan moment payload place reply opens typed far has at)
+held-by-plan opened link run before xid plan moment payload place reply typed far has at =
+    ap (λ (o : ChunkLists). answer_of_target o send_max reply (target_of (call_of payload))) (offers_are_planned opened link run before xid plan moment payload place reply typed far has at)
 
-planned-cause : (opened : LinkParameters) (link : ℕ) (run : List Mark) (xid : ℕ) → IsOpened opened → IsTyped run → MatchedSoFar opened link run → HasRefusedMessage opened link run xid ⊎ ExecuteNotHeld opened link run xid → HasChunkCause opened link run xid
-planned-cause opened link run xid opens typed far (inl m) = inl m
-planned-cause opened link run xid opens typed far (inr u) =
+planned-cause : (opened : LinkParameters) (link : ℕ) (run : List Mark) (xid : ℕ) → IsTyped run → MatchedSoFar opened link run → HasRefusedMessage opened link run xid ⊎ ExecuteNotHeld opened link run xid → HasChunkCause opened link run xid
+planned-cause opened link run xid typed far (inl m) = inl m
+planned-cause opened link run xid typed far (inr u) =
     let execute : Mark = marks.Execute link xid u.moment u.payload u.place u.reply in
     let p = executes_have_plans opened link run u.before xid u.moment u.payload u.place u.reply typed far u.at in
     let has = plan-later opened link run u.before execute u.at.after xid p.0 u.at.is p.1 in
@@ -131,19 +130,19 @@ planned-cause opened link run xid opens typed far (inr u) =
       reply = u.reply;
       before = u.before;
       at = u.at;
-      none = sym (held-by-plan opened link run u.before xid p.0 u.moment u.payload u.place u.reply opens typed far has u.at) ∙ u.none;
+      none = sym (held-by-plan opened link run u.before xid p.0 u.moment u.payload u.place u.reply typed far has u.at) ∙ u.none;
     })
 
 -- ---- Where one of them stands, no reply is handed over
 
-executed-without-cause : (opened : LinkParameters) (link : ℕ) (run before : List Mark) (xid : ℕ) (moment : Moment) (payload : List ℕ) (place : ℕ) (reply : List ℕ) (a : Answer) → IsOpened opened → IsTyped run → MatchedSoFar opened link run
+executed-without-cause : (opened : LinkParameters) (link : ℕ) (run before : List Mark) (xid : ℕ) (moment : Moment) (payload : List ℕ) (place : ℕ) (reply : List ℕ) (a : Answer) → IsTyped run → MatchedSoFar opened link run
     → MarkAt run before (marks.Execute link xid moment payload place reply) → answer_held opened link before xid payload reply ≡ Some a → HasChunkCause opened link run xid → ⊥
-executed-without-cause opened link run before xid moment payload place reply a opens typed far at is (inl m) = refused-not-executed opened link run before xid moment payload place reply typed far m at
-executed-without-cause opened link run before xid moment payload place reply a opens typed far at is (inr u) =
+executed-without-cause opened link run before xid moment payload place reply a typed far at is (inl m) = refused-not-executed opened link run before xid moment payload place reply typed far m at
+executed-without-cause opened link run before xid moment payload place reply a typed far at is (inr u) =
     let s = one-execute opened link run before u.before xid moment u.moment payload u.payload place u.place reply u.reply typed far at u.at in
     let wrong : Some a ≡ None =
     sym is ∙ (λ i. answer_held opened link (s.place i) xid (s.payload_is i) (s.reply_is i))
-    ∙ held-by-plan opened link run u.before xid u.plan u.moment u.payload u.place u.reply opens typed far u.has u.at ∙ u.none in
+    ∙ held-by-plan opened link run u.before xid u.plan u.moment u.payload u.place u.reply typed far u.has u.at ∙ u.none in
     absurd cc
 
 -- the Execute of a reply that was handed over, whose offer held it
@@ -176,23 +175,23 @@ held-execute opened link run before after xid reply typed far is =
 -- ---- The laws
 
 pub others_have_no_cause : OthersHaveNoCause
-others_have_no_cause opened link run before xid outcome opens typed far at other cause = by outcome at.is other
+others_have_no_cause opened link run before xid outcome typed far at other cause = by outcome at.is other
   where
     by : (o : Outcome) → run ≡ before ++ marks.Done link xid o ∷ at.after → o ≢ outcomes.Chunk → ⊥
     by (outcomes.Reply reply) is other =
         let mark : Mark = marks.Done link xid (outcomes.Reply reply) in
         let h = held-execute opened link run before at.after xid reply typed far is in
         let execute : Mark = marks.Execute link xid h.moment h.payload h.place h.reply in
-        executed-without-cause opened link run h.before xid h.moment h.payload h.place h.reply h.answer opens typed far (mark-later run before mark at.after h.before execute is h.at) h.held cause
+        executed-without-cause opened link run h.before xid h.moment h.payload h.place h.reply h.answer typed far (mark-later run before mark at.after h.before execute is h.at) h.held cause
     by outcomes.Chunk is other = other refl
     by (outcomes.Version low high) is other = version-never opened link run before at.after xid low high typed far is
 
 pub chunk_has_cause : ChunkHasCause
-chunk_has_cause opened link run before xid outcome opens typed far at = (to, λ cause. by outcome at.is (later cause))
+chunk_has_cause opened link run before xid outcome typed far at = (to, λ cause. by outcome at.is (later cause))
   where
     to : outcome ≡ outcomes.Chunk → HasChunkCause opened link before xid
     to e =
-        planned-cause opened link before xid opens (before-mark TypedMark run before (marks.Done link xid outcome) at.after at.is typed) (far-before opened link run before (marks.Done link xid outcome) at.after at.is far)
+        planned-cause opened link before xid (before-mark TypedMark run before (marks.Done link xid outcome) at.after at.is typed) (far-before opened link run before (marks.Done link xid outcome) at.after at.is far)
         (chunk-caused opened link run before at.after xid typed far (at.is ∙ ap (λ (o : Outcome). before ++ marks.Done link xid o ∷ at.after) e))
 
     later : HasChunkCause opened link before xid → HasChunkCause opened link run xid
@@ -210,6 +209,6 @@ chunk_has_cause opened link run before xid outcome opens typed far at = (to, λ 
     })
 
     by : (o : Outcome) → run ≡ before ++ marks.Done link xid o ∷ at.after → HasChunkCause opened link run xid → o ≡ outcomes.Chunk
-    by (outcomes.Reply reply) is cause = absurd (others_have_no_cause opened link run before xid (outcomes.Reply reply) opens typed far (record { after = at.after; is = is }) (λ e. absurd cc) cause)
+    by (outcomes.Reply reply) is cause = absurd (others_have_no_cause opened link run before xid (outcomes.Reply reply) typed far (record { after = at.after; is = is }) (λ e. absurd cc) cause)
     by outcomes.Chunk is cause = refl
     by (outcomes.Version low high) is cause = absurd (version-never opened link run before at.after xid low high typed far is)

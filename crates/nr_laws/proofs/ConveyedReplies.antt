@@ -107,7 +107,7 @@ both-conveyed opened link run before xid plan reply opens typed far has at r = b
     a = r.answer.answer
 
     offered : KeptOffer server xid stag plan
-    offered = kept-offer opened link run before done at.after xid plan opens r.done.typed r.done.far far.asked at.is has r.answer.earlier (CallExecuted e ∷ r.answer.later) r.answer.is r.answer.live
+    offered = kept-offer opened link run before done at.after xid plan r.done.typed r.done.far far.asked at.is has r.answer.earlier (CallExecuted e ∷ r.answer.later) r.answer.is r.answer.live
 
     bytes : IsBytes e.reply
     bytes = at-mark TypedMark before r.by.mark.earlier (execute_mark link e) r.by.mark.later r.by.mark.is r.done.typed

@@ -1,5 +1,5 @@
 -- The message of a call in a form that isn't given is never refused.
-use Rattle.std.proofs.Common.{◌≡◌, ◌≢◌, ℕ, ◌+◌, ◌≤◌, refl, subst, arith}
+use Rattle.std.proofs.Common.{◌≡◌, ◌≢◌, ℕ, ◌+◌, ◌≤◌, List, refl, sym, ap, subst, ◌∙◌, arith}
 use Rattle.nr_xdr.specs.Fields.{word_at}
 use Rattle.nr_xdr.specs.Item.{IsBytes}
 use Rattle.nr_reduce.specs.declared.call.Submission.TheVariants as submissions
@@ -19,6 +19,7 @@ use Rattle.nr_reduce.proofs.BadMessages.{bad-refused}
 use Rattle.nr_laws.specs.Typed.{TypedMark}
 use Rattle.nr_laws.specs.Payloads.{HasPlan}
 use Rattle.nr_laws.specs.ChunkOutcomes.{NoOwnPlanIsRefused}
+use Rattle.nr_laws.proofs.WrittenBytes.{WrittenAs, written-as, message-same}
 use Rattle.nr_laws.proofs.CallWords.{CallWords, call-words}
 use Rattle.nr_laws.proofs.OnceByXid.{at-mark}
 use Rattle.nr_laws.proofs.ExecutedPayloads.{planned-by}
@@ -26,9 +27,9 @@ use Rattle.nr_laws.proofs.OwnPlans.{payload-some, plan-suits}
 use Rattle.nr_laws.proofs.RefusedMessages.{long-enough, plan-same}
 
 pub no_own_plan_is_refused : NoOwnPlanIsRefused
-no_own_plan_is_refused opened link run xid opens typed asked m own =
-    plan-suits k (call_payload xid has.call) has.form xid opened.wished stag m.plan bytes own (planned-by opened link has.before xid has.call has.form m.plan has.planned) (payload-some xid has.call)
-    (let fits = accepted.xids in omega (arith, fits)) (let wished = opens.wished_fits in omega (arith, wished)) (let fit = stags in omega (arith, fit)) bad
+no_own_plan_is_refused opened link run xid typed asked m own =
+    plan-suits k (call_payload xid has.call) has.form xid w.number stag m.plan bytes own (planned-by opened link has.before xid has.call has.form m.plan has.planned) (payload-some xid has.call)
+    (let fits = accepted.xids in omega (arith, fits)) w.fits (let fit = stags in omega (arith, fit)) (ap (λ (x : List ℕ). verdict k x) (sym same) ∙ bad)
   where
     has : HasPlan opened link run xid m.plan
     has = m.has
@@ -48,14 +49,24 @@ no_own_plan_is_refused opened link run xid opens typed asked m own =
     stags : stag + regions_needed m.plan ≤ numbers_end
     stags = subst (λ (p : Plan). stag + regions_needed p ≤ numbers_end) (plan-same accepted.plan m.plan (plan_for (client opened link has.before).state xid has.call has.form) accepted.planned has.planned) accepted.stags
 
-    words : CallWords xid (call_message xid opened.wished stag m.plan)
+    message : List ℕ
+    message = call_message xid opened.wished stag m.plan
+
+    -- the credits of its header are a word, whatever they are
+    w : WrittenAs opened.wished
+    w = written-as opened.wished
+
+    same : message ≡ call_message xid w.number stag m.plan
+    same = message-same xid opened.wished w.number stag m.plan w.same
+
+    words : CallWords xid message
     words = (let fits = accepted.xids in call-words xid opened.wished stag m.plan (omega (arith, fits)))
 
-    done : word_at 12 (call_message xid opened.wished stag m.plan) ≢ 3
+    done : word_at 12 message ≢ 3
     done e = (let kind = words.kind in omega (arith, e, kind))
 
-    error : word_at 12 (call_message xid opened.wished stag m.plan) ≢ 4
+    error : word_at 12 message ≢ 4
     error e = (let kind = words.kind in omega (arith, e, kind))
 
-    bad : verdict k (call_message xid opened.wished stag m.plan) ≡ BadChunks
-    bad = (bad-refused k (call_message xid opened.wished stag m.plan) (long-enough opened (client opened link has.before).state xid has.call has.form m.plan has.planned) words.version done error refl).1 m.refused
+    bad : verdict k message ≡ BadChunks
+    bad = (bad-refused k message (long-enough opened (client opened link has.before).state xid has.call has.form m.plan has.planned) words.version done error refl).1 m.refused

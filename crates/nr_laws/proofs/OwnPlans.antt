@@ -1,6 +1,6 @@
 -- On a matched link the Send of a call in a form that isn't given is never refused.
-use Rattle.std.proofs.Common.{◌≡◌, ℕ, ◌+◌, ◌^◌, ◌≤◌, ◌<◌, Bool, true, false, cond, not, ◌||◌, eqb, ltb, List, [], ◌∷◌, ◌++◌, length, drop, Some, Ok, refl, sym, ap, subst, ◌∙◌, arith, length-append, inl, inr, eqb-true, ne_eqb}
-use Rattle.std.specs.List.{list_any, find, AllByRecursion}
+use Rattle.std.proofs.Common.{◌≡◌, ℕ, ◌+◌, ◌^◌, ◌≤◌, ◌<◌, Bool, true, false, cond, not, ◌||◌, eqb, ltb, List, [], ◌∷◌, ◌++◌, length, drop, Some, Ok, refl, sym, ap, subst, ◌∙◌, arith, length-append}
+use Rattle.std.specs.List.{find, AllByRecursion}
 use Rattle.nr_xdr.specs.Item.{IsBytes, word}
 use Rattle.nr_xdr.specs.Items.{encodings}
 use Rattle.nr_xdr.specs.Fields.{word_at}
@@ -8,11 +8,7 @@ use Rattle.nr_xdr.proofs.WordBytes.{length-word}
 use Rattle.nr_rpc.specs.declared.head.CallHead.TheVariants.{Version2}
 use Rattle.nr_rpc.specs.Credential.{auth_of, no_verifier}
 use Rattle.nr_rpc.specs.Call.{version2_items, call_head}
-use Rattle.nr_header.specs.declared.header.ReadSegment.{ReadSegment}
-use Rattle.nr_header.specs.declared.header.ChunkLists.{ChunkLists}
 use Rattle.nr_header.specs.Reading.{header_of}
-use Rattle.nr_wire.specs.Segment.{Segment}
-use Rattle.nr_link.specs.Frames.{Frame}
 use Rattle.nr_link.specs.Reasons.{REASON_STAGS, REASON_KIND, REASON_CALL}
 use Rattle.nr_reduce.specs.declared.call.Call.{Call}
 use Rattle.nr_reduce.specs.declared.call.Form.{Form}
@@ -22,41 +18,18 @@ use Rattle.nr_reduce.specs.declared.mark.Mark.TheVariants as marks
 use Rattle.nr_reduce.specs.declared.mark.LinkParameters.{LinkParameters}
 use Rattle.nr_reduce.specs.declared.outline.Plan.{Plan}
 use Rattle.nr_reduce.specs.Limits.{send_max, numbers_end}
-use Rattle.nr_reduce.specs.Plans.{plan_of, regions_needed, lists_of, call_message}
-use Rattle.nr_reduce.specs.Chunks.{is_read_chunk_of_item, item_position}
+use Rattle.nr_reduce.specs.Plans.{plan_of, regions_needed, call_message}
 use Rattle.nr_reduce.specs.Undone.{IsNotGiven}
-use Rattle.nr_reduce.specs.Matched.{IsPrefixOf}
-use Rattle.nr_reduce.specs.Events.Event.{FrameReceived}
 use Rattle.nr_reduce.specs.ClientState.{call_payload}
 use Rattle.nr_reduce.specs.ServerState.{ServerState, PendingCall, PendingRead, next_stag, is_pending}
-use Rattle.nr_reduce.specs.ServerReads.{chunks_of, is_read_at}
-use Rattle.nr_reduce.specs.ServerMessages.{Verdict, verdict, by_need, by_header, chunk_bytes}
+use Rattle.nr_reduce.specs.ServerReads.{chunks_of}
+use Rattle.nr_reduce.specs.ServerMessages.{Verdict, verdict, by_need, by_header}
 use Rattle.nr_reduce.specs.ServerMessages.Verdict.{EndsLink, OtherVersion, BadChunks, MakesPending}
-use Rattle.nr_reduce.specs.ServerFrames.{with_access}
-use Rattle.nr_reduce.specs.Run.{client}
-use Rattle.nr_reduce.specs.RunLaws.{server_by, IsReceivedCall, IsStreamRefused}
-use Rattle.nr_reduce.specs.Asked.{AskedSoFar, AskedMark, IsAccepted}
-use Rattle.nr_reduce.proofs.Looks.{item_stands}
-use Rattle.nr_reduce.proofs.Undone.{reducible}
-use Rattle.nr_reduce.proofs.Shapes.{MessageKind, IsKind, is_plan}
-use Rattle.nr_reduce.proofs.Shapes.MessageKind.{Short, Chunked, Long}
-use Rattle.nr_reduce.proofs.Shapes.Offering.{Nothing}
-use Rattle.nr_reduce.proofs.Asking.{lists, lists-shape}
+use Rattle.nr_reduce.specs.Asked.{AskedSoFar}
 use Rattle.nr_reduce.proofs.Opens.{opens_call}
-use Rattle.nr_reduce.proofs.Once.{found-number}
-use Rattle.nr_reduce.proofs.Conveyed.{known-from, each-found}
-use Rattle.nr_reduce.specs.declared.item.Of.TheVariants.{Call as OfCall}
-use Rattle.nr_laws.specs.Typed.{TypedMark}
 use Rattle.nr_laws.proofs.HeaderXid.{call-xid}
-use Rattle.nr_laws.proofs.OnceByXid.{at-mark}
 use Rattle.nr_laws.proofs.SubmittedPlans.{same-submit}
-use Rattle.nr_laws.proofs.ClientRun.{WasSubmitted}
-use Rattle.nr_laws.proofs.ExecutedCalls.{frame-message, received-message}
-use Rattle.nr_laws.proofs.ExecutedPayloads.{planned-by}
-use Rattle.nr_laws.proofs.ConveyedCalls.{planned-fits, plan-reads}
-use Rattle.nr_laws.proofs.RefusedCalls.{and-true}
-use Rattle.nr_laws.proofs.PendingReads.{HasPosition, IsOwn, AreOwn}
-use Rattle.nr_laws.proofs.KeptAtServer.{kept-at-server}
+use Rattle.nr_laws.proofs.PendingReads.{IsOwn, AreOwn}
 
 -- a call's payload isn't empty: it begins with the xid
 pub payload-some : (xid : ℕ) (call : Call) → 0 < length (call_payload xid call)

@@ -20,7 +20,6 @@ use Rattle.nr_reduce.specs.Limits.{send_max}
 use Rattle.nr_reduce.specs.Plans.{lists_of}
 use Rattle.nr_reduce.specs.Undone.{IsNotGiven}
 use Rattle.nr_reduce.specs.Holds.{Answer, answer_writes, answer_message}
-use Rattle.nr_reduce.specs.Opening.{IsOpened}
 use Rattle.nr_reduce.specs.ServerState.{down_max}
 use Rattle.nr_reduce.specs.Server.{offer_of, answer_of_target}
 use Rattle.nr_reduce.specs.Run.{client, server, output_due}
@@ -56,21 +55,20 @@ pub record HasReplyNotHeld (opened : LinkParameters) (link : ℕ) (run : List Ma
 abbrev pub HasChunkCause : LinkParameters → ℕ → List Mark → ℕ → Type 0
 HasChunkCause opened link run xid = HasRefusedMessage opened link run xid ⊎ HasReplyNotHeld opened link run xid
 
--- On a matched link that was opened with numbers and credits in range, a call completes with Chunk exactly where one of these two stands
--- before.
+-- On a matched link a call completes with Chunk exactly where one of these two stands before.
 abbrev pub ChunkHasCause : Type 0
 ChunkHasCause = (opened : LinkParameters) (link : ℕ) (run before : List Mark) (xid : ℕ) (outcome : Outcome) →
-    IsOpened opened → IsTyped run → MatchedSoFar opened link run → MarkAt run before (marks.Done link xid outcome) → (outcome ≡ outcomes.Chunk) ↔ HasChunkCause opened link before xid
+    IsTyped run → MatchedSoFar opened link run → MarkAt run before (marks.Done link xid outcome) → (outcome ≡ outcomes.Chunk) ↔ HasChunkCause opened link before xid
 
--- There a call that completes with another outcome has none of them, before or after.
+-- A call that completes with another outcome has none of them, before or after.
 abbrev pub OthersHaveNoCause : Type 0
 OthersHaveNoCause = (opened : LinkParameters) (link : ℕ) (run before : List Mark) (xid : ℕ) (outcome : Outcome) →
-    IsOpened opened → IsTyped run → MatchedSoFar opened link run → MarkAt run before (marks.Done link xid outcome) → outcome ≢ outcomes.Chunk → HasChunkCause opened link run xid → ⊥
+    IsTyped run → MatchedSoFar opened link run → MarkAt run before (marks.Done link xid outcome) → outcome ≢ outcomes.Chunk → HasChunkCause opened link run xid → ⊥
 
--- There, where nothing is left to do, and once all outcomes that are due are handed over, each accepted call with such a cause that wasn't
+-- On a matched link where nothing is left to do, and once all outcomes that are due are handed over, each accepted call with such a cause that wasn't
 -- given up has its Done with Chunk.
 abbrev pub CausedCallsComplete : Type 0
-CausedCallsComplete = (opened : LinkParameters) (link : ℕ) (run : List Mark) → IsOpened opened → IsTyped run → Asked opened link run → Served opened link run → Matched link run →
+CausedCallsComplete = (opened : LinkParameters) (link : ℕ) (run : List Mark) → IsTyped run → Asked opened link run → Served opened link run → Matched link run →
     IsSettled opened link run → outcomes_due opened link run ≡ [] → (a : AcceptedCall) → IsKept link run a → HasChunkCause opened link run a.xid →
     Contains (completed_calls link run) (record { xid = a.xid; outcome = outcomes.Chunk })
 
@@ -79,14 +77,14 @@ CausedCallsComplete = (opened : LinkParameters) (link : ℕ) (run : List Mark) �
 -- On a matched link the offer by which an executed call is answered is what the plan of the accepted call of its xid offers.
 abbrev pub OffersArePlanned : Type 0
 OffersArePlanned = (opened : LinkParameters) (link : ℕ) (run before : List Mark) (xid : ℕ) (plan : Plan) (moment : Moment) (payload : List ℕ) (place : ℕ) (reply : List ℕ) →
-    IsOpened opened → IsTyped run → MatchedSoFar opened link run → (has : HasPlan opened link run xid plan) →
+    IsTyped run → MatchedSoFar opened link run → (has : HasPlan opened link run xid plan) →
     MarkAt run before (marks.Execute link xid moment payload place reply) →
     offer_of (server opened link before).state xid ≡ lists_of (client opened link has.before).state.stag plan
 
 -- On every link of which the client keeps its law no message is refused of a call in a form that isn't given.
 abbrev pub NoOwnPlanIsRefused : Type 0
 NoOwnPlanIsRefused = (opened : LinkParameters) (link : ℕ) (run : List Mark) (xid : ℕ) →
-    IsOpened opened → IsTyped run → AskedSoFar opened link run → (refused : HasRefusedMessage opened link run xid) → IsNotGiven refused.has.form → ⊥
+    IsTyped run → AskedSoFar opened link run → (refused : HasRefusedMessage opened link run xid) → IsNotGiven refused.has.form → ⊥
 
 -- ---- Where a plain server replies
 
@@ -94,7 +92,7 @@ NoOwnPlanIsRefused = (opened : LinkParameters) (link : ℕ) (run : List Mark) (x
 abbrev pub AutoHasReplies : Type 0
 AutoHasReplies = (reply_to : List Entry → Moment → List ℕ → Option (List ℕ)) (adds : Moment → List ℕ → List ℕ → List Entry)
     (opened : LinkParameters) (link : ℕ) (run earlier before : List Mark) (call : Call) (xid : ℕ) (outcome : Outcome) →
-    IsPlain (server_with reply_to adds) → Plainly (server_with reply_to adds) run → IsOpened opened → IsTyped run → MatchedSoFar opened link run →
+    IsPlain (server_with reply_to adds) → Plainly (server_with reply_to adds) run → IsTyped run → MatchedSoFar opened link run →
     MarkAt run earlier (marks.Submit link call forms.Auto (submissions.Accepted xid)) →
     MarkAt run before (marks.Done link xid outcome) → (reply : List ℕ) × (outcome ≡ outcomes.Reply reply)
 

@@ -15,7 +15,7 @@ use Rattle.nr_laws.specs.Payloads.{HasPlan, form_conveyed}
 use Rattle.nr_laws.specs.MatchedSoFar.{MatchedSoFar}
 use Rattle.nr_laws.specs.Typed.{IsTyped}
 
--- On a matched link a call whose reply is handed over was accepted, and goes out by a plan.
+-- On a matched link a call whose reply is handed over was accepted before that, and goes out by a plan.
 abbrev pub RepliesHavePlans : Type 0
 RepliesHavePlans = (opened : LinkParameters) (link : ℕ) (run before : List Mark) (xid : ℕ) (reply : List ℕ) →
     IsTyped run → MatchedSoFar opened link run → MarkAt run before (marks.Done link xid (outcomes.Reply reply)) → (plan : Plan) × HasPlan opened link before xid plan

@@ -3,7 +3,7 @@
 ghost use Rattle.nr_laws.specs.HandedOver.{RepliesHavePlans, ExecutedRepliesAreHandedOver};
 ghost use Rattle.nr_laws.specs.PlainReplies.{RepliesArePlain};
 
-/// On a matched link a call whose reply is handed over was accepted, and goes out by a plan. Where numbers and credits are in range as the
+/// On a matched link a call whose reply is handed over was accepted before, and goes out by a plan. Where numbers and credits are in range as the
 /// link is opened, its reply is the one with which the call was executed before, byte for byte: whatever it offers for its reply (RFC 8166
 /// section 3.4.6) and whichever way its payload goes. The payload with which it was executed is the call's own; for an offer that is given
 /// it is what that offer conveys of the call's own.
