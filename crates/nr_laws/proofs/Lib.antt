@@ -166,3 +166,4 @@ pub mod EndingEvents
 pub mod LaterMarks
 pub mod RefusedMessages
 pub mod OwnMessages
+pub mod WrittenAnswers

@@ -22,9 +22,9 @@ one-reply : (x y : List ℕ) → Some x ≡ Some y → x ≡ y
 one-reply x y e = cc
 
 pub executed_replies_are_handed_over : ExecutedRepliesAreHandedOver
-executed_replies_are_handed_over opened link run before xid plan reply opens typed far has at =
+executed_replies_are_handed_over opened link run before xid plan reply typed far has at =
     let r = replied-by opened link run before at.after xid reply typed far at.is in
-    let b = both-conveyed opened link run before xid plan reply opens typed far has at r in
+    let b = both-conveyed opened link run before xid plan reply typed far has at r in
     let e = r.answer.call in
     let m = r.by.mark in
     let done : Mark = marks.Done link xid (outcomes.Reply reply) in

@@ -8,7 +8,6 @@ use Rattle.nr_reduce.specs.declared.mark.LinkParameters.{LinkParameters}
 use Rattle.nr_reduce.specs.declared.outline.Plan.{Plan}
 use Rattle.nr_reduce.specs.PlainJournal.{PlainServer}
 use Rattle.nr_reduce.specs.Journal.{PlainMark, Journaled, Plainly}
-use Rattle.nr_reduce.specs.Opening.{IsOpened}
 use Rattle.nr_reduce.proofs.Placing.{at_place}
 use Rattle.nr_laws.specs.MarkAt.{MarkAt}
 use Rattle.nr_laws.specs.MatchedSoFar.{MatchedSoFar}
@@ -20,10 +19,10 @@ use Rattle.nr_laws.proofs.OnceByXid.{at-mark}
 use Rattle.nr_laws.proofs.OwnReplies.{executed_replies_are_handed_over}
 
 -- of any plain server, which may have several replies to choose from
-pub any-replies-are-plain : (plain : PlainServer) (J : List Entry) (opened : LinkParameters) (link : ℕ) (run before : List Mark) (xid : ℕ) (plan : Plan) (reply : List ℕ) → IsOpened opened → IsTyped run → MatchedSoFar opened link run
+pub any-replies-are-plain : (plain : PlainServer) (J : List Entry) (opened : LinkParameters) (link : ℕ) (run before : List Mark) (xid : ℕ) (plan : Plan) (reply : List ℕ) → IsTyped run → MatchedSoFar opened link run
     → Journaled plain J run → Plainly plain run → (has : HasPlan opened link run xid plan) → MarkAt run before (marks.Done link xid (outcomes.Reply reply)) → HasPlainReply plain J link before xid has.call has.form reply
-any-replies-are-plain plain J opened link run before xid plan reply opens typed far journaled plainly has at =
-    let own = executed_replies_are_handed_over opened link run before xid plan reply opens typed far has at in
+any-replies-are-plain plain J opened link run before xid plan reply typed far journaled plainly has at =
+    let own = executed_replies_are_handed_over opened link run before xid plan reply typed far has at in
     let execute : Mark = marks.Execute link xid own.moment own.payload own.place reply in
     let there = mark-later run before (marks.Done link xid (outcomes.Reply reply)) at.after own.before execute at.is own.at in
     record {

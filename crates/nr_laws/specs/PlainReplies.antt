@@ -11,7 +11,6 @@ use Rattle.nr_reduce.specs.declared.mark.LinkParameters.{LinkParameters}
 use Rattle.nr_reduce.specs.declared.outline.Plan.{Plan}
 use Rattle.nr_reduce.specs.PlainJournal.{PlainServer}
 use Rattle.nr_reduce.specs.Journal.{AtPlace, Journaled, Plainly}
-use Rattle.nr_reduce.specs.Opening.{IsOpened}
 use Rattle.nr_laws.specs.MarkAt.{MarkAt}
 use Rattle.nr_laws.specs.MatchedSoFar.{MatchedSoFar}
 use Rattle.nr_laws.specs.Typed.{IsTyped}
@@ -34,6 +33,6 @@ pub record HasPlainReply (plain : PlainServer) (J : List Entry) (link : ℕ) (ru
 abbrev pub RepliesArePlain : Type 0
 RepliesArePlain = (reply_to : List Entry → Moment → List ℕ → Option (List ℕ)) (adds : Moment → List ℕ → List ℕ → List Entry) (J : List Entry)
     (opened : LinkParameters) (link : ℕ) (run before : List Mark) (xid : ℕ) (plan : Plan) (reply : List ℕ) →
-    IsOpened opened → IsTyped run → MatchedSoFar opened link run → Journaled (server_with reply_to adds) J run → Plainly (server_with reply_to adds) run →
+    IsTyped run → MatchedSoFar opened link run → Journaled (server_with reply_to adds) J run → Plainly (server_with reply_to adds) run →
     (has : HasPlan opened link run xid plan) →
     MarkAt run before (marks.Done link xid (outcomes.Reply reply)) → HasPlainReply (server_with reply_to adds) J link before xid has.call has.form reply
