@@ -10,7 +10,6 @@ use Rattle.nr_reduce.specs.declared.mark.Mark.TheVariants as marks
 use Rattle.nr_reduce.specs.declared.mark.LinkParameters.{LinkParameters}
 use Rattle.nr_reduce.specs.declared.outline.Plan.{Plan}
 use Rattle.nr_reduce.specs.History.{ExecutedCall}
-use Rattle.nr_reduce.specs.Opening.{IsOpened}
 use Rattle.nr_reduce.specs.Events.Event.{FrameReceived, CallExecuted}
 use Rattle.nr_reduce.specs.Plans.{Buffer, buffers, lists_of, read_list, write_stag, reply_stag}
 use Rattle.nr_reduce.specs.Chunks.{Bytes, reply_conveyed}

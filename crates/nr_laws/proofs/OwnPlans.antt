@@ -1,4 +1,4 @@
--- On a matched link the Send of a call in a form that isn't given is never refused.
+-- The message of a plan whose form isn't given is never judged to have bad chunks; the reads that a pending call has are its own.
 use Rattle.std.proofs.Common.{◌≡◌, ℕ, ◌+◌, ◌^◌, ◌≤◌, ◌<◌, Bool, true, false, cond, not, ◌||◌, eqb, ltb, List, [], ◌∷◌, ◌++◌, length, drop, Some, Ok, refl, sym, ap, subst, ◌∙◌, arith, length-append}
 use Rattle.std.specs.List.{find, AllByRecursion}
 use Rattle.nr_xdr.specs.Item.{IsBytes, word}

@@ -1,5 +1,5 @@
 -- What a server answers, whatever the number of credits in its header: two numbers that are written as the same word make the same message.
-use Rattle.std.proofs.Common.{◌≡◌, ℕ, Bool, true, false, cond, List, [], ◌++◌}
+use Rattle.std.proofs.Common.{◌≡◌, ℕ, Bool, true, false, cond, [], ◌++◌}
 use Rattle.nr_xdr.specs.Item.{word}
 use Rattle.nr_xdr.specs.Items.{encodings}
 use Rattle.nr_header.specs.declared.header.Body.TheVariants.{Msg, Nomsg}

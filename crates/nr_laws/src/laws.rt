@@ -33,7 +33,8 @@ pub fn touches()
     ensures revoked { RevokeStands }
 {}
 
-/// On a matched link a call whose reply is handed over was executed before that, and no call completes with another version.
+/// On a matched link a call whose reply is handed over was accepted and then executed with just this reply before that, and no call completes
+/// with another version.
 pub fn completions()
     ensures executed { RepliesAreExecuted }
     ensures version { NoOtherVersion }
