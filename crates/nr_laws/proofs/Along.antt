@@ -138,9 +138,6 @@ places-frames place (f ∷ fs) = (let e = places-frames (place + length f) fs in
 abbrev pub whole_bytes : ℕ → Side → List Mark → ℕ
 whole_bytes link side run = length (concat (split (HelloFrom (other side)) (bytes_received link side run)).frames)
 
-abbrev stream_of : ℕ → Side → List Mark → List ℕ
-stream_of link side run = bytes_received link side run
-
 concat-append : (xs ys : List (List ℕ)) → concat (xs ++ ys) ≡ concat xs ++ concat ys
 concat-append [] ys = refl
 concat-append (x ∷ xs) ys = ap (λ (zs : List ℕ). x ++ zs) (concat-append xs ys) ∙ sym (append_assoc x (concat xs) (concat ys))

@@ -82,10 +82,6 @@ accesses_event a QueueWritten = a
 abbrev pub Gathering : {S : Type 0} → Rules S → (S → List TaggedSegment) → Type 0
 Gathering rules accesses = (s : _) (e : Event) → accesses (rules.state_after s e) ≡ accesses_event (accesses s) e
 
-output_parts : Output → List Part
-output_parts (AHello bytes) = []
-output_parts (ASegment s) = segment_parts s
-
 pub access-parts : (f : Frame) (s : Segment) → parts_of (tagged_access f s) ≡ segment_parts s
 access-parts f (Tagged last opcode stag to payload) = refl
 access-parts f (Untagged last opcode w queue msn offset payload) = refl
@@ -225,10 +221,6 @@ settled-append place xs ys (a ∷ accesses) s = (
 pub settled-more : (place : ℕ) (regions : List Region) (xs ys : List TaggedSegment) → Settled place regions xs → Settled place regions ys → Settled place regions (xs ++ ys)
 settled-more place regions [] ys s t = t
 settled-more place regions (x ∷ xs) ys s t = (s.0, s.1, settled-more place regions xs ys s.2 t)
-
-pub settled-first : (place : ℕ) (regions : List Region) (xs ys : List TaggedSegment) → Settled place regions (xs ++ ys) → Settled place regions xs
-settled-first place regions [] ys s = tt
-settled-first place regions (x ∷ xs) ys s = (s.0, s.1, settled-first place regions xs ys s.2)
 
 -- the contents of a region are laid by them
 pub contents-parts : (place stag : ℕ) (regions : List Region) (bytes : List ℕ) (accesses : List TaggedSegment) → Settled place regions accesses → contents (region_grants place regions) stag bytes accesses ≡ after_parts stag bytes (parts_of accesses)

@@ -1,5 +1,5 @@
 -- The message of an accepted call is read with the lists of its plan, in every form.
-use Rattle.std.proofs.Common.{◌≡◌, ℕ, suc, ◌+◌, ◌^◌, ◌≤◌, ◌<◌, Bool, true, false, cond, eqb, List, [], ◌∷◌, ◌++◌, length, drop, Option, None, Some, Result, Ok, refl, sym, ap, subst, ◌∙◌, arith}
+use Rattle.std.proofs.Common.{◌≡◌, ℕ, suc, ◌+◌, ◌^◌, ◌≤◌, ◌<◌, Bool, true, false, cond, eqb, List, [], ◌∷◌, ◌++◌, length, drop, Option, None, Some, Ok, refl, sym, ap, subst, ◌∙◌, arith}
 use Rattle.std.proofs.lemmas.List.{drop_at}
 use Rattle.nr_xdr.specs.Item.{Item, IsBytes}
 use Rattle.nr_xdr.specs.Item.Item.{Unsigned}
@@ -9,7 +9,6 @@ use Rattle.nr_header.specs.declared.header.ChunkLists.{ChunkLists}
 use Rattle.nr_header.specs.declared.header.Body.{Body}
 use Rattle.nr_header.specs.declared.header.Body.TheVariants.{Msg, Nomsg, ErrVers, ErrChunk}
 use Rattle.nr_header.specs.declared.header.Header.{Header}
-use Rattle.nr_header.specs.declared.fault.HeaderFault.{HeaderFault}
 use Rattle.nr_header.specs.Header.{read_items, segments_items, write_items, reply_items, lists_items, body_items, fixed_items, header_encoding}
 use Rattle.nr_header.specs.WithinLimits.{IsMessage, ListsWithin, CanRead}
 use Rattle.nr_header.specs.Reading.{header_of}
@@ -111,13 +110,6 @@ pub record ReadsLists (stag : ℕ) (p : Plan) (message : List ℕ) (header : Hea
   pub inline : inline_by message header.body ≡ plans.inline_stream p
   -- a stream that is there before anything is read
   pub known : known_stream message header.body ≡ stream_known p.read_at p.inline (lists_of stag p).read
-
-header-is : (a b : Header) → ◌≡◌ {A = Result Header HeaderFault} (Ok a) (Ok b) → a ≡ b
-header-is a b e = cc
-
--- the kinds of two messages that are one
-record KindsSame (x y : List ℕ) : Type 0 where
-  same : x ≡ y
 
 fixed-same : (a b c d e f g h : ℕ) (more others : List Item) (x y : List ℕ) → AllFit (fixed_items a b c d more) → AllFit (fixed_items e f g h others) → encodings (fixed_items a b c d more) ++ x ≡ encodings (fixed_items e f g h others) ++ y
     → (d ≡ h) × (encodings more ++ x ≡ encodings others ++ y)
