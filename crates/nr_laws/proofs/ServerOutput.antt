@@ -30,46 +30,11 @@ use Rattle.nr_laws.proofs.TotalsAtServer.{fills-none, long-none}
 use Rattle.nr_laws.proofs.StreamFrames.{spelled-append}
 use Rattle.nr_laws.proofs.OutputFrames.{IsShort, AreShort, send-one, write-said}
 use Rattle.nr_laws.proofs.Writable.{AreWritable, all_proper-append, tagged-proper}
-use Rattle.nr_laws.proofs.ServerOutputs.{chunk_error-short, version_error-short, CallsFit, fit-append, fit-filter, answer-short, for_target, found-fits}
+use Rattle.nr_laws.proofs.ServerOutputs.{chunk_error-short, version_error-short, CallsFit, fit-append, fit-filter, answer-short, for_target, found-fits, IsFine, fine-message, fine-response, errors-short}
+use Rattle.nr_laws.proofs.ServerOutputs.AtMostOne.{NoError}
 use Rattle.nr_laws.proofs.WritableOffers.{SegmentsFit, OfferFits, verdict_fits}
 
 -- ---- The calls of a server
-
--- an effect whose messages are short, and whose calls are within their limits
-record IsFine (s : FrameEffect) : Type 0 where
-  short : AreShort s.errors
-  fit : CallsFit s.calls
-
-fine-verdict : (o : CallVerdict) (s : FrameEffect) → IsFine s → IsFine (with_verdict o s)
-fine-verdict (Refuses reason) s h = record { short = h.short; fit = h.fit }
-fine-verdict (IsReady r) s h = record { short = h.short; fit = h.fit }
-
-fine-whole : (k : ServerState) (place : ℕ) (c : PendingCall) (s : FrameEffect) → IsFine s → IsFine (ready_if_whole k place c s)
-fine-whole k place c s h = by (is_read s.reads c.number)
-  where
-    by : (b : Bool) → IsFine (cond b (with_verdict (by_payload c (payload_of k place c)) s) s)
-    by true = fine-verdict (by_payload c (payload_of k place c)) s h
-    by false = h
-
-fine-message : (k : ServerState) (place : ℕ) (message : List ℕ) (v : Verdict) → verdict k message ≡ v → IsBytes message → CallsFit k.calls → IsFine (message_effect k place message v)
-fine-message k place message (EndsLink reason) is bytes h = record { short = tt; fit = h }
-fine-message k place message OtherVersion is bytes h = record { short = (version_error-short (word_at 0 message) (word_at 4 message) (credit_word k), tt); fit = h }
-fine-message k place message BadChunks is bytes h = record { short = (chunk_error-short (word_at 0 message) (credit_word k), tt); fit = h }
-fine-message k place message (MakesPending c) is bytes h =
-    fine-whole k place c (record (no_effect k) { calls = k.calls ++ c ∷ []; reads = k.reads ++ reads_of (k.regions ++ regions_of k place c) c; regions = k.regions ++ regions_of k place c })
-    (record { short = tt; fit = fit-append k.calls (c ∷ []) h (verdict_fits k message c bytes is, tt) })
-
-fine-read : (k : ServerState) (place : ℕ) (r : PendingRead) (o : Option PendingCall) (s : FrameEffect) → IsFine s → IsFine (read_effect k place r o s)
-fine-read k place r None s h = h
-fine-read k place r (Some c) s h = by (is_stream_read c r s.reads && not (is_read_chunk_of_item (chunk_bytes k place c 0) c.lists.read))
-  where
-    by : (b : Bool) → IsFine (cond b (with_refused_call k c s) (ready_if_whole k place c s))
-    by true = record { short = (chunk_error-short c.xid (credit_word k), tt); fit = fit-filter (λ other. not (eqb other.number c.number)) s.calls h.fit }
-    by false = fine-whole k place c s h
-
-fine-response : (k : ServerState) (place : ℕ) (reads : List PendingRead) → CallsFit k.calls → IsFine (response_effect k place reads)
-fine-response k place [] h = record { short = tt; fit = h }
-fine-response k place (r ∷ reads) h = fine-read k place r (call_of_number k r.number) _ (record { short = tt; fit = h })
 
 -- of a Send, and of a tagged segment
 pub record SaysFine (s : FrameEffect) : Type 0 where
@@ -86,7 +51,9 @@ reads-proper [] = tt
 reads-proper (r ∷ reads) = (tt, reads-proper reads)
 
 says_fine : (s : FrameEffect) → IsFine s → SaysFine s
-says_fine s h = record { short = h.short; fit = h.fit; proper = all_proper-append (map SendFrame s.errors) (map request_frame (newly_open_reads s)) (sends-proper s.errors h.short) (reads-proper (newly_open_reads s)) }
+says_fine s h =
+    let short = errors-short s.errors h.errors in
+    record { short = short; fit = h.fit; proper = all_proper-append (map SendFrame s.errors) (map request_frame (newly_open_reads s)) (sends-proper s.errors short) (reads-proper (newly_open_reads s)) }
 
 pub fine-send : (k : ServerState) (f : Frame) (message : List ℕ) → k.received.begun ≡ None → IsBytes message → CallsFit k.calls → frame_segment f ≡ Ok (Untagged true OPCODE_SEND 0 QUEUE_SEND (msn_word (k.received.sends + 1)) 0 message) → SaysFine (frame_effect k f)
 unfolding frame_effect
@@ -107,7 +74,7 @@ fine-tagged k f last opcode stag to payload h is =
 
     by : (b : Bool) → IsFine (cond b (response_effect t f.end k.reads) (no_effect t))
     by true = fine-response t f.end k.reads h
-    by false = record { short = tt; fit = h }
+    by false = record { errors = NoError; fit = h }
 
 -- ---- Answers
 

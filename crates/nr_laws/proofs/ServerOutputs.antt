@@ -111,7 +111,7 @@ fine-whole k place c s h = by (is_read s.reads c.number)
     by true = fine-verdict (by_payload c (payload_of k place c)) s h
     by false = h
 
-fine-message : (k : ServerState) (place : ℕ) (message : List ℕ) (v : Verdict) → verdict k message ≡ v → IsBytes message → CallsFit k.calls → IsFine (message_effect k place message v)
+pub fine-message : (k : ServerState) (place : ℕ) (message : List ℕ) (v : Verdict) → verdict k message ≡ v → IsBytes message → CallsFit k.calls → IsFine (message_effect k place message v)
 fine-message k place message (EndsLink reason) is bytes h = record { errors = NoError; fit = h }
 fine-message k place message OtherVersion is bytes h = record { errors = OneError _ (OfVersion (word_at 0 message) (word_at 4 message) (credit_word k) refl); fit = h }
 fine-message k place message BadChunks is bytes h = record { errors = OneError _ (OfChunks (word_at 0 message) (credit_word k) refl); fit = h }
@@ -127,7 +127,7 @@ fine-read k place r (Some c) s h = by (is_stream_read c r s.reads && not (is_rea
     by true = record { errors = OneError _ (OfChunks c.xid (credit_word k) refl); fit = fit-filter (λ other. not (eqb other.number c.number)) s.calls h.fit }
     by false = fine-whole k place c s h
 
-fine-response : (k : ServerState) (place : ℕ) (reads : List PendingRead) → CallsFit k.calls → IsFine (response_effect k place reads)
+pub fine-response : (k : ServerState) (place : ℕ) (reads : List PendingRead) → CallsFit k.calls → IsFine (response_effect k place reads)
 fine-response k place [] h = record { errors = NoError; fit = h }
 fine-response k place (r ∷ reads) h = fine-read k place r (call_of_number k r.number) _ (record { errors = NoError; fit = h })
 
