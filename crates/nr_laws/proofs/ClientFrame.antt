@@ -33,9 +33,10 @@ use Rattle.nr_laws.proofs.CompletedFrames.{is-piece}
 use Rattle.nr_laws.proofs.TotalsAtServer.{segment-is}
 use Rattle.nr_laws.proofs.TotalsAtClient.{totals-hello_down, totals-send_down, totals-read_down, totals-tagged_down, down_one, after-is, says-is, request_payload, tagged-none}
 use Rattle.nr_laws.proofs.OwnXids.{OwnXids, own_xids-came, segment-out}
-use Rattle.nr_laws.proofs.OutputFrames.{AllShort, outs-said, response-said}
+use Rattle.nr_laws.proofs.OutputFrames.{outs-said, response-said}
 use Rattle.nr_laws.proofs.Writable.{IsWritable, AreWritable, IsOutput, proper_one, stream-more, stream-first, stream-at, tagged-proper}
 use Rattle.nr_laws.proofs.AgreeingEnds.{EndsAgree, IsPlace, frame_of, payload_bytes}
+use Rattle.nr_laws.proofs.Outputs.{CallsShort}
 
 -- ---- A Read Request that doesn't end a client ends within 2 ^ 64 bytes of its sink
 
@@ -99,23 +100,23 @@ request-ends k f n payload behind is e =
 
 -- ---- What is kept
 
-short-kept : (opened : LinkParameters) (p : OutstandingCall → Bool) (os : List OutstandingCall) → AllShort opened os → AllShort opened (filter p os)
+short-kept : (opened : LinkParameters) (p : OutstandingCall → Bool) (os : List OutstandingCall) → CallsShort opened os → CallsShort opened (filter p os)
 short-kept opened p [] h = tt
 short-kept opened p (o ∷ os) h = by (p o) (short-kept opened p os h.1)
   where
-    by : (b : Bool) → AllShort opened (filter p os) → AllShort opened (cond b (o ∷ filter p os) (filter p os))
+    by : (b : Bool) → CallsShort opened (filter p os) → CallsShort opened (cond b (o ∷ filter p os) (filter p os))
     by true k = (h.0, k)
     by false k = k
 
-short-frame : (opened : LinkParameters) (k : ClientState) (f : Frame) (r : Result Segment ℕ) → AllShort opened k.outstanding → AllShort opened (with_segment k f r).outstanding
+short-frame : (opened : LinkParameters) (k : ClientState) (f : Frame) (r : Result Segment ℕ) → CallsShort opened k.outstanding → CallsShort opened (with_segment k f r).outstanding
 short-frame opened k f r h = by (segment-out k f r)
   where
-    by : ((with_segment k f r).outstanding ≡ k.outstanding) ⊎ ((p : OutstandingCall → Bool) × ((with_segment k f r).outstanding ≡ filter p k.outstanding)) → AllShort opened (with_segment k f r).outstanding
-    by (inl same) = subst (AllShort opened) (sym same) h
-    by (inr left) = subst (AllShort opened) (sym left.1) (short-kept opened left.0 k.outstanding h)
+    by : ((with_segment k f r).outstanding ≡ k.outstanding) ⊎ ((p : OutstandingCall → Bool) × ((with_segment k f r).outstanding ≡ filter p k.outstanding)) → CallsShort opened (with_segment k f r).outstanding
+    by (inl same) = subst (CallsShort opened) (sym same) h
+    by (inr left) = subst (CallsShort opened) (sym left.1) (short-kept opened left.0 k.outstanding h)
 
 client-linked : (opened : LinkParameters) (k t : ClientState) (s : ServerState) (u d all_up all_down : List FrameContent) (w : Transit) (p : FrameContent) (rest said : List FrameContent) → EndsAgree opened k s u d all_up all_down w → w.down ≡ p ∷ rest
-    → TotalsAgree t s (down_one w said rest) → OwnXids opened t → AllShort opened t.outstanding → AreWritable said → total_of hellos_in said ≡ 0 → total_of requests_in said ≡ 0
+    → TotalsAgree t s (down_one w said rest) → OwnXids opened t → CallsShort opened t.outstanding → AreWritable said → total_of hellos_in said ≡ 0 → total_of requests_in said ≡ 0
     → t.received.sends ≡ k.received.sends + sends_in p → t.received.requests ≡ k.received.requests + requests_in p
     → EndsAgree opened t s u (d ++ p ∷ []) (all_up ++ said) all_down (down_one w said rest)
 client-linked opened k t s u d all_up all_down w p rest said l first counts outs short proper hellos reads sends requests = record {
@@ -161,7 +162,7 @@ pub after-hello : (opened : LinkParameters) (k : ClientState) (f : Frame) → is
 unfolding client_state_after
 after-hello opened k f is = λ i. cond (is i) (record k { has_hello = true }) (with_segment k f (frame_segment f))
 
-asks-proper : (opened : LinkParameters) (os : List OutstandingCall) → AllShort opened os → AreWritable (map (call_frame opened) os)
+asks-proper : (opened : LinkParameters) (os : List OutstandingCall) → CallsShort opened os → AreWritable (map (call_frame opened) os)
 asks-proper opened [] h = tt
 asks-proper opened (o ∷ os) h = (h.0, asks-proper opened os h.1)
 
@@ -191,7 +192,7 @@ took-hello opened k s u d all_up all_down w rest f l first is =
       output = output-hello opened k f is ∙ outs-said opened 0 0 k.outstanding l.short ∙ (λ i. output_bytes Initiator (sym calls i) (sym l.no_reads i) said);
       linked =
           client-linked opened k (client_state_after opened k (FrameReceived f)) s u d all_up all_down w HelloFrame rest said l first counts (own_xids-came opened k f l.outs)
-          (subst (λ (t : ClientState). AllShort opened t.outstanding) (sym after) l.short) (asks-proper opened k.outstanding l.short)
+          (subst (λ (t : ClientState). CallsShort opened t.outstanding) (sym after) l.short) (asks-proper opened k.outstanding l.short)
           (total-map-zero hellos_in (call_frame opened) k.outstanding (λ o. refl)) (total-map-zero requests_in (call_frame opened) k.outstanding (λ o. refl))
           (omega (arith, ap (λ (t : ClientState). t.received.sends) after)) (omega (arith, ap (λ (t : ClientState). t.received.requests) after));
     }
@@ -212,7 +213,7 @@ took-frame opened k s u d all_up all_down w p rest said f r l first behind is sa
       linked =
           client-linked opened k (client_state_after opened k (FrameReceived f)) s u d all_up all_down w p rest said l first
           (subst (λ (ps : List FrameContent). TotalsAgree (client_state_after opened k (FrameReceived f)) s (down_one w ps rest)) (says-is opened k f r behind is ∙ says) counts)
-          (own_xids-came opened k f l.outs) (subst (λ (t : ClientState). AllShort opened t.outstanding) (sym after) (short-frame opened k f r l.short)) proper hellos reads
+          (own_xids-came opened k f l.outs) (subst (λ (t : ClientState). CallsShort opened t.outstanding) (sym after) (short-frame opened k f r l.short)) proper hellos reads
           (ap (λ (t : ClientState). t.received.sends) after ∙ sends) (ap (λ (t : ClientState). t.received.requests) after ∙ requests);
     }
 

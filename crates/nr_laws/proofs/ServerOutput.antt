@@ -28,11 +28,12 @@ use Rattle.nr_laws.specs.FrameContents.{FrameContent, output_bytes, total_of, se
 use Rattle.nr_laws.specs.FrameContents.FrameContent.{SendFrame}
 use Rattle.nr_laws.proofs.TotalsAtServer.{fills-none, long-none}
 use Rattle.nr_laws.proofs.StreamFrames.{spelled-append}
-use Rattle.nr_laws.proofs.OutputFrames.{IsShort, AreShort, send-one, write-said}
+use Rattle.nr_laws.proofs.OutputFrames.{write-said}
 use Rattle.nr_laws.proofs.Writable.{AreWritable, all_proper-append, tagged-proper}
 use Rattle.nr_laws.proofs.ServerOutputs.{chunk_error-short, version_error-short, CallsFit, fit-append, fit-filter, answer-short, for_target, found-fits, IsFine, fine-message, fine-response, errors-short}
 use Rattle.nr_laws.proofs.ServerOutputs.AtMostOne.{NoError}
 use Rattle.nr_laws.proofs.WritableOffers.{SegmentsFit, OfferFits, verdict_fits}
+use Rattle.nr_laws.proofs.Outputs.{IsShort, send-one, AreShort}
 
 -- ---- The calls of a server
 
