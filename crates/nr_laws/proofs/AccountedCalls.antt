@@ -29,6 +29,7 @@ use Rattle.nr_reduce.specs.ClientMessages.Verdict.{EndsLink, GivesOutcome}
 use Rattle.nr_reduce.specs.Client.{client_end, client_state_after, end_of_verdict, outstanding_of, outcomes_of, revoked_call, written_call, with_message, with_request, with_segment, segment_message, message_end}
 use Rattle.nr_laws.proofs.Keys.{any-append, or-left, or-right}
 use Rattle.nr_laws.proofs.TotalsAtClient.{header-xid, taken}
+use Rattle.nr_laws.proofs.Basics.{some-not}
 
 -- ---- A message that doesn't end the client gives an outcome of the call of its xid, or that call's memory was revoked
 
@@ -41,15 +42,12 @@ record GivenOutcome (gone : ℕ → Bool) (xid : ℕ) (v : Verdict) : Type 0 whe
 abbrev pub RevokedGone : (ℕ → Bool) → OutstandingCall → Type 0
 RevokedGone gone o = o.is_revoked ≡ true → gone o.xid ≡ true
 
-some_not : (x : Outcome) → Some x ≢ None
-some_not x e = cc
-
 given-head : (gone : ℕ → Bool) (f : Frame) (xid : ℕ) (payload : List ℕ) (r : Result ReplyHead ℕ) → end_of_verdict f (by_head xid payload r) ≡ None → GivenOutcome gone xid (by_head xid payload r)
 given-head gone f xid payload (Err at) e = absurd cc
 given-head gone f xid payload (Ok head) e = by (eqb (reply_xid head) xid) e
   where
     by : (b : Bool) → end_of_verdict f (cond b (GivesOutcome xid (Some (outcomes.Reply payload))) (EndsLink 19)) ≡ None → GivenOutcome gone xid (cond b (GivesOutcome xid (Some (outcomes.Reply payload))) (EndsLink 19))
-    by true e = record { outcome = Some (outcomes.Reply payload); is = refl; if_none = λ x. absurd (some_not (outcomes.Reply payload) x) }
+    by true e = record { outcome = Some (outcomes.Reply payload); is = refl; if_none = λ x. absurd (some-not (outcomes.Reply payload) x) }
     by false e = absurd cc
 
 given-payload : (gone : ℕ → Bool) (f : Frame) (xid : ℕ) (payload : Option (List ℕ)) → end_of_verdict f (by_payload xid payload) ≡ None → GivenOutcome gone xid (by_payload xid payload)
@@ -71,8 +69,8 @@ given-lists gone k f o inline lists true h e = by o.is_revoked refl e
 given-body : (gone : ℕ → Bool) (k : ClientState) (f : Frame) (message : List ℕ) (o : OutstandingCall) (body : Body) → RevokedGone gone o → end_of_verdict f (by_body k f.end o message body) ≡ None → GivenOutcome gone o.xid (by_body k f.end o message body)
 given-body gone k f message o (Msg lists at) h e = given-lists gone k f o (Some (drop at message)) lists (answers_offer false (lists_of o.stag o.plan) lists) h e
 given-body gone k f message o (Nomsg lists) h e = given-lists gone k f o None lists (answers_offer true (lists_of o.stag o.plan) lists) h e
-given-body gone k f message o (ErrVers version low high) h e = record { outcome = Some (outcomes.Version low high); is = refl; if_none = λ x. absurd (some_not (outcomes.Version low high) x) }
-given-body gone k f message o (ErrChunk version) h e = record { outcome = Some outcomes.Chunk; is = refl; if_none = λ x. absurd (some_not outcomes.Chunk x) }
+given-body gone k f message o (ErrVers version low high) h e = record { outcome = Some (outcomes.Version low high); is = refl; if_none = λ x. absurd (some-not (outcomes.Version low high) x) }
+given-body gone k f message o (ErrChunk version) h e = record { outcome = Some outcomes.Chunk; is = refl; if_none = λ x. absurd (some-not outcomes.Chunk x) }
 
 -- what is found
 record FoundCall (gone : ℕ → Bool) (xid : ℕ) (o : OutstandingCall) : Type 0 where

@@ -27,6 +27,7 @@ use Rattle.nr_reduce.proofs.Steps.{events-one}
 use Rattle.nr_laws.specs.Typed.{TypedMark}
 use Rattle.nr_laws.proofs.Flows.{got-one}
 use Rattle.nr_laws.proofs.Outputs.{Output}
+use Rattle.std.proofs.lemmas.List.Folds.{concat-append}
 
 -- ---- Outputs of a machine
 
@@ -137,10 +138,6 @@ places-frames place (f ∷ fs) = (let e = places-frames (place + length f) fs in
 -- how many bytes of whole frames a side received
 abbrev pub whole_bytes : ℕ → Side → List Mark → ℕ
 whole_bytes link side run = length (concat (split (HelloFrom (other side)) (bytes_received link side run)).frames)
-
-concat-append : (xs ys : List (List ℕ)) → concat (xs ++ ys) ≡ concat xs ++ concat ys
-concat-append [] ys = refl
-concat-append (x ∷ xs) ys = ap (λ (zs : List ℕ). x ++ zs) (concat-append xs ys) ∙ sym (append_assoc x (concat xs) (concat ys))
 
 -- the frames that more bytes complete
 abbrev later_frames : Side → List ℕ → List ℕ → List (List ℕ)

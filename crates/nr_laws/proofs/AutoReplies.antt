@@ -33,9 +33,7 @@ use Rattle.nr_laws.proofs.OwnPayloads.{payloads_are_own}
 use Rattle.nr_laws.proofs.PlannedOffers.{offers_are_planned}
 use Rattle.nr_laws.proofs.ChunkCauses.{chunk_has_cause}
 use Rattle.nr_laws.proofs.OwnPlans.{one-form, no_own_plan_is_refused}
-
-some-payload : (own payload : List ℕ) → Some own ≡ Some payload → own ≡ payload
-some-payload own payload e = cc
+use Rattle.nr_laws.proofs.Basics.{some-is}
 
 pub auto_has_replies : AutoHasReplies
 auto_has_replies reply_to adds opened link run earlier before call xid outcome plain plainly opens typed far at done = by outcome done
@@ -74,7 +72,7 @@ auto_has_replies reply_to adds opened link run earlier before call xid outcome p
         chunk.is ∙ ap (λ (b : List Mark). b ++ mark ∷ chunk.after) u.at.is ∙ append_assoc u.before (execute ∷ u.at.after) (mark ∷ chunk.after) in
         let executed : MarkAt run u.before execute = record { after = u.at.after ++ mark ∷ chunk.after; is = there } in
         let own : call_payload xid call ≡ u.payload =
-        some-payload (call_payload xid call) u.payload (payloads_are_own opened link run u.before xid plan u.moment u.payload u.place u.reply typed far has executed) in
+        some-is (call_payload xid call) u.payload (payloads_are_own opened link run u.before xid plan u.moment u.payload u.place u.reply typed far has executed) in
         let offer = offers_are_planned opened link run u.before xid plan u.moment u.payload u.place u.reply opens typed far has executed in
         let replied = at-mark (PlainMark (server_with reply_to adds)) run u.before execute executed.after there plainly in
         plain.auto (journal (server_with reply_to adds) u.before) u.moment u.payload u.reply send_max send_max (client opened link earlier).state.stag plan (subst IsBytes own bytes) replied (omega arith)

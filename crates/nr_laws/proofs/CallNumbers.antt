@@ -25,6 +25,7 @@ use Rattle.nr_laws.specs.FrameContents.{FrameContent, total_of, sends_in, call_f
 use Rattle.nr_laws.specs.FrameContents.FrameContent.{HelloFrame, SendFrame, RequestFrame, TaggedFrame}
 use Rattle.nr_laws.specs.LinkInvariants.{AreAtMost}
 use Rattle.nr_laws.proofs.PendingSends.{verdict-new}
+use Rattle.nr_laws.proofs.Basics.{each-append}
 
 -- the messages among some frames have these xids, one after the other
 abbrev pub XidsFrom : ℕ → List FrameContent → Type 0
@@ -72,10 +73,6 @@ xids-asked opened x (o ∷ os) h own = (own.0 ∙ h.0, xids-asked opened (x + 1)
 
 abbrev pub IsNumbered : ℕ → PendingCall → Type 0
 IsNumbered first c = c.xid + 1 ≡ first + c.number
-
-each-append : {X : Type 0} (P : X → Type 0) (xs ys : List X) → AllByRecursion P xs → AllByRecursion P ys → AllByRecursion P (xs ++ ys)
-each-append P [] ys h k = k
-each-append P (x ∷ xs) ys h k = (h.0, each-append P xs ys h.1 k)
 
 pub numbered-kept : (first : ℕ) (p : PendingCall → Bool) (cs : List PendingCall) → AllByRecursion (IsNumbered first) cs → AllByRecursion (IsNumbered first) (filter p cs)
 numbered-kept first p [] h = tt

@@ -36,6 +36,7 @@ use Rattle.nr_laws.proofs.ServerReadsOfRuns.{ServerFine, server-fine, reads-alon
 use Rattle.nr_laws.proofs.ServerSide.{client-receives-of}
 use Rattle.nr_laws.proofs.SinksKept.{SinksKept}
 use Rattle.nr_laws.proofs.SplitResponses.{lasts_of, EndsLast, first-responses}
+use Rattle.nr_laws.proofs.Basics.{first-is}
 
 -- ---- Lists
 
@@ -75,9 +76,6 @@ outs-more opened r (x ∷ es) more =
     ap (λ (xs : List Output). o ++ xs) (outs-more opened (next_end_state (server_rules opened) r x) es more)
     ∙ sym (append_assoc o (outputs_all (server_rules opened) (server_says opened) server_final_outputs (next_end_state (server_rules opened) r x) es)
     (outputs_all (server_rules opened) (server_says opened) server_final_outputs (end_state_after (server_rules opened) (next_end_state (server_rules opened) r x) es) more))
-
-first-is : (x y : List ℕ) (xs ys : List (List ℕ)) → x ∷ xs ≡ y ∷ ys → x ≡ y
-first-is x y xs ys e = cc
 
 taken-requests : (others : List Answered) (ps X Y : List (List ℕ)) → requests_of others ++ X ≡ ps ++ Y → length ps ≤ length others → requests_of (take (length ps) others) ≡ ps
 taken-requests others [] X Y e le = refl

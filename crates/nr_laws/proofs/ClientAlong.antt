@@ -29,6 +29,7 @@ use Rattle.nr_laws.proofs.Brought.{AreFrom}
 use Rattle.nr_laws.proofs.Words.{send-word, terminate-word, from-append, payload-bytes}
 use Rattle.nr_laws.proofs.Messages.{messages, AreOne, messages-append, one-append, messages-calls, one-calls, messages-tagged, one-tagged, tagged-response, messages-final, one-final}
 use Rattle.nr_laws.proofs.ClientSays.{IsGoodCall, ClientGood, accepted_in, accepted-append, stag_behind, from-more, behind-more, start, asked, HasHello, ClientSays, short-append, short-filter, short-revoked, short-written, submitted-append, submitted-messages, map-more, revoked-same, written-same, client-unharmed, formed, response-words}
+use Rattle.nr_laws.proofs.Basics.{above-zero}
 
 -- ---- What is said for a frame
 
@@ -135,10 +136,6 @@ first-greeted : (place : ℕ) (b : Bool) → place ≡ 0 → HasHello place b �
 first-greeted place b none (inl h) = h.1
 first-greeted place b none (inr h) = absurd (let z = h.0 in omega (arith, z, none))
 
-pub not-first : (n : ℕ) → eqb n 0 ≡ false → 0 < n
-not-first zero e = absurd cc
-not-first (suc n) e = omega arith
-
 segment-step : (opened : LinkParameters) (place : ℕ) (k : ClientState) (f : Frame) → 0 < f.at → f.at ≡ place → place < f.end → HasHello place k.has_hello → Step opened f.end k (with_segment k f (frame_segment f)) None
 segment-step opened place k f behind at goes greeted =
     let h = segment-fields opened k f (frame_segment f) in
@@ -244,7 +241,7 @@ frame-says opened es place k outs f next p = by_end (client_end k (FrameReceived
     by_hello true is stays = hello-step opened es place k outs f (eqb-true f.at 0 is) next.0 next.1 p
     by_hello false is stays =
         quiet-step opened es (FrameReceived f) place f.end k (with_segment k f (frame_segment f)) None None outs _ refl
-        (segment-step opened place k f (not-first f.at is) next.0 next.1 (p.greeted refl)) (segment-quiet k f next.2 is stays) p
+        (segment-step opened place k f (above-zero f.at is) next.0 next.1 (p.greeted refl)) (segment-quiet k f next.2 is stays) p
 
     by_end : (o : Option Stop) → client_end k (FrameReceived f) ≡ o
         → ClientSays opened (es ++ FrameReceived f ∷ []) f.end (next_end_state_by (client_rules opened) k (FrameReceived f) o).state (next_end_state_by (client_rules opened) k (FrameReceived f) o).ended

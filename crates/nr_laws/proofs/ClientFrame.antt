@@ -1,6 +1,6 @@
 -- A client that a frame doesn't end keeps all that holds between both ends.
 use Rattle.std.proofs.Common.{◌≡◌, ℕ, ◌+◌, ◌≤◌, ◌<◌, ◌^◌, Bool, true, false, cond, not, ◌||◌, eqb, ltb, List, [], ◌∷◌, ◌++◌, length, map, take, drop, filter, Option, Some, None, Result, Ok, refl, sym, ap, subst, ◌∙◌, arith, lit<, append_assoc, length-take, ◌⊎◌, inl, inr}
-use Rattle.std.proofs.lemmas.Bool.{cases_lt, lt-ltb}
+use Rattle.std.proofs.lemmas.Bool.{cases_lt, lt-ltb, ltb-false}
 use Rattle.nr_xdr.specs.Item.{IsBytes}
 use Rattle.nr_xdr.specs.Fields.{word_at}
 use Rattle.nr_xdr.proofs.WordBytes.{IsBytes-drop, IsBytes-take, word_of-below, hyper_of-below}
@@ -73,13 +73,6 @@ ends_below false false c e = e
 ends_below true b c e = absurd cc
 ends_below false true c e = absurd cc
 
-not_above : (n m : ℕ) → ltb n m ≡ false → m ≤ n
-not_above n m e =
-    elim (cases_lt n m) [
-      | inl lt ↦ absurd (let wrong : true ≡ false = sym (lt-ltb n m lt) ∙ e in cc)
-      | inr le ↦ le
-    ]
-
 pub by_end : (k : ClientState) (f : Frame) (o : Option End) → or_message_end k f o ≡ None → o ≡ None
 by_end k f None e = refl
 by_end k f (Some end) e = absurd cc
@@ -95,7 +88,7 @@ request-ends k f n payload behind is e =
     let none : end_of_fault f segment (segment_fault (readiness k (missing_access grants f segment)) segment) ≡ None =
     ap (λ (r : Result Segment ℕ). frame_end_by (readiness k) grants f r) (sym is) ∙ found in
     let malformed = not-malformed (readiness k (missing_access grants f segment)) n payload (no_fault f segment _ none) in
-    not_above (2 ^ 64) ((read_request_in payload).sink_to + (read_request_in payload).size)
+    ltb-false (2 ^ 64) ((read_request_in payload).sink_to + (read_request_in payload).size)
     (ends_below false (not (eqb (length payload) 28)) (ltb (2 ^ 64) ((read_request_in payload).sink_to + (read_request_in payload).size)) malformed)
 
 -- ---- What is kept

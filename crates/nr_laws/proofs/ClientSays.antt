@@ -2,7 +2,7 @@
 -- hello.
 use Rattle.std.proofs.Common.{◌≡◌, ℕ, ◌+◌, ◌^◌, ◌≤◌, ◌<◌, Bool, true, false, cond, ◌||◌, not, eqb, ltb, List, [], ◌∷◌, ◌++◌, length, take, drop, map, Option, None, Some, Result, Ok, refl, sym, ap, subst, ◌∙◌, arith, ◌⊎◌, eqb-true}
 use Rattle.std.proofs.lemmas.List.{length-take}
-use Rattle.std.proofs.lemmas.Bool.{ltb-false}
+use Rattle.std.proofs.lemmas.Bool.{ltb-false, or_parts}
 use Rattle.std.specs.List.{filter}
 use Rattle.nr_xdr.specs.Item.{IsBytes}
 use Rattle.nr_rpc.specs.Credential.{CanWriteCred}
@@ -38,6 +38,7 @@ use Rattle.nr_laws.proofs.Outputs.{Output, IsShort, CallsShort, message_of_call,
 use Rattle.nr_laws.proofs.Brought.{AreFrom}
 use Rattle.nr_laws.proofs.Words.{responses-words, RangeEnds, word-below, hyper-below, payload_by}
 use Rattle.nr_laws.proofs.Messages.{messages, AreOne}
+use Rattle.std.proofs.Math.Bool.{or-false}
 
 -- ---- A call that is accepted
 
@@ -168,14 +169,10 @@ revoked-same xid (o ∷ os) = ap (λ (x : OutstandingCall). x ∷ map as_submitt
     by true = refl
     by false = refl
 
-or-none : (b : Bool) → (b || false) ≡ b
-or-none true = refl
-or-none false = refl
-
 pub written-same : (hello : Bool) (os : List OutstandingCall) → hello ≡ false → map as_submitted (map (written_call hello) os) ≡ map as_submitted os
 written-same hello [] no_hello = refl
 written-same hello (o ∷ os) no_hello =
-    ap (λ (b : Bool). record o { is_written = b; is_revoked = false } ∷ map as_submitted (map (written_call hello) os)) (ap (λ (b : Bool). o.is_written || b) no_hello ∙ or-none o.is_written)
+    ap (λ (b : Bool). record o { is_written = b; is_revoked = false } ∷ map as_submitted (map (written_call hello) os)) (ap (λ (b : Bool). o.is_written || b) no_hello ∙ or-false o.is_written)
     ∙ ap (λ (rest : List OutstandingCall). as_submitted o ∷ rest) (written-same hello os no_hello)
 
 -- ---- A Read Request that is answered
@@ -219,14 +216,10 @@ formed r last opcode w queue msn offset payload e =
     let all : AreNone flaws = all_none flaws e in
     no_reason REASON_FORM (is_malformed opcode last payload) all.1.1.1.0
 
-or-false : (a b : Bool) → (a || b) ≡ false → (a ≡ false) × (b ≡ false)
-or-false true b e = absurd cc
-or-false false b e = (refl, e)
-
 request-ends : (last : Bool) (payload : List ℕ) → IsBytes payload → is_malformed OPCODE_READ_REQUEST last payload ≡ false → RangeEnds (read_request_in payload).sink_to (read_request_in payload).size
 request-ends last payload bytes e =
-    let a = or-false (not last) (not (eqb (length payload) 28) || ltb (2 ^ 64) ((read_request_in payload).sink_to + (read_request_in payload).size)) e in
-    let b = or-false (not (eqb (length payload) 28)) (ltb (2 ^ 64) ((read_request_in payload).sink_to + (read_request_in payload).size)) a.1 in
+    let a = or_parts (not last) (not (eqb (length payload) 28) || ltb (2 ^ 64) ((read_request_in payload).sink_to + (read_request_in payload).size)) e in
+    let b = or_parts (not (eqb (length payload) 28)) (ltb (2 ^ 64) ((read_request_in payload).sink_to + (read_request_in payload).size)) a.1 in
     let c = ltb-false (2 ^ 64) ((read_request_in payload).sink_to + (read_request_in payload).size) b.1 in
     (hyper-below 4 payload bytes, c)
 

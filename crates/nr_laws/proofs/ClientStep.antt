@@ -60,6 +60,7 @@ use Rattle.nr_laws.proofs.AnsweredSteps.{answers-one}
 use Rattle.nr_laws.proofs.GuardsAtServer.{sent_most}
 use Rattle.nr_laws.proofs.Guards.{Guards}
 use Rattle.nr_laws.proofs.GuardsAtClient.{front-down, asked-of, guards-hello_down, guards-send_down, guards-read_down, guards-tagged_down}
+use Rattle.nr_laws.proofs.Basics.{some-not}
 
 -- ---- A message
 
@@ -157,9 +158,6 @@ pub record ClientStep (opened : LinkParameters) (k : ClientState) (s : ServerSta
 hello-none : (k : ClientState) (f : Frame) → is_hello f ≡ true → hello_of Responder f.bytes ≡ Ok (record { side = Responder; flags = 0; private = [] }) → client_end k (FrameReceived f) ≡ None
 unfolding client_end
 hello-none k f is says = (λ i. cond (is i) (hello_end (says i)) (or_message_end k f (frame_end (readiness k) (region_grants f.end k.regions) f)))
-
-some-none : (x : End) → Some x ≢ None
-some-none x e = cc
 
 len-request : (sink at size stag to : ℕ) → length (request_payload sink at size stag to) ≡ 28
 len-request sink at size stag to =
@@ -276,7 +274,7 @@ step-down opened k s u [] all_up all_down w up p rest n r place o l g first send
     let says = ap (λ (q : FrameContent). hello_of Responder (frame_bytes Responder (numbered_segment n r q))) hello ∙ (hello-is Responder).says in
     let none = hello-none k f is says in
     subst (λ (q : FrameContent). ClientStep opened k s u [] all_up all_down w up q rest f) (sym hello) (record {
-      only = λ end e. absurd (some-none end (sym e ∙ none));
+      only = λ end e. absurd (some-not end (sym e ∙ none));
       kept = λ stays. guards-hello_down opened k s u [] all_up all_down w up rest f l g (first ∙ ap (λ (q : FrameContent). q ∷ rest) hello) is stays;
     })
 step-down opened k s u (q ∷ d) all_up all_down w up p rest n r place o l g first sends requests at =

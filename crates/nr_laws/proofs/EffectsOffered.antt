@@ -20,10 +20,11 @@ use Rattle.nr_reduce.specs.ServerMessages.CallVerdict.{Refuses, IsReady}
 use Rattle.nr_reduce.specs.ServerMessages.Verdict.{EndsLink, OtherVersion, BadChunks, MakesPending}
 use Rattle.nr_reduce.specs.ServerFrames.{FrameEffect, no_effect, with_verdict, ready_if_whole, message_effect, with_refused_call, is_stream_read, read_effect, call_of_number, response_effect, with_access, effect_in, frame_effect}
 use Rattle.nr_laws.specs.FrameContents.FrameContent.{SendFrame}
-use Rattle.nr_laws.proofs.ReadLimits.{each-append, each-drop, each-kept}
+use Rattle.nr_laws.proofs.ReadLimits.{each-kept}
 use Rattle.nr_laws.proofs.PendingSends.{verdict-new}
 use Rattle.nr_laws.proofs.ServerReadsOfRuns.{verdict-lists}
 use Rattle.nr_laws.proofs.OfferedAccesses.{EntryOffered, ListsOffered, CallOffered, MessageOffered, ReadOffered, each-all}
+use Rattle.nr_laws.proofs.Basics.{each-append, each-drop}
 
 -- ---- Lists
 

@@ -24,6 +24,7 @@ use Rattle.nr_reduce.specs.RunLaws.{server_by}
 use Rattle.nr_reduce.proofs.Once.{NumberIs, verdict-number, whole-with, Goes, after-goes}
 use Rattle.nr_reduce.proofs.OwnStags.{AreNumbered, server-numbers, kept-after}
 use Rattle.nr_laws.proofs.PendingSinks.{sink-closed, OwnersBelow, owners-more, owners-append, owners-closed, sink-none}
+use Rattle.nr_laws.proofs.Basics.{and-false}
 
 -- ---- The sink of a chunk among some regions
 
@@ -35,10 +36,6 @@ HasNoSink regions c = (position : ℕ) → total_at position c.lists.read ≡ 0 
 abbrev HaveNoSinks : ℕ → List Region → List PendingCall → Type 0
 HaveNoSinks n regions [] = Unit {0}
 HaveNoSinks n regions (c ∷ calls) = (c.number ≤ n) × HasNoSink regions c × HaveNoSinks n regions calls
-
-and-false : (b c : Bool) → b ≡ false → (b && c) ≡ false
-and-false true c e = absurd cc
-and-false false c e = refl
 
 abbrev sink_region : (number position stag place : ℕ) → ChunkLists → Region
 sink_region number position stag place lists = record { call = number; position = position; stag = stag; right = Sink; bytes = replicate (total_at position lists.read) 0; from = place; until = None }

@@ -35,7 +35,7 @@ use Rattle.nr_laws.proofs.TotalsAtClient.{down_one, after-is, says-is, request_p
 use Rattle.nr_laws.proofs.ReadsAtClient.{AnswersNone, reads-read_down, reads-says_up}
 use Rattle.nr_laws.proofs.ServerInvariant.{ServerAgrees}
 use Rattle.nr_laws.proofs.Replies.{IsReply}
-use Rattle.nr_laws.proofs.ReadLimits.{AreWithin, ReadFits, IsSmall, each-append, each-take, each-kept}
+use Rattle.nr_laws.proofs.ReadLimits.{AreWithin, ReadFits, IsSmall, each-kept}
 use Rattle.nr_laws.proofs.RequestFields.{is-there}
 use Rattle.nr_laws.proofs.OwnXids.{segment-out}
 use Rattle.nr_laws.proofs.AgreeingEnds.{EndsAgree}
@@ -45,16 +45,13 @@ use Rattle.nr_laws.proofs.ClientFrame.{calls_said}
 use Rattle.nr_laws.proofs.AnsweredSteps.{Answered, answered-message, answered-same}
 use Rattle.nr_laws.proofs.Guards.{ClientContent, ServerContent, IsAsked, AreSized, Guards}
 use Rattle.nr_laws.proofs.GuardsAtServer.{each-at}
+use Rattle.nr_laws.proofs.Basics.{each-append, each-right, each-take}
 
 pub front-down : (opened : LinkParameters) (k : ClientState) (s : ServerState) (u d all_up all_down : List FrameContent) (w : Transit) (place : ℕ) (p : FrameContent) (rest : List FrameContent) → EndsAgree opened k s u d all_up all_down w → Guards opened k s u d all_up all_down w place → w.down ≡ p ∷ rest → ServerContent opened.granted p
 front-down opened k s u d all_up all_down w place p rest l g first =
     each-at (ServerContent opened.granted) d p (rest ++ w.queued_down) (subst (AllByRecursion (ServerContent opened.granted)) (sym l.parts_down ∙ ap (λ (ps : List FrameContent). d ++ (ps ++ w.queued_down)) first) g.down_said)
 
 -- ---- The read of a Read Request
-
-each-right : {X : Type 0} (P : X → Type 0) (xs ys : List X) → AllByRecursion P (xs ++ ys) → AllByRecursion P ys
-each-right P [] ys h = h
-each-right P (x ∷ xs) ys h = each-right P xs ys h.1
 
 have-right : (place : ℕ) (regions : List Region) (xs ys : List PendingRead) → HaveSinks place regions (xs ++ ys) → HaveSinks place regions ys
 have-right place regions [] ys h = h

@@ -26,7 +26,6 @@ use Rattle.nr_laws.specs.LinkInvariants.{Transit}
 use Rattle.nr_laws.proofs.TotalsAtClient.{up_more, totals-accepts, totals-writes_up}
 use Rattle.nr_laws.proofs.ReadsAtClient.{AnswersNone, reads-says_up, reads-writes_up}
 use Rattle.nr_laws.proofs.EventsAtServer.{server-executes, server-writes}
-use Rattle.nr_laws.proofs.ReadLimits.{each-append}
 use Rattle.nr_laws.proofs.ServerOutputs.{CallsFit}
 use Rattle.nr_laws.proofs.OwnEvents.{planned, totals-revoked, xid-revoked}
 use Rattle.nr_laws.proofs.AgreeingEnds.{EndsAgree}
@@ -43,6 +42,7 @@ use Rattle.nr_laws.proofs.AnsweredCalls.{times, answer-xids, executed-less}
 use Rattle.nr_laws.proofs.AnsweredSteps.{Answered, IsWritten, answered-submit, answered-map, answered-server}
 use Rattle.nr_laws.proofs.GuardsAtServer.{sent_most, pending-word}
 use Rattle.nr_laws.proofs.Guards.{ClientContent, ServerContent, IsAsked, AreSized, Guards, execution-down}
+use Rattle.nr_laws.proofs.Basics.{each-append}
 
 -- an event of the client that is no frame
 reached-more : (opened : LinkParameters) (k : ClientState) (event : Event) → client_end k event ≡ None → (es : List Event) × (end_state_after (client_rules opened) (initial_client opened) es ≡ live k)

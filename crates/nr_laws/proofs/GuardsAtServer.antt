@@ -29,7 +29,7 @@ use Rattle.nr_laws.proofs.ReadsAtClient.{reads-says_down}
 use Rattle.nr_laws.proofs.Sinks.{sink-later}
 use Rattle.nr_laws.proofs.ServerInvariant.{ServerAgrees, server-takes_send, server-takes_response}
 use Rattle.nr_laws.proofs.Replies.{replies-send, replies-tagged}
-use Rattle.nr_laws.proofs.ReadLimits.{AreWithin, each-append, within-send, within-tagged, within-closed}
+use Rattle.nr_laws.proofs.ReadLimits.{AreWithin, within-send, within-tagged, within-closed}
 use Rattle.nr_laws.proofs.AgreeingEnds.{EndsAgree, taken_up, not-refused, says-hello, says-frame, after-hello, payload_bytes}
 use Rattle.nr_laws.proofs.CallNumbers.{XidsFrom, IsNumbered, xids-at, numbered-send, numbered-tagged}
 use Rattle.nr_reduce.specs.Plans.{one_if}
@@ -43,6 +43,7 @@ use Rattle.nr_laws.proofs.ClientFrame.{calls_said, word_below}
 use Rattle.nr_laws.proofs.AnsweredCalls.{times, call_xids, effect-xids, pending-send, pending-tagged}
 use Rattle.nr_laws.proofs.AnsweredSteps.{Answered, answered-send, answered-other}
 use Rattle.nr_laws.proofs.Guards.{ClientContent, ServerContent, Guards, step-down}
+use Rattle.nr_laws.proofs.Basics.{each-append}
 
 pub each-at : {X : Type 0} (P : X → Type 0) (xs : List X) (y : X) (ys : List X) → AllByRecursion P (xs ++ y ∷ ys) → P y
 each-at P [] y ys h = h.0

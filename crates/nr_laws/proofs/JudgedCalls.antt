@@ -1,7 +1,7 @@
 -- What a form conveys of a call is judged to be ready, where it has a call head; a message that makes a call pending isn't refused.
 use Rattle.std.proofs.Common.{◌≡◌, ◌≢◌, ℕ, ◌+◌, ◌^◌, ◌≤◌, ◌<◌, Bool, true, false, cond, ◌||◌, not, eqb, ltb, List, [], ◌∷◌, length, Option, None, Some, Result, Ok, Err, refl, sym, ap, subst, ◌∙◌, eqb-true, eq-eqb, inl, inr}
 use Rattle.std.specs.Prelude.{IfSome, is_ok}
-use Rattle.std.proofs.lemmas.Bool.{eqb-false}
+use Rattle.std.proofs.lemmas.Bool.{eqb-false, or_parts, not-false, ltb-false}
 use Rattle.std.proofs.lemmas.List.Elements.{All-head}
 use Rattle.nr_xdr.specs.Item.{IsBytes}
 use Rattle.nr_xdr.specs.Fields.{word_at}
@@ -37,7 +37,6 @@ use Rattle.nr_laws.specs.Stays.{HasCallHead, IsRefusedMessage, IsConveyedOrRefus
 use Rattle.nr_laws.proofs.CallTargets.{conveyed-head}
 use Rattle.nr_laws.proofs.OwnHeads.{OwnHead, own-head}
 use Rattle.nr_laws.proofs.SuitedCalls.{HasNoBytes, Suits}
-use Rattle.nr_laws.proofs.WritableOffers.{not_above}
 
 -- ---- A payload with a call head
 
@@ -91,7 +90,7 @@ header-long message h e = by (ltb (length message) 16) refl (body_by (error_by (
   where
     by : (b : Bool) → ltb (length message) 16 ≡ b → (r : Result Body HeaderFault) → cond b (Err faults.Short) (header_by (word_at 0 message) (word_at 8 message) r) ≡ Ok h → 16 ≤ length message
     by true is r e = absurd cc
-    by false is r e = not_above (length message) 16 is
+    by false is r e = ltb-false (length message) 16 is
 
 -- the tests that a message passed
 record Passed (k : ServerState) (message : List ℕ) : Type 0 where
@@ -100,14 +99,6 @@ record Passed (k : ServerState) (message : List ℕ) : Type 0 where
   done : word_at 12 message ≢ 3
   error : word_at 12 message ≢ 4
   free : is_pending k (word_at 0 message) ≡ false
-
-or-false : (a b : Bool) → (a || b) ≡ false → (a ≡ false) × (b ≡ false)
-or-false true b e = absurd cc
-or-false false b e = (refl, e)
-
-not-false : (a : Bool) → not a ≡ false → a ≡ true
-not-false true e = refl
-not-false false e = absurd cc
 
 passed : (k : ServerState) (message : List ℕ) (c : PendingCall) → verdict k message ≡ MakesPending c → Passed k message
 unfolding verdict
@@ -120,7 +111,7 @@ passed k message c e = by (not (eqb (word_at 4 message) 1)) refl (eqb (word_at 1
     by false a false b true d r h e = absurd cc
     by false a false b false d (Err fault) h e = absurd cc
     by false a false b false d (Ok header) h e =
-        let kinds = or-false (eqb (word_at 12 message) 3) (eqb (word_at 12 message) 4) b in
+        let kinds = or_parts (eqb (word_at 12 message) 3) (eqb (word_at 12 message) 4) b in
         record {
           long = header-long message header h;
           version = eqb-true (word_at 4 message) 1 (not-false (eqb (word_at 4 message) 1) a);

@@ -164,3 +164,4 @@ pub mod AllowedAccesses
 pub mod NotDenied
 pub mod CallsAtFrames
 pub mod EndingEvents
+pub mod Basics

@@ -31,6 +31,7 @@ use Rattle.nr_laws.proofs.NotDenied.{client-not-denied}
 use Rattle.nr_laws.proofs.ReadCalls.{server-stays}
 use Rattle.nr_laws.proofs.ReadReplies.{client-reads-replies}
 use Rattle.nr_laws.proofs.SettledLinks.{calls-complete}
+use Rattle.nr_laws.proofs.Basics.{none-some}
 
 -- ---- A mark is an event of one side
 
@@ -56,9 +57,6 @@ client-same opened link before mark none =
 server-same : (opened : LinkParameters) (link : ℕ) (before : List Mark) (mark : Mark) → events_at link Responder before mark ≡ [] → (server opened link (before ++ mark ∷ [])).ended ≡ (server opened link before).ended
 server-same opened link before mark none =
     ap (λ (r : EndState ServerState). r.ended) (server-one opened link before mark ∙ ap (λ (es : List Event). end_state_after (server_rules opened) (server opened link before) es) none)
-
-none-some : {X : Type 0} (x : X) (o : Option X) → o ≡ None → o ≡ Some x → ⊥
-none-some x o none some = (let wrong : None ≡ Some x = sym none ∙ some in cc)
 
 -- ---- What is asked of a run
 

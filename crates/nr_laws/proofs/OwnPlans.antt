@@ -55,9 +55,9 @@ use Rattle.nr_laws.proofs.ClientRun.{WasSubmitted}
 use Rattle.nr_laws.proofs.ExecutedCalls.{frame-message, received-message}
 use Rattle.nr_laws.proofs.ExecutedPayloads.{planned-by}
 use Rattle.nr_laws.proofs.ConveyedCalls.{planned-fits, plan-reads}
-use Rattle.nr_laws.proofs.RefusedCalls.{and-true}
 use Rattle.nr_laws.proofs.PendingReads.{HasPosition, IsOwn, AreOwn}
 use Rattle.nr_laws.proofs.KeptAtServer.{kept-at-server}
+use Rattle.std.proofs.lemmas.Bool.{and_parts}
 
 -- a call's payload isn't empty: it begins with the xid
 pub payload-some : (xid : ℕ) (call : Call) → 0 < length (call_payload xid call)
@@ -119,7 +119,7 @@ stream-suits : (k : ServerState) (f : Frame) (segment : Segment) (c : PendingCal
 stream-suits k f segment c payload form stag p bytes own planned read are h =
     let s = (is_plan payload form send_max send_max p own planned).shaped in
     let mine = subst (λ (rs : List PendingRead). AllByRecursion (IsOwn c) rs) h.reads (own-found k.reads h.read.number k.calls c are h.call) in
-    let at : h.read.position ≡ 0 = eqb-true h.read.position 0 (and-true (eqb h.read.position 0) (is_read_at h.others c.number 0) h.stream).0 in
+    let at : h.read.position ≡ 0 = eqb-true h.read.position 0 (and_parts (eqb h.read.position 0) (is_read_at h.others c.number 0) h.stream).0 in
     chunk-suits payload s.kind stag (chunk_bytes (with_access k f segment) f.end c 0) c.lists.read bytes s.is_kind
     (read ∙ ap (λ (q : Plan). (lists_of stag q).read) s.is ∙ ap (λ (l : ChunkLists). l.read) (lists-shape payload s.kind s.write s.reply stag))
     (subst (λ (n : ℕ). HasPosition n c.lists.read) at (mine.0 (sym (found-number h.read.number k.calls c h.call)))) h.unsuited

@@ -17,6 +17,7 @@ use Rattle.nr_laws.proofs.Totals.{apart_kept, apart_push}
 use Rattle.nr_laws.proofs.TotalsAtServer.{found_has}
 use Rattle.nr_laws.proofs.Keys.{any-append, any-left, any-right, below-kept, below-taken, below-dropped, below-append, none-absent, any-kept}
 use Rattle.nr_laws.proofs.PendingSends.{AfterEffect, payload-own, pending_agree-same, whole-append}
+use Rattle.std.proofs.lemmas.Bool.{and_parts}
 
 -- ---- One call has a number, and one has an xid
 
@@ -97,11 +98,6 @@ any-swap p q (c ∷ calls) = λ i. and-swap (p c) (q c) i || any-swap p q calls 
     and-swap false true = refl
     and-swap false false = refl
 
-both-parts : (a b : Bool) → (a && b) ≡ true → (a ≡ true) × (b ≡ true)
-both-parts true true e = (refl, refl)
-both-parts true false e = absurd (no-truth e)
-both-parts false b e = absurd (no-truth e)
-
 agreed : (key mark : PendingCall → ℕ) (n x : ℕ) (calls : List PendingCall) → Agree key mark n x calls → (q : PendingCall → Bool) → ((c : PendingCall) → q c ≡ true → key c ≡ n) → list_any q calls ≡ true
     → (m : ℕ) → ((c : PendingCall) → q c ≡ true → mark c ≡ m) → m ≡ x
 agreed key mark n x [] a q keys e m marks_are = absurd (no-truth e)
@@ -118,10 +114,10 @@ whole-rest reads calls n xid (r ∷ rest) absent a h =
     let q : PendingCall → Bool = λ c. eqb c.number r.number && eqb c.xid r.xid in
     let other : (c : PendingCall) → q c ≡ true → c.xid ≡ xid → ⊥ =
     λ c is same.
-    let parts = both-parts (eqb c.number r.number) (eqb c.xid r.xid) is in
+    let parts = and_parts (eqb c.number r.number) (eqb c.xid r.xid) is in
     absent.0 (agreed (λ (d : PendingCall). d.xid) (λ (d : PendingCall). d.number) xid n calls a q
-    (λ d d_is. eqb-true d.xid r.xid (both-parts (eqb d.number r.number) (eqb d.xid r.xid) d_is).1 ∙ sym (eqb-true c.xid r.xid parts.1) ∙ same)
-    h.0 r.number (λ d d_is. eqb-true d.number r.number (both-parts (eqb d.number r.number) (eqb d.xid r.xid) d_is).0)) in
+    (λ d d_is. eqb-true d.xid r.xid (and_parts (eqb d.number r.number) (eqb d.xid r.xid) d_is).1 ∙ sym (eqb-true c.xid r.xid parts.1) ∙ same)
+    h.0 r.number (λ d d_is. eqb-true d.number r.number (and_parts (eqb d.number r.number) (eqb d.xid r.xid) d_is).0)) in
     (survives q xid calls other h.0, h.1, whole-rest reads calls n xid rest absent.1 a h.2)
 
 pub pending_agree-executes : (opened : LinkParameters) (s : ServerState) (e : ExecutedCall) (r : ReadyCall) (rest : List ReadyCall) → PendingAgree s → s.ready ≡ r ∷ rest → e.xid ≡ r.xid → PendingAgree (server_state_after opened s (CallExecuted e))
@@ -263,7 +259,7 @@ whole-dropped kept m r others calls (x ∷ ready) own h =
     let ne : r.number ≢ x.number = unread-head r others x.number h.1 in
     let other : m ≢ x.number = λ e. ne (own ∙ e) in (
       survives-number (λ (c : PendingCall). eqb c.number x.number && eqb c.xid x.xid) m calls
-          (λ c is same. other (sym same ∙ eqb-true c.number x.number (both-parts (eqb c.number x.number) (eqb c.xid x.xid) is).0)) h.0,
+          (λ c is same. other (sym same ∙ eqb-true c.number x.number (and_parts (eqb c.number x.number) (eqb c.xid x.xid) is).0)) h.0,
       read-dropped kept m x.number others other ∙ read-tail r others x.number ne ∙ h.1,
       whole-dropped kept m r others calls ready own h.2,
     )

@@ -17,8 +17,9 @@ use Rattle.nr_reduce.specs.ServerMessages.CallVerdict.{Refuses, IsReady}
 use Rattle.nr_reduce.specs.ServerFrames.{FrameEffect, no_effect, with_verdict, ready_if_whole, with_refused_call, is_stream_read, read_effect, call_of_number, response_effect, message_effect, by_message, with_access, effect_in}
 use Rattle.nr_laws.specs.LinkInvariants.{AreAtMost, PendingAgree}
 use Rattle.nr_laws.proofs.Keys.{any-right}
-use Rattle.nr_laws.proofs.ReadLimits.{each-append, each-take, each-drop, each-kept}
+use Rattle.nr_laws.proofs.ReadLimits.{each-kept}
 use Rattle.nr_laws.proofs.PendingSends.{verdict-new}
+use Rattle.nr_laws.proofs.Basics.{each-append, each-take, each-drop}
 
 abbrev pub HasPosition : ℕ → List ReadSegment → Type 0
 HasPosition position read = list_any (λ (s : ReadSegment). eqb s.position position) read ≡ true

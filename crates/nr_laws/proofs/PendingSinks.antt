@@ -8,6 +8,7 @@ use Rattle.nr_reduce.specs.ServerReads.{stag_by, sink_of}
 use Rattle.nr_reduce.proofs.Laid.{added_up}
 use Rattle.nr_laws.proofs.ClientMemory.{HasRegion, has-closed, find-left}
 use Rattle.nr_laws.proofs.SinkReads.{own_reads, into, into-append, OfNumber, own-number, number-right, into-kept}
+use Rattle.nr_laws.proofs.Basics.{and-false}
 
 -- ---- Finding a call's region
 
@@ -58,10 +59,6 @@ owners-closed test place n (r ∷ regions) h = (by (test r), owners-closed test 
     by : (b : Bool) → (closed_if b place r).call ≤ n
     by true = h.0
     by false = h.0
-
-and-false : (b c : Bool) → b ≡ false → (b && c) ≡ false
-and-false true c e = absurd cc
-and-false false c e = refl
 
 pub sink-none : (regions more : List Region) (n number position : ℕ) → n < number → OwnersBelow n regions → sink_of (regions ++ more) number position ≡ sink_of more number position
 sink-none [] more n number position lt h = refl

@@ -26,6 +26,7 @@ use Rattle.nr_reduce.specs.ServerMessages.Verdict.{EndsLink, OtherVersion, BadCh
 use Rattle.nr_reduce.specs.ServerFrames.{FrameEffect, no_effect, with_verdict, ready_if_whole, message_effect, with_refused_call, is_stream_read, read_effect, call_of_number, response_effect, with_access, effect_in, frame_effect}
 use Rattle.nr_laws.proofs.WritableOffers.{EntriesFit, verdict_fits, verdict_few}
 use Rattle.nr_laws.proofs.ServerInvariant.{length-from}
+use Rattle.nr_laws.proofs.Basics.{above-zero, each-append, each-take, each-drop}
 
 abbrev pub ReadFits : PendingRead → Type 0
 ReadFits r = (0 < r.size) × (r.size < 2 ^ 32) × (r.stag < 2 ^ 32) × (r.to < 2 ^ 64)
@@ -40,20 +41,6 @@ pub record AreWithin (reads : List PendingRead) (regions : List Region) : Type 0
 
 -- ---- Lists
 
-pub each-append : {X : Type 0} (P : X → Type 0) (xs ys : List X) → AllByRecursion P xs → AllByRecursion P ys → AllByRecursion P (xs ++ ys)
-each-append P [] ys h k = k
-each-append P (x ∷ xs) ys h k = (h.0, each-append P xs ys h.1 k)
-
-pub each-take : {X : Type 0} (P : X → Type 0) (n : ℕ) (xs : List X) → AllByRecursion P xs → AllByRecursion P (take n xs)
-each-take P zero xs h = tt
-each-take P (suc n) [] h = tt
-each-take P (suc n) (x ∷ xs) h = (h.0, each-take P n xs h.1)
-
-pub each-drop : {X : Type 0} (P : X → Type 0) (n : ℕ) (xs : List X) → AllByRecursion P xs → AllByRecursion P (drop n xs)
-each-drop P zero xs h = h
-each-drop P (suc n) [] h = tt
-each-drop P (suc n) (x ∷ xs) h = each-drop P n xs h.1
-
 pub each-kept : {X : Type 0} (P : X → Type 0) (p : X → Bool) (xs : List X) → AllByRecursion P xs → AllByRecursion P (filter p xs)
 each-kept P p [] h = tt
 each-kept P p (x ∷ xs) h = by (p x) (each-kept P p xs h.1)
@@ -64,10 +51,6 @@ each-kept P p (x ∷ xs) h = by (p x) (each-kept P p xs h.1)
 
 -- ---- A call's reads and regions
 
-some_size : (n : ℕ) → eqb n 0 ≡ false → 0 < n
-some_size zero e = absurd cc
-some_size (suc n) e = omega arith
-
 reads-fit : (regions : List Region) (number : ℕ) (before read : List ReadSegment) → EntriesFit read → AllByRecursion ReadFits (reads_from regions number before read)
 reads-fit regions number before [] h = tt
 reads-fit regions number before (r ∷ read) h = by (eqb r.length 0) refl (reads-fit regions number (before ++ r ∷ []) read h.1)
@@ -77,7 +60,7 @@ reads-fit regions number before (r ∷ read) h = by (eqb r.length 0) refl (reads
 
     by : (b : Bool) → eqb r.length 0 ≡ b → AllByRecursion ReadFits (reads_from regions number (before ++ r ∷ []) read) → AllByRecursion ReadFits (cond b [] (first ∷ []) ++ reads_from regions number (before ++ r ∷ []) read)
     by true is k = k
-    by false is k = ((some_size r.length is, h.0.0, h.0.1, h.0.2), k)
+    by false is k = ((above-zero r.length is, h.0.0, h.0.1, h.0.2), k)
 
 total-below : (p : ℕ) (read : List ReadSegment) → total_at p read ≤ read_total read
 unfolding total_at

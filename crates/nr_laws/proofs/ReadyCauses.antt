@@ -28,6 +28,7 @@ use Rattle.nr_reduce.specs.RunLaws.{server_by, ends_response}
 use Rattle.nr_reduce.specs.Served.{IsExecuted, next_call, first_ready}
 use Rattle.nr_reduce.proofs.Conveyed.{Each}
 use Rattle.nr_reduce.proofs.Steps.{end_state_after-append}
+use Rattle.nr_laws.proofs.Basics.{none-one}
 
 -- the payload that is conveyed to a call that is ready
 pub record Conveyed (k : ServerState) (place : ℕ) (c : PendingCall) (r : ReadyCall) : Type 0 where
@@ -39,15 +40,12 @@ pub data ReadyBy (k : ServerState) (f : Frame) (segment : Segment) (r : ReadyCal
   AtMessage : (message : List ℕ) (c : PendingCall) → message_completed k.received segment ≡ Some message → verdict k message ≡ MakesPending c → is_read (k.reads ++ reads_of (k.regions ++ regions_of k f.end c) c) c.number ≡ true → Conveyed k f.end c r → ReadyBy k f segment r
   AtRead : (q : PendingRead) (rest : List PendingRead) (c : PendingCall) → ends_response segment ≡ true → k.reads ≡ q ∷ rest → call_of_number k q.number ≡ Some c → is_read rest c.number ≡ true → Conveyed (with_access k f segment) f.end c r → ReadyBy k f segment r
 
-none-of : {W : Type 0} (r : ReadyCall) (rs : List ReadyCall) → rs ≡ [] → rs ≡ r ∷ [] → W
-none-of r rs none e = absurd (let t = sym none ∙ e in cc)
-
 record WholeBy (k : ServerState) (place : ℕ) (c : PendingCall) (reads : List PendingRead) (r : ReadyCall) : Type 0 where
   read : is_read reads c.number ≡ true
   conveyed : Conveyed k place c r
 
 head-cause : (k : ServerState) (place : ℕ) (c : PendingCall) (payload : List ℕ) (h : Result CallHead ℕ) (s : FrameEffect) (r : ReadyCall) → payload_of k place c ≡ Some payload → s.ready ≡ [] → (with_verdict (by_head c payload h) s).ready ≡ r ∷ [] → Conveyed k place c r
-head-cause k place c payload (Err at) s r is none e = none-of r s.ready none e
+head-cause k place c payload (Err at) s r is none e = none-one r s.ready none e
 head-cause k place c payload (Ok head) s r is none e = by (eqb (call_xid head) c.xid) e
   where
     by : (b : Bool) → (with_verdict (cond b (IsReady (record { number = c.number; xid = c.xid; payload = payload })) (Refuses 19)) s).ready ≡ r ∷ [] → Conveyed k place c r
@@ -57,10 +55,10 @@ head-cause k place c payload (Ok head) s r is none e = by (eqb (call_xid head) c
       where
         one : (a b : ReadyCall) → a ∷ [] ≡ b ∷ [] → a ≡ b
         one a b e = cc
-    by false e = none-of r s.ready none e
+    by false e = none-one r s.ready none e
 
 payload-cause : (k : ServerState) (place : ℕ) (c : PendingCall) (o : Option (List ℕ)) (s : FrameEffect) (r : ReadyCall) → payload_of k place c ≡ o → s.ready ≡ [] → (with_verdict (by_payload c o) s).ready ≡ r ∷ [] → Conveyed k place c r
-payload-cause k place c None s r is none e = none-of r s.ready none e
+payload-cause k place c None s r is none e = none-one r s.ready none e
 payload-cause k place c (Some payload) s r is none e = head-cause k place c payload (call_of payload) s r is none e
 
 whole-cause : (k : ServerState) (place : ℕ) (c : PendingCall) (s : FrameEffect) (r : ReadyCall) → s.ready ≡ [] → (ready_if_whole k place c s).ready ≡ r ∷ [] → WholeBy k place c s.reads r
@@ -68,22 +66,22 @@ whole-cause k place c s r none e = by (is_read s.reads c.number) refl e
   where
     by : (b : Bool) → is_read s.reads c.number ≡ b → (cond b (with_verdict (by_payload c (payload_of k place c)) s) s).ready ≡ r ∷ [] → WholeBy k place c s.reads r
     by true is e = record { read = is; conveyed = payload-cause k place c (payload_of k place c) s r refl none e }
-    by false is e = none-of r s.ready none e
+    by false is e = none-one r s.ready none e
 
 message-cause : (k : ServerState) (f : Frame) (segment : Segment) (message : List ℕ) (r : ReadyCall) → message_completed k.received segment ≡ Some message → (v : Verdict) → verdict k message ≡ v → (message_effect k f.end message v).ready ≡ r ∷ [] → ReadyBy k f segment r
-message-cause k f segment message r whole (EndsLink reason) is e = none-of r [] refl e
-message-cause k f segment message r whole OtherVersion is e = none-of r [] refl e
-message-cause k f segment message r whole BadChunks is e = none-of r [] refl e
+message-cause k f segment message r whole (EndsLink reason) is e = none-one r [] refl e
+message-cause k f segment message r whole OtherVersion is e = none-one r [] refl e
+message-cause k f segment message r whole BadChunks is e = none-one r [] refl e
 message-cause k f segment message r whole (MakesPending c) is e =
     let w = whole-cause k f.end c (record (no_effect k) { calls = k.calls ++ c ∷ []; reads = k.reads ++ reads_of (k.regions ++ regions_of k f.end c) c; regions = k.regions ++ regions_of k f.end c }) r refl e in
     AtMessage message c whole is w.read w.conveyed
 
 by-message-cause : (k : ServerState) (f : Frame) (segment : Segment) (r : ReadyCall) (o : Option (List ℕ)) → message_completed k.received segment ≡ o → (by_message k f.end o).ready ≡ r ∷ [] → ReadyBy k f segment r
-by-message-cause k f segment r None is e = none-of r [] refl e
+by-message-cause k f segment r None is e = none-one r [] refl e
 by-message-cause k f segment r (Some message) is e = message-cause k f segment message r is (verdict k message) refl e
 
 response-cause : (k : ServerState) (f : Frame) (segment : Segment) (r : ReadyCall) → ends_response segment ≡ true → (reads : List PendingRead) → k.reads ≡ reads → (response_effect (with_access k f segment) f.end reads).ready ≡ r ∷ [] → ReadyBy k f segment r
-response-cause k f segment r last [] is e = none-of r [] refl e
+response-cause k f segment r last [] is e = none-one r [] refl e
 response-cause k f segment r last (q ∷ reads) is e = by_call (call_of_number k q.number) refl e
   where
     t : ServerState
@@ -93,11 +91,11 @@ response-cause k f segment r last (q ∷ reads) is e = by_call (call_of_number k
     s = record (no_effect t) { reads = reads; kept = length (open_reads t) - 1 }
 
     by_test : (c : PendingCall) → call_of_number k q.number ≡ Some c → (b : Bool) → (cond b (with_refused_call t c s) (ready_if_whole t f.end c s)).ready ≡ r ∷ [] → ReadyBy k f segment r
-    by_test c own true e = none-of r [] refl e
+    by_test c own true e = none-one r [] refl e
     by_test c own false e = (let w = whole-cause t f.end c s r refl e in AtRead q reads c last is own w.read w.conveyed)
 
     by_call : (o : Option PendingCall) → call_of_number k q.number ≡ o → (read_effect t f.end q o s).ready ≡ r ∷ [] → ReadyBy k f segment r
-    by_call None own e = none-of r [] refl e
+    by_call None own e = none-one r [] refl e
     by_call (Some c) own e = by_test c own (is_stream_read c q s.reads && not (is_read_chunk_of_item (chunk_bytes t f.end c 0) c.lists.read)) e
 
 pub ready-by : (k : ServerState) (f : Frame) (segment : Segment) (r : ReadyCall) → frame_segment f ≡ Ok segment → (frame_effect k f).ready ≡ r ∷ [] → ReadyBy k f segment r
@@ -109,7 +107,7 @@ ready-by k f segment r is e = by segment (ap (λ (x : Result Segment ℕ). (effe
       where
         tagged : (b : Bool) → (eqb opcode OPCODE_READ_RESPONSE && last) ≡ b → (cond b (response_effect (with_access k f (Tagged last opcode stag to payload)) f.end k.reads) (no_effect (with_access k f (Tagged last opcode stag to payload)))).ready ≡ r ∷ [] → ReadyBy k f (Tagged last opcode stag to payload) r
         tagged true own e = response-cause k f (Tagged last opcode stag to payload) r own k.reads refl e
-        tagged false own e = none-of r [] refl e
+        tagged false own e = none-one r [] refl e
     by (Untagged last opcode w queue msn offset payload) e = by-message-cause k f (Untagged last opcode w queue msn offset payload) r (message_completed k.received (Untagged last opcode w queue msn offset payload)) refl e
 
 -- at most one call is ready by a frame

@@ -29,10 +29,11 @@ use Rattle.nr_laws.specs.Typed.{IsTyped}
 use Rattle.nr_laws.specs.MarkAt.{MarkAt}
 use Rattle.nr_laws.specs.MatchedSoFar.{MatchedSoFar}
 use Rattle.nr_laws.specs.ChunkOutcomes.{RefusesChunks, HasRefusedSend}
-use Rattle.nr_laws.proofs.ExecuteMarks.{PartedTwo, parted-two, head-is}
+use Rattle.nr_laws.proofs.ExecuteMarks.{PartedTwo, parted-two}
 use Rattle.nr_laws.proofs.ExecuteMarks.PartedTwo.{InFirst, InSecond}
 use Rattle.nr_laws.proofs.OnceByXid.{ExecutedAt, at-mark, executed-at}
 use Rattle.nr_laws.proofs.Following.{events-more}
+use Rattle.nr_laws.proofs.Basics.{first-is}
 
 as-refused : (k : ServerState) (f : Frame) (segment : Segment) (n : ℕ) → RefusesChunks k f segment n → RefusesSend k f segment n
 as-refused k f segment n (inl (message, (whole, (number, bad)))) = inl (message, (whole, (number, inl bad)))
@@ -51,8 +52,8 @@ frame-order : (pre : List Event) (f : Frame) (post one : List Event) (e : Execut
 frame-order pre f post one e two h = by (parted-two pre (FrameReceived f ∷ post) one (CallExecuted e) two h)
   where
     behind : (rest : List Event) → one ≡ pre ++ rest → FrameReceived f ∷ post ≡ rest ++ CallExecuted e ∷ two → FrameOrder pre f one e
-    behind [] is same = absurd (no-frame f e (head-is (FrameReceived f) (CallExecuted e) post two same))
-    behind (x ∷ rest) is same = FrameFirst rest (is ∙ ap (λ (y : Event). pre ++ y ∷ rest) (sym (head-is (FrameReceived f) x post (rest ++ CallExecuted e ∷ two) same)))
+    behind [] is same = absurd (no-frame f e (first-is (FrameReceived f) (CallExecuted e) post two same))
+    behind (x ∷ rest) is same = FrameFirst rest (is ∙ ap (λ (y : Event). pre ++ y ∷ rest) (sym (first-is (FrameReceived f) x post (rest ++ CallExecuted e ∷ two) same)))
 
     by : PartedTwo pre (FrameReceived f ∷ post) one (CallExecuted e) two → FrameOrder pre f one e
     by (InFirst between is) = ExecuteFirst between is

@@ -31,11 +31,12 @@ use Rattle.nr_laws.proofs.Words.{payload-bytes, payload_by}
 use Rattle.nr_laws.proofs.Messages.{message_in, messages, AreOne, messages-tagged, messages-final, one-final}
 use Rattle.nr_laws.proofs.ClientRun.{Parted, parted}
 use Rattle.nr_laws.proofs.ClientRun.Parted.{Within, Last}
-use Rattle.nr_laws.proofs.ClientAlong.{not-first, final-words}
+use Rattle.nr_laws.proofs.ClientAlong.{final-words}
 use Rattle.nr_laws.proofs.ServerOutputs.{errors-short, CallsFit, fit-filter, IsFine, fine-frame, AreFine, fine-effect, fine-answer, answer-is-short, tagged-answer}
 use Rattle.nr_laws.proofs.ServerEnds.{BigEnd, segment-ends, hello-goes}
 use Rattle.nr_laws.proofs.ServerAlong.{IsGoodExecution, ServerGood, Said, is_live, outs_of, at-most, nothing-at, messages-at, Greeted, greeted-more, Shape, ServerTells, Grows, grown}
 use Rattle.nr_laws.proofs.ServerAlong.Said.{IsRefusal, IsAnswer, IsNoAnswer}
+use Rattle.nr_laws.proofs.Basics.{above-zero}
 
 -- ---- The bytes that are received
 
@@ -128,7 +129,7 @@ unfolding server_says server_output server_state_after frame_segment ServerShort
 segment-step opened es place k outs f s next behind is t (Some end) stops =
     let rules = server_rules opened in
     let same : next_end_state rules (record { state = k; ended = None }) (FrameReceived f) ≡ record { state = k; ended = Some end } = ap (λ (o : Option Stop). next_end_state_by rules k (FrameReceived f) o) stops in
-    let greeted = later-shape place (record { state = k; ended = None }) outs (let p = not-first f.at behind in let e = next.0 in omega (arith, p, e)) t.shape in
+    let greeted = later-shape place (record { state = k; ended = None }) outs (let p = above-zero f.at behind in let e = next.0 in omega (arith, p, e)) t.shape in
     let words = server-final-words end (subst BigEnd stops (segment-ends opened k f s behind is)) in
     let none = server-final-none end in
     record {
@@ -145,7 +146,7 @@ segment-step opened es place k outs f s next behind is t None stays =
     let effect : FrameEffect = frame_effect k f in
     let same : next_end_state rules (record { state = k; ended = None }) (FrameReceived f) ≡ record { state = with_effect k f effect; ended = None } =
     ap (λ (o : Option Stop). next_end_state_by rules k (FrameReceived f) o) stays ∙ ap (λ (b : Bool). record { state = cond b k (with_effect k f effect); ended = None }) behind in
-    let greeted = later-shape place (record { state = k; ended = None }) outs (let p = not-first f.at behind in let e = next.0 in omega (arith, p, e)) t.shape in
+    let greeted = later-shape place (record { state = k; ended = None }) outs (let p = above-zero f.at behind in let e = next.0 in omega (arith, p, e)) t.shape in
     let payload : IsBytes (payload_by s) = payload-bytes f.bytes s next.2 is in
     let fine : IsFine effect = fine-frame k f (λ x m own whole. completed-bytes k.received x m t.begun (payload-bytes f.bytes x next.2 own) whole) t.fit in
     let own : AreFine (effect_outputs k effect) effect.errors = fine-effect k effect fine in

@@ -53,6 +53,7 @@ use Rattle.nr_laws.proofs.Writable.{IsWritable, IsOutput, proper_one, stream-fir
 use Rattle.nr_laws.proofs.AgreeingEnds.{EndsAgree, IsPlace, frame_of, taken_up}
 use Rattle.nr_laws.proofs.Guards.{Guards}
 use Rattle.nr_laws.proofs.GuardsAtServer.{front-up, front-xid, ServerTakes, takes-send, takes-tagged, hello-guards}
+use Rattle.nr_laws.proofs.Basics.{some-not}
 
 -- ---- Why the effect of a frame refuses
 
@@ -190,9 +191,6 @@ unfolding server_end
 hello-none opened s f is says =
     (λ i. cond (is i) (hello_end (says i)) (or_refusal s f (frame_end (readiness opened s) (region_grants f.end s.regions) f)))
 
-some-none : (x : End) → Some x ≢ None
-some-none x e = cc
-
 step-piece : (opened : LinkParameters) (k : ClientState) (s : ServerState) (u d all_up all_down : List FrameContent) (w : Transit) (place : ℕ) (p : FrameContent) (rest : List FrameContent) (f : Frame) → IsOpened opened → EndsAgree opened k s u d all_up all_down w → Guards opened k s u d all_up all_down w place → w.up ≡ p ∷ rest
     → IsWritable p → Carries s.received.sends s.received.requests f p → IsBytes f.bytes → f.bytes ≡ frame_bytes Initiator (numbered_segment s.received.sends s.received.requests p) → place < f.end
     → ServerStep opened k s u d all_up all_down w p rest f
@@ -225,7 +223,7 @@ step-up opened k s [] d all_up all_down w p rest n r place o l g first sends req
     let says = ap (λ (q : FrameContent). hello_of Initiator (frame_bytes Initiator (numbered_segment n r q))) hello ∙ (hello-is Initiator).says in
     let none = hello-none opened s f is says in
     subst (λ (q : FrameContent). ServerStep opened k s [] d all_up all_down w q rest f) (sym hello) (record {
-      only = λ end e. absurd (some-none end (sym e ∙ none));
+      only = λ end e. absurd (some-not end (sym e ∙ none));
       kept = λ stays. hello-guards opened k s [] d all_up all_down w place rest f g (first ∙ ap (λ (q : FrameContent). q ∷ rest) hello) is (omega (arith, some));
     })
 step-up opened k s (q ∷ u) d all_up all_down w p rest n r place o l g first sends requests at bytes some =

@@ -3,7 +3,7 @@
 use Rattle.nr_laws.proofs.OneChunk.{HasOneChunk, OneChunk}
 use Rattle.std.proofs.Common.{◌≡◌, ℕ, ◌+◌, ◌*◌, ◌≤◌, ◌<◌, ◌^◌, Bool, true, false, cond, not, ◌||◌, eqb, ltb, List, [], ◌∷◌, length, sum_by, drop, Option, Some, None, IfSome, Result, Ok, Err, refl, sym, subst, ◌∙◌, arith, inl, inr}
 use Rattle.std.specs.List.{All}
-use Rattle.std.proofs.lemmas.Bool.{cases_lt, lt-ltb}
+use Rattle.std.proofs.lemmas.Bool.{cases_lt, lt-ltb, ltb-false}
 use Rattle.std.proofs.lemmas.List.Elements.{All-head, All-tail}
 use Rattle.std.proofs.lemmas.List.Sums.{sum_by-cons}
 use Rattle.nr_xdr.specs.Item.{Item, IsBytes}
@@ -181,19 +181,12 @@ header_need : (k : ServerState) (message : List ℕ) (r : Result Header HeaderFa
 header_need k message (Ok h) c e = body_need k h.xid message h.body c e
 header_need k message (Err fault) c e = absurd cc
 
-pub not_above : (n m : ℕ) → ltb n m ≡ false → m ≤ n
-not_above n m e =
-    elim (cases_lt n m) [
-      | inl lt ↦ absurd (let wrong : true ≡ false = sym (lt-ltb n m lt) ∙ e in cc)
-      | inr le ↦ le
-    ]
-
 few_from : (k : ServerState) (c : PendingCall) → by_need k c ≡ MakesPending c → next_stag k + length (chunks_of c.lists) ≤ 4294967296
 few_from k c e = by (ltb 4294967296 (next_stag k + length (chunks_of c.lists))) refl e
   where
     by : (b : Bool) → ltb 4294967296 (next_stag k + length (chunks_of c.lists)) ≡ b → cond b (EndsLink 30) (MakesPending c) ≡ MakesPending c → next_stag k + length (chunks_of c.lists) ≤ 4294967296
     by true is e = absurd cc
-    by false is e = not_above 4294967296 (next_stag k + length (chunks_of c.lists)) is
+    by false is e = ltb-false 4294967296 (next_stag k + length (chunks_of c.lists)) is
 
 pub verdict_few : (k : ServerState) (message : List ℕ) (c : PendingCall) → verdict k message ≡ MakesPending c → next_stag k + length (chunks_of c.lists) ≤ 4294967296
 unfolding verdict
