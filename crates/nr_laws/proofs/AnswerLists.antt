@@ -17,6 +17,7 @@ use Rattle.nr_header.specs.Reading.{header_of}
 use Rattle.nr_header.proofs.Messages.{header_written}
 use Rattle.nr_reduce.specs.Chunks.{filled_chunk}
 use Rattle.nr_reduce.specs.Holds.{Answer, empty_chunks, written_chunks, no_segments, answer_lists, answer_message, chunk_error, version_error}
+use Rattle.nr_laws.proofs.WritableOffers.{skip_write}
 
 abbrev pub IsRead : List ℕ → Type 0
 IsRead message = (h : Header) × (header_of message ≡ Ok h)
@@ -39,10 +40,6 @@ read-tail : (read : List ReadSegment) (more : List Item) → AllFit (read_items 
 read-tail [] more h = h.1
 read-tail (r ∷ read) more h = read-tail read more h.1.1.1.1.1
 
-write-tail : (chunks : List (List RdmaSegment)) (more : List Item) → AllFit (write_items chunks more) → AllFit more
-write-tail [] more h = h.1
-write-tail (chunk ∷ chunks) more h = write-tail chunks more (segments-tail chunk (write_items chunks more) h.1.1)
-
 chunk-fit : (chunk : List RdmaSegment) (n : ℕ) (more others : List Item) → length chunk < 2 ^ 32 → AllFit (segments_items chunk more) → AllFit others → AllFit (chunk_items (filled_chunk chunk n) others)
 chunk-fit chunk n more others count h k = (let l = length-filled chunk n in omega (arith, l, count), filled-fit chunk n more others h k)
 
@@ -64,7 +61,7 @@ returned-fit (Some chunk) true n h = (tt, chunk-fit chunk n [] [] h.1.0 h.1.1 tt
 lists-fit : (offer : ChunkLists) (a : Answer) → AllFit (lists_items offer) → AllFit (lists_items (answer_lists offer a))
 lists-fit offer a h =
     let writes = read-tail offer.read (write_items offer.write (reply_items offer.reply [])) h in
-    (tt, written-fit offer.write (length a.moved) (reply_items offer.reply []) _ writes (returned-fit offer.reply a.long (length a.stream) (write-tail offer.write (reply_items offer.reply []) writes)))
+    (tt, written-fit offer.write (length a.moved) (reply_items offer.reply []) _ writes (returned-fit offer.reply a.long (length a.stream) (skip_write offer.write (reply_items offer.reply []) writes)))
 
 -- ---- Within the limits
 

@@ -33,6 +33,7 @@ use Rattle.nr_laws.specs.FrameContents.{FrameContent, effect_frames, request_fra
 use Rattle.nr_laws.specs.FrameContents.FrameContent.{HelloFrame, SendFrame, RequestFrame, TaggedFrame}
 use Rattle.nr_laws.proofs.PendingSends.{verdict-new}
 use Rattle.nr_laws.proofs.RequestFields.{part_at}
+use Rattle.nr_laws.proofs.HeaderXid.{answer-xid, chunk-error-xid, version-error-xid}
 
 -- the xids of the messages among some frames, and how often a number is among others
 abbrev pub message_xids : List FrameContent → List ℕ
@@ -88,31 +89,9 @@ writes-none (p ∷ chunk) bytes =
     by true = refl
     by false = cuts _ _ _ (range_with_len 0 (segment_count (take p.length bytes)))
 
-first_word : (a : ℕ) (rest : List ℕ) → a < 2 ^ 32 → word_at 0 (word a ++ rest) ≡ a
-first_word a rest lt = ap word_of (part_at 0 4 [] (word a) rest refl (length-word a)) ∙ word_of-word a lt
-
-chunk_error-xid : (xid credit : ℕ) → xid < 2 ^ 32 → word_at 0 (chunk_error xid credit) ≡ xid
-unfolding chunk_error
-chunk_error-xid xid credit lt = first_word xid _ lt
-
-version_error-xid : (xid version credit : ℕ) → xid < 2 ^ 32 → word_at 0 (version_error xid version credit) ≡ xid
-unfolding version_error
-version_error-xid xid version credit lt = first_word xid _ lt
-
-answer-xid : (xid credit : ℕ) (offer : ChunkLists) (a : Answer) → xid < 2 ^ 32 → word_at 0 (answer_message xid credit offer a) ≡ xid
-unfolding answer_message
-answer-xid xid credit offer a lt = by a.long (cond a.long [] a.stream)
-  where
-    rest : List ℕ
-    rest = encodings (lists_items (answer_lists offer a))
-
-    by : (b : Bool) (stream : List ℕ) → word_at 0 (header_encoding (record { xid = xid; credit = credit; body = cond b (Nomsg (answer_lists offer a)) (Msg (answer_lists offer a) 0) }) ++ stream) ≡ xid
-    by true stream = ap (λ (xs : List ℕ). word_at 0 xs) (append_assoc (word xid) (word 1 ++ (word credit ++ (word 1 ++ rest))) stream) ∙ first_word xid ((word 1 ++ (word credit ++ (word 1 ++ rest))) ++ stream) lt
-    by false stream = ap (λ (xs : List ℕ). word_at 0 xs) (append_assoc (word xid) (word 1 ++ (word credit ++ (word 0 ++ rest))) stream) ∙ first_word xid ((word 1 ++ (word credit ++ (word 0 ++ rest))) ++ stream) lt
-
 -- of an executed call: one message, of its xid
 pub answer-xids : (k : ServerState) (xid : ℕ) (offer : ChunkLists) (o : Option Answer) → xid < 2 ^ 32 → message_xids (answer_frames k xid offer o) ≡ xid ∷ []
-answer-xids k xid offer None lt = ap (λ (x : ℕ). x ∷ []) (chunk_error-xid xid (credit_word k) lt)
+answer-xids k xid offer None lt = ap (λ (x : ℕ). x ∷ []) (chunk-error-xid xid (credit_word k) lt)
 answer-xids k xid offer (Some a) lt =
     let long = cond a.long (write_frames (no_segments offer.reply) a.stream) [] in
     let last = SendFrame (answer_message xid (credit_word k) offer a) ∷ [] in
@@ -194,8 +173,8 @@ pending-whole calls new k place c s h = by (is_read s.reads c.number) (by_payloa
 
 pending-message : (k : ServerState) (place : ℕ) (message : List ℕ) (v : Verdict) → verdict k message ≡ v → word_at 0 message < 2 ^ 32 → AnswersPending k.calls (λ x. one_if (eqb (word_at 0 message) x)) (message_effect k place message v)
 pending-message k place message (EndsLink reason) is lt = λ x. omega arith
-pending-message k place message OtherVersion is lt = λ x. omega (arith, ap (λ (n : ℕ). one_if (eqb n x)) (version_error-xid (word_at 0 message) (word_at 4 message) (credit_word k) lt))
-pending-message k place message BadChunks is lt = λ x. omega (arith, ap (λ (n : ℕ). one_if (eqb n x)) (chunk_error-xid (word_at 0 message) (credit_word k) lt))
+pending-message k place message OtherVersion is lt = λ x. omega (arith, ap (λ (n : ℕ). one_if (eqb n x)) (version-error-xid (word_at 0 message) (word_at 4 message) (credit_word k) lt))
+pending-message k place message BadChunks is lt = λ x. omega (arith, ap (λ (n : ℕ). one_if (eqb n x)) (chunk-error-xid (word_at 0 message) (credit_word k) lt))
 pending-message k place message (MakesPending c) is lt =
     let new = verdict-new k message c is in
     pending-whole k.calls (λ x. one_if (eqb (word_at 0 message) x)) k place c
@@ -216,7 +195,7 @@ pending-read k c_k place n r (Some c) s same none found small = by (is_stream_re
           arith,
           removed x n k.calls c found,
           ap (λ (cs : List PendingCall). times x (call_xids (filter (λ (y : PendingCall). not (eqb y.number c.number)) cs))) same,
-          ap (λ (m : ℕ). one_if (eqb m x)) (chunk_error-xid c.xid (credit_word c_k) (small c refl)),
+          ap (λ (m : ℕ). one_if (eqb m x)) (chunk-error-xid c.xid (credit_word c_k) (small c refl)),
         )
     by false = pending-whole k.calls (λ x. 0) c_k place c s same_times
 

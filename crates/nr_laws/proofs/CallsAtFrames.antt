@@ -64,12 +64,9 @@ use Rattle.nr_laws.proofs.SinkReads.{own_reads, total-own, reads-own}
 use Rattle.nr_laws.proofs.SuitedCalls.{HasNoBytes, calls-suit, IsSuited}
 use Rattle.nr_laws.proofs.TotalsAtServer.{found_has}
 use Rattle.std.proofs.lemmas.Bool.{not-true}
+use Rattle.nr_laws.proofs.SinksKept.{total-nil}
 
 -- ---- The chunks of a plan
-
-total-nil : (position : ℕ) → total_at position [] ≡ 0
-unfolding total_at
-total-nil position = refl
 
 -- a call that is whole by its message has no bytes to be read
 nothing-read : (regions : List Region) (reads : List PendingRead) (c : PendingCall) (stag : ℕ) (p : Plan) → HasChunk p → c.lists.read ≡ (lists_of stag p).read → is_read (reads ++ reads_of regions c) c.number ≡ true → added_up p.read ≡ 0

@@ -90,7 +90,7 @@ record Step (opened : LinkParameters) (place : ℕ) (k after : ClientState) (end
   greeted : ended ≡ None → HasHello place after.has_hello
   waits : k.has_hello ≡ false → map as_submitted after.outstanding ≡ map as_submitted k.outstanding
 
-same-asked : (opened : LinkParameters) (es : List Event) (e : Event) → accepted_in (e ∷ []) ≡ [] → accepted_in (es ++ e ∷ []) ≡ accepted_in es
+pub same-asked : (opened : LinkParameters) (es : List Event) (e : Event) → accepted_in (e ∷ []) ≡ [] → accepted_in (es ++ e ∷ []) ≡ accepted_in es
 same-asked opened es e none = accepted-append es (e ∷ []) ∙ ap (λ (xs : List AcceptedCall). accepted_in es ++ xs) none ∙ append-nil (accepted_in es)
 
 quiet-step : (opened : LinkParameters) (es : List Event) (e : Event) (place later : ℕ) (k after : ClientState) (ended now : Option Stop) (outs more : List Output) → accepted_in (e ∷ []) ≡ []

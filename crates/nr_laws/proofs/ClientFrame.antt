@@ -31,12 +31,13 @@ use Rattle.nr_laws.specs.LinkInvariants.{Transit, TotalsAgree, calls_sent, hello
 use Rattle.nr_laws.proofs.Totals.{total-append, total-map-zero}
 use Rattle.nr_laws.proofs.CompletedFrames.{is-piece}
 use Rattle.nr_laws.proofs.TotalsAtServer.{segment-is}
-use Rattle.nr_laws.proofs.TotalsAtClient.{totals-hello_down, totals-send_down, totals-read_down, totals-tagged_down, down_one, after-is, says-is, request_payload, tagged-none}
+use Rattle.nr_laws.proofs.TotalsAtClient.{totals-hello_down, totals-send_down, totals-read_down, totals-tagged_down, down_one, after-is, says-is, request_payload, tagged-none, bit_of}
 use Rattle.nr_laws.proofs.OwnXids.{OwnXids, own_xids-came, segment-out}
 use Rattle.nr_laws.proofs.OutputFrames.{outs-said, response-said}
 use Rattle.nr_laws.proofs.Writable.{IsWritable, AreWritable, IsOutput, proper_one, stream-more, stream-first, stream-at, tagged-proper}
 use Rattle.nr_laws.proofs.AgreeingEnds.{EndsAgree, IsPlace, frame_of, payload_bytes}
 use Rattle.nr_laws.proofs.Outputs.{CallsShort}
+use Rattle.nr_laws.proofs.Words.{word-below, hyper-below}
 
 -- ---- A Read Request that doesn't end a client ends within 2 ^ 64 bytes of its sink
 
@@ -159,10 +160,6 @@ asks-proper : (opened : LinkParameters) (os : List OutstandingCall) → CallsSho
 asks-proper opened [] h = tt
 asks-proper opened (o ∷ os) h = (h.0, asks-proper opened os h.1)
 
-not_greeted : (b : Bool) → hello_bit b ≡ 0 → b ≡ false
-not_greeted true e = absurd cc
-not_greeted false e = refl
-
 -- the calls of a client so far
 pub calls_said : (opened : LinkParameters) (k : ClientState) (s : ServerState) (u d all_up all_down : List FrameContent) (w : Transit) → EndsAgree opened k s u d all_up all_down w → total_of sends_in all_up ≡ calls_sent k
 calls_said opened k s u d all_up all_down w l =
@@ -176,7 +173,7 @@ took-hello opened k s u d all_up all_down w rest f l first is =
     let says = says-hello opened k f is in
     let after = after-hello opened k f is in
     let none : hello_bit k.has_hello ≡ 0 = omega (arith, l.counts.hello, ap (total_of hellos_in) first) in
-    let calls : total_of sends_in all_up ≡ 0 = calls_said opened k s u d all_up all_down w l ∙ ap (λ (b : Bool). cond b k.calls_accepted 0) (not_greeted k.has_hello none) in
+    let calls : total_of sends_in all_up ≡ 0 = calls_said opened k s u d all_up all_down w l ∙ ap (λ (b : Bool). cond b k.calls_accepted 0) (bit_of k.has_hello none) in
     let counts : TotalsAgree (client_state_after opened k (FrameReceived f)) s (down_one w said rest) =
     subst (λ (ps : List FrameContent). TotalsAgree (client_state_after opened k (FrameReceived f)) s (down_one w ps rest)) says (totals-hello_down opened k s w f rest l.counts first is) in
     record {
@@ -210,12 +207,6 @@ took-frame opened k s u d all_up all_down w p rest said f r l first behind is sa
           (ap (λ (t : ClientState). t.received.sends) after ∙ sends) (ap (λ (t : ClientState). t.received.requests) after ∙ requests);
     }
 
-pub word_below : (place : ℕ) (bytes : List ℕ) → IsBytes bytes → word_at place bytes < 2 ^ 32
-word_below place bytes h = word_of-below (take 4 (drop place bytes)) (IsBytes-take 4 (drop place bytes) (IsBytes-drop place bytes h))
-
-hyper_below : (place : ℕ) (bytes : List ℕ) → IsBytes bytes → hyper_at place bytes < 2 ^ 64
-hyper_below place bytes h = hyper_of-below (take 8 (drop place bytes)) (IsBytes-take 8 (drop place bytes) (IsBytes-drop place bytes h))
-
 took-piece : (opened : LinkParameters) (k : ClientState) (s : ServerState) (u d all_up all_down : List FrameContent) (w : Transit) (p : FrameContent) (rest : List FrameContent) (f : Frame) → EndsAgree opened k s u d all_up all_down w → w.down ≡ p ∷ rest
     → IsWritable p → Carries k.received.sends k.received.requests f p → IsBytes f.bytes → f.bytes ≡ frame_bytes Responder (numbered_segment k.received.sends k.received.requests p)
     → client_end k (FrameReceived f) ≡ None → ClientTook opened k s u d all_up all_down w p rest f
@@ -236,7 +227,7 @@ took-piece opened k s u d all_up all_down w (RequestFrame sink at size stag to) 
     let ends = request-ends k f (msn_word (k.received.requests + 1)) payload piece.behind reads stays in
     took-frame opened k s u d all_up all_down w (RequestFrame sink at size stag to) rest said f (Ok segment) l first piece.behind reads refl
     (response-said Initiator (total_of sends_in all_up) (total_of requests_in all_up) r.sink r.sink_to answer)
-    (tagged-proper OPCODE_READ_RESPONSE r.sink r.sink_to answer refl (lit< tt) (word_below 0 payload payload_is) (hyper_below 4 payload payload_is) (omega (arith, ends, length-take r.size (drop r.to (memory_at k f.end r.stag)))))
+    (tagged-proper OPCODE_READ_RESPONSE r.sink r.sink_to answer refl (lit< tt) (word-below 0 payload payload_is) (hyper-below 4 payload payload_is) (omega (arith, ends, length-take r.size (drop r.to (memory_at k f.end r.stag)))))
     (tagged-none hellos_in OPCODE_READ_RESPONSE r.sink r.sink_to answer (λ last a b. refl)) (tagged-none requests_in OPCODE_READ_RESPONSE r.sink r.sink_to answer (λ last a b. refl))
     (totals-read_down opened k s w f sink at size stag to rest l.counts first piece) (omega arith) refl
 took-piece opened k s u d all_up all_down w (TaggedFrame last opcode stag to payload) rest f l first proper piece bytes is stays =

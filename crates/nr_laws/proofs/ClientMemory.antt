@@ -26,6 +26,7 @@ use Rattle.nr_laws.proofs.Along.{IsNext, GoesOn, along, place_after, places_afte
 use Rattle.nr_reduce.proofs.Steps.{end_state_after-append}
 use Rattle.nr_laws.proofs.ClientSays.{IsGoodCall, ClientGood, accepted_in, accepted-append, stag_behind, from-more, start, asked, ClientSays}
 use Rattle.nr_laws.proofs.Memory.{Gathering, Settled, settled-later, settled-closed, settled-append, settled-more, revoked-settled}
+use Rattle.nr_laws.proofs.ClientAlong.{same-asked}
 
 -- ---- Regions
 
@@ -201,9 +202,6 @@ pub record ClientKeeps (opened : LinkParameters) (es : List Event) (place : ℕ)
   pub owns : EachAsked opened es k.outstanding
   pub backed : AllBacked k.regions (asked opened es)
   pub stag : k.stag ≡ stag_behind (start opened) opened.first_stag (accepted_in es)
-
-same-asked : (opened : LinkParameters) (es : List Event) (e : Event) → accepted_in (e ∷ []) ≡ [] → accepted_in (es ++ e ∷ []) ≡ accepted_in es
-same-asked opened es e none = accepted-append es (e ∷ []) ∙ ap (λ (xs : List AcceptedCall). accepted_in es ++ xs) none ∙ append-nil (accepted_in es)
 
 -- a step that accepts no call
 quiet-keeps : (opened : LinkParameters) (es : List Event) (e : Event) (place later : ℕ) (k after : ClientState) → accepted_in (e ∷ []) ≡ [] → Settled later after.regions after.accesses_received → (EachAsked opened es k.outstanding → EachAsked opened es after.outstanding)

@@ -35,6 +35,7 @@ use Rattle.nr_laws.proofs.FetchedRegions.{IsFetched, is-fetched, fetched-bytes}
 use Rattle.nr_laws.proofs.Outputs.{Output, send_segment, message_of_call, terminate_segment, one_response, call_sends, client_says, final_outputs, response_outputs, response_segments}
 use Rattle.nr_laws.proofs.Outputs.Output.{AHello, ASegment}
 use Rattle.nr_laws.proofs.ReadsAlong.{request_in, requests_in}
+use Rattle.nr_laws.proofs.Revoked.{request-regions}
 
 -- ---- Tagged segments among outputs, and Read Requests among events
 
@@ -188,10 +189,6 @@ quiet-answers opened es e k after ended now outs more none live kept h = record 
 message-regions : (k : ClientState) (place : ℕ) (o : Option (List ℕ)) (a : Answered) → IsData k.regions a → IsData (with_message k place o).regions a
 message-regions k place None a h = h
 message-regions k place (Some message) a h = data-closed (λ r. eqb r.call (word_at 0 message)) place k.regions a h
-
-request-regions : (m : ClientState) (o : Option ReadRequest) → (with_request m o).regions ≡ m.regions
-request-regions m None = refl
-request-regions m (Some q) = refl
 
 segment-regions : (k : ClientState) (f : Frame) (r : Result Segment ℕ) (a : Answered) → IsData k.regions a → IsData (with_segment k f r).regions a
 segment-regions k f (Err reason) a h = h

@@ -244,7 +244,7 @@ count-from : (k : ClientState) (stag : ℕ) (xs : List AcceptedCall) → length 
 count-from k stag [] = refl
 count-from k stag (x ∷ xs) = ap (λ (n : ℕ). suc n) (count-from k (stag + Rattle.nr_reduce.specs.Plans.regions_needed (outstanding_of (record k { stag = stag }) x).plan) xs)
 
-by_part : {X W : Type 0} {xs : List X} {y : X} {pre : List X} {m : X} {post : List X} → Parted xs y pre m post → ((more : List X) → xs ≡ pre ++ m ∷ more → W) → (xs ≡ pre → m ≡ y → W) → W
+pub by_part : {X W : Type 0} {xs : List X} {y : X} {pre : List X} {m : X} {post : List X} → Parted xs y pre m post → ((more : List X) → xs ≡ pre ++ m ∷ more → W) → (xs ≡ pre → m ≡ y → W) → W
 by_part (Within more is) f g = f more is
 by_part (Last is same) f g = g is same
 

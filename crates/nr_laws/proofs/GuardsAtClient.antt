@@ -31,7 +31,7 @@ use Rattle.nr_laws.specs.FrameContents.FrameContent.{HelloFrame, SendFrame, Requ
 use Rattle.nr_laws.specs.LinkInvariants.{Transit, TotalsAgree, hello_bit, ReadsAgree, WithinWindow, HasSink, HaveSinks, AreAtMost, requests_of}
 use Rattle.nr_laws.proofs.Totals.{others}
 use Rattle.nr_laws.proofs.TotalsAtServer.{segment-is}
-use Rattle.nr_laws.proofs.TotalsAtClient.{down_one, after-is, says-is, request_payload, totals-hello_down, totals-send_down, totals-read_down, totals-tagged_down}
+use Rattle.nr_laws.proofs.TotalsAtClient.{down_one, after-is, says-is, request_payload, totals-hello_down, totals-send_down, totals-read_down, totals-tagged_down, bit_of}
 use Rattle.nr_laws.proofs.ReadsAtClient.{AnswersNone, reads-read_down, reads-says_up}
 use Rattle.nr_laws.proofs.ServerInvariant.{ServerAgrees}
 use Rattle.nr_laws.proofs.Replies.{IsReply}
@@ -146,10 +146,6 @@ own-xids : (opened : LinkParameters) (os : List OutstandingCall) → AreSized op
 own-xids opened [] h = tt
 own-xids opened (o ∷ os) h = (h.0.1, own-xids opened os h.1)
 
-not_greeted : (b : Bool) → hello_bit b ≡ 0 → b ≡ false
-not_greeted true e = absurd cc
-not_greeted false e = refl
-
 -- a frame behind the hello leaves the client with it
 behind-hello : (opened : LinkParameters) (k t : ClientState) (s : ServerState) (u d all_up all_down : List FrameContent) (w : Transit) (f : Frame) (r : Result Segment ℕ) → t ≡ with_segment k f r → k.has_hello ≡ true → t.has_hello ≡ true
 behind-hello opened k t s u d all_up all_down w f r is hello = ap (λ (x : ClientState). x.has_hello) is ∙ by r
@@ -186,7 +182,7 @@ guards-hello_down opened k s u d all_up all_down w place rest f l g first is sta
     let says = says-hello opened k f is in
     let after = after-hello opened k f is in
     let none : hello_bit k.has_hello ≡ 0 = omega (arith, l.counts.hello, ap (total_of hellos_in) first) in
-    let unsaid : k.has_hello ≡ false = not_greeted k.has_hello none in
+    let unsaid : k.has_hello ≡ false = bit_of k.has_hello none in
     let sends : total_of sends_in all_up ≡ 0 = calls_said opened k s u d all_up all_down w l ∙ ap (λ (b : Bool). cond b k.calls_accepted 0) unsaid in
     let asked : XidsFrom (opened.first_xid + total_of sends_in all_up) said =
     subst (λ (n : ℕ). XidsFrom n said) (let same : opened.first_xid ≡ opened.first_xid + total_of sends_in all_up = omega (arith, sends) in same)

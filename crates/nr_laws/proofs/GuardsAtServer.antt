@@ -39,11 +39,12 @@ use Rattle.std.proofs.lemmas.Bool.{eq-eqb, cases_lt}
 use Rattle.nr_laws.specs.LinkInvariants.{calls_sent}
 use Rattle.nr_laws.specs.FrameContents.{total_of, sends_in}
 use Rattle.nr_laws.proofs.Totals.{total-append}
-use Rattle.nr_laws.proofs.ClientFrame.{calls_said, word_below}
+use Rattle.nr_laws.proofs.ClientFrame.{calls_said}
 use Rattle.nr_laws.proofs.AnsweredCalls.{times, call_xids, effect-xids, pending-send, pending-tagged}
 use Rattle.nr_laws.proofs.AnsweredSteps.{Answered, answered-send, answered-other}
 use Rattle.nr_laws.proofs.Guards.{ClientContent, ServerContent, Guards, step-down}
 use Rattle.nr_laws.proofs.Basics.{each-append}
+use Rattle.nr_laws.proofs.Words.{word-below}
 
 pub each-at : {X : Type 0} (P : X → Type 0) (xs : List X) (y : X) (ys : List X) → AllByRecursion P (xs ++ y ∷ ys) → P y
 each-at P [] y ys h = h.0
@@ -181,7 +182,7 @@ takes-send opened k s u d all_up all_down w place message rest f o l g first pie
       kept = λ stays.
           subst (λ (said : List FrameContent). Guards opened k (server_state_after opened s (FrameReceived f)) (u ++ SendFrame message ∷ []) d all_up (all_down ++ said) (taken_up w rest said) f.end) (sym says)
           (guards-up opened k s (server_state_after opened s (FrameReceived f)) u d all_up all_down w place f.end (SendFrame message) rest (effect_frames (frame_effect s f)) g
-          (t.1 (not-refused opened s f piece.behind stays)) (credit-down opened s.credit (effect_frames (frame_effect s f)) g.credit (step-down s.credit (frame_effect s f) (replies-send s f message l.counts.whole_up small_xid (word_below 4 message (payload_bytes segment (subst IsBytes is bytes))) small reads)))
+          (t.1 (not-refused opened s f piece.behind stays)) (credit-down opened s.credit (effect_frames (frame_effect s f)) g.credit (step-down s.credit (frame_effect s f) (replies-send s f message l.counts.whole_up small_xid (word-below 4 message (payload_bytes segment (subst IsBytes is bytes))) small reads)))
           (ap (λ (x : ServerState). x.credit) after) (subst (λ (x : ServerState). AreWithin x.reads x.regions) (sym after) within) (subst (λ (x : ServerState). length x.regions ≤ x.received.sends) (sym after) sinks) numbers answered);
     }
 

@@ -22,6 +22,7 @@ use Rattle.nr_laws.proofs.Outputs.{Output}
 use Rattle.nr_laws.proofs.Outputs.Output.{AHello, ASegment}
 use Rattle.nr_laws.proofs.Brought.{Brought, Brings}
 use Rattle.nr_laws.proofs.Hears.{was-live}
+use Rattle.std.proofs.lemmas.List.{map-append}
 
 -- ---- Parts: where a tagged segment goes, and its payload
 
@@ -204,16 +205,12 @@ found-append stag end (x ∷ xs) ys a e = by (applies stag end x) e (λ h. found
     by true e rest = refl
     by false e rest = rest e
 
-map-append : (place : ℕ) (xs ys : List Region) → map (region_grant place) (xs ++ ys) ≡ map (region_grant place) xs ++ map (region_grant place) ys
-map-append place [] ys = refl
-map-append place (x ∷ xs) ys = ap (λ (gs : List Grant). region_grant place x ∷ gs) (map-append place xs ys)
-
 pub settled-append : (place : ℕ) (xs ys : List Region) (accesses : List TaggedSegment) → Settled place xs accesses → Settled place (xs ++ ys) accesses
 unfolding grant_denial grant_at region_grants
 settled-append place xs ys [] s = tt
 settled-append place xs ys (a ∷ accesses) s = (
   s.0,
-  ap (λ (gs : List Grant). denial_in (grant_offer (found a.stag a.end gs)) (access_of a)) (map-append place xs ys)
+  ap (λ (gs : List Grant). denial_in (grant_offer (found a.stag a.end gs)) (access_of a)) (map-append (region_grant place) xs ys)
       ∙ ap (λ (o : Option Grant). denial_in (grant_offer o) (access_of a)) (found-append a.stag a.end (grants_from place xs) (grants_from place ys) (access_of a) s.1) ∙ s.1,
   settled-append place xs ys accesses s.2,
 )

@@ -89,7 +89,7 @@ payload-own c (Some payload) x e = head-own c payload (call_of payload) x e
 
 -- ---- its reads are its own
 
-readings-from-of : (regions : List Region) (number : ℕ) (before read : List ReadSegment) → AreOf (λ (r : PendingRead). r.number) number (reads_from regions number before read)
+pub readings-from-of : (regions : List Region) (number : ℕ) (before read : List ReadSegment) → AreOf (λ (r : PendingRead). r.number) number (reads_from regions number before read)
 readings-from-of regions number before [] = tt
 readings-from-of regions number before (r ∷ read) =
     of-append (λ (x : PendingRead). x.number) number _ _ (by (eqb r.length 0)) (readings-from-of regions number (before ++ r ∷ []) read)

@@ -35,6 +35,7 @@ use Rattle.nr_laws.proofs.ServerOutputs.{tagged-answer}
 use Rattle.nr_laws.proofs.SinkReads.{SinksBelow}
 use Rattle.nr_laws.proofs.PendingSinks.{closed-length, OwnersBelow, owners-closed, EachReads, each-closed, each-filter}
 use Rattle.nr_laws.proofs.SinksKept.{SinksKept, EffectKept, IsOwnRead, same-kept, ready-kept, pending-kept, read-kept}
+use Rattle.std.proofs.lemmas.List.{map-append}
 
 -- ---- The Read Requests among outputs
 
@@ -70,10 +71,6 @@ requests-answer k xid offer None = refl
 requests-answer k xid offer (Some a) =
     requests-append (map ASegment (Rattle.nr_reduce.specs.Undone.answer_segments offer a)) (ASegment (send_segment (k.messages_queued + 1) (Rattle.nr_reduce.specs.Holds.answer_message xid (Rattle.nr_reduce.specs.ServerState.credit_word k) offer a)) ∷ [])
     ∙ ap (λ (ps : List (List ℕ)). ps ++ []) (requests-tagged (Rattle.nr_reduce.specs.Undone.answer_segments offer a) (tagged-answer offer a))
-
-pub map-append : (xs ys : List PendingRead) → map request_payload (xs ++ ys) ≡ map request_payload xs ++ map request_payload ys
-map-append [] ys = refl
-map-append (x ∷ xs) ys = ap (λ (ps : List (List ℕ)). request_payload x ∷ ps) (map-append xs ys)
 
 -- ---- Last segments of responses
 
@@ -223,7 +220,7 @@ frame-reads opened es k outs f s behind is stays own numbered h =
       requests = requests-append outs (effect_outputs k e)
           ∙ (λ i. h.requests i ++ (requests-append (message_sends (k.messages_queued + 1) e.errors) (request_outputs (k.requests_sent + 1) (newly_open_reads e))
           ∙ (λ j. requests-sends (k.messages_queued + 1) e.errors j ++ requests-reads (k.requests_sent + 1) (newly_open_reads e) j)) i)
-          ∙ sym (map-append (h.done ++ take 8 k.reads) (newly_open_reads e)) ∙ ap (λ (rs : List PendingRead). map request_payload rs) (sym effect.opened);
+          ∙ sym (map-append request_payload (h.done ++ take 8 k.reads) (newly_open_reads e)) ∙ ap (λ (rs : List PendingRead). map request_payload rs) (sym effect.opened);
       lasts = x.count ∙ (let l = h.lasts in let a = lasts-append es (FrameReceived f ∷ []) in let b = ap (λ (c : Bool). cond c 0 (last_of (frame_segment f))) behind in let c = ap last_of is in omega (arith, l, a, b, c));
     }
 

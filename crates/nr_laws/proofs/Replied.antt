@@ -27,7 +27,7 @@ use Rattle.nr_reduce.specs.Server.{offer_of}
 use Rattle.nr_reduce.specs.ServerState.{credit_word}
 use Rattle.nr_laws.specs.MatchedSoFar.{MatchedSoFar}
 use Rattle.nr_laws.specs.Typed.{IsTyped}
-use Rattle.nr_laws.proofs.HeaderXid.{answer-xid}
+use Rattle.nr_laws.proofs.HeaderXid.{answer-xid, first-word}
 use Rattle.nr_laws.proofs.ServerOutputs.{IsError}
 use Rattle.nr_laws.proofs.ServerOutputs.IsError.{OfChunks, OfVersion}
 use Rattle.nr_laws.proofs.ServerAlong.{Said, SaidAnswer}
@@ -47,9 +47,6 @@ pub word-behind : (n m k : ℕ) (rest : List ℕ) → m ≡ 4 + k → word_at m 
 word-behind n m k rest e =
     let l = length-word n in
     ap (λ (bytes : List ℕ). word_of (take 4 bytes)) (drop-behind m (word n) rest k (omega (arith, e, l)))
-
-pub first-word : (n : ℕ) (rest : List ℕ) → n < 4294967296 → word_at 0 (word n ++ rest) ≡ n
-first-word n rest fits = ap word_of (take_at (word n) rest 4 (length-word n)) ∙ word_of-word n fits
 
 pub kind-word : (a b c d : ℕ) (rest : List ℕ) → d < 4294967296 → word_at 12 (word a ++ (word b ++ (word c ++ (word d ++ rest)))) ≡ d
 kind-word a b c d rest fits =

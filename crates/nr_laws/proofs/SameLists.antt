@@ -8,16 +8,10 @@ use Rattle.nr_header.specs.declared.header.RdmaSegment.{RdmaSegment}
 use Rattle.nr_header.specs.declared.header.ReadSegment.{ReadSegment}
 use Rattle.nr_header.specs.declared.header.ChunkLists.{ChunkLists}
 use Rattle.nr_header.specs.Header.{read_items, segments_items, write_items, reply_items, lists_items}
+use Rattle.nr_laws.proofs.OneChunk.{fronts}
 
 abbrev Fit : ℕ → Type 0
 Fit n = n < 2 ^ 32
-
--- the front of two equal lists, where both are as long
-fronts : (a b x y : List ℕ) (n : ℕ) → length a ≡ n → length b ≡ n → a ++ x ≡ b ++ y → (a ≡ b) × (x ≡ y)
-fronts a b x y n as_long too e = (
-  sym (take_at a x n as_long) ∙ ap (λ (zs : List ℕ). take n zs) e ∙ take_at b y n too,
-  sym (drop_at a x n as_long) ∙ ap (λ (zs : List ℕ). drop n zs) e ∙ drop_at b y n too,
-)
 
 pub peel-word : (a b : ℕ) (x y more others : List ℕ) → Fit a → Fit b → (word a ++ x) ++ more ≡ (word b ++ y) ++ others → (a ≡ b) × (x ++ more ≡ y ++ others)
 peel-word a b x y more others fa fb e =

@@ -29,7 +29,7 @@ use Rattle.nr_laws.proofs.Outputs.Output.{AHello, ASegment}
 use Rattle.nr_laws.proofs.Brought.{AreFrom}
 use Rattle.nr_laws.proofs.Words.{payload-bytes, payload_by}
 use Rattle.nr_laws.proofs.Messages.{message_in, messages, AreOne, messages-tagged, messages-final, one-final}
-use Rattle.nr_laws.proofs.ClientRun.{Parted, parted}
+use Rattle.nr_laws.proofs.ClientRun.{Parted, parted, by_part}
 use Rattle.nr_laws.proofs.ClientRun.Parted.{Within, Last}
 use Rattle.nr_laws.proofs.ClientAlong.{final-words}
 use Rattle.nr_laws.proofs.ServerOutputs.{errors-short, CallsFit, fit-filter, IsFine, fine-frame, AreFine, fine-effect, fine-answer, answer-is-short, tagged-answer}
@@ -177,10 +177,6 @@ segment-step opened es place k outs f s next behind is t None stays =
           });
     }
 
-part-said : {X W : Type 0} {xs : List X} {y : X} {pre : List X} {m : X} {post : List X} → Parted xs y pre m post → ((more : List X) → xs ≡ pre ++ m ∷ more → W) → (xs ≡ pre → m ≡ y → W) → W
-part-said (Within more is) f g = f more is
-part-said (Last is same) f g = g is same
-
 -- ---- An executed call
 
 ready-shape : (place : ℕ) (k : ServerState) (outs : List Output) (call : ReadyCall) (others : List ReadyCall) → k.ready ≡ call ∷ others → Shape place (record { state = k; ended = None }) outs → (0 < place) × Greeted outs
@@ -228,7 +224,7 @@ executed-step opened es place k outs e good t o is =
         let message = answer_message e.xid (credit_word k) offer a in
         let last : Output = ASegment (send_segment (k.messages_queued + 1) message) in
         let none : messages segments ≡ [] = messages-tagged (answer_segments offer a) (tagged-answer offer a) in
-        part-said (parted segments last pre (ASegment s) post same)
+        by_part (parted segments last pre (ASegment s) post same)
         (λ more within. no-cause segments pre s more m none within one)
         (λ is_pre is_last.
         let own : s ≡ send_segment (k.messages_queued + 1) message = head-segment s (send_segment (k.messages_queued + 1) message) [] [] (ap (λ (o : Output). o ∷ []) is_last) in

@@ -33,8 +33,9 @@ use Rattle.nr_laws.proofs.WritableOffers.{OfferFits, SegmentsFit, verdict_fits}
 use Rattle.nr_laws.proofs.Outputs.{Output, IsShort, AreShort, message_sends, request_outputs, effect_outputs, answer_outputs, answer_of_call, AnswerShort, send_segment}
 use Rattle.nr_laws.proofs.Outputs.Output.{ASegment}
 use Rattle.nr_laws.proofs.Brought.{AreFrom}
-use Rattle.nr_laws.proofs.Words.{send-word, request-word, chunk-words, from-append, SegmentsFit as WordsFit}
+use Rattle.nr_laws.proofs.Words.{send-word, request-word, chunk-words, from-append}
 use Rattle.nr_laws.proofs.Messages.{messages, AreOne, messages-append, one-append, messages-sends, one-sends, messages-requests, one-requests, AreTagged, tagged-append, tagged-chunk, messages-tagged, one-tagged}
+use Rattle.std.proofs.lemmas.List.{map-append}
 
 -- ---- Error messages
 
@@ -177,14 +178,6 @@ fine-effect k s h =
       messages_are = messages-append sends reads ∙ (λ i. messages-sends (k.messages_queued + 1) s.errors i ++ messages-requests (k.requests_sent + 1) (newly_open_reads s) i) ∙ append-nil s.errors;
     }
 
-words-fit : (chunk : List RdmaSegment) → SegmentsFit chunk → WordsFit chunk
-words-fit [] h = tt
-words-fit (s ∷ chunk) h = (h.0.0, (h.0.1, h.0.2), words-fit chunk h.1)
-
-map-append : (xs ys : List Segment) → map ASegment (xs ++ ys) ≡ map ASegment xs ++ map ASegment ys
-map-append [] ys = refl
-map-append (x ∷ xs) ys = ap (λ (os : List Output). ASegment x ∷ os) (map-append xs ys)
-
 pub tagged-answer : (offer : ChunkLists) (a : Answer) → AreTagged (answer_segments offer a)
 tagged-answer offer a = tagged-append (chunk_segments (first_chunk offer.write) a.moved) (cond a.long (chunk_segments (no_segments offer.reply) a.stream) []) (tagged-chunk (first_chunk offer.write) a.moved) (by a.long)
   where
@@ -194,12 +187,12 @@ tagged-answer offer a = tagged-append (chunk_segments (first_chunk offer.write) 
 
 answer-words : (offer : ChunkLists) (a : Answer) → OfferFits offer → AreFrom Fpdu (map ASegment (answer_segments offer a))
 answer-words offer a h =
-    subst (λ (os : List Output). AreFrom Fpdu os) (sym (map-append (chunk_segments (first_chunk offer.write) a.moved) (cond a.long (chunk_segments (no_segments offer.reply) a.stream) [])))
+    subst (λ (os : List Output). AreFrom Fpdu os) (sym (map-append ASegment (chunk_segments (first_chunk offer.write) a.moved) (cond a.long (chunk_segments (no_segments offer.reply) a.stream) [])))
     (from-append (map ASegment (chunk_segments (first_chunk offer.write) a.moved)) (map ASegment (cond a.long (chunk_segments (no_segments offer.reply) a.stream) []))
-    (chunk-words (first_chunk offer.write) a.moved (words-fit (first_chunk offer.write) h.writes)) (by a.long))
+    (chunk-words (first_chunk offer.write) a.moved h.writes) (by a.long))
   where
     by : (b : Bool) → AreFrom Fpdu (map ASegment (cond b (chunk_segments (no_segments offer.reply) a.stream) []))
-    by true = chunk-words (no_segments offer.reply) a.stream (words-fit (no_segments offer.reply) h.replies)
+    by true = chunk-words (no_segments offer.reply) a.stream h.replies
     by false = tt
 
 pub answer-short : (offer : ChunkLists) (down prog vers proc xid credit : ℕ) (reply : List ℕ) (a : Answer) → down ≤ 1024 → OfferFits offer → answer_for offer down prog vers proc reply ≡ Some a → IsShort (answer_message xid credit offer a)

@@ -35,6 +35,7 @@ use Rattle.nr_reduce.proofs.OwnStags.{kept-after}
 use Rattle.nr_laws.specs.LinkInvariants.{IsUnused, AreAtMost}
 use Rattle.nr_laws.proofs.Keys.{AreOf, of-absent, of-append, below-more, below-append, below-absent, below-kept, below-taken, below-dropped}
 use Rattle.nr_laws.proofs.ReadsAlong.{sends-grow}
+use Rattle.nr_laws.proofs.PendingSends.{readings-from-of}
 
 -- no entry of a read list has bytes
 abbrev pub HasNoBytes : List ReadSegment → Type 0
@@ -76,16 +77,6 @@ unused-kept n p (x ∷ xs) h = by (p x) (unused-kept n p xs h.1)
     by : (b : Bool) → IsUnused (λ (r : PendingRead). r.number) n (filter p xs) → IsUnused (λ (r : PendingRead). r.number) n (cond b (x ∷ filter p xs) (filter p xs))
     by true rest = (h.0, rest)
     by false rest = rest
-
--- the reads of a call have its number, and are none where its read list has no bytes
-reads-number : (regions : List Region) (number : ℕ) (before read : List ReadSegment) → AreOf (λ (r : PendingRead). r.number) number (reads_from regions number before read)
-reads-number regions number before [] = tt
-reads-number regions number before (r ∷ read) =
-    of-append (λ (x : PendingRead). x.number) number _ _ (by (eqb r.length 0)) (reads-number regions number (before ++ r ∷ []) read)
-  where
-    by : (b : Bool) → AreOf (λ (x : PendingRead). x.number) number (cond b [] (read_of regions number (total_at r.position before) r ∷ []))
-    by true = tt
-    by false = (refl, tt)
 
 reads-nothing : (regions : List Region) (number : ℕ) (before read : List ReadSegment) → HasNoBytes read → reads_from regions number before read ≡ []
 reads-nothing regions number before [] h = refl
@@ -192,7 +183,7 @@ suited-message n k place message (MakesPending c) is next h =
     let regions : List Region = k.regions ++ regions_of k place c in
     let number : c.number ≡ k.received.sends + 1 = subst (λ (v : Verdict). NumberIs (k.received.sends + 1) v) is (verdict-number k message) in
     let news : List PendingRead = reads_of regions c in
-    let own = reads-number regions c.number [] c.lists.read in
+    let own = readings-from-of regions c.number [] c.lists.read in
     suited-whole n k place c (record (no_effect k) { calls = k.calls ++ c ∷ []; reads = k.reads ++ reads_of (k.regions ++ regions_of k place c) c; regions = k.regions ++ regions_of k place c }) (record {
       calls_suit = suited-both n (k.reads ++ news) k.calls (c ∷ [])
           (suited-more k.received.sends n k.reads (k.reads ++ news) k.calls (omega (arith, next))

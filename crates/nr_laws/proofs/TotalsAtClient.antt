@@ -195,7 +195,7 @@ totals-tagged_down opened k s w f last opcode stag to payload rest c first p =
 
 -- ---- The client receives the server's hello: the calls that it accepted are sent
 
-bit_of : (b : Bool) → hello_bit b ≡ 0 → b ≡ false
+pub bit_of : (b : Bool) → hello_bit b ≡ 0 → b ≡ false
 bit_of true e = absurd cc
 bit_of false e = refl
 

@@ -56,7 +56,7 @@ skip_segments : (ss : List RdmaSegment) (more : List Item) → AllFit (segments_
 skip_segments [] more h = h
 skip_segments (s ∷ ss) more h = skip_segments ss more h.1.1.1
 
-skip_write : (chunks : List (List RdmaSegment)) (more : List Item) → AllFit (write_items chunks more) → AllFit more
+pub skip_write : (chunks : List (List RdmaSegment)) (more : List Item) → AllFit (write_items chunks more) → AllFit more
 skip_write [] more h = h.1
 skip_write (chunk ∷ chunks) more h = skip_write chunks more (skip_segments chunk (write_items chunks more) h.1.1)
 
