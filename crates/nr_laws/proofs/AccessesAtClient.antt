@@ -31,8 +31,8 @@ use Rattle.nr_laws.proofs.ClientFrame.{says-hello, after-hello}
 use Rattle.nr_laws.proofs.OwnEvents.{planned}
 use Rattle.nr_laws.proofs.AnsweredCalls.{message_xids, times, xids-append, times-append}
 use Rattle.nr_laws.proofs.OfferedPlans.{planned-offered}
-use Rattle.nr_laws.proofs.OfferedAccesses.{CallOffered, MessageOffered, CallAsked, ReadOffered, IsLive, IsEarly, AccessesAgree, OffersMore, offers-same, offers-left, offers-right, offers-closed, each-all, lists-more, message-more, read-more, accesses-more}
-use Rattle.nr_laws.proofs.Basics.{each-append}
+use Rattle.nr_laws.proofs.OfferedAccesses.{CallOffered, MessageOffered, CallAsked, ReadOffered, IsLive, IsEarly, AccessesAgree, OffersMore, offers-same, offers-left, offers-right, offers-closed, lists-more, message-more, read-more, accesses-more}
+use Rattle.nr_laws.proofs.Basics.{each-append, each-all}
 
 -- ---- More regions, and more that is received
 

@@ -28,8 +28,9 @@ use Rattle.nr_reduce.specs.ClientMessages.{Verdict, verdict, by_head, by_payload
 use Rattle.nr_reduce.specs.ClientMessages.Verdict.{EndsLink, GivesOutcome}
 use Rattle.nr_reduce.specs.Client.{client_end, client_state_after, end_of_verdict, outstanding_of, outcomes_of, revoked_call, written_call, with_message, with_request, with_segment, segment_message, message_end}
 use Rattle.nr_laws.proofs.Keys.{any-append, or-left, or-right}
-use Rattle.nr_laws.proofs.TotalsAtClient.{header-xid, taken}
-use Rattle.nr_laws.proofs.Basics.{some-not}
+use Rattle.nr_laws.proofs.TotalsAtClient.{taken}
+use Rattle.nr_laws.proofs.Basics.{some-not, each-all}
+use Rattle.nr_laws.proofs.HeaderXid.{header-xid}
 
 -- ---- A message that doesn't end the client gives an outcome of the call of its xid, or that call's memory was revoked
 
@@ -124,10 +125,6 @@ pub record CallsAccounted (gone : ℕ → Bool) (xids : List ℕ) (k : ClientSta
   pub each : AllByRecursion (IsAccounted gone k) xids
   pub revoked : AllByRecursion (RevokedGone gone) k.outstanding
 
-each-to : (P Q : ℕ → Type 0) (xids : List ℕ) → ((x : ℕ) → P x → Q x) → AllByRecursion P xids → AllByRecursion Q xids
-each-to P Q [] f h = tt
-each-to P Q (x ∷ xids) f h = (f x h.0, each-to P Q xids f h.1)
-
 either : (a b c d e f : Bool) → (a ≡ true → d ≡ true) → (b ≡ true → e ≡ true) → (c ≡ true → f ≡ true) → (a || (b || c)) ≡ true → (d || (e || f)) ≡ true
 either true b c d e f p q r h = or-left d (e || f) (p refl)
 either false true c d e f p q r h = or-right d (e || f) (or-left e f (q refl))
@@ -197,7 +194,7 @@ message-accounts gone xids k f None stays h = h
 message-accounts gone xids k f (Some message) stays h =
     let g = given gone k f message h.revoked (stays message refl) in
     record {
-      each = each-to (IsAccounted gone k) (IsAccounted gone (with_message k f.end (Some message))) xids (message-each gone k f.end message g) h.each;
+      each = each-all (IsAccounted gone k) (IsAccounted gone (with_message k f.end (Some message))) xids (message-each gone k f.end message g) h.each;
       revoked = revoked-kept gone (λ (o : OutstandingCall). not (eqb o.xid (word_at 0 message))) k.outstanding h.revoked;
     }
 
@@ -235,14 +232,14 @@ revoked-map gone f (o ∷ os) kept h = (kept o h.0, revoked-map gone f os kept h
 -- more is given up
 pub accounts-gone : (gone later : ℕ → Bool) (xids : List ℕ) (k : ClientState) → ((x : ℕ) → gone x ≡ true → later x ≡ true) → CallsAccounted gone xids k → CallsAccounted later xids k
 accounts-gone gone later xids k more h = record {
-  each = each-to (IsAccounted gone k) (IsAccounted later k) xids (λ x. either (is_outstanding k.outstanding x) (has_outcome k.outcomes x) (gone x) (is_outstanding k.outstanding x) (has_outcome k.outcomes x) (later x) (λ z. z) (λ z. z) (more x)) h.each;
+  each = each-all (IsAccounted gone k) (IsAccounted later k) xids (λ x. either (is_outstanding k.outstanding x) (has_outcome k.outcomes x) (gone x) (is_outstanding k.outstanding x) (has_outcome k.outcomes x) (later x) (λ z. z) (λ z. z) (more x)) h.each;
   revoked = revoked-to gone later k.outstanding more h.revoked;
 }
 
 pub written-accounts : (opened : LinkParameters) (gone : ℕ → Bool) (xids : List ℕ) (k : ClientState) → CallsAccounted gone xids k → CallsAccounted gone xids (client_state_after opened k QueueWritten)
 unfolding client_state_after
 written-accounts opened gone xids k h = record {
-  each = each-to (IsAccounted gone k) (IsAccounted gone (client_state_after opened k QueueWritten)) xids
+  each = each-all (IsAccounted gone k) (IsAccounted gone (client_state_after opened k QueueWritten)) xids
       (λ x h. ap (λ (b : Bool). b || (has_outcome k.outcomes x || gone x)) (any-map (written_call k.has_hello) k.outstanding x (λ o. refl)) ∙ h) h.each;
   revoked = revoked-map gone (written_call k.has_hello) k.outstanding (λ o kept. kept) h.revoked;
 }
@@ -250,7 +247,7 @@ written-accounts opened gone xids k h = record {
 pub revoked-accounts : (opened : LinkParameters) (gone : ℕ → Bool) (xids : List ℕ) (k : ClientState) (place xid : ℕ) → gone xid ≡ true → CallsAccounted gone xids k → CallsAccounted gone xids (client_state_after opened k (MemoryRevoked place xid))
 unfolding client_state_after
 revoked-accounts opened gone xids k place xid is h = record {
-  each = each-to (IsAccounted gone k) (IsAccounted gone (client_state_after opened k (MemoryRevoked place xid))) xids
+  each = each-all (IsAccounted gone k) (IsAccounted gone (client_state_after opened k (MemoryRevoked place xid))) xids
       (λ x h. ap (λ (b : Bool). b || (has_outcome k.outcomes x || gone x)) (any-map (revoked_call xid) k.outstanding x same) ∙ h) h.each;
   revoked = revoked-map gone (revoked_call xid) k.outstanding kept h.revoked;
 }
@@ -272,7 +269,7 @@ revoked-accounts opened gone xids k place xid is h = record {
 pub submit-accounts : (opened : LinkParameters) (gone : ℕ → Bool) (xids : List ℕ) (k : ClientState) (place : ℕ) (a : AcceptedCall) → CallsAccounted gone xids k → CallsAccounted gone (xids ++ a.xid ∷ []) (client_state_after opened k (CallSubmitted place a))
 unfolding client_state_after
 submit-accounts opened gone xids k place a h = record {
-  each = push xids (each-to (IsAccounted gone k) (IsAccounted gone (client_state_after opened k (CallSubmitted place a))) xids
+  each = push xids (each-all (IsAccounted gone k) (IsAccounted gone (client_state_after opened k (CallSubmitted place a))) xids
       (λ x. either (is_outstanding k.outstanding x) (has_outcome k.outcomes x) (gone x) (is_outstanding (k.outstanding ++ outstanding_of k a ∷ []) x) (has_outcome k.outcomes x) (gone x)
       (λ e. any-append (λ (o : OutstandingCall). eqb o.xid x) k.outstanding (outstanding_of k a ∷ []) ∙ or-left (is_outstanding k.outstanding x) (is_outstanding (outstanding_of k a ∷ []) x) e) (λ z. z) (λ z. z)) h.each);
   revoked = more k.outstanding h.revoked;

@@ -45,3 +45,7 @@ pub each-drop : {X : Type 0} (P : X → Type 0) (n : ℕ) (xs : List X) → AllB
 each-drop P zero xs h = h
 each-drop P (suc n) [] h = tt
 each-drop P (suc n) (x ∷ xs) h = each-drop P n xs h.1
+
+pub each-all : {X : Type 0} (P Q : X → Type 0) (xs : List X) → ((x : X) → P x → Q x) → AllByRecursion P xs → AllByRecursion Q xs
+each-all P Q [] f h = tt
+each-all P Q (x ∷ xs) f h = (f x h.0, each-all P Q xs f h.1)

@@ -38,6 +38,7 @@ use Rattle.nr_laws.proofs.Writable.{IsWritable, AreWritable, IsOutput, proper_on
 use Rattle.nr_laws.proofs.AgreeingEnds.{EndsAgree, IsPlace, frame_of, payload_bytes}
 use Rattle.nr_laws.proofs.Outputs.{CallsShort}
 use Rattle.nr_laws.proofs.Words.{word-below, hyper-below}
+use Rattle.nr_laws.proofs.ClientSays.{short-filter}
 
 -- ---- A Read Request that doesn't end a client ends within 2 ^ 64 bytes of its sink
 
@@ -94,20 +95,12 @@ request-ends k f n payload behind is e =
 
 -- ---- What is kept
 
-short-kept : (opened : LinkParameters) (p : OutstandingCall → Bool) (os : List OutstandingCall) → CallsShort opened os → CallsShort opened (filter p os)
-short-kept opened p [] h = tt
-short-kept opened p (o ∷ os) h = by (p o) (short-kept opened p os h.1)
-  where
-    by : (b : Bool) → CallsShort opened (filter p os) → CallsShort opened (cond b (o ∷ filter p os) (filter p os))
-    by true k = (h.0, k)
-    by false k = k
-
 short-frame : (opened : LinkParameters) (k : ClientState) (f : Frame) (r : Result Segment ℕ) → CallsShort opened k.outstanding → CallsShort opened (with_segment k f r).outstanding
 short-frame opened k f r h = by (segment-out k f r)
   where
     by : ((with_segment k f r).outstanding ≡ k.outstanding) ⊎ ((p : OutstandingCall → Bool) × ((with_segment k f r).outstanding ≡ filter p k.outstanding)) → CallsShort opened (with_segment k f r).outstanding
     by (inl same) = subst (CallsShort opened) (sym same) h
-    by (inr left) = subst (CallsShort opened) (sym left.1) (short-kept opened left.0 k.outstanding h)
+    by (inr left) = subst (CallsShort opened) (sym left.1) (short-filter opened left.0 k.outstanding h)
 
 client-linked : (opened : LinkParameters) (k t : ClientState) (s : ServerState) (u d all_up all_down : List FrameContent) (w : Transit) (p : FrameContent) (rest said : List FrameContent) → EndsAgree opened k s u d all_up all_down w → w.down ≡ p ∷ rest
     → TotalsAgree t s (down_one w said rest) → OwnXids opened t → CallsShort opened t.outstanding → AreWritable said → total_of hellos_in said ≡ 0 → total_of requests_in said ≡ 0

@@ -54,13 +54,13 @@ use Rattle.nr_laws.proofs.Replies.{IsReply}
 use Rattle.nr_laws.proofs.RequestFields.{request-again}
 use Rattle.nr_laws.proofs.Writable.{IsWritable, AreWritable, IsOutput, proper_one, stream-first, stream-at}
 use Rattle.nr_laws.proofs.AgreeingEnds.{EndsAgree, IsPlace, frame_of}
-use Rattle.nr_laws.proofs.TotalsAtClient.{header-xid}
 use Rattle.nr_laws.proofs.ClientFrame.{calls_said}
 use Rattle.nr_laws.proofs.AnsweredSteps.{answers-one}
 use Rattle.nr_laws.proofs.GuardsAtServer.{sent_most}
 use Rattle.nr_laws.proofs.Guards.{Guards}
 use Rattle.nr_laws.proofs.GuardsAtClient.{front-down, asked-of, guards-hello_down, guards-send_down, guards-read_down, guards-tagged_down}
 use Rattle.nr_laws.proofs.Basics.{some-not}
+use Rattle.nr_laws.proofs.HeaderXid.{header-xid}
 
 -- ---- A message
 

@@ -23,8 +23,8 @@ use Rattle.nr_laws.specs.FrameContents.FrameContent.{SendFrame}
 use Rattle.nr_laws.proofs.ReadLimits.{each-kept}
 use Rattle.nr_laws.proofs.PendingSends.{verdict-new}
 use Rattle.nr_laws.proofs.ServerReadsOfRuns.{verdict-lists}
-use Rattle.nr_laws.proofs.OfferedAccesses.{EntryOffered, ListsOffered, CallOffered, MessageOffered, ReadOffered, each-all}
-use Rattle.nr_laws.proofs.Basics.{each-append, each-drop}
+use Rattle.nr_laws.proofs.OfferedAccesses.{EntryOffered, ListsOffered, CallOffered, MessageOffered, ReadOffered}
+use Rattle.nr_laws.proofs.Basics.{each-append, each-drop, each-all}
 
 -- ---- Lists
 

@@ -35,13 +35,13 @@ use Rattle.nr_laws.specs.Typed.{TypedMark}
 use Rattle.nr_reduce.specs.Asked.{AskedMark}
 use Rattle.std.specs.Prelude.{slice_index_or}
 use Rattle.nr_laws.proofs.OnceByXid.{at-mark, before-mark}
-use Rattle.nr_laws.proofs.Flows.{got-one}
 use Rattle.nr_laws.proofs.Along.{places_after, whole-within}
 use Rattle.nr_laws.proofs.ClientRun.{client-goes}
 use Rattle.nr_laws.proofs.ClientMemory.{HasRegion, has-closed, find-left, keeps-along}
 use Rattle.nr_laws.proofs.Memory.{Part, parts_of, after_parts, after-append, parts-append, Settled, settled-later, held-parts}
 use Rattle.nr_laws.proofs.Beyond.{EndBehind, frames-behind}
 use Rattle.nr_laws.proofs.Revoked.{IsClosedBy, OnlyClosed, closed-none, only-closed, only-append, only-above, frame-regions, UntilBy, until-run}
+use Rattle.nr_laws.proofs.Bytes.{received-one}
 
 -- ---- Accesses to other memory
 
@@ -187,7 +187,7 @@ frozen-from : (opened : LinkParameters) (link stag p : ℕ) (bytes : List ℕ) (
     → Frozen stag p bytes old (client opened link before).state → Frozen stag p bytes old (client opened link (before ++ run)).state
 frozen-from opened link stag p bytes old before [] le h = subst (λ (b : List Mark). Frozen stag p bytes old (client opened link b).state) (sym (append-nil before)) h
 frozen-from opened link stag p bytes old before (mark ∷ run) le h =
-    let grows = ap (λ (xs : List ℕ). length xs) (got-one link Initiator before mark) ∙ length-append (bytes_received link Initiator before) (fed_at link Initiator mark) in
+    let grows = ap (λ (xs : List ℕ). length xs) (received-one link Initiator before mark) ∙ length-append (bytes_received link Initiator before) (fed_at link Initiator mark) in
     let next : Frozen stag p bytes old (client opened link (before ++ mark ∷ [])).state =
     subst (λ (r : EndState ClientState). Frozen stag p bytes old r.state) (sym (client-one opened link before mark)) (frozen-all opened stag p bytes old (client opened link before) (events_at link Initiator before mark) (mark-behind p link before mark le) h) in
     subst (λ (b : List Mark). Frozen stag p bytes old (client opened link b).state) (append_assoc before (mark ∷ []) run) (frozen-from opened link stag p bytes old (before ++ mark ∷ []) run (omega (arith, grows, le)) next)
@@ -338,7 +338,7 @@ kept opened link before after xid stag given r there own None is =
     let at : Mark = marks.Revoke link xid given in
     let old = (client opened link before).state.accesses_received in
     let p = length (bytes_received link Initiator before) in
-    let grows = ap (λ (xs : List ℕ). length xs) (got-one link Initiator before at) ∙ length-append (bytes_received link Initiator before) (fed_at link Initiator at) in
+    let grows = ap (λ (xs : List ℕ). length xs) (received-one link Initiator before at) ∙ length-append (bytes_received link Initiator before) (fed_at link Initiator at) in
     let f : Frozen stag p r.bytes old (client opened link (before ++ at ∷ after)).state =
     subst (λ (b : List Mark). Frozen stag p r.bytes old (client opened link b).state) (append_assoc before (at ∷ []) after)
     (frozen-from opened link stag p r.bytes old (before ++ at ∷ []) after (omega (arith, grows)) (frozen-mark opened link before xid stag given r there own is)) in

@@ -46,6 +46,7 @@ use Rattle.nr_laws.proofs.AnsweredSteps.{Answered, answered-message, answered-sa
 use Rattle.nr_laws.proofs.Guards.{ClientContent, ServerContent, IsAsked, AreSized, Guards}
 use Rattle.nr_laws.proofs.GuardsAtServer.{each-at}
 use Rattle.nr_laws.proofs.Basics.{each-append, each-right, each-take}
+use Rattle.nr_laws.proofs.Sinks.{sinks-taken}
 
 pub front-down : (opened : LinkParameters) (k : ClientState) (s : ServerState) (u d all_up all_down : List FrameContent) (w : Transit) (place : ℕ) (p : FrameContent) (rest : List FrameContent) → EndsAgree opened k s u d all_up all_down w → Guards opened k s u d all_up all_down w place → w.down ≡ p ∷ rest → ServerContent opened.granted p
 front-down opened k s u d all_up all_down w place p rest l g first =
@@ -56,11 +57,6 @@ front-down opened k s u d all_up all_down w place p rest l g first =
 have-right : (place : ℕ) (regions : List Region) (xs ys : List PendingRead) → HaveSinks place regions (xs ++ ys) → HaveSinks place regions ys
 have-right place regions [] ys h = h
 have-right place regions (x ∷ xs) ys h = have-right place regions xs ys h.1
-
-have-take : (place n : ℕ) (regions : List Region) (xs : List PendingRead) → HaveSinks place regions xs → HaveSinks place regions (take n xs)
-have-take place zero regions xs h = tt
-have-take place (suc n) regions [] h = tt
-have-take place (suc n) regions (x ∷ xs) h = (h.0, have-take place n regions xs h.1)
 
 record SinkBounds (n : ℕ) (r : PendingRead) : Type 0 where
   sink : r.sink ≤ n
@@ -96,7 +92,7 @@ asked-of s w place sink at size stag to rest c first sinks stags within =
     let r = a.0 in
     let parts : open_reads s ≡ c.answered ++ r ∷ a.1 = c.parts ∙ ap (λ (xs : List PendingRead). c.answered ++ xs) a.2 in
     let fits = (each-right ReadFits c.answered (r ∷ a.1) (subst (AllByRecursion ReadFits) parts (each-take ReadFits 8 s.reads within.fit))).0 in
-    let sink_of = (have-right place s.regions c.answered (r ∷ a.1) (subst (HaveSinks place s.regions) parts (have-take place 8 s.regions s.reads sinks))).0 in
+    let sink_of = (have-right place s.regions c.answered (r ∷ a.1) (subst (HaveSinks place s.regions) parts (sinks-taken place 8 s.regions s.reads sinks))).0 in
     let b = bounds place (length s.regions) r s.regions sink_of stags within.small in
     let same = read-fields sink at size stag to r a.3 in
     record {

@@ -45,14 +45,11 @@ use Rattle.nr_laws.proofs.AnsweredSteps.{Answered, answered-send, answered-other
 use Rattle.nr_laws.proofs.Guards.{ClientContent, ServerContent, Guards, step-down}
 use Rattle.nr_laws.proofs.Basics.{each-append}
 use Rattle.nr_laws.proofs.Words.{word-below}
+use Rattle.nr_laws.proofs.PendingFrames.{later-sinks}
 
 pub each-at : {X : Type 0} (P : X → Type 0) (xs : List X) (y : X) (ys : List X) → AllByRecursion P (xs ++ y ∷ ys) → P y
 each-at P [] y ys h = h.0
 each-at P (x ∷ xs) y ys h = each-at P xs y ys h.1
-
-have-later : (place end : ℕ) (regions : List Region) (reads : List PendingRead) → place ≤ end → HaveSinks place regions reads → HaveSinks end regions reads
-have-later place end regions [] le h = tt
-have-later place end regions (r ∷ reads) le h = (sink-later place end r regions le h.0, have-later place end regions reads le h.1)
 
 -- what the frame at the front is
 pub front-up : (opened : LinkParameters) (k : ClientState) (s : ServerState) (u d all_up all_down : List FrameContent) (w : Transit) (place : ℕ) (p : FrameContent) (rest : List FrameContent) → EndsAgree opened k s u d all_up all_down w → Guards opened k s u d all_up all_down w place → w.up ≡ p ∷ rest → ClientContent p
@@ -232,7 +229,7 @@ hello-guards opened k s u d all_up all_down w place rest f g first is le =
           (subst (λ (said : List FrameContent). TotalsAgree k (server_state_after opened s (FrameReceived f)) (taken_up w rest said)) says (totals-hello_up opened k s w f rest g.server.counts first is));
       reads = reads-says_down s s (record { queued_up = w.queued_up; up = rest; queued_down = w.queued_down; down = w.down }) (HelloFrame ∷ []) r refl refl refl;
       waits = g.server.waits;
-      sinks = have-later place f.end s.regions s.reads le g.server.sinks;
+      sinks = later-sinks place f.end s.regions s.reads le g.server.sinks;
       regions = g.server.regions;
     } in
     subst (λ (said : List FrameContent). Guards opened k (server_state_after opened s (FrameReceived f)) (u ++ HelloFrame ∷ []) d all_up (all_down ++ said) (taken_up w rest said) f.end) (sym says)

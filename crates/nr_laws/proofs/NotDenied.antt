@@ -59,9 +59,10 @@ use Rattle.nr_laws.proofs.AgreeingRuns.{MarkAgrees, place_of, goes-on, arrives}
 use Rattle.nr_laws.proofs.EachRun.{starts, goes-mark, server-unended}
 use Rattle.nr_laws.proofs.FirstEnds.{Guarded, fed-ends, client-last}
 use Rattle.nr_laws.proofs.AnsweredCalls.{message_xids}
-use Rattle.nr_laws.proofs.OfferedAccesses.{IsAccess, AreAccesses, IsEarly, AccessesAgree, access-at, each-all}
+use Rattle.nr_laws.proofs.OfferedAccesses.{IsAccess, AreAccesses, IsEarly, AccessesAgree, access-at}
 use Rattle.nr_laws.proofs.AccessSteps.{front-piece_down, accessed-down}
 use Rattle.nr_laws.proofs.AllowedAccesses.{offered-granted}
+use Rattle.nr_laws.proofs.Basics.{each-all}
 
 -- ---- One frame
 

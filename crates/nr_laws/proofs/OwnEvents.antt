@@ -33,6 +33,7 @@ use Rattle.nr_laws.proofs.ServerOutput.{execution_frames, execution-proper, exec
 use Rattle.nr_laws.proofs.AgreeingEnds.{EndsAgree, messages_said}
 use Rattle.nr_laws.proofs.ClientFrame.{calls_said}
 use Rattle.nr_laws.proofs.Outputs.{IsShort, send-one, CallsShort}
+use Rattle.nr_laws.proofs.ClientSays.{short-append, short-revoked, short-written}
 
 -- ---- Of a client
 
@@ -75,10 +76,6 @@ unfolding plan_for
 short-call opened k a plan is =
     let size = message_size (call_payload a.xid a.call) a.form 1024 1024 a.xid opened.wished k.stag plan is in
     subst (λ (p : Plan). IsShort (call_message a.xid opened.wished k.stag p)) (sym (planned (call_payload a.xid a.call) (plan_for k a.xid a.call a.form) plan is)) (omega (arith, size.1))
-
-short-append : (opened : LinkParameters) (os more : List OutstandingCall) → CallsShort opened os → CallsShort opened more → CallsShort opened (os ++ more)
-short-append opened [] more h k = k
-short-append opened (o ∷ os) more h k = (h.0, short-append opened os more h.1 k)
 
 pub submitted : (opened : LinkParameters) (k : ClientState) (s : ServerState) (u d all_up all_down : List FrameContent) (w : Transit) (place : ℕ) (a : AcceptedCall) (plan : Plan) → EndsAgree opened k s u d all_up all_down w
     → a.xid ≡ next_xid opened k → plan_for k a.xid a.call a.form ≡ Ok plan → Submitted opened k s u d all_up all_down w place a
@@ -137,14 +134,6 @@ below-revoked : (xid n : ℕ) (os : List OutstandingCall) → AreAtMost (λ (o :
 below-revoked xid n [] h = tt
 below-revoked xid n (o ∷ os) h = (omega (arith, xid-revoked xid o, h.0), below-revoked xid n os h.1)
 
-short-revoked : (opened : LinkParameters) (xid : ℕ) (os : List OutstandingCall) → CallsShort opened os → CallsShort opened (map (revoked_call xid) os)
-short-revoked opened xid [] h = tt
-short-revoked opened xid (o ∷ os) h = (by (eqb o.xid xid), short-revoked opened xid os h.1)
-  where
-    by : (b : Bool) → IsShort (call_message (cond b (record o { is_revoked = true }) o).xid opened.wished (cond b (record o { is_revoked = true }) o).stag (cond b (record o { is_revoked = true }) o).plan)
-    by true = h.0
-    by false = h.0
-
 same-linked : (opened : LinkParameters) (k t : ClientState) (s : ServerState) (u d all_up all_down : List FrameContent) (w v : Transit) → EndsAgree opened k s u d all_up all_down w
     → v.up ++ v.queued_up ≡ w.up ++ w.queued_up → v.down ++ v.queued_down ≡ w.down ++ w.queued_down → TotalsAgree t s v → OwnXids opened t → CallsShort opened t.outstanding → t.received ≡ k.received
     → EndsAgree opened t s u d all_up all_down v
@@ -189,10 +178,6 @@ unfolding client_state_after
 revoked opened k s u d all_up all_down w place xid l =
     same-linked opened k (client_state_after opened k (MemoryRevoked place xid)) s u d all_up all_down w w l refl refl (totals-revoked opened k s w place xid l.counts)
     (record { apart = apart-revoked xid k.outstanding l.outs.apart; below = below-revoked xid (next_xid opened k) k.outstanding l.outs.below }) (short-revoked opened xid k.outstanding l.short) refl
-
-short-written : (opened : LinkParameters) (b : Bool) (os : List OutstandingCall) → CallsShort opened os → CallsShort opened (map (written_call b) os)
-short-written opened b [] h = tt
-short-written opened b (o ∷ os) h = (h.0, short-written opened b os h.1)
 
 pub written_up : (opened : LinkParameters) (k : ClientState) (s : ServerState) (u d all_up all_down : List FrameContent) (w : Transit) → EndsAgree opened k s u d all_up all_down w
     → EndsAgree opened (client_state_after opened k QueueWritten) s u d all_up all_down (record { queued_up = []; up = w.up ++ w.queued_up; queued_down = w.queued_down; down = w.down })

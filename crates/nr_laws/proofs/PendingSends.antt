@@ -22,8 +22,8 @@ use Rattle.nr_reduce.specs.ServerMessages.Verdict.{EndsLink, OtherVersion, BadCh
 use Rattle.nr_reduce.specs.ServerMessages.CallVerdict.{Refuses, IsReady}
 use Rattle.nr_laws.specs.LinkInvariants.{AreDistinct, IsUnused, AreAtMost, AreReady, AreWhole, PendingAgree}
 use Rattle.nr_laws.proofs.Totals.{apart_push}
-use Rattle.nr_laws.proofs.TotalsAtClient.{header-xid}
 use Rattle.nr_laws.proofs.Keys.{any-left, any-right, below-more, below-append, below-absent, below-at, none-absent, AreOf, of-absent, of-below, of-append, any-others}
+use Rattle.nr_laws.proofs.HeaderXid.{header-xid}
 
 -- ---- The call that a message opens
 

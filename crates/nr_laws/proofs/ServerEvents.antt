@@ -23,7 +23,7 @@ use Rattle.nr_reduce.specs.ServerState.{ServerState, ReadyCall, credit_word}
 use Rattle.nr_reduce.specs.ServerFrames.{FrameEffect, frame_effect}
 use Rattle.nr_reduce.specs.Server.{server_rules, server_end, server_output, server_state_after, server_final_output, with_effect, received_by, is_rejected, offer_of, initial_server}
 use Rattle.nr_reduce.specs.RunLaws.{server_by}
-use Rattle.nr_laws.proofs.Along.{IsNext, place_after, outputs_by, outputs_for, bytes-both}
+use Rattle.nr_laws.proofs.Along.{IsNext, place_after, outputs_by, outputs_for}
 use Rattle.nr_laws.proofs.Outputs.{Output, bytes_of_all, server_says, server-said, ServerShort, server_final_outputs, server-final-said, final_outputs, effect_outputs, answer_outputs, answer_of_call, send_segment}
 use Rattle.nr_laws.proofs.Outputs.Output.{AHello, ASegment}
 use Rattle.nr_laws.proofs.Brought.{AreFrom}
@@ -37,6 +37,7 @@ use Rattle.nr_laws.proofs.ServerEnds.{BigEnd, segment-ends, hello-goes}
 use Rattle.nr_laws.proofs.ServerAlong.{IsGoodExecution, ServerGood, Said, is_live, outs_of, at-most, nothing-at, messages-at, Greeted, greeted-more, Shape, ServerTells, Grows, grown}
 use Rattle.nr_laws.proofs.ServerAlong.Said.{IsRefusal, IsAnswer, IsNoAnswer}
 use Rattle.nr_laws.proofs.Basics.{above-zero}
+use Rattle.nr_laws.proofs.Bytes.{bytes_both}
 
 -- ---- The bytes that are received
 
@@ -46,7 +47,7 @@ received-bytes h (Untagged last opcode w queue msn offset payload) b p = by (is_
   where
     by_last : (l : Bool) → IsBytes (begun_bytes (send_continued h l payload).begun)
     by_last true = λ i. omega arith
-    by_last false = bytes-both (begun_bytes h.begun) payload b p
+    by_last false = bytes_both (begun_bytes h.begun) payload b p
 
     by_read : (c : Bool) → IsBytes (begun_bytes (cond c (record { sends = h.sends; begun = h.begun; requests = h.requests + 1 }) h).begun)
     by_read true = b
@@ -61,7 +62,7 @@ completed-bytes h (Tagged last opcode stag to payload) m b p e = absurd cc
 completed-bytes h (Untagged last opcode w queue msn offset payload) m b p e = by (is_send opcode && last) e
   where
     by : (c : Bool) → cond c (Some (begun_bytes h.begun ++ payload)) None ≡ Some m → IsBytes m
-    by true e = subst IsBytes (let t : begun_bytes h.begun ++ payload ≡ m = cc in t) (bytes-both (begun_bytes h.begun) payload b p)
+    by true e = subst IsBytes (let t : begun_bytes h.begun ++ payload ≡ m = cc in t) (bytes_both (begun_bytes h.begun) payload b p)
     by false e = absurd cc
 
 -- ---- An end

@@ -33,6 +33,7 @@ use Rattle.nr_laws.specs.FrameContents.FrameContent.{HelloFrame, SendFrame, Requ
 use Rattle.nr_laws.specs.LinkInvariants.{Transit, TotalsAgree, AreDistinct, calls_sent, hello_bit}
 use Rattle.nr_laws.proofs.Totals.{total-append, total-map-zero, total-map-one, length-fewer, any_found, any_first}
 use Rattle.nr_laws.proofs.TotalsAtServer.{segment-is}
+use Rattle.nr_laws.proofs.HeaderXid.{header-xid}
 
 -- ---- A message that the client takes is under the xid of a call that is out
 
@@ -43,10 +44,6 @@ headed-xid xid credit (Err fault) h e = absurd cc
 header-xid-by : (short : Bool) (xid credit : ℕ) (r : Result Body HeaderFault) (h : Header) → cond short (Err faults.Short) (header_by xid credit r) ≡ Ok h → h.xid ≡ xid
 header-xid-by true xid credit r h e = absurd cc
 header-xid-by false xid credit r h e = headed-xid xid credit r h e
-
-pub header-xid : (bytes : List ℕ) (h : Header) → header_of bytes ≡ Ok h → h.xid ≡ word_at 0 bytes
-unfolding header_of
-header-xid bytes h e = header-xid-by (ltb (length bytes) 16) (word_at 0 bytes) (word_at 8 bytes) _ h e
 
 abbrev has_xid : ℕ → OutstandingCall → Bool
 has_xid xid o = eqb o.xid xid
