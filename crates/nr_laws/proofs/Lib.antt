@@ -165,3 +165,4 @@ pub mod NotDenied
 pub mod CallsAtFrames
 pub mod EndingEvents
 pub mod Basics
+pub mod EachEffect

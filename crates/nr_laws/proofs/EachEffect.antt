@@ -1,0 +1,130 @@
+-- A rule that each part of an effect keeps holds of the effect of each frame at a server; likewise of the verdict on each message.
+use Rattle.std.proofs.Common.{◌≡◌, ℕ, ◌+◌, ◌-◌, Bool, true, false, cond, not, ◌&&◌, ◌||◌, eqb, ltb, List, [], ◌∷◌, ◌++◌, length, drop, Option, None, Some, Result, Ok, Err, refl, ap, subst}
+use Rattle.nr_xdr.specs.Fields.{word_at}
+use Rattle.nr_wire.specs.Constants.{OPCODE_READ_RESPONSE}
+use Rattle.nr_wire.specs.Segment.{Segment}
+use Rattle.nr_wire.specs.Segment.Segment.{Tagged, Untagged}
+use Rattle.nr_header.specs.declared.fault.HeaderFault.{HeaderFault}
+use Rattle.nr_header.specs.declared.header.Body.{Body}
+use Rattle.nr_header.specs.declared.header.Body.TheVariants.{Msg, Nomsg, ErrVers, ErrChunk}
+use Rattle.nr_header.specs.declared.header.ChunkLists.{ChunkLists}
+use Rattle.nr_header.specs.declared.header.Header.{Header}
+use Rattle.nr_header.specs.Reading.{header_of}
+use Rattle.nr_link.specs.Frames.{Frame}
+use Rattle.nr_link.specs.Ending.{frame_segment}
+use Rattle.nr_link.specs.ReceiveState.{message_completed}
+use Rattle.nr_reduce.specs.Chunks.{is_read_chunk_of_item}
+use Rattle.nr_reduce.specs.Holds.{chunk_error, version_error}
+use Rattle.nr_reduce.specs.ServerState.{ServerState, PendingCall, PendingRead, credit_word, next_stag, is_pending}
+use Rattle.nr_reduce.specs.ServerReads.{open_reads, is_read, reads_of, regions_of, chunks_of}
+use Rattle.nr_reduce.specs.ServerMessages.{Verdict, verdict, by_need, by_stream, by_body, by_header, by_payload, has_position, no_stream, chunk_bytes, payload_of}
+use Rattle.nr_reduce.specs.ServerMessages.Verdict.{EndsLink, OtherVersion, BadChunks, MakesPending}
+use Rattle.nr_reduce.specs.ServerFrames.{FrameEffect, no_effect, with_verdict, ready_if_whole, message_effect, with_refused_call, is_stream_read, read_effect, call_of_number, response_effect, by_message, with_access, effect_in, frame_effect}
+
+-- ---- The verdict on a message
+
+pub record VerdictRule (P : Verdict → Type 0) : Type 0 where
+  pub kind : P (EndsLink 17)
+  pub again : P (EndsLink 20)
+  pub stags : P (EndsLink 30)
+  pub version : P OtherVersion
+  pub chunks : P BadChunks
+  pub pending : (c : PendingCall) → P (MakesPending c)
+
+verdict-if : (P : Verdict → Type 0) (b : Bool) (v w : Verdict) → P v → P w → P (cond b v w)
+verdict-if P true v w h g = h
+verdict-if P false v w h g = g
+
+need-rule : (P : Verdict → Type 0) → VerdictRule P → (k : ServerState) (c : PendingCall) → P (by_need k c)
+need-rule P h k c = verdict-if P (ltb 4294967296 (next_stag k + length (chunks_of c.lists))) (EndsLink 30) (MakesPending c) h.stags (h.pending c)
+
+stream-rule : (P : Verdict → Type 0) → VerdictRule P → (k : ServerState) (lists : ChunkLists) (xid : ℕ) (o : Option (List ℕ)) → P (by_stream k lists xid o)
+stream-rule P h k lists xid None = need-rule P h k (record { number = k.received.sends + 1; xid = xid; lists = lists; inline = None })
+stream-rule P h k lists xid (Some stream) =
+    verdict-if P (is_read_chunk_of_item stream lists.read) (by_need k (record { number = k.received.sends + 1; xid = xid; lists = lists; inline = Some stream })) BadChunks
+    (need-rule P h k (record { number = k.received.sends + 1; xid = xid; lists = lists; inline = Some stream })) h.chunks
+
+header-rule : (P : Verdict → Type 0) → VerdictRule P → (k : ServerState) (message : List ℕ) (r : Result Header HeaderFault) → P (by_header k message r)
+header-rule P h k message (Err fault) = h.chunks
+header-rule P h k message (Ok header) = by header.xid header.body
+  where
+    by : (xid : ℕ) (b : Body) → P (by_body k xid message b)
+    by xid (Msg lists at) = stream-rule P h k lists xid (Some (drop at message))
+    by xid (Nomsg lists) = verdict-if P (has_position lists.read) (by_stream k lists xid (no_stream lists.read)) BadChunks (stream-rule P h k lists xid (no_stream lists.read)) h.chunks
+    by xid (ErrVers version low high) = h.chunks
+    by xid (ErrChunk version) = h.chunks
+
+pub each-verdict : (P : Verdict → Type 0) → VerdictRule P → (k : ServerState) (message : List ℕ) → P (verdict k message)
+unfolding verdict
+each-verdict P h k message =
+    verdict-if P (not (eqb (word_at 4 message) 1)) OtherVersion _ h.version
+    (verdict-if P (eqb (word_at 12 message) 3 || eqb (word_at 12 message) 4) (EndsLink 17) _ h.kind
+    (verdict-if P (is_pending k (word_at 0 message)) (EndsLink 20) (by_header k message (header_of message)) h.again (header-rule P h k message (header_of message))))
+
+-- ---- The effect of a frame
+
+-- what each part keeps; `Good` is what the messages have that the frame completes
+pub record EffectRule (k : ServerState) (Good : List ℕ → Type 0) (P : FrameEffect → Type 0) : Type 0 where
+  pub unchanged : P (no_effect k)
+  pub judged : (t : ServerState) (place : ℕ) (c : PendingCall) (s : FrameEffect) → P s → P (with_verdict (by_payload c (payload_of t place c)) s)
+  pub refused : (c : PendingCall) (s : FrameEffect) → P s → P (with_refused_call k c s)
+  pub read : (r : PendingRead) (reads : List PendingRead) → k.reads ≡ r ∷ reads → P (record (no_effect k) { reads = reads; kept = length (open_reads k) - 1 })
+  pub ends : (message : List ℕ) (reason : ℕ) → Good message → verdict k message ≡ EndsLink reason → P (record (no_effect k) { refusal = Some reason })
+  pub version : (message : List ℕ) → P (record (no_effect k) { errors = version_error (word_at 0 message) (word_at 4 message) (credit_word k) ∷ [] })
+  pub chunks : (message : List ℕ) → P (record (no_effect k) { errors = chunk_error (word_at 0 message) (credit_word k) ∷ [] })
+  pub pending : (place : ℕ) (message : List ℕ) (c : PendingCall) → Good message → verdict k message ≡ MakesPending c
+      → P (record (no_effect k) { calls = k.calls ++ c ∷ []; reads = k.reads ++ reads_of (k.regions ++ regions_of k place c) c; regions = k.regions ++ regions_of k place c })
+
+whole-rule : (P : FrameEffect → Type 0) (t : ServerState) (place : ℕ) (c : PendingCall) (s : FrameEffect) → (P s → P (with_verdict (by_payload c (payload_of t place c)) s)) → P s → P (ready_if_whole t place c s)
+whole-rule P t place c s judged h = by (is_read s.reads c.number)
+  where
+    by : (b : Bool) → P (cond b (with_verdict (by_payload c (payload_of t place c)) s) s)
+    by true = judged h
+    by false = h
+
+message-rule : (k : ServerState) (Good : List ℕ → Type 0) (P : FrameEffect → Type 0) → EffectRule k Good P → (place : ℕ) (message : List ℕ) (v : Verdict) → Good message → verdict k message ≡ v → P (message_effect k place message v)
+message-rule k Good P h place message (EndsLink reason) good is = h.ends message reason good is
+message-rule k Good P h place message OtherVersion good is = h.version message
+message-rule k Good P h place message BadChunks good is = h.chunks message
+message-rule k Good P h place message (MakesPending c) good is =
+    whole-rule P k place c (record (no_effect k) { calls = k.calls ++ c ∷ []; reads = k.reads ++ reads_of (k.regions ++ regions_of k place c) c; regions = k.regions ++ regions_of k place c }) (h.judged k place c _) (h.pending place message c good is)
+
+response-rule : (k : ServerState) (Good : List ℕ → Type 0) (P : FrameEffect → Type 0) → EffectRule k Good P → (f : Frame) (segment : Segment) (reads : List PendingRead) → k.reads ≡ reads → P (response_effect (with_access k f segment) f.end reads)
+response-rule k Good P h f segment [] is = h.unchanged
+response-rule k Good P h f segment (r ∷ reads) is = by_call (call_of_number k r.number)
+  where
+    t : ServerState
+    t = with_access k f segment
+
+    s : FrameEffect
+    s = record (no_effect k) { reads = reads; kept = length (open_reads k) - 1 }
+
+    by_test : (c : PendingCall) (b : Bool) → P (cond b (with_refused_call t c s) (ready_if_whole t f.end c s))
+    by_test c true = h.refused c s (h.read r reads is)
+    by_test c false = whole-rule P t f.end c s (h.judged t f.end c s) (h.read r reads is)
+
+    by_call : (o : Option PendingCall) → P (read_effect t f.end r o s)
+    by_call None = h.read r reads is
+    by_call (Some c) = by_test c (is_stream_read c r s.reads && not (is_read_chunk_of_item (chunk_bytes t f.end c 0) c.lists.read))
+
+pub each-effect : (k : ServerState) (Good : List ℕ → Type 0) (P : FrameEffect → Type 0) → EffectRule k Good P → (f : Frame)
+    → ((s : Segment) (m : List ℕ) → frame_segment f ≡ Ok s → message_completed k.received s ≡ Some m → Good m) → P (frame_effect k f)
+unfolding frame_effect
+each-effect k Good P h f good = by (frame_segment f) refl
+  where
+    by_message-rule : (o : Option (List ℕ)) → ((m : List ℕ) → o ≡ Some m → Good m) → P (by_message k f.end o)
+    by_message-rule None good = h.unchanged
+    by_message-rule (Some message) good = message-rule k Good P h f.end message (verdict k message) (good message refl) refl
+
+    by : (r : Result Segment ℕ) → frame_segment f ≡ r → P (effect_in k f r)
+    by (Err reason) is = h.unchanged
+    by (Ok (Tagged last opcode stag to payload)) is = tagged (eqb opcode OPCODE_READ_RESPONSE && last)
+      where
+        segment : Segment
+        segment = Tagged last opcode stag to payload
+
+        tagged : (b : Bool) → P (cond b (response_effect (with_access k f segment) f.end k.reads) (no_effect (with_access k f segment)))
+        tagged true = response-rule k Good P h f segment k.reads refl
+        tagged false = h.unchanged
+    by (Ok (Untagged last opcode w queue msn offset payload)) is =
+        by_message-rule (message_completed k.received (Untagged last opcode w queue msn offset payload)) (λ m e. good (Untagged last opcode w queue msn offset payload) m is e)
