@@ -28,6 +28,7 @@ use Rattle.nr_reduce.specs.RunLaws.{ends_response}
 use Rattle.nr_laws.specs.EndCauses.{IsCallReason}
 use Rattle.nr_laws.proofs.JudgedMessages.{by-fault}
 use Rattle.nr_laws.proofs.OtherReasons.{apart, fault-other}
+use Rattle.nr_laws.proofs.EachEffect.{each-verdict}
 
 -- ---- Reasons that aren't those of a call
 
@@ -52,34 +53,9 @@ OtherVerdict OtherVersion = Unit {0}
 OtherVerdict BadChunks = Unit {0}
 OtherVerdict (MakesPending c) = Unit {0}
 
-other-if : (b : Bool) (v w : Verdict) → OtherVerdict v → OtherVerdict w → OtherVerdict (cond b v w)
-other-if true v w h g = h
-other-if false v w h g = g
-
-need-other : (k : ServerState) (c : PendingCall) → OtherVerdict (by_need k c)
-need-other k c = other-if (ltb 4294967296 (next_stag k + length (chunks_of c.lists))) (EndsLink 30) (MakesPending c) (other 30 (inr (inr (omega arith)))) tt
-
-stream-other : (k : ServerState) (lists : ChunkLists) (xid : ℕ) (o : Option (List ℕ)) → OtherVerdict (by_stream k lists xid o)
-stream-other k lists xid None = need-other k (record { number = k.received.sends + 1; xid = xid; lists = lists; inline = None })
-stream-other k lists xid (Some stream) = other-if (is_read_chunk_of_item stream lists.read) (by_need k (record { number = k.received.sends + 1; xid = xid; lists = lists; inline = Some stream })) BadChunks
-    (need-other k (record { number = k.received.sends + 1; xid = xid; lists = lists; inline = Some stream })) tt
-
-header-other : (k : ServerState) (message : List ℕ) (r : Result Header HeaderFault) → OtherVerdict (by_header k message r)
-header-other k message (Err fault) = tt
-header-other k message (Ok h) = by h.xid h.body
-  where
-    by : (xid : ℕ) (b : Body) → OtherVerdict (by_body k xid message b)
-    by xid (Msg lists at) = stream-other k lists xid (Some (drop at message))
-    by xid (Nomsg lists) = other-if (has_position lists.read) (by_stream k lists xid (no_stream lists.read)) BadChunks (stream-other k lists xid (no_stream lists.read)) tt
-    by xid (ErrVers version low high) = tt
-    by xid (ErrChunk version) = tt
-
 verdict-other : (k : ServerState) (message : List ℕ) → OtherVerdict (verdict k message)
-unfolding verdict
 verdict-other k message =
-    other-if (not (eqb (word_at 4 message) 1)) OtherVersion _ tt
-    (other-if (eqb (word_at 12 message) 3 || eqb (word_at 12 message) 4) (EndsLink 17) _ (other 17 (inl (omega arith)))
-    (other-if (is_pending k (word_at 0 message)) (EndsLink 20) (by_header k message (header_of message)) (other 20 (inr (inl refl))) (header-other k message (header_of message))))
+    each-verdict OtherVerdict (record { kind = other 17 (inl (omega arith)); again = other 20 (inr (inl refl)); stags = other 30 (inr (inr (omega arith))); version = tt; chunks = tt; pending = λ c. tt }) k message
 
 -- ---- Why the effect of a frame refuses for such a reason
 

@@ -1,5 +1,5 @@
 -- A rule that each part of an effect keeps holds of the effect of each frame at a server; likewise of the verdict on each message.
-use Rattle.std.proofs.Common.{◌≡◌, ℕ, ◌+◌, ◌-◌, Bool, true, false, cond, not, ◌&&◌, ◌||◌, eqb, ltb, List, [], ◌∷◌, ◌++◌, length, drop, Option, None, Some, Result, Ok, Err, refl, ap, subst}
+use Rattle.std.proofs.Common.{◌≡◌, ℕ, ◌+◌, ◌-◌, Bool, true, false, cond, not, ◌&&◌, ◌||◌, eqb, ltb, List, [], ◌∷◌, ◌++◌, length, drop, Option, None, Some, Result, Ok, Err, refl, sym, subst}
 use Rattle.nr_xdr.specs.Fields.{word_at}
 use Rattle.nr_wire.specs.Constants.{OPCODE_READ_RESPONSE}
 use Rattle.nr_wire.specs.Segment.{Segment}
@@ -107,24 +107,31 @@ response-rule k Good P h f segment (r ∷ reads) is = by_call (call_of_number k 
     by_call None = h.read r reads is
     by_call (Some c) = by_test c (is_stream_read c r s.reads && not (is_read_chunk_of_item (chunk_bytes t f.end c 0) c.lists.read))
 
+pub segment-effect : (k : ServerState) (Good : List ℕ → Type 0) (P : FrameEffect → Type 0) → EffectRule k Good P → (f : Frame) (segment : Segment) → frame_segment f ≡ Ok segment
+    → ((m : List ℕ) → message_completed k.received segment ≡ Some m → Good m) → P (frame_effect k f)
+unfolding frame_effect
+segment-effect k Good P h f segment is good = subst (λ (r : Result Segment ℕ). P (effect_in k f r)) (sym is) (by segment good)
+  where
+    of_message : (o : Option (List ℕ)) → ((m : List ℕ) → o ≡ Some m → Good m) → P (by_message k f.end o)
+    of_message None good = h.unchanged
+    of_message (Some message) good = message-rule k Good P h f.end message (verdict k message) (good message refl) refl
+
+    by : (s : Segment) → ((m : List ℕ) → message_completed k.received s ≡ Some m → Good m) → P (effect_in k f (Ok s))
+    by (Tagged last opcode stag to payload) good = tagged (eqb opcode OPCODE_READ_RESPONSE && last)
+      where
+        s : Segment
+        s = Tagged last opcode stag to payload
+
+        tagged : (b : Bool) → P (cond b (response_effect (with_access k f s) f.end k.reads) (no_effect (with_access k f s)))
+        tagged true = response-rule k Good P h f s k.reads refl
+        tagged false = h.unchanged
+    by (Untagged last opcode w queue msn offset payload) good = of_message (message_completed k.received (Untagged last opcode w queue msn offset payload)) good
+
 pub each-effect : (k : ServerState) (Good : List ℕ → Type 0) (P : FrameEffect → Type 0) → EffectRule k Good P → (f : Frame)
     → ((s : Segment) (m : List ℕ) → frame_segment f ≡ Ok s → message_completed k.received s ≡ Some m → Good m) → P (frame_effect k f)
 unfolding frame_effect
 each-effect k Good P h f good = by (frame_segment f) refl
   where
-    by_message-rule : (o : Option (List ℕ)) → ((m : List ℕ) → o ≡ Some m → Good m) → P (by_message k f.end o)
-    by_message-rule None good = h.unchanged
-    by_message-rule (Some message) good = message-rule k Good P h f.end message (verdict k message) (good message refl) refl
-
     by : (r : Result Segment ℕ) → frame_segment f ≡ r → P (effect_in k f r)
     by (Err reason) is = h.unchanged
-    by (Ok (Tagged last opcode stag to payload)) is = tagged (eqb opcode OPCODE_READ_RESPONSE && last)
-      where
-        segment : Segment
-        segment = Tagged last opcode stag to payload
-
-        tagged : (b : Bool) → P (cond b (response_effect (with_access k f segment) f.end k.reads) (no_effect (with_access k f segment)))
-        tagged true = response-rule k Good P h f segment k.reads refl
-        tagged false = h.unchanged
-    by (Ok (Untagged last opcode w queue msn offset payload)) is =
-        by_message-rule (message_completed k.received (Untagged last opcode w queue msn offset payload)) (λ m e. good (Untagged last opcode w queue msn offset payload) m is e)
+    by (Ok segment) is = subst (λ (r : Result Segment ℕ). P (effect_in k f r)) is (segment-effect k Good P h f segment is (λ m e. good segment m is e))

@@ -29,6 +29,7 @@ use Rattle.nr_reduce.specs.Served.{IsExecuted, next_call, first_ready}
 use Rattle.nr_reduce.proofs.Conveyed.{Each}
 use Rattle.nr_reduce.proofs.Steps.{end_state_after-append}
 use Rattle.nr_laws.proofs.Basics.{none-one}
+use Rattle.nr_laws.proofs.EachEffect.{EffectRule, each-effect}
 
 -- the payload that is conveyed to a call that is ready
 pub record Conveyed (k : ServerState) (place : ℕ) (c : PendingCall) (r : ReadyCall) : Type 0 where
@@ -119,50 +120,20 @@ few-verdict : (v : CallVerdict) (s : FrameEffect) → AtMostReady s.ready → At
 few-verdict (Refuses reason) s h = h
 few-verdict (IsReady r) s h = refl
 
-few-whole : (k : ServerState) (place : ℕ) (c : PendingCall) (s : FrameEffect) → AtMostReady s.ready → AtMostReady (ready_if_whole k place c s).ready
-few-whole k place c s h = by (is_read s.reads c.number)
-  where
-    by : (b : Bool) → AtMostReady (cond b (with_verdict (by_payload c (payload_of k place c)) s) s).ready
-    by true = few-verdict (by_payload c (payload_of k place c)) s h
-    by false = h
-
-few-message : (k : ServerState) (place : ℕ) (message : List ℕ) (v : Verdict) → AtMostReady (message_effect k place message v).ready
-few-message k place message (EndsLink reason) = tt
-few-message k place message OtherVersion = tt
-few-message k place message BadChunks = tt
-few-message k place message (MakesPending c) = few-whole k place c (record (no_effect k) { calls = k.calls ++ c ∷ []; reads = k.reads ++ reads_of (k.regions ++ regions_of k place c) c; regions = k.regions ++ regions_of k place c }) tt
-
-few-by-message : (k : ServerState) (place : ℕ) (o : Option (List ℕ)) → AtMostReady (by_message k place o).ready
-few-by-message k place None = tt
-few-by-message k place (Some m) = few-message k place m (verdict k m)
-
-few-read : (k : ServerState) (place : ℕ) (r : PendingRead) (o : Option PendingCall) (s : FrameEffect) → AtMostReady s.ready → AtMostReady (read_effect k place r o s).ready
-few-read k place r None s h = h
-few-read k place r (Some c) s h = by (is_stream_read c r s.reads && not (is_read_chunk_of_item (chunk_bytes k place c 0) c.lists.read))
-  where
-    by : (b : Bool) → AtMostReady (cond b (with_refused_call k c s) (ready_if_whole k place c s)).ready
-    by true = h
-    by false = few-whole k place c s h
-
-few-response : (k : ServerState) (place : ℕ) (reads : List PendingRead) → AtMostReady (response_effect k place reads).ready
-few-response k place [] = tt
-few-response k place (r ∷ reads) = few-read k place r (call_of_number k r.number) (record (no_effect k) { reads = reads; kept = length (open_reads k) - 1 }) tt
-
 few-frame : (k : ServerState) (f : Frame) → AtMostReady (frame_effect k f).ready
-unfolding frame_effect
-few-frame k f = by (frame_segment f)
+few-frame k f = each-effect k (λ m. Unit {0}) (λ s. AtMostReady s.ready) rule f (λ s m is e. tt)
   where
-    by : (r : Result Segment ℕ) → AtMostReady (effect_in k f r).ready
-    by (Err reason) = tt
-    by (Ok (Tagged last opcode stag to payload)) = tagged (eqb opcode OPCODE_READ_RESPONSE && last)
-      where
-        t : ServerState
-        t = with_access k f (Tagged last opcode stag to payload)
-
-        tagged : (b : Bool) → AtMostReady (cond b (response_effect t f.end t.reads) (no_effect t)).ready
-        tagged true = few-response t f.end t.reads
-        tagged false = tt
-    by (Ok (Untagged last opcode w queue msn offset payload)) = few-by-message k f.end (message_completed k.received (Untagged last opcode w queue msn offset payload))
+    rule : EffectRule k (λ m. Unit {0}) (λ s. AtMostReady s.ready)
+    rule = record {
+      unchanged = tt;
+      judged = λ t place c s h. few-verdict (by_payload c (payload_of t place c)) s h;
+      refused = λ c s h. h;
+      read = λ r reads is. tt;
+      ends = λ message reason good is. tt;
+      version = λ message. tt;
+      chunks = λ message. tt;
+      pending = λ place message c good is. tt;
+    }
 
 -- ---- Along the events of a server
 

@@ -37,6 +37,7 @@ use Rattle.nr_reduce.specs.ServerMessages.CallVerdict.{Refuses, IsReady}
 use Rattle.nr_reduce.specs.ServerFrames.{FrameEffect, no_effect, with_verdict, ready_if_whole, message_effect, with_refused_call, is_stream_read, read_effect, call_of_number, response_effect, by_message, with_access, effect_in, frame_effect}
 use Rattle.nr_reduce.specs.Server.{server_end, or_refusal, refusal_end, readiness}
 use Rattle.nr_laws.proofs.Brought.{hello-is}
+use Rattle.nr_laws.proofs.EachEffect.{each-verdict, EffectRule, each-effect}
 
 -- ---- Faults of a segment
 
@@ -135,34 +136,8 @@ abbrev BigCall : CallVerdict → Type 0
 BigCall (Refuses reason) = 5 ≤ reason
 BigCall (IsReady r) = Unit {0}
 
-big-if : (b : Bool) (v w : Verdict) → BigVerdict v → BigVerdict w → BigVerdict (cond b v w)
-big-if true v w h g = h
-big-if false v w h g = g
-
-need-big : (k : ServerState) (c : PendingCall) → BigVerdict (by_need k c)
-need-big k c = big-if (ltb 4294967296 (next_stag k + length (chunks_of c.lists))) (EndsLink 30) (MakesPending c) (omega arith) tt
-
-stream-big : (k : ServerState) (lists : ChunkLists) (xid : ℕ) (o : Option (List ℕ)) → BigVerdict (by_stream k lists xid o)
-stream-big k lists xid None = need-big k (record { number = k.received.sends + 1; xid = xid; lists = lists; inline = None })
-stream-big k lists xid (Some stream) = big-if (is_read_chunk_of_item stream lists.read) (by_need k (record { number = k.received.sends + 1; xid = xid; lists = lists; inline = Some stream })) BadChunks
-    (need-big k (record { number = k.received.sends + 1; xid = xid; lists = lists; inline = Some stream })) tt
-
-header-big : (k : ServerState) (message : List ℕ) (r : Result Header HeaderFault) → BigVerdict (by_header k message r)
-header-big k message (Err fault) = tt
-header-big k message (Ok h) = by h.xid h.body
-  where
-    by : (xid : ℕ) (b : Body) → BigVerdict (by_body k xid message b)
-    by xid (Msg lists at) = stream-big k lists xid (Some (drop at message))
-    by xid (Nomsg lists) = big-if (has_position lists.read) (by_stream k lists xid (no_stream lists.read)) BadChunks (stream-big k lists xid (no_stream lists.read)) tt
-    by xid (ErrVers version low high) = tt
-    by xid (ErrChunk version) = tt
-
 verdict-big : (k : ServerState) (message : List ℕ) → BigVerdict (verdict k message)
-unfolding verdict
-verdict-big k message =
-    big-if (not (eqb (word_at 4 message) 1)) OtherVersion _ tt
-    (big-if (eqb (word_at 12 message) 3 || eqb (word_at 12 message) 4) (EndsLink 17) _ (omega arith)
-    (big-if (is_pending k (word_at 0 message)) (EndsLink 20) (by_header k message (header_of message)) (omega arith) (header-big k message (header_of message))))
+verdict-big k message = each-verdict BigVerdict (record { kind = omega arith; again = omega arith; stags = omega arith; version = tt; chunks = tt; pending = λ c. tt }) k message
 
 head-big : (c : PendingCall) (payload : List ℕ) (r : Result CallHead ℕ) → BigCall (by_head c payload r)
 head-big c payload (Err at) = omega arith
@@ -180,50 +155,20 @@ with-big : (v : CallVerdict) (s : FrameEffect) → BigCall v → BigReason s.ref
 with-big (Refuses reason) s h g = h
 with-big (IsReady r) s h g = g
 
-ready-big : (k : ServerState) (place : ℕ) (c : PendingCall) (s : FrameEffect) → BigReason s.refusal → BigReason (ready_if_whole k place c s).refusal
-ready-big k place c s g = by (is_read s.reads c.number)
-  where
-    by : (b : Bool) → BigReason (cond b (with_verdict (by_payload c (payload_of k place c)) s) s).refusal
-    by true = with-big (by_payload c (payload_of k place c)) s (payload-big c (payload_of k place c)) g
-    by false = g
-
-message-big : (k : ServerState) (place : ℕ) (message : List ℕ) (v : Verdict) → BigVerdict v → BigReason (message_effect k place message v).refusal
-message-big k place message (EndsLink reason) h = h
-message-big k place message OtherVersion h = tt
-message-big k place message BadChunks h = tt
-message-big k place message (MakesPending c) h = ready-big k place c _ tt
-
-read-big : (k : ServerState) (place : ℕ) (r : PendingRead) (o : Option PendingCall) (s : FrameEffect) → BigReason s.refusal → BigReason (read_effect k place r o s).refusal
-read-big k place r None s h = h
-read-big k place r (Some c) s h = by (is_stream_read c r s.reads && not (is_read_chunk_of_item (chunk_bytes k place c 0) c.lists.read))
-  where
-    by : (b : Bool) → BigReason (cond b (with_refused_call k c s) (ready_if_whole k place c s)).refusal
-    by true = h
-    by false = ready-big k place c s h
-
-response-big : (k : ServerState) (place : ℕ) (reads : List PendingRead) → BigReason (response_effect k place reads).refusal
-response-big k place [] = tt
-response-big k place (r ∷ reads) = read-big k place r (call_of_number k r.number) _ tt
-
-by-message-big : (k : ServerState) (place : ℕ) (o : Option (List ℕ)) → BigReason (by_message k place o).refusal
-by-message-big k place None = tt
-by-message-big k place (Some message) = message-big k place message (verdict k message) (verdict-big k message)
-
 effect-big : (k : ServerState) (f : Frame) → BigReason (frame_effect k f).refusal
-unfolding frame_effect
-effect-big k f = by (frame_segment f)
+effect-big k f = each-effect k (λ m. Unit {0}) (λ s. BigReason s.refusal) rule f (λ s m is e. tt)
   where
-    by : (r : Result Segment ℕ) → BigReason (effect_in k f r).refusal
-    by (Err reason) = tt
-    by (Ok (Tagged last opcode stag to payload)) = tagged (eqb opcode OPCODE_READ_RESPONSE && last)
-      where
-        t : ServerState
-        t = with_access k f (Tagged last opcode stag to payload)
-
-        tagged : (b : Bool) → BigReason (cond b (response_effect t f.end t.reads) (no_effect t)).refusal
-        tagged true = response-big t f.end t.reads
-        tagged false = tt
-    by (Ok (Untagged last opcode w queue msn offset payload)) = by-message-big k f.end (message_completed k.received (Untagged last opcode w queue msn offset payload))
+    rule : EffectRule k (λ m. Unit {0}) (λ s. BigReason s.refusal)
+    rule = record {
+      unchanged = tt;
+      judged = λ t place c s h. with-big (by_payload c (payload_of t place c)) s (payload-big c (payload_of t place c)) h;
+      refused = λ c s h. h;
+      read = λ r reads is. tt;
+      ends = λ message reason good is. subst BigVerdict is (verdict-big k message);
+      version = λ message. tt;
+      chunks = λ message. tt;
+      pending = λ place message c good is. tt;
+    }
 
 -- ---- Ends
 

@@ -36,6 +36,7 @@ use Rattle.nr_laws.proofs.Brought.{AreFrom}
 use Rattle.nr_laws.proofs.Words.{send-word, request-word, chunk-words, from-append}
 use Rattle.nr_laws.proofs.Messages.{messages, AreOne, messages-append, one-append, messages-sends, one-sends, messages-requests, one-requests, AreTagged, tagged-append, tagged-chunk, messages-tagged, one-tagged}
 use Rattle.std.proofs.lemmas.List.{map-append}
+use Rattle.nr_laws.proofs.EachEffect.{EffectRule, each-effect, segment-effect}
 
 -- ---- Error messages
 
@@ -105,53 +106,24 @@ fine-verdict : (o : CallVerdict) (s : FrameEffect) → IsFine s → IsFine (with
 fine-verdict (Refuses reason) s h = record { errors = h.errors; fit = h.fit }
 fine-verdict (IsReady r) s h = record { errors = h.errors; fit = h.fit }
 
-fine-whole : (k : ServerState) (place : ℕ) (c : PendingCall) (s : FrameEffect) → IsFine s → IsFine (ready_if_whole k place c s)
-fine-whole k place c s h = by (is_read s.reads c.number)
-  where
-    by : (b : Bool) → IsFine (cond b (with_verdict (by_payload c (payload_of k place c)) s) s)
-    by true = fine-verdict (by_payload c (payload_of k place c)) s h
-    by false = h
-
-pub fine-message : (k : ServerState) (place : ℕ) (message : List ℕ) (v : Verdict) → verdict k message ≡ v → IsBytes message → CallsFit k.calls → IsFine (message_effect k place message v)
-fine-message k place message (EndsLink reason) is bytes h = record { errors = NoError; fit = h }
-fine-message k place message OtherVersion is bytes h = record { errors = OneError _ (OfVersion (word_at 0 message) (word_at 4 message) (credit_word k) refl); fit = h }
-fine-message k place message BadChunks is bytes h = record { errors = OneError _ (OfChunks (word_at 0 message) (credit_word k) refl); fit = h }
-fine-message k place message (MakesPending c) is bytes h =
-    fine-whole k place c (record (no_effect k) { calls = k.calls ++ c ∷ []; reads = k.reads ++ reads_of (k.regions ++ regions_of k place c) c; regions = k.regions ++ regions_of k place c })
-    (record { errors = NoError; fit = fit-append k.calls (c ∷ []) h (verdict_fits k message c bytes is, tt) })
-
-fine-read : (k : ServerState) (place : ℕ) (r : PendingRead) (o : Option PendingCall) (s : FrameEffect) → IsFine s → IsFine (read_effect k place r o s)
-fine-read k place r None s h = h
-fine-read k place r (Some c) s h = by (is_stream_read c r s.reads && not (is_read_chunk_of_item (chunk_bytes k place c 0) c.lists.read))
-  where
-    by : (b : Bool) → IsFine (cond b (with_refused_call k c s) (ready_if_whole k place c s))
-    by true = record { errors = OneError _ (OfChunks c.xid (credit_word k) refl); fit = fit-filter (λ other. not (eqb other.number c.number)) s.calls h.fit }
-    by false = fine-whole k place c s h
-
-pub fine-response : (k : ServerState) (place : ℕ) (reads : List PendingRead) → CallsFit k.calls → IsFine (response_effect k place reads)
-fine-response k place [] h = record { errors = NoError; fit = h }
-fine-response k place (r ∷ reads) h = fine-read k place r (call_of_number k r.number) _ (record { errors = NoError; fit = h })
-
-fine-by-message : (k : ServerState) (place : ℕ) (o : Option (List ℕ)) → ((m : List ℕ) → o ≡ Some m → IsBytes m) → CallsFit k.calls → IsFine (by_message k place o)
-fine-by-message k place None bytes h = record { errors = NoError; fit = h }
-fine-by-message k place (Some message) bytes h = fine-message k place message (verdict k message) refl (bytes message refl) h
+fine-rule : (k : ServerState) → CallsFit k.calls → EffectRule k IsBytes IsFine
+fine-rule k h = record {
+  unchanged = record { errors = NoError; fit = h };
+  judged = λ t place c s g. fine-verdict (by_payload c (payload_of t place c)) s g;
+  refused = λ c s g. record { errors = OneError _ (OfChunks c.xid (credit_word k) refl); fit = fit-filter (λ other. not (eqb other.number c.number)) s.calls g.fit };
+  read = λ r reads is. record { errors = NoError; fit = h };
+  ends = λ message reason bytes is. record { errors = NoError; fit = h };
+  version = λ message. record { errors = OneError _ (OfVersion (word_at 0 message) (word_at 4 message) (credit_word k) refl); fit = h };
+  chunks = λ message. record { errors = OneError _ (OfChunks (word_at 0 message) (credit_word k) refl); fit = h };
+  pending = λ place message c bytes is. record { errors = NoError; fit = fit-append k.calls (c ∷ []) h (verdict_fits k message c bytes is, tt) };
+}
 
 pub fine-frame : (k : ServerState) (f : Frame) → ((s : Segment) (m : List ℕ) → frame_segment f ≡ Ok s → message_completed k.received s ≡ Some m → IsBytes m) → CallsFit k.calls → IsFine (frame_effect k f)
-unfolding frame_effect
-fine-frame k f bytes h = by (frame_segment f) refl
-  where
-    by : (r : Result Segment ℕ) → frame_segment f ≡ r → IsFine (effect_in k f r)
-    by (Err reason) is = record { errors = NoError; fit = h }
-    by (Ok (Tagged last opcode stag to payload)) is = tagged (eqb opcode OPCODE_READ_RESPONSE && last)
-      where
-        t : ServerState
-        t = with_access k f (Tagged last opcode stag to payload)
+fine-frame k f bytes h = each-effect k IsBytes IsFine (fine-rule k h) f bytes
 
-        tagged : (b : Bool) → IsFine (cond b (response_effect t f.end t.reads) (no_effect t))
-        tagged true = fine-response t f.end t.reads h
-        tagged false = record { errors = NoError; fit = h }
-    by (Ok (Untagged last opcode w queue msn offset payload)) is =
-        fine-by-message k f.end (message_completed k.received (Untagged last opcode w queue msn offset payload)) (λ m e. bytes (Untagged last opcode w queue msn offset payload) m is e) h
+-- of one segment
+pub fine-segment : (k : ServerState) (f : Frame) (segment : Segment) → frame_segment f ≡ Ok segment → ((m : List ℕ) → message_completed k.received segment ≡ Some m → IsBytes m) → CallsFit k.calls → IsFine (frame_effect k f)
+fine-segment k f segment is bytes h = segment-effect k IsBytes IsFine (fine-rule k h) f segment is bytes
 
 -- ---- Outputs that can be read
 
