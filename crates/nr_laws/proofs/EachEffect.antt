@@ -1,7 +1,7 @@
 -- A rule that each part of an effect keeps holds of the effect of each frame at a server; likewise of the verdict on each message.
-use Rattle.std.proofs.Common.{◌≡◌, ℕ, ◌+◌, ◌-◌, Bool, true, false, cond, not, ◌&&◌, ◌||◌, eqb, ltb, List, [], ◌∷◌, ◌++◌, length, drop, Option, None, Some, Result, Ok, Err, refl, sym, subst}
+use Rattle.std.proofs.Common.{◌≡◌, ℕ, ◌+◌, ◌-◌, Bool, true, false, cond, not, ◌&&◌, ◌||◌, eqb, ltb, List, [], ◌∷◌, ◌++◌, length, drop, Option, None, Some, Result, Ok, Err, refl, sym, ap, subst}
 use Rattle.nr_xdr.specs.Fields.{word_at}
-use Rattle.nr_wire.specs.Constants.{OPCODE_READ_RESPONSE}
+use Rattle.nr_wire.specs.Constants.{OPCODE_READ_RESPONSE, OPCODE_SEND, QUEUE_SEND}
 use Rattle.nr_wire.specs.Segment.{Segment}
 use Rattle.nr_wire.specs.Segment.Segment.{Tagged, Untagged}
 use Rattle.nr_header.specs.declared.fault.HeaderFault.{HeaderFault}
@@ -12,7 +12,8 @@ use Rattle.nr_header.specs.declared.header.Header.{Header}
 use Rattle.nr_header.specs.Reading.{header_of}
 use Rattle.nr_link.specs.Frames.{Frame}
 use Rattle.nr_link.specs.Ending.{frame_segment}
-use Rattle.nr_link.specs.ReceiveState.{message_completed}
+use Rattle.nr_link.specs.ReceiveState.{message_completed, begun_bytes}
+use Rattle.nr_link.specs.Output.{msn_word}
 use Rattle.nr_reduce.specs.Chunks.{is_read_chunk_of_item}
 use Rattle.nr_reduce.specs.Holds.{chunk_error, version_error}
 use Rattle.nr_reduce.specs.ServerState.{ServerState, PendingCall, PendingRead, credit_word, next_stag, is_pending}
@@ -63,17 +64,21 @@ each-verdict P h k message =
 
 -- ---- The effect of a frame
 
--- what each part keeps; `Good` is what the messages have that the frame completes
-pub record EffectRule (k : ServerState) (Good : List ℕ → Type 0) (P : FrameEffect → Type 0) : Type 0 where
+-- what a message makes of a server: `Good` is what the messages have that are judged
+pub record MessageRule (k : ServerState) (Good : List ℕ → Type 0) (P : FrameEffect → Type 0) : Type 0 where
+  pub judged : (t : ServerState) (place : ℕ) (c : PendingCall) (s : FrameEffect) → P s → P (with_verdict (by_payload c (payload_of t place c)) s)
+  pub ends : (message : List ℕ) (reason : ℕ) → Good message → verdict k message ≡ EndsLink reason → P (record (no_effect k) { refusal = Some reason })
+  pub version : (message : List ℕ) → Good message → P (record (no_effect k) { errors = version_error (word_at 0 message) (word_at 4 message) (credit_word k) ∷ [] })
+  pub chunks : (message : List ℕ) → Good message → P (record (no_effect k) { errors = chunk_error (word_at 0 message) (credit_word k) ∷ [] })
+  pub pending : (place : ℕ) (message : List ℕ) (c : PendingCall) → Good message → verdict k message ≡ MakesPending c
+      → P (record (no_effect k) { calls = k.calls ++ c ∷ []; reads = k.reads ++ reads_of (k.regions ++ regions_of k place c) c; regions = k.regions ++ regions_of k place c })
+
+-- what the last segment of a Read Response makes of it
+pub record ResponseRule (k : ServerState) (P : FrameEffect → Type 0) : Type 0 where
   pub unchanged : P (no_effect k)
   pub judged : (t : ServerState) (place : ℕ) (c : PendingCall) (s : FrameEffect) → P s → P (with_verdict (by_payload c (payload_of t place c)) s)
   pub refused : (c : PendingCall) (s : FrameEffect) → P s → P (with_refused_call k c s)
   pub read : (r : PendingRead) (reads : List PendingRead) → k.reads ≡ r ∷ reads → P (record (no_effect k) { reads = reads; kept = length (open_reads k) - 1 })
-  pub ends : (message : List ℕ) (reason : ℕ) → Good message → verdict k message ≡ EndsLink reason → P (record (no_effect k) { refusal = Some reason })
-  pub version : (message : List ℕ) → P (record (no_effect k) { errors = version_error (word_at 0 message) (word_at 4 message) (credit_word k) ∷ [] })
-  pub chunks : (message : List ℕ) → P (record (no_effect k) { errors = chunk_error (word_at 0 message) (credit_word k) ∷ [] })
-  pub pending : (place : ℕ) (message : List ℕ) (c : PendingCall) → Good message → verdict k message ≡ MakesPending c
-      → P (record (no_effect k) { calls = k.calls ++ c ∷ []; reads = k.reads ++ reads_of (k.regions ++ regions_of k place c) c; regions = k.regions ++ regions_of k place c })
 
 whole-rule : (P : FrameEffect → Type 0) (t : ServerState) (place : ℕ) (c : PendingCall) (s : FrameEffect) → (P s → P (with_verdict (by_payload c (payload_of t place c)) s)) → P s → P (ready_if_whole t place c s)
 whole-rule P t place c s judged h = by (is_read s.reads c.number)
@@ -82,16 +87,16 @@ whole-rule P t place c s judged h = by (is_read s.reads c.number)
     by true = judged h
     by false = h
 
-message-rule : (k : ServerState) (Good : List ℕ → Type 0) (P : FrameEffect → Type 0) → EffectRule k Good P → (place : ℕ) (message : List ℕ) (v : Verdict) → Good message → verdict k message ≡ v → P (message_effect k place message v)
+message-rule : (k : ServerState) (Good : List ℕ → Type 0) (P : FrameEffect → Type 0) → MessageRule k Good P → (place : ℕ) (message : List ℕ) (v : Verdict) → Good message → verdict k message ≡ v → P (message_effect k place message v)
 message-rule k Good P h place message (EndsLink reason) good is = h.ends message reason good is
-message-rule k Good P h place message OtherVersion good is = h.version message
-message-rule k Good P h place message BadChunks good is = h.chunks message
+message-rule k Good P h place message OtherVersion good is = h.version message good
+message-rule k Good P h place message BadChunks good is = h.chunks message good
 message-rule k Good P h place message (MakesPending c) good is =
     whole-rule P k place c (record (no_effect k) { calls = k.calls ++ c ∷ []; reads = k.reads ++ reads_of (k.regions ++ regions_of k place c) c; regions = k.regions ++ regions_of k place c }) (h.judged k place c _) (h.pending place message c good is)
 
-response-rule : (k : ServerState) (Good : List ℕ → Type 0) (P : FrameEffect → Type 0) → EffectRule k Good P → (f : Frame) (segment : Segment) (reads : List PendingRead) → k.reads ≡ reads → P (response_effect (with_access k f segment) f.end reads)
-response-rule k Good P h f segment [] is = h.unchanged
-response-rule k Good P h f segment (r ∷ reads) is = by_call (call_of_number k r.number)
+response-rule : (k : ServerState) (P : FrameEffect → Type 0) → ResponseRule k P → (f : Frame) (segment : Segment) (reads : List PendingRead) → k.reads ≡ reads → P (response_effect (with_access k f segment) f.end reads)
+response-rule k P h f segment [] is = h.unchanged
+response-rule k P h f segment (r ∷ reads) is = by_call (call_of_number k r.number)
   where
     t : ServerState
     t = with_access k f segment
@@ -107,31 +112,38 @@ response-rule k Good P h f segment (r ∷ reads) is = by_call (call_of_number k 
     by_call None = h.read r reads is
     by_call (Some c) = by_test c (is_stream_read c r s.reads && not (is_read_chunk_of_item (chunk_bytes t f.end c 0) c.lists.read))
 
-pub segment-effect : (k : ServerState) (Good : List ℕ → Type 0) (P : FrameEffect → Type 0) → EffectRule k Good P → (f : Frame) (segment : Segment) → frame_segment f ≡ Ok segment
-    → ((m : List ℕ) → message_completed k.received segment ≡ Some m → Good m) → P (frame_effect k f)
+-- a tagged segment
+pub tagged-effect : (k : ServerState) (P : FrameEffect → Type 0) → ResponseRule k P → (f : Frame) (last : Bool) (opcode stag to : ℕ) (payload : List ℕ) → frame_segment f ≡ Ok (Tagged last opcode stag to payload) → P (frame_effect k f)
 unfolding frame_effect
-segment-effect k Good P h f segment is good = subst (λ (r : Result Segment ℕ). P (effect_in k f r)) (sym is) (by segment good)
+tagged-effect k P h f last opcode stag to payload is = subst (λ (r : Result Segment ℕ). P (effect_in k f r)) (sym is) (by (eqb opcode OPCODE_READ_RESPONSE && last))
   where
-    of_message : (o : Option (List ℕ)) → ((m : List ℕ) → o ≡ Some m → Good m) → P (by_message k f.end o)
-    of_message None good = h.unchanged
-    of_message (Some message) good = message-rule k Good P h f.end message (verdict k message) (good message refl) refl
+    t : ServerState
+    t = with_access k f (Tagged last opcode stag to payload)
 
-    by : (s : Segment) → ((m : List ℕ) → message_completed k.received s ≡ Some m → Good m) → P (effect_in k f (Ok s))
-    by (Tagged last opcode stag to payload) good = tagged (eqb opcode OPCODE_READ_RESPONSE && last)
-      where
-        s : Segment
-        s = Tagged last opcode stag to payload
+    by : (b : Bool) → P (cond b (response_effect t f.end k.reads) (no_effect t))
+    by true = response-rule k P h f (Tagged last opcode stag to payload) k.reads refl
+    by false = h.unchanged
 
-        tagged : (b : Bool) → P (cond b (response_effect (with_access k f s) f.end k.reads) (no_effect (with_access k f s)))
-        tagged true = response-rule k Good P h f s k.reads refl
-        tagged false = h.unchanged
-    by (Untagged last opcode w queue msn offset payload) good = of_message (message_completed k.received (Untagged last opcode w queue msn offset payload)) good
+-- a Send of one segment
+pub send-effect : (k : ServerState) (Good : List ℕ → Type 0) (P : FrameEffect → Type 0) → MessageRule k Good P → (f : Frame) (message : List ℕ) → k.received.begun ≡ None → Good message
+    → frame_segment f ≡ Ok (Untagged true OPCODE_SEND 0 QUEUE_SEND (msn_word (k.received.sends + 1)) 0 message) → P (frame_effect k f)
+unfolding frame_effect
+send-effect k Good P h f message none good is =
+    let whole : List ℕ = begun_bytes k.received.begun ++ message in
+    let same : message ≡ whole = ap (λ (b : Option (List ℕ)). begun_bytes b ++ message) (sym none) in
+    subst (λ (r : Result Segment ℕ). P (effect_in k f r)) (sym is) (message-rule k Good P h f.end whole (verdict k whole) (subst Good same good) refl)
 
-pub each-effect : (k : ServerState) (Good : List ℕ → Type 0) (P : FrameEffect → Type 0) → EffectRule k Good P → (f : Frame)
+pub each-effect : (k : ServerState) (Good : List ℕ → Type 0) (P : FrameEffect → Type 0) → MessageRule k Good P → ResponseRule k P → (f : Frame)
     → ((s : Segment) (m : List ℕ) → frame_segment f ≡ Ok s → message_completed k.received s ≡ Some m → Good m) → P (frame_effect k f)
 unfolding frame_effect
-each-effect k Good P h f good = by (frame_segment f) refl
+each-effect k Good P h g f good = by (frame_segment f) refl
   where
+    of_message : (o : Option (List ℕ)) → ((m : List ℕ) → o ≡ Some m → Good m) → P (by_message k f.end o)
+    of_message None good = g.unchanged
+    of_message (Some message) good = message-rule k Good P h f.end message (verdict k message) (good message refl) refl
+
     by : (r : Result Segment ℕ) → frame_segment f ≡ r → P (effect_in k f r)
-    by (Err reason) is = h.unchanged
-    by (Ok segment) is = subst (λ (r : Result Segment ℕ). P (effect_in k f r)) is (segment-effect k Good P h f segment is (λ m e. good segment m is e))
+    by (Err reason) is = g.unchanged
+    by (Ok (Tagged last opcode stag to payload)) is = subst (λ (r : Result Segment ℕ). P (effect_in k f r)) is (tagged-effect k P g f last opcode stag to payload is)
+    by (Ok (Untagged last opcode w queue msn offset payload)) is =
+        of_message (message_completed k.received (Untagged last opcode w queue msn offset payload)) (λ m e. good (Untagged last opcode w queue msn offset payload) m is e)

@@ -29,7 +29,7 @@ use Rattle.nr_reduce.specs.Served.{IsExecuted, next_call, first_ready}
 use Rattle.nr_reduce.proofs.Conveyed.{Each}
 use Rattle.nr_reduce.proofs.Steps.{end_state_after-append}
 use Rattle.nr_laws.proofs.Basics.{none-one}
-use Rattle.nr_laws.proofs.EachEffect.{EffectRule, each-effect}
+use Rattle.nr_laws.proofs.EachEffect.{each-effect}
 
 -- the payload that is conveyed to a call that is ready
 pub record Conveyed (k : ServerState) (place : ℕ) (c : PendingCall) (r : ReadyCall) : Type 0 where
@@ -121,19 +121,13 @@ few-verdict (Refuses reason) s h = h
 few-verdict (IsReady r) s h = refl
 
 few-frame : (k : ServerState) (f : Frame) → AtMostReady (frame_effect k f).ready
-few-frame k f = each-effect k (λ m. Unit {0}) (λ s. AtMostReady s.ready) rule f (λ s m is e. tt)
+few-frame k f =
+    each-effect k (λ m. Unit {0}) (λ s. AtMostReady s.ready)
+    (record { judged = judged; ends = λ message reason good is. tt; version = λ message good. tt; chunks = λ message good. tt; pending = λ place message c good is. tt })
+    (record { unchanged = tt; judged = judged; refused = λ c s h. h; read = λ r reads is. tt }) f (λ s m is e. tt)
   where
-    rule : EffectRule k (λ m. Unit {0}) (λ s. AtMostReady s.ready)
-    rule = record {
-      unchanged = tt;
-      judged = λ t place c s h. few-verdict (by_payload c (payload_of t place c)) s h;
-      refused = λ c s h. h;
-      read = λ r reads is. tt;
-      ends = λ message reason good is. tt;
-      version = λ message. tt;
-      chunks = λ message. tt;
-      pending = λ place message c good is. tt;
-    }
+    judged : (t : ServerState) (place : ℕ) (c : PendingCall) (s : FrameEffect) → AtMostReady s.ready → AtMostReady (with_verdict (by_payload c (payload_of t place c)) s).ready
+    judged t place c s h = few-verdict (by_payload c (payload_of t place c)) s h
 
 -- ---- Along the events of a server
 

@@ -37,7 +37,7 @@ use Rattle.nr_reduce.specs.ServerMessages.CallVerdict.{Refuses, IsReady}
 use Rattle.nr_reduce.specs.ServerFrames.{FrameEffect, no_effect, with_verdict, ready_if_whole, message_effect, with_refused_call, is_stream_read, read_effect, call_of_number, response_effect, by_message, with_access, effect_in, frame_effect}
 use Rattle.nr_reduce.specs.Server.{server_end, or_refusal, refusal_end, readiness}
 use Rattle.nr_laws.proofs.Brought.{hello-is}
-use Rattle.nr_laws.proofs.EachEffect.{each-verdict, EffectRule, each-effect}
+use Rattle.nr_laws.proofs.EachEffect.{each-verdict, each-effect}
 
 -- ---- Faults of a segment
 
@@ -156,19 +156,13 @@ with-big (Refuses reason) s h g = h
 with-big (IsReady r) s h g = g
 
 effect-big : (k : ServerState) (f : Frame) → BigReason (frame_effect k f).refusal
-effect-big k f = each-effect k (λ m. Unit {0}) (λ s. BigReason s.refusal) rule f (λ s m is e. tt)
+effect-big k f =
+    each-effect k (λ m. Unit {0}) (λ s. BigReason s.refusal)
+    (record { judged = judged; ends = λ message reason good is. subst BigVerdict is (verdict-big k message); version = λ message good. tt; chunks = λ message good. tt; pending = λ place message c good is. tt })
+    (record { unchanged = tt; judged = judged; refused = λ c s h. h; read = λ r reads is. tt }) f (λ s m is e. tt)
   where
-    rule : EffectRule k (λ m. Unit {0}) (λ s. BigReason s.refusal)
-    rule = record {
-      unchanged = tt;
-      judged = λ t place c s h. with-big (by_payload c (payload_of t place c)) s (payload-big c (payload_of t place c)) h;
-      refused = λ c s h. h;
-      read = λ r reads is. tt;
-      ends = λ message reason good is. subst BigVerdict is (verdict-big k message);
-      version = λ message. tt;
-      chunks = λ message. tt;
-      pending = λ place message c good is. tt;
-    }
+    judged : (t : ServerState) (place : ℕ) (c : PendingCall) (s : FrameEffect) → BigReason s.refusal → BigReason (with_verdict (by_payload c (payload_of t place c)) s).refusal
+    judged t place c s h = with-big (by_payload c (payload_of t place c)) s (payload-big c (payload_of t place c)) h
 
 -- ---- Ends
 

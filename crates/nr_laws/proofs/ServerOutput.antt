@@ -30,11 +30,11 @@ use Rattle.nr_laws.proofs.TotalsAtServer.{fills-none, long-none}
 use Rattle.nr_laws.proofs.StreamFrames.{spelled-append}
 use Rattle.nr_laws.proofs.OutputFrames.{write-said}
 use Rattle.nr_laws.proofs.Writable.{AreWritable, all_proper-append, tagged-proper}
-use Rattle.nr_laws.proofs.ServerOutputs.{chunk_error-short, version_error-short, CallsFit, fit-append, fit-filter, answer-short, for_target, found-fits, IsFine, fine-segment, errors-short}
+use Rattle.nr_laws.proofs.ServerOutputs.{chunk_error-short, version_error-short, CallsFit, fit-append, fit-filter, answer-short, for_target, found-fits, IsFine, fine-messages, fine-responses, errors-short}
 use Rattle.nr_laws.proofs.ServerOutputs.AtMostOne.{NoError}
 use Rattle.nr_laws.proofs.WritableOffers.{SegmentsFit, OfferFits, verdict_fits}
 use Rattle.nr_laws.proofs.Outputs.{IsShort, send-one, AreShort}
-use Rattle.nr_laws.proofs.Basics.{some-is}
+use Rattle.nr_laws.proofs.EachEffect.{send-effect, tagged-effect}
 
 -- ---- The calls of a server
 
@@ -58,13 +58,10 @@ says_fine s h =
     record { short = short; fit = h.fit; proper = all_proper-append (map SendFrame s.errors) (map request_frame (newly_open_reads s)) (sends-proper s.errors short) (reads-proper (newly_open_reads s)) }
 
 pub fine-send : (k : ServerState) (f : Frame) (message : List ℕ) → k.received.begun ≡ None → IsBytes message → CallsFit k.calls → frame_segment f ≡ Ok (Untagged true OPCODE_SEND 0 QUEUE_SEND (msn_word (k.received.sends + 1)) 0 message) → SaysFine (frame_effect k f)
-fine-send k f message none bytes h is =
-    let whole : List ℕ = begun_bytes k.received.begun ++ message in
-    let same : message ≡ whole = ap (λ (b : Option (List ℕ)). begun_bytes b ++ message) (sym none) in
-    says_fine (frame_effect k f) (fine-segment k f (Untagged true OPCODE_SEND 0 QUEUE_SEND (msn_word (k.received.sends + 1)) 0 message) is (λ m e. subst IsBytes (same ∙ some-is whole m e) bytes) h)
+fine-send k f message none bytes h is = says_fine (frame_effect k f) (send-effect k IsBytes IsFine (fine-messages k h) f message none bytes is)
 
 pub fine-tagged : (k : ServerState) (f : Frame) (last : Bool) (opcode stag to : ℕ) (payload : List ℕ) → CallsFit k.calls → frame_segment f ≡ Ok (Tagged last opcode stag to payload) → SaysFine (frame_effect k f)
-fine-tagged k f last opcode stag to payload h is = says_fine (frame_effect k f) (fine-segment k f (Tagged last opcode stag to payload) is (λ m e. absurd cc) h)
+fine-tagged k f last opcode stag to payload h is = says_fine (frame_effect k f) (tagged-effect k IsFine (fine-responses k h) f last opcode stag to payload is)
 
 -- ---- Answers
 

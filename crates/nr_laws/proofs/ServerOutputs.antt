@@ -36,7 +36,7 @@ use Rattle.nr_laws.proofs.Brought.{AreFrom}
 use Rattle.nr_laws.proofs.Words.{send-word, request-word, chunk-words, from-append}
 use Rattle.nr_laws.proofs.Messages.{messages, AreOne, messages-append, one-append, messages-sends, one-sends, messages-requests, one-requests, AreTagged, tagged-append, tagged-chunk, messages-tagged, one-tagged}
 use Rattle.std.proofs.lemmas.List.{map-append}
-use Rattle.nr_laws.proofs.EachEffect.{EffectRule, each-effect, segment-effect}
+use Rattle.nr_laws.proofs.EachEffect.{MessageRule, ResponseRule, each-effect}
 
 -- ---- Error messages
 
@@ -106,24 +106,25 @@ fine-verdict : (o : CallVerdict) (s : FrameEffect) → IsFine s → IsFine (with
 fine-verdict (Refuses reason) s h = record { errors = h.errors; fit = h.fit }
 fine-verdict (IsReady r) s h = record { errors = h.errors; fit = h.fit }
 
-fine-rule : (k : ServerState) → CallsFit k.calls → EffectRule k IsBytes IsFine
-fine-rule k h = record {
+pub fine-messages : (k : ServerState) → CallsFit k.calls → MessageRule k IsBytes IsFine
+fine-messages k h = record {
+  judged = λ t place c s g. fine-verdict (by_payload c (payload_of t place c)) s g;
+  ends = λ message reason bytes is. record { errors = NoError; fit = h };
+  version = λ message bytes. record { errors = OneError _ (OfVersion (word_at 0 message) (word_at 4 message) (credit_word k) refl); fit = h };
+  chunks = λ message bytes. record { errors = OneError _ (OfChunks (word_at 0 message) (credit_word k) refl); fit = h };
+  pending = λ place message c bytes is. record { errors = NoError; fit = fit-append k.calls (c ∷ []) h (verdict_fits k message c bytes is, tt) };
+}
+
+pub fine-responses : (k : ServerState) → CallsFit k.calls → ResponseRule k IsFine
+fine-responses k h = record {
   unchanged = record { errors = NoError; fit = h };
   judged = λ t place c s g. fine-verdict (by_payload c (payload_of t place c)) s g;
   refused = λ c s g. record { errors = OneError _ (OfChunks c.xid (credit_word k) refl); fit = fit-filter (λ other. not (eqb other.number c.number)) s.calls g.fit };
   read = λ r reads is. record { errors = NoError; fit = h };
-  ends = λ message reason bytes is. record { errors = NoError; fit = h };
-  version = λ message. record { errors = OneError _ (OfVersion (word_at 0 message) (word_at 4 message) (credit_word k) refl); fit = h };
-  chunks = λ message. record { errors = OneError _ (OfChunks (word_at 0 message) (credit_word k) refl); fit = h };
-  pending = λ place message c bytes is. record { errors = NoError; fit = fit-append k.calls (c ∷ []) h (verdict_fits k message c bytes is, tt) };
 }
 
 pub fine-frame : (k : ServerState) (f : Frame) → ((s : Segment) (m : List ℕ) → frame_segment f ≡ Ok s → message_completed k.received s ≡ Some m → IsBytes m) → CallsFit k.calls → IsFine (frame_effect k f)
-fine-frame k f bytes h = each-effect k IsBytes IsFine (fine-rule k h) f bytes
-
--- of one segment
-pub fine-segment : (k : ServerState) (f : Frame) (segment : Segment) → frame_segment f ≡ Ok segment → ((m : List ℕ) → message_completed k.received segment ≡ Some m → IsBytes m) → CallsFit k.calls → IsFine (frame_effect k f)
-fine-segment k f segment is bytes h = segment-effect k IsBytes IsFine (fine-rule k h) f segment is bytes
+fine-frame k f bytes h = each-effect k IsBytes IsFine (fine-messages k h) (fine-responses k h) f bytes
 
 -- ---- Outputs that can be read
 
