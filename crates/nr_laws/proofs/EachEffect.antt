@@ -18,7 +18,9 @@ use Rattle.nr_reduce.specs.Chunks.{is_read_chunk_of_item}
 use Rattle.nr_reduce.specs.Holds.{chunk_error, version_error}
 use Rattle.nr_reduce.specs.ServerState.{ServerState, PendingCall, PendingRead, credit_word, next_stag, is_pending}
 use Rattle.nr_reduce.specs.ServerReads.{open_reads, is_read, reads_of, regions_of, chunks_of}
-use Rattle.nr_reduce.specs.ServerMessages.{Verdict, verdict, by_need, by_stream, by_body, by_header, by_payload, has_position, no_stream, chunk_bytes, payload_of}
+use Rattle.nr_reduce.specs.ServerMessages.{Verdict, CallVerdict, verdict, by_need, by_stream, by_body, by_header, by_payload, has_position, no_stream, chunk_bytes, payload_of}
+use Rattle.nr_reduce.specs.ServerMessages.CallVerdict.{Refuses, IsReady}
+use Rattle.nr_reduce.specs.OfferedRegions.{Region}
 use Rattle.nr_reduce.specs.ServerMessages.Verdict.{EndsLink, OtherVersion, BadChunks, MakesPending}
 use Rattle.nr_reduce.specs.ServerFrames.{FrameEffect, no_effect, with_verdict, ready_if_whole, message_effect, with_refused_call, is_stream_read, read_effect, call_of_number, response_effect, by_message, with_access, effect_in, frame_effect}
 
@@ -147,3 +149,25 @@ each-effect k Good P h g f good = by (frame_segment f) refl
     by (Ok (Tagged last opcode stag to payload)) is = subst (λ (r : Result Segment ℕ). P (effect_in k f r)) is (tagged-effect k P g f last opcode stag to payload is)
     by (Ok (Untagged last opcode w queue msn offset payload)) is =
         of_message (message_completed k.received (Untagged last opcode w queue msn offset payload)) (λ m e. good (Untagged last opcode w queue msn offset payload) m is e)
+
+-- ---- Rules over what a server holds alone, which no verdict on a call changes
+
+judged-held : (Q : List PendingCall → List PendingRead → List Region → Type 0) (o : CallVerdict) (s : FrameEffect) → Q s.calls s.reads s.regions → Q (with_verdict o s).calls (with_verdict o s).reads (with_verdict o s).regions
+judged-held Q (Refuses reason) s h = h
+judged-held Q (IsReady r) s h = h
+
+pub held-messages : (k : ServerState) (Good : List ℕ → Type 0) (Q : List PendingCall → List PendingRead → List Region → Type 0) → Q k.calls k.reads k.regions
+    → ((place : ℕ) (message : List ℕ) (c : PendingCall) → Good message → verdict k message ≡ MakesPending c → Q (k.calls ++ c ∷ []) (k.reads ++ reads_of (k.regions ++ regions_of k place c) c) (k.regions ++ regions_of k place c))
+    → MessageRule k Good (λ s. Q s.calls s.reads s.regions)
+held-messages k Good Q same pending = record {
+  judged = λ t place c s h. judged-held Q (by_payload c (payload_of t place c)) s h;
+  ends = λ message reason good is. same;
+  version = λ message good. same;
+  chunks = λ message good. same;
+  pending = pending;
+}
+
+pub held-responses : (k : ServerState) (Q : List PendingCall → List PendingRead → List Region → Type 0) → Q k.calls k.reads k.regions
+    → ((c : PendingCall) (s : FrameEffect) → Q s.calls s.reads s.regions → Q (with_refused_call k c s).calls (with_refused_call k c s).reads s.regions) → ((r : PendingRead) (reads : List PendingRead) → k.reads ≡ r ∷ reads → Q k.calls reads k.regions)
+    → ResponseRule k (λ s. Q s.calls s.reads s.regions)
+held-responses k Q same refused read = record { unchanged = same; judged = λ t place c s h. judged-held Q (by_payload c (payload_of t place c)) s h; refused = refused; read = read }

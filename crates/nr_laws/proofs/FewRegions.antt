@@ -22,28 +22,17 @@ use Rattle.nr_reduce.proofs.OwnStags.{kept-after}
 use Rattle.nr_laws.proofs.PendingSinks.{closed-length}
 use Rattle.nr_laws.proofs.ServerInvariant.{length-from}
 use Rattle.nr_laws.proofs.WritableOffers.{verdict_few}
-use Rattle.nr_laws.proofs.EachEffect.{each-effect}
+use Rattle.nr_laws.proofs.EachEffect.{each-effect, held-messages, held-responses}
 
 abbrev AreFew : List Region → Type 0
 AreFew regions = 1 + length regions ≤ 4294967296
 
-few-verdict : (v : CallVerdict) (s : FrameEffect) → AreFew s.regions → AreFew (with_verdict v s).regions
-few-verdict (Refuses reason) s h = h
-few-verdict (IsReady r) s h = h
-
 few-effect : (k : ServerState) (f : Frame) → AreFew k.regions → AreFew (frame_effect k f).regions
 few-effect k f h =
-    each-effect k (λ m. Unit {0}) (λ s. AreFew s.regions) (record {
-      judged = judged;
-      ends = λ message reason good is. h;
-      version = λ message good. h;
-      chunks = λ message good. h;
-      pending = λ place message c good is.
-          let a = length-append k.regions (regions_of k place c) in let b = length-from c.number place (next_stag k) c.lists (chunks_of c.lists) in let d = verdict_few k message c is in omega (arith, a, b, d);
-    }) (record { unchanged = h; judged = judged; refused = λ c s g. g; read = λ r reads is. h }) f (λ s m is e. tt)
-  where
-    judged : (t : ServerState) (place : ℕ) (c : PendingCall) (s : FrameEffect) → AreFew s.regions → AreFew (with_verdict (by_payload c (payload_of t place c)) s).regions
-    judged t place c s g = few-verdict (by_payload c (payload_of t place c)) s g
+    each-effect k (λ m. Unit {0}) (λ s. AreFew s.regions)
+    (held-messages k (λ m. Unit {0}) (λ calls reads regions. AreFew regions) h
+    (λ place message c good is. let a = length-append k.regions (regions_of k place c) in let b = length-from c.number place (next_stag k) c.lists (chunks_of c.lists) in let d = verdict_few k message c is in omega (arith, a, b, d)))
+    (held-responses k (λ calls reads regions. AreFew regions) h (λ c s g. g) (λ r reads is. h)) f (λ s m is e. tt)
 
 few-after : (opened : LinkParameters) (k : ServerState) (event : Event) → AreFew k.regions → AreFew (server_state_after opened k event).regions
 unfolding server_state_after
