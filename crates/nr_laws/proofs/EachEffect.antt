@@ -79,8 +79,8 @@ pub record MessageRule (k : ServerState) (Good : List ℕ → Type 0) (P : Frame
 pub record ResponseRule (k : ServerState) (P : FrameEffect → Type 0) : Type 0 where
   pub unchanged : P (no_effect k)
   pub judged : (t : ServerState) (place : ℕ) (c : PendingCall) (s : FrameEffect) → P s → P (with_verdict (by_payload c (payload_of t place c)) s)
-  pub refused : (c : PendingCall) (s : FrameEffect) → P s → P (with_refused_call k c s)
   pub read : (r : PendingRead) (reads : List PendingRead) → k.reads ≡ r ∷ reads → P (record (no_effect k) { reads = reads; kept = length (open_reads k) - 1 })
+  pub refused : (r : PendingRead) (reads : List PendingRead) (c : PendingCall) → k.reads ≡ r ∷ reads → call_of_number k r.number ≡ Some c → P (with_refused_call k c (record (no_effect k) { reads = reads; kept = length (open_reads k) - 1 }))
 
 whole-rule : (P : FrameEffect → Type 0) (t : ServerState) (place : ℕ) (c : PendingCall) (s : FrameEffect) → (P s → P (with_verdict (by_payload c (payload_of t place c)) s)) → P s → P (ready_if_whole t place c s)
 whole-rule P t place c s judged h = by (is_read s.reads c.number)
@@ -98,7 +98,7 @@ message-rule k Good P h place message (MakesPending c) good is =
 
 response-rule : (k : ServerState) (P : FrameEffect → Type 0) → ResponseRule k P → (f : Frame) (segment : Segment) (reads : List PendingRead) → k.reads ≡ reads → P (response_effect (with_access k f segment) f.end reads)
 response-rule k P h f segment [] is = h.unchanged
-response-rule k P h f segment (r ∷ reads) is = by_call (call_of_number k r.number)
+response-rule k P h f segment (r ∷ reads) is = by_call (call_of_number k r.number) refl
   where
     t : ServerState
     t = with_access k f segment
@@ -106,13 +106,13 @@ response-rule k P h f segment (r ∷ reads) is = by_call (call_of_number k r.num
     s : FrameEffect
     s = record (no_effect k) { reads = reads; kept = length (open_reads k) - 1 }
 
-    by_test : (c : PendingCall) (b : Bool) → P (cond b (with_refused_call t c s) (ready_if_whole t f.end c s))
-    by_test c true = h.refused c s (h.read r reads is)
-    by_test c false = whole-rule P t f.end c s (h.judged t f.end c s) (h.read r reads is)
+    by_test : (c : PendingCall) → call_of_number k r.number ≡ Some c → (b : Bool) → P (cond b (with_refused_call t c s) (ready_if_whole t f.end c s))
+    by_test c found true = h.refused r reads c is found
+    by_test c found false = whole-rule P t f.end c s (h.judged t f.end c s) (h.read r reads is)
 
-    by_call : (o : Option PendingCall) → P (read_effect t f.end r o s)
-    by_call None = h.read r reads is
-    by_call (Some c) = by_test c (is_stream_read c r s.reads && not (is_read_chunk_of_item (chunk_bytes t f.end c 0) c.lists.read))
+    by_call : (o : Option PendingCall) → call_of_number k r.number ≡ o → P (read_effect t f.end r o s)
+    by_call None found = h.read r reads is
+    by_call (Some c) found = by_test c found (is_stream_read c r s.reads && not (is_read_chunk_of_item (chunk_bytes t f.end c 0) c.lists.read))
 
 -- a tagged segment
 pub tagged-effect : (k : ServerState) (P : FrameEffect → Type 0) → ResponseRule k P → (f : Frame) (last : Bool) (opcode stag to : ℕ) (payload : List ℕ) → frame_segment f ≡ Ok (Tagged last opcode stag to payload) → P (frame_effect k f)
@@ -170,4 +170,9 @@ held-messages k Good Q same pending = record {
 pub held-responses : (k : ServerState) (Q : List PendingCall → List PendingRead → List Region → Type 0) → Q k.calls k.reads k.regions
     → ((c : PendingCall) (s : FrameEffect) → Q s.calls s.reads s.regions → Q (with_refused_call k c s).calls (with_refused_call k c s).reads s.regions) → ((r : PendingRead) (reads : List PendingRead) → k.reads ≡ r ∷ reads → Q k.calls reads k.regions)
     → ResponseRule k (λ s. Q s.calls s.reads s.regions)
-held-responses k Q same refused read = record { unchanged = same; judged = λ t place c s h. judged-held Q (by_payload c (payload_of t place c)) s h; refused = refused; read = read }
+held-responses k Q same refused read = record {
+  unchanged = same;
+  judged = λ t place c s h. judged-held Q (by_payload c (payload_of t place c)) s h;
+  read = read;
+  refused = λ r reads c is found. refused c (record (no_effect k) { reads = reads; kept = length (open_reads k) - 1 }) (read r reads is);
+}

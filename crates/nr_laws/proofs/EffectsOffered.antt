@@ -154,7 +154,7 @@ pub effect-tagged : (regions : List Region) (k : ServerState) (f : Frame) (last 
     → frame_segment f ≡ Ok (Tagged last opcode stag to payload) → EffectOffered regions (frame_effect k f)
 effect-tagged regions k f last opcode stag to payload calls waiting is =
     tagged-effect k (EffectOffered regions)
-    (record { unchanged = none-more regions k calls waiting; judged = λ t place c s g. judged-more regions (by_payload c (payload_of t place c)) s g; refused = λ c s g. refused-more regions k c s g; read = read }) f last opcode stag to payload is
+    (record { unchanged = none-more regions k calls waiting; judged = λ t place c s g. judged-more regions (by_payload c (payload_of t place c)) s g; read = read; refused = λ r reads c is found. refused-more regions k c _ (read r reads is) }) f last opcode stag to payload is
   where
     read : (r : PendingRead) (reads : List PendingRead) → k.reads ≡ r ∷ reads → EffectOffered regions (record (no_effect k) { reads = reads; kept = length (open_reads k) - 1 })
     read r reads is =

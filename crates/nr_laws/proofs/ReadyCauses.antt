@@ -124,7 +124,7 @@ few-frame : (k : ServerState) (f : Frame) → AtMostReady (frame_effect k f).rea
 few-frame k f =
     each-effect k (λ m. Unit {0}) (λ s. AtMostReady s.ready)
     (record { judged = judged; ends = λ message reason good is. tt; version = λ message good. tt; chunks = λ message good. tt; pending = λ place message c good is. tt })
-    (record { unchanged = tt; judged = judged; refused = λ c s h. h; read = λ r reads is. tt }) f (λ s m is e. tt)
+    (record { unchanged = tt; judged = judged; read = λ r reads is. tt; refused = λ r reads c is found. tt }) f (λ s m is e. tt)
   where
     judged : (t : ServerState) (place : ℕ) (c : PendingCall) (s : FrameEffect) → AtMostReady s.ready → AtMostReady (with_verdict (by_payload c (payload_of t place c)) s).ready
     judged t place c s h = few-verdict (by_payload c (payload_of t place c)) s h

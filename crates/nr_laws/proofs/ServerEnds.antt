@@ -159,7 +159,7 @@ effect-big : (k : ServerState) (f : Frame) → BigReason (frame_effect k f).refu
 effect-big k f =
     each-effect k (λ m. Unit {0}) (λ s. BigReason s.refusal)
     (record { judged = judged; ends = λ message reason good is. subst BigVerdict is (verdict-big k message); version = λ message good. tt; chunks = λ message good. tt; pending = λ place message c good is. tt })
-    (record { unchanged = tt; judged = judged; refused = λ c s h. h; read = λ r reads is. tt }) f (λ s m is e. tt)
+    (record { unchanged = tt; judged = judged; read = λ r reads is. tt; refused = λ r reads c is found. tt }) f (λ s m is e. tt)
   where
     judged : (t : ServerState) (place : ℕ) (c : PendingCall) (s : FrameEffect) → BigReason s.refusal → BigReason (with_verdict (by_payload c (payload_of t place c)) s).refusal
     judged t place c s h = with-big (by_payload c (payload_of t place c)) s (payload-big c (payload_of t place c)) h

@@ -119,8 +119,8 @@ pub fine-responses : (k : ServerState) → CallsFit k.calls → ResponseRule k I
 fine-responses k h = record {
   unchanged = record { errors = NoError; fit = h };
   judged = λ t place c s g. fine-verdict (by_payload c (payload_of t place c)) s g;
-  refused = λ c s g. record { errors = OneError _ (OfChunks c.xid (credit_word k) refl); fit = fit-filter (λ other. not (eqb other.number c.number)) s.calls g.fit };
   read = λ r reads is. record { errors = NoError; fit = h };
+  refused = λ r reads c is found. record { errors = OneError _ (OfChunks c.xid (credit_word k) refl); fit = fit-filter (λ other. not (eqb other.number c.number)) k.calls h };
 }
 
 pub fine-frame : (k : ServerState) (f : Frame) → ((s : Segment) (m : List ℕ) → frame_segment f ≡ Ok s → message_completed k.received s ≡ Some m → IsBytes m) → CallsFit k.calls → IsFine (frame_effect k f)

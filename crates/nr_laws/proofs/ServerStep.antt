@@ -125,7 +125,7 @@ reason-verdict k message kind again room bytes one =
 
 refused-tagged : (k : ServerState) (f : Frame) (last : Bool) (opcode stag to : ℕ) (payload : List ℕ) → frame_segment f ≡ Ok (Tagged last opcode stag to payload) → Refusal (frame_effect k f).refusal
 refused-tagged k f last opcode stag to payload is =
-    tagged-effect k (λ s. Refusal s.refusal) (record { unchanged = tt; judged = λ t place c s h. refused-payload c (payload_of t place c) s h; refused = λ c s h. h; read = λ r reads is. tt }) f last opcode stag to payload is
+    tagged-effect k (λ s. Refusal s.refusal) (record { unchanged = tt; judged = λ t place c s h. refused-payload c (payload_of t place c) s h; read = λ r reads is. tt; refused = λ r reads c is found. tt }) f last opcode stag to payload is
 
 refused-send : (k : ServerState) (f : Frame) (message : List ℕ) → k.received.begun ≡ None → word_at 12 message ≤ 1 → is_pending k (word_at 0 message) ≡ false → next_stag k + 1 ≤ 4294967296 → IsBytes message → OneChunk message
     → frame_segment f ≡ Ok (Untagged true OPCODE_SEND 0 QUEUE_SEND (msn_word (k.received.sends + 1)) 0 message) → Refusal (frame_effect k f).refusal
