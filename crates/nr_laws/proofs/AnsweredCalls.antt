@@ -1,38 +1,29 @@
 -- Each message of a server answers one call that was received: the xids of the messages and those of the pending calls are distinct.
-use Rattle.std.proofs.Common.{◌≡◌, ℕ, ◌+◌, ◌≤◌, ◌<◌, ◌^◌, Bool, true, false, cond, not, ◌&&◌, ◌||◌, eqb, min, List, [], ◌∷◌, ◌++◌, length, map, take, drop, filter, Option, Some, None, Result, Ok, refl, sym, ap, subst, ◌∙◌, arith, append_assoc}
+use Rattle.std.proofs.Common.{◌≡◌, ℕ, ◌+◌, ◌≤◌, ◌<◌, ◌^◌, Bool, true, false, cond, not, ◌||◌, eqb, min, List, [], ◌∷◌, ◌++◌, length, map, take, drop, filter, Option, Some, None, Ok, refl, sym, ap, ◌∙◌, arith}
 use Rattle.std.specs.List.{list_any, find, range_with_len}
 use Rattle.std.proofs.lemmas.Bool.{eqb-true, eq-eqb}
 use Rattle.std.proofs.lemmas.List.{map-append}
-use Rattle.nr_xdr.specs.Item.{word, word_of}
-use Rattle.nr_xdr.specs.Items.{encodings}
-use Rattle.nr_xdr.proofs.WordBytes.{length-word, word_of-word}
 use Rattle.nr_xdr.specs.Fields.{word_at}
-use Rattle.nr_wire.specs.Constants.{OPCODE_READ_RESPONSE, OPCODE_SEND, OPCODE_WRITE, QUEUE_SEND}
-use Rattle.nr_wire.specs.Segment.{Segment}
+use Rattle.nr_wire.specs.Constants.{OPCODE_SEND, OPCODE_WRITE, QUEUE_SEND}
 use Rattle.nr_wire.specs.Segment.Segment.{Tagged, Untagged}
 use Rattle.nr_header.specs.declared.header.RdmaSegment.{RdmaSegment}
 use Rattle.nr_header.specs.declared.header.ChunkLists.{ChunkLists}
-use Rattle.nr_header.specs.declared.header.Body.TheVariants.{Msg, Nomsg}
-use Rattle.nr_header.specs.Header.{header_encoding, lists_items}
 use Rattle.nr_link.specs.Frames.{Frame}
 use Rattle.nr_link.specs.Output.{msn_word, segment_count}
-use Rattle.nr_link.specs.ReceiveState.{begun_bytes}
 use Rattle.nr_link.specs.Ending.{frame_segment}
 use Rattle.nr_reduce.specs.Plans.{one_if}
-use Rattle.nr_reduce.specs.Holds.{Answer, answer_message, answer_lists, chunk_error, version_error, first_chunk, no_segments}
-use Rattle.nr_reduce.specs.Chunks.{is_read_chunk_of_item}
+use Rattle.nr_reduce.specs.Holds.{Answer, answer_message, first_chunk, no_segments}
 use Rattle.nr_reduce.specs.ClientState.{OutstandingCall}
 use Rattle.nr_reduce.specs.ServerState.{PendingCall, PendingRead, ServerState, credit_word}
-use Rattle.nr_reduce.specs.ServerReads.{regions_of, reads_of, is_read}
-use Rattle.nr_reduce.specs.ServerMessages.{CallVerdict, by_payload, payload_of, chunk_bytes, Verdict, verdict}
+use Rattle.nr_reduce.specs.ServerReads.{regions_of, reads_of}
+use Rattle.nr_reduce.specs.ServerMessages.{CallVerdict, by_payload, payload_of, verdict}
 use Rattle.nr_reduce.specs.ServerMessages.CallVerdict.{Refuses, IsReady}
-use Rattle.nr_reduce.specs.ServerMessages.Verdict.{EndsLink, OtherVersion, BadChunks, MakesPending}
-use Rattle.nr_reduce.specs.ServerFrames.{FrameEffect, no_effect, with_verdict, ready_if_whole, message_effect, with_refused_call, is_stream_read, read_effect, call_of_number, response_effect, with_access, effect_in, frame_effect}
+use Rattle.nr_reduce.specs.ServerMessages.Verdict.{MakesPending}
+use Rattle.nr_reduce.specs.ServerFrames.{FrameEffect, no_effect, with_verdict, frame_effect}
 use Rattle.nr_reduce.specs.Server.{newly_open_reads}
 use Rattle.nr_laws.specs.FrameContents.{FrameContent, effect_frames, request_frame, write_frames, answer_frames, tagged_frames}
 use Rattle.nr_laws.specs.FrameContents.FrameContent.{HelloFrame, SendFrame, RequestFrame, TaggedFrame}
 use Rattle.nr_laws.proofs.PendingSends.{verdict-new}
-use Rattle.nr_laws.proofs.RequestFields.{part_at}
 use Rattle.nr_laws.proofs.HeaderXid.{answer-xid, chunk-error-xid, version-error-xid}
 use Rattle.nr_laws.proofs.EachEffect.{send-effect, tagged-effect}
 

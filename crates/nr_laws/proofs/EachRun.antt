@@ -1,16 +1,15 @@
 -- After each run of a matched link in which each side kept its law in full, and of which no side has ended, both ends agree.
-use Rattle.std.proofs.Common.{◌≡◌, ℕ, Bool, true, false, cond, ◌&&◌, eqb, List, [], ◌∷◌, ◌++◌, length, Option, Some, None, refl, sym, ap, subst, ◌∙◌, arith, append_assoc, append-nil, lit<}
+use Rattle.std.proofs.Common.{◌≡◌, ℕ, Bool, true, false, cond, ◌&&◌, eqb, List, [], ◌∷◌, ◌++◌, length, None, refl, sym, ap, subst, ◌∙◌, arith, append_assoc, append-nil, lit<}
 use Rattle.std.proofs.lemmas.Bool.{eqb-true}
 use Rattle.nr_wire.specs.declared.hello.Side.TheVariants.{Initiator, Responder}
 use Rattle.nr_wire.specs.Stream.{split}
-use Rattle.nr_link.specs.declared.end.End.{End}
 use Rattle.nr_reduce.specs.declared.call.Submission.TheVariants as submissions
 use Rattle.nr_reduce.specs.declared.mark.Mark.{Mark}
 use Rattle.nr_reduce.specs.declared.mark.Mark.TheVariants as marks
 use Rattle.nr_reduce.specs.declared.mark.LinkParameters.{LinkParameters}
 use Rattle.nr_reduce.specs.History.{bytes_sent, bytes_received}
 use Rattle.nr_reduce.specs.Events.{Event, if_own, events_at, events}
-use Rattle.nr_reduce.specs.EndRules.{Rules, EndState, end_state_after}
+use Rattle.nr_reduce.specs.EndRules.{EndState}
 use Rattle.nr_reduce.specs.ClientState.{ClientState, initial_state as client_initial_state}
 use Rattle.nr_reduce.specs.ServerState.{ServerState, initial_state as server_initial_state}
 use Rattle.nr_reduce.specs.Client.{client_rules}
@@ -20,7 +19,7 @@ use Rattle.nr_reduce.specs.AtEachMark.{AtEachMark}
 use Rattle.nr_reduce.specs.Matched.{MatchedMark}
 use Rattle.nr_reduce.specs.Asked.{AskedMark, IsAll}
 use Rattle.nr_reduce.specs.Served.{ServedMark}
-use Rattle.nr_reduce.proofs.Steps.{client-one, server-one, ended-stays}
+use Rattle.nr_reduce.proofs.Steps.{client-one, server-one}
 use Rattle.nr_laws.specs.Typed.{TypedMark}
 use Rattle.nr_laws.specs.FrameContents.FrameContent.{HelloFrame}
 use Rattle.nr_laws.proofs.TotalsAtClient.{totals-first}

@@ -1,24 +1,22 @@
 -- Behind a frame that a server receives each read that waits, or is newly open, is of a pending call that offers it.
-use Rattle.std.proofs.Common.{◌≡◌, ℕ, zero, suc, ◌+◌, ◌-◌, ◌≤◌, Bool, true, false, cond, not, ◌&&◌, eqb, List, [], ◌∷◌, ◌++◌, length, take, drop, filter, Option, None, Some, Result, Ok, refl, sym, ap, subst, ◌∙◌, arith, inl, inr, length-take}
+use Rattle.std.proofs.Common.{◌≡◌, ℕ, zero, suc, ◌+◌, ◌-◌, ◌≤◌, Bool, true, false, cond, not, eqb, List, [], ◌∷◌, ◌++◌, length, take, drop, filter, None, Ok, refl, sym, ap, subst, ◌∙◌, arith, inl, inr, length-take}
 use Rattle.std.specs.List.{AllByRecursion}
 use Rattle.nr_xdr.specs.Fields.{word_at}
-use Rattle.nr_wire.specs.Constants.{OPCODE_READ_RESPONSE, OPCODE_SEND, QUEUE_SEND}
-use Rattle.nr_wire.specs.Segment.{Segment}
+use Rattle.nr_wire.specs.Constants.{OPCODE_SEND, QUEUE_SEND}
 use Rattle.nr_wire.specs.Segment.Segment.{Tagged, Untagged}
 use Rattle.nr_header.specs.declared.header.ReadSegment.{ReadSegment}
 use Rattle.nr_link.specs.Frames.{Frame}
 use Rattle.nr_link.specs.Limits.{open_reads_max}
 use Rattle.nr_link.specs.Output.{msn_word}
-use Rattle.nr_link.specs.ReceiveState.{begun_bytes}
 use Rattle.nr_link.specs.Ending.{frame_segment}
-use Rattle.nr_reduce.specs.Chunks.{is_read_chunk_of_item, total_at}
+use Rattle.nr_reduce.specs.Chunks.{total_at}
 use Rattle.nr_reduce.specs.OfferedRegions.{Region}
 use Rattle.nr_reduce.specs.ServerState.{ServerState, PendingCall, PendingRead}
-use Rattle.nr_reduce.specs.ServerReads.{open_reads, is_read, read_of, reads_from, reads_of, regions_of}
-use Rattle.nr_reduce.specs.ServerMessages.{CallVerdict, by_payload, payload_of, chunk_bytes, Verdict, verdict}
+use Rattle.nr_reduce.specs.ServerReads.{open_reads, read_of, reads_from, reads_of, regions_of}
+use Rattle.nr_reduce.specs.ServerMessages.{CallVerdict, by_payload, payload_of, verdict}
 use Rattle.nr_reduce.specs.ServerMessages.CallVerdict.{Refuses, IsReady}
-use Rattle.nr_reduce.specs.ServerMessages.Verdict.{EndsLink, OtherVersion, BadChunks, MakesPending}
-use Rattle.nr_reduce.specs.ServerFrames.{FrameEffect, no_effect, with_verdict, ready_if_whole, message_effect, with_refused_call, is_stream_read, read_effect, call_of_number, response_effect, with_access, effect_in, frame_effect}
+use Rattle.nr_reduce.specs.ServerMessages.Verdict.{MakesPending}
+use Rattle.nr_reduce.specs.ServerFrames.{FrameEffect, no_effect, with_verdict, with_refused_call, frame_effect}
 use Rattle.nr_laws.specs.FrameContents.FrameContent.{SendFrame}
 use Rattle.nr_laws.proofs.ReadLimits.{each-kept}
 use Rattle.nr_laws.proofs.PendingSends.{verdict-new}

@@ -1,22 +1,14 @@
 -- A server's STags are 32-bit numbers.
-use Rattle.std.proofs.Common.{◌≡◌, ℕ, ◌+◌, ◌-◌, ◌≤◌, Bool, true, false, cond, ◌&&◌, not, eqb, List, [], ◌∷◌, ◌++◌, length, Option, None, Some, Result, Ok, Err, refl, arith, length-append}
-use Rattle.nr_wire.specs.Segment.{Segment}
-use Rattle.nr_wire.specs.Segment.Segment.{Tagged, Untagged}
+use Rattle.std.proofs.Common.{◌+◌, ◌≤◌, Bool, true, false, cond, List, length, arith, length-append}
 use Rattle.nr_link.specs.Frames.{Frame, is_hello}
-use Rattle.nr_link.specs.Ending.{frame_segment}
-use Rattle.nr_link.specs.ReceiveState.{message_completed}
 use Rattle.nr_reduce.specs.declared.mark.LinkParameters.{LinkParameters}
-use Rattle.nr_reduce.specs.Chunks.{is_read_chunk_of_item}
 use Rattle.nr_reduce.specs.OfferedRegions.{Region}
 use Rattle.nr_reduce.specs.Events.{Event}
 use Rattle.nr_reduce.specs.Events.Event.{FrameReceived, CallSubmitted, MemoryRevoked, CallExecuted, QueueWritten}
 use Rattle.nr_reduce.specs.EndRules.{end_state_after}
-use Rattle.nr_reduce.specs.ServerState.{ServerState, PendingCall, PendingRead, next_stag}
-use Rattle.nr_reduce.specs.ServerReads.{open_reads, is_read, reads_of, regions_of, chunks_of, is_over}
-use Rattle.nr_reduce.specs.ServerMessages.{CallVerdict, Verdict, verdict, chunk_bytes, payload_of, by_payload}
-use Rattle.nr_reduce.specs.ServerMessages.CallVerdict.{Refuses, IsReady}
-use Rattle.nr_reduce.specs.ServerMessages.Verdict.{EndsLink, OtherVersion, BadChunks, MakesPending}
-use Rattle.nr_reduce.specs.ServerFrames.{FrameEffect, no_effect, with_verdict, ready_if_whole, with_refused_call, is_stream_read, read_effect, response_effect, call_of_number, message_effect, by_message, with_access, effect_in, frame_effect}
+use Rattle.nr_reduce.specs.ServerState.{ServerState, next_stag}
+use Rattle.nr_reduce.specs.ServerReads.{regions_of, chunks_of, is_over}
+use Rattle.nr_reduce.specs.ServerFrames.{FrameEffect, frame_effect}
 use Rattle.nr_reduce.specs.Server.{server_rules, server_state_after, initial_server, with_effect}
 use Rattle.nr_reduce.proofs.OwnStags.{kept-after}
 use Rattle.nr_laws.proofs.PendingSinks.{closed-length}

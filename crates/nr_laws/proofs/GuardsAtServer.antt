@@ -15,18 +15,16 @@ use Rattle.nr_link.specs.Ending.{frame_segment}
 use Rattle.nr_reduce.specs.declared.mark.LinkParameters.{LinkParameters}
 use Rattle.nr_reduce.specs.Opening.{IsOpened}
 use Rattle.nr_reduce.specs.Events.Event.{FrameReceived}
-use Rattle.nr_reduce.specs.OfferedRegions.{Region}
 use Rattle.nr_reduce.specs.ClientState.{ClientState}
-use Rattle.nr_reduce.specs.ServerState.{ServerState, PendingRead}
+use Rattle.nr_reduce.specs.ServerState.{ServerState}
 use Rattle.nr_reduce.specs.ServerReads.{is_over}
 use Rattle.nr_reduce.specs.ServerFrames.{FrameEffect, effect_in, frame_effect}
 use Rattle.nr_reduce.specs.Server.{server_end, server_state_after, refusal_end}
 use Rattle.nr_laws.specs.FrameContents.{FrameContent, numbered_segment, frame_bytes, effect_frames, server_frames, Carries}
 use Rattle.nr_laws.specs.FrameContents.FrameContent.{HelloFrame, SendFrame, TaggedFrame}
-use Rattle.nr_laws.specs.LinkInvariants.{Transit, TotalsAgree, ReadsAgree, HaveSinks, AreResponses}
+use Rattle.nr_laws.specs.LinkInvariants.{Transit, TotalsAgree, ReadsAgree, AreResponses}
 use Rattle.nr_laws.proofs.TotalsAtServer.{totals-hello_up, after-is, step-is, segment-is, with_by}
 use Rattle.nr_laws.proofs.ReadsAtClient.{reads-says_down}
-use Rattle.nr_laws.proofs.Sinks.{sink-later}
 use Rattle.nr_laws.proofs.ServerInvariant.{ServerAgrees, server-takes_send, server-takes_response}
 use Rattle.nr_laws.proofs.Replies.{replies-send, replies-tagged}
 use Rattle.nr_laws.proofs.ReadLimits.{AreWithin, within-send, within-tagged, within-closed}

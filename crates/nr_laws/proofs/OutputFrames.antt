@@ -1,5 +1,5 @@
 -- The output of an end is the bytes of its frame contents.
-use Rattle.std.proofs.Common.{◌≡◌, ℕ, ◌+◌, ◌*◌, ◌≤◌, true, eqb, List, [], ◌∷◌, ◌++◌, length, map, refl, sym, ap, ◌∙◌, arith, append-nil, add-zero, take_all}
+use Rattle.std.proofs.Common.{◌≡◌, ℕ, ◌+◌, ◌*◌, true, eqb, List, [], ◌∷◌, ◌++◌, map, refl, sym, ap, ◌∙◌, add-zero}
 use Rattle.std.specs.List.{flat_map, range_with_len}
 use Rattle.nr_wire.specs.Constants.{OPCODE_WRITE, OPCODE_READ_RESPONSE, OPCODE_SEND, QUEUE_SEND}
 use Rattle.nr_wire.specs.declared.hello.Side.{Side}
@@ -8,7 +8,7 @@ use Rattle.nr_wire.specs.Segment.{encoding}
 use Rattle.nr_wire.specs.Segment.Segment.{Tagged, Untagged}
 use Rattle.nr_reduce.specs.declared.mark.LinkParameters.{LinkParameters}
 use Rattle.nr_link.specs.Limits.{segment_max}
-use Rattle.nr_link.specs.Output.{msn_word, segment_count, segment_payload, cut, send, write, read_response, read_request}
+use Rattle.nr_link.specs.Output.{msn_word, segment_count, segment_payload, cut, write, read_response, read_request}
 use Rattle.nr_reduce.specs.ServerState.{ServerState, PendingRead}
 use Rattle.nr_reduce.specs.ServerFrames.{FrameEffect}
 use Rattle.nr_reduce.specs.Server.{sends_from, requests_from, newly_open_reads, effect_output}
@@ -19,7 +19,7 @@ use Rattle.nr_laws.specs.FrameContents.{FrameContent, output_bytes, total_of, se
 use Rattle.nr_laws.specs.FrameContents.FrameContent.{SendFrame}
 use Rattle.nr_laws.proofs.Totals.{total-map-zero}
 use Rattle.nr_laws.proofs.StreamFrames.{spelled-append}
-use Rattle.nr_laws.proofs.Outputs.{IsShort, send-one, AreShort, CallsShort}
+use Rattle.nr_laws.proofs.Outputs.{send-one, AreShort, CallsShort}
 
 -- numbers that don't change
 same-numbers : (side : Side) (n r : ℕ) (ps : List FrameContent) → output_bytes side (n + 0) (r + 0) ps ≡ output_bytes side n r ps

@@ -1,6 +1,5 @@
 -- What is read of an accepted call's message has the lists of its plan.
-use Rattle.std.proofs.Common.{◌≡◌, ℕ, ◌^◌, ◌<◌, List, [], ◌∷◌, ◌++◌, length, take, drop, Option, None, Some, refl, sym, ap, ◌∙◌, arith, append_assoc}
-use Rattle.std.proofs.lemmas.List.{take_at, drop_at}
+use Rattle.std.proofs.Common.{◌≡◌, ℕ, ◌^◌, ◌<◌, List, [], ◌∷◌, ◌++◌, length, Option, None, Some, refl, sym, ap, ◌∙◌, arith, append_assoc}
 use Rattle.nr_xdr.specs.Item.{Item, word, word_of, hyper, hyper_of}
 use Rattle.nr_xdr.specs.Items.{AllFit, encodings}
 use Rattle.nr_xdr.proofs.WordBytes.{length-word, word_of-word, length-hyper, hyper_of-hyper}

@@ -29,8 +29,7 @@ use Rattle.nr_laws.proofs.Outputs.Output.{AHello, ASegment}
 use Rattle.nr_laws.proofs.Brought.{AreFrom}
 use Rattle.nr_laws.proofs.Words.{payload-bytes, payload_by}
 use Rattle.nr_laws.proofs.Messages.{message_in, messages, AreOne, messages-tagged, messages-final, one-final}
-use Rattle.nr_laws.proofs.ClientRun.{Parted, parted, by_part}
-use Rattle.nr_laws.proofs.ClientRun.Parted.{Within, Last}
+use Rattle.nr_laws.proofs.ClientRun.{parted, by_part}
 use Rattle.nr_laws.proofs.ClientAlong.{final-words}
 use Rattle.nr_laws.proofs.ServerOutputs.{errors-short, CallsFit, fit-filter, IsFine, fine-frame, AreFine, fine-effect, fine-answer, answer-is-short, tagged-answer}
 use Rattle.nr_laws.proofs.ServerEnds.{BigEnd, segment-ends, hello-goes}

@@ -1,27 +1,24 @@
 -- What a server keeps behind each frame: totals, reads, pending calls, sinks, and the bounds of its regions.
-use Rattle.std.proofs.Common.{◌≡◌, ℕ, suc, ◌+◌, ◌-◌, ◌≤◌, ◌<◌, Bool, true, false, not, cond, ◌&&◌, eqb, List, [], ◌∷◌, ◌++◌, length, Option, None, Some, Ok, refl, sym, ap, subst, ◌∙◌, arith, length-append}
+use Rattle.std.proofs.Common.{◌≡◌, ℕ, suc, ◌+◌, ◌≤◌, ◌<◌, Bool, true, false, List, [], ◌∷◌, ◌++◌, length, None, Ok, refl, sym, ap, subst, ◌∙◌, arith, length-append}
 use Rattle.std.proofs.lemmas.List.{length-map}
-use Rattle.nr_wire.specs.Constants.{OPCODE_READ_RESPONSE, OPCODE_SEND, QUEUE_SEND}
+use Rattle.nr_wire.specs.Constants.{OPCODE_SEND, QUEUE_SEND}
 use Rattle.nr_wire.specs.Segment.{Segment}
 use Rattle.nr_wire.specs.Segment.Segment.{Tagged, Untagged}
 use Rattle.nr_header.specs.declared.header.ChunkLists.{ChunkLists}
 use Rattle.nr_reduce.specs.declared.mark.LinkParameters.{LinkParameters}
 use Rattle.nr_reduce.specs.Limits.{send_max}
-use Rattle.nr_reduce.specs.Chunks.{is_read_chunk_of_item}
 use Rattle.nr_link.specs.Output.{msn_word}
 use Rattle.nr_link.specs.Frames.{Frame}
-use Rattle.nr_link.specs.ReceiveState.{begun_bytes}
 use Rattle.nr_link.specs.Ending.{frame_segment}
 use Rattle.nr_reduce.specs.OfferedRegions.{Region, regions_closed, closed_if}
 use Rattle.nr_reduce.specs.Events.Event.{FrameReceived}
 use Rattle.nr_reduce.specs.ClientState.{ClientState}
-use Rattle.nr_reduce.specs.ServerState.{ServerState, PendingCall, PendingRead, next_stag}
-use Rattle.nr_reduce.specs.ServerFrames.{FrameEffect, frame_effect, effect_in, message_effect, no_effect, response_effect, read_effect, with_refused_call, ready_if_whole, with_verdict, call_of_number, with_access, is_stream_read}
-use Rattle.nr_reduce.specs.ServerMessages.{Verdict, CallVerdict, verdict, by_payload, payload_of, chunk_bytes}
-use Rattle.nr_reduce.specs.ServerReads.{open_reads, is_read, is_over, regions_of, regions_from, chunks_of}
+use Rattle.nr_reduce.specs.ServerState.{ServerState, PendingCall, next_stag}
+use Rattle.nr_reduce.specs.ServerFrames.{FrameEffect, frame_effect, effect_in}
+use Rattle.nr_reduce.specs.ServerMessages.{verdict}
+use Rattle.nr_reduce.specs.ServerReads.{is_over, regions_of, regions_from, chunks_of}
 use Rattle.nr_reduce.specs.Server.{server_state_after, server_end, refusal_end}
-use Rattle.nr_reduce.specs.ServerMessages.Verdict.{EndsLink, OtherVersion, BadChunks, MakesPending}
-use Rattle.nr_reduce.specs.ServerMessages.CallVerdict.{Refuses, IsReady}
+use Rattle.nr_reduce.specs.ServerMessages.Verdict.{MakesPending}
 use Rattle.nr_laws.specs.FrameContents.{FrameContent, Carries}
 use Rattle.nr_laws.specs.FrameContents.FrameContent.{SendFrame, TaggedFrame}
 use Rattle.nr_laws.specs.LinkInvariants.{Transit, TotalsAgree, ReadsAgree, PendingAgree, HaveSinks, AreAtMost, WithinWindow}

@@ -1,22 +1,18 @@
 -- A server of a matched link gives at most one STag for each Send that it receives.
 use Rattle.std.proofs.lemmas.List.{length-map}
-use Rattle.std.proofs.Common.{◌≡◌, ℕ, ◌+◌, ◌≤◌, Bool, true, false, cond, not, ◌&&◌, eqb, List, [], ◌∷◌, ◌++◌, length, Option, Some, None, Result, Ok, refl, sym, ap, subst, arith, length-append}
+use Rattle.std.proofs.Common.{◌≡◌, ℕ, ◌+◌, ◌≤◌, Bool, true, List, ◌++◌, length, None, Ok, refl, arith, length-append}
 use Rattle.nr_xdr.specs.Item.{IsBytes}
-use Rattle.nr_wire.specs.Constants.{OPCODE_READ_RESPONSE, OPCODE_SEND, QUEUE_SEND}
-use Rattle.nr_wire.specs.Segment.{Segment}
+use Rattle.nr_wire.specs.Constants.{OPCODE_SEND, QUEUE_SEND}
 use Rattle.nr_wire.specs.Segment.Segment.{Tagged, Untagged}
 use Rattle.nr_link.specs.Frames.{Frame}
 use Rattle.nr_link.specs.Ending.{frame_segment}
 use Rattle.nr_link.specs.Output.{msn_word}
-use Rattle.nr_link.specs.ReceiveState.{begun_bytes}
 use Rattle.nr_reduce.specs.OfferedRegions.{Region, closed_if, regions_closed}
-use Rattle.nr_reduce.specs.Chunks.{is_read_chunk_of_item}
-use Rattle.nr_reduce.specs.ServerState.{PendingCall, PendingRead, ServerState, next_stag}
-use Rattle.nr_reduce.specs.ServerReads.{regions_of, reads_of, is_read, chunks_of}
-use Rattle.nr_reduce.specs.ServerMessages.{CallVerdict, by_payload, payload_of, chunk_bytes, Verdict, verdict}
-use Rattle.nr_reduce.specs.ServerMessages.CallVerdict.{Refuses, IsReady}
-use Rattle.nr_reduce.specs.ServerMessages.Verdict.{EndsLink, OtherVersion, BadChunks, MakesPending}
-use Rattle.nr_reduce.specs.ServerFrames.{FrameEffect, no_effect, with_verdict, ready_if_whole, message_effect, with_refused_call, is_stream_read, read_effect, call_of_number, response_effect, with_access, effect_in, frame_effect}
+use Rattle.nr_reduce.specs.ServerState.{PendingCall, ServerState, next_stag}
+use Rattle.nr_reduce.specs.ServerReads.{regions_of, chunks_of}
+use Rattle.nr_reduce.specs.ServerMessages.{verdict}
+use Rattle.nr_reduce.specs.ServerMessages.Verdict.{MakesPending}
+use Rattle.nr_reduce.specs.ServerFrames.{frame_effect}
 use Rattle.nr_laws.proofs.ServerInvariant.{length-from}
 use Rattle.nr_laws.proofs.WritableOffers.{verdict_one}
 use Rattle.nr_laws.proofs.OneChunk.{OneChunk}

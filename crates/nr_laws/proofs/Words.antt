@@ -1,5 +1,5 @@
 -- The segments that a side writes have numbers in range: so each is read as it was written.
-use Rattle.std.proofs.Common.{◌≡◌, ℕ, zero, suc, ◌+◌, ◌-◌, ◌*◌, ◌^◌, ◌≤◌, ◌<◌, min, Bool, true, false, cond, eqb, List, [], ◌∷◌, ◌++◌, length, take, drop, map, Option, None, Some, Ok, refl, sym, ap, subst, arith, length-append}
+use Rattle.std.proofs.Common.{◌≡◌, ℕ, zero, suc, ◌+◌, ◌-◌, ◌*◌, ◌^◌, ◌≤◌, ◌<◌, min, Bool, true, false, cond, eqb, List, [], ◌∷◌, ◌++◌, length, take, drop, map, Option, None, Some, Ok, refl, sym, subst, arith, length-append}
 use Rattle.std.proofs.lemmas.List.{length-take, map-append}
 use Rattle.std.specs.List.{range_with_len}
 use Rattle.nr_xdr.specs.Item.{IsBytes, word, hyper}
