@@ -28,8 +28,8 @@ use Rattle.nr_reduce.specs.Opening.{IsOpened}
 use Rattle.nr_reduce.specs.Credits.{WithinGrant}
 use Rattle.nr_reduce.specs.Matched.{IsPrefixOf}
 use Rattle.nr_reduce.proofs.Steps.{client-one, server-one, output_due_up-one, output_due_down-one}
-use Rattle.nr_reduce.proofs.Standing.{itself}
-use Rattle.nr_laws.proofs.Bytes.{received-one, sent-one, bytes_both}
+use Rattle.nr_reduce.proofs.Standing.{itself, received-one, sent-one}
+use Rattle.nr_laws.proofs.Bytes.{bytes_both}
 use Rattle.nr_laws.specs.FrameContents.{FrameContent, numbered_segment, frame_bytes, output_bytes, total_of, sends_in, requests_in}
 use Rattle.nr_laws.specs.LinkInvariants.{Transit}
 use Rattle.nr_laws.proofs.StreamFrames.{AreWritableFrom, proper-frame, IsOf, frames_at, frames-append, spelled-append}

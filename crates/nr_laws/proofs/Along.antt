@@ -25,7 +25,8 @@ use Rattle.nr_reduce.proofs.Steps.{events-one}
 use Rattle.nr_laws.specs.Typed.{TypedMark}
 use Rattle.nr_laws.proofs.Outputs.{Output}
 use Rattle.std.proofs.lemmas.List.Folds.{concat-append}
-use Rattle.nr_laws.proofs.Bytes.{bytes_both, received-one}
+use Rattle.nr_laws.proofs.Bytes.{bytes_both}
+use Rattle.nr_reduce.proofs.Standing.{received-one}
 
 -- ---- Outputs of a machine
 

@@ -30,7 +30,7 @@ use Rattle.nr_reduce.specs.Matched.{IsPrefixOf}
 use Rattle.nr_reduce.proofs.Steps.{events-one}
 use Rattle.nr_laws.proofs.Outputs.{Output, bytes_of, bytes_of_all}
 use Rattle.nr_laws.proofs.Outputs.Output.{AHello, ASegment}
-use Rattle.nr_laws.proofs.Bytes.{received-one}
+use Rattle.nr_reduce.proofs.Standing.{received-one}
 
 -- ---- Segments that are read as they are written
 

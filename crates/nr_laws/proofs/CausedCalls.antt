@@ -1,11 +1,9 @@
 -- Where nothing is left to do, a call whose Send was refused or whose reply isn't held has its Done with Chunk.
-use Rattle.std.proofs.Common.{◌≡◌, ℕ, Bool, true, false, cond, eqb, List, [], ◌∷◌, refl, ap, subst, ◌∙◌, arith, append-nil, inl, inr, ◌⊎◌, eqb-true}
+use Rattle.std.proofs.Common.{◌≡◌, ℕ, Bool, true, false, cond, eqb, List, [], ◌∷◌, refl, ap, subst, arith, inl, inr, ◌⊎◌, eqb-true}
 use Rattle.std.specs.Prelude.{Contains}
 use Rattle.std.proofs.lemmas.List.Elements.{Contains-push_cases, Contains-append_cases}
-use Rattle.nr_wire.specs.declared.hello.Side.TheVariants.{Initiator, Responder}
 use Rattle.nr_reduce.specs.declared.call.Outcome.{Outcome}
 use Rattle.nr_reduce.specs.declared.call.Outcome.TheVariants as outcomes
-use Rattle.nr_reduce.specs.declared.call.Submission.TheVariants as submissions
 use Rattle.nr_reduce.specs.declared.mark.Mark.{Mark}
 use Rattle.nr_reduce.specs.declared.mark.Mark.TheVariants as marks
 use Rattle.nr_reduce.specs.declared.mark.LinkParameters.{LinkParameters}
@@ -13,7 +11,7 @@ use Rattle.nr_reduce.specs.History.{CompletedCall, completed_at, completed_calls
 use Rattle.nr_reduce.specs.Matched.{IsPrefixOf, Matched}
 use Rattle.nr_reduce.specs.Asked.{IsAll, AskedMark, Asked}
 use Rattle.nr_reduce.specs.Served.{ServedMark, Served}
-use Rattle.nr_reduce.proofs.SoFarLaws.{AtEachMark-each}
+use Rattle.nr_reduce.proofs.SoFarLaws.{AtEachMark-each, asked-mark, served-mark}
 use Rattle.nr_laws.specs.MarkAt.{MarkAt}
 use Rattle.nr_laws.specs.MatchedSoFar.{MatchedSoFar}
 use Rattle.nr_laws.specs.ChunkOutcomes.{CausedCallsComplete}
@@ -21,35 +19,6 @@ use Rattle.nr_laws.proofs.SettledLinks.{calls-complete}
 use Rattle.nr_laws.proofs.ChunkCauses.{others_have_no_cause}
 
 -- ---- Laws in full hold so far
-
-all-first : (xs ys : List ℕ) → xs ≡ ys → IsPrefixOf xs ys
-all-first xs ys is = ([], append-nil xs ∙ is)
-
-asked-mark : (opened : LinkParameters) (link : ℕ) (before : List Mark) (mark : Mark) → AskedMark IsAll opened link before mark → AskedMark IsPrefixOf opened link before mark
-asked-mark opened link before (marks.Submit l call form (submissions.Accepted xid)) h = h
-asked-mark opened link before (marks.Submit l call form (submissions.Refused why)) h = h
-asked-mark opened link before (marks.Submit l call form submissions.Dropped) h = h
-asked-mark opened link before (marks.Wrote l Initiator bytes) h = λ same. all-first _ _ (h same)
-asked-mark opened link before (marks.Wrote l Responder bytes) h = h
-asked-mark opened link before (marks.Fed l side bytes) h = h
-asked-mark opened link before (marks.Execute l xid moment payload place reply) h = h
-asked-mark opened link before (marks.Done l xid outcome) h = h
-asked-mark opened link before (marks.Lost l xid) h = h
-asked-mark opened link before (marks.Forget l xid) h = h
-asked-mark opened link before (marks.Revoke l xid bytes) h = h
-asked-mark opened link before (marks.Drop l) h = h
-
-served-mark : (opened : LinkParameters) (link : ℕ) (before : List Mark) (mark : Mark) → ServedMark IsAll opened link before mark → ServedMark IsPrefixOf opened link before mark
-served-mark opened link before (marks.Submit l call form answer) h = h
-served-mark opened link before (marks.Wrote l Initiator bytes) h = h
-served-mark opened link before (marks.Wrote l Responder bytes) h = λ same. all-first _ _ (h same)
-served-mark opened link before (marks.Fed l side bytes) h = h
-served-mark opened link before (marks.Execute l xid moment payload place reply) h = h
-served-mark opened link before (marks.Done l xid outcome) h = h
-served-mark opened link before (marks.Lost l xid) h = h
-served-mark opened link before (marks.Forget l xid) h = h
-served-mark opened link before (marks.Revoke l xid bytes) h = h
-served-mark opened link before (marks.Drop l) h = h
 
 pub full-so-far : (opened : LinkParameters) (link : ℕ) (run : List Mark) → Asked opened link run → Served opened link run → Matched link run → MatchedSoFar opened link run
 full-so-far opened link run asked served matched = record {

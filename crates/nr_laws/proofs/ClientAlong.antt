@@ -28,8 +28,9 @@ use Rattle.nr_laws.proofs.Outputs.Output.{ASegment}
 use Rattle.nr_laws.proofs.Brought.{AreFrom}
 use Rattle.nr_laws.proofs.Words.{send-word, terminate-word, from-append, payload-bytes}
 use Rattle.nr_laws.proofs.Messages.{messages, AreOne, messages-append, one-append, messages-calls, one-calls, messages-tagged, one-tagged, tagged-response, messages-final, one-final}
-use Rattle.nr_laws.proofs.ClientSays.{IsGoodCall, ClientGood, accepted_in, accepted-append, stag_behind, from-more, behind-more, start, asked, HasHello, ClientSays, short-append, short-filter, short-revoked, short-written, submitted-append, submitted-messages, map-more, revoked-same, written-same, client-unharmed, formed, response-words}
+use Rattle.nr_laws.proofs.ClientSays.{IsGoodCall, ClientGood, accepted_in, accepted-append, asked, HasHello, ClientSays, short-append, short-filter, short-revoked, short-written, submitted-messages, map-more, client-unharmed, formed, response-words}
 use Rattle.nr_laws.proofs.Basics.{above-zero}
+use Rattle.nr_reduce.proofs.Waiting.{start, stag_behind, from-append as from-more, behind-append, submitted-append, revoked-same, written-same}
 
 -- ---- What is said for a frame
 
@@ -196,7 +197,7 @@ call-step opened es place p k outs a plan planned h =
     record {
       short = short-append opened k.outstanding (own ∷ []) h.short (short, tt);
       stag = ap (λ (n : ℕ). n + regions_needed (outstanding_of (record (start opened) { stag = n }) a).plan) h.stag
-          ∙ sym (behind-more (start opened) opened.first_stag before a) ∙ ap (λ (xs : List AcceptedCall). stag_behind (start opened) opened.first_stag xs) (sym more);
+          ∙ sym (behind-append (start opened) opened.first_stag before a) ∙ ap (λ (xs : List AcceptedCall). stag_behind (start opened) opened.first_stag xs) (sym more);
       count = (let c = h.count in let l = ap (λ (xs : List AcceptedCall). length xs) more in let n = length-append before (a ∷ []) in omega (arith, c, l, n));
       greeted = h.greeted;
       waits = λ no_hello. submitted-append k.outstanding (own ∷ []) ∙ ap (λ (os : List OutstandingCall). os ++ own ∷ []) (h.waits no_hello) ∙ sym all;

@@ -14,7 +14,6 @@ use Rattle.nr_link.specs.Output.{msn_word}
 use Rattle.nr_link.specs.Reasons.{REASON_MSN, REASON_OFFSET, REASON_FORM, REASON_REQUESTS, REASON_LONG, REASON_SHORT}
 use Rattle.nr_link.specs.ReceiveState.{read_request_in, message_completed, is_send}
 use Rattle.nr_link.specs.SegmentFaults.{Readiness, SegmentFault, segment_fault, first_fault, reason_if, missing_fault, is_malformed, is_too_many, no_buffer, next_msn, next_offset, has_length, terminate_fault}
-use Rattle.nr_link.specs.SegmentFaults.SegmentFault.{Reason, NoBuffer, AccessDenied, PeerTerminated}
 use Rattle.nr_link.specs.Ending.{frame_segment, frame_end, frame_end_by, end_of_fault, hello_end, missing_access}
 use Rattle.nr_reduce.specs.declared.mark.LinkParameters.{LinkParameters}
 use Rattle.nr_reduce.specs.Events.Event.{FrameReceived}
@@ -36,6 +35,7 @@ use Rattle.nr_laws.proofs.AgreeingEnds.{EndsAgree, IsPlace, frame_of, payload_by
 use Rattle.nr_laws.proofs.Outputs.{CallsShort}
 use Rattle.nr_laws.proofs.Words.{word-below, hyper-below}
 use Rattle.nr_laws.proofs.ClientSays.{short-filter}
+use Rattle.nr_reduce.proofs.Touches.{no_flaw}
 
 -- ---- A Read Request that doesn't end a client ends within 2 ^ 64 bytes of its sink
 
@@ -48,13 +48,6 @@ none_of faults (Some x) (Some y ∷ front) e = absurd cc
 no_reason : (reason : ℕ) (b : Bool) → reason_if {D = Denied} reason b ≡ None → b ≡ false
 no_reason reason true e = absurd cc
 no_reason reason false e = refl
-
-pub no_fault : (f : Frame) (segment : Segment) (o : Option (SegmentFault Denied)) → end_of_fault f segment o ≡ None → o ≡ None
-no_fault f segment None e = refl
-no_fault f segment (Some (Reason reason)) e = absurd cc
-no_fault f segment (Some (NoBuffer msn)) e = absurd cc
-no_fault f segment (Some (AccessDenied why)) e = absurd cc
-no_fault f segment (Some (PeerTerminated word)) e = absurd cc
 
 not-malformed : (r : Readiness Denied) (n : ℕ) (payload : List ℕ) → segment_fault r (Untagged true OPCODE_READ_REQUEST 0 QUEUE_READ_REQUEST n 0 payload) ≡ None → is_malformed OPCODE_READ_REQUEST true payload ≡ false
 unfolding segment_fault
@@ -86,7 +79,7 @@ request-ends k f n payload behind is e =
     by_end k f (frame_end (readiness k) grants f) ((λ i. cond (sym behind i) (hello_end (hello_of Responder f.bytes)) (or_message_end k f (frame_end (readiness k) grants f))) ∙ e) in
     let none : end_of_fault f segment (segment_fault (readiness k (missing_access grants f segment)) segment) ≡ None =
     ap (λ (r : Result Segment ℕ). frame_end_by (readiness k) grants f r) (sym is) ∙ found in
-    let malformed = not-malformed (readiness k (missing_access grants f segment)) n payload (no_fault f segment _ none) in
+    let malformed = not-malformed (readiness k (missing_access grants f segment)) n payload (no_flaw f segment _ none) in
     ltb-false (2 ^ 64) ((read_request_in payload).sink_to + (read_request_in payload).size)
     (ends_below false (not (eqb (length payload) 28)) (ltb (2 ^ 64) ((read_request_in payload).sink_to + (read_request_in payload).size)) malformed)
 

@@ -10,8 +10,7 @@ use Rattle.nr_reduce.specs.ServerState.{ServerState, next_stag}
 use Rattle.nr_reduce.specs.ServerReads.{regions_of, chunks_of, is_over}
 use Rattle.nr_reduce.specs.ServerFrames.{FrameEffect, frame_effect}
 use Rattle.nr_reduce.specs.Server.{server_rules, server_state_after, initial_server, with_effect}
-use Rattle.nr_reduce.proofs.OwnStags.{kept-after}
-use Rattle.nr_laws.proofs.PendingSinks.{closed-length}
+use Rattle.nr_reduce.proofs.OwnStags.{kept-after, closed-length}
 use Rattle.nr_laws.proofs.ServerInvariant.{length-from}
 use Rattle.nr_laws.proofs.WritableOffers.{verdict_few}
 use Rattle.nr_laws.proofs.EachEffect.{each-effect, held-messages, held-responses}

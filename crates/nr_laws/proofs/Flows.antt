@@ -17,7 +17,7 @@ use Rattle.nr_reduce.specs.Run.{client, server, output_due}
 use Rattle.nr_reduce.specs.Asked.{AskedMark, AskedSoFar}
 use Rattle.nr_reduce.specs.Served.{ServedMark, ServedSoFar}
 use Rattle.nr_reduce.proofs.Steps.{output_due_up-one, output_due_down-one}
-use Rattle.nr_laws.proofs.Bytes.{sent-one, received-one}
+use Rattle.nr_reduce.proofs.Standing.{received-one, sent-one}
 
 pub prefix-through : (xs ys zs : List ℕ) → IsPrefixOf xs ys → IsPrefixOf ys zs → IsPrefixOf xs zs
 prefix-through xs ys zs p q = (p.0 ++ q.0, sym (append_assoc xs p.0 q.0) ∙ ap (λ (s : List ℕ). s ++ q.0) p.1 ∙ q.1)

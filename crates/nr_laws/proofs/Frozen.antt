@@ -9,7 +9,7 @@ use Rattle.nr_regions.specs.Access.{Grant, TaggedSegment, grant_at, grant_offer,
 use Rattle.nr_regions.specs.RegisteredMemory.{denial_in}
 use Rattle.nr_link.specs.declared.end.End.{End as Stop}
 use Rattle.nr_link.specs.Frames.{Frame, is_hello, frames_completed}
-use Rattle.nr_link.specs.ReceiveState.{ReadRequest, message_completed, read_request_of}
+use Rattle.nr_link.specs.ReceiveState.{message_completed, read_request_of}
 use Rattle.nr_link.specs.Ending.{frame_segment, tagged_access, missing_access}
 use Rattle.nr_reduce.specs.declared.call.Submission.TheVariants as submissions
 use Rattle.nr_reduce.specs.declared.mark.Mark.{Mark}
@@ -22,7 +22,7 @@ use Rattle.nr_reduce.specs.EndRules.{EndState, next_end_state, next_end_state_by
 use Rattle.nr_reduce.specs.OfferedRegions.{Region, region_grant, region_grants, closed_if, regions_closed}
 use Rattle.nr_reduce.specs.Plans.{buffers}
 use Rattle.nr_reduce.specs.ClientState.{ClientState}
-use Rattle.nr_reduce.specs.Client.{client_rules, client_end, client_state_after, outstanding_of, region_of, with_message, with_request, with_segment}
+use Rattle.nr_reduce.specs.Client.{client_rules, client_end, client_state_after, outstanding_of, region_of, with_message, with_segment}
 use Rattle.nr_reduce.specs.Asked.{AskedSoFar}
 use Rattle.nr_reduce.specs.Run.{client, grants_of, placed_bytes}
 use Rattle.nr_reduce.proofs.Touches.{client_touched}
@@ -41,7 +41,8 @@ use Rattle.nr_laws.proofs.ClientMemory.{HasRegion, has-closed, find-left, keeps-
 use Rattle.nr_laws.proofs.Memory.{Part, parts_of, after_parts, after-append, parts-append, Settled, settled-later, held-parts}
 use Rattle.nr_laws.proofs.Beyond.{EndBehind, frames-behind}
 use Rattle.nr_laws.proofs.Revoked.{IsClosedBy, OnlyClosed, closed-none, only-closed, only-append, only-above, frame-regions, UntilBy, until-run}
-use Rattle.nr_laws.proofs.Bytes.{received-one}
+use Rattle.nr_reduce.proofs.Standing.{received-one}
+use Rattle.nr_reduce.proofs.StagsLeft.{by_request as request-stag, by_message as message-stag}
 
 -- ---- Accesses to other memory
 
@@ -81,14 +82,6 @@ no-access stag p k f (Tagged last opcode own to payload) only lt behind is stays
   tt,
 )
 no-access stag p k f (Untagged last opcode w queue msn offset payload) only lt behind is stays = tt
-
-request-stag : (m : ClientState) (o : Option ReadRequest) → (with_request m o).stag ≡ m.stag
-request-stag m None = refl
-request-stag m (Some q) = refl
-
-message-stag : (k : ClientState) (place : ℕ) (o : Option (List ℕ)) → (with_message k place o).stag ≡ k.stag
-message-stag k place None = refl
-message-stag k place (Some m) = refl
 
 has-left : (xs ys : List Region) (stag : ℕ) (bytes : List ℕ) → HasRegion xs stag bytes → HasRegion (xs ++ ys) stag bytes
 has-left xs ys stag bytes h = record { region = h.region; there = find-left stag xs ys h.region h.there; own = h.own; holds = h.holds }

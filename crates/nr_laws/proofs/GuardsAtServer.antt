@@ -1,6 +1,6 @@
 -- A server of a matched link ends at a frame only by a refusal of the frame's effect; else the guards are kept.
 use Rattle.std.specs.Prelude.{length}
-use Rattle.nr_laws.proofs.SinkCount.{count-send, count-tagged, count-closed}
+use Rattle.nr_laws.proofs.SinkCount.{count-send, count-tagged}
 use Rattle.std.proofs.Common.{◌≡◌, ℕ, ◌+◌, ◌≤◌, ◌<◌, ◌^◌, Bool, true, List, [], ◌∷◌, ◌++◌, None, Result, Ok, refl, sym, ap, subst, ◌∙◌, arith, cond, eqb, ◌||◌, false, Some, ◌⊎◌, inl, inr}
 use Rattle.std.specs.List.{AllByRecursion}
 use Rattle.nr_xdr.specs.Item.{IsBytes}
@@ -44,6 +44,7 @@ use Rattle.nr_laws.proofs.Guards.{ClientContent, ServerContent, Guards, step-dow
 use Rattle.nr_laws.proofs.Basics.{each-append}
 use Rattle.nr_laws.proofs.Words.{word-below}
 use Rattle.nr_laws.proofs.PendingFrames.{later-sinks}
+use Rattle.nr_reduce.proofs.OwnStags.{closed-length}
 
 pub each-at : {X : Type 0} (P : X → Type 0) (xs : List X) (y : X) (ys : List X) → AllByRecursion P (xs ++ y ∷ ys) → P y
 each-at P [] y ys h = h.0
@@ -145,7 +146,7 @@ within-after s f r is h =
 sinks-after : (s : ServerState) (f : Frame) (r : Result Segment ℕ) → frame_segment f ≡ r → (n : ℕ) → length (frame_effect s f).regions ≤ n → length (with_by s f r (effect_in s f r)).regions ≤ n
 sinks-after s f r is n h =
     let e = subst (λ (x : FrameEffect). length x.regions ≤ n) (step-is s f r is) h in
-    omega (arith, e, count-closed (is_over (effect_in s f r).calls (effect_in s f r).reads) f.end (effect_in s f r).regions)
+    omega (arith, e, closed-length (is_over (effect_in s f r).calls (effect_in s f r).reads) f.end (effect_in s f r).regions)
 
 pub takes-send : (opened : LinkParameters) (k : ClientState) (s : ServerState) (u d all_up all_down : List FrameContent) (w : Transit) (place : ℕ) (message : List ℕ) (rest : List FrameContent) (f : Frame) → IsOpened opened → EndsAgree opened k s u d all_up all_down w → Guards opened k s u d all_up all_down w place → w.up ≡ SendFrame message ∷ rest
     → Carries s.received.sends s.received.requests f (SendFrame message) → IsBytes f.bytes → f.bytes ≡ frame_bytes Initiator (numbered_segment s.received.sends s.received.requests (SendFrame message)) → place < f.end → ServerTakes opened k s u d all_up all_down w (SendFrame message) rest f

@@ -41,7 +41,7 @@ use Rattle.nr_laws.specs.EndCauses.{KeepLaws, IsReplyEnd}
 use Rattle.nr_laws.specs.FrameContents.{FrameContent, numbered_segment, frame_bytes, total_of, sends_in, requests_in, Carries}
 use Rattle.nr_laws.specs.FrameContents.FrameContent.{HelloFrame, SendFrame, RequestFrame, TaggedFrame}
 use Rattle.nr_laws.specs.LinkInvariants.{Transit}
-use Rattle.nr_laws.proofs.Bytes.{bytes_both, received-one}
+use Rattle.nr_laws.proofs.Bytes.{bytes_both}
 use Rattle.nr_laws.proofs.Totals.{total-append}
 use Rattle.nr_laws.proofs.Beyond.{EndBehind, frames-behind}
 use Rattle.nr_laws.proofs.StreamFrames.{frames_at}
@@ -63,6 +63,7 @@ use Rattle.nr_laws.proofs.OfferedAccesses.{IsAccess, AreAccesses, IsEarly, Acces
 use Rattle.nr_laws.proofs.AccessSteps.{front-piece_down, accessed-down}
 use Rattle.nr_laws.proofs.AllowedAccesses.{offered-granted}
 use Rattle.nr_laws.proofs.Basics.{each-all}
+use Rattle.nr_reduce.proofs.Standing.{received-one}
 
 -- ---- One frame
 

@@ -1,5 +1,5 @@
 -- On a matched link the Send of a call in a form that isn't given is never refused.
-use Rattle.std.proofs.Common.{◌≡◌, ℕ, ◌+◌, ◌^◌, ◌≤◌, ◌<◌, Bool, true, false, cond, not, ◌||◌, eqb, ltb, List, [], ◌∷◌, ◌++◌, length, drop, Some, Ok, refl, sym, ap, subst, ◌∙◌, arith, length-append, inl, inr, eqb-true, ne_eqb}
+use Rattle.std.proofs.Common.{◌≡◌, ℕ, ◌+◌, ◌^◌, ◌≤◌, ◌<◌, Bool, true, false, cond, not, ◌||◌, eqb, List, [], ◌∷◌, ◌++◌, length, drop, Some, Ok, refl, sym, ap, subst, ◌∙◌, arith, length-append, inl, inr, eqb-true, ne_eqb}
 use Rattle.std.specs.List.{list_any, find, AllByRecursion}
 use Rattle.nr_xdr.specs.Item.{IsBytes, word}
 use Rattle.nr_xdr.specs.Items.{encodings}
@@ -13,7 +13,7 @@ use Rattle.nr_header.specs.declared.header.ChunkLists.{ChunkLists}
 use Rattle.nr_header.specs.Reading.{header_of}
 use Rattle.nr_wire.specs.Segment.{Segment}
 use Rattle.nr_link.specs.Frames.{Frame}
-use Rattle.nr_link.specs.Reasons.{REASON_STAGS, REASON_KIND, REASON_CALL}
+use Rattle.nr_link.specs.Reasons.{REASON_KIND, REASON_CALL}
 use Rattle.nr_reduce.specs.declared.call.Call.{Call}
 use Rattle.nr_reduce.specs.declared.call.Form.{Form}
 use Rattle.nr_reduce.specs.declared.call.Submission.TheVariants as submissions
@@ -21,17 +21,17 @@ use Rattle.nr_reduce.specs.declared.mark.Mark.{Mark}
 use Rattle.nr_reduce.specs.declared.mark.Mark.TheVariants as marks
 use Rattle.nr_reduce.specs.declared.mark.LinkParameters.{LinkParameters}
 use Rattle.nr_reduce.specs.declared.outline.Plan.{Plan}
-use Rattle.nr_reduce.specs.Limits.{send_max, numbers_end}
+use Rattle.nr_reduce.specs.Limits.{send_max}
 use Rattle.nr_reduce.specs.Plans.{plan_of, regions_needed, lists_of, call_message}
 use Rattle.nr_reduce.specs.Chunks.{is_read_chunk_of_item, item_position}
 use Rattle.nr_reduce.specs.Undone.{IsNotGiven}
 use Rattle.nr_reduce.specs.Matched.{IsPrefixOf}
 use Rattle.nr_reduce.specs.Events.Event.{FrameReceived}
 use Rattle.nr_reduce.specs.ClientState.{call_payload}
-use Rattle.nr_reduce.specs.ServerState.{ServerState, PendingCall, PendingRead, next_stag, is_pending}
-use Rattle.nr_reduce.specs.ServerReads.{chunks_of, is_read_at}
-use Rattle.nr_reduce.specs.ServerMessages.{Verdict, verdict, by_need, by_header, chunk_bytes}
-use Rattle.nr_reduce.specs.ServerMessages.Verdict.{EndsLink, OtherVersion, BadChunks, MakesPending}
+use Rattle.nr_reduce.specs.ServerState.{ServerState, PendingCall, PendingRead, is_pending}
+use Rattle.nr_reduce.specs.ServerReads.{is_read_at}
+use Rattle.nr_reduce.specs.ServerMessages.{Verdict, verdict, by_header, chunk_bytes}
+use Rattle.nr_reduce.specs.ServerMessages.Verdict.{EndsLink, OtherVersion, BadChunks}
 use Rattle.nr_reduce.specs.ServerFrames.{with_access}
 use Rattle.nr_reduce.specs.Run.{client}
 use Rattle.nr_reduce.specs.RunLaws.{server_by, IsReceivedCall, IsStreamRefused}
@@ -58,6 +58,7 @@ use Rattle.nr_laws.proofs.ConveyedCalls.{planned-fits, plan-reads}
 use Rattle.nr_laws.proofs.PendingReads.{HasPosition, IsOwn, AreOwn}
 use Rattle.nr_laws.proofs.KeptAtServer.{kept-at-server}
 use Rattle.std.proofs.lemmas.Bool.{and_parts}
+use Rattle.nr_reduce.proofs.BadMessages.{need-fine}
 
 -- a call's payload isn't empty: it begins with the xid
 pub payload-some : (xid : ℕ) (call : Call) → 0 < length (call_payload xid call)
@@ -79,18 +80,11 @@ refused-free : (k : ServerState) (m : List ℕ) → verdict k m ≡ BadChunks �
 unfolding verdict
 refused-free k m e = free-by k m (not (eqb (word_at 4 m) 1)) (eqb (word_at 12 m) 3 || eqb (word_at 12 m) 4) (is_pending k (word_at 0 m)) (by_header k m (header_of m)) e
 
-need-suits : (k : ServerState) (c : PendingCall) → by_need k c ≡ BadChunks → ⊥
-need-suits k c e = by (ltb numbers_end (next_stag k + length (chunks_of c.lists))) e
-  where
-    by : (b : Bool) → cond b (EndsLink REASON_STAGS) (MakesPending c) ≡ BadChunks → ⊥
-    by true e = absurd cc
-    by false e = absurd cc
-
 plan-suits : (k : ServerState) (payload : List ℕ) (form : Form) (xid credit stag : ℕ) (p : Plan) → IsBytes payload → IsNotGiven form → plan_of payload form send_max send_max ≡ Ok p → 0 < length payload → xid < 2 ^ 32 → credit < 2 ^ 32
     → stag + regions_needed p ≤ 2 ^ 32 → verdict k (call_message xid credit stag p) ≡ BadChunks → ⊥
 plan-suits k payload form xid credit stag p bytes own planned some small_x small_c room bad =
     let free : is_pending k xid ≡ false = ap (λ (x : ℕ). is_pending k x) (sym (call-xid xid credit stag p (omega (arith, small_x)))) ∙ refused-free k (call_message xid credit stag p) bad in
-    need-suits k _ (sym (opens_call k payload form send_max send_max xid credit stag p bytes own planned some small_x small_c room free) ∙ bad)
+    need-fine k _ (sym (opens_call k payload form send_max send_max xid credit stag p bytes own planned some small_x small_c room free) ∙ bad)
 
 -- ---- Its stream
 

@@ -1,5 +1,5 @@
 -- Why a call is ready: its message, or the last read for it, came; its payload is what was conveyed then.
-use Rattle.std.proofs.Common.{◌≡◌, ℕ, Bool, true, false, cond, ◌&&◌, not, eqb, List, [], ◌∷◌, ◌++◌, length, drop, Option, None, Some, Result, Ok, Err, refl, sym, ap, subst, ◌∙◌, append_assoc, append-nil, ◌-◌}
+use Rattle.std.proofs.Common.{◌≡◌, ℕ, Bool, true, false, cond, ◌&&◌, not, eqb, List, [], ◌∷◌, ◌++◌, length, Option, None, Some, Result, Ok, Err, refl, sym, ap, subst, ◌∙◌, append_assoc, append-nil, ◌-◌}
 use Rattle.nr_wire.specs.declared.hello.Side.TheVariants.{Responder}
 use Rattle.nr_wire.specs.Constants.{OPCODE_READ_RESPONSE}
 use Rattle.nr_wire.specs.Segment.{Segment}
@@ -26,7 +26,7 @@ use Rattle.nr_reduce.specs.Server.{server_rules, server_end, server_state_after,
 use Rattle.nr_reduce.specs.Run.{server}
 use Rattle.nr_reduce.specs.RunLaws.{server_by, ends_response}
 use Rattle.nr_reduce.specs.Served.{IsExecuted, next_call, first_ready}
-use Rattle.nr_reduce.proofs.Conveyed.{Each}
+use Rattle.nr_reduce.proofs.Conveyed.{Each, each-append, each-drop}
 use Rattle.nr_reduce.proofs.Steps.{end_state_after-append}
 use Rattle.nr_laws.proofs.Basics.{none-one}
 use Rattle.nr_laws.proofs.EachEffect.{each-effect}
@@ -153,14 +153,6 @@ each-later : (opened : LinkParameters) (es : List Event) (e : Event) (rs : List 
 each-later opened es e [] h = tt
 each-later opened es e (r ∷ rs) h = (ready-later opened es e r h.0, each-later opened es e rs h.1)
 
-each-append : (opened : LinkParameters) (es : List Event) (xs ys : List ReadyCall) → Each (ReadyAt opened es) xs → Each (ReadyAt opened es) ys → Each (ReadyAt opened es) (xs ++ ys)
-each-append opened es [] ys h g = g
-each-append opened es (x ∷ xs) ys h g = (h.0, each-append opened es xs ys h.1 g)
-
-each-drop : (opened : LinkParameters) (es : List Event) (rs : List ReadyCall) → Each (ReadyAt opened es) rs → Each (ReadyAt opened es) (drop 1 rs)
-each-drop opened es [] h = tt
-each-drop opened es (r ∷ rs) h = h.1
-
 new-each : (opened : LinkParameters) (es : List Event) (f : Frame) (rs : List ReadyCall) → is_hello f ≡ false → (frame_effect (server_by opened es) f).ready ≡ rs → AtMostReady rs → Each (ReadyAt opened (es ++ FrameReceived f ∷ [])) rs
 new-each opened es f [] behind is few = tt
 new-each opened es f (r ∷ rs) behind is few =
@@ -181,10 +173,10 @@ after-each opened es (FrameReceived f) h = by (is_hello f) refl
 
     by : (b : Bool) → is_hello f ≡ b → Each (ReadyAt opened (es ++ FrameReceived f ∷ [])) (cond b k (with_effect k f (frame_effect k f))).ready
     by true is = old
-    by false is = each-append opened (es ++ FrameReceived f ∷ []) k.ready (frame_effect k f).ready old (new-each opened es f (frame_effect k f).ready is refl (few-frame k f))
+    by false is = each-append (ReadyAt opened (es ++ FrameReceived f ∷ [])) k.ready (frame_effect k f).ready old (new-each opened es f (frame_effect k f).ready is refl (few-frame k f))
 after-each opened es (CallSubmitted p a) h = each-later opened es (CallSubmitted p a) (server_by opened es).ready h
 after-each opened es (MemoryRevoked p xid) h = each-later opened es (MemoryRevoked p xid) (server_by opened es).ready h
-after-each opened es (CallExecuted e) h = each-drop opened (es ++ CallExecuted e ∷ []) (server_by opened es).ready (each-later opened es (CallExecuted e) (server_by opened es).ready h)
+after-each opened es (CallExecuted e) h = each-drop (ReadyAt opened (es ++ CallExecuted e ∷ [])) (server_by opened es).ready (each-later opened es (CallExecuted e) (server_by opened es).ready h)
 after-each opened es QueueWritten h = each-later opened es QueueWritten (server_by opened es).ready h
 
 next-each : (opened : LinkParameters) (es : List Event) (e : Event) → Each (ReadyAt opened es) (server_by opened es).ready → Each (ReadyAt opened (es ++ e ∷ [])) (server_by opened (es ++ e ∷ [])).ready

@@ -25,8 +25,8 @@ use Rattle.nr_reduce.specs.ServerMessages.CallVerdict.{Refuses, IsReady}
 use Rattle.nr_reduce.specs.ServerFrames.{FrameEffect, with_verdict, frame_effect}
 use Rattle.nr_reduce.proofs.AnswerMessages.{answer_length}
 use Rattle.nr_laws.proofs.WritableOffers.{OfferFits}
-use Rattle.nr_laws.proofs.ServerOutputs.{word_len}
 use Rattle.nr_laws.proofs.EachEffect.{send-effect, tagged-effect}
+use Rattle.nr_reduce.proofs.Sizes.{word_len}
 
 pub record IsReply (credit : ℕ) (message : List ℕ) : Type 0 where
   pub least : 16 ≤ length message

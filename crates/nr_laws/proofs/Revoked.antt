@@ -25,7 +25,7 @@ use Rattle.nr_reduce.specs.Run.{client}
 use Rattle.nr_reduce.proofs.OwnStags.{AreNumbered}
 use Rattle.nr_reduce.proofs.Steps.{client-one}
 use Rattle.nr_laws.proofs.Beyond.{EndBy, frames-by}
-use Rattle.nr_laws.proofs.Bytes.{received-one}
+use Rattle.nr_reduce.proofs.Standing.{received-one}
 
 -- ---- Regions of an STag that are closed
 

@@ -8,6 +8,7 @@ use Rattle.nr_header.specs.declared.header.ReadSegment.{ReadSegment}
 use Rattle.nr_header.specs.declared.header.ChunkLists.{ChunkLists}
 use Rattle.nr_header.specs.Header.{read_items, segments_items, write_items, reply_items, lists_items}
 use Rattle.nr_laws.proofs.OneChunk.{fronts}
+use Rattle.nr_reduce.proofs.AnswerMessages.{segments_tail}
 
 abbrev Fit : ℕ → Type 0
 Fit n = n < 2 ^ 32
@@ -62,10 +63,6 @@ read-same (r ∷ rs) (s ∷ ss) more mores x y f g e =
     let rest = read-same rs ss more mores x y f.1.1.1.1.1 g.1.1.1.1.1 h.1 in
     record { same = (λ i. record { position = b.0 i; handle = c.0 i; length = d.0 i; offset = h.0 i } ∷ rest.same i); rest = rest.rest; fits = rest.fits }
 
-segments-rest : (ss : List RdmaSegment) (more : List Item) → AllFit (segments_items ss more) → AllFit more
-segments-rest [] more h = h
-segments-rest (s ∷ ss) more h = segments-rest ss more h.1.1.1
-
 record WriteSame (cs ds : List (List RdmaSegment)) (more mores : List Item) (x y : List ℕ) : Type 0 where
   same : cs ≡ ds
   rest : encodings more ++ x ≡ encodings mores ++ y
@@ -80,7 +77,7 @@ write-same (c ∷ cs) (d ∷ ds) more mores x y f g e =
     let a = peel-word 1 1 _ _ x y (omega arith) (omega arith) e in
     let b = peel-word (length c) (length d) _ _ x y f.1.0 g.1.0 a.1 in
     let s = segments-same c d (write_items cs more) (write_items ds mores) x y b.0 f.1.1 g.1.1 b.1 in
-    let rest = write-same cs ds more mores x y (segments-rest c (write_items cs more) f.1.1) (segments-rest d (write_items ds mores) g.1.1) s.rest in
+    let rest = write-same cs ds more mores x y (segments_tail c (write_items cs more) f.1.1) (segments_tail d (write_items ds mores) g.1.1) s.rest in
     record { same = (λ i. s.same i ∷ rest.same i); rest = rest.rest; fits = rest.fits }
 
 record ReplySame (c d : Option (List RdmaSegment)) (x y : List ℕ) : Type 0 where

@@ -1,6 +1,5 @@
 -- What a server keeps behind each frame: totals, reads, pending calls, sinks, and the bounds of its regions.
 use Rattle.std.proofs.Common.{◌≡◌, ℕ, suc, ◌+◌, ◌≤◌, ◌<◌, Bool, true, false, List, [], ◌∷◌, ◌++◌, length, None, Ok, refl, sym, ap, subst, ◌∙◌, arith, length-append}
-use Rattle.std.proofs.lemmas.List.{length-map}
 use Rattle.nr_wire.specs.Constants.{OPCODE_SEND, QUEUE_SEND}
 use Rattle.nr_wire.specs.Segment.{Segment}
 use Rattle.nr_wire.specs.Segment.Segment.{Tagged, Untagged}
@@ -31,6 +30,7 @@ use Rattle.nr_laws.proofs.NewSinks.{AreKnown}
 use Rattle.nr_laws.proofs.EndsOfFrames.{server-send}
 use Rattle.nr_laws.proofs.AllowedResponses.{server-response-taken}
 use Rattle.nr_laws.proofs.EachEffect.{held-messages, held-responses, send-effect, tagged-effect}
+use Rattle.nr_reduce.proofs.OwnStags.{closed-length, closed-stag}
 
 record Below (sends : ℕ) (regions : List Region) : Type 0 where
   stags : AreAtMost (λ (g : Region). g.stag) (length regions) regions
@@ -41,21 +41,13 @@ unfolding regions_closed
 below-closed key same n at test [] h = tt
 below-closed key same n at test (g ∷ regions) h = (omega (arith, same (test g) at g, h.0), below-closed key same n at test regions h.1)
 
-same-stag : (b : Bool) (at : ℕ) (g : Region) → (closed_if b at g).stag ≡ g.stag
-same-stag true at g = refl
-same-stag false at g = refl
-
 same-call : (b : Bool) (at : ℕ) (g : Region) → (closed_if b at g).call ≡ g.call
 same-call true at g = refl
 same-call false at g = refl
 
-length-closed : (test : Region → Bool) (at : ℕ) (regions : List Region) → length (regions_closed test at regions) ≡ length regions
-unfolding regions_closed
-length-closed test at regions = length-map regions (λ r. closed_if (test r) at r)
-
 closed-below : (sends at : ℕ) (test : Region → Bool) (regions : List Region) → Below sends regions → Below sends (regions_closed test at regions)
 closed-below sends at test regions b = record {
-  stags = subst (λ (n : ℕ). AreAtMost (λ (g : Region). g.stag) n (regions_closed test at regions)) (sym (length-closed test at regions)) (below-closed (λ (g : Region). g.stag) same-stag (length regions) at test regions b.stags);
+  stags = subst (λ (n : ℕ). AreAtMost (λ (g : Region). g.stag) n (regions_closed test at regions)) (sym (closed-length test at regions)) (below-closed (λ (g : Region). g.stag) closed-stag (length regions) at test regions b.stags);
   calls = below-closed (λ (g : Region). g.call) same-call sends at test regions b.calls;
 }
 

@@ -1,11 +1,10 @@
 -- What the server of a link says along its events: each of its messages answers an executed call, or refuses a Send.
-use Rattle.std.proofs.Common.{◌≡◌, ℕ, ◌+◌, ◌*◌, ◌≤◌, Bool, true, false, cond, not, eqb, List, [], ◌∷◌, ◌++◌, length, map, Option, None, Some, Ok, refl, sym, ap, subst, ◌∙◌, arith, append-nil, length-append}
+use Rattle.std.proofs.Common.{◌≡◌, ℕ, ◌+◌, ◌*◌, ◌≤◌, Bool, true, false, cond, not, eqb, List, [], ◌∷◌, ◌++◌, length, map, Option, None, Some, Ok, refl, sym, ap, subst, ◌∙◌, arith, append-nil}
 use Rattle.std.specs.List.{filter, find}
 use Rattle.std.proofs.lemmas.List.Elements.{All-nil}
 use Rattle.nr_header.specs.WithinLimits.{ListsWithin}
 use Rattle.nr_xdr.specs.Item.{IsBytes, word}
 use Rattle.nr_xdr.specs.Fields.{word_at}
-use Rattle.nr_xdr.proofs.WordBytes.{length-word}
 use Rattle.nr_rpc.specs.declared.head.CallTarget.{CallTarget}
 use Rattle.nr_rpc.specs.Reading.{call_of, target_of}
 use Rattle.nr_header.specs.declared.header.ChunkLists.{ChunkLists}
@@ -31,11 +30,9 @@ use Rattle.nr_laws.proofs.Words.{send-word, request-word, chunk-words, from-appe
 use Rattle.nr_laws.proofs.Messages.{messages, AreOne, messages-append, one-append, messages-sends, one-sends, messages-requests, one-requests, AreTagged, tagged-append, tagged-chunk, messages-tagged, one-tagged}
 use Rattle.std.proofs.lemmas.List.{map-append}
 use Rattle.nr_laws.proofs.EachEffect.{MessageRule, ResponseRule, each-effect}
+use Rattle.nr_reduce.proofs.Sizes.{word_len}
 
 -- ---- Error messages
-
-pub word_len : (n : ℕ) (more : List ℕ) → length (word n ++ more) ≡ 4 + length more
-word_len n more = omega (arith, length-append (word n) more, length-word n)
 
 pub chunk_error-short : (xid credit : ℕ) → IsShort (chunk_error xid credit)
 unfolding chunk_error

@@ -1,5 +1,4 @@
 -- A server of a matched link gives at most one STag for each Send that it receives.
-use Rattle.std.proofs.lemmas.List.{length-map}
 use Rattle.std.proofs.Common.{◌≡◌, ℕ, ◌+◌, ◌≤◌, Bool, true, List, ◌++◌, length, None, Ok, refl, arith, length-append}
 use Rattle.nr_xdr.specs.Item.{IsBytes}
 use Rattle.nr_wire.specs.Constants.{OPCODE_SEND, QUEUE_SEND}
@@ -7,7 +6,6 @@ use Rattle.nr_wire.specs.Segment.Segment.{Tagged, Untagged}
 use Rattle.nr_link.specs.Frames.{Frame}
 use Rattle.nr_link.specs.Ending.{frame_segment}
 use Rattle.nr_link.specs.Output.{msn_word}
-use Rattle.nr_reduce.specs.OfferedRegions.{Region, closed_if, regions_closed}
 use Rattle.nr_reduce.specs.ServerState.{PendingCall, ServerState, next_stag}
 use Rattle.nr_reduce.specs.ServerReads.{regions_of, chunks_of}
 use Rattle.nr_reduce.specs.ServerMessages.{verdict}
@@ -32,7 +30,3 @@ count-send k f message none bytes one is =
 pub count-tagged : (k : ServerState) (f : Frame) (last : Bool) (opcode stag to : ℕ) (payload : List ℕ) → frame_segment f ≡ Ok (Tagged last opcode stag to payload) → length (frame_effect k f).regions ≡ length k.regions
 count-tagged k f last opcode stag to payload is =
     tagged-effect k (λ s. length s.regions ≡ length k.regions) (held-responses k (λ calls reads regions. length regions ≡ length k.regions) refl (λ c s g. g) (λ r reads is. refl)) f last opcode stag to payload is
-
-pub count-closed : (test : Region → Bool) (place : ℕ) (regions : List Region) → length (regions_closed test place regions) ≡ length regions
-unfolding regions_closed
-count-closed test place regions = length-map regions (λ (g : Region). closed_if (test g) place g)

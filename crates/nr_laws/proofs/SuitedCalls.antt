@@ -27,11 +27,10 @@ use Rattle.nr_reduce.specs.ServerFrames.{FrameEffect, with_refused_call, frame_e
 use Rattle.nr_reduce.specs.Server.{server_rules, server_state_after, initial_server, with_effect, received_by}
 use Rattle.nr_reduce.specs.RunLaws.{server_by}
 use Rattle.nr_reduce.proofs.Conveyed.{Each}
-use Rattle.nr_reduce.proofs.Once.{NumberIs, verdict-number, whole-with}
+use Rattle.nr_reduce.proofs.Once.{NumberIs, verdict-number, whole-with, rises-with}
 use Rattle.nr_reduce.proofs.OwnStags.{kept-after}
 use Rattle.nr_laws.specs.LinkInvariants.{IsUnused, AreAtMost}
 use Rattle.nr_laws.proofs.Keys.{AreOf, of-absent, below-more, below-append, below-absent, below-kept, below-taken, below-dropped}
-use Rattle.nr_laws.proofs.ReadsAlong.{sends-grow}
 use Rattle.nr_laws.proofs.PendingSends.{readings-from-of}
 use Rattle.nr_laws.proofs.EachEffect.{each-effect, held-messages, held-responses}
 
@@ -171,7 +170,7 @@ suited-effect k f h =
 
     grow : (r : Result Segment ℕ) → k.received.sends ≤ (received_by k.received r).sends
     grow (Err reason) = omega arith
-    grow (Ok s) = sends-grow k.received s
+    grow (Ok s) = rises-with k.received s
 
     same : AreSuited n k.calls k.reads
     same = suited-sends k.received.sends n k.calls k.reads (grow (frame_segment f)) h

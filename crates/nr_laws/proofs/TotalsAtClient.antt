@@ -14,7 +14,6 @@ use Rattle.nr_header.specs.declared.header.Body.{Body}
 use Rattle.nr_header.specs.declared.header.Header.{Header}
 use Rattle.nr_header.specs.Reading.{header_of, header_by}
 use Rattle.nr_xdr.specs.Fields.{word_at}
-use Rattle.nr_link.specs.declared.end.End.{End}
 use Rattle.nr_reduce.specs.declared.mark.LinkParameters.{LinkParameters}
 use Rattle.nr_reduce.specs.History.{AcceptedCall}
 use Rattle.nr_link.specs.Limits.{segment_max}
@@ -34,6 +33,7 @@ use Rattle.nr_laws.specs.LinkInvariants.{Transit, TotalsAgree, AreDistinct, call
 use Rattle.nr_laws.proofs.Totals.{total-append, total-map-zero, total-map-one, length-fewer, any_found, any_first}
 use Rattle.nr_laws.proofs.TotalsAtServer.{segment-is}
 use Rattle.nr_laws.proofs.HeaderXid.{header-xid}
+use Rattle.nr_reduce.proofs.Waiting.{or-message}
 
 -- ---- A message that the client takes is under the xid of a call that is out
 
@@ -65,15 +65,10 @@ pub out-there : (k : ClientState) (f : Frame) (message : List ℕ) → end_of_ve
 unfolding verdict
 out-there k f message e = out-header k f message (header_of message) refl e
 
--- a client that a message doesn't end takes it
-or-none : (k : ClientState) (f : Frame) (first : Option End) → or_message_end k f first ≡ None → message_end k f (segment_message k (frame_segment f)) ≡ None
-or-none k f None e = e
-or-none k f (Some end) e = absurd cc
-
 pub taken : (k : ClientState) (f : Frame) → is_hello f ≡ false → client_end k (FrameReceived f) ≡ None → message_end k f (segment_message k (frame_segment f)) ≡ None
 unfolding client_end
 taken k f behind e =
-    or-none k f (frame_end (readiness k) (region_grants f.end k.regions) f)
+    or-message k f (frame_end (readiness k) (region_grants f.end k.regions) f)
     ((λ i. cond (sym behind i) (hello_end (hello_of Responder f.bytes)) (or_message_end k f (frame_end (readiness k) (region_grants f.end k.regions) f))) ∙ e)
 
 -- ---- The client receives a message

@@ -28,6 +28,7 @@ use Rattle.nr_reduce.specs.ServerState.{PendingCall, ServerState, next_stag, is_
 use Rattle.nr_reduce.specs.ServerReads.{chunks_of}
 use Rattle.nr_reduce.specs.ServerMessages.{verdict, by_header, by_body, by_stream, by_need, has_position, no_stream}
 use Rattle.nr_reduce.specs.ServerMessages.Verdict.{EndsLink, OtherVersion, BadChunks, MakesPending}
+use Rattle.nr_reduce.proofs.AnswerMessages.{segments_tail, read_tail}
 
 abbrev pub SegmentsFit : List RdmaSegment → Type 0
 SegmentsFit [] = Unit {0}
@@ -48,17 +49,9 @@ pub record OfferFits (lists : ChunkLists) : Type 0 where
 
 -- ---- Of items that fit
 
-skip_read : (rs : List ReadSegment) (more : List Item) → AllFit (read_items rs more) → AllFit more
-skip_read [] more h = h.1
-skip_read (r ∷ rs) more h = skip_read rs more h.1.1.1.1.1
-
-skip_segments : (ss : List RdmaSegment) (more : List Item) → AllFit (segments_items ss more) → AllFit more
-skip_segments [] more h = h
-skip_segments (s ∷ ss) more h = skip_segments ss more h.1.1.1
-
 pub skip_write : (chunks : List (List RdmaSegment)) (more : List Item) → AllFit (write_items chunks more) → AllFit more
 skip_write [] more h = h.1
-skip_write (chunk ∷ chunks) more h = skip_write chunks more (skip_segments chunk (write_items chunks more) h.1.1)
+skip_write (chunk ∷ chunks) more h = skip_write chunks more (segments_tail chunk (write_items chunks more) h.1.1)
 
 entries_fit : (rs : List ReadSegment) (more : List Item) → AllFit (read_items rs more) → EntriesFit rs
 entries_fit [] more h = tt
@@ -92,7 +85,7 @@ few_segments (Some chunk) h = h
 
 offer_fits : (lists : ChunkLists) → AllFit (read_items lists.read (write_items lists.write (reply_items lists.reply []))) → ListsWithin lists → read_total lists.read ≤ PAYLOAD_MAX → OfferFits lists
 offer_fits lists h w total =
-    let writes = skip_read lists.read (write_items lists.write (reply_items lists.reply [])) h in
+    let writes = read_tail lists.read (write_items lists.write (reply_items lists.reply [])) h in
     record {
       reads = entries_fit lists.read (write_items lists.write (reply_items lists.reply [])) h;
       total = total;
