@@ -166,3 +166,4 @@ pub mod CallsAtFrames
 pub mod EndingEvents
 pub mod Basics
 pub mod EachEffect
+pub mod EachFault

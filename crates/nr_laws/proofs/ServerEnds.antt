@@ -29,87 +29,16 @@ use Rattle.nr_reduce.specs.ServerFrames.{FrameEffect, with_verdict, frame_effect
 use Rattle.nr_reduce.specs.Server.{server_end, or_refusal, refusal_end, readiness}
 use Rattle.nr_laws.proofs.Brought.{hello-is}
 use Rattle.nr_laws.proofs.EachEffect.{each-verdict, each-effect}
+use Rattle.nr_laws.proofs.EachFault.{OfReason, each-fault}
 
 -- ---- Faults of a segment
 
 abbrev Big : Option (SegmentFault Denied) → Type 0
-Big None = Unit {0}
-Big (Some (Reason reason)) = 5 ≤ reason
-Big (Some (NoBuffer msn)) = Unit {0}
-Big (Some (AccessDenied why)) = Unit {0}
-Big (Some (PeerTerminated word)) = Unit {0}
-
-abbrev AllBig : List (Option (SegmentFault Denied)) → Type 0
-AllBig [] = Unit {0}
-AllBig (x ∷ xs) = Big x × AllBig xs
-
-first-big : (xs : List (Option (SegmentFault Denied))) → AllBig xs → Big (first_fault xs)
-first-big [] h = tt
-first-big (None ∷ xs) h = first-big xs h.1
-first-big (Some x ∷ xs) h = h.0
-
-reason-big : (reason : ℕ) (b : Bool) → 5 ≤ reason → Big (reason_if reason b)
-reason-big reason true h = h
-reason-big reason false h = tt
-
-buffer-big : (r : Readiness Denied) (b : Bool) (msn : ℕ) → Big (no_buffer r b msn)
-buffer-big r true msn = by (is_begun r.received.begun || r.has_receive)
-  where
-    by : (b : Bool) → Big (cond b None (Some (NoBuffer msn)))
-    by true = tt
-    by false = tt
-buffer-big r false msn = tt
-
-missing-big : (o : Option Denied) → Big (missing_fault o)
-missing-big None = tt
-missing-big (Some why) = tt
-
-terminate-big : (opcode : ℕ) (payload : List ℕ) → Big (terminate_fault opcode payload)
-terminate-big opcode payload = by (eqb opcode 7)
-  where
-    by : (b : Bool) → Big (cond b (Some (PeerTerminated (word_at 0 payload))) None)
-    by true = tt
-    by false = tt
+Big o = OfReason (λ reason. 5 ≤ reason) o
 
 fault-big : (r : Readiness Denied) (s : Segment) → Big (segment_fault r s)
-unfolding segment_fault
-fault-big r (Tagged last opcode stag to payload) =
-    first-big (missing_fault r.missing ∷ reason_if REASON_RESPONSE (is_unexpected r opcode last stag to (length payload)) ∷ [])
-    (missing-big r.missing, (reason-big REASON_RESPONSE (is_unexpected r opcode last stag to (length payload)) (omega arith), tt))
-fault-big r (Untagged last opcode w queue msn offset payload) =
-    let message : Option (List ℕ) = message_completed r.received (Untagged last opcode w queue msn offset payload) in
-    first-big
-    (reason_if REASON_MSN (not (eqb msn (next_msn r.received queue)))
-    ∷ reason_if REASON_OFFSET (not (eqb offset (next_offset r.received queue)))
-    ∷ no_buffer r (is_send opcode) msn
-    ∷ reason_if REASON_FORM (is_malformed opcode last payload)
-    ∷ missing_fault r.missing
-    ∷ reason_if REASON_REQUESTS (is_too_many r opcode)
-    ∷ reason_if REASON_LONG (has_length (ltb r.message_max) message)
-    ∷ reason_if REASON_SHORT (has_length (λ n. ltb n 16) message)
-    ∷ terminate_fault opcode payload
-    ∷ []) (
-      reason-big REASON_MSN (not (eqb msn (next_msn r.received queue))) (omega arith),
-      (
-        reason-big REASON_OFFSET (not (eqb offset (next_offset r.received queue))) (omega arith),
-        (
-          buffer-big r (is_send opcode) msn,
-          (
-            reason-big REASON_FORM (is_malformed opcode last payload) (omega arith),
-            (
-              missing-big r.missing,
-              (
-                reason-big REASON_REQUESTS (is_too_many r opcode) (omega arith),
-                (
-                  reason-big REASON_LONG (has_length (ltb r.message_max) message) (omega arith),
-                  (reason-big REASON_SHORT (has_length (λ n. ltb n 16) message) (omega arith), (terminate-big opcode payload, tt)),
-                ),
-              ),
-            ),
-          ),
-        ),
-      ),
-    )
+fault-big r s =
+    each-fault (λ reason. 5 ≤ reason) (record { msn = omega arith; offset = omega arith; form = omega arith; response = omega arith; requests = omega arith; long = omega arith; short = omega arith }) r s
 
 -- ---- Refusals
 

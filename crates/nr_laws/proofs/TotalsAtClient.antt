@@ -37,14 +37,6 @@ use Rattle.nr_reduce.proofs.Waiting.{or-message}
 
 -- ---- A message that the client takes is under the xid of a call that is out
 
-headed-xid : (xid credit : ℕ) (r : Result Body HeaderFault) (h : Header) → header_by xid credit r ≡ Ok h → h.xid ≡ xid
-headed-xid xid credit (Ok body) h e = cc
-headed-xid xid credit (Err fault) h e = absurd cc
-
-header-xid-by : (short : Bool) (xid credit : ℕ) (r : Result Body HeaderFault) (h : Header) → cond short (Err faults.Short) (header_by xid credit r) ≡ Ok h → h.xid ≡ xid
-header-xid-by true xid credit r h e = absurd cc
-header-xid-by false xid credit r h e = headed-xid xid credit r h e
-
 abbrev has_xid : ℕ → OutstandingCall → Bool
 has_xid xid o = eqb o.xid xid
 
