@@ -167,3 +167,4 @@ pub mod EndingEvents
 pub mod Basics
 pub mod EachEffect
 pub mod EachFault
+pub mod MadePending
