@@ -36,7 +36,8 @@ use Rattle.nr_laws.specs.Typed.{IsTypedCall}
 use Rattle.nr_laws.specs.Stays.{HasCallHead, IsRefusedMessage, IsConveyedOrRefused}
 use Rattle.nr_laws.proofs.CallTargets.{conveyed-head}
 use Rattle.nr_laws.proofs.OwnHeads.{OwnHead, own-head}
-use Rattle.nr_laws.proofs.SuitedCalls.{HasNoBytes, Suits}
+use Rattle.nr_laws.proofs.SuitedCalls.{HasNoBytes}
+use Rattle.nr_laws.proofs.MadePending.{Suits, made-pending}
 
 -- ---- A payload with a call head
 
@@ -101,24 +102,16 @@ record Passed (k : ServerState) (message : List ℕ) : Type 0 where
   free : is_pending k (word_at 0 message) ≡ false
 
 passed : (k : ServerState) (message : List ℕ) (c : PendingCall) → verdict k message ≡ MakesPending c → Passed k message
-unfolding verdict
-passed k message c e = by (not (eqb (word_at 4 message) 1)) refl (eqb (word_at 12 message) 3 || eqb (word_at 12 message) 4) refl (is_pending k (word_at 0 message)) refl (header_of message) refl e
-  where
-    by : (other : Bool) → not (eqb (word_at 4 message) 1) ≡ other → (kind : Bool) → (eqb (word_at 12 message) 3 || eqb (word_at 12 message) 4) ≡ kind → (open_call : Bool) → is_pending k (word_at 0 message) ≡ open_call
-        → (r : Result Header HeaderFault) → header_of message ≡ r → cond other OtherVersion (cond kind (EndsLink 17) (cond open_call (EndsLink 20) (by_header k message r))) ≡ MakesPending c → Passed k message
-    by true a kind b open_call d r h e = absurd cc
-    by false a true b open_call d r h e = absurd cc
-    by false a false b true d r h e = absurd cc
-    by false a false b false d (Err fault) h e = absurd cc
-    by false a false b false d (Ok header) h e =
-        let kinds = or_parts (eqb (word_at 12 message) 3) (eqb (word_at 12 message) 4) b in
-        record {
-          long = header-long message header h;
-          version = eqb-true (word_at 4 message) 1 (not-false (eqb (word_at 4 message) 1) a);
-          done = eqb-false (word_at 12 message) 3 kinds.0;
-          error = eqb-false (word_at 12 message) 4 kinds.1;
-          free = d;
-        }
+passed k message c e =
+    let m = made-pending k message c e in
+    let kinds = or_parts (eqb (word_at 12 message) 3) (eqb (word_at 12 message) 4) m.kind in
+    record {
+      long = header-long message m.header m.is_header;
+      version = eqb-true (word_at 4 message) 1 (not-false (eqb (word_at 4 message) 1) m.version);
+      done = eqb-false (word_at 12 message) 3 kinds.0;
+      error = eqb-false (word_at 12 message) 4 kinds.1;
+      free = m.free;
+    }
 
 pub pending-fine : (k : ServerState) (message : List ℕ) (c : PendingCall) → verdict k message ≡ MakesPending c → IsRefusedMessage message → ⊥
 pending-fine k message c is refused =

@@ -24,6 +24,7 @@ use Rattle.nr_laws.specs.LinkInvariants.{AreDistinct, IsUnused, AreAtMost, AreRe
 use Rattle.nr_laws.proofs.Totals.{apart_push}
 use Rattle.nr_laws.proofs.Keys.{any-left, any-right, below-more, below-append, below-absent, below-at, none-absent, AreOf, of-absent, of-below, of-append, any-others}
 use Rattle.nr_laws.proofs.HeaderXid.{header-xid}
+use Rattle.nr_laws.proofs.MadePending.{made-pending}
 
 -- ---- The call that a message opens
 
@@ -31,47 +32,12 @@ pub record IsNew (k : ServerState) (c : PendingCall) (xid : ℕ) : Type 0 where
   pub number : c.number ≡ k.received.sends + 1
   pub own : c.xid ≡ xid
 
-need-new : (k : ServerState) (d c : PendingCall) (b : Bool) (xid : ℕ) → IsNew k d xid → cond b (EndsLink 30) (MakesPending d) ≡ MakesPending c → IsNew k c xid
-need-new k d c true xid h e = absurd cc
-need-new k d c false xid h e = subst (λ (x : PendingCall). IsNew k x xid) (opened-same d c e) h
-  where
-    opened-same : (d c : PendingCall) → MakesPending d ≡ MakesPending c → d ≡ c
-    opened-same d c e = cc
-
-stream-new : (k : ServerState) (lists : ChunkLists) (xid : ℕ) (stream : Option (List ℕ)) (c : PendingCall) → by_stream k lists xid stream ≡ MakesPending c → IsNew k c xid
-stream-new k lists xid None c e =
-    need-new k (record { number = k.received.sends + 1; xid = xid; lists = lists; inline = None }) c (ltb numbers_end (next_stag k + length (chunks_of lists))) xid (record { number = refl; own = refl }) e
-stream-new k lists xid (Some stream) c e = by (is_read_chunk_of_item stream lists.read) e
-  where
-    by : (b : Bool) → cond b (by_need k (record { number = k.received.sends + 1; xid = xid; lists = lists; inline = Some stream })) BadChunks ≡ MakesPending c → IsNew k c xid
-    by true e = need-new k (record { number = k.received.sends + 1; xid = xid; lists = lists; inline = Some stream }) c (ltb numbers_end (next_stag k + length (chunks_of lists))) xid (record { number = refl; own = refl }) e
-    by false e = absurd cc
-
-body-new : (k : ServerState) (xid : ℕ) (message : List ℕ) (body : Body) (c : PendingCall) → by_body k xid message body ≡ MakesPending c → IsNew k c xid
-body-new k xid message (Msg lists stream_at) c e = stream-new k lists xid (Some (drop stream_at message)) c e
-body-new k xid message (Nomsg lists) c e = by (has_position lists.read) e
-  where
-    by : (b : Bool) → cond b (by_stream k lists xid (no_stream lists.read)) BadChunks ≡ MakesPending c → IsNew k c xid
-    by true e = stream-new k lists xid (no_stream lists.read) c e
-    by false e = absurd cc
-body-new k xid message (ErrVers version low high) c e = absurd cc
-body-new k xid message (ErrChunk version) c e = absurd cc
-
-header-new : (k : ServerState) (message : List ℕ) (r : Result Header HeaderFault) (c : PendingCall) → header_of message ≡ r → by_header k message r ≡ MakesPending c → IsNew k c (word_at 0 message)
-header-new k message (Ok h) c is e = subst (λ (x : ℕ). IsNew k c x) (header-xid message h is) (body-new k h.xid message h.body c e)
-header-new k message (Err fault) c is e = absurd cc
-
 pub verdict-new : (k : ServerState) (message : List ℕ) (c : PendingCall) → verdict k message ≡ MakesPending c → IsNew k c (word_at 0 message) × (is_pending k (word_at 0 message) ≡ false)
-unfolding verdict
 verdict-new k message c e =
-    by (not (eqb (word_at 4 message) 1)) (eqb (word_at 12 message) 3 || eqb (word_at 12 message) 4) (is_pending k (word_at 0 message)) refl e
-  where
-    by : (a b w : Bool) → is_pending k (word_at 0 message) ≡ w → cond a OtherVersion (cond b (EndsLink 17) (cond w (EndsLink 20) (by_header k message (header_of message)))) ≡ MakesPending c
-        → IsNew k c (word_at 0 message) × (is_pending k (word_at 0 message) ≡ false)
-    by true b w is e = absurd cc
-    by false true w is e = absurd cc
-    by false false true is e = absurd cc
-    by false false false is e = (header-new k message (header_of message) c refl e, is)
+    let m = made-pending k message c e in (
+      record { number = ap (λ (x : PendingCall). x.number) m.is; own = ap (λ (x : PendingCall). x.xid) m.is ∙ header-xid message m.header m.is_header },
+      m.free,
+    )
 
 -- ---- What it makes ready is its own
 

@@ -33,14 +33,12 @@ use Rattle.nr_laws.specs.LinkInvariants.{IsUnused, AreAtMost}
 use Rattle.nr_laws.proofs.Keys.{AreOf, of-absent, below-more, below-append, below-absent, below-kept, below-taken, below-dropped}
 use Rattle.nr_laws.proofs.PendingSends.{readings-from-of}
 use Rattle.nr_laws.proofs.EachEffect.{each-effect, held-messages, held-responses}
+use Rattle.nr_laws.proofs.MadePending.{Suits, made-pending}
 
 -- no entry of a read list has bytes
 abbrev pub HasNoBytes : List ReadSegment → Type 0
 HasNoBytes [] = Unit {0}
 HasNoBytes (r ∷ read) = (r.length ≡ 0) × HasNoBytes read
-
-abbrev pub Suits : PendingCall → Type 0
-Suits c = IfSome c.inline (λ stream. is_read_chunk_of_item stream c.lists.read ≡ true)
 
 pub record IsSuited (sends : ℕ) (reads : List PendingRead) (c : PendingCall) : Type 0 where
   pub below : c.number ≤ sends
@@ -116,47 +114,8 @@ suited-sends n m calls reads le h = record {
 
 -- ---- The call that a message makes pending
 
-call-same : (d c : PendingCall) → MakesPending d ≡ MakesPending c → d ≡ c
-call-same d c e = cc
-
-need-suits : (k : ServerState) (d c : PendingCall) → Suits d → by_need k d ≡ MakesPending c → Suits c
-need-suits k d c s e = by (ltb 4294967296 (next_stag k + length (chunks_of d.lists))) e
-  where
-    by : (b : Bool) → cond b (EndsLink 30) (MakesPending d) ≡ MakesPending c → Suits c
-    by true e = absurd cc
-    by false e = subst Suits (call-same d c e) s
-
-stream-suits : (k : ServerState) (lists : ChunkLists) (xid : ℕ) (stream : Option (List ℕ)) (c : PendingCall) → by_stream k lists xid stream ≡ MakesPending c → Suits c
-stream-suits k lists xid None c e = need-suits k (record { number = k.received.sends + 1; xid = xid; lists = lists; inline = None }) c tt e
-stream-suits k lists xid (Some stream) c e = by (is_read_chunk_of_item stream lists.read) refl e
-  where
-    by : (b : Bool) → is_read_chunk_of_item stream lists.read ≡ b → cond b (by_need k (record { number = k.received.sends + 1; xid = xid; lists = lists; inline = Some stream })) BadChunks ≡ MakesPending c → Suits c
-    by true is e = need-suits k (record { number = k.received.sends + 1; xid = xid; lists = lists; inline = Some stream }) c is e
-    by false is e = absurd cc
-
-body-suits : (k : ServerState) (xid : ℕ) (message : List ℕ) (body : Body) (c : PendingCall) → by_body k xid message body ≡ MakesPending c → Suits c
-body-suits k xid message (Msg lists at) c e = stream-suits k lists xid (Some (drop at message)) c e
-body-suits k xid message (Nomsg lists) c e = by (has_position lists.read) e
-  where
-    by : (b : Bool) → cond b (by_stream k lists xid (no_stream lists.read)) BadChunks ≡ MakesPending c → Suits c
-    by true e = stream-suits k lists xid (no_stream lists.read) c e
-    by false e = absurd cc
-body-suits k xid message (ErrVers version low high) c e = absurd cc
-body-suits k xid message (ErrChunk version) c e = absurd cc
-
-header-suits : (k : ServerState) (message : List ℕ) (r : Result Header HeaderFault) (c : PendingCall) → by_header k message r ≡ MakesPending c → Suits c
-header-suits k message (Ok h) c e = body-suits k h.xid message h.body c e
-header-suits k message (Err fault) c e = absurd cc
-
 pub verdict-suits : (k : ServerState) (message : List ℕ) (c : PendingCall) → verdict k message ≡ MakesPending c → Suits c
-unfolding verdict
-verdict-suits k message c e = by (not (eqb (word_at 4 message) 1)) (eqb (word_at 12 message) 3 || eqb (word_at 12 message) 4) (is_pending k (word_at 0 message)) e
-  where
-    by : (other kind open_call : Bool) → cond other OtherVersion (cond kind (EndsLink 17) (cond open_call (EndsLink 20) (by_header k message (header_of message)))) ≡ MakesPending c → Suits c
-    by true kind open_call e = absurd cc
-    by false true open_call e = absurd cc
-    by false false true e = absurd cc
-    by false false false e = header-suits k message (header_of message) c e
+verdict-suits k message c e = (made-pending k message c e).suits
 
 -- ---- What a frame leaves
 
