@@ -16,6 +16,7 @@ use Rattle.nr_link.specs.ReceiveState.{message_completed, begun_bytes}
 use Rattle.nr_link.specs.Output.{msn_word}
 use Rattle.nr_reduce.specs.Chunks.{is_read_chunk_of_item}
 use Rattle.nr_reduce.specs.Holds.{chunk_error, version_error}
+use Rattle.nr_reduce.specs.RunLaws.{ends_response}
 use Rattle.nr_reduce.specs.ServerState.{ServerState, PendingCall, PendingRead, credit_word, next_stag, is_pending}
 use Rattle.nr_reduce.specs.ServerReads.{open_reads, is_read, reads_of, regions_of, chunks_of}
 use Rattle.nr_reduce.specs.ServerMessages.{Verdict, CallVerdict, verdict, by_need, by_stream, by_body, by_header, by_payload, has_position, no_stream, chunk_bytes, payload_of}
@@ -66,6 +67,56 @@ each-verdict P h k message =
 
 -- ---- The effect of a frame
 
+-- the effect by its case; `s` of the last two is what is left of the reads once the first is over
+abbrev pub read_over : ServerState → List PendingRead → FrameEffect
+read_over k reads = record (no_effect k) { reads = reads; kept = length (open_reads k) - 1 }
+
+abbrev pub stream_refused : ServerState → Frame → Segment → PendingRead → List PendingRead → PendingCall → Bool
+stream_refused k f segment r reads c = is_stream_read c r reads && not (is_read_chunk_of_item (chunk_bytes (with_access k f segment) f.end c 0) c.lists.read)
+
+pub data EffectCase (k : ServerState) (f : Frame) (segment : Segment) (e : FrameEffect) : Type 0 where
+  Unchanged : e ≡ no_effect k → EffectCase k f segment e
+  OfMessage : (message : List ℕ) → message_completed k.received segment ≡ Some message → e ≡ message_effect k f.end message (verdict k message) → EffectCase k f segment e
+  OfRead : (r : PendingRead) (reads : List PendingRead) → ends_response segment ≡ true → k.reads ≡ r ∷ reads → e ≡ read_over k reads → EffectCase k f segment e
+  OfRefusal : (r : PendingRead) (reads : List PendingRead) (c : PendingCall) → ends_response segment ≡ true → k.reads ≡ r ∷ reads → call_of_number k r.number ≡ Some c → stream_refused k f segment r reads c ≡ true
+      → e ≡ with_refused_call k c (read_over k reads) → EffectCase k f segment e
+  OfCall : (r : PendingRead) (reads : List PendingRead) (c : PendingCall) → ends_response segment ≡ true → k.reads ≡ r ∷ reads → call_of_number k r.number ≡ Some c → e ≡ ready_if_whole (with_access k f segment) f.end c (read_over k reads)
+      → EffectCase k f segment e
+
+response-case : (k : ServerState) (f : Frame) (segment : Segment) → ends_response segment ≡ true → (reads : List PendingRead) → k.reads ≡ reads → EffectCase k f segment (response_effect (with_access k f segment) f.end reads)
+response-case k f segment last [] is = Unchanged refl
+response-case k f segment last (r ∷ reads) is = by_call (call_of_number k r.number) refl
+  where
+    t : ServerState
+    t = with_access k f segment
+
+    by_test : (c : PendingCall) → call_of_number k r.number ≡ Some c → (b : Bool) → stream_refused k f segment r reads c ≡ b → EffectCase k f segment (cond b (with_refused_call t c (read_over k reads)) (ready_if_whole t f.end c (read_over k reads)))
+    by_test c found true test = OfRefusal r reads c last is found test refl
+    by_test c found false test = OfCall r reads c last is found refl
+
+    by_call : (o : Option PendingCall) → call_of_number k r.number ≡ o → EffectCase k f segment (read_effect t f.end r o (read_over k reads))
+    by_call None found = OfRead r reads last is refl
+    by_call (Some c) found = by_test c found (stream_refused k f segment r reads c) refl
+
+pub effect-case : (k : ServerState) (f : Frame) (segment : Segment) → frame_segment f ≡ Ok segment → EffectCase k f segment (frame_effect k f)
+unfolding frame_effect
+effect-case k f segment is = subst (λ (r : Result Segment ℕ). EffectCase k f segment (effect_in k f r)) (sym is) (by segment)
+  where
+    of_message : (s : Segment) (o : Option (List ℕ)) → message_completed k.received s ≡ o → EffectCase k f s (by_message k f.end o)
+    of_message s None whole = Unchanged refl
+    of_message s (Some message) whole = OfMessage message whole refl
+
+    by : (s : Segment) → EffectCase k f s (effect_in k f (Ok s))
+    by (Tagged last opcode stag to payload) = tagged (eqb opcode OPCODE_READ_RESPONSE && last) refl
+      where
+        s : Segment
+        s = Tagged last opcode stag to payload
+
+        tagged : (b : Bool) → (eqb opcode OPCODE_READ_RESPONSE && last) ≡ b → EffectCase k f s (cond b (response_effect (with_access k f s) f.end k.reads) (no_effect (with_access k f s)))
+        tagged true own = response-case k f s own k.reads refl
+        tagged false own = Unchanged refl
+    by (Untagged last opcode w queue msn offset payload) = of_message (Untagged last opcode w queue msn offset payload) (message_completed k.received (Untagged last opcode w queue msn offset payload)) refl
+
 -- what a message makes of a server: `Good` is what the messages have that are judged
 pub record MessageRule (k : ServerState) (Good : List ℕ → Type 0) (P : FrameEffect → Type 0) : Type 0 where
   pub judged : (t : ServerState) (place : ℕ) (c : PendingCall) (s : FrameEffect) → P s → P (with_verdict (by_payload c (payload_of t place c)) s)
@@ -96,35 +147,17 @@ message-rule k Good P h place message BadChunks good is = h.chunks message good
 message-rule k Good P h place message (MakesPending c) good is =
     whole-rule P k place c (record (no_effect k) { calls = k.calls ++ c ∷ []; reads = k.reads ++ reads_of (k.regions ++ regions_of k place c) c; regions = k.regions ++ regions_of k place c }) (h.judged k place c _) (h.pending place message c good is)
 
-response-rule : (k : ServerState) (P : FrameEffect → Type 0) → ResponseRule k P → (f : Frame) (segment : Segment) (reads : List PendingRead) → k.reads ≡ reads → P (response_effect (with_access k f segment) f.end reads)
-response-rule k P h f segment [] is = h.unchanged
-response-rule k P h f segment (r ∷ reads) is = by_call (call_of_number k r.number) refl
-  where
-    t : ServerState
-    t = with_access k f segment
-
-    s : FrameEffect
-    s = record (no_effect k) { reads = reads; kept = length (open_reads k) - 1 }
-
-    by_test : (c : PendingCall) → call_of_number k r.number ≡ Some c → (b : Bool) → P (cond b (with_refused_call t c s) (ready_if_whole t f.end c s))
-    by_test c found true = h.refused r reads c is found
-    by_test c found false = whole-rule P t f.end c s (h.judged t f.end c s) (h.read r reads is)
-
-    by_call : (o : Option PendingCall) → call_of_number k r.number ≡ o → P (read_effect t f.end r o s)
-    by_call None found = h.read r reads is
-    by_call (Some c) found = by_test c found (is_stream_read c r s.reads && not (is_read_chunk_of_item (chunk_bytes t f.end c 0) c.lists.read))
-
 -- a tagged segment
-pub tagged-effect : (k : ServerState) (P : FrameEffect → Type 0) → ResponseRule k P → (f : Frame) (last : Bool) (opcode stag to : ℕ) (payload : List ℕ) → frame_segment f ≡ Ok (Tagged last opcode stag to payload) → P (frame_effect k f)
-unfolding frame_effect
-tagged-effect k P h f last opcode stag to payload is = subst (λ (r : Result Segment ℕ). P (effect_in k f r)) (sym is) (by (eqb opcode OPCODE_READ_RESPONSE && last))
-  where
-    t : ServerState
-    t = with_access k f (Tagged last opcode stag to payload)
+response-rule : (k : ServerState) (P : FrameEffect → Type 0) → ResponseRule k P → (f : Frame) (segment : Segment) (e : FrameEffect) → ((message : List ℕ) → message_completed k.received segment ≡ Some message → e ≡ message_effect k f.end message (verdict k message) → P e)
+    → EffectCase k f segment e → P e
+response-rule k P h f segment e of_message (Unchanged is) = subst P (sym is) h.unchanged
+response-rule k P h f segment e of_message (OfMessage message whole is) = of_message message whole is
+response-rule k P h f segment e of_message (OfRead r reads last own is) = subst P (sym is) (h.read r reads own)
+response-rule k P h f segment e of_message (OfRefusal r reads c last own found test is) = subst P (sym is) (h.refused r reads c own found)
+response-rule k P h f segment e of_message (OfCall r reads c last own found is) = subst P (sym is) (whole-rule P (with_access k f segment) f.end c (read_over k reads) (h.judged (with_access k f segment) f.end c (read_over k reads)) (h.read r reads own))
 
-    by : (b : Bool) → P (cond b (response_effect t f.end k.reads) (no_effect t))
-    by true = response-rule k P h f (Tagged last opcode stag to payload) k.reads refl
-    by false = h.unchanged
+pub tagged-effect : (k : ServerState) (P : FrameEffect → Type 0) → ResponseRule k P → (f : Frame) (last : Bool) (opcode stag to : ℕ) (payload : List ℕ) → frame_segment f ≡ Ok (Tagged last opcode stag to payload) → P (frame_effect k f)
+tagged-effect k P h f last opcode stag to payload is = (let segment = Tagged last opcode stag to payload in response-rule k P h f segment (frame_effect k f) (λ message whole e. absurd cc) (effect-case k f segment is))
 
 -- a Send of one segment
 pub send-effect : (k : ServerState) (Good : List ℕ → Type 0) (P : FrameEffect → Type 0) → MessageRule k Good P → (f : Frame) (message : List ℕ) → k.received.begun ≡ None → Good message
@@ -140,15 +173,11 @@ pub each-effect : (k : ServerState) (Good : List ℕ → Type 0) (P : FrameEffec
 unfolding frame_effect
 each-effect k Good P h g f good = by (frame_segment f) refl
   where
-    of_message : (o : Option (List ℕ)) → ((m : List ℕ) → o ≡ Some m → Good m) → P (by_message k f.end o)
-    of_message None good = g.unchanged
-    of_message (Some message) good = message-rule k Good P h f.end message (verdict k message) (good message refl) refl
-
     by : (r : Result Segment ℕ) → frame_segment f ≡ r → P (effect_in k f r)
     by (Err reason) is = g.unchanged
-    by (Ok (Tagged last opcode stag to payload)) is = subst (λ (r : Result Segment ℕ). P (effect_in k f r)) is (tagged-effect k P g f last opcode stag to payload is)
-    by (Ok (Untagged last opcode w queue msn offset payload)) is =
-        of_message (message_completed k.received (Untagged last opcode w queue msn offset payload)) (λ m e. good (Untagged last opcode w queue msn offset payload) m is e)
+    by (Ok segment) is =
+        subst (λ (r : Result Segment ℕ). P (effect_in k f r)) is
+        (response-rule k P g f segment (effect_in k f (frame_segment f)) (λ message whole e. subst P (sym e) (message-rule k Good P h f.end message (verdict k message) (good segment message is whole) refl)) (effect-case k f segment is))
 
 -- ---- Rules over what a server holds alone, which no verdict on a call changes
 
