@@ -21,7 +21,8 @@ use Rattle.nr_reduce.specs.RunLaws.{ends_response}
 use Rattle.nr_laws.specs.EndCauses.{IsCallReason}
 use Rattle.nr_laws.proofs.JudgedMessages.{by-fault}
 use Rattle.nr_laws.proofs.OtherReasons.{apart, fault-other}
-use Rattle.nr_laws.proofs.EachEffect.{each-verdict}
+use Rattle.nr_laws.proofs.EachEffect.{each-verdict, EffectCase, effect-case, read_over}
+use Rattle.nr_laws.proofs.EachEffect.EffectCase.{Unchanged, OfMessage, OfRead, OfRefusal, OfCall}
 
 -- ---- Reasons that aren't those of a call
 
@@ -92,37 +93,18 @@ message-refused k f segment message reason own whole (MakesPending c) is e =
     let w = whole-refused k f.end c (record (no_effect k) { calls = k.calls ++ c ∷ []; reads = k.reads ++ reads_of (k.regions ++ regions_of k f.end c) c; regions = k.regions ++ regions_of k f.end c }) reason refl e in
     AtMessage message c whole is w.read w.refuses
 
-by-message-refused : (k : ServerState) (f : Frame) (segment : Segment) (reason : ℕ) → IsCallReason reason → (o : Option (List ℕ)) → message_completed k.received segment ≡ o → (by_message k f.end o).refusal ≡ Some reason → RefusedBy k f segment reason
-by-message-refused k f segment reason own None is e = none-of reason None refl e
-by-message-refused k f segment reason own (Some message) is e = message-refused k f segment message reason own is (verdict k message) refl e
-
-response-refused : (k : ServerState) (f : Frame) (segment : Segment) (reason : ℕ) → ends_response segment ≡ true → (reads : List PendingRead) → k.reads ≡ reads → (response_effect (with_access k f segment) f.end reads).refusal ≡ Some reason → RefusedBy k f segment reason
-response-refused k f segment reason last [] is e = none-of reason None refl e
-response-refused k f segment reason last (q ∷ reads) is e = by_call (call_of_number k q.number) refl e
-  where
-    t : ServerState
-    t = with_access k f segment
-
-    s : FrameEffect
-    s = record (no_effect t) { reads = reads; kept = length (open_reads t) - 1 }
-
-    by_test : (c : PendingCall) → call_of_number k q.number ≡ Some c → (b : Bool) → (cond b (with_refused_call t c s) (ready_if_whole t f.end c s)).refusal ≡ Some reason → RefusedBy k f segment reason
-    by_test c own true e = none-of reason None refl e
-    by_test c own false e = (let w = whole-refused t f.end c s reason refl e in AtRead q reads c last is own w.read w.refuses)
-
-    by_call : (o : Option PendingCall) → call_of_number k q.number ≡ o → (read_effect t f.end q o s).refusal ≡ Some reason → RefusedBy k f segment reason
-    by_call None own e = none-of reason None refl e
-    by_call (Some c) own e = by_test c own (is_stream_read c q s.reads && not (is_read_chunk_of_item (chunk_bytes t f.end c 0) c.lists.read)) e
-
 pub refused-by : (k : ServerState) (f : Frame) (segment : Segment) (reason : ℕ) → IsCallReason reason → frame_segment f ≡ Ok segment → (frame_effect k f).refusal ≡ Some reason → RefusedBy k f segment reason
-unfolding frame_effect
-refused-by k f segment reason own is e = by segment (ap (λ (x : Result Segment ℕ). (effect_in k f x).refusal) (sym is) ∙ e)
+refused-by k f segment reason own is e = by (effect-case k f segment is)
   where
-    by : (s : Segment) → (effect_in k f (Ok s)).refusal ≡ Some reason → RefusedBy k f s reason
-    by (Tagged last opcode stag to payload) e = tagged (eqb opcode OPCODE_READ_RESPONSE && last) refl e
-      where
-        tagged : (b : Bool) → (eqb opcode OPCODE_READ_RESPONSE && last) ≡ b → (cond b (response_effect (with_access k f (Tagged last opcode stag to payload)) f.end k.reads) (no_effect (with_access k f (Tagged last opcode stag to payload)))).refusal ≡ Some reason
-            → RefusedBy k f (Tagged last opcode stag to payload) reason
-        tagged true last_is e = response-refused k f (Tagged last opcode stag to payload) reason last_is k.reads refl e
-        tagged false last_is e = none-of reason None refl e
-    by (Untagged last opcode w queue msn offset payload) e = by-message-refused k f (Untagged last opcode w queue msn offset payload) reason own (message_completed k.received (Untagged last opcode w queue msn offset payload)) refl e
+    refuses : (s : FrameEffect) → frame_effect k f ≡ s → s.refusal ≡ Some reason
+    refuses s same = ap (λ (x : FrameEffect). x.refusal) (sym same) ∙ e
+
+    by : EffectCase k f segment (frame_effect k f) → RefusedBy k f segment reason
+    by (Unchanged same) = none-of reason None refl (refuses (no_effect k) same)
+    by (OfMessage message whole same) = message-refused k f segment message reason own whole (verdict k message) refl (refuses (message_effect k f.end message (verdict k message)) same)
+    by (OfRead q reads last first same) = none-of reason None refl (refuses (read_over k reads) same)
+    by (OfRefusal q reads c last first found test same) = none-of reason None refl (refuses (with_refused_call k c (read_over k reads)) same)
+    by (OfCall q reads c last first found same) =
+        let t = with_access k f segment in
+        let w = whole-refused t f.end c (read_over k reads) reason refl (refuses (ready_if_whole t f.end c (read_over k reads)) same) in
+        AtRead q reads c last first found w.read w.refuses

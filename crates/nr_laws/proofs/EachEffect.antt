@@ -67,13 +67,14 @@ each-verdict P h k message =
 
 -- ---- The effect of a frame
 
--- the effect by its case; `s` of the last two is what is left of the reads once the first is over
+-- once the first read is over
 abbrev pub read_over : ServerState → List PendingRead → FrameEffect
 read_over k reads = record (no_effect k) { reads = reads; kept = length (open_reads k) - 1 }
 
 abbrev pub stream_refused : ServerState → Frame → Segment → PendingRead → List PendingRead → PendingCall → Bool
 stream_refused k f segment r reads c = is_stream_read c r reads && not (is_read_chunk_of_item (chunk_bytes (with_access k f segment) f.end c 0) c.lists.read)
 
+-- which case of its definition an effect is
 pub data EffectCase (k : ServerState) (f : Frame) (segment : Segment) (e : FrameEffect) : Type 0 where
   Unchanged : e ≡ no_effect k → EffectCase k f segment e
   OfMessage : (message : List ℕ) → message_completed k.received segment ≡ Some message → e ≡ message_effect k f.end message (verdict k message) → EffectCase k f segment e

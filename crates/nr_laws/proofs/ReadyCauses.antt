@@ -29,7 +29,8 @@ use Rattle.nr_reduce.specs.Served.{IsExecuted, next_call, first_ready}
 use Rattle.nr_reduce.proofs.Conveyed.{Each, each-append, each-drop}
 use Rattle.nr_reduce.proofs.Steps.{end_state_after-append}
 use Rattle.nr_laws.proofs.Basics.{none-one}
-use Rattle.nr_laws.proofs.EachEffect.{each-effect}
+use Rattle.nr_laws.proofs.EachEffect.{each-effect, EffectCase, effect-case, read_over}
+use Rattle.nr_laws.proofs.EachEffect.EffectCase.{Unchanged, OfMessage, OfRead, OfRefusal, OfCall}
 
 -- the payload that is conveyed to a call that is ready
 pub record Conveyed (k : ServerState) (place : ℕ) (c : PendingCall) (r : ReadyCall) : Type 0 where
@@ -77,39 +78,21 @@ message-cause k f segment message r whole (MakesPending c) is e =
     let w = whole-cause k f.end c (record (no_effect k) { calls = k.calls ++ c ∷ []; reads = k.reads ++ reads_of (k.regions ++ regions_of k f.end c) c; regions = k.regions ++ regions_of k f.end c }) r refl e in
     AtMessage message c whole is w.read w.conveyed
 
-by-message-cause : (k : ServerState) (f : Frame) (segment : Segment) (r : ReadyCall) (o : Option (List ℕ)) → message_completed k.received segment ≡ o → (by_message k f.end o).ready ≡ r ∷ [] → ReadyBy k f segment r
-by-message-cause k f segment r None is e = none-one r [] refl e
-by-message-cause k f segment r (Some message) is e = message-cause k f segment message r is (verdict k message) refl e
-
-response-cause : (k : ServerState) (f : Frame) (segment : Segment) (r : ReadyCall) → ends_response segment ≡ true → (reads : List PendingRead) → k.reads ≡ reads → (response_effect (with_access k f segment) f.end reads).ready ≡ r ∷ [] → ReadyBy k f segment r
-response-cause k f segment r last [] is e = none-one r [] refl e
-response-cause k f segment r last (q ∷ reads) is e = by_call (call_of_number k q.number) refl e
-  where
-    t : ServerState
-    t = with_access k f segment
-
-    s : FrameEffect
-    s = record (no_effect t) { reads = reads; kept = length (open_reads t) - 1 }
-
-    by_test : (c : PendingCall) → call_of_number k q.number ≡ Some c → (b : Bool) → (cond b (with_refused_call t c s) (ready_if_whole t f.end c s)).ready ≡ r ∷ [] → ReadyBy k f segment r
-    by_test c own true e = none-one r [] refl e
-    by_test c own false e = (let w = whole-cause t f.end c s r refl e in AtRead q reads c last is own w.read w.conveyed)
-
-    by_call : (o : Option PendingCall) → call_of_number k q.number ≡ o → (read_effect t f.end q o s).ready ≡ r ∷ [] → ReadyBy k f segment r
-    by_call None own e = none-one r [] refl e
-    by_call (Some c) own e = by_test c own (is_stream_read c q s.reads && not (is_read_chunk_of_item (chunk_bytes t f.end c 0) c.lists.read)) e
-
 pub ready-by : (k : ServerState) (f : Frame) (segment : Segment) (r : ReadyCall) → frame_segment f ≡ Ok segment → (frame_effect k f).ready ≡ r ∷ [] → ReadyBy k f segment r
-unfolding frame_effect
-ready-by k f segment r is e = by segment (ap (λ (x : Result Segment ℕ). (effect_in k f x).ready) (sym is) ∙ e)
+ready-by k f segment r is e = by (effect-case k f segment is)
   where
-    by : (s : Segment) → (effect_in k f (Ok s)).ready ≡ r ∷ [] → ReadyBy k f s r
-    by (Tagged last opcode stag to payload) e = tagged (eqb opcode OPCODE_READ_RESPONSE && last) refl e
-      where
-        tagged : (b : Bool) → (eqb opcode OPCODE_READ_RESPONSE && last) ≡ b → (cond b (response_effect (with_access k f (Tagged last opcode stag to payload)) f.end k.reads) (no_effect (with_access k f (Tagged last opcode stag to payload)))).ready ≡ r ∷ [] → ReadyBy k f (Tagged last opcode stag to payload) r
-        tagged true own e = response-cause k f (Tagged last opcode stag to payload) r own k.reads refl e
-        tagged false own e = none-one r [] refl e
-    by (Untagged last opcode w queue msn offset payload) e = by-message-cause k f (Untagged last opcode w queue msn offset payload) r (message_completed k.received (Untagged last opcode w queue msn offset payload)) refl e
+    made : (s : FrameEffect) → frame_effect k f ≡ s → s.ready ≡ r ∷ []
+    made s same = ap (λ (x : FrameEffect). x.ready) (sym same) ∙ e
+
+    by : EffectCase k f segment (frame_effect k f) → ReadyBy k f segment r
+    by (Unchanged same) = none-one r [] refl (made (no_effect k) same)
+    by (OfMessage message whole same) = message-cause k f segment message r whole (verdict k message) refl (made (message_effect k f.end message (verdict k message)) same)
+    by (OfRead q reads last own same) = none-one r [] refl (made (read_over k reads) same)
+    by (OfRefusal q reads c last own found test same) = none-one r [] refl (made (with_refused_call k c (read_over k reads)) same)
+    by (OfCall q reads c last own found same) =
+        let t = with_access k f segment in
+        let w = whole-cause t f.end c (read_over k reads) r refl (made (ready_if_whole t f.end c (read_over k reads)) same) in
+        AtRead q reads c last own found w.read w.conveyed
 
 -- at most one call is ready by a frame
 abbrev pub AtMostReady : List ReadyCall → Type 0

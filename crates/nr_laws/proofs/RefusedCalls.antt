@@ -32,6 +32,8 @@ use Rattle.nr_laws.proofs.HeaderXid.{header-xid, call-xid, chunk-error-xid, vers
 use Rattle.nr_laws.proofs.ServerAlong.{SaidError}
 use Rattle.nr_laws.proofs.Basics.{none-one}
 use Rattle.std.proofs.lemmas.Bool.{and_parts, not-true}
+use Rattle.nr_laws.proofs.EachEffect.{EffectCase, effect-case, read_over}
+use Rattle.nr_laws.proofs.EachEffect.EffectCase.{Unchanged, OfMessage, OfRead, OfRefusal, OfCall}
 
 -- ---- The cause of an error message
 
@@ -62,43 +64,24 @@ message-cause k f segment message m whole (MakesPending c) is e =
     none-one m (message_effect k f.end message (MakesPending c)).errors
     (whole-errors k f.end c (record (no_effect k) { calls = k.calls ++ c ∷ []; reads = k.reads ++ reads_of (k.regions ++ regions_of k f.end c) c; regions = k.regions ++ regions_of k f.end c })) e
 
-by-message-cause : (k : ServerState) (f : Frame) (segment : Segment) (m : List ℕ) (o : Option (List ℕ)) → message_completed k.received segment ≡ o → (by_message k f.end o).errors ≡ m ∷ [] → Cause k f segment m
-by-message-cause k f segment m None is e = none-one m [] refl e
-by-message-cause k f segment m (Some message) is e = message-cause k f segment message m is (verdict k message) refl e
-
-response-cause : (k : ServerState) (f : Frame) (segment : Segment) (m : List ℕ) → ends_response segment ≡ true → (reads : List PendingRead) → k.reads ≡ reads → (response_effect (with_access k f segment) f.end reads).errors ≡ m ∷ [] → Cause k f segment m
-response-cause k f segment m last [] is e = none-one m [] refl e
-response-cause k f segment m last (r ∷ reads) is e = by_call (call_of_number k r.number) refl e
-  where
-    t : ServerState
-    t = with_access k f segment
-
-    s : FrameEffect
-    s = record (no_effect t) { reads = reads; kept = length (open_reads t) - 1 }
-
-    by_test : (c : PendingCall) → call_of_number k r.number ≡ Some c → (b : Bool) → (is_stream_read c r s.reads && not (is_read_chunk_of_item (chunk_bytes t f.end c 0) c.lists.read)) ≡ b
-        → (cond b (with_refused_call t c s) (ready_if_whole t f.end c s)).errors ≡ m ∷ [] → Cause k f segment m
-    by_test c own true is_bad e =
-        let both = and_parts (is_stream_read c r s.reads) (not (is_read_chunk_of_item (chunk_bytes t f.end c 0) c.lists.read)) is_bad in
-        ByStream c (record { is_last = last; read = r; others = reads; reads = is; call = own; stream = both.0; unsuited = not-true (is_read_chunk_of_item (chunk_bytes t f.end c 0) c.lists.read) both.1 })
-        (one-of (chunk_error c.xid (credit_word k)) m e)
-    by_test c own false is_bad e = none-one m (ready_if_whole t f.end c s).errors (whole-errors t f.end c s) e
-
-    by_call : (o : Option PendingCall) → call_of_number k r.number ≡ o → (read_effect t f.end r o s).errors ≡ m ∷ [] → Cause k f segment m
-    by_call None own e = none-one m [] refl e
-    by_call (Some c) own e = by_test c own (is_stream_read c r s.reads && not (is_read_chunk_of_item (chunk_bytes t f.end c 0) c.lists.read)) refl e
-
 pub cause : (k : ServerState) (f : Frame) (segment : Segment) (m : List ℕ) → frame_segment f ≡ Ok segment → (frame_effect k f).errors ≡ m ∷ [] → Cause k f segment m
-unfolding frame_effect
-cause k f segment m is e = by segment (ap (λ (r : Result Segment ℕ). (effect_in k f r).errors) (sym is) ∙ e)
+cause k f segment m is e = by (effect-case k f segment is)
   where
-    by : (s : Segment) → (effect_in k f (Ok s)).errors ≡ m ∷ [] → Cause k f s m
-    by (Tagged last opcode stag to payload) e = tagged (eqb opcode OPCODE_READ_RESPONSE && last) refl e
-      where
-        tagged : (b : Bool) → (eqb opcode OPCODE_READ_RESPONSE && last) ≡ b → (cond b (response_effect (with_access k f (Tagged last opcode stag to payload)) f.end k.reads) (no_effect (with_access k f (Tagged last opcode stag to payload)))).errors ≡ m ∷ [] → Cause k f (Tagged last opcode stag to payload) m
-        tagged true own e = response-cause k f (Tagged last opcode stag to payload) m own k.reads refl e
-        tagged false own e = none-one m [] refl e
-    by (Untagged last opcode w queue msn offset payload) e = by-message-cause k f (Untagged last opcode w queue msn offset payload) m (message_completed k.received (Untagged last opcode w queue msn offset payload)) refl e
+    said : (s : FrameEffect) → frame_effect k f ≡ s → s.errors ≡ m ∷ []
+    said s same = ap (λ (x : FrameEffect). x.errors) (sym same) ∙ e
+
+    by : EffectCase k f segment (frame_effect k f) → Cause k f segment m
+    by (Unchanged same) = none-one m [] refl (said (no_effect k) same)
+    by (OfMessage message whole same) = message-cause k f segment message m whole (verdict k message) refl (said (message_effect k f.end message (verdict k message)) same)
+    by (OfRead r reads last own same) = none-one m [] refl (said (read_over k reads) same)
+    by (OfRefusal r reads c last own found test same) =
+        let both = and_parts (is_stream_read c r reads) (not (is_read_chunk_of_item (chunk_bytes (with_access k f segment) f.end c 0) c.lists.read)) test in
+        ByStream c
+        (record { is_last = last; read = r; others = reads; reads = own; call = found; stream = both.0; unsuited = not-true (is_read_chunk_of_item (chunk_bytes (with_access k f segment) f.end c 0) c.lists.read) both.1 })
+        (one-of (chunk_error c.xid (credit_word k)) m (said (with_refused_call k c (read_over k reads)) same))
+    by (OfCall r reads c last own found same) =
+        let s = ready_if_whole (with_access k f segment) f.end c (read_over k reads) in
+        none-one m s.errors (whole-errors (with_access k f segment) f.end c (read_over k reads)) (said s same)
 
 -- ---- The call that is refused
 
