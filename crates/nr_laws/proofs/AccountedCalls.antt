@@ -29,7 +29,7 @@ use Rattle.nr_reduce.specs.ClientMessages.Verdict.{EndsLink, GivesOutcome}
 use Rattle.nr_reduce.specs.Client.{client_end, client_state_after, end_of_verdict, outstanding_of, outcomes_of, revoked_call, written_call, with_message, with_request, with_segment, segment_message, message_end}
 use Rattle.nr_laws.proofs.Keys.{any-append, or-left, or-right}
 use Rattle.nr_laws.proofs.TotalsAtClient.{taken}
-use Rattle.nr_laws.proofs.Basics.{some-not, each-all}
+use Rattle.nr_laws.proofs.Basics.{some-not, each-all, each-kept}
 use Rattle.nr_laws.proofs.HeaderXid.{header-xid}
 
 -- ---- A message that doesn't end the client gives an outcome of the call of its xid, or that call's memory was revoked
@@ -132,14 +132,6 @@ either false false c d e f p q r h = or-right d (e || f) (or-right e f (r h))
 
 -- ---- A frame
 
-revoked-kept : (gone : ℕ → Bool) (p : OutstandingCall → Bool) (os : List OutstandingCall) → AllByRecursion (RevokedGone gone) os → AllByRecursion (RevokedGone gone) (filter p os)
-revoked-kept gone p [] h = tt
-revoked-kept gone p (o ∷ os) h = by (p o) (revoked-kept gone p os h.1)
-  where
-    by : (b : Bool) → AllByRecursion (RevokedGone gone) (filter p os) → AllByRecursion (RevokedGone gone) (cond b (o ∷ filter p os) (filter p os))
-    by true k = (h.0, k)
-    by false k = k
-
 differ : (n xid : ℕ) → eqb n xid ≡ true → (other : ℕ) → eqb xid other ≡ false → eqb n other ≡ false
 differ n xid e other not_other = ap (λ (x : ℕ). eqb x other) (eqb-true n xid e) ∙ not_other
 
@@ -195,7 +187,7 @@ message-accounts gone xids k f (Some message) stays h =
     let g = given gone k f message h.revoked (stays message refl) in
     record {
       each = each-all (IsAccounted gone k) (IsAccounted gone (with_message k f.end (Some message))) xids (message-each gone k f.end message g) h.each;
-      revoked = revoked-kept gone (λ (o : OutstandingCall). not (eqb o.xid (word_at 0 message))) k.outstanding h.revoked;
+      revoked = each-kept (RevokedGone gone) (λ (o : OutstandingCall). not (eqb o.xid (word_at 0 message))) k.outstanding h.revoked;
     }
 
 segment-accounts : (gone : ℕ → Bool) (xids : List ℕ) (k : ClientState) (f : Frame) (r : Result Segment ℕ) → ((message : List ℕ) → segment_message k r ≡ Some message → end_of_verdict f (verdict k f.end message) ≡ None) → CallsAccounted gone xids k → CallsAccounted gone xids (with_segment k f r)

@@ -20,7 +20,7 @@ use Rattle.nr_laws.specs.FrameContents.{FrameContent, total_of, sends_in, call_f
 use Rattle.nr_laws.specs.FrameContents.FrameContent.{HelloFrame, SendFrame, RequestFrame, TaggedFrame}
 use Rattle.nr_laws.specs.LinkInvariants.{AreAtMost}
 use Rattle.nr_laws.proofs.PendingSends.{verdict-new}
-use Rattle.nr_laws.proofs.Basics.{each-append}
+use Rattle.nr_laws.proofs.Basics.{each-append, each-kept}
 use Rattle.nr_laws.proofs.EachEffect.{held-messages, held-responses, send-effect, tagged-effect}
 
 -- the messages among some frames have these xids, one after the other
@@ -70,14 +70,6 @@ xids-asked opened x (o ∷ os) h own = (own.0 ∙ h.0, xids-asked opened (x + 1)
 abbrev pub IsNumbered : ℕ → PendingCall → Type 0
 IsNumbered first c = c.xid + 1 ≡ first + c.number
 
-pub numbered-kept : (first : ℕ) (p : PendingCall → Bool) (cs : List PendingCall) → AllByRecursion (IsNumbered first) cs → AllByRecursion (IsNumbered first) (filter p cs)
-numbered-kept first p [] h = tt
-numbered-kept first p (c ∷ cs) h = by (p c) (numbered-kept first p cs h.1)
-  where
-    by : (b : Bool) → AllByRecursion (IsNumbered first) (filter p cs) → AllByRecursion (IsNumbered first) (cond b (c ∷ filter p cs) (filter p cs))
-    by true k = (h.0, k)
-    by false k = k
-
 pub numbered-send : (first : ℕ) (k : ServerState) (f : Frame) (message : List ℕ) → k.received.begun ≡ None → word_at 0 message ≡ first + k.received.sends → AllByRecursion (IsNumbered first) k.calls
     → frame_segment f ≡ Ok (Untagged true OPCODE_SEND 0 QUEUE_SEND (msn_word (k.received.sends + 1)) 0 message) → AllByRecursion (IsNumbered first) (frame_effect k f).calls
 numbered-send first k f message none own h is =
@@ -92,7 +84,7 @@ numbered-send first k f message none own h is =
 pub numbered-tagged : (first : ℕ) (k : ServerState) (f : Frame) (last : Bool) (opcode stag to : ℕ) (payload : List ℕ) → AllByRecursion (IsNumbered first) k.calls → frame_segment f ≡ Ok (Tagged last opcode stag to payload) → AllByRecursion (IsNumbered first) (frame_effect k f).calls
 numbered-tagged first k f last opcode stag to payload h is =
     tagged-effect k (λ s. AllByRecursion (IsNumbered first) s.calls)
-    (held-responses k (λ calls reads regions. AllByRecursion (IsNumbered first) calls) h (λ c s g. numbered-kept first (λ other. not (eqb other.number c.number)) s.calls g) (λ r reads is. h)) f last opcode stag to payload is
+    (held-responses k (λ calls reads regions. AllByRecursion (IsNumbered first) calls) h (λ c s g. each-kept (IsNumbered first) (λ other. not (eqb other.number c.number)) s.calls g) (λ r reads is. h)) f last opcode stag to payload is
 
 -- none of these has the xid of the next Send
 pub none-pending : (first n x : ℕ) (cs : List PendingCall) → AllByRecursion (IsNumbered first) cs → AreAtMost (λ (c : PendingCall). c.number) n cs → x ≡ first + n → list_any (λ (c : PendingCall). eqb c.xid x) cs ≡ false

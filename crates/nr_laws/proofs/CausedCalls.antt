@@ -17,15 +17,9 @@ use Rattle.nr_laws.specs.MatchedSoFar.{MatchedSoFar}
 use Rattle.nr_laws.specs.ChunkOutcomes.{CausedCallsComplete}
 use Rattle.nr_laws.proofs.SettledLinks.{calls-complete}
 use Rattle.nr_laws.proofs.ChunkCauses.{others_have_no_cause}
+use Rattle.nr_laws.proofs.LawsSoFar.{laws-so-far}
 
 -- ---- Laws in full hold so far
-
-pub full-so-far : (opened : LinkParameters) (link : ℕ) (run : List Mark) → Asked opened link run → Served opened link run → Matched link run → MatchedSoFar opened link run
-full-so-far opened link run asked served matched = record {
-  asked = AtEachMark-each (AskedMark IsAll opened link) (AskedMark IsPrefixOf opened link) [] run (asked-mark opened link) asked.each;
-  served = AtEachMark-each (ServedMark IsAll opened link) (ServedMark IsPrefixOf opened link) [] run (served-mark opened link) served.each;
-  matched = matched;
-}
 
 -- ---- A completed call has its Done
 
@@ -82,4 +76,4 @@ caused_calls_complete opened link run typed asked served matched settled due a k
 
     by : (c.0 ≡ outcomes.Chunk) ⊎ ((c.0 ≡ outcomes.Chunk) → ⊥) → Contains (completed_calls link run) (record { xid = a.xid; outcome = outcomes.Chunk })
     by (inl is) = subst (λ (o : Outcome). Contains (completed_calls link run) (record { xid = a.xid; outcome = o })) is c.1
-    by (inr other) = absurd (others_have_no_cause opened link run m.0 a.xid c.0 typed (full-so-far opened link run asked served matched) m.1 other cause)
+    by (inr other) = absurd (others_have_no_cause opened link run m.0 a.xid c.0 typed (laws-so-far opened link run asked.each served.each matched) m.1 other cause)

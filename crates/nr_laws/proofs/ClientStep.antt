@@ -52,7 +52,7 @@ use Rattle.nr_laws.proofs.TotalsAtClient.{down_one, request_payload}
 use Rattle.nr_laws.proofs.AnswerLists.{IsRead}
 use Rattle.nr_laws.proofs.Replies.{IsReply}
 use Rattle.nr_laws.proofs.RequestFields.{request-again}
-use Rattle.nr_laws.proofs.Writable.{IsWritable, AreWritable, IsOutput, proper_one, stream-first, stream-at}
+use Rattle.nr_laws.proofs.Writable.{IsWritable, AreWritable, IsOutput, proper_one, stream-first, stream-at, len_request}
 use Rattle.nr_laws.proofs.AgreeingEnds.{EndsAgree, IsPlace, frame_of}
 use Rattle.nr_laws.proofs.ClientFrame.{calls_said}
 use Rattle.nr_laws.proofs.AnsweredSteps.{answers-one}
@@ -159,21 +159,6 @@ hello-none : (k : ClientState) (f : Frame) → is_hello f ≡ true → hello_of 
 unfolding client_end
 hello-none k f is says = (λ i. cond (is i) (hello_end (says i)) (or_message_end k f (frame_end (readiness k) (region_grants f.end k.regions) f)))
 
-len-request : (sink at size stag to : ℕ) → length (request_payload sink at size stag to) ≡ 28
-len-request sink at size stag to =
-    omega (
-      arith,
-      length-append (word sink) (hyper at ++ (word size ++ (word stag ++ hyper to))),
-      length-append (hyper at) (word size ++ (word stag ++ hyper to)),
-      length-append (word size) (word stag ++ hyper to),
-      length-append (word stag) (hyper to),
-      length-word sink,
-      length-hyper at,
-      length-word size,
-      length-word stag,
-      length-hyper to,
-    )
-
 step-piece : (opened : LinkParameters) (k : ClientState) (s : ServerState) (u d all_up all_down : List FrameContent) (w : Transit) (place : ℕ) (p : FrameContent) (rest : List FrameContent) (f : Frame) → IsOpened opened → EndsAgree opened k s u d all_up all_down w → Guards opened k s u d all_up all_down w place → w.down ≡ p ∷ rest
     → IsWritable p → Carries k.received.sends k.received.requests f p → k.has_hello ≡ true → ClientStep opened k s u d all_up all_down w place p rest f
 unfolding frame_end
@@ -202,7 +187,7 @@ step-piece opened k s u d all_up all_down w place (RequestFrame sink at size sta
     let again = request-again sink at size stag to a.sink_word a.at_word a.size_word a.stag_word a.to_word in
     let fits : (read_request_in payload).sink_to + (read_request_in payload).size ≤ 2 ^ 64 = omega (arith, ap (λ (r : ReadRequest). r.sink_to + r.size) again, a.room) in
     let some : 0 < total_of requests_in w.down = omega (arith, ap (total_of requests_in) first) in
-    let flaw = request-flaw (readiness k (missing_access grants f segment)) payload (len-request sink at size stag to) fits (requests opened k s w l.counts some) in
+    let flaw = request-flaw (readiness k (missing_access grants f segment)) payload (len_request sink at size stag to) fits (requests opened k s w l.counts some) in
     let found : frame_end (readiness k) grants f ≡ end_of_fault f segment (first_fault (missing_fault (missing_access grants f segment) ∷ [])) =
     ap (λ (r : Result Segment ℕ). frame_end_by (readiness k) grants f r) reads ∙ ap (λ (x : Option (SegmentFault Denied)). end_of_fault f segment x) flaw in
     let ends = client-by k f (end_of_fault f segment (first_fault (missing_fault (missing_access grants f segment) ∷ []))) piece.behind found in

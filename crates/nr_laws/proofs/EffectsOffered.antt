@@ -18,11 +18,10 @@ use Rattle.nr_reduce.specs.ServerMessages.CallVerdict.{Refuses, IsReady}
 use Rattle.nr_reduce.specs.ServerMessages.Verdict.{MakesPending}
 use Rattle.nr_reduce.specs.ServerFrames.{FrameEffect, no_effect, with_verdict, with_refused_call, frame_effect}
 use Rattle.nr_laws.specs.FrameContents.FrameContent.{SendFrame}
-use Rattle.nr_laws.proofs.ReadLimits.{each-kept}
 use Rattle.nr_laws.proofs.PendingSends.{verdict-new}
 use Rattle.nr_laws.proofs.ServerReadsOfRuns.{verdict-lists}
 use Rattle.nr_laws.proofs.OfferedAccesses.{EntryOffered, ListsOffered, CallOffered, MessageOffered, ReadOffered}
-use Rattle.nr_laws.proofs.Basics.{each-append, each-drop, each-all}
+use Rattle.nr_laws.proofs.Basics.{each-append, each-drop, each-all, each-filter, each-kept}
 use Rattle.nr_laws.proofs.EachEffect.{send-effect, tagged-effect}
 
 -- ---- Lists
@@ -41,14 +40,6 @@ none-behind : {X : Type 0} (P : X → Type 0) (n : ℕ) (xs : List X) → AllByR
 none-behind P zero xs = tt
 none-behind P (suc n) [] = tt
 none-behind P (suc n) (x ∷ xs) = none-behind P n xs
-
-each-filter : {X : Type 0} (P Q : X → Type 0) (p : X → Bool) (xs : List X) → ((x : X) → p x ≡ true → P x → Q x) → AllByRecursion P xs → AllByRecursion Q (filter p xs)
-each-filter {X} P Q p [] f h = tt
-each-filter {X} P Q p (x ∷ xs) f h = by (p x) refl (each-filter P Q p xs f h.1)
-  where
-    by : (b : Bool) → p x ≡ b → AllByRecursion Q (filter p xs) → AllByRecursion Q (cond b (x ∷ filter p xs) (filter p xs))
-    by true e rest = (f x e h.0, rest)
-    by false e rest = rest
 
 -- ---- Reads of pending calls
 

@@ -35,7 +35,7 @@ use Rattle.nr_laws.proofs.TotalsAtClient.{down_one, after-is, says-is, request_p
 use Rattle.nr_laws.proofs.ReadsAtClient.{AnswersNone, reads-read_down, reads-says_up}
 use Rattle.nr_laws.proofs.ServerInvariant.{ServerAgrees}
 use Rattle.nr_laws.proofs.Replies.{IsReply}
-use Rattle.nr_laws.proofs.ReadLimits.{AreWithin, ReadFits, IsSmall, each-kept}
+use Rattle.nr_laws.proofs.ReadLimits.{AreWithin, ReadFits, IsSmall}
 use Rattle.nr_laws.proofs.RequestFields.{is-there}
 use Rattle.nr_laws.proofs.OwnXids.{segment-out}
 use Rattle.nr_laws.proofs.AgreeingEnds.{EndsAgree}
@@ -45,7 +45,7 @@ use Rattle.nr_laws.proofs.ClientFrame.{calls_said}
 use Rattle.nr_laws.proofs.AnsweredSteps.{Answered, answered-message, answered-same}
 use Rattle.nr_laws.proofs.Guards.{ClientContent, ServerContent, IsAsked, AreSized, Guards}
 use Rattle.nr_laws.proofs.GuardsAtServer.{each-at}
-use Rattle.nr_laws.proofs.Basics.{each-append, each-right, each-take}
+use Rattle.nr_laws.proofs.Basics.{each-append, each-right, each-take, each-kept}
 use Rattle.nr_laws.proofs.Sinks.{sinks-taken}
 
 pub front-down : (opened : LinkParameters) (k : ClientState) (s : ServerState) (u d all_up all_down : List FrameContent) (w : Transit) (place : ℕ) (p : FrameContent) (rest : List FrameContent) → EndsAgree opened k s u d all_up all_down w → Guards opened k s u d all_up all_down w place → w.down ≡ p ∷ rest → ServerContent opened.granted p

@@ -83,7 +83,7 @@ module _ (reply_to : List Entry → Moment → List ℕ → Option (List ℕ)) (
   client-stays run h down end up = by (client-ends-for-replies opened link run opens h.typed h.laws down end up)
     where
       by : IsReplyEnd end ⊎ IsDenied end → ⊥
-      by (inl (at, reason, is, own)) = client-reads-replies reply_to adds opened link run opens h.typed (laws-so-far opened link run h.laws) h.plainly plain at reason own (up ∙ ap (λ (x : End). Some x) is)
+      by (inl (at, reason, is, own)) = client-reads-replies reply_to adds opened link run opens h.typed (laws-so-far opened link run h.laws.client h.laws.server h.laws.matched) h.plainly plain at reason own (up ∙ ap (λ (x : End). Some x) is)
       by (inr (stag, offset, why, is)) = client-not-denied opened link run opens h.typed h.laws h.kept down stag offset why (up ∙ ap (λ (x : End). Some x) is)
 
   mark-stays : (before : List Mark) (mark : Mark) → AreAsked reply_to adds opened link (before ++ mark ∷ []) → (client opened link before).ended ≡ None → (server opened link before).ended ≡ None

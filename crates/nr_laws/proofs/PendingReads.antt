@@ -12,9 +12,8 @@ use Rattle.nr_reduce.specs.ServerMessages.Verdict.{MakesPending}
 use Rattle.nr_reduce.specs.ServerFrames.{FrameEffect, with_refused_call, frame_effect}
 use Rattle.nr_laws.specs.LinkInvariants.{AreAtMost, PendingAgree}
 use Rattle.nr_laws.proofs.Keys.{any-right}
-use Rattle.nr_laws.proofs.ReadLimits.{each-kept}
 use Rattle.nr_laws.proofs.PendingSends.{verdict-new}
-use Rattle.nr_laws.proofs.Basics.{each-append, each-take, each-drop}
+use Rattle.nr_laws.proofs.Basics.{each-append, each-take, each-drop, each-kept}
 use Rattle.nr_laws.proofs.EachEffect.{each-effect, held-messages, held-responses}
 
 abbrev pub HasPosition : ℕ → List ReadSegment → Type 0

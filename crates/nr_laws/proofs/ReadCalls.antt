@@ -82,5 +82,5 @@ pub server-stays : (opened : LinkParameters) (link : ℕ) (run : List Mark) → 
 unfolding end_of_side
 server-stays opened link run opens typed laws conveyed up end down =
     let c : IsCallEnd end = server-ends-for-calls opened link run opens typed laws up end down in
-    let far = laws-so-far opened link run laws in
+    let far = laws-so-far opened link run laws.client laws.server laws.matched in
     not-refused opened link run typed far conveyed (refused-at opened link run typed far c.0 c.1 c.3 (down ∙ ap (λ (x : End). Some x) c.2))

@@ -23,7 +23,7 @@ use Rattle.nr_reduce.specs.ServerMessages.Verdict.{MakesPending}
 use Rattle.nr_reduce.specs.ServerFrames.{FrameEffect, with_refused_call, frame_effect}
 use Rattle.nr_laws.proofs.WritableOffers.{EntriesFit, verdict_fits, verdict_few}
 use Rattle.nr_laws.proofs.ServerInvariant.{length-from}
-use Rattle.nr_laws.proofs.Basics.{above-zero, each-append, each-take, each-drop}
+use Rattle.nr_laws.proofs.Basics.{above-zero, each-append, each-take, each-drop, each-kept}
 use Rattle.nr_laws.proofs.EachEffect.{held-messages, held-responses, send-effect, tagged-effect}
 
 abbrev pub ReadFits : PendingRead → Type 0
@@ -38,14 +38,6 @@ pub record AreWithin (reads : List PendingRead) (regions : List Region) : Type 0
   pub small : AllByRecursion IsSmall regions
 
 -- ---- Lists
-
-pub each-kept : {X : Type 0} (P : X → Type 0) (p : X → Bool) (xs : List X) → AllByRecursion P xs → AllByRecursion P (filter p xs)
-each-kept P p [] h = tt
-each-kept P p (x ∷ xs) h = by (p x) (each-kept P p xs h.1)
-  where
-    by : (b : Bool) → AllByRecursion P (filter p xs) → AllByRecursion P (cond b (x ∷ filter p xs) (filter p xs))
-    by true k = (h.0, k)
-    by false k = k
 
 -- ---- A call's reads and regions
 

@@ -29,11 +29,10 @@ use Rattle.nr_laws.specs.Typed.{IsTyped}
 use Rattle.nr_laws.specs.MarkAt.{MarkAt}
 use Rattle.nr_laws.specs.MatchedSoFar.{MatchedSoFar}
 use Rattle.nr_laws.specs.ChunkOutcomes.{RefusesChunks, HasRefusedSend}
-use Rattle.nr_laws.proofs.ExecuteMarks.{PartedTwo, parted-two}
-use Rattle.nr_laws.proofs.ExecuteMarks.PartedTwo.{InFirst, InSecond}
 use Rattle.nr_laws.proofs.OnceByXid.{ExecutedAt, at-mark, executed-at}
 use Rattle.nr_laws.proofs.Following.{events-more}
-use Rattle.nr_laws.proofs.Basics.{first-is}
+use Rattle.nr_laws.proofs.Basics.{first-is, PartedTwo, parted-two}
+use Rattle.nr_laws.proofs.Basics.PartedTwo.{InFirst, InSecond}
 
 as-refused : (k : ServerState) (f : Frame) (segment : Segment) (n : ℕ) → RefusesChunks k f segment n → RefusesSend k f segment n
 as-refused k f segment n (inl (message, (whole, (number, bad)))) = inl (message, (whole, (number, inl bad)))
