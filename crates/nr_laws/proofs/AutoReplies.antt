@@ -1,5 +1,5 @@
 -- A call in form Auto that completes has a reply, where a plain server replies.
-use Rattle.std.proofs.Common.{◌≡◌, ℕ, List, Some, Ok, refl, sym, ap, subst, ◌∙◌, arith, inl, inr, ◌⊎◌}
+use Rattle.std.proofs.Common.{◌≡◌, ℕ, List, Ok, refl, sym, ap, subst, ◌∙◌, arith, inl, inr, ◌⊎◌}
 use Rattle.nr_xdr.specs.Item.{IsBytes}
 use Rattle.nr_rpc.specs.Reading.{call_of, target_of}
 use Rattle.nr_header.specs.declared.header.ChunkLists.{ChunkLists}
@@ -36,9 +36,7 @@ use Rattle.nr_laws.proofs.ChunkCauses.{ExecuteNotHeld, chunk-caused}
 use Rattle.nr_laws.proofs.LaterMarks.{mark-later}
 use Rattle.nr_laws.proofs.OwnPlans.{one-form}
 use Rattle.nr_laws.proofs.OwnMessages.{no_own_plan_is_refused}
-
-some-payload : (own payload : List ℕ) → Some own ≡ Some payload → own ≡ payload
-some-payload own payload e = cc
+use Rattle.nr_laws.proofs.Basics.{some-is}
 
 pub auto_has_replies : AutoHasReplies
 auto_has_replies reply_to adds opened link run earlier before call xid outcome plain plainly typed far at done = by outcome done
@@ -74,7 +72,7 @@ auto_has_replies reply_to adds opened link run earlier before call xid outcome p
         let execute : Mark = marks.Execute link xid u.moment u.payload u.place u.reply in
         let executed = mark-later run before mark chunk.after u.before execute chunk.is u.at in
         let own : call_payload xid call ≡ u.payload =
-        some-payload (call_payload xid call) u.payload (payloads_are_own opened link run u.before xid plan u.moment u.payload u.place u.reply typed far has executed) in
+        some-is (call_payload xid call) u.payload (payloads_are_own opened link run u.before xid plan u.moment u.payload u.place u.reply typed far has executed) in
         let offer = offers_are_planned opened link run u.before xid plan u.moment u.payload u.place u.reply typed far has executed in
         let replied = at-mark (PlainMark (server_with reply_to adds)) run u.before execute executed.after executed.is plainly in
         plain.auto (journal (server_with reply_to adds) u.before) u.moment u.payload u.reply send_max send_max (client opened link earlier).state.stag plan (subst IsBytes own bytes) replied (omega arith)

@@ -167,3 +167,7 @@ pub mod LaterMarks
 pub mod RefusedMessages
 pub mod OwnMessages
 pub mod WrittenAnswers
+pub mod Basics
+pub mod EachEffect
+pub mod EachFault
+pub mod MadePending

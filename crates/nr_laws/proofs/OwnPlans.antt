@@ -1,5 +1,5 @@
 -- The message of a plan whose form isn't given is never judged to have bad chunks; the reads that a pending call has are its own.
-use Rattle.std.proofs.Common.{◌≡◌, ℕ, ◌+◌, ◌^◌, ◌≤◌, ◌<◌, Bool, true, false, cond, not, ◌||◌, eqb, ltb, List, [], ◌∷◌, ◌++◌, length, drop, Some, Ok, refl, sym, ap, subst, ◌∙◌, arith, length-append}
+use Rattle.std.proofs.Common.{◌≡◌, ℕ, ◌+◌, ◌^◌, ◌≤◌, ◌<◌, Bool, true, false, cond, not, ◌||◌, eqb, List, [], ◌∷◌, ◌++◌, length, drop, Some, Ok, refl, sym, ap, subst, ◌∙◌, arith, length-append}
 use Rattle.std.specs.List.{find, AllByRecursion}
 use Rattle.nr_xdr.specs.Item.{IsBytes, word}
 use Rattle.nr_xdr.specs.Items.{encodings}
@@ -9,7 +9,7 @@ use Rattle.nr_rpc.specs.declared.head.CallHead.TheVariants.{Version2}
 use Rattle.nr_rpc.specs.Credential.{auth_of, no_verifier}
 use Rattle.nr_rpc.specs.Call.{version2_items, call_head}
 use Rattle.nr_header.specs.Reading.{header_of}
-use Rattle.nr_link.specs.Reasons.{REASON_STAGS, REASON_KIND, REASON_CALL}
+use Rattle.nr_link.specs.Reasons.{REASON_KIND, REASON_CALL}
 use Rattle.nr_reduce.specs.declared.call.Call.{Call}
 use Rattle.nr_reduce.specs.declared.call.Form.{Form}
 use Rattle.nr_reduce.specs.declared.call.Submission.TheVariants as submissions
@@ -17,15 +17,15 @@ use Rattle.nr_reduce.specs.declared.mark.Mark.{Mark}
 use Rattle.nr_reduce.specs.declared.mark.Mark.TheVariants as marks
 use Rattle.nr_reduce.specs.declared.mark.LinkParameters.{LinkParameters}
 use Rattle.nr_reduce.specs.declared.outline.Plan.{Plan}
-use Rattle.nr_reduce.specs.Limits.{send_max, numbers_end}
+use Rattle.nr_reduce.specs.Limits.{send_max}
 use Rattle.nr_reduce.specs.Plans.{plan_of, regions_needed, call_message}
 use Rattle.nr_reduce.specs.Undone.{IsNotGiven}
 use Rattle.nr_reduce.specs.ClientState.{call_payload}
-use Rattle.nr_reduce.specs.ServerState.{ServerState, PendingCall, PendingRead, next_stag, is_pending}
-use Rattle.nr_reduce.specs.ServerReads.{chunks_of}
-use Rattle.nr_reduce.specs.ServerMessages.{Verdict, verdict, by_need, by_header}
-use Rattle.nr_reduce.specs.ServerMessages.Verdict.{EndsLink, OtherVersion, BadChunks, MakesPending}
+use Rattle.nr_reduce.specs.ServerState.{ServerState, PendingCall, PendingRead, is_pending}
+use Rattle.nr_reduce.specs.ServerMessages.{Verdict, verdict, by_header}
+use Rattle.nr_reduce.specs.ServerMessages.Verdict.{EndsLink, OtherVersion, BadChunks}
 use Rattle.nr_reduce.specs.Asked.{AskedSoFar}
+use Rattle.nr_reduce.proofs.BadMessages.{need-fine}
 use Rattle.nr_reduce.proofs.Opens.{opens_call}
 use Rattle.nr_laws.proofs.HeaderXid.{call-xid}
 use Rattle.nr_laws.proofs.SubmittedPlans.{same-submit}
@@ -51,18 +51,11 @@ refused-free : (k : ServerState) (m : List ℕ) → verdict k m ≡ BadChunks �
 unfolding verdict
 refused-free k m e = free-by k m (not (eqb (word_at 4 m) 1)) (eqb (word_at 12 m) 3 || eqb (word_at 12 m) 4) (is_pending k (word_at 0 m)) (by_header k m (header_of m)) e
 
-need-suits : (k : ServerState) (c : PendingCall) → by_need k c ≡ BadChunks → ⊥
-need-suits k c e = by (ltb numbers_end (next_stag k + length (chunks_of c.lists))) e
-  where
-    by : (b : Bool) → cond b (EndsLink REASON_STAGS) (MakesPending c) ≡ BadChunks → ⊥
-    by true e = absurd cc
-    by false e = absurd cc
-
 pub plan-suits : (k : ServerState) (payload : List ℕ) (form : Form) (xid credit stag : ℕ) (p : Plan) → IsBytes payload → IsNotGiven form → plan_of payload form send_max send_max ≡ Ok p → 0 < length payload → xid < 2 ^ 32 → credit < 2 ^ 32
     → stag + regions_needed p ≤ 2 ^ 32 → verdict k (call_message xid credit stag p) ≡ BadChunks → ⊥
 plan-suits k payload form xid credit stag p bytes own planned some small_x small_c room bad =
     let free : is_pending k xid ≡ false = ap (λ (x : ℕ). is_pending k x) (sym (call-xid xid credit stag p (omega (arith, small_x)))) ∙ refused-free k (call_message xid credit stag p) bad in
-    need-suits k _ (sym (opens_call k payload form send_max send_max xid credit stag p bytes own planned some small_x small_c room free) ∙ bad)
+    need-fine k _ (sym (opens_call k payload form send_max send_max xid credit stag p bytes own planned some small_x small_c room free) ∙ bad)
 
 -- ---- Its stream
 
