@@ -21,9 +21,10 @@ use Rattle.nr_reduce.proofs.Steps.{events-one}
 use Rattle.nr_laws.specs.Typed.{IsTyped}
 use Rattle.nr_laws.proofs.Along.{GoesOn, goes-first}
 use Rattle.nr_laws.proofs.ClientRun.{client-goes}
-use Rattle.nr_laws.proofs.ClientSays.{ClientGood, accepted_in, accepted-append, stag_behind, start}
+use Rattle.nr_laws.proofs.ClientSays.{ClientGood, accepted_in, accepted-append}
 use Rattle.nr_laws.proofs.ClientMemory.{HasBuffers, AllBacked, backed-at, keeps-along}
 use Rattle.nr_laws.proofs.Following.{events-more}
+use Rattle.nr_reduce.proofs.Waiting.{start, stag_behind}
 
 from-split : (k : ClientState) (stag : ℕ) (xs : List AcceptedCall) (a : AcceptedCall) (ys : List AcceptedCall) →
     outstanding_from k stag (xs ++ a ∷ ys) ≡ outstanding_from k stag xs ++ outstanding_of (record k { stag = stag_behind k stag xs }) a ∷ outstanding_from k (stag_behind k stag xs + regions_needed (outstanding_of (record k { stag = stag_behind k stag xs }) a).plan) ys

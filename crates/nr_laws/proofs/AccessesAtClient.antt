@@ -24,14 +24,14 @@ use Rattle.nr_reduce.specs.ServerState.{ServerState}
 use Rattle.nr_laws.specs.Typed.{IsTypedForm}
 use Rattle.nr_laws.specs.FrameContents.{FrameContent, call_frame, client_frames, response_frames, tagged_frame, tagged_frames, Carries}
 use Rattle.nr_laws.specs.FrameContents.FrameContent.{HelloFrame, SendFrame, RequestFrame, TaggedFrame}
-use Rattle.nr_laws.proofs.ReadLimits.{each-append, each-kept}
 use Rattle.nr_laws.proofs.TotalsAtServer.{segment-is}
 use Rattle.nr_laws.proofs.TotalsAtClient.{after-is, says-is, request_payload}
 use Rattle.nr_laws.proofs.ClientFrame.{says-hello, after-hello}
 use Rattle.nr_laws.proofs.OwnEvents.{planned}
 use Rattle.nr_laws.proofs.AnsweredCalls.{message_xids, times, xids-append, times-append}
 use Rattle.nr_laws.proofs.OfferedPlans.{planned-offered}
-use Rattle.nr_laws.proofs.OfferedAccesses.{CallOffered, MessageOffered, CallAsked, ReadOffered, IsLive, IsEarly, AccessesAgree, OffersMore, offers-same, offers-left, offers-right, offers-closed, each-all, lists-more, message-more, read-more, accesses-more}
+use Rattle.nr_laws.proofs.OfferedAccesses.{CallOffered, MessageOffered, CallAsked, ReadOffered, IsLive, IsEarly, AccessesAgree, OffersMore, offers-same, offers-left, offers-right, offers-closed, lists-more, message-more, read-more, accesses-more}
+use Rattle.nr_laws.proofs.Basics.{each-append, each-all, each-kept}
 
 -- ---- More regions, and more that is received
 

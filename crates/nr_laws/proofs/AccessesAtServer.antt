@@ -24,13 +24,13 @@ use Rattle.nr_reduce.specs.Server.{server_state_after, with_effect, newly_open_r
 use Rattle.nr_laws.specs.FrameContents.{FrameContent, tagged_frames, write_frames, answer_frames, request_frame, effect_frames, server_frames}
 use Rattle.nr_laws.specs.FrameContents.FrameContent.{HelloFrame, SendFrame, RequestFrame, TaggedFrame}
 use Rattle.nr_laws.specs.LinkInvariants.{AreWhole}
-use Rattle.nr_laws.proofs.ReadLimits.{each-append, each-drop, each-kept}
 use Rattle.nr_laws.proofs.AgreeingEnds.{says-hello, says-frame, after-hello}
 use Rattle.nr_laws.proofs.CallNumbers.{IsNumbered}
 use Rattle.nr_laws.proofs.AnsweredCalls.{message_xids, times, call_xids, xids-append, times-append}
 use Rattle.nr_laws.proofs.AnsweredSteps.{given_to}
 use Rattle.nr_laws.proofs.EffectsOffered.{EffectOffered, read-kept}
 use Rattle.nr_laws.proofs.OfferedAccesses.{IsOffered, PartOffered, ListsOffered, CallOffered, ReadOffered, IsAccess, AreAccesses, AccessesAgree, offered-less, accesses-append, accesses-each, accesses-messages}
+use Rattle.nr_laws.proofs.Basics.{each-append, each-drop, each-kept}
 
 -- ---- What the server says more
 

@@ -1,5 +1,5 @@
 -- Each call that a client accepted is outstanding, has an outcome, or was given up: whatever is received, while the client doesn't end.
-use Rattle.std.proofs.Common.{◌≡◌, ◌≢◌, ℕ, Bool, true, false, cond, not, ◌&&◌, ◌||◌, eqb, List, [], ◌∷◌, ◌++◌, map, drop, filter, Option, Some, None, Result, Ok, Err, refl, sym, ap, subst, ◌∙◌}
+use Rattle.std.proofs.Common.{◌≡◌, ℕ, Bool, true, false, cond, not, ◌&&◌, ◌||◌, eqb, List, [], ◌∷◌, ◌++◌, map, drop, filter, Option, Some, None, Result, Ok, Err, refl, sym, ap, subst, ◌∙◌}
 use Rattle.std.specs.List.{list_any, find, AllByRecursion}
 use Rattle.std.proofs.lemmas.Bool.{eqb-true, eq-eqb}
 use Rattle.nr_header.specs.declared.fault.HeaderFault.{HeaderFault}
@@ -28,7 +28,9 @@ use Rattle.nr_reduce.specs.ClientMessages.{Verdict, verdict, by_head, by_payload
 use Rattle.nr_reduce.specs.ClientMessages.Verdict.{EndsLink, GivesOutcome}
 use Rattle.nr_reduce.specs.Client.{client_end, client_state_after, end_of_verdict, outstanding_of, outcomes_of, revoked_call, written_call, with_message, with_request, with_segment, segment_message, message_end}
 use Rattle.nr_laws.proofs.Keys.{any-append, or-left, or-right}
-use Rattle.nr_laws.proofs.TotalsAtClient.{header-xid, taken}
+use Rattle.nr_laws.proofs.TotalsAtClient.{taken}
+use Rattle.nr_laws.proofs.Basics.{some-not, each-all, each-kept}
+use Rattle.nr_laws.proofs.HeaderXid.{header-xid}
 
 -- ---- A message that doesn't end the client gives an outcome of the call of its xid, or that call's memory was revoked
 
@@ -41,15 +43,12 @@ record GivenOutcome (gone : ℕ → Bool) (xid : ℕ) (v : Verdict) : Type 0 whe
 abbrev pub RevokedGone : (ℕ → Bool) → OutstandingCall → Type 0
 RevokedGone gone o = o.is_revoked ≡ true → gone o.xid ≡ true
 
-some_not : (x : Outcome) → Some x ≢ None
-some_not x e = cc
-
 given-head : (gone : ℕ → Bool) (f : Frame) (xid : ℕ) (payload : List ℕ) (r : Result ReplyHead ℕ) → end_of_verdict f (by_head xid payload r) ≡ None → GivenOutcome gone xid (by_head xid payload r)
 given-head gone f xid payload (Err at) e = absurd cc
 given-head gone f xid payload (Ok head) e = by (eqb (reply_xid head) xid) e
   where
     by : (b : Bool) → end_of_verdict f (cond b (GivesOutcome xid (Some (outcomes.Reply payload))) (EndsLink 19)) ≡ None → GivenOutcome gone xid (cond b (GivesOutcome xid (Some (outcomes.Reply payload))) (EndsLink 19))
-    by true e = record { outcome = Some (outcomes.Reply payload); is = refl; if_none = λ x. absurd (some_not (outcomes.Reply payload) x) }
+    by true e = record { outcome = Some (outcomes.Reply payload); is = refl; if_none = λ x. absurd (some-not (outcomes.Reply payload) x) }
     by false e = absurd cc
 
 given-payload : (gone : ℕ → Bool) (f : Frame) (xid : ℕ) (payload : Option (List ℕ)) → end_of_verdict f (by_payload xid payload) ≡ None → GivenOutcome gone xid (by_payload xid payload)
@@ -71,8 +70,8 @@ given-lists gone k f o inline lists true h e = by o.is_revoked refl e
 given-body : (gone : ℕ → Bool) (k : ClientState) (f : Frame) (message : List ℕ) (o : OutstandingCall) (body : Body) → RevokedGone gone o → end_of_verdict f (by_body k f.end o message body) ≡ None → GivenOutcome gone o.xid (by_body k f.end o message body)
 given-body gone k f message o (Msg lists at) h e = given-lists gone k f o (Some (drop at message)) lists (answers_offer false (lists_of o.stag o.plan) lists) h e
 given-body gone k f message o (Nomsg lists) h e = given-lists gone k f o None lists (answers_offer true (lists_of o.stag o.plan) lists) h e
-given-body gone k f message o (ErrVers version low high) h e = record { outcome = Some (outcomes.Version low high); is = refl; if_none = λ x. absurd (some_not (outcomes.Version low high) x) }
-given-body gone k f message o (ErrChunk version) h e = record { outcome = Some outcomes.Chunk; is = refl; if_none = λ x. absurd (some_not outcomes.Chunk x) }
+given-body gone k f message o (ErrVers version low high) h e = record { outcome = Some (outcomes.Version low high); is = refl; if_none = λ x. absurd (some-not (outcomes.Version low high) x) }
+given-body gone k f message o (ErrChunk version) h e = record { outcome = Some outcomes.Chunk; is = refl; if_none = λ x. absurd (some-not outcomes.Chunk x) }
 
 -- what is found
 record FoundCall (gone : ℕ → Bool) (xid : ℕ) (o : OutstandingCall) : Type 0 where
@@ -126,24 +125,12 @@ pub record CallsAccounted (gone : ℕ → Bool) (xids : List ℕ) (k : ClientSta
   pub each : AllByRecursion (IsAccounted gone k) xids
   pub revoked : AllByRecursion (RevokedGone gone) k.outstanding
 
-each-to : (P Q : ℕ → Type 0) (xids : List ℕ) → ((x : ℕ) → P x → Q x) → AllByRecursion P xids → AllByRecursion Q xids
-each-to P Q [] f h = tt
-each-to P Q (x ∷ xids) f h = (f x h.0, each-to P Q xids f h.1)
-
 either : (a b c d e f : Bool) → (a ≡ true → d ≡ true) → (b ≡ true → e ≡ true) → (c ≡ true → f ≡ true) → (a || (b || c)) ≡ true → (d || (e || f)) ≡ true
 either true b c d e f p q r h = or-left d (e || f) (p refl)
 either false true c d e f p q r h = or-right d (e || f) (or-left e f (q refl))
 either false false c d e f p q r h = or-right d (e || f) (or-right e f (r h))
 
 -- ---- A frame
-
-revoked-kept : (gone : ℕ → Bool) (p : OutstandingCall → Bool) (os : List OutstandingCall) → AllByRecursion (RevokedGone gone) os → AllByRecursion (RevokedGone gone) (filter p os)
-revoked-kept gone p [] h = tt
-revoked-kept gone p (o ∷ os) h = by (p o) (revoked-kept gone p os h.1)
-  where
-    by : (b : Bool) → AllByRecursion (RevokedGone gone) (filter p os) → AllByRecursion (RevokedGone gone) (cond b (o ∷ filter p os) (filter p os))
-    by true k = (h.0, k)
-    by false k = k
 
 differ : (n xid : ℕ) → eqb n xid ≡ true → (other : ℕ) → eqb xid other ≡ false → eqb n other ≡ false
 differ n xid e other not_other = ap (λ (x : ℕ). eqb x other) (eqb-true n xid e) ∙ not_other
@@ -199,8 +186,8 @@ message-accounts gone xids k f None stays h = h
 message-accounts gone xids k f (Some message) stays h =
     let g = given gone k f message h.revoked (stays message refl) in
     record {
-      each = each-to (IsAccounted gone k) (IsAccounted gone (with_message k f.end (Some message))) xids (message-each gone k f.end message g) h.each;
-      revoked = revoked-kept gone (λ (o : OutstandingCall). not (eqb o.xid (word_at 0 message))) k.outstanding h.revoked;
+      each = each-all (IsAccounted gone k) (IsAccounted gone (with_message k f.end (Some message))) xids (message-each gone k f.end message g) h.each;
+      revoked = each-kept (RevokedGone gone) (λ (o : OutstandingCall). not (eqb o.xid (word_at 0 message))) k.outstanding h.revoked;
     }
 
 segment-accounts : (gone : ℕ → Bool) (xids : List ℕ) (k : ClientState) (f : Frame) (r : Result Segment ℕ) → ((message : List ℕ) → segment_message k r ≡ Some message → end_of_verdict f (verdict k f.end message) ≡ None) → CallsAccounted gone xids k → CallsAccounted gone xids (with_segment k f r)
@@ -237,14 +224,14 @@ revoked-map gone f (o ∷ os) kept h = (kept o h.0, revoked-map gone f os kept h
 -- more is given up
 pub accounts-gone : (gone later : ℕ → Bool) (xids : List ℕ) (k : ClientState) → ((x : ℕ) → gone x ≡ true → later x ≡ true) → CallsAccounted gone xids k → CallsAccounted later xids k
 accounts-gone gone later xids k more h = record {
-  each = each-to (IsAccounted gone k) (IsAccounted later k) xids (λ x. either (is_outstanding k.outstanding x) (has_outcome k.outcomes x) (gone x) (is_outstanding k.outstanding x) (has_outcome k.outcomes x) (later x) (λ z. z) (λ z. z) (more x)) h.each;
+  each = each-all (IsAccounted gone k) (IsAccounted later k) xids (λ x. either (is_outstanding k.outstanding x) (has_outcome k.outcomes x) (gone x) (is_outstanding k.outstanding x) (has_outcome k.outcomes x) (later x) (λ z. z) (λ z. z) (more x)) h.each;
   revoked = revoked-to gone later k.outstanding more h.revoked;
 }
 
 pub written-accounts : (opened : LinkParameters) (gone : ℕ → Bool) (xids : List ℕ) (k : ClientState) → CallsAccounted gone xids k → CallsAccounted gone xids (client_state_after opened k QueueWritten)
 unfolding client_state_after
 written-accounts opened gone xids k h = record {
-  each = each-to (IsAccounted gone k) (IsAccounted gone (client_state_after opened k QueueWritten)) xids
+  each = each-all (IsAccounted gone k) (IsAccounted gone (client_state_after opened k QueueWritten)) xids
       (λ x h. ap (λ (b : Bool). b || (has_outcome k.outcomes x || gone x)) (any-map (written_call k.has_hello) k.outstanding x (λ o. refl)) ∙ h) h.each;
   revoked = revoked-map gone (written_call k.has_hello) k.outstanding (λ o kept. kept) h.revoked;
 }
@@ -252,7 +239,7 @@ written-accounts opened gone xids k h = record {
 pub revoked-accounts : (opened : LinkParameters) (gone : ℕ → Bool) (xids : List ℕ) (k : ClientState) (place xid : ℕ) → gone xid ≡ true → CallsAccounted gone xids k → CallsAccounted gone xids (client_state_after opened k (MemoryRevoked place xid))
 unfolding client_state_after
 revoked-accounts opened gone xids k place xid is h = record {
-  each = each-to (IsAccounted gone k) (IsAccounted gone (client_state_after opened k (MemoryRevoked place xid))) xids
+  each = each-all (IsAccounted gone k) (IsAccounted gone (client_state_after opened k (MemoryRevoked place xid))) xids
       (λ x h. ap (λ (b : Bool). b || (has_outcome k.outcomes x || gone x)) (any-map (revoked_call xid) k.outstanding x same) ∙ h) h.each;
   revoked = revoked-map gone (revoked_call xid) k.outstanding kept h.revoked;
 }
@@ -274,7 +261,7 @@ revoked-accounts opened gone xids k place xid is h = record {
 pub submit-accounts : (opened : LinkParameters) (gone : ℕ → Bool) (xids : List ℕ) (k : ClientState) (place : ℕ) (a : AcceptedCall) → CallsAccounted gone xids k → CallsAccounted gone (xids ++ a.xid ∷ []) (client_state_after opened k (CallSubmitted place a))
 unfolding client_state_after
 submit-accounts opened gone xids k place a h = record {
-  each = push xids (each-to (IsAccounted gone k) (IsAccounted gone (client_state_after opened k (CallSubmitted place a))) xids
+  each = push xids (each-all (IsAccounted gone k) (IsAccounted gone (client_state_after opened k (CallSubmitted place a))) xids
       (λ x. either (is_outstanding k.outstanding x) (has_outcome k.outcomes x) (gone x) (is_outstanding (k.outstanding ++ outstanding_of k a ∷ []) x) (has_outcome k.outcomes x) (gone x)
       (λ e. any-append (λ (o : OutstandingCall). eqb o.xid x) k.outstanding (outstanding_of k a ∷ []) ∙ or-left (is_outstanding k.outstanding x) (is_outstanding (outstanding_of k a ∷ []) x) e) (λ z. z) (λ z. z)) h.each);
   revoked = more k.outstanding h.revoked;

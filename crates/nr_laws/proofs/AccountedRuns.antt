@@ -18,22 +18,18 @@ use Rattle.nr_reduce.specs.Client.{client_rules, client_state_after}
 use Rattle.nr_reduce.specs.Run.{client}
 use Rattle.nr_reduce.proofs.Steps.{client-one}
 use Rattle.nr_laws.proofs.Keys.{any-append, or-left, or-right}
-use Rattle.nr_laws.proofs.Bytes.{one_more}
 use Rattle.nr_laws.proofs.ServerFrames.{lives}
 use Rattle.nr_laws.proofs.AgreeingRuns.{other-events}
 use Rattle.nr_laws.proofs.AgreeingMarks.{client-event}
 use Rattle.nr_laws.proofs.EachRun.{client-unended, no-events}
 use Rattle.nr_laws.proofs.AccountedCalls.{CallsAccounted, frame-accounts, accounts-gone, written-accounts, revoked-accounts, submit-accounts}
+use Rattle.nr_reduce.proofs.Waiting.{accepted-one}
 
 abbrev pub gone_in : ℕ → List Mark → ℕ → Bool
 gone_in link run xid = is_abandoned link xid run
 
 abbrev pub xids_in : ℕ → List Mark → List ℕ
 xids_in link run = map (λ (a : AcceptedCall). a.xid) (accepted_calls link run)
-
-accepted-one : (link : ℕ) (run : List Mark) (mark : Mark) → accepted_calls link (run ++ mark ∷ []) ≡ accepted_calls link run ++ accepted_at link mark
-unfolding accepted_calls
-accepted-one link run mark = one_more (accepted_at link) run mark
 
 xids-one : (link : ℕ) (run : List Mark) (mark : Mark) → xids_in link (run ++ mark ∷ []) ≡ xids_in link run ++ map (λ (a : AcceptedCall). a.xid) (accepted_at link mark)
 xids-one link run mark = ap (λ (xs : List AcceptedCall). map (λ (a : AcceptedCall). a.xid) xs) (accepted-one link run mark) ∙ map-append (λ (a : AcceptedCall). a.xid) (accepted_calls link run) (accepted_at link mark)

@@ -27,10 +27,11 @@ use Rattle.nr_laws.proofs.CompletedFrames.{is-piece}
 use Rattle.nr_laws.proofs.TotalsAtServer.{totals-hello_up, totals-send_up, totals-tagged_up, after-is, step-is, segment-is, with_by, reads-said, hello-said}
 use Rattle.nr_laws.proofs.PendingFrames.{pending_agree-send_up, pending_agree-tagged_up}
 use Rattle.nr_laws.proofs.OwnXids.{OwnXids}
-use Rattle.nr_laws.proofs.OutputFrames.{AllShort, step-said}
+use Rattle.nr_laws.proofs.OutputFrames.{step-said}
 use Rattle.nr_laws.proofs.Writable.{IsWritable, IsOutput, proper_one, stream-more, stream-none, stream-first, stream-at}
 use Rattle.nr_laws.proofs.ServerOutputs.{CallsFit}
 use Rattle.nr_laws.proofs.ServerOutput.{SaysFine, fine-send, fine-tagged}
+use Rattle.nr_laws.proofs.Outputs.{CallsShort}
 
 -- `u` and `d` are what the server and the client received, `all_up` and `all_down` what the client and the server sent or queued
 pub record EndsAgree (opened : LinkParameters) (k : ClientState) (s : ServerState) (u d all_up all_down : List FrameContent) (w : Transit) : Type 0 where
@@ -40,7 +41,7 @@ pub record EndsAgree (opened : LinkParameters) (k : ClientState) (s : ServerStat
   pub waits : PendingAgree s
   pub outs : OwnXids opened k
   pub fits : CallsFit s.calls
-  pub short : AllShort opened k.outstanding
+  pub short : CallsShort opened k.outstanding
   pub stream_up : IsOutput all_up
   pub begins_up : 0 < total_of hellos_in all_up
   pub stream_down : IsOutput all_down

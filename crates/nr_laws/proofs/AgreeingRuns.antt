@@ -28,8 +28,8 @@ use Rattle.nr_reduce.specs.Opening.{IsOpened}
 use Rattle.nr_reduce.specs.Credits.{WithinGrant}
 use Rattle.nr_reduce.specs.Matched.{IsPrefixOf}
 use Rattle.nr_reduce.proofs.Steps.{client-one, server-one, output_due_up-one, output_due_down-one}
-use Rattle.nr_reduce.proofs.Standing.{itself}
-use Rattle.nr_laws.proofs.Bytes.{received-one, sent-one, bytes_both}
+use Rattle.nr_reduce.proofs.Standing.{itself, received-one, sent-one}
+use Rattle.nr_laws.proofs.Bytes.{bytes_both}
 use Rattle.nr_laws.specs.FrameContents.{FrameContent, numbered_segment, frame_bytes, output_bytes, total_of, sends_in, requests_in}
 use Rattle.nr_laws.specs.LinkInvariants.{Transit}
 use Rattle.nr_laws.proofs.StreamFrames.{AreWritableFrom, proper-frame, IsOf, frames_at, frames-append, spelled-append}
@@ -43,6 +43,7 @@ use Rattle.nr_laws.proofs.OfferedAccesses.{AccessesAgree}
 use Rattle.nr_laws.proofs.AgreeingEnds.{EndsAgree, IsPlace, taken_up}
 use Rattle.nr_laws.proofs.ServerFrames.{AreSome, events_of, server-runs}
 use Rattle.nr_laws.proofs.ClientFrames.{client-runs}
+use Rattle.std.proofs.lemmas.List.Folds.{concat-append}
 
 pub record RunAgrees (opened : LinkParameters) (link : ℕ) (run : List Mark) : Type 0 where
   pub k : ClientState
@@ -198,10 +199,6 @@ some-frames side a n r (p ∷ ps) of h =
 some-right : (xs ys : List (List ℕ)) → AreSome (xs ++ ys) → AreSome ys
 some-right [] ys h = h
 some-right (x ∷ xs) ys h = some-right xs ys h.1
-
-concat-append : (xs ys : List (List ℕ)) → concat (xs ++ ys) ≡ concat xs ++ concat ys
-concat-append [] ys = refl
-concat-append (x ∷ xs) ys = ap (λ (zs : List ℕ). x ++ zs) (concat-append xs ys) ∙ sym (append_assoc x (concat xs) (concat ys))
 
 at-place : (side : Side) (ps : List FrameContent) → AreSome (frames_at side 0 0 ps) → IsPlace ps (length (concat (frames_at side 0 0 ps)))
 at-place side [] h = refl

@@ -1,8 +1,6 @@
 -- Along the events of a run: frames that follow each other, and what a side writes for each event.
-use Rattle.std.proofs.Common.{◌≡◌, ℕ, ◌+◌, ◌≤◌, ◌<◌, Bool, true, false, cond, ◌&&◌, eqb, List, [], ◌∷◌, ◌++◌, length, map, Option, None, Some, refl, sym, ap, subst, ◌∙◌, arith, append_assoc, append-nil, length-append, add-zero, inl, inr, ◌-◌}
+use Rattle.std.proofs.Common.{◌≡◌, ℕ, ◌+◌, ◌≤◌, ◌<◌, Bool, true, false, cond, ◌&&◌, eqb, List, [], ◌∷◌, ◌++◌, length, map, Option, None, Some, refl, sym, ap, subst, ◌∙◌, arith, append_assoc, append-nil, length-append, add-zero}
 use Rattle.std.specs.List.{concat}
-use Rattle.std.proofs.lemmas.Bool.{cases_lt}
-use Rattle.std.proofs.lemmas.List.{get_or-append_right, get_or_append_left}
 use Rattle.nr_xdr.specs.Item.{IsBytes}
 use Rattle.nr_xdr.proofs.Chains.{IsBytes-left, IsBytes-right}
 use Rattle.nr_wire.specs.declared.hello.Side.{Side}
@@ -25,8 +23,10 @@ use Rattle.nr_reduce.specs.Events.Event.{FrameReceived, CallSubmitted, MemoryRev
 use Rattle.nr_reduce.specs.EndRules.{Rules, EndState, next_end_state, end_state_after}
 use Rattle.nr_reduce.proofs.Steps.{events-one}
 use Rattle.nr_laws.specs.Typed.{TypedMark}
-use Rattle.nr_laws.proofs.Flows.{got-one}
 use Rattle.nr_laws.proofs.Outputs.{Output}
+use Rattle.std.proofs.lemmas.List.Folds.{concat-append}
+use Rattle.nr_laws.proofs.Bytes.{bytes_both}
+use Rattle.nr_reduce.proofs.Standing.{received-one}
 
 -- ---- Outputs of a machine
 
@@ -138,13 +138,6 @@ places-frames place (f ∷ fs) = (let e = places-frames (place + length f) fs in
 abbrev pub whole_bytes : ℕ → Side → List Mark → ℕ
 whole_bytes link side run = length (concat (split (HelloFrom (other side)) (bytes_received link side run)).frames)
 
-abbrev stream_of : ℕ → Side → List Mark → List ℕ
-stream_of link side run = bytes_received link side run
-
-concat-append : (xs ys : List (List ℕ)) → concat (xs ++ ys) ≡ concat xs ++ concat ys
-concat-append [] ys = refl
-concat-append (x ∷ xs) ys = ap (λ (zs : List ℕ). x ++ zs) (concat-append xs ys) ∙ sym (append_assoc x (concat xs) (concat ys))
-
 -- the frames that more bytes complete
 abbrev later_frames : Side → List ℕ → List ℕ → List (List ℕ)
 later_frames peer old more = (split (awaited_after (HelloFrom peer) (split (HelloFrom peer) old).frames) ((split (HelloFrom peer) old).rest ++ more)).frames
@@ -160,12 +153,6 @@ whole-within link side run =
     let s = split (HelloFrom (other side)) (bytes_received link side run) in
     let e = ap (λ (xs : List ℕ). length xs) (split-Splits (HelloFrom (other side)) (bytes_received link side run)).whole in
     omega (arith, e, length-append (concat s.frames) s.rest)
-
-pub bytes-both : (xs ys : List ℕ) → IsBytes xs → IsBytes ys → IsBytes (xs ++ ys)
-bytes-both xs ys h g i = elim (cases_lt i (length xs)) [
-  | inl lt ↦ (let e = get_or_append_left xs ys 0 i lt in let b = h i in omega (arith, e, b))
-  | inr le ↦ (let e = get_or-append_right xs ys (length xs) i 0 refl le in let b = g (i - length xs) in omega (arith, e, b))
-]
 
 bytes-if : (b : Bool) (xs : List ℕ) → IsBytes xs → IsBytes (cond b xs [])
 bytes-if true xs h = h
@@ -209,7 +196,7 @@ MarkGoes rules Good r link side before mark =
 none-fed : (link : ℕ) (side : Side) (before : List Mark) (mark : Mark) → fed_at link side mark ≡ [] → whole_bytes link side (before ++ mark ∷ []) ≡ whole_bytes link side before
 none-fed link side before mark none =
     ap (λ (xs : List ℕ). length (concat (split (HelloFrom (other side)) xs).frames))
-    (got-one link side before mark ∙ ap (λ (xs : List ℕ). bytes_received link side before ++ xs) none ∙ append-nil (bytes_received link side before))
+    (received-one link side before mark ∙ ap (λ (xs : List ℕ). bytes_received link side before ++ xs) none ∙ append-nil (bytes_received link side before))
 
 quiet-goes : {S : Type 0} (rules : Rules S) (Good : EndState S → Event → Type 0) (r : EndState S) (link : ℕ) (side : Side) (before : List Mark) (mark : Mark) → fed_at link side mark ≡ []
     → GoesOn rules Good (whole_bytes link side before) r (events_at link side before mark) × (places_after (whole_bytes link side before) (events_at link side before mark) ≡ whole_bytes link side before)
@@ -242,9 +229,9 @@ fed-goes rules Good good r link side before l s bytes old new = by (eqb l link &
         let events : map FrameReceived (frames_completed peer got bytes) ≡ map FrameReceived (frames_from place fs) = ap (λ (x : List Frame). map FrameReceived x) frames in
         let splits = split-Splits (awaited_after (HelloFrom peer) (split (HelloFrom peer) got).frames) ((split (HelloFrom peer) got).rest ++ bytes) in
         let rest : IsBytes (split (HelloFrom peer) got).rest = IsBytes-right (concat (split (HelloFrom peer) got).frames) (split (HelloFrom peer) got).rest (subst IsBytes (split-Splits (HelloFrom peer) got).whole old) in
-        let some : AreSome fs = some-frames _ fs _ splits.each (subst IsBytes splits.whole (bytes-both _ bytes rest new)) in
+        let some : AreSome fs = some-frames _ fs _ splits.each (subst IsBytes splits.whole (bytes_both _ bytes rest new)) in
         let all : bytes_received link side (before ++ marks.Fed l s bytes ∷ []) ≡ got ++ bytes =
-        got-one link side before (marks.Fed l s bytes) ∙ ap (λ (b : Bool). got ++ cond b bytes []) is in (
+        received-one link side before (marks.Fed l s bytes) ∙ ap (λ (b : Bool). got ++ cond b bytes []) is in (
           subst (λ (es : List Event). GoesOn rules Good place r es) (sym events) (frames-go rules Good good place r fs some),
           ap (λ (es : List Event). places_after place es) events ∙ places-frames place fs ∙ sym (whole-more peer got bytes)
               ∙ ap (λ (xs : List ℕ). length (concat (split (HelloFrom peer) xs).frames)) (sym all),
@@ -282,7 +269,7 @@ goes-from rules Good good start link side P firsts before (mark ∷ run) typed e
     let es = events link side before in
     let more = events_at link side before mark in
     let one = mark-goes rules Good good r link side before mark g.bytes typed.0 (firsts before mark each.0) in
-    let new : IsBytes (bytes_received link side (before ++ mark ∷ [])) = subst IsBytes (sym (got-one link side before mark)) (bytes-both _ _ g.bytes (fed-bytes link side before mark typed.0)) in
+    let new : IsBytes (bytes_received link side (before ++ mark ∷ [])) = subst IsBytes (sym (received-one link side before mark)) (bytes_both _ _ g.bytes (fed-bytes link side before mark typed.0)) in
     let next : Goes rules Good start link side (before ++ mark ∷ []) = record {
       bytes = new;
       place = ap (λ (x : List Event). places_after 0 x) (events-one link side before mark) ∙ places-append 0 es more ∙ ap (λ (p : ℕ). places_after p more) g.place ∙ one.1;

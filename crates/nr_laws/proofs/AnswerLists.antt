@@ -1,5 +1,5 @@
 -- The lists of an answer are within the limits of a header where those of its call are: so the message of an answer can be read.
-use Rattle.std.proofs.Common.{◌≡◌, ℕ, suc, ◌-◌, ◌^◌, ◌<◌, ◌≤◌, min, Bool, true, false, cond, List, [], ◌∷◌, ◌++◌, length, sum_by, IfSome, Option, Some, None, Ok, refl, ap, subst, arith, append-nil}
+use Rattle.std.proofs.Common.{◌≡◌, ℕ, ◌^◌, ◌<◌, ◌≤◌, Bool, true, false, cond, List, [], ◌∷◌, ◌++◌, length, sum_by, IfSome, Option, Some, None, Ok, refl, subst, arith, append-nil}
 use Rattle.std.proofs.lemmas.List.Sums.{sum_by-cons}
 use Rattle.std.proofs.lemmas.List.Elements.{All-nil, recursion_from_All, All-from_recursion}
 use Rattle.std.specs.List.{AllByRecursion}
@@ -7,73 +7,44 @@ use Rattle.nr_xdr.specs.Item.{Item}
 use Rattle.nr_xdr.specs.Items.{AllFit}
 use Rattle.nr_header.specs.Constants.{PAYLOAD_MAX}
 use Rattle.nr_header.specs.declared.header.RdmaSegment.{RdmaSegment}
-use Rattle.nr_header.specs.declared.header.ReadSegment.{ReadSegment}
 use Rattle.nr_header.specs.declared.header.ChunkLists.{ChunkLists}
 use Rattle.nr_header.specs.declared.header.Body.TheVariants.{Msg, Nomsg, ErrVers, ErrChunk}
 use Rattle.nr_header.specs.declared.header.Header.{Header}
-use Rattle.nr_header.specs.Header.{segments_items, chunk_items, read_items, write_items, reply_items, lists_items, header_encoding, HeaderFits}
-use Rattle.nr_header.specs.WithinLimits.{SegmentsEnd, Ends, ListsWithin, CanRead, header_again}
+use Rattle.nr_header.specs.Header.{write_items, reply_items, lists_items, header_encoding, HeaderFits}
+use Rattle.nr_header.specs.WithinLimits.{SegmentsEnd, ListsWithin, CanRead, header_again}
 use Rattle.nr_header.specs.Reading.{header_of}
 use Rattle.nr_header.proofs.Messages.{header_written}
 use Rattle.nr_reduce.specs.Chunks.{filled_chunk}
 use Rattle.nr_reduce.specs.Holds.{Answer, empty_chunks, written_chunks, no_segments, answer_lists, answer_message, chunk_error, version_error}
+use Rattle.nr_laws.proofs.WritableOffers.{skip_write}
+use Rattle.nr_reduce.proofs.AnswerMessages.{length-filled, segments_tail, read_tail, chunk_fit, filled_ends}
 
 abbrev pub IsRead : List ℕ → Type 0
 IsRead message = (h : Header) × (header_of message ≡ Ok h)
 
-length-filled : (chunk : List RdmaSegment) (n : ℕ) → length (filled_chunk chunk n) ≡ length chunk
-length-filled [] n = refl
-length-filled (s ∷ chunk) n = ap (λ (k : ℕ). suc k) (length-filled chunk (n - min s.length n))
-
 -- ---- The items
-
-filled-fit : (chunk : List RdmaSegment) (n : ℕ) (more others : List Item) → AllFit (segments_items chunk more) → AllFit others → AllFit (segments_items (filled_chunk chunk n) others)
-filled-fit [] n more others h k = k
-filled-fit (s ∷ chunk) n more others h k = (h.0, (let l = h.1.0 in omega (arith, l), (h.1.1.0, filled-fit chunk (n - min s.length n) more others h.1.1.1 k)))
-
-segments-tail : (chunk : List RdmaSegment) (more : List Item) → AllFit (segments_items chunk more) → AllFit more
-segments-tail [] more h = h
-segments-tail (s ∷ chunk) more h = segments-tail chunk more h.1.1.1
-
-read-tail : (read : List ReadSegment) (more : List Item) → AllFit (read_items read more) → AllFit more
-read-tail [] more h = h.1
-read-tail (r ∷ read) more h = read-tail read more h.1.1.1.1.1
-
-write-tail : (chunks : List (List RdmaSegment)) (more : List Item) → AllFit (write_items chunks more) → AllFit more
-write-tail [] more h = h.1
-write-tail (chunk ∷ chunks) more h = write-tail chunks more (segments-tail chunk (write_items chunks more) h.1.1)
-
-chunk-fit : (chunk : List RdmaSegment) (n : ℕ) (more others : List Item) → length chunk < 2 ^ 32 → AllFit (segments_items chunk more) → AllFit others → AllFit (chunk_items (filled_chunk chunk n) others)
-chunk-fit chunk n more others count h k = (let l = length-filled chunk n in omega (arith, l, count), filled-fit chunk n more others h k)
 
 empty-fit : (chunks : List (List RdmaSegment)) (more others : List Item) → AllFit (write_items chunks more) → AllFit others → AllFit (write_items (empty_chunks chunks) others)
 empty-fit [] more others h k = (tt, k)
 empty-fit (chunk ∷ chunks) more others h k =
-    (tt, chunk-fit chunk 0 (write_items chunks more) (write_items (empty_chunks chunks) others) h.1.0 h.1.1 (empty-fit chunks more others (segments-tail chunk (write_items chunks more) h.1.1) k))
+    (tt, chunk_fit chunk 0 (write_items chunks more) (write_items (empty_chunks chunks) others) h.1.0 h.1.1 (empty-fit chunks more others (segments_tail chunk (write_items chunks more) h.1.1) k))
 
 written-fit : (chunks : List (List RdmaSegment)) (n : ℕ) (more others : List Item) → AllFit (write_items chunks more) → AllFit others → AllFit (write_items (written_chunks chunks n) others)
 written-fit [] n more others h k = (tt, k)
 written-fit (chunk ∷ chunks) n more others h k =
-    (tt, chunk-fit chunk n (write_items chunks more) (write_items (empty_chunks chunks) others) h.1.0 h.1.1 (empty-fit chunks more others (segments-tail chunk (write_items chunks more) h.1.1) k))
+    (tt, chunk_fit chunk n (write_items chunks more) (write_items (empty_chunks chunks) others) h.1.0 h.1.1 (empty-fit chunks more others (segments_tail chunk (write_items chunks more) h.1.1) k))
 
 returned-fit : (reply : Option (List RdmaSegment)) (b : Bool) (n : ℕ) → AllFit (reply_items reply []) → AllFit (reply_items (cond b (Some (filled_chunk (no_segments reply) n)) None) [])
 returned-fit reply false n h = (tt, tt)
 returned-fit None true n h = (tt, (omega arith, tt))
-returned-fit (Some chunk) true n h = (tt, chunk-fit chunk n [] [] h.1.0 h.1.1 tt)
+returned-fit (Some chunk) true n h = (tt, chunk_fit chunk n [] [] h.1.0 h.1.1 tt)
 
 lists-fit : (offer : ChunkLists) (a : Answer) → AllFit (lists_items offer) → AllFit (lists_items (answer_lists offer a))
 lists-fit offer a h =
-    let writes = read-tail offer.read (write_items offer.write (reply_items offer.reply [])) h in
-    (tt, written-fit offer.write (length a.moved) (reply_items offer.reply []) _ writes (returned-fit offer.reply a.long (length a.stream) (write-tail offer.write (reply_items offer.reply []) writes)))
+    let writes = read_tail offer.read (write_items offer.write (reply_items offer.reply [])) h in
+    (tt, written-fit offer.write (length a.moved) (reply_items offer.reply []) _ writes (returned-fit offer.reply a.long (length a.stream) (skip_write offer.write (reply_items offer.reply []) writes)))
 
 -- ---- Within the limits
-
-ends-by : (chunk : List RdmaSegment) (n : ℕ) → AllByRecursion (λ s. Ends s.offset s.length) chunk → AllByRecursion (λ s. Ends s.offset s.length) (filled_chunk chunk n)
-ends-by [] n h = tt
-ends-by (s ∷ chunk) n h = (let e = h.0 in omega (arith, e), ends-by chunk (n - min s.length n) h.1)
-
-filled-ends : (chunk : List RdmaSegment) (n : ℕ) → SegmentsEnd chunk → SegmentsEnd (filled_chunk chunk n)
-filled-ends chunk n h = All-from_recursion _ _ (ends-by chunk n (recursion_from_All _ chunk h))
 
 abbrev IsSmall : List RdmaSegment → Type 0
 IsSmall chunk = length chunk ≤ 16
@@ -93,7 +64,7 @@ returned-cons chunk n chunks others r =
       count = omega (arith, r.count);
       segments = omega (arith, r.segments, len, sum_by-cons (λ (c : List RdmaSegment). length c) chunk chunks, sum_by-cons (λ (c : List RdmaSegment). length c) (filled_chunk chunk n) others);
       small = λ h. (let first = h.0 in omega (arith, len, first), r.small h.1);
-      ends = λ h. (filled-ends chunk n h.0, r.ends h.1);
+      ends = λ h. (filled_ends chunk n h.0, r.ends h.1);
     }
 
 empty-returned : (chunks : List (List RdmaSegment)) → Returned chunks (empty_chunks chunks)
@@ -112,7 +83,7 @@ returned-count (Some chunk) true n h = (let l = length-filled chunk n in omega (
 returned-ends : (reply : Option (List RdmaSegment)) (b : Bool) (n : ℕ) → IfSome reply SegmentsEnd → IfSome (cond b (Some (filled_chunk (no_segments reply) n)) None) SegmentsEnd
 returned-ends reply false n h = tt
 returned-ends None true n h = All-nil _
-returned-ends (Some chunk) true n h = filled-ends chunk n h
+returned-ends (Some chunk) true n h = filled_ends chunk n h
 
 lists-within : (offer : ChunkLists) (a : Answer) → ListsWithin offer → ListsWithin (answer_lists offer a)
 lists-within offer a h =

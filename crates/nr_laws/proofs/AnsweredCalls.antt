@@ -1,38 +1,31 @@
 -- Each message of a server answers one call that was received: the xids of the messages and those of the pending calls are distinct.
-use Rattle.std.proofs.Common.{◌≡◌, ℕ, ◌+◌, ◌≤◌, ◌<◌, ◌^◌, Bool, true, false, cond, not, ◌&&◌, ◌||◌, eqb, min, List, [], ◌∷◌, ◌++◌, length, map, take, drop, filter, Option, Some, None, Result, Ok, refl, sym, ap, subst, ◌∙◌, arith, append_assoc}
+use Rattle.std.proofs.Common.{◌≡◌, ℕ, ◌+◌, ◌≤◌, ◌<◌, ◌^◌, Bool, true, false, cond, not, ◌||◌, eqb, min, List, [], ◌∷◌, ◌++◌, length, map, take, drop, filter, Option, Some, None, Ok, refl, sym, ap, ◌∙◌, arith}
 use Rattle.std.specs.List.{list_any, find, range_with_len}
 use Rattle.std.proofs.lemmas.Bool.{eqb-true, eq-eqb}
 use Rattle.std.proofs.lemmas.List.{map-append}
-use Rattle.nr_xdr.specs.Item.{word, word_of}
-use Rattle.nr_xdr.specs.Items.{encodings}
-use Rattle.nr_xdr.proofs.WordBytes.{length-word, word_of-word}
 use Rattle.nr_xdr.specs.Fields.{word_at}
-use Rattle.nr_wire.specs.Constants.{OPCODE_READ_RESPONSE, OPCODE_SEND, OPCODE_WRITE, QUEUE_SEND}
-use Rattle.nr_wire.specs.Segment.{Segment}
+use Rattle.nr_wire.specs.Constants.{OPCODE_SEND, OPCODE_WRITE, QUEUE_SEND}
 use Rattle.nr_wire.specs.Segment.Segment.{Tagged, Untagged}
 use Rattle.nr_header.specs.declared.header.RdmaSegment.{RdmaSegment}
 use Rattle.nr_header.specs.declared.header.ChunkLists.{ChunkLists}
-use Rattle.nr_header.specs.declared.header.Body.TheVariants.{Msg, Nomsg}
-use Rattle.nr_header.specs.Header.{header_encoding, lists_items}
 use Rattle.nr_link.specs.Frames.{Frame}
 use Rattle.nr_link.specs.Output.{msn_word, segment_count}
-use Rattle.nr_link.specs.ReceiveState.{begun_bytes}
 use Rattle.nr_link.specs.Ending.{frame_segment}
 use Rattle.nr_reduce.specs.Plans.{one_if}
-use Rattle.nr_reduce.specs.Holds.{Answer, answer_message, answer_lists, chunk_error, version_error, first_chunk, no_segments}
-use Rattle.nr_reduce.specs.Chunks.{is_read_chunk_of_item}
+use Rattle.nr_reduce.specs.Holds.{Answer, answer_message, first_chunk, no_segments}
 use Rattle.nr_reduce.specs.ClientState.{OutstandingCall}
 use Rattle.nr_reduce.specs.ServerState.{PendingCall, PendingRead, ServerState, credit_word}
-use Rattle.nr_reduce.specs.ServerReads.{regions_of, reads_of, is_read}
-use Rattle.nr_reduce.specs.ServerMessages.{CallVerdict, by_payload, payload_of, chunk_bytes, Verdict, verdict}
+use Rattle.nr_reduce.specs.ServerReads.{regions_of, reads_of}
+use Rattle.nr_reduce.specs.ServerMessages.{CallVerdict, by_payload, payload_of, verdict}
 use Rattle.nr_reduce.specs.ServerMessages.CallVerdict.{Refuses, IsReady}
-use Rattle.nr_reduce.specs.ServerMessages.Verdict.{EndsLink, OtherVersion, BadChunks, MakesPending}
-use Rattle.nr_reduce.specs.ServerFrames.{FrameEffect, no_effect, with_verdict, ready_if_whole, message_effect, with_refused_call, is_stream_read, read_effect, call_of_number, response_effect, with_access, effect_in, frame_effect}
+use Rattle.nr_reduce.specs.ServerMessages.Verdict.{MakesPending}
+use Rattle.nr_reduce.specs.ServerFrames.{FrameEffect, no_effect, with_verdict, frame_effect}
 use Rattle.nr_reduce.specs.Server.{newly_open_reads}
 use Rattle.nr_laws.specs.FrameContents.{FrameContent, effect_frames, request_frame, write_frames, answer_frames, tagged_frames}
 use Rattle.nr_laws.specs.FrameContents.FrameContent.{HelloFrame, SendFrame, RequestFrame, TaggedFrame}
 use Rattle.nr_laws.proofs.PendingSends.{verdict-new}
-use Rattle.nr_laws.proofs.RequestFields.{part_at}
+use Rattle.nr_laws.proofs.HeaderXid.{answer-xid, chunk-error-xid, version-error-xid}
+use Rattle.nr_laws.proofs.EachEffect.{send-effect, tagged-effect}
 
 -- the xids of the messages among some frames, and how often a number is among others
 abbrev pub message_xids : List FrameContent → List ℕ
@@ -88,31 +81,9 @@ writes-none (p ∷ chunk) bytes =
     by true = refl
     by false = cuts _ _ _ (range_with_len 0 (segment_count (take p.length bytes)))
 
-first_word : (a : ℕ) (rest : List ℕ) → a < 2 ^ 32 → word_at 0 (word a ++ rest) ≡ a
-first_word a rest lt = ap word_of (part_at 0 4 [] (word a) rest refl (length-word a)) ∙ word_of-word a lt
-
-chunk_error-xid : (xid credit : ℕ) → xid < 2 ^ 32 → word_at 0 (chunk_error xid credit) ≡ xid
-unfolding chunk_error
-chunk_error-xid xid credit lt = first_word xid _ lt
-
-version_error-xid : (xid version credit : ℕ) → xid < 2 ^ 32 → word_at 0 (version_error xid version credit) ≡ xid
-unfolding version_error
-version_error-xid xid version credit lt = first_word xid _ lt
-
-answer-xid : (xid credit : ℕ) (offer : ChunkLists) (a : Answer) → xid < 2 ^ 32 → word_at 0 (answer_message xid credit offer a) ≡ xid
-unfolding answer_message
-answer-xid xid credit offer a lt = by a.long (cond a.long [] a.stream)
-  where
-    rest : List ℕ
-    rest = encodings (lists_items (answer_lists offer a))
-
-    by : (b : Bool) (stream : List ℕ) → word_at 0 (header_encoding (record { xid = xid; credit = credit; body = cond b (Nomsg (answer_lists offer a)) (Msg (answer_lists offer a) 0) }) ++ stream) ≡ xid
-    by true stream = ap (λ (xs : List ℕ). word_at 0 xs) (append_assoc (word xid) (word 1 ++ (word credit ++ (word 1 ++ rest))) stream) ∙ first_word xid ((word 1 ++ (word credit ++ (word 1 ++ rest))) ++ stream) lt
-    by false stream = ap (λ (xs : List ℕ). word_at 0 xs) (append_assoc (word xid) (word 1 ++ (word credit ++ (word 0 ++ rest))) stream) ∙ first_word xid ((word 1 ++ (word credit ++ (word 0 ++ rest))) ++ stream) lt
-
 -- of an executed call: one message, of its xid
 pub answer-xids : (k : ServerState) (xid : ℕ) (offer : ChunkLists) (o : Option Answer) → xid < 2 ^ 32 → message_xids (answer_frames k xid offer o) ≡ xid ∷ []
-answer-xids k xid offer None lt = ap (λ (x : ℕ). x ∷ []) (chunk_error-xid xid (credit_word k) lt)
+answer-xids k xid offer None lt = ap (λ (x : ℕ). x ∷ []) (chunk-error-xid xid (credit_word k) lt)
 answer-xids k xid offer (Some a) lt =
     let long = cond a.long (write_frames (no_segments offer.reply) a.stream) [] in
     let last = SendFrame (answer_message xid (credit_word k) offer a) ∷ [] in
@@ -184,66 +155,36 @@ error_xids s = map (λ (m : List ℕ). word_at 0 m) s.errors
 abbrev pub AnswersPending : List PendingCall → (ℕ → ℕ) → FrameEffect → Type 0
 AnswersPending calls new s = (x : ℕ) → times x (error_xids s) + times x (call_xids s.calls) ≤ new x + times x (call_xids calls)
 
-pending-whole : (calls : List PendingCall) (new : ℕ → ℕ) (k : ServerState) (place : ℕ) (c : PendingCall) (s : FrameEffect) → AnswersPending calls new s → AnswersPending calls new (ready_if_whole k place c s)
-pending-whole calls new k place c s h = by (is_read s.reads c.number) (by_payload c (payload_of k place c))
-  where
-    by : (b : Bool) (o : CallVerdict) → AnswersPending calls new (cond b (with_verdict o s) s)
-    by true (Refuses reason) = h
-    by true (IsReady r) = h
-    by false o = h
-
-pending-message : (k : ServerState) (place : ℕ) (message : List ℕ) (v : Verdict) → verdict k message ≡ v → word_at 0 message < 2 ^ 32 → AnswersPending k.calls (λ x. one_if (eqb (word_at 0 message) x)) (message_effect k place message v)
-pending-message k place message (EndsLink reason) is lt = λ x. omega arith
-pending-message k place message OtherVersion is lt = λ x. omega (arith, ap (λ (n : ℕ). one_if (eqb n x)) (version_error-xid (word_at 0 message) (word_at 4 message) (credit_word k) lt))
-pending-message k place message BadChunks is lt = λ x. omega (arith, ap (λ (n : ℕ). one_if (eqb n x)) (chunk_error-xid (word_at 0 message) (credit_word k) lt))
-pending-message k place message (MakesPending c) is lt =
-    let new = verdict-new k message c is in
-    pending-whole k.calls (λ x. one_if (eqb (word_at 0 message) x)) k place c
-    (record (no_effect k) { calls = k.calls ++ c ∷ []; reads = k.reads ++ reads_of (k.regions ++ regions_of k place c) c; regions = k.regions ++ regions_of k place c })
-    (λ x. omega (arith, ap (λ (xs : List ℕ). times x xs) (map-append (λ (y : PendingCall). y.xid) k.calls (c ∷ [])), times-append x (call_xids k.calls) (c.xid ∷ []), ap (λ (n : ℕ). one_if (eqb n x)) new.0.own))
-
-pending-read : (k c_k : ServerState) (place n : ℕ) (r : PendingRead) (o : Option PendingCall) (s : FrameEffect) → s.calls ≡ k.calls → s.errors ≡ [] → find (λ (c : PendingCall). eqb c.number n) k.calls ≡ o → ((c : PendingCall) → o ≡ Some c → c.xid < 2 ^ 32)
-    → AnswersPending k.calls (λ x. 0) (read_effect c_k place r o s)
-pending-read k c_k place n r None s same none found small = λ x. omega (arith, ap (λ (cs : List PendingCall). times x (call_xids cs)) same, ap (λ (ms : List (List ℕ)). times x (map (λ (m : List ℕ). word_at 0 m) ms)) none)
-pending-read k c_k place n r (Some c) s same none found small = by (is_stream_read c r s.reads && not (is_read_chunk_of_item (chunk_bytes c_k place c 0) c.lists.read))
-  where
-    same_times : (x : ℕ) → times x (error_xids s) + times x (call_xids s.calls) ≤ 0 + times x (call_xids k.calls)
-    same_times x = omega (arith, ap (λ (cs : List PendingCall). times x (call_xids cs)) same, ap (λ (ms : List (List ℕ)). times x (map (λ (m : List ℕ). word_at 0 m) ms)) none)
-
-    by : (b : Bool) → AnswersPending k.calls (λ x. 0) (cond b (with_refused_call c_k c s) (ready_if_whole c_k place c s))
-    by true = λ x.
-        omega (
-          arith,
-          removed x n k.calls c found,
-          ap (λ (cs : List PendingCall). times x (call_xids (filter (λ (y : PendingCall). not (eqb y.number c.number)) cs))) same,
-          ap (λ (m : ℕ). one_if (eqb m x)) (chunk_error-xid c.xid (credit_word c_k) (small c refl)),
-        )
-    by false = pending-whole k.calls (λ x. 0) c_k place c s same_times
+pending-judged : (calls : List PendingCall) (new : ℕ → ℕ) (o : CallVerdict) (s : FrameEffect) → AnswersPending calls new s → AnswersPending calls new (with_verdict o s)
+pending-judged calls new (Refuses reason) s h = h
+pending-judged calls new (IsReady r) s h = h
 
 pub pending-send : (k : ServerState) (f : Frame) (message : List ℕ) → k.received.begun ≡ None → word_at 0 message < 2 ^ 32 → frame_segment f ≡ Ok (Untagged true OPCODE_SEND 0 QUEUE_SEND (msn_word (k.received.sends + 1)) 0 message)
     → AnswersPending k.calls (λ x. one_if (eqb (word_at 0 message) x)) (frame_effect k f)
-unfolding frame_effect
 pending-send k f message none lt is =
-    let segment : Segment = Untagged true OPCODE_SEND 0 QUEUE_SEND (msn_word (k.received.sends + 1)) 0 message in
-    let whole : List ℕ = begun_bytes k.received.begun ++ message in
-    let same : whole ≡ message = ap (λ (b : Option (List ℕ)). begun_bytes b ++ message) none in
-    subst (λ (r : Result Segment ℕ). AnswersPending k.calls (λ x. one_if (eqb (word_at 0 message) x)) (effect_in k f r)) (sym is)
-    (subst (λ (n : ℕ). AnswersPending k.calls (λ x. one_if (eqb n x)) (effect_in k f (Ok segment))) (ap (λ (xs : List ℕ). word_at 0 xs) same)
-    (pending-message k f.end whole (verdict k whole) refl (subst (λ (xs : List ℕ). word_at 0 xs < 2 ^ 32) (sym same) lt)))
+    send-effect k (λ m. word_at 0 m ≡ word_at 0 message) (AnswersPending k.calls new) (record {
+      judged = λ t place c s h. pending-judged k.calls new (by_payload c (payload_of t place c)) s h;
+      ends = λ m reason own is x. omega arith;
+      version = λ m own x. omega (arith, ap (λ (n : ℕ). one_if (eqb n x)) (version-error-xid (word_at 0 m) (word_at 4 m) (credit_word k) (omega (arith, own, lt)) ∙ own));
+      chunks = λ m own x. omega (arith, ap (λ (n : ℕ). one_if (eqb n x)) (chunk-error-xid (word_at 0 m) (credit_word k) (omega (arith, own, lt)) ∙ own));
+      pending = pending;
+    }) f message none refl is
+  where
+    new : ℕ → ℕ
+    new x = one_if (eqb (word_at 0 message) x)
+
+    pending : (place : ℕ) (m : List ℕ) (c : PendingCall) → word_at 0 m ≡ word_at 0 message → verdict k m ≡ MakesPending c
+        → AnswersPending k.calls new (record (no_effect k) { calls = k.calls ++ c ∷ []; reads = k.reads ++ reads_of (k.regions ++ regions_of k place c) c; regions = k.regions ++ regions_of k place c })
+    pending place m c own is x =
+        let own_xid = (verdict-new k m c is).0.own ∙ own in
+        omega (arith, ap (λ (xs : List ℕ). times x xs) (map-append (λ (y : PendingCall). y.xid) k.calls (c ∷ [])), times-append x (call_xids k.calls) (c.xid ∷ []), ap (λ (n : ℕ). one_if (eqb n x)) own_xid)
 
 pub pending-tagged : (k : ServerState) (f : Frame) (last : Bool) (opcode stag to : ℕ) (payload : List ℕ) → ((n : ℕ) (c : PendingCall) → find (λ (y : PendingCall). eqb y.number n) k.calls ≡ Some c → c.xid < 2 ^ 32) → frame_segment f ≡ Ok (Tagged last opcode stag to payload)
     → AnswersPending k.calls (λ x. 0) (frame_effect k f)
-unfolding frame_effect
 pending-tagged k f last opcode stag to payload small is =
-    subst (λ (r : Result Segment ℕ). AnswersPending k.calls (λ x. 0) (effect_in k f r)) (sym is) (by (eqb opcode OPCODE_READ_RESPONSE && last))
-  where
-    t : ServerState
-    t = with_access k f (Tagged last opcode stag to payload)
-
-    response : (reads : List PendingRead) → AnswersPending k.calls (λ x. 0) (response_effect t f.end reads)
-    response [] = λ x. omega arith
-    response (r ∷ reads) = pending-read k t f.end r.number r (call_of_number t r.number) _ refl refl refl (small r.number)
-
-    by : (b : Bool) → AnswersPending k.calls (λ x. 0) (cond b (response_effect t f.end k.reads) (no_effect t))
-    by true = response k.reads
-    by false = λ x. omega arith
+    tagged-effect k (AnswersPending k.calls (λ x. 0)) (record {
+      unchanged = λ x. omega arith;
+      judged = λ t place c s h. pending-judged k.calls (λ x. 0) (by_payload c (payload_of t place c)) s h;
+      read = λ r reads is x. omega arith;
+      refused = λ r reads c is found x. omega (arith, removed x r.number k.calls c found, ap (λ (m : ℕ). one_if (eqb m x)) (chunk-error-xid c.xid (credit_word k) (small r.number c found)));
+    }) f last opcode stag to payload is

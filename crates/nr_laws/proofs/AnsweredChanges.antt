@@ -18,13 +18,14 @@ use Rattle.nr_reduce.proofs.Calls.{execute-answered}
 use Rattle.nr_laws.specs.Typed.{TypedMark}
 use Rattle.nr_laws.specs.MarkAt.{MarkAt}
 use Rattle.nr_laws.specs.PlainReplies.{server_with}
-use Rattle.nr_laws.specs.ChunkOutcomes.{HasRefusedSend, HasReplyNotHeld, answer_held, ChangesAreAnswered, ChunkAddsNothing}
+use Rattle.nr_laws.specs.RefusedMessages.{HasRefusedMessage}
+use Rattle.nr_laws.specs.ChunkOutcomes.{answer_held, ChangesAreAnswered, ChunkAddsNothing}
 use Rattle.nr_laws.proofs.OnceByXid.{at-mark, before-mark}
 use Rattle.nr_laws.proofs.Following.{far-before, executed-before}
 use Rattle.nr_laws.proofs.ServerOutputs.{found-fits}
 use Rattle.nr_laws.proofs.KeptAtServer.{kept-at-server}
-use Rattle.nr_laws.proofs.RefusedSends.{refused-not-executed}
-use Rattle.nr_laws.proofs.ChunkCauses.{one-execute, chunk_has_cause}
+use Rattle.nr_laws.proofs.RefusedMessages.{refused-not-executed}
+use Rattle.nr_laws.proofs.ChunkCauses.{ExecuteNotHeld, one-execute, chunk-caused}
 
 some-of : (o : Option Answer) → o ≢ None → (a : Answer) × (o ≡ Some a)
 some-of None h = absurd (h refl)
@@ -57,7 +58,7 @@ chunk_adds_nothing reply_to adds opened link run before done xid moment payload 
     there : MarkAt done before mark
     there = record { after = then.0; is = then.1 }
 
-    none : HasRefusedSend opened link done xid ⊎ HasReplyNotHeld opened link done xid → adds moment payload reply ≢ [] → ⊥
+    none : HasRefusedMessage opened link done xid ⊎ ExecuteNotHeld opened link done xid → adds moment payload reply ≢ [] → ⊥
     none (inl refused) more =
         refused-not-executed opened link done before xid moment payload place reply (before-mark TypedMark run done (marks.Done link xid outcomes.Chunk) chunk.after chunk.is typed)
         (far-before opened link run done (marks.Done link xid outcomes.Chunk) chunk.after chunk.is far) refused there
@@ -70,4 +71,4 @@ chunk_adds_nothing reply_to adds opened link run before done xid moment payload 
 
     by : (entries : List Entry) → adds moment payload reply ≡ entries → adds moment payload reply ≡ []
     by [] is = is
-    by (entry ∷ entries) is = absurd (none ((chunk_has_cause opened link run done xid outcomes.Chunk typed far chunk).0 refl) (λ e. (let wrong : entry ∷ entries ≡ [] = sym is ∙ e in cc)))
+    by (entry ∷ entries) is = absurd (none (chunk-caused opened link run done chunk.after xid typed far chunk.is) (λ e. (let wrong : entry ∷ entries ≡ [] = sym is ∙ e in cc)))

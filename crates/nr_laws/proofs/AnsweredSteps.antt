@@ -14,6 +14,7 @@ use Rattle.nr_laws.specs.FrameContents.FrameContent.{SendFrame}
 use Rattle.nr_laws.specs.LinkInvariants.{Transit}
 use Rattle.nr_laws.proofs.Totals.{total-append}
 use Rattle.nr_laws.proofs.AnsweredCalls.{message_xids, times, call_xids, outstanding_xids, xids-append, times-append}
+use Rattle.nr_laws.proofs.Basics.{each-kept}
 
 abbrev pub IsWritten : ℕ → OutstandingCall → Type 0
 IsWritten end o = o.xid < end → o.is_written ≡ true
@@ -98,14 +99,6 @@ answered-server first k s t u d all_down w v said sends up new h = record {
 
 -- ---- A frame at the client
 
-kept-written : (end : ℕ) (p : OutstandingCall → Bool) (os : List OutstandingCall) → AllByRecursion (IsWritten end) os → AllByRecursion (IsWritten end) (filter p os)
-kept-written end p [] h = tt
-kept-written end p (o ∷ os) h = by (p o) (kept-written end p os h.1)
-  where
-    by : (b : Bool) → AllByRecursion (IsWritten end) (filter p os) → AllByRecursion (IsWritten end) (cond b (o ∷ filter p os) (filter p os))
-    by true k = (h.0, k)
-    by false k = k
-
 -- the calls of other xids stay
 others-times : (x xid : ℕ) (os : List OutstandingCall) → eqb x xid ≡ false → times x (outstanding_xids (filter (λ (o : OutstandingCall). not (eqb o.xid xid)) os)) ≡ times x (outstanding_xids os)
 others-times x xid [] ne = refl
@@ -128,7 +121,7 @@ answered-message first k t s u d all_down w v message left accepted up h = recor
   earlier = h.earlier;
   open_calls = λ x le lt. open_call x le (omega (arith, lt, accepted)) (eqb (word_at 0 message) x) refl;
   written = subst (λ (ps : List FrameContent). AllByRecursion (IsWritten (first + total_of sends_in (u ++ ps))) t.outstanding) (sym up)
-      (subst (AllByRecursion (IsWritten (first + total_of sends_in (u ++ w.up)))) (sym left) (kept-written (first + total_of sends_in (u ++ w.up)) (λ (o : OutstandingCall). not (eqb o.xid (word_at 0 message))) k.outstanding h.written));
+      (subst (AllByRecursion (IsWritten (first + total_of sends_in (u ++ w.up)))) (sym left) (each-kept (IsWritten (first + total_of sends_in (u ++ w.up))) (λ (o : OutstandingCall). not (eqb o.xid (word_at 0 message))) k.outstanding h.written));
   room = omega (arith, accepted, h.room);
 }
   where

@@ -1,5 +1,5 @@
 -- A call in form Auto that completes has a reply, where a plain server replies.
-use Rattle.std.proofs.Common.{◌≡◌, ℕ, List, ◌∷◌, ◌++◌, Some, Ok, refl, sym, ap, subst, ◌∙◌, arith, append_assoc, inl, inr, ◌⊎◌}
+use Rattle.std.proofs.Common.{◌≡◌, ℕ, List, Ok, refl, sym, ap, subst, ◌∙◌, arith, inl, inr, ◌⊎◌}
 use Rattle.nr_xdr.specs.Item.{IsBytes}
 use Rattle.nr_rpc.specs.Reading.{call_of, target_of}
 use Rattle.nr_header.specs.declared.header.ChunkLists.{ChunkLists}
@@ -24,21 +24,22 @@ use Rattle.nr_laws.specs.Typed.{TypedMark}
 use Rattle.nr_laws.specs.MarkAt.{MarkAt}
 use Rattle.nr_laws.specs.Payloads.{HasPlan}
 use Rattle.nr_laws.specs.PlainReplies.{server_with}
-use Rattle.nr_laws.specs.ChunkOutcomes.{HasRefusedSend, HasReplyNotHeld, AutoHasReplies}
+use Rattle.nr_laws.specs.RefusedMessages.{HasRefusedMessage}
+use Rattle.nr_laws.specs.ChunkOutcomes.{AutoHasReplies}
 use Rattle.nr_laws.proofs.OnceByXid.{at-mark, before-mark}
 use Rattle.nr_laws.proofs.Following.{far-before}
 use Rattle.nr_laws.proofs.Completed.{version-never}
 use Rattle.nr_laws.proofs.ExecutedPayloads.{planned-by}
 use Rattle.nr_laws.proofs.OwnPayloads.{payloads_are_own}
 use Rattle.nr_laws.proofs.PlannedOffers.{offers_are_planned}
-use Rattle.nr_laws.proofs.ChunkCauses.{chunk_has_cause}
-use Rattle.nr_laws.proofs.OwnPlans.{one-form, no_own_plan_is_refused}
-
-some-payload : (own payload : List ℕ) → Some own ≡ Some payload → own ≡ payload
-some-payload own payload e = cc
+use Rattle.nr_laws.proofs.ChunkCauses.{ExecuteNotHeld, chunk-caused}
+use Rattle.nr_laws.proofs.LaterMarks.{mark-later}
+use Rattle.nr_laws.proofs.OwnPlans.{one-form}
+use Rattle.nr_laws.proofs.OwnMessages.{no_own_plan_is_refused}
+use Rattle.nr_laws.proofs.Basics.{some-is}
 
 pub auto_has_replies : AutoHasReplies
-auto_has_replies reply_to adds opened link run earlier before call xid outcome plain plainly opens typed far at done = by outcome done
+auto_has_replies reply_to adds opened link run earlier before call xid outcome plain plainly typed far at done = by outcome done
   where
     submit : Mark
     submit = marks.Submit link call forms.Auto (submissions.Accepted xid)
@@ -58,34 +59,31 @@ auto_has_replies reply_to adds opened link run earlier before call xid outcome p
     has : HasPlan opened link run xid plan
     has = record { call = call; form = forms.Auto; before = earlier; at = at; planned = accepted.planned }
 
-    not_refused : MarkAt run before (marks.Done link xid outcomes.Chunk) → HasRefusedSend opened link before xid → ⊥
-    not_refused chunk r =
+    not_refused : MarkAt run before (marks.Done link xid outcomes.Chunk) → HasRefusedMessage opened link before xid → ⊥
+    not_refused chunk m =
         let mark : Mark = marks.Done link xid outcomes.Chunk in
-        let there : run ≡ r.before ++ marks.Submit link r.call r.form (submissions.Accepted xid) ∷ (r.at.after ++ mark ∷ chunk.after) =
-        chunk.is ∙ ap (λ (b : List Mark). b ++ mark ∷ chunk.after) r.at.is ∙ append_assoc r.before (marks.Submit link r.call r.form (submissions.Accepted xid) ∷ r.at.after) (mark ∷ chunk.after) in
-        no_own_plan_is_refused opened link before xid opens (before-mark TypedMark run before mark chunk.after chunk.is typed) (far-before opened link run before mark chunk.after chunk.is far) r
-        (subst IsNotGiven (one-form opened link run earlier r.before at.after (r.at.after ++ mark ∷ chunk.after) call r.call forms.Auto r.form xid xid far.asked refl at.is there) tt)
+        let there = mark-later run before mark chunk.after m.has.before (marks.Submit link m.has.call m.has.form (submissions.Accepted xid)) chunk.is m.has.at in
+        no_own_plan_is_refused opened link before xid (before-mark TypedMark run before mark chunk.after chunk.is typed) (far-before opened link run before mark chunk.after chunk.is far).asked m
+        (subst IsNotGiven (one-form opened link run earlier m.has.before at.after there.after call m.has.call forms.Auto m.has.form xid xid far.asked refl at.is there.is) tt)
 
-    held : MarkAt run before (marks.Done link xid outcomes.Chunk) → HasReplyNotHeld opened link before xid → ⊥
+    held : MarkAt run before (marks.Done link xid outcomes.Chunk) → ExecuteNotHeld opened link before xid → ⊥
     held chunk u =
         let mark : Mark = marks.Done link xid outcomes.Chunk in
         let execute : Mark = marks.Execute link xid u.moment u.payload u.place u.reply in
-        let there : run ≡ u.before ++ execute ∷ (u.at.after ++ mark ∷ chunk.after) =
-        chunk.is ∙ ap (λ (b : List Mark). b ++ mark ∷ chunk.after) u.at.is ∙ append_assoc u.before (execute ∷ u.at.after) (mark ∷ chunk.after) in
-        let executed : MarkAt run u.before execute = record { after = u.at.after ++ mark ∷ chunk.after; is = there } in
+        let executed = mark-later run before mark chunk.after u.before execute chunk.is u.at in
         let own : call_payload xid call ≡ u.payload =
-        some-payload (call_payload xid call) u.payload (payloads_are_own opened link run u.before xid plan u.moment u.payload u.place u.reply typed far has executed) in
-        let offer = offers_are_planned opened link run u.before xid plan u.moment u.payload u.place u.reply opens typed far has executed in
-        let replied = at-mark (PlainMark (server_with reply_to adds)) run u.before execute executed.after there plainly in
+        some-is (call_payload xid call) u.payload (payloads_are_own opened link run u.before xid plan u.moment u.payload u.place u.reply typed far has executed) in
+        let offer = offers_are_planned opened link run u.before xid plan u.moment u.payload u.place u.reply typed far has executed in
+        let replied = at-mark (PlainMark (server_with reply_to adds)) run u.before execute executed.after executed.is plainly in
         plain.auto (journal (server_with reply_to adds) u.before) u.moment u.payload u.reply send_max send_max (client opened link earlier).state.stag plan (subst IsBytes own bytes) replied (omega arith)
         (ap (λ (x : List ℕ). plan_of x forms.Auto send_max send_max) (sym own) ∙ planned)
         (ap (λ (o : ChunkLists). answer_of_target o send_max u.reply (target_of (call_of u.payload))) (sym offer) ∙ u.none)
 
-    no_cause : MarkAt run before (marks.Done link xid outcomes.Chunk) → HasRefusedSend opened link before xid ⊎ HasReplyNotHeld opened link before xid → ⊥
+    no_cause : MarkAt run before (marks.Done link xid outcomes.Chunk) → HasRefusedMessage opened link before xid ⊎ ExecuteNotHeld opened link before xid → ⊥
     no_cause chunk (inl r) = not_refused chunk r
     no_cause chunk (inr u) = held chunk u
 
     by : (o : Outcome) → MarkAt run before (marks.Done link xid o) → (reply : List ℕ) × (o ≡ outcomes.Reply reply)
     by (outcomes.Reply reply) there = (reply, refl)
-    by outcomes.Chunk there = absurd (no_cause there ((chunk_has_cause opened link run before xid outcomes.Chunk typed far there).0 refl))
+    by outcomes.Chunk there = absurd (no_cause there (chunk-caused opened link run before there.after xid typed far there.is))
     by (outcomes.Version low high) there = absurd (version-never opened link run before there.after xid low high typed far there.is)

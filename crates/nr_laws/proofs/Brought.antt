@@ -28,9 +28,9 @@ use Rattle.nr_reduce.specs.Events.{Event, events, events_at, if_own}
 use Rattle.nr_reduce.specs.Events.Event.{FrameReceived, CallSubmitted, MemoryRevoked, CallExecuted, QueueWritten}
 use Rattle.nr_reduce.specs.Matched.{IsPrefixOf}
 use Rattle.nr_reduce.proofs.Steps.{events-one}
-use Rattle.nr_laws.proofs.Flows.{got-one}
 use Rattle.nr_laws.proofs.Outputs.{Output, bytes_of, bytes_of_all}
 use Rattle.nr_laws.proofs.Outputs.Output.{AHello, ASegment}
+use Rattle.nr_reduce.proofs.Standing.{received-one}
 
 -- ---- Segments that are read as they are written
 
@@ -236,7 +236,7 @@ run-frames link side before (mark ∷ run) h =
     ap frames_in (events-one link side before mark) ∙ frames_in-append (events link side before) (events_at link side before mark)
     ∙ ap (λ (fs : List Frame). fs ++ frames_in (events_at link side before mark)) h
     ∙ sym (mark-frames link side before mark)
-    ∙ ap (λ (xs : List ℕ). frames_by (other side) xs) (sym (got-one link side before mark)) in
+    ∙ ap (λ (xs : List ℕ). frames_by (other side) xs) (sym (received-one link side before mark)) in
     subst (λ (b : List Mark). frames_in (events link side b) ≡ frames_by (other side) (bytes_received link side b)) (append_assoc before (mark ∷ []) run) (run-frames link side (before ++ mark ∷ []) run next)
 
 pub events-frames : (link : ℕ) (side : Side) (run : List Mark) → frames_in (events link side run) ≡ frames_by (other side) (bytes_received link side run)

@@ -28,6 +28,7 @@ use Rattle.nr_laws.proofs.EndingEvents.{ends-at}
 use Rattle.nr_laws.proofs.HeldChunks.{server-good}
 use Rattle.nr_laws.proofs.ServerAlong.{ServerGood, FrameGood}
 use Rattle.nr_laws.proofs.ServerEnds.{hello-goes}
+use Rattle.nr_laws.proofs.Basics.{none-some}
 
 -- ---- The frame that ends a server for a call
 
@@ -42,9 +43,6 @@ pub record RefusedAt (opened : LinkParameters) (link : ℕ) (run : List Mark) (r
   pub live : (end_state_after (server_rules opened) (initial_server opened) earlier).ended ≡ None
   pub fits : frame_end (readiness opened (server_by opened earlier)) (region_grants frame.end (server_by opened earlier).regions) frame ≡ None
   pub cause : RefusedBy (server_by opened earlier) frame segment reason
-
-none-some : {X : Type 0} (x : X) (o : Option X) → o ≡ None → o ≡ Some x → ⊥
-none-some x o none some = (let wrong : None ≡ Some x = sym none ∙ some in cc)
 
 reason-same : (a b n m : ℕ) → Some (ends.Bad a n) ≡ Some (ends.Bad b m) → n ≡ m
 reason-same a b n m e = cc

@@ -1,30 +1,27 @@
 -- The Sends of a client have the xids of its calls, one after the other; so no call that is pending at the server has the xid of a Send
 -- that is received.
-use Rattle.std.proofs.Common.{◌≡◌, ℕ, ◌+◌, Bool, true, false, cond, not, ◌&&◌, ◌||◌, eqb, List, [], ◌∷◌, ◌++◌, length, map, filter, Option, Some, None, Result, Ok, refl, sym, ap, subst, ◌∙◌, arith}
+use Rattle.std.proofs.Common.{◌≡◌, ℕ, ◌+◌, Bool, true, false, not, ◌||◌, eqb, List, [], ◌∷◌, ◌++◌, length, map, None, Ok, refl, subst, ◌∙◌, arith}
 use Rattle.std.specs.List.{AllByRecursion, list_any}
 use Rattle.std.proofs.lemmas.Bool.{ne_eqb}
 use Rattle.nr_xdr.specs.Fields.{word_at}
-use Rattle.nr_wire.specs.Constants.{OPCODE_SEND, QUEUE_SEND, OPCODE_READ_RESPONSE}
-use Rattle.nr_wire.specs.Segment.{Segment}
+use Rattle.nr_wire.specs.Constants.{OPCODE_SEND, QUEUE_SEND}
 use Rattle.nr_wire.specs.Segment.Segment.{Tagged, Untagged}
 use Rattle.nr_link.specs.Frames.{Frame}
 use Rattle.nr_link.specs.Output.{msn_word}
-use Rattle.nr_link.specs.ReceiveState.{begun_bytes}
 use Rattle.nr_link.specs.Ending.{frame_segment}
 use Rattle.nr_reduce.specs.declared.mark.LinkParameters.{LinkParameters}
 use Rattle.nr_reduce.specs.Plans.{call_message}
-use Rattle.nr_reduce.specs.Chunks.{is_read_chunk_of_item}
 use Rattle.nr_reduce.specs.ClientState.{OutstandingCall}
-use Rattle.nr_reduce.specs.ServerState.{PendingCall, PendingRead, ServerState}
-use Rattle.nr_reduce.specs.ServerReads.{regions_of, reads_of, is_read}
-use Rattle.nr_reduce.specs.ServerMessages.{CallVerdict, by_payload, payload_of, chunk_bytes, Verdict, verdict}
-use Rattle.nr_reduce.specs.ServerMessages.CallVerdict.{Refuses, IsReady}
-use Rattle.nr_reduce.specs.ServerMessages.Verdict.{EndsLink, OtherVersion, BadChunks, MakesPending}
-use Rattle.nr_reduce.specs.ServerFrames.{FrameEffect, no_effect, with_verdict, ready_if_whole, message_effect, with_refused_call, is_stream_read, read_effect, call_of_number, response_effect, with_access, effect_in, frame_effect}
+use Rattle.nr_reduce.specs.ServerState.{PendingCall, ServerState}
+use Rattle.nr_reduce.specs.ServerMessages.{verdict}
+use Rattle.nr_reduce.specs.ServerMessages.Verdict.{MakesPending}
+use Rattle.nr_reduce.specs.ServerFrames.{frame_effect}
 use Rattle.nr_laws.specs.FrameContents.{FrameContent, total_of, sends_in, call_frame}
 use Rattle.nr_laws.specs.FrameContents.FrameContent.{HelloFrame, SendFrame, RequestFrame, TaggedFrame}
 use Rattle.nr_laws.specs.LinkInvariants.{AreAtMost}
 use Rattle.nr_laws.proofs.PendingSends.{verdict-new}
+use Rattle.nr_laws.proofs.Basics.{each-append, each-kept}
+use Rattle.nr_laws.proofs.EachEffect.{held-messages, held-responses, send-effect, tagged-effect}
 
 -- the messages among some frames have these xids, one after the other
 abbrev pub XidsFrom : ℕ → List FrameContent → Type 0
@@ -73,68 +70,21 @@ xids-asked opened x (o ∷ os) h own = (own.0 ∙ h.0, xids-asked opened (x + 1)
 abbrev pub IsNumbered : ℕ → PendingCall → Type 0
 IsNumbered first c = c.xid + 1 ≡ first + c.number
 
-each-append : {X : Type 0} (P : X → Type 0) (xs ys : List X) → AllByRecursion P xs → AllByRecursion P ys → AllByRecursion P (xs ++ ys)
-each-append P [] ys h k = k
-each-append P (x ∷ xs) ys h k = (h.0, each-append P xs ys h.1 k)
-
-pub numbered-kept : (first : ℕ) (p : PendingCall → Bool) (cs : List PendingCall) → AllByRecursion (IsNumbered first) cs → AllByRecursion (IsNumbered first) (filter p cs)
-numbered-kept first p [] h = tt
-numbered-kept first p (c ∷ cs) h = by (p c) (numbered-kept first p cs h.1)
-  where
-    by : (b : Bool) → AllByRecursion (IsNumbered first) (filter p cs) → AllByRecursion (IsNumbered first) (cond b (c ∷ filter p cs) (filter p cs))
-    by true k = (h.0, k)
-    by false k = k
-
-numbered-whole : (first : ℕ) (k : ServerState) (place : ℕ) (c : PendingCall) (s : FrameEffect) → AllByRecursion (IsNumbered first) s.calls → AllByRecursion (IsNumbered first) (ready_if_whole k place c s).calls
-numbered-whole first k place c s h = by (is_read s.reads c.number) (by_payload c (payload_of k place c))
-  where
-    by : (b : Bool) (o : CallVerdict) → AllByRecursion (IsNumbered first) (cond b (with_verdict o s) s).calls
-    by true (Refuses reason) = h
-    by true (IsReady r) = h
-    by false o = h
-
-numbered-message : (first : ℕ) (k : ServerState) (place : ℕ) (message : List ℕ) (v : Verdict) → verdict k message ≡ v → word_at 0 message ≡ first + k.received.sends → AllByRecursion (IsNumbered first) k.calls → AllByRecursion (IsNumbered first) (message_effect k place message v).calls
-numbered-message first k place message (EndsLink reason) is own h = h
-numbered-message first k place message OtherVersion is own h = h
-numbered-message first k place message BadChunks is own h = h
-numbered-message first k place message (MakesPending c) is own h =
-    let new = verdict-new k message c is in
-    numbered-whole first k place c (record (no_effect k) { calls = k.calls ++ c ∷ []; reads = k.reads ++ reads_of (k.regions ++ regions_of k place c) c; regions = k.regions ++ regions_of k place c })
-    (each-append (IsNumbered first) k.calls (c ∷ []) h (omega (arith, new.0.number, new.0.own, own), tt))
-
-numbered-read : (first : ℕ) (k : ServerState) (place : ℕ) (r : PendingRead) (o : Option PendingCall) (s : FrameEffect) → AllByRecursion (IsNumbered first) s.calls → AllByRecursion (IsNumbered first) (read_effect k place r o s).calls
-numbered-read first k place r None s h = h
-numbered-read first k place r (Some c) s h = by (is_stream_read c r s.reads && not (is_read_chunk_of_item (chunk_bytes k place c 0) c.lists.read))
-  where
-    by : (b : Bool) → AllByRecursion (IsNumbered first) (cond b (with_refused_call k c s) (ready_if_whole k place c s)).calls
-    by true = numbered-kept first (λ other. not (eqb other.number c.number)) s.calls h
-    by false = numbered-whole first k place c s h
-
-numbered-response : (first : ℕ) (k : ServerState) (place : ℕ) (reads : List PendingRead) → AllByRecursion (IsNumbered first) k.calls → AllByRecursion (IsNumbered first) (response_effect k place reads).calls
-numbered-response first k place [] h = h
-numbered-response first k place (r ∷ reads) h = numbered-read first k place r (call_of_number k r.number) _ h
-
 pub numbered-send : (first : ℕ) (k : ServerState) (f : Frame) (message : List ℕ) → k.received.begun ≡ None → word_at 0 message ≡ first + k.received.sends → AllByRecursion (IsNumbered first) k.calls
     → frame_segment f ≡ Ok (Untagged true OPCODE_SEND 0 QUEUE_SEND (msn_word (k.received.sends + 1)) 0 message) → AllByRecursion (IsNumbered first) (frame_effect k f).calls
-unfolding frame_effect
 numbered-send first k f message none own h is =
-    let segment : Segment = Untagged true OPCODE_SEND 0 QUEUE_SEND (msn_word (k.received.sends + 1)) 0 message in
-    let whole : List ℕ = begun_bytes k.received.begun ++ message in
-    let same : whole ≡ message = ap (λ (b : Option (List ℕ)). begun_bytes b ++ message) none in
-    subst (λ (r : Result Segment ℕ). AllByRecursion (IsNumbered first) (effect_in k f r).calls) (sym is)
-    (numbered-message first k f.end whole (verdict k whole) refl (ap (λ (xs : List ℕ). word_at 0 xs) same ∙ own) h)
+    send-effect k Good (λ s. AllByRecursion (IsNumbered first) s.calls) (held-messages k Good (λ calls reads regions. AllByRecursion (IsNumbered first) calls) h pending) f message none own is
+  where
+    Good : List ℕ → Type 0
+    Good m = word_at 0 m ≡ first + k.received.sends
+
+    pending : (place : ℕ) (message : List ℕ) (c : PendingCall) → Good message → verdict k message ≡ MakesPending c → AllByRecursion (IsNumbered first) (k.calls ++ c ∷ [])
+    pending place message c own is = (let new = verdict-new k message c is in each-append (IsNumbered first) k.calls (c ∷ []) h (omega (arith, new.0.number, new.0.own, own), tt))
 
 pub numbered-tagged : (first : ℕ) (k : ServerState) (f : Frame) (last : Bool) (opcode stag to : ℕ) (payload : List ℕ) → AllByRecursion (IsNumbered first) k.calls → frame_segment f ≡ Ok (Tagged last opcode stag to payload) → AllByRecursion (IsNumbered first) (frame_effect k f).calls
-unfolding frame_effect
 numbered-tagged first k f last opcode stag to payload h is =
-    subst (λ (r : Result Segment ℕ). AllByRecursion (IsNumbered first) (effect_in k f r).calls) (sym is) (by (eqb opcode OPCODE_READ_RESPONSE && last))
-  where
-    t : ServerState
-    t = with_access k f (Tagged last opcode stag to payload)
-
-    by : (b : Bool) → AllByRecursion (IsNumbered first) (cond b (response_effect t f.end k.reads) (no_effect t)).calls
-    by true = numbered-response first t f.end k.reads h
-    by false = h
+    tagged-effect k (λ s. AllByRecursion (IsNumbered first) s.calls)
+    (held-responses k (λ calls reads regions. AllByRecursion (IsNumbered first) calls) h (λ c s g. each-kept (IsNumbered first) (λ other. not (eqb other.number c.number)) s.calls g) (λ r reads is. h)) f last opcode stag to payload is
 
 -- none of these has the xid of the next Send
 pub none-pending : (first n x : ℕ) (cs : List PendingCall) → AllByRecursion (IsNumbered first) cs → AreAtMost (λ (c : PendingCall). c.number) n cs → x ≡ first + n → list_any (λ (c : PendingCall). eqb c.xid x) cs ≡ false

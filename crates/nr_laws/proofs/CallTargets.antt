@@ -19,6 +19,7 @@ use Rattle.nr_reduce.specs.PayloadLaws.{moved_by, given_conveyed}
 use Rattle.nr_reduce.proofs.Looks.{item_stands}
 use Rattle.nr_laws.specs.Payloads.{form_conveyed}
 use Rattle.nr_laws.proofs.Bytes.{bytes_both}
+use Rattle.nr_laws.proofs.Basics.{some-is}
 
 -- ---- Bytes
 
@@ -96,9 +97,6 @@ item-by stream moved q (Some i) e = by (has_length Call i moved) e
     by : (b : Bool) → cond b (Some (restored_payload i stream moved)) None ≡ Some q → (j : Item) × (Some i ≡ Some j) × (restored_payload j stream moved ≡ q)
     by true e = (i, refl, (let same : Some (restored_payload i stream moved) ≡ Some q = e in cc))
     by false e = absurd cc
-
-pub some-is : (x y : List ℕ) → Some x ≡ Some y → x ≡ y
-some-is x y e = cc
 
 -- a prefix, with its item put back
 given-item-head : (own region q : List ℕ) (at : ℕ) (lengths : List ℕ) (head : CallHead) → IsBytes own → IsBytes region → whole Call (take at own) (moved_by lengths region) ≡ Some q → call_of q ≡ Ok head → call_of q ≡ call_of own

@@ -43,7 +43,7 @@ use Rattle.nr_reduce.proofs.Conveyed.{Known, known-from, each-found}
 use Rattle.nr_reduce.proofs.Laid.{added_up}
 use Rattle.nr_laws.specs.LinkInvariants.{IsUnused}
 use Rattle.nr_laws.specs.Payloads.{form_conveyed}
-use Rattle.nr_laws.specs.Stays.{IsRefusedMessage}
+use Rattle.nr_laws.specs.RefusedMessages.{IsRefusedMessage}
 use Rattle.nr_laws.specs.Typed.{TypedMark, IsTypedForm, IsTypedCall, IsTyped}
 use Rattle.nr_laws.proofs.AcceptedRegions.{accepted-regions}
 use Rattle.nr_laws.proofs.ClientRun.{WasSubmitted}
@@ -53,7 +53,7 @@ use Rattle.nr_laws.proofs.EmptyChunks.{new-empty, pending-empty}
 use Rattle.nr_laws.proofs.ExecutedCalls.{frame-message, received-message}
 use Rattle.nr_laws.proofs.ExecutedPayloads.{IsOfPlan, planned-by}
 use Rattle.nr_laws.proofs.HeaderXid.{header-xid, call-xid}
-use Rattle.nr_laws.proofs.HeldChunks.{sink-holds, not-any}
+use Rattle.nr_laws.proofs.HeldChunks.{sink-holds}
 use Rattle.nr_laws.proofs.JudgedCalls.{pending-fine, read-fine}
 use Rattle.nr_laws.proofs.OnceByXid.{at-mark}
 use Rattle.nr_laws.proofs.PendingSends.{verdict-new}
@@ -63,12 +63,10 @@ use Rattle.nr_laws.proofs.ServerReadsOfRuns.{verdict-lists}
 use Rattle.nr_laws.proofs.SinkReads.{own_reads, total-own, reads-own}
 use Rattle.nr_laws.proofs.SuitedCalls.{HasNoBytes, calls-suit, IsSuited}
 use Rattle.nr_laws.proofs.TotalsAtServer.{found_has}
+use Rattle.std.proofs.lemmas.Bool.{not-true}
+use Rattle.nr_laws.proofs.SinksKept.{total-nil}
 
 -- ---- The chunks of a plan
-
-total-nil : (position : ℕ) → total_at position [] ≡ 0
-unfolding total_at
-total-nil position = refl
 
 -- a call that is whole by its message has no bytes to be read
 nothing-read : (regions : List Region) (reads : List PendingRead) (c : PendingCall) (stag : ℕ) (p : Plan) → HasChunk p → c.lists.read ≡ (lists_of stag p).read → is_read (reads ++ reads_of regions c) c.number ≡ true → added_up p.read ≡ 0
@@ -76,7 +74,7 @@ unfolding lists_of
 nothing-read regions reads c stag p chunk lists whole = by p.read_at refl lists
   where
     none : list_any (λ r. eqb r.number c.number) (reads_of regions c) ≡ false
-    none = any-right c.number reads (reads_of regions c) (not-any (list_any (λ r. eqb r.number c.number) (reads ++ reads_of regions c)) whole)
+    none = any-right c.number reads (reads_of regions c) (not-true (list_any (λ r. eqb r.number c.number) (reads ++ reads_of regions c)) whole)
 
     by : (o : Option ℕ) → p.read_at ≡ o → c.lists.read ≡ read_list stag p o → added_up p.read ≡ 0
     by None at e = ap added_up (chunk.apart at)

@@ -1,6 +1,6 @@
 -- At the frame that ends a Read Response, what came of the client are the responses to all reads up to this one.
 use Rattle.std.proofs.Common.{◌≡◌, ℕ, zero, suc, ◌+◌, ◌≤◌, Bool, true, false, cond, List, [], ◌∷◌, ◌++◌, length, take, drop, map, None, Ok, refl, sym, ap, subst, ◌∙◌, arith, append_assoc, append-nil, length-append}
-use Rattle.std.proofs.lemmas.List.{length-map}
+use Rattle.std.proofs.lemmas.List.{length-map, map-append}
 use Rattle.nr_wire.specs.declared.hello.Side.TheVariants.{Initiator, Responder}
 use Rattle.nr_wire.specs.Segment.{Segment}
 use Rattle.nr_wire.specs.Segment.Segment.{Tagged, Untagged}
@@ -29,13 +29,14 @@ use Rattle.nr_laws.proofs.Hears.{brings-at, own-segment}
 use Rattle.nr_laws.proofs.Memory.{parts_of, parts_out, parts-append, out-append, segment_parts, access-parts, gathers}
 use Rattle.nr_laws.proofs.Outputs.{Output, request_payload, server_says, server_final_outputs}
 use Rattle.nr_laws.proofs.Outputs.Output.{AHello, ASegment}
-use Rattle.nr_laws.proofs.ReadsAlong.{requests_in, requests-append, map-append, last_in, last_of, lasts_in, ReadsAt}
+use Rattle.nr_laws.proofs.ReadsAlong.{requests_in, requests-append, last_in, last_of, lasts_in, ReadsAt}
 use Rattle.nr_laws.proofs.ServerAlong.{outs_of}
 use Rattle.nr_laws.proofs.ServerMemory.{server-gathers}
 use Rattle.nr_laws.proofs.ServerReadsOfRuns.{ServerFine, server-fine, reads-along}
 use Rattle.nr_laws.proofs.ServerSide.{client-receives-of}
 use Rattle.nr_laws.proofs.SinksKept.{SinksKept}
 use Rattle.nr_laws.proofs.SplitResponses.{lasts_of, EndsLast, first-responses}
+use Rattle.nr_laws.proofs.Basics.{first-is}
 
 -- ---- Lists
 
@@ -75,9 +76,6 @@ outs-more opened r (x ∷ es) more =
     ap (λ (xs : List Output). o ++ xs) (outs-more opened (next_end_state (server_rules opened) r x) es more)
     ∙ sym (append_assoc o (outputs_all (server_rules opened) (server_says opened) server_final_outputs (next_end_state (server_rules opened) r x) es)
     (outputs_all (server_rules opened) (server_says opened) server_final_outputs (end_state_after (server_rules opened) (next_end_state (server_rules opened) r x) es) more))
-
-first-is : (x y : List ℕ) (xs ys : List (List ℕ)) → x ∷ xs ≡ y ∷ ys → x ≡ y
-first-is x y xs ys e = cc
 
 taken-requests : (others : List Answered) (ps X Y : List (List ℕ)) → requests_of others ++ X ≡ ps ++ Y → length ps ≤ length others → requests_of (take (length ps) others) ≡ ps
 taken-requests others [] X Y e le = refl
@@ -138,7 +136,7 @@ came-responses opened link run typed asked served matched es f more segment q re
     let cr = client-receives-of opened link run typed asked served matched in
     let X : List Output = outputs_all (server_rules opened) (server_says opened) server_final_outputs (end_state_after (server_rules opened) (initial_server opened) es) (FrameReceived f ∷ more) in
     let said : requests_in (outs_of opened es) ≡ asked_for ++ map request_payload (take 7 rest) =
-    at_es.requests ∙ ap (λ (rs : List PendingRead). map request_payload (done ++ take 8 rs)) reads ∙ ap (λ (rs : List PendingRead). map request_payload rs) (sym (append_assoc done (q ∷ []) (take 7 rest))) ∙ map-append (done ++ q ∷ []) (take 7 rest) in
+    at_es.requests ∙ ap (λ (rs : List PendingRead). map request_payload (done ++ take 8 rs)) reads ∙ ap (λ (rs : List PendingRead). map request_payload rs) (sym (append_assoc done (q ∷ []) (take 7 rest))) ∙ map-append request_payload (done ++ q ∷ []) (take 7 rest) in
     let both : requests_of ca.answered ++ (ca.later ++ requests_in cr.left) ≡ asked_for ++ (map request_payload (take 7 rest) ++ requests_in X) =
     sym (append_assoc (requests_of ca.answered) ca.later (requests_in cr.left))
     ∙ ap (λ (ps : List (List ℕ)). ps ++ requests_in cr.left) (sym ca.requests ∙ heard-brought (events link Initiator run) cr.came cr.brings)

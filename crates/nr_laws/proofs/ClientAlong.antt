@@ -1,5 +1,5 @@
 -- A client says what it has to, from event to event.
-use Rattle.std.proofs.Common.{◌≡◌, ℕ, zero, suc, ◌+◌, ◌<◌, Bool, true, false, cond, eqb, List, [], ◌∷◌, ◌++◌, length, take, drop, map, Option, None, Some, Result, Ok, Err, refl, sym, ap, subst, ◌∙◌, arith, append-nil, length-append, inl, inr, eqb-true}
+use Rattle.std.proofs.Common.{◌≡◌, ℕ, ◌+◌, ◌<◌, Bool, true, false, cond, List, [], ◌∷◌, ◌++◌, length, take, drop, map, Option, None, Some, Result, Ok, Err, refl, sym, ap, subst, ◌∙◌, arith, append-nil, length-append, inl, inr, eqb-true}
 use Rattle.nr_xdr.specs.Item.{IsBytes}
 use Rattle.nr_wire.specs.declared.stream.Awaited.TheVariants.{Fpdu}
 use Rattle.nr_wire.specs.Segment.{Segment}
@@ -28,7 +28,9 @@ use Rattle.nr_laws.proofs.Outputs.Output.{ASegment}
 use Rattle.nr_laws.proofs.Brought.{AreFrom}
 use Rattle.nr_laws.proofs.Words.{send-word, terminate-word, from-append, payload-bytes}
 use Rattle.nr_laws.proofs.Messages.{messages, AreOne, messages-append, one-append, messages-calls, one-calls, messages-tagged, one-tagged, tagged-response, messages-final, one-final}
-use Rattle.nr_laws.proofs.ClientSays.{IsGoodCall, ClientGood, accepted_in, accepted-append, stag_behind, from-more, behind-more, start, asked, HasHello, ClientSays, short-append, short-filter, short-revoked, short-written, submitted-append, submitted-messages, map-more, revoked-same, written-same, client-unharmed, formed, response-words}
+use Rattle.nr_laws.proofs.ClientSays.{IsGoodCall, ClientGood, accepted_in, accepted-append, asked, HasHello, ClientSays, short-append, short-filter, short-revoked, short-written, submitted-messages, map-more, client-unharmed, formed, response-words}
+use Rattle.nr_laws.proofs.Basics.{above-zero}
+use Rattle.nr_reduce.proofs.Waiting.{start, stag_behind, from-append as from-more, behind-append, submitted-append, revoked-same, written-same}
 
 -- ---- What is said for a frame
 
@@ -89,7 +91,7 @@ record Step (opened : LinkParameters) (place : ℕ) (k after : ClientState) (end
   greeted : ended ≡ None → HasHello place after.has_hello
   waits : k.has_hello ≡ false → map as_submitted after.outstanding ≡ map as_submitted k.outstanding
 
-same-asked : (opened : LinkParameters) (es : List Event) (e : Event) → accepted_in (e ∷ []) ≡ [] → accepted_in (es ++ e ∷ []) ≡ accepted_in es
+pub same-asked : (opened : LinkParameters) (es : List Event) (e : Event) → accepted_in (e ∷ []) ≡ [] → accepted_in (es ++ e ∷ []) ≡ accepted_in es
 same-asked opened es e none = accepted-append es (e ∷ []) ∙ ap (λ (xs : List AcceptedCall). accepted_in es ++ xs) none ∙ append-nil (accepted_in es)
 
 quiet-step : (opened : LinkParameters) (es : List Event) (e : Event) (place later : ℕ) (k after : ClientState) (ended now : Option Stop) (outs more : List Output) → accepted_in (e ∷ []) ≡ []
@@ -134,10 +136,6 @@ behind-greeted place b some (inr h) = h.1
 first-greeted : (place : ℕ) (b : Bool) → place ≡ 0 → HasHello place b → b ≡ false
 first-greeted place b none (inl h) = h.1
 first-greeted place b none (inr h) = absurd (let z = h.0 in omega (arith, z, none))
-
-pub not-first : (n : ℕ) → eqb n 0 ≡ false → 0 < n
-not-first zero e = absurd cc
-not-first (suc n) e = omega arith
 
 segment-step : (opened : LinkParameters) (place : ℕ) (k : ClientState) (f : Frame) → 0 < f.at → f.at ≡ place → place < f.end → HasHello place k.has_hello → Step opened f.end k (with_segment k f (frame_segment f)) None
 segment-step opened place k f behind at goes greeted =
@@ -199,7 +197,7 @@ call-step opened es place p k outs a plan planned h =
     record {
       short = short-append opened k.outstanding (own ∷ []) h.short (short, tt);
       stag = ap (λ (n : ℕ). n + regions_needed (outstanding_of (record (start opened) { stag = n }) a).plan) h.stag
-          ∙ sym (behind-more (start opened) opened.first_stag before a) ∙ ap (λ (xs : List AcceptedCall). stag_behind (start opened) opened.first_stag xs) (sym more);
+          ∙ sym (behind-append (start opened) opened.first_stag before a) ∙ ap (λ (xs : List AcceptedCall). stag_behind (start opened) opened.first_stag xs) (sym more);
       count = (let c = h.count in let l = ap (λ (xs : List AcceptedCall). length xs) more in let n = length-append before (a ∷ []) in omega (arith, c, l, n));
       greeted = h.greeted;
       waits = λ no_hello. submitted-append k.outstanding (own ∷ []) ∙ ap (λ (os : List OutstandingCall). os ++ own ∷ []) (h.waits no_hello) ∙ sym all;
@@ -244,7 +242,7 @@ frame-says opened es place k outs f next p = by_end (client_end k (FrameReceived
     by_hello true is stays = hello-step opened es place k outs f (eqb-true f.at 0 is) next.0 next.1 p
     by_hello false is stays =
         quiet-step opened es (FrameReceived f) place f.end k (with_segment k f (frame_segment f)) None None outs _ refl
-        (segment-step opened place k f (not-first f.at is) next.0 next.1 (p.greeted refl)) (segment-quiet k f next.2 is stays) p
+        (segment-step opened place k f (above-zero f.at is) next.0 next.1 (p.greeted refl)) (segment-quiet k f next.2 is stays) p
 
     by_end : (o : Option Stop) → client_end k (FrameReceived f) ≡ o
         → ClientSays opened (es ++ FrameReceived f ∷ []) f.end (next_end_state_by (client_rules opened) k (FrameReceived f) o).state (next_end_state_by (client_rules opened) k (FrameReceived f) o).ended

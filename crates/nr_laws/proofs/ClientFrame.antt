@@ -1,10 +1,7 @@
 -- A client that a frame doesn't end keeps all that holds between both ends.
-use Rattle.std.proofs.Common.{◌≡◌, ℕ, ◌+◌, ◌≤◌, ◌<◌, ◌^◌, Bool, true, false, cond, not, ◌||◌, eqb, ltb, List, [], ◌∷◌, ◌++◌, length, map, take, drop, filter, Option, Some, None, Result, Ok, refl, sym, ap, subst, ◌∙◌, arith, lit<, append_assoc, length-take, ◌⊎◌, inl, inr}
-use Rattle.std.proofs.lemmas.Bool.{cases_lt, lt-ltb}
+use Rattle.std.proofs.Common.{◌≡◌, ℕ, ◌+◌, ◌≤◌, ◌^◌, Bool, true, false, cond, not, ◌||◌, eqb, ltb, List, [], ◌∷◌, ◌++◌, length, map, take, drop, filter, Option, Some, None, Result, Ok, refl, sym, ap, subst, ◌∙◌, arith, lit<, append_assoc, length-take, ◌⊎◌, inl, inr}
+use Rattle.std.proofs.lemmas.Bool.{ltb-false}
 use Rattle.nr_xdr.specs.Item.{IsBytes}
-use Rattle.nr_xdr.specs.Fields.{word_at}
-use Rattle.nr_xdr.proofs.WordBytes.{IsBytes-drop, IsBytes-take, word_of-below, hyper_of-below}
-use Rattle.nr_wire.specs.Fields.{hyper_at}
 use Rattle.nr_wire.specs.Constants.{OPCODE_READ_REQUEST, OPCODE_READ_RESPONSE, OPCODE_SEND, QUEUE_SEND, QUEUE_READ_REQUEST}
 use Rattle.nr_wire.specs.declared.hello.Side.TheVariants.{Initiator, Responder}
 use Rattle.nr_wire.specs.Hello.{hello_of}
@@ -17,7 +14,6 @@ use Rattle.nr_link.specs.Output.{msn_word}
 use Rattle.nr_link.specs.Reasons.{REASON_MSN, REASON_OFFSET, REASON_FORM, REASON_REQUESTS, REASON_LONG, REASON_SHORT}
 use Rattle.nr_link.specs.ReceiveState.{read_request_in, message_completed, is_send}
 use Rattle.nr_link.specs.SegmentFaults.{Readiness, SegmentFault, segment_fault, first_fault, reason_if, missing_fault, is_malformed, is_too_many, no_buffer, next_msn, next_offset, has_length, terminate_fault}
-use Rattle.nr_link.specs.SegmentFaults.SegmentFault.{Reason, NoBuffer, AccessDenied, PeerTerminated}
 use Rattle.nr_link.specs.Ending.{frame_segment, frame_end, frame_end_by, end_of_fault, hello_end, missing_access}
 use Rattle.nr_reduce.specs.declared.mark.LinkParameters.{LinkParameters}
 use Rattle.nr_reduce.specs.Events.Event.{FrameReceived}
@@ -31,11 +27,15 @@ use Rattle.nr_laws.specs.LinkInvariants.{Transit, TotalsAgree, calls_sent, hello
 use Rattle.nr_laws.proofs.Totals.{total-append, total-map-zero}
 use Rattle.nr_laws.proofs.CompletedFrames.{is-piece}
 use Rattle.nr_laws.proofs.TotalsAtServer.{segment-is}
-use Rattle.nr_laws.proofs.TotalsAtClient.{totals-hello_down, totals-send_down, totals-read_down, totals-tagged_down, down_one, after-is, says-is, request_payload, tagged-none}
+use Rattle.nr_laws.proofs.TotalsAtClient.{totals-hello_down, totals-send_down, totals-read_down, totals-tagged_down, down_one, after-is, says-is, request_payload, tagged-none, bit_of}
 use Rattle.nr_laws.proofs.OwnXids.{OwnXids, own_xids-came, segment-out}
-use Rattle.nr_laws.proofs.OutputFrames.{AllShort, outs-said, response-said}
+use Rattle.nr_laws.proofs.OutputFrames.{outs-said, response-said}
 use Rattle.nr_laws.proofs.Writable.{IsWritable, AreWritable, IsOutput, proper_one, stream-more, stream-first, stream-at, tagged-proper}
 use Rattle.nr_laws.proofs.AgreeingEnds.{EndsAgree, IsPlace, frame_of, payload_bytes}
+use Rattle.nr_laws.proofs.Outputs.{CallsShort}
+use Rattle.nr_laws.proofs.Words.{word-below, hyper-below}
+use Rattle.nr_laws.proofs.ClientSays.{short-filter}
+use Rattle.nr_reduce.proofs.Touches.{no_flaw}
 
 -- ---- A Read Request that doesn't end a client ends within 2 ^ 64 bytes of its sink
 
@@ -48,13 +48,6 @@ none_of faults (Some x) (Some y ∷ front) e = absurd cc
 no_reason : (reason : ℕ) (b : Bool) → reason_if {D = Denied} reason b ≡ None → b ≡ false
 no_reason reason true e = absurd cc
 no_reason reason false e = refl
-
-pub no_fault : (f : Frame) (segment : Segment) (o : Option (SegmentFault Denied)) → end_of_fault f segment o ≡ None → o ≡ None
-no_fault f segment None e = refl
-no_fault f segment (Some (Reason reason)) e = absurd cc
-no_fault f segment (Some (NoBuffer msn)) e = absurd cc
-no_fault f segment (Some (AccessDenied why)) e = absurd cc
-no_fault f segment (Some (PeerTerminated word)) e = absurd cc
 
 not-malformed : (r : Readiness Denied) (n : ℕ) (payload : List ℕ) → segment_fault r (Untagged true OPCODE_READ_REQUEST 0 QUEUE_READ_REQUEST n 0 payload) ≡ None → is_malformed OPCODE_READ_REQUEST true payload ≡ false
 unfolding segment_fault
@@ -72,13 +65,6 @@ ends_below false false c e = e
 ends_below true b c e = absurd cc
 ends_below false true c e = absurd cc
 
-not_above : (n m : ℕ) → ltb n m ≡ false → m ≤ n
-not_above n m e =
-    elim (cases_lt n m) [
-      | inl lt ↦ absurd (let wrong : true ≡ false = sym (lt-ltb n m lt) ∙ e in cc)
-      | inr le ↦ le
-    ]
-
 pub by_end : (k : ClientState) (f : Frame) (o : Option End) → or_message_end k f o ≡ None → o ≡ None
 by_end k f None e = refl
 by_end k f (Some end) e = absurd cc
@@ -93,29 +79,21 @@ request-ends k f n payload behind is e =
     by_end k f (frame_end (readiness k) grants f) ((λ i. cond (sym behind i) (hello_end (hello_of Responder f.bytes)) (or_message_end k f (frame_end (readiness k) grants f))) ∙ e) in
     let none : end_of_fault f segment (segment_fault (readiness k (missing_access grants f segment)) segment) ≡ None =
     ap (λ (r : Result Segment ℕ). frame_end_by (readiness k) grants f r) (sym is) ∙ found in
-    let malformed = not-malformed (readiness k (missing_access grants f segment)) n payload (no_fault f segment _ none) in
-    not_above (2 ^ 64) ((read_request_in payload).sink_to + (read_request_in payload).size)
+    let malformed = not-malformed (readiness k (missing_access grants f segment)) n payload (no_flaw f segment _ none) in
+    ltb-false (2 ^ 64) ((read_request_in payload).sink_to + (read_request_in payload).size)
     (ends_below false (not (eqb (length payload) 28)) (ltb (2 ^ 64) ((read_request_in payload).sink_to + (read_request_in payload).size)) malformed)
 
 -- ---- What is kept
 
-short-kept : (opened : LinkParameters) (p : OutstandingCall → Bool) (os : List OutstandingCall) → AllShort opened os → AllShort opened (filter p os)
-short-kept opened p [] h = tt
-short-kept opened p (o ∷ os) h = by (p o) (short-kept opened p os h.1)
-  where
-    by : (b : Bool) → AllShort opened (filter p os) → AllShort opened (cond b (o ∷ filter p os) (filter p os))
-    by true k = (h.0, k)
-    by false k = k
-
-short-frame : (opened : LinkParameters) (k : ClientState) (f : Frame) (r : Result Segment ℕ) → AllShort opened k.outstanding → AllShort opened (with_segment k f r).outstanding
+short-frame : (opened : LinkParameters) (k : ClientState) (f : Frame) (r : Result Segment ℕ) → CallsShort opened k.outstanding → CallsShort opened (with_segment k f r).outstanding
 short-frame opened k f r h = by (segment-out k f r)
   where
-    by : ((with_segment k f r).outstanding ≡ k.outstanding) ⊎ ((p : OutstandingCall → Bool) × ((with_segment k f r).outstanding ≡ filter p k.outstanding)) → AllShort opened (with_segment k f r).outstanding
-    by (inl same) = subst (AllShort opened) (sym same) h
-    by (inr left) = subst (AllShort opened) (sym left.1) (short-kept opened left.0 k.outstanding h)
+    by : ((with_segment k f r).outstanding ≡ k.outstanding) ⊎ ((p : OutstandingCall → Bool) × ((with_segment k f r).outstanding ≡ filter p k.outstanding)) → CallsShort opened (with_segment k f r).outstanding
+    by (inl same) = subst (CallsShort opened) (sym same) h
+    by (inr left) = subst (CallsShort opened) (sym left.1) (short-filter opened left.0 k.outstanding h)
 
 client-linked : (opened : LinkParameters) (k t : ClientState) (s : ServerState) (u d all_up all_down : List FrameContent) (w : Transit) (p : FrameContent) (rest said : List FrameContent) → EndsAgree opened k s u d all_up all_down w → w.down ≡ p ∷ rest
-    → TotalsAgree t s (down_one w said rest) → OwnXids opened t → AllShort opened t.outstanding → AreWritable said → total_of hellos_in said ≡ 0 → total_of requests_in said ≡ 0
+    → TotalsAgree t s (down_one w said rest) → OwnXids opened t → CallsShort opened t.outstanding → AreWritable said → total_of hellos_in said ≡ 0 → total_of requests_in said ≡ 0
     → t.received.sends ≡ k.received.sends + sends_in p → t.received.requests ≡ k.received.requests + requests_in p
     → EndsAgree opened t s u (d ++ p ∷ []) (all_up ++ said) all_down (down_one w said rest)
 client-linked opened k t s u d all_up all_down w p rest said l first counts outs short proper hellos reads sends requests = record {
@@ -161,13 +139,9 @@ pub after-hello : (opened : LinkParameters) (k : ClientState) (f : Frame) → is
 unfolding client_state_after
 after-hello opened k f is = λ i. cond (is i) (record k { has_hello = true }) (with_segment k f (frame_segment f))
 
-asks-proper : (opened : LinkParameters) (os : List OutstandingCall) → AllShort opened os → AreWritable (map (call_frame opened) os)
+asks-proper : (opened : LinkParameters) (os : List OutstandingCall) → CallsShort opened os → AreWritable (map (call_frame opened) os)
 asks-proper opened [] h = tt
 asks-proper opened (o ∷ os) h = (h.0, asks-proper opened os h.1)
-
-not_greeted : (b : Bool) → hello_bit b ≡ 0 → b ≡ false
-not_greeted true e = absurd cc
-not_greeted false e = refl
 
 -- the calls of a client so far
 pub calls_said : (opened : LinkParameters) (k : ClientState) (s : ServerState) (u d all_up all_down : List FrameContent) (w : Transit) → EndsAgree opened k s u d all_up all_down w → total_of sends_in all_up ≡ calls_sent k
@@ -182,7 +156,7 @@ took-hello opened k s u d all_up all_down w rest f l first is =
     let says = says-hello opened k f is in
     let after = after-hello opened k f is in
     let none : hello_bit k.has_hello ≡ 0 = omega (arith, l.counts.hello, ap (total_of hellos_in) first) in
-    let calls : total_of sends_in all_up ≡ 0 = calls_said opened k s u d all_up all_down w l ∙ ap (λ (b : Bool). cond b k.calls_accepted 0) (not_greeted k.has_hello none) in
+    let calls : total_of sends_in all_up ≡ 0 = calls_said opened k s u d all_up all_down w l ∙ ap (λ (b : Bool). cond b k.calls_accepted 0) (bit_of k.has_hello none) in
     let counts : TotalsAgree (client_state_after opened k (FrameReceived f)) s (down_one w said rest) =
     subst (λ (ps : List FrameContent). TotalsAgree (client_state_after opened k (FrameReceived f)) s (down_one w ps rest)) says (totals-hello_down opened k s w f rest l.counts first is) in
     record {
@@ -191,7 +165,7 @@ took-hello opened k s u d all_up all_down w rest f l first is =
       output = output-hello opened k f is ∙ outs-said opened 0 0 k.outstanding l.short ∙ (λ i. output_bytes Initiator (sym calls i) (sym l.no_reads i) said);
       linked =
           client-linked opened k (client_state_after opened k (FrameReceived f)) s u d all_up all_down w HelloFrame rest said l first counts (own_xids-came opened k f l.outs)
-          (subst (λ (t : ClientState). AllShort opened t.outstanding) (sym after) l.short) (asks-proper opened k.outstanding l.short)
+          (subst (λ (t : ClientState). CallsShort opened t.outstanding) (sym after) l.short) (asks-proper opened k.outstanding l.short)
           (total-map-zero hellos_in (call_frame opened) k.outstanding (λ o. refl)) (total-map-zero requests_in (call_frame opened) k.outstanding (λ o. refl))
           (omega (arith, ap (λ (t : ClientState). t.received.sends) after)) (omega (arith, ap (λ (t : ClientState). t.received.requests) after));
     }
@@ -212,15 +186,9 @@ took-frame opened k s u d all_up all_down w p rest said f r l first behind is sa
       linked =
           client-linked opened k (client_state_after opened k (FrameReceived f)) s u d all_up all_down w p rest said l first
           (subst (λ (ps : List FrameContent). TotalsAgree (client_state_after opened k (FrameReceived f)) s (down_one w ps rest)) (says-is opened k f r behind is ∙ says) counts)
-          (own_xids-came opened k f l.outs) (subst (λ (t : ClientState). AllShort opened t.outstanding) (sym after) (short-frame opened k f r l.short)) proper hellos reads
+          (own_xids-came opened k f l.outs) (subst (λ (t : ClientState). CallsShort opened t.outstanding) (sym after) (short-frame opened k f r l.short)) proper hellos reads
           (ap (λ (t : ClientState). t.received.sends) after ∙ sends) (ap (λ (t : ClientState). t.received.requests) after ∙ requests);
     }
-
-pub word_below : (place : ℕ) (bytes : List ℕ) → IsBytes bytes → word_at place bytes < 2 ^ 32
-word_below place bytes h = word_of-below (take 4 (drop place bytes)) (IsBytes-take 4 (drop place bytes) (IsBytes-drop place bytes h))
-
-hyper_below : (place : ℕ) (bytes : List ℕ) → IsBytes bytes → hyper_at place bytes < 2 ^ 64
-hyper_below place bytes h = hyper_of-below (take 8 (drop place bytes)) (IsBytes-take 8 (drop place bytes) (IsBytes-drop place bytes h))
 
 took-piece : (opened : LinkParameters) (k : ClientState) (s : ServerState) (u d all_up all_down : List FrameContent) (w : Transit) (p : FrameContent) (rest : List FrameContent) (f : Frame) → EndsAgree opened k s u d all_up all_down w → w.down ≡ p ∷ rest
     → IsWritable p → Carries k.received.sends k.received.requests f p → IsBytes f.bytes → f.bytes ≡ frame_bytes Responder (numbered_segment k.received.sends k.received.requests p)
@@ -242,7 +210,7 @@ took-piece opened k s u d all_up all_down w (RequestFrame sink at size stag to) 
     let ends = request-ends k f (msn_word (k.received.requests + 1)) payload piece.behind reads stays in
     took-frame opened k s u d all_up all_down w (RequestFrame sink at size stag to) rest said f (Ok segment) l first piece.behind reads refl
     (response-said Initiator (total_of sends_in all_up) (total_of requests_in all_up) r.sink r.sink_to answer)
-    (tagged-proper OPCODE_READ_RESPONSE r.sink r.sink_to answer refl (lit< tt) (word_below 0 payload payload_is) (hyper_below 4 payload payload_is) (omega (arith, ends, length-take r.size (drop r.to (memory_at k f.end r.stag)))))
+    (tagged-proper OPCODE_READ_RESPONSE r.sink r.sink_to answer refl (lit< tt) (word-below 0 payload payload_is) (hyper-below 4 payload payload_is) (omega (arith, ends, length-take r.size (drop r.to (memory_at k f.end r.stag)))))
     (tagged-none hellos_in OPCODE_READ_RESPONSE r.sink r.sink_to answer (λ last a b. refl)) (tagged-none requests_in OPCODE_READ_RESPONSE r.sink r.sink_to answer (λ last a b. refl))
     (totals-read_down opened k s w f sink at size stag to rest l.counts first piece) (omega arith) refl
 took-piece opened k s u d all_up all_down w (TaggedFrame last opcode stag to payload) rest f l first proper piece bytes is stays =

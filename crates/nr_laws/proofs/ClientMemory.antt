@@ -24,8 +24,10 @@ use Rattle.nr_reduce.proofs.Touches.{client_touched}
 use Rattle.nr_reduce.proofs.OwnStags.{AreNumbered, numbered-buffers, ClientNumbers, client-numbers}
 use Rattle.nr_laws.proofs.Along.{IsNext, GoesOn, along, place_after, places_after}
 use Rattle.nr_reduce.proofs.Steps.{end_state_after-append}
-use Rattle.nr_laws.proofs.ClientSays.{IsGoodCall, ClientGood, accepted_in, accepted-append, stag_behind, from-more, start, asked, ClientSays}
+use Rattle.nr_laws.proofs.ClientSays.{ClientGood, accepted_in, accepted-append, asked}
 use Rattle.nr_laws.proofs.Memory.{Gathering, Settled, settled-later, settled-closed, settled-append, settled-more, revoked-settled}
+use Rattle.nr_laws.proofs.ClientAlong.{same-asked}
+use Rattle.nr_reduce.proofs.Waiting.{start, stag_behind, from-append}
 
 -- ---- Regions
 
@@ -202,9 +204,6 @@ pub record ClientKeeps (opened : LinkParameters) (es : List Event) (place : ℕ)
   pub backed : AllBacked k.regions (asked opened es)
   pub stag : k.stag ≡ stag_behind (start opened) opened.first_stag (accepted_in es)
 
-same-asked : (opened : LinkParameters) (es : List Event) (e : Event) → accepted_in (e ∷ []) ≡ [] → accepted_in (es ++ e ∷ []) ≡ accepted_in es
-same-asked opened es e none = accepted-append es (e ∷ []) ∙ ap (λ (xs : List AcceptedCall). accepted_in es ++ xs) none ∙ append-nil (accepted_in es)
-
 -- a step that accepts no call
 quiet-keeps : (opened : LinkParameters) (es : List Event) (e : Event) (place later : ℕ) (k after : ClientState) → accepted_in (e ∷ []) ≡ [] → Settled later after.regions after.accesses_received → (EachAsked opened es k.outstanding → EachAsked opened es after.outstanding)
     → (AllBacked k.regions (asked opened es) → AllBacked after.regions (asked opened es)) → after.stag ≡ k.stag
@@ -273,7 +272,7 @@ call-keeps opened es place q k a numbers next p =
     let more : accepted_in (es ++ CallSubmitted q a ∷ []) ≡ before ++ a ∷ [] = accepted-append es (CallSubmitted q a ∷ []) in
     let same : own ≡ outstanding_of (record (start opened) { stag = after }) a = ap (λ (stag : ℕ). outstanding_of (record (start opened) { stag = stag }) a) p.stag in
     let all : asked opened (es ++ CallSubmitted q a ∷ []) ≡ asked opened es ++ own ∷ [] =
-    ap (λ (xs : List AcceptedCall). outstanding_from (start opened) opened.first_stag xs) more ∙ from-more (start opened) opened.first_stag before a
+    ap (λ (xs : List AcceptedCall). outstanding_from (start opened) opened.first_stag xs) more ∙ from-append (start opened) opened.first_stag before a
     ∙ ap (λ (o : OutstandingCall). asked opened es ++ o ∷ []) (sym same) in
     let new : List Region = map (region_of a.xid q) (buffers k.stag own.plan) in
     let none : (s : ℕ) → k.stag ≤ s → find (λ x. eqb x.stag s) k.regions ≡ None = λ s le. none-from opened.first_stag s k.regions (omega (arith, next, le)) numbers in
@@ -285,7 +284,7 @@ call-keeps opened es place q k a numbers next p =
       backed = subst (λ (os : List OutstandingCall). AllBacked (k.regions ++ new) os) (sym all)
           (backed-append (k.regions ++ new) (asked opened es) (own ∷ []) (backed-left k.regions new (asked opened es) p.backed) (there, tt));
       stag = ap (λ (n : ℕ). n + Rattle.nr_reduce.specs.Plans.regions_needed (outstanding_of (record (start opened) { stag = n }) a).plan) p.stag
-          ∙ sym (Rattle.nr_laws.proofs.ClientSays.behind-more (start opened) opened.first_stag before a) ∙ ap (λ (xs : List AcceptedCall). stag_behind (start opened) opened.first_stag xs) (sym more);
+          ∙ sym (Rattle.nr_reduce.proofs.Waiting.behind-append (start opened) opened.first_stag before a) ∙ ap (λ (xs : List AcceptedCall). stag_behind (start opened) opened.first_stag xs) (sym more);
     }
 
 -- a state among those of a client's events

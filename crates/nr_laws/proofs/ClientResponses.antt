@@ -12,7 +12,7 @@ use Rattle.nr_link.specs.declared.end.End.TheVariants as ends
 use Rattle.nr_link.specs.Ending.{is_hello_reason}
 use Rattle.nr_link.specs.Frames.{Frame, is_hello}
 use Rattle.nr_link.specs.Ending.{frame_segment, missing_access}
-use Rattle.nr_link.specs.ReceiveState.{ReadRequest, read_request_in, read_request_of, message_completed}
+use Rattle.nr_link.specs.ReceiveState.{read_request_in, read_request_of, message_completed}
 use Rattle.nr_regions.specs.declared.right.Right.TheVariants.{Fetch}
 use Rattle.nr_regions.specs.RegisteredMemory.{Access}
 use Rattle.nr_regions.specs.Access.{HaveOwnStags, grant_denial}
@@ -22,7 +22,7 @@ use Rattle.nr_reduce.specs.Events.{Event}
 use Rattle.nr_reduce.specs.Events.Event.{FrameReceived, CallSubmitted, MemoryRevoked, CallExecuted, QueueWritten}
 use Rattle.nr_reduce.specs.EndRules.{EndState, next_end_state, next_end_state_by, next_end_state_in, end_state_after}
 use Rattle.nr_reduce.specs.ClientState.{ClientState, OutstandingCall, memory_at}
-use Rattle.nr_reduce.specs.Client.{client_rules, client_end, client_state_after, initial_client, with_message, with_request, with_segment, outstanding_of, region_of, segment_request}
+use Rattle.nr_reduce.specs.Client.{client_rules, client_end, client_state_after, initial_client, with_message, with_segment, outstanding_of, region_of, segment_request}
 use Rattle.nr_reduce.specs.Plans.{buffers}
 use Rattle.nr_reduce.proofs.OwnStags.{ClientNumbers, own-stags, client-numbers}
 use Rattle.nr_reduce.proofs.Steps.{end_state_after-append}
@@ -35,6 +35,7 @@ use Rattle.nr_laws.proofs.FetchedRegions.{IsFetched, is-fetched, fetched-bytes}
 use Rattle.nr_laws.proofs.Outputs.{Output, send_segment, message_of_call, terminate_segment, one_response, call_sends, client_says, final_outputs, response_outputs, response_segments}
 use Rattle.nr_laws.proofs.Outputs.Output.{AHello, ASegment}
 use Rattle.nr_laws.proofs.ReadsAlong.{request_in, requests_in}
+use Rattle.nr_laws.proofs.Revoked.{request-regions}
 
 -- ---- Tagged segments among outputs, and Read Requests among events
 
@@ -188,10 +189,6 @@ quiet-answers opened es e k after ended now outs more none live kept h = record 
 message-regions : (k : ClientState) (place : ℕ) (o : Option (List ℕ)) (a : Answered) → IsData k.regions a → IsData (with_message k place o).regions a
 message-regions k place None a h = h
 message-regions k place (Some message) a h = data-closed (λ r. eqb r.call (word_at 0 message)) place k.regions a h
-
-request-regions : (m : ClientState) (o : Option ReadRequest) → (with_request m o).regions ≡ m.regions
-request-regions m None = refl
-request-regions m (Some q) = refl
 
 segment-regions : (k : ClientState) (f : Frame) (r : Result Segment ℕ) (a : Answered) → IsData k.regions a → IsData (with_segment k f r).regions a
 segment-regions k f (Err reason) a h = h

@@ -29,8 +29,9 @@ use Rattle.nr_laws.specs.Typed.{TypedMark, IsTyped}
 use Rattle.nr_laws.proofs.Messages.{messages}
 use Rattle.nr_laws.proofs.Along.{IsNext, Goes, goes-from, goes-nothing, FirstGood, along, outputs_by, outputs_in, outputs_for, outputs_all, place_after, places_after, whole_bytes}
 use Rattle.nr_laws.proofs.Outputs.{Output, bytes_of_all, bytes-append, message_of_call, client_says, client-said, ClientShort, final_outputs, final-said, CallsShort}
-use Rattle.nr_laws.proofs.ClientSays.{ClientGood, accepted_in, accepted-append, stag_behind, from-more, start, asked, ClientSays, Says}
+use Rattle.nr_laws.proofs.ClientSays.{ClientGood, accepted_in, accepted-append, asked, ClientSays, Says}
 use Rattle.nr_laws.proofs.ClientAlong.{client-step, short-call}
+use Rattle.nr_reduce.proofs.Waiting.{start, stag_behind, from-append}
 
 pub each-both : (P Q : List Mark → Mark → Type 0) (before run : List Mark) → AtEachMark P before run → AtEachMark Q before run → AtEachMark (λ b m. P b m × Q b m) before run
 each-both P Q before [] h g = tt
@@ -244,7 +245,7 @@ count-from : (k : ClientState) (stag : ℕ) (xs : List AcceptedCall) → length 
 count-from k stag [] = refl
 count-from k stag (x ∷ xs) = ap (λ (n : ℕ). suc n) (count-from k (stag + Rattle.nr_reduce.specs.Plans.regions_needed (outstanding_of (record k { stag = stag }) x).plan) xs)
 
-by_part : {X W : Type 0} {xs : List X} {y : X} {pre : List X} {m : X} {post : List X} → Parted xs y pre m post → ((more : List X) → xs ≡ pre ++ m ∷ more → W) → (xs ≡ pre → m ≡ y → W) → W
+pub by_part : {X W : Type 0} {xs : List X} {y : X} {pre : List X} {m : X} {post : List X} → Parted xs y pre m post → ((more : List X) → xs ≡ pre ++ m ∷ more → W) → (xs ≡ pre → m ≡ y → W) → W
 by_part (Within more is) f g = f more is
 by_part (Last is same) f g = g is same
 
@@ -263,7 +264,7 @@ submit-mark opened link before call form xid tells h each pre o post e =
     let all : accepted_in (events link Initiator (before ++ mark ∷ [])) ≡ old ++ a ∷ [] =
     ap accepted_in (events-one link Initiator before mark) ∙ accepted-append (events link Initiator before) (events_at link Initiator before mark) ∙ ap (λ (xs : List AcceptedCall). old ++ xs) here in
     let whole : asked_calls opened link before ++ own ∷ [] ≡ pre ++ o ∷ post =
-    sym (from-more (start opened) opened.first_stag old a)
+    sym (from-append (start opened) opened.first_stag old a)
     ∙ ap (λ (xs : List AcceptedCall). outstanding_from (start opened) opened.first_stag xs) (sym all) ∙ e in
     let stag : k.stag ≡ next = tells.says.stag in
     let same : own.plan ≡ h.plan = ap (λ (r : Result Plan TooLarge). plan_or (call_payload xid call) r) h.planned in

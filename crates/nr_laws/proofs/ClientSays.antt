@@ -2,7 +2,7 @@
 -- hello.
 use Rattle.std.proofs.Common.{◌≡◌, ℕ, ◌+◌, ◌^◌, ◌≤◌, ◌<◌, Bool, true, false, cond, ◌||◌, not, eqb, ltb, List, [], ◌∷◌, ◌++◌, length, take, drop, map, Option, None, Some, Result, Ok, refl, sym, ap, subst, ◌∙◌, arith, ◌⊎◌, eqb-true}
 use Rattle.std.proofs.lemmas.List.{length-take}
-use Rattle.std.proofs.lemmas.Bool.{ltb-false}
+use Rattle.std.proofs.lemmas.Bool.{ltb-false, or_parts}
 use Rattle.std.specs.List.{filter}
 use Rattle.nr_xdr.specs.Item.{IsBytes}
 use Rattle.nr_rpc.specs.Credential.{CanWriteCred}
@@ -16,8 +16,7 @@ use Rattle.nr_regions.specs.declared.denied.Denied.{Denied}
 use Rattle.nr_link.specs.declared.end.End.{End as Stop}
 use Rattle.nr_link.specs.Frames.{Frame, is_hello}
 use Rattle.nr_link.specs.Reasons.{REASON_MSN, REASON_OFFSET, REASON_FORM, REASON_REQUESTS, REASON_SHORT, REASON_LONG}
-use Rattle.nr_link.specs.SegmentFaults.{Readiness, SegmentFault, segment_fault, first_fault, reason_if, next_msn, next_offset, no_buffer, is_malformed, missing_fault, is_too_many, has_length, terminate_fault}
-use Rattle.nr_link.specs.SegmentFaults.SegmentFault.{Reason, NoBuffer, AccessDenied, PeerTerminated}
+use Rattle.nr_link.specs.SegmentFaults.{Readiness, SegmentFault, segment_fault, reason_if, next_msn, next_offset, no_buffer, is_malformed, missing_fault, is_too_many, has_length, terminate_fault}
 use Rattle.nr_link.specs.ReceiveState.{ReadRequest, read_request_in, read_request_of, message_completed, is_send}
 use Rattle.nr_link.specs.Ending.{frame_segment, frame_end, frame_end_by, end_of_fault, hello_end, missing_access}
 use Rattle.nr_reduce.specs.declared.mark.LinkParameters.{LinkParameters}
@@ -30,7 +29,7 @@ use Rattle.nr_reduce.specs.EndRules.{EndState}
 use Rattle.nr_reduce.specs.OfferedRegions.{region_grants}
 use Rattle.nr_reduce.specs.Plans.{regions_needed}
 use Rattle.nr_reduce.specs.ClientState.{ClientState, OutstandingCall, call_payload, plan_for, memory_at}
-use Rattle.nr_reduce.specs.Client.{client_end, readiness, or_message_end, outstanding_of, revoked_call, written_call, initial_client}
+use Rattle.nr_reduce.specs.Client.{client_end, readiness, or_message_end, revoked_call, written_call}
 use Rattle.nr_reduce.specs.SubmitAnswer.{next_xid}
 use Rattle.nr_reduce.specs.RunLaws.{outstanding_from, as_submitted}
 use Rattle.nr_laws.specs.Typed.{IsTypedForm}
@@ -38,6 +37,8 @@ use Rattle.nr_laws.proofs.Outputs.{Output, IsShort, CallsShort, message_of_call,
 use Rattle.nr_laws.proofs.Brought.{AreFrom}
 use Rattle.nr_laws.proofs.Words.{responses-words, RangeEnds, word-below, hyper-below, payload_by}
 use Rattle.nr_laws.proofs.Messages.{messages, AreOne}
+use Rattle.nr_reduce.proofs.Waiting.{start, stag_behind}
+use Rattle.nr_reduce.proofs.Touches.{AreNone, all_none, no_flaw}
 
 -- ---- A call that is accepted
 
@@ -76,23 +77,6 @@ accepted-append (CallSubmitted p a ∷ es) more = ap (λ (cs : List AcceptedCall
 accepted-append (MemoryRevoked p xid ∷ es) more = accepted-append es more
 accepted-append (CallExecuted e ∷ es) more = accepted-append es more
 accepted-append (QueueWritten ∷ es) more = accepted-append es more
-
--- the STag that is next after these calls
-abbrev pub stag_behind : ClientState → ℕ → List AcceptedCall → ℕ
-stag_behind k stag [] = stag
-stag_behind k stag (a ∷ accepted) = stag_behind k (stag + regions_needed (outstanding_of (record k { stag = stag }) a).plan) accepted
-
-pub from-more : (k : ClientState) (stag : ℕ) (xs : List AcceptedCall) (a : AcceptedCall) → outstanding_from k stag (xs ++ a ∷ []) ≡ outstanding_from k stag xs ++ outstanding_of (record k { stag = stag_behind k stag xs }) a ∷ []
-from-more k stag [] a = refl
-from-more k stag (x ∷ xs) a = ap (λ (os : List OutstandingCall). outstanding_of (record k { stag = stag }) x ∷ os) (from-more k (stag + regions_needed (outstanding_of (record k { stag = stag }) x).plan) xs a)
-
-pub behind-more : (k : ClientState) (stag : ℕ) (xs : List AcceptedCall) (a : AcceptedCall)
-    → stag_behind k stag (xs ++ a ∷ []) ≡ stag_behind k stag xs + regions_needed (outstanding_of (record k { stag = stag_behind k stag xs }) a).plan
-behind-more k stag [] a = refl
-behind-more k stag (x ∷ xs) a = behind-more k (stag + regions_needed (outstanding_of (record k { stag = stag }) x).plan) xs a
-
-abbrev pub start : LinkParameters → ClientState
-start opened = (initial_client opened).state
 
 -- the calls that were accepted, as they go out
 abbrev pub asked : LinkParameters → List Event → List OutstandingCall
@@ -148,10 +132,6 @@ pub short-written : (opened : LinkParameters) (b : Bool) (xs : List OutstandingC
 short-written opened b [] h = tt
 short-written opened b (x ∷ xs) h = (h.0, short-written opened b xs h.1)
 
-pub submitted-append : (xs ys : List OutstandingCall) → map as_submitted (xs ++ ys) ≡ map as_submitted xs ++ map as_submitted ys
-submitted-append [] ys = refl
-submitted-append (x ∷ xs) ys = ap (λ (os : List OutstandingCall). as_submitted x ∷ os) (submitted-append xs ys)
-
 pub submitted-messages : (opened : LinkParameters) (xs : List OutstandingCall) → map (message_of_call opened) (map as_submitted xs) ≡ map (message_of_call opened) xs
 submitted-messages opened [] = refl
 submitted-messages opened (x ∷ xs) = ap (λ (ms : List (List ℕ)). message_of_call opened x ∷ ms) (submitted-messages opened xs)
@@ -160,41 +140,7 @@ pub map-more : (opened : LinkParameters) (xs ys : List OutstandingCall) → map 
 map-more opened [] ys = refl
 map-more opened (x ∷ xs) ys = ap (λ (ms : List (List ℕ)). message_of_call opened x ∷ ms) (map-more opened xs ys)
 
-pub revoked-same : (xid : ℕ) (os : List OutstandingCall) → map as_submitted (map (revoked_call xid) os) ≡ map as_submitted os
-revoked-same xid [] = refl
-revoked-same xid (o ∷ os) = ap (λ (x : OutstandingCall). x ∷ map as_submitted (map (revoked_call xid) os)) (by (eqb o.xid xid)) ∙ ap (λ (rest : List OutstandingCall). as_submitted o ∷ rest) (revoked-same xid os)
-  where
-    by : (b : Bool) → as_submitted (cond b (record o { is_revoked = true }) o) ≡ as_submitted o
-    by true = refl
-    by false = refl
-
-or-none : (b : Bool) → (b || false) ≡ b
-or-none true = refl
-or-none false = refl
-
-pub written-same : (hello : Bool) (os : List OutstandingCall) → hello ≡ false → map as_submitted (map (written_call hello) os) ≡ map as_submitted os
-written-same hello [] no_hello = refl
-written-same hello (o ∷ os) no_hello =
-    ap (λ (b : Bool). record o { is_written = b; is_revoked = false } ∷ map as_submitted (map (written_call hello) os)) (ap (λ (b : Bool). o.is_written || b) no_hello ∙ or-none o.is_written)
-    ∙ ap (λ (rest : List OutstandingCall). as_submitted o ∷ rest) (written-same hello os no_hello)
-
 -- ---- A Read Request that is answered
-
-abbrev pub AreNone : {X : Type 0} → List (Option X) → Type 0
-AreNone [] = Unit {0}
-AreNone (x ∷ xs) = (x ≡ None) × AreNone xs
-
-pub all_none : {X : Type 0} (xs : List (Option X)) → first_fault xs ≡ None → AreNone xs
-all_none [] e = tt
-all_none (None ∷ xs) e = (refl, all_none xs e)
-all_none (Some x ∷ xs) e = absurd cc
-
-pub no_fault : (f : Frame) (segment : Segment) (o : Option (SegmentFault Denied)) → end_of_fault f segment o ≡ None → o ≡ None
-no_fault f segment None e = refl
-no_fault f segment (Some (Reason reason)) e = absurd cc
-no_fault f segment (Some (NoBuffer msn)) e = absurd cc
-no_fault f segment (Some (AccessDenied why)) e = absurd cc
-no_fault f segment (Some (PeerTerminated word)) e = absurd cc
 
 pub no_reason : {D : Type 0} (reason : ℕ) (b : Bool) → reason_if {D = D} reason b ≡ None → b ≡ false
 no_reason reason true e = absurd cc
@@ -219,14 +165,10 @@ formed r last opcode w queue msn offset payload e =
     let all : AreNone flaws = all_none flaws e in
     no_reason REASON_FORM (is_malformed opcode last payload) all.1.1.1.0
 
-or-false : (a b : Bool) → (a || b) ≡ false → (a ≡ false) × (b ≡ false)
-or-false true b e = absurd cc
-or-false false b e = (refl, e)
-
 request-ends : (last : Bool) (payload : List ℕ) → IsBytes payload → is_malformed OPCODE_READ_REQUEST last payload ≡ false → RangeEnds (read_request_in payload).sink_to (read_request_in payload).size
 request-ends last payload bytes e =
-    let a = or-false (not last) (not (eqb (length payload) 28) || ltb (2 ^ 64) ((read_request_in payload).sink_to + (read_request_in payload).size)) e in
-    let b = or-false (not (eqb (length payload) 28)) (ltb (2 ^ 64) ((read_request_in payload).sink_to + (read_request_in payload).size)) a.1 in
+    let a = or_parts (not last) (not (eqb (length payload) 28) || ltb (2 ^ 64) ((read_request_in payload).sink_to + (read_request_in payload).size)) e in
+    let b = or_parts (not (eqb (length payload) 28)) (ltb (2 ^ 64) ((read_request_in payload).sink_to + (read_request_in payload).size)) a.1 in
     let c = ltb-false (2 ^ 64) ((read_request_in payload).sink_to + (read_request_in payload).size) b.1 in
     (hyper-below 4 payload bytes, c)
 
@@ -240,7 +182,7 @@ client-unharmed k f segment behind is e =
     let none : frame_end (readiness k) (region_grants f.end k.regions) f ≡ None = by_end (frame_end (readiness k) (region_grants f.end k.regions) f) others in
     let by_segment : end_of_fault f segment (segment_fault (readiness k (missing_access (region_grants f.end k.regions) f segment)) segment) ≡ None =
     ap (λ (r : Result Segment ℕ). frame_end_by (readiness k) (region_grants f.end k.regions) f r) (sym is) ∙ none in
-    no_fault f segment _ by_segment
+    no_flaw f segment _ by_segment
   where
     by_end : (o : Option Stop) → or_message_end k f o ≡ None → o ≡ None
     by_end None e = refl

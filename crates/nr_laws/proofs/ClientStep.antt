@@ -1,9 +1,7 @@
 -- A frame at a client: it ends the client only for what the client makes of a message, or for an access that its memory denies;
 -- else the guards are kept.
-use Rattle.std.proofs.Common.{◌≡◌, ◌≢◌, ℕ, ◌+◌, ◌≤◌, ◌<◌, ◌^◌, Bool, true, false, cond, eqb, List, [], ◌∷◌, ◌++◌, length, drop, Option, Some, None, Result, Ok, Err, refl, sym, ap, subst, ◌∙◌, arith, length-append, ◌⊎◌, inl, inr}
-use Rattle.nr_xdr.specs.Item.{word, hyper}
+use Rattle.std.proofs.Common.{◌≡◌, ℕ, ◌+◌, ◌≤◌, ◌<◌, ◌^◌, Bool, true, false, cond, eqb, List, [], ◌∷◌, ◌++◌, drop, Option, Some, None, Result, Ok, Err, refl, sym, ap, subst, ◌∙◌, arith, ◌⊎◌, inl, inr}
 use Rattle.nr_xdr.specs.Fields.{word_at}
-use Rattle.nr_xdr.proofs.WordBytes.{length-word, length-hyper}
 use Rattle.nr_wire.specs.Constants.{OPCODE_WRITE, OPCODE_READ_REQUEST, OPCODE_SEND, QUEUE_SEND, QUEUE_READ_REQUEST}
 use Rattle.nr_wire.specs.declared.hello.Side.TheVariants.{Responder}
 use Rattle.nr_wire.specs.Hello.{hello_of}
@@ -52,14 +50,15 @@ use Rattle.nr_laws.proofs.TotalsAtClient.{down_one, request_payload}
 use Rattle.nr_laws.proofs.AnswerLists.{IsRead}
 use Rattle.nr_laws.proofs.Replies.{IsReply}
 use Rattle.nr_laws.proofs.RequestFields.{request-again}
-use Rattle.nr_laws.proofs.Writable.{IsWritable, AreWritable, IsOutput, proper_one, stream-first, stream-at}
+use Rattle.nr_laws.proofs.Writable.{IsWritable, AreWritable, IsOutput, proper_one, stream-first, stream-at, len_request}
 use Rattle.nr_laws.proofs.AgreeingEnds.{EndsAgree, IsPlace, frame_of}
-use Rattle.nr_laws.proofs.TotalsAtClient.{header-xid}
 use Rattle.nr_laws.proofs.ClientFrame.{calls_said}
 use Rattle.nr_laws.proofs.AnsweredSteps.{answers-one}
 use Rattle.nr_laws.proofs.GuardsAtServer.{sent_most}
 use Rattle.nr_laws.proofs.Guards.{Guards}
 use Rattle.nr_laws.proofs.GuardsAtClient.{front-down, asked-of, guards-hello_down, guards-send_down, guards-read_down, guards-tagged_down}
+use Rattle.nr_laws.proofs.Basics.{some-not}
+use Rattle.nr_laws.proofs.HeaderXid.{header-xid}
 
 -- ---- A message
 
@@ -158,24 +157,6 @@ hello-none : (k : ClientState) (f : Frame) → is_hello f ≡ true → hello_of 
 unfolding client_end
 hello-none k f is says = (λ i. cond (is i) (hello_end (says i)) (or_message_end k f (frame_end (readiness k) (region_grants f.end k.regions) f)))
 
-some-none : (x : End) → Some x ≢ None
-some-none x e = cc
-
-len-request : (sink at size stag to : ℕ) → length (request_payload sink at size stag to) ≡ 28
-len-request sink at size stag to =
-    omega (
-      arith,
-      length-append (word sink) (hyper at ++ (word size ++ (word stag ++ hyper to))),
-      length-append (hyper at) (word size ++ (word stag ++ hyper to)),
-      length-append (word size) (word stag ++ hyper to),
-      length-append (word stag) (hyper to),
-      length-word sink,
-      length-hyper at,
-      length-word size,
-      length-word stag,
-      length-hyper to,
-    )
-
 step-piece : (opened : LinkParameters) (k : ClientState) (s : ServerState) (u d all_up all_down : List FrameContent) (w : Transit) (place : ℕ) (p : FrameContent) (rest : List FrameContent) (f : Frame) → IsOpened opened → EndsAgree opened k s u d all_up all_down w → Guards opened k s u d all_up all_down w place → w.down ≡ p ∷ rest
     → IsWritable p → Carries k.received.sends k.received.requests f p → k.has_hello ≡ true → ClientStep opened k s u d all_up all_down w place p rest f
 unfolding frame_end
@@ -204,7 +185,7 @@ step-piece opened k s u d all_up all_down w place (RequestFrame sink at size sta
     let again = request-again sink at size stag to a.sink_word a.at_word a.size_word a.stag_word a.to_word in
     let fits : (read_request_in payload).sink_to + (read_request_in payload).size ≤ 2 ^ 64 = omega (arith, ap (λ (r : ReadRequest). r.sink_to + r.size) again, a.room) in
     let some : 0 < total_of requests_in w.down = omega (arith, ap (total_of requests_in) first) in
-    let flaw = request-flaw (readiness k (missing_access grants f segment)) payload (len-request sink at size stag to) fits (requests opened k s w l.counts some) in
+    let flaw = request-flaw (readiness k (missing_access grants f segment)) payload (len_request sink at size stag to) fits (requests opened k s w l.counts some) in
     let found : frame_end (readiness k) grants f ≡ end_of_fault f segment (first_fault (missing_fault (missing_access grants f segment) ∷ [])) =
     ap (λ (r : Result Segment ℕ). frame_end_by (readiness k) grants f r) reads ∙ ap (λ (x : Option (SegmentFault Denied)). end_of_fault f segment x) flaw in
     let ends = client-by k f (end_of_fault f segment (first_fault (missing_fault (missing_access grants f segment) ∷ []))) piece.behind found in
@@ -276,7 +257,7 @@ step-down opened k s u [] all_up all_down w up p rest n r place o l g first send
     let says = ap (λ (q : FrameContent). hello_of Responder (frame_bytes Responder (numbered_segment n r q))) hello ∙ (hello-is Responder).says in
     let none = hello-none k f is says in
     subst (λ (q : FrameContent). ClientStep opened k s u [] all_up all_down w up q rest f) (sym hello) (record {
-      only = λ end e. absurd (some-none end (sym e ∙ none));
+      only = λ end e. absurd (some-not end (sym e ∙ none));
       kept = λ stays. guards-hello_down opened k s u [] all_up all_down w up rest f l g (first ∙ ap (λ (q : FrameContent). q ∷ rest) hello) is stays;
     })
 step-down opened k s u (q ∷ d) all_up all_down w up p rest n r place o l g first sends requests at =

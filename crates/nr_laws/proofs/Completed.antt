@@ -33,7 +33,7 @@ use Rattle.nr_reduce.specs.RunLaws.{server_by}
 use Rattle.nr_laws.specs.MatchedSoFar.{MatchedSoFar}
 use Rattle.nr_reduce.specs.Run.{client}
 use Rattle.nr_laws.specs.Typed.{IsTyped}
-use Rattle.nr_laws.proofs.HeaderXid.{chunk-error-xid}
+use Rattle.nr_laws.proofs.HeaderXid.{chunk-error-xid, first-word}
 use Rattle.nr_laws.proofs.ExecutedCalls.{frame-message}
 use Rattle.nr_laws.proofs.ServerAlong.{Said, SaidError, SaidNoAnswer}
 use Rattle.nr_laws.proofs.ServerAlong.Said.{IsRefusal, IsAnswer, IsNoAnswer}
@@ -43,7 +43,7 @@ use Rattle.nr_laws.proofs.RefusedCalls.Cause.{ByVersion, ByChunks, ByStream}
 use Rattle.nr_laws.proofs.Outcomes.{client_by}
 use Rattle.nr_laws.proofs.DoneCalls.{gives-by, AnsweredBy, answered-by, verdict-xid}
 use Rattle.nr_laws.proofs.Following.{DoneAt, done-at}
-use Rattle.nr_laws.proofs.Replied.{word-behind, first-word, error-kind, error-read}
+use Rattle.nr_laws.proofs.Replied.{word-behind, error-kind, error-read}
 use Rattle.nr_laws.proofs.Otherwise.{IsStreamBody, IsReply, Plainly, plainly, answer-plainly, plain-reply}
 use Rattle.nr_laws.proofs.Otherwise.IsStreamBody.{Inline, Long}
 

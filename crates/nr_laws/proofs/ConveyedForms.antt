@@ -1,9 +1,8 @@
 -- A call that was received with the lists and the stream of its plan conveys what its form conveys, where its read chunk brings the
 -- plan's region.
-use Rattle.std.proofs.Common.{◌≡◌, ℕ, zero, suc, ◌+◌, ◌-◌, ◌^◌, ◌≤◌, Bool, true, false, cond, eqb, not, List, [], ◌∷◌, length, take, drop, replicate, Option, None, Some, Ok, refl, sym, ap, subst, ◌∙◌, arith, length-append, eqb-true}
+use Rattle.std.proofs.Common.{◌≡◌, ℕ, zero, suc, ◌+◌, ◌^◌, ◌≤◌, Bool, true, false, cond, eqb, not, List, [], ◌∷◌, length, take, Option, None, Some, Ok, refl, sym, ap, subst, ◌∙◌, arith, eqb-true}
 use Rattle.std.specs.Prelude.{sum, find, IfSome}
 use Rattle.std.proofs.lemmas.Bool.{ne_eqb}
-use Rattle.std.proofs.lemmas.List.{length-take, length-replicate}
 use Rattle.nr_xdr.specs.Item.{IsBytes}
 use Rattle.nr_header.specs.declared.header.ReadSegment.{ReadSegment}
 use Rattle.nr_reduce.specs.declared.call.Form.{Form}
@@ -30,6 +29,7 @@ use Rattle.nr_laws.proofs.PlanLists.{stream_known}
 use Rattle.nr_laws.proofs.SinkReads.{total-own}
 use Rattle.nr_laws.proofs.ConveyedCalls.{planned-fits, plan-reads}
 use Rattle.nr_laws.proofs.ExecutedPayloads.{IsOfPlan}
+use Rattle.nr_reduce.proofs.Offers.{no_item, region-length}
 
 -- ---- The region of a plan is as long as its chunk
 
@@ -37,13 +37,9 @@ pub record HasChunk (p : Plan) : Type 0 where
   pub size : length p.region ≡ added_up p.read
   pub apart : p.read_at ≡ None → p.read ≡ []
 
-pub given-length : (payload : List ℕ) (at size : ℕ) → length (given_region payload at size) ≡ size
-given-length payload at size =
-    omega (arith, length-append (take size (drop at payload)) (replicate (size - length (take size (drop at payload))) 0), length-replicate {A = ℕ} (size - length (take size (drop at payload))) 0, length-take size (drop at payload))
-
 chunk-given : (payload : List ℕ) (offer : Offer) (read : Option (List ℕ)) → HasChunk (given_read payload offer.read_at read (record { inline = payload; read_at = None; read = []; region = []; write = offer.write; reply = offer.reply }))
 chunk-given payload offer None = record { size = refl; apart = λ e. refl }
-chunk-given payload offer (Some ns) = record { size = given-length payload offer.read_at (sum ns) ∙ sum-added ns; apart = λ e. absurd cc }
+chunk-given payload offer (Some ns) = record { size = region-length payload offer.read_at (sum ns) ∙ sum-added ns; apart = λ e. absurd cc }
 
 chunk-shape : (payload : List ℕ) (kind : MessageKind) (w r : Option (List ℕ)) → IsKind payload kind → HasChunk (shape payload kind w r)
 chunk-shape payload Short w r is = record { size = refl; apart = λ e. refl }
@@ -106,14 +102,9 @@ own-conveys payload form down stag p chunk bytes own typed e stags holds =
     let r = plan-reads 0 0 stag p (record { xid = 0; credit = 0; body = m.body }) fine.0 fine.1 (omega arith) m.reads in
     ap (λ (o : Option (List ℕ)). call_conveyed o (lists_of stag p).read chunk) (sym r.inline) ∙ m.conveys chunk holds
 
-no-item : (stag offset : ℕ) (lengths : List ℕ) → item_position (entries_from 0 stag offset lengths) ≡ None
-unfolding item_position
-no-item stag offset [] = refl
-no-item stag offset (n ∷ lengths) = no-item stag (offset + n) lengths
-
 given-stream : (chunk : ℕ → List ℕ) (region : List ℕ) (stag : ℕ) (lengths : List ℕ) → chunk 0 ≡ region → call_conveyed None (entries_from 0 stag 0 lengths) chunk ≡ Some region
 unfolding call_conveyed
-given-stream chunk region stag lengths holds = (λ i. whole Call (holds i) (call_moved (no-item stag 0 lengths i) chunk))
+given-stream chunk region stag lengths holds = (λ i. whole Call (holds i) (call_moved (no_item stag 0 lengths i) chunk))
 
 given-item : (stream region : List ℕ) (chunk : ℕ → List ℕ) (at stag : ℕ) (lengths : List ℕ) → eqb at 0 ≡ false → chunk at ≡ region → call_conveyed (Some stream) (entries_from at stag 0 lengths) chunk ≡ whole Call stream (moved_by lengths region)
 unfolding call_conveyed item_position

@@ -10,7 +10,6 @@ use Rattle.nr_reduce.specs.declared.mark.Mark.TheVariants as marks
 use Rattle.nr_reduce.specs.declared.mark.LinkParameters.{LinkParameters}
 use Rattle.nr_reduce.specs.declared.outline.Plan.{Plan}
 use Rattle.nr_reduce.specs.History.{ExecutedCall}
-use Rattle.nr_reduce.specs.Opening.{IsOpened}
 use Rattle.nr_reduce.specs.Events.Event.{FrameReceived, CallExecuted}
 use Rattle.nr_reduce.specs.Plans.{Buffer, buffers, lists_of, read_list, write_stag, reply_stag}
 use Rattle.nr_reduce.specs.Chunks.{Bytes, reply_conveyed}
@@ -47,7 +46,9 @@ use Rattle.nr_laws.proofs.OfferedLists.{no-offer}
 use Rattle.nr_laws.proofs.KeptOffers.{KeptOffer, kept-offer}
 use Rattle.nr_laws.proofs.KeptOffers.KeptOffer.{Kept, NotKept}
 use Rattle.nr_laws.proofs.ReplyMemory.{memory-conveys, conveyed-same}
-use Rattle.nr_laws.proofs.ReadAnswers.{client-reads, own-credit}
+use Rattle.nr_laws.proofs.WrittenBytes.{WrittenAs, written-as}
+use Rattle.nr_laws.proofs.WrittenAnswers.{answer-same}
+use Rattle.nr_laws.proofs.ReadAnswers.{client-reads}
 use Rattle.nr_laws.proofs.HandedOver.{outcome-frame}
 
 -- both replies are conveyed by the same stream, lists and memory
@@ -58,11 +59,11 @@ pub record BothConveyed (call : Call) (plan : Plan) (offer : ChunkLists) (down :
   pub handed : reply_conveyed call.prog call.vers call.proc inline lists memory ≡ Some reply
   pub own : (prog vers proc : ℕ) → answer_for offer down prog vers proc executed ≡ Some a → reply_conveyed prog vers proc inline lists memory ≡ Some executed
 
-pub both-conveyed : (opened : LinkParameters) (link : ℕ) (run before : List Mark) (xid : ℕ) (plan : Plan) (reply : List ℕ) → IsOpened opened → IsTyped run → MatchedSoFar opened link run → (has : HasPlan opened link run xid plan)
+pub both-conveyed : (opened : LinkParameters) (link : ℕ) (run before : List Mark) (xid : ℕ) (plan : Plan) (reply : List ℕ) → IsTyped run → MatchedSoFar opened link run → (has : HasPlan opened link run xid plan)
     → (at : MarkAt run before (marks.Done link xid (outcomes.Reply reply))) → (r : RepliedBy opened link before xid reply)
     → BothConveyed has.call plan (offer_of (server_by opened r.answer.earlier) r.answer.call.xid) 1024 r.answer.call.reply reply r.answer.answer
 unfolding lists_of
-both-conveyed opened link run before xid plan reply opens typed far has at r = by offered
+both-conveyed opened link run before xid plan reply typed far has at r = by offered
   where
     done : Mark
     done = marks.Done link xid (outcomes.Reply reply)
@@ -107,13 +108,13 @@ both-conveyed opened link run before xid plan reply opens typed far has at r = b
     a = r.answer.answer
 
     offered : KeptOffer server xid stag plan
-    offered = kept-offer opened link run before done at.after xid plan opens r.done.typed r.done.far far.asked at.is has r.answer.earlier (CallExecuted e ∷ r.answer.later) r.answer.is r.answer.live
+    offered = kept-offer opened link run before done at.after xid plan r.done.typed r.done.far far.asked at.is has r.answer.earlier (CallExecuted e ∷ r.answer.later) r.answer.is r.answer.live
 
     bytes : IsBytes e.reply
     bytes = at-mark TypedMark before r.by.mark.earlier (execute_mark link e) r.by.mark.later r.by.mark.is r.done.typed
 
-    credit : credit_word server < 4294967296
-    credit = (let c = own-credit opened r.answer.earlier in let f = opens.granted_fits in omega (arith, c, f))
+    credit : WrittenAs (credit_word server)
+    credit = written-as (credit_word server)
 
     word : e.xid < 4294967296
     word = r.by.fits
@@ -146,8 +147,8 @@ both-conveyed opened link run before xid plan reply opens typed far has at r = b
     answers : (offer : ChunkLists) → offer_of server e.xid ≡ offer → (prog vers proc : ℕ) → answer_for (offer_of server e.xid) 1024 prog vers proc e.reply ≡ Some a → answer_for offer 1024 prog vers proc e.reply ≡ Some a
     answers offer is prog vers proc h = ap (λ (o : ChunkLists). answer_for o 1024 prog vers proc e.reply) (sym is) ∙ h
 
-    message : (offer : ChunkLists) → offer_of server e.xid ≡ offer → d.given.message ≡ answer_message e.xid (credit_word server) offer a
-    message offer is = r.answer.message ∙ ap (λ (o : ChunkLists). answer_message e.xid (credit_word server) o a) is
+    message : (offer : ChunkLists) → offer_of server e.xid ≡ offer → d.given.message ≡ answer_message e.xid credit.number offer a
+    message offer is = r.answer.message ∙ ap (λ (o : ChunkLists). answer_message e.xid (credit_word server) o a) is ∙ answer-same e.xid (credit_word server) credit.number offer a credit.same
 
     own_offer : (offer : ChunkLists) → offer_of server xid ≡ offer → offer_of server e.xid ≡ offer
     own_offer offer is = ap (λ (x : ℕ). offer_of server x) r.own ∙ is
@@ -160,8 +161,8 @@ both-conveyed opened link run before xid plan reply opens typed far has at r = b
           lists = answer_lists (lists_of stag plan) a;
           memory = memory_at k place;
           handed = same_call (cond a.long None (Some a.stream)) (answer_lists (lists_of stag plan) a)
-              (client-reads (read_list stag plan plan.read_at) (write_stag stag plan) (reply_stag stag plan) plan.write plan.reply 1024 t.0 t.1 t.2 e.xid (credit_word server) e.reply a k place g.call d.given.message g.header xid reply bytes offer
-              (answers (lists_of stag plan) is t.0 t.1 t.2 t.3) (omega arith) word credit (message (lists_of stag plan) is) g.is_header g.by_its_body);
+              (client-reads (read_list stag plan plan.read_at) (write_stag stag plan) (reply_stag stag plan) plan.write plan.reply 1024 t.0 t.1 t.2 e.xid credit.number e.reply a k place g.call d.given.message g.header xid reply bytes offer
+              (answers (lists_of stag plan) is t.0 t.1 t.2 t.3) (omega arith) word credit.fits (message (lists_of stag plan) is) g.is_header g.by_its_body);
           own = λ prog vers proc h. memory-conveys k place opened.first_stag stag plan a front 1024 prog vers proc e.reply bytes numbers.regions settled backed (parts (lists_of stag plan) is) (answers (lists_of stag plan) is prog vers proc h);
         }
     by (NotKept kept) =
@@ -171,7 +172,7 @@ both-conveyed opened link run before xid plan reply opens typed far has at r = b
           lists = answer_lists no_chunks a;
           memory = memory_at k place;
           handed = same_call (cond a.long None (Some a.stream)) (answer_lists no_chunks a)
-              (client-reads [] 0 0 None None 1024 t.0 t.1 t.2 e.xid (credit_word server) e.reply a k place g.call d.given.message g.header xid reply bytes no-offer (answers no_chunks is t.0 t.1 t.2 t.3) (omega arith) word credit (message no_chunks is) g.is_header g.by_its_body);
+              (client-reads [] 0 0 None None 1024 t.0 t.1 t.2 e.xid credit.number e.reply a k place g.call d.given.message g.header xid reply bytes no-offer (answers no_chunks is t.0 t.1 t.2 t.3) (omega arith) word credit.fits (message no_chunks is) g.is_header g.by_its_body);
           own = λ prog vers proc h. conveyed-same (memory_at k place) (after (memory_at k place) no_chunks a) [] 0 0 None None a prog vers proc (λ no. absurd (let w : false ≡ true = no in cc)) (λ no. absurd (let w : false ≡ true = no in cc))
               ∙ conveyed [] 0 0 None None 1024 prog vers proc e.reply a (memory_at k place) bytes (record { write = λ no. absurd (let w : false ≡ true = no in cc); reply = λ no. absurd (let w : false ≡ true = no in cc); apart = λ no. absurd (let w : false ≡ true = no in cc) })
               (answers no_chunks is prog vers proc h);

@@ -1,16 +1,15 @@
 -- After each run of a matched link in which each side kept its law in full, and of which no side has ended, both ends agree.
-use Rattle.std.proofs.Common.{◌≡◌, ℕ, Bool, true, false, cond, ◌&&◌, eqb, List, [], ◌∷◌, ◌++◌, length, Option, Some, None, refl, sym, ap, subst, ◌∙◌, arith, append_assoc, append-nil, lit<}
+use Rattle.std.proofs.Common.{◌≡◌, ℕ, Bool, true, false, cond, ◌&&◌, eqb, List, [], ◌∷◌, ◌++◌, length, None, refl, sym, ap, subst, ◌∙◌, arith, append_assoc, append-nil, lit<}
 use Rattle.std.proofs.lemmas.Bool.{eqb-true}
 use Rattle.nr_wire.specs.declared.hello.Side.TheVariants.{Initiator, Responder}
 use Rattle.nr_wire.specs.Stream.{split}
-use Rattle.nr_link.specs.declared.end.End.{End}
 use Rattle.nr_reduce.specs.declared.call.Submission.TheVariants as submissions
 use Rattle.nr_reduce.specs.declared.mark.Mark.{Mark}
 use Rattle.nr_reduce.specs.declared.mark.Mark.TheVariants as marks
 use Rattle.nr_reduce.specs.declared.mark.LinkParameters.{LinkParameters}
 use Rattle.nr_reduce.specs.History.{bytes_sent, bytes_received}
 use Rattle.nr_reduce.specs.Events.{Event, if_own, events_at, events}
-use Rattle.nr_reduce.specs.EndRules.{Rules, EndState, end_state_after}
+use Rattle.nr_reduce.specs.EndRules.{EndState}
 use Rattle.nr_reduce.specs.ClientState.{ClientState, initial_state as client_initial_state}
 use Rattle.nr_reduce.specs.ServerState.{ServerState, initial_state as server_initial_state}
 use Rattle.nr_reduce.specs.Client.{client_rules}
@@ -20,7 +19,7 @@ use Rattle.nr_reduce.specs.AtEachMark.{AtEachMark}
 use Rattle.nr_reduce.specs.Matched.{MatchedMark}
 use Rattle.nr_reduce.specs.Asked.{AskedMark, IsAll}
 use Rattle.nr_reduce.specs.Served.{ServedMark}
-use Rattle.nr_reduce.proofs.Steps.{client-one, server-one, ended-stays}
+use Rattle.nr_reduce.proofs.Steps.{client-one, server-one}
 use Rattle.nr_laws.specs.Typed.{TypedMark}
 use Rattle.nr_laws.specs.FrameContents.FrameContent.{HelloFrame}
 use Rattle.nr_laws.proofs.TotalsAtClient.{totals-first}
@@ -29,31 +28,21 @@ use Rattle.nr_laws.proofs.Guards.{Guards}
 use Rattle.nr_laws.proofs.OfferedAccesses.{AccessesAgree}
 use Rattle.nr_laws.proofs.AgreeingRuns.{place_of, RunAgrees, MarkAgrees, goes-on, goes-none, goes-fed_up, goes-fed_down}
 use Rattle.nr_laws.proofs.AgreeingMarks.{goes-submit, goes-wrote_up, goes-wrote_down, goes-execute, goes-revoke}
+use Rattle.nr_laws.proofs.Hears.{was-live}
 
 -- ---- A side that has ended stays so
-
-stays-ended : {S : Type 0} (rules : Rules S) (r : EndState S) (es : List Event) → (end_state_after rules r es).ended ≡ None → r.ended ≡ None
-stays-ended rules r es e = by r.ended refl
-  where
-    by : (o : Option End) → r.ended ≡ o → r.ended ≡ None
-    by None is = is
-    by (Some end) is =
-        let same : r ≡ record { state = r.state; ended = Some end } = λ i. record { state = r.state; ended = is i } in
-        let ended : (end_state_after rules r es).ended ≡ Some end =
-        ap (λ (x : EndState _). (end_state_after rules x es).ended) same ∙ ap (λ (x : EndState _). x.ended) (ended-stays rules r.state end es).0 in
-        absurd (let wrong : Some end ≡ None = sym ended ∙ e in cc)
 
 pub client-unended : (opened : LinkParameters) (link : ℕ) (before more : List Mark) → (client opened link (before ++ more)).ended ≡ None → (client opened link before).ended ≡ None
 client-unended opened link before [] e = ap (λ (run : List Mark). (client opened link run).ended) (sym (append-nil before)) ∙ e
 client-unended opened link before (m ∷ more) e =
     let later = client-unended opened link (before ++ m ∷ []) more (ap (λ (run : List Mark). (client opened link run).ended) (append_assoc before (m ∷ []) more) ∙ e) in
-    stays-ended (client_rules opened) (client opened link before) (events_at link Initiator before m) (ap (λ (x : EndState ClientState). x.ended) (sym (client-one opened link before m)) ∙ later)
+    was-live (client_rules opened) (client opened link before) (events_at link Initiator before m) (ap (λ (x : EndState ClientState). x.ended) (sym (client-one opened link before m)) ∙ later)
 
 pub server-unended : (opened : LinkParameters) (link : ℕ) (before more : List Mark) → (server opened link (before ++ more)).ended ≡ None → (server opened link before).ended ≡ None
 server-unended opened link before [] e = ap (λ (run : List Mark). (server opened link run).ended) (sym (append-nil before)) ∙ e
 server-unended opened link before (m ∷ more) e =
     let later = server-unended opened link (before ++ m ∷ []) more (ap (λ (run : List Mark). (server opened link run).ended) (append_assoc before (m ∷ []) more) ∙ e) in
-    stays-ended (server_rules opened) (server opened link before) (events_at link Responder before m) (ap (λ (x : EndState ServerState). x.ended) (sym (server-one opened link before m)) ∙ later)
+    was-live (server_rules opened) (server opened link before) (events_at link Responder before m) (ap (λ (x : EndState ServerState). x.ended) (sym (server-one opened link before m)) ∙ later)
 
 -- ---- At the beginning
 

@@ -1,29 +1,28 @@
 -- Behind a frame that a server receives each read that waits, or is newly open, is of a pending call that offers it.
-use Rattle.std.proofs.Common.{◌≡◌, ℕ, zero, suc, ◌+◌, ◌-◌, ◌≤◌, Bool, true, false, cond, not, ◌&&◌, eqb, List, [], ◌∷◌, ◌++◌, length, take, drop, filter, Option, None, Some, Result, Ok, refl, sym, ap, subst, ◌∙◌, arith, inl, inr, length-take}
+use Rattle.std.proofs.Common.{◌≡◌, ℕ, zero, suc, ◌+◌, ◌-◌, ◌≤◌, Bool, true, false, cond, not, eqb, List, [], ◌∷◌, ◌++◌, length, take, drop, filter, None, Ok, refl, sym, ap, subst, ◌∙◌, arith, inl, inr, length-take}
 use Rattle.std.specs.List.{AllByRecursion}
 use Rattle.nr_xdr.specs.Fields.{word_at}
-use Rattle.nr_wire.specs.Constants.{OPCODE_READ_RESPONSE, OPCODE_SEND, QUEUE_SEND}
-use Rattle.nr_wire.specs.Segment.{Segment}
+use Rattle.nr_wire.specs.Constants.{OPCODE_SEND, QUEUE_SEND}
 use Rattle.nr_wire.specs.Segment.Segment.{Tagged, Untagged}
 use Rattle.nr_header.specs.declared.header.ReadSegment.{ReadSegment}
 use Rattle.nr_link.specs.Frames.{Frame}
 use Rattle.nr_link.specs.Limits.{open_reads_max}
 use Rattle.nr_link.specs.Output.{msn_word}
-use Rattle.nr_link.specs.ReceiveState.{begun_bytes}
 use Rattle.nr_link.specs.Ending.{frame_segment}
-use Rattle.nr_reduce.specs.Chunks.{is_read_chunk_of_item, total_at}
+use Rattle.nr_reduce.specs.Chunks.{total_at}
 use Rattle.nr_reduce.specs.OfferedRegions.{Region}
 use Rattle.nr_reduce.specs.ServerState.{ServerState, PendingCall, PendingRead}
-use Rattle.nr_reduce.specs.ServerReads.{open_reads, is_read, read_of, reads_from, reads_of, regions_of}
-use Rattle.nr_reduce.specs.ServerMessages.{CallVerdict, by_payload, payload_of, chunk_bytes, Verdict, verdict}
+use Rattle.nr_reduce.specs.ServerReads.{open_reads, read_of, reads_from, reads_of, regions_of}
+use Rattle.nr_reduce.specs.ServerMessages.{CallVerdict, by_payload, payload_of, verdict}
 use Rattle.nr_reduce.specs.ServerMessages.CallVerdict.{Refuses, IsReady}
-use Rattle.nr_reduce.specs.ServerMessages.Verdict.{EndsLink, OtherVersion, BadChunks, MakesPending}
-use Rattle.nr_reduce.specs.ServerFrames.{FrameEffect, no_effect, with_verdict, ready_if_whole, message_effect, with_refused_call, is_stream_read, read_effect, call_of_number, response_effect, with_access, effect_in, frame_effect}
+use Rattle.nr_reduce.specs.ServerMessages.Verdict.{MakesPending}
+use Rattle.nr_reduce.specs.ServerFrames.{FrameEffect, no_effect, with_verdict, with_refused_call, frame_effect}
 use Rattle.nr_laws.specs.FrameContents.FrameContent.{SendFrame}
-use Rattle.nr_laws.proofs.ReadLimits.{each-append, each-drop, each-kept}
 use Rattle.nr_laws.proofs.PendingSends.{verdict-new}
 use Rattle.nr_laws.proofs.ServerReadsOfRuns.{verdict-lists}
-use Rattle.nr_laws.proofs.OfferedAccesses.{EntryOffered, ListsOffered, CallOffered, MessageOffered, ReadOffered, each-all}
+use Rattle.nr_laws.proofs.OfferedAccesses.{EntryOffered, ListsOffered, CallOffered, MessageOffered, ReadOffered}
+use Rattle.nr_laws.proofs.Basics.{each-append, each-drop, each-all, each-filter, each-kept}
+use Rattle.nr_laws.proofs.EachEffect.{send-effect, tagged-effect}
 
 -- ---- Lists
 
@@ -41,14 +40,6 @@ none-behind : {X : Type 0} (P : X → Type 0) (n : ℕ) (xs : List X) → AllByR
 none-behind P zero xs = tt
 none-behind P (suc n) [] = tt
 none-behind P (suc n) (x ∷ xs) = none-behind P n xs
-
-each-filter : {X : Type 0} (P Q : X → Type 0) (p : X → Bool) (xs : List X) → ((x : X) → p x ≡ true → P x → Q x) → AllByRecursion P xs → AllByRecursion Q (filter p xs)
-each-filter {X} P Q p [] f h = tt
-each-filter {X} P Q p (x ∷ xs) f h = by (p x) refl (each-filter P Q p xs f h.1)
-  where
-    by : (b : Bool) → p x ≡ b → AllByRecursion Q (filter p xs) → AllByRecursion Q (cond b (x ∷ filter p xs) (filter p xs))
-    by true e rest = (f x e h.0, rest)
-    by false e rest = rest
 
 -- ---- Reads of pending calls
 
@@ -89,13 +80,9 @@ none-more regions k calls waiting = record {
   few = omega (arith, length-take open_reads_max k.reads);
 }
 
-whole-more : (regions : List Region) (k : ServerState) (place : ℕ) (c : PendingCall) (s : FrameEffect) → EffectOffered regions s → EffectOffered regions (ready_if_whole k place c s)
-whole-more regions k place c s h = by (is_read s.reads c.number) (by_payload c (payload_of k place c))
-  where
-    by : (b : Bool) (v : CallVerdict) → EffectOffered regions (cond b (with_verdict v s) s)
-    by true (Refuses reason) = record { calls = h.calls; waiting = h.waiting; few = h.few }
-    by true (IsReady r) = record { calls = h.calls; waiting = h.waiting; few = h.few }
-    by false v = h
+judged-more : (regions : List Region) (v : CallVerdict) (s : FrameEffect) → EffectOffered regions s → EffectOffered regions (with_verdict v s)
+judged-more regions (Refuses reason) s h = record { calls = h.calls; waiting = h.waiting; few = h.few }
+judged-more regions (IsReady r) s h = record { calls = h.calls; waiting = h.waiting; few = h.few }
 
 -- the reads of a new call
 new-reads : (regions : List Region) (sinks : List Region) (c : PendingCall) (before read : List ReadSegment) → AllByRecursion (EntryOffered regions c.xid) read → AllByRecursion (ReadOffered regions (c ∷ [])) (reads_from sinks c.number before read)
@@ -108,27 +95,6 @@ new-reads regions sinks c before (r ∷ read) h = by (eqb r.length 0) (new-reads
     by : (b : Bool) → AllByRecursion (ReadOffered regions (c ∷ [])) rest → AllByRecursion (ReadOffered regions (c ∷ [])) (cond b [] (read_of sinks c.number (total_at r.position before) r ∷ []) ++ rest)
     by true others = others
     by false others = (inl (refl, h.0), others)
-
-message-more : (regions : List Region) (k : ServerState) (place : ℕ) (message : List ℕ) (v : Verdict) → verdict k message ≡ v → MessageOffered regions (SendFrame message) → AllByRecursion (CallOffered regions) k.calls → AllByRecursion (ReadOffered regions k.calls) (drop open_reads_max k.reads)
-    → EffectOffered regions (message_effect k place message v)
-message-more regions k place message (EndsLink reason) is own calls waiting = (let h = none-more regions k calls waiting in record { calls = h.calls; waiting = h.waiting; few = h.few })
-message-more regions k place message OtherVersion is own calls waiting = (let h = none-more regions k calls waiting in record { calls = h.calls; waiting = h.waiting; few = h.few })
-message-more regions k place message BadChunks is own calls waiting = (let h = none-more regions k calls waiting in record { calls = h.calls; waiting = h.waiting; few = h.few })
-message-more regions k place message (MakesPending c) is own calls waiting =
-    let h = none-more regions k calls waiting in
-    let sinks = k.regions ++ regions_of k place c in
-    let new = verdict-new k message c is in
-    let l = verdict-lists k message c is in
-    let one : CallOffered regions c =
-    subst (λ (n : ℕ). ListsOffered regions n c.lists) (sym new.0.own) (subst (ListsOffered regions (word_at 0 message)) (sym l.lists) (own l.header l.is)) in
-    whole-more regions k place c (record (no_effect k) { calls = k.calls ++ c ∷ []; reads = k.reads ++ reads_of sinks c; regions = sinks })
-    (record {
-      calls = each-append (CallOffered regions) k.calls (c ∷ []) calls (one, tt);
-      waiting = each-dropped (ReadOffered regions (k.calls ++ c ∷ [])) (length (open_reads k)) k.reads (reads_of sinks c)
-          (each-all (ReadOffered regions k.calls) (ReadOffered regions (k.calls ++ c ∷ [])) (drop (length (open_reads k)) k.reads) (read-left regions k.calls (c ∷ [])) h.waiting)
-          (each-all (ReadOffered regions (c ∷ [])) (ReadOffered regions (k.calls ++ c ∷ [])) (reads_of sinks c) (read-right regions k.calls (c ∷ [])) (new-reads regions sinks c [] c.lists.read one.read));
-      few = h.few;
-    })
 
 -- a call that is refused, and its reads that wait
 refused-more : (regions : List Region) (k : ServerState) (c : PendingCall) (s : FrameEffect) → EffectOffered regions s → EffectOffered regions (with_refused_call k c s)
@@ -143,44 +109,48 @@ refused-more regions k c s h =
       few = h.few;
     }
 
-read-effect-more : (regions : List Region) (k : ServerState) (place : ℕ) (r : PendingRead) (o : Option PendingCall) (s : FrameEffect) → EffectOffered regions s → EffectOffered regions (read_effect k place r o s)
-read-effect-more regions k place r None s h = h
-read-effect-more regions k place r (Some c) s h = by (is_stream_read c r s.reads && not (is_read_chunk_of_item (chunk_bytes k place c 0) c.lists.read))
-  where
-    by : (b : Bool) → EffectOffered regions (cond b (with_refused_call k c s) (ready_if_whole k place c s))
-    by true = refused-more regions k c s h
-    by false = whole-more regions k place c s h
-
-response-more : (regions : List Region) (k : ServerState) (place : ℕ) (reads : List PendingRead) → k.reads ≡ reads → AllByRecursion (CallOffered regions) k.calls → AllByRecursion (ReadOffered regions k.calls) (drop open_reads_max k.reads) → EffectOffered regions (response_effect k place reads)
-response-more regions k place [] is calls waiting = none-more regions k calls waiting
-response-more regions k place (r ∷ reads) is calls waiting =
-    let kept : length (open_reads k) - 1 ≡ length (take 7 reads) = ap (λ (xs : List PendingRead). length (take open_reads_max xs) - 1) is ∙ omega arith in
-    read-effect-more regions k place r (call_of_number k r.number) (record (no_effect k) { reads = reads; kept = length (open_reads k) - 1 })
-    (record {
-      calls = calls;
-      waiting = subst (λ (n : ℕ). AllByRecursion (ReadOffered regions k.calls) (drop n reads)) (sym kept)
-          (subst (AllByRecursion (ReadOffered regions k.calls)) (ap (λ (xs : List PendingRead). drop open_reads_max xs) is ∙ sym (drop-taken 7 reads)) waiting);
-      few = omega (arith, length-take open_reads_max k.reads);
-    })
-
 pub effect-send : (regions : List Region) (k : ServerState) (f : Frame) (message : List ℕ) → k.received.begun ≡ None → MessageOffered regions (SendFrame message) → AllByRecursion (CallOffered regions) k.calls → AllByRecursion (ReadOffered regions k.calls) (drop open_reads_max k.reads)
     → frame_segment f ≡ Ok (Untagged true OPCODE_SEND 0 QUEUE_SEND (msn_word (k.received.sends + 1)) 0 message) → EffectOffered regions (frame_effect k f)
-unfolding frame_effect
 effect-send regions k f message none own calls waiting is =
-    let whole : List ℕ = begun_bytes k.received.begun ++ message in
-    let same : message ≡ whole = ap (λ (b : Option (List ℕ)). begun_bytes b ++ message) (sym none) in
-    subst (λ (r : Result Segment ℕ). EffectOffered regions (effect_in k f r)) (sym is)
-    (message-more regions k f.end whole (verdict k whole) refl (subst (λ (m : List ℕ). MessageOffered regions (SendFrame m)) same own) calls waiting)
+    send-effect k (λ m. MessageOffered regions (SendFrame m)) (EffectOffered regions) (record {
+      judged = λ t place c s g. judged-more regions (by_payload c (payload_of t place c)) s g;
+      ends = λ message reason own is. record { calls = h.calls; waiting = h.waiting; few = h.few };
+      version = λ message own. record { calls = h.calls; waiting = h.waiting; few = h.few };
+      chunks = λ message own. record { calls = h.calls; waiting = h.waiting; few = h.few };
+      pending = pending;
+    }) f message none own is
+  where
+    h : EffectOffered regions (no_effect k)
+    h = none-more regions k calls waiting
+
+    pending : (place : ℕ) (message : List ℕ) (c : PendingCall) → MessageOffered regions (SendFrame message) → verdict k message ≡ MakesPending c
+        → EffectOffered regions (record (no_effect k) { calls = k.calls ++ c ∷ []; reads = k.reads ++ reads_of (k.regions ++ regions_of k place c) c; regions = k.regions ++ regions_of k place c })
+    pending place message c own is =
+        let sinks = k.regions ++ regions_of k place c in
+        let new = verdict-new k message c is in
+        let l = verdict-lists k message c is in
+        let one : CallOffered regions c =
+        subst (λ (n : ℕ). ListsOffered regions n c.lists) (sym new.0.own) (subst (ListsOffered regions (word_at 0 message)) (sym l.lists) (own l.header l.is)) in
+        record {
+          calls = each-append (CallOffered regions) k.calls (c ∷ []) calls (one, tt);
+          waiting = each-dropped (ReadOffered regions (k.calls ++ c ∷ [])) (length (open_reads k)) k.reads (reads_of sinks c)
+              (each-all (ReadOffered regions k.calls) (ReadOffered regions (k.calls ++ c ∷ [])) (drop (length (open_reads k)) k.reads) (read-left regions k.calls (c ∷ [])) h.waiting)
+              (each-all (ReadOffered regions (c ∷ [])) (ReadOffered regions (k.calls ++ c ∷ [])) (reads_of sinks c) (read-right regions k.calls (c ∷ [])) (new-reads regions sinks c [] c.lists.read one.read));
+          few = h.few;
+        }
 
 pub effect-tagged : (regions : List Region) (k : ServerState) (f : Frame) (last : Bool) (opcode stag to : ℕ) (payload : List ℕ) → AllByRecursion (CallOffered regions) k.calls → AllByRecursion (ReadOffered regions k.calls) (drop open_reads_max k.reads)
     → frame_segment f ≡ Ok (Tagged last opcode stag to payload) → EffectOffered regions (frame_effect k f)
-unfolding frame_effect
 effect-tagged regions k f last opcode stag to payload calls waiting is =
-    subst (λ (r : Result Segment ℕ). EffectOffered regions (effect_in k f r)) (sym is) (by (eqb opcode OPCODE_READ_RESPONSE && last))
+    tagged-effect k (EffectOffered regions)
+    (record { unchanged = none-more regions k calls waiting; judged = λ t place c s g. judged-more regions (by_payload c (payload_of t place c)) s g; read = read; refused = λ r reads c is found. refused-more regions k c _ (read r reads is) }) f last opcode stag to payload is
   where
-    t : ServerState
-    t = with_access k f (Tagged last opcode stag to payload)
-
-    by : (b : Bool) → EffectOffered regions (cond b (response_effect t f.end t.reads) (no_effect t))
-    by true = response-more regions t f.end t.reads refl calls waiting
-    by false = none-more regions t calls waiting
+    read : (r : PendingRead) (reads : List PendingRead) → k.reads ≡ r ∷ reads → EffectOffered regions (record (no_effect k) { reads = reads; kept = length (open_reads k) - 1 })
+    read r reads is =
+        let kept : length (open_reads k) - 1 ≡ length (take 7 reads) = ap (λ (xs : List PendingRead). length (take open_reads_max xs) - 1) is ∙ omega arith in
+        record {
+          calls = calls;
+          waiting = subst (λ (n : ℕ). AllByRecursion (ReadOffered regions k.calls) (drop n reads)) (sym kept)
+              (subst (AllByRecursion (ReadOffered regions k.calls)) (ap (λ (xs : List PendingRead). drop open_reads_max xs) is ∙ sym (drop-taken 7 reads)) waiting);
+          few = omega (arith, length-take open_reads_max k.reads);
+        }

@@ -1,29 +1,28 @@
 -- A read chunk without bytes has no sink, whatever the client sends.
-use Rattle.std.proofs.Common.{◌≡◌, ◌≢◌, ℕ, ◌+◌, ◌≤◌, ◌<◌, Bool, true, false, cond, ◌&&◌, not, eqb, List, [], ◌∷◌, ◌++◌, replicate, Option, None, Some, Result, Ok, Err, refl, sym, ap, subst, ◌∙◌, arith, append-nil, ne_eqb}
+use Rattle.std.proofs.Common.{◌≡◌, ◌≢◌, ℕ, ◌+◌, ◌≤◌, ◌<◌, Bool, true, false, cond, ◌&&◌, not, eqb, List, [], ◌∷◌, ◌++◌, replicate, Option, None, Some, Result, refl, sym, ap, subst, ◌∙◌, arith, append-nil, ne_eqb}
 use Rattle.std.specs.List.{filter, find}
 use Rattle.nr_header.specs.declared.header.ChunkLists.{ChunkLists}
 use Rattle.nr_wire.specs.Segment.{Segment}
-use Rattle.nr_wire.specs.Segment.Segment.{Tagged, Untagged}
 use Rattle.nr_regions.specs.declared.right.Right.TheVariants.{Sink}
 use Rattle.nr_link.specs.Frames.{Frame, is_hello}
 use Rattle.nr_link.specs.Ending.{frame_segment}
-use Rattle.nr_link.specs.ReceiveState.{message_completed, received_after}
 use Rattle.nr_reduce.specs.declared.mark.LinkParameters.{LinkParameters}
-use Rattle.nr_reduce.specs.Chunks.{total_at, positions, is_read_chunk_of_item}
+use Rattle.nr_reduce.specs.Chunks.{total_at, positions}
 use Rattle.nr_reduce.specs.OfferedRegions.{Region, region_grants, region_bytes, region_bytes_by, regions_closed}
 use Rattle.nr_reduce.specs.Events.{Event}
 use Rattle.nr_reduce.specs.Events.Event.{FrameReceived, CallSubmitted, MemoryRevoked, CallExecuted, QueueWritten}
-use Rattle.nr_reduce.specs.ServerState.{ServerState, PendingCall, PendingRead, next_stag}
-use Rattle.nr_reduce.specs.ServerReads.{chunks_of, regions_from, regions_of, stag_by, sink_of, is_read, is_over, reads_of}
-use Rattle.nr_reduce.specs.ServerMessages.{CallVerdict, by_payload, payload_of, chunk_bytes, Verdict, verdict}
-use Rattle.nr_reduce.specs.ServerMessages.CallVerdict.{Refuses, IsReady}
-use Rattle.nr_reduce.specs.ServerMessages.Verdict.{EndsLink, OtherVersion, BadChunks, MakesPending}
-use Rattle.nr_reduce.specs.ServerFrames.{FrameEffect, no_effect, with_verdict, ready_if_whole, with_refused_call, is_stream_read, read_effect, response_effect, call_of_number, message_effect, by_message, with_access, effect_in, frame_effect}
+use Rattle.nr_reduce.specs.ServerState.{ServerState, PendingCall, next_stag}
+use Rattle.nr_reduce.specs.ServerReads.{chunks_of, regions_from, regions_of, stag_by, sink_of, is_over}
+use Rattle.nr_reduce.specs.ServerMessages.{chunk_bytes, Verdict, verdict}
+use Rattle.nr_reduce.specs.ServerMessages.Verdict.{MakesPending}
+use Rattle.nr_reduce.specs.ServerFrames.{FrameEffect, call_of_number, with_access, frame_effect}
 use Rattle.nr_reduce.specs.Server.{server_rules, server_state_after, initial_server, received_by, with_effect}
 use Rattle.nr_reduce.specs.RunLaws.{server_by}
 use Rattle.nr_reduce.proofs.Once.{NumberIs, verdict-number, whole-with, Goes, after-goes}
 use Rattle.nr_reduce.proofs.OwnStags.{AreNumbered, server-numbers, kept-after}
 use Rattle.nr_laws.proofs.PendingSinks.{sink-closed, OwnersBelow, owners-more, owners-append, owners-closed, sink-none}
+use Rattle.nr_laws.proofs.Basics.{and-false}
+use Rattle.nr_laws.proofs.EachEffect.{each-effect, held-messages, held-responses}
 
 -- ---- The sink of a chunk among some regions
 
@@ -35,10 +34,6 @@ HasNoSink regions c = (position : ℕ) → total_at position c.lists.read ≡ 0 
 abbrev HaveNoSinks : ℕ → List Region → List PendingCall → Type 0
 HaveNoSinks n regions [] = Unit {0}
 HaveNoSinks n regions (c ∷ calls) = (c.number ≤ n) × HasNoSink regions c × HaveNoSinks n regions calls
-
-and-false : (b c : Bool) → b ≡ false → (b && c) ≡ false
-and-false true c e = absurd cc
-and-false false c e = refl
 
 abbrev sink_region : (number position stag place : ℕ) → ChunkLists → Region
 sink_region number position stag place lists = record { call = number; position = position; stag = stag; right = Sink; bytes = replicate (total_at position lists.read) 0; from = place; until = None }
@@ -128,17 +123,6 @@ record SinksAreKnown (n : ℕ) (regions : List Region) (calls : List PendingCall
 later : (n m : ℕ) (regions : List Region) (calls : List PendingCall) → n ≤ m → SinksAreKnown n regions calls → SinksAreKnown m regions calls
 later n m regions calls le h = record { owners = owners-more n m regions le h.owners; none = none-later n m regions calls le h.none }
 
-whole-same : (k : ServerState) (place : ℕ) (c : PendingCall) (s : FrameEffect) (n : ℕ) → SinksAreKnown n s.regions s.calls → SinksAreKnown n (ready_if_whole k place c s).regions (ready_if_whole k place c s).calls
-whole-same k place c s n h = by (is_read s.reads c.number)
-  where
-    by_verdict : (v : CallVerdict) → SinksAreKnown n (with_verdict v s).regions (with_verdict v s).calls
-    by_verdict (Refuses reason) = h
-    by_verdict (IsReady r) = h
-
-    by : (b : Bool) → SinksAreKnown n (cond b (with_verdict (by_payload c (payload_of k place c)) s) s).regions (cond b (with_verdict (by_payload c (payload_of k place c)) s) s).calls
-    by true = by_verdict (by_payload c (payload_of k place c))
-    by false = h
-
 owners-from : (number place stag : ℕ) (lists : ChunkLists) (ps : List ℕ) → OwnersBelow number (regions_from number place stag lists ps)
 owners-from number place stag lists [] = tt
 owners-from number place stag lists (p ∷ ps) = (omega arith, owners-from number place (stag + 1) lists ps)
@@ -154,55 +138,32 @@ new-known k place c number h =
           ((omega (arith, number)), (λ position none. sink-none k.regions news n c.number position (omega (arith, number)) h.owners ∙ own-sink c.number position place c.lists none (next_stag k) (positions c.lists.read)), tt);
     }
 
-message-known : (k : ServerState) (place : ℕ) (message : List ℕ) (v : Verdict) → NumberIs (k.received.sends + 1) v → SinksAreKnown k.received.sends k.regions k.calls → SinksAreKnown (k.received.sends + 1) (message_effect k place message v).regions (message_effect k place message v).calls
-message-known k place message (EndsLink reason) number h = later k.received.sends (k.received.sends + 1) k.regions k.calls (omega arith) h
-message-known k place message OtherVersion number h = later k.received.sends (k.received.sends + 1) k.regions k.calls (omega arith) h
-message-known k place message BadChunks number h = later k.received.sends (k.received.sends + 1) k.regions k.calls (omega arith) h
-message-known k place message (MakesPending c) number h =
-    whole-same k place c (record (no_effect k) { calls = k.calls ++ c ∷ []; reads = k.reads ++ reads_of (k.regions ++ regions_of k place c) c; regions = k.regions ++ regions_of k place c }) (k.received.sends + 1) (new-known k place c number h)
-
-read-known : (k : ServerState) (place : ℕ) (r : PendingRead) (o : Option PendingCall) (s : FrameEffect) (n : ℕ) → SinksAreKnown n s.regions s.calls → SinksAreKnown n (read_effect k place r o s).regions (read_effect k place r o s).calls
-read-known k place r None s n h = h
-read-known k place r (Some c) s n h = by (is_stream_read c r s.reads && not (is_read_chunk_of_item (chunk_bytes k place c 0) c.lists.read))
+effect-known : (k : ServerState) (f : Frame) → k.received.sends ≤ (received_by k.received (frame_segment f)).sends → SinksAreKnown k.received.sends k.regions k.calls
+    → SinksAreKnown (received_by k.received (frame_segment f)).sends (frame_effect k f).regions (frame_effect k f).calls
+effect-known k f le h =
+    each-effect k (λ m. n ≡ k.received.sends + 1) (λ s. SinksAreKnown n s.regions s.calls) (held-messages k (λ m. n ≡ k.received.sends + 1) (λ calls reads regions. SinksAreKnown n regions calls) same pending)
+    (held-responses k (λ calls reads regions. SinksAreKnown n regions calls) same
+    (λ c s g. record { owners = g.owners; none = none-kept n s.regions (λ other. not (eqb other.number c.number)) s.calls g.none }) (λ r reads is. same)) f
+    (λ s m is whole. ap (λ (r : Result Segment ℕ). (received_by k.received r).sends) is ∙ whole-with k.received s m whole)
   where
-    by : (b : Bool) → SinksAreKnown n (cond b (with_refused_call k c s) (ready_if_whole k place c s)).regions (cond b (with_refused_call k c s) (ready_if_whole k place c s)).calls
-    by true = record { owners = h.owners; none = none-kept n s.regions (λ other. not (eqb other.number c.number)) s.calls h.none }
-    by false = whole-same k place c s n h
+    n : ℕ
+    n = (received_by k.received (frame_segment f)).sends
 
-response-known : (k : ServerState) (place : ℕ) (reads : List PendingRead) (n : ℕ) → SinksAreKnown n k.regions k.calls → SinksAreKnown n (response_effect k place reads).regions (response_effect k place reads).calls
-response-known k place [] n h = h
-response-known k place (r ∷ reads) n h = read-known k place r (call_of_number k r.number) _ n h
+    same : SinksAreKnown n k.regions k.calls
+    same = later k.received.sends n k.regions k.calls le h
 
-by-message-known : (k : ServerState) (place : ℕ) (o : Option (List ℕ)) (m : ℕ) → k.received.sends ≤ m → ((message : List ℕ) → o ≡ Some message → m ≡ k.received.sends + 1) → SinksAreKnown k.received.sends k.regions k.calls
-    → SinksAreKnown m (by_message k place o).regions (by_message k place o).calls
-by-message-known k place None m le one h = later k.received.sends m k.regions k.calls le h
-by-message-known k place (Some message) m le one h =
-    let s : FrameEffect = message_effect k place message (verdict k message) in
-    subst (λ (n : ℕ). SinksAreKnown n s.regions s.calls) (sym (one message refl)) (message-known k place message (verdict k message) (verdict-number k message) h)
-
-in-known : (k : ServerState) (f : Frame) (r : Result Segment ℕ) → k.received.sends ≤ (received_by k.received r).sends → SinksAreKnown k.received.sends k.regions k.calls → SinksAreKnown (received_by k.received r).sends (effect_in k f r).regions (effect_in k f r).calls
-in-known k f (Err reason) le h = h
-in-known k f (Ok (Tagged last opcode stag to payload)) le h = by (eqb opcode 2 && last)
-  where
-    t : ServerState
-    t = with_access k f (Tagged last opcode stag to payload)
-
-    by : (b : Bool) → SinksAreKnown k.received.sends (cond b (response_effect t f.end t.reads) (no_effect t)).regions (cond b (response_effect t f.end t.reads) (no_effect t)).calls
-    by true = response-known t f.end t.reads k.received.sends h
-    by false = h
-in-known k f (Ok (Untagged last opcode w queue msn offset payload)) le h =
-    let segment : Segment = Untagged last opcode w queue msn offset payload in
-    by-message-known k f.end (message_completed k.received segment) (received_after k.received segment).sends le (λ message is. whole-with k.received segment message is) h
+    pending : (place : ℕ) (message : List ℕ) (c : PendingCall) → n ≡ k.received.sends + 1 → verdict k message ≡ MakesPending c → SinksAreKnown n (k.regions ++ regions_of k place c) (k.calls ++ c ∷ [])
+    pending place message c next is =
+        subst (λ (m : ℕ). SinksAreKnown m (k.regions ++ regions_of k place c) (k.calls ++ c ∷ [])) (sym next) (new-known k place c (subst (λ (v : Verdict). NumberIs (k.received.sends + 1) v) is (verdict-number k message)) h)
 
 abbrev KnowsSinks : ServerState → Type 0
 KnowsSinks k = SinksAreKnown k.received.sends k.regions k.calls
 
 frame-known : (k : ServerState) (f : Frame) → k.received.sends ≤ (received_by k.received (frame_segment f)).sends → KnowsSinks k → KnowsSinks (with_effect k f (frame_effect k f))
-unfolding frame_effect
 frame-known k f le h =
-    let s : FrameEffect = effect_in k f (frame_segment f) in
+    let s : FrameEffect = frame_effect k f in
     let n : ℕ = (received_by k.received (frame_segment f)).sends in
-    let u = in-known k f (frame_segment f) le h in
+    let u = effect-known k f le h in
     record { owners = owners-closed (is_over s.calls s.reads) f.end n s.regions u.owners; none = none-closed (is_over s.calls s.reads) f.end n s.regions s.calls u.none }
 
 after-known : (opened : LinkParameters) (k : ServerState) (event : Event) → KnowsSinks k → KnowsSinks (server_state_after opened k event)

@@ -1,19 +1,17 @@
 -- What a frame of a matched link may end a side for: an access that is denied, and what a message is.
-use Rattle.std.proofs.Common.{◌≡◌, ℕ, ◌+◌, ◌≤◌, ◌<◌, ◌^◌, Bool, true, false, cond, List, [], ◌∷◌, ◌++◌, length, take, drop, Option, None, Result, Ok, refl, sym, ap, subst, ◌∙◌, arith, lt-ltb, append_assoc, take-append-drop}
-use Rattle.nr_wire.specs.Constants.{OPCODE_WRITE, OPCODE_READ_REQUEST, OPCODE_READ_RESPONSE, QUEUE_READ_REQUEST}
+use Rattle.std.proofs.Common.{◌≡◌, ℕ, ◌≤◌, ◌<◌, Bool, false, cond, List, [], ◌∷◌, ◌++◌, length, take, drop, Option, None, Result, Ok, refl, sym, ap, subst, ◌∙◌, arith, lt-ltb, append_assoc, take-append-drop}
+use Rattle.nr_wire.specs.Constants.{OPCODE_READ_RESPONSE}
 use Rattle.nr_wire.specs.declared.hello.Side.TheVariants.{Initiator, Responder}
 use Rattle.nr_wire.specs.Hello.{hello_of}
 use Rattle.nr_wire.specs.Segment.{Segment}
-use Rattle.nr_wire.specs.Segment.Segment.{Tagged, Untagged}
+use Rattle.nr_wire.specs.Segment.Segment.{Tagged}
 use Rattle.nr_regions.specs.declared.denied.Denied.{Denied}
 use Rattle.nr_link.specs.declared.end.End.{End}
 use Rattle.nr_reduce.specs.declared.mark.LinkParameters.{LinkParameters}
 use Rattle.nr_reduce.specs.Limits.{send_max}
 use Rattle.nr_link.specs.Limits.{open_reads_max}
-use Rattle.nr_link.specs.Output.{msn_word}
 use Rattle.nr_link.specs.Frames.{Frame, is_hello}
 use Rattle.nr_link.specs.SegmentFaults.{SegmentFault, first_fault, missing_fault}
-use Rattle.nr_link.specs.ReceiveState.{read_request_in}
 use Rattle.nr_link.specs.Ending.{frame_end, frame_end_by, missing_access, end_of_fault, frame_segment, hello_end}
 use Rattle.nr_reduce.specs.OfferedRegions.{region_grants}
 use Rattle.nr_reduce.specs.Events.Event.{FrameReceived}
@@ -22,13 +20,12 @@ use Rattle.nr_reduce.specs.Client.{readiness as client_readiness, client_end, or
 use Rattle.nr_reduce.specs.ServerState.{ServerState, PendingRead, receives_in_use}
 use Rattle.nr_reduce.specs.Server.{readiness, server_end, or_refusal, refusal_end}
 use Rattle.nr_reduce.specs.ServerFrames.{frame_effect}
-use Rattle.nr_laws.specs.FrameContents.{FrameContent, Carries, total_of, sends_in, requests_in}
-use Rattle.nr_laws.specs.FrameContents.FrameContent.{SendFrame, RequestFrame, TaggedFrame}
+use Rattle.nr_laws.specs.FrameContents.{FrameContent, Carries, total_of, sends_in}
+use Rattle.nr_laws.specs.FrameContents.FrameContent.{SendFrame, TaggedFrame}
 use Rattle.nr_laws.specs.LinkInvariants.{Transit, TotalsAgree, ReadsAgree, AreResponses, WithinWindow}
-use Rattle.nr_laws.proofs.FreeReceives.{receives, requests}
-use Rattle.nr_laws.proofs.FaultlessSegments.{send-frame, request-flaw, write-flaw, response-flaw}
+use Rattle.nr_laws.proofs.FreeReceives.{receives}
+use Rattle.nr_laws.proofs.FaultlessSegments.{send-frame, response-flaw}
 use Rattle.nr_laws.proofs.TotalsAtServer.{segment-is}
-use Rattle.nr_laws.proofs.TotalsAtClient.{request_payload}
 use Rattle.nr_laws.proofs.ExpectedResponses.{is-expected}
 
 -- ---- The server
@@ -81,36 +78,3 @@ pub client-send : (opened : LinkParameters) (k : ClientState) (s : ServerState) 
 client-send opened k s w f message c p long short =
     client-by k f None p.behind
     (send-frame (client_readiness k) (region_grants f.end k.regions) k.received.sends k.received.requests f message p refl c.whole_down refl refl long short)
-
--- a Read Request: what it lacks alone
-pub client-read : (opened : LinkParameters) (k : ClientState) (s : ServerState) (w : Transit) (f : Frame) (sink at size stag to : ℕ) (rest : List FrameContent) → TotalsAgree k s w → w.down ≡ RequestFrame sink at size stag to ∷ rest
-    → Carries k.received.sends k.received.requests f (RequestFrame sink at size stag to)
-    → length (request_payload sink at size stag to) ≡ 28 → (read_request_in (request_payload sink at size stag to)).sink_to + (read_request_in (request_payload sink at size stag to)).size ≤ 2 ^ 64
-    → missing_access (region_grants f.end k.regions) f (Untagged true OPCODE_READ_REQUEST 0 QUEUE_READ_REQUEST (msn_word (k.received.requests + 1)) 0 (request_payload sink at size stag to)) ≡ None
-    → client_end k (FrameReceived f) ≡ None
-unfolding frame_end
-client-read opened k s w f sink at size stag to rest c head p len fits allowed =
-    let segment : Segment = Untagged true OPCODE_READ_REQUEST 0 QUEUE_READ_REQUEST (msn_word (k.received.requests + 1)) 0 (request_payload sink at size stag to) in
-    let grants = region_grants f.end k.regions in
-    let is : frame_segment f ≡ Ok segment = segment-is k.received.sends k.received.requests f (RequestFrame sink at size stag to) segment p refl in
-    let some : 0 < total_of requests_in w.down = omega (arith, ap (total_of requests_in) head) in
-    let flaw = request-flaw (client_readiness k (missing_access grants f segment)) (request_payload sink at size stag to) len fits (requests opened k s w c some) in
-    client-by k f None p.behind
-    (ap (λ (r : Result Segment ℕ). frame_end_by (client_readiness k) grants f r) is
-    ∙ ap (λ (x : Option (SegmentFault Denied)). end_of_fault f segment x) flaw
-    ∙ lacks-none f segment (missing_access grants f segment) allowed)
-    ∙ ap (λ (r : Result Segment ℕ). message_end k f (segment_message k r)) is
-
--- a segment of a Write likewise
-pub client-write : (k : ClientState) (f : Frame) (last : Bool) (stag to : ℕ) (payload : List ℕ) → Carries k.received.sends k.received.requests f (TaggedFrame last OPCODE_WRITE stag to payload)
-    → missing_access (region_grants f.end k.regions) f (Tagged last OPCODE_WRITE stag to payload) ≡ None → client_end k (FrameReceived f) ≡ None
-unfolding frame_end
-client-write k f last stag to payload p allowed =
-    let segment : Segment = Tagged last OPCODE_WRITE stag to payload in
-    let grants = region_grants f.end k.regions in
-    let is : frame_segment f ≡ Ok segment = segment-is k.received.sends k.received.requests f (TaggedFrame last OPCODE_WRITE stag to payload) segment p refl in
-    client-by k f None p.behind
-    (ap (λ (r : Result Segment ℕ). frame_end_by (client_readiness k) grants f r) is
-    ∙ ap (λ (x : Option (SegmentFault Denied)). end_of_fault f segment x) (write-flaw (client_readiness k (missing_access grants f segment)) last stag to payload)
-    ∙ lacks-none f segment (missing_access grants f segment) allowed)
-    ∙ ap (λ (r : Result Segment ℕ). message_end k f (segment_message k r)) is

@@ -9,6 +9,8 @@ use Rattle.nr_reduce.specs.History.{ExecutedCall, bytes_received, same_side}
 use Rattle.nr_reduce.specs.Events.{Event, events, events_at, if_own}
 use Rattle.nr_reduce.specs.Events.Event.{FrameReceived, CallSubmitted, MemoryRevoked, CallExecuted, QueueWritten}
 use Rattle.nr_reduce.proofs.Steps.{events-one}
+use Rattle.nr_laws.proofs.Basics.{first-is, PartedTwo, parted-two}
+use Rattle.nr_laws.proofs.Basics.PartedTwo.{InFirst, InSecond}
 
 abbrev pub execute_mark : ℕ → ExecutedCall → Mark
 execute_mark link e = marks.Execute link e.xid e.moment e.payload e.place e.reply
@@ -44,22 +46,6 @@ no-at (MemoryRevoked p xid ∷ pre) e post h = no-at pre e post h
 no-at (CallExecuted x ∷ pre) e post h = h
 no-at (QueueWritten ∷ pre) e post h = no-at pre e post h
 
-pub data PartedTwo (xs ys pre : List Event) (m : Event) (post : List Event) : Type 0 where
-  InFirst : (more : List Event) → xs ≡ pre ++ m ∷ more → PartedTwo xs ys pre m post
-  InSecond : (rest : List Event) → pre ≡ xs ++ rest → ys ≡ rest ++ m ∷ post → PartedTwo xs ys pre m post
-
-two-more : (x z : Event) (xs ys pre : List Event) (m : Event) (post : List Event) → x ≡ z → PartedTwo xs ys pre m post → PartedTwo (x ∷ xs) ys (z ∷ pre) m post
-two-more x z xs ys pre m post e (InFirst more is) = InFirst more (λ i. e i ∷ is i)
-two-more x z xs ys pre m post e (InSecond rest is then) = InSecond rest (λ i. sym e i ∷ is i) then
-
-pub head-is : (a b : Event) (xs ys : List Event) → a ∷ xs ≡ b ∷ ys → a ≡ b
-head-is a b xs ys e = cc
-
-pub parted-two : (xs ys pre : List Event) (m : Event) (post : List Event) → xs ++ ys ≡ pre ++ m ∷ post → PartedTwo xs ys pre m post
-parted-two [] ys pre m post e = InSecond pre refl e
-parted-two (x ∷ xs) ys [] m post e = InFirst xs (λ i. head-is x m (xs ++ ys) post e i ∷ xs)
-parted-two (x ∷ xs) ys (p ∷ pre) m post e = two-more x p xs ys pre m post (head-is x p (xs ++ ys) (pre ++ m ∷ post) e) (parted-two xs ys pre m post (ap (λ (zs : List Event). drop 1 zs) e))
-
 abbrev HasMarks : ℕ → List Mark → Type 0
 HasMarks link run = (pre : List Event) (e : ExecutedCall) (post : List Event) → events link Responder run ≡ pre ++ CallExecuted e ∷ post → ExecuteMark link run pre e
 
@@ -86,7 +72,7 @@ execute-marks link before x has pre e post is =
     here = ap (λ (b : Bool). if_own (b && true) (CallExecuted x ∷ [])) (Rattle.std.proofs.Common.eq-eqb link link refl)
 
     at_once : (rest : List Event) → CallExecuted x ∷ [] ≡ rest ++ CallExecuted e ∷ post → (rest ≡ []) × (x ≡ e)
-    at_once [] own = (refl, same (head-is (CallExecuted x) (CallExecuted e) [] post own))
+    at_once [] own = (refl, same (first-is (CallExecuted x) (CallExecuted e) [] post own))
       where
         same : {x e : ExecutedCall} → CallExecuted x ≡ CallExecuted e → x ≡ e
         same own = cc

@@ -4,13 +4,13 @@ use Rattle.std.specs.Prelude.{is_none}
 use Rattle.std.specs.List.{find}
 use Rattle.nr_regions.specs.declared.right.Right.{Right}
 use Rattle.nr_regions.specs.declared.right.Right.TheVariants.{Fetch, Fill, Sink}
-use Rattle.nr_regions.specs.declared.denied.Denied.TheVariants.{NoStag, Bounds, Right as WrongRight}
+use Rattle.nr_regions.specs.declared.denied.Denied.TheVariants.{Bounds, Right as WrongRight}
 use Rattle.nr_regions.specs.declared.right.Kind.{Kind}
 use Rattle.nr_regions.specs.declared.right.Kind.TheVariants.{Write, Response}
 use Rattle.nr_regions.specs.RegisteredMemory.{Access, right_for, denial_in, same_right, bytes_after_write}
 use Rattle.nr_regions.specs.Access.{Grant, TaggedSegment, access_of, applies, grant_at, grant_offer, grant_denial, HaveOwnStags, contents}
 use Rattle.nr_reduce.specs.OfferedRegions.{Region, region_grant, region_grants, region_bytes, region_bytes_by}
-use Rattle.nr_laws.proofs.RequestFields.{none-applies}
+use Rattle.nr_laws.proofs.RequestFields.{none-applies, allowed-in}
 
 pub record IsFetched (regions : List Region) (stag : ℕ) : Type 0 where
   pub region : Region
@@ -33,22 +33,9 @@ allowed-right g place access own e = by (ltb (length g.bytes) (access.to + acces
 
 found-fetched : (place end : ℕ) (access : Access) (regions : List Region) → access.right ≡ Fetch → HaveOwnStags (map (region_grant place) regions) → denial_in (grant_offer (find (applies access.stag end) (map (region_grant place) regions))) access ≡ None
     → IsFetched regions access.stag
-found-fetched place end access [] reads own e = absurd cc
-found-fetched place end access (r ∷ regions) reads own e = by (eqb r.stag access.stag) (ltb r.from end && leb end (region_grant place r).until) refl e (λ rest. found-fetched place end access regions reads own.1 rest)
-  where
-    later : Option Grant
-    later = find (applies access.stag end) (map (region_grant place) regions)
-
-    by : (b c : Bool) → eqb r.stag access.stag ≡ b → denial_in (grant_offer (cond (b && c) (Some (region_grant place r)) later)) access ≡ None → (denial_in (grant_offer later) access ≡ None → IsFetched regions access.stag)
-        → IsFetched (r ∷ regions) access.stag
-    by true true is e rest = record { region = r; there = ap (λ (b : Bool). cond b (Some r) (find (λ (x : Region). eqb x.stag access.stag) regions)) is; own = eqb-true r.stag access.stag is; right = allowed-right r place access reads e }
-    by true false is e rest =
-        let none = none-applies access.stag end place (region_grant place r) regions (eqb-true r.stag access.stag is) own.0 in
-        let wrong : denial_in None access ≡ None = ap (λ (o : Option Grant). denial_in (grant_offer o) access) (sym none) ∙ e in
-        absurd (let no : Some NoStag ≡ None = wrong in cc)
-    by false c is e rest =
-        let m = rest e in
-        record { region = m.region; there = ap (λ (b : Bool). cond b (Some r) (find (λ (x : Region). eqb x.stag access.stag) regions)) is ∙ m.there; own = m.own; right = m.right }
+found-fetched place end access regions reads own e =
+    let m = allowed-in place end access regions own e in
+    record { region = m.region; there = m.found; own = m.own; right = allowed-right m.region place access reads m.allowed }
 
 -- an access that the grants allow to read is to such a region
 pub is-fetched : (place end : ℕ) (access : Access) (regions : List Region) → access.right ≡ Fetch → HaveOwnStags (region_grants place regions) → grant_denial (region_grants place regions) access end ≡ None → IsFetched regions access.stag

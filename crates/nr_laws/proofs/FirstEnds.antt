@@ -210,13 +210,21 @@ client-fed opened link run bytes g o prefix typed end e =
     client-ends opened j.s j.u j.all_down a.left o end (place_of j.u) a.new j.k j.d j.all_up j.w n r place j.linked g.guards a.parts (omega arith) (omega arith) a.place a.bytes_are a.some
     (ap (λ (xs : List Event). (end_state_after (client_rules opened) (live j.k) xs).ended) (sym same) ∙ e)
 
-client-from : (opened : LinkParameters) (link : ℕ) (o : IsOpened opened) (end : End) (run before : List Mark) → Guarded opened link before → AtEachMark (AskedMark IsAll opened link) before run → AtEachMark (ServedMark IsAll opened link) before run → AtEachMark (MatchedMark link) before run
-    → AtEachMark (WithinGrant opened link) before run → AtEachMark TypedMark before run → (server opened link (before ++ run)).ended ≡ None → (client opened link (before ++ run)).ended ≡ Some end → IsClientEnd end
-client-from opened link o end [] before g asked served matched grant typed down up =
-    absurd (let wrong : None ≡ Some end = sym (ap (λ (r : List Mark). (client opened link r).ended) (append-nil before) ∙ ap (λ (x : EndState ClientState). x.ended) g.joined.client_is) ∙ up in cc)
-client-from opened link o end (m ∷ run) before g asked served matched grant typed down up =
-    by (client opened link (before ++ m ∷ [])).ended refl (λ next. client-from opened link o end run (before ++ m ∷ []) next asked.1 served.1 matched.1 grant.1 typed.1 down_all up_all)
+-- along a run, what is kept while neither side ends decides why the client ends
+pub client-first : (opened : LinkParameters) (link : ℕ) (State : List Mark → Type 0) (joined : (before : List Mark) → State before → RunAgrees opened link before) (Kept : List Mark → Mark → Type 0) (end : End) (Lasting : Type 0)
+    → ((before : List Mark) (m : Mark) (a : State before) → MarkAgrees opened link before m (joined before a) → TypedMark before m → Kept before m → State (before ++ m ∷ []))
+    → ((before : List Mark) (bytes : List ℕ) (a : State before) → IsPrefixOf (bytes_received link Initiator before ++ bytes) (bytes_sent link Responder before) → IsBytes bytes
+    → (end_state_after (client_rules opened) (live (joined before a).k) (map FrameReceived (frames_completed Responder (bytes_received link Initiator before) bytes))).ended ≡ Some end → Lasting)
+    → (run before : List Mark) → State before → AtEachMark (AskedMark IsAll opened link) before run → AtEachMark (ServedMark IsAll opened link) before run → AtEachMark (MatchedMark link) before run → AtEachMark Kept before run → AtEachMark TypedMark before run
+    → (server opened link (before ++ run)).ended ≡ None → (client opened link (before ++ run)).ended ≡ Some end → Lasting
+client-first opened link State joined Kept end Lasting more fed [] before a asked served matched kept typed down up =
+    absurd (let wrong : None ≡ Some end = sym (ap (λ (r : List Mark). (client opened link r).ended) (append-nil before) ∙ ap (λ (x : EndState ClientState). x.ended) (joined before a).client_is) ∙ up in cc)
+client-first opened link State joined Kept end Lasting more fed (m ∷ run) before a asked served matched kept typed down up =
+    by (client opened link (before ++ m ∷ [])).ended refl (λ next. client-first opened link State joined Kept end Lasting more fed run (before ++ m ∷ []) next asked.1 served.1 matched.1 kept.1 typed.1 down_all up_all)
   where
+    j : RunAgrees opened link before
+    j = joined before a
+
     assoc : (before ++ m ∷ []) ++ run ≡ before ++ m ∷ run
     assoc = append_assoc before (m ∷ []) run
 
@@ -226,18 +234,19 @@ client-from opened link o end (m ∷ run) before g asked served matched grant ty
     up_all : (client opened link ((before ++ m ∷ []) ++ run)).ended ≡ Some end
     up_all = ap (λ (r : List Mark). (client opened link r).ended) assoc ∙ up
 
-    one : client opened link (before ++ m ∷ []) ≡ end_state_after (client_rules opened) (live g.joined.k) (events_at link Initiator before m)
-    one = client-one opened link before m ∙ ap (λ (r : EndState ClientState). end_state_after (client_rules opened) r (events_at link Initiator before m)) g.joined.client_is
+    one : client opened link (before ++ m ∷ []) ≡ end_state_after (client_rules opened) (live j.k) (events_at link Initiator before m)
+    one = client-one opened link before m ∙ ap (λ (r : EndState ClientState). end_state_after (client_rules opened) r (events_at link Initiator before m)) j.client_is
 
-    by : (x : Option End) → (client opened link (before ++ m ∷ [])).ended ≡ x → (Guarded opened link (before ++ m ∷ []) → IsClientEnd end) → IsClientEnd end
-    by None is later =
-        later (guarded-more opened link before m g.joined (goes-mark opened link before m g.joined asked.0 served.0 matched.0 typed.0 is (server-unended opened link (before ++ m ∷ []) run down_all)) o grant.0 g.guards)
-    by (Some x) is later =
+    by : (x : Option End) → (client opened link (before ++ m ∷ [])).ended ≡ x → (State (before ++ m ∷ []) → Lasting) → Lasting
+    by None is next =
+        next (more before m a (goes-mark opened link before m j asked.0 served.0 matched.0 typed.0 is (server-unended opened link (before ++ m ∷ []) run down_all)) typed.0 kept.0)
+    by (Some x) is next =
         let same : Some x ≡ Some end = sym (client-last opened link (before ++ m ∷ []) run x is) ∙ up_all in
-        fed-ends opened link before m g.joined.k end (IsClientEnd end) matched.0 typed.0 (λ bytes prefix typed e. client-fed opened link before bytes g o prefix typed end e) (ap (λ (r : EndState ClientState). r.ended) (sym one) ∙ is ∙ same)
+        fed-ends opened link before m j.k end Lasting matched.0 typed.0 (λ bytes prefix typed e. fed before bytes a prefix typed e) (ap (λ (r : EndState ClientState). r.ended) (sym one) ∙ is ∙ same)
 
 pub client-ends-for-replies : ClientEndsForReplies
 unfolding end_of_side
 client-ends-for-replies opened link run o typed laws down end up =
     let start = starts opened link in
-    client-from opened link o end run [] (record { joined = start.joined; guards = start.guards o }) laws.client laws.server laws.matched laws.grant typed down up
+    client-first opened link (Guarded opened link) (λ before g. g.joined) (WithinGrant opened link) end (IsClientEnd end) (λ before m g agrees typed within. guarded-more opened link before m g.joined agrees o within g.guards)
+    (λ before bytes g prefix typed e. client-fed opened link before bytes g o prefix typed end e) run [] (record { joined = start.joined; guards = start.guards o }) laws.client laws.server laws.matched laws.grant typed down up

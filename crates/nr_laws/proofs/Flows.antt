@@ -1,8 +1,6 @@
 -- On a matched link each side got the first bytes of what the other has to write.
 use Rattle.std.proofs.Common.{◌≡◌, ℕ, Bool, true, false, cond, ◌&&◌, eqb, List, [], ◌∷◌, ◌++◌, refl, sym, ap, subst, ◌∙◌, append_assoc, append-nil, inl, inr, ◌⊎◌}
 use Rattle.std.proofs.lemmas.Bool.{eqb-true}
-use Rattle.std.specs.List.{flat_map}
-use Rattle.std.proofs.lemmas.Grind.{flat_map-append}
 use Rattle.nr_wire.specs.declared.hello.Side.{Side}
 use Rattle.nr_wire.specs.declared.hello.Side.TheVariants.{Initiator, Responder}
 use Rattle.nr_reduce.specs.declared.mark.Mark.{Mark}
@@ -19,6 +17,7 @@ use Rattle.nr_reduce.specs.Run.{client, server, output_due}
 use Rattle.nr_reduce.specs.Asked.{AskedMark, AskedSoFar}
 use Rattle.nr_reduce.specs.Served.{ServedMark, ServedSoFar}
 use Rattle.nr_reduce.proofs.Steps.{output_due_up-one, output_due_down-one}
+use Rattle.nr_reduce.proofs.Standing.{received-one, sent-one}
 
 pub prefix-through : (xs ys zs : List ℕ) → IsPrefixOf xs ys → IsPrefixOf ys zs → IsPrefixOf xs zs
 prefix-through xs ys zs p q = (p.0 ++ q.0, sym (append_assoc xs p.0 q.0) ∙ ap (λ (s : List ℕ). s ++ q.0) p.1 ∙ q.1)
@@ -45,17 +44,6 @@ keeps P X Y k before (mark ∷ run) h p =
     subst (λ (xs : List ℕ). IsPrefixOf xs (Y (before ++ mark ∷ []))) (sym (k.adds before mark))
     (subst (λ (ys : List ℕ). IsPrefixOf (X before ++ k.add mark) ys) (sym (k.mores before mark)) (prefix-more (X before ++ k.add mark) (Y before) (k.more before mark) within)) in
     subst (λ (b : List Mark). IsPrefixOf (X b) (Y b)) (append_assoc before (mark ∷ []) run) (keeps P X Y k (before ++ mark ∷ []) run h.1 next)
-
-flat-one : (f : Mark → List ℕ) (before : List Mark) (mark : Mark) → flat_map f (before ++ mark ∷ []) ≡ flat_map f before ++ f mark
-flat-one f before mark = flat_map-append f before (mark ∷ []) ∙ ap (λ (xs : List ℕ). flat_map f before ++ xs) (append-nil (f mark))
-
-pub sent-one : (link : ℕ) (side : Side) (before : List Mark) (mark : Mark) → bytes_sent link side (before ++ mark ∷ []) ≡ bytes_sent link side before ++ written_at link side mark
-unfolding bytes_sent
-sent-one link side before mark = flat-one (written_at link side) before mark
-
-pub got-one : (link : ℕ) (side : Side) (before : List Mark) (mark : Mark) → bytes_received link side (before ++ mark ∷ []) ≡ bytes_received link side before ++ fed_at link side mark
-unfolding bytes_received
-got-one link side before mark = flat-one (fed_at link side) before mark
 
 -- bytes that count on one link alone
 if_link : (link l : ℕ) (bytes : List ℕ) (Q : List ℕ → Type 0) → (l ≡ link → Q bytes) → (cond (eqb l link && true) bytes [] ≡ []) ⊎ Q (cond (eqb l link && true) bytes [])
@@ -148,7 +136,7 @@ pub got_sent : (link : ℕ) (side : Side) (run : List Mark) → Matched link run
 got_sent link side run h =
     keeps (MatchedMark link) (bytes_received link side) (bytes_sent link (other side)) (record {
       add = fed_at link side;
-      adds = got-one link side;
+      adds = received-one link side;
       more = λ before mark. written_at link (other side) mark;
       mores = sent-one link (other side);
       right = feeds_right link side;

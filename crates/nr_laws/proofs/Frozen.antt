@@ -9,7 +9,7 @@ use Rattle.nr_regions.specs.Access.{Grant, TaggedSegment, grant_at, grant_offer,
 use Rattle.nr_regions.specs.RegisteredMemory.{denial_in}
 use Rattle.nr_link.specs.declared.end.End.{End as Stop}
 use Rattle.nr_link.specs.Frames.{Frame, is_hello, frames_completed}
-use Rattle.nr_link.specs.ReceiveState.{ReadRequest, message_completed, read_request_of}
+use Rattle.nr_link.specs.ReceiveState.{message_completed, read_request_of}
 use Rattle.nr_link.specs.Ending.{frame_segment, tagged_access, missing_access}
 use Rattle.nr_reduce.specs.declared.call.Submission.TheVariants as submissions
 use Rattle.nr_reduce.specs.declared.mark.Mark.{Mark}
@@ -22,7 +22,7 @@ use Rattle.nr_reduce.specs.EndRules.{EndState, next_end_state, next_end_state_by
 use Rattle.nr_reduce.specs.OfferedRegions.{Region, region_grant, region_grants, closed_if, regions_closed}
 use Rattle.nr_reduce.specs.Plans.{buffers}
 use Rattle.nr_reduce.specs.ClientState.{ClientState}
-use Rattle.nr_reduce.specs.Client.{client_rules, client_end, client_state_after, outstanding_of, region_of, with_message, with_request, with_segment}
+use Rattle.nr_reduce.specs.Client.{client_rules, client_end, client_state_after, outstanding_of, region_of, with_message, with_segment}
 use Rattle.nr_reduce.specs.Asked.{AskedSoFar}
 use Rattle.nr_reduce.specs.Run.{client, grants_of, placed_bytes}
 use Rattle.nr_reduce.proofs.Touches.{client_touched}
@@ -35,13 +35,14 @@ use Rattle.nr_laws.specs.Typed.{TypedMark}
 use Rattle.nr_reduce.specs.Asked.{AskedMark}
 use Rattle.std.specs.Prelude.{slice_index_or}
 use Rattle.nr_laws.proofs.OnceByXid.{at-mark, before-mark}
-use Rattle.nr_laws.proofs.Flows.{got-one}
 use Rattle.nr_laws.proofs.Along.{places_after, whole-within}
 use Rattle.nr_laws.proofs.ClientRun.{client-goes}
 use Rattle.nr_laws.proofs.ClientMemory.{HasRegion, has-closed, find-left, keeps-along}
 use Rattle.nr_laws.proofs.Memory.{Part, parts_of, after_parts, after-append, parts-append, Settled, settled-later, held-parts}
 use Rattle.nr_laws.proofs.Beyond.{EndBehind, frames-behind}
 use Rattle.nr_laws.proofs.Revoked.{IsClosedBy, OnlyClosed, closed-none, only-closed, only-append, only-above, frame-regions, UntilBy, until-run}
+use Rattle.nr_reduce.proofs.Standing.{received-one}
+use Rattle.nr_reduce.proofs.StagsLeft.{by_request as request-stag, by_message as message-stag}
 
 -- ---- Accesses to other memory
 
@@ -81,14 +82,6 @@ no-access stag p k f (Tagged last opcode own to payload) only lt behind is stays
   tt,
 )
 no-access stag p k f (Untagged last opcode w queue msn offset payload) only lt behind is stays = tt
-
-request-stag : (m : ClientState) (o : Option ReadRequest) → (with_request m o).stag ≡ m.stag
-request-stag m None = refl
-request-stag m (Some q) = refl
-
-message-stag : (k : ClientState) (place : ℕ) (o : Option (List ℕ)) → (with_message k place o).stag ≡ k.stag
-message-stag k place None = refl
-message-stag k place (Some m) = refl
 
 has-left : (xs ys : List Region) (stag : ℕ) (bytes : List ℕ) → HasRegion xs stag bytes → HasRegion (xs ++ ys) stag bytes
 has-left xs ys stag bytes h = record { region = h.region; there = find-left stag xs ys h.region h.there; own = h.own; holds = h.holds }
@@ -187,7 +180,7 @@ frozen-from : (opened : LinkParameters) (link stag p : ℕ) (bytes : List ℕ) (
     → Frozen stag p bytes old (client opened link before).state → Frozen stag p bytes old (client opened link (before ++ run)).state
 frozen-from opened link stag p bytes old before [] le h = subst (λ (b : List Mark). Frozen stag p bytes old (client opened link b).state) (sym (append-nil before)) h
 frozen-from opened link stag p bytes old before (mark ∷ run) le h =
-    let grows = ap (λ (xs : List ℕ). length xs) (got-one link Initiator before mark) ∙ length-append (bytes_received link Initiator before) (fed_at link Initiator mark) in
+    let grows = ap (λ (xs : List ℕ). length xs) (received-one link Initiator before mark) ∙ length-append (bytes_received link Initiator before) (fed_at link Initiator mark) in
     let next : Frozen stag p bytes old (client opened link (before ++ mark ∷ [])).state =
     subst (λ (r : EndState ClientState). Frozen stag p bytes old r.state) (sym (client-one opened link before mark)) (frozen-all opened stag p bytes old (client opened link before) (events_at link Initiator before mark) (mark-behind p link before mark le) h) in
     subst (λ (b : List Mark). Frozen stag p bytes old (client opened link b).state) (append_assoc before (mark ∷ []) run) (frozen-from opened link stag p bytes old (before ++ mark ∷ []) run (omega (arith, grows, le)) next)
@@ -338,7 +331,7 @@ kept opened link before after xid stag given r there own None is =
     let at : Mark = marks.Revoke link xid given in
     let old = (client opened link before).state.accesses_received in
     let p = length (bytes_received link Initiator before) in
-    let grows = ap (λ (xs : List ℕ). length xs) (got-one link Initiator before at) ∙ length-append (bytes_received link Initiator before) (fed_at link Initiator at) in
+    let grows = ap (λ (xs : List ℕ). length xs) (received-one link Initiator before at) ∙ length-append (bytes_received link Initiator before) (fed_at link Initiator at) in
     let f : Frozen stag p r.bytes old (client opened link (before ++ at ∷ after)).state =
     subst (λ (b : List Mark). Frozen stag p r.bytes old (client opened link b).state) (append_assoc before (at ∷ []) after)
     (frozen-from opened link stag p r.bytes old (before ++ at ∷ []) after (omega (arith, grows)) (frozen-mark opened link before xid stag given r there own is)) in

@@ -25,12 +25,13 @@ use Rattle.nr_laws.specs.FrameContents.FrameContent.{HelloFrame, SendFrame, Requ
 use Rattle.nr_laws.specs.LinkInvariants.{Transit, WithinWindow}
 use Rattle.nr_laws.proofs.ServerInvariant.{ServerAgrees}
 use Rattle.nr_laws.proofs.Replies.{IsReply, AreReplies, answer-reply, chunk_error-reply}
-use Rattle.nr_laws.proofs.ReadLimits.{AreWithin, each-append}
+use Rattle.nr_laws.proofs.ReadLimits.{AreWithin}
 use Rattle.nr_laws.proofs.CallNumbers.{XidsFrom, NumberedCalls, HasOwnXid, IsNumbered}
 use Rattle.nr_laws.proofs.AnsweredSteps.{Answered}
 use Rattle.nr_laws.proofs.WritableOffers.{OfferFits}
 use Rattle.nr_laws.proofs.ServerOutputs.{CallsFit, for_target, found-fits}
 use Rattle.nr_laws.proofs.ServerOutput.{execution_frames}
+use Rattle.nr_laws.proofs.Basics.{each-append}
 
 -- a message of a client has the size of one, version 1, a kind that a client sends, and at most one read chunk
 abbrev pub ClientContent : FrameContent → Type 0

@@ -1,5 +1,5 @@
 -- A client of a matched link that a frame doesn't end keeps the guards of both ends.
-use Rattle.std.proofs.Common.{◌≡◌, ℕ, zero, suc, ◌+◌, ◌≤◌, ◌<◌, ◌^◌, Bool, true, false, cond, not, eqb, List, [], ◌∷◌, ◌++◌, length, map, take, drop, filter, Option, Some, None, Result, Ok, Err, refl, sym, ap, subst, ◌∙◌, arith, ◌⊎◌, inl, inr}
+use Rattle.std.proofs.Common.{◌≡◌, ℕ, ◌+◌, ◌≤◌, ◌<◌, ◌^◌, Bool, true, false, cond, not, eqb, List, [], ◌∷◌, ◌++◌, length, map, take, drop, filter, Option, Some, None, Result, Ok, Err, refl, sym, ap, subst, ◌∙◌, arith, ◌⊎◌, inl, inr}
 use Rattle.std.specs.List.{AllByRecursion, range_with_len}
 use Rattle.std.proofs.lemmas.Bool.{ne_eqb, le-ltb}
 use Rattle.nr_xdr.specs.Fields.{word_at}
@@ -31,11 +31,11 @@ use Rattle.nr_laws.specs.FrameContents.FrameContent.{HelloFrame, SendFrame, Requ
 use Rattle.nr_laws.specs.LinkInvariants.{Transit, TotalsAgree, hello_bit, ReadsAgree, WithinWindow, HasSink, HaveSinks, AreAtMost, requests_of}
 use Rattle.nr_laws.proofs.Totals.{others}
 use Rattle.nr_laws.proofs.TotalsAtServer.{segment-is}
-use Rattle.nr_laws.proofs.TotalsAtClient.{down_one, after-is, says-is, request_payload, totals-hello_down, totals-send_down, totals-read_down, totals-tagged_down}
+use Rattle.nr_laws.proofs.TotalsAtClient.{down_one, after-is, says-is, request_payload, totals-hello_down, totals-send_down, totals-read_down, totals-tagged_down, bit_of}
 use Rattle.nr_laws.proofs.ReadsAtClient.{AnswersNone, reads-read_down, reads-says_up}
 use Rattle.nr_laws.proofs.ServerInvariant.{ServerAgrees}
 use Rattle.nr_laws.proofs.Replies.{IsReply}
-use Rattle.nr_laws.proofs.ReadLimits.{AreWithin, ReadFits, IsSmall, each-append, each-take, each-kept}
+use Rattle.nr_laws.proofs.ReadLimits.{AreWithin, ReadFits, IsSmall}
 use Rattle.nr_laws.proofs.RequestFields.{is-there}
 use Rattle.nr_laws.proofs.OwnXids.{segment-out}
 use Rattle.nr_laws.proofs.AgreeingEnds.{EndsAgree}
@@ -45,6 +45,8 @@ use Rattle.nr_laws.proofs.ClientFrame.{calls_said}
 use Rattle.nr_laws.proofs.AnsweredSteps.{Answered, answered-message, answered-same}
 use Rattle.nr_laws.proofs.Guards.{ClientContent, ServerContent, IsAsked, AreSized, Guards}
 use Rattle.nr_laws.proofs.GuardsAtServer.{each-at}
+use Rattle.nr_laws.proofs.Basics.{each-append, each-right, each-take, each-kept}
+use Rattle.nr_laws.proofs.Sinks.{sinks-taken}
 
 pub front-down : (opened : LinkParameters) (k : ClientState) (s : ServerState) (u d all_up all_down : List FrameContent) (w : Transit) (place : ℕ) (p : FrameContent) (rest : List FrameContent) → EndsAgree opened k s u d all_up all_down w → Guards opened k s u d all_up all_down w place → w.down ≡ p ∷ rest → ServerContent opened.granted p
 front-down opened k s u d all_up all_down w place p rest l g first =
@@ -52,18 +54,9 @@ front-down opened k s u d all_up all_down w place p rest l g first =
 
 -- ---- The read of a Read Request
 
-each-right : {X : Type 0} (P : X → Type 0) (xs ys : List X) → AllByRecursion P (xs ++ ys) → AllByRecursion P ys
-each-right P [] ys h = h
-each-right P (x ∷ xs) ys h = each-right P xs ys h.1
-
 have-right : (place : ℕ) (regions : List Region) (xs ys : List PendingRead) → HaveSinks place regions (xs ++ ys) → HaveSinks place regions ys
 have-right place regions [] ys h = h
 have-right place regions (x ∷ xs) ys h = have-right place regions xs ys h.1
-
-have-take : (place n : ℕ) (regions : List Region) (xs : List PendingRead) → HaveSinks place regions xs → HaveSinks place regions (take n xs)
-have-take place zero regions xs h = tt
-have-take place (suc n) regions [] h = tt
-have-take place (suc n) regions (x ∷ xs) h = (h.0, have-take place n regions xs h.1)
 
 record SinkBounds (n : ℕ) (r : PendingRead) : Type 0 where
   sink : r.sink ≤ n
@@ -99,7 +92,7 @@ asked-of s w place sink at size stag to rest c first sinks stags within =
     let r = a.0 in
     let parts : open_reads s ≡ c.answered ++ r ∷ a.1 = c.parts ∙ ap (λ (xs : List PendingRead). c.answered ++ xs) a.2 in
     let fits = (each-right ReadFits c.answered (r ∷ a.1) (subst (AllByRecursion ReadFits) parts (each-take ReadFits 8 s.reads within.fit))).0 in
-    let sink_of = (have-right place s.regions c.answered (r ∷ a.1) (subst (HaveSinks place s.regions) parts (have-take place 8 s.regions s.reads sinks))).0 in
+    let sink_of = (have-right place s.regions c.answered (r ∷ a.1) (subst (HaveSinks place s.regions) parts (sinks-taken place 8 s.regions s.reads sinks))).0 in
     let b = bounds place (length s.regions) r s.regions sink_of stags within.small in
     let same = read-fields sink at size stag to r a.3 in
     record {
@@ -149,10 +142,6 @@ own-xids : (opened : LinkParameters) (os : List OutstandingCall) → AreSized op
 own-xids opened [] h = tt
 own-xids opened (o ∷ os) h = (h.0.1, own-xids opened os h.1)
 
-not_greeted : (b : Bool) → hello_bit b ≡ 0 → b ≡ false
-not_greeted true e = absurd cc
-not_greeted false e = refl
-
 -- a frame behind the hello leaves the client with it
 behind-hello : (opened : LinkParameters) (k t : ClientState) (s : ServerState) (u d all_up all_down : List FrameContent) (w : Transit) (f : Frame) (r : Result Segment ℕ) → t ≡ with_segment k f r → k.has_hello ≡ true → t.has_hello ≡ true
 behind-hello opened k t s u d all_up all_down w f r is hello = ap (λ (x : ClientState). x.has_hello) is ∙ by r
@@ -189,7 +178,7 @@ guards-hello_down opened k s u d all_up all_down w place rest f l g first is sta
     let says = says-hello opened k f is in
     let after = after-hello opened k f is in
     let none : hello_bit k.has_hello ≡ 0 = omega (arith, l.counts.hello, ap (total_of hellos_in) first) in
-    let unsaid : k.has_hello ≡ false = not_greeted k.has_hello none in
+    let unsaid : k.has_hello ≡ false = bit_of k.has_hello none in
     let sends : total_of sends_in all_up ≡ 0 = calls_said opened k s u d all_up all_down w l ∙ ap (λ (b : Bool). cond b k.calls_accepted 0) unsaid in
     let asked : XidsFrom (opened.first_xid + total_of sends_in all_up) said =
     subst (λ (n : ℕ). XidsFrom n said) (let same : opened.first_xid ≡ opened.first_xid + total_of sends_in all_up = omega (arith, sends) in same)

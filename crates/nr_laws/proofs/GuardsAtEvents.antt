@@ -26,14 +26,13 @@ use Rattle.nr_laws.specs.LinkInvariants.{Transit}
 use Rattle.nr_laws.proofs.TotalsAtClient.{up_more, totals-accepts, totals-writes_up}
 use Rattle.nr_laws.proofs.ReadsAtClient.{AnswersNone, reads-says_up, reads-writes_up}
 use Rattle.nr_laws.proofs.EventsAtServer.{server-executes, server-writes}
-use Rattle.nr_laws.proofs.ReadLimits.{each-append}
 use Rattle.nr_laws.proofs.ServerOutputs.{CallsFit}
 use Rattle.nr_laws.proofs.OwnEvents.{planned, totals-revoked, xid-revoked}
 use Rattle.nr_laws.proofs.AgreeingEnds.{EndsAgree}
 use Rattle.nr_reduce.specs.SubmitAnswer.{next_xid}
 use Rattle.nr_laws.specs.FrameContents.{total_of, sends_in}
 use Rattle.nr_laws.proofs.CallWords.{call-words}
-use Rattle.nr_laws.proofs.CallNumbers.{NumberedCalls, XidsFrom, xids-append, own_xids-push, own_xids-map, numbered-kept}
+use Rattle.nr_laws.proofs.CallNumbers.{NumberedCalls, XidsFrom, xids-append, own_xids-push, own_xids-map, IsNumbered}
 use Rattle.nr_laws.proofs.ClientFrame.{calls_said}
 use Rattle.nr_reduce.specs.Server.{offer_of, answer_of_target}
 use Rattle.nr_reduce.specs.ServerState.{down_max}
@@ -43,6 +42,7 @@ use Rattle.nr_laws.proofs.AnsweredCalls.{times, answer-xids, executed-less}
 use Rattle.nr_laws.proofs.AnsweredSteps.{Answered, IsWritten, answered-submit, answered-map, answered-server}
 use Rattle.nr_laws.proofs.GuardsAtServer.{sent_most, pending-word}
 use Rattle.nr_laws.proofs.Guards.{ClientContent, ServerContent, IsAsked, AreSized, Guards, execution-down}
+use Rattle.nr_laws.proofs.Basics.{each-append, each-kept}
 
 -- an event of the client that is no frame
 reached-more : (opened : LinkParameters) (k : ClientState) (event : Event) → client_end k event ≡ None → (es : List Event) × (end_state_after (client_rules opened) (initial_client opened) es ≡ live k)
@@ -223,7 +223,7 @@ guards-execute opened k s u d all_up all_down w up e r rest o l g fits first own
       unsaid = g.unsaid;
       answered = answered-server opened.first_xid k s (server_state_after opened s (CallExecuted e)) u d all_down w (record { queued_up = w.queued_up; up = w.up; queued_down = w.queued_down ++ server_frames opened s (CallExecuted e); down = w.down }) (server_frames opened s (CallExecuted e)) refl refl
           (λ x. omega (arith, executed-less x e.xid s.calls there, ap (λ (xs : List ℕ). times x xs) (answer-xids s e.xid (offer_of s e.xid) (answer_of_target (offer_of s e.xid) (down_max s) e.reply (target_of (call_of e.payload))) xid_word))) g.answered;
-      numbers = numbered-kept opened.first_xid (λ c. not (eqb c.xid e.xid)) s.calls g.numbers;
+      numbers = each-kept (IsNumbered opened.first_xid) (λ c. not (eqb c.xid e.xid)) s.calls g.numbers;
       reached = g.reached;
     }
 

@@ -1,6 +1,6 @@
 -- A server of a matched link ends at a frame only by a refusal of the frame's effect; else the guards are kept.
 use Rattle.std.specs.Prelude.{length}
-use Rattle.nr_laws.proofs.SinkCount.{count-send, count-tagged, count-closed}
+use Rattle.nr_laws.proofs.SinkCount.{count-send, count-tagged}
 use Rattle.std.proofs.Common.{◌≡◌, ℕ, ◌+◌, ◌≤◌, ◌<◌, ◌^◌, Bool, true, List, [], ◌∷◌, ◌++◌, None, Result, Ok, refl, sym, ap, subst, ◌∙◌, arith, cond, eqb, ◌||◌, false, Some, ◌⊎◌, inl, inr}
 use Rattle.std.specs.List.{AllByRecursion}
 use Rattle.nr_xdr.specs.Item.{IsBytes}
@@ -15,21 +15,19 @@ use Rattle.nr_link.specs.Ending.{frame_segment}
 use Rattle.nr_reduce.specs.declared.mark.LinkParameters.{LinkParameters}
 use Rattle.nr_reduce.specs.Opening.{IsOpened}
 use Rattle.nr_reduce.specs.Events.Event.{FrameReceived}
-use Rattle.nr_reduce.specs.OfferedRegions.{Region}
 use Rattle.nr_reduce.specs.ClientState.{ClientState}
-use Rattle.nr_reduce.specs.ServerState.{ServerState, PendingRead}
+use Rattle.nr_reduce.specs.ServerState.{ServerState}
 use Rattle.nr_reduce.specs.ServerReads.{is_over}
 use Rattle.nr_reduce.specs.ServerFrames.{FrameEffect, effect_in, frame_effect}
 use Rattle.nr_reduce.specs.Server.{server_end, server_state_after, refusal_end}
 use Rattle.nr_laws.specs.FrameContents.{FrameContent, numbered_segment, frame_bytes, effect_frames, server_frames, Carries}
 use Rattle.nr_laws.specs.FrameContents.FrameContent.{HelloFrame, SendFrame, TaggedFrame}
-use Rattle.nr_laws.specs.LinkInvariants.{Transit, TotalsAgree, ReadsAgree, HaveSinks, AreResponses}
+use Rattle.nr_laws.specs.LinkInvariants.{Transit, TotalsAgree, ReadsAgree, AreResponses}
 use Rattle.nr_laws.proofs.TotalsAtServer.{totals-hello_up, after-is, step-is, segment-is, with_by}
 use Rattle.nr_laws.proofs.ReadsAtClient.{reads-says_down}
-use Rattle.nr_laws.proofs.Sinks.{sink-later}
 use Rattle.nr_laws.proofs.ServerInvariant.{ServerAgrees, server-takes_send, server-takes_response}
 use Rattle.nr_laws.proofs.Replies.{replies-send, replies-tagged}
-use Rattle.nr_laws.proofs.ReadLimits.{AreWithin, each-append, within-send, within-tagged, within-closed}
+use Rattle.nr_laws.proofs.ReadLimits.{AreWithin, within-send, within-tagged, within-closed}
 use Rattle.nr_laws.proofs.AgreeingEnds.{EndsAgree, taken_up, not-refused, says-hello, says-frame, after-hello, payload_bytes}
 use Rattle.nr_laws.proofs.CallNumbers.{XidsFrom, IsNumbered, xids-at, numbered-send, numbered-tagged}
 use Rattle.nr_reduce.specs.Plans.{one_if}
@@ -39,18 +37,18 @@ use Rattle.std.proofs.lemmas.Bool.{eq-eqb, cases_lt}
 use Rattle.nr_laws.specs.LinkInvariants.{calls_sent}
 use Rattle.nr_laws.specs.FrameContents.{total_of, sends_in}
 use Rattle.nr_laws.proofs.Totals.{total-append}
-use Rattle.nr_laws.proofs.ClientFrame.{calls_said, word_below}
+use Rattle.nr_laws.proofs.ClientFrame.{calls_said}
 use Rattle.nr_laws.proofs.AnsweredCalls.{times, call_xids, effect-xids, pending-send, pending-tagged}
 use Rattle.nr_laws.proofs.AnsweredSteps.{Answered, answered-send, answered-other}
 use Rattle.nr_laws.proofs.Guards.{ClientContent, ServerContent, Guards, step-down}
+use Rattle.nr_laws.proofs.Basics.{each-append}
+use Rattle.nr_laws.proofs.Words.{word-below}
+use Rattle.nr_laws.proofs.PendingFrames.{later-sinks}
+use Rattle.nr_reduce.proofs.OwnStags.{closed-length}
 
 pub each-at : {X : Type 0} (P : X → Type 0) (xs : List X) (y : X) (ys : List X) → AllByRecursion P (xs ++ y ∷ ys) → P y
 each-at P [] y ys h = h.0
 each-at P (x ∷ xs) y ys h = each-at P xs y ys h.1
-
-have-later : (place end : ℕ) (regions : List Region) (reads : List PendingRead) → place ≤ end → HaveSinks place regions reads → HaveSinks end regions reads
-have-later place end regions [] le h = tt
-have-later place end regions (r ∷ reads) le h = (sink-later place end r regions le h.0, have-later place end regions reads le h.1)
 
 -- what the frame at the front is
 pub front-up : (opened : LinkParameters) (k : ClientState) (s : ServerState) (u d all_up all_down : List FrameContent) (w : Transit) (place : ℕ) (p : FrameContent) (rest : List FrameContent) → EndsAgree opened k s u d all_up all_down w → Guards opened k s u d all_up all_down w place → w.up ≡ p ∷ rest → ClientContent p
@@ -148,7 +146,7 @@ within-after s f r is h =
 sinks-after : (s : ServerState) (f : Frame) (r : Result Segment ℕ) → frame_segment f ≡ r → (n : ℕ) → length (frame_effect s f).regions ≤ n → length (with_by s f r (effect_in s f r)).regions ≤ n
 sinks-after s f r is n h =
     let e = subst (λ (x : FrameEffect). length x.regions ≤ n) (step-is s f r is) h in
-    omega (arith, e, count-closed (is_over (effect_in s f r).calls (effect_in s f r).reads) f.end (effect_in s f r).regions)
+    omega (arith, e, closed-length (is_over (effect_in s f r).calls (effect_in s f r).reads) f.end (effect_in s f r).regions)
 
 pub takes-send : (opened : LinkParameters) (k : ClientState) (s : ServerState) (u d all_up all_down : List FrameContent) (w : Transit) (place : ℕ) (message : List ℕ) (rest : List FrameContent) (f : Frame) → IsOpened opened → EndsAgree opened k s u d all_up all_down w → Guards opened k s u d all_up all_down w place → w.up ≡ SendFrame message ∷ rest
     → Carries s.received.sends s.received.requests f (SendFrame message) → IsBytes f.bytes → f.bytes ≡ frame_bytes Initiator (numbered_segment s.received.sends s.received.requests (SendFrame message)) → place < f.end → ServerTakes opened k s u d all_up all_down w (SendFrame message) rest f
@@ -180,7 +178,7 @@ takes-send opened k s u d all_up all_down w place message rest f o l g first pie
       kept = λ stays.
           subst (λ (said : List FrameContent). Guards opened k (server_state_after opened s (FrameReceived f)) (u ++ SendFrame message ∷ []) d all_up (all_down ++ said) (taken_up w rest said) f.end) (sym says)
           (guards-up opened k s (server_state_after opened s (FrameReceived f)) u d all_up all_down w place f.end (SendFrame message) rest (effect_frames (frame_effect s f)) g
-          (t.1 (not-refused opened s f piece.behind stays)) (credit-down opened s.credit (effect_frames (frame_effect s f)) g.credit (step-down s.credit (frame_effect s f) (replies-send s f message l.counts.whole_up small_xid (word_below 4 message (payload_bytes segment (subst IsBytes is bytes))) small reads)))
+          (t.1 (not-refused opened s f piece.behind stays)) (credit-down opened s.credit (effect_frames (frame_effect s f)) g.credit (step-down s.credit (frame_effect s f) (replies-send s f message l.counts.whole_up small_xid (word-below 4 message (payload_bytes segment (subst IsBytes is bytes))) small reads)))
           (ap (λ (x : ServerState). x.credit) after) (subst (λ (x : ServerState). AreWithin x.reads x.regions) (sym after) within) (subst (λ (x : ServerState). length x.regions ≤ x.received.sends) (sym after) sinks) numbers answered);
     }
 
@@ -230,7 +228,7 @@ hello-guards opened k s u d all_up all_down w place rest f g first is le =
           (subst (λ (said : List FrameContent). TotalsAgree k (server_state_after opened s (FrameReceived f)) (taken_up w rest said)) says (totals-hello_up opened k s w f rest g.server.counts first is));
       reads = reads-says_down s s (record { queued_up = w.queued_up; up = rest; queued_down = w.queued_down; down = w.down }) (HelloFrame ∷ []) r refl refl refl;
       waits = g.server.waits;
-      sinks = have-later place f.end s.regions s.reads le g.server.sinks;
+      sinks = later-sinks place f.end s.regions s.reads le g.server.sinks;
       regions = g.server.regions;
     } in
     subst (λ (said : List FrameContent). Guards opened k (server_state_after opened s (FrameReceived f)) (u ++ HelloFrame ∷ []) d all_up (all_down ++ said) (taken_up w rest said) f.end) (sym says)

@@ -30,7 +30,7 @@ header-xid message h e = by (ltb (length message) 16) (body_by (error_by (word_a
     by true r e = absurd cc
     by false r e = sym (header-by (word_at 0 message) (word_at 8 message) r h e)
 
-first-word : (n : ℕ) (rest : List ℕ) → n < 2 ^ 32 → word_at 0 (word n ++ rest) ≡ n
+pub first-word : (n : ℕ) (rest : List ℕ) → n < 2 ^ 32 → word_at 0 (word n ++ rest) ≡ n
 first-word n rest fits = ap word_of (take_at (word n) rest 4 (length-word n)) ∙ word_of-word n fits
 
 record BeginsWith (n : ℕ) (bytes : List ℕ) : Type 0 where

@@ -1,5 +1,5 @@
 -- A call that became whole at the end of a Read Response: the sink of its read chunk holds the region of its plan.
-use Rattle.std.proofs.Common.{◌≡◌, ℕ, ◌+◌, ◌^◌, ◌<◌, Bool, true, false, cond, not, eqb, List, [], ◌∷◌, ◌++◌, length, replicate, None, Some, Ok, refl, sym, ap, subst, ◌∙◌, arith}
+use Rattle.std.proofs.Common.{◌≡◌, ℕ, ◌+◌, ◌^◌, ◌<◌, Bool, true, false, cond, eqb, List, [], ◌∷◌, ◌++◌, length, replicate, None, Some, Ok, refl, sym, ap, subst, ◌∙◌, arith}
 use Rattle.std.specs.List.{find, list_any}
 use Rattle.std.proofs.lemmas.List.{length-replicate}
 use Rattle.nr_header.specs.declared.header.ReadSegment.{ReadSegment}
@@ -43,6 +43,7 @@ use Rattle.nr_laws.proofs.SinkReads.{own_reads, into, into-append, OfNumber, own
 use Rattle.nr_laws.proofs.SinksKept.{below-left}
 use Rattle.nr_laws.proofs.SplitResponses.{laid-tagged}
 use Rattle.std.proofs.Common.{append_assoc, append-nil}
+use Rattle.std.proofs.lemmas.Bool.{not-true}
 
 -- ---- Entries of one chunk tell its fields
 
@@ -102,10 +103,6 @@ pub record ReadChunk (c : PendingCall) (regions : List Region) : Type 0 where
   pub handle_fits : handle < 2 ^ 32
   pub holds : (f : IsFetched regions handle) → f.region.bytes ≡ region
 
-pub not-any : (b : Bool) → not b ≡ true → b ≡ false
-not-any true e = absurd cc
-not-any false e = refl
-
 -- at a frame whose access is allowed
 pub sink-holds : (opened : LinkParameters) (link : ℕ) (run : List Mark) → IsTyped run → AskedSoFar opened link run → ServedSoFar opened link run → Matched link run
     → (es : List Event) (f : Frame) (more : List Event) (segment : Segment) (q : PendingRead) (rest : List PendingRead) (c : PendingCall) → events link Responder run ≡ es ++ FrameReceived f ∷ more → is_hello f ≡ false → frame_segment f ≡ Ok segment
@@ -126,7 +123,7 @@ sink-holds opened link run typed asked served matched es f more segment q rest c
     let parted : came.done ++ k.reads ≡ done ++ rest = ap (λ (rs : List PendingRead). came.done ++ rs) reads ∙ sym (append_assoc came.done (q ∷ []) rest) in
     let own_all : into x.sink done ++ into x.sink rest ≡ own_reads c.number x.position x.sink x.handle 0 x.lengths = sym (into-append x.sink done rest) ∙ ap (into x.sink) (sym parted) ∙ x.own in
     let numbers : OfNumber c.number (into x.sink rest) = number-right c.number (into x.sink done) (into x.sink rest) (subst (OfNumber c.number) (sym own_all) (own-number c.number x.position x.sink x.handle 0 x.lengths)) in
-    let none : into x.sink rest ≡ [] = nothing-left c.number x.sink rest numbers (not-any (list_any (λ r. eqb r.number c.number) rest) whole) in
+    let none : into x.sink rest ≡ [] = nothing-left c.number x.sink rest numbers (not-true (list_any (λ r. eqb r.number c.number) rest) whole) in
     let own : into x.sink done ≡ own_reads c.number p.position x.sink p.handle 0 p.lengths =
     sym (append-nil (into x.sink done)) ∙ ap (λ (rs : List PendingRead). into x.sink done ++ rs) (sym none) ∙ own_all ∙ (λ i. own_reads c.number (position i) x.sink (handle i) 0 (lengths i)) in
     let few = few-regions opened es in

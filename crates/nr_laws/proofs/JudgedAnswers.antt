@@ -157,7 +157,7 @@ answer-ends-none reply_to adds opened link run reason opens typed far plainly pl
     f = found-one e.xid server.calls (executes-pending opened link run typed far.served s.earlier e s.later s.is)
 
     p : PendingOffer f.call stag plan
-    p = pending-offer opened link run m.earlier (execute_mark link e) m.later u.xid plan opens (before-mark TypedMark run m.earlier (execute_mark link e) m.later m.is typed) (far-before opened link run m.earlier (execute_mark link e) m.later m.is far) far.asked m.is
+    p = pending-offer opened link run m.earlier (execute_mark link e) m.later u.xid plan (before-mark TypedMark run m.earlier (execute_mark link e) m.later m.is typed) (far-before opened link run m.earlier (execute_mark link e) m.later m.is far) far.asked m.is
         has s.earlier [] (m.before ∙ sym (append-nil s.earlier)) s.live f.call (ap (λ (n : ℕ). find (λ (c : PendingCall). eqb c.xid n) server.calls) (sym same) ∙ f.there)
 
     offer : offer_of server e.xid ≡ lists_of stag plan

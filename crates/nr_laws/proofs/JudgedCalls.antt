@@ -1,7 +1,7 @@
 -- What a form conveys of a call is judged to be ready, where it has a call head; a message that makes a call pending isn't refused.
-use Rattle.std.proofs.Common.{◌≡◌, ◌≢◌, ℕ, ◌+◌, ◌^◌, ◌≤◌, ◌<◌, Bool, true, false, cond, ◌||◌, not, eqb, ltb, List, [], ◌∷◌, length, Option, None, Some, Result, Ok, Err, refl, sym, ap, subst, ◌∙◌, eqb-true, eq-eqb, inl, inr}
+use Rattle.std.proofs.Common.{◌≡◌, ◌≢◌, ℕ, ◌+◌, ◌^◌, ◌≤◌, ◌<◌, Bool, true, false, cond, eqb, ltb, List, [], ◌∷◌, length, Option, None, Some, Result, Ok, Err, refl, sym, ap, subst, ◌∙◌, eqb-true, eq-eqb, inl, inr}
 use Rattle.std.specs.Prelude.{IfSome, is_ok}
-use Rattle.std.proofs.lemmas.Bool.{eqb-false}
+use Rattle.std.proofs.lemmas.Bool.{eqb-false, or_parts, not-false, ltb-false}
 use Rattle.std.proofs.lemmas.List.Elements.{All-head}
 use Rattle.nr_xdr.specs.Item.{IsBytes}
 use Rattle.nr_xdr.specs.Fields.{word_at}
@@ -25,19 +25,20 @@ use Rattle.nr_reduce.specs.Plans.{entries_from, read_list, read_stag, lists_of, 
 use Rattle.nr_reduce.specs.Chunks.{is_read_chunk_of_item}
 use Rattle.nr_reduce.specs.ClientState.{call_payload}
 use Rattle.nr_reduce.specs.ServerState.{ServerState, PendingCall, ReadyCall, is_pending}
-use Rattle.nr_reduce.specs.ServerMessages.{verdict, by_head, by_payload, by_header, call_xid}
+use Rattle.nr_reduce.specs.ServerMessages.{verdict, by_head, by_payload, call_xid}
 use Rattle.nr_reduce.specs.ServerMessages.CallVerdict.{Refuses, IsReady}
-use Rattle.nr_reduce.specs.ServerMessages.Verdict.{EndsLink, OtherVersion, BadChunks, MakesPending}
+use Rattle.nr_reduce.specs.ServerMessages.Verdict.{BadChunks, MakesPending}
 use Rattle.nr_reduce.specs.RunLaws.{known_stream, OtherChunk, HasOtherChunk}
 use Rattle.nr_reduce.specs.Undone.{lists_by, inline_by}
 use Rattle.nr_reduce.proofs.BadMessages.{bad-refused}
 use Rattle.nr_laws.specs.Payloads.{form_conveyed}
 use Rattle.nr_laws.specs.Typed.{IsTypedCall}
-use Rattle.nr_laws.specs.Stays.{HasCallHead, IsRefusedMessage, IsConveyedOrRefused}
+use Rattle.nr_laws.specs.RefusedMessages.{IsRefusedMessage}
+use Rattle.nr_laws.specs.Stays.{HasCallHead, IsConveyedOrRefused}
 use Rattle.nr_laws.proofs.CallTargets.{conveyed-head}
 use Rattle.nr_laws.proofs.OwnHeads.{OwnHead, own-head}
-use Rattle.nr_laws.proofs.SuitedCalls.{HasNoBytes, Suits}
-use Rattle.nr_laws.proofs.WritableOffers.{not_above}
+use Rattle.nr_laws.proofs.SuitedCalls.{HasNoBytes}
+use Rattle.nr_laws.proofs.MadePending.{Suits, made-pending}
 
 -- ---- A payload with a call head
 
@@ -91,7 +92,7 @@ header-long message h e = by (ltb (length message) 16) refl (body_by (error_by (
   where
     by : (b : Bool) → ltb (length message) 16 ≡ b → (r : Result Body HeaderFault) → cond b (Err faults.Short) (header_by (word_at 0 message) (word_at 8 message) r) ≡ Ok h → 16 ≤ length message
     by true is r e = absurd cc
-    by false is r e = not_above (length message) 16 is
+    by false is r e = ltb-false (length message) 16 is
 
 -- the tests that a message passed
 record Passed (k : ServerState) (message : List ℕ) : Type 0 where
@@ -101,33 +102,17 @@ record Passed (k : ServerState) (message : List ℕ) : Type 0 where
   error : word_at 12 message ≢ 4
   free : is_pending k (word_at 0 message) ≡ false
 
-or-false : (a b : Bool) → (a || b) ≡ false → (a ≡ false) × (b ≡ false)
-or-false true b e = absurd cc
-or-false false b e = (refl, e)
-
-not-false : (a : Bool) → not a ≡ false → a ≡ true
-not-false true e = refl
-not-false false e = absurd cc
-
 passed : (k : ServerState) (message : List ℕ) (c : PendingCall) → verdict k message ≡ MakesPending c → Passed k message
-unfolding verdict
-passed k message c e = by (not (eqb (word_at 4 message) 1)) refl (eqb (word_at 12 message) 3 || eqb (word_at 12 message) 4) refl (is_pending k (word_at 0 message)) refl (header_of message) refl e
-  where
-    by : (other : Bool) → not (eqb (word_at 4 message) 1) ≡ other → (kind : Bool) → (eqb (word_at 12 message) 3 || eqb (word_at 12 message) 4) ≡ kind → (open_call : Bool) → is_pending k (word_at 0 message) ≡ open_call
-        → (r : Result Header HeaderFault) → header_of message ≡ r → cond other OtherVersion (cond kind (EndsLink 17) (cond open_call (EndsLink 20) (by_header k message r))) ≡ MakesPending c → Passed k message
-    by true a kind b open_call d r h e = absurd cc
-    by false a true b open_call d r h e = absurd cc
-    by false a false b true d r h e = absurd cc
-    by false a false b false d (Err fault) h e = absurd cc
-    by false a false b false d (Ok header) h e =
-        let kinds = or-false (eqb (word_at 12 message) 3) (eqb (word_at 12 message) 4) b in
-        record {
-          long = header-long message header h;
-          version = eqb-true (word_at 4 message) 1 (not-false (eqb (word_at 4 message) 1) a);
-          done = eqb-false (word_at 12 message) 3 kinds.0;
-          error = eqb-false (word_at 12 message) 4 kinds.1;
-          free = d;
-        }
+passed k message c e =
+    let m = made-pending k message c e in
+    let kinds = or_parts (eqb (word_at 12 message) 3) (eqb (word_at 12 message) 4) m.kind in
+    record {
+      long = header-long message m.header m.is_header;
+      version = eqb-true (word_at 4 message) 1 (not-false (eqb (word_at 4 message) 1) m.version);
+      done = eqb-false (word_at 12 message) 3 kinds.0;
+      error = eqb-false (word_at 12 message) 4 kinds.1;
+      free = m.free;
+    }
 
 pub pending-fine : (k : ServerState) (message : List ℕ) (c : PendingCall) → verdict k message ≡ MakesPending c → IsRefusedMessage message → ⊥
 pending-fine k message c is refused =

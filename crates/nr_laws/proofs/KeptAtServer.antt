@@ -34,7 +34,7 @@ use Rattle.nr_laws.proofs.AgreeingEnds.{not-refused}
 use Rattle.nr_laws.proofs.PendingSends.{pending_agree-message, pending_agree-same}
 use Rattle.nr_laws.proofs.PendingFrames.{pending_agree-tagged_up}
 use Rattle.nr_laws.proofs.PendingExecuted.{pending_agree-executes}
-use Rattle.nr_laws.proofs.PendingReads.{AreOwn, own-in, own-executed}
+use Rattle.nr_laws.proofs.PendingReads.{AreOwn, own-effect, own-executed}
 
 pub record KeptAtServer (k : ServerState) : Type 0 where
   pub agree : PendingAgree k
@@ -77,7 +77,7 @@ segment-holds opened s f behind bytes stays h =
     let effect = effect_in s f (frame_segment f) in
     record {
       agree = agree-frame opened s f behind (frame_segment f) refl h.agree (not-refused opened s f behind stays);
-      own = subst (λ (t : ServerState). AreOwn t.reads t.calls) (sym after) (own-in s f (frame_segment f) h.agree h.own);
+      own = subst (λ (t : ServerState). AreOwn t.reads t.calls) (sym after) (subst (λ (e : FrameEffect). AreOwn e.reads e.calls) (step-is s f (frame_segment f) refl) (own-effect s f h.agree h.own));
       begun = subst (λ (t : ServerState). IsBytes (begun_bytes t.received.begun)) (sym after) (begun-after s f (frame_segment f) refl bytes h.begun);
       fit = subst (λ (t : ServerState). CallsFit t.calls) (sym after)
           (subst (λ (e : FrameEffect). CallsFit e.calls) (step-is s f (frame_segment f) refl)

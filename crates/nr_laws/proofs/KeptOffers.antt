@@ -11,7 +11,6 @@ use Rattle.nr_reduce.specs.declared.mark.Mark.TheVariants as marks
 use Rattle.nr_reduce.specs.declared.mark.LinkParameters.{LinkParameters}
 use Rattle.nr_reduce.specs.declared.outline.Plan.{Plan}
 use Rattle.nr_reduce.specs.Limits.{send_max}
-use Rattle.nr_reduce.specs.Opening.{IsOpened}
 use Rattle.nr_reduce.specs.Events.{Event, events}
 use Rattle.nr_reduce.specs.Events.Event.{FrameReceived}
 use Rattle.nr_reduce.specs.EndRules.{end_state_after}
@@ -33,7 +32,8 @@ use Rattle.nr_laws.proofs.OnceByXid.{at-mark}
 use Rattle.nr_laws.proofs.ExecutedCalls.{received-message}
 use Rattle.nr_laws.proofs.SubmittedPlans.{own-submit}
 use Rattle.nr_laws.proofs.InlineReplies.{no_chunks}
-use Rattle.nr_laws.proofs.OfferedLists.{plan-reads, read-offer, received-bytes}
+use Rattle.nr_laws.proofs.ConveyedCalls.{planned-fits, plan-reads}
+use Rattle.nr_laws.proofs.OfferedLists.{read-offer, received-bytes}
 
 pub data KeptOffer (k : ServerState) (xid stag : ℕ) (plan : Plan) : Type 0 where
   Kept : offer_of k xid ≡ lists_of stag plan → IsOffer (lists_of stag plan) → KeptOffer k xid stag plan
@@ -56,11 +56,11 @@ pub record PendingOffer (c : PendingCall) (stag : ℕ) (plan : Plan) : Type 0 wh
   pub lists : c.lists ≡ lists_of stag plan
   pub offer : IsOffer (lists_of stag plan)
 
-pub pending-offer : (opened : LinkParameters) (link : ℕ) (run before : List Mark) (mark : Mark) (after : List Mark) (xid : ℕ) (plan : Plan) → IsOpened opened → IsTyped before → MatchedSoFar opened link before → AskedSoFar opened link run → run ≡ before ++ mark ∷ after
+pub pending-offer : (opened : LinkParameters) (link : ℕ) (run before : List Mark) (mark : Mark) (after : List Mark) (xid : ℕ) (plan : Plan) → IsTyped before → MatchedSoFar opened link before → AskedSoFar opened link run → run ≡ before ++ mark ∷ after
     → (h : HasPlan opened link run xid plan) → (es rest : List Event) → events link Responder before ≡ es ++ rest → (end_state_after (server_rules opened) (initial_server opened) es).ended ≡ None
     → (c : PendingCall) → find (λ (x : PendingCall). eqb x.xid xid) (server_by opened es).calls ≡ Some c → PendingOffer c (client opened link h.before).state.stag plan
 unfolding plan_for
-pending-offer opened link run before mark after xid plan opens typed far asked_so is h es rest all live c there =
+pending-offer opened link run before mark after xid plan typed far asked_so is h es rest all live c there =
     let known : Known opened es (server_by opened es) = known-from opened [] es (record { calls = tt; ready = tt }) in
     let found = found-call (IsReceivedCall opened es) xid (server_by opened es).calls c known.calls there in
     let own = found.holds in
@@ -68,7 +68,6 @@ pending-offer opened link run before mark after xid plan opens typed far asked_s
     let stag = (client opened link w.earlier).state.stag in
     let p = w.accepted.plan in
     let fits = w.accepted.xids in
-    let wished = opens.wished_fits in
     let stags = w.accepted.stags in
     let xid_is : w.xid ≡ xid = sym (call-xid w.xid opened.wished stag p (omega (arith, fits))) ∙ ap (λ (m : List ℕ). word_at 0 m) (sym w.message_is) ∙ sym (header-xid own.message own.header own.is_header) ∙ sym own.xid ∙ found.own in
     let o = own-submit opened link run before mark after xid plan asked_so is h w.earlier w.later w.call w.form w.xid w.is w.accepted xid_is in
@@ -80,16 +79,16 @@ pending-offer opened link run before mark after xid plan opens typed far asked_s
     live-first (server_rules opened) (initial_server opened) own.earlier (FrameReceived own.frame ∷ own.later) (ap (λ (xs : List Event). (end_state_after (server_rules opened) (initial_server opened) xs).ended) (sym own.is_received) ∙ live) in
     let bytes : IsBytes own.message = received-bytes opened link before typed far.asked far.served far.matched own.earlier own.frame (own.later ++ rest) own.segment own.message whole own.behind_hello own.is_segment own.whole not_yet in
     let reads : lists_by own.header.body ≡ lists_of stag p =
-    plan-reads (call_payload w.xid w.call) w.form send_max send_max w.xid opened.wished stag p own.header refl typed_at.0 typed_at.1 w.accepted.planned (omega (arith, fits)) (omega (arith, wished)) (omega (arith, stags))
-    (subst IsBytes w.message_is bytes) (ap header_of (sym w.message_is) ∙ own.is_header) in
+    (let fine = planned-fits (call_payload w.xid w.call) w.form send_max stag p w.accepted.planned typed_at.0 typed_at.1 (omega (arith, stags)) in
+    (plan-reads w.xid opened.wished stag p own.header fine.0 fine.1 (omega (arith, fits)) (ap header_of (sym w.message_is) ∙ own.is_header)).lists) in
     let moved : lists_of stag p ≡ lists_of (client opened link h.before).state.stag plan = (λ i. lists_of (client opened link (o.place i)).state.stag (o.plan_is i)) in
     record { lists = own.lists ∙ reads ∙ moved; offer = subst IsOffer (reads ∙ moved) (read-offer own.message own.header bytes own.is_header) }
 
-pub kept-offer : (opened : LinkParameters) (link : ℕ) (run before : List Mark) (mark : Mark) (after : List Mark) (xid : ℕ) (plan : Plan) → IsOpened opened → IsTyped before → MatchedSoFar opened link before → AskedSoFar opened link run → run ≡ before ++ mark ∷ after
+pub kept-offer : (opened : LinkParameters) (link : ℕ) (run before : List Mark) (mark : Mark) (after : List Mark) (xid : ℕ) (plan : Plan) → IsTyped before → MatchedSoFar opened link before → AskedSoFar opened link run → run ≡ before ++ mark ∷ after
     → (h : HasPlan opened link run xid plan) → (es rest : List Event) → events link Responder before ≡ es ++ rest → (end_state_after (server_rules opened) (initial_server opened) es).ended ≡ None
     → KeptOffer (server_by opened es) xid (client opened link h.before).state.stag plan
-kept-offer opened link run before mark after xid plan opens typed far asked_so is h es rest all live = by (find (λ (c : PendingCall). eqb c.xid xid) (server_by opened es).calls) refl
+kept-offer opened link run before mark after xid plan typed far asked_so is h es rest all live = by (find (λ (c : PendingCall). eqb c.xid xid) (server_by opened es).calls) refl
   where
     by : (o : Option PendingCall) → find (λ (c : PendingCall). eqb c.xid xid) (server_by opened es).calls ≡ o → KeptOffer (server_by opened es) xid (client opened link h.before).state.stag plan
     by None there = NotKept (ap offer_by there)
-    by (Some c) there = (let p = pending-offer opened link run before mark after xid plan opens typed far asked_so is h es rest all live c there in Kept (ap offer_by there ∙ p.lists) p.offer)
+    by (Some c) there = (let p = pending-offer opened link run before mark after xid plan typed far asked_so is h es rest all live c there in Kept (ap offer_by there ∙ p.lists) p.offer)

@@ -146,7 +146,6 @@ pub mod OtherReasons
 pub mod PendingReads
 pub mod KeptAtServer
 pub mod PlannedOffers
-pub mod RefusedSends
 pub mod ChunkCauses
 pub mod AnsweredChanges
 pub mod OwnPlans
@@ -166,3 +165,11 @@ pub mod CallsAtFrames
 pub mod EndingEvents
 pub mod SinkRegions
 pub mod OfferedChunks
+pub mod LaterMarks
+pub mod RefusedMessages
+pub mod OwnMessages
+pub mod WrittenAnswers
+pub mod Basics
+pub mod EachEffect
+pub mod EachFault
+pub mod MadePending

@@ -22,6 +22,7 @@ use Rattle.nr_laws.proofs.Outputs.{Output}
 use Rattle.nr_laws.proofs.Outputs.Output.{AHello, ASegment}
 use Rattle.nr_laws.proofs.Brought.{Brought, Brings}
 use Rattle.nr_laws.proofs.Hears.{was-live}
+use Rattle.std.proofs.lemmas.List.{map-append}
 
 -- ---- Parts: where a tagged segment goes, and its payload
 
@@ -81,10 +82,6 @@ accesses_event a QueueWritten = a
 
 abbrev pub Gathering : {S : Type 0} → Rules S → (S → List TaggedSegment) → Type 0
 Gathering rules accesses = (s : _) (e : Event) → accesses (rules.state_after s e) ≡ accesses_event (accesses s) e
-
-output_parts : Output → List Part
-output_parts (AHello bytes) = []
-output_parts (ASegment s) = segment_parts s
 
 pub access-parts : (f : Frame) (s : Segment) → parts_of (tagged_access f s) ≡ segment_parts s
 access-parts f (Tagged last opcode stag to payload) = refl
@@ -208,16 +205,12 @@ found-append stag end (x ∷ xs) ys a e = by (applies stag end x) e (λ h. found
     by true e rest = refl
     by false e rest = rest e
 
-map-append : (place : ℕ) (xs ys : List Region) → map (region_grant place) (xs ++ ys) ≡ map (region_grant place) xs ++ map (region_grant place) ys
-map-append place [] ys = refl
-map-append place (x ∷ xs) ys = ap (λ (gs : List Grant). region_grant place x ∷ gs) (map-append place xs ys)
-
 pub settled-append : (place : ℕ) (xs ys : List Region) (accesses : List TaggedSegment) → Settled place xs accesses → Settled place (xs ++ ys) accesses
 unfolding grant_denial grant_at region_grants
 settled-append place xs ys [] s = tt
 settled-append place xs ys (a ∷ accesses) s = (
   s.0,
-  ap (λ (gs : List Grant). denial_in (grant_offer (found a.stag a.end gs)) (access_of a)) (map-append place xs ys)
+  ap (λ (gs : List Grant). denial_in (grant_offer (found a.stag a.end gs)) (access_of a)) (map-append (region_grant place) xs ys)
       ∙ ap (λ (o : Option Grant). denial_in (grant_offer o) (access_of a)) (found-append a.stag a.end (grants_from place xs) (grants_from place ys) (access_of a) s.1) ∙ s.1,
   settled-append place xs ys accesses s.2,
 )
@@ -225,10 +218,6 @@ settled-append place xs ys (a ∷ accesses) s = (
 pub settled-more : (place : ℕ) (regions : List Region) (xs ys : List TaggedSegment) → Settled place regions xs → Settled place regions ys → Settled place regions (xs ++ ys)
 settled-more place regions [] ys s t = t
 settled-more place regions (x ∷ xs) ys s t = (s.0, s.1, settled-more place regions xs ys s.2 t)
-
-pub settled-first : (place : ℕ) (regions : List Region) (xs ys : List TaggedSegment) → Settled place regions (xs ++ ys) → Settled place regions xs
-settled-first place regions [] ys s = tt
-settled-first place regions (x ∷ xs) ys s = (s.0, s.1, settled-first place regions xs ys s.2)
 
 -- the contents of a region are laid by them
 pub contents-parts : (place stag : ℕ) (regions : List Region) (bytes : List ℕ) (accesses : List TaggedSegment) → Settled place regions accesses → contents (region_grants place regions) stag bytes accesses ≡ after_parts stag bytes (parts_of accesses)

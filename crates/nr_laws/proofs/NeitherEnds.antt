@@ -30,6 +30,7 @@ use Rattle.nr_laws.proofs.NotDenied.{client-not-denied}
 use Rattle.nr_laws.proofs.ReadCalls.{server-stays}
 use Rattle.nr_laws.proofs.ReadReplies.{client-reads-replies}
 use Rattle.nr_laws.proofs.SettledLinks.{calls-complete}
+use Rattle.nr_laws.proofs.Basics.{none-some}
 
 -- ---- A mark is an event of one side
 
@@ -56,9 +57,6 @@ server-same : (opened : LinkParameters) (link : ℕ) (before : List Mark) (mark 
 server-same opened link before mark none =
     ap (λ (r : EndState ServerState). r.ended) (server-one opened link before mark ∙ ap (λ (es : List Event). end_state_after (server_rules opened) (server opened link before) es) none)
 
-none-some : {X : Type 0} (x : X) (o : Option X) → o ≡ None → o ≡ Some x → ⊥
-none-some x o none some = (let wrong : None ≡ Some x = sym none ∙ some in cc)
-
 -- ---- What is asked of a run
 
 record AreAsked (reply_to : List Entry → Moment → List ℕ → Option (List ℕ)) (adds : Moment → List ℕ → List ℕ → List Entry) (opened : LinkParameters) (link : ℕ) (run : List Mark) : Type 0 where
@@ -84,7 +82,7 @@ module _ (reply_to : List Entry → Moment → List ℕ → Option (List ℕ)) (
   client-stays run h down end up = by (client-ends-for-replies opened link run opens h.typed h.laws down end up)
     where
       by : IsReplyEnd end ⊎ IsDenied end → ⊥
-      by (inl (at, reason, is, own)) = client-reads-replies reply_to adds opened link run opens h.typed (laws-so-far opened link run h.laws) h.plainly plain at reason own (up ∙ ap (λ (x : End). Some x) is)
+      by (inl (at, reason, is, own)) = client-reads-replies reply_to adds opened link run opens h.typed (laws-so-far opened link run h.laws.client h.laws.server h.laws.matched) h.plainly plain at reason own (up ∙ ap (λ (x : End). Some x) is)
       by (inr (stag, offset, why, is)) = client-not-denied opened link run opens h.typed h.laws h.kept down stag offset why (up ∙ ap (λ (x : End). Some x) is)
 
   mark-stays : (before : List Mark) (mark : Mark) → AreAsked reply_to adds opened link (before ++ mark ∷ []) → (client opened link before).ended ≡ None → (server opened link before).ended ≡ None
@@ -146,7 +144,7 @@ pub clients-stay : ClientsStay
 clients-stay reply_to adds opened link run opens typed laws kept plain plainly down = by (end_of_side opened link Initiator run) refl
   where
     ends : (end : End) → end_of_side opened link Initiator run ≡ Some end → IsReplyEnd end → ⊥
-    ends end up (at, reason, is, own) = client-reads-replies reply_to adds opened link run opens typed (laws-so-far opened link run laws) plainly plain at reason own (up ∙ ap (λ (x : End). Some x) is)
+    ends end up (at, reason, is, own) = client-reads-replies reply_to adds opened link run opens typed (laws-so-far opened link run laws.client laws.server laws.matched) plainly plain at reason own (up ∙ ap (λ (x : End). Some x) is)
 
     by : (o : Option End) → end_of_side opened link Initiator run ≡ o → end_of_side opened link Initiator run ≡ None
     by None e = e

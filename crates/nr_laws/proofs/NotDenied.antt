@@ -1,5 +1,5 @@
 -- The memory of a matched link's client, none of which is revoked, denies no access of its server.
-use Rattle.std.proofs.Common.{◌≡◌, ℕ, ◌+◌, ◌≤◌, ◌<◌, true, false, eqb, List, [], ◌∷◌, ◌++◌, length, map, Option, Some, None, Ok, refl, sym, ap, subst, ◌∙◌, arith, append_assoc, append-nil, length-append, ◌⊎◌, inl, inr}
+use Rattle.std.proofs.Common.{◌≡◌, ℕ, ◌+◌, ◌≤◌, ◌<◌, true, false, eqb, List, [], ◌∷◌, ◌++◌, length, map, Some, None, Ok, refl, sym, ap, subst, ◌∙◌, arith, length-append, ◌⊎◌, inl, inr}
 use Rattle.std.specs.List.{concat}
 use Rattle.nr_xdr.specs.Item.{IsBytes}
 use Rattle.nr_xdr.proofs.Chains.{IsBytes-left, IsBytes-right}
@@ -10,7 +10,6 @@ use Rattle.nr_wire.specs.Segment.Segment.{Tagged, Untagged}
 use Rattle.nr_regions.specs.declared.denied.Denied.{Denied}
 use Rattle.nr_regions.specs.declared.right.Right.TheVariants.{Fetch, Fill}
 use Rattle.nr_regions.specs.Access.{grant_denial}
-use Rattle.nr_link.specs.declared.end.End.{End}
 use Rattle.nr_link.specs.declared.end.End.TheVariants as ends
 use Rattle.nr_link.specs.Output.{msn_word}
 use Rattle.nr_link.specs.Frames.{Frame, is_hello, frames_from, frames_completed}
@@ -21,19 +20,15 @@ use Rattle.nr_reduce.specs.declared.mark.LinkParameters.{LinkParameters}
 use Rattle.nr_reduce.specs.Opening.{IsOpened}
 use Rattle.nr_reduce.specs.Credits.{WithinGrant}
 use Rattle.nr_reduce.specs.History.{bytes_sent, bytes_received, fed_at}
-use Rattle.nr_reduce.specs.Events.{Event, events_at}
+use Rattle.nr_reduce.specs.Events.{Event}
 use Rattle.nr_reduce.specs.Events.Event.{FrameReceived}
 use Rattle.nr_reduce.specs.EndRules.{EndState, live, end_state_after}
 use Rattle.nr_reduce.specs.OfferedRegions.{region_grants}
 use Rattle.nr_reduce.specs.ClientState.{ClientState}
 use Rattle.nr_reduce.specs.ServerState.{ServerState}
 use Rattle.nr_reduce.specs.Client.{client_rules, client_state_after, initial_client}
-use Rattle.nr_reduce.specs.Run.{client, server, end_of_side}
-use Rattle.nr_reduce.specs.AtEachMark.{AtEachMark}
-use Rattle.nr_reduce.specs.Matched.{MatchedMark, IsPrefixOf}
-use Rattle.nr_reduce.specs.Asked.{AskedMark, IsAll}
-use Rattle.nr_reduce.specs.Served.{ServedMark}
-use Rattle.nr_reduce.proofs.Steps.{client-one}
+use Rattle.nr_reduce.specs.Run.{end_of_side}
+use Rattle.nr_reduce.specs.Matched.{IsPrefixOf}
 use Rattle.nr_reduce.proofs.OwnStags.{AreNumbered, client-numbers}
 use Rattle.nr_laws.specs.Typed.{TypedMark, IsTyped}
 use Rattle.nr_laws.specs.Stays.{NotRevokedMark, HasNoRevoke}
@@ -41,7 +36,7 @@ use Rattle.nr_laws.specs.EndCauses.{KeepLaws, IsReplyEnd}
 use Rattle.nr_laws.specs.FrameContents.{FrameContent, numbered_segment, frame_bytes, total_of, sends_in, requests_in, Carries}
 use Rattle.nr_laws.specs.FrameContents.FrameContent.{HelloFrame, SendFrame, RequestFrame, TaggedFrame}
 use Rattle.nr_laws.specs.LinkInvariants.{Transit}
-use Rattle.nr_laws.proofs.Bytes.{bytes_both, received-one}
+use Rattle.nr_laws.proofs.Bytes.{bytes_both}
 use Rattle.nr_laws.proofs.Totals.{total-append}
 use Rattle.nr_laws.proofs.Beyond.{EndBehind, frames-behind}
 use Rattle.nr_laws.proofs.StreamFrames.{frames_at}
@@ -56,12 +51,15 @@ use Rattle.nr_laws.proofs.ClientStep.{LacksAccess, step-down}
 use Rattle.nr_laws.proofs.ClientFrame.{client-took}
 use Rattle.nr_laws.proofs.ServerFrames.{AreSome, events_of, place-next, ends-first}
 use Rattle.nr_laws.proofs.AgreeingRuns.{MarkAgrees, place_of, goes-on, arrives}
-use Rattle.nr_laws.proofs.EachRun.{starts, goes-mark, server-unended}
-use Rattle.nr_laws.proofs.FirstEnds.{Guarded, fed-ends, client-last}
+use Rattle.nr_laws.proofs.EachRun.{starts}
+use Rattle.nr_laws.proofs.FirstEnds.{Guarded, client-first}
 use Rattle.nr_laws.proofs.AnsweredCalls.{message_xids}
-use Rattle.nr_laws.proofs.OfferedAccesses.{IsAccess, AreAccesses, IsEarly, AccessesAgree, access-at, each-all}
+use Rattle.nr_laws.proofs.OfferedAccesses.{IsAccess, AreAccesses, IsEarly, AccessesAgree, access-at}
 use Rattle.nr_laws.proofs.AccessSteps.{front-piece_down, accessed-down}
 use Rattle.nr_laws.proofs.AllowedAccesses.{offered-granted}
+use Rattle.nr_laws.proofs.Basics.{each-all}
+use Rattle.nr_reduce.proofs.Standing.{received-one}
+use Rattle.nr_laws.proofs.ClientRun.{each-both}
 
 -- ---- One frame
 
@@ -180,37 +178,12 @@ fed-denied opened link run bytes a o prefix typed stag offset why e =
 
 -- ---- Each run
 
-denied-from : (opened : LinkParameters) (link : ℕ) (o : IsOpened opened) (stag offset : ℕ) (why : Denied) (run before : List Mark) → Accessed opened link before → AtEachMark (AskedMark IsAll opened link) before run → AtEachMark (ServedMark IsAll opened link) before run → AtEachMark (MatchedMark link) before run
-    → AtEachMark (WithinGrant opened link) before run → AtEachMark TypedMark before run → AtEachMark (NotRevokedMark link) before run → (server opened link (before ++ run)).ended ≡ None → (client opened link (before ++ run)).ended ≡ Some (ends.Denied stag offset why) → ⊥
-denied-from opened link o stag offset why [] before a asked served matched grant typed kept down up =
-    absurd (let wrong : None ≡ Some (ends.Denied stag offset why) = sym (ap (λ (r : List Mark). (client opened link r).ended) (append-nil before) ∙ ap (λ (x : EndState ClientState). x.ended) a.guarded.joined.client_is) ∙ up in cc)
-denied-from opened link o stag offset why (m ∷ run) before a asked served matched grant typed kept down up =
-    by (client opened link (before ++ m ∷ [])).ended refl (λ next. denied-from opened link o stag offset why run (before ++ m ∷ []) next asked.1 served.1 matched.1 grant.1 typed.1 kept.1 down_all up_all)
-  where
-    assoc : (before ++ m ∷ []) ++ run ≡ before ++ m ∷ run
-    assoc = append_assoc before (m ∷ []) run
-
-    down_all : (server opened link ((before ++ m ∷ []) ++ run)).ended ≡ None
-    down_all = ap (λ (r : List Mark). (server opened link r).ended) assoc ∙ down
-
-    up_all : (client opened link ((before ++ m ∷ []) ++ run)).ended ≡ Some (ends.Denied stag offset why)
-    up_all = ap (λ (r : List Mark). (client opened link r).ended) assoc ∙ up
-
-    one : client opened link (before ++ m ∷ []) ≡ end_state_after (client_rules opened) (live a.guarded.joined.k) (events_at link Initiator before m)
-    one = client-one opened link before m ∙ ap (λ (r : EndState ClientState). end_state_after (client_rules opened) r (events_at link Initiator before m)) a.guarded.joined.client_is
-
-    by : (x : Option End) → (client opened link (before ++ m ∷ [])).ended ≡ x → (Accessed opened link (before ++ m ∷ []) → ⊥) → ⊥
-    by None is next =
-        next (accessed-more opened link before m a (goes-mark opened link before m a.guarded.joined asked.0 served.0 matched.0 typed.0 is (server-unended opened link (before ++ m ∷ []) run down_all)) o grant.0 typed.0 kept.0)
-    by (Some x) is next =
-        let same : Some x ≡ Some (ends.Denied stag offset why) = sym (client-last opened link (before ++ m ∷ []) run x is) ∙ up_all in
-        fed-ends opened link before m a.guarded.joined.k (ends.Denied stag offset why) ⊥ matched.0 typed.0 (λ bytes prefix typed e. fed-denied opened link before bytes a o prefix typed stag offset why e) (ap (λ (r : EndState ClientState). r.ended) (sym one) ∙ is ∙ same)
-
 -- On a matched link of which nothing is revoked, and whose server hasn't ended, no access ends the client.
 pub client-not-denied : (opened : LinkParameters) (link : ℕ) (run : List Mark) → IsOpened opened → IsTyped run → KeepLaws opened link run → HasNoRevoke link run → end_of_side opened link Responder run ≡ None
     → (stag offset : ℕ) (why : Denied) → end_of_side opened link Initiator run ≡ Some (ends.Denied stag offset why) → ⊥
 unfolding end_of_side
 client-not-denied opened link run o typed laws kept down stag offset why up =
     let start = starts opened link in
-    denied-from opened link o stag offset why run []
-    (record { guarded = record { joined = start.joined; guards = start.guards o }; agree = start.accessed }) laws.client laws.server laws.matched laws.grant typed kept down up
+    client-first opened link (Accessed opened link) (λ before a. a.guarded.joined) (λ before m. WithinGrant opened link before m × NotRevokedMark link before m) (ends.Denied stag offset why) ⊥
+    (λ before m a agrees typed kept. accessed-more opened link before m a agrees o kept.0 typed kept.1) (λ before bytes a prefix typed e. fed-denied opened link before bytes a o prefix typed stag offset why e) run []
+    (record { guarded = record { joined = start.joined; guards = start.guards o }; agree = start.accessed }) laws.client laws.server laws.matched (each-both (WithinGrant opened link) (NotRevokedMark link) [] run laws.grant kept) typed down up

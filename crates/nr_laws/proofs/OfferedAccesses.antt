@@ -20,6 +20,7 @@ use Rattle.nr_reduce.specs.ServerState.{ServerState, PendingCall, PendingRead}
 use Rattle.nr_laws.specs.FrameContents.{FrameContent, call_frame}
 use Rattle.nr_laws.specs.FrameContents.FrameContent.{HelloFrame, SendFrame, RequestFrame, TaggedFrame}
 use Rattle.nr_laws.proofs.AnsweredCalls.{message_xids, times, xids-append, times-append}
+use Rattle.nr_laws.proofs.Basics.{each-all}
 
 -- ---- What is offered
 
@@ -123,10 +124,6 @@ offers-closed test place (g ∷ regions) xid stag right n (inl h) = inl (by (tes
     by : (b : Bool) → IsRegionOf xid stag right n (closed_if b place g)
     by true = record { own_stag = h.own_stag; own_call = h.own_call; own_right = h.own_right; room = h.room }
     by false = h
-
-pub each-all : {X : Type 0} (P Q : X → Type 0) (xs : List X) → ((x : X) → P x → Q x) → AllByRecursion P xs → AllByRecursion Q xs
-each-all P Q [] f h = tt
-each-all P Q (x ∷ xs) f h = (f x h.0, each-all P Q xs f h.1)
 
 pub lists-more : (regions others : List Region) (xid : ℕ) (lists : ChunkLists) → OffersMore regions others → ListsOffered regions xid lists → ListsOffered others xid lists
 lists-more regions others xid lists f h = record {

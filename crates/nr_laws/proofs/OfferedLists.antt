@@ -1,13 +1,12 @@
--- What a server keeps of the offer of a call is what its client offered.
-use Rattle.std.proofs.Common.{◌≡◌, ℕ, ◌+◌, ◌^◌, ◌≤◌, ◌<◌, Bool, true, false, cond, ltb, List, [], ◌∷◌, ◌++◌, length, None, Some, Result, Ok, Err, refl, sym, ap, subst, ◌∙◌, arith}
-use Rattle.std.proofs.lemmas.Bool.{ltb-false}
+-- The offer that a server reads of a message is one that can be written, and each message that it received is bytes.
+use Rattle.std.proofs.Common.{◌≡◌, ℕ, Bool, true, false, cond, List, [], ◌∷◌, ◌++◌, None, Some, Ok, refl, sym, subst, arith}
 use Rattle.std.proofs.lemmas.List.Elements.{All-nil}
 use Rattle.nr_xdr.specs.Item.{IsBytes}
 use Rattle.nr_xdr.specs.Items.{AllFit}
 use Rattle.nr_header.specs.declared.header.Body.{Body}
 use Rattle.nr_header.specs.declared.header.Body.TheVariants.{Msg, Nomsg, ErrVers, ErrChunk}
 use Rattle.nr_header.specs.declared.header.Header.{Header}
-use Rattle.nr_header.specs.Header.{lists_items, body_items}
+use Rattle.nr_header.specs.Header.{body_items}
 use Rattle.nr_header.specs.WithinLimits.{CanRead}
 use Rattle.nr_header.specs.Reading.{header_of}
 use Rattle.nr_header.proofs.Messages.{header_take}
@@ -17,26 +16,19 @@ use Rattle.nr_wire.specs.Segment.Segment.{Tagged, Untagged}
 use Rattle.nr_link.specs.Frames.{Frame, is_hello}
 use Rattle.nr_link.specs.Ending.{frame_segment}
 use Rattle.nr_link.specs.ReceiveState.{message_completed}
-use Rattle.nr_reduce.specs.declared.call.Form.{Form}
-use Rattle.nr_reduce.specs.declared.call.Form.TheVariants as forms
-use Rattle.nr_reduce.specs.declared.call.Offer.{Offer}
 use Rattle.nr_reduce.specs.declared.mark.Mark.{Mark}
 use Rattle.nr_reduce.specs.declared.mark.LinkParameters.{LinkParameters}
-use Rattle.nr_reduce.specs.declared.outline.Plan.{Plan}
-use Rattle.nr_reduce.specs.Limits.{send_max, given_max}
 use Rattle.nr_reduce.specs.Matched.{Matched}
 use Rattle.nr_reduce.specs.Events.{Event, events}
 use Rattle.nr_reduce.specs.Events.Event.{FrameReceived}
 use Rattle.nr_reduce.specs.EndRules.{end_state_after}
-use Rattle.nr_reduce.specs.Plans.{TooLarge, plan_of, plan_size, given_plan, given_total, within, regions_needed, lists_of, call_message}
 use Rattle.nr_reduce.specs.Undone.{IsOffer, lists_by}
 use Rattle.nr_reduce.specs.Asked.{AskedSoFar}
 use Rattle.nr_reduce.specs.Served.{ServedSoFar}
 use Rattle.nr_reduce.specs.ServerState.{ServerState}
 use Rattle.nr_reduce.specs.Server.{server_rules, initial_server}
 use Rattle.nr_reduce.specs.RunLaws.{server_by}
-use Rattle.nr_reduce.proofs.Asking.{asks}
-use Rattle.nr_laws.specs.Typed.{IsTyped, IsTypedForm}
+use Rattle.nr_laws.specs.Typed.{IsTyped}
 use Rattle.nr_laws.proofs.Along.{GoesOn, goes-behind}
 use Rattle.nr_laws.proofs.Words.{payload_by, payload-bytes}
 use Rattle.nr_laws.proofs.Brought.{Brings}
@@ -46,50 +38,7 @@ use Rattle.nr_laws.proofs.ClientRun.{client-tells}
 use Rattle.nr_laws.proofs.ServerAlong.{ServerPlain}
 use Rattle.nr_laws.proofs.ServerSide.{server-goes}
 use Rattle.nr_laws.proofs.ExecutedCalls.{server-receives-of}
-use Rattle.nr_laws.proofs.PlanLists.{given-fit, fitting-reads}
-use Rattle.nr_laws.proofs.Replied.{same-body}
 use Rattle.nr_laws.proofs.InlineReplies.{no_chunks}
-
--- ---- The lists that are read of the message of an accepted call
-
-pub record WithinIs (A : Type 0) (need room : ℕ) (answer : Result A TooLarge) (p : A) : Type 0 where
-  pub fits : need ≤ room
-  pub is : answer ≡ Ok p
-
-pub within-is : {A : Type 0} (need room : ℕ) (answer : Result A TooLarge) (p : A) → within need room answer ≡ Ok p → WithinIs A need room answer p
-within-is {A} need room answer p e = by (ltb room need) refl e
-  where
-    by : (b : Bool) → ltb room need ≡ b → cond b (Err (record { need = need; room = room })) answer ≡ Ok p → WithinIs A need room answer p
-    by true is e = absurd cc
-    by false is e = record { fits = ltb-false room need is; is = e }
-
-pub plan-ok : (p q : Plan) → ◌≡◌ {A = Result Plan TooLarge} (Ok p) (Ok q) → p ≡ q
-plan-ok p q e = cc
-
-given-items : (payload : List ℕ) (offer : Offer) (up down stag : ℕ) (p : Plan) → up ≡ send_max → offer.read_at < 2 ^ 32 → plan_of payload (forms.Given offer) up down ≡ Ok p → stag + regions_needed p ≤ 2 ^ 32 → AllFit (lists_items (lists_of stag p))
-unfolding plan_of
-given-items payload offer up down stag p top at e stags =
-    let plan : Plan = given_plan payload offer in
-    let a = within-is (length payload) 40960 (within (given_total offer) given_max (within (plan_size plan) up (Ok plan))) p e in
-    let b = within-is (given_total offer) given_max (within (plan_size plan) up (Ok plan)) p a.is in
-    let c = within-is (plan_size plan) up (Ok plan) p b.is in
-    let same : plan ≡ p = plan-ok plan p c.is in
-    let small = c.fits in
-    subst (λ (q : Plan). AllFit (lists_items (lists_of stag q))) same
-    (given-fit payload offer stag b.fits at (omega (arith, small, top)) (subst (λ (q : Plan). stag + regions_needed q ≤ 2 ^ 32) (sym same) stags))
-
-pub plan-reads : (payload : List ℕ) (form : Form) (up down xid credit stag : ℕ) (p : Plan) (header : Header) → up ≡ send_max → IsBytes payload → IsTypedForm form → plan_of payload form up down ≡ Ok p → xid < 2 ^ 32 → credit < 2 ^ 32
-    → stag + regions_needed p ≤ 2 ^ 32 → IsBytes (call_message xid credit stag p) → header_of (call_message xid credit stag p) ≡ Ok header → lists_by header.body ≡ lists_of stag p
-plan-reads payload (forms.Given offer) up down xid credit stag p header top bytes typed e fx fc stags own is =
-    (fitting-reads xid credit stag p header own is (given-items payload offer up down stag p top typed e stags) fx fc).lists
-plan-reads payload forms.Auto up down xid credit stag p header top bytes typed e fx fc stags own is =
-    let m = asks payload forms.Auto up down xid credit stag p bytes tt e fx fc stags in ap lists_by (sym (same-body xid credit m.body header (sym m.reads ∙ is))) ∙ m.lists
-plan-reads payload forms.Inline up down xid credit stag p header top bytes typed e fx fc stags own is =
-    let m = asks payload forms.Inline up down xid credit stag p bytes tt e fx fc stags in ap lists_by (sym (same-body xid credit m.body header (sym m.reads ∙ is))) ∙ m.lists
-plan-reads payload forms.Chunk up down xid credit stag p header top bytes typed e fx fc stags own is =
-    let m = asks payload forms.Chunk up down xid credit stag p bytes tt e fx fc stags in ap lists_by (sym (same-body xid credit m.body header (sym m.reads ∙ is))) ∙ m.lists
-plan-reads payload forms.Long up down xid credit stag p header top bytes typed e fx fc stags own is =
-    let m = asks payload forms.Long up down xid credit stag p bytes tt e fx fc stags in ap lists_by (sym (same-body xid credit m.body header (sym m.reads ∙ is))) ∙ m.lists
 
 -- ---- An offer that was read
 

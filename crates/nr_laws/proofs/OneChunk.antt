@@ -62,7 +62,7 @@ the-other p (r ∷ read) some one = (one.0 some.0, the-other p read some.1 one.1
 
 -- ---- What is read of an encoding
 
-fronts : (a b x y : List ℕ) (n : ℕ) → length a ≡ n → length b ≡ n → a ++ x ≡ b ++ y → (a ≡ b) × (x ≡ y)
+pub fronts : (a b x y : List ℕ) (n : ℕ) → length a ≡ n → length b ≡ n → a ++ x ≡ b ++ y → (a ≡ b) × (x ≡ y)
 fronts a b x y n as_long too e = (
   sym (take_at a x n as_long) ∙ ap (λ (zs : List ℕ). take n zs) e ∙ take_at b y n too,
   sym (drop_at a x n as_long) ∙ ap (λ (zs : List ℕ). drop n zs) e ∙ drop_at b y n too,

@@ -1,6 +1,7 @@
 -- Which of two marks of a run comes first.
-use Rattle.std.proofs.Common.{◌≡◌, List, [], ◌∷◌, ◌++◌, drop, refl, sym, ap}
+use Rattle.std.proofs.Common.{◌≡◌, List, [], ◌∷◌, ◌++◌, refl, sym}
 use Rattle.nr_reduce.specs.declared.mark.Mark.{Mark}
+use Rattle.nr_laws.proofs.Basics.{first-is, rest-is}
 
 -- of two marks in one list: the second behind the first, at it, or before it
 pub data Order (before : List Mark) (m : Mark) (after others : List Mark) (n : Mark) (rest : List Mark) : Type 0 where
@@ -8,20 +9,14 @@ pub data Order (before : List Mark) (m : Mark) (after others : List Mark) (n : M
   Here : before ≡ others → m ≡ n → Order before m after others n rest
   Before : (between : List Mark) → before ≡ others ++ n ∷ between → rest ≡ between ++ m ∷ after → Order before m after others n rest
 
-tail_is : (x y : Mark) (xs ys : List Mark) → x ∷ xs ≡ y ∷ ys → xs ≡ ys
-tail_is x y xs ys e = ap (λ (zs : List Mark). drop 1 zs) e
-
-head_is : (x y : Mark) (xs ys : List Mark) → x ∷ xs ≡ y ∷ ys → x ≡ y
-head_is x y xs ys e = cc
-
 order-more : (x y : Mark) (before : List Mark) (m : Mark) (after others : List Mark) (n : Mark) (rest : List Mark) → x ≡ y → Order before m after others n rest → Order (x ∷ before) m after (y ∷ others) n rest
 order-more x y before m after others n rest e (Behind between is then) = Behind between ((λ i. sym e i ∷ is i)) then
 order-more x y before m after others n rest e (Here is same) = Here (λ i. e i ∷ is i) same
 order-more x y before m after others n rest e (Before between is then) = Before between (λ i. e i ∷ is i) then
 
 pub order : (before : List Mark) (m : Mark) (after others : List Mark) (n : Mark) (rest : List Mark) → before ++ m ∷ after ≡ others ++ n ∷ rest → Order before m after others n rest
-order [] m after [] n rest e = Here refl (head_is m n after rest e)
-order [] m after (y ∷ others) n rest e = Behind others (λ i. sym (head_is m y after (others ++ n ∷ rest) e) i ∷ others) (tail_is m y after (others ++ n ∷ rest) e)
-order (x ∷ before) m after [] n rest e = Before before (λ i. head_is x n (before ++ m ∷ after) rest e i ∷ before) (sym (tail_is x n (before ++ m ∷ after) rest e))
+order [] m after [] n rest e = Here refl (first-is m n after rest e)
+order [] m after (y ∷ others) n rest e = Behind others (λ i. sym (first-is m y after (others ++ n ∷ rest) e) i ∷ others) (rest-is m y after (others ++ n ∷ rest) e)
+order (x ∷ before) m after [] n rest e = Before before (λ i. first-is x n (before ++ m ∷ after) rest e i ∷ before) (sym (rest-is x n (before ++ m ∷ after) rest e))
 order (x ∷ before) m after (y ∷ others) n rest e =
-    order-more x y before m after others n rest (head_is x y (before ++ m ∷ after) (others ++ n ∷ rest) e) (order before m after others n rest (tail_is x y (before ++ m ∷ after) (others ++ n ∷ rest) e))
+    order-more x y before m after others n rest (first-is x y (before ++ m ∷ after) (others ++ n ∷ rest) e) (order before m after others n rest (rest-is x y (before ++ m ∷ after) (others ++ n ∷ rest) e))

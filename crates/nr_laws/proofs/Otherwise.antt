@@ -23,7 +23,8 @@ use Rattle.nr_reduce.specs.ClientMessages.{Verdict, verdict, by_body, by_lists, 
 use Rattle.nr_reduce.specs.ClientMessages.Verdict.{EndsLink, GivesOutcome}
 use Rattle.nr_reduce.specs.Holds.{Answer, answer_message, answer_body, answer_lists}
 use Rattle.nr_laws.proofs.DoneCalls.{gives-by}
-use Rattle.nr_laws.proofs.Replied.{word-behind, first-word, kind-word, same-body}
+use Rattle.nr_laws.proofs.Replied.{word-behind, kind-word, same-body}
+use Rattle.nr_laws.proofs.HeaderXid.{first-word}
 
 -- ---- A message with a stream, or one in a chunk
 

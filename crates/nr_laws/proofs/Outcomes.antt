@@ -32,6 +32,7 @@ use Rattle.nr_laws.proofs.Messages.{message_in, AreOne, one-first}
 use Rattle.nr_laws.proofs.Hears.{hears, client-receives, brings-at, own-segment, whole-message}
 use Rattle.nr_laws.proofs.ServerAlong.{outs_of, Said}
 use Rattle.nr_laws.proofs.ServerSide.{server-tells, client-receives-of}
+use Rattle.nr_laws.proofs.Basics.{each-append, each-all}
 
 -- the client after these events
 abbrev pub client_by : LinkParameters → List Event → EndState ClientState
@@ -68,92 +69,76 @@ given-later opened es e c w = record {
   given = w.given;
 }
 
-abbrev Each : (CompletedCall → Type 0) → List CompletedCall → Type 0
-Each P [] = Unit {0}
-Each P (c ∷ cs) = P c × Each P cs
-
-each-with : (P Q : CompletedCall → Type 0) → ((c : CompletedCall) → P c → Q c) → (cs : List CompletedCall) → Each P cs → Each Q cs
-each-with P Q f [] h = tt
-each-with P Q f (c ∷ cs) h = (f c h.0, each-with P Q f cs h.1)
-
-each-append : (P : CompletedCall → Type 0) (xs ys : List CompletedCall) → Each P xs → Each P ys → Each P (xs ++ ys)
-each-append P [] ys h g = g
-each-append P (x ∷ xs) ys h g = (h.0, each-append P xs ys h.1 g)
-
-each-recursion : (P : CompletedCall → Type 0) (cs : List CompletedCall) → Each P cs → AllByRecursion P cs
-each-recursion P [] h = tt
-each-recursion P (c ∷ cs) h = (h.0, each-recursion P cs h.1)
-
 request-outcomes : (m : ClientState) (o : Option ReadRequest) → (with_request m o).outcomes ≡ m.outcomes
 request-outcomes m None = refl
 request-outcomes m (Some q) = refl
 
-verdict-each : (P : CompletedCall → Type 0) (v : Verdict) → ((c : CompletedCall) → v ≡ GivesOutcome c.xid (Some c.outcome) → P c) → Each P (outcomes_of v)
+verdict-each : (P : CompletedCall → Type 0) (v : Verdict) → ((c : CompletedCall) → v ≡ GivesOutcome c.xid (Some c.outcome) → P c) → AllByRecursion P (outcomes_of v)
 verdict-each P (EndsLink reason) h = tt
 verdict-each P (GivesOutcome xid None) h = tt
 verdict-each P (GivesOutcome xid (Some outcome)) h = (h (record { xid = xid; outcome = outcome }) refl, tt)
 
-message-each : (P : CompletedCall → Type 0) (k : ClientState) (place : ℕ) (o : Option (List ℕ)) → Each P k.outcomes → ((m : List ℕ) (c : CompletedCall) → o ≡ Some m → verdict k place m ≡ GivesOutcome c.xid (Some c.outcome) → P c) → Each P (with_message k place o).outcomes
+message-each : (P : CompletedCall → Type 0) (k : ClientState) (place : ℕ) (o : Option (List ℕ)) → AllByRecursion P k.outcomes → ((m : List ℕ) (c : CompletedCall) → o ≡ Some m → verdict k place m ≡ GivesOutcome c.xid (Some c.outcome) → P c) → AllByRecursion P (with_message k place o).outcomes
 message-each P k place None h new = h
 message-each P k place (Some m) h new = each-append P k.outcomes (outcomes_of (verdict k place m)) h (verdict-each P (verdict k place m) (λ c is. new m c refl is))
 
-segment-each : (P : CompletedCall → Type 0) (k : ClientState) (f : Frame) (r : Result Segment ℕ) → Each P k.outcomes
-    → ((s : Segment) (m : List ℕ) (c : CompletedCall) → r ≡ Ok s → message_completed k.received s ≡ Some m → verdict k f.end m ≡ GivesOutcome c.xid (Some c.outcome) → P c) → Each P (with_segment k f r).outcomes
+segment-each : (P : CompletedCall → Type 0) (k : ClientState) (f : Frame) (r : Result Segment ℕ) → AllByRecursion P k.outcomes
+    → ((s : Segment) (m : List ℕ) (c : CompletedCall) → r ≡ Ok s → message_completed k.received s ≡ Some m → verdict k f.end m ≡ GivesOutcome c.xid (Some c.outcome) → P c) → AllByRecursion P (with_segment k f r).outcomes
 segment-each P k f (Err reason) h new = h
 segment-each P k f (Ok s) h new =
-    subst (λ (cs : List CompletedCall). Each P cs) (sym (request-outcomes (with_message k f.end (message_completed k.received s)) (read_request_of s)))
+    subst (λ (cs : List CompletedCall). AllByRecursion P cs) (sym (request-outcomes (with_message k f.end (message_completed k.received s)) (read_request_of s)))
     (message-each P k f.end (message_completed k.received s) h (λ m c whole is. new s m c refl whole is))
 
-after-each : (opened : LinkParameters) (es : List Event) (e : Event) → Each (WasGiven opened es) (client_by opened es).state.outcomes → (client_by opened es).ended ≡ None → client_end (client_by opened es).state e ≡ None
-    → Each (WasGiven opened (es ++ e ∷ [])) (client_state_after opened (client_by opened es).state e).outcomes
+after-each : (opened : LinkParameters) (es : List Event) (e : Event) → AllByRecursion (WasGiven opened es) (client_by opened es).state.outcomes → (client_by opened es).ended ≡ None → client_end (client_by opened es).state e ≡ None
+    → AllByRecursion (WasGiven opened (es ++ e ∷ [])) (client_state_after opened (client_by opened es).state e).outcomes
 unfolding client_state_after
 after-each opened es (FrameReceived f) h live stays = by (is_hello f) refl
   where
     k : ClientState
     k = (client_by opened es).state
 
-    old : Each (WasGiven opened (es ++ FrameReceived f ∷ [])) k.outcomes
-    old = each-with (WasGiven opened es) (WasGiven opened (es ++ FrameReceived f ∷ [])) (given-later opened es (FrameReceived f)) k.outcomes h
+    old : AllByRecursion (WasGiven opened (es ++ FrameReceived f ∷ [])) k.outcomes
+    old = each-all (WasGiven opened es) (WasGiven opened (es ++ FrameReceived f ∷ [])) k.outcomes (given-later opened es (FrameReceived f)) h
 
-    by : (b : Bool) → is_hello f ≡ b → Each (WasGiven opened (es ++ FrameReceived f ∷ [])) (cond b (record k { has_hello = true }) (with_segment k f (frame_segment f))).outcomes
+    by : (b : Bool) → is_hello f ≡ b → AllByRecursion (WasGiven opened (es ++ FrameReceived f ∷ [])) (cond b (record k { has_hello = true }) (with_segment k f (frame_segment f))).outcomes
     by true is = old
     by false is = segment-each (WasGiven opened (es ++ FrameReceived f ∷ [])) k f (frame_segment f) old (λ s m c own whole given.
         record { earlier = es; frame = f; later = []; is = refl; behind = is; live = live; stays = stays; segment = s; is_segment = own; message = m; whole = whole; given = given })
-after-each opened es (CallSubmitted p a) h live stays = each-with (WasGiven opened es) (WasGiven opened (es ++ CallSubmitted p a ∷ [])) (given-later opened es (CallSubmitted p a)) (client_by opened es).state.outcomes h
-after-each opened es (MemoryRevoked p xid) h live stays = each-with (WasGiven opened es) (WasGiven opened (es ++ MemoryRevoked p xid ∷ [])) (given-later opened es (MemoryRevoked p xid)) (client_by opened es).state.outcomes h
-after-each opened es (CallExecuted e) h live stays = each-with (WasGiven opened es) (WasGiven opened (es ++ CallExecuted e ∷ [])) (given-later opened es (CallExecuted e)) (client_by opened es).state.outcomes h
-after-each opened es QueueWritten h live stays = each-with (WasGiven opened es) (WasGiven opened (es ++ QueueWritten ∷ [])) (given-later opened es QueueWritten) (client_by opened es).state.outcomes h
+after-each opened es (CallSubmitted p a) h live stays = each-all (WasGiven opened es) (WasGiven opened (es ++ CallSubmitted p a ∷ [])) (client_by opened es).state.outcomes (given-later opened es (CallSubmitted p a)) h
+after-each opened es (MemoryRevoked p xid) h live stays = each-all (WasGiven opened es) (WasGiven opened (es ++ MemoryRevoked p xid ∷ [])) (client_by opened es).state.outcomes (given-later opened es (MemoryRevoked p xid)) h
+after-each opened es (CallExecuted e) h live stays = each-all (WasGiven opened es) (WasGiven opened (es ++ CallExecuted e ∷ [])) (client_by opened es).state.outcomes (given-later opened es (CallExecuted e)) h
+after-each opened es QueueWritten h live stays = each-all (WasGiven opened es) (WasGiven opened (es ++ QueueWritten ∷ [])) (client_by opened es).state.outcomes (given-later opened es QueueWritten) h
 
-next-each : (opened : LinkParameters) (es : List Event) (e : Event) → Each (WasGiven opened es) (client_by opened es).state.outcomes → Each (WasGiven opened (es ++ e ∷ [])) (client_by opened (es ++ e ∷ [])).state.outcomes
+next-each : (opened : LinkParameters) (es : List Event) (e : Event) → AllByRecursion (WasGiven opened es) (client_by opened es).state.outcomes → AllByRecursion (WasGiven opened (es ++ e ∷ [])) (client_by opened (es ++ e ∷ [])).state.outcomes
 next-each opened es e h =
-    subst (λ (r : EndState ClientState). Each (WasGiven opened (es ++ e ∷ [])) r.state.outcomes) (sym (end_state_after-append (client_rules opened) (initial_client opened) es (e ∷ [])))
+    subst (λ (r : EndState ClientState). AllByRecursion (WasGiven opened (es ++ e ∷ [])) r.state.outcomes) (sym (end_state_after-append (client_rules opened) (initial_client opened) es (e ∷ [])))
     (one (client_by opened es).ended refl)
   where
     k : ClientState
     k = (client_by opened es).state
 
-    old : Each (WasGiven opened (es ++ e ∷ [])) k.outcomes
-    old = each-with (WasGiven opened es) (WasGiven opened (es ++ e ∷ [])) (given-later opened es e) k.outcomes h
+    old : AllByRecursion (WasGiven opened (es ++ e ∷ [])) k.outcomes
+    old = each-all (WasGiven opened es) (WasGiven opened (es ++ e ∷ [])) k.outcomes (given-later opened es e) h
 
-    by_why : (o : Option Stop) → client_end k e ≡ o → (client_by opened es).ended ≡ None → Each (WasGiven opened (es ++ e ∷ [])) (next_end_state_by (client_rules opened) k e o).state.outcomes
+    by_why : (o : Option Stop) → client_end k e ≡ o → (client_by opened es).ended ≡ None → AllByRecursion (WasGiven opened (es ++ e ∷ [])) (next_end_state_by (client_rules opened) k e o).state.outcomes
     by_why None is live = after-each opened es e h live is
     by_why (Some end) is live = old
 
-    one : (ended : Option Stop) → (client_by opened es).ended ≡ ended → Each (WasGiven opened (es ++ e ∷ [])) (next_end_state_in (client_rules opened) k e ended).state.outcomes
+    one : (ended : Option Stop) → (client_by opened es).ended ≡ ended → AllByRecursion (WasGiven opened (es ++ e ∷ [])) (next_end_state_in (client_rules opened) k e ended).state.outcomes
     one None live = by_why (client_end k e) refl live
     one (Some end) live = old
 
-each-given : (opened : LinkParameters) (es more : List Event) → Each (WasGiven opened es) (client_by opened es).state.outcomes → Each (WasGiven opened (es ++ more)) (client_by opened (es ++ more)).state.outcomes
-each-given opened es [] h = subst (λ (all : List Event). Each (WasGiven opened all) (client_by opened all).state.outcomes) (sym (append-nil es)) h
+each-given : (opened : LinkParameters) (es more : List Event) → AllByRecursion (WasGiven opened es) (client_by opened es).state.outcomes → AllByRecursion (WasGiven opened (es ++ more)) (client_by opened (es ++ more)).state.outcomes
+each-given opened es [] h = subst (λ (all : List Event). AllByRecursion (WasGiven opened all) (client_by opened all).state.outcomes) (sym (append-nil es)) h
 each-given opened es (e ∷ more) h =
-    subst (λ (all : List Event). Each (WasGiven opened all) (client_by opened all).state.outcomes) (append_assoc es (e ∷ []) more) (each-given opened (es ++ e ∷ []) more (next-each opened es e h))
+    subst (λ (all : List Event). AllByRecursion (WasGiven opened all) (client_by opened all).state.outcomes) (append_assoc es (e ∷ []) more) (each-given opened (es ++ e ∷ []) more (next-each opened es e h))
 
 pub outcome-given : (opened : LinkParameters) (link : ℕ) (run : List Mark) (c : CompletedCall) → Contains (client opened link run).state.outcomes c → WasGiven opened (events link Initiator run) c
 unfolding client
 outcome-given opened link run c there =
     let es = events link Initiator run in
     All-contains (WasGiven opened es) (client opened link run).state.outcomes c
-    (All-from_recursion (WasGiven opened es) (client opened link run).state.outcomes (each-recursion (WasGiven opened es) (client opened link run).state.outcomes (each-given opened [] es tt))) there
+    (All-from_recursion (WasGiven opened es) (client opened link run).state.outcomes (each-given opened [] es tt)) there
 
 -- ---- What the server said
 

@@ -1,5 +1,5 @@
 -- The output of an end is the bytes of its frame contents.
-use Rattle.std.proofs.Common.{◌≡◌, ℕ, ◌+◌, ◌*◌, ◌≤◌, true, eqb, List, [], ◌∷◌, ◌++◌, length, map, refl, sym, ap, ◌∙◌, arith, append-nil, add-zero, take_all}
+use Rattle.std.proofs.Common.{◌≡◌, ℕ, ◌+◌, ◌*◌, true, eqb, List, [], ◌∷◌, ◌++◌, map, refl, sym, ap, ◌∙◌, add-zero}
 use Rattle.std.specs.List.{flat_map, range_with_len}
 use Rattle.nr_wire.specs.Constants.{OPCODE_WRITE, OPCODE_READ_RESPONSE, OPCODE_SEND, QUEUE_SEND}
 use Rattle.nr_wire.specs.declared.hello.Side.{Side}
@@ -8,7 +8,7 @@ use Rattle.nr_wire.specs.Segment.{encoding}
 use Rattle.nr_wire.specs.Segment.Segment.{Tagged, Untagged}
 use Rattle.nr_reduce.specs.declared.mark.LinkParameters.{LinkParameters}
 use Rattle.nr_link.specs.Limits.{segment_max}
-use Rattle.nr_link.specs.Output.{msn_word, segment_count, segment_payload, cut, send, write, read_response, read_request}
+use Rattle.nr_link.specs.Output.{msn_word, segment_count, segment_payload, cut, write, read_response, read_request}
 use Rattle.nr_reduce.specs.ServerState.{ServerState, PendingRead}
 use Rattle.nr_reduce.specs.ServerFrames.{FrameEffect}
 use Rattle.nr_reduce.specs.Server.{sends_from, requests_from, newly_open_reads, effect_output}
@@ -19,27 +19,13 @@ use Rattle.nr_laws.specs.FrameContents.{FrameContent, output_bytes, total_of, se
 use Rattle.nr_laws.specs.FrameContents.FrameContent.{SendFrame}
 use Rattle.nr_laws.proofs.Totals.{total-map-zero}
 use Rattle.nr_laws.proofs.StreamFrames.{spelled-append}
+use Rattle.nr_laws.proofs.Outputs.{send-one, AreShort, CallsShort}
 
 -- numbers that don't change
 same-numbers : (side : Side) (n r : ℕ) (ps : List FrameContent) → output_bytes side (n + 0) (r + 0) ps ≡ output_bytes side n r ps
 same-numbers side n r ps = λ i. output_bytes side (add-zero n i) (add-zero r i) ps
 
 -- ---- A Send of one segment
-
-abbrev pub IsShort : List ℕ → Type 0
-IsShort message = length message ≤ segment_max
-
-pub send-one : (msn : ℕ) (message : List ℕ) → IsShort message → send msn message ≡ encoding (Untagged true OPCODE_SEND 0 QUEUE_SEND (msn_word msn) 0 message)
-unfolding send cut
-send-one msn message le =
-    let one : segment_count message ≡ 1 = omega (arith, le) in
-    (λ j. flat_map (λ i. encoding (Untagged (eqb (i + 1) (one j)) OPCODE_SEND 0 QUEUE_SEND (msn_word msn) (segment_max * i) (segment_payload message i))) (range_with_len 0 (one j)))
-    ∙ append-nil (encoding (Untagged true OPCODE_SEND 0 QUEUE_SEND (msn_word msn) 0 (segment_payload message 0)))
-    ∙ ap (λ (xs : List ℕ). encoding (Untagged true OPCODE_SEND 0 QUEUE_SEND (msn_word msn) 0 xs)) (take_all segment_max message le)
-
-abbrev pub AreShort : List (List ℕ) → Type 0
-AreShort [] = Unit {0}
-AreShort (m ∷ messages) = IsShort m × AreShort messages
 
 sends-said : (side : Side) (n r : ℕ) (messages : List (List ℕ)) → AreShort messages → sends_from (n + 1) messages ≡ output_bytes side n r (map SendFrame messages)
 sends-said side n r [] h = refl
@@ -81,11 +67,7 @@ response-said side n r stag to bytes = tagged-said side n r OPCODE_READ_RESPONSE
 
 -- ---- What a client asks
 
-abbrev pub AllShort : LinkParameters → List OutstandingCall → Type 0
-AllShort opened [] = Unit {0}
-AllShort opened (o ∷ outs) = IsShort (call_message o.xid opened.wished o.stag o.plan) × AllShort opened outs
-
-pub outs-said : (opened : LinkParameters) (n r : ℕ) (outs : List OutstandingCall) → AllShort opened outs → calls_output opened (n + 1) outs ≡ output_bytes Initiator n r (map (call_frame opened) outs)
+pub outs-said : (opened : LinkParameters) (n r : ℕ) (outs : List OutstandingCall) → CallsShort opened outs → calls_output opened (n + 1) outs ≡ output_bytes Initiator n r (map (call_frame opened) outs)
 outs-said opened n r [] h = refl
 outs-said opened n r (o ∷ outs) h =
     (λ i. send-one (n + 1) (call_message o.xid opened.wished o.stag o.plan) h.0 i ++ outs-said opened (n + 1) r outs h.1 i)

@@ -17,7 +17,7 @@ use Rattle.nr_reduce.specs.Events.Event.{CallSubmitted, MemoryRevoked, CallExecu
 use Rattle.nr_reduce.specs.SubmitAnswer.{next_xid}
 use Rattle.nr_reduce.specs.ClientState.{ClientState, OutstandingCall, call_payload, plan_for}
 use Rattle.nr_reduce.specs.ServerState.{ServerState, PendingCall, ReadyCall, down_max}
-use Rattle.nr_reduce.specs.Client.{client_state_after, client_output, call_output, outstanding_of, plan_or, revoked_call, written_call}
+use Rattle.nr_reduce.specs.Client.{client_state_after, client_output, call_output, outstanding_of, plan_or, revoked_call}
 use Rattle.nr_reduce.specs.Server.{server_state_after, server_output, offer_of, answer_of_target}
 use Rattle.nr_reduce.proofs.Sizes.{message_size}
 use Rattle.nr_laws.specs.FrameContents.{FrameContent, output_bytes, total_of, sends_in, requests_in, hellos_in, call_frame, client_frames, server_frames}
@@ -27,18 +27,19 @@ use Rattle.nr_laws.proofs.TotalsAtClient.{totals-accepts, totals-writes_up, up_m
 use Rattle.nr_laws.proofs.TotalsAtServer.{totals-executes, totals-writes_down, answer-counts}
 use Rattle.nr_laws.proofs.PendingExecuted.{pending_agree-executes, executed-there}
 use Rattle.nr_laws.proofs.OwnXids.{OwnXids, own_xids-accepts, own_xids-writes}
-use Rattle.nr_laws.proofs.OutputFrames.{IsShort, AllShort, send-one}
 use Rattle.nr_laws.proofs.Writable.{AreWritable, stream-more}
 use Rattle.nr_laws.proofs.ServerOutputs.{fit-filter}
 use Rattle.nr_laws.proofs.ServerOutput.{execution_frames, execution-proper, execution-said}
 use Rattle.nr_laws.proofs.AgreeingEnds.{EndsAgree, messages_said}
 use Rattle.nr_laws.proofs.ClientFrame.{calls_said}
+use Rattle.nr_laws.proofs.Outputs.{IsShort, send-one, CallsShort}
+use Rattle.nr_laws.proofs.ClientSays.{short-append, short-revoked, short-written}
 
 -- ---- Of a client
 
 -- it sends more, and its calls stay
 up-linked : (opened : LinkParameters) (k t : ClientState) (s : ServerState) (u d all_up all_down : List FrameContent) (w : Transit) (said : List FrameContent) → EndsAgree opened k s u d all_up all_down w
-    → TotalsAgree t s (up_more w said) → OwnXids opened t → AllShort opened t.outstanding → t.received ≡ k.received → AreWritable said → total_of hellos_in said ≡ 0 → total_of requests_in said ≡ 0
+    → TotalsAgree t s (up_more w said) → OwnXids opened t → CallsShort opened t.outstanding → t.received ≡ k.received → AreWritable said → total_of hellos_in said ≡ 0 → total_of requests_in said ≡ 0
     → EndsAgree opened t s u d (all_up ++ said) all_down (up_more w said)
 up-linked opened k t s u d all_up all_down w said l counts outs short received proper hellos reads = record {
   parts_up =
@@ -75,10 +76,6 @@ unfolding plan_for
 short-call opened k a plan is =
     let size = message_size (call_payload a.xid a.call) a.form 1024 1024 a.xid opened.wished k.stag plan is in
     subst (λ (p : Plan). IsShort (call_message a.xid opened.wished k.stag p)) (sym (planned (call_payload a.xid a.call) (plan_for k a.xid a.call a.form) plan is)) (omega (arith, size.1))
-
-short-append : (opened : LinkParameters) (os more : List OutstandingCall) → AllShort opened os → AllShort opened more → AllShort opened (os ++ more)
-short-append opened [] more h k = k
-short-append opened (o ∷ os) more h k = (h.0, short-append opened os more h.1 k)
 
 pub submitted : (opened : LinkParameters) (k : ClientState) (s : ServerState) (u d all_up all_down : List FrameContent) (w : Transit) (place : ℕ) (a : AcceptedCall) (plan : Plan) → EndsAgree opened k s u d all_up all_down w
     → a.xid ≡ next_xid opened k → plan_for k a.xid a.call a.form ≡ Ok plan → Submitted opened k s u d all_up all_down w place a
@@ -137,16 +134,8 @@ below-revoked : (xid n : ℕ) (os : List OutstandingCall) → AreAtMost (λ (o :
 below-revoked xid n [] h = tt
 below-revoked xid n (o ∷ os) h = (omega (arith, xid-revoked xid o, h.0), below-revoked xid n os h.1)
 
-short-revoked : (opened : LinkParameters) (xid : ℕ) (os : List OutstandingCall) → AllShort opened os → AllShort opened (map (revoked_call xid) os)
-short-revoked opened xid [] h = tt
-short-revoked opened xid (o ∷ os) h = (by (eqb o.xid xid), short-revoked opened xid os h.1)
-  where
-    by : (b : Bool) → IsShort (call_message (cond b (record o { is_revoked = true }) o).xid opened.wished (cond b (record o { is_revoked = true }) o).stag (cond b (record o { is_revoked = true }) o).plan)
-    by true = h.0
-    by false = h.0
-
 same-linked : (opened : LinkParameters) (k t : ClientState) (s : ServerState) (u d all_up all_down : List FrameContent) (w v : Transit) → EndsAgree opened k s u d all_up all_down w
-    → v.up ++ v.queued_up ≡ w.up ++ w.queued_up → v.down ++ v.queued_down ≡ w.down ++ w.queued_down → TotalsAgree t s v → OwnXids opened t → AllShort opened t.outstanding → t.received ≡ k.received
+    → v.up ++ v.queued_up ≡ w.up ++ w.queued_up → v.down ++ v.queued_down ≡ w.down ++ w.queued_down → TotalsAgree t s v → OwnXids opened t → CallsShort opened t.outstanding → t.received ≡ k.received
     → EndsAgree opened t s u d all_up all_down v
 same-linked opened k t s u d all_up all_down w v l up down counts outs short received = record {
   parts_up = ap (λ (ps : List FrameContent). u ++ ps) up ∙ l.parts_up;
@@ -189,10 +178,6 @@ unfolding client_state_after
 revoked opened k s u d all_up all_down w place xid l =
     same-linked opened k (client_state_after opened k (MemoryRevoked place xid)) s u d all_up all_down w w l refl refl (totals-revoked opened k s w place xid l.counts)
     (record { apart = apart-revoked xid k.outstanding l.outs.apart; below = below-revoked xid (next_xid opened k) k.outstanding l.outs.below }) (short-revoked opened xid k.outstanding l.short) refl
-
-short-written : (opened : LinkParameters) (b : Bool) (os : List OutstandingCall) → AllShort opened os → AllShort opened (map (written_call b) os)
-short-written opened b [] h = tt
-short-written opened b (o ∷ os) h = (h.0, short-written opened b os h.1)
 
 pub written_up : (opened : LinkParameters) (k : ClientState) (s : ServerState) (u d all_up all_down : List FrameContent) (w : Transit) → EndsAgree opened k s u d all_up all_down w
     → EndsAgree opened (client_state_after opened k QueueWritten) s u d all_up all_down (record { queued_up = []; up = w.up ++ w.queued_up; queued_down = w.queued_down; down = w.down })

@@ -32,8 +32,9 @@ use Rattle.nr_laws.specs.Payloads.{HasPlan, form_conveyed}
 use Rattle.nr_laws.proofs.Bytes.{bytes_both}
 use Rattle.nr_laws.proofs.OnceByXid.{at-mark}
 use Rattle.nr_laws.proofs.OwnHeads.{own-head}
-use Rattle.nr_laws.proofs.CallTargets.{some-is, bytes-zeros, bytes-region, item-by, conveyed-head}
+use Rattle.nr_laws.proofs.CallTargets.{bytes-zeros, bytes-region, item-by, conveyed-head}
 use Rattle.nr_laws.proofs.OwnPayloads.{payloads_are_own}
+use Rattle.nr_laws.proofs.Basics.{some-is}
 
 -- ---- What a form conveys is of bytes
 

@@ -1,5 +1,5 @@
 -- A call that was accepted under an xid is the one that is executed under it.
-use Rattle.std.proofs.Common.{◌≡◌, ℕ, List, [], ◌∷◌, ◌++◌, drop, refl, sym, ap, ◌∙◌, arith, append_assoc}
+use Rattle.std.proofs.Common.{◌≡◌, ℕ, List, [], ◌∷◌, ◌++◌, refl, sym, ap, ◌∙◌, arith, append_assoc}
 use Rattle.nr_reduce.specs.declared.call.Call.{Call}
 use Rattle.nr_reduce.specs.declared.call.Form.{Form}
 use Rattle.nr_reduce.specs.declared.call.Submission.TheVariants as submissions
@@ -15,6 +15,7 @@ use Rattle.nr_laws.specs.Payloads.{form_conveyed, PayloadsAreOwn}
 use Rattle.nr_laws.specs.Typed.{TypedMark}
 use Rattle.nr_laws.proofs.OnceByXid.{executed-at, before-mark}
 use Rattle.nr_laws.proofs.ExecutedReads.{read-call}
+use Rattle.nr_laws.proofs.Basics.{first-is, rest-is}
 
 -- two places of a list: one, or one behind the other
 data Places (pre : List Mark) (a : Mark) (post one : List Mark) (b : Mark) (two : List Mark) : Type 0 where
@@ -22,22 +23,16 @@ data Places (pre : List Mark) (a : Mark) (post one : List Mark) (b : Mark) (two 
   Behind : (between : List Mark) → post ≡ between ++ b ∷ two → Places pre a post one b two
   Before : (between : List Mark) → two ≡ between ++ a ∷ post → Places pre a post one b two
 
-head-is : (x y : Mark) (xs ys : List Mark) → x ∷ xs ≡ y ∷ ys → x ≡ y
-head-is x y xs ys e = cc
-
-rest-is : (x y : Mark) (xs ys : List Mark) → x ∷ xs ≡ y ∷ ys → xs ≡ ys
-rest-is x y xs ys e = ap (λ (zs : List Mark). drop 1 zs) e
-
 more-places : (x y : Mark) (pre : List Mark) (a : Mark) (post one : List Mark) (b : Mark) (two : List Mark) → x ≡ y → Places pre a post one b two → Places (x ∷ pre) a post (y ∷ one) b two
 more-places x y pre a post one b two e (AtOne p q) = AtOne (λ i. e i ∷ p i) q
 more-places x y pre a post one b two e (Behind between p) = Behind between p
 more-places x y pre a post one b two e (Before between p) = Before between p
 
 places : (pre : List Mark) (a : Mark) (post one : List Mark) (b : Mark) (two : List Mark) → pre ++ a ∷ post ≡ one ++ b ∷ two → Places pre a post one b two
-places [] a post [] b two e = AtOne refl (head-is a b post two e)
+places [] a post [] b two e = AtOne refl (first-is a b post two e)
 places [] a post (y ∷ one) b two e = Behind one (rest-is a y post (one ++ b ∷ two) e)
 places (x ∷ pre) a post [] b two e = Before pre (sym (rest-is x b (pre ++ a ∷ post) two e))
-places (x ∷ pre) a post (y ∷ one) b two e = more-places x y pre a post one b two (head-is x y _ _ e) (places pre a post one b two (rest-is x y _ _ e))
+places (x ∷ pre) a post (y ∷ one) b two e = more-places x y pre a post one b two (first-is x y _ _ e) (places pre a post one b two (rest-is x y _ _ e))
 
 call-is : (link xid : ℕ) (call other : Call) (form way : Form) → marks.Submit link call form (submissions.Accepted xid) ≡ marks.Submit link other way (submissions.Accepted xid) → (call ≡ other) × (form ≡ way)
 call-is link xid call other form way e = (cc, cc)

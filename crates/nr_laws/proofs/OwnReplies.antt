@@ -17,14 +17,12 @@ use Rattle.nr_laws.proofs.ConveyedReplies.{both-conveyed}
 use Rattle.nr_laws.proofs.OwnExecutes.{own-executes}
 use Rattle.nr_laws.proofs.OwnPayloads.{payloads_are_own}
 use Rattle.nr_laws.proofs.Replied.{replied-by}
-
-one-reply : (x y : List ℕ) → Some x ≡ Some y → x ≡ y
-one-reply x y e = cc
+use Rattle.nr_laws.proofs.Basics.{some-is}
 
 pub executed_replies_are_handed_over : ExecutedRepliesAreHandedOver
-executed_replies_are_handed_over opened link run before xid plan reply opens typed far has at =
+executed_replies_are_handed_over opened link run before xid plan reply typed far has at =
     let r = replied-by opened link run before at.after xid reply typed far at.is in
-    let b = both-conveyed opened link run before xid plan reply opens typed far has at r in
+    let b = both-conveyed opened link run before xid plan reply typed far has at r in
     let e = r.answer.call in
     let m = r.by.mark in
     let done : Mark = marks.Done link xid (outcomes.Reply reply) in
@@ -37,7 +35,7 @@ executed_replies_are_handed_over opened link run before xid plan reply opens typ
     let offer : ChunkLists = offer_of (server_by opened r.answer.earlier) e.xid in
     let answers : answer_for offer 1024 has.call.prog has.call.vers has.call.proc e.reply ≡ Some r.answer.answer =
     ap (λ (x : Result CallHead ℕ). answer_of_target offer 1024 e.reply (target_of x)) (sym own.head) ∙ r.answer.is_answer in
-    let same : reply ≡ e.reply = one-reply reply e.reply (sym b.handed ∙ b.own has.call.prog has.call.vers has.call.proc answers) in
+    let same : reply ≡ e.reply = some-is reply e.reply (sym b.handed ∙ b.own has.call.prog has.call.vers has.call.proc answers) in
     record {
       moment = e.moment;
       payload = e.payload;

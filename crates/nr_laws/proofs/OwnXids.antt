@@ -15,6 +15,7 @@ use Rattle.nr_reduce.specs.SubmitAnswer.{next_xid}
 use Rattle.nr_laws.specs.LinkInvariants.{IsUnused, AreDistinct, AreAtMost}
 use Rattle.nr_laws.proofs.Totals.{apart_kept, apart_push}
 use Rattle.nr_laws.proofs.Keys.{below-more, below-append, below-kept}
+use Rattle.nr_reduce.proofs.Placing.{by_segment as segment-accepted}
 
 -- each is below the one that is given next
 pub record OwnXids (opened : LinkParameters) (k : ClientState) : Type 0 where
@@ -44,16 +45,6 @@ segment-out k f (Ok segment) = by (message_completed k.received segment) (read_r
     by None (Some q) = inl refl
     by (Some m) None = inr ((λ o. not (eqb o.xid (word_at 0 m))), refl)
     by (Some m) (Some q) = inr ((λ o. not (eqb o.xid (word_at 0 m))), refl)
-
-segment-accepted : (k : ClientState) (f : Frame) (r : Result Segment ℕ) → (with_segment k f r).calls_accepted ≡ k.calls_accepted
-segment-accepted k f (Err reason) = refl
-segment-accepted k f (Ok segment) = by (message_completed k.received segment) (read_request_of segment)
-  where
-    by : (m : Option (List ℕ)) (q : Option ReadRequest) → (with_request (with_message k f.end m) q).calls_accepted ≡ k.calls_accepted
-    by None None = refl
-    by None (Some q) = refl
-    by (Some m) None = refl
-    by (Some m) (Some q) = refl
 
 pub own_xids-came : (opened : LinkParameters) (k : ClientState) (f : Frame) → OwnXids opened k → OwnXids opened (client_state_after opened k (FrameReceived f))
 unfolding client_state_after

@@ -17,6 +17,7 @@ use Rattle.nr_laws.proofs.Totals.{apart_kept, apart_push}
 use Rattle.nr_laws.proofs.TotalsAtServer.{found_has}
 use Rattle.nr_laws.proofs.Keys.{any-append, any-left, any-right, below-kept, below-taken, below-dropped, below-append, none-absent, any-kept}
 use Rattle.nr_laws.proofs.PendingSends.{AfterEffect, payload-own, pending_agree-same, whole-append}
+use Rattle.std.proofs.lemmas.Bool.{and_parts}
 
 -- ---- One call has a number, and one has an xid
 
@@ -74,18 +75,18 @@ ready-rest reads r rest xid (c ∷ calls) h a = by (eqb c.xid xid) refl (ready-r
     by false is later =
         ((λ e. first-or r.number c.number (list_any (λ (x : ReadyCall). eqb x.number c.number) rest) (h.0 e) (λ same. no-truth (sym is ∙ eq-eqb c.xid xid (a.0 (sym same))))), later)
 
-survives : (q : PendingCall → Bool) (xid : ℕ) (calls : List PendingCall) → ((c : PendingCall) → q c ≡ true → c.xid ≡ xid → ⊥) → list_any q calls ≡ true → list_any q (filter (λ (c : PendingCall). not (eqb c.xid xid)) calls) ≡ true
-survives q xid [] other e = absurd cc
-survives q xid (c ∷ calls) other e = by (eqb c.xid xid) (q c) refl refl e (λ rest. survives q xid calls other rest)
+survives : {X : Type 0} (key : X → ℕ) (q : X → Bool) (n : ℕ) (xs : List X) → ((x : X) → q x ≡ true → key x ≡ n → ⊥) → list_any q xs ≡ true → list_any q (filter (λ (x : X). not (eqb (key x) n)) xs) ≡ true
+survives key q n [] other e = absurd cc
+survives {X} key q n (x ∷ xs) other e = by (eqb (key x) n) (q x) refl refl e (λ rest. survives key q n xs other rest)
   where
-    left : List PendingCall
-    left = filter (λ (d : PendingCall). not (eqb d.xid xid)) calls
+    left : List X
+    left = filter (λ (y : X). not (eqb (key y) n)) xs
 
-    by : (b d : Bool) → eqb c.xid xid ≡ b → q c ≡ d → (d || list_any q calls) ≡ true → (list_any q calls ≡ true → list_any q left ≡ true) → list_any q (cond (not b) (c ∷ left) left) ≡ true
-    by true true is qc e later = absurd (other c qc (eqb-true c.xid xid is))
-    by true false is qc e later = later e
-    by false true is qc e later = ap (λ (x : Bool). x || list_any q left) qc
-    by false false is qc e later = ap (λ (x : Bool). x || list_any q left) qc ∙ later e
+    by : (b d : Bool) → eqb (key x) n ≡ b → q x ≡ d → (d || list_any q xs) ≡ true → (list_any q xs ≡ true → list_any q left ≡ true) → list_any q (cond (not b) (x ∷ left) left) ≡ true
+    by true true is own e later = absurd (other x own (eqb-true (key x) n is))
+    by true false is own e later = later e
+    by false true is own e later = ap (λ (b : Bool). b || list_any q left) own
+    by false false is own e later = ap (λ (b : Bool). b || list_any q left) own ∙ later e
 
 any-swap : (p q : PendingCall → Bool) (calls : List PendingCall) → list_any (λ c. p c && q c) calls ≡ list_any (λ c. q c && p c) calls
 any-swap p q [] = refl
@@ -96,11 +97,6 @@ any-swap p q (c ∷ calls) = λ i. and-swap (p c) (q c) i || any-swap p q calls 
     and-swap true false = refl
     and-swap false true = refl
     and-swap false false = refl
-
-both-parts : (a b : Bool) → (a && b) ≡ true → (a ≡ true) × (b ≡ true)
-both-parts true true e = (refl, refl)
-both-parts true false e = absurd (no-truth e)
-both-parts false b e = absurd (no-truth e)
 
 agreed : (key mark : PendingCall → ℕ) (n x : ℕ) (calls : List PendingCall) → Agree key mark n x calls → (q : PendingCall → Bool) → ((c : PendingCall) → q c ≡ true → key c ≡ n) → list_any q calls ≡ true
     → (m : ℕ) → ((c : PendingCall) → q c ≡ true → mark c ≡ m) → m ≡ x
@@ -118,11 +114,11 @@ whole-rest reads calls n xid (r ∷ rest) absent a h =
     let q : PendingCall → Bool = λ c. eqb c.number r.number && eqb c.xid r.xid in
     let other : (c : PendingCall) → q c ≡ true → c.xid ≡ xid → ⊥ =
     λ c is same.
-    let parts = both-parts (eqb c.number r.number) (eqb c.xid r.xid) is in
+    let parts = and_parts (eqb c.number r.number) (eqb c.xid r.xid) is in
     absent.0 (agreed (λ (d : PendingCall). d.xid) (λ (d : PendingCall). d.number) xid n calls a q
-    (λ d d_is. eqb-true d.xid r.xid (both-parts (eqb d.number r.number) (eqb d.xid r.xid) d_is).1 ∙ sym (eqb-true c.xid r.xid parts.1) ∙ same)
-    h.0 r.number (λ d d_is. eqb-true d.number r.number (both-parts (eqb d.number r.number) (eqb d.xid r.xid) d_is).0)) in
-    (survives q xid calls other h.0, h.1, whole-rest reads calls n xid rest absent.1 a h.2)
+    (λ d d_is. eqb-true d.xid r.xid (and_parts (eqb d.number r.number) (eqb d.xid r.xid) d_is).1 ∙ sym (eqb-true c.xid r.xid parts.1) ∙ same)
+    h.0 r.number (λ d d_is. eqb-true d.number r.number (and_parts (eqb d.number r.number) (eqb d.xid r.xid) d_is).0)) in
+    (survives (λ (c : PendingCall). c.xid) q xid calls other h.0, h.1, whole-rest reads calls n xid rest absent.1 a h.2)
 
 pub pending_agree-executes : (opened : LinkParameters) (s : ServerState) (e : ExecutedCall) (r : ReadyCall) (rest : List ReadyCall) → PendingAgree s → s.ready ≡ r ∷ rest → e.xid ≡ r.xid → PendingAgree (server_state_after opened s (CallExecuted e))
 unfolding server_state_after
@@ -206,19 +202,6 @@ none_found p (x ∷ xs) e = by (p x) e (none_found p xs)
     by true e later = absurd cc
     by false e later = later e
 
-survives-number : (q : PendingCall → Bool) (n : ℕ) (calls : List PendingCall) → ((c : PendingCall) → q c ≡ true → c.number ≡ n → ⊥) → list_any q calls ≡ true → list_any q (filter (λ (c : PendingCall). not (eqb c.number n)) calls) ≡ true
-survives-number q n [] other e = absurd cc
-survives-number q n (c ∷ calls) other e = by (eqb c.number n) (q c) refl refl e (λ rest. survives-number q n calls other rest)
-  where
-    left : List PendingCall
-    left = filter (λ (d : PendingCall). not (eqb d.number n)) calls
-
-    by : (b d : Bool) → eqb c.number n ≡ b → q c ≡ d → (d || list_any q calls) ≡ true → (list_any q calls ≡ true → list_any q left ≡ true) → list_any q (cond (not b) (c ∷ left) left) ≡ true
-    by true true is qc e later = absurd (other c qc (eqb-true c.number n is))
-    by true false is qc e later = later e
-    by false true is qc e later = ap (λ (x : Bool). x || list_any q left) qc
-    by false false is qc e later = ap (λ (x : Bool). x || list_any q left) qc ∙ later e
-
 absent-left : (n : ℕ) (calls : List PendingCall) → IsUnused (λ (c : PendingCall). c.number) n (filter (λ (c : PendingCall). not (eqb c.number n)) calls)
 absent-left n [] = tt
 absent-left n (c ∷ calls) = by (eqb c.number n) refl (absent-left n calls)
@@ -262,8 +245,8 @@ whole-dropped kept m r others calls [] own h = tt
 whole-dropped kept m r others calls (x ∷ ready) own h =
     let ne : r.number ≢ x.number = unread-head r others x.number h.1 in
     let other : m ≢ x.number = λ e. ne (own ∙ e) in (
-      survives-number (λ (c : PendingCall). eqb c.number x.number && eqb c.xid x.xid) m calls
-          (λ c is same. other (sym same ∙ eqb-true c.number x.number (both-parts (eqb c.number x.number) (eqb c.xid x.xid) is).0)) h.0,
+      survives (λ (c : PendingCall). c.number) (λ (c : PendingCall). eqb c.number x.number && eqb c.xid x.xid) m calls
+          (λ c is same. other (sym same ∙ eqb-true c.number x.number (and_parts (eqb c.number x.number) (eqb c.xid x.xid) is).0)) h.0,
       read-dropped kept m x.number others other ∙ read-tail r others x.number ne ∙ h.1,
       whole-dropped kept m r others calls ready own h.2,
     )

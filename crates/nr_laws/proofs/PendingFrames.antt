@@ -102,7 +102,7 @@ response-sinks k place [] at is h = h
 response-sinks k place (r ∷ others) at is h =
     read-sinks k place r (call_of_number k r.number) (record (no_effect k) { reads = others; kept = length (open_reads k) - 1 }) at (subst (λ (rs : List PendingRead). HaveSinks at k.regions rs) is h).1
 
-later-sinks : (place at : ℕ) (regions : List Region) (reads : List PendingRead) → place ≤ at → HaveSinks place regions reads → HaveSinks at regions reads
+pub later-sinks : (place at : ℕ) (regions : List Region) (reads : List PendingRead) → place ≤ at → HaveSinks place regions reads → HaveSinks at regions reads
 later-sinks place at regions [] le h = tt
 later-sinks place at regions (r ∷ reads) le h = (sink-later place at r regions le h.0, later-sinks place at regions reads le h.1)
 

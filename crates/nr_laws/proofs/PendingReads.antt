@@ -1,24 +1,20 @@
 -- Each read of a pending call is of its read list: at a position that has an entry there.
-use Rattle.std.proofs.Common.{◌≡◌, ◌≢◌, ℕ, ◌-◌, ◌<◌, Bool, true, false, cond, not, ◌&&◌, ◌||◌, eqb, List, [], ◌∷◌, ◌++◌, length, take, drop, Option, None, Some, Result, Ok, Err, refl, sym, ap, subst, ◌∙◌, arith, append_assoc, eq-eqb}
+use Rattle.std.proofs.Common.{◌≡◌, ◌≢◌, ℕ, ◌<◌, Bool, true, false, cond, not, ◌||◌, eqb, List, [], ◌∷◌, ◌++◌, take, drop, refl, sym, ap, subst, ◌∙◌, arith, append_assoc, eq-eqb}
 use Rattle.std.specs.List.{list_any, filter, AllByRecursion}
 use Rattle.nr_header.specs.declared.header.ReadSegment.{ReadSegment}
-use Rattle.nr_wire.specs.Constants.{OPCODE_READ_RESPONSE}
-use Rattle.nr_wire.specs.Segment.{Segment}
-use Rattle.nr_wire.specs.Segment.Segment.{Tagged, Untagged}
 use Rattle.nr_link.specs.Frames.{Frame}
-use Rattle.nr_link.specs.ReceiveState.{message_completed}
-use Rattle.nr_reduce.specs.Chunks.{is_read_chunk_of_item, total_at}
+use Rattle.nr_reduce.specs.Chunks.{total_at}
 use Rattle.nr_reduce.specs.OfferedRegions.{Region}
 use Rattle.nr_reduce.specs.ServerState.{ServerState, PendingCall, PendingRead}
-use Rattle.nr_reduce.specs.ServerReads.{open_reads, is_read, reads_from, read_of, reads_of, regions_of}
-use Rattle.nr_reduce.specs.ServerMessages.{Verdict, CallVerdict, verdict, by_payload, payload_of, chunk_bytes}
-use Rattle.nr_reduce.specs.ServerMessages.Verdict.{EndsLink, OtherVersion, BadChunks, MakesPending}
-use Rattle.nr_reduce.specs.ServerMessages.CallVerdict.{Refuses, IsReady}
-use Rattle.nr_reduce.specs.ServerFrames.{FrameEffect, no_effect, with_verdict, ready_if_whole, with_refused_call, is_stream_read, read_effect, call_of_number, response_effect, message_effect, by_message, with_access, effect_in}
+use Rattle.nr_reduce.specs.ServerReads.{reads_from, read_of, reads_of, regions_of}
+use Rattle.nr_reduce.specs.ServerMessages.{verdict}
+use Rattle.nr_reduce.specs.ServerMessages.Verdict.{MakesPending}
+use Rattle.nr_reduce.specs.ServerFrames.{FrameEffect, with_refused_call, frame_effect}
 use Rattle.nr_laws.specs.LinkInvariants.{AreAtMost, PendingAgree}
 use Rattle.nr_laws.proofs.Keys.{any-right}
-use Rattle.nr_laws.proofs.ReadLimits.{each-append, each-take, each-drop, each-kept}
 use Rattle.nr_laws.proofs.PendingSends.{verdict-new}
+use Rattle.nr_laws.proofs.Basics.{each-append, each-take, each-drop, each-kept}
+use Rattle.nr_laws.proofs.EachEffect.{each-effect, held-messages, held-responses}
 
 abbrev pub HasPosition : ℕ → List ReadSegment → Type 0
 HasPosition position read = list_any (λ (s : ReadSegment). eqb s.position position) read ≡ true
@@ -76,57 +72,31 @@ more-reads n number reads regions read lt (c ∷ calls) below h = (
 
 -- ---- What a frame leaves
 
-own-if : (b : Bool) (s t : FrameEffect) → AreOwn s.reads s.calls → AreOwn t.reads t.calls → AreOwn (cond b s t).reads (cond b s t).calls
-own-if true s t h k = h
-own-if false s t h k = k
+pub own-effect : (k : ServerState) (f : Frame) → PendingAgree k → AreOwn k.reads k.calls → AreOwn (frame_effect k f).reads (frame_effect k f).calls
+own-effect k f w h =
+    each-effect k (λ m. Unit {0}) (λ s. AreOwn s.reads s.calls) (held-messages k (λ m. Unit {0}) (λ calls reads regions. AreOwn reads calls) h pending)
+    (held-responses k (λ calls reads regions. AreOwn reads calls) h refused read) f (λ s m is e. tt)
+  where
+    pending : (place : ℕ) (message : List ℕ) (c : PendingCall) → Unit {0} → verdict k message ≡ MakesPending c → AreOwn (k.reads ++ reads_of (k.regions ++ regions_of k place c) c) (k.calls ++ c ∷ [])
+    pending place message c good is =
+        let new = verdict-new k message c is in
+        let number = new.0.number in
+        let lt : k.received.sends < c.number = omega (arith, number) in
+        let regions = k.regions ++ regions_of k place c in
+        let news = reads_of regions c in
+        each-append (λ (d : PendingCall). AllByRecursion (IsOwn d) (k.reads ++ news)) k.calls (c ∷ [])
+        (more-reads k.received.sends c.number k.reads regions c.lists.read lt k.calls w.calls_below h)
+        (each-append (IsOwn c) k.reads news (earlier-reads c k.received.sends k.reads w.reads_below lt) (listed-reads c regions c.number [] c.lists.read refl), tt)
 
-own-verdict : (o : CallVerdict) (s : FrameEffect) → AreOwn s.reads s.calls → AreOwn (with_verdict o s).reads (with_verdict o s).calls
-own-verdict (Refuses reason) s h = h
-own-verdict (IsReady r) s h = h
+    refused : (c : PendingCall) (s : FrameEffect) → AreOwn s.reads s.calls → AreOwn (with_refused_call k c s).reads (with_refused_call k c s).calls
+    refused c s h =
+        let mine : PendingRead → Bool = λ x. not (eqb x.number c.number) in
+        let left : List PendingRead = take s.kept s.reads ++ filter mine (drop s.kept s.reads) in
+        each-kept (λ (d : PendingCall). AllByRecursion (IsOwn d) left) (λ (d : PendingCall). not (eqb d.number c.number)) s.calls
+        (other-reads s.reads left (λ d g. each-append (IsOwn d) _ _ (each-take (IsOwn d) s.kept s.reads g) (each-kept (IsOwn d) mine (drop s.kept s.reads) (each-drop (IsOwn d) s.kept s.reads g))) s.calls h)
 
-own-whole : (k : ServerState) (place : ℕ) (c : PendingCall) (s : FrameEffect) → AreOwn s.reads s.calls → AreOwn (ready_if_whole k place c s).reads (ready_if_whole k place c s).calls
-own-whole k place c s h = own-if (is_read s.reads c.number) (with_verdict (by_payload c (payload_of k place c)) s) s (own-verdict (by_payload c (payload_of k place c)) s h) h
-
-own-message : (k : ServerState) (place : ℕ) (message : List ℕ) (v : Verdict) → verdict k message ≡ v → PendingAgree k → AreOwn k.reads k.calls → AreOwn (message_effect k place message v).reads (message_effect k place message v).calls
-own-message k place message (EndsLink reason) is w h = h
-own-message k place message OtherVersion is w h = h
-own-message k place message BadChunks is w h = h
-own-message k place message (MakesPending c) is w h =
-    let new = verdict-new k message c is in
-    let number = new.0.number in
-    let lt : k.received.sends < c.number = omega (arith, number) in
-    let regions = k.regions ++ regions_of k place c in
-    let news = reads_of regions c in
-    own-whole k place c (record (no_effect k) { calls = k.calls ++ c ∷ []; reads = k.reads ++ news; regions = regions })
-    (each-append (λ (d : PendingCall). AllByRecursion (IsOwn d) (k.reads ++ news)) k.calls (c ∷ [])
-    (more-reads k.received.sends c.number k.reads regions c.lists.read lt k.calls w.calls_below h)
-    (each-append (IsOwn c) k.reads news (earlier-reads c k.received.sends k.reads w.reads_below lt) (listed-reads c regions c.number [] c.lists.read refl), tt))
-
-own-by-message : (k : ServerState) (place : ℕ) (o : Option (List ℕ)) → PendingAgree k → AreOwn k.reads k.calls → AreOwn (by_message k place o).reads (by_message k place o).calls
-own-by-message k place None w h = h
-own-by-message k place (Some message) w h = own-message k place message (verdict k message) refl w h
-
-own-read : (k : ServerState) (place : ℕ) (r : PendingRead) (o : Option PendingCall) (s : FrameEffect) → AreOwn s.reads s.calls → AreOwn (read_effect k place r o s).reads (read_effect k place r o s).calls
-own-read k place r None s h = h
-own-read k place r (Some c) s h =
-    let mine : PendingRead → Bool = λ x. not (eqb x.number c.number) in
-    let left : List PendingRead = take s.kept s.reads ++ filter mine (drop s.kept s.reads) in
-    own-if (is_stream_read c r s.reads && not (is_read_chunk_of_item (chunk_bytes k place c 0) c.lists.read)) (with_refused_call k c s) (ready_if_whole k place c s)
-    (each-kept (λ (d : PendingCall). AllByRecursion (IsOwn d) left) (λ (d : PendingCall). not (eqb d.number c.number)) s.calls
-    (other-reads s.reads left (λ d g. each-append (IsOwn d) _ _ (each-take (IsOwn d) s.kept s.reads g) (each-kept (IsOwn d) mine (drop s.kept s.reads) (each-drop (IsOwn d) s.kept s.reads g))) s.calls h))
-    (own-whole k place c s h)
-
-own-response : (k : ServerState) (place : ℕ) (reads : List PendingRead) → k.reads ≡ reads → AreOwn reads k.calls → AreOwn (response_effect k place reads).reads (response_effect k place reads).calls
-own-response k place [] is h = subst (λ (rs : List PendingRead). AreOwn rs k.calls) (sym is) h
-own-response k place (r ∷ reads) is h =
-    own-read k place r (call_of_number k r.number) (record (no_effect k) { reads = reads; kept = length (open_reads k) - 1 }) (other-reads (r ∷ reads) reads (λ c g. g.1) k.calls h)
-
-pub own-in : (k : ServerState) (f : Frame) (r : Result Segment ℕ) → PendingAgree k → AreOwn k.reads k.calls → AreOwn (effect_in k f r).reads (effect_in k f r).calls
-own-in k f (Err reason) w h = h
-own-in k f (Ok (Tagged last opcode stag to payload)) w h =
-    let t : ServerState = with_access k f (Tagged last opcode stag to payload) in
-    own-if (eqb opcode OPCODE_READ_RESPONSE && last) (response_effect t f.end t.reads) (no_effect t) (own-response t f.end t.reads refl h) h
-own-in k f (Ok (Untagged last opcode w queue msn offset payload)) agree h = own-by-message k f.end (message_completed k.received (Untagged last opcode w queue msn offset payload)) agree h
+    read : (r : PendingRead) (reads : List PendingRead) → k.reads ≡ r ∷ reads → AreOwn reads k.calls
+    read r reads is = other-reads (r ∷ reads) reads (λ c g. g.1) k.calls (subst (λ (rs : List PendingRead). AreOwn rs k.calls) is h)
 
 pub own-executed : (reads : List PendingRead) (p : PendingCall → Bool) (calls : List PendingCall) → AreOwn reads calls → AreOwn reads (filter p calls)
 own-executed reads p calls h = each-kept (λ (d : PendingCall). AllByRecursion (IsOwn d) reads) p calls h

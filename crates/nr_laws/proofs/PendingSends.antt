@@ -1,29 +1,23 @@
 -- Pending calls behind a Send.
-use Rattle.std.proofs.Common.{◌≡◌, ◌≢◌, ℕ, ◌+◌, ◌≤◌, ◌<◌, Bool, true, false, not, cond, ◌||◌, ◌&&◌, eqb, ltb, List, [], ◌∷◌, ◌++◌, length, drop, Option, None, Some, Result, Ok, Err, refl, sym, ap, subst, ◌∙◌, arith, eq-eqb, append-nil}
+use Rattle.std.proofs.Common.{◌≡◌, ◌≢◌, ℕ, ◌+◌, ◌≤◌, ◌<◌, Bool, true, false, not, cond, ◌||◌, ◌&&◌, eqb, List, [], ◌∷◌, ◌++◌, Option, None, Some, Result, Ok, Err, refl, sym, ap, subst, ◌∙◌, arith, eq-eqb, append-nil}
 use Rattle.std.specs.List.{list_any}
-use Rattle.nr_header.specs.declared.fault.HeaderFault.{HeaderFault}
 use Rattle.nr_header.specs.declared.header.ReadSegment.{ReadSegment}
-use Rattle.nr_header.specs.declared.header.ChunkLists.{ChunkLists}
-use Rattle.nr_header.specs.declared.header.Body.{Body}
-use Rattle.nr_header.specs.declared.header.Body.TheVariants.{Msg, Nomsg, ErrVers, ErrChunk}
-use Rattle.nr_header.specs.declared.header.Header.{Header}
-use Rattle.nr_header.specs.Reading.{header_of}
 use Rattle.nr_xdr.specs.Fields.{word_at}
 use Rattle.nr_rpc.specs.declared.head.CallHead.{CallHead}
 use Rattle.nr_rpc.specs.Reading.{call_of}
-use Rattle.nr_reduce.specs.Limits.{numbers_end}
-use Rattle.nr_reduce.specs.Chunks.{is_read_chunk_of_item, total_at}
+use Rattle.nr_reduce.specs.Chunks.{total_at}
 use Rattle.nr_reduce.specs.OfferedRegions.{Region}
-use Rattle.nr_reduce.specs.ServerState.{ServerState, PendingCall, PendingRead, ReadyCall, next_stag, is_pending}
+use Rattle.nr_reduce.specs.ServerState.{ServerState, PendingCall, PendingRead, ReadyCall, is_pending}
 use Rattle.nr_reduce.specs.ServerFrames.{FrameEffect, no_effect, message_effect, with_verdict}
-use Rattle.nr_reduce.specs.ServerMessages.{Verdict, CallVerdict, verdict, by_header, by_body, by_stream, by_need, has_position, no_stream, by_payload, by_head, payload_of, call_xid}
-use Rattle.nr_reduce.specs.ServerReads.{chunks_of, is_read, reads_of, reads_from, read_of, regions_of}
+use Rattle.nr_reduce.specs.ServerMessages.{Verdict, CallVerdict, verdict, by_payload, by_head, payload_of, call_xid}
+use Rattle.nr_reduce.specs.ServerReads.{is_read, reads_of, reads_from, read_of, regions_of}
 use Rattle.nr_reduce.specs.ServerMessages.Verdict.{EndsLink, OtherVersion, BadChunks, MakesPending}
 use Rattle.nr_reduce.specs.ServerMessages.CallVerdict.{Refuses, IsReady}
 use Rattle.nr_laws.specs.LinkInvariants.{AreDistinct, IsUnused, AreAtMost, AreReady, AreWhole, PendingAgree}
 use Rattle.nr_laws.proofs.Totals.{apart_push}
-use Rattle.nr_laws.proofs.TotalsAtClient.{header-xid}
 use Rattle.nr_laws.proofs.Keys.{any-left, any-right, below-more, below-append, below-absent, below-at, none-absent, AreOf, of-absent, of-below, of-append, any-others}
+use Rattle.nr_laws.proofs.HeaderXid.{header-xid}
+use Rattle.nr_laws.proofs.MadePending.{made-pending}
 
 -- ---- The call that a message opens
 
@@ -31,47 +25,12 @@ pub record IsNew (k : ServerState) (c : PendingCall) (xid : ℕ) : Type 0 where
   pub number : c.number ≡ k.received.sends + 1
   pub own : c.xid ≡ xid
 
-need-new : (k : ServerState) (d c : PendingCall) (b : Bool) (xid : ℕ) → IsNew k d xid → cond b (EndsLink 30) (MakesPending d) ≡ MakesPending c → IsNew k c xid
-need-new k d c true xid h e = absurd cc
-need-new k d c false xid h e = subst (λ (x : PendingCall). IsNew k x xid) (opened-same d c e) h
-  where
-    opened-same : (d c : PendingCall) → MakesPending d ≡ MakesPending c → d ≡ c
-    opened-same d c e = cc
-
-stream-new : (k : ServerState) (lists : ChunkLists) (xid : ℕ) (stream : Option (List ℕ)) (c : PendingCall) → by_stream k lists xid stream ≡ MakesPending c → IsNew k c xid
-stream-new k lists xid None c e =
-    need-new k (record { number = k.received.sends + 1; xid = xid; lists = lists; inline = None }) c (ltb numbers_end (next_stag k + length (chunks_of lists))) xid (record { number = refl; own = refl }) e
-stream-new k lists xid (Some stream) c e = by (is_read_chunk_of_item stream lists.read) e
-  where
-    by : (b : Bool) → cond b (by_need k (record { number = k.received.sends + 1; xid = xid; lists = lists; inline = Some stream })) BadChunks ≡ MakesPending c → IsNew k c xid
-    by true e = need-new k (record { number = k.received.sends + 1; xid = xid; lists = lists; inline = Some stream }) c (ltb numbers_end (next_stag k + length (chunks_of lists))) xid (record { number = refl; own = refl }) e
-    by false e = absurd cc
-
-body-new : (k : ServerState) (xid : ℕ) (message : List ℕ) (body : Body) (c : PendingCall) → by_body k xid message body ≡ MakesPending c → IsNew k c xid
-body-new k xid message (Msg lists stream_at) c e = stream-new k lists xid (Some (drop stream_at message)) c e
-body-new k xid message (Nomsg lists) c e = by (has_position lists.read) e
-  where
-    by : (b : Bool) → cond b (by_stream k lists xid (no_stream lists.read)) BadChunks ≡ MakesPending c → IsNew k c xid
-    by true e = stream-new k lists xid (no_stream lists.read) c e
-    by false e = absurd cc
-body-new k xid message (ErrVers version low high) c e = absurd cc
-body-new k xid message (ErrChunk version) c e = absurd cc
-
-header-new : (k : ServerState) (message : List ℕ) (r : Result Header HeaderFault) (c : PendingCall) → header_of message ≡ r → by_header k message r ≡ MakesPending c → IsNew k c (word_at 0 message)
-header-new k message (Ok h) c is e = subst (λ (x : ℕ). IsNew k c x) (header-xid message h is) (body-new k h.xid message h.body c e)
-header-new k message (Err fault) c is e = absurd cc
-
 pub verdict-new : (k : ServerState) (message : List ℕ) (c : PendingCall) → verdict k message ≡ MakesPending c → IsNew k c (word_at 0 message) × (is_pending k (word_at 0 message) ≡ false)
-unfolding verdict
 verdict-new k message c e =
-    by (not (eqb (word_at 4 message) 1)) (eqb (word_at 12 message) 3 || eqb (word_at 12 message) 4) (is_pending k (word_at 0 message)) refl e
-  where
-    by : (a b w : Bool) → is_pending k (word_at 0 message) ≡ w → cond a OtherVersion (cond b (EndsLink 17) (cond w (EndsLink 20) (by_header k message (header_of message)))) ≡ MakesPending c
-        → IsNew k c (word_at 0 message) × (is_pending k (word_at 0 message) ≡ false)
-    by true b w is e = absurd cc
-    by false true w is e = absurd cc
-    by false false true is e = absurd cc
-    by false false false is e = (header-new k message (header_of message) c refl e, is)
+    let m = made-pending k message c e in (
+      record { number = ap (λ (x : PendingCall). x.number) m.is; own = ap (λ (x : PendingCall). x.xid) m.is ∙ header-xid message m.header m.is_header },
+      m.free,
+    )
 
 -- ---- What it makes ready is its own
 
@@ -89,7 +48,7 @@ payload-own c (Some payload) x e = head-own c payload (call_of payload) x e
 
 -- ---- its reads are its own
 
-readings-from-of : (regions : List Region) (number : ℕ) (before read : List ReadSegment) → AreOf (λ (r : PendingRead). r.number) number (reads_from regions number before read)
+pub readings-from-of : (regions : List Region) (number : ℕ) (before read : List ReadSegment) → AreOf (λ (r : PendingRead). r.number) number (reads_from regions number before read)
 readings-from-of regions number before [] = tt
 readings-from-of regions number before (r ∷ read) =
     of-append (λ (x : PendingRead). x.number) number _ _ (by (eqb r.length 0)) (readings-from-of regions number (before ++ r ∷ []) read)

@@ -1,5 +1,5 @@
 -- The pending calls of a server have their sink regions, and their reads are done or still to do, from frame to frame.
-use Rattle.std.proofs.Common.{◌≡◌, ◌≢◌, ℕ, suc, ◌+◌, ◌≤◌, ◌<◌, Bool, true, false, cond, ◌&&◌, not, eqb, List, [], ◌∷◌, ◌++◌, length, map, replicate, Some, refl, sym, ap, subst, ◌∙◌, arith, append-nil, length-append, eq-eqb, ne_eqb}
+use Rattle.std.proofs.Common.{◌≡◌, ◌≢◌, ℕ, ◌+◌, ◌≤◌, ◌<◌, Bool, true, false, cond, ◌&&◌, not, eqb, List, [], ◌∷◌, ◌++◌, length, map, replicate, Some, refl, sym, ap, subst, ◌∙◌, arith, append-nil, length-append, eq-eqb, ne_eqb}
 use Rattle.std.specs.List.{filter, find}
 use Rattle.nr_reduce.specs.Plans.{entries_from}
 use Rattle.nr_reduce.specs.OfferedRegions.{Region, closed_if, regions_closed}
@@ -8,6 +8,8 @@ use Rattle.nr_reduce.specs.ServerReads.{stag_by, sink_of}
 use Rattle.nr_reduce.proofs.Laid.{added_up}
 use Rattle.nr_laws.proofs.ClientMemory.{HasRegion, has-closed, find-left}
 use Rattle.nr_laws.proofs.SinkReads.{own_reads, into, into-append, OfNumber, own-number, number-right, into-kept}
+use Rattle.nr_laws.proofs.Basics.{and-false}
+use Rattle.nr_reduce.proofs.OwnStags.{closed-length}
 
 -- ---- Finding a call's region
 
@@ -59,10 +61,6 @@ owners-closed test place n (r ∷ regions) h = (by (test r), owners-closed test 
     by true = h.0
     by false = h.0
 
-and-false : (b c : Bool) → b ≡ false → (b && c) ≡ false
-and-false true c e = absurd cc
-and-false false c e = refl
-
 pub sink-none : (regions more : List Region) (n number position : ℕ) → n < number → OwnersBelow n regions → sink_of (regions ++ more) number position ≡ sink_of more number position
 sink-none [] more n number position lt h = refl
 sink-none (r ∷ regions) more n number position lt h =
@@ -86,11 +84,6 @@ pub record CallReads (reads : List PendingRead) (regions : List Region) (c : Pen
 abbrev pub EachReads : List PendingRead → List Region → List PendingCall → Type 0
 EachReads reads regions [] = Unit {0}
 EachReads reads regions (c ∷ calls) = CallReads reads regions c × EachReads reads regions calls
-
-pub closed-length : (test : Region → Bool) (place : ℕ) (regions : List Region) → length (regions_closed test place regions) ≡ length regions
-unfolding regions_closed
-closed-length test place [] = refl
-closed-length test place (r ∷ regions) = ap (λ (n : ℕ). suc n) (closed-length test place regions)
 
 pub each-closed : (test : Region → Bool) (place : ℕ) (reads : List PendingRead) (regions : List Region) (calls : List PendingCall) → EachReads reads regions calls → EachReads reads (regions_closed test place regions) calls
 each-closed test place reads regions [] h = tt

@@ -1,28 +1,35 @@
 -- A reply that is handed over is the plain server's.
-use Rattle.std.proofs.Common.{◌≡◌, List, ◌∷◌, ◌++◌, ap, ◌∙◌, append_assoc}
+use Rattle.std.proofs.Common.{ℕ, List}
 use Rattle.nr_reduce.specs.declared.call.Outcome.TheVariants as outcomes
+use Rattle.nr_reduce.specs.declared.mark.Entry.{Entry}
 use Rattle.nr_reduce.specs.declared.mark.Mark.{Mark}
 use Rattle.nr_reduce.specs.declared.mark.Mark.TheVariants as marks
-use Rattle.nr_reduce.specs.Journal.{PlainMark}
+use Rattle.nr_reduce.specs.declared.mark.LinkParameters.{LinkParameters}
+use Rattle.nr_reduce.specs.declared.outline.Plan.{Plan}
+use Rattle.nr_reduce.specs.PlainJournal.{PlainServer}
+use Rattle.nr_reduce.specs.Journal.{PlainMark, Journaled, Plainly}
 use Rattle.nr_reduce.proofs.Placing.{at_place}
-use Rattle.nr_laws.specs.PlainReplies.{server_with, RepliesArePlain}
+use Rattle.nr_laws.specs.MarkAt.{MarkAt}
+use Rattle.nr_laws.specs.MatchedSoFar.{MatchedSoFar}
+use Rattle.nr_laws.specs.Typed.{IsTyped}
+use Rattle.nr_laws.specs.Payloads.{HasPlan}
+use Rattle.nr_laws.specs.PlainReplies.{server_with, HasPlainReply, RepliesArePlain}
+use Rattle.nr_laws.proofs.LaterMarks.{mark-later}
 use Rattle.nr_laws.proofs.OnceByXid.{at-mark}
 use Rattle.nr_laws.proofs.OwnReplies.{executed_replies_are_handed_over}
 
-pub replies_are_plain : RepliesArePlain
-replies_are_plain reply_to adds J opened link run before xid plan reply numbers typed far journaled plainly has at =
-    let own = executed_replies_are_handed_over opened link run before xid plan reply numbers typed far has at in
-    let done : Mark = marks.Done link xid (outcomes.Reply reply) in
+-- of any plain server, which may have several replies to choose from
+pub any-replies-are-plain : (plain : PlainServer) (J : List Entry) (opened : LinkParameters) (link : ℕ) (run before : List Mark) (xid : ℕ) (plan : Plan) (reply : List ℕ) → IsTyped run → MatchedSoFar opened link run
+    → Journaled plain J run → Plainly plain run → (has : HasPlan opened link run xid plan) → MarkAt run before (marks.Done link xid (outcomes.Reply reply)) → HasPlainReply plain J link before xid has.call has.form reply
+any-replies-are-plain plain J opened link run before xid plan reply typed far journaled plainly has at =
+    let own = executed_replies_are_handed_over opened link run before xid plan reply typed far has at in
     let execute : Mark = marks.Execute link xid own.moment own.payload own.place reply in
-    let whole : run ≡ own.before ++ execute ∷ (own.at.after ++ done ∷ at.after) =
-    at.is ∙ ap (λ (b : List Mark). b ++ done ∷ at.after) own.at.is ∙ append_assoc own.before (execute ∷ own.at.after) (done ∷ at.after) in
+    let there = mark-later run before (marks.Done link xid (outcomes.Reply reply)) at.after own.before execute at.is own.at in
     record {
-      moment = own.moment;
-      payload = own.payload;
-      place = own.place;
-      before = own.before;
-      at = own.at;
-      conveyed = own.conveyed;
-      plainly = at_place (server_with reply_to adds) J run own.before (own.at.after ++ done ∷ at.after) link xid own.moment own.payload own.place reply whole journaled
-          (at-mark (PlainMark (server_with reply_to adds)) run own.before execute (own.at.after ++ done ∷ at.after) whole plainly);
+      own = own;
+      plainly = at_place plain J run own.before there.after link xid own.moment own.payload own.place reply there.is journaled
+          (at-mark (PlainMark plain) run own.before execute there.after there.is plainly);
     }
+
+pub replies_are_plain : RepliesArePlain
+replies_are_plain reply_to adds = any-replies-are-plain (server_with reply_to adds)

@@ -1,5 +1,5 @@
 -- The message of an accepted call is read with the lists of its plan, in every form.
-use Rattle.std.proofs.Common.{◌≡◌, ℕ, suc, ◌+◌, ◌^◌, ◌≤◌, ◌<◌, Bool, true, false, cond, eqb, List, [], ◌∷◌, ◌++◌, length, drop, Option, None, Some, Result, Ok, refl, sym, ap, subst, ◌∙◌, arith}
+use Rattle.std.proofs.Common.{◌≡◌, ℕ, ◌+◌, ◌^◌, ◌≤◌, ◌<◌, Bool, true, false, cond, eqb, List, [], ◌∷◌, ◌++◌, length, drop, Option, None, Some, Ok, refl, sym, ap, subst, ◌∙◌, arith}
 use Rattle.std.proofs.lemmas.List.{drop_at}
 use Rattle.nr_xdr.specs.Item.{Item, IsBytes}
 use Rattle.nr_xdr.specs.Item.Item.{Unsigned}
@@ -9,7 +9,6 @@ use Rattle.nr_header.specs.declared.header.ChunkLists.{ChunkLists}
 use Rattle.nr_header.specs.declared.header.Body.{Body}
 use Rattle.nr_header.specs.declared.header.Body.TheVariants.{Msg, Nomsg, ErrVers, ErrChunk}
 use Rattle.nr_header.specs.declared.header.Header.{Header}
-use Rattle.nr_header.specs.declared.fault.HeaderFault.{HeaderFault}
 use Rattle.nr_header.specs.Header.{read_items, segments_items, write_items, reply_items, lists_items, body_items, fixed_items, header_encoding}
 use Rattle.nr_header.specs.WithinLimits.{IsMessage, ListsWithin, CanRead}
 use Rattle.nr_header.specs.Reading.{header_of}
@@ -24,6 +23,7 @@ use Rattle.nr_reduce.specs.RunLaws.{known_stream}
 use Rattle.nr_reduce.specs.ServerMessages.{no_stream}
 use Rattle.nr_reduce.proofs.Laid.{added_up, sum-added}
 use Rattle.nr_laws.proofs.SameLists.{peel-word, lists-same}
+use Rattle.nr_reduce.proofs.Sizes.{segments_count}
 
 -- ---- The lists of an offer that is given fit
 
@@ -37,14 +37,10 @@ segments-fit handle offset [] more h o m = m
 segments-fit handle offset (n ∷ lengths) more h o m =
     (h (omega arith), (omega (arith, o), (omega (arith, o), segments-fit handle (offset + n) lengths more (λ some. h (omega arith)) (omega (arith, o)) m)))
 
-segments-count : (handle offset : ℕ) (lengths : List ℕ) → length (segments_from handle offset lengths) ≡ length lengths
-segments-count handle offset [] = refl
-segments-count handle offset (n ∷ lengths) = ap (λ (k : ℕ). suc k) (segments-count handle (offset + n) lengths)
-
 write-fit : (stag : ℕ) (w : Option (List ℕ)) (more : List Item) → (has_segment w ≡ true → stag < 2 ^ 32) → total w < 2 ^ 32 → length (Rattle.nr_reduce.specs.Undone.lengths w) < 2 ^ 32 → AllFit more → AllFit (write_items (write_list stag w) more)
 write-fit stag None more h t l m = (tt, m)
 write-fit stag (Some ns) more h t l m =
-    (tt, ((let c = segments-count stag 0 ns in omega (arith, c, l)), segments-fit stag 0 ns (write_items [] more) (by ns h) (let s = sum-added ns in omega (arith, s, t)) (tt, m)))
+    (tt, ((let c = segments_count stag 0 ns in omega (arith, c, l)), segments-fit stag 0 ns (write_items [] more) (by ns h) (let s = sum-added ns in omega (arith, s, t)) (tt, m)))
   where
     by : (ns : List ℕ) → (has_segment (Some ns) ≡ true → stag < 2 ^ 32) → 0 < length ns → stag < 2 ^ 32
     by [] h some = absurd (omega (arith, some))
@@ -53,7 +49,7 @@ write-fit stag (Some ns) more h t l m =
 reply-fit : (stag : ℕ) (r : Option (List ℕ)) → (has_segment r ≡ true → stag < 2 ^ 32) → total r < 2 ^ 32 → length (Rattle.nr_reduce.specs.Undone.lengths r) < 2 ^ 32 → AllFit (reply_items (reply_chunk stag r) [])
 reply-fit stag None h t l = (tt, tt)
 reply-fit stag (Some ns) h t l =
-    (tt, ((let c = segments-count stag 0 ns in omega (arith, c, l)), segments-fit stag 0 ns [] (by ns h) (let s = sum-added ns in omega (arith, s, t)) tt))
+    (tt, ((let c = segments_count stag 0 ns in omega (arith, c, l)), segments-fit stag 0 ns [] (by ns h) (let s = sum-added ns in omega (arith, s, t)) tt))
   where
     by : (ns : List ℕ) → (has_segment (Some ns) ≡ true → stag < 2 ^ 32) → 0 < length ns → stag < 2 ^ 32
     by [] h some = absurd (omega (arith, some))
@@ -111,13 +107,6 @@ pub record ReadsLists (stag : ℕ) (p : Plan) (message : List ℕ) (header : Hea
   pub inline : inline_by message header.body ≡ plans.inline_stream p
   -- a stream that is there before anything is read
   pub known : known_stream message header.body ≡ stream_known p.read_at p.inline (lists_of stag p).read
-
-header-is : (a b : Header) → ◌≡◌ {A = Result Header HeaderFault} (Ok a) (Ok b) → a ≡ b
-header-is a b e = cc
-
--- the kinds of two messages that are one
-record KindsSame (x y : List ℕ) : Type 0 where
-  same : x ≡ y
 
 fixed-same : (a b c d e f g h : ℕ) (more others : List Item) (x y : List ℕ) → AllFit (fixed_items a b c d more) → AllFit (fixed_items e f g h others) → encodings (fixed_items a b c d more) ++ x ≡ encodings (fixed_items e f g h others) ++ y
     → (d ≡ h) × (encodings more ++ x ≡ encodings others ++ y)

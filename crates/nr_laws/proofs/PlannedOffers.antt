@@ -37,7 +37,7 @@ found-any xid (d ∷ calls) e = by (eqb d.xid xid) e (found-any xid calls)
 
 pub offers_are_planned : OffersArePlanned
 unfolding server next_call
-offers_are_planned opened link run before xid plan moment payload place reply opens typed far has at =
+offers_are_planned opened link run before xid plan moment payload place reply typed far has at =
     let mark : Mark = marks.Execute link xid moment payload place reply in
     let x : IsExecuted opened link before xid payload = at-mark (ServedMark IsPrefixOf opened link) run before mark at.after at.is far.served refl in
     let first = before-mark TypedMark run before mark at.after at.is typed in
@@ -48,5 +48,5 @@ offers_are_planned opened link run before xid plan moment payload place reply op
     let holds = kept-at-server opened link before first so_far.served es [] all in
     let ready = first-others k.ready (server opened link before).ended x.call x.is_next in
     let c = found-any xid k.calls (executed-there k xid x.call ready.0 holds.agree ready.1 x.own) in
-    let offer = pending-offer opened link run before mark at.after xid plan opens first so_far far.asked at.is has es [] all (live-server opened link before x.call x.is_next) c.0 c.1 in
+    let offer = pending-offer opened link run before mark at.after xid plan first so_far far.asked at.is has es [] all (live-server opened link before x.call x.is_next) c.0 c.1 in
     ap offer_by c.1 ∙ offer.lists

@@ -31,23 +31,20 @@ use Rattle.nr_laws.specs.EndCauses.{KeepLaws, IsCallReason, IsCallEnd}
 use Rattle.nr_link.specs.Reasons.{REASON_HEAD, REASON_XID}
 use Rattle.nr_laws.specs.MatchedSoFar.{MatchedSoFar}
 use Rattle.nr_laws.specs.Payloads.{form_conveyed}
-use Rattle.nr_laws.specs.Stays.{IsRefusedMessage, HasCallHead, ConveyedMark, AreConveyedOrRefused}
+use Rattle.nr_laws.specs.RefusedMessages.{IsRefusedMessage}
+use Rattle.nr_laws.specs.Stays.{HasCallHead, ConveyedMark, AreConveyedOrRefused}
 use Rattle.nr_laws.specs.Typed.{IsTyped}
 use Rattle.nr_laws.proofs.CallEnds.{RefusedAt, refused-at}
 use Rattle.nr_laws.proofs.CallRefusals.{RefusedBy}
 use Rattle.nr_laws.proofs.CallRefusals.RefusedBy.{AtMessage, AtRead}
-use Rattle.nr_laws.proofs.ClientSays.{AreNone, all_none, no_fault}
 use Rattle.nr_laws.proofs.FirstEnds.{server-ends-for-calls}
 use Rattle.nr_laws.proofs.JudgedCalls.{conveyed-ready, conveyed-head-there}
 use Rattle.nr_laws.proofs.LawsSoFar.{laws-so-far}
 use Rattle.nr_laws.proofs.OnceByXid.{at-mark}
 use Rattle.nr_laws.proofs.CallsAtFrames.{ConveyedAt, submit_typed, submit_xid, conveyed-by-message, conveyed-by-read}
+use Rattle.nr_reduce.proofs.Touches.{AreNone, all_none, no_flaw, no_lack}
 
 -- ---- A frame that breaks no rule is allowed its access
-
-no-lack : (o : Option Denied) → missing_fault o ≡ None → o ≡ None
-no-lack None e = refl
-no-lack (Some why) e = absurd cc
 
 response-allowed : (opened : LinkParameters) (k : ServerState) (f : Frame) (s : Segment) → frame_segment f ≡ Ok s → ends_response s ≡ true → frame_end (readiness opened k) (region_grants f.end k.regions) f ≡ None → missing_access (region_grants f.end k.regions) f s ≡ None
 unfolding frame_end segment_fault
@@ -55,8 +52,8 @@ response-allowed opened k f (Tagged last opcode stag to payload) is ends fits =
     let s : Segment = Tagged last opcode stag to payload in
     let lack : Option Denied = missing_access (region_grants f.end k.regions) f s in
     let flaws : List (Option (SegmentFault Denied)) = missing_fault lack ∷ reason_if REASON_RESPONSE (is_unexpected (readiness opened k lack) opcode last stag to (length payload)) ∷ [] in
-    let none : AreNone flaws = all_none flaws (no_fault f s (segment_fault (readiness opened k lack) s) (ap (λ (r : Result Segment ℕ). frame_end_by (readiness opened k) (region_grants f.end k.regions) f r) (sym is) ∙ fits)) in
-    no-lack lack none.0
+    let none : AreNone flaws = all_none flaws (no_flaw f s (segment_fault (readiness opened k lack) s) (ap (λ (r : Result Segment ℕ). frame_end_by (readiness opened k) (region_grants f.end k.regions) f r) (sym is) ∙ fits)) in
+    no_lack lack none.0
 response-allowed opened k f (Untagged last opcode w queue msn offset payload) is ends fits = absurd cc
 
 -- ---- At the frame
@@ -117,7 +114,7 @@ server-ends-for-heads opened link run opens typed laws up end down =
     by at reason (inl is) e = is
     by at reason (inr is) e =
         let same : Some (ends.Bad at reason) ≡ Some (ends.Bad at REASON_XID) = ap (λ (n : ℕ). Some (ends.Bad at n)) is in
-        absurd (not-refused opened link run REASON_XID typed (laws-so-far opened link run laws) (own-xid opened link run typed) (refused-at opened link run typed (laws-so-far opened link run laws) at REASON_XID (inr refl) (e ∙ same)))
+        absurd (not-refused opened link run REASON_XID typed (laws-so-far opened link run laws.client laws.server laws.matched) (own-xid opened link run typed) (refused-at opened link run typed (laws-so-far opened link run laws.client laws.server laws.matched) at REASON_XID (inr refl) (e ∙ same)))
 
 -- On a matched link whose client hasn't ended, nor has the server.
 pub server-stays : (opened : LinkParameters) (link : ℕ) (run : List Mark) → IsOpened opened → IsTyped run → KeepLaws opened link run → AreConveyedOrRefused opened link run → end_of_side opened link Initiator run ≡ None
@@ -125,5 +122,5 @@ pub server-stays : (opened : LinkParameters) (link : ℕ) (run : List Mark) → 
 unfolding end_of_side
 server-stays opened link run opens typed laws conveyed up end down =
     let c : IsCallEnd end = server-ends-for-calls opened link run opens typed laws up end down in
-    let far = laws-so-far opened link run laws in
+    let far = laws-so-far opened link run laws.client laws.server laws.matched in
     not-refused opened link run c.1 typed far (λ p o x e. conveyed-refuses opened link run typed conveyed p c.1 o x e) (refused-at opened link run typed far c.0 c.1 c.3 (down ∙ ap (λ (x : End). Some x) c.2))

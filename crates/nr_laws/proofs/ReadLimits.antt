@@ -1,11 +1,10 @@
 -- The reads of a server have words for numbers, and its regions are few and small.
-use Rattle.std.proofs.Common.{◌≡◌, ℕ, zero, suc, ◌+◌, ◌≤◌, ◌<◌, ◌^◌, Bool, true, false, cond, not, ◌&&◌, eqb, List, [], ◌∷◌, ◌++◌, length, map, take, drop, filter, sum_by, Option, Some, None, Result, Ok, refl, sym, ap, subst, arith, length-append}
+use Rattle.std.proofs.Common.{◌≡◌, ℕ, ◌+◌, ◌≤◌, ◌<◌, ◌^◌, Bool, true, false, cond, not, eqb, List, [], ◌∷◌, ◌++◌, length, map, take, drop, filter, sum_by, None, Ok, refl, subst, arith, length-append}
 use Rattle.std.specs.List.{AllByRecursion}
 use Rattle.std.proofs.lemmas.List.{length-replicate, length-map}
 use Rattle.std.proofs.lemmas.List.Sums.{sum_by-cons}
 use Rattle.nr_xdr.specs.Item.{IsBytes}
-use Rattle.nr_wire.specs.Constants.{OPCODE_READ_RESPONSE, OPCODE_SEND, QUEUE_SEND}
-use Rattle.nr_wire.specs.Segment.{Segment}
+use Rattle.nr_wire.specs.Constants.{OPCODE_SEND, QUEUE_SEND}
 use Rattle.nr_wire.specs.Segment.Segment.{Tagged, Untagged}
 use Rattle.nr_header.specs.declared.header.ReadSegment.{ReadSegment}
 use Rattle.nr_header.specs.declared.header.ChunkLists.{ChunkLists}
@@ -13,19 +12,19 @@ use Rattle.nr_header.specs.Constants.{PAYLOAD_MAX}
 use Rattle.nr_header.specs.WithinLimits.{read_total}
 use Rattle.nr_link.specs.Frames.{Frame}
 use Rattle.nr_link.specs.Output.{msn_word}
-use Rattle.nr_link.specs.ReceiveState.{begun_bytes}
 use Rattle.nr_link.specs.Ending.{frame_segment}
 use Rattle.nr_reduce.specs.Limits.{numbers_end}
-use Rattle.nr_reduce.specs.Chunks.{total_at, at_position, is_read_chunk_of_item}
+use Rattle.nr_reduce.specs.Chunks.{total_at, at_position}
 use Rattle.nr_reduce.specs.OfferedRegions.{Region, closed_if, regions_closed}
 use Rattle.nr_reduce.specs.ServerState.{PendingCall, PendingRead, ServerState, next_stag}
-use Rattle.nr_reduce.specs.ServerReads.{regions_from, regions_of, reads_from, reads_of, read_of, chunks_of, is_read}
-use Rattle.nr_reduce.specs.ServerMessages.{CallVerdict, by_payload, payload_of, chunk_bytes, Verdict, verdict}
-use Rattle.nr_reduce.specs.ServerMessages.CallVerdict.{Refuses, IsReady}
-use Rattle.nr_reduce.specs.ServerMessages.Verdict.{EndsLink, OtherVersion, BadChunks, MakesPending}
-use Rattle.nr_reduce.specs.ServerFrames.{FrameEffect, no_effect, with_verdict, ready_if_whole, message_effect, with_refused_call, is_stream_read, read_effect, call_of_number, response_effect, with_access, effect_in, frame_effect}
+use Rattle.nr_reduce.specs.ServerReads.{regions_from, regions_of, reads_from, reads_of, read_of, chunks_of}
+use Rattle.nr_reduce.specs.ServerMessages.{verdict}
+use Rattle.nr_reduce.specs.ServerMessages.Verdict.{MakesPending}
+use Rattle.nr_reduce.specs.ServerFrames.{FrameEffect, with_refused_call, frame_effect}
 use Rattle.nr_laws.proofs.WritableOffers.{EntriesFit, verdict_fits, verdict_few}
 use Rattle.nr_laws.proofs.ServerInvariant.{length-from}
+use Rattle.nr_laws.proofs.Basics.{above-zero, each-append, each-take, each-drop, each-kept}
+use Rattle.nr_laws.proofs.EachEffect.{held-messages, held-responses, send-effect, tagged-effect}
 
 abbrev pub ReadFits : PendingRead → Type 0
 ReadFits r = (0 < r.size) × (r.size < 2 ^ 32) × (r.stag < 2 ^ 32) × (r.to < 2 ^ 64)
@@ -40,33 +39,7 @@ pub record AreWithin (reads : List PendingRead) (regions : List Region) : Type 0
 
 -- ---- Lists
 
-pub each-append : {X : Type 0} (P : X → Type 0) (xs ys : List X) → AllByRecursion P xs → AllByRecursion P ys → AllByRecursion P (xs ++ ys)
-each-append P [] ys h k = k
-each-append P (x ∷ xs) ys h k = (h.0, each-append P xs ys h.1 k)
-
-pub each-take : {X : Type 0} (P : X → Type 0) (n : ℕ) (xs : List X) → AllByRecursion P xs → AllByRecursion P (take n xs)
-each-take P zero xs h = tt
-each-take P (suc n) [] h = tt
-each-take P (suc n) (x ∷ xs) h = (h.0, each-take P n xs h.1)
-
-pub each-drop : {X : Type 0} (P : X → Type 0) (n : ℕ) (xs : List X) → AllByRecursion P xs → AllByRecursion P (drop n xs)
-each-drop P zero xs h = h
-each-drop P (suc n) [] h = tt
-each-drop P (suc n) (x ∷ xs) h = each-drop P n xs h.1
-
-pub each-kept : {X : Type 0} (P : X → Type 0) (p : X → Bool) (xs : List X) → AllByRecursion P xs → AllByRecursion P (filter p xs)
-each-kept P p [] h = tt
-each-kept P p (x ∷ xs) h = by (p x) (each-kept P p xs h.1)
-  where
-    by : (b : Bool) → AllByRecursion P (filter p xs) → AllByRecursion P (cond b (x ∷ filter p xs) (filter p xs))
-    by true k = (h.0, k)
-    by false k = k
-
 -- ---- A call's reads and regions
-
-some_size : (n : ℕ) → eqb n 0 ≡ false → 0 < n
-some_size zero e = absurd cc
-some_size (suc n) e = omega arith
 
 reads-fit : (regions : List Region) (number : ℕ) (before read : List ReadSegment) → EntriesFit read → AllByRecursion ReadFits (reads_from regions number before read)
 reads-fit regions number before [] h = tt
@@ -77,7 +50,7 @@ reads-fit regions number before (r ∷ read) h = by (eqb r.length 0) refl (reads
 
     by : (b : Bool) → eqb r.length 0 ≡ b → AllByRecursion ReadFits (reads_from regions number (before ++ r ∷ []) read) → AllByRecursion ReadFits (cond b [] (first ∷ []) ++ reads_from regions number (before ++ r ∷ []) read)
     by true is k = k
-    by false is k = ((some_size r.length is, h.0.0, h.0.1, h.0.2), k)
+    by false is k = ((above-zero r.length is, h.0.0, h.0.1, h.0.2), k)
 
 total-below : (p : ℕ) (read : List ReadSegment) → total_at p read ≤ read_total read
 unfolding total_at
@@ -98,66 +71,35 @@ regions-small number place stag lists (p ∷ ps) le =
 
 -- ---- Effects
 
-within-whole : (k : ServerState) (place : ℕ) (c : PendingCall) (s : FrameEffect) → AreWithin s.reads s.regions → AreWithin (ready_if_whole k place c s).reads (ready_if_whole k place c s).regions
-within-whole k place c s h = by (is_read s.reads c.number) (by_payload c (payload_of k place c))
-  where
-    by : (b : Bool) (o : CallVerdict) → AreWithin (cond b (with_verdict o s) s).reads (cond b (with_verdict o s) s).regions
-    by true (Refuses reason) = h
-    by true (IsReady r) = h
-    by false o = h
-
-within-message : (k : ServerState) (place : ℕ) (message : List ℕ) (v : Verdict) → verdict k message ≡ v → IsBytes message → AreWithin k.reads k.regions → AreWithin (message_effect k place message v).reads (message_effect k place message v).regions
-within-message k place message (EndsLink reason) is bytes h = h
-within-message k place message OtherVersion is bytes h = h
-within-message k place message BadChunks is bytes h = h
-within-message k place message (MakesPending c) is bytes h =
-    let fits = verdict_fits k message c bytes is in
-    let few = verdict_few k message c is in
-    let regions = k.regions ++ regions_of k place c in
-    within-whole k place c (record (no_effect k) { calls = k.calls ++ c ∷ []; reads = k.reads ++ reads_of regions c; regions = regions }) (record {
-      fit = each-append ReadFits k.reads (reads_of regions c) h.fit (reads-fit regions c.number [] c.lists.read fits.reads);
-      few = omega (arith, length-append k.regions (regions_of k place c), length-from c.number place (next_stag k) c.lists (chunks_of c.lists), few);
-      small = each-append IsSmall k.regions (regions_of k place c) h.small (regions-small c.number place (next_stag k) c.lists (chunks_of c.lists) fits.total);
-    })
-
-within-read : (k : ServerState) (place : ℕ) (r : PendingRead) (o : Option PendingCall) (s : FrameEffect) → AreWithin s.reads s.regions → AreWithin (read_effect k place r o s).reads (read_effect k place r o s).regions
-within-read k place r None s h = h
-within-read k place r (Some c) s h = by (is_stream_read c r s.reads && not (is_read_chunk_of_item (chunk_bytes k place c 0) c.lists.read))
-  where
-    by : (b : Bool) → AreWithin (cond b (with_refused_call k c s) (ready_if_whole k place c s)).reads (cond b (with_refused_call k c s) (ready_if_whole k place c s)).regions
-    by true = record {
-      fit = each-append ReadFits (take s.kept s.reads) (filter (λ (x : PendingRead). not (eqb x.number c.number)) (drop s.kept s.reads)) (each-take ReadFits s.kept s.reads h.fit)
-          (each-kept ReadFits (λ (x : PendingRead). not (eqb x.number c.number)) (drop s.kept s.reads) (each-drop ReadFits s.kept s.reads h.fit));
-      few = h.few;
-      small = h.small;
-    }
-    by false = within-whole k place c s h
-
-within-response : (k : ServerState) (place : ℕ) (reads : List PendingRead) → AreWithin reads k.regions → AreWithin k.reads k.regions → AreWithin (response_effect k place reads).reads (response_effect k place reads).regions
-within-response k place [] h all = all
-within-response k place (r ∷ reads) h all = within-read k place r (call_of_number k r.number) _ (record { fit = h.fit.1; few = h.few; small = h.small })
-
 pub within-send : (k : ServerState) (f : Frame) (message : List ℕ) → k.received.begun ≡ None → IsBytes message → AreWithin k.reads k.regions → frame_segment f ≡ Ok (Untagged true OPCODE_SEND 0 QUEUE_SEND (msn_word (k.received.sends + 1)) 0 message)
     → AreWithin (frame_effect k f).reads (frame_effect k f).regions
-unfolding frame_effect
-within-send k f message none bytes h is =
-    let segment : Segment = Untagged true OPCODE_SEND 0 QUEUE_SEND (msn_word (k.received.sends + 1)) 0 message in
-    let whole : List ℕ = begun_bytes k.received.begun ++ message in
-    let same : whole ≡ message = ap (λ (b : Option (List ℕ)). begun_bytes b ++ message) none in
-    subst (λ (r : Result Segment ℕ). AreWithin (effect_in k f r).reads (effect_in k f r).regions) (sym is)
-    (within-message k f.end whole (verdict k whole) refl (subst IsBytes (sym same) bytes) h)
+within-send k f message none bytes h is = send-effect k IsBytes (λ s. AreWithin s.reads s.regions) (held-messages k IsBytes (λ calls reads regions. AreWithin reads regions) h pending) f message none bytes is
+  where
+    pending : (place : ℕ) (message : List ℕ) (c : PendingCall) → IsBytes message → verdict k message ≡ MakesPending c → AreWithin (k.reads ++ reads_of (k.regions ++ regions_of k place c) c) (k.regions ++ regions_of k place c)
+    pending place message c bytes is =
+        let fits = verdict_fits k message c bytes is in
+        let few = verdict_few k message c is in
+        let regions = k.regions ++ regions_of k place c in
+        record {
+          fit = each-append ReadFits k.reads (reads_of regions c) h.fit (reads-fit regions c.number [] c.lists.read fits.reads);
+          few = omega (arith, length-append k.regions (regions_of k place c), length-from c.number place (next_stag k) c.lists (chunks_of c.lists), few);
+          small = each-append IsSmall k.regions (regions_of k place c) h.small (regions-small c.number place (next_stag k) c.lists (chunks_of c.lists) fits.total);
+        }
 
 pub within-tagged : (k : ServerState) (f : Frame) (last : Bool) (opcode stag to : ℕ) (payload : List ℕ) → AreWithin k.reads k.regions → frame_segment f ≡ Ok (Tagged last opcode stag to payload) → AreWithin (frame_effect k f).reads (frame_effect k f).regions
-unfolding frame_effect
 within-tagged k f last opcode stag to payload h is =
-    subst (λ (r : Result Segment ℕ). AreWithin (effect_in k f r).reads (effect_in k f r).regions) (sym is) (by (eqb opcode OPCODE_READ_RESPONSE && last))
+    tagged-effect k (λ s. AreWithin s.reads s.regions) (held-responses k (λ calls reads regions. AreWithin reads regions) h refused read) f last opcode stag to payload is
   where
-    t : ServerState
-    t = with_access k f (Tagged last opcode stag to payload)
+    refused : (c : PendingCall) (s : FrameEffect) → AreWithin s.reads s.regions → AreWithin (with_refused_call k c s).reads s.regions
+    refused c s g = record {
+      fit = each-append ReadFits (take s.kept s.reads) (filter (λ (x : PendingRead). not (eqb x.number c.number)) (drop s.kept s.reads)) (each-take ReadFits s.kept s.reads g.fit)
+          (each-kept ReadFits (λ (x : PendingRead). not (eqb x.number c.number)) (drop s.kept s.reads) (each-drop ReadFits s.kept s.reads g.fit));
+      few = g.few;
+      small = g.small;
+    }
 
-    by : (b : Bool) → AreWithin (cond b (response_effect t f.end k.reads) (no_effect t)).reads (cond b (response_effect t f.end k.reads) (no_effect t)).regions
-    by true = within-response t f.end k.reads h h
-    by false = h
+    read : (r : PendingRead) (reads : List PendingRead) → k.reads ≡ r ∷ reads → AreWithin reads k.regions
+    read r reads is = (let all : AreWithin (r ∷ reads) k.regions = subst (λ (rs : List PendingRead). AreWithin rs k.regions) is h in record { fit = all.fit.1; few = all.few; small = all.small })
 
 -- where regions are closed
 small-closed : (test : Region → Bool) (place : ℕ) (regions : List Region) → AllByRecursion IsSmall regions → AllByRecursion IsSmall (map (λ (g : Region). closed_if (test g) place g) regions)

@@ -18,9 +18,9 @@ use Rattle.nr_reduce.proofs.Laid.{added_up}
 use Rattle.nr_reduce.proofs.Shapes.{MessageKind, offered, shape, is_plan, within-ok}
 use Rattle.nr_reduce.proofs.Shapes.MessageKind.{Short, Chunked, Long}
 use Rattle.nr_laws.proofs.ClientMemory.{HasRegion, HasBuffers}
-use Rattle.nr_laws.proofs.ConveyedForms.{given-length}
 use Rattle.nr_laws.proofs.FetchedRegions.{IsFetched}
 use Rattle.nr_laws.proofs.SinkReads.{own_reads}
+use Rattle.nr_reduce.proofs.Offers.{region-length}
 
 -- ---- Regions are small
 
@@ -48,7 +48,7 @@ given-small payload offer up down p e =
   where
     by : (o : Option (List ℕ)) → total o ≤ 65536 → length (given_read payload offer.read_at o (record { inline = payload; read_at = None; read = []; region = []; write = offer.write; reply = offer.reply })).region < 2 ^ 32
     by None h = omega arith
-    by (Some ns) h = (let l = given-length payload offer.read_at (sum ns) in omega (arith, l, h))
+    by (Some ns) h = (let l = region-length payload offer.read_at (sum ns) in omega (arith, l, h))
 
 pub region-small : (payload : List ℕ) (form : Form) (up down : ℕ) (p : Plan) → plan_of payload form up down ≡ Ok p → length p.region < 2 ^ 32
 region-small payload forms.Auto up down p e = own-small payload forms.Auto up down p tt e

@@ -1,13 +1,13 @@
 -- Along the events of a server: the Read Requests that it said are those of the reads that are done or open, and each read that is
 -- done had the last segment of a response.
-use Rattle.std.proofs.Common.{◌≡◌, ℕ, ◌+◌, ◌≤◌, Bool, true, false, cond, ◌&&◌, not, eqb, List, [], ◌∷◌, ◌++◌, length, take, map, Option, None, Some, Result, Ok, Err, refl, sym, ap, subst, ◌∙◌, arith, append_assoc, append-nil, length-append, eqb-true}
+use Rattle.std.proofs.Common.{◌≡◌, ℕ, ◌+◌, Bool, true, false, cond, ◌&&◌, not, eqb, List, [], ◌∷◌, ◌++◌, length, take, map, Option, None, Some, Result, Ok, Err, refl, sym, ap, subst, ◌∙◌, arith, append_assoc, append-nil, length-append, eqb-true}
 use Rattle.nr_wire.specs.Constants.{OPCODE_READ_RESPONSE, OPCODE_READ_REQUEST}
 use Rattle.nr_wire.specs.Segment.{Segment}
 use Rattle.nr_wire.specs.Segment.Segment.{Tagged, Untagged}
 use Rattle.nr_regions.specs.declared.denied.Denied.{Denied}
 use Rattle.nr_link.specs.declared.end.End.{End as Stop}
 use Rattle.nr_link.specs.Frames.{Frame, is_hello}
-use Rattle.nr_link.specs.ReceiveState.{ReceiveState, received_after, message_completed, is_send, send_continued}
+use Rattle.nr_link.specs.ReceiveState.{ReceiveState, received_after, message_completed}
 use Rattle.nr_link.specs.SegmentFaults.{Readiness, segment_fault, reason_if, missing_fault, is_unexpected, is_expected}
 use Rattle.nr_link.specs.Reasons.{REASON_RESPONSE}
 use Rattle.nr_link.specs.Ending.{frame_segment, frame_end, frame_end_by, end_of_fault, hello_end, missing_access}
@@ -25,16 +25,18 @@ use Rattle.nr_reduce.specs.ServerFrames.{FrameEffect, no_effect, message_effect,
 use Rattle.nr_reduce.specs.Server.{server_end, server_state_after, with_effect, received_by, or_refusal, readiness, newly_open_reads, offer_of}
 use Rattle.nr_reduce.specs.Holds.{Answer}
 use Rattle.nr_header.specs.declared.header.ChunkLists.{ChunkLists}
-use Rattle.nr_reduce.proofs.Once.{NumberIs, verdict-number, whole-with}
-use Rattle.nr_reduce.proofs.OwnStags.{AreNumbered}
+use Rattle.nr_reduce.proofs.Once.{NumberIs, verdict-number, whole-with, rises-with}
+use Rattle.nr_reduce.proofs.OwnStags.{AreNumbered, closed-length}
 use Rattle.nr_laws.proofs.Outputs.{Output, effect_outputs, answer_outputs, answer_of_call, message_sends, request_outputs, request_payload, send_segment}
 use Rattle.nr_laws.proofs.Outputs.Output.{AHello, ASegment}
 use Rattle.nr_laws.proofs.Messages.{AreTagged}
-use Rattle.nr_laws.proofs.ClientSays.{AreNone, all_none, no_fault, no_reason}
+use Rattle.nr_laws.proofs.ClientSays.{no_reason}
 use Rattle.nr_laws.proofs.ServerOutputs.{tagged-answer}
 use Rattle.nr_laws.proofs.SinkReads.{SinksBelow}
-use Rattle.nr_laws.proofs.PendingSinks.{closed-length, OwnersBelow, owners-closed, EachReads, each-closed, each-filter}
+use Rattle.nr_laws.proofs.PendingSinks.{OwnersBelow, owners-closed, EachReads, each-closed, each-filter}
 use Rattle.nr_laws.proofs.SinksKept.{SinksKept, EffectKept, IsOwnRead, same-kept, ready-kept, pending-kept, read-kept}
+use Rattle.std.proofs.lemmas.List.{map-append}
+use Rattle.nr_reduce.proofs.Touches.{AreNone, all_none, no_flaw}
 
 -- ---- The Read Requests among outputs
 
@@ -70,10 +72,6 @@ requests-answer k xid offer None = refl
 requests-answer k xid offer (Some a) =
     requests-append (map ASegment (Rattle.nr_reduce.specs.Undone.answer_segments offer a)) (ASegment (send_segment (k.messages_queued + 1) (Rattle.nr_reduce.specs.Holds.answer_message xid (Rattle.nr_reduce.specs.ServerState.credit_word k) offer a)) ∷ [])
     ∙ ap (λ (ps : List (List ℕ)). ps ++ []) (requests-tagged (Rattle.nr_reduce.specs.Undone.answer_segments offer a) (tagged-answer offer a))
-
-pub map-append : (xs ys : List PendingRead) → map request_payload (xs ++ ys) ≡ map request_payload xs ++ map request_payload ys
-map-append [] ys = refl
-map-append (x ∷ xs) ys = ap (λ (ps : List (List ℕ)). request_payload x ∷ ps) (map-append xs ys)
 
 -- ---- Last segments of responses
 
@@ -113,22 +111,6 @@ pub record ReadsAt (opened : LinkParameters) (es : List Event) (k : ServerState)
 abbrev pub OwnMessages : ServerState → Frame → Type 0
 OwnMessages k f = (s : Segment) (message : List ℕ) (c : PendingCall) → frame_segment f ≡ Ok s → message_completed k.received s ≡ Some message → verdict k message ≡ MakesPending c → IsOwnRead c.lists.read
 
-pub sends-grow : (h : ReceiveState) (s : Segment) → h.sends ≤ (received_after h s).sends
-sends-grow h (Tagged last opcode stag to payload) = omega arith
-sends-grow h (Untagged last opcode w queue msn offset payload) = by (is_send opcode)
-  where
-    by_last : (b : Bool) → h.sends ≤ (send_continued h b payload).sends
-    by_last true = omega arith
-    by_last false = omega arith
-
-    by_read : (b : Bool) → h.sends ≤ (cond b (record { sends = h.sends; begun = h.begun; requests = h.requests + 1 }) h).sends
-    by_read true = omega arith
-    by_read false = omega arith
-
-    by : (b : Bool) → h.sends ≤ (cond b (send_continued h last payload) (cond (eqb opcode OPCODE_READ_REQUEST) (record { sends = h.sends; begun = h.begun; requests = h.requests + 1 }) h)).sends
-    by true = by_last last
-    by false = by_read (eqb opcode OPCODE_READ_REQUEST)
-
 -- what a frame leaves, with the reads that are done by then
 record FrameKept (k : ServerState) (done : List PendingRead) (s : FrameEffect) (sends n : ℕ) : Type 0 where
   later : List PendingRead
@@ -148,7 +130,7 @@ message-kept k done place sends message (MakesPending c) is n own numbered h =
 
 by-message-kept : (k : ServerState) (done : List PendingRead) (f : Frame) (s : Segment) (o : Option (List ℕ)) → message_completed k.received s ≡ o → ((message : List ℕ) (c : PendingCall) → o ≡ Some message → verdict k message ≡ MakesPending c → IsOwnRead c.lists.read) → AreNumbered 1 k.regions → SinksKept k done
     → EffectKept k done done (by_message k f.end o) (received_after k.received s).sends
-by-message-kept k done f s None is own numbered h = same-kept k done (no_effect k) refl refl refl refl (received_after k.received s).sends (sends-grow k.received s) h
+by-message-kept k done f s None is own numbered h = same-kept k done (no_effect k) refl refl refl refl (received_after k.received s).sends (rises-with k.received s) h
 by-message-kept k done f s (Some message) is own numbered h = message-kept k done f.end (received_after k.received s).sends message (verdict k message) refl (whole-with k.received s message is) (λ c e. own message c refl e) numbered h
 
 -- a live server that gets the last segment of a response has an open read
@@ -164,7 +146,7 @@ unexpected opened k f last opcode stag to payload behind is stays own none =
     let fine : frame_end_by (readiness opened k) grants f (frame_segment f) ≡ None = by_end (frame_end_by (readiness opened k) grants f (frame_segment f)) others in
     let whole : end_of_fault f s (segment_fault r s) ≡ None = ap (λ (x : Result Segment ℕ). frame_end_by (readiness opened k) grants f x) (sym is) ∙ fine in
     let all : AreNone (missing_fault r.missing ∷ reason_if REASON_RESPONSE (is_unexpected r opcode last stag to (length payload)) ∷ []) =
-    all_none (missing_fault r.missing ∷ reason_if REASON_RESPONSE (is_unexpected r opcode last stag to (length payload)) ∷ []) (no_fault f s (segment_fault r s) whole) in
+    all_none (missing_fault r.missing ∷ reason_if REASON_RESPONSE (is_unexpected r opcode last stag to (length payload)) ∷ []) (no_flaw f s (segment_fault r s) whole) in
     let bad : is_unexpected r opcode last stag to (length payload) ≡ true =
     (λ i. eqb (own i) OPCODE_READ_RESPONSE && not (is_expected (expected_response k.response_bytes (none i)) last stag to (length payload))) in
     let good = no_reason REASON_RESPONSE (is_unexpected r opcode last stag to (length payload)) all.1.0 in
@@ -223,7 +205,7 @@ frame-reads opened es k outs f s behind is stays own numbered h =
       requests = requests-append outs (effect_outputs k e)
           ∙ (λ i. h.requests i ++ (requests-append (message_sends (k.messages_queued + 1) e.errors) (request_outputs (k.requests_sent + 1) (newly_open_reads e))
           ∙ (λ j. requests-sends (k.messages_queued + 1) e.errors j ++ requests-reads (k.requests_sent + 1) (newly_open_reads e) j)) i)
-          ∙ sym (map-append (h.done ++ take 8 k.reads) (newly_open_reads e)) ∙ ap (λ (rs : List PendingRead). map request_payload rs) (sym effect.opened);
+          ∙ sym (map-append request_payload (h.done ++ take 8 k.reads) (newly_open_reads e)) ∙ ap (λ (rs : List PendingRead). map request_payload rs) (sym effect.opened);
       lasts = x.count ∙ (let l = h.lasts in let a = lasts-append es (FrameReceived f ∷ []) in let b = ap (λ (c : Bool). cond c 0 (last_of (frame_segment f))) behind in let c = ap last_of is in omega (arith, l, a, b, c));
     }
 

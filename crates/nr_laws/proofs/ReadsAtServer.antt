@@ -130,9 +130,6 @@ reads-moved s t w st rest answered asked same le parts answers requests = record
       ∙ sym (map-append request_frame asked (newly_open_reads st));
 }
 
-abbrev at_front : List FrameContent → List FrameContent → List FrameContent
-at_front ps q = ps ++ q
-
 pub reads-send_up : (opened : LinkParameters) (s : ServerState) (w : Transit) (f : Frame) (message : List ℕ) (rest : List FrameContent) → ReadsAgree s w → w.up ≡ SendFrame message ∷ rest
     → Carries s.received.sends s.received.requests f (SendFrame message) → (frame_effect s f).refusal ≡ None → ReadsAgree (server_state_after opened s (FrameReceived f)) (moved w (frame_effect s f) rest)
 reads-send_up opened s w f message rest c first p goes_on =

@@ -1,9 +1,7 @@
 -- Why a call is ready: its message, or the last read for it, came; its payload is what was conveyed then.
-use Rattle.std.proofs.Common.{◌≡◌, ℕ, Bool, true, false, cond, ◌&&◌, not, eqb, List, [], ◌∷◌, ◌++◌, length, drop, Option, None, Some, Result, Ok, Err, refl, sym, ap, subst, ◌∙◌, append_assoc, append-nil, ◌-◌}
+use Rattle.std.proofs.Common.{◌≡◌, ℕ, Bool, true, false, cond, eqb, List, [], ◌∷◌, ◌++◌, Option, None, Some, Result, Ok, Err, refl, sym, ap, subst, ◌∙◌, append_assoc, append-nil}
 use Rattle.nr_wire.specs.declared.hello.Side.TheVariants.{Responder}
-use Rattle.nr_wire.specs.Constants.{OPCODE_READ_RESPONSE}
 use Rattle.nr_wire.specs.Segment.{Segment}
-use Rattle.nr_wire.specs.Segment.Segment.{Tagged, Untagged}
 use Rattle.nr_rpc.specs.declared.head.CallHead.{CallHead}
 use Rattle.nr_rpc.specs.Reading.{call_of}
 use Rattle.nr_link.specs.declared.end.End.{End as Stop}
@@ -12,22 +10,24 @@ use Rattle.nr_link.specs.ReceiveState.{message_completed}
 use Rattle.nr_link.specs.Ending.{frame_segment}
 use Rattle.nr_reduce.specs.declared.mark.Mark.{Mark}
 use Rattle.nr_reduce.specs.declared.mark.LinkParameters.{LinkParameters}
-use Rattle.nr_reduce.specs.Chunks.{is_read_chunk_of_item}
 use Rattle.nr_reduce.specs.Events.{Event, events}
 use Rattle.nr_reduce.specs.Events.Event.{FrameReceived, CallSubmitted, MemoryRevoked, CallExecuted, QueueWritten}
 use Rattle.nr_reduce.specs.EndRules.{EndState, next_end_state_by, next_end_state_in, end_state_after}
 use Rattle.nr_reduce.specs.ServerState.{ServerState, PendingCall, PendingRead, ReadyCall}
-use Rattle.nr_reduce.specs.ServerReads.{open_reads, is_read, reads_of, regions_of}
-use Rattle.nr_reduce.specs.ServerMessages.{Verdict, CallVerdict, verdict, chunk_bytes, payload_of, by_payload, by_head, call_xid}
+use Rattle.nr_reduce.specs.ServerReads.{is_read, reads_of, regions_of}
+use Rattle.nr_reduce.specs.ServerMessages.{Verdict, CallVerdict, verdict, payload_of, by_payload, by_head, call_xid}
 use Rattle.nr_reduce.specs.ServerMessages.Verdict.{EndsLink, OtherVersion, BadChunks, MakesPending}
 use Rattle.nr_reduce.specs.ServerMessages.CallVerdict.{Refuses, IsReady}
-use Rattle.nr_reduce.specs.ServerFrames.{FrameEffect, no_effect, with_verdict, ready_if_whole, message_effect, with_refused_call, is_stream_read, read_effect, call_of_number, response_effect, by_message, with_access, effect_in, frame_effect}
+use Rattle.nr_reduce.specs.ServerFrames.{FrameEffect, no_effect, with_verdict, ready_if_whole, message_effect, with_refused_call, call_of_number, with_access, frame_effect}
 use Rattle.nr_reduce.specs.Server.{server_rules, server_end, server_state_after, initial_server, with_effect}
 use Rattle.nr_reduce.specs.Run.{server}
 use Rattle.nr_reduce.specs.RunLaws.{server_by, ends_response}
 use Rattle.nr_reduce.specs.Served.{IsExecuted, next_call, first_ready}
-use Rattle.nr_reduce.proofs.Conveyed.{Each}
+use Rattle.nr_reduce.proofs.Conveyed.{Each, each-append, each-drop}
 use Rattle.nr_reduce.proofs.Steps.{end_state_after-append}
+use Rattle.nr_laws.proofs.Basics.{none-one}
+use Rattle.nr_laws.proofs.EachEffect.{each-effect, EffectCase, effect-case, read_over}
+use Rattle.nr_laws.proofs.EachEffect.EffectCase.{Unchanged, OfMessage, OfRead, OfRefusal, OfCall}
 
 -- the payload that is conveyed to a call that is ready
 pub record Conveyed (k : ServerState) (place : ℕ) (c : PendingCall) (r : ReadyCall) : Type 0 where
@@ -39,15 +39,12 @@ pub data ReadyBy (k : ServerState) (f : Frame) (segment : Segment) (r : ReadyCal
   AtMessage : (message : List ℕ) (c : PendingCall) → message_completed k.received segment ≡ Some message → verdict k message ≡ MakesPending c → is_read (k.reads ++ reads_of (k.regions ++ regions_of k f.end c) c) c.number ≡ true → Conveyed k f.end c r → ReadyBy k f segment r
   AtRead : (q : PendingRead) (rest : List PendingRead) (c : PendingCall) → ends_response segment ≡ true → k.reads ≡ q ∷ rest → call_of_number k q.number ≡ Some c → is_read rest c.number ≡ true → Conveyed (with_access k f segment) f.end c r → ReadyBy k f segment r
 
-none-of : {W : Type 0} (r : ReadyCall) (rs : List ReadyCall) → rs ≡ [] → rs ≡ r ∷ [] → W
-none-of r rs none e = absurd (let t = sym none ∙ e in cc)
-
 record WholeBy (k : ServerState) (place : ℕ) (c : PendingCall) (reads : List PendingRead) (r : ReadyCall) : Type 0 where
   read : is_read reads c.number ≡ true
   conveyed : Conveyed k place c r
 
 head-cause : (k : ServerState) (place : ℕ) (c : PendingCall) (payload : List ℕ) (h : Result CallHead ℕ) (s : FrameEffect) (r : ReadyCall) → payload_of k place c ≡ Some payload → s.ready ≡ [] → (with_verdict (by_head c payload h) s).ready ≡ r ∷ [] → Conveyed k place c r
-head-cause k place c payload (Err at) s r is none e = none-of r s.ready none e
+head-cause k place c payload (Err at) s r is none e = none-one r s.ready none e
 head-cause k place c payload (Ok head) s r is none e = by (eqb (call_xid head) c.xid) e
   where
     by : (b : Bool) → (with_verdict (cond b (IsReady (record { number = c.number; xid = c.xid; payload = payload })) (Refuses 19)) s).ready ≡ r ∷ [] → Conveyed k place c r
@@ -57,10 +54,10 @@ head-cause k place c payload (Ok head) s r is none e = by (eqb (call_xid head) c
       where
         one : (a b : ReadyCall) → a ∷ [] ≡ b ∷ [] → a ≡ b
         one a b e = cc
-    by false e = none-of r s.ready none e
+    by false e = none-one r s.ready none e
 
 payload-cause : (k : ServerState) (place : ℕ) (c : PendingCall) (o : Option (List ℕ)) (s : FrameEffect) (r : ReadyCall) → payload_of k place c ≡ o → s.ready ≡ [] → (with_verdict (by_payload c o) s).ready ≡ r ∷ [] → Conveyed k place c r
-payload-cause k place c None s r is none e = none-of r s.ready none e
+payload-cause k place c None s r is none e = none-one r s.ready none e
 payload-cause k place c (Some payload) s r is none e = head-cause k place c payload (call_of payload) s r is none e
 
 whole-cause : (k : ServerState) (place : ℕ) (c : PendingCall) (s : FrameEffect) (r : ReadyCall) → s.ready ≡ [] → (ready_if_whole k place c s).ready ≡ r ∷ [] → WholeBy k place c s.reads r
@@ -68,49 +65,31 @@ whole-cause k place c s r none e = by (is_read s.reads c.number) refl e
   where
     by : (b : Bool) → is_read s.reads c.number ≡ b → (cond b (with_verdict (by_payload c (payload_of k place c)) s) s).ready ≡ r ∷ [] → WholeBy k place c s.reads r
     by true is e = record { read = is; conveyed = payload-cause k place c (payload_of k place c) s r refl none e }
-    by false is e = none-of r s.ready none e
+    by false is e = none-one r s.ready none e
 
 message-cause : (k : ServerState) (f : Frame) (segment : Segment) (message : List ℕ) (r : ReadyCall) → message_completed k.received segment ≡ Some message → (v : Verdict) → verdict k message ≡ v → (message_effect k f.end message v).ready ≡ r ∷ [] → ReadyBy k f segment r
-message-cause k f segment message r whole (EndsLink reason) is e = none-of r [] refl e
-message-cause k f segment message r whole OtherVersion is e = none-of r [] refl e
-message-cause k f segment message r whole BadChunks is e = none-of r [] refl e
+message-cause k f segment message r whole (EndsLink reason) is e = none-one r [] refl e
+message-cause k f segment message r whole OtherVersion is e = none-one r [] refl e
+message-cause k f segment message r whole BadChunks is e = none-one r [] refl e
 message-cause k f segment message r whole (MakesPending c) is e =
     let w = whole-cause k f.end c (record (no_effect k) { calls = k.calls ++ c ∷ []; reads = k.reads ++ reads_of (k.regions ++ regions_of k f.end c) c; regions = k.regions ++ regions_of k f.end c }) r refl e in
     AtMessage message c whole is w.read w.conveyed
 
-by-message-cause : (k : ServerState) (f : Frame) (segment : Segment) (r : ReadyCall) (o : Option (List ℕ)) → message_completed k.received segment ≡ o → (by_message k f.end o).ready ≡ r ∷ [] → ReadyBy k f segment r
-by-message-cause k f segment r None is e = none-of r [] refl e
-by-message-cause k f segment r (Some message) is e = message-cause k f segment message r is (verdict k message) refl e
-
-response-cause : (k : ServerState) (f : Frame) (segment : Segment) (r : ReadyCall) → ends_response segment ≡ true → (reads : List PendingRead) → k.reads ≡ reads → (response_effect (with_access k f segment) f.end reads).ready ≡ r ∷ [] → ReadyBy k f segment r
-response-cause k f segment r last [] is e = none-of r [] refl e
-response-cause k f segment r last (q ∷ reads) is e = by_call (call_of_number k q.number) refl e
-  where
-    t : ServerState
-    t = with_access k f segment
-
-    s : FrameEffect
-    s = record (no_effect t) { reads = reads; kept = length (open_reads t) - 1 }
-
-    by_test : (c : PendingCall) → call_of_number k q.number ≡ Some c → (b : Bool) → (cond b (with_refused_call t c s) (ready_if_whole t f.end c s)).ready ≡ r ∷ [] → ReadyBy k f segment r
-    by_test c own true e = none-of r [] refl e
-    by_test c own false e = (let w = whole-cause t f.end c s r refl e in AtRead q reads c last is own w.read w.conveyed)
-
-    by_call : (o : Option PendingCall) → call_of_number k q.number ≡ o → (read_effect t f.end q o s).ready ≡ r ∷ [] → ReadyBy k f segment r
-    by_call None own e = none-of r [] refl e
-    by_call (Some c) own e = by_test c own (is_stream_read c q s.reads && not (is_read_chunk_of_item (chunk_bytes t f.end c 0) c.lists.read)) e
-
 pub ready-by : (k : ServerState) (f : Frame) (segment : Segment) (r : ReadyCall) → frame_segment f ≡ Ok segment → (frame_effect k f).ready ≡ r ∷ [] → ReadyBy k f segment r
-unfolding frame_effect
-ready-by k f segment r is e = by segment (ap (λ (x : Result Segment ℕ). (effect_in k f x).ready) (sym is) ∙ e)
+ready-by k f segment r is e = by (effect-case k f segment is)
   where
-    by : (s : Segment) → (effect_in k f (Ok s)).ready ≡ r ∷ [] → ReadyBy k f s r
-    by (Tagged last opcode stag to payload) e = tagged (eqb opcode OPCODE_READ_RESPONSE && last) refl e
-      where
-        tagged : (b : Bool) → (eqb opcode OPCODE_READ_RESPONSE && last) ≡ b → (cond b (response_effect (with_access k f (Tagged last opcode stag to payload)) f.end k.reads) (no_effect (with_access k f (Tagged last opcode stag to payload)))).ready ≡ r ∷ [] → ReadyBy k f (Tagged last opcode stag to payload) r
-        tagged true own e = response-cause k f (Tagged last opcode stag to payload) r own k.reads refl e
-        tagged false own e = none-of r [] refl e
-    by (Untagged last opcode w queue msn offset payload) e = by-message-cause k f (Untagged last opcode w queue msn offset payload) r (message_completed k.received (Untagged last opcode w queue msn offset payload)) refl e
+    made : (s : FrameEffect) → frame_effect k f ≡ s → s.ready ≡ r ∷ []
+    made s same = ap (λ (x : FrameEffect). x.ready) (sym same) ∙ e
+
+    by : EffectCase k f segment (frame_effect k f) → ReadyBy k f segment r
+    by (Unchanged same) = none-one r [] refl (made (no_effect k) same)
+    by (OfMessage message whole same) = message-cause k f segment message r whole (verdict k message) refl (made (message_effect k f.end message (verdict k message)) same)
+    by (OfRead q reads last own same) = none-one r [] refl (made (read_over k reads) same)
+    by (OfRefusal q reads c last own found test same) = none-one r [] refl (made (with_refused_call k c (read_over k reads)) same)
+    by (OfCall q reads c last own found same) =
+        let t = with_access k f segment in
+        let w = whole-cause t f.end c (read_over k reads) r refl (made (ready_if_whole t f.end c (read_over k reads)) same) in
+        AtRead q reads c last own found w.read w.conveyed
 
 -- at most one call is ready by a frame
 abbrev pub AtMostReady : List ReadyCall → Type 0
@@ -121,50 +100,14 @@ few-verdict : (v : CallVerdict) (s : FrameEffect) → AtMostReady s.ready → At
 few-verdict (Refuses reason) s h = h
 few-verdict (IsReady r) s h = refl
 
-few-whole : (k : ServerState) (place : ℕ) (c : PendingCall) (s : FrameEffect) → AtMostReady s.ready → AtMostReady (ready_if_whole k place c s).ready
-few-whole k place c s h = by (is_read s.reads c.number)
-  where
-    by : (b : Bool) → AtMostReady (cond b (with_verdict (by_payload c (payload_of k place c)) s) s).ready
-    by true = few-verdict (by_payload c (payload_of k place c)) s h
-    by false = h
-
-few-message : (k : ServerState) (place : ℕ) (message : List ℕ) (v : Verdict) → AtMostReady (message_effect k place message v).ready
-few-message k place message (EndsLink reason) = tt
-few-message k place message OtherVersion = tt
-few-message k place message BadChunks = tt
-few-message k place message (MakesPending c) = few-whole k place c (record (no_effect k) { calls = k.calls ++ c ∷ []; reads = k.reads ++ reads_of (k.regions ++ regions_of k place c) c; regions = k.regions ++ regions_of k place c }) tt
-
-few-by-message : (k : ServerState) (place : ℕ) (o : Option (List ℕ)) → AtMostReady (by_message k place o).ready
-few-by-message k place None = tt
-few-by-message k place (Some m) = few-message k place m (verdict k m)
-
-few-read : (k : ServerState) (place : ℕ) (r : PendingRead) (o : Option PendingCall) (s : FrameEffect) → AtMostReady s.ready → AtMostReady (read_effect k place r o s).ready
-few-read k place r None s h = h
-few-read k place r (Some c) s h = by (is_stream_read c r s.reads && not (is_read_chunk_of_item (chunk_bytes k place c 0) c.lists.read))
-  where
-    by : (b : Bool) → AtMostReady (cond b (with_refused_call k c s) (ready_if_whole k place c s)).ready
-    by true = h
-    by false = few-whole k place c s h
-
-few-response : (k : ServerState) (place : ℕ) (reads : List PendingRead) → AtMostReady (response_effect k place reads).ready
-few-response k place [] = tt
-few-response k place (r ∷ reads) = few-read k place r (call_of_number k r.number) (record (no_effect k) { reads = reads; kept = length (open_reads k) - 1 }) tt
-
 few-frame : (k : ServerState) (f : Frame) → AtMostReady (frame_effect k f).ready
-unfolding frame_effect
-few-frame k f = by (frame_segment f)
+few-frame k f =
+    each-effect k (λ m. Unit {0}) (λ s. AtMostReady s.ready)
+    (record { judged = judged; ends = λ message reason good is. tt; version = λ message good. tt; chunks = λ message good. tt; pending = λ place message c good is. tt })
+    (record { unchanged = tt; judged = judged; read = λ r reads is. tt; refused = λ r reads c is found. tt }) f (λ s m is e. tt)
   where
-    by : (r : Result Segment ℕ) → AtMostReady (effect_in k f r).ready
-    by (Err reason) = tt
-    by (Ok (Tagged last opcode stag to payload)) = tagged (eqb opcode OPCODE_READ_RESPONSE && last)
-      where
-        t : ServerState
-        t = with_access k f (Tagged last opcode stag to payload)
-
-        tagged : (b : Bool) → AtMostReady (cond b (response_effect t f.end t.reads) (no_effect t)).ready
-        tagged true = few-response t f.end t.reads
-        tagged false = tt
-    by (Ok (Untagged last opcode w queue msn offset payload)) = few-by-message k f.end (message_completed k.received (Untagged last opcode w queue msn offset payload))
+    judged : (t : ServerState) (place : ℕ) (c : PendingCall) (s : FrameEffect) → AtMostReady s.ready → AtMostReady (with_verdict (by_payload c (payload_of t place c)) s).ready
+    judged t place c s h = few-verdict (by_payload c (payload_of t place c)) s h
 
 -- ---- Along the events of a server
 
@@ -190,14 +133,6 @@ each-later : (opened : LinkParameters) (es : List Event) (e : Event) (rs : List 
 each-later opened es e [] h = tt
 each-later opened es e (r ∷ rs) h = (ready-later opened es e r h.0, each-later opened es e rs h.1)
 
-each-append : (opened : LinkParameters) (es : List Event) (xs ys : List ReadyCall) → Each (ReadyAt opened es) xs → Each (ReadyAt opened es) ys → Each (ReadyAt opened es) (xs ++ ys)
-each-append opened es [] ys h g = g
-each-append opened es (x ∷ xs) ys h g = (h.0, each-append opened es xs ys h.1 g)
-
-each-drop : (opened : LinkParameters) (es : List Event) (rs : List ReadyCall) → Each (ReadyAt opened es) rs → Each (ReadyAt opened es) (drop 1 rs)
-each-drop opened es [] h = tt
-each-drop opened es (r ∷ rs) h = h.1
-
 new-each : (opened : LinkParameters) (es : List Event) (f : Frame) (rs : List ReadyCall) → is_hello f ≡ false → (frame_effect (server_by opened es) f).ready ≡ rs → AtMostReady rs → Each (ReadyAt opened (es ++ FrameReceived f ∷ [])) rs
 new-each opened es f [] behind is few = tt
 new-each opened es f (r ∷ rs) behind is few =
@@ -218,10 +153,10 @@ after-each opened es (FrameReceived f) h = by (is_hello f) refl
 
     by : (b : Bool) → is_hello f ≡ b → Each (ReadyAt opened (es ++ FrameReceived f ∷ [])) (cond b k (with_effect k f (frame_effect k f))).ready
     by true is = old
-    by false is = each-append opened (es ++ FrameReceived f ∷ []) k.ready (frame_effect k f).ready old (new-each opened es f (frame_effect k f).ready is refl (few-frame k f))
+    by false is = each-append (ReadyAt opened (es ++ FrameReceived f ∷ [])) k.ready (frame_effect k f).ready old (new-each opened es f (frame_effect k f).ready is refl (few-frame k f))
 after-each opened es (CallSubmitted p a) h = each-later opened es (CallSubmitted p a) (server_by opened es).ready h
 after-each opened es (MemoryRevoked p xid) h = each-later opened es (MemoryRevoked p xid) (server_by opened es).ready h
-after-each opened es (CallExecuted e) h = each-drop opened (es ++ CallExecuted e ∷ []) (server_by opened es).ready (each-later opened es (CallExecuted e) (server_by opened es).ready h)
+after-each opened es (CallExecuted e) h = each-drop (ReadyAt opened (es ++ CallExecuted e ∷ [])) (server_by opened es).ready (each-later opened es (CallExecuted e) (server_by opened es).ready h)
 after-each opened es QueueWritten h = each-later opened es QueueWritten (server_by opened es).ready h
 
 next-each : (opened : LinkParameters) (es : List Event) (e : Event) → Each (ReadyAt opened es) (server_by opened es).ready → Each (ReadyAt opened (es ++ e ∷ [])) (server_by opened (es ++ e ∷ [])).ready

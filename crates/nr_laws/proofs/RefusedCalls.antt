@@ -1,10 +1,8 @@
 -- On a matched link an error message that the server says at a frame refuses the Send of an accepted call.
-use Rattle.std.proofs.Common.{◌≡◌, ℕ, ◌+◌, ◌-◌, Bool, true, false, cond, ◌&&◌, not, eqb, List, [], ◌∷◌, ◌++◌, length, Option, None, Some, Result, Ok, refl, sym, ap, ◌∙◌, arith, inl, inr}
+use Rattle.std.proofs.Common.{◌≡◌, ℕ, ◌+◌, Bool, true, false, cond, not, List, [], ◌∷◌, ◌++◌, Some, Ok, refl, sym, ap, ◌∙◌, arith, inl, inr}
 use Rattle.nr_xdr.specs.Fields.{word_at}
 use Rattle.nr_wire.specs.declared.hello.Side.TheVariants.{Responder}
-use Rattle.nr_wire.specs.Constants.{OPCODE_READ_RESPONSE}
 use Rattle.nr_wire.specs.Segment.{Segment}
-use Rattle.nr_wire.specs.Segment.Segment.{Tagged, Untagged}
 use Rattle.nr_link.specs.Frames.{Frame}
 use Rattle.nr_link.specs.ReceiveState.{message_completed}
 use Rattle.nr_link.specs.Ending.{frame_segment}
@@ -15,14 +13,14 @@ use Rattle.nr_reduce.specs.Events.{events}
 use Rattle.nr_reduce.specs.Events.Event.{FrameReceived}
 use Rattle.nr_reduce.specs.Holds.{chunk_error, version_error}
 use Rattle.nr_reduce.specs.Chunks.{is_read_chunk_of_item}
-use Rattle.nr_reduce.specs.ServerState.{ServerState, PendingCall, PendingRead, credit_word}
-use Rattle.nr_reduce.specs.ServerReads.{is_read, reads_of, regions_of, open_reads}
+use Rattle.nr_reduce.specs.ServerState.{ServerState, PendingCall, credit_word}
+use Rattle.nr_reduce.specs.ServerReads.{is_read, reads_of, regions_of}
 use Rattle.nr_reduce.specs.ServerMessages.{Verdict, CallVerdict, verdict, chunk_bytes, payload_of, by_payload}
 use Rattle.nr_reduce.specs.ServerMessages.Verdict.{EndsLink, OtherVersion, BadChunks, MakesPending}
 use Rattle.nr_reduce.specs.ServerMessages.CallVerdict.{Refuses, IsReady}
-use Rattle.nr_reduce.specs.ServerFrames.{FrameEffect, no_effect, with_verdict, ready_if_whole, message_effect, with_refused_call, is_stream_read, read_effect, call_of_number, response_effect, by_message, with_access, effect_in, frame_effect}
+use Rattle.nr_reduce.specs.ServerFrames.{FrameEffect, no_effect, with_verdict, ready_if_whole, message_effect, with_refused_call, is_stream_read, with_access, frame_effect}
 use Rattle.nr_reduce.specs.Run.{client}
-use Rattle.nr_reduce.specs.RunLaws.{server_by, IsReceivedCall, IsStreamRefused, RefusesSend, ends_response}
+use Rattle.nr_reduce.specs.RunLaws.{server_by, IsReceivedCall, IsStreamRefused, RefusesSend}
 use Rattle.nr_reduce.specs.Asked.{AskedSoFar}
 use Rattle.nr_reduce.proofs.Conveyed.{Known, known-from, each-found}
 use Rattle.nr_laws.specs.Typed.{IsTyped}
@@ -30,6 +28,10 @@ use Rattle.nr_laws.proofs.ClientRun.{WasSubmitted}
 use Rattle.nr_laws.proofs.ExecutedCalls.{frame-message, received-message}
 use Rattle.nr_laws.proofs.HeaderXid.{header-xid, call-xid, chunk-error-xid, version-error-xid}
 use Rattle.nr_laws.proofs.ServerAlong.{SaidError}
+use Rattle.nr_laws.proofs.Basics.{none-one}
+use Rattle.std.proofs.lemmas.Bool.{and_parts, not-true}
+use Rattle.nr_laws.proofs.EachEffect.{EffectCase, effect-case, read_over}
+use Rattle.nr_laws.proofs.EachEffect.EffectCase.{Unchanged, OfMessage, OfRead, OfRefusal, OfCall}
 
 -- ---- The cause of an error message
 
@@ -49,66 +51,35 @@ whole-errors k place c s = by (is_read s.reads c.number)
     by true = same-errors (by_payload c (payload_of k place c)) s
     by false = refl
 
-none-of : {W : Type 0} (m : List ℕ) (ms : List (List ℕ)) → ms ≡ [] → ms ≡ m ∷ [] → W
-none-of m ms none e = absurd (let t = sym none ∙ e in cc)
-
 one-of : (a b : List ℕ) → a ∷ [] ≡ b ∷ [] → b ≡ a
 one-of a b e = (let t : a ≡ b = cc in sym t)
 
 message-cause : (k : ServerState) (f : Frame) (segment : Segment) (message m : List ℕ) → message_completed k.received segment ≡ Some message → (v : Verdict) → verdict k message ≡ v → (message_effect k f.end message v).errors ≡ m ∷ [] → Cause k f segment m
-message-cause k f segment message m whole (EndsLink reason) is e = none-of m [] refl e
+message-cause k f segment message m whole (EndsLink reason) is e = none-one m [] refl e
 message-cause k f segment message m whole OtherVersion is e = ByVersion message whole is (one-of (version_error (word_at 0 message) (word_at 4 message) (credit_word k)) m e)
 message-cause k f segment message m whole BadChunks is e = ByChunks message whole is (one-of (chunk_error (word_at 0 message) (credit_word k)) m e)
 message-cause k f segment message m whole (MakesPending c) is e =
-    none-of m (message_effect k f.end message (MakesPending c)).errors
+    none-one m (message_effect k f.end message (MakesPending c)).errors
     (whole-errors k f.end c (record (no_effect k) { calls = k.calls ++ c ∷ []; reads = k.reads ++ reads_of (k.regions ++ regions_of k f.end c) c; regions = k.regions ++ regions_of k f.end c })) e
 
-by-message-cause : (k : ServerState) (f : Frame) (segment : Segment) (m : List ℕ) (o : Option (List ℕ)) → message_completed k.received segment ≡ o → (by_message k f.end o).errors ≡ m ∷ [] → Cause k f segment m
-by-message-cause k f segment m None is e = none-of m [] refl e
-by-message-cause k f segment m (Some message) is e = message-cause k f segment message m is (verdict k message) refl e
-
-pub and-true : (a b : Bool) → (a && b) ≡ true → (a ≡ true) × (b ≡ true)
-and-true true true e = (refl, refl)
-and-true true false e = absurd cc
-and-true false b e = absurd cc
-
-not-true : (b : Bool) → not b ≡ true → b ≡ false
-not-true true e = absurd cc
-not-true false e = refl
-
-response-cause : (k : ServerState) (f : Frame) (segment : Segment) (m : List ℕ) → ends_response segment ≡ true → (reads : List PendingRead) → k.reads ≡ reads → (response_effect (with_access k f segment) f.end reads).errors ≡ m ∷ [] → Cause k f segment m
-response-cause k f segment m last [] is e = none-of m [] refl e
-response-cause k f segment m last (r ∷ reads) is e = by_call (call_of_number k r.number) refl e
-  where
-    t : ServerState
-    t = with_access k f segment
-
-    s : FrameEffect
-    s = record (no_effect t) { reads = reads; kept = length (open_reads t) - 1 }
-
-    by_test : (c : PendingCall) → call_of_number k r.number ≡ Some c → (b : Bool) → (is_stream_read c r s.reads && not (is_read_chunk_of_item (chunk_bytes t f.end c 0) c.lists.read)) ≡ b
-        → (cond b (with_refused_call t c s) (ready_if_whole t f.end c s)).errors ≡ m ∷ [] → Cause k f segment m
-    by_test c own true is_bad e =
-        let both = and-true (is_stream_read c r s.reads) (not (is_read_chunk_of_item (chunk_bytes t f.end c 0) c.lists.read)) is_bad in
-        ByStream c (record { is_last = last; read = r; others = reads; reads = is; call = own; stream = both.0; unsuited = not-true (is_read_chunk_of_item (chunk_bytes t f.end c 0) c.lists.read) both.1 })
-        (one-of (chunk_error c.xid (credit_word k)) m e)
-    by_test c own false is_bad e = none-of m (ready_if_whole t f.end c s).errors (whole-errors t f.end c s) e
-
-    by_call : (o : Option PendingCall) → call_of_number k r.number ≡ o → (read_effect t f.end r o s).errors ≡ m ∷ [] → Cause k f segment m
-    by_call None own e = none-of m [] refl e
-    by_call (Some c) own e = by_test c own (is_stream_read c r s.reads && not (is_read_chunk_of_item (chunk_bytes t f.end c 0) c.lists.read)) refl e
-
 pub cause : (k : ServerState) (f : Frame) (segment : Segment) (m : List ℕ) → frame_segment f ≡ Ok segment → (frame_effect k f).errors ≡ m ∷ [] → Cause k f segment m
-unfolding frame_effect
-cause k f segment m is e = by segment (ap (λ (r : Result Segment ℕ). (effect_in k f r).errors) (sym is) ∙ e)
+cause k f segment m is e = by (effect-case k f segment is)
   where
-    by : (s : Segment) → (effect_in k f (Ok s)).errors ≡ m ∷ [] → Cause k f s m
-    by (Tagged last opcode stag to payload) e = tagged (eqb opcode OPCODE_READ_RESPONSE && last) refl e
-      where
-        tagged : (b : Bool) → (eqb opcode OPCODE_READ_RESPONSE && last) ≡ b → (cond b (response_effect (with_access k f (Tagged last opcode stag to payload)) f.end k.reads) (no_effect (with_access k f (Tagged last opcode stag to payload)))).errors ≡ m ∷ [] → Cause k f (Tagged last opcode stag to payload) m
-        tagged true own e = response-cause k f (Tagged last opcode stag to payload) m own k.reads refl e
-        tagged false own e = none-of m [] refl e
-    by (Untagged last opcode w queue msn offset payload) e = by-message-cause k f (Untagged last opcode w queue msn offset payload) m (message_completed k.received (Untagged last opcode w queue msn offset payload)) refl e
+    said : (s : FrameEffect) → frame_effect k f ≡ s → s.errors ≡ m ∷ []
+    said s same = ap (λ (x : FrameEffect). x.errors) (sym same) ∙ e
+
+    by : EffectCase k f segment (frame_effect k f) → Cause k f segment m
+    by (Unchanged same) = none-one m [] refl (said (no_effect k) same)
+    by (OfMessage message whole same) = message-cause k f segment message m whole (verdict k message) refl (said (message_effect k f.end message (verdict k message)) same)
+    by (OfRead r reads last own same) = none-one m [] refl (said (read_over k reads) same)
+    by (OfRefusal r reads c last own found test same) =
+        let both = and_parts (is_stream_read c r reads) (not (is_read_chunk_of_item (chunk_bytes (with_access k f segment) f.end c 0) c.lists.read)) test in
+        ByStream c
+        (record { is_last = last; read = r; others = reads; reads = own; call = found; stream = both.0; unsuited = not-true (is_read_chunk_of_item (chunk_bytes (with_access k f segment) f.end c 0) c.lists.read) both.1 })
+        (one-of (chunk_error c.xid (credit_word k)) m (said (with_refused_call k c (read_over k reads)) same))
+    by (OfCall r reads c last own found same) =
+        let s = ready_if_whole (with_access k f segment) f.end c (read_over k reads) in
+        none-one m s.errors (whole-errors (with_access k f segment) f.end c (read_over k reads)) (said s same)
 
 -- ---- The call that is refused
 

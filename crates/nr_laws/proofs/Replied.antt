@@ -1,9 +1,8 @@
 -- What kind of message brought an outcome: a reply was brought by the answer of an executed call.
 use Rattle.std.proofs.Common.{◌≡◌, ℕ, zero, suc, ◌+◌, ◌<◌, Bool, true, false, cond, ◌&&◌, eqb, ltb, List, [], ◌∷◌, ◌++◌, length, take, drop, Option, None, Some, Result, Ok, Err, refl, sym, ap, subst, ◌∙◌, arith}
-use Rattle.std.proofs.lemmas.List.{take_at}
 use Rattle.nr_xdr.specs.Item.{word, word_of}
 use Rattle.nr_xdr.specs.Fields.{word_at}
-use Rattle.nr_xdr.proofs.WordBytes.{length-word, word_of-word}
+use Rattle.nr_xdr.proofs.WordBytes.{length-word}
 use Rattle.nr_wire.specs.declared.hello.Side.TheVariants.{Responder}
 use Rattle.nr_header.specs.declared.header.Body.{Body}
 use Rattle.nr_header.specs.declared.header.Body.TheVariants.{Msg, Nomsg, ErrVers, ErrChunk}
@@ -27,7 +26,7 @@ use Rattle.nr_reduce.specs.Server.{offer_of}
 use Rattle.nr_reduce.specs.ServerState.{credit_word}
 use Rattle.nr_laws.specs.MatchedSoFar.{MatchedSoFar}
 use Rattle.nr_laws.specs.Typed.{IsTyped}
-use Rattle.nr_laws.proofs.HeaderXid.{answer-xid}
+use Rattle.nr_laws.proofs.HeaderXid.{answer-xid, first-word}
 use Rattle.nr_laws.proofs.ServerOutputs.{IsError}
 use Rattle.nr_laws.proofs.ServerOutputs.IsError.{OfChunks, OfVersion}
 use Rattle.nr_laws.proofs.ServerAlong.{Said, SaidAnswer}
@@ -47,9 +46,6 @@ pub word-behind : (n m k : ℕ) (rest : List ℕ) → m ≡ 4 + k → word_at m 
 word-behind n m k rest e =
     let l = length-word n in
     ap (λ (bytes : List ℕ). word_of (take 4 bytes)) (drop-behind m (word n) rest k (omega (arith, e, l)))
-
-pub first-word : (n : ℕ) (rest : List ℕ) → n < 4294967296 → word_at 0 (word n ++ rest) ≡ n
-first-word n rest fits = ap word_of (take_at (word n) rest 4 (length-word n)) ∙ word_of-word n fits
 
 pub kind-word : (a b c d : ℕ) (rest : List ℕ) → d < 4294967296 → word_at 12 (word a ++ (word b ++ (word c ++ (word d ++ rest)))) ≡ d
 kind-word a b c d rest fits =

@@ -1,31 +1,21 @@
--- A call whose reply is handed over was accepted, and goes out by a plan.
-use Rattle.std.proofs.Common.{◌≡◌, List, ◌∷◌, ◌++◌, ap, ◌∙◌, append_assoc}
+-- A call whose reply is handed over was accepted before, and goes out by a plan.
+use Rattle.std.proofs.Common.{ℕ, ◌∷◌, ◌++◌, ap, ◌∙◌}
 use Rattle.nr_reduce.specs.declared.call.Outcome.TheVariants as outcomes
-use Rattle.nr_reduce.specs.declared.call.Submission.TheVariants as submissions
 use Rattle.nr_reduce.specs.declared.mark.Mark.{Mark}
 use Rattle.nr_reduce.specs.declared.mark.Mark.TheVariants as marks
 use Rattle.nr_laws.specs.HandedOver.{RepliesHavePlans}
-use Rattle.nr_laws.proofs.ReadOutcomes.{replies_are_executed}
+use Rattle.nr_laws.specs.MarkAt.{MarkAt}
+use Rattle.nr_laws.proofs.Replied.{replied-by}
 use Rattle.nr_laws.proofs.ExecutedPayloads.{executes_have_plans}
+use Rattle.nr_laws.proofs.LaterMarks.{mark-later, plan-later}
 
 pub replies_have_plans : RepliesHavePlans
 replies_have_plans opened link run before xid reply typed far at =
-    let e = replies_are_executed opened link run before xid reply typed far at in
-    let done : Mark = marks.Done link xid (outcomes.Reply reply) in
+    let r = replied-by opened link run before at.after xid reply typed far at.is in
+    let e = r.answer.call in
+    let m = r.by.mark in
     let execute : Mark = marks.Execute link xid e.moment e.payload e.place e.reply in
-    let whole : run ≡ e.before ++ execute ∷ (e.at.after ++ done ∷ at.after) =
-    at.is ∙ ap (λ (b : List Mark). b ++ done ∷ at.after) e.at.is ∙ append_assoc e.before (execute ∷ e.at.after) (done ∷ at.after) in
-    let p = executes_have_plans opened link run e.before xid e.moment e.payload e.place e.reply typed far (record { after = e.at.after ++ done ∷ at.after; is = whole }) in
-    let s = p.1 in
-    let submit : Mark = marks.Submit link s.call s.form (submissions.Accepted xid) in
-    let all : run ≡ s.before ++ submit ∷ (s.at.after ++ execute ∷ (e.at.after ++ done ∷ at.after)) =
-    whole ∙ ap (λ (b : List Mark). b ++ execute ∷ (e.at.after ++ done ∷ at.after)) s.at.is ∙ append_assoc s.before (submit ∷ s.at.after) (execute ∷ (e.at.after ++ done ∷ at.after)) in (
-      p.0,
-      record {
-        call = s.call;
-        form = s.form;
-        before = s.before;
-        at = record { after = s.at.after ++ execute ∷ (e.at.after ++ done ∷ at.after); is = all };
-        planned = s.planned;
-      },
-    )
+    let own : MarkAt before m.earlier execute = record { after = m.later; is = m.is ∙ ap (λ (x : ℕ). m.earlier ++ marks.Execute link x e.moment e.payload e.place e.reply ∷ m.later) r.own } in
+    let there = mark-later run before (marks.Done link xid (outcomes.Reply reply)) at.after m.earlier execute at.is own in
+    let p = executes_have_plans opened link run m.earlier xid e.moment e.payload e.place e.reply typed far there in
+    (p.0, plan-later opened link before m.earlier execute m.later xid p.0 own.is p.1)

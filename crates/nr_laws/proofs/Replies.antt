@@ -3,17 +3,14 @@ use Rattle.std.specs.List.{find}
 use Rattle.nr_wire.specs.Constants.{OPCODE_SEND, QUEUE_SEND}
 use Rattle.nr_header.specs.Constants.{PAYLOAD_MAX}
 use Rattle.nr_link.specs.Output.{msn_word}
-use Rattle.nr_link.specs.ReceiveState.{begun_bytes}
 use Rattle.nr_laws.proofs.AnswerLists.{IsRead, read-answer, read-chunk_error, read-version_error}
-use Rattle.std.proofs.Common.{◌≡◌, ℕ, ◌+◌, ◌*◌, ◌≤◌, ◌<◌, ◌^◌, Bool, true, false, cond, not, ◌&&◌, eqb, List, [], ◌∷◌, ◌++◌, length, take, drop, Option, Some, None, Result, Ok, refl, sym, ap, subst, ◌∙◌, arith, length-append, append_assoc, take_all}
+use Rattle.std.proofs.Common.{◌≡◌, ℕ, ◌+◌, ◌*◌, ◌≤◌, ◌<◌, ◌^◌, Bool, true, false, cond, eqb, List, [], ◌∷◌, ◌++◌, length, take, drop, Some, None, Ok, refl, sym, ap, ◌∙◌, arith, length-append, append_assoc, take_all}
 use Rattle.std.proofs.Math.Seq.{drop-append_seam}
 use Rattle.std.proofs.lemmas.List.{take-append-le}
 use Rattle.nr_xdr.specs.Item.{word, word_of}
 use Rattle.nr_xdr.specs.Items.{encodings}
 use Rattle.nr_xdr.specs.Fields.{word_at}
 use Rattle.nr_xdr.proofs.WordBytes.{length-word, word_of-word}
-use Rattle.nr_wire.specs.Constants.{OPCODE_READ_RESPONSE}
-use Rattle.nr_wire.specs.Segment.{Segment}
 use Rattle.nr_wire.specs.Segment.Segment.{Tagged, Untagged}
 use Rattle.nr_header.specs.declared.header.ChunkLists.{ChunkLists}
 use Rattle.nr_header.specs.declared.header.Body.TheVariants.{Msg, Nomsg}
@@ -22,16 +19,14 @@ use Rattle.nr_link.specs.Frames.{Frame}
 use Rattle.nr_link.specs.Ending.{frame_segment}
 use Rattle.nr_reduce.specs.Limits.{send_max}
 use Rattle.nr_reduce.specs.Holds.{Answer, answer_for, answer_message, answer_lists, answer_size, chunk_error, version_error, no_segments}
-use Rattle.nr_reduce.specs.Chunks.{is_read_chunk_of_item}
-use Rattle.nr_reduce.specs.ServerState.{PendingCall, PendingRead, ServerState}
-use Rattle.nr_reduce.specs.ServerReads.{regions_of, reads_of, is_read}
-use Rattle.nr_reduce.specs.ServerMessages.{CallVerdict, by_payload, payload_of, chunk_bytes, Verdict, verdict}
+use Rattle.nr_reduce.specs.ServerState.{PendingCall, ServerState}
+use Rattle.nr_reduce.specs.ServerMessages.{CallVerdict, by_payload, payload_of}
 use Rattle.nr_reduce.specs.ServerMessages.CallVerdict.{Refuses, IsReady}
-use Rattle.nr_reduce.specs.ServerMessages.Verdict.{EndsLink, OtherVersion, BadChunks, MakesPending}
-use Rattle.nr_reduce.specs.ServerFrames.{FrameEffect, no_effect, with_verdict, ready_if_whole, message_effect, with_refused_call, is_stream_read, read_effect, call_of_number, response_effect, with_access, effect_in, frame_effect}
+use Rattle.nr_reduce.specs.ServerFrames.{FrameEffect, with_verdict, frame_effect}
 use Rattle.nr_reduce.proofs.AnswerMessages.{answer_length}
 use Rattle.nr_laws.proofs.WritableOffers.{OfferFits}
-use Rattle.nr_laws.proofs.ServerOutputs.{word_len}
+use Rattle.nr_laws.proofs.EachEffect.{send-effect, tagged-effect}
+use Rattle.nr_reduce.proofs.Sizes.{word_len}
 
 pub record IsReply (credit : ℕ) (message : List ℕ) : Type 0 where
   pub least : 16 ≤ length message
@@ -82,54 +77,26 @@ replies-verdict : (credit : ℕ) (o : CallVerdict) (s : FrameEffect) → AreRepl
 replies-verdict credit (Refuses reason) s h = h
 replies-verdict credit (IsReady r) s h = h
 
-replies-whole : (credit : ℕ) (k : ServerState) (place : ℕ) (c : PendingCall) (s : FrameEffect) → AreReplies credit s.errors → AreReplies credit (ready_if_whole k place c s).errors
-replies-whole credit k place c s h = by (is_read s.reads c.number)
-  where
-    by : (b : Bool) → AreReplies credit (cond b (with_verdict (by_payload c (payload_of k place c)) s) s).errors
-    by true = replies-verdict credit (by_payload c (payload_of k place c)) s h
-    by false = h
-
-replies-message : (k : ServerState) (place : ℕ) (message : List ℕ) (v : Verdict) → word_at 0 message < 2 ^ 32 → word_at 4 message < 2 ^ 32 → k.credit < 2 ^ 32 → AreReplies k.credit (message_effect k place message v).errors
-replies-message k place message (EndsLink reason) xid version lt = tt
-replies-message k place message OtherVersion xid version lt = (version_error-reply (word_at 0 message) (word_at 4 message) k.credit xid version lt, tt)
-replies-message k place message BadChunks xid version lt = (chunk_error-reply (word_at 0 message) k.credit xid lt, tt)
-replies-message k place message (MakesPending c) xid version lt =
-    replies-whole k.credit k place c (record (no_effect k) { calls = k.calls ++ c ∷ []; reads = k.reads ++ reads_of (k.regions ++ regions_of k place c) c; regions = k.regions ++ regions_of k place c }) tt
-
-replies-read : (k : ServerState) (place : ℕ) (r : PendingRead) (o : Option PendingCall) (s : FrameEffect) → ((c : PendingCall) → o ≡ Some c → c.xid < 2 ^ 32) → k.credit < 2 ^ 32 → AreReplies k.credit s.errors → AreReplies k.credit (read_effect k place r o s).errors
-replies-read k place r None s small lt h = h
-replies-read k place r (Some c) s small lt h = by (is_stream_read c r s.reads && not (is_read_chunk_of_item (chunk_bytes k place c 0) c.lists.read))
-  where
-    by : (b : Bool) → AreReplies k.credit (cond b (with_refused_call k c s) (ready_if_whole k place c s)).errors
-    by true = (chunk_error-reply c.xid k.credit (small c refl) lt, tt)
-    by false = replies-whole k.credit k place c s h
-
 pub replies-send : (k : ServerState) (f : Frame) (message : List ℕ) → k.received.begun ≡ None → word_at 0 message < 2 ^ 32 → word_at 4 message < 2 ^ 32 → k.credit < 2 ^ 32
     → frame_segment f ≡ Ok (Untagged true OPCODE_SEND 0 QUEUE_SEND (msn_word (k.received.sends + 1)) 0 message) → AreReplies k.credit (frame_effect k f).errors
-unfolding frame_effect
 replies-send k f message none xid version lt is =
-    let segment : Segment = Untagged true OPCODE_SEND 0 QUEUE_SEND (msn_word (k.received.sends + 1)) 0 message in
-    let whole : List ℕ = begun_bytes k.received.begun ++ message in
-    let same : whole ≡ message = ap (λ (b : Option (List ℕ)). begun_bytes b ++ message) none in
-    subst (λ (r : Result Segment ℕ). AreReplies k.credit (effect_in k f r).errors) (sym is)
-    (replies-message k f.end whole (verdict k whole) (subst (λ (xs : List ℕ). word_at 0 xs < 2 ^ 32) (sym same) xid) (subst (λ (xs : List ℕ). word_at 4 xs < 2 ^ 32) (sym same) version) lt)
+    send-effect k (λ m. (word_at 0 m < 2 ^ 32) × (word_at 4 m < 2 ^ 32)) (λ s. AreReplies k.credit s.errors) (record {
+      judged = λ t place c s h. replies-verdict k.credit (by_payload c (payload_of t place c)) s h;
+      ends = λ m reason fit is. tt;
+      version = λ m fit. (version_error-reply (word_at 0 m) (word_at 4 m) k.credit fit.0 fit.1 lt, tt);
+      chunks = λ m fit. (chunk_error-reply (word_at 0 m) k.credit fit.0 lt, tt);
+      pending = λ place m c fit is. tt;
+    }) f message none (xid, version) is
 
 pub replies-tagged : (k : ServerState) (f : Frame) (last : Bool) (opcode stag to : ℕ) (payload : List ℕ) → ((n : ℕ) (c : PendingCall) → find (λ (y : PendingCall). eqb y.number n) k.calls ≡ Some c → c.xid < 2 ^ 32) → k.credit < 2 ^ 32
     → frame_segment f ≡ Ok (Tagged last opcode stag to payload) → AreReplies k.credit (frame_effect k f).errors
-unfolding frame_effect
 replies-tagged k f last opcode stag to payload small lt is =
-    subst (λ (r : Result Segment ℕ). AreReplies k.credit (effect_in k f r).errors) (sym is) (by (eqb opcode OPCODE_READ_RESPONSE && last))
-  where
-    t : ServerState
-    t = with_access k f (Tagged last opcode stag to payload)
-
-    response : (reads : List PendingRead) → AreReplies k.credit (response_effect t f.end reads).errors
-    response [] = tt
-    response (r ∷ reads) = replies-read t f.end r (call_of_number t r.number) _ (small r.number) lt tt
-
-    by : (b : Bool) → AreReplies k.credit (cond b (response_effect t f.end k.reads) (no_effect t)).errors
-    by true = response k.reads
-    by false = tt
+    tagged-effect k (λ s. AreReplies k.credit s.errors) (record {
+      unchanged = tt;
+      judged = λ t place c s h. replies-verdict k.credit (by_payload c (payload_of t place c)) s h;
+      read = λ r reads is. tt;
+      refused = λ r reads c is found. (chunk_error-reply c.xid k.credit (small r.number c found) lt, tt);
+    }) f last opcode stag to payload is
 
 -- ---- Of an executed call
 

@@ -76,11 +76,6 @@ longer-contents : (grants : List Grant) (stag : ℕ) (segments : List TaggedSegm
 longer-contents grants stag [] bytes = omega arith
 longer-contents grants stag (s ∷ segments) bytes = omega (arith, longer-segment grants stag bytes s, longer-contents grants stag segments (after_segment grants stag bytes s))
 
-record HasRoom (stag end_of : ℕ) (regions : List Region) : Type 0 where
-  region : Region
-  found : find (λ (r : Region). eqb r.stag stag) regions ≡ Some region
-  room : end_of ≤ length region.bytes
-
 not_denied : (g : Region) (place : ℕ) (access : Access) → denial_in (grant_offer (Some (region_grant place g))) access ≡ None → access.to + access.len ≤ length g.bytes
 not_denied g place access e = by (ltb (length g.bytes) (access.to + access.len)) refl e
   where
@@ -100,33 +95,38 @@ none-applies stag end place g (r ∷ regions) own h =
     (ne_eqb r.stag stag (λ e. h.0 (own ∙ sym e)))
     ∙ none-applies stag end place g regions own h.1
 
-found-room : (place end : ℕ) (access : Access) (regions : List Region) → HaveOwnStags (map (region_grant place) regions) → denial_in (grant_offer (find (applies access.stag end) (map (region_grant place) regions))) access ≡ None
-    → HasRoom access.stag (access.to + access.len) regions
-found-room place end access [] own e = absurd cc
-found-room place end access (r ∷ regions) own e = by (eqb r.stag access.stag) (ltb r.from end && leb end (region_grant place r).until) refl e (λ rest. found-room place end access regions own.1 rest)
+-- the region that an allowed access touches
+pub record AllowedIn (place : ℕ) (access : Access) (regions : List Region) : Type 0 where
+  pub region : Region
+  pub found : find (λ (r : Region). eqb r.stag access.stag) regions ≡ Some region
+  pub own : region.stag ≡ access.stag
+  pub allowed : denial_in (grant_offer (Some (region_grant place region))) access ≡ None
+
+pub allowed-in : (place end : ℕ) (access : Access) (regions : List Region) → HaveOwnStags (map (region_grant place) regions) → denial_in (grant_offer (find (applies access.stag end) (map (region_grant place) regions))) access ≡ None → AllowedIn place access regions
+allowed-in place end access [] own e = absurd cc
+allowed-in place end access (r ∷ regions) own e = by (eqb r.stag access.stag) (ltb r.from end && leb end (region_grant place r).until) refl e (λ rest. allowed-in place end access regions own.1 rest)
   where
     later : Option Grant
     later = find (applies access.stag end) (map (region_grant place) regions)
 
-    by : (b c : Bool) → eqb r.stag access.stag ≡ b → denial_in (grant_offer (cond (b && c) (Some (region_grant place r)) later)) access ≡ None → (denial_in (grant_offer later) access ≡ None → HasRoom access.stag (access.to + access.len) regions)
-        → HasRoom access.stag (access.to + access.len) (r ∷ regions)
-    by true true is e rest = record { region = r; found = ap (λ (b : Bool). cond b (Some r) (find (λ (x : Region). eqb x.stag access.stag) regions)) is; room = not_denied r place access e }
+    by : (b c : Bool) → eqb r.stag access.stag ≡ b → denial_in (grant_offer (cond (b && c) (Some (region_grant place r)) later)) access ≡ None → (denial_in (grant_offer later) access ≡ None → AllowedIn place access regions) → AllowedIn place access (r ∷ regions)
+    by true true is e rest = record { region = r; found = ap (λ (b : Bool). cond b (Some r) (find (λ (x : Region). eqb x.stag access.stag) regions)) is; own = eqb-true r.stag access.stag is; allowed = e }
     by true false is e rest =
         let none = none-applies access.stag end place (region_grant place r) regions (eqb-true r.stag access.stag is) own.0 in
         let wrong : denial_in None access ≡ None = ap (λ (o : Option Grant). denial_in (grant_offer o) access) (sym none) ∙ e in
         absurd (let no : Some NoStag ≡ None = wrong in cc)
     by false c is e rest =
         let m = rest e in
-        record { region = m.region; found = ap (λ (b : Bool). cond b (Some r) (find (λ (x : Region). eqb x.stag access.stag) regions)) is ∙ m.found; room = m.room }
+        record { region = m.region; found = ap (λ (b : Bool). cond b (Some r) (find (λ (x : Region). eqb x.stag access.stag) regions)) is ∙ m.found; own = m.own; allowed = m.allowed }
 
 pub memory-there : (place : ℕ) (access : Access) (regions : List Region) (segments : List TaggedSegment) → HaveOwnStags (region_grants place regions) → grant_denial (region_grants place regions) access place ≡ None
     → access.to + access.len ≤ length (region_bytes (region_grants place regions) regions segments access.stag)
 unfolding region_grants grant_denial grant_at region_bytes
 memory-there place access regions segments own e =
-    let m = found-room place place access regions own e in
+    let m = allowed-in place place access regions own e in
     let bytes : region_bytes_by (map (region_grant place) regions) segments (find (λ (r : Region). eqb r.stag access.stag) regions) ≡ contents (map (region_grant place) regions) m.region.stag m.region.bytes segments =
     ap (λ (o : Option Region). region_bytes_by (map (region_grant place) regions) segments o) m.found in
-    omega (arith, m.room, longer-contents (map (region_grant place) regions) m.region.stag segments m.region.bytes, ap (λ (xs : List ℕ). length xs) bytes)
+    omega (arith, not_denied m.region place access m.allowed, longer-contents (map (region_grant place) regions) m.region.stag segments m.region.bytes, ap (λ (xs : List ℕ). length xs) bytes)
 
 pub is-there : (k : ClientState) (f : Frame) (n sink at size stag to : ℕ) → HaveOwnStags (region_grants f.end k.regions) → is_hello f ≡ false → frame_segment f ≡ Ok (Untagged true OPCODE_READ_REQUEST 0 QUEUE_READ_REQUEST n 0 (request_payload sink at size stag to))
     → client_end k (FrameReceived f) ≡ None → 0 < size → sink < 2 ^ 32 → at < 2 ^ 64 → size < 2 ^ 32 → stag < 2 ^ 32 → to < 2 ^ 64 → IsThere k f.end sink at size stag to

@@ -24,8 +24,8 @@ use Rattle.nr_reduce.specs.Client.{client_rules, client_end, client_state_after,
 use Rattle.nr_reduce.specs.Run.{client}
 use Rattle.nr_reduce.proofs.OwnStags.{AreNumbered}
 use Rattle.nr_reduce.proofs.Steps.{client-one}
-use Rattle.nr_laws.proofs.Flows.{got-one}
 use Rattle.nr_laws.proofs.Beyond.{EndBy, frames-by}
+use Rattle.nr_reduce.proofs.Standing.{received-one}
 
 -- ---- Regions of an STag that are closed
 
@@ -172,7 +172,7 @@ if-by n true es h = h
 if-by n false es h = tt
 
 mark-by : (link : ℕ) (before : List Mark) (mark : Mark) → EventsBy (length (bytes_received link Initiator (before ++ mark ∷ []))) (events_at link Initiator before mark)
-mark-by link before mark = subst (λ (n : ℕ). EventsBy n (events_at link Initiator before mark)) (ap (λ (xs : List ℕ). length xs) (sym (got-one link Initiator before mark))) (by mark)
+mark-by link before mark = subst (λ (n : ℕ). EventsBy n (events_at link Initiator before mark)) (ap (λ (xs : List ℕ). length xs) (sym (received-one link Initiator before mark))) (by mark)
   where
     old : List ℕ
     old = bytes_received link Initiator before
@@ -201,7 +201,7 @@ until-from : (opened : LinkParameters) (link : ℕ) (before run : List Mark) →
 until-from opened link before [] h = subst (λ (b : List Mark). UntilBy (length (bytes_received link Initiator b)) (client opened link b).state.regions) (sym (append-nil before)) h
 until-from opened link before (mark ∷ run) h =
     let n = length (bytes_received link Initiator (before ++ mark ∷ [])) in
-    let grows = ap (λ (xs : List ℕ). length xs) (got-one link Initiator before mark) ∙ length-append (bytes_received link Initiator before) (fed_at link Initiator mark) in
+    let grows = ap (λ (xs : List ℕ). length xs) (received-one link Initiator before mark) ∙ length-append (bytes_received link Initiator before) (fed_at link Initiator mark) in
     let more : UntilBy n (client opened link before).state.regions = until-more (length (bytes_received link Initiator before)) n (client opened link before).state.regions (omega (arith, grows)) h in
     let next : UntilBy n (client opened link (before ++ mark ∷ [])).state.regions =
     subst (λ (r : EndState ClientState). UntilBy n r.state.regions) (sym (client-one opened link before mark)) (until-all opened n (client opened link before) (events_at link Initiator before mark) (mark-by link before mark) more) in

@@ -1,6 +1,5 @@
 -- What is read of an accepted call's message has the lists of its plan.
-use Rattle.std.proofs.Common.{◌≡◌, ℕ, ◌^◌, ◌<◌, List, [], ◌∷◌, ◌++◌, length, take, drop, Option, None, Some, refl, sym, ap, ◌∙◌, arith, append_assoc}
-use Rattle.std.proofs.lemmas.List.{take_at, drop_at}
+use Rattle.std.proofs.Common.{◌≡◌, ℕ, ◌^◌, ◌<◌, List, [], ◌∷◌, ◌++◌, length, Option, None, Some, refl, sym, ap, ◌∙◌, arith, append_assoc}
 use Rattle.nr_xdr.specs.Item.{Item, word, word_of, hyper, hyper_of}
 use Rattle.nr_xdr.specs.Items.{AllFit, encodings}
 use Rattle.nr_xdr.proofs.WordBytes.{length-word, word_of-word, length-hyper, hyper_of-hyper}
@@ -8,16 +7,11 @@ use Rattle.nr_header.specs.declared.header.RdmaSegment.{RdmaSegment}
 use Rattle.nr_header.specs.declared.header.ReadSegment.{ReadSegment}
 use Rattle.nr_header.specs.declared.header.ChunkLists.{ChunkLists}
 use Rattle.nr_header.specs.Header.{read_items, segments_items, write_items, reply_items, lists_items}
+use Rattle.nr_laws.proofs.OneChunk.{fronts}
+use Rattle.nr_reduce.proofs.AnswerMessages.{segments_tail}
 
 abbrev Fit : ℕ → Type 0
 Fit n = n < 2 ^ 32
-
--- the front of two equal lists, where both are as long
-fronts : (a b x y : List ℕ) (n : ℕ) → length a ≡ n → length b ≡ n → a ++ x ≡ b ++ y → (a ≡ b) × (x ≡ y)
-fronts a b x y n as_long too e = (
-  sym (take_at a x n as_long) ∙ ap (λ (zs : List ℕ). take n zs) e ∙ take_at b y n too,
-  sym (drop_at a x n as_long) ∙ ap (λ (zs : List ℕ). drop n zs) e ∙ drop_at b y n too,
-)
 
 pub peel-word : (a b : ℕ) (x y more others : List ℕ) → Fit a → Fit b → (word a ++ x) ++ more ≡ (word b ++ y) ++ others → (a ≡ b) × (x ++ more ≡ y ++ others)
 peel-word a b x y more others fa fb e =
@@ -69,10 +63,6 @@ read-same (r ∷ rs) (s ∷ ss) more mores x y f g e =
     let rest = read-same rs ss more mores x y f.1.1.1.1.1 g.1.1.1.1.1 h.1 in
     record { same = (λ i. record { position = b.0 i; handle = c.0 i; length = d.0 i; offset = h.0 i } ∷ rest.same i); rest = rest.rest; fits = rest.fits }
 
-segments-rest : (ss : List RdmaSegment) (more : List Item) → AllFit (segments_items ss more) → AllFit more
-segments-rest [] more h = h
-segments-rest (s ∷ ss) more h = segments-rest ss more h.1.1.1
-
 record WriteSame (cs ds : List (List RdmaSegment)) (more mores : List Item) (x y : List ℕ) : Type 0 where
   same : cs ≡ ds
   rest : encodings more ++ x ≡ encodings mores ++ y
@@ -87,7 +77,7 @@ write-same (c ∷ cs) (d ∷ ds) more mores x y f g e =
     let a = peel-word 1 1 _ _ x y (omega arith) (omega arith) e in
     let b = peel-word (length c) (length d) _ _ x y f.1.0 g.1.0 a.1 in
     let s = segments-same c d (write_items cs more) (write_items ds mores) x y b.0 f.1.1 g.1.1 b.1 in
-    let rest = write-same cs ds more mores x y (segments-rest c (write_items cs more) f.1.1) (segments-rest d (write_items ds mores) g.1.1) s.rest in
+    let rest = write-same cs ds more mores x y (segments_tail c (write_items cs more) f.1.1) (segments_tail d (write_items ds mores) g.1.1) s.rest in
     record { same = (λ i. s.same i ∷ rest.same i); rest = rest.rest; fits = rest.fits }
 
 record ReplySame (c d : Option (List RdmaSegment)) (x y : List ℕ) : Type 0 where

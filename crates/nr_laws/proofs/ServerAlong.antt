@@ -1,5 +1,5 @@
 -- A server says what it has to, from event to event, and each of its messages has its cause.
-use Rattle.std.proofs.Common.{◌≡◌, ℕ, ◌<◌, true, false, List, [], ◌∷◌, ◌++◌, length, drop, map, None, Some, Ok, refl, sym, ap, subst, ◌∙◌, arith, append_assoc, append-nil, length-append, inl, inr, ◌⊎◌}
+use Rattle.std.proofs.Common.{◌≡◌, ℕ, ◌<◌, true, false, List, [], ◌∷◌, ◌++◌, length, map, None, Some, Ok, refl, sym, ap, subst, ◌∙◌, arith, append_assoc, append-nil, length-append, inl, inr, ◌⊎◌}
 use Rattle.nr_xdr.specs.Item.{IsBytes}
 use Rattle.nr_wire.specs.declared.hello.Side.TheVariants.{Initiator, Responder}
 use Rattle.nr_wire.specs.declared.stream.Awaited.TheVariants.{Hello as HelloFrom, Fpdu}
@@ -28,6 +28,8 @@ use Rattle.nr_laws.proofs.Words.{from-append}
 use Rattle.nr_laws.proofs.Messages.{message_in, messages, AreOne, messages-append, one-append}
 use Rattle.nr_laws.proofs.ServerOutputs.{IsError, AtMostOne, CallsFit}
 use Rattle.nr_laws.proofs.ServerOutputs.AtMostOne.{NoError, OneError}
+use Rattle.nr_laws.proofs.Basics.{first-is, PartedTwo, parted-two}
+use Rattle.nr_laws.proofs.Basics.PartedTwo.{InFirst, InSecond}
 
 -- ---- Events of a server on a matched link
 
@@ -166,23 +168,6 @@ said-later opened es e xs m (IsNoAnswer s) = IsNoAnswer (record {
 abbrev pub EachSaid : LinkParameters → List Event → List Output → Type 0
 EachSaid opened es outs = (xs : List Output) (s : Segment) (ys : List Output) (m : List ℕ) → outs ≡ xs ++ ASegment s ∷ ys → message_in s ≡ m ∷ [] → Said opened es xs m
 
--- two lists, split at an element of one of them
-data PartedTwo {X : Type 0} (xs ys pre : List X) (m : X) (post : List X) : Type 0 where
-  InFirst : (more : List X) → xs ≡ pre ++ m ∷ more → PartedTwo xs ys pre m post
-  InSecond : (rest : List X) → pre ≡ xs ++ rest → ys ≡ rest ++ m ∷ post → PartedTwo xs ys pre m post
-
-two-more : {X : Type 0} (x z : X) (xs ys pre : List X) (m : X) (post : List X) → x ≡ z → PartedTwo xs ys pre m post → PartedTwo (x ∷ xs) ys (z ∷ pre) m post
-two-more x z xs ys pre m post e (InFirst more is) = InFirst more (λ i. e i ∷ is i)
-two-more x z xs ys pre m post e (InSecond rest is then) = InSecond rest (λ i. sym e i ∷ is i) then
-
-head-is : {X : Type 0} (a b : X) (xs ys : List X) → a ∷ xs ≡ b ∷ ys → a ≡ b
-head-is a b xs ys e = cc
-
-parted-two : {X : Type 0} (xs ys pre : List X) (m : X) (post : List X) → xs ++ ys ≡ pre ++ m ∷ post → PartedTwo xs ys pre m post
-parted-two [] ys pre m post e = InSecond pre refl e
-parted-two (x ∷ xs) ys [] m post e = InFirst xs (λ i. head-is x m (xs ++ ys) post e i ∷ xs)
-parted-two (x ∷ xs) ys (p ∷ pre) m post e = two-more x p xs ys pre m post (head-is x p (xs ++ ys) (pre ++ m ∷ post) e) (parted-two xs ys pre m post (ap (λ (zs : List _). drop 1 zs) e))
-
 each-more : (opened : LinkParameters) (es : List Event) (e : Event) (outs more : List Output) → EachSaid opened es outs
     → ((pre : List Output) (s : Segment) (post : List Output) (m : List ℕ) → more ≡ pre ++ ASegment s ∷ post → message_in s ≡ m ∷ [] → Said opened (es ++ e ∷ []) (outs ++ pre) m)
     → EachSaid opened (es ++ e ∷ []) (outs ++ more)
@@ -204,7 +189,7 @@ nothing-at ms a m b none e = by a (sym none ∙ e)
     by (x ∷ a) e = absurd cc
 
 single : (x : List ℕ) (a : List (List ℕ)) (m : List ℕ) (b : List (List ℕ)) → x ∷ [] ≡ a ++ m ∷ b → x ≡ m
-single x [] m b e = head-is x m [] b e
+single x [] m b e = first-is x m [] b e
 single x (y ∷ a) m b e = absurd (let l = ap (λ (zs : List (List ℕ)). length zs) e in let n = length-append a (m ∷ b) in omega (arith, l, n))
 
 pub at-most : (ms : List (List ℕ)) → AtMostOne ms → (a : List (List ℕ)) (m : List ℕ) (b : List (List ℕ)) → ms ≡ a ++ m ∷ b → (ms ≡ m ∷ []) × IsError m

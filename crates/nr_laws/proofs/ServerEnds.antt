@@ -1,123 +1,40 @@
 -- A server that has its client's own hello is not rejected later: the reasons of its later frames are others than those of a hello.
-use Rattle.std.proofs.Common.{◌≡◌, ℕ, ◌+◌, ◌≤◌, Bool, true, false, cond, ◌&&◌, ◌||◌, not, eqb, ltb, List, [], ◌∷◌, length, drop, Option, None, Some, Result, Ok, Err, sym, ap, subst, ◌∙◌, arith}
-use Rattle.nr_xdr.specs.Fields.{word_at}
-use Rattle.nr_header.specs.declared.header.ChunkLists.{ChunkLists}
-use Rattle.nr_header.specs.declared.header.Body.{Body}
-use Rattle.nr_header.specs.declared.header.Body.TheVariants.{Msg, Nomsg, ErrVers, ErrChunk}
-use Rattle.nr_header.specs.declared.header.Header.{Header}
-use Rattle.nr_header.specs.declared.fault.HeaderFault.{HeaderFault}
-use Rattle.nr_header.specs.Reading.{header_of}
+use Rattle.std.proofs.Common.{◌≡◌, ℕ, ◌≤◌, Bool, true, false, cond, eqb, List, Option, None, Some, Result, Ok, Err, sym, ap, subst, ◌∙◌, arith}
 use Rattle.nr_rpc.specs.declared.head.CallHead.{CallHead}
 use Rattle.nr_rpc.specs.Reading.{call_of}
 use Rattle.nr_regions.specs.declared.denied.Denied.{Denied}
 use Rattle.nr_regions.specs.RegisteredMemory.{Access}
-use Rattle.nr_wire.specs.Constants.{OPCODE_READ_RESPONSE}
 use Rattle.nr_wire.specs.declared.hello.Side.TheVariants.{Initiator}
 use Rattle.nr_wire.specs.Hello.{hello_of}
 use Rattle.nr_wire.specs.Segment.{Segment}
-use Rattle.nr_wire.specs.Segment.Segment.{Tagged, Untagged}
 use Rattle.nr_link.specs.declared.end.End.{End as Stop}
 use Rattle.nr_link.specs.declared.end.End.TheVariants as ends
 use Rattle.nr_link.specs.Frames.{Frame, is_hello}
 use Rattle.nr_link.specs.Output.{own_hello}
-use Rattle.nr_link.specs.Reasons.{REASON_MSN, REASON_OFFSET, REASON_FORM, REASON_RESPONSE, REASON_REQUESTS, REASON_SHORT, REASON_LONG}
-use Rattle.nr_link.specs.ReceiveState.{message_completed, is_send}
-use Rattle.nr_link.specs.SegmentFaults.{Readiness, SegmentFault, segment_fault, first_fault, reason_if, next_msn, next_offset, no_buffer, is_begun, is_malformed, missing_fault, is_unexpected, is_too_many, has_length, terminate_fault}
+use Rattle.nr_link.specs.SegmentFaults.{Readiness, SegmentFault, segment_fault}
 use Rattle.nr_link.specs.SegmentFaults.SegmentFault.{Reason, NoBuffer, AccessDenied, PeerTerminated}
 use Rattle.nr_link.specs.Ending.{access_of, denied_at, frame_segment, frame_end, frame_end_by, end_of_fault, hello_end, missing_access}
 use Rattle.nr_reduce.specs.declared.mark.LinkParameters.{LinkParameters}
 use Rattle.nr_reduce.specs.OfferedRegions.{region_grants}
-use Rattle.nr_reduce.specs.Chunks.{is_read_chunk_of_item}
 use Rattle.nr_reduce.specs.Events.Event.{FrameReceived}
-use Rattle.nr_reduce.specs.ServerState.{ServerState, PendingCall, PendingRead, next_stag, is_pending}
-use Rattle.nr_reduce.specs.ServerReads.{is_read, chunks_of}
-use Rattle.nr_reduce.specs.ServerMessages.{Verdict, CallVerdict, verdict, by_need, by_stream, by_body, by_header, by_head, by_payload, has_position, no_stream, call_xid, chunk_bytes, payload_of}
+use Rattle.nr_reduce.specs.ServerState.{ServerState, PendingCall}
+use Rattle.nr_reduce.specs.ServerMessages.{Verdict, CallVerdict, verdict, by_head, by_payload, call_xid, payload_of}
 use Rattle.nr_reduce.specs.ServerMessages.Verdict.{EndsLink, OtherVersion, BadChunks, MakesPending}
 use Rattle.nr_reduce.specs.ServerMessages.CallVerdict.{Refuses, IsReady}
-use Rattle.nr_reduce.specs.ServerFrames.{FrameEffect, no_effect, with_verdict, ready_if_whole, message_effect, with_refused_call, is_stream_read, read_effect, call_of_number, response_effect, by_message, with_access, effect_in, frame_effect}
+use Rattle.nr_reduce.specs.ServerFrames.{FrameEffect, with_verdict, frame_effect}
 use Rattle.nr_reduce.specs.Server.{server_end, or_refusal, refusal_end, readiness}
 use Rattle.nr_laws.proofs.Brought.{hello-is}
+use Rattle.nr_laws.proofs.EachEffect.{each-verdict, each-effect}
+use Rattle.nr_laws.proofs.EachFault.{OfReason, each-fault}
 
 -- ---- Faults of a segment
 
 abbrev Big : Option (SegmentFault Denied) → Type 0
-Big None = Unit {0}
-Big (Some (Reason reason)) = 5 ≤ reason
-Big (Some (NoBuffer msn)) = Unit {0}
-Big (Some (AccessDenied why)) = Unit {0}
-Big (Some (PeerTerminated word)) = Unit {0}
-
-abbrev AllBig : List (Option (SegmentFault Denied)) → Type 0
-AllBig [] = Unit {0}
-AllBig (x ∷ xs) = Big x × AllBig xs
-
-first-big : (xs : List (Option (SegmentFault Denied))) → AllBig xs → Big (first_fault xs)
-first-big [] h = tt
-first-big (None ∷ xs) h = first-big xs h.1
-first-big (Some x ∷ xs) h = h.0
-
-reason-big : (reason : ℕ) (b : Bool) → 5 ≤ reason → Big (reason_if reason b)
-reason-big reason true h = h
-reason-big reason false h = tt
-
-buffer-big : (r : Readiness Denied) (b : Bool) (msn : ℕ) → Big (no_buffer r b msn)
-buffer-big r true msn = by (is_begun r.received.begun || r.has_receive)
-  where
-    by : (b : Bool) → Big (cond b None (Some (NoBuffer msn)))
-    by true = tt
-    by false = tt
-buffer-big r false msn = tt
-
-missing-big : (o : Option Denied) → Big (missing_fault o)
-missing-big None = tt
-missing-big (Some why) = tt
-
-terminate-big : (opcode : ℕ) (payload : List ℕ) → Big (terminate_fault opcode payload)
-terminate-big opcode payload = by (eqb opcode 7)
-  where
-    by : (b : Bool) → Big (cond b (Some (PeerTerminated (word_at 0 payload))) None)
-    by true = tt
-    by false = tt
+Big o = OfReason (λ reason. 5 ≤ reason) o
 
 fault-big : (r : Readiness Denied) (s : Segment) → Big (segment_fault r s)
-unfolding segment_fault
-fault-big r (Tagged last opcode stag to payload) =
-    first-big (missing_fault r.missing ∷ reason_if REASON_RESPONSE (is_unexpected r opcode last stag to (length payload)) ∷ [])
-    (missing-big r.missing, (reason-big REASON_RESPONSE (is_unexpected r opcode last stag to (length payload)) (omega arith), tt))
-fault-big r (Untagged last opcode w queue msn offset payload) =
-    let message : Option (List ℕ) = message_completed r.received (Untagged last opcode w queue msn offset payload) in
-    first-big
-    (reason_if REASON_MSN (not (eqb msn (next_msn r.received queue)))
-    ∷ reason_if REASON_OFFSET (not (eqb offset (next_offset r.received queue)))
-    ∷ no_buffer r (is_send opcode) msn
-    ∷ reason_if REASON_FORM (is_malformed opcode last payload)
-    ∷ missing_fault r.missing
-    ∷ reason_if REASON_REQUESTS (is_too_many r opcode)
-    ∷ reason_if REASON_LONG (has_length (ltb r.message_max) message)
-    ∷ reason_if REASON_SHORT (has_length (λ n. ltb n 16) message)
-    ∷ terminate_fault opcode payload
-    ∷ []) (
-      reason-big REASON_MSN (not (eqb msn (next_msn r.received queue))) (omega arith),
-      (
-        reason-big REASON_OFFSET (not (eqb offset (next_offset r.received queue))) (omega arith),
-        (
-          buffer-big r (is_send opcode) msn,
-          (
-            reason-big REASON_FORM (is_malformed opcode last payload) (omega arith),
-            (
-              missing-big r.missing,
-              (
-                reason-big REASON_REQUESTS (is_too_many r opcode) (omega arith),
-                (
-                  reason-big REASON_LONG (has_length (ltb r.message_max) message) (omega arith),
-                  (reason-big REASON_SHORT (has_length (λ n. ltb n 16) message) (omega arith), (terminate-big opcode payload, tt)),
-                ),
-              ),
-            ),
-          ),
-        ),
-      ),
-    )
+fault-big r s =
+    each-fault (λ reason. 5 ≤ reason) (record { msn = omega arith; offset = omega arith; form = omega arith; response = omega arith; requests = omega arith; long = omega arith; short = omega arith }) r s
 
 -- ---- Refusals
 
@@ -135,34 +52,8 @@ abbrev BigCall : CallVerdict → Type 0
 BigCall (Refuses reason) = 5 ≤ reason
 BigCall (IsReady r) = Unit {0}
 
-big-if : (b : Bool) (v w : Verdict) → BigVerdict v → BigVerdict w → BigVerdict (cond b v w)
-big-if true v w h g = h
-big-if false v w h g = g
-
-need-big : (k : ServerState) (c : PendingCall) → BigVerdict (by_need k c)
-need-big k c = big-if (ltb 4294967296 (next_stag k + length (chunks_of c.lists))) (EndsLink 30) (MakesPending c) (omega arith) tt
-
-stream-big : (k : ServerState) (lists : ChunkLists) (xid : ℕ) (o : Option (List ℕ)) → BigVerdict (by_stream k lists xid o)
-stream-big k lists xid None = need-big k (record { number = k.received.sends + 1; xid = xid; lists = lists; inline = None })
-stream-big k lists xid (Some stream) = big-if (is_read_chunk_of_item stream lists.read) (by_need k (record { number = k.received.sends + 1; xid = xid; lists = lists; inline = Some stream })) BadChunks
-    (need-big k (record { number = k.received.sends + 1; xid = xid; lists = lists; inline = Some stream })) tt
-
-header-big : (k : ServerState) (message : List ℕ) (r : Result Header HeaderFault) → BigVerdict (by_header k message r)
-header-big k message (Err fault) = tt
-header-big k message (Ok h) = by h.xid h.body
-  where
-    by : (xid : ℕ) (b : Body) → BigVerdict (by_body k xid message b)
-    by xid (Msg lists at) = stream-big k lists xid (Some (drop at message))
-    by xid (Nomsg lists) = big-if (has_position lists.read) (by_stream k lists xid (no_stream lists.read)) BadChunks (stream-big k lists xid (no_stream lists.read)) tt
-    by xid (ErrVers version low high) = tt
-    by xid (ErrChunk version) = tt
-
 verdict-big : (k : ServerState) (message : List ℕ) → BigVerdict (verdict k message)
-unfolding verdict
-verdict-big k message =
-    big-if (not (eqb (word_at 4 message) 1)) OtherVersion _ tt
-    (big-if (eqb (word_at 12 message) 3 || eqb (word_at 12 message) 4) (EndsLink 17) _ (omega arith)
-    (big-if (is_pending k (word_at 0 message)) (EndsLink 20) (by_header k message (header_of message)) (omega arith) (header-big k message (header_of message))))
+verdict-big k message = each-verdict BigVerdict (record { kind = omega arith; again = omega arith; stags = omega arith; version = tt; chunks = tt; pending = λ c. tt }) k message
 
 head-big : (c : PendingCall) (payload : List ℕ) (r : Result CallHead ℕ) → BigCall (by_head c payload r)
 head-big c payload (Err at) = omega arith
@@ -180,50 +71,14 @@ with-big : (v : CallVerdict) (s : FrameEffect) → BigCall v → BigReason s.ref
 with-big (Refuses reason) s h g = h
 with-big (IsReady r) s h g = g
 
-ready-big : (k : ServerState) (place : ℕ) (c : PendingCall) (s : FrameEffect) → BigReason s.refusal → BigReason (ready_if_whole k place c s).refusal
-ready-big k place c s g = by (is_read s.reads c.number)
-  where
-    by : (b : Bool) → BigReason (cond b (with_verdict (by_payload c (payload_of k place c)) s) s).refusal
-    by true = with-big (by_payload c (payload_of k place c)) s (payload-big c (payload_of k place c)) g
-    by false = g
-
-message-big : (k : ServerState) (place : ℕ) (message : List ℕ) (v : Verdict) → BigVerdict v → BigReason (message_effect k place message v).refusal
-message-big k place message (EndsLink reason) h = h
-message-big k place message OtherVersion h = tt
-message-big k place message BadChunks h = tt
-message-big k place message (MakesPending c) h = ready-big k place c _ tt
-
-read-big : (k : ServerState) (place : ℕ) (r : PendingRead) (o : Option PendingCall) (s : FrameEffect) → BigReason s.refusal → BigReason (read_effect k place r o s).refusal
-read-big k place r None s h = h
-read-big k place r (Some c) s h = by (is_stream_read c r s.reads && not (is_read_chunk_of_item (chunk_bytes k place c 0) c.lists.read))
-  where
-    by : (b : Bool) → BigReason (cond b (with_refused_call k c s) (ready_if_whole k place c s)).refusal
-    by true = h
-    by false = ready-big k place c s h
-
-response-big : (k : ServerState) (place : ℕ) (reads : List PendingRead) → BigReason (response_effect k place reads).refusal
-response-big k place [] = tt
-response-big k place (r ∷ reads) = read-big k place r (call_of_number k r.number) _ tt
-
-by-message-big : (k : ServerState) (place : ℕ) (o : Option (List ℕ)) → BigReason (by_message k place o).refusal
-by-message-big k place None = tt
-by-message-big k place (Some message) = message-big k place message (verdict k message) (verdict-big k message)
-
 effect-big : (k : ServerState) (f : Frame) → BigReason (frame_effect k f).refusal
-unfolding frame_effect
-effect-big k f = by (frame_segment f)
+effect-big k f =
+    each-effect k (λ m. Unit {0}) (λ s. BigReason s.refusal)
+    (record { judged = judged; ends = λ message reason good is. subst BigVerdict is (verdict-big k message); version = λ message good. tt; chunks = λ message good. tt; pending = λ place message c good is. tt })
+    (record { unchanged = tt; judged = judged; read = λ r reads is. tt; refused = λ r reads c is found. tt }) f (λ s m is e. tt)
   where
-    by : (r : Result Segment ℕ) → BigReason (effect_in k f r).refusal
-    by (Err reason) = tt
-    by (Ok (Tagged last opcode stag to payload)) = tagged (eqb opcode OPCODE_READ_RESPONSE && last)
-      where
-        t : ServerState
-        t = with_access k f (Tagged last opcode stag to payload)
-
-        tagged : (b : Bool) → BigReason (cond b (response_effect t f.end t.reads) (no_effect t)).refusal
-        tagged true = response-big t f.end t.reads
-        tagged false = tt
-    by (Ok (Untagged last opcode w queue msn offset payload)) = by-message-big k f.end (message_completed k.received (Untagged last opcode w queue msn offset payload))
+    judged : (t : ServerState) (place : ℕ) (c : PendingCall) (s : FrameEffect) → BigReason s.refusal → BigReason (with_verdict (by_payload c (payload_of t place c)) s).refusal
+    judged t place c s h = with-big (by_payload c (payload_of t place c)) s (payload-big c (payload_of t place c)) h
 
 -- ---- Ends
 

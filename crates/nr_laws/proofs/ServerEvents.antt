@@ -23,19 +23,20 @@ use Rattle.nr_reduce.specs.ServerState.{ServerState, ReadyCall, credit_word}
 use Rattle.nr_reduce.specs.ServerFrames.{FrameEffect, frame_effect}
 use Rattle.nr_reduce.specs.Server.{server_rules, server_end, server_output, server_state_after, server_final_output, with_effect, received_by, is_rejected, offer_of, initial_server}
 use Rattle.nr_reduce.specs.RunLaws.{server_by}
-use Rattle.nr_laws.proofs.Along.{IsNext, place_after, outputs_by, outputs_for, bytes-both}
+use Rattle.nr_laws.proofs.Along.{IsNext, place_after, outputs_by, outputs_for}
 use Rattle.nr_laws.proofs.Outputs.{Output, bytes_of_all, server_says, server-said, ServerShort, server_final_outputs, server-final-said, final_outputs, effect_outputs, answer_outputs, answer_of_call, send_segment}
 use Rattle.nr_laws.proofs.Outputs.Output.{AHello, ASegment}
 use Rattle.nr_laws.proofs.Brought.{AreFrom}
 use Rattle.nr_laws.proofs.Words.{payload-bytes, payload_by}
 use Rattle.nr_laws.proofs.Messages.{message_in, messages, AreOne, messages-tagged, messages-final, one-final}
-use Rattle.nr_laws.proofs.ClientRun.{Parted, parted}
-use Rattle.nr_laws.proofs.ClientRun.Parted.{Within, Last}
-use Rattle.nr_laws.proofs.ClientAlong.{not-first, final-words}
+use Rattle.nr_laws.proofs.ClientRun.{parted, by_part}
+use Rattle.nr_laws.proofs.ClientAlong.{final-words}
 use Rattle.nr_laws.proofs.ServerOutputs.{errors-short, CallsFit, fit-filter, IsFine, fine-frame, AreFine, fine-effect, fine-answer, answer-is-short, tagged-answer}
 use Rattle.nr_laws.proofs.ServerEnds.{BigEnd, segment-ends, hello-goes}
 use Rattle.nr_laws.proofs.ServerAlong.{IsGoodExecution, ServerGood, Said, is_live, outs_of, at-most, nothing-at, messages-at, Greeted, greeted-more, Shape, ServerTells, Grows, grown}
 use Rattle.nr_laws.proofs.ServerAlong.Said.{IsRefusal, IsAnswer, IsNoAnswer}
+use Rattle.nr_laws.proofs.Basics.{above-zero}
+use Rattle.nr_laws.proofs.Bytes.{bytes_both}
 
 -- ---- The bytes that are received
 
@@ -45,7 +46,7 @@ received-bytes h (Untagged last opcode w queue msn offset payload) b p = by (is_
   where
     by_last : (l : Bool) → IsBytes (begun_bytes (send_continued h l payload).begun)
     by_last true = λ i. omega arith
-    by_last false = bytes-both (begun_bytes h.begun) payload b p
+    by_last false = bytes_both (begun_bytes h.begun) payload b p
 
     by_read : (c : Bool) → IsBytes (begun_bytes (cond c (record { sends = h.sends; begun = h.begun; requests = h.requests + 1 }) h).begun)
     by_read true = b
@@ -60,7 +61,7 @@ completed-bytes h (Tagged last opcode stag to payload) m b p e = absurd cc
 completed-bytes h (Untagged last opcode w queue msn offset payload) m b p e = by (is_send opcode && last) e
   where
     by : (c : Bool) → cond c (Some (begun_bytes h.begun ++ payload)) None ≡ Some m → IsBytes m
-    by true e = subst IsBytes (let t : begun_bytes h.begun ++ payload ≡ m = cc in t) (bytes-both (begun_bytes h.begun) payload b p)
+    by true e = subst IsBytes (let t : begun_bytes h.begun ++ payload ≡ m = cc in t) (bytes_both (begun_bytes h.begun) payload b p)
     by false e = absurd cc
 
 -- ---- An end
@@ -128,7 +129,7 @@ unfolding server_says server_output server_state_after frame_segment ServerShort
 segment-step opened es place k outs f s next behind is t (Some end) stops =
     let rules = server_rules opened in
     let same : next_end_state rules (record { state = k; ended = None }) (FrameReceived f) ≡ record { state = k; ended = Some end } = ap (λ (o : Option Stop). next_end_state_by rules k (FrameReceived f) o) stops in
-    let greeted = later-shape place (record { state = k; ended = None }) outs (let p = not-first f.at behind in let e = next.0 in omega (arith, p, e)) t.shape in
+    let greeted = later-shape place (record { state = k; ended = None }) outs (let p = above-zero f.at behind in let e = next.0 in omega (arith, p, e)) t.shape in
     let words = server-final-words end (subst BigEnd stops (segment-ends opened k f s behind is)) in
     let none = server-final-none end in
     record {
@@ -145,7 +146,7 @@ segment-step opened es place k outs f s next behind is t None stays =
     let effect : FrameEffect = frame_effect k f in
     let same : next_end_state rules (record { state = k; ended = None }) (FrameReceived f) ≡ record { state = with_effect k f effect; ended = None } =
     ap (λ (o : Option Stop). next_end_state_by rules k (FrameReceived f) o) stays ∙ ap (λ (b : Bool). record { state = cond b k (with_effect k f effect); ended = None }) behind in
-    let greeted = later-shape place (record { state = k; ended = None }) outs (let p = not-first f.at behind in let e = next.0 in omega (arith, p, e)) t.shape in
+    let greeted = later-shape place (record { state = k; ended = None }) outs (let p = above-zero f.at behind in let e = next.0 in omega (arith, p, e)) t.shape in
     let payload : IsBytes (payload_by s) = payload-bytes f.bytes s next.2 is in
     let fine : IsFine effect = fine-frame k f (λ x m own whole. completed-bytes k.received x m t.begun (payload-bytes f.bytes x next.2 own) whole) t.fit in
     let own : AreFine (effect_outputs k effect) effect.errors = fine-effect k effect fine in
@@ -175,10 +176,6 @@ segment-step opened es place k outs f s next behind is t None stays =
             kind = all.1;
           });
     }
-
-part-said : {X W : Type 0} {xs : List X} {y : X} {pre : List X} {m : X} {post : List X} → Parted xs y pre m post → ((more : List X) → xs ≡ pre ++ m ∷ more → W) → (xs ≡ pre → m ≡ y → W) → W
-part-said (Within more is) f g = f more is
-part-said (Last is same) f g = g is same
 
 -- ---- An executed call
 
@@ -227,7 +224,7 @@ executed-step opened es place k outs e good t o is =
         let message = answer_message e.xid (credit_word k) offer a in
         let last : Output = ASegment (send_segment (k.messages_queued + 1) message) in
         let none : messages segments ≡ [] = messages-tagged (answer_segments offer a) (tagged-answer offer a) in
-        part-said (parted segments last pre (ASegment s) post same)
+        by_part (parted segments last pre (ASegment s) post same)
         (λ more within. no-cause segments pre s more m none within one)
         (λ is_pre is_last.
         let own : s ≡ send_segment (k.messages_queued + 1) message = head-segment s (send_segment (k.messages_queued + 1) message) [] [] (ap (λ (o : Output). o ∷ []) is_last) in

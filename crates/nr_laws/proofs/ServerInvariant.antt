@@ -1,31 +1,27 @@
 -- What a server keeps behind each frame: totals, reads, pending calls, sinks, and the bounds of its regions.
-use Rattle.std.proofs.Common.{◌≡◌, ℕ, suc, ◌+◌, ◌-◌, ◌≤◌, ◌<◌, Bool, true, false, not, cond, ◌&&◌, eqb, List, [], ◌∷◌, ◌++◌, length, Option, None, Some, Ok, refl, sym, ap, subst, ◌∙◌, arith, length-append}
-use Rattle.std.proofs.lemmas.List.{length-map}
-use Rattle.nr_wire.specs.Constants.{OPCODE_READ_RESPONSE, OPCODE_SEND, QUEUE_SEND}
+use Rattle.std.proofs.Common.{◌≡◌, ℕ, suc, ◌+◌, ◌≤◌, ◌<◌, Bool, true, false, List, [], ◌∷◌, ◌++◌, length, None, Ok, refl, sym, ap, subst, ◌∙◌, arith, length-append}
+use Rattle.nr_wire.specs.Constants.{OPCODE_SEND, QUEUE_SEND}
 use Rattle.nr_wire.specs.Segment.{Segment}
 use Rattle.nr_wire.specs.Segment.Segment.{Tagged, Untagged}
 use Rattle.nr_header.specs.declared.header.ChunkLists.{ChunkLists}
 use Rattle.nr_reduce.specs.declared.mark.LinkParameters.{LinkParameters}
 use Rattle.nr_reduce.specs.Limits.{send_max}
-use Rattle.nr_reduce.specs.Chunks.{is_read_chunk_of_item}
 use Rattle.nr_link.specs.Output.{msn_word}
 use Rattle.nr_link.specs.Frames.{Frame}
-use Rattle.nr_link.specs.ReceiveState.{begun_bytes}
 use Rattle.nr_link.specs.Ending.{frame_segment}
 use Rattle.nr_reduce.specs.OfferedRegions.{Region, regions_closed, closed_if}
 use Rattle.nr_reduce.specs.Events.Event.{FrameReceived}
 use Rattle.nr_reduce.specs.ClientState.{ClientState}
-use Rattle.nr_reduce.specs.ServerState.{ServerState, PendingCall, PendingRead, next_stag}
-use Rattle.nr_reduce.specs.ServerFrames.{FrameEffect, frame_effect, effect_in, message_effect, no_effect, response_effect, read_effect, with_refused_call, ready_if_whole, with_verdict, call_of_number, with_access, is_stream_read}
-use Rattle.nr_reduce.specs.ServerMessages.{Verdict, CallVerdict, verdict, by_payload, payload_of, chunk_bytes}
-use Rattle.nr_reduce.specs.ServerReads.{open_reads, is_read, is_over, regions_of, regions_from, chunks_of}
+use Rattle.nr_reduce.specs.ServerState.{ServerState, PendingCall, next_stag}
+use Rattle.nr_reduce.specs.ServerFrames.{FrameEffect, frame_effect, effect_in}
+use Rattle.nr_reduce.specs.ServerMessages.{verdict}
+use Rattle.nr_reduce.specs.ServerReads.{is_over, regions_of, regions_from, chunks_of}
 use Rattle.nr_reduce.specs.Server.{server_state_after, server_end, refusal_end}
-use Rattle.nr_reduce.specs.ServerMessages.Verdict.{EndsLink, OtherVersion, BadChunks, MakesPending}
-use Rattle.nr_reduce.specs.ServerMessages.CallVerdict.{Refuses, IsReady}
+use Rattle.nr_reduce.specs.ServerMessages.Verdict.{MakesPending}
 use Rattle.nr_laws.specs.FrameContents.{FrameContent, Carries}
 use Rattle.nr_laws.specs.FrameContents.FrameContent.{SendFrame, TaggedFrame}
 use Rattle.nr_laws.specs.LinkInvariants.{Transit, TotalsAgree, ReadsAgree, PendingAgree, HaveSinks, AreAtMost, WithinWindow}
-use Rattle.nr_laws.proofs.TotalsAtServer.{after-is, segment-is, totals-send_up, totals-tagged_up}
+use Rattle.nr_laws.proofs.TotalsAtServer.{after-is, segment-is, totals-send_up, totals-tagged_up, step-is}
 use Rattle.nr_laws.proofs.Keys.{below-more, below-append}
 use Rattle.nr_laws.proofs.PendingSends.{verdict-new}
 use Rattle.nr_laws.proofs.ReadsAtServer.{reads-send_up, reads-tagged_up, moved}
@@ -33,6 +29,8 @@ use Rattle.nr_laws.proofs.PendingFrames.{pending_agree-send_up, pending_agree-ta
 use Rattle.nr_laws.proofs.NewSinks.{AreKnown}
 use Rattle.nr_laws.proofs.EndsOfFrames.{server-send}
 use Rattle.nr_laws.proofs.AllowedResponses.{server-response-taken}
+use Rattle.nr_laws.proofs.EachEffect.{held-messages, held-responses, send-effect, tagged-effect}
+use Rattle.nr_reduce.proofs.OwnStags.{closed-length, closed-stag}
 
 record Below (sends : ℕ) (regions : List Region) : Type 0 where
   stags : AreAtMost (λ (g : Region). g.stag) (length regions) regions
@@ -43,21 +41,13 @@ unfolding regions_closed
 below-closed key same n at test [] h = tt
 below-closed key same n at test (g ∷ regions) h = (omega (arith, same (test g) at g, h.0), below-closed key same n at test regions h.1)
 
-same-stag : (b : Bool) (at : ℕ) (g : Region) → (closed_if b at g).stag ≡ g.stag
-same-stag true at g = refl
-same-stag false at g = refl
-
 same-call : (b : Bool) (at : ℕ) (g : Region) → (closed_if b at g).call ≡ g.call
 same-call true at g = refl
 same-call false at g = refl
 
-length-closed : (test : Region → Bool) (at : ℕ) (regions : List Region) → length (regions_closed test at regions) ≡ length regions
-unfolding regions_closed
-length-closed test at regions = length-map regions (λ r. closed_if (test r) at r)
-
 closed-below : (sends at : ℕ) (test : Region → Bool) (regions : List Region) → Below sends regions → Below sends (regions_closed test at regions)
 closed-below sends at test regions b = record {
-  stags = subst (λ (n : ℕ). AreAtMost (λ (g : Region). g.stag) n (regions_closed test at regions)) (sym (length-closed test at regions)) (below-closed (λ (g : Region). g.stag) same-stag (length regions) at test regions b.stags);
+  stags = subst (λ (n : ℕ). AreAtMost (λ (g : Region). g.stag) n (regions_closed test at regions)) (sym (closed-length test at regions)) (below-closed (λ (g : Region). g.stag) closed-stag (length regions) at test regions b.stags);
   calls = below-closed (λ (g : Region). g.call) same-call sends at test regions b.calls;
 }
 
@@ -73,45 +63,32 @@ calls-from : (number place stag : ℕ) (lists : ChunkLists) (ps : List ℕ) → 
 calls-from number place stag lists [] = tt
 calls-from number place stag lists (p ∷ ps) = (omega arith, calls-from number place (stag + 1) lists ps)
 
-whole-below : (k : ServerState) (place : ℕ) (c : PendingCall) (st : FrameEffect) (sends : ℕ) → Below sends st.regions → Below sends (ready_if_whole k place c st).regions
-whole-below k place c st sends h = by (is_read st.reads c.number) (by_payload c (payload_of k place c))
-  where
-    by : (b : Bool) (o : CallVerdict) → Below sends (cond b (with_verdict o st) st).regions
-    by true (Refuses reason) = h
-    by true (IsReady x) = h
-    by false o = h
-
 more-below : (n m : ℕ) (regions : List Region) → n ≤ m → Below n regions → Below m regions
 more-below n m regions le b = record { stags = b.stags; calls = below-more (λ (g : Region). g.call) n m regions le b.calls }
 
-message-below : (k : ServerState) (place : ℕ) (message : List ℕ) (v : Verdict) → verdict k message ≡ v → Below k.received.sends k.regions → Below (k.received.sends + 1) (message_effect k place message v).regions
-message-below k place message (EndsLink reason) is b = more-below k.received.sends (k.received.sends + 1) k.regions (omega arith) b
-message-below k place message OtherVersion is b = more-below k.received.sends (k.received.sends + 1) k.regions (omega arith) b
-message-below k place message BadChunks is b = more-below k.received.sends (k.received.sends + 1) k.regions (omega arith) b
-message-below k place message (MakesPending c) is b =
-    let new = verdict-new k message c is in
-    let news = regions_of k place c in
-    let all : length (k.regions ++ news) ≡ length k.regions + length (chunks_of c.lists) = length-append k.regions news ∙ ap (λ (n : ℕ). length k.regions + n) (length-from c.number place (next_stag k) c.lists (chunks_of c.lists)) in
-    whole-below k place c _ (k.received.sends + 1) (record {
-      stags = below-append (λ (g : Region). g.stag) (length (k.regions ++ news)) k.regions news
-          (below-more (λ (g : Region). g.stag) (length k.regions) (length (k.regions ++ news)) k.regions (omega (arith, all)) b.stags)
-          (stags-from c.number place (next_stag k) (length (k.regions ++ news)) c.lists (chunks_of c.lists) (omega (arith, all)));
-      calls = below-append (λ (g : Region). g.call) (k.received.sends + 1) k.regions news
-          (below-more (λ (g : Region). g.call) k.received.sends (k.received.sends + 1) k.regions (omega arith) b.calls)
-          (below-more (λ (g : Region). g.call) c.number (k.received.sends + 1) news (omega (arith, new.0.number)) (calls-from c.number place (next_stag k) c.lists (chunks_of c.lists)));
-    })
-
-read-below : (k : ServerState) (place : ℕ) (r : PendingRead) (o : Option PendingCall) (st : FrameEffect) (sends : ℕ) → Below sends st.regions → Below sends (read_effect k place r o st).regions
-read-below k place r None st sends h = h
-read-below k place r (Some c) st sends h = by (is_stream_read c r st.reads && not (is_read_chunk_of_item (chunk_bytes k place c 0) c.lists.read))
+message-below : (k : ServerState) (f : Frame) (message : List ℕ) → k.received.begun ≡ None → Below k.received.sends k.regions → frame_segment f ≡ Ok (Untagged true OPCODE_SEND 0 QUEUE_SEND (msn_word (k.received.sends + 1)) 0 message)
+    → Below (k.received.sends + 1) (frame_effect k f).regions
+message-below k f message none b is =
+    send-effect k (λ m. Unit {0}) (λ st. Below (k.received.sends + 1) st.regions)
+    (held-messages k (λ m. Unit {0}) (λ calls reads regions. Below (k.received.sends + 1) regions) (more-below k.received.sends (k.received.sends + 1) k.regions (omega arith) b) pending) f message none tt is
   where
-    by : (b : Bool) → Below sends (cond b (with_refused_call k c st) (ready_if_whole k place c st)).regions
-    by true = h
-    by false = whole-below k place c st sends h
+    pending : (place : ℕ) (message : List ℕ) (c : PendingCall) → Unit {0} → verdict k message ≡ MakesPending c → Below (k.received.sends + 1) (k.regions ++ regions_of k place c)
+    pending place message c good is =
+        let new = verdict-new k message c is in
+        let news = regions_of k place c in
+        let all : length (k.regions ++ news) ≡ length k.regions + length (chunks_of c.lists) = length-append k.regions news ∙ ap (λ (n : ℕ). length k.regions + n) (length-from c.number place (next_stag k) c.lists (chunks_of c.lists)) in
+        record {
+          stags = below-append (λ (g : Region). g.stag) (length (k.regions ++ news)) k.regions news
+              (below-more (λ (g : Region). g.stag) (length k.regions) (length (k.regions ++ news)) k.regions (omega (arith, all)) b.stags)
+              (stags-from c.number place (next_stag k) (length (k.regions ++ news)) c.lists (chunks_of c.lists) (omega (arith, all)));
+          calls = below-append (λ (g : Region). g.call) (k.received.sends + 1) k.regions news
+              (below-more (λ (g : Region). g.call) k.received.sends (k.received.sends + 1) k.regions (omega arith) b.calls)
+              (below-more (λ (g : Region). g.call) c.number (k.received.sends + 1) news (omega (arith, new.0.number)) (calls-from c.number place (next_stag k) c.lists (chunks_of c.lists)));
+        }
 
-response-below : (k : ServerState) (place : ℕ) (reads : List PendingRead) (sends : ℕ) → Below sends k.regions → Below sends (response_effect k place reads).regions
-response-below k place [] sends h = h
-response-below k place (r ∷ others) sends h = read-below k place r (call_of_number k r.number) (record (no_effect k) { reads = others; kept = length (open_reads k) - 1 }) sends h
+response-below : (k : ServerState) (f : Frame) (last : Bool) (opcode stag to : ℕ) (payload : List ℕ) → Below k.received.sends k.regions → frame_segment f ≡ Ok (Tagged last opcode stag to payload) → Below k.received.sends (frame_effect k f).regions
+response-below k f last opcode stag to payload b is =
+    tagged-effect k (λ st. Below k.received.sends st.regions) (held-responses k (λ calls reads regions. Below k.received.sends regions) b (λ c s g. g) (λ r reads is. b)) f last opcode stag to payload is
 
 -- ---- All of the server
 
@@ -130,9 +107,9 @@ pub server-takes_send : (opened : LinkParameters) (k : ClientState) (s : ServerS
 server-takes_send opened k s w place f message rest j g head p long short lt =
     let segment : Segment = Untagged true OPCODE_SEND 0 QUEUE_SEND (msn_word (s.received.sends + 1)) 0 message in
     let is : frame_segment f ≡ Ok segment = segment-is s.received.sends s.received.requests f (SendFrame message) segment p refl in
-    let whole : List ℕ = begun_bytes s.received.begun ++ message in
     let st = effect_in s f (Ok segment) in
-    let below = closed-below (s.received.sends + 1) f.end (is_over st.calls st.reads) st.regions (message-below s f.end whole (verdict s whole) refl (record { stags = j.regions.stags; calls = j.regions.calls })) in (
+    let new = subst (λ (e : FrameEffect). Below (s.received.sends + 1) e.regions) (step-is s f (Ok segment) is) (message-below s f message j.counts.whole_up (record { stags = j.regions.stags; calls = j.regions.calls }) is) in
+    let below = closed-below (s.received.sends + 1) f.end (is_over st.calls st.reads) st.regions new in (
       server-send opened k s w f message rest j.counts g head p long short,
       (λ goes_on. record {
         counts = totals-send_up opened k s w f message rest j.counts head p goes_on;
@@ -151,7 +128,8 @@ server-takes_response opened k s w place f last opcode stag to payload rest j he
     let segment : Segment = Tagged last opcode stag to payload in
     let is : frame_segment f ≡ Ok segment = segment-is s.received.sends s.received.requests f (TaggedFrame last opcode stag to payload) segment p refl in
     let st = effect_in s f (Ok segment) in
-    let below = closed-below s.received.sends f.end (is_over st.calls st.reads) st.regions (by (eqb opcode OPCODE_READ_RESPONSE && last)) in (
+    let new = subst (λ (e : FrameEffect). Below s.received.sends e.regions) (step-is s f (Ok segment) is) (response-below s f last opcode stag to payload (record { stags = j.regions.stags; calls = j.regions.calls }) is) in
+    let below = closed-below s.received.sends f.end (is_over st.calls st.reads) st.regions new in (
       server-response-taken opened s w f place last opcode stag to payload rest j.reads j.sinks lt head p,
       (λ goes_on. record {
         counts = totals-tagged_up opened k s w f last opcode stag to payload rest j.counts j.waits.numbers head p;
@@ -161,13 +139,3 @@ server-takes_response opened k s w place f last opcode stag to payload rest j he
         regions = subst (λ (t : ServerState). AreKnown t) (sym (after-is opened s f (Ok segment) p.behind is)) (record { stags = below.stags; calls = below.calls });
       }),
     )
-  where
-    reached : ServerState
-    reached = with_access s f (Tagged last opcode stag to payload)
-
-    first : Below s.received.sends s.regions
-    first = record { stags = j.regions.stags; calls = j.regions.calls }
-
-    by : (b : Bool) → Below s.received.sends (cond b (response_effect reached f.end s.reads) (no_effect reached)).regions
-    by true = response-below reached f.end s.reads s.received.sends first
-    by false = first

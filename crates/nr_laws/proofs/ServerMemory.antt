@@ -1,29 +1,27 @@
 -- What a server's memory holds: each tagged segment that it received was allowed, so a sink holds its bytes with them laid over.
-use Rattle.std.proofs.Common.{◌≡◌, ℕ, ◌-◌, ◌≤◌, Bool, true, false, cond, ◌&&◌, not, eqb, List, [], ◌∷◌, ◌++◌, length, Option, None, Some, Result, Ok, refl, sym, subst, ◌∙◌, arith, append-nil, inl, inr}
+use Rattle.std.proofs.Common.{◌≡◌, ℕ, ◌≤◌, Bool, true, false, cond, List, [], ◌++◌, Option, None, Some, Result, Ok, refl, sym, subst, ◌∙◌, arith, append-nil, inl, inr}
 use Rattle.nr_wire.specs.Segment.{Segment}
 use Rattle.nr_wire.specs.Segment.Segment.{Tagged, Untagged}
 use Rattle.nr_regions.specs.Access.{TaggedSegment}
 use Rattle.nr_link.specs.declared.end.End.{End as Stop}
 use Rattle.nr_link.specs.Frames.{Frame, is_hello}
 use Rattle.nr_link.specs.Ending.{frame_segment, tagged_access, missing_access}
-use Rattle.nr_link.specs.ReceiveState.{message_completed}
 use Rattle.nr_reduce.specs.declared.mark.LinkParameters.{LinkParameters}
-use Rattle.nr_reduce.specs.Chunks.{is_read_chunk_of_item}
 use Rattle.nr_reduce.specs.OfferedRegions.{Region, region_grants, regions_closed}
 use Rattle.nr_reduce.specs.Events.{Event}
 use Rattle.nr_reduce.specs.Events.Event.{FrameReceived, CallSubmitted, MemoryRevoked, CallExecuted, QueueWritten}
 use Rattle.nr_reduce.specs.EndRules.{next_end_state_by, next_end_state_in, end_state_after}
-use Rattle.nr_reduce.specs.ServerState.{ServerState, PendingCall, PendingRead}
-use Rattle.nr_reduce.specs.ServerReads.{open_reads, is_read, reads_of, regions_of, is_over}
-use Rattle.nr_reduce.specs.ServerMessages.{CallVerdict, Verdict, verdict, chunk_bytes, payload_of, by_payload}
+use Rattle.nr_reduce.specs.ServerState.{ServerState, PendingCall}
+use Rattle.nr_reduce.specs.ServerReads.{regions_of, is_over}
+use Rattle.nr_reduce.specs.ServerMessages.{CallVerdict, payload_of, by_payload}
 use Rattle.nr_reduce.specs.ServerMessages.CallVerdict.{Refuses, IsReady}
-use Rattle.nr_reduce.specs.ServerMessages.Verdict.{EndsLink, OtherVersion, BadChunks, MakesPending}
-use Rattle.nr_reduce.specs.ServerFrames.{FrameEffect, no_effect, with_verdict, ready_if_whole, with_refused_call, is_stream_read, read_effect, response_effect, call_of_number, message_effect, by_message, with_access, effect_by, effect_in, frame_effect}
+use Rattle.nr_reduce.specs.ServerFrames.{FrameEffect, with_verdict, frame_effect}
 use Rattle.nr_reduce.specs.Server.{server_rules, server_end, server_state_after, initial_server, with_effect, tagged_accesses}
 use Rattle.nr_reduce.proofs.Touches.{server_touched}
 use Rattle.nr_laws.proofs.Along.{IsNext, GoesOn, along, place_after, places_after}
 use Rattle.nr_laws.proofs.Memory.{Gathering, Settled, settled-later, settled-closed, settled-append, settled-more}
 use Rattle.nr_laws.proofs.ServerAlong.{ServerGood}
+use Rattle.nr_laws.proofs.EachEffect.{each-effect}
 
 -- ---- The regions of a frame are those before, and new ones behind
 
@@ -38,39 +36,18 @@ new-verdict : (old : List Region) (v : CallVerdict) (s : FrameEffect) → HasNew
 new-verdict old (Refuses reason) s h = record { new = h.new; is = h.is }
 new-verdict old (IsReady r) s h = record { new = h.new; is = h.is }
 
-new-if : (old : List Region) (b : Bool) (s t : FrameEffect) → HasNew old s → HasNew old t → HasNew old (cond b s t)
-new-if old true s t h g = h
-new-if old false s t h g = g
-
-new-whole : (old : List Region) (k : ServerState) (place : ℕ) (c : PendingCall) (s : FrameEffect) → HasNew old s → HasNew old (ready_if_whole k place c s)
-new-whole old k place c s h = new-if old (is_read s.reads c.number) (with_verdict (by_payload c (payload_of k place c)) s) s (new-verdict old (by_payload c (payload_of k place c)) s h) h
-
-new-message : (k : ServerState) (place : ℕ) (message : List ℕ) (v : Verdict) → HasNew k.regions (message_effect k place message v)
-new-message k place message (EndsLink reason) = none-new k.regions (message_effect k place message (EndsLink reason)) refl
-new-message k place message OtherVersion = none-new k.regions (message_effect k place message OtherVersion) refl
-new-message k place message BadChunks = none-new k.regions (message_effect k place message BadChunks) refl
-new-message k place message (MakesPending c) =
-    new-whole k.regions k place c (record (no_effect k) { calls = k.calls ++ c ∷ []; reads = k.reads ++ reads_of (k.regions ++ regions_of k place c) c; regions = k.regions ++ regions_of k place c }) (record { new = regions_of k place c; is = refl })
-
-new-by-message : (k : ServerState) (place : ℕ) (o : Option (List ℕ)) → HasNew k.regions (by_message k place o)
-new-by-message k place None = none-new k.regions (no_effect k) refl
-new-by-message k place (Some message) = new-message k place message (verdict k message)
-
-new-read : (k : ServerState) (place : ℕ) (r : PendingRead) (o : Option PendingCall) (s : FrameEffect) → s.regions ≡ k.regions → HasNew k.regions (read_effect k place r o s)
-new-read k place r None s e = none-new k.regions s e
-new-read k place r (Some c) s e =
-    new-if k.regions (is_stream_read c r s.reads && not (is_read_chunk_of_item (chunk_bytes k place c 0) c.lists.read)) (with_refused_call k c s) (ready_if_whole k place c s)
-    (none-new k.regions (with_refused_call k c s) e) (new-whole k.regions k place c s (none-new k.regions s e))
-
-new-response : (k : ServerState) (place : ℕ) (reads : List PendingRead) → HasNew k.regions (response_effect k place reads)
-new-response k place [] = none-new k.regions (no_effect k) refl
-new-response k place (r ∷ reads) = new-read k place r (call_of_number k r.number) (record (no_effect k) { reads = reads; kept = length (open_reads k) - 1 }) refl
-
-new-segment : (k : ServerState) (f : Frame) (s : Segment) → HasNew k.regions (effect_by k f s)
-new-segment k f (Tagged last opcode stag to payload) =
-    let t : ServerState = with_access k f (Tagged last opcode stag to payload) in
-    new-if k.regions (eqb opcode 2 && last) (response_effect t f.end t.reads) (no_effect t) (new-response t f.end t.reads) (none-new k.regions (no_effect t) refl)
-new-segment k f (Untagged last opcode w queue msn offset payload) = new-by-message k f.end (message_completed k.received (Untagged last opcode w queue msn offset payload))
+new-effect : (k : ServerState) (f : Frame) → HasNew k.regions (frame_effect k f)
+new-effect k f =
+    each-effect k (λ m. Unit {0}) (HasNew k.regions) (record {
+      judged = judged;
+      ends = λ message reason good is. none-new k.regions _ refl;
+      version = λ message good. none-new k.regions _ refl;
+      chunks = λ message good. none-new k.regions _ refl;
+      pending = λ place message c good is. record { new = regions_of k place c; is = refl };
+    }) (record { unchanged = none-new k.regions _ refl; judged = judged; read = λ r reads is. none-new k.regions _ refl; refused = λ r reads c is found. none-new k.regions _ refl }) f (λ s m is e. tt)
+  where
+    judged : (t : ServerState) (place : ℕ) (c : PendingCall) (s : FrameEffect) → HasNew k.regions s → HasNew k.regions (with_verdict (by_payload c (payload_of t place c)) s)
+    judged t place c s h = new-verdict k.regions (by_payload c (payload_of t place c)) s h
 
 -- ---- Each access was allowed
 
@@ -86,18 +63,13 @@ accesses-settled place k f s le none h =
 
 segment-settled : (opened : LinkParameters) (place : ℕ) (k : ServerState) (f : Frame) (s : Segment) → place ≤ f.end → is_hello f ≡ false → frame_segment f ≡ Ok s → server_end opened k (FrameReceived f) ≡ None → Settled place k.regions k.accesses_received
     → Settled f.end (with_effect k f (frame_effect k f)).regions (with_effect k f (frame_effect k f)).accesses_received
-unfolding frame_effect
 segment-settled opened place k f s le behind is stays h =
-    let law = λ (r : Result Segment ℕ). Settled f.end (regions_closed (is_over (effect_in k f r).calls (effect_in k f r).reads) f.end (effect_in k f r).regions) (k.accesses_received ++ tagged_accesses f r) in
-    subst law (sym is) (by (new-segment k f s))
-  where
-    all : List TaggedSegment
-    all = k.accesses_received ++ tagged_access f s
-
-    by : HasNew k.regions (effect_by k f s) → Settled f.end (regions_closed (is_over (effect_by k f s).calls (effect_by k f s).reads) f.end (effect_by k f s).regions) all
-    by n =
-        settled-closed (is_over (effect_by k f s).calls (effect_by k f s).reads) f.end f.end (effect_by k f s).regions all (omega arith)
-        (subst (λ (rs : List Region). Settled f.end rs all) (sym n.is) (settled-append f.end k.regions n.new all (accesses-settled place k f s le (server_touched opened k f s behind is stays) h)))
+    let e : FrameEffect = frame_effect k f in
+    let n : HasNew k.regions e = new-effect k f in
+    let all : List TaggedSegment = k.accesses_received ++ tagged_access f s in
+    subst (λ (r : Result Segment ℕ). Settled f.end (regions_closed (is_over e.calls e.reads) f.end e.regions) (k.accesses_received ++ tagged_accesses f r)) (sym is)
+    (settled-closed (is_over e.calls e.reads) f.end f.end e.regions all (omega arith)
+    (subst (λ (rs : List Region). Settled f.end rs all) (sym n.is) (settled-append f.end k.regions n.new all (accesses-settled place k f s le (server_touched opened k f s behind is stays) h))))
 
 frame-settled : (opened : LinkParameters) (place : ℕ) (k : ServerState) (f : Frame) → IsNext place (FrameReceived f) → ServerGood (record { state = k; ended = None }) (FrameReceived f) → Settled place k.regions k.accesses_received
     → (o : Option Stop) → server_end opened k (FrameReceived f) ≡ o → Settled f.end (next_end_state_by (server_rules opened) k (FrameReceived f) o).state.regions (next_end_state_by (server_rules opened) k (FrameReceived f) o).state.accesses_received

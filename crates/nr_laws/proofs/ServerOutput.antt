@@ -1,10 +1,9 @@
 -- What a server sends can be written, and its output is the bytes of it; the offers of its calls stay within their limits.
-use Rattle.std.proofs.Common.{◌≡◌, ℕ, ◌+◌, min, Bool, true, false, cond, not, ◌&&◌, eqb, List, [], ◌∷◌, ◌++◌, length, map, take, drop, Option, Some, None, Result, Ok, refl, sym, ap, subst, ◌∙◌, arith, lit<, length-take, append_assoc, append-nil}
+use Rattle.std.proofs.Common.{◌≡◌, ℕ, ◌+◌, min, Bool, true, false, cond, eqb, List, [], ◌∷◌, ◌++◌, length, map, take, drop, Option, Some, None, Ok, refl, sym, ap, ◌∙◌, arith, lit<, length-take, append_assoc, append-nil}
 use Rattle.nr_xdr.specs.Item.{IsBytes}
-use Rattle.nr_xdr.specs.Fields.{word_at}
-use Rattle.nr_wire.specs.Constants.{OPCODE_WRITE, OPCODE_READ_RESPONSE, OPCODE_SEND, QUEUE_SEND}
+use Rattle.nr_wire.specs.Constants.{OPCODE_WRITE, OPCODE_SEND, QUEUE_SEND}
 use Rattle.nr_wire.specs.declared.hello.Side.TheVariants.{Responder}
-use Rattle.nr_wire.specs.Segment.{Segment, encoding}
+use Rattle.nr_wire.specs.Segment.{encoding}
 use Rattle.nr_wire.specs.Segment.Segment.{Tagged, Untagged}
 use Rattle.nr_header.specs.declared.header.RdmaSegment.{RdmaSegment}
 use Rattle.nr_header.specs.declared.header.ChunkLists.{ChunkLists}
@@ -13,63 +12,23 @@ use Rattle.nr_rpc.specs.Reading.{call_of, target_of}
 use Rattle.nr_link.specs.Frames.{Frame}
 use Rattle.nr_link.specs.Output.{msn_word, send, write}
 use Rattle.nr_link.specs.Ending.{frame_segment}
-use Rattle.nr_link.specs.ReceiveState.{begun_bytes}
 use Rattle.nr_reduce.specs.Holds.{Answer, answer_message, answer_writes, writes_into, chunk_error, first_chunk, no_segments}
-use Rattle.nr_reduce.specs.Chunks.{is_read_chunk_of_item}
 use Rattle.nr_reduce.specs.History.{ExecutedCall}
-use Rattle.nr_reduce.specs.ServerState.{PendingCall, PendingRead, ServerState, credit_word, down_max}
-use Rattle.nr_reduce.specs.ServerReads.{regions_of, reads_of, is_read}
-use Rattle.nr_reduce.specs.ServerMessages.{CallVerdict, by_payload, payload_of, chunk_bytes, Verdict, verdict}
-use Rattle.nr_reduce.specs.ServerMessages.CallVerdict.{Refuses, IsReady}
-use Rattle.nr_reduce.specs.ServerMessages.Verdict.{EndsLink, OtherVersion, BadChunks, MakesPending}
-use Rattle.nr_reduce.specs.ServerFrames.{FrameEffect, no_effect, with_verdict, ready_if_whole, message_effect, with_refused_call, is_stream_read, read_effect, call_of_number, response_effect, with_access, effect_in, frame_effect}
+use Rattle.nr_reduce.specs.ServerState.{PendingRead, ServerState, credit_word, down_max}
+use Rattle.nr_reduce.specs.ServerFrames.{FrameEffect, frame_effect}
 use Rattle.nr_reduce.specs.Server.{newly_open_reads, offer_of, answer_of_target, answer_output, execution_output}
 use Rattle.nr_laws.specs.FrameContents.{FrameContent, output_bytes, total_of, sends_in, requests_in, request_frame, effect_frames, write_frames, answer_frames, tagged_frames}
 use Rattle.nr_laws.specs.FrameContents.FrameContent.{SendFrame}
 use Rattle.nr_laws.proofs.TotalsAtServer.{fills-none, long-none}
 use Rattle.nr_laws.proofs.StreamFrames.{spelled-append}
-use Rattle.nr_laws.proofs.OutputFrames.{IsShort, AreShort, send-one, write-said}
+use Rattle.nr_laws.proofs.OutputFrames.{write-said}
 use Rattle.nr_laws.proofs.Writable.{AreWritable, all_proper-append, tagged-proper}
-use Rattle.nr_laws.proofs.ServerOutputs.{chunk_error-short, version_error-short, CallsFit, fit-append, fit-filter, answer-short, for_target, found-fits}
-use Rattle.nr_laws.proofs.WritableOffers.{SegmentsFit, OfferFits, verdict_fits}
+use Rattle.nr_laws.proofs.ServerOutputs.{chunk_error-short, CallsFit, answer-short, for_target, found-fits, IsFine, fine-messages, fine-responses, errors-short}
+use Rattle.nr_laws.proofs.WritableOffers.{SegmentsFit, OfferFits}
+use Rattle.nr_laws.proofs.Outputs.{IsShort, send-one, AreShort}
+use Rattle.nr_laws.proofs.EachEffect.{send-effect, tagged-effect}
 
 -- ---- The calls of a server
-
--- an effect whose messages are short, and whose calls are within their limits
-record IsFine (s : FrameEffect) : Type 0 where
-  short : AreShort s.errors
-  fit : CallsFit s.calls
-
-fine-verdict : (o : CallVerdict) (s : FrameEffect) → IsFine s → IsFine (with_verdict o s)
-fine-verdict (Refuses reason) s h = record { short = h.short; fit = h.fit }
-fine-verdict (IsReady r) s h = record { short = h.short; fit = h.fit }
-
-fine-whole : (k : ServerState) (place : ℕ) (c : PendingCall) (s : FrameEffect) → IsFine s → IsFine (ready_if_whole k place c s)
-fine-whole k place c s h = by (is_read s.reads c.number)
-  where
-    by : (b : Bool) → IsFine (cond b (with_verdict (by_payload c (payload_of k place c)) s) s)
-    by true = fine-verdict (by_payload c (payload_of k place c)) s h
-    by false = h
-
-fine-message : (k : ServerState) (place : ℕ) (message : List ℕ) (v : Verdict) → verdict k message ≡ v → IsBytes message → CallsFit k.calls → IsFine (message_effect k place message v)
-fine-message k place message (EndsLink reason) is bytes h = record { short = tt; fit = h }
-fine-message k place message OtherVersion is bytes h = record { short = (version_error-short (word_at 0 message) (word_at 4 message) (credit_word k), tt); fit = h }
-fine-message k place message BadChunks is bytes h = record { short = (chunk_error-short (word_at 0 message) (credit_word k), tt); fit = h }
-fine-message k place message (MakesPending c) is bytes h =
-    fine-whole k place c (record (no_effect k) { calls = k.calls ++ c ∷ []; reads = k.reads ++ reads_of (k.regions ++ regions_of k place c) c; regions = k.regions ++ regions_of k place c })
-    (record { short = tt; fit = fit-append k.calls (c ∷ []) h (verdict_fits k message c bytes is, tt) })
-
-fine-read : (k : ServerState) (place : ℕ) (r : PendingRead) (o : Option PendingCall) (s : FrameEffect) → IsFine s → IsFine (read_effect k place r o s)
-fine-read k place r None s h = h
-fine-read k place r (Some c) s h = by (is_stream_read c r s.reads && not (is_read_chunk_of_item (chunk_bytes k place c 0) c.lists.read))
-  where
-    by : (b : Bool) → IsFine (cond b (with_refused_call k c s) (ready_if_whole k place c s))
-    by true = record { short = (chunk_error-short c.xid (credit_word k), tt); fit = fit-filter (λ other. not (eqb other.number c.number)) s.calls h.fit }
-    by false = fine-whole k place c s h
-
-fine-response : (k : ServerState) (place : ℕ) (reads : List PendingRead) → CallsFit k.calls → IsFine (response_effect k place reads)
-fine-response k place [] h = record { short = tt; fit = h }
-fine-response k place (r ∷ reads) h = fine-read k place r (call_of_number k r.number) _ (record { short = tt; fit = h })
 
 -- of a Send, and of a tagged segment
 pub record SaysFine (s : FrameEffect) : Type 0 where
@@ -86,28 +45,15 @@ reads-proper [] = tt
 reads-proper (r ∷ reads) = (tt, reads-proper reads)
 
 says_fine : (s : FrameEffect) → IsFine s → SaysFine s
-says_fine s h = record { short = h.short; fit = h.fit; proper = all_proper-append (map SendFrame s.errors) (map request_frame (newly_open_reads s)) (sends-proper s.errors h.short) (reads-proper (newly_open_reads s)) }
+says_fine s h =
+    let short = errors-short s.errors h.errors in
+    record { short = short; fit = h.fit; proper = all_proper-append (map SendFrame s.errors) (map request_frame (newly_open_reads s)) (sends-proper s.errors short) (reads-proper (newly_open_reads s)) }
 
 pub fine-send : (k : ServerState) (f : Frame) (message : List ℕ) → k.received.begun ≡ None → IsBytes message → CallsFit k.calls → frame_segment f ≡ Ok (Untagged true OPCODE_SEND 0 QUEUE_SEND (msn_word (k.received.sends + 1)) 0 message) → SaysFine (frame_effect k f)
-unfolding frame_effect
-fine-send k f message none bytes h is =
-    let segment : Segment = Untagged true OPCODE_SEND 0 QUEUE_SEND (msn_word (k.received.sends + 1)) 0 message in
-    let whole : List ℕ = begun_bytes k.received.begun ++ message in
-    let same : whole ≡ message = ap (λ (b : Option (List ℕ)). begun_bytes b ++ message) none in
-    subst (λ (r : Result Segment ℕ). SaysFine (effect_in k f r)) (sym is)
-    (says_fine (effect_in k f (Ok segment)) (fine-message k f.end whole (verdict k whole) refl (subst IsBytes (sym same) bytes) h))
+fine-send k f message none bytes h is = says_fine (frame_effect k f) (send-effect k IsBytes IsFine (fine-messages k h) f message none bytes is)
 
 pub fine-tagged : (k : ServerState) (f : Frame) (last : Bool) (opcode stag to : ℕ) (payload : List ℕ) → CallsFit k.calls → frame_segment f ≡ Ok (Tagged last opcode stag to payload) → SaysFine (frame_effect k f)
-unfolding frame_effect
-fine-tagged k f last opcode stag to payload h is =
-    subst (λ (r : Result Segment ℕ). SaysFine (effect_in k f r)) (sym is) (says_fine (effect_in k f (Ok (Tagged last opcode stag to payload))) (by (eqb opcode OPCODE_READ_RESPONSE && last)))
-  where
-    t : ServerState
-    t = with_access k f (Tagged last opcode stag to payload)
-
-    by : (b : Bool) → IsFine (cond b (response_effect t f.end k.reads) (no_effect t))
-    by true = fine-response t f.end k.reads h
-    by false = record { short = tt; fit = h }
+fine-tagged k f last opcode stag to payload h is = says_fine (frame_effect k f) (tagged-effect k IsFine (fine-responses k h) f last opcode stag to payload is)
 
 -- ---- Answers
 

@@ -1,45 +1,38 @@
 -- What the server of a link says along its events: each of its messages answers an executed call, or refuses a Send.
-use Rattle.std.proofs.Common.{◌≡◌, ℕ, ◌+◌, ◌*◌, ◌≤◌, Bool, true, false, cond, ◌&&◌, not, eqb, List, [], ◌∷◌, ◌++◌, length, map, Option, None, Some, Result, Ok, Err, refl, sym, ap, subst, ◌∙◌, arith, append-nil, length-append}
+use Rattle.std.proofs.Common.{◌≡◌, ℕ, ◌+◌, ◌*◌, ◌≤◌, Bool, true, false, cond, not, eqb, List, [], ◌∷◌, ◌++◌, length, map, Option, None, Some, Ok, refl, sym, ap, subst, ◌∙◌, arith, append-nil}
 use Rattle.std.specs.List.{filter, find}
 use Rattle.std.proofs.lemmas.List.Elements.{All-nil}
 use Rattle.nr_header.specs.WithinLimits.{ListsWithin}
 use Rattle.nr_xdr.specs.Item.{IsBytes, word}
 use Rattle.nr_xdr.specs.Fields.{word_at}
-use Rattle.nr_xdr.proofs.WordBytes.{length-word}
 use Rattle.nr_rpc.specs.declared.head.CallTarget.{CallTarget}
 use Rattle.nr_rpc.specs.Reading.{call_of, target_of}
-use Rattle.nr_header.specs.declared.header.RdmaSegment.{RdmaSegment}
 use Rattle.nr_header.specs.declared.header.ChunkLists.{ChunkLists}
-use Rattle.nr_wire.specs.Constants.{OPCODE_READ_RESPONSE}
 use Rattle.nr_wire.specs.Segment.{Segment}
-use Rattle.nr_wire.specs.Segment.Segment.{Tagged, Untagged}
 use Rattle.nr_wire.specs.declared.stream.Awaited.TheVariants.{Fpdu}
 use Rattle.nr_link.specs.Frames.{Frame}
 use Rattle.nr_link.specs.ReceiveState.{message_completed}
 use Rattle.nr_link.specs.Ending.{frame_segment}
 use Rattle.nr_reduce.specs.History.{ExecutedCall}
-use Rattle.nr_reduce.specs.Chunks.{is_read_chunk_of_item}
 use Rattle.nr_reduce.specs.Holds.{Answer, answer_for, answer_size, answer_message, chunk_error, version_error, first_chunk, no_segments}
 use Rattle.nr_reduce.specs.Undone.{answer_segments, chunk_segments}
 use Rattle.nr_reduce.specs.ServerState.{ServerState, PendingCall, PendingRead, down_max, credit_word}
-use Rattle.nr_reduce.specs.ServerReads.{is_read, reads_of, regions_of}
-use Rattle.nr_reduce.specs.ServerMessages.{Verdict, CallVerdict, verdict, chunk_bytes, payload_of, by_payload}
-use Rattle.nr_reduce.specs.ServerMessages.Verdict.{EndsLink, OtherVersion, BadChunks, MakesPending}
+use Rattle.nr_reduce.specs.ServerMessages.{CallVerdict, payload_of, by_payload}
 use Rattle.nr_reduce.specs.ServerMessages.CallVerdict.{Refuses, IsReady}
-use Rattle.nr_reduce.specs.ServerFrames.{FrameEffect, no_effect, with_verdict, ready_if_whole, message_effect, with_refused_call, is_stream_read, read_effect, call_of_number, response_effect, by_message, with_access, effect_in, frame_effect}
+use Rattle.nr_reduce.specs.ServerFrames.{FrameEffect, with_verdict, frame_effect}
 use Rattle.nr_reduce.specs.Server.{offer_by, offer_of, answer_of_target, newly_open_reads}
 use Rattle.nr_reduce.proofs.AnswerMessages.{answer_length}
-use Rattle.nr_laws.proofs.WritableOffers.{OfferFits, SegmentsFit, verdict_fits}
+use Rattle.nr_laws.proofs.WritableOffers.{OfferFits, verdict_fits}
 use Rattle.nr_laws.proofs.Outputs.{Output, IsShort, AreShort, message_sends, request_outputs, effect_outputs, answer_outputs, answer_of_call, AnswerShort, send_segment}
 use Rattle.nr_laws.proofs.Outputs.Output.{ASegment}
 use Rattle.nr_laws.proofs.Brought.{AreFrom}
-use Rattle.nr_laws.proofs.Words.{send-word, request-word, chunk-words, from-append, SegmentsFit as WordsFit}
+use Rattle.nr_laws.proofs.Words.{send-word, request-word, chunk-words, from-append}
 use Rattle.nr_laws.proofs.Messages.{messages, AreOne, messages-append, one-append, messages-sends, one-sends, messages-requests, one-requests, AreTagged, tagged-append, tagged-chunk, messages-tagged, one-tagged}
+use Rattle.std.proofs.lemmas.List.{map-append}
+use Rattle.nr_laws.proofs.EachEffect.{MessageRule, ResponseRule, each-effect}
+use Rattle.nr_reduce.proofs.Sizes.{word_len}
 
 -- ---- Error messages
-
-pub word_len : (n : ℕ) (more : List ℕ) → length (word n ++ more) ≡ 4 + length more
-word_len n more = omega (arith, length-append (word n) more, length-word n)
 
 pub chunk_error-short : (xid credit : ℕ) → IsShort (chunk_error xid credit)
 unfolding chunk_error
@@ -104,53 +97,25 @@ fine-verdict : (o : CallVerdict) (s : FrameEffect) → IsFine s → IsFine (with
 fine-verdict (Refuses reason) s h = record { errors = h.errors; fit = h.fit }
 fine-verdict (IsReady r) s h = record { errors = h.errors; fit = h.fit }
 
-fine-whole : (k : ServerState) (place : ℕ) (c : PendingCall) (s : FrameEffect) → IsFine s → IsFine (ready_if_whole k place c s)
-fine-whole k place c s h = by (is_read s.reads c.number)
-  where
-    by : (b : Bool) → IsFine (cond b (with_verdict (by_payload c (payload_of k place c)) s) s)
-    by true = fine-verdict (by_payload c (payload_of k place c)) s h
-    by false = h
+pub fine-messages : (k : ServerState) → CallsFit k.calls → MessageRule k IsBytes IsFine
+fine-messages k h = record {
+  judged = λ t place c s g. fine-verdict (by_payload c (payload_of t place c)) s g;
+  ends = λ message reason bytes is. record { errors = NoError; fit = h };
+  version = λ message bytes. record { errors = OneError _ (OfVersion (word_at 0 message) (word_at 4 message) (credit_word k) refl); fit = h };
+  chunks = λ message bytes. record { errors = OneError _ (OfChunks (word_at 0 message) (credit_word k) refl); fit = h };
+  pending = λ place message c bytes is. record { errors = NoError; fit = fit-append k.calls (c ∷ []) h (verdict_fits k message c bytes is, tt) };
+}
 
-fine-message : (k : ServerState) (place : ℕ) (message : List ℕ) (v : Verdict) → verdict k message ≡ v → IsBytes message → CallsFit k.calls → IsFine (message_effect k place message v)
-fine-message k place message (EndsLink reason) is bytes h = record { errors = NoError; fit = h }
-fine-message k place message OtherVersion is bytes h = record { errors = OneError _ (OfVersion (word_at 0 message) (word_at 4 message) (credit_word k) refl); fit = h }
-fine-message k place message BadChunks is bytes h = record { errors = OneError _ (OfChunks (word_at 0 message) (credit_word k) refl); fit = h }
-fine-message k place message (MakesPending c) is bytes h =
-    fine-whole k place c (record (no_effect k) { calls = k.calls ++ c ∷ []; reads = k.reads ++ reads_of (k.regions ++ regions_of k place c) c; regions = k.regions ++ regions_of k place c })
-    (record { errors = NoError; fit = fit-append k.calls (c ∷ []) h (verdict_fits k message c bytes is, tt) })
-
-fine-read : (k : ServerState) (place : ℕ) (r : PendingRead) (o : Option PendingCall) (s : FrameEffect) → IsFine s → IsFine (read_effect k place r o s)
-fine-read k place r None s h = h
-fine-read k place r (Some c) s h = by (is_stream_read c r s.reads && not (is_read_chunk_of_item (chunk_bytes k place c 0) c.lists.read))
-  where
-    by : (b : Bool) → IsFine (cond b (with_refused_call k c s) (ready_if_whole k place c s))
-    by true = record { errors = OneError _ (OfChunks c.xid (credit_word k) refl); fit = fit-filter (λ other. not (eqb other.number c.number)) s.calls h.fit }
-    by false = fine-whole k place c s h
-
-fine-response : (k : ServerState) (place : ℕ) (reads : List PendingRead) → CallsFit k.calls → IsFine (response_effect k place reads)
-fine-response k place [] h = record { errors = NoError; fit = h }
-fine-response k place (r ∷ reads) h = fine-read k place r (call_of_number k r.number) _ (record { errors = NoError; fit = h })
-
-fine-by-message : (k : ServerState) (place : ℕ) (o : Option (List ℕ)) → ((m : List ℕ) → o ≡ Some m → IsBytes m) → CallsFit k.calls → IsFine (by_message k place o)
-fine-by-message k place None bytes h = record { errors = NoError; fit = h }
-fine-by-message k place (Some message) bytes h = fine-message k place message (verdict k message) refl (bytes message refl) h
+pub fine-responses : (k : ServerState) → CallsFit k.calls → ResponseRule k IsFine
+fine-responses k h = record {
+  unchanged = record { errors = NoError; fit = h };
+  judged = λ t place c s g. fine-verdict (by_payload c (payload_of t place c)) s g;
+  read = λ r reads is. record { errors = NoError; fit = h };
+  refused = λ r reads c is found. record { errors = OneError _ (OfChunks c.xid (credit_word k) refl); fit = fit-filter (λ other. not (eqb other.number c.number)) k.calls h };
+}
 
 pub fine-frame : (k : ServerState) (f : Frame) → ((s : Segment) (m : List ℕ) → frame_segment f ≡ Ok s → message_completed k.received s ≡ Some m → IsBytes m) → CallsFit k.calls → IsFine (frame_effect k f)
-unfolding frame_effect
-fine-frame k f bytes h = by (frame_segment f) refl
-  where
-    by : (r : Result Segment ℕ) → frame_segment f ≡ r → IsFine (effect_in k f r)
-    by (Err reason) is = record { errors = NoError; fit = h }
-    by (Ok (Tagged last opcode stag to payload)) is = tagged (eqb opcode OPCODE_READ_RESPONSE && last)
-      where
-        t : ServerState
-        t = with_access k f (Tagged last opcode stag to payload)
-
-        tagged : (b : Bool) → IsFine (cond b (response_effect t f.end t.reads) (no_effect t))
-        tagged true = fine-response t f.end t.reads h
-        tagged false = record { errors = NoError; fit = h }
-    by (Ok (Untagged last opcode w queue msn offset payload)) is =
-        fine-by-message k f.end (message_completed k.received (Untagged last opcode w queue msn offset payload)) (λ m e. bytes (Untagged last opcode w queue msn offset payload) m is e) h
+fine-frame k f bytes h = each-effect k IsBytes IsFine (fine-messages k h) (fine-responses k h) f bytes
 
 -- ---- Outputs that can be read
 
@@ -177,14 +142,6 @@ fine-effect k s h =
       messages_are = messages-append sends reads ∙ (λ i. messages-sends (k.messages_queued + 1) s.errors i ++ messages-requests (k.requests_sent + 1) (newly_open_reads s) i) ∙ append-nil s.errors;
     }
 
-words-fit : (chunk : List RdmaSegment) → SegmentsFit chunk → WordsFit chunk
-words-fit [] h = tt
-words-fit (s ∷ chunk) h = (h.0.0, (h.0.1, h.0.2), words-fit chunk h.1)
-
-map-append : (xs ys : List Segment) → map ASegment (xs ++ ys) ≡ map ASegment xs ++ map ASegment ys
-map-append [] ys = refl
-map-append (x ∷ xs) ys = ap (λ (os : List Output). ASegment x ∷ os) (map-append xs ys)
-
 pub tagged-answer : (offer : ChunkLists) (a : Answer) → AreTagged (answer_segments offer a)
 tagged-answer offer a = tagged-append (chunk_segments (first_chunk offer.write) a.moved) (cond a.long (chunk_segments (no_segments offer.reply) a.stream) []) (tagged-chunk (first_chunk offer.write) a.moved) (by a.long)
   where
@@ -194,12 +151,12 @@ tagged-answer offer a = tagged-append (chunk_segments (first_chunk offer.write) 
 
 answer-words : (offer : ChunkLists) (a : Answer) → OfferFits offer → AreFrom Fpdu (map ASegment (answer_segments offer a))
 answer-words offer a h =
-    subst (λ (os : List Output). AreFrom Fpdu os) (sym (map-append (chunk_segments (first_chunk offer.write) a.moved) (cond a.long (chunk_segments (no_segments offer.reply) a.stream) [])))
+    subst (λ (os : List Output). AreFrom Fpdu os) (sym (map-append ASegment (chunk_segments (first_chunk offer.write) a.moved) (cond a.long (chunk_segments (no_segments offer.reply) a.stream) [])))
     (from-append (map ASegment (chunk_segments (first_chunk offer.write) a.moved)) (map ASegment (cond a.long (chunk_segments (no_segments offer.reply) a.stream) []))
-    (chunk-words (first_chunk offer.write) a.moved (words-fit (first_chunk offer.write) h.writes)) (by a.long))
+    (chunk-words (first_chunk offer.write) a.moved h.writes) (by a.long))
   where
     by : (b : Bool) → AreFrom Fpdu (map ASegment (cond b (chunk_segments (no_segments offer.reply) a.stream) []))
-    by true = chunk-words (no_segments offer.reply) a.stream (words-fit (no_segments offer.reply) h.replies)
+    by true = chunk-words (no_segments offer.reply) a.stream h.replies
     by false = tt
 
 pub answer-short : (offer : ChunkLists) (down prog vers proc xid credit : ℕ) (reply : List ℕ) (a : Answer) → down ≤ 1024 → OfferFits offer → answer_for offer down prog vers proc reply ≡ Some a → IsShort (answer_message xid credit offer a)

@@ -1,11 +1,7 @@
 -- On a matched link each call that the server receives has reads of one position, so its reads are kept along a run; and what its
 -- memory holds is laid by the tagged segments that came.
-use Rattle.std.proofs.Common.{◌≡◌, ℕ, ◌+◌, Bool, true, false, cond, ◌||◌, not, eqb, ltb, List, [], ◌∷◌, ◌++◌, length, drop, Option, None, Some, Result, Ok, Err, refl, sym, ap, subst, ◌∙◌, append_assoc, inl, inr}
-use Rattle.nr_xdr.specs.Fields.{word_at}
-use Rattle.nr_header.specs.declared.fault.HeaderFault.{HeaderFault}
+use Rattle.std.proofs.Common.{◌≡◌, ℕ, ◌+◌, Bool, false, cond, List, [], ◌∷◌, ◌++◌, Option, None, Some, Ok, refl, sym, ap, subst, ◌∙◌, append_assoc, inl, inr}
 use Rattle.nr_header.specs.declared.header.ChunkLists.{ChunkLists}
-use Rattle.nr_header.specs.declared.header.Body.{Body}
-use Rattle.nr_header.specs.declared.header.Body.TheVariants.{Msg, Nomsg, ErrVers, ErrChunk}
 use Rattle.nr_header.specs.declared.header.Header.{Header}
 use Rattle.nr_header.specs.Reading.{header_of}
 use Rattle.nr_wire.specs.declared.hello.Side.TheVariants.{Responder}
@@ -19,7 +15,6 @@ use Rattle.nr_reduce.specs.declared.mark.LinkParameters.{LinkParameters}
 use Rattle.nr_reduce.specs.declared.outline.Plan.{Plan}
 use Rattle.nr_reduce.specs.Limits.{send_max}
 use Rattle.nr_reduce.specs.Plans.{read_list, read_stag, lists_of}
-use Rattle.nr_reduce.specs.Chunks.{is_read_chunk_of_item}
 use Rattle.nr_reduce.specs.ClientState.{call_payload}
 use Rattle.nr_reduce.specs.Events.{Event, events}
 use Rattle.nr_reduce.specs.Events.Event.{FrameReceived, CallSubmitted, MemoryRevoked, CallExecuted, QueueWritten}
@@ -27,10 +22,9 @@ use Rattle.nr_reduce.specs.EndRules.{EndState, next_end_state, next_end_state_by
 use Rattle.nr_reduce.specs.Matched.{Matched}
 use Rattle.nr_reduce.specs.Asked.{AskedSoFar}
 use Rattle.nr_reduce.specs.Served.{ServedSoFar}
-use Rattle.nr_reduce.specs.ServerState.{ServerState, PendingCall, next_stag, is_pending}
-use Rattle.nr_reduce.specs.ServerReads.{chunks_of}
-use Rattle.nr_reduce.specs.ServerMessages.{verdict, by_header, by_body, by_stream, by_need, has_position, no_stream}
-use Rattle.nr_reduce.specs.ServerMessages.Verdict.{EndsLink, OtherVersion, BadChunks, MakesPending}
+use Rattle.nr_reduce.specs.ServerState.{ServerState, PendingCall}
+use Rattle.nr_reduce.specs.ServerMessages.{verdict}
+use Rattle.nr_reduce.specs.ServerMessages.Verdict.{MakesPending}
 use Rattle.nr_reduce.specs.ServerFrames.{frame_effect}
 use Rattle.nr_reduce.specs.Server.{server_rules, server_end, server_state_after, initial_server, with_effect}
 use Rattle.nr_reduce.specs.Run.{client}
@@ -52,6 +46,7 @@ use Rattle.nr_laws.proofs.ReadsAlong.{ReadsAt, last_of, OwnMessages, frame-reads
 use Rattle.nr_laws.proofs.ServerAlong.{ServerGood, goes-hello, outs_of}
 use Rattle.nr_laws.proofs.ServerSide.{server-goes}
 use Rattle.nr_laws.proofs.SinksKept.{IsOwnRead}
+use Rattle.nr_laws.proofs.MadePending.{made-pending}
 
 -- ---- The lists of a call that a message makes pending
 
@@ -61,46 +56,10 @@ pub record HasLists (message : List ℕ) (c : PendingCall) : Type 0 where
   pub lists : c.lists ≡ lists_by header.body
   pub stream : c.inline ≡ known_stream message header.body
 
-need-is : (d c : PendingCall) (b : Bool) → cond b (EndsLink 30) (MakesPending d) ≡ MakesPending c → c ≡ d
-need-is d c true e = absurd cc
-need-is d c false e = cc
-
-stream-is : (k : ServerState) (lists : ChunkLists) (xid : ℕ) (stream : Option (List ℕ)) (c : PendingCall) → by_stream k lists xid stream ≡ MakesPending c → c ≡ record { number = k.received.sends + 1; xid = xid; lists = lists; inline = stream }
-stream-is k lists xid None c e = need-is (record { number = k.received.sends + 1; xid = xid; lists = lists; inline = None }) c (ltb 4294967296 (next_stag k + length (chunks_of lists))) e
-stream-is k lists xid (Some stream) c e = by (is_read_chunk_of_item stream lists.read) e
-  where
-    call : PendingCall
-    call = record { number = k.received.sends + 1; xid = xid; lists = lists; inline = Some stream }
-
-    by : (b : Bool) → cond b (by_need k call) BadChunks ≡ MakesPending c → c ≡ call
-    by true e = need-is call c (ltb 4294967296 (next_stag k + length (chunks_of lists))) e
-    by false e = absurd cc
-
-body-is : (k : ServerState) (xid : ℕ) (message : List ℕ) (body : Body) (c : PendingCall) → by_body k xid message body ≡ MakesPending c → c ≡ record { number = k.received.sends + 1; xid = xid; lists = lists_by body; inline = known_stream message body }
-body-is k xid message (Msg lists at) c e = stream-is k lists xid (Some (drop at message)) c e
-body-is k xid message (Nomsg lists) c e = by (has_position lists.read) e
-  where
-    by : (b : Bool) → cond b (by_stream k lists xid (no_stream lists.read)) BadChunks ≡ MakesPending c → c ≡ record { number = k.received.sends + 1; xid = xid; lists = lists; inline = no_stream lists.read }
-    by true e = stream-is k lists xid (no_stream lists.read) c e
-    by false e = absurd cc
-body-is k xid message (ErrVers version low high) c e = absurd cc
-body-is k xid message (ErrChunk version) c e = absurd cc
-
-header-lists : (k : ServerState) (message : List ℕ) (r : Result Header HeaderFault) (c : PendingCall) → header_of message ≡ r → by_header k message r ≡ MakesPending c → HasLists message c
-header-lists k message (Ok h) c is e =
-    let same = body-is k h.xid message h.body c e in
-    record { header = h; is = is; lists = ap (λ (x : PendingCall). x.lists) same; stream = ap (λ (x : PendingCall). x.inline) same }
-header-lists k message (Err fault) c is e = absurd cc
-
 pub verdict-lists : (k : ServerState) (message : List ℕ) (c : PendingCall) → verdict k message ≡ MakesPending c → HasLists message c
-unfolding verdict
-verdict-lists k message c e = by (not (eqb (word_at 4 message) 1)) (eqb (word_at 12 message) 3 || eqb (word_at 12 message) 4) (is_pending k (word_at 0 message)) e
-  where
-    by : (other kind open_call : Bool) → cond other OtherVersion (cond kind (EndsLink 17) (cond open_call (EndsLink 20) (by_header k message (header_of message)))) ≡ MakesPending c → HasLists message c
-    by true kind open_call e = absurd cc
-    by false true open_call e = absurd cc
-    by false false true e = absurd cc
-    by false false false e = header-lists k message (header_of message) c refl e
+verdict-lists k message c e =
+    let m = made-pending k message c e in
+    record { header = m.header; is = m.is_header; lists = ap (λ (x : PendingCall). x.lists) m.is; stream = ap (λ (x : PendingCall). x.inline) m.is }
 
 own-list : (stag : ℕ) (p : Plan) → IsOwnRead (lists_of stag p).read
 unfolding lists_of

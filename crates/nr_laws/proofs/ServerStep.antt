@@ -5,11 +5,11 @@ use Rattle.nr_laws.proofs.ClientFrame.{calls_said}
 use Rattle.nr_laws.proofs.GuardsAtServer.{sent_most}
 use Rattle.std.specs.Prelude.{length}
 use Rattle.nr_laws.proofs.OneChunk.{HasOneChunk, OneChunk}
-use Rattle.std.proofs.Common.{◌≡◌, ◌≢◌, ℕ, ◌+◌, ◌≤◌, ◌<◌, Bool, true, false, cond, not, ◌&&◌, ◌||◌, eqb, List, [], ◌∷◌, ◌++◌, length, drop, Option, Some, None, Result, Ok, Err, refl, sym, ap, subst, ◌∙◌, arith, inl, inr}
+use Rattle.std.proofs.Common.{◌≡◌, ℕ, ◌+◌, ◌≤◌, ◌<◌, Bool, true, false, cond, not, ◌||◌, eqb, List, [], ◌∷◌, ◌++◌, length, drop, Option, Some, None, Result, Ok, Err, refl, sym, ap, subst, ◌∙◌, arith, inl, inr}
 use Rattle.nr_xdr.specs.Item.{IsBytes}
 use Rattle.nr_xdr.specs.Fields.{word_at}
 use Rattle.std.proofs.lemmas.Bool.{ne_eqb}
-use Rattle.nr_wire.specs.Constants.{OPCODE_READ_RESPONSE, OPCODE_SEND, QUEUE_SEND}
+use Rattle.nr_wire.specs.Constants.{OPCODE_SEND, QUEUE_SEND}
 use Rattle.nr_wire.specs.declared.hello.Side.TheVariants.{Initiator}
 use Rattle.nr_wire.specs.Hello.{hello_of}
 use Rattle.nr_wire.specs.Segment.{Segment}
@@ -26,7 +26,6 @@ use Rattle.nr_link.specs.declared.end.End.{End}
 use Rattle.nr_link.specs.Frames.{Frame, is_hello}
 use Rattle.nr_link.specs.Ending.{frame_segment, frame_end, hello_end}
 use Rattle.nr_link.specs.Output.{msn_word}
-use Rattle.nr_link.specs.ReceiveState.{begun_bytes}
 use Rattle.nr_laws.proofs.TotalsAtServer.{segment-is}
 use Rattle.nr_laws.proofs.CallNumbers.{none-pending}
 use Rattle.nr_reduce.specs.declared.mark.LinkParameters.{LinkParameters}
@@ -35,12 +34,12 @@ use Rattle.nr_reduce.specs.Events.Event.{FrameReceived}
 use Rattle.nr_reduce.specs.Chunks.{is_read_chunk_of_item}
 use Rattle.nr_reduce.specs.OfferedRegions.{region_grants}
 use Rattle.nr_reduce.specs.ClientState.{ClientState}
-use Rattle.nr_reduce.specs.ServerState.{ServerState, PendingCall, PendingRead, is_pending, next_stag}
-use Rattle.nr_reduce.specs.ServerReads.{chunks_of, regions_of, reads_of, is_read}
-use Rattle.nr_reduce.specs.ServerMessages.{by_head, by_payload, call_xid, payload_of, chunk_bytes, Verdict, verdict, by_need, by_stream, by_body, by_header, has_position, no_stream}
+use Rattle.nr_reduce.specs.ServerState.{ServerState, PendingCall, is_pending, next_stag}
+use Rattle.nr_reduce.specs.ServerReads.{chunks_of}
+use Rattle.nr_reduce.specs.ServerMessages.{by_head, by_payload, call_xid, payload_of, Verdict, verdict, by_need, by_stream, by_body, by_header, has_position, no_stream}
 use Rattle.nr_reduce.specs.ServerMessages.CallVerdict.{Refuses, IsReady}
 use Rattle.nr_reduce.specs.ServerMessages.Verdict.{EndsLink, OtherVersion, BadChunks, MakesPending}
-use Rattle.nr_reduce.specs.ServerFrames.{FrameEffect, no_effect, with_verdict, ready_if_whole, message_effect, with_refused_call, is_stream_read, read_effect, call_of_number, response_effect, with_access, effect_in, frame_effect}
+use Rattle.nr_reduce.specs.ServerFrames.{FrameEffect, with_verdict, frame_effect}
 use Rattle.nr_reduce.specs.Server.{server_end, server_state_after, readiness, or_refusal, refusal_end}
 use Rattle.nr_laws.specs.EndCauses.{IsCallReason, IsCallEnd}
 use Rattle.nr_laws.specs.FrameContents.{FrameContent, numbered_segment, frame_bytes, total_of, sends_in, requests_in, server_frames, Carries}
@@ -53,6 +52,8 @@ use Rattle.nr_laws.proofs.Writable.{IsWritable, IsOutput, proper_one, stream-fir
 use Rattle.nr_laws.proofs.AgreeingEnds.{EndsAgree, IsPlace, frame_of, taken_up}
 use Rattle.nr_laws.proofs.Guards.{Guards}
 use Rattle.nr_laws.proofs.GuardsAtServer.{front-up, front-xid, ServerTakes, takes-send, takes-tagged, hello-guards}
+use Rattle.nr_laws.proofs.Basics.{some-not}
+use Rattle.nr_laws.proofs.EachEffect.{send-effect, tagged-effect}
 
 -- ---- Why the effect of a frame refuses
 
@@ -66,24 +67,17 @@ head-reason = inl refl
 xid-reason : IsCallReason 19
 xid-reason = inr refl
 
-refused-head : (c : PendingCall) (payload : List ℕ) (r : Result CallHead ℕ) (s : FrameEffect) → s.refusal ≡ None → Refusal (with_verdict (by_head c payload r) s).refusal
-refused-head c payload (Err at) s none = head-reason
-refused-head c payload (Ok head) s none = by (eqb (call_xid head) c.xid)
+refused-head : (c : PendingCall) (payload : List ℕ) (r : Result CallHead ℕ) (s : FrameEffect) → Refusal s.refusal → Refusal (with_verdict (by_head c payload r) s).refusal
+refused-head c payload (Err at) s h = head-reason
+refused-head c payload (Ok head) s h = by (eqb (call_xid head) c.xid)
   where
     by : (b : Bool) → Refusal (with_verdict (cond b (IsReady (record { number = c.number; xid = c.xid; payload = payload })) (Refuses 19)) s).refusal
-    by true = subst Refusal (sym none) tt
+    by true = h
     by false = xid-reason
 
-refused-payload : (c : PendingCall) (payload : Option (List ℕ)) (s : FrameEffect) → s.refusal ≡ None → Refusal (with_verdict (by_payload c payload) s).refusal
-refused-payload c None s none = head-reason
-refused-payload c (Some payload) s none = refused-head c payload (call_of payload) s none
-
-refused-whole : (k : ServerState) (place : ℕ) (c : PendingCall) (s : FrameEffect) → s.refusal ≡ None → Refusal (ready_if_whole k place c s).refusal
-refused-whole k place c s none = by (is_read s.reads c.number)
-  where
-    by : (b : Bool) → Refusal (cond b (with_verdict (by_payload c (payload_of k place c)) s) s).refusal
-    by true = refused-payload c (payload_of k place c) s none
-    by false = subst Refusal (sym none) tt
+refused-payload : (c : PendingCall) (payload : Option (List ℕ)) (s : FrameEffect) → Refusal s.refusal → Refusal (with_verdict (by_payload c payload) s).refusal
+refused-payload c None s h = head-reason
+refused-payload c (Some payload) s h = refused-head c payload (call_of payload) s h
 
 -- the verdict on a message ends the link only for such a reason
 abbrev VerdictReason : Verdict → Type 0
@@ -128,46 +122,20 @@ reason-verdict k message kind again room bytes one =
     by true = tt
     by false = reason-header k message (header_of message) refl room bytes one
 
-refused-message : (k : ServerState) (place : ℕ) (message : List ℕ) (v : Verdict) → VerdictReason v → Refusal (message_effect k place message v).refusal
-refused-message k place message (EndsLink reason) h = h
-refused-message k place message OtherVersion h = tt
-refused-message k place message BadChunks h = tt
-refused-message k place message (MakesPending c) h =
-    refused-whole k place c (record (no_effect k) { calls = k.calls ++ c ∷ []; reads = k.reads ++ reads_of (k.regions ++ regions_of k place c) c; regions = k.regions ++ regions_of k place c }) refl
-
-refused-read : (k : ServerState) (place : ℕ) (r : PendingRead) (o : Option PendingCall) (s : FrameEffect) → s.refusal ≡ None → Refusal (read_effect k place r o s).refusal
-refused-read k place r None s none = subst Refusal (sym none) tt
-refused-read k place r (Some c) s none = by (is_stream_read c r s.reads && not (is_read_chunk_of_item (chunk_bytes k place c 0) c.lists.read))
-  where
-    by : (b : Bool) → Refusal (cond b (with_refused_call k c s) (ready_if_whole k place c s)).refusal
-    by true = subst Refusal (sym none) tt
-    by false = refused-whole k place c s none
-
-refused-response : (k : ServerState) (place : ℕ) (reads : List PendingRead) → Refusal (response_effect k place reads).refusal
-refused-response k place [] = tt
-refused-response k place (r ∷ reads) = refused-read k place r (call_of_number k r.number) _ refl
-
 refused-tagged : (k : ServerState) (f : Frame) (last : Bool) (opcode stag to : ℕ) (payload : List ℕ) → frame_segment f ≡ Ok (Tagged last opcode stag to payload) → Refusal (frame_effect k f).refusal
-unfolding frame_effect
-refused-tagged k f last opcode stag to payload is = subst (λ (r : Result Segment ℕ). Refusal (effect_in k f r).refusal) (sym is) (by (eqb opcode OPCODE_READ_RESPONSE && last))
-  where
-    t : ServerState
-    t = with_access k f (Tagged last opcode stag to payload)
-
-    by : (b : Bool) → Refusal (cond b (response_effect t f.end k.reads) (no_effect t)).refusal
-    by true = refused-response t f.end k.reads
-    by false = tt
+refused-tagged k f last opcode stag to payload is =
+    tagged-effect k (λ s. Refusal s.refusal) (record { unchanged = tt; judged = λ t place c s h. refused-payload c (payload_of t place c) s h; read = λ r reads is. tt; refused = λ r reads c is found. tt }) f last opcode stag to payload is
 
 refused-send : (k : ServerState) (f : Frame) (message : List ℕ) → k.received.begun ≡ None → word_at 12 message ≤ 1 → is_pending k (word_at 0 message) ≡ false → next_stag k + 1 ≤ 4294967296 → IsBytes message → OneChunk message
     → frame_segment f ≡ Ok (Untagged true OPCODE_SEND 0 QUEUE_SEND (msn_word (k.received.sends + 1)) 0 message) → Refusal (frame_effect k f).refusal
-unfolding frame_effect
 refused-send k f message none kind again room bytes one is =
-    let segment : Segment = Untagged true OPCODE_SEND 0 QUEUE_SEND (msn_word (k.received.sends + 1)) 0 message in
-    let whole : List ℕ = begun_bytes k.received.begun ++ message in
-    let same : message ≡ whole = ap (λ (b : Option (List ℕ)). begun_bytes b ++ message) (sym none) in
-    subst (λ (r : Result Segment ℕ). Refusal (effect_in k f r).refusal) (sym is)
-    (refused-message k f.end whole (verdict k whole)
-    (reason-verdict k whole (omega (arith, kind, ap (λ (xs : List ℕ). word_at 12 xs) same)) (ap (λ (xs : List ℕ). is_pending k (word_at 0 xs)) (sym same) ∙ again) room (subst IsBytes same bytes) (subst OneChunk same one)))
+    send-effect k (λ m. VerdictReason (verdict k m)) (λ s. Refusal s.refusal) (record {
+      judged = λ t place c s h. refused-payload c (payload_of t place c) s h;
+      ends = λ message reason h is. subst VerdictReason is h;
+      version = λ message h. tt;
+      chunks = λ message h. tt;
+      pending = λ place message c h is. tt;
+    }) f message none (reason-verdict k message kind again room bytes one) is
 
 call-end : (f : Frame) (refusal : Option ℕ) (end : End) → Refusal refusal → refusal_end f refusal ≡ Some end → IsCallEnd end
 call-end f None end h e = absurd cc
@@ -189,9 +157,6 @@ hello-none : (opened : LinkParameters) (s : ServerState) (f : Frame) → is_hell
 unfolding server_end
 hello-none opened s f is says =
     (λ i. cond (is i) (hello_end (says i)) (or_refusal s f (frame_end (readiness opened s) (region_grants f.end s.regions) f)))
-
-some-none : (x : End) → Some x ≢ None
-some-none x e = cc
 
 step-piece : (opened : LinkParameters) (k : ClientState) (s : ServerState) (u d all_up all_down : List FrameContent) (w : Transit) (place : ℕ) (p : FrameContent) (rest : List FrameContent) (f : Frame) → IsOpened opened → EndsAgree opened k s u d all_up all_down w → Guards opened k s u d all_up all_down w place → w.up ≡ p ∷ rest
     → IsWritable p → Carries s.received.sends s.received.requests f p → IsBytes f.bytes → f.bytes ≡ frame_bytes Initiator (numbered_segment s.received.sends s.received.requests p) → place < f.end
@@ -225,7 +190,7 @@ step-up opened k s [] d all_up all_down w p rest n r place o l g first sends req
     let says = ap (λ (q : FrameContent). hello_of Initiator (frame_bytes Initiator (numbered_segment n r q))) hello ∙ (hello-is Initiator).says in
     let none = hello-none opened s f is says in
     subst (λ (q : FrameContent). ServerStep opened k s [] d all_up all_down w q rest f) (sym hello) (record {
-      only = λ end e. absurd (some-none end (sym e ∙ none));
+      only = λ end e. absurd (some-not end (sym e ∙ none));
       kept = λ stays. hello-guards opened k s [] d all_up all_down w place rest f g (first ∙ ap (λ (q : FrameContent). q ∷ rest) hello) is (omega (arith, some));
     })
 step-up opened k s (q ∷ u) d all_up all_down w p rest n r place o l g first sends requests at bytes some =

@@ -20,10 +20,6 @@ abbrev pub own_reads : (number position sink handle at : ℕ) → List ℕ → L
 own_reads number position sink handle at [] = []
 own_reads number position sink handle at (n ∷ ns) = one_read number position sink handle at n ++ own_reads number position sink handle (at + n) ns
 
-total-nothing : (position : ℕ) → total_at position [] ≡ 0
-unfolding total_at
-total-nothing position = refl
-
 at-append : (position : ℕ) (xs ys : List ReadSegment) → at_position position (xs ++ ys) ≡ at_position position xs ++ at_position position ys
 at-append position [] ys = refl
 at-append position (x ∷ xs) ys = by (eqb x.position position) (at-append position xs ys)

@@ -12,6 +12,7 @@ use Rattle.nr_reduce.specs.ServerState.{PendingRead, PendingCall}
 use Rattle.nr_reduce.specs.ServerReads.{is_read, is_read_at, is_over}
 use Rattle.nr_laws.specs.LinkInvariants.{IsSink, HasSink, HaveSinks}
 use Rattle.nr_laws.proofs.Totals.{any_first}
+use Rattle.nr_reduce.proofs.OwnStags.{closed-stag}
 
 same-itself : (right : Right) → same_right right right ≡ true
 same-itself Fetch = refl
@@ -68,10 +69,6 @@ not-over calls reads r g call position there = by (list_any (λ (c : PendingCall
     by : (b : Bool) → cond b (is_read reads g.call) (is_read_at reads g.call g.position) ≡ false
     by true = ap (λ (b : Bool). not b) (any_first (λ (x : PendingRead). eqb x.number g.call) (λ (x : PendingRead). eqb x.position g.position) reads at)
     by false = ap (λ (b : Bool). not b) at
-
-closed-stag : (b : Bool) (place : ℕ) (g : Region) → (closed_if b place g).stag ≡ g.stag
-closed-stag true place g = refl
-closed-stag false place g = refl
 
 pub sink-closed : (place end : ℕ) (calls : List PendingCall) (reads : List PendingRead) (r : PendingRead) (regions : List Region) → place ≤ end
     → list_any (λ (x : PendingRead). eqb x.number r.number && eqb x.position r.position) reads ≡ true → HasSink place r regions → HasSink end r (regions_closed (is_over calls reads) end regions)

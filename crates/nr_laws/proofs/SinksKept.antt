@@ -97,7 +97,7 @@ new-kept k c done newr new h none below owners call =
       opened = ap (λ (rs : List PendingRead). done ++ rs) (front-taken 8 8 k.reads new (omega arith)) ∙ sym (append_assoc done (take 8 k.reads) (drop (length (take 8 k.reads)) (take 8 (k.reads ++ new))));
     }
 
-total-nil : (position : ℕ) → total_at position [] ≡ 0
+pub total-nil : (position : ℕ) → total_at position [] ≡ 0
 unfolding total_at
 total-nil position = refl
 

@@ -1,5 +1,5 @@
 -- Read Responses that came whole are the first ones; and what they leave in a sink.
-use Rattle.std.proofs.Common.{◌≡◌, ◌≢◌, ℕ, zero, suc, ◌+◌, ◌*◌, ◌≤◌, Bool, cond, eqb, List, [], ◌∷◌, ◌++◌, length, take, drop, map, refl, sym, ap, subst, ◌∙◌, arith, eq-eqb, ne_eqb}
+use Rattle.std.proofs.Common.{◌≡◌, ◌≢◌, ℕ, zero, suc, ◌+◌, ◌*◌, ◌≤◌, Bool, cond, eqb, List, [], ◌∷◌, ◌++◌, length, take, map, refl, sym, ap, subst, ◌∙◌, arith, eq-eqb, ne_eqb}
 use Rattle.std.specs.List.{range_with_len}
 use Rattle.nr_wire.specs.Segment.{Segment}
 use Rattle.nr_wire.specs.Segment.Segment.{Tagged, Untagged}
@@ -14,6 +14,7 @@ use Rattle.nr_laws.proofs.Outputs.Output.{AHello, ASegment}
 use Rattle.nr_laws.proofs.ReadsAlong.{last_in}
 use Rattle.nr_laws.proofs.Memory.{after_parts, parts_out}
 use Rattle.nr_laws.proofs.ClientResponses.{Answered, response_of, responses_of, tagged_in}
+use Rattle.nr_laws.proofs.Basics.{first-is, rest-is}
 
 -- ---- Last segments
 
@@ -55,18 +56,12 @@ record Walked (cs : List Segment) (others : List Answered) (S : List Segment) : 
   is : S ≡ cs ++ responses_of (take n others)
   few : n ≤ length others
 
-head-is : (x y : Segment) (xs ys : List Segment) → x ∷ xs ≡ y ∷ ys → x ≡ y
-head-is x y xs ys e = cc
-
-rest-is : (x y : Segment) (xs ys : List Segment) → x ∷ xs ≡ y ∷ ys → xs ≡ ys
-rest-is x y xs ys e = ap (λ (zs : List Segment). drop 1 zs) e
-
 walk : (x : Segment) (S : List Segment) (c : Segment) (cs : List Segment) (others : List Answered) (rest : List Segment) → IsResponse (c ∷ cs) → (x ∷ S) ++ rest ≡ (c ∷ cs) ++ responses_of others → EndsLast (x ∷ S) → Walked (c ∷ cs) others (x ∷ S)
-walk x [] c [] others rest r e ends = record { n = 0; count = omega (arith, ends); is = (λ i. head-is x c rest (responses_of others) e i ∷ []); few = omega arith }
-walk x [] c (d ∷ cs) others rest r e ends = absurd (let a = ap last_in (head-is x c rest ((d ∷ cs) ++ responses_of others) e) in let z = r.0 in omega (arith, a, z, ends))
+walk x [] c [] others rest r e ends = record { n = 0; count = omega (arith, ends); is = (λ i. first-is x c rest (responses_of others) e i ∷ []); few = omega arith }
+walk x [] c (d ∷ cs) others rest r e ends = absurd (let a = ap last_in (first-is x c rest ((d ∷ cs) ++ responses_of others) e) in let z = r.0 in omega (arith, a, z, ends))
 walk x (y ∷ S) c (d ∷ cs) others rest r e ends =
     let w = walk y S d cs others rest r.1 (rest-is x c ((y ∷ S) ++ rest) ((d ∷ cs) ++ responses_of others) e) ends in
-    let same = head-is x c ((y ∷ S) ++ rest) ((d ∷ cs) ++ responses_of others) e in
+    let same = first-is x c ((y ∷ S) ++ rest) ((d ∷ cs) ++ responses_of others) e in
     record { n = w.n; count = (let a = ap last_in same in let z = r.0 in let k = w.count in omega (arith, a, z, k)); is = (λ i. same i ∷ w.is i); few = w.few }
 walk x (y ∷ S) c [] [] rest r e ends = absurd (let t = rest-is x c ((y ∷ S) ++ rest) [] e in cc)
 walk x (y ∷ S) c [] (a ∷ others) rest r e ends = by (response_of a) refl (is-response a) (λ d ds h f. walk y S d ds others rest h f ends)
@@ -75,7 +70,7 @@ walk x (y ∷ S) c [] (a ∷ others) rest r e ends = by (response_of a) refl (is
     e2 = rest-is x c ((y ∷ S) ++ rest) (response_of a ++ responses_of others) e
 
     same : x ≡ c
-    same = head-is x c ((y ∷ S) ++ rest) (response_of a ++ responses_of others) e
+    same = first-is x c ((y ∷ S) ++ rest) (response_of a ++ responses_of others) e
 
     by : (ds : List Segment) → response_of a ≡ ds → IsResponse ds → ((d : Segment) (ds : List Segment) → IsResponse (d ∷ ds) → (y ∷ S) ++ rest ≡ (d ∷ ds) ++ responses_of others → Walked (d ∷ ds) others (y ∷ S)) → Walked (c ∷ []) (a ∷ others) (x ∷ y ∷ S)
     by [] is h next = absurd h

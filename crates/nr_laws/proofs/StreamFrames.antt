@@ -8,7 +8,7 @@ use Rattle.nr_wire.specs.declared.stream.Awaited.{Awaited}
 use Rattle.nr_wire.specs.declared.stream.Awaited.TheVariants.{Hello as HelloFrom, Fpdu}
 use Rattle.nr_wire.specs.Segment.{Segment}
 use Rattle.nr_wire.specs.Stream.{Split, split, IsFrame, IsPartial}
-use Rattle.nr_wire.proofs.Frames.{partial_nil, partial_not_whole, fields_some}
+use Rattle.nr_wire.proofs.Frames.{partial_nil, partial_not_whole}
 use Rattle.nr_wire.proofs.Splits.{split-frame, split-partial}
 use Rattle.nr_link.specs.Output.{own_hello}
 use Rattle.nr_laws.proofs.Brought.{IsWord, encoding-is, hello-is}
@@ -71,9 +71,6 @@ proper-frame side (HelloFrom other) None is h = subst (λ (x : Side). IsFrame (H
 proper-frame side (HelloFrom other) (Some segment) is h = absurd h
 proper-frame side Fpdu None is h = absurd h
 proper-frame side Fpdu (Some segment) is h = (encoding-is segment h).is_frame
-
-frame-some : (a : Awaited) (frame : List ℕ) → IsFrame a frame → 0 < length frame
-frame-some a frame f = omega (arith, f.fields, fields_some a)
 
 -- ---- The first bytes of frames
 

@@ -23,12 +23,13 @@ use Rattle.nr_laws.specs.Typed.{IsTyped}
 use Rattle.nr_laws.specs.Payloads.{HasPlan}
 use Rattle.nr_laws.proofs.Along.{GoesOn, goes-first, places_after}
 use Rattle.nr_laws.proofs.Memory.{Settled}
-use Rattle.nr_laws.proofs.ClientSays.{ClientGood, accepted_in, accepted-append, stag_behind, start, asked}
+use Rattle.nr_laws.proofs.ClientSays.{ClientGood, accepted_in, accepted-append, asked}
 use Rattle.nr_laws.proofs.ClientRun.{SubmittedCall, client-goes, each-submitted}
 use Rattle.nr_laws.proofs.ClientMemory.{HasBuffers, AllBacked, backed-at, asked-found, keeps-along}
 use Rattle.nr_laws.proofs.Outcomes.{client_by}
 use Rattle.nr_laws.proofs.Ordered.{Order, order}
 use Rattle.nr_laws.proofs.Ordered.Order.{Behind, Here, Before}
+use Rattle.nr_reduce.proofs.Waiting.{start, stag_behind}
 
 -- ---- Calls that were accepted later
 

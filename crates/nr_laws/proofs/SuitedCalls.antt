@@ -1,48 +1,36 @@
 -- Each pending call of a server suits its read list, where its stream is in its message; and no read is left of a call whose read list
 -- has no bytes.
-use Rattle.std.proofs.Common.{◌≡◌, ℕ, zero, suc, ◌+◌, ◌-◌, ◌≤◌, Bool, true, false, cond, ◌&&◌, ◌||◌, not, eqb, ltb, List, [], ◌∷◌, ◌++◌, length, take, drop, Option, None, Some, Result, Ok, Err, refl, sym, ap, subst, ◌∙◌, arith, eq-eqb}
-use Rattle.std.specs.Prelude.{IfSome}
+use Rattle.std.proofs.Common.{◌≡◌, ℕ, zero, suc, ◌+◌, ◌≤◌, Bool, true, false, cond, not, eqb, List, [], ◌∷◌, ◌++◌, take, drop, Result, Ok, Err, refl, sym, ap, subst, ◌∙◌, arith, eq-eqb}
 use Rattle.std.specs.List.{filter}
 use Rattle.nr_wire.specs.Segment.{Segment}
-use Rattle.nr_wire.specs.Segment.Segment.{Tagged, Untagged}
-use Rattle.nr_header.specs.declared.fault.HeaderFault.{HeaderFault}
 use Rattle.nr_header.specs.declared.header.ReadSegment.{ReadSegment}
-use Rattle.nr_header.specs.declared.header.ChunkLists.{ChunkLists}
-use Rattle.nr_header.specs.declared.header.Body.{Body}
-use Rattle.nr_header.specs.declared.header.Body.TheVariants.{Msg, Nomsg, ErrVers, ErrChunk}
-use Rattle.nr_header.specs.declared.header.Header.{Header}
-use Rattle.nr_header.specs.Reading.{header_of}
-use Rattle.nr_xdr.specs.Fields.{word_at}
 use Rattle.nr_link.specs.Frames.{Frame, is_hello}
-use Rattle.nr_link.specs.ReceiveState.{received_after, message_completed}
 use Rattle.nr_link.specs.Ending.{frame_segment}
 use Rattle.nr_reduce.specs.declared.mark.LinkParameters.{LinkParameters}
-use Rattle.nr_reduce.specs.Chunks.{is_read_chunk_of_item, total_at}
+use Rattle.nr_reduce.specs.Chunks.{total_at}
 use Rattle.nr_reduce.specs.OfferedRegions.{Region}
 use Rattle.nr_reduce.specs.Events.{Event}
 use Rattle.nr_reduce.specs.Events.Event.{FrameReceived, CallSubmitted, MemoryRevoked, CallExecuted, QueueWritten}
-use Rattle.nr_reduce.specs.ServerState.{ServerState, PendingCall, PendingRead, next_stag, is_pending}
-use Rattle.nr_reduce.specs.ServerReads.{open_reads, is_read, read_of, reads_of, reads_from, regions_of, chunks_of}
-use Rattle.nr_reduce.specs.ServerMessages.{Verdict, CallVerdict, verdict, by_need, by_stream, by_body, by_header, by_payload, payload_of, chunk_bytes, has_position, no_stream}
-use Rattle.nr_reduce.specs.ServerMessages.Verdict.{EndsLink, OtherVersion, BadChunks, MakesPending}
-use Rattle.nr_reduce.specs.ServerMessages.CallVerdict.{Refuses, IsReady}
-use Rattle.nr_reduce.specs.ServerFrames.{FrameEffect, no_effect, with_verdict, ready_if_whole, message_effect, with_refused_call, is_stream_read, read_effect, call_of_number, response_effect, by_message, with_access, effect_by, effect_in, frame_effect}
-use Rattle.nr_reduce.specs.Server.{server_rules, server_state_after, initial_server, with_effect}
+use Rattle.nr_reduce.specs.ServerState.{ServerState, PendingCall, PendingRead}
+use Rattle.nr_reduce.specs.ServerReads.{read_of, reads_of, reads_from, regions_of}
+use Rattle.nr_reduce.specs.ServerMessages.{Verdict, verdict}
+use Rattle.nr_reduce.specs.ServerMessages.Verdict.{MakesPending}
+use Rattle.nr_reduce.specs.ServerFrames.{FrameEffect, with_refused_call, frame_effect}
+use Rattle.nr_reduce.specs.Server.{server_rules, server_state_after, initial_server, with_effect, received_by}
 use Rattle.nr_reduce.specs.RunLaws.{server_by}
 use Rattle.nr_reduce.proofs.Conveyed.{Each}
-use Rattle.nr_reduce.proofs.Once.{NumberIs, verdict-number, whole-with}
+use Rattle.nr_reduce.proofs.Once.{NumberIs, verdict-number, whole-with, rises-with}
 use Rattle.nr_reduce.proofs.OwnStags.{kept-after}
 use Rattle.nr_laws.specs.LinkInvariants.{IsUnused, AreAtMost}
-use Rattle.nr_laws.proofs.Keys.{AreOf, of-absent, of-append, below-more, below-append, below-absent, below-kept, below-taken, below-dropped}
-use Rattle.nr_laws.proofs.ReadsAlong.{sends-grow}
+use Rattle.nr_laws.proofs.Keys.{AreOf, of-absent, below-more, below-append, below-absent, below-kept, below-taken, below-dropped}
+use Rattle.nr_laws.proofs.PendingSends.{readings-from-of}
+use Rattle.nr_laws.proofs.EachEffect.{each-effect, held-messages, held-responses}
+use Rattle.nr_laws.proofs.MadePending.{Suits, made-pending}
 
 -- no entry of a read list has bytes
 abbrev pub HasNoBytes : List ReadSegment → Type 0
 HasNoBytes [] = Unit {0}
 HasNoBytes (r ∷ read) = (r.length ≡ 0) × HasNoBytes read
-
-abbrev pub Suits : PendingCall → Type 0
-Suits c = IfSome c.inline (λ stream. is_read_chunk_of_item stream c.lists.read ≡ true)
 
 pub record IsSuited (sends : ℕ) (reads : List PendingRead) (c : PendingCall) : Type 0 where
   pub below : c.number ≤ sends
@@ -76,16 +64,6 @@ unused-kept n p (x ∷ xs) h = by (p x) (unused-kept n p xs h.1)
     by : (b : Bool) → IsUnused (λ (r : PendingRead). r.number) n (filter p xs) → IsUnused (λ (r : PendingRead). r.number) n (cond b (x ∷ filter p xs) (filter p xs))
     by true rest = (h.0, rest)
     by false rest = rest
-
--- the reads of a call have its number, and are none where its read list has no bytes
-reads-number : (regions : List Region) (number : ℕ) (before read : List ReadSegment) → AreOf (λ (r : PendingRead). r.number) number (reads_from regions number before read)
-reads-number regions number before [] = tt
-reads-number regions number before (r ∷ read) =
-    of-append (λ (x : PendingRead). x.number) number _ _ (by (eqb r.length 0)) (reads-number regions number (before ++ r ∷ []) read)
-  where
-    by : (b : Bool) → AreOf (λ (x : PendingRead). x.number) number (cond b [] (read_of regions number (total_at r.position before) r ∷ []))
-    by true = tt
-    by false = (refl, tt)
 
 reads-nothing : (regions : List Region) (number : ℕ) (before read : List ReadSegment) → HasNoBytes read → reads_from regions number before read ≡ []
 reads-nothing regions number before [] h = refl
@@ -128,139 +106,76 @@ suited-sends n m calls reads le h = record {
 
 -- ---- The call that a message makes pending
 
-call-same : (d c : PendingCall) → MakesPending d ≡ MakesPending c → d ≡ c
-call-same d c e = cc
-
-need-suits : (k : ServerState) (d c : PendingCall) → Suits d → by_need k d ≡ MakesPending c → Suits c
-need-suits k d c s e = by (ltb 4294967296 (next_stag k + length (chunks_of d.lists))) e
-  where
-    by : (b : Bool) → cond b (EndsLink 30) (MakesPending d) ≡ MakesPending c → Suits c
-    by true e = absurd cc
-    by false e = subst Suits (call-same d c e) s
-
-stream-suits : (k : ServerState) (lists : ChunkLists) (xid : ℕ) (stream : Option (List ℕ)) (c : PendingCall) → by_stream k lists xid stream ≡ MakesPending c → Suits c
-stream-suits k lists xid None c e = need-suits k (record { number = k.received.sends + 1; xid = xid; lists = lists; inline = None }) c tt e
-stream-suits k lists xid (Some stream) c e = by (is_read_chunk_of_item stream lists.read) refl e
-  where
-    by : (b : Bool) → is_read_chunk_of_item stream lists.read ≡ b → cond b (by_need k (record { number = k.received.sends + 1; xid = xid; lists = lists; inline = Some stream })) BadChunks ≡ MakesPending c → Suits c
-    by true is e = need-suits k (record { number = k.received.sends + 1; xid = xid; lists = lists; inline = Some stream }) c is e
-    by false is e = absurd cc
-
-body-suits : (k : ServerState) (xid : ℕ) (message : List ℕ) (body : Body) (c : PendingCall) → by_body k xid message body ≡ MakesPending c → Suits c
-body-suits k xid message (Msg lists at) c e = stream-suits k lists xid (Some (drop at message)) c e
-body-suits k xid message (Nomsg lists) c e = by (has_position lists.read) e
-  where
-    by : (b : Bool) → cond b (by_stream k lists xid (no_stream lists.read)) BadChunks ≡ MakesPending c → Suits c
-    by true e = stream-suits k lists xid (no_stream lists.read) c e
-    by false e = absurd cc
-body-suits k xid message (ErrVers version low high) c e = absurd cc
-body-suits k xid message (ErrChunk version) c e = absurd cc
-
-header-suits : (k : ServerState) (message : List ℕ) (r : Result Header HeaderFault) (c : PendingCall) → by_header k message r ≡ MakesPending c → Suits c
-header-suits k message (Ok h) c e = body-suits k h.xid message h.body c e
-header-suits k message (Err fault) c e = absurd cc
-
 pub verdict-suits : (k : ServerState) (message : List ℕ) (c : PendingCall) → verdict k message ≡ MakesPending c → Suits c
-unfolding verdict
-verdict-suits k message c e = by (not (eqb (word_at 4 message) 1)) (eqb (word_at 12 message) 3 || eqb (word_at 12 message) 4) (is_pending k (word_at 0 message)) e
-  where
-    by : (other kind open_call : Bool) → cond other OtherVersion (cond kind (EndsLink 17) (cond open_call (EndsLink 20) (by_header k message (header_of message)))) ≡ MakesPending c → Suits c
-    by true kind open_call e = absurd cc
-    by false true open_call e = absurd cc
-    by false false true e = absurd cc
-    by false false false e = header-suits k message (header_of message) c e
+verdict-suits k message c e = (made-pending k message c e).suits
 
 -- ---- What a frame leaves
 
-suited-if : (n : ℕ) (b : Bool) (s t : FrameEffect) → AreSuited n s.calls s.reads → AreSuited n t.calls t.reads → AreSuited n (cond b s t).calls (cond b s t).reads
-suited-if n true s t h g = h
-suited-if n false s t h g = g
-
-suited-verdict : (n : ℕ) (v : CallVerdict) (s : FrameEffect) → AreSuited n s.calls s.reads → AreSuited n (with_verdict v s).calls (with_verdict v s).reads
-suited-verdict n (Refuses reason) s h = h
-suited-verdict n (IsReady r) s h = h
-
-suited-whole : (n : ℕ) (k : ServerState) (place : ℕ) (c : PendingCall) (s : FrameEffect) → AreSuited n s.calls s.reads → AreSuited n (ready_if_whole k place c s).calls (ready_if_whole k place c s).reads
-suited-whole n k place c s h = suited-if n (is_read s.reads c.number) (with_verdict (by_payload c (payload_of k place c)) s) s (suited-verdict n (by_payload c (payload_of k place c)) s h) h
-
-suited-message : (n : ℕ) (k : ServerState) (place : ℕ) (message : List ℕ) (v : Verdict) → verdict k message ≡ v → n ≡ k.received.sends + 1 → AreSuited k.received.sends k.calls k.reads
-    → AreSuited n (message_effect k place message v).calls (message_effect k place message v).reads
-suited-message n k place message (EndsLink reason) is next h = suited-sends k.received.sends n k.calls k.reads (omega (arith, next)) h
-suited-message n k place message OtherVersion is next h = suited-sends k.received.sends n k.calls k.reads (omega (arith, next)) h
-suited-message n k place message BadChunks is next h = suited-sends k.received.sends n k.calls k.reads (omega (arith, next)) h
-suited-message n k place message (MakesPending c) is next h =
-    let regions : List Region = k.regions ++ regions_of k place c in
-    let number : c.number ≡ k.received.sends + 1 = subst (λ (v : Verdict). NumberIs (k.received.sends + 1) v) is (verdict-number k message) in
-    let news : List PendingRead = reads_of regions c in
-    let own = reads-number regions c.number [] c.lists.read in
-    suited-whole n k place c (record (no_effect k) { calls = k.calls ++ c ∷ []; reads = k.reads ++ reads_of (k.regions ++ regions_of k place c) c; regions = k.regions ++ regions_of k place c }) (record {
-      calls_suit = suited-both n (k.reads ++ news) k.calls (c ∷ [])
-          (suited-more k.received.sends n k.reads (k.reads ++ news) k.calls (omega (arith, next))
-          (λ old below unused. unused-append old k.reads news unused (of-absent (λ (r : PendingRead). r.number) c.number old news (λ e. omega (arith, e, below, number)) own)) h.calls_suit) (
-            record {
-              below = omega (arith, number, next);
-              suits = verdict-suits k message c is;
-              unread = λ none.
-                  unused-append c.number k.reads news (below-absent (λ (r : PendingRead). r.number) k.received.sends c.number k.reads (omega (arith, number)) h.reads_below)
-                  (subst (λ (rs : List PendingRead). IsUnused (λ (r : PendingRead). r.number) c.number rs) (sym (reads-nothing regions c.number [] c.lists.read none)) tt);
-            },
-            tt,
-          );
-      reads_below = below-append (λ (r : PendingRead). r.number) n k.reads news (below-more (λ (r : PendingRead). r.number) k.received.sends n k.reads (omega (arith, next)) h.reads_below)
-          (of-most c.number n news (omega (arith, number, next)) own);
-    })
-
-suited-by-message : (n : ℕ) (k : ServerState) (place : ℕ) (o : Option (List ℕ)) → ((message : List ℕ) → o ≡ Some message → n ≡ k.received.sends + 1) → k.received.sends ≤ n → AreSuited k.received.sends k.calls k.reads
-    → AreSuited n (by_message k place o).calls (by_message k place o).reads
-suited-by-message n k place None next le h = suited-sends k.received.sends n k.calls k.reads le h
-suited-by-message n k place (Some message) next le h = suited-message n k place message (verdict k message) refl (next message refl) h
-
-suited-read : (n : ℕ) (k : ServerState) (place : ℕ) (r : PendingRead) (o : Option PendingCall) (s : FrameEffect) → AreSuited n s.calls s.reads → AreSuited n (read_effect k place r o s).calls (read_effect k place r o s).reads
-suited-read n k place r None s h = h
-suited-read n k place r (Some c) s h =
-    suited-if n (is_stream_read c r s.reads && not (is_read_chunk_of_item (chunk_bytes k place c 0) c.lists.read)) (with_refused_call k c s) (ready_if_whole k place c s) (record {
-      calls_suit = suited-kept n left (λ other. not (eqb other.number c.number)) s.calls
-          (suited-more n n s.reads left s.calls (omega arith)
-          (λ number below unused. unused-append number (take s.kept s.reads) (filter (λ x. not (eqb x.number c.number)) (drop s.kept s.reads)) (unused-taken number s.kept s.reads unused)
-          (unused-kept number (λ x. not (eqb x.number c.number)) (drop s.kept s.reads) (unused-dropped number s.kept s.reads unused))) h.calls_suit);
-      reads_below = below-append (λ (x : PendingRead). x.number) n (take s.kept s.reads) (filter (λ x. not (eqb x.number c.number)) (drop s.kept s.reads)) (below-taken (λ (x : PendingRead). x.number) n s.kept s.reads h.reads_below)
-          (below-kept (λ (x : PendingRead). x.number) n (λ x. not (eqb x.number c.number)) (drop s.kept s.reads) (below-dropped (λ (x : PendingRead). x.number) n s.kept s.reads h.reads_below));
-    }) (suited-whole n k place c s h)
+suited-effect : (k : ServerState) (f : Frame) → AreSuited k.received.sends k.calls k.reads → AreSuited (received_by k.received (frame_segment f)).sends (frame_effect k f).calls (frame_effect k f).reads
+suited-effect k f h =
+    each-effect k (λ m. n ≡ k.received.sends + 1) (λ s. AreSuited n s.calls s.reads) (held-messages k (λ m. n ≡ k.received.sends + 1) (λ calls reads regions. AreSuited n calls reads) same pending)
+    (held-responses k (λ calls reads regions. AreSuited n calls reads) same refused read) f (λ s m is whole. ap (λ (r : Result Segment ℕ). (received_by k.received r).sends) is ∙ whole-with k.received s m whole)
   where
-    left : List PendingRead
-    left = take s.kept s.reads ++ filter (λ x. not (eqb x.number c.number)) (drop s.kept s.reads)
+    n : ℕ
+    n = (received_by k.received (frame_segment f)).sends
 
-suited-response : (n : ℕ) (k : ServerState) (place : ℕ) (reads : List PendingRead) → k.reads ≡ reads → AreSuited n k.calls k.reads → AreSuited n (response_effect k place reads).calls (response_effect k place reads).reads
-suited-response n k place [] is h = h
-suited-response n k place (r ∷ reads) is h =
-    let all : AreSuited n k.calls (r ∷ reads) = subst (λ (rs : List PendingRead). AreSuited n k.calls rs) is h in
-    suited-read n k place r (call_of_number k r.number) (record (no_effect k) { reads = reads; kept = length (open_reads k) - 1 }) (record {
-      calls_suit = suited-more n n (r ∷ reads) reads k.calls (omega arith) (λ number below unused. unused.1) all.calls_suit;
-      reads_below = all.reads_below.1;
-    })
+    grow : (r : Result Segment ℕ) → k.received.sends ≤ (received_by k.received r).sends
+    grow (Err reason) = omega arith
+    grow (Ok s) = rises-with k.received s
 
-suited-by : (k : ServerState) (f : Frame) (s : Segment) → AreSuited k.received.sends k.calls k.reads → AreSuited (received_after k.received s).sends (effect_by k f s).calls (effect_by k f s).reads
-suited-by k f (Tagged last opcode stag to payload) h =
-    let t : ServerState = with_access k f (Tagged last opcode stag to payload) in
-    suited-if k.received.sends (eqb opcode 2 && last) (response_effect t f.end t.reads) (no_effect t) (suited-response k.received.sends t f.end t.reads refl h) h
-suited-by k f (Untagged last opcode w queue msn offset payload) h =
-    let s : Segment = Untagged last opcode w queue msn offset payload in
-    suited-by-message (received_after k.received s).sends k f.end (message_completed k.received s) (λ message is. whole-with k.received s message is) (sends-grow k.received s) h
+    same : AreSuited n k.calls k.reads
+    same = suited-sends k.received.sends n k.calls k.reads (grow (frame_segment f)) h
 
-suited-in : (k : ServerState) (f : Frame) (r : Result Segment ℕ) → AreSuited k.received.sends k.calls k.reads → AreSuited (Rattle.nr_reduce.specs.Server.received_by k.received r).sends (effect_in k f r).calls (effect_in k f r).reads
-suited-in k f (Err reason) h = h
-suited-in k f (Ok s) h = suited-by k f s h
+    pending : (place : ℕ) (message : List ℕ) (c : PendingCall) → n ≡ k.received.sends + 1 → verdict k message ≡ MakesPending c → AreSuited n (k.calls ++ c ∷ []) (k.reads ++ reads_of (k.regions ++ regions_of k place c) c)
+    pending place message c next is =
+        let regions : List Region = k.regions ++ regions_of k place c in
+        let number : c.number ≡ k.received.sends + 1 = subst (λ (v : Verdict). NumberIs (k.received.sends + 1) v) is (verdict-number k message) in
+        let news : List PendingRead = reads_of regions c in
+        let own = readings-from-of regions c.number [] c.lists.read in
+        record {
+          calls_suit = suited-both n (k.reads ++ news) k.calls (c ∷ [])
+              (suited-more k.received.sends n k.reads (k.reads ++ news) k.calls (omega (arith, next))
+              (λ old below unused. unused-append old k.reads news unused (of-absent (λ (r : PendingRead). r.number) c.number old news (λ e. omega (arith, e, below, number)) own)) h.calls_suit) (
+                record {
+                  below = omega (arith, number, next);
+                  suits = verdict-suits k message c is;
+                  unread = λ none.
+                      unused-append c.number k.reads news (below-absent (λ (r : PendingRead). r.number) k.received.sends c.number k.reads (omega (arith, number)) h.reads_below)
+                      (subst (λ (rs : List PendingRead). IsUnused (λ (r : PendingRead). r.number) c.number rs) (sym (reads-nothing regions c.number [] c.lists.read none)) tt);
+                },
+                tt,
+              );
+          reads_below = below-append (λ (r : PendingRead). r.number) n k.reads news (below-more (λ (r : PendingRead). r.number) k.received.sends n k.reads (omega (arith, next)) h.reads_below)
+              (of-most c.number n news (omega (arith, number, next)) own);
+        }
+
+    refused : (c : PendingCall) (s : FrameEffect) → AreSuited n s.calls s.reads → AreSuited n (with_refused_call k c s).calls (with_refused_call k c s).reads
+    refused c s h =
+        let left : List PendingRead = take s.kept s.reads ++ filter (λ x. not (eqb x.number c.number)) (drop s.kept s.reads) in
+        record {
+          calls_suit = suited-kept n left (λ other. not (eqb other.number c.number)) s.calls
+              (suited-more n n s.reads left s.calls (omega arith)
+              (λ number below unused. unused-append number (take s.kept s.reads) (filter (λ x. not (eqb x.number c.number)) (drop s.kept s.reads)) (unused-taken number s.kept s.reads unused)
+              (unused-kept number (λ x. not (eqb x.number c.number)) (drop s.kept s.reads) (unused-dropped number s.kept s.reads unused))) h.calls_suit);
+          reads_below = below-append (λ (x : PendingRead). x.number) n (take s.kept s.reads) (filter (λ x. not (eqb x.number c.number)) (drop s.kept s.reads)) (below-taken (λ (x : PendingRead). x.number) n s.kept s.reads h.reads_below)
+              (below-kept (λ (x : PendingRead). x.number) n (λ x. not (eqb x.number c.number)) (drop s.kept s.reads) (below-dropped (λ (x : PendingRead). x.number) n s.kept s.reads h.reads_below));
+        }
+
+    read : (r : PendingRead) (reads : List PendingRead) → k.reads ≡ r ∷ reads → AreSuited n k.calls reads
+    read r reads is =
+        let all : AreSuited n k.calls (r ∷ reads) = subst (λ (rs : List PendingRead). AreSuited n k.calls rs) is same in
+        record { calls_suit = suited-more n n (r ∷ reads) reads k.calls (omega arith) (λ number below unused. unused.1) all.calls_suit; reads_below = all.reads_below.1 }
 
 abbrev StateSuits : ServerState → Type 0
 StateSuits k = AreSuited k.received.sends k.calls k.reads
 
 suited-after : (opened : LinkParameters) (k : ServerState) (event : Event) → StateSuits k → StateSuits (server_state_after opened k event)
-unfolding server_state_after frame_effect
+unfolding server_state_after
 suited-after opened k (FrameReceived f) h = by (is_hello f)
   where
-    by : (b : Bool) → StateSuits (cond b k (with_effect k f (effect_in k f (frame_segment f))))
+    by : (b : Bool) → StateSuits (cond b k (with_effect k f (frame_effect k f)))
     by true = h
-    by false = suited-in k f (frame_segment f) h
+    by false = suited-effect k f h
 suited-after opened k (CallSubmitted place a) h = h
 suited-after opened k (MemoryRevoked place xid) h = h
 suited-after opened k (CallExecuted e) h = record { calls_suit = suited-kept k.received.sends k.reads (λ c. not (eqb c.xid e.xid)) k.calls h.calls_suit; reads_below = h.reads_below }

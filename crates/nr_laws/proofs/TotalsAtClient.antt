@@ -1,5 +1,5 @@
 -- Totals agree behind each event of the client.
-use Rattle.std.proofs.Common.{◌≡◌, ℕ, zero, suc, ◌+◌, ◌-◌, ◌*◌, Bool, true, false, cond, ◌&&◌, eqb, ltb, List, [], ◌∷◌, ◌++◌, length, map, take, drop, Option, None, Some, Result, Ok, Err, refl, sym, ap, subst, ◌∙◌, arith, eq-eqb, ne_eqb, length-append}
+use Rattle.std.proofs.Common.{◌≡◌, ℕ, zero, suc, ◌+◌, ◌-◌, ◌*◌, Bool, true, false, cond, ◌&&◌, eqb, List, [], ◌∷◌, ◌++◌, length, map, take, drop, Option, None, Some, Result, Ok, Err, refl, sym, ap, subst, ◌∙◌, arith, eq-eqb, ne_eqb, length-append}
 use Rattle.std.specs.List.{list_any, range_with_len}
 use Rattle.std.proofs.lemmas.List.{length-map}
 use Rattle.nr_wire.specs.Constants.{OPCODE_READ_REQUEST, OPCODE_READ_RESPONSE, OPCODE_SEND, QUEUE_SEND, QUEUE_READ_REQUEST}
@@ -10,11 +10,9 @@ use Rattle.nr_wire.specs.Hello.{hello_of}
 use Rattle.nr_wire.specs.Segment.Segment.{Tagged, Untagged}
 use Rattle.nr_header.specs.declared.fault.HeaderFault.{HeaderFault}
 use Rattle.nr_header.specs.declared.fault.HeaderFault.TheVariants as faults
-use Rattle.nr_header.specs.declared.header.Body.{Body}
 use Rattle.nr_header.specs.declared.header.Header.{Header}
-use Rattle.nr_header.specs.Reading.{header_of, header_by}
+use Rattle.nr_header.specs.Reading.{header_of}
 use Rattle.nr_xdr.specs.Fields.{word_at}
-use Rattle.nr_link.specs.declared.end.End.{End}
 use Rattle.nr_reduce.specs.declared.mark.LinkParameters.{LinkParameters}
 use Rattle.nr_reduce.specs.History.{AcceptedCall}
 use Rattle.nr_link.specs.Limits.{segment_max}
@@ -33,20 +31,10 @@ use Rattle.nr_laws.specs.FrameContents.FrameContent.{HelloFrame, SendFrame, Requ
 use Rattle.nr_laws.specs.LinkInvariants.{Transit, TotalsAgree, AreDistinct, calls_sent, hello_bit}
 use Rattle.nr_laws.proofs.Totals.{total-append, total-map-zero, total-map-one, length-fewer, any_found, any_first}
 use Rattle.nr_laws.proofs.TotalsAtServer.{segment-is}
+use Rattle.nr_laws.proofs.HeaderXid.{header-xid}
+use Rattle.nr_reduce.proofs.Waiting.{or-message}
 
 -- ---- A message that the client takes is under the xid of a call that is out
-
-headed-xid : (xid credit : ℕ) (r : Result Body HeaderFault) (h : Header) → header_by xid credit r ≡ Ok h → h.xid ≡ xid
-headed-xid xid credit (Ok body) h e = cc
-headed-xid xid credit (Err fault) h e = absurd cc
-
-header-xid-by : (short : Bool) (xid credit : ℕ) (r : Result Body HeaderFault) (h : Header) → cond short (Err faults.Short) (header_by xid credit r) ≡ Ok h → h.xid ≡ xid
-header-xid-by true xid credit r h e = absurd cc
-header-xid-by false xid credit r h e = headed-xid xid credit r h e
-
-pub header-xid : (bytes : List ℕ) (h : Header) → header_of bytes ≡ Ok h → h.xid ≡ word_at 0 bytes
-unfolding header_of
-header-xid bytes h e = header-xid-by (ltb (length bytes) 16) (word_at 0 bytes) (word_at 8 bytes) _ h e
 
 abbrev has_xid : ℕ → OutstandingCall → Bool
 has_xid xid o = eqb o.xid xid
@@ -68,15 +56,10 @@ pub out-there : (k : ClientState) (f : Frame) (message : List ℕ) → end_of_ve
 unfolding verdict
 out-there k f message e = out-header k f message (header_of message) refl e
 
--- a client that a message doesn't end takes it
-or-none : (k : ClientState) (f : Frame) (first : Option End) → or_message_end k f first ≡ None → message_end k f (segment_message k (frame_segment f)) ≡ None
-or-none k f None e = e
-or-none k f (Some end) e = absurd cc
-
 pub taken : (k : ClientState) (f : Frame) → is_hello f ≡ false → client_end k (FrameReceived f) ≡ None → message_end k f (segment_message k (frame_segment f)) ≡ None
 unfolding client_end
 taken k f behind e =
-    or-none k f (frame_end (readiness k) (region_grants f.end k.regions) f)
+    or-message k f (frame_end (readiness k) (region_grants f.end k.regions) f)
     ((λ i. cond (sym behind i) (hello_end (hello_of Responder f.bytes)) (or_message_end k f (frame_end (readiness k) (region_grants f.end k.regions) f))) ∙ e)
 
 -- ---- The client receives a message
@@ -195,7 +178,7 @@ totals-tagged_down opened k s w f last opcode stag to payload rest c first p =
 
 -- ---- The client receives the server's hello: the calls that it accepted are sent
 
-bit_of : (b : Bool) → hello_bit b ≡ 0 → b ≡ false
+pub bit_of : (b : Bool) → hello_bit b ≡ 0 → b ≡ false
 bit_of true e = absurd cc
 bit_of false e = refl
 

@@ -1,6 +1,6 @@
 -- The segments that a side writes have numbers in range: so each is read as it was written.
-use Rattle.std.proofs.Common.{◌≡◌, ℕ, zero, suc, ◌+◌, ◌-◌, ◌*◌, ◌^◌, ◌≤◌, ◌<◌, min, Bool, true, false, cond, eqb, List, [], ◌∷◌, ◌++◌, length, take, drop, map, Option, None, Some, Ok, refl, sym, ap, subst, arith, length-append}
-use Rattle.std.proofs.lemmas.List.{length-take}
+use Rattle.std.proofs.Common.{◌≡◌, ℕ, zero, suc, ◌+◌, ◌-◌, ◌*◌, ◌^◌, ◌≤◌, ◌<◌, min, Bool, true, false, cond, eqb, List, [], ◌∷◌, ◌++◌, length, take, drop, map, Option, None, Some, Ok, refl, sym, subst, arith, length-append}
+use Rattle.std.proofs.lemmas.List.{length-take, map-append}
 use Rattle.std.specs.List.{range_with_len}
 use Rattle.nr_xdr.specs.Item.{IsBytes, word, hyper}
 use Rattle.nr_xdr.specs.Fields.{word_at}
@@ -19,6 +19,7 @@ use Rattle.nr_reduce.specs.Undone.{one_write, write_segments, chunk_segments}
 use Rattle.nr_laws.proofs.Outputs.{Output, IsShort, send_segment, request_segment, terminate_segment, one_response, response_segments}
 use Rattle.nr_laws.proofs.Outputs.Output.{AHello, ASegment}
 use Rattle.nr_laws.proofs.Brought.{IsWord, AreFrom}
+use Rattle.nr_laws.proofs.WritableOffers.{SegmentsFit}
 
 -- ---- One segment
 
@@ -80,27 +81,18 @@ from-append [] ys h g = g
 from-append (AHello bytes ∷ xs) ys h g = absurd h
 from-append (ASegment s ∷ xs) ys h g = (h.0, from-append xs ys h.1 g)
 
-map-append : (xs ys : List Segment) → map ASegment (xs ++ ys) ≡ map ASegment xs ++ map ASegment ys
-map-append [] ys = refl
-map-append (x ∷ xs) ys = ap (λ (os : List Output). ASegment x ∷ os) (map-append xs ys)
-
--- the segments of a chunk, with STags that fit and ranges that end
-abbrev pub SegmentsFit : List RdmaSegment → Type 0
-SegmentsFit [] = Unit {0}
-SegmentsFit (s ∷ chunk) = (s.handle < 2 ^ 32) × RangeEnds s.offset s.length × SegmentsFit chunk
-
 pub chunk-words : (chunk : List RdmaSegment) (bytes : List ℕ) → SegmentsFit chunk → AreFrom Fpdu (map ASegment (chunk_segments chunk bytes))
 chunk-words [] bytes h = tt
 chunk-words (s ∷ chunk) bytes h =
-    subst (λ (os : List Output). AreFrom Fpdu os) (sym (map-append (first (eqb (min s.length (length bytes)) 0)) (chunk_segments chunk (drop s.length bytes))))
-    (from-append (map ASegment (first (eqb (min s.length (length bytes)) 0))) (map ASegment (chunk_segments chunk (drop s.length bytes))) (by (eqb (min s.length (length bytes)) 0)) (chunk-words chunk (drop s.length bytes) h.2))
+    subst (λ (os : List Output). AreFrom Fpdu os) (sym (map-append ASegment (first (eqb (min s.length (length bytes)) 0)) (chunk_segments chunk (drop s.length bytes))))
+    (from-append (map ASegment (first (eqb (min s.length (length bytes)) 0))) (map ASegment (chunk_segments chunk (drop s.length bytes))) (by (eqb (min s.length (length bytes)) 0)) (chunk-words chunk (drop s.length bytes) h.1))
   where
     first : Bool → List Segment
     first b = cond b [] (write_segments s.handle s.offset (take s.length bytes))
 
     by : (b : Bool) → AreFrom Fpdu (map ASegment (first b))
     by true = tt
-    by false = writes-words s.handle s.offset s.length (take s.length bytes) h.0 (let l = length-take s.length bytes in omega (arith, l)) h.1
+    by false = writes-words s.handle s.offset s.length (take s.length bytes) h.0.0 (let l = length-take s.length bytes in omega (arith, l)) (h.0.1, h.0.2)
 
 -- ---- What is read are words
 

@@ -33,7 +33,7 @@ IsOutput (TaggedFrame last opcode stag to payload ∷ ps) = ⊥
 word_below : (n : ℕ) → msn_word n < 2 ^ 32
 word_below n = omega arith
 
-len_request : (sink at size stag to : ℕ) → length (word sink ++ (hyper at ++ (word size ++ (word stag ++ hyper to)))) ≡ 28
+pub len_request : (sink at size stag to : ℕ) → length (word sink ++ (hyper at ++ (word size ++ (word stag ++ hyper to)))) ≡ 28
 len_request sink at size stag to =
     omega (
       arith,

@@ -9,16 +9,15 @@ use Rattle.nr_reduce.specs.declared.mark.Mark.TheVariants as marks
 use Rattle.nr_reduce.specs.declared.mark.LinkParameters.{LinkParameters}
 use Rattle.nr_reduce.specs.declared.outline.Plan.{Plan}
 use Rattle.nr_reduce.specs.ClientState.{call_payload}
-use Rattle.nr_reduce.specs.Opening.{IsOpened}
 use Rattle.nr_laws.specs.MarkAt.{MarkAt}
 use Rattle.nr_laws.specs.Payloads.{HasPlan, form_conveyed}
 use Rattle.nr_laws.specs.MatchedSoFar.{MatchedSoFar}
 use Rattle.nr_laws.specs.Typed.{IsTyped}
 
--- On a matched link a call whose reply is handed over was accepted, and goes out by a plan.
+-- On a matched link a call whose reply is handed over was accepted before that, and goes out by a plan.
 abbrev pub RepliesHavePlans : Type 0
 RepliesHavePlans = (opened : LinkParameters) (link : ℕ) (run before : List Mark) (xid : ℕ) (reply : List ℕ) →
-    IsTyped run → MatchedSoFar opened link run → MarkAt run before (marks.Done link xid (outcomes.Reply reply)) → (plan : Plan) × HasPlan opened link run xid plan
+    IsTyped run → MatchedSoFar opened link run → MarkAt run before (marks.Done link xid (outcomes.Reply reply)) → (plan : Plan) × HasPlan opened link before xid plan
 
 -- The call was executed under this xid on the link, with what its form conveys of its own payload, and just these bytes are its reply.
 pub record HasReply (link : ℕ) (run : List Mark) (xid : ℕ) (call : Call) (form : Form) (reply : List ℕ) : Type 0 where
@@ -33,5 +32,5 @@ pub record HasReply (link : ℕ) (run : List Mark) (xid : ℕ) (call : Call) (fo
 -- for byte: with its own payload, and for an offer that is given with what that offer conveys of it.
 abbrev pub ExecutedRepliesAreHandedOver : Type 0
 ExecutedRepliesAreHandedOver = (opened : LinkParameters) (link : ℕ) (run before : List Mark) (xid : ℕ) (plan : Plan) (reply : List ℕ) →
-    IsOpened opened → IsTyped run → MatchedSoFar opened link run → (has : HasPlan opened link run xid plan) →
+    IsTyped run → MatchedSoFar opened link run → (has : HasPlan opened link run xid plan) →
     MarkAt run before (marks.Done link xid (outcomes.Reply reply)) → HasReply link before xid has.call has.form reply

@@ -18,9 +18,10 @@ use Rattle.nr_laws.specs.Typed.{IsTyped}
 -- On matched links, which may be one, a call is submitted after the outcome of another was handed over. Where both are executed, at
 -- whatever time, its place isn't smaller.
 abbrev pub PlacesFollow : Type 0
-PlacesFollow = (adds : Moment → List ℕ → List ℕ → List Entry) (J : List Entry) (one two : LinkParameters) (link other : ℕ) (run before between first second : List Mark)
-    (call : Call) (form : Form) (xid yid : ℕ) (outcome : Outcome) (moment now : Moment) (payload asked : List ℕ) (place later : ℕ) (reply answer : List ℕ) →
-    IsTyped run → MatchedSoFar one link run → MatchedSoFar two other run → Journaled (any_that_adds adds) J run →
-    MarkAt run (before ++ marks.Done link xid outcome ∷ between) (marks.Submit other call form (submissions.Accepted yid)) →
-    MarkAt run first (marks.Execute link xid moment payload place reply) →
-    MarkAt run second (marks.Execute other yid now asked later answer) → place ≤ later
+PlacesFollow = (adds : Moment → List ℕ → List ℕ → List Entry) (J : List Entry) (opened other_opened : LinkParameters) (link other_link : ℕ)
+    (run before between before_first before_second : List Mark) (call : Call) (form : Form) (xid other_xid : ℕ) (outcome : Outcome)
+    (moment other_moment : Moment) (payload other_payload : List ℕ) (place other_place : ℕ) (reply other_reply : List ℕ) →
+    IsTyped run → MatchedSoFar opened link run → MatchedSoFar other_opened other_link run → Journaled (any_that_adds adds) J run →
+    MarkAt run (before ++ marks.Done link xid outcome ∷ between) (marks.Submit other_link call form (submissions.Accepted other_xid)) →
+    MarkAt run before_first (marks.Execute link xid moment payload place reply) →
+    MarkAt run before_second (marks.Execute other_link other_xid other_moment other_payload other_place other_reply) → place ≤ other_place

@@ -1,6 +1,5 @@
 -- Neither side of a matched link ends, where no memory is taken back and each payload that is conveyed is that of a call.
 use Rattle.std.specs.Prelude.{◌≡◌, ◌≢◌, ℕ, List, [], Option, None, Some, Ok, IsOk, ◌⊎◌}
-use Rattle.nr_header.specs.Reading.{header_of, HeaderBad}
 use Rattle.nr_rpc.specs.Reading.{call_of}
 use Rattle.nr_wire.specs.declared.hello.Side.TheVariants.{Initiator, Responder}
 use Rattle.nr_link.specs.declared.end.End.{End}
@@ -20,11 +19,11 @@ use Rattle.nr_reduce.specs.Opening.{IsOpened}
 use Rattle.nr_reduce.specs.PayloadLaws.{given_conveyed}
 use Rattle.nr_reduce.specs.Plans.{call_message}
 use Rattle.nr_reduce.specs.Run.{client, end_of_side}
-use Rattle.nr_reduce.specs.RunLaws.{HasOtherChunk}
 use Rattle.nr_reduce.specs.SoFar.{InFull}
 use Rattle.nr_laws.specs.Completion.{NothingWaits, HaveCompleted}
 use Rattle.nr_laws.specs.EndCauses.{KeepLaws, IsReplyEnd}
 use Rattle.nr_laws.specs.PlainReplies.{server_with, PlainlyOn}
+use Rattle.nr_laws.specs.RefusedMessages.{IsRefusedMessage}
 use Rattle.nr_laws.specs.Typed.{IsTyped}
 
 -- no memory of this link's calls is taken back
@@ -39,11 +38,6 @@ HasNoRevoke link run = AtEachMark (NotRevokedMark link) [] run
 abbrev pub HasCallHead : Option (List ℕ) → Type 0
 HasCallHead None = ⊥
 HasCallHead (Some payload) = IsOk (call_of payload)
-
--- A server answers a call's message by ERR_CHUNK: its header is bad, or its stream is there and its read chunk isn't that of the stream's
--- item (RFC 8166 sections 3.4.5 and 4.5). A plan has one read position, so where a stream has to be read no other chunk is there to be judged.
-abbrev pub IsRefusedMessage : List ℕ → Type 0
-IsRefusedMessage message = HeaderBad message ⊎ HasOtherChunk message (header_of message)
 
 -- An offer that is given conveys a payload with a call head, or its message is refused. Other forms convey the call's own payload.
 abbrev pub IsConveyedOrRefused : Form → (payload message : List ℕ) → Type 0

@@ -37,7 +37,8 @@ pub fn touches()
     ensures revoked { RevokeStands }
 {}
 
-/// On a matched link a call whose reply is handed over was executed before that, and no call completes with another version.
+/// On a matched link a call whose reply is handed over was accepted and then executed with just this reply before that, and no call completes
+/// with another version.
 pub fn completions()
     ensures executed { RepliesAreExecuted }
     ensures version { NoOtherVersion }
@@ -48,22 +49,22 @@ pub fn grant()
     ensures { SubmitsWithinGrant }
 {}
 
-/// On a matched link a call completes with Chunk (ERR_CHUNK, RFC 8166 section 4.5) exactly where its Send was refused before, or where it was
-/// executed before with a reply that its offer doesn't hold. A Send is refused where its header can't be read, or where its read chunk
-/// isn't that of its item (RFC 8166 section 3.4.5).
+/// On a matched link a call completes with Chunk (ERR_CHUNK, RFC 8166 section 4.5) exactly where its Send is refused, or where it was
+/// executed before with a reply that what its plan offers doesn't hold. A Send is refused where its header can't be read, where it is
+/// RDMA_NOMSG without a read chunk at position 0, or where its read chunk isn't that of its item (RFC 8166 sections 3.4.5, 3.5.3).
 pub fn chunk_outcomes()
     ensures causes { ChunkHasCause }
     ensures others { OthersHaveNoCause }
     // Where nothing is left to do, and all outcomes that are due are handed over, each such call that wasn't given up completed with Chunk.
     ensures completed { CausedCallsComplete }
-    // Where numbers and credits are in range as the link is opened, that offer is what the plan of the call offers.
+    // The offer by which the server answers an executed call is what the plan of the call offers.
     ensures offers { OffersArePlanned }
-    // There a Send is refused only of a call whose offer is given.
+    // On every link whose client keeps its law, a Send is refused only of a call whose offer is given.
     ensures own_plans { NoOwnPlanIsRefused }
     // Where calls are answered as a plain server answers, a call in form Auto that completes has a reply.
     ensures auto { AutoHasReplies }
     // On every link, whatever its client sends, an executed call that adds an entry to the journal is then answered by its reply.
     ensures changes { ChangesAreAnswered }
-    // So a call that completes with Chunk on a matched link added no entry.
+    // So on a matched link a call that was executed and completes with Chunk added no entry.
     ensures nothing_added { ChunkAddsNothing }
 {}

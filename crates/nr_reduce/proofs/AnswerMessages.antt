@@ -26,19 +26,19 @@ use Rattle.nr_reduce.proofs.Asking.{all_one}
 use Rattle.nr_reduce.proofs.Answering.{Answered, answered}
 use Rattle.nr_reduce.proofs.Sizes.{chunk_size, lists_len, msg_len, nomsg_len}
 
-length-filled : (chunk : List RdmaSegment) (n : ℕ) → length (filled_chunk chunk n) ≡ length chunk
+pub length-filled : (chunk : List RdmaSegment) (n : ℕ) → length (filled_chunk chunk n) ≡ length chunk
 length-filled [] n = refl
 length-filled (s ∷ chunk) n = ap (λ (k : ℕ). suc k) (length-filled chunk (n - min s.length n))
 
-segments_fit : (chunk : List RdmaSegment) (n : ℕ) (more others : List XdrItem) → AllFit (segments_items chunk more) → AllFit others → AllFit (segments_items (filled_chunk chunk n) others)
+pub segments_fit : (chunk : List RdmaSegment) (n : ℕ) (more others : List XdrItem) → AllFit (segments_items chunk more) → AllFit others → AllFit (segments_items (filled_chunk chunk n) others)
 segments_fit [] n more others h k = k
 segments_fit (s ∷ chunk) n more others h k = (h.0, (let l = h.1.0 in omega (arith, l), (h.1.1.0, segments_fit chunk (n - min s.length n) more others h.1.1.1 k)))
 
-segments_tail : (chunk : List RdmaSegment) (more : List XdrItem) → AllFit (segments_items chunk more) → AllFit more
+pub segments_tail : (chunk : List RdmaSegment) (more : List XdrItem) → AllFit (segments_items chunk more) → AllFit more
 segments_tail [] more h = h
 segments_tail (s ∷ chunk) more h = segments_tail chunk more h.1.1.1
 
-read_tail : (read : List ReadSegment) (more : List XdrItem) → AllFit (read_items read more) → AllFit more
+pub read_tail : (read : List ReadSegment) (more : List XdrItem) → AllFit (read_items read more) → AllFit more
 read_tail [] more h = h.1
 read_tail (r ∷ read) more h = read_tail read more h.1.1.1.1.1
 
@@ -46,7 +46,7 @@ write_tail : (ws : ℕ) (w : Option (List ℕ)) (more : List XdrItem) → AllFit
 write_tail ws None more h = h.1
 write_tail ws (Some ns) more h = (segments_tail (segments_from ws 0 ns) _ h.1.1).1
 
-chunk_fit : (chunk : List RdmaSegment) (n : ℕ) (more others : List XdrItem) → length chunk < 2 ^ 32 → AllFit (segments_items chunk more) → AllFit others → AllFit (chunk_items (filled_chunk chunk n) others)
+pub chunk_fit : (chunk : List RdmaSegment) (n : ℕ) (more others : List XdrItem) → length chunk < 2 ^ 32 → AllFit (segments_items chunk more) → AllFit others → AllFit (chunk_items (filled_chunk chunk n) others)
 chunk_fit chunk n more others count h k = (let l = length-filled chunk n in omega (arith, l, count), segments_fit chunk n more others h k)
 
 written_fit : (ws : ℕ) (w : Option (List ℕ)) (n : ℕ) (more others : List XdrItem) → AllFit (write_items (write_list ws w) more) → AllFit others → AllFit (write_items (written_chunks (write_list ws w) n) others)
@@ -65,11 +65,11 @@ lists_fit read ws rs w r a h =
 
 -- ---- Within the limits
 
-ends_by : (chunk : List RdmaSegment) (n : ℕ) → AllByRecursion (λ s. Ends s.offset s.length) chunk → AllByRecursion (λ s. Ends s.offset s.length) (filled_chunk chunk n)
+pub ends_by : (chunk : List RdmaSegment) (n : ℕ) → AllByRecursion (λ s. Ends s.offset s.length) chunk → AllByRecursion (λ s. Ends s.offset s.length) (filled_chunk chunk n)
 ends_by [] n h = tt
 ends_by (s ∷ chunk) n h = (let e = h.0 in omega (arith, e), ends_by chunk (n - min s.length n) h.1)
 
-filled_ends : (chunk : List RdmaSegment) (n : ℕ) → SegmentsEnd chunk → SegmentsEnd (filled_chunk chunk n)
+pub filled_ends : (chunk : List RdmaSegment) (n : ℕ) → SegmentsEnd chunk → SegmentsEnd (filled_chunk chunk n)
 filled_ends chunk n h = All-from_recursion _ _ (ends_by chunk n (recursion_from_All _ chunk h))
 
 first_of_one : {X : Type 0} (P : X → Type 0) (x : X) → All P (x ∷ []) → P x

@@ -31,7 +31,7 @@ is_bad OtherVersion = false
 is_bad BadChunks = true
 is_bad (MakesPending c) = false
 
-need-fine : (k : ServerState) (c : PendingCall) → by_need k c ≡ BadChunks → ⊥
+pub need-fine : (k : ServerState) (c : PendingCall) → by_need k c ≡ BadChunks → ⊥
 need-fine k c e = by _ e
   where
     by : (b : Bool) → cond b (EndsLink 30) (MakesPending c) ≡ BadChunks → ⊥

@@ -88,7 +88,7 @@ abbrev pub Each : {X : Type 0} → (X → Type 0) → List X → Type 0
 Each P [] = Unit {0}
 Each P (x ∷ xs) = P x × Each P xs
 
-each-append : {X : Type 0} (P : X → Type 0) (xs ys : List X) → Each P xs → Each P ys → Each P (xs ++ ys)
+pub each-append : {X : Type 0} (P : X → Type 0) (xs ys : List X) → Each P xs → Each P ys → Each P (xs ++ ys)
 each-append P [] ys h g = g
 each-append P (x ∷ xs) ys h g = (h.0, each-append P xs ys h.1 g)
 
@@ -104,7 +104,7 @@ each-filter : {X : Type 0} (P : X → Type 0) (p : X → Bool) (xs : List X) →
 each-filter P p [] h = tt
 each-filter P p (x ∷ xs) h = each-keep P (p x) x (filter p xs) h.0 (each-filter P p xs h.1)
 
-each-drop : {X : Type 0} (P : X → Type 0) (xs : List X) → Each P xs → Each P (drop 1 xs)
+pub each-drop : {X : Type 0} (P : X → Type 0) (xs : List X) → Each P xs → Each P (drop 1 xs)
 each-drop P [] h = tt
 each-drop P (x ∷ xs) h = h.1
 

@@ -57,7 +57,7 @@ joined_entries memory position handle offset (n ∷ lengths) =
     ∙ sym (take-add n (sum lengths) (drop offset (memory handle)))
     ∙ ap (λ (k : ℕ). take k (drop offset (memory handle))) (sym (sum_by-cons (λ (k : ℕ). k) n lengths))
 
-region-length : (payload : List ℕ) (at size : ℕ) → length (given_region payload at size) ≡ size
+pub region-length : (payload : List ℕ) (at size : ℕ) → length (given_region payload at size) ≡ size
 region-length payload at size =
     omega (arith, length-append (take size (drop at payload)) (replicate (size - length (take size (drop at payload))) 0), length-replicate {A = ℕ} (size - length (take size (drop at payload))) 0, length-take size (drop at payload))
 
@@ -70,7 +70,7 @@ brought payload memory at stag lengths holds =
     ∙ ap (λ (xs : List ℕ). take (sum lengths) xs) holds
     ∙ take_all (sum lengths) (given_region payload at (sum lengths)) (let l = region-length payload at (sum lengths) in omega (arith, l))
 
-no_item : (stag offset : ℕ) (lengths : List ℕ) → item_position (entries_from 0 stag offset lengths) ≡ None
+pub no_item : (stag offset : ℕ) (lengths : List ℕ) → item_position (entries_from 0 stag offset lengths) ≡ None
 unfolding item_position
 no_item stag offset [] = refl
 no_item stag offset (n ∷ lengths) = no_item stag (offset + n) lengths

@@ -333,7 +333,7 @@ goes-fresh k f s one h = record {
     at_most false = omega arith
 
 -- what a segment adds to the Sends that are whole
-rises-with : (h : ReceiveState) (segment : Segment) → h.sends ≤ (received_after h segment).sends
+pub rises-with : (h : ReceiveState) (segment : Segment) → h.sends ≤ (received_after h segment).sends
 rises-with h (Tagged last opcode stag to payload) = omega arith
 rises-with h (Untagged last opcode w queue msn offset payload) = by (is_send opcode) (eqb opcode OPCODE_READ_REQUEST)
   where

@@ -51,7 +51,7 @@ unfolding regions_closed
 numbered-closed test place n [] h = tt
 numbered-closed test place n (r ∷ regions) h = (closed-stag (test r) place r ∙ h.0, numbered-closed test place (n + 1) regions h.1)
 
-closed-length : (test : Region → Bool) (place : ℕ) (regions : List Region) → length (regions_closed test place regions) ≡ length regions
+pub closed-length : (test : Region → Bool) (place : ℕ) (regions : List Region) → length (regions_closed test place regions) ≡ length regions
 unfolding regions_closed
 closed-length test place [] = refl
 closed-length test place (r ∷ regions) = ap (λ (n : ℕ). suc n) (closed-length test place regions)

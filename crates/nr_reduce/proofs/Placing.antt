@@ -92,7 +92,7 @@ by_message : (k : ClientState) (place : ℕ) (message : Option (List ℕ)) → (
 by_message k place None = refl
 by_message k place (Some message) = refl
 
-by_segment : (k : ClientState) (f : Frame) (r : Result Segment ℕ) → (with_segment k f r).calls_accepted ≡ k.calls_accepted
+pub by_segment : (k : ClientState) (f : Frame) (r : Result Segment ℕ) → (with_segment k f r).calls_accepted ≡ k.calls_accepted
 by_segment k f (Err reason) = refl
 by_segment k f (Ok segment) =
     by_request (with_message k f.end (message_completed k.received segment)) (read_request_of segment) ∙ by_message k f.end (message_completed k.received segment)

@@ -18,7 +18,7 @@ use Rattle.nr_reduce.specs.Plans.{TooLarge, segments_from, entries_from, read_li
 use Rattle.nr_reduce.proofs.Shapes.{offered, MessageKind, shape, Shaped, shaped, within-ok}
 use Rattle.nr_reduce.proofs.Shapes.MessageKind.{Short, Chunked, Long}
 
-word_len : (n : ℕ) (xs : List ℕ) → length (word n ++ xs) ≡ 4 + length xs
+pub word_len : (n : ℕ) (xs : List ℕ) → length (word n ++ xs) ≡ 4 + length xs
 word_len n xs = (let a = length-append (word n) xs in let b = length-word n in omega (arith, a, b))
 
 hyper_len : (n : ℕ) (xs : List ℕ) → length (hyper n ++ xs) ≡ 8 + length xs
@@ -94,7 +94,7 @@ entries_count : (position handle offset : ℕ) (lengths : List ℕ) → length (
 entries_count position handle offset [] = refl
 entries_count position handle offset (n ∷ lengths) = (let a = entries_count position handle (offset + n) lengths in omega (arith, a))
 
-segments_count : (handle offset : ℕ) (lengths : List ℕ) → length (segments_from handle offset lengths) ≡ length lengths
+pub segments_count : (handle offset : ℕ) (lengths : List ℕ) → length (segments_from handle offset lengths) ≡ length lengths
 segments_count handle offset [] = refl
 segments_count handle offset (n ∷ lengths) = (let a = segments_count handle (offset + n) lengths in omega (arith, a))
 

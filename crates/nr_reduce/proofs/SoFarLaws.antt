@@ -16,10 +16,10 @@ pub AtEachMark-each : (P Q : List Mark → Mark → Type 0) (before run : List M
 AtEachMark-each P Q before [] f h = tt
 AtEachMark-each P Q before (m ∷ run) f h = (f before m h.0, AtEachMark-each P Q (before ++ m ∷ []) run f h.1)
 
-all-first : (xs ys : List ℕ) → xs ≡ ys → IsPrefixOf xs ys
+pub all-first : (xs ys : List ℕ) → xs ≡ ys → IsPrefixOf xs ys
 all-first xs ys is = ([], append-nil xs ∙ is)
 
-asked-mark : (opened : LinkParameters) (link : ℕ) (before : List Mark) (mark : Mark) → AskedMark IsAll opened link before mark → AskedMark IsPrefixOf opened link before mark
+pub asked-mark : (opened : LinkParameters) (link : ℕ) (before : List Mark) (mark : Mark) → AskedMark IsAll opened link before mark → AskedMark IsPrefixOf opened link before mark
 asked-mark opened link before (marks.Submit l call form (submissions.Accepted xid)) h = h
 asked-mark opened link before (marks.Submit l call form (submissions.Refused why)) h = h
 asked-mark opened link before (marks.Submit l call form submissions.Dropped) h = h
@@ -33,7 +33,7 @@ asked-mark opened link before (marks.Forget l xid) h = h
 asked-mark opened link before (marks.Revoke l xid bytes) h = h
 asked-mark opened link before (marks.Drop l) h = h
 
-served-mark : (opened : LinkParameters) (link : ℕ) (before : List Mark) (mark : Mark) → ServedMark IsAll opened link before mark → ServedMark IsPrefixOf opened link before mark
+pub served-mark : (opened : LinkParameters) (link : ℕ) (before : List Mark) (mark : Mark) → ServedMark IsAll opened link before mark → ServedMark IsPrefixOf opened link before mark
 served-mark opened link before (marks.Submit l call form answer) h = h
 served-mark opened link before (marks.Wrote l Initiator bytes) h = h
 served-mark opened link before (marks.Wrote l Responder bytes) h = λ same. all-first _ _ (h same)

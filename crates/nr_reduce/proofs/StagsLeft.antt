@@ -44,11 +44,11 @@ abbrev OfferNothing : List Event → Type 0
 OfferNothing [] = Unit {0}
 OfferNothing (event ∷ es) = OffersNothing event × OfferNothing es
 
-by_request : (m : ClientState) (r : Option ReadRequest) → (with_request m r).stag ≡ m.stag
+pub by_request : (m : ClientState) (r : Option ReadRequest) → (with_request m r).stag ≡ m.stag
 by_request m None = refl
 by_request m (Some r) = refl
 
-by_message : (k : ClientState) (place : ℕ) (message : Option (List ℕ)) → (with_message k place message).stag ≡ k.stag
+pub by_message : (k : ClientState) (place : ℕ) (message : Option (List ℕ)) → (with_message k place message).stag ≡ k.stag
 by_message k place None = refl
 by_message k place (Some message) = refl
 

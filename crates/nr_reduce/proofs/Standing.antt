@@ -32,14 +32,14 @@ AtEachMark-more P before (m ∷ run) mark h p =
 pub itself : (link : ℕ) → eqb link link ≡ true
 itself link = eq-eqb link link refl
 
-one_more : {X A : Type 0} (f : X → List A) (xs : List X) (x : X) → flat_map f (xs ++ x ∷ []) ≡ flat_map f xs ++ f x
+pub one_more : {X A : Type 0} (f : X → List A) (xs : List X) (x : X) → flat_map f (xs ++ x ∷ []) ≡ flat_map f xs ++ f x
 one_more f xs x = flat_map-append f xs (x ∷ []) ∙ ap (λ (zs : List _). flat_map f xs ++ zs) (append-nil (f x))
 
-received-one : (link : ℕ) (side : Side) (run : List Mark) (mark : Mark) → bytes_received link side (run ++ mark ∷ []) ≡ bytes_received link side run ++ fed_at link side mark
+pub received-one : (link : ℕ) (side : Side) (run : List Mark) (mark : Mark) → bytes_received link side (run ++ mark ∷ []) ≡ bytes_received link side run ++ fed_at link side mark
 unfolding bytes_received
 received-one link side run mark = one_more (fed_at link side) run mark
 
-sent-one : (link : ℕ) (side : Side) (run : List Mark) (mark : Mark) → bytes_sent link side (run ++ mark ∷ []) ≡ bytes_sent link side run ++ written_at link side mark
+pub sent-one : (link : ℕ) (side : Side) (run : List Mark) (mark : Mark) → bytes_sent link side (run ++ mark ∷ []) ≡ bytes_sent link side run ++ written_at link side mark
 unfolding bytes_sent
 sent-one link side run mark = one_more (written_at link side) run mark
 

@@ -29,16 +29,16 @@ use Rattle.nr_reduce.specs.EndRules.{end_state_after}
 use Rattle.nr_reduce.proofs.OwnStags.{own-stags, client-numbers, server-numbers}
 
 -- where none stands, none of them does
-abbrev AreNone : {X : Type 0} → List (Option X) → Type 0
+abbrev pub AreNone : {X : Type 0} → List (Option X) → Type 0
 AreNone [] = Unit {0}
 AreNone (x ∷ xs) = (x ≡ None) × AreNone xs
 
-all_none : {X : Type 0} (xs : List (Option X)) → first_fault xs ≡ None → AreNone xs
+pub all_none : {X : Type 0} (xs : List (Option X)) → first_fault xs ≡ None → AreNone xs
 all_none [] e = tt
 all_none (None ∷ xs) e = (refl, all_none xs e)
 all_none (Some x ∷ xs) e = absurd cc
 
-no_lack : (o : Option Denied) → missing_fault o ≡ None → o ≡ None
+pub no_lack : (o : Option Denied) → missing_fault o ≡ None → o ≡ None
 no_lack None e = refl
 no_lack (Some why) e = absurd cc
 
@@ -64,7 +64,7 @@ flawless r (Untagged last opcode w queue msn offset payload) e =
     let all : AreNone flaws = all_none flaws e in
     no_lack r.missing all.1.1.1.1.0
 
-no_flaw : (f : Frame) (segment : Segment) (o : Option (SegmentFault Denied)) → end_of_fault f segment o ≡ None → o ≡ None
+pub no_flaw : (f : Frame) (segment : Segment) (o : Option (SegmentFault Denied)) → end_of_fault f segment o ≡ None → o ≡ None
 no_flaw f segment None e = refl
 no_flaw f segment (Some (Reason reason)) e = absurd cc
 no_flaw f segment (Some (NoBuffer msn)) e = absurd cc

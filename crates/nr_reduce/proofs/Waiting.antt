@@ -36,11 +36,11 @@ use Rattle.nr_reduce.specs.Asked.{AskedSoFar, AskedMark}
 use Rattle.nr_reduce.specs.RunLaws.{outstanding_from, as_submitted}
 use Rattle.nr_reduce.proofs.Steps.{client-one}
 
-abbrev start : LinkParameters → ClientState
+abbrev pub start : LinkParameters → ClientState
 start opened = (initial_client opened).state
 
 -- the STag that is next after these calls
-abbrev stag_behind : ClientState → ℕ → List AcceptedCall → ℕ
+abbrev pub stag_behind : ClientState → ℕ → List AcceptedCall → ℕ
 stag_behind k stag [] = stag
 stag_behind k stag (a ∷ accepted) = stag_behind k (stag + regions_needed (outstanding_of (record k { stag = stag }) a).plan) accepted
 
@@ -51,22 +51,22 @@ record Waiting (opened : LinkParameters) (accepted : List AcceptedCall) (k : Cli
 abbrev Waits : LinkParameters → List AcceptedCall → ClientState → Type 0
 Waits opened accepted k = k.has_hello ≡ false → Waiting opened accepted k
 
-from-append : (k : ClientState) (stag : ℕ) (xs : List AcceptedCall) (a : AcceptedCall) → outstanding_from k stag (xs ++ a ∷ []) ≡ outstanding_from k stag xs ++ outstanding_of (record k { stag = stag_behind k stag xs }) a ∷ []
+pub from-append : (k : ClientState) (stag : ℕ) (xs : List AcceptedCall) (a : AcceptedCall) → outstanding_from k stag (xs ++ a ∷ []) ≡ outstanding_from k stag xs ++ outstanding_of (record k { stag = stag_behind k stag xs }) a ∷ []
 from-append k stag [] a = refl
 from-append k stag (x ∷ xs) a = ap (λ (os : List OutstandingCall). outstanding_of (record k { stag = stag }) x ∷ os) (from-append k (stag + regions_needed (outstanding_of (record k { stag = stag }) x).plan) xs a)
 
-behind-append : (k : ClientState) (stag : ℕ) (xs : List AcceptedCall) (a : AcceptedCall)
+pub behind-append : (k : ClientState) (stag : ℕ) (xs : List AcceptedCall) (a : AcceptedCall)
     → stag_behind k stag (xs ++ a ∷ []) ≡ stag_behind k stag xs + regions_needed (outstanding_of (record k { stag = stag_behind k stag xs }) a).plan
 behind-append k stag [] a = refl
 behind-append k stag (x ∷ xs) a = behind-append k (stag + regions_needed (outstanding_of (record k { stag = stag }) x).plan) xs a
 
-submitted-append : (xs ys : List OutstandingCall) → map as_submitted (xs ++ ys) ≡ map as_submitted xs ++ map as_submitted ys
+pub submitted-append : (xs ys : List OutstandingCall) → map as_submitted (xs ++ ys) ≡ map as_submitted xs ++ map as_submitted ys
 submitted-append [] ys = refl
 submitted-append (x ∷ xs) ys = ap (λ (os : List OutstandingCall). as_submitted x ∷ os) (submitted-append xs ys)
 
 -- ---- Each event
 
-revoked-same : (xid : ℕ) (os : List OutstandingCall) → map as_submitted (map (revoked_call xid) os) ≡ map as_submitted os
+pub revoked-same : (xid : ℕ) (os : List OutstandingCall) → map as_submitted (map (revoked_call xid) os) ≡ map as_submitted os
 revoked-same xid [] = refl
 revoked-same xid (o ∷ os) = ap (λ (x : OutstandingCall). x ∷ map as_submitted (map (revoked_call xid) os)) (by (eqb o.xid xid)) ∙ ap (λ (rest : List OutstandingCall). as_submitted o ∷ rest) (revoked-same xid os)
   where
@@ -78,7 +78,7 @@ or-none : (b : Bool) → (b || false) ≡ b
 or-none true = refl
 or-none false = refl
 
-written-same : (hello : Bool) (os : List OutstandingCall) → hello ≡ false → map as_submitted (map (written_call hello) os) ≡ map as_submitted os
+pub written-same : (hello : Bool) (os : List OutstandingCall) → hello ≡ false → map as_submitted (map (written_call hello) os) ≡ map as_submitted os
 written-same hello [] no_hello = refl
 written-same hello (o ∷ os) no_hello =
     ap (λ (b : Bool). record o { is_written = b; is_revoked = false } ∷ map as_submitted (map (written_call hello) os)) (ap (λ (b : Bool). o.is_written || b) no_hello ∙ or-none o.is_written)
@@ -125,7 +125,7 @@ unfolding verdict
 no-message k f None h e = refl
 no-message k f (Some message) h e = absurd (end-some f (verdict k f.end message) (verdict-ends k f.end message (header_of message) h) e)
 
-or-message : (k : ClientState) (f : Frame) (o : Option Stop) → or_message_end k f o ≡ None → message_end k f (segment_message k (frame_segment f)) ≡ None
+pub or-message : (k : ClientState) (f : Frame) (o : Option Stop) → or_message_end k f o ≡ None → message_end k f (segment_message k (frame_segment f)) ≡ None
 or-message k f (Some end) e = absurd cc
 or-message k f None e = e
 
@@ -287,7 +287,7 @@ waits-mark opened link before (marks.Forget l xid) accepted w h = waits-nothing 
 waits-mark opened link before (marks.Revoke l xid bytes) accepted w h = waits-nothing opened link before (marks.Revoke l xid bytes) accepted w (nothing-if _ (MemoryRevoked (length (bytes_received link Initiator before)) xid ∷ []) (tt, tt))
 waits-mark opened link before (marks.Drop l) accepted w h = waits-nothing opened link before (marks.Drop l) accepted w tt
 
-accepted-one : (link : ℕ) (before : List Mark) (mark : Mark) → accepted_calls link (before ++ mark ∷ []) ≡ accepted_calls link before ++ accepted_at link mark
+pub accepted-one : (link : ℕ) (before : List Mark) (mark : Mark) → accepted_calls link (before ++ mark ∷ []) ≡ accepted_calls link before ++ accepted_at link mark
 unfolding accepted_calls
 accepted-one link before mark = flat_map-append (accepted_at link) before (mark ∷ []) ∙ ap (λ (all : List AcceptedCall). accepted_calls link before ++ all) (append-nil (accepted_at link mark))
 

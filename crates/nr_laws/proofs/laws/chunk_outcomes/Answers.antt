@@ -1,7 +1,7 @@
 use Rattle.nr_laws.proofs.ChunkCauses.{chunk_has_cause, others_have_no_cause}
 use Rattle.nr_laws.proofs.CausedCalls.{caused_calls_complete}
 use Rattle.nr_laws.proofs.PlannedOffers.{offers_are_planned}
-use Rattle.nr_laws.proofs.OwnPlans.{no_own_plan_is_refused}
+use Rattle.nr_laws.proofs.OwnMessages.{no_own_plan_is_refused}
 use Rattle.nr_laws.proofs.AutoReplies.{auto_has_replies}
 use Rattle.nr_laws.proofs.AnsweredChanges.{changes_are_answered, chunk_adds_nothing}
 use Rattle.nr_laws.proofs.laws.chunk_outcomes.Goals as goal

@@ -1,0 +1,72 @@
+-- The message of a call in a form that isn't given is never refused.
+use Rattle.std.proofs.Common.{◌≡◌, ◌≢◌, ℕ, ◌+◌, ◌≤◌, List, refl, sym, ap, subst, ◌∙◌, arith}
+use Rattle.nr_xdr.specs.Fields.{word_at}
+use Rattle.nr_xdr.specs.Item.{IsBytes}
+use Rattle.nr_reduce.specs.declared.call.Submission.TheVariants as submissions
+use Rattle.nr_reduce.specs.declared.mark.Mark.TheVariants as marks
+use Rattle.nr_reduce.specs.declared.outline.Plan.{Plan}
+use Rattle.nr_reduce.specs.Limits.{numbers_end}
+use Rattle.nr_reduce.specs.Plans.{call_message, regions_needed}
+use Rattle.nr_reduce.specs.Matched.{IsPrefixOf}
+use Rattle.nr_reduce.specs.ClientState.{call_payload, plan_for}
+use Rattle.nr_reduce.specs.ServerState.{ServerState}
+use Rattle.nr_reduce.specs.ServerMessages.{verdict}
+use Rattle.nr_reduce.specs.ServerMessages.Verdict.{BadChunks}
+use Rattle.nr_reduce.specs.Server.{initial_server}
+use Rattle.nr_reduce.specs.Run.{client}
+use Rattle.nr_reduce.specs.Asked.{AskedMark, IsAccepted}
+use Rattle.nr_reduce.proofs.BadMessages.{bad-refused}
+use Rattle.nr_laws.specs.Typed.{TypedMark}
+use Rattle.nr_laws.specs.Payloads.{HasPlan}
+use Rattle.nr_laws.specs.ChunkOutcomes.{NoOwnPlanIsRefused}
+use Rattle.nr_laws.proofs.WrittenBytes.{WrittenAs, written-as, message-same}
+use Rattle.nr_laws.proofs.CallWords.{CallWords, call-words}
+use Rattle.nr_laws.proofs.OnceByXid.{at-mark}
+use Rattle.nr_laws.proofs.ExecutedPayloads.{planned-by}
+use Rattle.nr_laws.proofs.OwnPlans.{payload-some, plan-suits}
+use Rattle.nr_laws.proofs.RefusedMessages.{long-enough, plan-same}
+
+pub no_own_plan_is_refused : NoOwnPlanIsRefused
+no_own_plan_is_refused opened link run xid typed asked m own =
+    plan-suits k (call_payload xid has.call) has.form xid w.number stag m.plan bytes own (planned-by opened link has.before xid has.call has.form m.plan has.planned) (payload-some xid has.call)
+    (let fits = accepted.xids in omega (arith, fits)) w.fits (let fit = stags in omega (arith, fit)) (ap (λ (x : List ℕ). verdict k x) (sym same) ∙ bad)
+  where
+    has : HasPlan opened link run xid m.plan
+    has = m.has
+
+    stag : ℕ
+    stag = (client opened link has.before).state.stag
+
+    k : ServerState
+    k = (initial_server opened).state
+
+    accepted : IsAccepted opened link has.before has.call has.form xid
+    accepted = at-mark (AskedMark IsPrefixOf opened link) run has.before (marks.Submit link has.call has.form (submissions.Accepted xid)) has.at.after has.at.is asked refl
+
+    bytes : IsBytes (call_payload xid has.call)
+    bytes = (at-mark TypedMark run has.before (marks.Submit link has.call has.form (submissions.Accepted xid)) has.at.after has.at.is typed).0
+
+    stags : stag + regions_needed m.plan ≤ numbers_end
+    stags = subst (λ (p : Plan). stag + regions_needed p ≤ numbers_end) (plan-same accepted.plan m.plan (plan_for (client opened link has.before).state xid has.call has.form) accepted.planned has.planned) accepted.stags
+
+    message : List ℕ
+    message = call_message xid opened.wished stag m.plan
+
+    -- the credits of its header are a word, whatever they are
+    w : WrittenAs opened.wished
+    w = written-as opened.wished
+
+    same : message ≡ call_message xid w.number stag m.plan
+    same = message-same xid opened.wished w.number stag m.plan w.same
+
+    words : CallWords xid message
+    words = (let fits = accepted.xids in call-words xid opened.wished stag m.plan (omega (arith, fits)))
+
+    done : word_at 12 message ≢ 3
+    done e = (let kind = words.kind in omega (arith, e, kind))
+
+    error : word_at 12 message ≢ 4
+    error e = (let kind = words.kind in omega (arith, e, kind))
+
+    bad : verdict k message ≡ BadChunks
+    bad = (bad-refused k message (long-enough opened (client opened link has.before).state xid has.call has.form m.plan has.planned) words.version done error refl).1 m.refused
