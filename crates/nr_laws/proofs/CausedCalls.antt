@@ -6,20 +6,12 @@ use Rattle.nr_reduce.specs.declared.call.Outcome.{Outcome}
 use Rattle.nr_reduce.specs.declared.call.Outcome.TheVariants as outcomes
 use Rattle.nr_reduce.specs.declared.mark.Mark.{Mark}
 use Rattle.nr_reduce.specs.declared.mark.Mark.TheVariants as marks
-use Rattle.nr_reduce.specs.declared.mark.LinkParameters.{LinkParameters}
 use Rattle.nr_reduce.specs.History.{CompletedCall, completed_at, completed_calls}
-use Rattle.nr_reduce.specs.Matched.{IsPrefixOf, Matched}
-use Rattle.nr_reduce.specs.Asked.{IsAll, AskedMark, Asked}
-use Rattle.nr_reduce.specs.Served.{ServedMark, Served}
-use Rattle.nr_reduce.proofs.SoFarLaws.{AtEachMark-each, asked-mark, served-mark}
 use Rattle.nr_laws.specs.MarkAt.{MarkAt}
-use Rattle.nr_laws.specs.MatchedSoFar.{MatchedSoFar}
 use Rattle.nr_laws.specs.ChunkOutcomes.{CausedCallsComplete}
 use Rattle.nr_laws.proofs.SettledLinks.{calls-complete}
 use Rattle.nr_laws.proofs.ChunkCauses.{others_have_no_cause}
 use Rattle.nr_laws.proofs.LawsSoFar.{laws-so-far}
-
--- ---- Laws in full hold so far
 
 -- ---- A completed call has its Done
 

@@ -3,7 +3,6 @@
 use Rattle.std.proofs.Common.{◌≡◌, ℕ, ◌+◌, ◌^◌, ◌≤◌, ◌<◌, Bool, true, false, cond, ◌||◌, not, eqb, ltb, List, [], ◌∷◌, ◌++◌, length, take, drop, map, Option, None, Some, Result, Ok, refl, sym, ap, subst, ◌∙◌, arith, ◌⊎◌, eqb-true}
 use Rattle.std.proofs.lemmas.List.{length-take}
 use Rattle.std.proofs.lemmas.Bool.{ltb-false, or_parts}
-use Rattle.std.specs.List.{filter}
 use Rattle.nr_xdr.specs.Item.{IsBytes}
 use Rattle.nr_rpc.specs.Credential.{CanWriteCred}
 use Rattle.nr_wire.specs.declared.hello.Side.TheVariants.{Responder}

@@ -10,8 +10,8 @@ use Rattle.nr_reduce.specs.declared.mark.LinkParameters.{LinkParameters}
 use Rattle.nr_reduce.specs.History.{bytes_sent, bytes_received}
 use Rattle.nr_reduce.specs.Events.{Event, if_own, events_at, events}
 use Rattle.nr_reduce.specs.EndRules.{EndState, Rules, end_state_after}
-use Rattle.nr_reduce.specs.ClientState.{ClientState, initial_state as client_initial_state}
-use Rattle.nr_reduce.specs.ServerState.{ServerState, initial_state as server_initial_state}
+use Rattle.nr_reduce.specs.ClientState.{initial_state as client_initial_state}
+use Rattle.nr_reduce.specs.ServerState.{initial_state as server_initial_state}
 use Rattle.nr_reduce.specs.Client.{client_rules}
 use Rattle.nr_reduce.specs.Server.{server_rules}
 use Rattle.nr_reduce.specs.Run.{client, server, output_due}

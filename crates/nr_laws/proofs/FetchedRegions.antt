@@ -4,7 +4,7 @@ use Rattle.std.specs.Prelude.{is_none}
 use Rattle.std.specs.List.{find}
 use Rattle.nr_regions.specs.declared.right.Right.{Right}
 use Rattle.nr_regions.specs.declared.right.Right.TheVariants.{Fetch, Fill, Sink}
-use Rattle.nr_regions.specs.declared.denied.Denied.TheVariants.{NoStag, Bounds, Right as WrongRight}
+use Rattle.nr_regions.specs.declared.denied.Denied.TheVariants.{Bounds, Right as WrongRight}
 use Rattle.nr_regions.specs.declared.right.Kind.{Kind}
 use Rattle.nr_regions.specs.declared.right.Kind.TheVariants.{Write, Response}
 use Rattle.nr_regions.specs.RegisteredMemory.{Access, right_for, denial_in, same_right, bytes_after_write}

@@ -6,7 +6,6 @@ use Rattle.nr_reduce.specs.Matched.{IsPrefixOf, Matched}
 use Rattle.nr_reduce.specs.Asked.{AskedMark, IsAll}
 use Rattle.nr_reduce.specs.Served.{ServedMark}
 use Rattle.nr_reduce.proofs.SoFarLaws.{AtEachMark-each, asked-mark, served-mark}
-use Rattle.nr_laws.specs.EndCauses.{KeepLaws}
 use Rattle.nr_laws.specs.MatchedSoFar.{MatchedSoFar}
 use Rattle.nr_reduce.specs.AtEachMark.{AtEachMark}
 

@@ -1,5 +1,5 @@
 -- A message that makes a call pending: what its header is, and what the call has of it.
-use Rattle.std.proofs.Common.{◌≡◌, ℕ, ◌+◌, ◌≤◌, Bool, true, false, cond, not, ◌||◌, eqb, ltb, List, length, drop, Option, Some, None, IfSome, Result, Ok, Err, refl, sym, subst, ap, ◌∙◌}
+use Rattle.std.proofs.Common.{◌≡◌, ℕ, ◌+◌, ◌≤◌, Bool, true, false, cond, not, ◌||◌, eqb, ltb, List, length, drop, Option, Some, None, IfSome, Result, Ok, Err, refl, sym, subst}
 use Rattle.std.proofs.lemmas.Bool.{ltb-false}
 use Rattle.nr_xdr.specs.Fields.{word_at}
 use Rattle.nr_header.specs.declared.fault.HeaderFault.{HeaderFault}

@@ -1,13 +1,9 @@
 -- The reasons of the rules of the link are others than those for which a client ends by what it makes of a reply.
-use Rattle.std.proofs.Common.{◌≡◌, ℕ, ◌<◌, Bool, true, false, cond, not, ◌||◌, eqb, ltb, List, [], ◌∷◌, length, Option, None, Some, arith, ◌⊎◌, inl, inr}
-use Rattle.nr_xdr.specs.Fields.{word_at}
+use Rattle.std.proofs.Common.{◌≡◌, ℕ, ◌<◌, Option, arith, ◌⊎◌, inl, inr}
 use Rattle.nr_wire.specs.Segment.{Segment}
-use Rattle.nr_wire.specs.Segment.Segment.{Tagged, Untagged}
 use Rattle.nr_regions.specs.declared.denied.Denied.{Denied}
 use Rattle.nr_link.specs.Reasons.{REASON_MSN, REASON_OFFSET, REASON_FORM, REASON_RESPONSE, REASON_REQUESTS, REASON_SHORT, REASON_LONG}
-use Rattle.nr_link.specs.ReceiveState.{is_send, message_completed}
-use Rattle.nr_link.specs.SegmentFaults.{Readiness, SegmentFault, reason_if, next_msn, next_offset, is_begun, no_buffer, missing_fault, is_malformed, is_unexpected, is_too_many, has_length, terminate_fault, first_fault, segment_fault}
-use Rattle.nr_link.specs.SegmentFaults.SegmentFault.{Reason, NoBuffer, AccessDenied, PeerTerminated}
+use Rattle.nr_link.specs.SegmentFaults.{Readiness, SegmentFault, segment_fault}
 use Rattle.nr_laws.specs.EndCauses.{IsReplyReason}
 use Rattle.nr_laws.proofs.EachFault.{OfReason, each-fault}
 

@@ -1,9 +1,7 @@
 -- Why a call is ready: its message, or the last read for it, came; its payload is what was conveyed then.
-use Rattle.std.proofs.Common.{◌≡◌, ℕ, Bool, true, false, cond, ◌&&◌, not, eqb, List, [], ◌∷◌, ◌++◌, length, Option, None, Some, Result, Ok, Err, refl, sym, ap, subst, ◌∙◌, append_assoc, append-nil, ◌-◌}
+use Rattle.std.proofs.Common.{◌≡◌, ℕ, Bool, true, false, cond, eqb, List, [], ◌∷◌, ◌++◌, Option, None, Some, Result, Ok, Err, refl, sym, ap, subst, ◌∙◌, append_assoc, append-nil}
 use Rattle.nr_wire.specs.declared.hello.Side.TheVariants.{Responder}
-use Rattle.nr_wire.specs.Constants.{OPCODE_READ_RESPONSE}
 use Rattle.nr_wire.specs.Segment.{Segment}
-use Rattle.nr_wire.specs.Segment.Segment.{Tagged, Untagged}
 use Rattle.nr_rpc.specs.declared.head.CallHead.{CallHead}
 use Rattle.nr_rpc.specs.Reading.{call_of}
 use Rattle.nr_link.specs.declared.end.End.{End as Stop}
@@ -12,16 +10,15 @@ use Rattle.nr_link.specs.ReceiveState.{message_completed}
 use Rattle.nr_link.specs.Ending.{frame_segment}
 use Rattle.nr_reduce.specs.declared.mark.Mark.{Mark}
 use Rattle.nr_reduce.specs.declared.mark.LinkParameters.{LinkParameters}
-use Rattle.nr_reduce.specs.Chunks.{is_read_chunk_of_item}
 use Rattle.nr_reduce.specs.Events.{Event, events}
 use Rattle.nr_reduce.specs.Events.Event.{FrameReceived, CallSubmitted, MemoryRevoked, CallExecuted, QueueWritten}
 use Rattle.nr_reduce.specs.EndRules.{EndState, next_end_state_by, next_end_state_in, end_state_after}
 use Rattle.nr_reduce.specs.ServerState.{ServerState, PendingCall, PendingRead, ReadyCall}
-use Rattle.nr_reduce.specs.ServerReads.{open_reads, is_read, reads_of, regions_of}
-use Rattle.nr_reduce.specs.ServerMessages.{Verdict, CallVerdict, verdict, chunk_bytes, payload_of, by_payload, by_head, call_xid}
+use Rattle.nr_reduce.specs.ServerReads.{is_read, reads_of, regions_of}
+use Rattle.nr_reduce.specs.ServerMessages.{Verdict, CallVerdict, verdict, payload_of, by_payload, by_head, call_xid}
 use Rattle.nr_reduce.specs.ServerMessages.Verdict.{EndsLink, OtherVersion, BadChunks, MakesPending}
 use Rattle.nr_reduce.specs.ServerMessages.CallVerdict.{Refuses, IsReady}
-use Rattle.nr_reduce.specs.ServerFrames.{FrameEffect, no_effect, with_verdict, ready_if_whole, message_effect, with_refused_call, is_stream_read, read_effect, call_of_number, response_effect, by_message, with_access, effect_in, frame_effect}
+use Rattle.nr_reduce.specs.ServerFrames.{FrameEffect, no_effect, with_verdict, ready_if_whole, message_effect, with_refused_call, call_of_number, with_access, frame_effect}
 use Rattle.nr_reduce.specs.Server.{server_rules, server_end, server_state_after, initial_server, with_effect}
 use Rattle.nr_reduce.specs.Run.{server}
 use Rattle.nr_reduce.specs.RunLaws.{server_by, ends_response}

@@ -1,6 +1,5 @@
 -- A server that has its client's own hello is not rejected later: the reasons of its later frames are others than those of a hello.
-use Rattle.std.proofs.Common.{◌≡◌, ℕ, ◌≤◌, Bool, true, false, cond, ◌||◌, not, eqb, ltb, List, [], ◌∷◌, length, Option, None, Some, Result, Ok, Err, sym, ap, subst, ◌∙◌, arith}
-use Rattle.nr_xdr.specs.Fields.{word_at}
+use Rattle.std.proofs.Common.{◌≡◌, ℕ, ◌≤◌, Bool, true, false, cond, eqb, List, Option, None, Some, Result, Ok, Err, sym, ap, subst, ◌∙◌, arith}
 use Rattle.nr_rpc.specs.declared.head.CallHead.{CallHead}
 use Rattle.nr_rpc.specs.Reading.{call_of}
 use Rattle.nr_regions.specs.declared.denied.Denied.{Denied}
@@ -8,14 +7,11 @@ use Rattle.nr_regions.specs.RegisteredMemory.{Access}
 use Rattle.nr_wire.specs.declared.hello.Side.TheVariants.{Initiator}
 use Rattle.nr_wire.specs.Hello.{hello_of}
 use Rattle.nr_wire.specs.Segment.{Segment}
-use Rattle.nr_wire.specs.Segment.Segment.{Tagged, Untagged}
 use Rattle.nr_link.specs.declared.end.End.{End as Stop}
 use Rattle.nr_link.specs.declared.end.End.TheVariants as ends
 use Rattle.nr_link.specs.Frames.{Frame, is_hello}
 use Rattle.nr_link.specs.Output.{own_hello}
-use Rattle.nr_link.specs.Reasons.{REASON_MSN, REASON_OFFSET, REASON_FORM, REASON_RESPONSE, REASON_REQUESTS, REASON_SHORT, REASON_LONG}
-use Rattle.nr_link.specs.ReceiveState.{message_completed, is_send}
-use Rattle.nr_link.specs.SegmentFaults.{Readiness, SegmentFault, segment_fault, first_fault, reason_if, next_msn, next_offset, no_buffer, is_begun, is_malformed, missing_fault, is_unexpected, is_too_many, has_length, terminate_fault}
+use Rattle.nr_link.specs.SegmentFaults.{Readiness, SegmentFault, segment_fault}
 use Rattle.nr_link.specs.SegmentFaults.SegmentFault.{Reason, NoBuffer, AccessDenied, PeerTerminated}
 use Rattle.nr_link.specs.Ending.{access_of, denied_at, frame_segment, frame_end, frame_end_by, end_of_fault, hello_end, missing_access}
 use Rattle.nr_reduce.specs.declared.mark.LinkParameters.{LinkParameters}

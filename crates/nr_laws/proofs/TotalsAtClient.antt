@@ -10,9 +10,8 @@ use Rattle.nr_wire.specs.Hello.{hello_of}
 use Rattle.nr_wire.specs.Segment.Segment.{Tagged, Untagged}
 use Rattle.nr_header.specs.declared.fault.HeaderFault.{HeaderFault}
 use Rattle.nr_header.specs.declared.fault.HeaderFault.TheVariants as faults
-use Rattle.nr_header.specs.declared.header.Body.{Body}
 use Rattle.nr_header.specs.declared.header.Header.{Header}
-use Rattle.nr_header.specs.Reading.{header_of, header_by}
+use Rattle.nr_header.specs.Reading.{header_of}
 use Rattle.nr_xdr.specs.Fields.{word_at}
 use Rattle.nr_reduce.specs.declared.mark.LinkParameters.{LinkParameters}
 use Rattle.nr_reduce.specs.History.{AcceptedCall}

@@ -1,33 +1,27 @@
 -- What a client offers by a message that makes its call pending is within the limits of a header: so each segment of an answer,
 -- and its message, can be written.
 use Rattle.nr_laws.proofs.OneChunk.{HasOneChunk, OneChunk}
-use Rattle.std.proofs.Common.{◌≡◌, ℕ, ◌+◌, ◌*◌, ◌≤◌, ◌<◌, ◌^◌, Bool, true, false, cond, not, ◌||◌, eqb, ltb, List, [], ◌∷◌, length, sum_by, drop, Option, Some, None, IfSome, Result, Ok, Err, refl, sym, subst, arith}
+use Rattle.std.proofs.Common.{◌≡◌, ℕ, ◌+◌, ◌*◌, ◌≤◌, ◌<◌, ◌^◌, List, [], ◌∷◌, length, sum_by, Option, Some, None, IfSome, refl, sym, subst, arith}
 use Rattle.std.specs.List.{All}
-use Rattle.std.proofs.lemmas.Bool.{ltb-false}
 use Rattle.std.proofs.lemmas.List.Elements.{All-head, All-tail}
 use Rattle.std.proofs.lemmas.List.Sums.{sum_by-cons}
 use Rattle.nr_xdr.specs.Item.{Item, IsBytes}
 use Rattle.nr_xdr.specs.Items.{AllFit}
-use Rattle.nr_xdr.specs.Fields.{word_at}
-use Rattle.nr_header.specs.declared.fault.HeaderFault.{HeaderFault}
 use Rattle.nr_header.specs.declared.header.RdmaSegment.{RdmaSegment}
 use Rattle.nr_header.specs.declared.header.ReadSegment.{ReadSegment}
 use Rattle.nr_header.specs.declared.header.ChunkLists.{ChunkLists}
 use Rattle.nr_header.specs.declared.header.Body.{Body}
 use Rattle.nr_header.specs.declared.header.Body.TheVariants.{Msg, Nomsg, ErrVers, ErrChunk}
-use Rattle.nr_header.specs.declared.header.Header.{Header}
 use Rattle.nr_header.specs.Header.{read_items, segments_items, write_items, reply_items, lists_items, body_items}
 use Rattle.nr_header.specs.WithinLimits.{read_total, Ends, SegmentsEnd, ListsWithin, CanRead}
 use Rattle.nr_header.specs.Constants.{PAYLOAD_MAX}
-use Rattle.nr_header.specs.Reading.{header_of}
 use Rattle.nr_header.proofs.Messages.{header_take}
 use Rattle.nr_reduce.specs.Limits.{send_max}
 use Rattle.nr_reduce.specs.Holds.{first_chunk, no_segments, answer_size}
-use Rattle.nr_reduce.specs.Chunks.{is_read_chunk_of_item}
-use Rattle.nr_reduce.specs.ServerState.{PendingCall, ServerState, next_stag, is_pending}
+use Rattle.nr_reduce.specs.ServerState.{PendingCall, ServerState, next_stag}
 use Rattle.nr_reduce.specs.ServerReads.{chunks_of}
-use Rattle.nr_reduce.specs.ServerMessages.{verdict, by_header, by_body, by_stream, by_need, has_position, no_stream}
-use Rattle.nr_reduce.specs.ServerMessages.Verdict.{EndsLink, OtherVersion, BadChunks, MakesPending}
+use Rattle.nr_reduce.specs.ServerMessages.{verdict}
+use Rattle.nr_reduce.specs.ServerMessages.Verdict.{MakesPending}
 use Rattle.nr_reduce.proofs.AnswerMessages.{segments_tail, read_tail}
 use Rattle.nr_laws.proofs.MadePending.{made-pending}
 use Rattle.nr_reduce.proofs.Opens.{IsCall}
