@@ -13,8 +13,6 @@ use Rattle.nr_laws.proofs.SettledLinks.{calls-complete}
 use Rattle.nr_laws.proofs.ChunkCauses.{others_have_no_cause}
 use Rattle.nr_laws.proofs.LawsSoFar.{laws-so-far}
 
--- ---- Laws in full hold so far
-
 -- ---- A completed call has its Done
 
 none-there : {W : Type 0} (c : CompletedCall) → Contains [] c → W

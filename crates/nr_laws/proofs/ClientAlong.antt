@@ -23,13 +23,13 @@ use Rattle.nr_reduce.specs.Client.{client_rules, client_end, client_state_after,
 use Rattle.nr_reduce.specs.RunLaws.{outstanding_from, as_submitted}
 use Rattle.nr_reduce.proofs.Sizes.{message_size}
 use Rattle.nr_laws.proofs.Along.{IsNext, place_after, outputs_by, outputs_in}
-use Rattle.nr_laws.proofs.Outputs.{Output, IsShort, CallsShort, message_of_call, send_segment, call_sends, client_says, response_outputs, response_segments, final_outputs, terminate_segment}
+use Rattle.nr_laws.proofs.Outputs.{Output, IsShort, CallsShort, message_of_call, send_segment, call_sends, client_says, response_outputs, response_segments, final_outputs, terminate_segment, CallShort}
 use Rattle.nr_laws.proofs.Outputs.Output.{ASegment}
 use Rattle.nr_laws.proofs.Brought.{AreFrom}
 use Rattle.nr_laws.proofs.Words.{send-word, terminate-word, from-append, payload-bytes}
 use Rattle.nr_laws.proofs.Messages.{messages, AreOne, messages-append, one-append, messages-calls, one-calls, messages-tagged, one-tagged, tagged-response, messages-final, one-final}
-use Rattle.nr_laws.proofs.ClientSays.{IsGoodCall, ClientGood, accepted_in, accepted-append, asked, HasHello, ClientSays, short-append, short-filter, short-revoked, short-written, submitted-messages, map-more, client-unharmed, formed, response-words}
-use Rattle.nr_laws.proofs.Basics.{above-zero}
+use Rattle.nr_laws.proofs.ClientSays.{IsGoodCall, ClientGood, accepted_in, accepted-append, asked, HasHello, ClientSays, short-revoked, short-written, submitted-messages, map-more, client-unharmed, formed, response-words}
+use Rattle.nr_laws.proofs.Basics.{above-zero, each-append, each-kept}
 use Rattle.nr_reduce.proofs.Waiting.{start, stag_behind, from-append as from-more, behind-append, submitted-append, revoked-same, written-same}
 
 -- ---- What is said for a frame
@@ -123,7 +123,7 @@ request-fields opened k m (Some q) h = h
 
 message-fields : (opened : LinkParameters) (k : ClientState) (place : ℕ) (o : Option (List ℕ)) → (CallsShort opened k.outstanding → CallsShort opened (with_message k place o).outstanding) × ((with_message k place o).stag ≡ k.stag) × ((with_message k place o).calls_accepted ≡ k.calls_accepted) × ((with_message k place o).has_hello ≡ k.has_hello)
 message-fields opened k place None = ((λ h. h), refl, refl, refl)
-message-fields opened k place (Some message) = ((λ h. short-filter opened _ k.outstanding h), refl, refl, refl)
+message-fields opened k place (Some message) = ((λ h. each-kept (CallShort opened) _ k.outstanding h), refl, refl, refl)
 
 segment-fields : (opened : LinkParameters) (k : ClientState) (f : Frame) (r : Result Segment ℕ) → (CallsShort opened k.outstanding → CallsShort opened (with_segment k f r).outstanding) × ((with_segment k f r).stag ≡ k.stag) × ((with_segment k f r).calls_accepted ≡ k.calls_accepted) × ((with_segment k f r).has_hello ≡ k.has_hello)
 segment-fields opened k f (Err reason) = ((λ h. h), refl, refl, refl)
@@ -195,7 +195,7 @@ call-step opened es place p k outs a plan planned h =
     ∙ ap (λ (o : OutstandingCall). asked opened es ++ o ∷ []) (sym same) in
     let short : IsShort (message_of_call opened own) = short-call opened k a plan planned in
     record {
-      short = short-append opened k.outstanding (own ∷ []) h.short (short, tt);
+      short = each-append (CallShort opened) k.outstanding (own ∷ []) h.short (short, tt);
       stag = ap (λ (n : ℕ). n + regions_needed (outstanding_of (record (start opened) { stag = n }) a).plan) h.stag
           ∙ sym (behind-append (start opened) opened.first_stag before a) ∙ ap (λ (xs : List AcceptedCall). stag_behind (start opened) opened.first_stag xs) (sym more);
       count = (let c = h.count in let l = ap (λ (xs : List AcceptedCall). length xs) more in let n = length-append before (a ∷ []) in omega (arith, c, l, n));

@@ -32,10 +32,10 @@ use Rattle.nr_laws.proofs.OwnXids.{OwnXids, own_xids-came, segment-out}
 use Rattle.nr_laws.proofs.OutputFrames.{outs-said, response-said}
 use Rattle.nr_laws.proofs.Writable.{IsWritable, AreWritable, IsOutput, proper_one, stream-more, stream-first, stream-at, tagged-proper}
 use Rattle.nr_laws.proofs.AgreeingEnds.{EndsAgree, IsPlace, frame_of, payload_bytes}
-use Rattle.nr_laws.proofs.Outputs.{CallsShort}
+use Rattle.nr_laws.proofs.Outputs.{CallsShort, CallShort}
 use Rattle.nr_laws.proofs.Words.{word-below, hyper-below}
-use Rattle.nr_laws.proofs.ClientSays.{short-filter}
 use Rattle.nr_reduce.proofs.Touches.{no_flaw}
+use Rattle.nr_laws.proofs.Basics.{each-kept}
 
 -- ---- A Read Request that doesn't end a client ends within 2 ^ 64 bytes of its sink
 
@@ -90,7 +90,7 @@ short-frame opened k f r h = by (segment-out k f r)
   where
     by : ((with_segment k f r).outstanding ≡ k.outstanding) ⊎ ((p : OutstandingCall → Bool) × ((with_segment k f r).outstanding ≡ filter p k.outstanding)) → CallsShort opened (with_segment k f r).outstanding
     by (inl same) = subst (CallsShort opened) (sym same) h
-    by (inr left) = subst (CallsShort opened) (sym left.1) (short-filter opened left.0 k.outstanding h)
+    by (inr left) = subst (CallsShort opened) (sym left.1) (each-kept (CallShort opened) left.0 k.outstanding h)
 
 client-linked : (opened : LinkParameters) (k t : ClientState) (s : ServerState) (u d all_up all_down : List FrameContent) (w : Transit) (p : FrameContent) (rest said : List FrameContent) → EndsAgree opened k s u d all_up all_down w → w.down ≡ p ∷ rest
     → TotalsAgree t s (down_one w said rest) → OwnXids opened t → CallsShort opened t.outstanding → AreWritable said → total_of hellos_in said ≡ 0 → total_of requests_in said ≡ 0

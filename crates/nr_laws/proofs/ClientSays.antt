@@ -3,7 +3,6 @@
 use Rattle.std.proofs.Common.{◌≡◌, ℕ, ◌+◌, ◌^◌, ◌≤◌, ◌<◌, Bool, true, false, cond, ◌||◌, not, eqb, ltb, List, [], ◌∷◌, ◌++◌, length, take, drop, map, Option, None, Some, Result, Ok, refl, sym, ap, subst, ◌∙◌, arith, ◌⊎◌, eqb-true}
 use Rattle.std.proofs.lemmas.List.{length-take}
 use Rattle.std.proofs.lemmas.Bool.{ltb-false, or_parts}
-use Rattle.std.specs.List.{filter}
 use Rattle.nr_xdr.specs.Item.{IsBytes}
 use Rattle.nr_rpc.specs.Credential.{CanWriteCred}
 use Rattle.nr_wire.specs.declared.hello.Side.TheVariants.{Responder}
@@ -104,18 +103,6 @@ abbrev pub Says : LinkParameters → List Event → ℕ → EndState ClientState
 Says opened es place r outs = ClientSays opened es place r.state r.ended outs
 
 -- ---- Calls in lists
-
-pub short-append : (opened : LinkParameters) (xs ys : List OutstandingCall) → CallsShort opened xs → CallsShort opened ys → CallsShort opened (xs ++ ys)
-short-append opened [] ys h g = g
-short-append opened (x ∷ xs) ys h g = (h.0, short-append opened xs ys h.1 g)
-
-pub short-filter : (opened : LinkParameters) (test : OutstandingCall → Bool) (xs : List OutstandingCall) → CallsShort opened xs → CallsShort opened (filter test xs)
-short-filter opened test [] h = tt
-short-filter opened test (x ∷ xs) h = by (test x) (short-filter opened test xs h.1)
-  where
-    by : (b : Bool) → CallsShort opened (filter test xs) → CallsShort opened (cond b (x ∷ filter test xs) (filter test xs))
-    by true rest = (h.0, rest)
-    by false rest = rest
 
 revoked-message : (opened : LinkParameters) (xid : ℕ) (o : OutstandingCall) → message_of_call opened (revoked_call xid o) ≡ message_of_call opened o
 revoked-message opened xid o = by (eqb o.xid xid)

@@ -134,7 +134,7 @@ pub record ResponseRule (k : ServerState) (P : FrameEffect → Type 0) : Type 0 
   pub read : (r : PendingRead) (reads : List PendingRead) → k.reads ≡ r ∷ reads → P (record (no_effect k) { reads = reads; kept = length (open_reads k) - 1 })
   pub refused : (r : PendingRead) (reads : List PendingRead) (c : PendingCall) → k.reads ≡ r ∷ reads → call_of_number k r.number ≡ Some c → P (with_refused_call k c (record (no_effect k) { reads = reads; kept = length (open_reads k) - 1 }))
 
-whole-rule : (P : FrameEffect → Type 0) (t : ServerState) (place : ℕ) (c : PendingCall) (s : FrameEffect) → (P s → P (with_verdict (by_payload c (payload_of t place c)) s)) → P s → P (ready_if_whole t place c s)
+pub whole-rule : (P : FrameEffect → Type 0) (t : ServerState) (place : ℕ) (c : PendingCall) (s : FrameEffect) → (P s → P (with_verdict (by_payload c (payload_of t place c)) s)) → P s → P (ready_if_whole t place c s)
 whole-rule P t place c s judged h = by (is_read s.reads c.number)
   where
     by : (b : Bool) → P (cond b (with_verdict (by_payload c (payload_of t place c)) s) s)

@@ -9,9 +9,9 @@ use Rattle.nr_reduce.specs.declared.mark.Mark.TheVariants as marks
 use Rattle.nr_reduce.specs.declared.mark.LinkParameters.{LinkParameters}
 use Rattle.nr_reduce.specs.History.{bytes_sent, bytes_received}
 use Rattle.nr_reduce.specs.Events.{Event, if_own, events_at, events}
-use Rattle.nr_reduce.specs.EndRules.{EndState}
-use Rattle.nr_reduce.specs.ClientState.{ClientState, initial_state as client_initial_state}
-use Rattle.nr_reduce.specs.ServerState.{ServerState, initial_state as server_initial_state}
+use Rattle.nr_reduce.specs.EndRules.{EndState, Rules, end_state_after}
+use Rattle.nr_reduce.specs.ClientState.{initial_state as client_initial_state}
+use Rattle.nr_reduce.specs.ServerState.{initial_state as server_initial_state}
 use Rattle.nr_reduce.specs.Client.{client_rules}
 use Rattle.nr_reduce.specs.Server.{server_rules}
 use Rattle.nr_reduce.specs.Run.{client, server, output_due}
@@ -32,17 +32,18 @@ use Rattle.nr_laws.proofs.Hears.{was-live}
 
 -- ---- A side that has ended stays so
 
+unended : {S : Type 0} (rules : Rules S) (state : List Mark → EndState S) (added : List Mark → Mark → List Event) → ((before : List Mark) (m : Mark) → state (before ++ m ∷ []) ≡ end_state_after rules (state before) (added before m)) → (before more : List Mark)
+    → (state (before ++ more)).ended ≡ None → (state before).ended ≡ None
+unended rules state added one before [] e = ap (λ (run : List Mark). (state run).ended) (sym (append-nil before)) ∙ e
+unended {S} rules state added one before (m ∷ more) e =
+    let later = unended rules state added one (before ++ m ∷ []) more (ap (λ (run : List Mark). (state run).ended) (append_assoc before (m ∷ []) more) ∙ e) in
+    was-live rules (state before) (added before m) (ap (λ (x : EndState S). x.ended) (sym (one before m)) ∙ later)
+
 pub client-unended : (opened : LinkParameters) (link : ℕ) (before more : List Mark) → (client opened link (before ++ more)).ended ≡ None → (client opened link before).ended ≡ None
-client-unended opened link before [] e = ap (λ (run : List Mark). (client opened link run).ended) (sym (append-nil before)) ∙ e
-client-unended opened link before (m ∷ more) e =
-    let later = client-unended opened link (before ++ m ∷ []) more (ap (λ (run : List Mark). (client opened link run).ended) (append_assoc before (m ∷ []) more) ∙ e) in
-    was-live (client_rules opened) (client opened link before) (events_at link Initiator before m) (ap (λ (x : EndState ClientState). x.ended) (sym (client-one opened link before m)) ∙ later)
+client-unended opened link before more e = unended (client_rules opened) (λ run. client opened link run) (λ earlier m. events_at link Initiator earlier m) (λ earlier m. client-one opened link earlier m) before more e
 
 pub server-unended : (opened : LinkParameters) (link : ℕ) (before more : List Mark) → (server opened link (before ++ more)).ended ≡ None → (server opened link before).ended ≡ None
-server-unended opened link before [] e = ap (λ (run : List Mark). (server opened link run).ended) (sym (append-nil before)) ∙ e
-server-unended opened link before (m ∷ more) e =
-    let later = server-unended opened link (before ++ m ∷ []) more (ap (λ (run : List Mark). (server opened link run).ended) (append_assoc before (m ∷ []) more) ∙ e) in
-    was-live (server_rules opened) (server opened link before) (events_at link Responder before m) (ap (λ (x : EndState ServerState). x.ended) (sym (server-one opened link before m)) ∙ later)
+server-unended opened link before more e = unended (server_rules opened) (λ run. server opened link run) (λ earlier m. events_at link Responder earlier m) (λ earlier m. server-one opened link earlier m) before more e
 
 -- ---- At the beginning
 

@@ -23,6 +23,7 @@ use Rattle.nr_reduce.proofs.OwnStags.{AreNumbered, server-numbers, kept-after}
 use Rattle.nr_laws.proofs.PendingSinks.{sink-closed, OwnersBelow, owners-more, owners-append, owners-closed, sink-none}
 use Rattle.nr_laws.proofs.Basics.{and-false}
 use Rattle.nr_laws.proofs.EachEffect.{each-effect, held-messages, held-responses}
+use Rattle.nr_laws.proofs.RegionLengths.{none-before}
 
 -- ---- The sink of a chunk among some regions
 
@@ -183,17 +184,11 @@ known-along opened es = kept-after (server_rules opened) KnowsSinks (after-known
 
 -- ---- What such a chunk brings
 
-none-under : (n : ℕ) (regions : List Region) → 0 < n → AreNumbered n regions → find (λ x. eqb x.stag 0) regions ≡ None
-none-under n [] some h = refl
-none-under n (r ∷ regions) some h =
-    ap (λ (b : Bool). cond b (Some r) (find (λ x. eqb x.stag 0) regions)) (ne_eqb r.stag 0 (λ e. let s = h.0 in omega (arith, s, e, some)))
-    ∙ none-under (n + 1) regions (omega arith) h.1
-
 no-bytes : (t : ServerState) (place : ℕ) (c : PendingCall) (position : ℕ) → AreNumbered 1 t.regions → sink_of t.regions c.number position ≡ 0 → chunk_bytes t place c position ≡ []
 unfolding region_bytes
 no-bytes t place c position numbered none =
     ap (λ (s : ℕ). region_bytes_by (region_grants place t.regions) t.accesses_received (find (λ r. eqb r.stag s) t.regions)) none
-    ∙ ap (λ (o : Option Region). region_bytes_by (region_grants place t.regions) t.accesses_received o) (none-under 1 t.regions (omega arith) numbered)
+    ∙ ap (λ (o : Option Region). region_bytes_by (region_grants place t.regions) t.accesses_received o) (none-before 1 0 t.regions (omega arith) numbered)
 
 -- of a call that a message makes pending, before it is pending; and of one that is
 pub new-empty : (opened : LinkParameters) (es : List Event) (place : ℕ) (c : PendingCall) (position : ℕ) → c.number ≡ (server_by opened es).received.sends + 1 → chunk_bytes (server_by opened es) place c position ≡ []

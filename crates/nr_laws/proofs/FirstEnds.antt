@@ -15,7 +15,7 @@ use Rattle.nr_reduce.specs.Credits.{WithinGrant}
 use Rattle.nr_reduce.specs.History.{bytes_sent, bytes_received}
 use Rattle.nr_reduce.specs.Events.{Event, if_own, events_at}
 use Rattle.nr_reduce.specs.Events.Event.{FrameReceived, CallSubmitted, MemoryRevoked, CallExecuted, QueueWritten}
-use Rattle.nr_reduce.specs.EndRules.{EndState, live, end_state_after}
+use Rattle.nr_reduce.specs.EndRules.{EndState, Rules, live, end_state_after}
 use Rattle.nr_reduce.specs.ClientState.{ClientState}
 use Rattle.nr_reduce.specs.ServerState.{ServerState}
 use Rattle.nr_reduce.specs.Client.{client_rules}
@@ -52,16 +52,18 @@ guarded-more opened link run mark j g o within guards = record { joined = goes-o
 
 -- ---- The server
 
-server-last : (opened : LinkParameters) (link : ℕ) (before more : List Mark) (end : End) → (server opened link before).ended ≡ Some end → (server opened link (before ++ more)).ended ≡ Some end
-server-last opened link before [] end e = ap (λ (run : List Mark). (server opened link run).ended) (append-nil before) ∙ e
-server-last opened link before (m ∷ more) end e =
-    let r = server opened link before in
+lasts : {S : Type 0} (rules : Rules S) (state : List Mark → EndState S) (added : List Mark → Mark → List Event) → ((before : List Mark) (m : Mark) → state (before ++ m ∷ []) ≡ end_state_after rules (state before) (added before m)) → (before more : List Mark) (end : End)
+    → (state before).ended ≡ Some end → (state (before ++ more)).ended ≡ Some end
+lasts rules state added one before [] end e = ap (λ (run : List Mark). (state run).ended) (append-nil before) ∙ e
+lasts {S} rules state added one before (m ∷ more) end e =
+    let r = state before in
     let same : r ≡ record { state = r.state; ended = Some end } = λ i. record { state = r.state; ended = e i } in
-    let next : (server opened link (before ++ m ∷ [])).ended ≡ Some end =
-    ap (λ (x : EndState ServerState). x.ended) (server-one opened link before m)
-    ∙ ap (λ (x : EndState ServerState). (end_state_after (server_rules opened) x (events_at link Responder before m)).ended) same
-    ∙ ap (λ (x : EndState ServerState). x.ended) (ended-stays (server_rules opened) r.state end (events_at link Responder before m)).0 in
-    ap (λ (run : List Mark). (server opened link run).ended) (sym (append_assoc before (m ∷ []) more)) ∙ server-last opened link (before ++ m ∷ []) more end next
+    let next : (state (before ++ m ∷ [])).ended ≡ Some end =
+    ap (λ (x : EndState S). x.ended) (one before m) ∙ ap (λ (x : EndState S). (end_state_after rules x (added before m)).ended) same ∙ ap (λ (x : EndState S). x.ended) (ended-stays rules r.state end (added before m)).0 in
+    ap (λ (run : List Mark). (state run).ended) (sym (append_assoc before (m ∷ []) more)) ∙ lasts rules state added one (before ++ m ∷ []) more end next
+
+server-last : (opened : LinkParameters) (link : ℕ) (before more : List Mark) (end : End) → (server opened link before).ended ≡ Some end → (server opened link (before ++ more)).ended ≡ Some end
+server-last opened link before more end e = lasts (server_rules opened) (λ run. server opened link run) (λ earlier m. events_at link Responder earlier m) (λ earlier m. server-one opened link earlier m) before more end e
 
 -- no event, or one that is no frame, ends it
 not-by-none : (opened : LinkParameters) (s : ServerState) (es : List Event) (end : End) → es ≡ [] → (end_state_after (server_rules opened) (live s) es).ended ≡ Some end → IsCallEnd end
@@ -145,15 +147,7 @@ server-ends-for-calls opened link run o typed laws up end down =
 -- ---- The client
 
 pub client-last : (opened : LinkParameters) (link : ℕ) (before more : List Mark) (end : End) → (client opened link before).ended ≡ Some end → (client opened link (before ++ more)).ended ≡ Some end
-client-last opened link before [] end e = ap (λ (run : List Mark). (client opened link run).ended) (append-nil before) ∙ e
-client-last opened link before (m ∷ more) end e =
-    let r = client opened link before in
-    let same : r ≡ record { state = r.state; ended = Some end } = λ i. record { state = r.state; ended = e i } in
-    let next : (client opened link (before ++ m ∷ [])).ended ≡ Some end =
-    ap (λ (x : EndState ClientState). x.ended) (client-one opened link before m)
-    ∙ ap (λ (x : EndState ClientState). (end_state_after (client_rules opened) x (events_at link Initiator before m)).ended) same
-    ∙ ap (λ (x : EndState ClientState). x.ended) (ended-stays (client_rules opened) r.state end (events_at link Initiator before m)).0 in
-    ap (λ (run : List Mark). (client opened link run).ended) (sym (append_assoc before (m ∷ []) more)) ∙ client-last opened link (before ++ m ∷ []) more end next
+client-last opened link before more end e = lasts (client_rules opened) (λ run. client opened link run) (λ earlier m. events_at link Initiator earlier m) (λ earlier m. client-one opened link earlier m) before more end e
 
 abbrev IsClientEnd : End → Type 0
 IsClientEnd end = IsReplyEnd end ⊎ IsDenied end

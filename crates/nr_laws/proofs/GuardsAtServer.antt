@@ -98,17 +98,20 @@ found-times n (y ∷ cs) c e = by (eqb y.number n) e (found-times n cs c)
         omega (arith, ap one_if (eq-eqb y.xid c.xid (ap (λ (z : PendingCall). z.xid) same)))
     by false e later = omega (arith, later e)
 
+-- a number that is among those of the calls of a server is a word
+counted-word : (opened : LinkParameters) (k : ClientState) (s : ServerState) (u d all_up all_down : List FrameContent) (w : Transit) (place xid : ℕ) → EndsAgree opened k s u d all_up all_down w → Guards opened k s u d all_up all_down w place → 1 ≤ times xid (call_xids s.calls)
+    → xid < 2 ^ 32
+counted-word opened k s u d all_up all_down w place xid l g some =
+    let sent = calls_said opened k s u d all_up all_down w l in
+    by (cases_lt xid (opened.first_xid + s.received.sends)) (omega (arith, sent, sent_most k, l.sends_up, ap (total_of sends_in) l.parts_up, total-append sends_in u (w.up ++ w.queued_up)))
+  where
+    by : (xid < opened.first_xid + s.received.sends) ⊎ (opened.first_xid + s.received.sends ≤ xid) → s.received.sends ≤ k.calls_accepted → xid < 2 ^ 32
+    by (inl lt) few = omega (arith, lt, few, g.answered.room)
+    by (inr le) few = absurd (omega (arith, some, g.answered.later xid le))
+
 pub small-xid : (opened : LinkParameters) (k : ClientState) (s : ServerState) (u d all_up all_down : List FrameContent) (w : Transit) (place n : ℕ) (c : PendingCall) → EndsAgree opened k s u d all_up all_down w → Guards opened k s u d all_up all_down w place
     → find (λ (y : PendingCall). eqb y.number n) s.calls ≡ Some c → c.xid < 2 ^ 32
-small-xid opened k s u d all_up all_down w place n c l g found =
-    let some = found-times n s.calls c found in
-    let sent = calls_said opened k s u d all_up all_down w l in
-    by (cases_lt c.xid (opened.first_xid + s.received.sends)) some
-    (omega (arith, sent, sent_most k, l.sends_up, ap (total_of sends_in) l.parts_up, total-append sends_in u (w.up ++ w.queued_up)))
-  where
-    by : (c.xid < opened.first_xid + s.received.sends) ⊎ (opened.first_xid + s.received.sends ≤ c.xid) → 1 ≤ times c.xid (call_xids s.calls) → s.received.sends ≤ k.calls_accepted → c.xid < 2 ^ 32
-    by (inl lt) some few = omega (arith, lt, few, g.answered.room)
-    by (inr le) some few = absurd (omega (arith, some, g.answered.later c.xid le))
+small-xid opened k s u d all_up all_down w place n c l g found = counted-word opened k s u d all_up all_down w place c.xid l g (found-times n s.calls c found)
 
 any-times : (xid : ℕ) (cs : List PendingCall) → list_any (λ (c : PendingCall). eqb c.xid xid) cs ≡ true → 1 ≤ times xid (call_xids cs)
 any-times xid [] e = absurd cc
@@ -120,15 +123,7 @@ any-times xid (c ∷ cs) e = by (eqb c.xid xid) e (any-times xid cs)
 
 pub pending-word : (opened : LinkParameters) (k : ClientState) (s : ServerState) (u d all_up all_down : List FrameContent) (w : Transit) (place xid : ℕ) → EndsAgree opened k s u d all_up all_down w → Guards opened k s u d all_up all_down w place
     → list_any (λ (c : PendingCall). eqb c.xid xid) s.calls ≡ true → xid < 2 ^ 32
-pending-word opened k s u d all_up all_down w place xid l g there =
-    let some = any-times xid s.calls there in
-    let sent = calls_said opened k s u d all_up all_down w l in
-    by (cases_lt xid (opened.first_xid + s.received.sends)) some
-    (omega (arith, sent, sent_most k, l.sends_up, ap (total_of sends_in) l.parts_up, total-append sends_in u (w.up ++ w.queued_up)))
-  where
-    by : (xid < opened.first_xid + s.received.sends) ⊎ (opened.first_xid + s.received.sends ≤ xid) → 1 ≤ times xid (call_xids s.calls) → s.received.sends ≤ k.calls_accepted → xid < 2 ^ 32
-    by (inl lt) some few = omega (arith, lt, few, g.answered.room)
-    by (inr le) some few = absurd (omega (arith, some, g.answered.later xid le))
+pending-word opened k s u d all_up all_down w place xid l g there = counted-word opened k s u d all_up all_down w place xid l g (any-times xid s.calls there)
 
 -- the reasons of a server's refusal come from the effect of the frame
 pub record ServerTakes (opened : LinkParameters) (k : ClientState) (s : ServerState) (u d all_up all_down : List FrameContent) (w : Transit) (p : FrameContent) (rest : List FrameContent) (f : Frame) : Type 0 where

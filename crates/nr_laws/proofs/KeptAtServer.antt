@@ -25,7 +25,7 @@ use Rattle.nr_laws.specs.Typed.{IsTyped}
 use Rattle.nr_laws.specs.LinkInvariants.{PendingAgree}
 use Rattle.nr_laws.proofs.Along.{IsNext, place_after, GoesOn, goes-first}
 use Rattle.nr_laws.proofs.Words.{payload-bytes}
-use Rattle.nr_laws.proofs.ServerOutputs.{CallsFit, fit-filter, fine-frame}
+use Rattle.nr_laws.proofs.ServerOutputs.{CallsFit, fine-frame, CallFits}
 use Rattle.nr_laws.proofs.ServerAlong.{ServerPlain}
 use Rattle.nr_laws.proofs.ServerEvents.{received-bytes, completed-bytes}
 use Rattle.nr_laws.proofs.ServerSide.{server-goes}
@@ -35,6 +35,7 @@ use Rattle.nr_laws.proofs.PendingSends.{pending_agree-message, pending_agree-sam
 use Rattle.nr_laws.proofs.PendingFrames.{pending_agree-tagged_up}
 use Rattle.nr_laws.proofs.PendingExecuted.{pending_agree-executes}
 use Rattle.nr_laws.proofs.PendingReads.{AreOwn, own-effect, own-executed}
+use Rattle.nr_laws.proofs.Basics.{each-kept}
 
 pub record KeptAtServer (k : ServerState) : Type 0 where
   pub agree : PendingAgree k
@@ -103,7 +104,7 @@ live-holds opened place s (CallExecuted e) next good stays h = record {
   agree = pending_agree-executes opened s e good.call good.others h.agree good.is_next good.xid;
   own = own-executed s.reads (λ (c : PendingCall). not (eqb c.xid e.xid)) s.calls h.own;
   begun = h.begun;
-  fit = fit-filter (λ (c : PendingCall). not (eqb c.xid e.xid)) s.calls h.fit;
+  fit = each-kept CallFits (λ (c : PendingCall). not (eqb c.xid e.xid)) s.calls h.fit;
 }
 live-holds opened place s QueueWritten next good stays h = record {
   agree = pending_agree-same s (server_state_after opened s QueueWritten) h.agree refl refl refl (omega arith);

@@ -1,6 +1,6 @@
 -- What each side writes, as hellos and segments.
 use Rattle.std.proofs.Common.{◌≡◌, ℕ, ◌+◌, ◌*◌, ◌≤◌, Bool, true, false, cond, eqb, List, [], ◌∷◌, ◌++◌, length, take, drop, map, Option, None, Some, refl, sym, ap, ◌∙◌, arith, append-nil, take_all}
-use Rattle.std.specs.List.{flat_map, range_with_len}
+use Rattle.std.specs.List.{flat_map, range_with_len, AllByRecursion}
 use Rattle.std.proofs.lemmas.Grind.{flat_map-append}
 use Rattle.nr_xdr.specs.Item.{word, hyper}
 use Rattle.nr_wire.specs.Constants.{OPCODE_READ_REQUEST, OPCODE_READ_RESPONSE, OPCODE_SEND, OPCODE_TERMINATE, QUEUE_SEND, QUEUE_READ_REQUEST, QUEUE_TERMINATE}
@@ -76,9 +76,11 @@ abbrev pub message_sends : ℕ → List (List ℕ) → List Output
 message_sends msn [] = []
 message_sends msn (m ∷ ms) = ASegment (send_segment msn m) ∷ message_sends (msn + 1) ms
 
+abbrev pub CallShort : LinkParameters → OutstandingCall → Type 0
+CallShort opened o = IsShort (message_of_call opened o)
+
 abbrev pub CallsShort : LinkParameters → List OutstandingCall → Type 0
-CallsShort opened [] = Unit {0}
-CallsShort opened (o ∷ os) = IsShort (message_of_call opened o) × CallsShort opened os
+CallsShort opened os = AllByRecursion (CallShort opened) os
 
 abbrev pub AreShort : List (List ℕ) → Type 0
 AreShort [] = Unit {0}

@@ -28,12 +28,13 @@ use Rattle.nr_laws.proofs.TotalsAtServer.{totals-executes, totals-writes_down, a
 use Rattle.nr_laws.proofs.PendingExecuted.{pending_agree-executes, executed-there}
 use Rattle.nr_laws.proofs.OwnXids.{OwnXids, own_xids-accepts, own_xids-writes}
 use Rattle.nr_laws.proofs.Writable.{AreWritable, stream-more}
-use Rattle.nr_laws.proofs.ServerOutputs.{fit-filter}
 use Rattle.nr_laws.proofs.ServerOutput.{execution_frames, execution-proper, execution-said}
 use Rattle.nr_laws.proofs.AgreeingEnds.{EndsAgree, messages_said}
 use Rattle.nr_laws.proofs.ClientFrame.{calls_said}
-use Rattle.nr_laws.proofs.Outputs.{IsShort, send-one, CallsShort}
-use Rattle.nr_laws.proofs.ClientSays.{short-append, short-revoked, short-written}
+use Rattle.nr_laws.proofs.Outputs.{IsShort, send-one, CallsShort, CallShort}
+use Rattle.nr_laws.proofs.ClientSays.{short-revoked, short-written}
+use Rattle.nr_laws.proofs.Basics.{each-kept, each-append}
+use Rattle.nr_laws.proofs.ServerOutputs.{CallFits}
 
 -- ---- Of a client
 
@@ -100,7 +101,7 @@ submitted opened k s u d all_up all_down w place a plan l own is = by k.has_hell
       linked =
           up-linked opened k (client_state_after opened k (CallSubmitted place a)) s u d all_up all_down w said l
           (subst (λ (ps : List FrameContent). TotalsAgree (client_state_after opened k (CallSubmitted place a)) s (up_more w ps)) says (totals-accepts opened k s w place a l.counts))
-          (own_xids-accepts opened k place a own l.outs) (short-append opened k.outstanding (outstanding_of k a ∷ []) l.short (short, tt)) refl proper hellos reads;
+          (own_xids-accepts opened k place a own l.outs) (each-append (CallShort opened) k.outstanding (outstanding_of k a ∷ []) l.short (short, tt)) refl proper hellos reads;
     }
 
     by : (b : Bool) → k.has_hello ≡ b → Submitted opened k s u d all_up all_down w place a
@@ -219,7 +220,7 @@ executed opened k s u d all_up all_down w e r rest l first own begun =
         counts = totals-executes opened k s w e l.counts l.waits.xids there;
         waits = pending_agree-executes opened s e r rest l.waits first own;
         outs = l.outs;
-        fits = fit-filter (λ c. not (eqb c.xid e.xid)) s.calls l.fits;
+        fits = each-kept CallFits (λ c. not (eqb c.xid e.xid)) s.calls l.fits;
         short = l.short;
         stream_up = l.stream_up;
         begins_up = l.begins_up;

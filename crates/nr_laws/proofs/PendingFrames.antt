@@ -26,6 +26,7 @@ use Rattle.nr_laws.proofs.PendingSends.{AfterEffect, pending_agree-message, pend
 use Rattle.nr_laws.proofs.PendingExecuted.{pending_agree-read}
 use Rattle.nr_laws.proofs.Sinks.{sink-later, sinks-closed, sinks-more, sinks-append, sinks-taken, sinks-dropped, sinks-kept}
 use Rattle.nr_laws.proofs.NewSinks.{AreKnown, sinks-opened}
+use Rattle.nr_laws.proofs.EachEffect.{whole-rule}
 
 pub pending_agree-send_up : (opened : LinkParameters) (s : ServerState) (f : Frame) (message : List ℕ) → PendingAgree s → Carries s.received.sends s.received.requests f (SendFrame message) → (frame_effect s f).refusal ≡ None → PendingAgree (server_state_after opened s (FrameReceived f))
 pending_agree-send_up opened s f message w p goes_on =
@@ -73,11 +74,7 @@ ready-sinks place st (Refuses reason) h = h
 ready-sinks place st (IsReady x) h = h
 
 whole-sinks : (k : ServerState) (place : ℕ) (c : PendingCall) (st : FrameEffect) (at : ℕ) → StepSinks at st → StepSinks at (ready_if_whole k place c st)
-whole-sinks k place c st at h = by (is_read st.reads c.number)
-  where
-    by : (b : Bool) → StepSinks at (cond b (with_verdict (by_payload c (payload_of k place c)) st) st)
-    by true = ready-sinks at st (by_payload c (payload_of k place c)) h
-    by false = h
+whole-sinks k place c st at h = whole-rule (StepSinks at) k place c st (λ g. ready-sinks at st (by_payload c (payload_of k place c)) g) h
 
 message-sinks : (k : ServerState) (place : ℕ) (message : List ℕ) (v : Verdict) → verdict k message ≡ v → AreKnown k → HaveSinks place k.regions k.reads → StepSinks place (message_effect k place message v)
 message-sinks k place message (EndsLink reason) is a h = h

@@ -37,8 +37,6 @@ pub record AreWithin (reads : List PendingRead) (regions : List Region) : Type 0
   pub few : length regions < numbers_end
   pub small : AllByRecursion IsSmall regions
 
--- ---- Lists
-
 -- ---- A call's reads and regions
 
 reads-fit : (regions : List Region) (number : ℕ) (before read : List ReadSegment) → EntriesFit read → AllByRecursion ReadFits (reads_from regions number before read)

@@ -24,6 +24,7 @@ use Rattle.nr_laws.specs.FrameContents.{FrameContent, Carries, request_frame, ef
 use Rattle.nr_laws.specs.FrameContents.FrameContent.{HelloFrame, SendFrame, RequestFrame, TaggedFrame}
 use Rattle.nr_laws.specs.LinkInvariants.{Transit, AreResponses, ContinuesRead, requests_of, ReadsAgree}
 use Rattle.nr_laws.proofs.TotalsAtServer.{shape-message, after-is, step-is, segment-is, with_by}
+use Rattle.nr_laws.proofs.EachEffect.{whole-rule}
 
 -- ---- What stays at the front of the reads
 
@@ -38,11 +39,7 @@ front-ready st xs (Refuses reason) h = h
 front-ready st xs (IsReady r) h = h
 
 front-whole : (k : ServerState) (place : ℕ) (c : PendingCall) (st : FrameEffect) (xs : List PendingRead) → take st.kept st.reads ≡ xs → take (ready_if_whole k place c st).kept (ready_if_whole k place c st).reads ≡ xs
-front-whole k place c st xs h = by (is_read st.reads c.number)
-  where
-    by : (b : Bool) → take (cond b (with_verdict (by_payload c (payload_of k place c)) st) st).kept (cond b (with_verdict (by_payload c (payload_of k place c)) st) st).reads ≡ xs
-    by true = front-ready st xs (by_payload c (payload_of k place c)) h
-    by false = h
+front-whole k place c st xs h = whole-rule (λ x. take x.kept x.reads ≡ xs) k place c st (λ g. front-ready st xs (by_payload c (payload_of k place c)) g) h
 
 taken-again : {A : Type 0} (n : ℕ) (xs : List A) → take (length (take n xs)) xs ≡ take n xs
 taken-again zero xs = refl

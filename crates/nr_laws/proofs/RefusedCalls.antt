@@ -30,7 +30,7 @@ use Rattle.nr_laws.proofs.HeaderXid.{header-xid, call-xid, chunk-error-xid, vers
 use Rattle.nr_laws.proofs.ServerAlong.{SaidError}
 use Rattle.nr_laws.proofs.Basics.{none-one}
 use Rattle.std.proofs.lemmas.Bool.{and_parts, not-true}
-use Rattle.nr_laws.proofs.EachEffect.{EffectCase, effect-case, read_over}
+use Rattle.nr_laws.proofs.EachEffect.{EffectCase, effect-case, read_over, whole-rule}
 use Rattle.nr_laws.proofs.EachEffect.EffectCase.{Unchanged, OfMessage, OfRead, OfRefusal, OfCall}
 
 -- ---- The cause of an error message
@@ -45,11 +45,7 @@ same-errors (Refuses reason) s = refl
 same-errors (IsReady r) s = refl
 
 whole-errors : (k : ServerState) (place : ℕ) (c : PendingCall) (s : FrameEffect) → (ready_if_whole k place c s).errors ≡ s.errors
-whole-errors k place c s = by (is_read s.reads c.number)
-  where
-    by : (b : Bool) → (cond b (with_verdict (by_payload c (payload_of k place c)) s) s).errors ≡ s.errors
-    by true = same-errors (by_payload c (payload_of k place c)) s
-    by false = refl
+whole-errors k place c s = whole-rule (λ x. x.errors ≡ s.errors) k place c s (λ same. same-errors (by_payload c (payload_of k place c)) s) refl
 
 one-of : (a b : List ℕ) → a ∷ [] ≡ b ∷ [] → b ≡ a
 one-of a b e = (let t : a ≡ b = cc in sym t)

@@ -12,12 +12,12 @@ use Rattle.nr_reduce.proofs.OfferedMemory.{found, grants_from, none-found}
 use Rattle.nr_reduce.proofs.OwnStags.{AreNumbered}
 use Rattle.nr_laws.proofs.Memory.{Part, part_of, parts_of, after_part, after_parts, Settled}
 
--- a number above all regions from one on
-above : (n stag : ℕ) (regions : List Region) → stag < n → AreNumbered n regions → find (λ x. eqb x.stag stag) regions ≡ None
-above n stag [] lt h = refl
-above n stag (r ∷ regions) lt h =
+-- a number none-before all regions from one on
+pub none-before : (n stag : ℕ) (regions : List Region) → stag < n → AreNumbered n regions → find (λ x. eqb x.stag stag) regions ≡ None
+none-before n stag [] lt h = refl
+none-before n stag (r ∷ regions) lt h =
     ap (λ (b : Bool). cond b (Some r) (find (λ x. eqb x.stag stag) regions)) (ne_eqb r.stag stag (λ e. let s = h.0 in omega (arith, s, e, lt)))
-    ∙ above (n + 1) stag regions (omega (arith, lt)) h.1
+    ∙ none-before (n + 1) stag regions (omega (arith, lt)) h.1
 
 within : (right : Right) (len : ℕ) (a : Access) → denial_in (Some (right, len)) a ≡ None → a.to + a.len ≤ len
 within right len a e = by (ltb len (a.to + a.len)) refl e
@@ -37,7 +37,7 @@ fits-found place n stag end (x ∷ regions) r a numbers there e = by (eqb x.stag
     here : x ≡ r → eqb x.stag stag ≡ true → (c : Bool) → denial_in (grant_offer (cond c (Some (region_grant place x)) (found stag end (grants_from place regions)))) a ≡ None → a.to + a.len ≤ length r.bytes
     here same is true e = subst (λ (q : Region). a.to + a.len ≤ length q.bytes) same (within x.right (length x.bytes) a e)
     here same is false e =
-        let none : found stag end (grants_from place regions) ≡ None = none-found place end stag regions (above (n + 1) stag regions (let s = numbers.0 in let t = eqb-true x.stag stag is in omega (arith, s, t)) numbers.1) in
+        let none : found stag end (grants_from place regions) ≡ None = none-found place end stag regions (none-before (n + 1) stag regions (let s = numbers.0 in let t = eqb-true x.stag stag is in omega (arith, s, t)) numbers.1) in
         absurd (let s : Some denials.NoStag ≡ None = ap (λ (o : Option Grant). denial_in (grant_offer o) a) (sym none) ∙ e in cc)
 
     by : (b : Bool) → eqb x.stag stag ≡ b → cond b (Some x) (find (λ y. eqb y.stag stag) regions) ≡ Some r → denial_in (grant_offer (cond (eqb x.stag stag && rest) (Some (region_grant place x)) (found stag end (grants_from place regions)))) a ≡ None

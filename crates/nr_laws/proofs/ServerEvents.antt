@@ -31,11 +31,11 @@ use Rattle.nr_laws.proofs.Words.{payload-bytes, payload_by}
 use Rattle.nr_laws.proofs.Messages.{message_in, messages, AreOne, messages-tagged, messages-final, one-final}
 use Rattle.nr_laws.proofs.ClientRun.{parted, by_part}
 use Rattle.nr_laws.proofs.ClientAlong.{final-words}
-use Rattle.nr_laws.proofs.ServerOutputs.{errors-short, CallsFit, fit-filter, IsFine, fine-frame, AreFine, fine-effect, fine-answer, answer-is-short, tagged-answer}
+use Rattle.nr_laws.proofs.ServerOutputs.{errors-short, CallsFit, IsFine, fine-frame, AreFine, fine-effect, fine-answer, answer-is-short, tagged-answer, CallFits}
 use Rattle.nr_laws.proofs.ServerEnds.{BigEnd, segment-ends, hello-goes}
 use Rattle.nr_laws.proofs.ServerAlong.{IsGoodExecution, ServerGood, Said, is_live, outs_of, at-most, nothing-at, messages-at, Greeted, greeted-more, Shape, ServerTells, Grows, grown}
 use Rattle.nr_laws.proofs.ServerAlong.Said.{IsRefusal, IsAnswer, IsNoAnswer}
-use Rattle.nr_laws.proofs.Basics.{above-zero}
+use Rattle.nr_laws.proofs.Basics.{above-zero, each-kept}
 use Rattle.nr_laws.proofs.Bytes.{bytes_both}
 
 -- ---- The bytes that are received
@@ -194,7 +194,7 @@ executed-step opened es place k outs e good t o is =
       outputs = ap (λ (x : Option Answer). answer_outputs k e.xid (offer_of k e.xid) x) is;
       said = server-said opened k (CallExecuted e) (answer-is-short k e t.fit (answer_of_call k e) refl) ∙ ap (λ (x : Option Answer). bytes_of_all (answer_outputs k e.xid (offer_of k e.xid) x)) is;
       begun = t.begun;
-      fit = fit-filter (λ c. not (eqb c.xid e.xid)) k.calls t.fit;
+      fit = each-kept CallFits (λ c. not (eqb c.xid e.xid)) k.calls t.fit;
       shape = inr (there.0, greeted-more outs (answer_outputs k e.xid (offer_of k e.xid) o) there.1 own.words);
       one = own.one;
       cause = λ pre s post m same one. by o is pre s post m same one (ap (λ (q : ServerState). answer_of_call q e) (sym at)) at (sym (ap (λ (r : EndState ServerState). r.ended) t.state)) t.outs_are;

@@ -1,6 +1,6 @@
 -- What the server of a link says along its events: each of its messages answers an executed call, or refuses a Send.
 use Rattle.std.proofs.Common.{◌≡◌, ℕ, ◌+◌, ◌*◌, ◌≤◌, Bool, true, false, cond, not, eqb, List, [], ◌∷◌, ◌++◌, length, map, Option, None, Some, Ok, refl, sym, ap, subst, ◌∙◌, arith, append-nil}
-use Rattle.std.specs.List.{filter, find}
+use Rattle.std.specs.List.{find, AllByRecursion}
 use Rattle.std.proofs.lemmas.List.Elements.{All-nil}
 use Rattle.nr_header.specs.WithinLimits.{ListsWithin}
 use Rattle.nr_xdr.specs.Item.{IsBytes, word}
@@ -31,6 +31,7 @@ use Rattle.nr_laws.proofs.Messages.{messages, AreOne, messages-append, one-appen
 use Rattle.std.proofs.lemmas.List.{map-append}
 use Rattle.nr_laws.proofs.EachEffect.{MessageRule, ResponseRule, each-effect}
 use Rattle.nr_reduce.proofs.Sizes.{word_len}
+use Rattle.nr_laws.proofs.Basics.{each-append, each-kept}
 
 -- ---- Error messages
 
@@ -73,21 +74,11 @@ errors-short ms (OneError m e) = (error-short m e, tt)
 
 -- ---- What a frame leaves
 
+abbrev pub CallFits : PendingCall → Type 0
+CallFits c = OfferFits c.lists
+
 abbrev pub CallsFit : List PendingCall → Type 0
-CallsFit [] = Unit {0}
-CallsFit (c ∷ calls) = OfferFits c.lists × CallsFit calls
-
-pub fit-append : (xs ys : List PendingCall) → CallsFit xs → CallsFit ys → CallsFit (xs ++ ys)
-fit-append [] ys h k = k
-fit-append (x ∷ xs) ys h k = (h.0, fit-append xs ys h.1 k)
-
-pub fit-filter : (p : PendingCall → Bool) (xs : List PendingCall) → CallsFit xs → CallsFit (filter p xs)
-fit-filter p [] h = tt
-fit-filter p (x ∷ xs) h = by (p x) (fit-filter p xs h.1)
-  where
-    by : (b : Bool) → CallsFit (filter p xs) → CallsFit (cond b (x ∷ filter p xs) (filter p xs))
-    by true k = (h.0, k)
-    by false k = k
+CallsFit calls = AllByRecursion CallFits calls
 
 pub record IsFine (s : FrameEffect) : Type 0 where
   pub errors : AtMostOne s.errors
@@ -103,7 +94,7 @@ fine-messages k h = record {
   ends = λ message reason bytes is. record { errors = NoError; fit = h };
   version = λ message bytes. record { errors = OneError _ (OfVersion (word_at 0 message) (word_at 4 message) (credit_word k) refl); fit = h };
   chunks = λ message bytes. record { errors = OneError _ (OfChunks (word_at 0 message) (credit_word k) refl); fit = h };
-  pending = λ place message c bytes is. record { errors = NoError; fit = fit-append k.calls (c ∷ []) h (verdict_fits k message c bytes is, tt) };
+  pending = λ place message c bytes is. record { errors = NoError; fit = each-append CallFits k.calls (c ∷ []) h (verdict_fits k message c bytes is, tt) };
 }
 
 pub fine-responses : (k : ServerState) → CallsFit k.calls → ResponseRule k IsFine
@@ -111,7 +102,7 @@ fine-responses k h = record {
   unchanged = record { errors = NoError; fit = h };
   judged = λ t place c s g. fine-verdict (by_payload c (payload_of t place c)) s g;
   read = λ r reads is. record { errors = NoError; fit = h };
-  refused = λ r reads c is found. record { errors = OneError _ (OfChunks c.xid (credit_word k) refl); fit = fit-filter (λ other. not (eqb other.number c.number)) k.calls h };
+  refused = λ r reads c is found. record { errors = OneError _ (OfChunks c.xid (credit_word k) refl); fit = each-kept CallFits (λ other. not (eqb other.number c.number)) k.calls h };
 }
 
 pub fine-frame : (k : ServerState) (f : Frame) → ((s : Segment) (m : List ℕ) → frame_segment f ≡ Ok s → message_completed k.received s ≡ Some m → IsBytes m) → CallsFit k.calls → IsFine (frame_effect k f)

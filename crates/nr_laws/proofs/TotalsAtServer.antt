@@ -32,6 +32,7 @@ use Rattle.nr_laws.specs.FrameContents.{FrameContent, Carries, numbered_segment,
 use Rattle.nr_laws.specs.FrameContents.FrameContent.{HelloFrame, SendFrame, TaggedFrame}
 use Rattle.nr_laws.specs.LinkInvariants.{Transit, TotalsAgree, AreDistinct}
 use Rattle.nr_laws.proofs.Totals.{total-append, total-map-zero, total-map-one, others, length-fewer, any_found, length-newly}
+use Rattle.nr_laws.proofs.EachEffect.{whole-rule}
 
 -- ---- What a step counts: the calls and error messages of so many Sends more, and how many reads stay open
 
@@ -45,11 +46,7 @@ shape-ready k st new kept (Refuses reason) h = record { counted = h.counted; kep
 shape-ready k st new kept (IsReady r) h = record { counted = h.counted; kept_is = h.kept_is; kept_there = h.kept_there }
 
 shape-whole : (k c_k : ServerState) (place : ℕ) (c : PendingCall) (st : FrameEffect) (new kept : ℕ) → EffectTotals k st new kept → EffectTotals k (ready_if_whole c_k place c st) new kept
-shape-whole k c_k place c st new kept h = by (is_read st.reads c.number)
-  where
-    by : (b : Bool) → EffectTotals k (cond b (with_verdict (by_payload c (payload_of c_k place c)) st) st) new kept
-    by true = shape-ready k st new kept (by_payload c (payload_of c_k place c)) h
-    by false = h
+shape-whole k c_k place c st new kept h = whole-rule (λ x. EffectTotals k x new kept) c_k place c st (λ g. shape-ready k st new kept (by_payload c (payload_of c_k place c)) g) h
 
 -- more reads behind
 taken-more : (n : ℕ) (xs ys : List PendingRead) → length (take n xs) ≤ length (take n (xs ++ ys))
