@@ -41,7 +41,7 @@ use Rattle.nr_reduce.proofs.OwnStags.{ClientNumbers, client-numbers}
 use Rattle.nr_laws.specs.MatchedSoFar.{MatchedSoFar}
 use Rattle.nr_laws.specs.Typed.{TypedMark, IsTyped}
 use Rattle.nr_laws.specs.Payloads.{HasPlan}
-use Rattle.nr_laws.specs.PlainReplies.{server_with, PlainlyOn, PlainOnMark}
+use Rattle.nr_laws.specs.PlainLinks.{server_with, PlainlyOn, PlainOnMark}
 use Rattle.nr_laws.proofs.Along.{GoesOn, goes-behind, places_after}
 use Rattle.nr_laws.proofs.Outputs.Output.{ASegment}
 use Rattle.nr_laws.proofs.ServerAlong.{outs_of, SaidAnswer}

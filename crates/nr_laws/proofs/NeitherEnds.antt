@@ -19,7 +19,7 @@ use Rattle.nr_reduce.specs.Server.{server_rules}
 use Rattle.nr_reduce.specs.Run.{client, server, end_of_side}
 use Rattle.nr_reduce.proofs.Steps.{AtEachMark-first, client-one, server-one}
 use Rattle.nr_laws.specs.EndCauses.{KeepLaws, IsReplyEnd, IsDenied}
-use Rattle.nr_laws.specs.PlainReplies.{server_with, PlainlyOn, PlainOnMark}
+use Rattle.nr_laws.specs.PlainLinks.{server_with, PlainlyOn, PlainOnMark}
 use Rattle.nr_laws.specs.Stays.{NotRevokedMark, HasNoRevoke, ConveyedMark, AreConveyedOrRefused, MatchedLinksStay, MatchedCallsComplete, NoAccessIsDenied, ClientsStay}
 use Rattle.nr_laws.specs.Typed.{TypedMark, IsTyped}
 use Rattle.nr_laws.proofs.AgreeingRuns.{other-events}

@@ -16,7 +16,7 @@ use Rattle.nr_reduce.specs.Run.{end_of_side}
 use Rattle.nr_reduce.specs.RunLaws.{server_by}
 use Rattle.nr_laws.specs.EndCauses.{IsReplyReason}
 use Rattle.nr_laws.specs.MatchedSoFar.{MatchedSoFar}
-use Rattle.nr_laws.specs.PlainReplies.{server_with, PlainlyOn}
+use Rattle.nr_laws.specs.PlainLinks.{server_with, PlainlyOn}
 use Rattle.nr_laws.specs.Typed.{IsTyped}
 use Rattle.nr_laws.proofs.Outcomes.{client_by}
 use Rattle.nr_laws.proofs.Replied.{error-kind, error-header}

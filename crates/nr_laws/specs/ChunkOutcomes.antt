@@ -27,7 +27,6 @@ use Rattle.nr_reduce.specs.OutcomesDue.{outcomes_due}
 use Rattle.nr_reduce.specs.Asked.{Asked, AskedSoFar}
 use Rattle.nr_reduce.specs.Served.{Served, ServedSoFar}
 use Rattle.nr_reduce.specs.Matched.{Matched}
-use Rattle.nr_reduce.specs.Journal.{Plainly}
 use Rattle.nr_reduce.specs.IsPlain.{IsPlain}
 use Rattle.nr_laws.specs.MarkAt.{MarkAt}
 use Rattle.nr_laws.specs.MatchedSoFar.{MatchedSoFar}
@@ -35,7 +34,7 @@ use Rattle.nr_laws.specs.Typed.{IsTyped}
 use Rattle.nr_laws.specs.Completion.{IsSettled, IsKept}
 use Rattle.nr_laws.specs.Payloads.{HasPlan}
 use Rattle.nr_laws.specs.RefusedMessages.{HasRefusedMessage}
-use Rattle.nr_laws.specs.PlainReplies.{server_with}
+use Rattle.nr_laws.specs.PlainLinks.{server_with, PlainlyOn}
 
 -- ---- The two causes
 
@@ -92,7 +91,7 @@ NoOwnPlanIsRefused = (opened : LinkParameters) (link : ℕ) (run : List Mark) (x
 abbrev pub AutoHasReplies : Type 0
 AutoHasReplies = (reply_to : List Entry → Moment → List ℕ → Option (List ℕ)) (adds : Moment → List ℕ → List ℕ → List Entry)
     (opened : LinkParameters) (link : ℕ) (run earlier before : List Mark) (call : Call) (xid : ℕ) (outcome : Outcome) →
-    IsPlain (server_with reply_to adds) → Plainly (server_with reply_to adds) run → IsTyped run → MatchedSoFar opened link run →
+    IsPlain (server_with reply_to adds) → PlainlyOn (server_with reply_to adds) link run → IsTyped run → MatchedSoFar opened link run →
     MarkAt run earlier (marks.Submit link call forms.Auto (submissions.Accepted xid)) →
     MarkAt run before (marks.Done link xid outcome) → (reply : List ℕ) × (outcome ≡ outcomes.Reply reply)
 
@@ -114,7 +113,7 @@ pub record IsAnswered (opened : LinkParameters) (link : ℕ) (before : List Mark
 abbrev pub ChangesAreAnswered : Type 0
 ChangesAreAnswered = (reply_to : List Entry → Moment → List ℕ → Option (List ℕ)) (adds : Moment → List ℕ → List ℕ → List Entry)
     (opened : LinkParameters) (link : ℕ) (run before : List Mark) (xid : ℕ) (moment : Moment) (payload : List ℕ) (place : ℕ) (reply : List ℕ) →
-    IsPlain (server_with reply_to adds) → Plainly (server_with reply_to adds) run → IsTyped run → ServedSoFar opened link run →
+    IsPlain (server_with reply_to adds) → PlainlyOn (server_with reply_to adds) link run → IsTyped run → ServedSoFar opened link run →
     MarkAt run before (marks.Execute link xid moment payload place reply) → adds moment payload reply ≢ [] →
     IsAnswered opened link before xid moment payload place reply
 
@@ -122,5 +121,5 @@ ChangesAreAnswered = (reply_to : List Entry → Moment → List ℕ → Option (
 abbrev pub ChunkAddsNothing : Type 0
 ChunkAddsNothing = (reply_to : List Entry → Moment → List ℕ → Option (List ℕ)) (adds : Moment → List ℕ → List ℕ → List Entry)
     (opened : LinkParameters) (link : ℕ) (run before done : List Mark) (xid : ℕ) (moment : Moment) (payload : List ℕ) (place : ℕ) (reply : List ℕ) →
-    IsPlain (server_with reply_to adds) → Plainly (server_with reply_to adds) run → IsTyped run → MatchedSoFar opened link run →
+    IsPlain (server_with reply_to adds) → PlainlyOn (server_with reply_to adds) link run → IsTyped run → MatchedSoFar opened link run →
     MarkAt run before (marks.Execute link xid moment payload place reply) → MarkAt run done (marks.Done link xid outcomes.Chunk) → adds moment payload reply ≡ []

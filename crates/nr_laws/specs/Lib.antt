@@ -17,3 +17,4 @@ pub mod Stays
 pub mod ChunkOutcomes
 pub mod PlacedBytes
 pub mod RefusedMessages
+pub mod PlainLinks

