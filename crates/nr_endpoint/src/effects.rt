@@ -32,7 +32,10 @@ impl Link {
                 stag,
                 to,
                 payload,
-            } => self.take_tagged(last, opcode, stag, to, payload, frame),
+            } => {
+                self.take_tagged(last, opcode, stag, to, payload, frame);
+                Ok(())
+            }
             Segment::Untagged {
                 last,
                 opcode,
@@ -42,13 +45,14 @@ impl Link {
                 if opcode == OPCODE_READ_REQUEST {
                     return self.take_request(payload, frame);
                 }
-                self.take_send(last, payload, frame)
+                self.take_send(last, payload, frame);
+                Ok(())
             }
         }
     }
 
     /// The payload of a tagged segment goes into its region. The last segment of a Read Response ends the Read Request that was open
-    /// longest. An `Err` changes nothing.
+    /// longest. Takes no memory.
     #[tactic(auto, unfolding(crate::specs::Judging::with_effect, crate::specs::SegmentEnds::tagged_end))]
     fn take_tagged(
         &mut self,
@@ -58,15 +62,15 @@ impl Link {
         to: u64,
         payload: &[u8],
         frame: &[u8],
-    ) -> Result<(), Memory>
+    )
         requires lives { tagged_end self.old last opcode stag to payload.now ≡ None }
+        requires some { 0 < length frame.now }
         requires within { self.old.place + length frame.now ≤ 2 ^ 62 }
-        ensures ok { OnOk result (self.new ≡ behind_frame (next_frame self.old frame.now) (with_effect (Tagged last opcode stag to payload.now) self.old)) }
-        ensures err { OnErr result (self.new ≡ self.old) }
+        ensures { self.new ≡ behind_frame (next_frame self.old frame.now) (with_effect (Tagged last opcode stag to payload.now) self.old) }
     {
         if opcode == OPCODE_READ_RESPONSE {
             if last {
-                self.receive_queue.read_done()?;
+                self.receive_queue.read_done();
             }
             advance(&mut self.reads, last, stag, to, payload.len() as u64);
         }
@@ -76,7 +80,6 @@ impl Link {
         }
         self.last = self.place;
         self.place += frame.len() as u64;
-        Ok(())
     }
 
     /// A Read Request is answered with the bytes as they stand (RFC 5040 section 5.2). An `Err` changes nothing.
@@ -103,17 +106,15 @@ impl Link {
         Ok(())
     }
 
-    /// One more segment of a Send. An `Err` changes nothing.
-    fn take_send(&mut self, last: bool, payload: &[u8], frame: &[u8]) -> Result<(), Memory>
+    /// One more segment of a Send. Takes no memory.
+    fn take_send(&mut self, last: bool, payload: &[u8], frame: &[u8])
         requires fine { SendIsFine self.old last payload.now }
         requires size { length payload.now + 1 ≤ length frame.now }
         requires within { self.old.place + length frame.now ≤ 2 ^ 62 }
-        ensures ok { OnOk result (self.new ≡ behind_frame (next_frame self.old frame.now) (with_effect (Untagged last OPCODE_SEND 0 0 0 0 payload.now) self.old)) }
-        ensures err { OnErr result (self.new ≡ self.old) }
+        ensures { self.new ≡ behind_frame (next_frame self.old frame.now) (with_effect (Untagged last OPCODE_SEND 0 0 0 0 payload.now) self.old) }
     {
-        self.receive_queue.receive(last, payload)?;
+        self.receive_queue.receive(last, payload);
         self.last = self.place;
         self.place += frame.len() as u64;
-        Ok(())
     }
 }
