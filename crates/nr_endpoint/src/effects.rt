@@ -7,6 +7,7 @@ ghost use Rattle.nr_wire.specs.Constants.{OPCODE_SEND};
 ghost use Rattle.nr_wire.specs.View.{segment as plain};
 ghost use Rattle.nr_endpoint.specs.Judging.{segment_end, with_effect, next_frame, behind_frame};
 ghost use Rattle.nr_endpoint.specs.SegmentEnds.{tagged_end, RequestIsFine, SendIsFine};
+ghost use Rattle.nr_endpoint.specs.SendQueue.{output_len};
 
 use crate::faults::{kind_of, read_request};
 use crate::link::Link;
@@ -16,7 +17,7 @@ use nr_wire::constants::{OPCODE_READ_REQUEST, OPCODE_READ_RESPONSE};
 use nr_xdr::Memory;
 
 impl Link {
-    /// The effect of a frame's segment that doesn't end the side. An `Err` changes nothing.
+    /// The effect of a frame's segment that doesn't end the side. `Err` only for a Read Request, whose response wants memory; it changes nothing.
     pub fn take(&mut self, segment: &Segment, frame: &[u8]) -> Result<(), Memory>
         requires supported { IsSupported (plain segment.now) }
         requires size { length (payload_in (plain segment.now)) + 1 ≤ length frame.now }
@@ -24,6 +25,7 @@ impl Link {
         requires lives { segment_end self.old (next_frame self.old frame.now) (plain segment.now) ≡ None }
         ensures ok { OnOk result (self.new ≡ behind_frame (next_frame self.old frame.now) (with_effect (plain segment.now) self.old)) }
         ensures err { OnErr result (self.new ≡ self.old) }
+        ensures queued { OnErr result (output_len self.old.send_queue < output_len (with_effect (plain segment.now) self.old).send_queue) }
     {
         match *segment {
             Segment::Tagged {
