@@ -7,6 +7,7 @@ mod Cuts
 mod SendQueues
 pub mod Alive
 pub mod WholeFrames
+pub mod Queued
 pub mod Taken
 pub mod StagedFrames
 pub mod OneStep

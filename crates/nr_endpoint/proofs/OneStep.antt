@@ -1,6 +1,7 @@
 -- One step on a piece.
-use Rattle.std.proofs.Common.{◌≡◌, ◌≢◌, ℕ, ◌+◌, ◌-◌, ◌≤◌, max, Bool, true, false, cond, ◌&&◌, eqb, List, [], ◌∷◌, ◌++◌, length, take, drop, Option, Some, None, Result, Ok, Err, inl, inr, refl, sym, ap, subst, ◌∙◌, arith, append_assoc, length-append}
+use Rattle.std.proofs.Common.{◌≡◌, ◌≢◌, ℕ, ◌+◌, ◌-◌, ◌<◌, ◌≤◌, max, Bool, true, false, cond, ◌&&◌, eqb, List, [], ◌∷◌, ◌++◌, length, take, drop, Option, Some, None, Result, Ok, Err, inl, inr, refl, sym, ap, subst, ◌∙◌, arith, append_assoc, length-append}
 use Rattle.std.specs.Prelude.{is_some}
+use Rattle.std.specs.Bool.{OnFalse}
 use Rattle.std.proofs.lemmas.Bool.{eqb-true}
 use Rattle.std.proofs.lemmas.List.{length-take, length-drop, drop-drop}
 use Rattle.std.proofs.Math.Seq.{drop-append-add}
@@ -23,8 +24,9 @@ use Rattle.nr_link.specs.SegmentFaults.SegmentFault.{Reason, NoBuffer, AccessDen
 use Rattle.nr_link.specs.Ending.{access_of, denied_at, end_of_fault}
 use Rattle.nr_regions.specs.RegisteredMemory.{Access}
 use Rattle.nr_endpoint.specs.LinkState.{LinkState, Link, has_ended}
+use Rattle.nr_endpoint.specs.SendQueue.{output_len}
 use Rattle.nr_endpoint.specs.Judging.{with_frame, with_fpdu, with_peer_hello, with_segment_by, with_effect, segment_end, next_frame}
-use Rattle.nr_endpoint.specs.Calls.{after_call, IsStep, makes_whole}
+use Rattle.nr_endpoint.specs.Calls.{after_call, IsStep, QueuesOutput, makes_whole}
 use Rattle.nr_endpoint.specs.Calls.Call.{Feed, FeedOne, OutOfMemory}
 use Rattle.nr_endpoint.specs.EndpointState.{EndpointState, KeepsStaging, cut_frame_len}
 use Rattle.nr_endpoint.proofs.Standing.{live-state}
@@ -44,6 +46,11 @@ stepped_whole st next a rest piece frame none whole is then =
   where
     the_link : LinkState → Link
     the_link s = record { awaited = Fpdu; rest = []; state = s }
+
+pub queues_whole : (st : LinkState) (a : Awaited) (rest piece frame : List ℕ) → st.ended ≡ None → is_whole a (rest ++ piece) ≡ true → frame ≡ take (frame_len a (rest ++ piece)) (rest ++ piece) →
+    output_len st.send_queue < output_len (with_frame st a frame).send_queue → QueuesOutput (record { awaited = a; rest = rest; state = st }) piece
+queues_whole st a rest piece frame none whole is more =
+    subst (λ (l : Link). output_len st.send_queue < output_len l.state.send_queue) (stepped_whole st (with_frame st a frame) a rest piece frame none whole is refl) more
 
 pub stepped_partial : (st : LinkState) (a : Awaited) (rest piece left : List ℕ) → st.ended ≡ None → is_whole a (rest ++ piece) ≡ false → left ≡ rest ++ piece →
     record { awaited = a; rest = left; state = st } ≡ after_call (record { awaited = a; rest = rest; state = st }) (FeedOne piece)
@@ -66,6 +73,10 @@ out_of_memory st next a rest none is = ap (λ (s : LinkState). the_link s) (is �
 pub judged : (result : Bool) (next one other : LinkState) → next ≡ (cond result one other) → result ≡ true → next ≡ one
 judged true next one other is t = is
 judged false next one other is t = absurd cc
+
+pub not_judged_queues : (result : Bool) (P : Type 0) → OnFalse result P → result ≡ false → P
+not_judged_queues true P p t = absurd cc
+not_judged_queues false P p t = p
 
 pub not_judged : (result : Bool) (next one other : LinkState) → next ≡ (cond result one other) → result ≡ false → next ≡ other
 not_judged true next one other is t = absurd cc
@@ -253,15 +264,15 @@ memory-ends l none = ap (λ (s : LinkState). s.ended) (live-state l.state _ none
 
 pub step_ok : (before after : Link) (piece : List ℕ) → IsStep before piece after → before.state.ended ≡ None → after.state.ended ≢ Some ends.Memory → after ≡ after_call before (FeedOne piece)
 step_ok before after piece (inl is) none other = is
-step_ok before after piece (inr (is, whole)) none other = absurd (other (ap (λ (l : Link). l.state.ended) is ∙ memory-ends before none))
+step_ok before after piece (inr (is, whole, queues)) none other = absurd (other (ap (λ (l : Link). l.state.ended) is ∙ memory-ends before none))
 
 pub step_memory : (before after : Link) (piece : List ℕ) → IsStep before piece after → before.state.ended ≡ None → after.state.ended ≡ Some ends.Memory → after ≡ after_call before OutOfMemory
 step_memory before after piece (inl is) none memory = absurd (step-not-memory before piece none (ap (λ (l : Link). l.state.ended) (sym is) ∙ memory))
-step_memory before after piece (inr (is, whole)) none memory = is
+step_memory before after piece (inr (is, whole, queues)) none memory = is
 
-pub step_frame : (before after : Link) (piece : List ℕ) → IsStep before piece after → before.state.ended ≡ None → after.state.ended ≡ Some ends.Memory → makes_whole before piece ≡ true
+pub step_frame : (before after : Link) (piece : List ℕ) → IsStep before piece after → before.state.ended ≡ None → after.state.ended ≡ Some ends.Memory → (makes_whole before piece ≡ true) × QueuesOutput before piece
 step_frame before after piece (inl is) none memory = absurd (step-not-memory before piece none (ap (λ (l : Link). l.state.ended) (sym is) ∙ memory))
-step_frame before after piece (inr (is, whole)) none memory = whole
+step_frame before after piece (inr (is, whole, queues)) none memory = (whole, queues)
 
 -- no feed makes want of memory either
 ended-or-on : (b : Bool) (s : LinkState) (one other : Link) → has_ended s ≡ b → s.ended ≢ Some ends.Memory → one.state ≡ s → (has_ended s ≡ false → other.state.ended ≢ Some ends.Memory) → (cond b one other).state.ended ≢ Some ends.Memory

@@ -20,7 +20,7 @@ use Rattle.nr_link.specs.Frames.{Frame}
 use Rattle.nr_endpoint.specs.LinkState.{LinkState, Link, has_ended}
 use Rattle.nr_endpoint.specs.Judging.{with_frame, with_fpdu, with_peer_hello, with_segment_by, with_effect, segment_end, next_frame}
 use Rattle.nr_endpoint.specs.EndpointState.{EndpointState, KeepsStaging, cut_frame_len}
-use Rattle.nr_endpoint.specs.Calls.{after_call, after_calls, StandsOnAll, IsStep, RanOutAt, makes_whole}
+use Rattle.nr_endpoint.specs.Calls.{after_call, after_calls, StandsOnAll, IsStep, RanOutAt, QueuesOutput, makes_whole}
 use Rattle.nr_endpoint.specs.Calls.Call.{Feed, FeedOne, OutOfMemory}
 use Rattle.nr_endpoint.proofs.StagedFrames.{taken_whole, whole_as_staged}
 use Rattle.nr_endpoint.proofs.OneStep.{living, memory_stays, memory-ends, feed-not-memory}
@@ -115,16 +115,17 @@ goes_on_by before now after piece left on none p is =
           ∙ ap (feeding_after has_ended with_frame before) (sym (take-add on.count t piece));
     }
 
-pub runs_out : (before now after : Link) (piece left : List ℕ) → IsOn before piece now left → now.state.ended ≡ None → after ≡ after_call now OutOfMemory → makes_whole now left ≡ true →
+pub runs_out : (before now after : Link) (piece left : List ℕ) → IsOn before piece now left → now.state.ended ≡ None → after ≡ after_call now OutOfMemory → makes_whole now left ≡ true → QueuesOutput now left →
     0 < length left → (left ≡ piece) ⊎ (now.rest ≡ []) → IsOut before piece after
 unfolding after_calls
-runs_out before now after piece left on none is whole some first = record {
+runs_out before now after piece left on none is whole queues some first = record {
   memory = ap (λ (l : Link). l.state.ended) is ∙ memory-ends now none;
   count = on.count;
   now_is = is ∙ ap (λ (l : Link). after_call l OutOfMemory) on.now_is;
   frame = record {
     live = ap (λ (l : Link). has_ended l.state) (sym on.now_is) ∙ living now.state none;
     whole = (λ i. makes_whole (sym on.now_is i) (sym on.left_is i)) ∙ whole;
+    queues = subst (λ (l : Link). QueuesOutput l (drop on.count piece)) on.now_is (subst (λ (x : List ℕ). QueuesOutput now x) on.left_is queues);
     front = λ far. ap (λ (l : Link). l.rest) (sym on.now_is) ∙ by first far;
   };
 }
@@ -360,9 +361,9 @@ same-or-none old now piece left (inl same) = inl same.1
 same-or-none old now piece left (inr none) = inr none
 
 fed-out : (old now new : EndpointState) (piece left after : List ℕ) → IsFedTo old piece now left → 0 < length left → Advanced now new left after → now.link.state.ended ≡ None → new.link ≡ after_call now.link OutOfMemory →
-    makes_whole now.link left ≡ true → IsFedTo old piece new after
-fed-out old now new piece left after fed some adv live is whole =
-    let out : IsOut old.link piece new.link = runs_out old.link now.link new.link piece left (on-of old.link now.link piece left fed.far some) live is whole some
+    makes_whole now.link left ≡ true → QueuesOutput now.link left → IsFedTo old piece new after
+fed-out old now new piece left after fed some adv live is whole queues =
+    let out : IsOut old.link piece new.link = runs_out old.link now.link new.link piece left (on-of old.link now.link piece left fed.far some) live is whole queues some
     (same-or-none old now piece left (first-of old now piece left some fed.first)) in
     let e : has_ended new.link.state ≡ true = ap (λ (x : Option End). is_some x) out.memory in
     let none : after ≡ [] = none-left (has_ended new.link.state) _ after adv.left_is e in
@@ -377,7 +378,7 @@ fed-out old now new piece left after fed some adv live is whole =
 
 fed-step : (old now new : EndpointState) (piece left after : List ℕ) → IsFedTo old piece now left → 0 < length left → Advanced now new left after → now.link.state.ended ≡ None → IsStep now.link left new.link → IsFedTo old piece new after
 fed-step old now new piece left after fed some adv live (inl is) = fed-live old now new piece left after fed some adv live is (has_ended new.link.state) refl
-fed-step old now new piece left after fed some adv live (inr (is, whole)) = fed-out old now new piece left after fed some adv live is whole
+fed-step old now new piece left after fed some adv live (inr (is, whole, queues)) = fed-out old now new piece left after fed some adv live is whole queues
 
 pub fed_on : (old now new : EndpointState) (piece left after : List ℕ) → IsFedTo old piece now left → 0 < length left → Advanced now new left after → IsFedTo old piece new after
 fed_on old now new piece left after fed some adv = by (has_ended now.link.state) refl

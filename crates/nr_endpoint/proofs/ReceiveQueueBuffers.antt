@@ -1,52 +1,101 @@
--- The buffers of a receive queue, as an event is added.
-use Rattle.std.proofs.Common.{◌≡◌, ℕ, ◌+◌, ◌-◌, ◌<◌, ◌≤◌, false, not, if◌then◌else◌, List, [], ◌∷◌, ◌++◌, length, Option, None, Some, All, refl, ap, ◌∙◌, arith}
-use Rattle.std.proofs.lemmas.List.{map-append}
-use Rattle.std.proofs.lemmas.List.Elements.{All-append, All-cons, All-nil}
-use Rattle.nr_link.specs.Limits.{send_max}
-use Rattle.nr_link.specs.SegmentFaults.{is_begun}
-use Rattle.nr_endpoint.specs.ReceiveQueue.{Notice, sends_begun, messages_in}
+-- What a receive queue keeps of its buffers, and what it tells: as a read is done, as a message comes, as the owner is told.
+use Rattle.std.proofs.Common.{◌≡◌, ℕ, zero, suc, ◌+◌, ◌-◌, ◌<◌, ◌≤◌, nat_lt, true, List, [], ◌∷◌, ◌++◌, length, take, replicate, Option, refl, sym, ap, ◌∙◌, arith, append_assoc, length-append}
+use Rattle.std.proofs.lemmas.List.{length-replicate, replicate_more}
+use Rattle.std.proofs.lemmas.List.Elements.{All-head, All-tail, All-rest, All-cons}
+use Rattle.nr_endpoint.specs.ReceiveQueue.{Notice, messages_in}
 use Rattle.nr_endpoint.specs.ReceiveQueue.Notice.{MessageReceived, ReadDone}
-use Rattle.nr_endpoint.specs.Receives.{IsReceive, HasBuffer, AreReceives}
-use Rattle.nr_endpoint.specs.Views.{notice, notices, begun as begun_bytes_of}
-use Rattle.nr_endpoint.specs.declared.event.Event.{Event}
-use Rattle.nr_endpoint.specs.declared.event.Event.TheVariants as events
+use Rattle.nr_endpoint.specs.Receives.{InBuffer, AreReceives}
+use Rattle.nr_endpoint.specs.Views.{notices, reads_first, without_first_read}
 use Rattle.nr_endpoint.specs.declared.receive_queue.BegunSend.{BegunSend}
+use Rattle.nr_endpoint.specs.declared.receive_queue.ReceivedMessage.{ReceivedMessage}
 
-messages_in-append : (xs ys : List Notice) → messages_in (xs ++ ys) ≡ messages_in xs + messages_in ys
-messages_in-append [] ys = omega arith
-messages_in-append (MessageReceived bytes ∷ xs) ys = omega (arith, messages_in-append xs ys)
-messages_in-append (ReadDone ∷ xs) ys = messages_in-append xs ys
+-- ---- What it tells
 
-messages_with : (list : List Event) (event : Event) → messages_in (notices (list ++ event ∷ [])) ≡ messages_in (notices list) + messages_in (notice event ∷ [])
-messages_with list event = ap messages_in (map-append notice list (event ∷ [])) ∙ messages_in-append (notices list) (notice event ∷ [])
+-- the same reads stand before the notices of the other messages
+behind : (m : ReceivedMessage) (xs ys : List Notice) (zs : List Notice) → xs ≡ ys ++ zs →
+    replicate m.reads_done ReadDone ++ MessageReceived (take m.len m.buf) ∷ xs ≡ (replicate m.reads_done ReadDone ++ MessageReceived (take m.len m.buf) ∷ ys) ++ zs
+behind m xs ys zs is =
+    ap (λ (list : List Notice). replicate m.reads_done ReadDone ++ MessageReceived (take m.len m.buf) ∷ list) is
+    ∙ sym (append_assoc (replicate m.reads_done ReadDone) (MessageReceived (take m.len m.buf) ∷ ys) zs)
 
-pub with_done : (free : List (List ℕ)) (begun : Option BegunSend) (list : List Event) (lent receives room : ℕ) → AreReceives free begun list lent receives room
-    → AreReceives free begun (list ++ events.ReadDone ∷ []) lent receives room
-with_done free begun list lent receives room a = record {
+-- one more read was done
+pub notices-read : (messages : List ReceivedMessage) (reads_done : ℕ) → notices messages (reads_done + 1) ≡ notices messages reads_done ++ ReadDone ∷ []
+notices-read [] reads_done = sym (replicate_more reads_done ReadDone)
+notices-read (m ∷ messages) reads_done = behind m (notices messages (reads_done + 1)) (notices messages reads_done) (ReadDone ∷ []) (notices-read messages reads_done)
+
+-- a message came: the reads that were done since the last one stand before it
+pub notices-message : (messages : List ReceivedMessage) (reads_done : ℕ) (buf : List ℕ) (len : ℕ) →
+    notices (messages ++ record { reads_done = reads_done; buf = buf; len = len } ∷ []) 0 ≡ notices messages reads_done ++ MessageReceived (take len buf) ∷ []
+notices-message [] reads_done buf len = refl
+notices-message (m ∷ messages) reads_done buf len =
+    behind m (notices (messages ++ record { reads_done = reads_done; buf = buf; len = len } ∷ []) 0) (notices messages reads_done) (MessageReceived (take len buf) ∷ []) (notices-message messages reads_done buf len)
+
+-- the reads that are counted are among the notices
+pub reads-within : (messages : List ReceivedMessage) (reads_done : ℕ) → reads_done ≤ length (notices messages reads_done)
+reads-within [] reads_done = omega (arith, length-replicate reads_done ReadDone)
+reads-within (m ∷ messages) reads_done =
+    omega (arith, reads-within messages reads_done, length-append (replicate m.reads_done ReadDone) (MessageReceived (take m.len m.buf) ∷ notices messages reads_done))
+
+-- how many of the notices are of messages
+messages_in-reads : (n : ℕ) (others : List Notice) → messages_in (replicate n ReadDone ++ others) ≡ messages_in others
+messages_in-reads zero others = refl
+messages_in-reads (suc n) others = messages_in-reads n others
+
+pub messages_in-notices : (messages : List ReceivedMessage) (reads_done : ℕ) → messages_in (notices messages reads_done) ≡ length messages
+messages_in-notices [] reads_done = by reads_done
+  where
+    by : (n : ℕ) → messages_in (replicate n ReadDone) ≡ 0
+    by zero = refl
+    by (suc n) = by n
+messages_in-notices (m ∷ messages) reads_done =
+    let first : messages_in (notices (m ∷ messages) reads_done) ≡ 1 + messages_in (notices messages reads_done) = messages_in-reads m.reads_done (MessageReceived (take m.len m.buf) ∷ notices messages reads_done) in
+    omega (arith, first, messages_in-notices messages reads_done)
+
+-- the owner is told a read that was done before the first message, or behind the last one
+pub notices-first_read : (messages : List ReceivedMessage) (reads_done : ℕ) → nat_lt 0 (reads_first messages) ≡ true →
+    notices messages reads_done ≡ ReadDone ∷ notices (without_first_read messages) reads_done
+notices-first_read [] reads_done some = absurd cc
+notices-first_read (m ∷ messages) reads_done some = by m.reads_done some
+  where
+    by : (n : ℕ) → nat_lt 0 n ≡ true →
+        replicate n ReadDone ++ MessageReceived (take m.len m.buf) ∷ notices messages reads_done ≡ ReadDone ∷ (replicate (n - 1) ReadDone ++ MessageReceived (take m.len m.buf) ∷ notices messages reads_done)
+    by zero s = absurd cc
+    by (suc n) s =
+        let less : n ≡ suc n - 1 = omega arith in
+        ap (λ (k : ℕ). ReadDone ∷ (replicate k ReadDone ++ MessageReceived (take m.len m.buf) ∷ notices messages reads_done)) less
+
+pub notices-last_read : (messages : List ReceivedMessage) (reads_done : ℕ) → messages ≡ [] → 0 < reads_done → notices messages reads_done ≡ ReadDone ∷ notices messages (reads_done - 1)
+notices-last_read [] zero none some = absurd (omega (arith, some))
+notices-last_read [] (suc n) none some =
+    let less : n ≡ suc n - 1 = omega arith in
+    ap (λ (k : ℕ). ReadDone ∷ replicate k ReadDone) less
+notices-last_read (m ∷ messages) reads_done none some = absurd (omega (arith, ap (λ (list : List ReceivedMessage). length list) none))
+
+-- ---- Its buffers
+
+pub with_read_told : (free : List (List ℕ)) (begun : Option BegunSend) (messages : List ReceivedMessage) (lent receives room message_room : ℕ)
+    → AreReceives free begun messages lent receives room message_room
+    → AreReceives free begun (without_first_read messages) lent receives room message_room
+with_read_told free begun [] lent receives room message_room a = a
+with_read_told free begun (m ∷ messages) lent receives room message_room a = record {
   free_len = a.free_len;
   begun_len = a.begun_len;
-  messages_len = All-append HasBuffer list (events.ReadDone ∷ []) a.messages_len (All-cons HasBuffer events.ReadDone [] tt (All-nil HasBuffer));
-  total = omega (arith, a.total, messages_with list events.ReadDone);
+  messages_len = All-cons InBuffer (record { reads_done = m.reads_done - 1; buf = m.buf; len = m.len }) messages (All-head InBuffer m messages a.messages_len) (All-tail InBuffer m messages a.messages_len);
+  total = a.total;
   fits = a.fits;
+  messages_fit = a.messages_fit;
 }
 
--- what is free after a receive was taken
-left_free : (begun : Option BegunSend) (n m : ℕ) → m ≡ (if not (is_begun (begun_bytes_of begun)) then n - 1 else n) → (is_begun (begun_bytes_of begun) ≡ false → 0 < n)
-    → m + 1 ≡ n + sends_begun (begun_bytes_of begun)
-left_free None n m e some = let p : 0 < n = some refl in omega arith
-left_free (Some b) n m e some = omega arith
-
-pub with_message : (free left : List (List ℕ)) (begun : Option BegunSend) (list : List Event) (lent receives room : ℕ) (buf : List ℕ) (len : ℕ)
-    → AreReceives free begun list lent receives room
-    → All IsReceive left
-    → length left ≡ (if not (is_begun (begun_bytes_of begun)) then length free - 1 else length free)
-    → (is_begun (begun_bytes_of begun) ≡ false → 0 < length free)
-    → length buf ≡ send_max → len ≤ send_max
-    → AreReceives left None (list ++ events.Message buf len ∷ []) lent receives room
-with_message free left begun list lent receives room buf len a bufs count some full fits = record {
-  free_len = bufs;
-  begun_len = tt;
-  messages_len = All-append HasBuffer list (events.Message buf len ∷ []) a.messages_len (All-cons HasBuffer (events.Message buf len) [] (full, fits) (All-nil HasBuffer));
-  total = (let l = left_free begun (length free) (length left) count some in omega (arith, l, a.total, messages_with list (events.Message buf len)));
+-- the receive of the first message is lent
+pub with_message_told : (free : List (List ℕ)) (begun : Option BegunSend) (m : ReceivedMessage) (messages left : List ReceivedMessage) (lent receives room message_room : ℕ)
+    → AreReceives free begun messages lent receives room message_room
+    → messages ≡ m ∷ left
+    → AreReceives free begun left (lent + 1) receives room message_room
+with_message_told free begun m messages left lent receives room message_room a is = record {
+  free_len = a.free_len;
+  begun_len = a.begun_len;
+  messages_len = All-rest InBuffer m left messages is a.messages_len;
+  total = omega (arith, a.total, ap (λ (list : List ReceivedMessage). length list) is);
   fits = a.fits;
+  messages_fit = a.messages_fit;
 }

@@ -1,12 +1,12 @@
--- A receive queue after one more segment.
-use Rattle.std.proofs.Common.{◌≡◌, ℕ, ◌+◌, ◌-◌, Bool, true, not, if◌then◌else◌, List, [], ◌∷◌, ◌++◌, None, sym}
+-- A receive queue after one more segment, and as its owner is told something.
+use Rattle.std.proofs.Common.{◌≡◌, ℕ, ◌+◌, ◌-◌, Bool, true, not, if◌then◌else◌, List, [], ◌∷◌, ◌++◌, drop, None, sym, ap, arith}
 use Rattle.std.proofs.lemmas.List.{append-nil}
 use Rattle.nr_wire.specs.Segment.Segment.{Untagged}
 use Rattle.nr_wire.specs.Constants.{OPCODE_SEND, OPCODE_READ_REQUEST}
 use Rattle.nr_link.specs.ReceiveState.{begun_bytes}
 use Rattle.nr_link.specs.SegmentFaults.{is_begun}
-use Rattle.nr_endpoint.specs.ReceiveQueue.{ReceiveQueue, kept_send, with_segment}
-use Rattle.nr_endpoint.specs.ReceiveQueue.Notice.{MessageReceived}
+use Rattle.nr_endpoint.specs.ReceiveQueue.{Notice, ReceiveQueue, kept_send, with_segment, with_read_done, told, lent_for}
+use Rattle.nr_endpoint.specs.ReceiveQueue.Notice.{MessageReceived, ReadDone}
 
 pub with_request : (last : Bool) (w queue msn offset : ℕ) (payload : List ℕ) (q : ReceiveQueue) → kept_send q.received.begun ≡ q.received.begun →
     record { receives = q.receives; received = record { sends = q.received.sends; begun = q.received.begun; requests = q.received.requests + 1 }; free = q.free; lent = q.lent; notices = q.notices }
@@ -22,3 +22,17 @@ pub with_last : (q : ReceiveQueue) (payload message : List ℕ) (free : ℕ) →
 unfolding with_segment
 with_last q payload message free m f =
     λ i. record { receives = q.receives; received = record { sends = q.received.sends + 1; begun = None; requests = q.received.requests }; free = f i; lent = q.lent; notices = q.notices ++ MessageReceived (m i) ∷ [] }
+
+-- with these notices
+abbrev notices_as : List Notice → ReceiveQueue → ReceiveQueue
+notices_as list q = record { receives = q.receives; received = q.received; free = q.free; lent = q.lent; notices = list }
+
+pub read_counted : (q : ReceiveQueue) (more : List Notice) → more ≡ q.notices ++ ReadDone ∷ [] → notices_as more q ≡ with_read_done q
+read_counted q more is = λ i. notices_as (is i) q
+
+pub read_told : (q : ReceiveQueue) (left : List Notice) → q.notices ≡ ReadDone ∷ left → notices_as left q ≡ told q
+read_told q left is =
+    let none : lent_for q.notices ≡ 0 = ap lent_for is in
+    let lent : q.lent ≡ q.lent + lent_for q.notices = omega (arith, none) in
+    let rest : left ≡ drop 1 q.notices = ap (drop 1) (sym is) in
+    λ i. record { receives = q.receives; received = q.received; free = q.free; lent = lent i; notices = rest i }

@@ -1,5 +1,5 @@
 -- What a segment makes of a side, and its counts.
-use Rattle.std.proofs.Common.{◌≡◌, ℕ, ◌+◌, ◌-◌, ◌≤◌, Bool, true, false, List, [], ◌++◌, length, take, replicate, Option, Some, None, refl, ◌∙◌, arith, length-append}
+use Rattle.std.proofs.Common.{◌≡◌, ℕ, ◌+◌, ◌-◌, ◌≤◌, Bool, true, false, List, [], ◌∷◌, ◌++◌, length, take, replicate, Option, Some, None, refl, ◌∙◌, arith, length-append}
 use Rattle.std.proofs.lemmas.List.{length-take, length-replicate}
 use Rattle.nr_wire.specs.Constants.{OPCODE_READ_REQUEST, OPCODE_SEND}
 use Rattle.nr_wire.specs.Segment.Segment.{Untagged}
@@ -8,6 +8,7 @@ use Rattle.nr_link.specs.ReceiveState.{ReadRequest, begun_bytes, read_request_in
 use Rattle.nr_regions.specs.RegisteredMemory.{bytes_at}
 use Rattle.nr_endpoint.specs.SendQueue.{SendQueue, with_response}
 use Rattle.nr_endpoint.specs.ReceiveQueue.{ReceiveQueue, with_segment, kept_bytes, kept_send}
+use Rattle.nr_endpoint.specs.ReceiveQueue.Notice.{MessageReceived}
 use Rattle.nr_endpoint.specs.LinkState.{LinkState}
 use Rattle.nr_endpoint.specs.Judging.{with_effect, next_frame, behind_frame, fetch_access}
 use Rattle.nr_endpoint.specs.Counted.{IsCounted}
@@ -15,21 +16,25 @@ use Rattle.nr_endpoint.specs.Counted.{IsCounted}
 kept_len : (bytes : List ℕ) → length (kept_bytes bytes) ≡ length bytes
 kept_len bytes = omega (arith, length-append (take send_max bytes) (replicate (length bytes - send_max) 0), length-take send_max bytes, length-replicate {A = ℕ} (length bytes - send_max) 0)
 
-pub counted_send : (q : ReceiveQueue) (last : Bool) (payload : List ℕ) (place n : ℕ) → IsCounted q.received place → length payload + 1 ≤ n →
-    IsCounted (with_segment (Untagged last OPCODE_SEND 0 0 0 0 payload) q).received (place + n)
+pub counted_send : (q : ReceiveQueue) (last : Bool) (payload : List ℕ) (place n : ℕ) → IsCounted q place → length payload + 1 ≤ n →
+    IsCounted (with_segment (Untagged last OPCODE_SEND 0 0 0 0 payload) q) (place + n)
 unfolding with_segment
-counted_send q true payload place n counted some = record { bytes = omega (arith, counted.bytes, some) }
+counted_send q true payload place n counted some = record {
+  bytes = omega (arith, counted.bytes, some);
+  told = omega (arith, counted.told, some, length-append q.notices (MessageReceived (begun_bytes q.received.begun ++ payload) ∷ []));
+}
 counted_send q false payload place n counted some = record {
   bytes = omega (arith, counted.bytes, some, kept_len (begun_bytes q.received.begun ++ payload), length-append (begun_bytes q.received.begun) payload);
+  told = omega (arith, counted.told, length-append q.notices []);
 }
 
 kept_same : (begun : Option (List ℕ)) → length (begun_bytes (kept_send begun)) ≡ length (begun_bytes begun)
 kept_same None = refl
 kept_same (Some bytes) = kept_len bytes
 
-pub counted_request : (q : ReceiveQueue) (place n : ℕ) → IsCounted q.received place → 1 ≤ n → IsCounted (with_segment (Untagged true OPCODE_READ_REQUEST 0 0 0 0 []) q).received (place + n)
+pub counted_request : (q : ReceiveQueue) (place n : ℕ) → IsCounted q place → 1 ≤ n → IsCounted (with_segment (Untagged true OPCODE_READ_REQUEST 0 0 0 0 []) q) (place + n)
 unfolding with_segment
-counted_request q place n counted some = record { bytes = omega (arith, counted.bytes, some, kept_same q.received.begun) }
+counted_request q place n counted some = record { bytes = omega (arith, counted.bytes, some, kept_same q.received.begun); told = omega (arith, counted.told, length-append q.notices []) }
 
 pub took_send : (s : LinkState) (q : ReceiveQueue) (last : Bool) (payload frame : List ℕ) → q ≡ with_segment (Untagged last OPCODE_SEND 0 0 0 0 payload) s.receive_queue →
     record { side = s.side; has_hello = s.has_hello; last = s.place; place = s.place + length frame; ended = s.ended; receive_queue = q; reads = s.reads; memory = s.memory; send_queue = s.send_queue }

@@ -6,7 +6,7 @@ use Rattle.nr_regions.specs.declared.right.Right.{Right}
 use Rattle.nr_regions.specs.RegisteredMemory.{after_register, after_release}
 use Rattle.nr_link.specs.declared.end.End.TheVariants as ends
 use Rattle.nr_link.specs.Reasons.{REASON_KIND, REASON_HEAD, REASON_XID, REASON_CALL, REASON_CHUNKS, REASON_VERSION, REASON_STAGS}
-use Rattle.nr_endpoint.specs.SendQueue.{with_send, with_write, with_request, written}
+use Rattle.nr_endpoint.specs.SendQueue.{output_len, with_send, with_write, with_request, written}
 use Rattle.nr_endpoint.specs.ReceiveQueue.{told, posted}
 use Rattle.nr_endpoint.specs.LinkState.{LinkState, Link, has_ended}
 use Rattle.nr_endpoint.specs.Judging.{with_frame, with_end_of}
@@ -84,15 +84,20 @@ StandsOn before call after = StandsOnAll before (call ∷ []) after
 abbrev pub makes_whole : Link → List ℕ → Bool
 makes_whole link bytes = is_whole link.awaited (link.rest ++ bytes)
 
--- After one step on a piece: it is taken up to the end of the frame that it makes whole, else all of it; or memory ran out for a frame
--- that it makes whole.
+-- With memory, the frame that these bytes make whole would queue output: a responder's hello, a Read Response, or what is written last.
+abbrev pub QueuesOutput : Link → List ℕ → Type 0
+QueuesOutput link bytes = output_len link.state.send_queue < output_len (after_call link (FeedOne bytes)).state.send_queue
+
+-- After one step on a piece: it is taken up to the end of the frame that it makes whole, else all of it; or memory ran out for the output of
+-- a frame that it makes whole.
 abbrev pub IsStep : Link → List ℕ → Link → Type 0
 IsStep before piece after =
-    (after ≡ after_call before (FeedOne piece)) ⊎ ((after ≡ after_call before OutOfMemory) × (makes_whole before piece ≡ true))
+    (after ≡ after_call before (FeedOne piece)) ⊎ ((after ≡ after_call before OutOfMemory) × (makes_whole before piece ≡ true) × QueuesOutput before piece)
 
--- Where memory ran out in a piece: behind its first n bytes the side hasn't ended, and the bytes that follow make the next frame whole. Only
--- a frame that was begun before the piece can be begun there.
+-- Where memory ran out in a piece: behind its first n bytes the side hasn't ended, and the bytes that follow make the next frame whole, which
+-- would queue output. Only a frame that was begun before the piece can be begun there.
 pub record RanOutAt (before : Link) (piece : List ℕ) (n : ℕ) : Type 0 where
   pub live : has_ended (after_call before (Feed (take n piece))).state ≡ false
   pub whole : makes_whole (after_call before (Feed (take n piece))) (drop n piece) ≡ true
+  pub queues : QueuesOutput (after_call before (Feed (take n piece))) (drop n piece)
   pub front : 0 < n → (after_call before (Feed (take n piece))).rest ≡ []

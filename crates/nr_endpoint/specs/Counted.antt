@@ -1,6 +1,8 @@
--- The counts of untagged messages are no greater than the number of bytes that they came in.
+-- The counts of untagged messages are no greater than the number of bytes that they came in, and no more waits to be told than bytes came.
 use Rattle.std.specs.Prelude.{ℕ, ◌+◌, ◌≤◌, length}
-use Rattle.nr_link.specs.ReceiveState.{ReceiveState, begun_bytes}
+use Rattle.nr_link.specs.ReceiveState.{begun_bytes}
+use Rattle.nr_endpoint.specs.ReceiveQueue.{ReceiveQueue}
 
-pub record IsCounted (h : ReceiveState) (place : ℕ) : Type 0 where
-  pub bytes : h.sends + (h.requests + length (begun_bytes h.begun)) ≤ place
+pub record IsCounted (q : ReceiveQueue) (place : ℕ) : Type 0 where
+  pub bytes : q.received.sends + (q.received.requests + length (begun_bytes q.received.begun)) ≤ place
+  pub told : length q.notices ≤ place

@@ -4,8 +4,9 @@ use Rattle.nr_link.specs.Limits.{send_max}
 use Rattle.nr_endpoint.specs.declared.event.Event.{Event}
 use Rattle.nr_endpoint.specs.declared.event.Event.TheVariants as events
 use Rattle.nr_endpoint.specs.declared.receive_queue.BegunSend.{BegunSend}
-use Rattle.nr_endpoint.specs.ReceiveQueue.{sends_begun, messages_in}
-use Rattle.nr_endpoint.specs.Views.{begun as begun_bytes_of, notices}
+use Rattle.nr_endpoint.specs.declared.receive_queue.ReceivedMessage.{ReceivedMessage}
+use Rattle.nr_endpoint.specs.ReceiveQueue.{sends_begun}
+use Rattle.nr_endpoint.specs.Views.{begun as begun_bytes_of}
 
 abbrev pub IsReceive : List ℕ → Type 0
 IsReceive buf = length buf ≡ send_max
@@ -15,11 +16,16 @@ abbrev pub HasBuffer : Event → Type 0
 HasBuffer (events.Message buf len) = IsReceive buf × (len ≤ send_max)
 HasBuffer events.ReadDone = Unit {0}
 
+-- the same of a message that the owner wasn't told yet
+abbrev pub InBuffer : ReceivedMessage → Type 0
+InBuffer m = IsReceive m.buf × (m.len ≤ send_max)
+
 -- Each buffer has the length of a receive. Each receive is free, has a begun Send or a message that the owner wasn't told yet, or is
--- lent. The vector of the free ones has room for all receives.
-pub record AreReceives (free : List (List ℕ)) (begun : Option BegunSend) (list : List Event) (lent receives room : ℕ) : Type 0 where
+-- lent. The vector of the free ones and the queue of the messages have room for all receives.
+pub record AreReceives (free : List (List ℕ)) (begun : Option BegunSend) (messages : List ReceivedMessage) (lent receives free_room message_room : ℕ) : Type 0 where
   pub free_len : All IsReceive free
   pub begun_len : IfSome begun (λ b. IsReceive b.buf)
-  pub messages_len : All HasBuffer list
-  pub total : length free + (sends_begun (begun_bytes_of begun) + messages_in (notices list)) + lent ≡ receives
-  pub fits : receives ≤ room
+  pub messages_len : All InBuffer messages
+  pub total : length free + (sends_begun (begun_bytes_of begun) + length messages) + lent ≡ receives
+  pub fits : receives ≤ free_room
+  pub messages_fit : receives ≤ message_room

@@ -21,6 +21,10 @@ pub record SendQueue : Type 0 where
   pub last_send : ℕ
   pub last_request : ℕ
 
+-- how many bytes of output it has
+abbrev pub output_len : SendQueue → ℕ
+output_len q = length q.hello + length q.fpdus
+
 -- An initiator has its hello to write from the start.
 abbrev pub first_hello : Side → List ℕ
 first_hello Initiator = own_hello Initiator

@@ -1,5 +1,5 @@
 -- The values of the code as the definitions see them.
-use Rattle.std.specs.Prelude.{ℕ, ◌-◌, List, ◌++◌, take, replicate, map, Option, None, Some}
+use Rattle.std.specs.Prelude.{ℕ, ◌-◌, List, [], ◌∷◌, ◌++◌, take, replicate, Option, None, Some}
 use Rattle.nr_link.specs.Limits.{send_max}
 use Rattle.nr_link.specs.ReceiveState.{ReadRequest as PlainReadRequest}
 use Rattle.nr_endpoint.specs.declared.faults.ReadRequest.{ReadRequest}
@@ -8,6 +8,7 @@ use Rattle.nr_endpoint.specs.declared.event.Event.{Event}
 use Rattle.nr_endpoint.specs.declared.event.Event.TheVariants as events
 use Rattle.nr_endpoint.specs.declared.reads.OpenRead.{OpenRead}
 use Rattle.nr_endpoint.specs.declared.receive_queue.BegunSend.{BegunSend}
+use Rattle.nr_endpoint.specs.declared.receive_queue.ReceivedMessage.{ReceivedMessage}
 use Rattle.nr_endpoint.specs.ReceiveQueue.{Notice}
 use Rattle.nr_endpoint.specs.ReceiveQueue.Notice.{MessageReceived, ReadDone}
 
@@ -16,8 +17,19 @@ abbrev pub notice : Event → Notice
 notice (events.Message buf len) = MessageReceived (take len buf)
 notice events.ReadDone = ReadDone
 
-abbrev pub notices : List Event → List Notice
-notices list = map notice list
+-- each message stands behind the reads that were done before it, and behind the last message stand those that were done since
+abbrev pub notices : List ReceivedMessage → ℕ → List Notice
+notices [] reads_done = replicate reads_done ReadDone
+notices (m ∷ messages) reads_done = replicate m.reads_done ReadDone ++ MessageReceived (take m.len m.buf) ∷ notices messages reads_done
+
+-- how many reads were done before the first message, and the messages once the owner was told one of those
+abbrev pub reads_first : List ReceivedMessage → ℕ
+reads_first [] = 0
+reads_first (m ∷ messages) = m.reads_done
+
+abbrev pub without_first_read : List ReceivedMessage → List ReceivedMessage
+without_first_read [] = []
+without_first_read (m ∷ messages) = record { reads_done = m.reads_done - 1; buf = m.buf; len = m.len } ∷ messages
 
 abbrev pub expected : OpenRead → ExpectedResponse
 expected r = record { sink = r.sink; at = r.at; left = r.end - r.at }

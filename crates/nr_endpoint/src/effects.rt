@@ -7,6 +7,7 @@ ghost use Rattle.nr_wire.specs.Constants.{OPCODE_SEND};
 ghost use Rattle.nr_wire.specs.View.{segment as plain};
 ghost use Rattle.nr_endpoint.specs.Judging.{segment_end, with_effect, next_frame, behind_frame};
 ghost use Rattle.nr_endpoint.specs.SegmentEnds.{tagged_end, RequestIsFine, SendIsFine};
+ghost use Rattle.nr_endpoint.specs.SendQueue.{output_len};
 
 use crate::faults::{kind_of, read_request};
 use crate::link::Link;
@@ -16,7 +17,7 @@ use nr_wire::constants::{OPCODE_READ_REQUEST, OPCODE_READ_RESPONSE};
 use nr_xdr::Memory;
 
 impl Link {
-    /// The effect of a frame's segment that doesn't end the side. An `Err` changes nothing.
+    /// The effect of a frame's segment that doesn't end the side. `Err` only for a Read Request, whose response wants memory; it changes nothing.
     pub fn take(&mut self, segment: &Segment, frame: &[u8]) -> Result<(), Memory>
         requires supported { IsSupported (plain segment.now) }
         requires size { length (payload_in (plain segment.now)) + 1 ≤ length frame.now }
@@ -24,6 +25,7 @@ impl Link {
         requires lives { segment_end self.old (next_frame self.old frame.now) (plain segment.now) ≡ None }
         ensures ok { OnOk result (self.new ≡ behind_frame (next_frame self.old frame.now) (with_effect (plain segment.now) self.old)) }
         ensures err { OnErr result (self.new ≡ self.old) }
+        ensures queued { OnErr result (output_len self.old.send_queue < output_len (with_effect (plain segment.now) self.old).send_queue) }
     {
         match *segment {
             Segment::Tagged {
@@ -32,7 +34,10 @@ impl Link {
                 stag,
                 to,
                 payload,
-            } => self.take_tagged(last, opcode, stag, to, payload, frame),
+            } => {
+                self.take_tagged(last, opcode, stag, to, payload, frame);
+                Ok(())
+            }
             Segment::Untagged {
                 last,
                 opcode,
@@ -42,13 +47,14 @@ impl Link {
                 if opcode == OPCODE_READ_REQUEST {
                     return self.take_request(payload, frame);
                 }
-                self.take_send(last, payload, frame)
+                self.take_send(last, payload, frame);
+                Ok(())
             }
         }
     }
 
     /// The payload of a tagged segment goes into its region. The last segment of a Read Response ends the Read Request that was open
-    /// longest. An `Err` changes nothing.
+    /// longest. Takes no memory.
     #[tactic(auto, unfolding(crate::specs::Judging::with_effect, crate::specs::SegmentEnds::tagged_end))]
     fn take_tagged(
         &mut self,
@@ -58,15 +64,15 @@ impl Link {
         to: u64,
         payload: &[u8],
         frame: &[u8],
-    ) -> Result<(), Memory>
+    )
         requires lives { tagged_end self.old last opcode stag to payload.now ≡ None }
+        requires some { 0 < length frame.now }
         requires within { self.old.place + length frame.now ≤ 2 ^ 62 }
-        ensures ok { OnOk result (self.new ≡ behind_frame (next_frame self.old frame.now) (with_effect (Tagged last opcode stag to payload.now) self.old)) }
-        ensures err { OnErr result (self.new ≡ self.old) }
+        ensures { self.new ≡ behind_frame (next_frame self.old frame.now) (with_effect (Tagged last opcode stag to payload.now) self.old) }
     {
         if opcode == OPCODE_READ_RESPONSE {
             if last {
-                self.receive_queue.read_done()?;
+                self.receive_queue.read_done();
             }
             advance(&mut self.reads, last, stag, to, payload.len() as u64);
         }
@@ -76,7 +82,6 @@ impl Link {
         }
         self.last = self.place;
         self.place += frame.len() as u64;
-        Ok(())
     }
 
     /// A Read Request is answered with the bytes as they stand (RFC 5040 section 5.2). An `Err` changes nothing.
@@ -103,17 +108,15 @@ impl Link {
         Ok(())
     }
 
-    /// One more segment of a Send. An `Err` changes nothing.
-    fn take_send(&mut self, last: bool, payload: &[u8], frame: &[u8]) -> Result<(), Memory>
+    /// One more segment of a Send. Takes no memory.
+    fn take_send(&mut self, last: bool, payload: &[u8], frame: &[u8])
         requires fine { SendIsFine self.old last payload.now }
         requires size { length payload.now + 1 ≤ length frame.now }
         requires within { self.old.place + length frame.now ≤ 2 ^ 62 }
-        ensures ok { OnOk result (self.new ≡ behind_frame (next_frame self.old frame.now) (with_effect (Untagged last OPCODE_SEND 0 0 0 0 payload.now) self.old)) }
-        ensures err { OnErr result (self.new ≡ self.old) }
+        ensures { self.new ≡ behind_frame (next_frame self.old frame.now) (with_effect (Untagged last OPCODE_SEND 0 0 0 0 payload.now) self.old) }
     {
-        self.receive_queue.receive(last, payload)?;
+        self.receive_queue.receive(last, payload);
         self.last = self.place;
         self.place += frame.len() as u64;
-        Ok(())
     }
 }

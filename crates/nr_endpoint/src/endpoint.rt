@@ -6,7 +6,7 @@ ghost use Rattle.nr_wire.specs.Feeding.{bytes_taken};
 ghost use Rattle.nr_wire.specs.Stream.{bytes_needed, IsPartial};
 ghost use Rattle.nr_link.specs.declared.end.End.TheVariants as ends;
 ghost use Rattle.nr_endpoint.specs.LinkState.{initial_link, peer, has_ended};
-ghost use Rattle.nr_endpoint.specs.Calls.{after_call, after_calls, StandsFor, StandsOn, StandsOnAll, IsStep, RanOutAt, makes_whole};
+ghost use Rattle.nr_endpoint.specs.Calls.{after_call, after_calls, StandsFor, StandsOn, StandsOnAll, IsStep, RanOutAt, QueuesOutput, makes_whole};
 ghost use Rattle.nr_endpoint.specs.Calls.Call.{Feed, FeedOne, OutOfMemory};
 ghost use Rattle.nr_endpoint.specs.EndpointState.{KeepsStaging};
 
@@ -75,8 +75,9 @@ impl Endpoint {
         })
     }
 
-    /// Takes a piece of the peer's stream. `Err` where the side has ended, with why. Want of memory ends the side as it was before a frame that
-    /// the piece makes whole; the piece was taken up to that frame.
+    /// Takes a piece of the peer's stream. `Err` where the side has ended, with why. It wants memory only for a frame that queues output: a
+    /// responder's hello, a Read Response, or what the side writes last. Want of it ends the side as it was before such a frame, which the piece
+    /// makes whole; the piece was taken up to that frame.
     pub fn feed(&mut self, piece: &[u8]) -> Result<(), End>
         requires { self.old.link.state.place + length self.old.link.rest + length piece.now ≤ 2 ^ 62 }
         ensures ended { result_err result ≡ self.new.link.state.ended }
@@ -135,7 +136,8 @@ impl Endpoint {
     }
 
     /// Takes a piece up to the end of the frame that it makes whole, else all of it. `Ok` has the number of bytes taken. `Err` where the
-    /// side has ended, with why. Want of memory ends the side as it was before the frame, which the piece makes whole.
+    /// side has ended, with why. It wants memory only for a frame that queues output, as [`Endpoint::feed`] does; want of it ends the side as it
+    /// was before the frame, which the piece makes whole.
     pub fn feed_one(&mut self, piece: &[u8]) -> Result<usize, End>
         requires { self.old.link.state.place + length self.old.link.rest + length piece.now ≤ 2 ^ 62 }
         ensures ended { result_err result ≡ self.new.link.state.ended }
@@ -144,7 +146,7 @@ impl Endpoint {
         ensures stands { result ≢ Err ends.Memory → StandsOn self.old.link (FeedOne piece.now) self.new.link }
         ensures memory { result ≡ Err ends.Memory → self.new.link ≡ after_call self.old.link OutOfMemory }
         ensures stands_memory { result ≡ Err ends.Memory → StandsOn self.old.link OutOfMemory self.new.link }
-        ensures frame { result ≡ Err ends.Memory → has_ended self.old.link.state ≡ false → makes_whole self.old.link piece.now ≡ true }
+        ensures frame { result ≡ Err ends.Memory → has_ended self.old.link.state ≡ false → (makes_whole self.old.link piece.now ≡ true) × QueuesOutput self.old.link piece.now }
         ensures kept { has_ended self.old.link.state ≡ true → self.new ≡ self.old }
         ensures staging { KeepsStaging self.old self.new piece.now }
     {

@@ -1,12 +1,14 @@
 //! One side of a link: what each frame of the peer makes of it.
 
 ghost use Rattle.std.specs.Prelude.{◌≡◌, ◌≢◌, ◌+◌, ◌^◌, ◌<◌, ◌≤◌, if◌then◌else◌, length, Some, OnOk, OnErr, IfOk};
+ghost use Rattle.std.specs.Bool.{OnFalse};
 ghost use Rattle.nr_wire.specs.Stream.{IsFrame};
 ghost use Rattle.nr_wire.specs.Segment.{IsSupported, payload_in, segment_of};
 ghost use Rattle.nr_wire.specs.View.{segment as plain};
 ghost use Rattle.nr_wire.specs.Hello.{hello_of};
 ghost use Rattle.nr_link.specs.declared.end.End.TheVariants as ends;
 ghost use Rattle.nr_endpoint.specs.LinkState.{initial_state};
+ghost use Rattle.nr_endpoint.specs.SendQueue.{output_len};
 ghost use Rattle.nr_endpoint.specs.Judging.{segment_end, with_end_of, with_segment_by, with_fpdu, with_peer_hello, with_frame, next_frame};
 
 use crate::frames::{hello_refusal, segment_in_frame};
@@ -48,7 +50,7 @@ impl Model for Link {
 
     ghost view = { λ l. record { side = l.side; has_hello = l.has_hello; last = l.last; place = l.place; ended = l.ended; receive_queue = l.receive_queue; reads = map expected l.reads.items; memory = l.regions.memory; send_queue = l.send_queue } };
 
-    ghost invariant = { λ l. IsCounted l.receive_queue.received l.place };
+    ghost invariant = { λ l. IsCounted l.receive_queue l.place };
 }
 
 impl Link {
@@ -73,11 +75,12 @@ impl Link {
     }
 
     /// The next frame, which is whole, ends the side or has its effect. False where memory ran out for what it queues: the side has then ended
-    /// as it was before the frame.
+    /// as it was before the frame. A frame that queues nothing wants no memory.
     pub fn judge(&mut self, awaited: Awaited, frame: &[u8]) -> bool
         requires frame { IsFrame awaited frame.now }
         requires within { self.old.place + length frame.now ≤ 2 ^ 62 }
-        ensures { self.new ≡ (if result then with_frame self.old awaited frame.now else record self.old { ended = Some ends.Memory }) }
+        ensures state { self.new ≡ (if result then with_frame self.old awaited frame.now else record self.old { ended = Some ends.Memory }) }
+        ensures queued { OnFalse result (output_len self.old.send_queue < output_len (with_frame self.old awaited frame.now).send_queue) }
     {
         let judged = match awaited {
             Awaited::Hello(side) => self.greet(side, frame),
@@ -94,6 +97,7 @@ impl Link {
     pub fn end_with(&mut self, end: End) -> Result<(), Memory>
         ensures ok { OnOk result (self.new ≡ with_end_of end self.old) }
         ensures err { OnErr result (self.new ≡ self.old) }
+        ensures queued { OnErr result (output_len self.old.send_queue < output_len (with_end_of end self.old).send_queue) }
     {
         self.send_queue.finish(self.side, end)?;
         self.ended = Some(end);
@@ -120,6 +124,7 @@ impl Link {
         requires within { self.old.place + length frame.now ≤ 2 ^ 62 }
         ensures ok { OnOk result (self.new ≡ with_peer_hello (next_frame self.old frame.now) (hello_of side frame.now) self.old) }
         ensures err { OnErr result (self.new ≡ self.old) }
+        ensures queued { OnErr result (output_len self.old.send_queue < output_len (with_peer_hello (next_frame self.old frame.now) (hello_of side frame.now) self.old).send_queue) }
     {
         if let Some(reason) = hello_refusal(side, frame) {
             return self.end_with(End::Bad {
@@ -141,6 +146,7 @@ impl Link {
         requires within { self.old.place + length frame.now ≤ 2 ^ 62 }
         ensures ok { OnOk result (self.new ≡ with_fpdu (next_frame self.old frame.now) (segment_of frame.now) self.old) }
         ensures err { OnErr result (self.new ≡ self.old) }
+        ensures queued { OnErr result (output_len self.old.send_queue < output_len (with_fpdu (next_frame self.old frame.now) (segment_of frame.now) self.old).send_queue) }
     {
         match segment_in_frame(frame) {
             Ok(segment) => self.receive(&segment, frame),
@@ -159,6 +165,7 @@ impl Link {
         requires within { self.old.place + length frame.now ≤ 2 ^ 62 }
         ensures ok { OnOk result (self.new ≡ with_segment_by (next_frame self.old frame.now) (plain segment.now) (segment_end self.old (next_frame self.old frame.now) (plain segment.now)) self.old) }
         ensures err { OnErr result (self.new ≡ self.old) }
+        ensures queued { OnErr result (output_len self.old.send_queue < output_len (with_segment_by (next_frame self.old frame.now) (plain segment.now) (segment_end self.old (next_frame self.old frame.now) (plain segment.now)) self.old).send_queue) }
     {
         match self.fault(segment) {
             Some(end) => self.end_with(end),

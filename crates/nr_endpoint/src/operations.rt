@@ -96,7 +96,6 @@ impl Link {
             return Ok(());
         }
         let sink = registration.stag();
-        self.receive_queue.make_room()?;
         self.send_queue.request(sink, at, len as u32, stag, to)?;
         self.reads.push(OpenRead {
             sink,

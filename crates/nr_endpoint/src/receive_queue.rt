@@ -1,16 +1,17 @@
 //! What came in untagged messages, and the receives.
 
 ghost use Rattle.std.specs.Prelude.{◌≡◌, ℕ, ◌+◌, ◌-◌, ◌*◌, ◌^◌, ◌<◌, ◌≤◌, [], ◌∷◌, length, take, drop, nat_lt, None, Some, IfOk, OnOk, OnErr, IfSome, is_some, All, not, vec_len, vec_capacity, option_map, option_to_list, true, false, if◌then◌else◌, ◌++◌};
+ghost use Rattle.std.specs.VecDeque.{deque_len, deque_capacity};
 ghost use Rattle.nr_wire.specs.Segment.Segment.{Untagged};
 ghost use Rattle.nr_wire.specs.Constants.{OPCODE_SEND, OPCODE_READ_REQUEST};
 ghost use Rattle.nr_link.specs.Limits.{send_max};
 ghost use Rattle.nr_link.specs.ReceiveState.{begun_bytes};
 ghost use Rattle.nr_link.specs.SegmentFaults.{is_begun};
 ghost use Rattle.nr_endpoint.specs.ReceiveQueue.{initial_receives, kept_bytes, with_segment, with_read_done, told, posted, receives_kept};
-ghost use Rattle.nr_endpoint.specs.Views.{notice, begun_send, begun as begun_bytes_of};
+ghost use Rattle.nr_endpoint.specs.Views.{notice, reads_first, without_first_read, begun_send, begun as begun_bytes_of};
 ghost use Rattle.nr_endpoint.specs.Receives.{IsReceive, HasBuffer};
 
-use crate::constants::{OPEN_READS_MAX, SEND_MAX};
+use crate::constants::SEND_MAX;
 use crate::event::Event;
 use nr_xdr::{Memory, Octets};
 use std::alloc::Global;
@@ -24,7 +25,18 @@ pub struct BegunSend {
     pub len: u64,
 }
 
-/// The receives, and what came in untagged messages. Of the `receives`, `lent` are with the owner.
+/// A Send that came whole: the first `len` bytes of its receive buffer. Between the message before it and this one, the responses to
+/// `reads_done` Read Requests became whole.
+#[derive(Drop)]
+pub struct ReceivedMessage {
+    pub reads_done: u64,
+    pub buf: Octets,
+    pub len: usize,
+}
+
+/// The receives, and what came in untagged messages. Of the `receives`, `lent` are with the owner. What the owner wasn't told takes no
+/// memory: there is room for a message of each receive, and the Read Requests that are done are counted, `reads_done` of them behind the
+/// last message.
 #[derive(Drop)]
 pub struct ReceiveQueue {
     sends: u64,
@@ -33,11 +45,13 @@ pub struct ReceiveQueue {
     free: Vec<Octets>,
     lent: usize,
     receives: usize,
-    events: VecDeque<Event>,
+    messages: VecDeque<ReceivedMessage>,
+    reads_done: u64,
 }
 
 impl Model for ReceiveQueue {
     ghost use Rattle.std.specs.Prelude.{length, vec_capacity};
+    ghost use Rattle.std.specs.VecDeque.{deque_capacity};
     ghost use Rattle.nr_endpoint.specs.ReceiveQueue.{ReceiveQueue};
     ghost use Rattle.nr_endpoint.specs.Codes.{receive_queue_code};
 
@@ -48,9 +62,9 @@ impl Model for ReceiveQueue {
     ghost use Rattle.nr_endpoint.specs.Views.{begun as begun_bytes_of, notices};
     ghost use Rattle.nr_endpoint.specs.Receives.{AreReceives};
 
-    ghost view = { λ q. record { receives = q.receives; received = record { sends = q.sends; begun = begun_bytes_of q.begun; requests = q.requests }; free = length q.free.items; lent = q.lent; notices = notices q.events.items } };
+    ghost view = { λ q. record { receives = q.receives; received = record { sends = q.sends; begun = begun_bytes_of q.begun; requests = q.requests }; free = length q.free.items; lent = q.lent; notices = notices q.messages.items q.reads_done } };
 
-    ghost invariant = { λ q. AreReceives q.free.items q.begun q.events.items q.lent q.receives (vec_capacity q.free) };
+    ghost invariant = { λ q. AreReceives q.free.items q.begun q.messages.items q.lent q.receives (vec_capacity q.free) (deque_capacity q.messages) };
 }
 
 /// A receive buffer, of zeros.
@@ -123,13 +137,32 @@ fn extend(begun: &mut BegunSend, payload: &[u8])
     begun.len += payload.len() as u64;
 }
 
+/// Takes one of the reads that were done before the first message; false where there is none.
+fn take_first_read(messages: &mut VecDeque<ReceivedMessage>) -> bool
+    ensures some { result ≡ nat_lt 0 (reads_first messages.old.items) }
+    ensures left { messages.new.items ≡ (if result then without_first_read messages.old.items else messages.old.items) }
+    ensures len { deque_len messages.new ≡ deque_len messages.old }
+    ensures capacity { deque_capacity messages.new ≡ deque_capacity messages.old }
+{
+    match messages.front_mut() {
+        None => false,
+        Some(message) => {
+            if message.reads_done == 0 {
+                return false;
+            }
+            message.reads_done -= 1;
+            true
+        }
+    }
+}
+
 impl ReceiveQueue {
-    /// So many receives, all free, and room for the event of each receive and of each Read Request that may be open.
+    /// So many receives, all free, and room for the message of each.
     pub fn new(alloc: Global, receives: u32) -> Result<ReceiveQueue, Memory>
         ensures { IfOk result (λ q. q ≡ initial_receives receives) }
     {
         let receives = receives as usize;
-        let events = VecDeque::with_capacity(alloc, receives + OPEN_READS_MAX)?;
+        let messages = VecDeque::with_capacity(alloc, receives)?;
         let mut free = Vec::with_capacity(alloc, receives)?;
         fill(&mut free, alloc, receives)?;
         Ok(ReceiveQueue {
@@ -139,7 +172,8 @@ impl ReceiveQueue {
             free,
             lent: 0,
             receives,
-            events,
+            messages,
+            reads_done: 0,
         })
     }
 
@@ -179,40 +213,38 @@ impl ReceiveQueue {
         }
     }
 
-    /// One more segment of a Send, which is begun or finds a receive, and fits it where it becomes whole. An `Err` changes nothing.
+    /// One more segment of a Send, which is begun or finds a receive, and fits it where it becomes whole. Takes no memory.
     #[tactic(auto, unfolding(crate::specs::ReceiveQueue::with_segment))]
-    pub fn receive(&mut self, last: bool, payload: &[u8]) -> Result<(), Memory>
+    pub fn receive(&mut self, last: bool, payload: &[u8])
         requires receive { is_begun self.old.received.begun ≡ false → 0 < self.old.free }
         requires fits { last ≡ true → length (begun_bytes self.old.received.begun) + length payload.now ≤ send_max }
         requires count { self.old.received.sends < 2 ^ 63 }
         requires bytes { length (begun_bytes self.old.received.begun) + length payload.now < 2 ^ 63 }
-        ensures ok { OnOk result (self.new ≡ with_segment (Untagged last OPCODE_SEND 0 0 0 0 payload.now) self.old) }
-        ensures err { OnErr result (self.new ≡ self.old) }
+        ensures { self.new ≡ with_segment (Untagged last OPCODE_SEND 0 0 0 0 payload.now) self.old }
     {
         if last {
-            return self.complete(payload);
+            self.complete(payload);
+            return;
         }
         self.continue_send(payload);
-        Ok(())
     }
 
-    /// The last segment of a Send.
-    fn complete(&mut self, payload: &[u8]) -> Result<(), Memory>
+    /// The last segment of a Send. Its message has room, since its receive is neither free nor lent.
+    fn complete(&mut self, payload: &[u8])
         requires receive { is_begun self.old.received.begun ≡ false → 0 < self.old.free }
         requires fits { length (begun_bytes self.old.received.begun) + length payload.now ≤ send_max }
         requires count { self.old.received.sends < 2 ^ 63 }
-        ensures ok { OnOk result (self.new ≡ with_segment (Untagged true OPCODE_SEND 0 0 0 0 payload.now) self.old) }
-        ensures err { OnErr result (self.new ≡ self.old) }
+        ensures { self.new ≡ with_segment (Untagged true OPCODE_SEND 0 0 0 0 payload.now) self.old }
     {
-        self.events.reserve(1)?;
         let mut begun = take_receive(&mut self.begun, &mut self.free);
         extend(&mut begun, payload);
-        self.events.push_back_reserved(Event::Message {
+        self.messages.push_back_reserved(ReceivedMessage {
+            reads_done: self.reads_done,
             buf: begun.buf,
             len: begun.len as usize,
         });
+        self.reads_done = 0;
         self.sends += 1;
-        Ok(())
     }
 
     /// A segment of a Send that is not its last.
@@ -235,21 +267,12 @@ impl ReceiveQueue {
         self.requests += 1;
     }
 
-    /// Room for all that may be told from now on: for each receive, and for each Read Request that may be open. Changes nothing.
-    pub fn make_room(&mut self) -> Result<(), Memory>
-        ensures { self.new ≡ self.old }
+    /// The response to the Read Request that was open longest is whole. Takes no memory.
+    pub fn read_done(&mut self)
+        requires { length self.old.notices < 2 ^ 63 }
+        ensures { self.new ≡ with_read_done self.old }
     {
-        self.events.reserve(self.receives + OPEN_READS_MAX)?;
-        Ok(())
-    }
-
-    /// The response to the Read Request that was open longest is whole. An `Err` changes nothing.
-    pub fn read_done(&mut self) -> Result<(), Memory>
-        ensures ok { OnOk result (self.new ≡ with_read_done self.old) }
-        ensures err { OnErr result (self.new ≡ self.old) }
-    {
-        self.events.push_back(Event::ReadDone)?;
-        Ok(())
+        self.reads_done += 1;
     }
 
     /// The next event; `None` exactly where none waits. Takes no memory.
@@ -259,11 +282,21 @@ impl ReceiveQueue {
         ensures after { self.new ≡ (if is_some result then told self.old else self.old) }
         ensures buffer { IfSome result HasBuffer }
     {
-        let event = self.events.pop_front()?;
-        if let Event::Message { .. } = &event {
-            self.lent += 1;
+        if take_first_read(&mut self.messages) {
+            return Some(Event::ReadDone);
         }
-        Some(event)
+        if let Some(message) = self.messages.pop_front() {
+            self.lent += 1;
+            return Some(Event::Message {
+                buf: message.buf,
+                len: message.len,
+            });
+        }
+        if self.reads_done == 0 {
+            return None;
+        }
+        self.reads_done -= 1;
+        Some(Event::ReadDone)
     }
 
     /// A buffer is a receive again. Takes no memory.

@@ -9,7 +9,7 @@ ghost use Rattle.nr_link.specs.Output.{refusing_hello};
 ghost use Rattle.nr_link.specs.Ending.{final_output};
 ghost use Rattle.nr_endpoint.specs.Judging.{reply_hello};
 ghost use Rattle.nr_outside.specs.Faults.{Rises};
-ghost use Rattle.nr_endpoint.specs.SendQueue.{initial_queue, with_hello, with_send, with_write, with_request, with_response, with_end, rejection, terminate_by, writable, written, ends_left, ends_passed};
+ghost use Rattle.nr_endpoint.specs.SendQueue.{initial_queue, output_len, with_hello, with_send, with_write, with_request, with_response, with_end, rejection, terminate_by, writable, written, ends_left, ends_passed};
 
 use crate::constants::{WORD_BOUNDS, WORD_NO_BUFFER, WORD_NO_STAG, WORD_RIGHT};
 use crate::framing::{Carrier, push_cut, push_segment, push_terminate};
@@ -236,6 +236,7 @@ impl SendQueue {
     pub fn queue_hello(&mut self, side: Side) -> Result<(), Memory>
         ensures ok { OnOk result (self.new ≡ with_hello (reply_hello side) self.old) }
         ensures err { OnErr result (self.new ≡ self.old) }
+        ensures queued { OnErr result (output_len self.old < output_len (with_hello (reply_hello side) self.old)) }
     {
         match side {
             Side::Initiator => Ok(()),
@@ -320,11 +321,12 @@ impl SendQueue {
         Ok(())
     }
 
-    /// What a side writes last, where it ends. An `Err` changes nothing.
+    /// What a side writes last, where it ends. `Err` only where it writes something; it changes nothing.
     #[tactic(auto, unfolding(crate::specs::SendQueue::with_end, nr_link::specs::Output::refusing_hello))]
     pub fn finish(&mut self, side: Side, end: End) -> Result<(), Memory>
         ensures ok { OnOk result (self.new ≡ with_end side end self.old) }
         ensures err { OnErr result (self.new ≡ self.old) }
+        ensures queued { OnErr result (output_len self.old < output_len (with_end side end self.old)) }
     {
         if is_rejection(side, end) {
             return push_hello(&mut self.hello, self.alloc, Side::Responder, FLAG_REJECT);

@@ -6,7 +6,7 @@ use Rattle.nr_wire.specs.Stream.{IsPartial, IsFrame, is_whole, frame_len}
 use Rattle.nr_wire.proofs.Frames.{partial_from, partial_nil, whole_from, IsFrame-take}
 use Rattle.nr_wire.proofs.Feedings.{bytes_taken-whole}
 use Rattle.nr_endpoint.specs.EndpointState.{EndpointState}
-use Rattle.nr_endpoint.proofs.OneStep.{living, stepped_whole, stepped_partial, out_of_memory, judged, not_judged, in_piece, not_in_piece, whole_is, partial_is, StagedFacts, staged_facts, keeps_partial, keeps_whole}
+use Rattle.nr_endpoint.proofs.OneStep.{living, stepped_whole, stepped_partial, out_of_memory, judged, not_judged, not_judged_queues, queues_whole, in_piece, not_in_piece, whole_is, partial_is, StagedFacts, staged_facts, keeps_partial, keeps_whole}
 use Rattle.nr_endpoint.proofs.endpoint.Endpoint.step.Goals as goal
 
 -- the rest is none where nothing is staged
@@ -61,16 +61,21 @@ returns-then-judge-clause-state c =
     rw (← c.self.view_is) (inl (ap (λ (rest : List ℕ). record { awaited = Fpdu; rest = rest; state = c.judge.new.self }) none
     ∙ stepped_whole c.self.inside.link c.judge.new.self c.self.inside.awaited (take c.self.inside.staged c.self.inside.staging.items) c.args.piece.now c.split_at.result.0.now (subst (λ (e : EndpointState). e.link.state.ended ≡ None) (sym c.self.view_is) c.requires.live) (ap (is_whole c.self.inside.awaited) (none-staged c.self.inside.staging.items c.args.piece.now c.self.inside.staged found.0) ∙ found.1.0)
     (frame-in-piece c.self.inside.awaited c.self.inside.staging.items c.args.piece.now c.split_at.result.0.now c.self.inside.staged c.in-Some.len found.0 found.1.1 c.split_at.ensures.front)
-    (judged c.judge.result c.judge.new.self _ _ c.judge.ensures c.if-judge.true)))
+    (judged c.judge.result c.judge.new.self _ _ c.judge.ensures.state c.if-judge.true)))
 
 pub returns-else-judge-clause-state : goal.returns-else-judge-clause-state
 returns-else-judge-clause-state c =
     let found = in_piece c.self.inside.staged c.self.inside.awaited c.args.piece.now c.whole_in_piece.result c.in-Some.len c.whole_in_piece.ensures c.in-Some.is in
     let none : take c.self.inside.staged c.self.inside.staging.items ≡ [] = ap (λ (n : ℕ). take n c.self.inside.staging.items) found.0 in
+    let whole : is_whole c.self.inside.awaited (take c.self.inside.staged c.self.inside.staging.items ++ c.args.piece.now) ≡ true =
+    ap (is_whole c.self.inside.awaited) (none-staged c.self.inside.staging.items c.args.piece.now c.self.inside.staged found.0) ∙ found.1.0 in
     rw (← c.self.view_is) (inr (
       (ap (λ (rest : List ℕ). record { awaited = c.self.inside.awaited; rest = rest; state = c.judge.new.self }) none
-          ∙ out_of_memory c.self.inside.link c.judge.new.self c.self.inside.awaited (take c.self.inside.staged c.self.inside.staging.items) (subst (λ (e : EndpointState). e.link.state.ended ≡ None) (sym c.self.view_is) c.requires.live) (not_judged c.judge.result c.judge.new.self _ _ c.judge.ensures c.if-judge.false)),
-      ap (is_whole c.self.inside.awaited) (none-staged c.self.inside.staging.items c.args.piece.now c.self.inside.staged found.0) ∙ found.1.0,
+          ∙ out_of_memory c.self.inside.link c.judge.new.self c.self.inside.awaited (take c.self.inside.staged c.self.inside.staging.items) (subst (λ (e : EndpointState). e.link.state.ended ≡ None) (sym c.self.view_is) c.requires.live) (not_judged c.judge.result c.judge.new.self _ _ c.judge.ensures.state c.if-judge.false)),
+      whole,
+      queues_whole c.self.inside.link c.self.inside.awaited (take c.self.inside.staged c.self.inside.staging.items) c.args.piece.now c.split_at.result.0.now (subst (λ (e : EndpointState). e.link.state.ended ≡ None) (sym c.self.view_is) c.requires.live) whole
+          (frame-in-piece c.self.inside.awaited c.self.inside.staging.items c.args.piece.now c.split_at.result.0.now c.self.inside.staged c.in-Some.len found.0 found.1.1 c.split_at.ensures.front)
+          (not_judged_queues c.judge.result _ c.judge.ensures.queued c.if-judge.false),
     ))
 
 -- ---- A frame that is staged
@@ -133,14 +138,19 @@ returns-then-judge-2-clause-state c =
     let staged : c.split_at-2.result.0.now ≡ take (c.self.inside.staged + c.stage_frame-taken.result) c.stage_frame-taken.new.staging.items = c.split_at-2.ensures.front ∙ ap (take (c.self.inside.staged + c.stage_frame-taken.result)) c.as_slice.ensures.value in
     let whole : is_whole c.self.inside.awaited ((take c.self.inside.staged c.self.inside.staging.items) ++ c.args.piece.now) ≡ true = sym facts.whole ∙ ap (is_whole c.self.inside.awaited) (sym staged) ∙ whole_is (is_whole c.self.inside.awaited c.split_at-2.result.0.now) _ c.whole_frame.result c.whole_frame.ensures.exact (c.is_none.ensures ∙ ap not c.if-is_none.false) in
     rw (← c.self.view_is) (inl (stepped_whole c.self.inside.link c.judge-2.new.self c.self.inside.awaited (take c.self.inside.staged c.self.inside.staging.items) c.args.piece.now c.split_at-2.result.0.now (subst (λ (e : EndpointState). e.link.state.ended ≡ None) (sym c.self.view_is) c.requires.live) whole (staged ∙ (facts.frame whole).1)
-    (judged c.judge-2.result c.judge-2.new.self _ _ c.judge-2.ensures c.if-judge-2.true)))
+    (judged c.judge-2.result c.judge-2.new.self _ _ c.judge-2.ensures.state c.if-judge-2.true)))
 
 pub returns-else-judge-2-clause-state : goal.returns-else-judge-2-clause-state
 returns-else-judge-2-clause-state c =
     let facts : StagedFacts c.self.inside.awaited c.self.inside.staging.items c.stage_frame-taken.new.staging.items c.args.piece.now c.self.inside.staged c.stage_frame-taken.result = staged_facts c.self.inside.awaited c.self.inside.staging.items c.stage_frame-taken.new.staging.items c.args.piece.now c.self.inside.staged c.stage_frame-taken.result c.self.invariant.len c.stage_frame-taken.ensures.room c.self.invariant.partial c.stage_frame-taken.ensures.taken c.stage_frame-taken.ensures.bytes in
     let staged : c.split_at-2.result.0.now ≡ take (c.self.inside.staged + c.stage_frame-taken.result) c.stage_frame-taken.new.staging.items = c.split_at-2.ensures.front ∙ ap (take (c.self.inside.staged + c.stage_frame-taken.result)) c.as_slice.ensures.value in
     let whole : is_whole c.self.inside.awaited ((take c.self.inside.staged c.self.inside.staging.items) ++ c.args.piece.now) ≡ true = sym facts.whole ∙ ap (is_whole c.self.inside.awaited) (sym staged) ∙ whole_is (is_whole c.self.inside.awaited c.split_at-2.result.0.now) _ c.whole_frame.result c.whole_frame.ensures.exact (c.is_none.ensures ∙ ap not c.if-is_none.false) in
-    rw (← c.self.view_is) (inr (out_of_memory c.self.inside.link c.judge-2.new.self c.self.inside.awaited (take c.self.inside.staged c.self.inside.staging.items) (subst (λ (e : EndpointState). e.link.state.ended ≡ None) (sym c.self.view_is) c.requires.live) (not_judged c.judge-2.result c.judge-2.new.self _ _ c.judge-2.ensures c.if-judge-2.false), whole))
+    rw (← c.self.view_is) (inr (
+      out_of_memory c.self.inside.link c.judge-2.new.self c.self.inside.awaited (take c.self.inside.staged c.self.inside.staging.items) (subst (λ (e : EndpointState). e.link.state.ended ≡ None) (sym c.self.view_is) c.requires.live) (not_judged c.judge-2.result c.judge-2.new.self _ _ c.judge-2.ensures.state c.if-judge-2.false),
+      whole,
+      queues_whole c.self.inside.link c.self.inside.awaited (take c.self.inside.staged c.self.inside.staging.items) c.args.piece.now c.split_at-2.result.0.now (subst (λ (e : EndpointState). e.link.state.ended ≡ None) (sym c.self.view_is) c.requires.live) whole
+          (staged ∙ (facts.frame whole).1) (not_judged_queues c.judge-2.result _ c.judge-2.ensures.queued c.if-judge-2.false),
+    ))
 
 pub returns-then-judge-2-clause-staging : goal.returns-then-judge-2-clause-staging
 returns-then-judge-2-clause-staging c =

@@ -1,4 +1,4 @@
-use Rattle.std.proofs.Common.{◌≡◌, ℕ, refl, sym, ap, subst, ◌∙◌}
+use Rattle.std.proofs.Common.{◌≡◌, ◌<◌, ℕ, refl, sym, ap, subst, ◌∙◌}
 use Rattle.std.specs.Prelude.{None}
 use Rattle.nr_wire.specs.declared.segment.Segment.{Segment}
 use Rattle.nr_wire.specs.Segment.{IsSupported}
@@ -7,6 +7,8 @@ use Rattle.nr_wire.specs.View.{segment as plain}
 use Rattle.nr_endpoint.specs.Judging.{segment_end, with_effect, next_frame, behind_frame}
 use Rattle.nr_wire.specs.Constants.{OPCODE_SEND}
 use Rattle.nr_endpoint.proofs.Standing.{on_ok}
+use Rattle.nr_endpoint.specs.SendQueue.{output_len}
+use Rattle.nr_endpoint.proofs.Queued.{request-queues, on_any_err}
 use Rattle.nr_endpoint.proofs.Taken.{same_request, same_send}
 use Rattle.nr_endpoint.proofs.Alive.{alive-tagged, alive-request, alive-send}
 use Rattle.nr_endpoint.proofs.link.Link.take.Goals as goal
@@ -38,6 +40,13 @@ returns-then-opcode-eq-OPCODE_READ_REQUEST-clause-ok c =
     ∙ ap (λ (opcode : ℕ). Segment.Untagged c.in-Untagged.last opcode c.in-Untagged.word c.in-Untagged.queue c.in-Untagged.msn c.in-Untagged.offset c.in-Untagged.payload) c.if-opcode-eq-OPCODE_READ_REQUEST.true)))
     c.take_request.ensures.ok
 
+pub returns-then-opcode-eq-OPCODE_READ_REQUEST-clause-queued : goal.returns-then-opcode-eq-OPCODE_READ_REQUEST-clause-queued
+returns-then-opcode-eq-OPCODE_READ_REQUEST-clause-queued c =
+    on_any_err c.take_request.result
+    (subst (λ (segment : Segment). output_len c.args.self.now.send_queue < output_len (with_effect (plain segment) c.args.self.now).send_queue)
+    (sym (c.in-Untagged.is ∙ ap (λ (opcode : ℕ). Segment.Untagged c.in-Untagged.last opcode c.in-Untagged.word c.in-Untagged.queue c.in-Untagged.msn c.in-Untagged.offset c.in-Untagged.payload) c.if-opcode-eq-OPCODE_READ_REQUEST.true))
+    (request-queues c.args.self.now c.in-Untagged.last c.in-Untagged.word c.in-Untagged.queue c.in-Untagged.msn c.in-Untagged.offset c.in-Untagged.payload.now))
+
 pub returns-else-opcode-eq-OPCODE_READ_REQUEST-clause-ok : goal.returns-else-opcode-eq-OPCODE_READ_REQUEST-clause-ok
 returns-else-opcode-eq-OPCODE_READ_REQUEST-clause-ok c =
     let supported : IsSupported (Untagged c.in-Untagged.last c.in-Untagged.opcode c.in-Untagged.word c.in-Untagged.queue c.in-Untagged.msn c.in-Untagged.offset c.in-Untagged.payload.now) =
@@ -46,8 +55,6 @@ returns-else-opcode-eq-OPCODE_READ_REQUEST-clause-ok c =
     (alive-send c.args.self.now (next_frame c.args.self.now c.args.frame.now) c.in-Untagged.last c.in-Untagged.opcode c.in-Untagged.word c.in-Untagged.queue c.in-Untagged.msn c.in-Untagged.offset c.in-Untagged.payload.now refl
     supported.0 c.if-opcode-eq-OPCODE_READ_REQUEST.false
     (subst (λ (s : Segment). segment_end c.args.self.now (next_frame c.args.self.now c.args.frame.now) (plain s) ≡ None) c.in-Untagged.is c.requires.lives)).0 in
-    on_ok c.take_send.result
-    (λ is. is ∙ ap (behind_frame (next_frame c.args.self.now c.args.frame.now)) (same_send c.args.self.now c.in-Untagged.last c.in-Untagged.word c.in-Untagged.queue c.in-Untagged.msn c.in-Untagged.offset c.in-Untagged.payload.now)
+    c.take_send.ensures ∙ ap (behind_frame (next_frame c.args.self.now c.args.frame.now)) (same_send c.args.self.now c.in-Untagged.last c.in-Untagged.word c.in-Untagged.queue c.in-Untagged.msn c.in-Untagged.offset c.in-Untagged.payload.now)
     ∙ ap (λ (segment : Segment). behind_frame (next_frame c.args.self.now c.args.frame.now) (with_effect (plain segment) c.args.self.now)) (sym (c.in-Untagged.is
-    ∙ ap (λ (opcode : ℕ). Segment.Untagged c.in-Untagged.last opcode c.in-Untagged.word c.in-Untagged.queue c.in-Untagged.msn c.in-Untagged.offset c.in-Untagged.payload) opcode)))
-    c.take_send.ensures.ok
+    ∙ ap (λ (opcode : ℕ). Segment.Untagged c.in-Untagged.last opcode c.in-Untagged.word c.in-Untagged.queue c.in-Untagged.msn c.in-Untagged.offset c.in-Untagged.payload) opcode))

@@ -1,10 +1,10 @@
 use Rattle.nr_endpoint.proofs.Taken.{counted_send, took_send}
 use Rattle.nr_endpoint.proofs.link.Link.take_send.Goals as goal
 
-pub invariant_of-self-2 : goal.invariant_of-self-2
-invariant_of-self-2 c =
-    rw c.in_ok-receive.ensures.ok (counted_send c.self.inside.receive_queue c.args.last c.args.payload.now c.self.inside.place _ c.self.invariant c.requires.size)
+pub invariant_of-self : goal.invariant_of-self
+invariant_of-self c =
+    rw c.receive.ensures (counted_send c.self.inside.receive_queue c.args.last c.args.payload.now c.self.inside.place _ c.self.invariant c.requires.size)
 
-pub returns-clause-ok : goal.returns-clause-ok
-returns-clause-ok c =
-    rw (← c.self.view_is) (took_send _ c.receive.new.self c.args.last c.args.payload.now c.args.frame.now c.in_ok-receive.ensures.ok)
+pub returns : goal.returns
+returns c =
+    rw (← c.self.view_is) (took_send _ c.receive.new.self c.args.last c.args.payload.now c.args.frame.now c.receive.ensures)

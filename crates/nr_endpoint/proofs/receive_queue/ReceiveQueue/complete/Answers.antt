@@ -1,28 +1,15 @@
-use Rattle.std.proofs.Common.{◌≡◌, ℕ, ◌∙◌, ◌<◌, ◌≤◌, ◌+◌, ◌++◌, List, length, take, false, ap, sym, subst, arith, length-append}
-use Rattle.std.proofs.lemmas.List.{map-append}
+use Rattle.std.proofs.Common.{◌≡◌, ℕ, ◌∙◌, ◌≤◌, ◌+◌, ◌++◌, List, length, take, ap, sym, subst, arith, length-append}
 use Rattle.nr_link.specs.Limits.{send_max}
 use Rattle.nr_link.specs.ReceiveState.{begun_bytes}
-use Rattle.nr_link.specs.SegmentFaults.{is_begun}
 use Rattle.nr_endpoint.specs.ReceiveQueue.{ReceiveQueue, kept_bytes}
 use Rattle.nr_endpoint.specs.Views.{begun as begun_bytes_of}
-use Rattle.nr_endpoint.proofs.ReceiveQueueBuffers.{with_message}
+use Rattle.nr_endpoint.proofs.ReceiveQueueBuffers.{notices-message}
 use Rattle.nr_endpoint.proofs.ReceiveQueueBytes.{message_bytes}
 use Rattle.nr_endpoint.proofs.ReceiveQueueSteps.{with_last}
 use Rattle.nr_endpoint.proofs.receive_queue.ReceiveQueue.complete.Goals as goal
 
-pub invariant_of-self-2 : goal.invariant_of-self-2
-invariant_of-self-2 c =
-    let some : is_begun (begun_bytes_of c.self.inside.begun) ≡ false → 0 < length c.self.inside.free.items =
-    subst (λ (q : ReceiveQueue). is_begun q.received.begun ≡ false → 0 < q.free) (sym c.self.view_is) c.requires.receive in
-    let fits : length (begun_bytes (begun_bytes_of c.self.inside.begun)) + length c.args.payload.now ≤ send_max =
-    subst (λ (q : ReceiveQueue). length (begun_bytes q.received.begun) + length c.args.payload.now ≤ send_max) (sym c.self.view_is) c.requires.fits in
-    let len : c.extend.new.begun.len ≤ send_max = omega (arith, fits, c.extend.ensures.len, c.take_receive-begun.ensures.len) in
-    rw (c.take_receive-begun.ensures.taken, c.push_back_reserved.ensures.items, c.take_receive-begun.ensures.capacity, c.reserve.ensures.items)
-    (with_message c.self.inside.free.items c.take_receive-begun.new.free.items c.self.inside.begun c.self.inside.events.items _ _ _ c.extend.new.begun.buf c.extend.new.begun.len
-    c.self.invariant c.take_receive-begun.ensures.bufs c.take_receive-begun.ensures.free some c.extend.ensures.buf len)
-
-pub returns-clause-ok : goal.returns-clause-ok
-returns-clause-ok c =
+pub returns : goal.returns
+returns c =
     let fits : length (begun_bytes (begun_bytes_of c.self.inside.begun)) + length c.args.payload.now ≤ send_max =
     subst (λ (q : ReceiveQueue). length (begun_bytes q.received.begun) + length c.args.payload.now ≤ send_max) (sym c.self.view_is) c.requires.fits in
     let count : length (begun_bytes (begun_bytes_of c.self.inside.begun) ++ c.args.payload.now) ≡ length (begun_bytes (begun_bytes_of c.self.inside.begun)) + length c.args.payload.now =
@@ -31,5 +18,5 @@ returns-clause-ok c =
     message_bytes c.extend.new.begun (begun_bytes (begun_bytes_of c.self.inside.begun) ++ c.args.payload.now)
     (c.extend.ensures.bytes ∙ ap (λ (x : List ℕ). kept_bytes (x ++ c.args.payload.now)) c.take_receive-begun.ensures.bytes)
     (omega (arith, count, c.extend.ensures.len, c.take_receive-begun.ensures.len)) (omega (arith, count, fits)) in
-    rw (← c.self.view_is, c.take_receive-begun.ensures.taken, c.push_back_reserved.ensures.items, c.reserve.ensures.items, map-append)
+    rw (← c.self.view_is, c.take_receive-begun.ensures.taken, c.push_back_reserved.ensures.items, notices-message c.self.inside.messages.items c.self.inside.reads_done c.extend.new.begun.buf c.extend.new.begun.len)
     (with_last _ c.args.payload.now _ _ message c.take_receive-begun.ensures.free)
