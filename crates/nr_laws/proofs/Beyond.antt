@@ -10,6 +10,7 @@ use Rattle.nr_wire.proofs.Frames.{partial_not_whole}
 use Rattle.nr_wire.proofs.Splits.{split-Splits, split-frame, split-partial}
 use Rattle.nr_link.specs.Frames.{Frame, frames_from, frames_completed}
 use Rattle.nr_link.proofs.Streams.{frames_completed-split}
+use Rattle.nr_laws.proofs.Basics.{first-is}
 
 abbrev pub EndBehind : ℕ → List Frame → Type 0
 EndBehind n [] = Unit {0}
@@ -28,10 +29,7 @@ behind [] more x y le e = record { back = x; front_is = refl }
 behind (b ∷ frame) more [] y le e = absurd (omega (arith, le))
 behind (b ∷ frame) more (c ∷ x) y le e =
     let rest = behind frame more x y (omega (arith, le)) (ap (λ (xs : List ℕ). drop 1 xs) e) in
-    record { back = rest.back; front_is = (λ i. head-same c b (x ++ y) (frame ++ more) e i ∷ rest.front_is i) }
-  where
-    head-same : (c b : ℕ) (xs ys : List ℕ) → c ∷ xs ≡ b ∷ ys → c ≡ b
-    head-same c b xs ys e = cc
+    record { back = rest.back; front_is = (λ i. first-is c b (x ++ y) (frame ++ more) e i ∷ rest.front_is i) }
 
 later-ends : (n at : ℕ) (fs : List (List ℕ)) → n < at → EndBehind n (frames_from at fs)
 later-ends n at [] lt = tt

@@ -13,6 +13,7 @@ use Rattle.nr_wire.proofs.Splits.{split-frame, split-partial}
 use Rattle.nr_link.specs.Output.{own_hello}
 use Rattle.nr_laws.proofs.Brought.{IsWord, encoding-is, hello-is}
 use Rattle.nr_laws.specs.FrameContents.{FrameContent, numbered_segment, frame_bytes, output_bytes, sends_in, requests_in, total_of}
+use Rattle.nr_laws.proofs.Basics.{first-is}
 
 -- ---- Pieces that are frames
 
@@ -97,11 +98,8 @@ behind (b ∷ frame) more [] y le e = absurd (omega (arith, le))
 behind (b ∷ frame) more (c ∷ x) y le e =
     let tail : x ++ y ≡ frame ++ more = ap (λ (xs : List ℕ). drop 1 xs) e in
     let rest = behind frame more x y (omega (arith, le)) tail in
-    record { back = rest.back; front_is = cons_same c b (head_same c b (x ++ y) (frame ++ more) e) x (frame ++ rest.back) rest.front_is; back_is = rest.back_is }
+    record { back = rest.back; front_is = cons_same c b (first-is c b (x ++ y) (frame ++ more) e) x (frame ++ rest.back) rest.front_is; back_is = rest.back_is }
   where
-    head_same : (c b : ℕ) (xs ys : List ℕ) → c ∷ xs ≡ b ∷ ys → c ≡ b
-    head_same c b xs ys e = cc
-
     cons_same : (c b : ℕ) → c ≡ b → (xs ys : List ℕ) → xs ≡ ys → c ∷ xs ≡ b ∷ ys
     cons_same c b e xs ys f = λ i. e i ∷ f i
 
