@@ -13,7 +13,6 @@ use Rattle.nr_wire.proofs.Splits.{split-frame, split-partial}
 use Rattle.nr_link.specs.Output.{own_hello}
 use Rattle.nr_laws.proofs.Brought.{IsWord, encoding-is, hello-is}
 use Rattle.nr_laws.specs.FrameContents.{FrameContent, numbered_segment, frame_bytes, output_bytes, sends_in, requests_in, total_of}
-use Rattle.nr_laws.proofs.Basics.{first-is}
 use Rattle.nr_laws.proofs.Beyond.{behind}
 
 -- ---- Pieces that are frames

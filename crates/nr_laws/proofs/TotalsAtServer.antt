@@ -17,7 +17,7 @@ use Rattle.nr_reduce.specs.Events.Event.{FrameReceived, CallExecuted, QueueWritt
 use Rattle.nr_reduce.specs.ServerState.{ServerState, PendingCall, PendingRead, down_max, credit_word}
 use Rattle.nr_reduce.specs.ServerFrames.{FrameEffect, frame_effect, effect_in, message_effect, no_effect, ready_if_whole, with_verdict, with_refused_call, read_effect, response_effect, call_of_number, is_stream_read, with_access}
 use Rattle.nr_reduce.specs.ServerMessages.{Verdict, CallVerdict, verdict, by_payload, payload_of, chunk_bytes}
-use Rattle.nr_reduce.specs.ServerReads.{open_reads, is_read, reads_of, regions_of, is_over}
+use Rattle.nr_reduce.specs.ServerReads.{open_reads, reads_of, regions_of, is_over}
 use Rattle.nr_reduce.specs.Server.{with_effect, newly_open_reads, server_state_after, offer_of, answer_of_target, received_by, response_bytes_after, tagged_accesses}
 use Rattle.nr_reduce.specs.ServerMessages.Verdict.{EndsLink, OtherVersion, BadChunks, MakesPending}
 use Rattle.nr_reduce.specs.ServerMessages.CallVerdict.{Refuses, IsReady}
