@@ -28,6 +28,10 @@ pub and-false : (b c : Bool) → b ≡ false → (b && c) ≡ false
 and-false true c e = absurd cc
 and-false false c e = refl
 
+pub and-second : (b c : Bool) → c ≡ false → (b && c) ≡ false
+and-second true c e = e
+and-second false c e = refl
+
 pub each-append : {X : Type 0} (P : X → Type 0) (xs ys : List X) → AllByRecursion P xs → AllByRecursion P ys → AllByRecursion P (xs ++ ys)
 each-append P [] ys h k = k
 each-append P (x ∷ xs) ys h k = (h.0, each-append P xs ys h.1 k)

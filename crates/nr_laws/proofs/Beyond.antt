@@ -1,5 +1,5 @@
 -- Frames that more bytes of a stream complete end behind the bytes that were there before.
-use Rattle.std.proofs.Common.{◌≡◌, ℕ, ◌+◌, ◌≤◌, ◌<◌, List, [], ◌∷◌, ◌++◌, length, drop, refl, sym, ap, subst, ◌∙◌, arith, append_assoc, length-append, inl, inr}
+use Rattle.std.proofs.Common.{◌≡◌, ℕ, ◌+◌, ◌≤◌, ◌<◌, List, [], ◌∷◌, ◌++◌, length, refl, sym, ap, subst, ◌∙◌, arith, append_assoc, length-append, inl, inr}
 use Rattle.std.proofs.lemmas.Bool.{cases_lt}
 use Rattle.std.specs.List.{concat}
 use Rattle.nr_wire.specs.declared.hello.Side.{Side}
@@ -10,6 +10,7 @@ use Rattle.nr_wire.proofs.Frames.{partial_not_whole}
 use Rattle.nr_wire.proofs.Splits.{split-Splits, split-frame, split-partial}
 use Rattle.nr_link.specs.Frames.{Frame, frames_from, frames_completed}
 use Rattle.nr_link.proofs.Streams.{frames_completed-split}
+use Rattle.nr_laws.proofs.Basics.{first-is, rest-is}
 
 abbrev pub EndBehind : ℕ → List Frame → Type 0
 EndBehind n [] = Unit {0}
@@ -19,19 +20,17 @@ abbrev pub EndBy : ℕ → List Frame → Type 0
 EndBy n [] = Unit {0}
 EndBy n (f ∷ fs) = (f.end ≤ n) × EndBy n fs
 
-record Behind (frame more x y : List ℕ) : Type 0 where
-  back : List ℕ
-  front_is : x ≡ frame ++ back
+pub record Behind (frame more x y : List ℕ) : Type 0 where
+  pub back : List ℕ
+  pub front_is : x ≡ frame ++ back
+  pub back_is : back ++ y ≡ more
 
-behind : (frame more x y : List ℕ) → length frame ≤ length x → x ++ y ≡ frame ++ more → Behind frame more x y
-behind [] more x y le e = record { back = x; front_is = refl }
+pub behind : (frame more x y : List ℕ) → length frame ≤ length x → x ++ y ≡ frame ++ more → Behind frame more x y
+behind [] more x y le e = record { back = x; front_is = refl; back_is = e }
 behind (b ∷ frame) more [] y le e = absurd (omega (arith, le))
 behind (b ∷ frame) more (c ∷ x) y le e =
-    let rest = behind frame more x y (omega (arith, le)) (ap (λ (xs : List ℕ). drop 1 xs) e) in
-    record { back = rest.back; front_is = (λ i. head-same c b (x ++ y) (frame ++ more) e i ∷ rest.front_is i) }
-  where
-    head-same : (c b : ℕ) (xs ys : List ℕ) → c ∷ xs ≡ b ∷ ys → c ≡ b
-    head-same c b xs ys e = cc
+    let rest = behind frame more x y (omega (arith, le)) (rest-is c b (x ++ y) (frame ++ more) e) in
+    record { back = rest.back; front_is = (λ i. first-is c b (x ++ y) (frame ++ more) e i ∷ rest.front_is i); back_is = rest.back_is }
 
 later-ends : (n at : ℕ) (fs : List (List ℕ)) → n < at → EndBehind n (frames_from at fs)
 later-ends n at [] lt = tt

@@ -20,6 +20,7 @@ use Rattle.nr_laws.proofs.JudgedMessages.{by-fault}
 use Rattle.nr_laws.proofs.OtherReasons.{apart, fault-other}
 use Rattle.nr_laws.proofs.EachEffect.{each-verdict, EffectCase, effect-case, read_over}
 use Rattle.nr_laws.proofs.EachEffect.EffectCase.{Unchanged, OfMessage, OfRead, OfRefusal, OfCall}
+use Rattle.nr_laws.proofs.Basics.{some-is}
 
 -- ---- Reasons that aren't those of a call
 
@@ -66,11 +67,8 @@ record WholeRefused (k : ServerState) (place : ℕ) (c : PendingCall) (reads : L
 whole-refused : (k : ServerState) (place : ℕ) (c : PendingCall) (s : FrameEffect) (reason : ℕ) → s.refusal ≡ None → (ready_if_whole k place c s).refusal ≡ Some reason → WholeRefused k place c s.reads reason
 whole-refused k place c s reason none e = by (is_read s.reads c.number) refl e
   where
-    same : (a : ℕ) → Some a ≡ Some reason → a ≡ reason
-    same a e = cc
-
     by_verdict : (v : CallVerdict) → by_payload c (payload_of k place c) ≡ v → (with_verdict v s).refusal ≡ Some reason → by_payload c (payload_of k place c) ≡ Refuses reason
-    by_verdict (Refuses other) is e = is ∙ ap (λ (n : ℕ). Refuses n) (same other e)
+    by_verdict (Refuses other) is e = is ∙ ap (λ (n : ℕ). Refuses n) (some-is other reason e)
     by_verdict (IsReady r) is e = none-of reason s.refusal none e
 
     by : (b : Bool) → is_read s.reads c.number ≡ b → (cond b (with_verdict (by_payload c (payload_of k place c)) s) s).refusal ≡ Some reason → WholeRefused k place c s.reads reason
@@ -80,10 +78,7 @@ whole-refused k place c s reason none e = by (is_read s.reads c.number) refl e
 message-refused : (k : ServerState) (f : Frame) (segment : Segment) (message : List ℕ) (reason : ℕ) → IsCallReason reason → message_completed k.received segment ≡ Some message → (v : Verdict) → verdict k message ≡ v
     → (message_effect k f.end message v).refusal ≡ Some reason → RefusedBy k f segment reason
 message-refused k f segment message reason own whole (EndsLink other) is e =
-    absurd (subst OtherVerdict is (verdict-other k message) (subst IsCallReason (sym (same other e)) own))
-  where
-    same : (a : ℕ) → Some a ≡ Some reason → a ≡ reason
-    same a e = cc
+    absurd (subst OtherVerdict is (verdict-other k message) (subst IsCallReason (sym (some-is other reason e)) own))
 message-refused k f segment message reason own whole OtherVersion is e = none-of reason None refl e
 message-refused k f segment message reason own whole BadChunks is e = none-of reason None refl e
 message-refused k f segment message reason own whole (MakesPending c) is e =

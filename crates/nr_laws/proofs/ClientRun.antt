@@ -32,6 +32,7 @@ use Rattle.nr_laws.proofs.Outputs.{Output, bytes_of_all, bytes-append, message_o
 use Rattle.nr_laws.proofs.ClientSays.{ClientGood, accepted_in, accepted-append, asked, ClientSays, Says}
 use Rattle.nr_laws.proofs.ClientAlong.{client-step, short-call}
 use Rattle.nr_reduce.proofs.Waiting.{start, stag_behind, from-append}
+use Rattle.nr_laws.proofs.Basics.{first-is}
 
 pub each-both : (P Q : List Mark → Mark → Type 0) (before run : List Mark) → AtEachMark P before run → AtEachMark Q before run → AtEachMark (λ b m. P b m × Q b m) before run
 each-both P Q before [] h g = tt
@@ -201,19 +202,10 @@ parted-more x z xs y pre m post e (Within more is) = Within more (λ i. e i ∷ 
 parted-more x z xs y pre m post e (Last is same) = Last (λ i. e i ∷ is i) same
 
 pub parted : {X : Type 0} (xs : List X) (y : X) (pre : List X) (m : X) (post : List X) → xs ++ y ∷ [] ≡ pre ++ m ∷ post → Parted xs y pre m post
-parted [] y [] m post e = Last refl (head-is m y post [] (sym e))
-  where
-    head-is : {X : Type 0} (a b : X) (xs ys : List X) → a ∷ xs ≡ b ∷ ys → a ≡ b
-    head-is a b xs ys e = cc
+parted [] y [] m post e = Last refl (first-is m y post [] (sym e))
 parted [] y (p ∷ pre) m post e = absurd (let l = ap (λ (zs : List _). length zs) e in let n = length-append pre (m ∷ post) in omega (arith, l, n))
-parted (x ∷ xs) y [] m post e = Within xs (λ i. head-is x m (xs ++ y ∷ []) post e i ∷ xs)
-  where
-    head-is : {X : Type 0} (a b : X) (xs ys : List X) → a ∷ xs ≡ b ∷ ys → a ≡ b
-    head-is a b xs ys e = cc
-parted (x ∷ xs) y (p ∷ pre) m post e = parted-more x p xs y pre m post (head-is x p (xs ++ y ∷ []) (pre ++ m ∷ post) e) (parted xs y pre m post (ap (λ (zs : List _). drop 1 zs) e))
-  where
-    head-is : {X : Type 0} (a b : X) (xs ys : List X) → a ∷ xs ≡ b ∷ ys → a ≡ b
-    head-is a b xs ys e = cc
+parted (x ∷ xs) y [] m post e = Within xs (λ i. first-is x m (xs ++ y ∷ []) post e i ∷ xs)
+parted (x ∷ xs) y (p ∷ pre) m post e = parted-more x p xs y pre m post (first-is x p (xs ++ y ∷ []) (pre ++ m ∷ post) e) (parted xs y pre m post (ap (λ (zs : List _). drop 1 zs) e))
 
 abbrev pub asked_calls : LinkParameters → ℕ → List Mark → List OutstandingCall
 asked_calls opened link run = asked opened (events link Initiator run)

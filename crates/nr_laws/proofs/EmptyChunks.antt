@@ -21,7 +21,7 @@ use Rattle.nr_reduce.specs.RunLaws.{server_by}
 use Rattle.nr_reduce.proofs.Once.{NumberIs, verdict-number, whole-with, Goes, after-goes}
 use Rattle.nr_reduce.proofs.OwnStags.{AreNumbered, server-numbers, kept-after}
 use Rattle.nr_laws.proofs.PendingSinks.{sink-closed, OwnersBelow, owners-more, owners-append, owners-closed, sink-none}
-use Rattle.nr_laws.proofs.Basics.{and-false}
+use Rattle.nr_laws.proofs.Basics.{and-false, and-second}
 use Rattle.nr_laws.proofs.EachEffect.{each-effect, held-messages, held-responses}
 use Rattle.nr_laws.proofs.RegionLengths.{none-before}
 
@@ -64,16 +64,12 @@ own-sink number position place lists none stag (q ∷ qs) = by (eqb (total_at q 
     others : List ℕ
     others = filter (λ p. not (eqb (total_at p lists.read) 0)) qs
 
-    second : (a b : Bool) → b ≡ false → (a && b) ≡ false
-    second true b e = e
-    second false b e = refl
-
     by : (b : Bool) → eqb (total_at q lists.read) 0 ≡ b → ((next : ℕ) → sink_of (regions_from number place next lists others) number position ≡ 0) → sink_of (regions_from number place stag lists (cond (not b) (q ∷ others) others)) number position ≡ 0
     by true is rest = rest stag
     by false is rest =
         let apart : q ≢ position = λ e. (let t : true ≡ false = sym (ap (λ (n : ℕ). eqb n 0) (ap (λ (p : ℕ). total_at p lists.read) e ∙ none)) ∙ is in absurd cc) in
         let r : Region = sink_region number q stag place lists in
-        ap (λ (b : Bool). stag_by (cond b (Some r) (find (λ x. eqb x.call number && eqb x.position position) (regions_from number place (stag + 1) lists others)))) (second (eqb number number) (eqb q position) (ne_eqb q position apart))
+        ap (λ (b : Bool). stag_by (cond b (Some r) (find (λ x. eqb x.call number && eqb x.position position) (regions_from number place (stag + 1) lists others)))) (and-second (eqb number number) (eqb q position) (ne_eqb q position apart))
         ∙ rest (stag + 1)
 
 -- ---- They are kept

@@ -1,5 +1,5 @@
 -- A call that becomes pending gets a sink for each of its reads.
-use Rattle.std.proofs.Common.{◌≡◌, ℕ, zero, suc, ◌+◌, ◌≤◌, ◌<◌, Bool, true, false, not, cond, ◌||◌, ◌&&◌, eqb, inl, inr, List, [], ◌∷◌, ◌++◌, length, replicate, Option, None, Some, refl, sym, ap, ◌∙◌, arith, eq-eqb, ne_eqb, eqb-true, append_assoc}
+use Rattle.std.proofs.Common.{◌≡◌, ℕ, ◌+◌, ◌≤◌, ◌<◌, Bool, true, false, not, cond, ◌||◌, ◌&&◌, eqb, inl, inr, List, [], ◌∷◌, ◌++◌, length, replicate, Option, None, Some, refl, sym, ap, ◌∙◌, arith, eq-eqb, ne_eqb, eqb-true, append_assoc}
 use Rattle.std.specs.Prelude.{find, sum_by}
 use Rattle.std.specs.List.{filter, list_any}
 use Rattle.std.proofs.lemmas.List.{length-replicate}
@@ -13,6 +13,7 @@ use Rattle.nr_reduce.specs.ServerState.{ServerState, PendingCall, PendingRead, n
 use Rattle.nr_reduce.specs.ServerReads.{chunks_of, regions_from, regions_of, stag_by, read_of, reads_from, reads_of}
 use Rattle.nr_laws.specs.LinkInvariants.{HasSink, HaveSinks, AreAtMost}
 use Rattle.nr_laws.proofs.Sinks.{sinks-append}
+use Rattle.nr_laws.proofs.Basics.{above-zero}
 
 -- ---- Totals
 
@@ -160,17 +161,13 @@ new-sinks k place c before (r ∷ read) a new is =
     by : (b : Bool) → eqb r.length 0 ≡ b → HaveSinks place all (cond b [] (x ∷ []))
     by true zero_is = tt
     by false zero_is =
-        let some : 0 < r.length = not-zero r.length zero_is in
+        let some : 0 < r.length = above-zero r.length zero_is in
         let g = given c.number place (next_stag k) c.lists (chunks_of c.lists) r.position (chunk-there c.lists before r read is some) in
         let same : x.sink ≡ stag_by (find (for_chunk c.number r.position) news) =
         ap (λ (o : Option Region). stag_by o) (found-behind c.number r.position k.received.sends k.regions news a.calls (omega (arith, new))) in
         let room : total_at r.position before + r.length ≤ total_at r.position c.lists.read =
         omega (arith, ap (λ (rs : List ReadSegment). total_at r.position rs) (sym is), total-append r.position before (r ∷ read), total-own r read) in
         (sink-behind place (length k.regions) x k.regions news a.stags (omega (arith, same, g.from)) (g.sink x same refl refl room), tt)
-      where
-        not-zero : (n : ℕ) → eqb n 0 ≡ false → 0 < n
-        not-zero zero e = absurd cc
-        not-zero (suc n) e = omega arith
 
 pub sinks-opened : (k : ServerState) (place : ℕ) (c : PendingCall) → AreKnown k → c.number ≡ k.received.sends + 1 → HaveSinks place (k.regions ++ regions_of k place c) (reads_of (k.regions ++ regions_of k place c) c)
 sinks-opened k place c a new = new-sinks k place c [] c.lists.read a new refl

@@ -15,7 +15,7 @@ use Rattle.nr_reduce.specs.ServerMessages.CallVerdict.{Refuses, IsReady}
 use Rattle.nr_laws.specs.LinkInvariants.{AreDistinct, IsUnused, AreAtMost, AreReady, AreWhole, PendingAgree}
 use Rattle.nr_laws.proofs.Totals.{apart_kept, apart_push}
 use Rattle.nr_laws.proofs.TotalsAtServer.{found_has}
-use Rattle.nr_laws.proofs.Keys.{any-append, any-left, any-right, below-kept, below-taken, below-dropped, below-append, none-absent, any-kept}
+use Rattle.nr_laws.proofs.Keys.{any-append, any-left, any-right, below-kept, below-taken, below-dropped, below-append, none-absent, any-kept, or-right}
 use Rattle.nr_laws.proofs.PendingSends.{AfterEffect, payload-own, pending_agree-same, whole-append}
 use Rattle.std.proofs.lemmas.Bool.{and_parts}
 
@@ -311,11 +311,7 @@ found-there n (d ∷ calls) c e = by (eqb d.number n) e (found-there n calls c)
     by true e later =
         let same = same-call e in
         λ i. (eq-eqb d.number c.number (ap (λ (x : PendingCall). x.number) same) i && eq-eqb d.xid c.xid (ap (λ (x : PendingCall). x.xid) same) i) || list_any (λ (x : PendingCall). eqb x.number c.number && eqb x.xid c.xid) calls
-    by false e later = or-second (eqb d.number c.number && eqb d.xid c.xid) (list_any (λ (x : PendingCall). eqb x.number c.number && eqb x.xid c.xid) calls) (later e)
-      where
-        or-second : (a b : Bool) → b ≡ true → (a || b) ≡ true
-        or-second true b e = refl
-        or-second false b e = e
+    by false e later = or-right (eqb d.number c.number && eqb d.xid c.xid) (list_any (λ (x : PendingCall). eqb x.number c.number && eqb x.xid c.xid) calls) (later e)
 
 pub pending_agree-read : (s t c_k : ServerState) (place : ℕ) (r : PendingRead) (others : List PendingRead) (o : Option PendingCall) (st : FrameEffect) → PendingAgree s → s.reads ≡ r ∷ others → find (λ (c : PendingCall). eqb c.number r.number) s.calls ≡ o
     → st.calls ≡ s.calls → st.reads ≡ others → st.ready ≡ [] → AfterEffect s t (read_effect c_k place r o st) 0 → (read_effect c_k place r o st).refusal ≡ None → PendingAgree t

@@ -37,6 +37,7 @@ use Rattle.nr_laws.proofs.PendingSinks.{OwnersBelow, owners-closed, EachReads, e
 use Rattle.nr_laws.proofs.SinksKept.{SinksKept, EffectKept, IsOwnRead, same-kept, ready-kept, pending-kept, read-kept}
 use Rattle.std.proofs.lemmas.List.{map-append}
 use Rattle.nr_reduce.proofs.Touches.{AreNone, all_none, no_flaw}
+use Rattle.std.proofs.lemmas.Bool.{and_parts}
 
 -- ---- The Read Requests among outputs
 
@@ -167,11 +168,7 @@ frame-kept opened k done f (Tagged last opcode stag to payload) behind is stays 
     t = with_access k f (Tagged last opcode stag to payload)
 
     response : eqb opcode OPCODE_READ_RESPONSE && last ≡ true → opcode ≡ OPCODE_READ_RESPONSE
-    response e = eqb-true opcode OPCODE_READ_RESPONSE (first (eqb opcode OPCODE_READ_RESPONSE) last e)
-      where
-        first : (a b : Bool) → (a && b) ≡ true → a ≡ true
-        first true b e = refl
-        first false b e = absurd cc
+    response e = eqb-true opcode OPCODE_READ_RESPONSE (and_parts (eqb opcode OPCODE_READ_RESPONSE) last e).0
 
     by_reads : (reads : List PendingRead) → k.reads ≡ reads → opcode ≡ OPCODE_READ_RESPONSE → FrameKept k done (response_effect t f.end reads) k.received.sends 1
     by_reads [] none o = absurd (unexpected opened k f last opcode stag to payload behind is stays o none)

@@ -26,6 +26,7 @@ use Rattle.nr_reduce.proofs.OwnStags.{AreNumbered}
 use Rattle.nr_reduce.proofs.Steps.{client-one}
 use Rattle.nr_laws.proofs.Beyond.{EndBy, frames-by}
 use Rattle.nr_reduce.proofs.Standing.{received-one}
+use Rattle.nr_laws.proofs.Basics.{and-second}
 
 -- ---- Regions of an STag that are closed
 
@@ -47,14 +48,10 @@ closed-none place stag p end (r ∷ regions) lt h = by (eqb r.stag stag) refl (c
     by_until None is c = absurd c
     by_until (Some u) is c = ap (λ (o : Option ℕ). leb end (until_or place o)) is ∙ lt-leb end u (omega (arith, c, lt))
 
-    and-false : (b c : Bool) → c ≡ false → (b && c) ≡ false
-    and-false true c e = e
-    and-false false c e = refl
-
     by : (b : Bool) → eqb r.stag stag ≡ b → find (applies stag end) (map (region_grant place) regions) ≡ None → cond (eqb r.stag stag && (ltb r.from end && leb end (until_or place r.until))) (Some (region_grant place r)) (find (applies stag end) (map (region_grant place) regions)) ≡ None
     by true is rest =
         let dead = by_until r.until refl (h.0 (eqb-true r.stag stag is)) in
-        (λ i. cond (is i && (and-false (ltb r.from end) (leb end (until_or place r.until)) dead i)) (Some (region_grant place r)) (find (applies stag end) (map (region_grant place) regions))) ∙ rest
+        (λ i. cond (is i && (and-second (ltb r.from end) (leb end (until_or place r.until)) dead i)) (Some (region_grant place r)) (find (applies stag end) (map (region_grant place) regions))) ∙ rest
     by false is rest = ap (λ (b : Bool). cond (b && (ltb r.from end && leb end (until_or place r.until))) (Some (region_grant place r)) (find (applies stag end) (map (region_grant place) regions))) is ∙ rest
 
 pub only-closed : (test : Region → Bool) (later stag p : ℕ) (regions : List Region) → OnlyClosed stag p regions → OnlyClosed stag p (regions_closed test later regions)

@@ -13,6 +13,7 @@ use Rattle.nr_reduce.specs.ServerReads.{is_read, is_read_at, is_over}
 use Rattle.nr_laws.specs.LinkInvariants.{IsSink, HasSink, HaveSinks}
 use Rattle.nr_laws.proofs.Totals.{any_first}
 use Rattle.nr_reduce.proofs.OwnStags.{closed-stag}
+use Rattle.nr_laws.proofs.Keys.{or-right}
 
 same-itself : (right : Right) → same_right right right ≡ true
 same-itself Fetch = refl
@@ -86,11 +87,7 @@ AreIn all (r ∷ reads) = (list_any (λ (x : PendingRead). eqb x.number r.number
 
 here : (r : PendingRead) (front others : List PendingRead) → list_any (λ (x : PendingRead). eqb x.number r.number && eqb x.position r.position) (front ++ r ∷ others) ≡ true
 here r [] others = λ i. (eq-eqb r.number r.number refl i && eq-eqb r.position r.position refl i) || list_any (λ (x : PendingRead). eqb x.number r.number && eqb x.position r.position) others
-here r (x ∷ front) others = or-second (eqb x.number r.number && eqb x.position r.position) _ (here r front others)
-  where
-    or-second : (a b : Bool) → b ≡ true → (a || b) ≡ true
-    or-second true b e = refl
-    or-second false b e = e
+here r (x ∷ front) others = or-right (eqb x.number r.number && eqb x.position r.position) _ (here r front others)
 
 are-in : (front reads : List PendingRead) → AreIn (front ++ reads) reads
 are-in front [] = tt

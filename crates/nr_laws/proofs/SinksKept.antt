@@ -18,6 +18,7 @@ use Rattle.nr_reduce.proofs.OwnStags.{AreNumbered}
 use Rattle.nr_laws.proofs.ClientMemory.{none-from, find-right}
 use Rattle.nr_laws.proofs.SinkReads.{own_reads, total-own, reads-own, chunks-own, own_chunks, reads-none, into, into-append, SinksBelow, below-append, below-more, into-none, into-zero, own-into, own-other, own-below}
 use Rattle.nr_laws.proofs.PendingSinks.{OwnersBelow, owners-more, owners-append, sink-none, CallReads, EachReads, each-append, each-two, each-same, each-refused}
+use Rattle.nr_laws.proofs.Basics.{above-zero}
 
 pub record SinksKept (k : ServerState) (done : List PendingRead) : Type 0 where
   pub calls : EachReads (done ++ k.reads) k.regions k.calls
@@ -165,10 +166,6 @@ pending-kept k done place c o number numbered h = by (eqb (added_up o.lengths) 0
     chunk true is = ap (λ (b : Bool). regions_from c.number place (next_stag k) c.lists (cond (not b) (o.position ∷ []) [])) is
     chunk false is = ap (λ (b : Bool). regions_from c.number place (next_stag k) c.lists (cond (not b) (o.position ∷ []) [])) is
 
-    not-nothing : (n : ℕ) → eqb n 0 ≡ false → 0 < n
-    not-nothing zero e = absurd cc
-    not-nothing (suc n) e = omega arith
-
     by : (b : Bool) → eqb (added_up o.lengths) 0 ≡ b → EffectKept k done done (with_new k c (regions_of k place c) (reads_of (k.regions ++ regions_of k place c) c)) (k.received.sends + 1)
     by true is =
         let none : added_up o.lengths ≡ 0 = eqb-true (added_up o.lengths) 0 is in
@@ -176,7 +173,7 @@ pending-kept k done place c o number numbered h = by (eqb (added_up o.lengths) 0
         (subst (λ (new : List PendingRead). EffectKept k done done (with_new k c [] new) (k.received.sends + 1))
         (sym (reads-are (k.regions ++ []) c o ∙ reads-none c.number o.position (sink_of (k.regions ++ []) c.number o.position) o.handle 0 o.lengths none)) (by_none none))
     by false is =
-        let some : 0 < added_up o.lengths = not-nothing (added_up o.lengths) is in
+        let some : 0 < added_up o.lengths = above-zero (added_up o.lengths) is in
         let r : Region = new_region k place c o in
         let found : sink_of (k.regions ++ r ∷ []) c.number o.position ≡ next_stag k = sink-none k.regions (r ∷ []) k.received.sends c.number o.position (omega (arith, number)) h.owners ∙ sink-first r c.number o.position refl refl in
         subst (λ (rs : List Region). EffectKept k done done (with_new k c rs (reads_of (k.regions ++ rs) c)) (k.received.sends + 1)) (sym (regions-are k place c o ∙ chunk false is))

@@ -13,6 +13,7 @@ use Rattle.nr_wire.proofs.Splits.{split-frame, split-partial}
 use Rattle.nr_link.specs.Output.{own_hello}
 use Rattle.nr_laws.proofs.Brought.{IsWord, encoding-is, hello-is}
 use Rattle.nr_laws.specs.FrameContents.{FrameContent, numbered_segment, frame_bytes, output_bytes, sends_in, requests_in, total_of}
+use Rattle.nr_laws.proofs.Beyond.{behind}
 
 -- ---- Pieces that are frames
 
@@ -84,26 +85,6 @@ pub record FirstFrames (side : Side) (a : Awaited) (n r : ℕ) (ps : List FrameC
 no_bytes : (x y : List ℕ) → x ++ y ≡ [] → x ≡ []
 no_bytes [] y e = refl
 no_bytes (b ∷ x) y e = absurd cc
-
--- where more bytes than a frame's are there, the frame is at the front
-record AfterEffect (frame more x y : List ℕ) : Type 0 where
-  back : List ℕ
-  front_is : x ≡ frame ++ back
-  back_is : back ++ y ≡ more
-
-behind : (frame more x y : List ℕ) → length frame ≤ length x → x ++ y ≡ frame ++ more → AfterEffect frame more x y
-behind [] more x y le e = record { back = x; front_is = refl; back_is = e }
-behind (b ∷ frame) more [] y le e = absurd (omega (arith, le))
-behind (b ∷ frame) more (c ∷ x) y le e =
-    let tail : x ++ y ≡ frame ++ more = ap (λ (xs : List ℕ). drop 1 xs) e in
-    let rest = behind frame more x y (omega (arith, le)) tail in
-    record { back = rest.back; front_is = cons_same c b (head_same c b (x ++ y) (frame ++ more) e) x (frame ++ rest.back) rest.front_is; back_is = rest.back_is }
-  where
-    head_same : (c b : ℕ) (xs ys : List ℕ) → c ∷ xs ≡ b ∷ ys → c ≡ b
-    head_same c b xs ys e = cc
-
-    cons_same : (c b : ℕ) → c ≡ b → (xs ys : List ℕ) → xs ≡ ys → c ∷ xs ≡ b ∷ ys
-    cons_same c b e xs ys f = λ i. e i ∷ f i
 
 -- where fewer are there, they are less than a frame
 short : (frame more x y : List ℕ) → length x < length frame → x ++ y ≡ frame ++ more → x ++ drop (length x) frame ≡ frame
