@@ -42,7 +42,7 @@ use Rattle.nr_laws.proofs.Memory.{Part, parts_of, after_parts, after-append, par
 use Rattle.nr_laws.proofs.Beyond.{EndBehind, frames-behind}
 use Rattle.nr_laws.proofs.Revoked.{IsClosedBy, OnlyClosed, closed-none, only-closed, only-append, only-above, frame-regions, UntilBy, until-run}
 use Rattle.nr_reduce.proofs.Standing.{received-one}
-use Rattle.nr_reduce.proofs.StagsLeft.{by_request as request-stag, by_message as message-stag}
+use Rattle.nr_reduce.proofs.StagsLeft.{request-stag, message-stag}
 
 -- ---- Accesses to other memory
 

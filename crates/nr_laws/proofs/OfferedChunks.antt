@@ -55,9 +55,10 @@ middle (p ∷ pre) x post = (let m = middle pre x post in (suc m.0, (let lt = m.
 
 new-chunks : (xid place : ℕ) (all pre : List Region) (bs : List Buffer) → all ≡ pre ++ map (region_of xid place) bs → AllOf (λ (r : Region). Contains all (record r { until = None })) (map (region_of xid place) bs)
 new-chunks xid place all pre [] is = tt
-new-chunks xid place all pre (b ∷ bs) is =
-    (subst (λ (xs : List Region). Contains xs (region_of xid place b)) (sym is) (middle pre (region_of xid place b) (map (region_of xid place) bs)),
-    new-chunks xid place all (pre ++ region_of xid place b ∷ []) bs (is ∙ sym (append_assoc pre (region_of xid place b ∷ []) (map (region_of xid place) bs))))
+new-chunks xid place all pre (b ∷ bs) is = (
+  subst (λ (xs : List Region). Contains xs (region_of xid place b)) (sym is) (middle pre (region_of xid place b) (map (region_of xid place) bs)),
+  new-chunks xid place all (pre ++ region_of xid place b ∷ []) bs (is ∙ sym (append_assoc pre (region_of xid place b ∷ []) (map (region_of xid place) bs))),
+)
 
 chunk-more : (opened : LinkParameters) (es more : List Event) (r : Region) → IsChunkOfCall opened es r → IsChunkOfCall opened (es ++ more) r
 chunk-more opened es more r h = record {
@@ -71,7 +72,7 @@ chunk-more opened es more r h = record {
 
 chunk-closed : (opened : LinkParameters) (es : List Event) (b : Bool) (place : ℕ) (r : Region) → IsChunkOfCall opened es r → IsChunkOfCall opened es (closed_if b place r)
 chunk-closed opened es false place r h = h
-chunk-closed opened es true place r h = record { earlier = h.earlier; later = h.later; place = h.place; call = h.call; is_submitted = h.is_submitted; chunk = h.chunk; }
+chunk-closed opened es true place r h = record { earlier = h.earlier; later = h.later; place = h.place; call = h.call; is_submitted = h.is_submitted; chunk = h.chunk }
 
 abbrev state_at : LinkParameters → List Event → EndState ClientState
 state_at opened es = end_state_after (client_rules opened) (initial_client opened) es
@@ -100,7 +101,7 @@ one-event opened es e h = by_ended (state_at opened es).ended
         let new : List Region = map (region_of a.xid place) (buffers k.stag (outstanding_of k a).plan) in
         all-append P k.regions new same
         (all-map (λ (r : Region). Contains new (record r { until = None })) P
-        (λ r c. record { earlier = es; later = []; place = place; call = a; is_submitted = ap (λ (x : Event). es ++ x ∷ []) is; chunk = c; })
+        (λ r c. record { earlier = es; later = []; place = place; call = a; is_submitted = ap (λ (x : Event). es ++ x ∷ []) is; chunk = c })
         new (new-chunks a.xid place new [] (buffers k.stag (outstanding_of k a).plan) refl))
     by_event (MemoryRevoked place xid) is = all-closed P (chunk-closed opened (es ++ e ∷ [])) _ place k.regions same
     by_event (CallExecuted call) is = same
@@ -228,4 +229,4 @@ live_regions_are_of_outstanding opened link run earlier later r is there none =
     let k : ClientState = (state_at opened earlier).state in
     let all : AllLive k = kept-after (client_rules opened) AllLive (lives-after opened) (initial_client opened) earlier tt in
     let m = of-outstanding r.call k.outstanding (all-at (Lives k.outstanding) there.0 k.regions r all there.1 there.2 none) in
-    record { call = m.0; there = m.1.0; own = m.1.1.0; kept = m.1.1.1; }
+    record { call = m.0; there = m.1.0; own = m.1.1.0; kept = m.1.1.1 }

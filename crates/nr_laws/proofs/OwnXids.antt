@@ -15,7 +15,7 @@ use Rattle.nr_reduce.specs.SubmitAnswer.{next_xid}
 use Rattle.nr_laws.specs.LinkInvariants.{IsUnused, AreDistinct, AreAtMost}
 use Rattle.nr_laws.proofs.Totals.{apart_kept, apart_push}
 use Rattle.nr_laws.proofs.Keys.{below-more, below-append, below-kept}
-use Rattle.nr_reduce.proofs.Placing.{by_segment as segment-accepted}
+use Rattle.nr_reduce.proofs.Placing.{segment-accepted}
 
 -- each is below the one that is given next
 pub record OwnXids (opened : LinkParameters) (k : ClientState) : Type 0 where

@@ -92,14 +92,14 @@ by_message : (k : ClientState) (place : ℕ) (message : Option (List ℕ)) → (
 by_message k place None = refl
 by_message k place (Some message) = refl
 
-pub by_segment : (k : ClientState) (f : Frame) (r : Result Segment ℕ) → (with_segment k f r).calls_accepted ≡ k.calls_accepted
-by_segment k f (Err reason) = refl
-by_segment k f (Ok segment) =
+pub segment-accepted : (k : ClientState) (f : Frame) (r : Result Segment ℕ) → (with_segment k f r).calls_accepted ≡ k.calls_accepted
+segment-accepted k f (Err reason) = refl
+segment-accepted k f (Ok segment) =
     by_request (with_message k f.end (message_completed k.received segment)) (read_request_of segment) ∙ by_message k f.end (message_completed k.received segment)
 
 by_frame : (k : ClientState) (f : Frame) (b : Bool) → k.calls_accepted ≤ (cond b (record k { has_hello = true }) (with_segment k f (frame_segment f))).calls_accepted
 by_frame k f true = omega arith
-by_frame k f false = (let e = by_segment k f (frame_segment f) in omega (arith, e))
+by_frame k f false = (let e = segment-accepted k f (frame_segment f) in omega (arith, e))
 
 accepted_calls-after : (opened : LinkParameters) (k : ClientState) (event : Event) → k.calls_accepted ≤ (client_state_after opened k event).calls_accepted
 unfolding client_state_after

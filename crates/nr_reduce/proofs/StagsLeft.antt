@@ -44,18 +44,18 @@ abbrev OfferNothing : List Event → Type 0
 OfferNothing [] = Unit {0}
 OfferNothing (event ∷ es) = OffersNothing event × OfferNothing es
 
-pub by_request : (m : ClientState) (r : Option ReadRequest) → (with_request m r).stag ≡ m.stag
-by_request m None = refl
-by_request m (Some r) = refl
+pub request-stag : (m : ClientState) (r : Option ReadRequest) → (with_request m r).stag ≡ m.stag
+request-stag m None = refl
+request-stag m (Some r) = refl
 
-pub by_message : (k : ClientState) (place : ℕ) (message : Option (List ℕ)) → (with_message k place message).stag ≡ k.stag
-by_message k place None = refl
-by_message k place (Some message) = refl
+pub message-stag : (k : ClientState) (place : ℕ) (message : Option (List ℕ)) → (with_message k place message).stag ≡ k.stag
+message-stag k place None = refl
+message-stag k place (Some message) = refl
 
 by_segment : (k : ClientState) (f : Frame) (r : Result Segment ℕ) → (with_segment k f r).stag ≡ k.stag
 by_segment k f (Err reason) = refl
 by_segment k f (Ok segment) =
-    by_request (with_message k f.end (message_completed k.received segment)) (read_request_of segment) ∙ by_message k f.end (message_completed k.received segment)
+    request-stag (with_message k f.end (message_completed k.received segment)) (read_request_of segment) ∙ message-stag k f.end (message_completed k.received segment)
 
 stag-after : (opened : LinkParameters) (k : ClientState) (event : Event) → OffersNothing event → (client_state_after opened k event).stag ≡ k.stag
 unfolding client_state_after

@@ -61,7 +61,7 @@ pub record IsRevoked (opened : LinkParameters) (link : ℕ) (before : List Mark)
   pub awaited : IsAwaited link before xid
   pub bytes_are : bytes ≡ revoked_bytes opened link before xid
 
--- The law of each mark. `Fills` says how what was written with this Wrote relates to the output due.
+-- The law of each mark. `Relates` says how what was written with this Wrote relates to the output due.
 abbrev pub AskedMark : (List ℕ → List ℕ → Type 0) → LinkParameters → ℕ → List Mark → Mark → Type 0
 AskedMark Relates opened link before (marks.Submit l call form (submissions.Accepted xid)) = l ≡ link → IsAccepted opened link before call form xid
 AskedMark Relates opened link before (marks.Submit l call form (submissions.Refused why)) = Unit {0}

@@ -1,4 +1,4 @@
--- The after_register memory of an end follows the regions that it offered, from event to event.
+-- The registered memory of an end follows the regions that it offered, from event to event.
 use Rattle.std.specs.Prelude.{◌≡◌, ℕ, ◌<◌, ◌≤◌, Bool, List, [], ◌∷◌, ◌++◌, None, Some}
 use Rattle.nr_regions.specs.RegisteredMemory.{RegisteredMemory, Access, denial, after_register}
 use Rattle.nr_regions.specs.Access.{TaggedSegment, grant_denial}
@@ -28,7 +28,7 @@ abbrev pub MemoryClosesRegions : Type 0
 MemoryClosesRegions = (test : Region → Bool) (regions : List Region) (accesses_received : List TaggedSegment) (place later : ℕ) (m after : RegisteredMemory) → place ≤ later → AreReceived place accesses_received →
     ReleasesClosed test regions m after → HoldsRegions regions accesses_received place m → HoldsRegions (regions_closed test later regions) accesses_received later after
 
--- A region is offered where it is after_register, from the bytes on that were received.
+-- A region is offered where it is registered, from the bytes on that were received.
 abbrev pub MemoryRegisters : Type 0
 MemoryRegisters = (regions : List Region) (accesses_received : List TaggedSegment) (place : ℕ) (m : RegisteredMemory) (r : Region) → AreReceived place accesses_received → region_at regions m.next ≡ None →
     r.stag ≡ m.next → r.from ≡ place → r.until ≡ None → HoldsRegions regions accesses_received place m → HoldsRegions (regions ++ r ∷ []) accesses_received place (after_register m r.right r.bytes)

@@ -3,7 +3,7 @@ use Rattle.std.specs.Prelude.{◌<◌, ◌≤◌}
 use Rattle.nr_reduce.specs.declared.mark.LinkParameters.{LinkParameters}
 use Rattle.nr_reduce.specs.Limits.{numbers_end, most_credits}
 
--- no first number is 0, and credits are from 1 to most_credits
+-- First numbers are from 1 on and below numbers_end, and credits are from 1 to most_credits.
 pub record IsOpened (opened : LinkParameters) : Type 0 where
   pub xid : 0 < opened.first_xid
   pub xid_fits : opened.first_xid < numbers_end
