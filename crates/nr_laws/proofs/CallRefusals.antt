@@ -25,7 +25,7 @@ use Rattle.nr_reduce.specs.ServerMessages.Verdict.{EndsLink, OtherVersion, BadCh
 use Rattle.nr_reduce.specs.ServerMessages.CallVerdict.{Refuses, IsReady}
 use Rattle.nr_reduce.specs.ServerFrames.{FrameEffect, no_effect, with_verdict, ready_if_whole, message_effect, with_refused_call, is_stream_read, read_effect, call_of_number, response_effect, by_message, with_access, effect_in, frame_effect}
 use Rattle.nr_reduce.specs.RunLaws.{ends_response}
-use Rattle.nr_laws.specs.EndCauses.{IsCallReason}
+use Rattle.nr_laws.proofs.EndReasons.{IsCallReason}
 use Rattle.nr_laws.proofs.JudgedMessages.{by-fault}
 use Rattle.nr_laws.proofs.OtherReasons.{apart, fault-other}
 

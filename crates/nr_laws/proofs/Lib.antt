@@ -166,3 +166,4 @@ pub mod CallsAtFrames
 pub mod EndingEvents
 pub mod SinkRegions
 pub mod OfferedChunks
+pub mod EndReasons

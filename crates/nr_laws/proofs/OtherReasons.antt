@@ -8,13 +8,13 @@ use Rattle.nr_link.specs.Reasons.{REASON_MSN, REASON_OFFSET, REASON_FORM, REASON
 use Rattle.nr_link.specs.ReceiveState.{is_send, message_completed}
 use Rattle.nr_link.specs.SegmentFaults.{Readiness, SegmentFault, reason_if, next_msn, next_offset, is_begun, no_buffer, missing_fault, is_malformed, is_unexpected, is_too_many, has_length, terminate_fault, first_fault, segment_fault}
 use Rattle.nr_link.specs.SegmentFaults.SegmentFault.{Reason, NoBuffer, AccessDenied, PeerTerminated}
-use Rattle.nr_laws.specs.EndCauses.{IsReplyReason}
+use Rattle.nr_laws.proofs.EndReasons.{IsMessageReason}
 
 -- a reason that is none of a reply's
 abbrev Apart : ℕ → Type 0
-Apart reason = IsReplyReason reason → ⊥
+Apart reason = IsMessageReason reason → ⊥
 
-pub apart : (reason : ℕ) → (reason < 18) ⊎ ((reason ≡ 20) ⊎ (21 < reason)) → IsReplyReason reason → ⊥
+pub apart : (reason : ℕ) → (reason < 18) ⊎ ((reason ≡ 20) ⊎ (21 < reason)) → IsMessageReason reason → ⊥
 apart reason (inl lt) (inl e) = omega (arith, lt, e)
 apart reason (inl lt) (inr (inl e)) = omega (arith, lt, e)
 apart reason (inl lt) (inr (inr e)) = omega (arith, lt, e)
