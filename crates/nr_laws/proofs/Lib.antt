@@ -167,3 +167,4 @@ pub mod EndingEvents
 pub mod SinkRegions
 pub mod OfferedChunks
 pub mod EndReasons
+pub mod SendRegions

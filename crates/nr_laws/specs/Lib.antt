@@ -16,3 +16,4 @@ pub mod PlainReplies
 pub mod Stays
 pub mod ChunkOutcomes
 pub mod PlacedBytes
+pub mod ServerRegions
