@@ -168,3 +168,4 @@ pub mod SinkRegions
 pub mod OfferedChunks
 pub mod EndReasons
 pub mod SendRegions
+pub mod LiveRegions
