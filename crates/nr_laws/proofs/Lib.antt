@@ -169,3 +169,4 @@ pub mod OfferedChunks
 pub mod EndReasons
 pub mod SendRegions
 pub mod LiveRegions
+pub mod ClosedRegions

@@ -30,23 +30,23 @@ use Rattle.nr_reduce.specs.Server.{server_rules, server_end, server_state_after,
 use Rattle.nr_reduce.specs.Run.{server}
 use Rattle.nr_reduce.specs.RunLaws.{server_by}
 use Rattle.nr_reduce.proofs.Steps.{end_state_after-append}
-use Rattle.nr_laws.specs.ServerRegions.{MakesCall, IsChunkOfSend, ServerRegionsAreChunks, IsOffered, ChunksAreOffered}
+use Rattle.nr_laws.specs.ServerRegions.{MakesCall, IsChunkOfFrame, IsChunkOfSend, ServerRegionsAreChunks, IsOffered, ChunksAreOffered}
 use Rattle.nr_laws.proofs.OfferedAccesses.{each-all}
 use Rattle.nr_laws.proofs.ReadLimits.{each-append}
 
 -- ---- The regions of a frame are those before, and behind them the chunks of the call that it makes pending
 
-abbrev chunks_by : ServerState → ℕ → Verdict → List Region
+abbrev pub chunks_by : ServerState → ℕ → Verdict → List Region
 chunks_by k place (EndsLink reason) = []
 chunks_by k place OtherVersion = []
 chunks_by k place BadChunks = []
 chunks_by k place (MakesPending c) = regions_of k place c
 
-abbrev chunks_of_message : ServerState → ℕ → Option (List ℕ) → List Region
+abbrev pub chunks_of_message : ServerState → ℕ → Option (List ℕ) → List Region
 chunks_of_message k place None = []
 chunks_of_message k place (Some message) = chunks_by k place (verdict k message)
 
-abbrev chunks_in : ServerState → Frame → Result Segment ℕ → List Region
+abbrev pub chunks_in : ServerState → Frame → Result Segment ℕ → List Region
 chunks_in k f (Err reason) = []
 chunks_in k f (Ok (Tagged last opcode stag to payload)) = []
 chunks_in k f (Ok (Untagged last opcode w queue msn offset payload)) = chunks_of_message k f.end (message_completed k.received (Untagged last opcode w queue msn offset payload))
@@ -94,13 +94,13 @@ in-chunks k f (Ok (Tagged last opcode stag to payload)) = by (eqb opcode OPCODE_
     by false = refl
 in-chunks k f (Ok (Untagged last opcode w queue msn offset payload)) = by-message-chunks k f.end (message_completed k.received (Untagged last opcode w queue msn offset payload))
 
-frame-chunks : (k : ServerState) (f : Frame) → (frame_effect k f).regions ≡ k.regions ++ chunks_in k f (frame_segment f)
+pub frame-chunks : (k : ServerState) (f : Frame) → (frame_effect k f).regions ≡ k.regions ++ chunks_in k f (frame_segment f)
 unfolding frame_effect
 frame-chunks k f = in-chunks k f (frame_segment f)
 
 -- ---- One event
 
-abbrev state_at : LinkParameters → List Event → EndState ServerState
+abbrev pub state_at : LinkParameters → List Event → EndState ServerState
 state_at opened es = end_state_after (server_rules opened) (initial_server opened) es
 
 -- an event that doesn't end a server counts; any other leaves what it knows
@@ -136,7 +136,7 @@ chunks-each P number place stag lists (p ∷ ps) all pre is has =
 
 -- so is each new region of a frame that doesn't end the server
 pub new-each : (opened : LinkParameters) (es : List Event) (f : Frame) (P : Region → Type 0) → (next_end_state (server_rules opened) (state_at opened es) (FrameReceived f)).ended ≡ None → is_hello f ≡ false
-    → ((c : PendingCall) (r : Region) → MakesCall opened es f c → Contains (regions_of (server_by opened es) f.end c) (record r { until = None }) → r.until ≡ None → P r)
+    → ((r : Region) → IsChunkOfFrame opened es f r → r.until ≡ None → P r)
     → (r : Result Segment ℕ) → frame_segment f ≡ r → AllByRecursion P (chunks_in (server_by opened es) f r)
 new-each opened es f P stays behind has (Err reason) is = tt
 new-each opened es f P stays behind has (Ok (Tagged last opcode stag to payload)) is = tt
@@ -154,7 +154,7 @@ new-each opened es f P stays behind has (Ok (Untagged last opcode w queue msn of
     by_verdict message whole BadChunks own = tt
     by_verdict message whole (MakesPending c) own =
         chunks-each P c.number f.end (next_stag k) c.lists (chunks_of c.lists) (regions_of k f.end c) [] refl
-        (λ r there none. has c r (record { segment = segment; message = message; stays = stays; behind_hello = behind; is_segment = is; whole = whole; is_pending = own }) there none)
+        (λ r there none. has r (record { call = c; is_made = record { segment = segment; message = message; stays = stays; behind_hello = behind; is_segment = is; whole = whole; is_pending = own }; chunk = there }) none)
 
     by_whole : (o : Option (List ℕ)) → message_completed k.received segment ≡ o → AllByRecursion P (chunks_of_message k f.end o)
     by_whole None whole = tt
@@ -167,15 +167,13 @@ chunk-more opened es more r h = record {
   earlier = h.earlier;
   later = h.later ++ more;
   frame = h.frame;
-  call = h.call;
   is_received = ap (λ (xs : List Event). xs ++ more) h.is_received ∙ append_assoc h.earlier (FrameReceived h.frame ∷ h.later) more;
-  is_made = h.is_made;
-  chunk = h.chunk;
+  own = h.own;
 }
 
 chunk-closed : (opened : LinkParameters) (es : List Event) (b : Bool) (place : ℕ) (r : Region) → IsChunkOfSend opened es r → IsChunkOfSend opened es (closed_if b place r)
 chunk-closed opened es false place r h = h
-chunk-closed opened es true place r h = record { earlier = h.earlier; later = h.later; frame = h.frame; call = h.call; is_received = h.is_received; is_made = h.is_made; chunk = h.chunk; }
+chunk-closed opened es true place r h = record { earlier = h.earlier; later = h.later; frame = h.frame; is_received = h.is_received; own = record { call = h.own.call; is_made = h.own.is_made; chunk = h.own.chunk } }
 
 frame-event : (opened : LinkParameters) (es : List Event) (f : Frame) → AllByRecursion (IsChunkOfSend opened es) (server_by opened es).regions → (next_end_state (server_rules opened) (state_at opened es) (FrameReceived f)).ended ≡ None
     → AllByRecursion (IsChunkOfSend opened (es ++ FrameReceived f ∷ [])) (server_state_after opened (server_by opened es) (FrameReceived f)).regions
@@ -197,7 +195,7 @@ frame-event opened es f h stays = by (is_hello f) refl
         each-region-closed P (chunk-closed opened (es ++ FrameReceived f ∷ [])) (is_over (frame_effect k f).calls (frame_effect k f).reads) f.end (frame_effect k f).regions
         (subst (AllByRecursion P) (sym (frame-chunks k f))
         (each-append P k.regions (chunks_in k f (frame_segment f)) old
-        (new-each opened es f P stays is (λ c r made there none. record { earlier = es; later = []; frame = f; call = c; is_received = refl; is_made = made; chunk = there; }) (frame_segment f) refl)))
+        (new-each opened es f P stays is (λ r own none. record { earlier = es; later = []; frame = f; is_received = refl; own = own }) (frame_segment f) refl)))
 
 one-event : (opened : LinkParameters) (es : List Event) (e : Event) → AllByRecursion (IsChunkOfSend opened es) (server_by opened es).regions → (next_end_state (server_rules opened) (state_at opened es) e).ended ≡ None
     → AllByRecursion (IsChunkOfSend opened (es ++ e ∷ [])) (server_state_after opened (server_by opened es) e).regions

@@ -31,15 +31,18 @@ pub record MakesCall (opened : LinkParameters) (earlier : List Event) (frame : F
   pub whole : message_completed (server_by opened earlier).received segment ≡ Some message
   pub is_pending : verdict (server_by opened earlier) message ≡ MakesPending call
 
--- A region is a read chunk of such a call, from the end of that frame on: but for where it is closed.
+-- a region is a read chunk of such a call, from the end of that frame on: but for where it is closed
+pub record IsChunkOfFrame (opened : LinkParameters) (earlier : List Event) (frame : Frame) (r : Region) : Type 0 where
+  pub call : PendingCall
+  pub is_made : MakesCall opened earlier frame call
+  pub chunk : Contains (regions_of (server_by opened earlier) frame.end call) (record r { until = None })
+
 pub record IsChunkOfSend (opened : LinkParameters) (received : List Event) (r : Region) : Type 0 where
   pub earlier : List Event
   pub later : List Event
   pub frame : Frame
-  pub call : PendingCall
   pub is_received : received ≡ earlier ++ FrameReceived frame ∷ later
-  pub is_made : MakesCall opened earlier frame call
-  pub chunk : Contains (regions_of (server_by opened earlier) frame.end call) (record r { until = None })
+  pub own : IsChunkOfFrame opened earlier frame r
 
 -- On every link, whatever the client sends, so is each region that the server offered: so its right is Sink, and its bytes are zeros.
 abbrev pub ServerRegionsAreChunks : Type 0
@@ -74,16 +77,17 @@ abbrev pub LiveServerRegionsAreRead : Type 0
 LiveServerRegionsAreRead = (opened : LinkParameters) (link : ℕ) (run : List Mark) (earlier later : List Event) (r : Region) → IsTyped run → ServedSoFar opened link run → events link Responder run ≡ earlier ++ later →
     Contains (server_by opened earlier).regions r → r.until ≡ None → HasReadLeft (server_by opened earlier) r
 
--- A region is closed at the end of a frame behind which it has no read left.
+-- A frame closes a region: it was offered before that frame, or is from it on, and behind that frame it has no read left.
 pub record IsClosedAt (opened : LinkParameters) (received : List Event) (r : Region) (place : ℕ) : Type 0 where
   pub earlier : List Event
   pub later : List Event
   pub frame : Frame
   pub is_received : received ≡ earlier ++ FrameReceived frame ∷ later
   pub ends_there : frame.end ≡ place
+  pub was_live : Contains (server_by opened earlier).regions (record r { until = None }) ⊎ IsChunkOfFrame opened earlier frame r
   pub nothing_left : HasReadLeft (server_by opened (earlier ++ FrameReceived frame ∷ [])) r → ⊥
 
--- So on every link, whatever the client sends: it is closed only so.
+-- On every link, whatever the client sends: a region is closed only so, at the end of that frame.
 abbrev pub ServerRegionsCloseWhenRead : Type 0
 ServerRegionsCloseWhenRead = (opened : LinkParameters) (link : ℕ) (run : List Mark) (r : Region) (place : ℕ) → Contains (server opened link run).state.regions r → r.until ≡ Some place →
     IsClosedAt opened (events link Responder run) r place
