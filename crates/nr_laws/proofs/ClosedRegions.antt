@@ -87,8 +87,8 @@ frame-event opened es f h stays = by (is_hello f) refl
     close behind x p live false over = p
     close behind x p live true over = λ place is. by x.until refl is
       where
-        own : ServerState → HasReadLeft next (closed_if true f.end x) → HasReadLeft next x
-        own s h = record { read = h.read; is_left = h.is_left; own = h.own; of_chunk = h.of_chunk }
+        own : HasReadLeft next (closed_if true f.end x) → HasReadLeft next x
+        own h = record { read = h.read; is_left = h.is_left; own = h.own; of_chunk = h.of_chunk }
 
         by : (u : Option ℕ) → x.until ≡ u → {place : ℕ} → until_at f.end u ≡ Some place → IsClosedAt opened after (closed_if true f.end x) place
         by None none {place} is = record {
@@ -98,7 +98,7 @@ frame-event opened es f h stays = by (is_hello f) refl
           is_received = refl;
           ends_there = same-place f.end place is;
           was_live = was (live none);
-          nothing_left = λ h. none-left next x over (own next (subst (λ (s : ServerState). HasReadLeft s (closed_if true f.end x)) (state behind) h));
+          nothing_left = λ h. none-left next x over (own (subst (λ (s : ServerState). HasReadLeft s (closed_if true f.end x)) (state behind) h));
         }
           where
             was : WasLive x → WasLive (closed_if true f.end x)

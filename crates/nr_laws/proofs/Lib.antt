@@ -170,3 +170,4 @@ pub mod EndReasons
 pub mod SendRegions
 pub mod LiveRegions
 pub mod ClosedRegions
+pub mod AddedRegions

@@ -1,4 +1,4 @@
--- Each region of a server is a read chunk of a call whose Send it received, and each such chunk is a region.
+-- Each region of a server is a read chunk of a call whose Send it received.
 use Rattle.std.proofs.Common.{◌≡◌, ℕ, zero, suc, ◌+◌, ◌-◌, ◌<◌, Bool, true, false, cond, not, ◌&&◌, eqb, List, [], ◌∷◌, ◌++◌, length, Option, None, Some, Result, Ok, Err, refl, sym, ap, subst, ◌∙◌, arith, append_assoc, append-nil}
 use Rattle.std.specs.Prelude.{Contains, map, replicate, slice_index_or}
 use Rattle.std.specs.List.{AllByRecursion}
@@ -30,7 +30,7 @@ use Rattle.nr_reduce.specs.Server.{server_rules, server_end, server_state_after,
 use Rattle.nr_reduce.specs.Run.{server}
 use Rattle.nr_reduce.specs.RunLaws.{server_by}
 use Rattle.nr_reduce.proofs.Steps.{end_state_after-append}
-use Rattle.nr_laws.specs.ServerRegions.{MakesCall, IsChunkOfFrame, IsChunkOfSend, ServerRegionsAreChunks, IsOffered, ChunksAreOffered}
+use Rattle.nr_laws.specs.ServerRegions.{MakesCall, IsChunkOfFrame, IsChunkOfSend, ServerRegionsAreChunks}
 use Rattle.nr_laws.proofs.OfferedAccesses.{each-all}
 use Rattle.nr_laws.proofs.ReadLimits.{each-append}
 
@@ -114,6 +114,18 @@ counts-or-not opened P r e same next = by_ended r.ended refl
     by_ended : (o : Option End) → r.ended ≡ o → P (next_end_state_in (server_rules opened) r.state e o).state
     by_ended None live = by_why (server_end opened r.state e) refl live
     by_ended (Some end) live = same
+
+-- what an event makes of a server that it doesn't end
+pub counted : (opened : LinkParameters) (r : EndState ServerState) (e : Event) → (next_end_state (server_rules opened) r e).ended ≡ None → (next_end_state (server_rules opened) r e).state ≡ server_state_after opened r.state e
+counted opened r e stays = by_ended r.ended stays
+  where
+    by_why : (o : Option End) → (next_end_state_by (server_rules opened) r.state e o).ended ≡ None → (next_end_state_by (server_rules opened) r.state e o).state ≡ server_state_after opened r.state e
+    by_why None is = refl
+    by_why (Some end) is = absurd (let wrong : Some end ≡ None = is in cc)
+
+    by_ended : (o : Option End) → (next_end_state_in (server_rules opened) r.state e o).ended ≡ None → (next_end_state_in (server_rules opened) r.state e o).state ≡ server_state_after opened r.state e
+    by_ended None is = by_why (server_end opened r.state e) is
+    by_ended (Some end) is = absurd (let wrong : Some end ≡ None = is in cc)
 
 pub each-region-closed : (P : Region → Type 0) → ((b : Bool) (place : ℕ) (r : Region) → P r → P (closed_if b place r)) → (test : Region → Bool) (place : ℕ) (xs : List Region) → AllByRecursion P xs → AllByRecursion P (regions_closed test place xs)
 unfolding regions_closed
@@ -226,88 +238,3 @@ unfolding server
 server_regions_are_chunks opened link run r there =
     region-of-list (IsChunkOfSend opened (events link Responder run)) _ r
     (regions-along opened (IsChunkOfSend opened) (chunk-more opened) (one-event opened) [] (events link Responder run) tt) there
-
--- ---- Each chunk is a region
-
-offered-closed : (test : Region → Bool) (place : ℕ) (xs : List Region) (r : Region) → IsOffered xs r → IsOffered (regions_closed test place xs) r
-unfolding regions_closed
-offered-closed test place xs r o = at o.there.0 xs o.there.1 o.there.2
-  where
-    x : Region
-    x = record r { until = o.until }
-
-    closed : (b : Bool) → (u : Option ℕ) × (closed_if b place x ≡ record r { until = u })
-    closed true = (until_at place o.until, refl)
-    closed false = (o.until, refl)
-
-    at : (k : ℕ) (xs : List Region) → k < length xs → slice_index_or xs k x ≡ x → IsOffered (map (λ (r : Region). closed_if (test r) place r) xs) r
-    at k [] lt is = absurd (omega (arith, lt))
-    at zero (y ∷ xs) lt is =
-        let c = closed (test y) in
-        record { until = c.0; there = (zero, omega (arith), ap (λ (z : Region). closed_if (test y) place z) is ∙ c.1) }
-    at (suc k) (y ∷ xs) lt is =
-        let o = at k xs (omega (arith, lt)) is in
-        record { until = o.until; there = (suc o.there.0, (let l = o.there.1 in omega (arith, l)), o.there.2) }
-
-offered-frame : (opened : LinkParameters) (k : ServerState) (f : Frame) (r : Region) → IsOffered k.regions r → IsOffered (with_effect k f (frame_effect k f)).regions r
-offered-frame opened k f r o =
-    offered-closed (is_over (frame_effect k f).calls (frame_effect k f).reads) f.end (frame_effect k f).regions r
-    (subst (λ (xs : List Region). IsOffered xs r) (sym (frame-chunks k f)) (record { until = o.until; there = Contains-append_left k.regions (chunks_in k f (frame_segment f)) (record r { until = o.until }) o.there }))
-
-offered-event : (opened : LinkParameters) (k : ServerState) (e : Event) (r : Region) → IsOffered k.regions r → IsOffered (server_state_after opened k e).regions r
-unfolding server_state_after
-offered-event opened k (FrameReceived f) r o = by (is_hello f)
-  where
-    by : (b : Bool) → IsOffered (cond b k (with_effect k f (frame_effect k f))).regions r
-    by true = o
-    by false = offered-frame opened k f r o
-offered-event opened k (CallSubmitted place a) r o = o
-offered-event opened k (MemoryRevoked place xid) r o = o
-offered-event opened k (CallExecuted e) r o = o
-offered-event opened k QueueWritten r o = o
-
-offered-new : (opened : LinkParameters) (es : List Event) (f : Frame) (c : PendingCall) (r : Region) → MakesCall opened es f c → Contains (regions_of (server_by opened es) f.end c) r → IsOffered (server_state_after opened (server_by opened es) (FrameReceived f)).regions r
-unfolding server_state_after
-offered-new opened es f c r made there =
-    subst (λ (b : Bool). IsOffered (cond b k (with_effect k f (frame_effect k f))).regions r) (sym made.behind_hello)
-    (offered-closed (is_over (frame_effect k f).calls (frame_effect k f).reads) f.end (frame_effect k f).regions r
-    (record { until = r.until; there = subst (λ (xs : List Region). Contains xs r) (sym (frame-chunks k f)) (Contains-append_right k.regions (chunks_in k f (frame_segment f)) r (subst (λ (xs : List Region). Contains xs r) (sym same) there)) }))
-  where
-    k : ServerState
-    k = server_by opened es
-
-    by_segment : (s : Segment) → message_completed k.received s ≡ Some made.message → chunks_in k f (Ok s) ≡ chunks_of_message k f.end (Some made.message)
-    by_segment (Tagged last opcode stag to payload) whole = absurd (let wrong : None ≡ Some made.message = whole in cc)
-    by_segment (Untagged last opcode w queue msn offset payload) whole = ap (λ (o : Option (List ℕ)). chunks_of_message k f.end o) whole
-
-    same : chunks_in k f (frame_segment f) ≡ regions_of k f.end c
-    same = ap (λ (r : Result Segment ℕ). chunks_in k f r) made.is_segment ∙ by_segment made.segment made.whole ∙ ap (λ (v : Verdict). chunks_by k f.end v) made.is_pending
-
-offered-next : (opened : LinkParameters) (s : EndState ServerState) (e : Event) (r : Region) → IsOffered s.state.regions r → IsOffered (next_end_state (server_rules opened) s e).state.regions r
-offered-next opened s e r o = counts-or-not opened (λ (k : ServerState). IsOffered k.regions r) s e o (λ stays. offered-event opened s.state e r o)
-
-offered-after : (opened : LinkParameters) (s : EndState ServerState) (es : List Event) (r : Region) → IsOffered s.state.regions r → IsOffered (end_state_after (server_rules opened) s es).state.regions r
-offered-after opened s [] r o = o
-offered-after opened s (e ∷ es) r o = offered-after opened (next_end_state (server_rules opened) s e) es r (offered-next opened s e r o)
-
--- what an event makes of a server that it doesn't end
-pub counted : (opened : LinkParameters) (r : EndState ServerState) (e : Event) → (next_end_state (server_rules opened) r e).ended ≡ None → (next_end_state (server_rules opened) r e).state ≡ server_state_after opened r.state e
-counted opened r e stays = by_ended r.ended stays
-  where
-    by_why : (o : Option End) → (next_end_state_by (server_rules opened) r.state e o).ended ≡ None → (next_end_state_by (server_rules opened) r.state e o).state ≡ server_state_after opened r.state e
-    by_why None is = refl
-    by_why (Some end) is = absurd (let wrong : Some end ≡ None = is in cc)
-
-    by_ended : (o : Option End) → (next_end_state_in (server_rules opened) r.state e o).ended ≡ None → (next_end_state_in (server_rules opened) r.state e o).state ≡ server_state_after opened r.state e
-    by_ended None is = by_why (server_end opened r.state e) is
-    by_ended (Some end) is = absurd (let wrong : Some end ≡ None = is in cc)
-
-pub chunks_are_offered : ChunksAreOffered
-unfolding server
-chunks_are_offered opened link run earlier later f c r is made there =
-    let s : EndState ServerState = state_at opened earlier in
-    let new : IsOffered (next_end_state (server_rules opened) s (FrameReceived f)).state.regions r =
-    subst (λ (k : ServerState). IsOffered k.regions r) (sym (counted opened s (FrameReceived f) made.stays)) (offered-new opened earlier f c r made there) in
-    subst (λ (x : EndState ServerState). IsOffered x.state.regions r)
-    (sym (ap (λ (es : List Event). state_at opened es) is ∙ end_state_after-append (server_rules opened) (initial_server opened) earlier (FrameReceived f ∷ later)))
-    (offered-after opened (next_end_state (server_rules opened) s (FrameReceived f)) later r new)

@@ -1,5 +1,5 @@
 -- What a server offers: one sink for each read chunk with bytes of a call that isn't refused at its Send (RFC 5040 section 5.2; RFC 8166 section 3.4.5).
-use Rattle.std.specs.Prelude.{◌≡◌, ℕ, false, List, [], ◌∷◌, ◌++◌, Option, None, Some, Ok, ◌⊎◌, Contains}
+use Rattle.std.specs.Prelude.{◌≡◌, ℕ, false, List, [], ◌∷◌, ◌++◌, map, None, Some, Ok, ◌⊎◌, Contains}
 use Rattle.nr_wire.specs.declared.hello.Side.TheVariants.{Responder}
 use Rattle.nr_wire.specs.Segment.{Segment}
 use Rattle.nr_link.specs.Frames.{Frame, is_hello}
@@ -48,16 +48,29 @@ pub record IsChunkOfSend (opened : LinkParameters) (received : List Event) (r : 
 abbrev pub ServerRegionsAreChunks : Type 0
 ServerRegionsAreChunks = (opened : LinkParameters) (link : ℕ) (run : List Mark) (r : Region) → Contains (server opened link run).state.regions r → IsChunkOfSend opened (events link Responder run) r
 
--- these regions have this one, but for where it is closed
-pub record IsOffered (regions : List Region) (r : Region) : Type 0 where
-  pub until : Option ℕ
-  pub there : Contains regions (record r { until = until })
+-- regions, but for where they are closed
+abbrev pub without_end : Region → Region
+without_end r = record r { until = None }
 
--- and each read chunk of such a call is a region from then on
-abbrev pub ChunksAreOffered : Type 0
-ChunksAreOffered = (opened : LinkParameters) (link : ℕ) (run : List Mark) (earlier later : List Event) (frame : Frame) (call : PendingCall) (r : Region) →
-    events link Responder run ≡ earlier ++ FrameReceived frame ∷ later → MakesCall opened earlier frame call → Contains (regions_of (server_by opened earlier) frame.end call) r →
-    IsOffered (server opened link run).state.regions r
+abbrev pub without_ends : List Region → List Region
+without_ends regions = map without_end regions
+
+-- Such a frame adds a region for each read chunk with bytes of its call, in the order of their first entries, behind those that were there.
+abbrev pub SendsAddChunks : Type 0
+SendsAddChunks = (opened : LinkParameters) (link : ℕ) (run : List Mark) (earlier later : List Event) (frame : Frame) (call : PendingCall) →
+    events link Responder run ≡ earlier ++ FrameReceived frame ∷ later → MakesCall opened earlier frame call →
+    without_ends (server_by opened (earlier ++ FrameReceived frame ∷ [])).regions ≡ without_ends (server_by opened earlier).regions ++ regions_of (server_by opened earlier) frame.end call
+
+-- Any other event adds none.
+abbrev pub NothingElseAddsRegions : Type 0
+NothingElseAddsRegions = (opened : LinkParameters) (link : ℕ) (run : List Mark) (earlier later : List Event) (event : Event) →
+    events link Responder run ≡ earlier ++ event ∷ later → ((frame : Frame) (call : PendingCall) → event ≡ FrameReceived frame → MakesCall opened earlier frame call → ⊥) →
+    without_ends (server_by opened (earlier ++ event ∷ [])).regions ≡ without_ends (server_by opened earlier).regions
+
+-- A region that is closed stays as it is.
+abbrev pub ClosedRegionsStay : Type 0
+ClosedRegionsStay = (opened : LinkParameters) (link : ℕ) (run : List Mark) (earlier later : List Event) (r : Region) (place : ℕ) → events link Responder run ≡ earlier ++ later →
+    Contains (server_by opened earlier).regions r → r.until ≡ Some place → Contains (server opened link run).state.regions r
 
 -- the call of this number is pending
 pub record IsPendingNumber (k : ServerState) (number : ℕ) : Type 0 where
