@@ -6,10 +6,9 @@ use Rattle.std.proofs.lemmas.List.Elements.{recursion_from_All, All-contains_its
 use Rattle.nr_wire.specs.declared.hello.Side.TheVariants.{Responder}
 use Rattle.nr_link.specs.Frames.{Frame, is_hello}
 use Rattle.nr_link.specs.Ending.{frame_segment}
-use Rattle.nr_reduce.specs.declared.mark.Mark.{Mark}
 use Rattle.nr_reduce.specs.declared.mark.LinkParameters.{LinkParameters}
 use Rattle.nr_reduce.specs.Events.{Event, events}
-use Rattle.nr_reduce.specs.Events.Event.{FrameReceived, CallSubmitted, MemoryRevoked, CallExecuted, QueueWritten}
+use Rattle.nr_reduce.specs.Events.Event.{FrameReceived}
 use Rattle.nr_reduce.specs.EndRules.{EndState, next_end_state}
 use Rattle.nr_reduce.specs.OfferedRegions.{Region, until_at, closed_if, regions_closed}
 use Rattle.nr_reduce.specs.ServerState.{ServerState}
@@ -129,17 +128,8 @@ frame-event opened es f h stays = by (is_hello f) refl
     by true is = old
     by false is = closed is (frame_effect k f).regions (all is)
 
-one-event : (opened : LinkParameters) (es : List Event) (e : Event) → AllByRecursion (IsClosed opened es) (server_by opened es).regions → (next_end_state (server_rules opened) (state_at opened es) e).ended ≡ None
-    → AllByRecursion (IsClosed opened (es ++ e ∷ [])) (server_state_after opened (server_by opened es) e).regions
-unfolding server_state_after
-one-event opened es (FrameReceived f) h stays = frame-event opened es f h stays
-one-event opened es (CallSubmitted place a) h stays = each-all (IsClosed opened es) _ (server_by opened es).regions (closed-more opened es (CallSubmitted place a ∷ [])) h
-one-event opened es (MemoryRevoked place xid) h stays = each-all (IsClosed opened es) _ (server_by opened es).regions (closed-more opened es (MemoryRevoked place xid ∷ [])) h
-one-event opened es (CallExecuted e) h stays = each-all (IsClosed opened es) _ (server_by opened es).regions (closed-more opened es (CallExecuted e ∷ [])) h
-one-event opened es QueueWritten h stays = each-all (IsClosed opened es) _ (server_by opened es).regions (closed-more opened es (QueueWritten ∷ [])) h
-
 pub server_regions_close_when_read : ServerRegionsCloseWhenRead
 unfolding server
 server_regions_close_when_read opened link run r place there is =
     region-of-list (IsClosed opened (events link Responder run)) _ r
-    (regions-along opened (IsClosed opened) (closed-more opened) (one-event opened) [] (events link Responder run) tt) there place is
+    (regions-along opened (IsClosed opened) (closed-more opened) (frame-event opened) [] (events link Responder run) tt) there place is

@@ -1,10 +1,9 @@
 -- A region of a server is closed as soon as nothing is left to be read for it, and not before.
-use Rattle.std.proofs.Common.{◌≡◌, ℕ, zero, suc, ◌<◌, Bool, true, false, cond, not, ◌&&◌, ◌||◌, eqb, List, [], ◌∷◌, ◌++◌, length, Option, None, Some, refl, sym, ap, subst, ◌∙◌, arith, append_assoc, append-nil, inl, inr, ◌⊎◌, eq-eqb, ne_eqb, eqb-true}
-use Rattle.std.specs.Prelude.{Contains, slice_index_or, map}
+use Rattle.std.proofs.Common.{◌≡◌, ℕ, zero, suc, ◌<◌, Bool, true, false, cond, not, ◌&&◌, ◌||◌, eqb, List, [], ◌∷◌, ◌++◌, length, Option, None, Some, refl, sym, ap, subst, ◌∙◌, arith, append_assoc, append-nil, inl, inr, ◌⊎◌, eq-eqb, eqb-true}
+use Rattle.std.specs.Prelude.{Contains, slice_index_or}
 use Rattle.std.specs.List.{filter, list_any, AllByRecursion}
 use Rattle.nr_wire.specs.declared.hello.Side.TheVariants.{Responder}
-use Rattle.nr_link.specs.Frames.{Frame, is_hello}
-use Rattle.nr_link.specs.Ending.{frame_segment}
+use Rattle.nr_link.specs.Frames.{is_hello}
 use Rattle.nr_reduce.specs.declared.mark.Mark.{Mark}
 use Rattle.nr_reduce.specs.declared.mark.LinkParameters.{LinkParameters}
 use Rattle.nr_reduce.specs.Events.{Event, events}
@@ -16,7 +15,6 @@ use Rattle.nr_reduce.specs.ServerState.{ServerState, PendingCall, PendingRead, R
 use Rattle.nr_reduce.specs.ServerReads.{is_read, is_read_at, is_over}
 use Rattle.nr_reduce.specs.ServerFrames.{frame_effect}
 use Rattle.nr_reduce.specs.Server.{server_rules, server_state_after, initial_server, with_effect}
-use Rattle.nr_reduce.specs.Run.{server}
 use Rattle.nr_reduce.specs.RunLaws.{server_by}
 use Rattle.nr_reduce.specs.Served.{ServedSoFar}
 use Rattle.nr_reduce.proofs.Steps.{end_state_after-append}
@@ -24,10 +22,11 @@ use Rattle.nr_laws.specs.Typed.{IsTyped}
 use Rattle.nr_laws.specs.LinkInvariants.{IsUnused, AreDistinct, AreWhole, PendingAgree}
 use Rattle.nr_laws.specs.ServerRegions.{IsPendingNumber, HasReadLeft, LiveServerRegionsAreRead}
 use Rattle.nr_laws.proofs.Along.{GoesOn, goes-behind, places_after}
+use Rattle.nr_laws.proofs.Keys.{or-right}
 use Rattle.nr_laws.proofs.KeptAtServer.{KeptAtServer, kept-at-server}
 use Rattle.nr_laws.proofs.OfferedAccesses.{each-all}
 use Rattle.nr_laws.proofs.SendRegions.{counts-or-not, region-of-list}
-use Rattle.nr_laws.proofs.ServerAlong.{ServerPlain, IsGoodExecution}
+use Rattle.nr_laws.proofs.ServerAlong.{ServerPlain}
 use Rattle.nr_laws.proofs.ServerSide.{server-goes}
 
 -- ---- A test that some element passes
@@ -48,10 +47,6 @@ some-one p (x ∷ xs) e = by (p x) refl e (some-one p xs)
 pub passes-any : {X : Type 0} (p : X → Bool) (xs : List X) (x : X) → Contains xs x → p x ≡ true → list_any p xs ≡ true
 passes-any p xs x there passes = at there.0 xs there.1 there.2
   where
-    or-right : (a b : Bool) → b ≡ true → (a || b) ≡ true
-    or-right true b e = refl
-    or-right false b e = e
-
     at : (k : ℕ) (ys : List _) → k < length ys → slice_index_or ys k x ≡ x → list_any p ys ≡ true
     at k [] lt is = absurd (omega (arith, lt))
     at zero (y ∷ ys) lt is = ap (λ (b : Bool). b || list_any p ys) (ap p is ∙ passes)

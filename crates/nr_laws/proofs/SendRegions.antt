@@ -1,8 +1,8 @@
 -- Each region of a server is a read chunk of a call whose Send it received.
-use Rattle.std.proofs.Common.{◌≡◌, ℕ, zero, suc, ◌+◌, ◌-◌, ◌<◌, Bool, true, false, cond, not, ◌&&◌, eqb, List, [], ◌∷◌, ◌++◌, length, Option, None, Some, Result, Ok, Err, refl, sym, ap, subst, ◌∙◌, arith, append_assoc, append-nil}
-use Rattle.std.specs.Prelude.{Contains, map, replicate, slice_index_or}
+use Rattle.std.proofs.Common.{◌≡◌, ℕ, zero, ◌+◌, ◌-◌, Bool, true, false, cond, not, ◌&&◌, eqb, List, [], ◌∷◌, ◌++◌, length, Option, None, Some, Result, Ok, Err, refl, sym, ap, subst, ◌∙◌, arith, append_assoc, append-nil}
+use Rattle.std.specs.Prelude.{Contains, replicate}
 use Rattle.std.specs.List.{AllByRecursion}
-use Rattle.std.proofs.lemmas.List.Elements.{All-contains, All-from_recursion, Contains-append_left, Contains-append_right}
+use Rattle.std.proofs.lemmas.List.Elements.{All-contains, All-from_recursion, Contains-append_right}
 use Rattle.nr_wire.specs.Constants.{OPCODE_READ_RESPONSE}
 use Rattle.nr_wire.specs.declared.hello.Side.TheVariants.{Responder}
 use Rattle.nr_wire.specs.Segment.{Segment}
@@ -11,7 +11,6 @@ use Rattle.nr_link.specs.declared.end.End.{End}
 use Rattle.nr_link.specs.Frames.{Frame, is_hello}
 use Rattle.nr_link.specs.ReceiveState.{message_completed}
 use Rattle.nr_link.specs.Ending.{frame_segment}
-use Rattle.nr_reduce.specs.declared.mark.Mark.{Mark}
 use Rattle.nr_reduce.specs.declared.mark.LinkParameters.{LinkParameters}
 use Rattle.nr_header.specs.declared.header.ChunkLists.{ChunkLists}
 use Rattle.nr_regions.specs.declared.right.Right.TheVariants.{Sink}
@@ -19,18 +18,18 @@ use Rattle.nr_reduce.specs.Chunks.{total_at, is_read_chunk_of_item}
 use Rattle.nr_reduce.specs.Events.{Event, events}
 use Rattle.nr_reduce.specs.Events.Event.{FrameReceived, CallSubmitted, MemoryRevoked, CallExecuted, QueueWritten}
 use Rattle.nr_reduce.specs.EndRules.{EndState, next_end_state, next_end_state_by, next_end_state_in, end_state_after}
-use Rattle.nr_reduce.specs.OfferedRegions.{Region, until_at, closed_if, regions_closed}
+use Rattle.nr_reduce.specs.OfferedRegions.{Region, closed_if, regions_closed}
 use Rattle.nr_reduce.specs.ServerState.{ServerState, PendingCall, PendingRead, next_stag}
 use Rattle.nr_reduce.specs.ServerReads.{open_reads, chunks_of, regions_from, regions_of, reads_of, is_read, is_over}
 use Rattle.nr_reduce.specs.ServerMessages.{Verdict, CallVerdict, verdict, by_payload, payload_of, chunk_bytes}
 use Rattle.nr_reduce.specs.ServerMessages.CallVerdict.{Refuses, IsReady}
 use Rattle.nr_reduce.specs.ServerMessages.Verdict.{EndsLink, OtherVersion, BadChunks, MakesPending}
-use Rattle.nr_reduce.specs.ServerFrames.{FrameEffect, no_effect, with_verdict, ready_if_whole, with_refused_call, is_stream_read, read_effect, response_effect, call_of_number, message_effect, by_message, with_access, effect_by, effect_in, frame_effect}
+use Rattle.nr_reduce.specs.ServerFrames.{FrameEffect, no_effect, with_verdict, ready_if_whole, with_refused_call, is_stream_read, read_effect, response_effect, call_of_number, message_effect, by_message, with_access, effect_in, frame_effect}
 use Rattle.nr_reduce.specs.Server.{server_rules, server_end, server_state_after, initial_server, with_effect}
 use Rattle.nr_reduce.specs.Run.{server}
 use Rattle.nr_reduce.specs.RunLaws.{server_by}
 use Rattle.nr_reduce.proofs.Steps.{end_state_after-append}
-use Rattle.nr_laws.specs.ServerRegions.{MakesCall, IsChunkOfFrame, IsChunkOfSend, ServerRegionsAreChunks}
+use Rattle.nr_laws.specs.ServerRegions.{IsChunkOfFrame, IsChunkOfSend, ServerRegionsAreChunks}
 use Rattle.nr_laws.proofs.OfferedAccesses.{each-all}
 use Rattle.nr_laws.proofs.ReadLimits.{each-append}
 
@@ -132,19 +131,16 @@ unfolding regions_closed
 each-region-closed P keeps test place [] h = tt
 each-region-closed P keeps test place (x ∷ xs) h = (keeps (test x) place x h.0, each-region-closed P keeps test place xs h.1)
 
-middle : (pre : List Region) (x : Region) (post : List Region) → Contains (pre ++ x ∷ post) x
-middle [] x post = (zero, omega (arith), refl)
-middle (p ∷ pre) x post = (let m = middle pre x post in (suc m.0, (let lt = m.1 in omega (arith, lt)), m.2))
-
 -- each chunk of a call is one of them, and isn't closed
 chunks-each : (P : Region → Type 0) (number place stag : ℕ) (lists : ChunkLists) (ps : List ℕ) (all pre : List Region) → all ≡ pre ++ regions_from number place stag lists ps → ((r : Region) → Contains all (record r { until = None }) → r.until ≡ None → P r)
     → AllByRecursion P (regions_from number place stag lists ps)
 chunks-each P number place stag lists [] all pre is has = tt
 chunks-each P number place stag lists (p ∷ ps) all pre is has =
     let own : Region = record { call = number; position = p; stag = stag; right = Sink; bytes = replicate (total_at p lists.read) 0; from = place; until = None } in
-    let rest : List Region = regions_from number place (stag + 1) lists ps in
-    (has own (subst (λ (xs : List Region). Contains xs own) (sym is) (middle pre own rest)) refl,
-    chunks-each P number place (stag + 1) lists ps all (pre ++ own ∷ []) (is ∙ sym (append_assoc pre (own ∷ []) rest)) has)
+    let rest : List Region = regions_from number place (stag + 1) lists ps in (
+      has own (subst (λ (xs : List Region). Contains xs own) (sym is) (Contains-append_right pre (own ∷ rest) own (zero, omega (arith), refl))) refl,
+      chunks-each P number place (stag + 1) lists ps all (pre ++ own ∷ []) (is ∙ sym (append_assoc pre (own ∷ []) rest)) has,
+    )
 
 -- so is each new region of a frame that doesn't end the server
 pub new-each : (opened : LinkParameters) (es : List Event) (f : Frame) (P : Region → Type 0) → (next_end_state (server_rules opened) (state_at opened es) (FrameReceived f)).ended ≡ None → is_hello f ≡ false
@@ -209,26 +205,28 @@ frame-event opened es f h stays = by (is_hello f) refl
         (each-append P k.regions (chunks_in k f (frame_segment f)) old
         (new-each opened es f P stays is (λ r own none. record { earlier = es; later = []; frame = f; is_received = refl; own = own }) (frame_segment f) refl)))
 
-one-event : (opened : LinkParameters) (es : List Event) (e : Event) → AllByRecursion (IsChunkOfSend opened es) (server_by opened es).regions → (next_end_state (server_rules opened) (state_at opened es) e).ended ≡ None
-    → AllByRecursion (IsChunkOfSend opened (es ++ e ∷ [])) (server_state_after opened (server_by opened es) e).regions
-unfolding server_state_after
-one-event opened es (FrameReceived f) h stays = frame-event opened es f h stays
-one-event opened es (CallSubmitted place a) h stays = each-all (IsChunkOfSend opened es) _ (server_by opened es).regions (chunk-more opened es (CallSubmitted place a ∷ [])) h
-one-event opened es (MemoryRevoked place xid) h stays = each-all (IsChunkOfSend opened es) _ (server_by opened es).regions (chunk-more opened es (MemoryRevoked place xid ∷ [])) h
-one-event opened es (CallExecuted e) h stays = each-all (IsChunkOfSend opened es) _ (server_by opened es).regions (chunk-more opened es (CallExecuted e ∷ [])) h
-one-event opened es QueueWritten h stays = each-all (IsChunkOfSend opened es) _ (server_by opened es).regions (chunk-more opened es (QueueWritten ∷ [])) h
-
--- a fact of the regions after some events that each event keeps
+-- a fact of each region that stands after more events, and that the frames keep
 pub regions-along : (opened : LinkParameters) (P : List Event → Region → Type 0) → ((es more : List Event) (r : Region) → P es r → P (es ++ more) r)
-    → ((es : List Event) (e : Event) → AllByRecursion (P es) (server_by opened es).regions → (next_end_state (server_rules opened) (state_at opened es) e).ended ≡ None → AllByRecursion (P (es ++ e ∷ [])) (server_state_after opened (server_by opened es) e).regions)
+    → ((es : List Event) (f : Frame) → AllByRecursion (P es) (server_by opened es).regions → (next_end_state (server_rules opened) (state_at opened es) (FrameReceived f)).ended ≡ None
+    → AllByRecursion (P (es ++ FrameReceived f ∷ [])) (server_state_after opened (server_by opened es) (FrameReceived f)).regions)
     → (front es : List Event) → AllByRecursion (P front) (server_by opened front).regions → AllByRecursion (P (front ++ es)) (server_by opened (front ++ es)).regions
-regions-along opened P more step front [] h = subst (λ (xs : List Event). AllByRecursion (P xs) (server_by opened xs).regions) (sym (append-nil front)) h
-regions-along opened P more step front (e ∷ es) h =
+unfolding server_state_after
+regions-along opened P more frames front [] h = subst (λ (xs : List Event). AllByRecursion (P xs) (server_by opened xs).regions) (sym (append-nil front)) h
+regions-along opened P more frames front (e ∷ es) h =
     let one : AllByRecursion (P (front ++ e ∷ [])) (next_end_state (server_rules opened) (state_at opened front) e).state.regions =
-    counts-or-not opened (λ (k : ServerState). AllByRecursion (P (front ++ e ∷ [])) k.regions) (state_at opened front) e
-    (each-all (P front) (P (front ++ e ∷ [])) (server_by opened front).regions (more front (e ∷ [])) h) (step front e h) in
+    counts-or-not opened (λ (k : ServerState). AllByRecursion (P (front ++ e ∷ [])) k.regions) (state_at opened front) e (same e) (by e) in
     let next = subst (λ (r : EndState ServerState). AllByRecursion (P (front ++ e ∷ [])) r.state.regions) (sym (end_state_after-append (server_rules opened) (initial_server opened) front (e ∷ []))) one in
-    subst (λ (xs : List Event). AllByRecursion (P xs) (server_by opened xs).regions) (append_assoc front (e ∷ []) es) (regions-along opened P more step (front ++ e ∷ []) es next)
+    subst (λ (xs : List Event). AllByRecursion (P xs) (server_by opened xs).regions) (append_assoc front (e ∷ []) es) (regions-along opened P more frames (front ++ e ∷ []) es next)
+  where
+    same : (x : Event) → AllByRecursion (P (front ++ x ∷ [])) (server_by opened front).regions
+    same x = each-all (P front) (P (front ++ x ∷ [])) (server_by opened front).regions (more front (x ∷ [])) h
+
+    by : (x : Event) → (next_end_state (server_rules opened) (state_at opened front) x).ended ≡ None → AllByRecursion (P (front ++ x ∷ [])) (server_state_after opened (server_by opened front) x).regions
+    by (FrameReceived f) stays = frames front f h stays
+    by (CallSubmitted place a) stays = same (CallSubmitted place a)
+    by (MemoryRevoked place xid) stays = same (MemoryRevoked place xid)
+    by (CallExecuted call) stays = same (CallExecuted call)
+    by QueueWritten stays = same QueueWritten
 
 pub region-of-list : (P : Region → Type 0) (xs : List Region) (r : Region) → AllByRecursion P xs → Contains xs r → P r
 region-of-list P xs r h there = All-contains P xs r (All-from_recursion P xs h) there
@@ -237,4 +235,4 @@ pub server_regions_are_chunks : ServerRegionsAreChunks
 unfolding server
 server_regions_are_chunks opened link run r there =
     region-of-list (IsChunkOfSend opened (events link Responder run)) _ r
-    (regions-along opened (IsChunkOfSend opened) (chunk-more opened) (one-event opened) [] (events link Responder run) tt) there
+    (regions-along opened (IsChunkOfSend opened) (chunk-more opened) (frame-event opened) [] (events link Responder run) tt) there

@@ -37,6 +37,7 @@ pub record IsChunkOfFrame (opened : LinkParameters) (earlier : List Event) (fram
   pub is_made : MakesCall opened earlier frame call
   pub chunk : Contains (regions_of (server_by opened earlier) frame.end call) (record r { until = None })
 
+-- that frame is among these events
 pub record IsChunkOfSend (opened : LinkParameters) (received : List Event) (r : Region) : Type 0 where
   pub earlier : List Event
   pub later : List Event
