@@ -73,7 +73,7 @@ LAWS = ('once: Sends', 'once: calls', 'once: xids', 'places', 'completions', 'ex
         'chunk_outcomes: causes', 'chunk_outcomes: completed', 'chunk_outcomes: offers', 'chunk_outcomes: own plans', 'chunk_outcomes: auto', 'chunk_outcomes: changes',
         'touches: client', 'touches: server', 'touches: client_bytes', 'touches: server_bytes', 'touches: reads', 'touches: revoked', 'grant', 'calls_complete', 'segments_keep_the_rules: client', 'segments_keep_the_rules: server',
         'matched_links_stay')
-CALL_REASONS, REPLY_REASONS = (18, 19), (18, 19, 21)
+CALL_REASONS, REPLY_REASONS = (18,), (18, 19)
 
 
 class Roles(Names):

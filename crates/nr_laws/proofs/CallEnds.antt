@@ -19,7 +19,7 @@ use Rattle.nr_reduce.specs.ServerFrames.{frame_effect}
 use Rattle.nr_reduce.specs.Server.{server_rules, server_end, initial_server, readiness, or_refusal, refusal_end}
 use Rattle.nr_reduce.specs.Run.{server}
 use Rattle.nr_reduce.specs.RunLaws.{server_by}
-use Rattle.nr_laws.specs.EndCauses.{IsCallReason}
+use Rattle.nr_laws.proofs.EndReasons.{IsCallReason}
 use Rattle.nr_laws.specs.MatchedSoFar.{MatchedSoFar}
 use Rattle.nr_laws.specs.Typed.{IsTyped}
 use Rattle.nr_laws.proofs.Along.{GoesOn, goes-behind}

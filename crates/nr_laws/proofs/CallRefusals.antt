@@ -15,7 +15,7 @@ use Rattle.nr_reduce.specs.ServerMessages.Verdict.{EndsLink, OtherVersion, BadCh
 use Rattle.nr_reduce.specs.ServerMessages.CallVerdict.{Refuses, IsReady}
 use Rattle.nr_reduce.specs.ServerFrames.{FrameEffect, no_effect, with_verdict, ready_if_whole, message_effect, with_refused_call, call_of_number, with_access, frame_effect}
 use Rattle.nr_reduce.specs.RunLaws.{ends_response}
-use Rattle.nr_laws.specs.EndCauses.{IsCallReason}
+use Rattle.nr_laws.proofs.EndReasons.{IsCallReason}
 use Rattle.nr_laws.proofs.JudgedMessages.{by-fault}
 use Rattle.nr_laws.proofs.OtherReasons.{apart, fault-other}
 use Rattle.nr_laws.proofs.EachEffect.{each-verdict, EffectCase, effect-case, read_over}

@@ -61,7 +61,7 @@ pub caused_calls_complete : CausedCallsComplete
 caused_calls_complete opened link run typed asked served matched settled due a kept cause = by (chunk-or-not c.0)
   where
     c : (outcome : Outcome) × Contains (completed_calls link run) (record { xid = a.xid; outcome = outcome })
-    c = (calls-complete opened link run typed asked served matched settled).2 due a kept
+    c = (calls-complete opened link run typed asked served matched settled).has_done due a kept
 
     m : (before : List Mark) × MarkAt run before (marks.Done link a.xid c.0)
     m = completed-mark link run (record { xid = a.xid; outcome = c.0 }) c.1

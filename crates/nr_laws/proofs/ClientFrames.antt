@@ -19,7 +19,8 @@ use Rattle.nr_laws.specs.LinkInvariants.{Transit}
 use Rattle.nr_laws.proofs.Totals.{total-append}
 use Rattle.nr_laws.proofs.StreamFrames.{frames_at, spelled-append}
 use Rattle.nr_laws.proofs.TotalsAtClient.{down_one}
-use Rattle.nr_laws.specs.EndCauses.{IsReplyEnd, IsDenied}
+use Rattle.nr_laws.specs.EndCauses.{IsDenied}
+use Rattle.nr_laws.proofs.EndReasons.{EndsForMessage}
 use Rattle.nr_laws.proofs.Guards.{Guards}
 use Rattle.nr_laws.proofs.ClientStep.{LacksAccess, step-down}
 use Rattle.nr_laws.proofs.AgreeingEnds.{EndsAgree, IsPlace, frame_of}
@@ -101,7 +102,7 @@ client-runs opened s u all_down left (p ∷ new) k d all_up w n r place l first 
 
 pub client-ends : (opened : LinkParameters) (s : ServerState) (u all_down left : List FrameContent) (o : IsOpened opened) (end : End) (up : ℕ) (new : List FrameContent) (k : ClientState) (d all_up : List FrameContent) (w : Transit) (n r place : ℕ) → EndsAgree opened k s u d all_up all_down w → Guards opened k s u d all_up all_down w up → w.down ≡ new ++ left
     → n ≡ total_of sends_in d → r ≡ total_of requests_in d → IsPlace d place → IsBytes (concat (frames_at Responder n r new)) → AreSome (frames_at Responder n r new)
-    → (end_state_after (client_rules opened) (live k) (events_of place (frames_at Responder n r new))).ended ≡ Some end → IsReplyEnd end ⊎ IsDenied end
+    → (end_state_after (client_rules opened) (live k) (events_of place (frames_at Responder n r new))).ended ≡ Some end → EndsForMessage end ⊎ IsDenied end
 client-ends opened s u all_down left o end up [] k d all_up w n r place l g first sends requests at bytes some e = absurd (let wrong : None ≡ Some end = e in cc)
 client-ends opened s u all_down left o end up (p ∷ new) k d all_up w n r place l g first sends requests at bytes some e =
     let rules = client_rules opened in
@@ -110,7 +111,7 @@ client-ends opened s u all_down left o end up (p ∷ new) k d all_up w n r place
     let event = FrameReceived (frame_of frame place) in
     let es = events_of (place + length frame) later in
     let step = step-down opened k s u d all_up all_down w up p (new ++ left) n r place o l g first sends requests at in
-    (ends-first rules k event es end (IsReplyEnd end ⊎ IsDenied end) e).first (λ now. by (step.only end now))
+    (ends-first rules k event es end (EndsForMessage end ⊎ IsDenied end) e).first (λ now. by (step.only end now))
     (λ stays rest.
     let t = client-took opened k s u d all_up all_down w p (new ++ left) n r place l first sends requests at (IsBytes-left frame (concat later) bytes) stays in
     let after = client_state_after opened k event in
@@ -119,6 +120,6 @@ client-ends opened s u all_down left o end up (p ∷ new) k d all_up w n r place
     (omega (arith, sends, total-append sends_in d (p ∷ []))) (omega (arith, requests, total-append requests_in d (p ∷ []))) (place-next d p frame place at some.0)
     (IsBytes-right frame (concat later) bytes) some.1 rest)
   where
-    by : {f : Frame} → IsReplyEnd end ⊎ LacksAccess k f end → IsReplyEnd end ⊎ IsDenied end
+    by : {f : Frame} → EndsForMessage end ⊎ LacksAccess k f end → EndsForMessage end ⊎ IsDenied end
     by (inl h) = inl h
     by (inr h) = inr h.denied

@@ -35,7 +35,8 @@ use Rattle.nr_reduce.specs.ClientMessages.{Verdict, verdict, by_head, by_payload
 use Rattle.nr_reduce.specs.ClientMessages.Verdict.{EndsLink, GivesOutcome}
 use Rattle.nr_reduce.specs.Client.{client_end, client_state_after, readiness, or_message_end, message_end, end_of_verdict, segment_message}
 use Rattle.nr_reduce.specs.ServerState.{ServerState}
-use Rattle.nr_laws.specs.EndCauses.{IsReplyReason, IsReplyEnd, IsDenied}
+use Rattle.nr_laws.specs.EndCauses.{IsDenied}
+use Rattle.nr_laws.proofs.EndReasons.{IsMessageReason, EndsForMessage}
 use Rattle.nr_laws.specs.FrameContents.{FrameContent, numbered_segment, frame_bytes, total_of, sends_in, requests_in, hellos_in, client_frames, Carries}
 use Rattle.nr_laws.specs.FrameContents.FrameContent.{HelloFrame, SendFrame, RequestFrame, TaggedFrame}
 use Rattle.nr_laws.specs.LinkInvariants.{Transit, hello_bit}
@@ -63,16 +64,16 @@ use Rattle.nr_laws.proofs.HeaderXid.{header-xid}
 -- ---- A message
 
 abbrev VerdictReason : Verdict → Type 0
-VerdictReason (EndsLink reason) = IsReplyReason reason
+VerdictReason (EndsLink reason) = IsMessageReason reason
 VerdictReason (GivesOutcome xid outcome) = Unit {0}
 
-chunks-reason : IsReplyReason 21
+chunks-reason : IsMessageReason 21
 chunks-reason = inl refl
 
-head-reason : IsReplyReason 18
+head-reason : IsMessageReason 18
 head-reason = inr (inl refl)
 
-xid-reason : IsReplyReason 19
+xid-reason : IsMessageReason 19
 xid-reason = inr (inr refl)
 
 reason-head : (xid : ℕ) (payload : List ℕ) (r : Result ReplyHead ℕ) → VerdictReason (by_head xid payload r)
@@ -113,7 +114,7 @@ reason-verdict : (k : ClientState) (place : ℕ) (message : List ℕ) → IsRead
 unfolding verdict
 reason-verdict k place message read call found = reason-header k place message read.0 read.1 call found
 
-reply-end : (f : Frame) (v : Verdict) (end : End) → VerdictReason v → end_of_verdict f v ≡ Some end → IsReplyEnd end
+reply-end : (f : Frame) (v : Verdict) (end : End) → VerdictReason v → end_of_verdict f v ≡ Some end → EndsForMessage end
 reply-end f (EndsLink reason) end h e = (f.at, reason, cc, h)
 reply-end f (GivesOutcome xid outcome) end h e = absurd cc
 
@@ -150,7 +151,7 @@ or-message-some k f (Some x) end none e = e
 -- ---- The frame of a frame
 
 pub record ClientStep (opened : LinkParameters) (k : ClientState) (s : ServerState) (u d all_up all_down : List FrameContent) (w : Transit) (place : ℕ) (p : FrameContent) (rest : List FrameContent) (f : Frame) : Type 0 where
-  pub only : (end : End) → client_end k (FrameReceived f) ≡ Some end → IsReplyEnd end ⊎ LacksAccess k f end
+  pub only : (end : End) → client_end k (FrameReceived f) ≡ Some end → EndsForMessage end ⊎ LacksAccess k f end
   pub kept : client_end k (FrameReceived f) ≡ None → Guards opened (client_state_after opened k (FrameReceived f)) s u (d ++ p ∷ []) (all_up ++ client_frames opened k (FrameReceived f)) all_down (down_one w (client_frames opened k (FrameReceived f)) rest) place
 
 hello-none : (k : ClientState) (f : Frame) → is_hello f ≡ true → hello_of Responder f.bytes ≡ Ok (record { side = Responder; flags = 0; private = [] }) → client_end k (FrameReceived f) ≡ None

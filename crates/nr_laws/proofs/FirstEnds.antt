@@ -27,7 +27,8 @@ use Rattle.nr_reduce.specs.Asked.{AskedMark, IsAll}
 use Rattle.nr_reduce.specs.Served.{ServedMark}
 use Rattle.nr_reduce.proofs.Steps.{client-one, server-one, ended-stays}
 use Rattle.nr_laws.specs.Typed.{TypedMark}
-use Rattle.nr_laws.specs.EndCauses.{IsCallEnd, IsReplyEnd, IsDenied, ServerEndsForCalls, ClientEndsForReplies}
+use Rattle.nr_laws.specs.EndCauses.{IsDenied}
+use Rattle.nr_laws.proofs.EndReasons.{EndsForCall, EndsForMessage, FirstServerEnd, FirstClientEnd}
 use Rattle.nr_laws.specs.FrameContents.{total_of, sends_in, requests_in}
 use Rattle.nr_laws.proofs.Bytes.{bytes_both}
 use Rattle.nr_laws.proofs.StreamFrames.{frames_at}
@@ -66,16 +67,16 @@ server-last : (opened : LinkParameters) (link : ℕ) (before more : List Mark) (
 server-last opened link before more end e = lasts (server_rules opened) (λ run. server opened link run) (λ earlier m. events_at link Responder earlier m) (λ earlier m. server-one opened link earlier m) before more end e
 
 -- no event, or one that is no frame, ends it
-not-by-none : (opened : LinkParameters) (s : ServerState) (es : List Event) (end : End) → es ≡ [] → (end_state_after (server_rules opened) (live s) es).ended ≡ Some end → IsCallEnd end
+not-by-none : (opened : LinkParameters) (s : ServerState) (es : List Event) (end : End) → es ≡ [] → (end_state_after (server_rules opened) (live s) es).ended ≡ Some end → EndsForCall end
 not-by-none opened s es end none e = absurd (let wrong : None ≡ Some end = ap (λ (xs : List Event). (end_state_after (server_rules opened) (live s) xs).ended) (sym none) ∙ e in cc)
 
-not-by-one : (opened : LinkParameters) (s : ServerState) (es : List Event) (event : Event) (b : Bool) (end : End) → ((f : Frame) → event ≢ FrameReceived f) → es ≡ if_own b (event ∷ []) → (end_state_after (server_rules opened) (live s) es).ended ≡ Some end → IsCallEnd end
+not-by-one : (opened : LinkParameters) (s : ServerState) (es : List Event) (event : Event) (b : Bool) (end : End) → ((f : Frame) → event ≢ FrameReceived f) → es ≡ if_own b (event ∷ []) → (end_state_after (server_rules opened) (live s) es).ended ≡ Some end → EndsForCall end
 not-by-one opened s es event true end other is e =
     absurd (let wrong : None ≡ Some end = sym (ap (λ (xs : List Event). (end_state_after (server_rules opened) (live s) xs).ended) is ∙ ap (λ (x : EndState ServerState). x.ended) (server-event opened s event other).state) ∙ e in cc)
 not-by-one opened s es event false end other is e = not-by-none opened s es end is e
 
 by-fed : (opened : LinkParameters) (link : ℕ) (run : List Mark) (bytes : List ℕ) (g : Guarded opened link run) → IsOpened opened → IsPrefixOf (bytes_received link Responder run ++ bytes) (bytes_sent link Initiator run) → IsBytes bytes
-    → (end : End) → (end_state_after (server_rules opened) (live g.joined.s) (map FrameReceived (frames_completed Initiator (bytes_received link Responder run) bytes))).ended ≡ Some end → IsCallEnd end
+    → (end : End) → (end_state_after (server_rules opened) (live g.joined.s) (map FrameReceived (frames_completed Initiator (bytes_received link Responder run) bytes))).ended ≡ Some end → EndsForCall end
 by-fed opened link run bytes g o prefix typed end e =
     let j = g.joined in
     let got = bytes_received link Responder run in
@@ -89,7 +90,7 @@ by-fed opened link run bytes g o prefix typed end e =
     (ap (λ (xs : List Event). (end_state_after (server_rules opened) (live j.s) xs).ended) (sym same) ∙ e)
 
 server-mark : (opened : LinkParameters) (link : ℕ) (run : List Mark) (mark : Mark) (g : Guarded opened link run) → IsOpened opened → MatchedMark link run mark → TypedMark run mark → (end : End)
-    → (end_state_after (server_rules opened) (live g.joined.s) (events_at link Responder run mark)).ended ≡ Some end → IsCallEnd end
+    → (end_state_after (server_rules opened) (live g.joined.s) (events_at link Responder run mark)).ended ≡ Some end → EndsForCall end
 server-mark opened link run (marks.Submit l call form (submissions.Accepted xid)) g o matched typed end e = not-by-none opened g.joined.s _ end (other-events (eqb l link) _) e
 server-mark opened link run (marks.Submit l call form (submissions.Refused why)) g o matched typed end e = not-by-none opened g.joined.s _ end refl e
 server-mark opened link run (marks.Submit l call form submissions.Dropped) g o matched typed end e = not-by-none opened g.joined.s _ end refl e
@@ -101,7 +102,7 @@ server-mark opened link run (marks.Fed l Responder bytes) g o matched typed end 
     fs : List Frame
     fs = frames_completed Initiator (bytes_received link Responder run) bytes
 
-    by : (b : Bool) → eqb l link ≡ b → IsCallEnd end
+    by : (b : Bool) → eqb l link ≡ b → EndsForCall end
     by true is = by-fed opened link run bytes g o (matched (eqb-true l link is)) typed end (ap (λ (b : Bool). (end_state_after (server_rules opened) (live g.joined.s) (if_own (b && true) (map FrameReceived fs))).ended) (sym is) ∙ e)
     by false is = not-by-none opened g.joined.s _ end (no-events (eqb l link) true (map FrameReceived fs) is) e
 server-mark opened link run (marks.Execute l xid moment payload place reply) g o matched typed end e =
@@ -113,7 +114,7 @@ server-mark opened link run (marks.Revoke l xid bytes) g o matched typed end e =
 server-mark opened link run (marks.Drop l) g o matched typed end e = not-by-none opened g.joined.s _ end refl e
 
 server-from : (opened : LinkParameters) (link : ℕ) (o : IsOpened opened) (end : End) (run before : List Mark) → Guarded opened link before → AtEachMark (AskedMark IsAll opened link) before run → AtEachMark (ServedMark IsAll opened link) before run → AtEachMark (MatchedMark link) before run
-    → AtEachMark (WithinGrant opened link) before run → AtEachMark TypedMark before run → (client opened link (before ++ run)).ended ≡ None → (server opened link (before ++ run)).ended ≡ Some end → IsCallEnd end
+    → AtEachMark (WithinGrant opened link) before run → AtEachMark TypedMark before run → (client opened link (before ++ run)).ended ≡ None → (server opened link (before ++ run)).ended ≡ Some end → EndsForCall end
 server-from opened link o end [] before g asked served matched grant typed up down =
     absurd (let wrong : None ≡ Some end = sym (ap (λ (r : List Mark). (server opened link r).ended) (append-nil before) ∙ ap (λ (x : EndState ServerState). x.ended) g.joined.server_is) ∙ down in cc)
 server-from opened link o end (m ∷ run) before g asked served matched grant typed up down =
@@ -131,16 +132,16 @@ server-from opened link o end (m ∷ run) before g asked served matched grant ty
     one : server opened link (before ++ m ∷ []) ≡ end_state_after (server_rules opened) (live g.joined.s) (events_at link Responder before m)
     one = server-one opened link before m ∙ ap (λ (r : EndState ServerState). end_state_after (server_rules opened) r (events_at link Responder before m)) g.joined.server_is
 
-    by : (x : Option End) → (server opened link (before ++ m ∷ [])).ended ≡ x → (Guarded opened link (before ++ m ∷ []) → IsCallEnd end) → IsCallEnd end
+    by : (x : Option End) → (server opened link (before ++ m ∷ [])).ended ≡ x → (Guarded opened link (before ++ m ∷ []) → EndsForCall end) → EndsForCall end
     by None is later =
         later (guarded-more opened link before m g.joined (goes-mark opened link before m g.joined asked.0 served.0 matched.0 typed.0 (client-unended opened link (before ++ m ∷ []) run up_all) is) o grant.0 g.guards)
     by (Some x) is later =
         let same : Some x ≡ Some end = sym (server-last opened link (before ++ m ∷ []) run x is) ∙ down_all in
         server-mark opened link before m g o matched.0 typed.0 end (ap (λ (r : EndState ServerState). r.ended) (sym one) ∙ is ∙ same)
 
-pub server-ends-for-calls : ServerEndsForCalls
+pub first-server-end : FirstServerEnd
 unfolding end_of_side
-server-ends-for-calls opened link run o typed laws up end down =
+first-server-end opened link run o typed laws up end down =
     let start = starts opened link in
     server-from opened link o end run [] (record { joined = start.joined; guards = start.guards o }) laws.client laws.server laws.matched laws.grant typed up down
 
@@ -150,7 +151,7 @@ pub client-last : (opened : LinkParameters) (link : ℕ) (before more : List Mar
 client-last opened link before more end e = lasts (client_rules opened) (λ run. client opened link run) (λ earlier m. events_at link Initiator earlier m) (λ earlier m. client-one opened link earlier m) before more end e
 
 abbrev IsClientEnd : End → Type 0
-IsClientEnd end = IsReplyEnd end ⊎ IsDenied end
+IsClientEnd end = EndsForMessage end ⊎ IsDenied end
 
 -- an event that is no frame ends no client
 none-ends : (opened : LinkParameters) (k : ClientState) (es : List Event) (end : End) → es ≡ [] → (end_state_after (client_rules opened) (live k) es).ended ≡ Some end → ⊥
@@ -238,9 +239,9 @@ client-first opened link State joined Kept end Lasting more fed (m ∷ run) befo
         let same : Some x ≡ Some end = sym (client-last opened link (before ++ m ∷ []) run x is) ∙ up_all in
         fed-ends opened link before m j.k end Lasting matched.0 typed.0 (λ bytes prefix typed e. fed before bytes a prefix typed e) (ap (λ (r : EndState ClientState). r.ended) (sym one) ∙ is ∙ same)
 
-pub client-ends-for-replies : ClientEndsForReplies
+pub first-client-end : FirstClientEnd
 unfolding end_of_side
-client-ends-for-replies opened link run o typed laws down end up =
+first-client-end opened link run o typed laws down end up =
     let start = starts opened link in
     client-first opened link (Guarded opened link) (λ before g. g.joined) (WithinGrant opened link) end (IsClientEnd end) (λ before m g agrees typed within. guarded-more opened link before m g.joined agrees o within g.guards)
     (λ before bytes g prefix typed e. client-fed opened link before bytes g o prefix typed end e) run [] (record { joined = start.joined; guards = start.guards o }) laws.client laws.server laws.matched laws.grant typed down up

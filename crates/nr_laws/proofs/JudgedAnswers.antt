@@ -1,5 +1,5 @@
--- The answer of an executed call doesn't end its client: its lists suit what the call offered, and what they convey is the plain server's
--- reply, which has the call's xid.
+-- The answer of an executed call ends its client for its reply alone: its lists suit what the call offered, and what they convey is that
+-- reply. A plain server's reply has the call's xid, and doesn't end it.
 use Rattle.std.proofs.Common.{◌≡◌, ℕ, ◌<◌, Bool, true, false, cond, ◌||◌, eqb, List, [], ◌∷◌, ◌++◌, map, Option, None, Some, Result, refl, sym, ap, subst, ◌∙◌, arith, append-nil}
 use Rattle.std.specs.List.{find, list_any}
 use Rattle.nr_xdr.specs.Item.{IsBytes}
@@ -27,7 +27,9 @@ use Rattle.nr_reduce.specs.Plans.{Buffer, buffers, lists_of, read_list, write_st
 use Rattle.nr_reduce.specs.Chunks.{answers_offer, reply_conveyed}
 use Rattle.nr_reduce.specs.Holds.{Answer, answer_for, answer_lists, answer_message}
 use Rattle.nr_reduce.specs.Undone.{answer_segments, lists_by, inline_by, ReadsAsAnswer}
-use Rattle.nr_reduce.specs.ClientState.{ClientState, memory_at}
+use Rattle.nr_reduce.specs.ClientState.{ClientState, OutstandingCall, memory_at}
+use Rattle.nr_reduce.specs.ClientMessages.{by_payload}
+use Rattle.nr_reduce.specs.ClientMessages.Verdict.{EndsLink}
 use Rattle.nr_reduce.specs.Client.{client_rules, initial_client}
 use Rattle.nr_reduce.specs.Run.{client}
 use Rattle.nr_reduce.specs.ServerState.{ServerState, PendingCall, credit_word}
@@ -63,7 +65,7 @@ use Rattle.nr_laws.proofs.ReadAnswers.{own-credit}
 use Rattle.nr_laws.proofs.PendingRuns.{executes-pending}
 use Rattle.nr_laws.proofs.OwnExecutes.{IsOwnPayload, own-executes}
 use Rattle.nr_laws.proofs.JudgedMessages.{EndsFor}
-use Rattle.nr_laws.proofs.JudgedReplies.{JudgedBy, answer-judged}
+use Rattle.nr_laws.proofs.JudgedReplies.{JudgedBy, answer-judged, own-reply-judged}
 
 record FoundOne (xid : ℕ) (calls : List PendingCall) : Type 0 where
   call : PendingCall
@@ -81,15 +83,25 @@ same-xid : (head : CallHead) → call_xid head ≡ head_xid head
 same-xid (calls.Version2 xid prog vers proc cred args_at) = refl
 same-xid (calls.Other xid rpcvers) = refl
 
-pub answer-ends-none : (reply_to : List Entry → Moment → List ℕ → Option (List ℕ)) (adds : Moment → List ℕ → List ℕ → List Entry) (opened : LinkParameters) (link : ℕ) (run : List Mark) (reason : ℕ) → IsOpened opened → IsTyped run → MatchedSoFar opened link run
-    → PlainlyOn (server_with reply_to adds) link run → IsPlain (server_with reply_to adds)
-    → (d : EndsFor opened link run reason) → JudgedBy (client_by opened d.earlier).state d.frame.end d.message reason → SaidAnswer opened (events link Responder run) d.before d.message → ⊥
+-- what a client makes of an answer is what it makes of the executed call's reply
+pub record JudgesReply (opened : LinkParameters) (link : ℕ) (run : List Mark) (call : OutstandingCall) (earlier : List Event) (e : ExecutedCall) (reason : ℕ) : Type 0 where
+  pub answered : AnsweredBy opened link run e earlier
+  pub own_xid : call.xid ≡ e.xid
+  pub bytes : IsBytes e.payload
+  pub by_reply : by_payload call.xid (Some e.reply) ≡ EndsLink reason
+
+pub answer-judges : (opened : LinkParameters) (link : ℕ) (run : List Mark) (reason : ℕ) → IsOpened opened → IsTyped run → MatchedSoFar opened link run
+    → (d : EndsFor opened link run reason) (j : JudgedBy (client_by opened d.earlier).state d.frame.end d.message reason) (s : SaidAnswer opened (events link Responder run) d.before d.message) → JudgesReply opened link run j.call s.earlier s.call reason
 unfolding lists_of
-answer-ends-none reply_to adds opened link run reason opens typed far plainly plain d j s =
-    answer-judged k place j.call d.message j.header.body a.long a.stream (answer_lists (lists_of stag plan) a) e.reply reason lists inline
-    ((λ i. answers_offer a.long (lists_of (stag_is i) (plan_is i)) (answer_lists (lists_of stag plan) a)) ∙ suits)
-    (ap (λ (c : Call). reply_conveyed c.prog c.vers c.proc (cond a.long None (Some a.stream)) (answer_lists (lists_of stag plan) a) (memory_at k place)) call_is ∙ conveys)
-    reply_xid j.by_its_body
+answer-judges opened link run reason opens typed far d j s = record {
+  answered = x;
+  own_xid = own_xid;
+  bytes = own.bytes;
+  by_reply = answer-judged k place j.call d.message j.header.body a.long a.stream (answer_lists (lists_of stag plan) a) e.reply reason lists inline
+      ((λ i. answers_offer a.long (lists_of (stag_is i) (plan_is i)) (answer_lists (lists_of stag plan) a)) ∙ suits)
+      (ap (λ (c : Call). reply_conveyed c.prog c.vers c.proc (cond a.long None (Some a.stream)) (answer_lists (lists_of stag plan) a) (memory_at k place)) call_is ∙ conveys)
+      j.by_its_body;
+}
   where
     k : ClientState
     k = (client_by opened d.earlier).state
@@ -217,12 +229,26 @@ answer-ends-none reply_to adds opened link run reason opens typed far plainly pl
     conveys : reply_conveyed u.call.prog u.call.vers u.call.proc (cond a.long None (Some a.stream)) (answer_lists (lists_of stag plan) a) (memory_at k place) ≡ Some e.reply
     conveys = memory-conveys k place opened.first_stag stag plan a front 1024 u.call.prog u.call.vers u.call.proc e.reply bytes numbers.regions settled backed parts answer
 
+pub answer-ends-none : (reply_to : List Entry → Moment → List ℕ → Option (List ℕ)) (adds : Moment → List ℕ → List ℕ → List Entry) (opened : LinkParameters) (link : ℕ) (run : List Mark) (reason : ℕ) → IsOpened opened → IsTyped run → MatchedSoFar opened link run
+    → PlainlyOn (server_with reply_to adds) link run → IsPlain (server_with reply_to adds)
+    → (d : EndsFor opened link run reason) → JudgedBy (client_by opened d.earlier).state d.frame.end d.message reason → SaidAnswer opened (events link Responder run) d.before d.message → ⊥
+answer-ends-none reply_to adds opened link run reason opens typed far plainly plain d j s = own-reply-judged j.call.xid e.reply reason reply_xid r.by_reply
+  where
+    e : ExecutedCall
+    e = s.call
+
+    r : JudgesReply opened link run j.call s.earlier e reason
+    r = answer-judges opened link run reason opens typed far d j s
+
+    m : ExecuteMark link run s.earlier e
+    m = r.answered.mark
+
     -- the reply has the call's xid
     replied : (server_with reply_to adds).Replies (journal (server_with reply_to adds) m.earlier) e.moment e.payload e.reply
     replied = at-mark (PlainOnMark (server_with reply_to adds) link) run m.earlier (execute_mark link e) m.later m.is plainly refl
 
     reply_xid : xid_of_reply (reply_of e.reply) ≡ Some j.call.xid
     reply_xid =
-        let h = executed-head opened link m.earlier e.xid e.payload x.executed.executed in
-        plain.xid (journal (server_with reply_to adds) m.earlier) e.moment e.payload e.reply own.bytes replied
-        ∙ ap xid_of_call h.1.0 ∙ ap (λ (n : ℕ). Some n) (sym (same-xid h.0) ∙ h.1.1 ∙ sym own_xid)
+        let h = executed-head opened link m.earlier e.xid e.payload r.answered.executed.executed in
+        plain.xid (journal (server_with reply_to adds) m.earlier) e.moment e.payload e.reply r.bytes replied
+        ∙ ap xid_of_call h.1.0 ∙ ap (λ (n : ℕ). Some n) (sym (same-xid h.0) ∙ h.1.1 ∙ sym r.own_xid)

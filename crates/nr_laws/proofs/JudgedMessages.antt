@@ -25,7 +25,7 @@ use Rattle.nr_reduce.specs.ClientMessages.{Verdict, verdict}
 use Rattle.nr_reduce.specs.ClientMessages.Verdict.{EndsLink, GivesOutcome}
 use Rattle.nr_reduce.specs.Client.{client_rules, client_end, initial_client, readiness, or_message_end, message_end, end_of_verdict, segment_message}
 use Rattle.nr_reduce.specs.Run.{client}
-use Rattle.nr_laws.specs.EndCauses.{IsReplyReason}
+use Rattle.nr_laws.proofs.EndReasons.{IsMessageReason}
 use Rattle.nr_laws.specs.MatchedSoFar.{MatchedSoFar}
 use Rattle.nr_laws.specs.Typed.{IsTyped}
 use Rattle.nr_laws.proofs.Outputs.{Output}
@@ -50,9 +50,9 @@ record JudgesMessage (k : ClientState) (f : Frame) (s : Segment) (reason : ℕ) 
 bad-reason : (at place reason other : ℕ) → ◌≡◌ {A = Option Stop} (Some (ends.Bad at reason)) (Some (ends.Bad place other)) → reason ≡ other
 bad-reason at place reason other e = cc
 
-pub by-fault : (f : Frame) (s : Segment) (o : Option (SegmentFault Denied)) → OtherFault o → (at reason : ℕ) → IsReplyReason reason → end_of_fault f s o ≡ Some (ends.Bad at reason) → ⊥
+pub by-fault : (f : Frame) (s : Segment) (o : Option (SegmentFault Denied)) → OtherFault o → (at reason : ℕ) → IsMessageReason reason → end_of_fault f s o ≡ Some (ends.Bad at reason) → ⊥
 by-fault f s None h at reason is e = cc
-by-fault f s (Some (Reason x)) h at reason is e = h (subst IsReplyReason (sym (bad-reason f.at at x reason e)) is)
+by-fault f s (Some (Reason x)) h at reason is e = h (subst IsMessageReason (sym (bad-reason f.at at x reason e)) is)
 by-fault f s (Some (NoBuffer msn)) h at reason is e = cc
 by-fault f s (Some (AccessDenied why)) h at reason is e = by (access_of s) e
   where
@@ -69,7 +69,7 @@ by-message : (k : ClientState) (f : Frame) (s : Segment) (at reason : ℕ) (o : 
 by-message k f s at reason None whole e = absurd cc
 by-message k f s at reason (Some message) whole e = record { message = message; whole = whole; judged = by-verdict f (verdict k f.end message) at reason e }
 
-segment-judges : (k : ClientState) (f : Frame) (s : Segment) (at reason : ℕ) → IsReplyReason reason → is_hello f ≡ false → frame_segment f ≡ Ok s → client_end k (FrameReceived f) ≡ Some (ends.Bad at reason) → JudgesMessage k f s reason
+segment-judges : (k : ClientState) (f : Frame) (s : Segment) (at reason : ℕ) → IsMessageReason reason → is_hello f ≡ false → frame_segment f ≡ Ok s → client_end k (FrameReceived f) ≡ Some (ends.Bad at reason) → JudgesMessage k f s reason
 unfolding client_end frame_end
 segment-judges k f s at reason is behind own e =
     by (end_of_fault f s (segment_fault ready s)) (by-fault f s (segment_fault ready s) (fault-other ready s) at reason is)
@@ -145,7 +145,7 @@ pub record EndsFor (opened : LinkParameters) (link : ℕ) (run : List Mark) (rea
   pub brings : Brings earlier before
   pub said : Said opened (events link Responder run) before message
 
-pub ends-for : (opened : LinkParameters) (link : ℕ) (run : List Mark) (at reason : ℕ) → IsTyped run → MatchedSoFar opened link run → IsReplyReason reason → (client opened link run).ended ≡ Some (ends.Bad at reason) → EndsFor opened link run reason
+pub ends-for : (opened : LinkParameters) (link : ℕ) (run : List Mark) (at reason : ℕ) → IsTyped run → MatchedSoFar opened link run → IsMessageReason reason → (client opened link run).ended ≡ Some (ends.Bad at reason) → EndsFor opened link run reason
 unfolding client
 ends-for opened link run at reason typed far bad e = by a.event a.is a.ends
   where

@@ -1,6 +1,6 @@
--- What a client makes of a message that it can read: an error message doesn't end it, nor does an answer whose lists suit the offer of its
--- call, and that conveys a reply of the call's xid.
-use Rattle.std.proofs.Common.{◌≡◌, ℕ, Bool, true, false, cond, eq-eqb, List, drop, Option, None, Some, Result, Ok, Err, refl, sym, ap, subst, ◌∙◌, arith, inl, inr}
+-- What a client makes of a message that it can read: an error message doesn't end it; an answer whose lists suit the offer of its call, and that
+-- conveys a reply, ends it for that reply alone, and not where that has the call's xid.
+use Rattle.std.proofs.Common.{◌≡◌, ℕ, Bool, true, false, cond, eqb, eq-eqb, List, drop, Option, None, Some, Result, Ok, Err, refl, sym, ap, subst, ◌∙◌, arith, inl, inr}
 use Rattle.nr_header.specs.declared.fault.HeaderFault.{HeaderFault}
 use Rattle.nr_header.specs.declared.fault.HeaderFault.TheVariants as faults
 use Rattle.nr_header.specs.declared.header.ChunkLists.{ChunkLists}
@@ -19,6 +19,7 @@ use Rattle.nr_reduce.specs.ClientState.{ClientState, OutstandingCall, memory_at}
 use Rattle.nr_reduce.specs.ClientMessages.{verdict, by_head, by_payload, by_lists, by_body, by_call, answered_call, by_header, reply_xid}
 use Rattle.nr_reduce.specs.ClientMessages.Verdict.{EndsLink, GivesOutcome}
 use Rattle.nr_laws.specs.EndCauses.{IsReplyReason}
+use Rattle.nr_laws.proofs.EndReasons.{IsMessageReason}
 use Rattle.nr_laws.proofs.DoneCalls.{found-xid}
 use Rattle.nr_laws.proofs.Replied.{IsErrorBody}
 use Rattle.nr_laws.proofs.Replied.IsErrorBody.{OtherVersions, NoChunks}
@@ -37,10 +38,10 @@ same-reason : (x y : ℕ) → EndsLink x ≡ EndsLink y → x ≡ y
 same-reason x y e = cc
 
 -- a reason that is none of a reply's
-other-reason : (x reason : ℕ) → (IsReplyReason x → ⊥) → IsReplyReason reason → EndsLink x ≡ EndsLink reason → ⊥
-other-reason x reason none is e = none (subst IsReplyReason (sym (same-reason x reason e)) is)
+other-reason : (x reason : ℕ) → (IsMessageReason x → ⊥) → IsMessageReason reason → EndsLink x ≡ EndsLink reason → ⊥
+other-reason x reason none is e = none (subst IsMessageReason (sym (same-reason x reason e)) is)
 
-pub judged-by : (k : ClientState) (place : ℕ) (message : List ℕ) (reason : ℕ) → IsReplyReason reason → verdict k place message ≡ EndsLink reason → JudgedBy k place message reason
+pub judged-by : (k : ClientState) (place : ℕ) (message : List ℕ) (reason : ℕ) → IsMessageReason reason → verdict k place message ≡ EndsLink reason → JudgedBy k place message reason
 unfolding verdict
 judged-by k place message reason bad e = by (header_of message) refl e
   where
@@ -74,27 +75,42 @@ head-judged xid p (Ok head) reason is e =
     let wrong : GivesOutcome xid (Some (outcomes.Reply p)) ≡ EndsLink reason = sym gives ∙ e in
     cc
 
-lists-judged : (k : ClientState) (place : ℕ) (o : OutstandingCall) (inline : Option (List ℕ)) (lists : ChunkLists) (b : Bool) (p : List ℕ) (reason : ℕ) → b ≡ true
-    → reply_conveyed o.call.prog o.call.vers o.call.proc inline lists (memory_at k place) ≡ Some p → xid_of_reply (reply_of p) ≡ Some o.xid → by_lists k place o inline lists b ≡ EndsLink reason → ⊥
-lists-judged k place o inline lists false p reason suits conveys own e = (let wrong : false ≡ true = suits in cc)
-lists-judged k place o inline lists true p reason suits conveys own e = by o.is_revoked e
-  where
-    by : (b : Bool) → cond b (GivesOutcome o.xid None) (by_payload o.xid (reply_conveyed o.call.prog o.call.vers o.call.proc inline lists (memory_at k place))) ≡ EndsLink reason → ⊥
-    by true e = cc
-    by false e = head-judged o.xid p (reply_of p) reason own (ap (λ (x : Option (List ℕ)). by_payload o.xid x) (sym conveys) ∙ e)
+pub own-reply-judged : (xid : ℕ) (p : List ℕ) (reason : ℕ) → xid_of_reply (reply_of p) ≡ Some xid → by_payload xid (Some p) ≡ EndsLink reason → ⊥
+own-reply-judged xid p reason is e = head-judged xid p (reply_of p) reason is e
 
--- The lists of the message are `back`, its stream is there unless it is in the reply chunk, and the reply that they convey has the call's xid.
+-- a reply that is there ends it for its head or its xid
+pub reply-judged : (xid : ℕ) (p : List ℕ) (reason : ℕ) → by_payload xid (Some p) ≡ EndsLink reason → IsReplyReason reason
+reply-judged xid p reason e = by (reply_of p) e
+  where
+    by : (r : Result ReplyHead ℕ) → by_head xid p r ≡ EndsLink reason → IsReplyReason reason
+    by (Err at) e = inl (sym (same-reason 18 reason e))
+    by (Ok head) e = by_xid (eqb (reply_xid head) xid) e
+      where
+        by_xid : (b : Bool) → cond b (GivesOutcome xid (Some (outcomes.Reply p))) (EndsLink 19) ≡ EndsLink reason → IsReplyReason reason
+        by_xid true e = absurd cc
+        by_xid false e = inr (sym (same-reason 19 reason e))
+
+lists-judged : (k : ClientState) (place : ℕ) (o : OutstandingCall) (inline : Option (List ℕ)) (lists : ChunkLists) (b : Bool) (p : List ℕ) (reason : ℕ) → b ≡ true
+    → reply_conveyed o.call.prog o.call.vers o.call.proc inline lists (memory_at k place) ≡ Some p → by_lists k place o inline lists b ≡ EndsLink reason → by_payload o.xid (Some p) ≡ EndsLink reason
+lists-judged k place o inline lists false p reason suits conveys e = absurd (let wrong : false ≡ true = suits in cc)
+lists-judged k place o inline lists true p reason suits conveys e = by o.is_revoked e
+  where
+    by : (b : Bool) → cond b (GivesOutcome o.xid None) (by_payload o.xid (reply_conveyed o.call.prog o.call.vers o.call.proc inline lists (memory_at k place))) ≡ EndsLink reason → by_payload o.xid (Some p) ≡ EndsLink reason
+    by true e = absurd cc
+    by false e = ap (λ (x : Option (List ℕ)). by_payload o.xid x) (sym conveys) ∙ e
+
+-- The lists of the message are `back`, its stream is there unless it is in the reply chunk, and they convey a reply: only the reply may end it.
 pub answer-judged : (k : ClientState) (place : ℕ) (o : OutstandingCall) (m : List ℕ) (b : Body) (long : Bool) (stream : List ℕ) (back : ChunkLists) (p : List ℕ) (reason : ℕ)
     → lists_by b ≡ back → inline_by m b ≡ cond long None (Some stream) → answers_offer long (lists_of o.stag o.plan) back ≡ true
-    → reply_conveyed o.call.prog o.call.vers o.call.proc (cond long None (Some stream)) back (memory_at k place) ≡ Some p → xid_of_reply (reply_of p) ≡ Some o.xid
-    → by_body k place o m b ≡ EndsLink reason → ⊥
-answer-judged k place o m (ErrVers version low high) long stream back p reason lists inline suits conveys own e = cc
-answer-judged k place o m (ErrChunk version) long stream back p reason lists inline suits conveys own e = cc
-answer-judged k place o m (Msg ls at) true stream back p reason lists inline suits conveys own e = (let wrong : Some (drop at m) ≡ None = inline in cc)
-answer-judged k place o m (Msg ls at) false stream back p reason lists inline suits conveys own e =
+    → reply_conveyed o.call.prog o.call.vers o.call.proc (cond long None (Some stream)) back (memory_at k place) ≡ Some p
+    → by_body k place o m b ≡ EndsLink reason → by_payload o.xid (Some p) ≡ EndsLink reason
+answer-judged k place o m (ErrVers version low high) long stream back p reason lists inline suits conveys e = absurd cc
+answer-judged k place o m (ErrChunk version) long stream back p reason lists inline suits conveys e = absurd cc
+answer-judged k place o m (Msg ls at) true stream back p reason lists inline suits conveys e = absurd (let wrong : Some (drop at m) ≡ None = inline in cc)
+answer-judged k place o m (Msg ls at) false stream back p reason lists inline suits conveys e =
     lists-judged k place o (Some (drop at m)) ls (answers_offer false (lists_of o.stag o.plan) ls) p reason (ap (λ (l : ChunkLists). answers_offer false (lists_of o.stag o.plan) l) lists ∙ suits)
-    ((λ i. reply_conveyed o.call.prog o.call.vers o.call.proc (inline i) (lists i) (memory_at k place)) ∙ conveys) own e
-answer-judged k place o m (Nomsg ls) true stream back p reason lists inline suits conveys own e =
+    ((λ i. reply_conveyed o.call.prog o.call.vers o.call.proc (inline i) (lists i) (memory_at k place)) ∙ conveys) e
+answer-judged k place o m (Nomsg ls) true stream back p reason lists inline suits conveys e =
     lists-judged k place o None ls (answers_offer true (lists_of o.stag o.plan) ls) p reason (ap (λ (l : ChunkLists). answers_offer true (lists_of o.stag o.plan) l) lists ∙ suits)
-    (ap (λ (l : ChunkLists). reply_conveyed o.call.prog o.call.vers o.call.proc None l (memory_at k place)) lists ∙ conveys) own e
-answer-judged k place o m (Nomsg ls) false stream back p reason lists inline suits conveys own e = (let wrong : None ≡ Some stream = inline in cc)
+    (ap (λ (l : ChunkLists). reply_conveyed o.call.prog o.call.vers o.call.proc None l (memory_at k place)) lists ∙ conveys) e
+answer-judged k place o m (Nomsg ls) false stream back p reason lists inline suits conveys e = absurd (let wrong : None ≡ Some stream = inline in cc)

@@ -173,3 +173,8 @@ pub mod Basics
 pub mod EachEffect
 pub mod EachFault
 pub mod MadePending
+pub mod EndReasons
+pub mod SendRegions
+pub mod LiveRegions
+pub mod ClosedRegions
+pub mod AddedRegions

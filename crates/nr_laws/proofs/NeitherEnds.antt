@@ -23,12 +23,11 @@ use Rattle.nr_laws.specs.PlainLinks.{server_with, PlainlyOn, PlainOnMark}
 use Rattle.nr_laws.specs.Stays.{NotRevokedMark, HasNoRevoke, ConveyedMark, AreConveyedOrRefused, MatchedLinksStay, MatchedCallsComplete, NoAccessIsDenied, ClientsStay}
 use Rattle.nr_laws.specs.Typed.{TypedMark, IsTyped}
 use Rattle.nr_laws.proofs.AgreeingRuns.{other-events}
-use Rattle.nr_laws.proofs.FirstEnds.{client-ends-for-replies}
 use Rattle.nr_laws.proofs.LawsBefore.{laws-kept-before}
 use Rattle.nr_laws.proofs.LawsSoFar.{laws-so-far}
 use Rattle.nr_laws.proofs.NotDenied.{client-not-denied}
 use Rattle.nr_laws.proofs.ReadCalls.{server-stays}
-use Rattle.nr_laws.proofs.ReadReplies.{client-reads-replies}
+use Rattle.nr_laws.proofs.ReadReplies.{client-reads-replies, client-ends-for-replies}
 use Rattle.nr_laws.proofs.SettledLinks.{calls-complete}
 use Rattle.nr_laws.proofs.Basics.{none-some}
 

@@ -32,7 +32,8 @@ use Rattle.nr_reduce.specs.Matched.{IsPrefixOf}
 use Rattle.nr_reduce.proofs.OwnStags.{AreNumbered, client-numbers}
 use Rattle.nr_laws.specs.Typed.{TypedMark, IsTyped}
 use Rattle.nr_laws.specs.Stays.{NotRevokedMark, HasNoRevoke}
-use Rattle.nr_laws.specs.EndCauses.{KeepLaws, IsReplyEnd}
+use Rattle.nr_laws.specs.EndCauses.{KeepLaws}
+use Rattle.nr_laws.proofs.EndReasons.{EndsForMessage}
 use Rattle.nr_laws.specs.FrameContents.{FrameContent, numbered_segment, frame_bytes, total_of, sends_in, requests_in, Carries}
 use Rattle.nr_laws.specs.FrameContents.FrameContent.{HelloFrame, SendFrame, RequestFrame, TaggedFrame}
 use Rattle.nr_laws.specs.LinkInvariants.{Transit}
@@ -103,7 +104,7 @@ frame-allowed opened k s u (q ∷ d) all_up all_down w up p rest n r place at l 
     (front-piece_down opened k s u q d all_up all_down w p rest n r place l first sends requests is) lt h own
 
 -- so it doesn't end the client
-not-lacking : (k : ClientState) (f : Frame) (stag offset : ℕ) (why : Denied) → (is_hello f ≡ false → LacksNothing k f) → IsReplyEnd (ends.Denied stag offset why) ⊎ LacksAccess k f (ends.Denied stag offset why) → ⊥
+not-lacking : (k : ClientState) (f : Frame) (stag offset : ℕ) (why : Denied) → (is_hello f ≡ false → LacksNothing k f) → EndsForMessage (ends.Denied stag offset why) ⊎ LacksAccess k f (ends.Denied stag offset why) → ⊥
 not-lacking k f stag offset why allowed (inl (at, reason, is, own)) = cc
 not-lacking k f stag offset why allowed (inr h) = (let wrong : None ≡ Some h.why = sym (allowed h.behind h.segment h.is_segment) ∙ h.lacks in cc)
 

@@ -24,7 +24,7 @@ use Rattle.nr_link.specs.ReceiveState.{ReadRequest, message_completed, read_requ
 use Rattle.nr_reduce.specs.OfferedRegions.{until_at}
 use Rattle.nr_reduce.specs.ClientState.{OutstandingCall}
 use Rattle.nr_reduce.specs.Client.{with_message, with_request, revoked_call, written_call}
-use Rattle.nr_laws.specs.PlacedBytes.{IsChunkOfCall, RegionsAreChunks, LiveRegionsAreOfOutstanding}
+use Rattle.nr_laws.specs.PlacedBytes.{IsChunkOfCall, ClientRegionsAreChunks, LiveClientRegionsAreOutstanding}
 use Rattle.nr_laws.proofs.Revoked.{frame-regions}
 
 abbrev AllOf : (Region → Type 0) → List Region → Type 0
@@ -121,9 +121,9 @@ all-events opened front (e ∷ es) h =
     let one = subst (λ (r : EndState ClientState). AllOf (IsChunkOfCall opened (front ++ e ∷ [])) r.state.regions) (sym (end_state_after-append (client_rules opened) (initial_client opened) front (e ∷ []))) (one-event opened front e h) in
     subst (λ (xs : List Event). AllOf (IsChunkOfCall opened xs) (state_at opened xs).state.regions) (append_assoc front (e ∷ []) es) (all-events opened (front ++ e ∷ []) es one)
 
-pub regions_are_chunks : RegionsAreChunks
+pub client_regions_are_chunks : ClientRegionsAreChunks
 unfolding client
-regions_are_chunks opened link run r there =
+client_regions_are_chunks opened link run r there =
     all-at (IsChunkOfCall opened (events link Initiator run)) there.0 _ r (all-events opened [] (events link Initiator run) tt) there.1 there.2
 
 -- ---- Until when they live
@@ -224,8 +224,8 @@ of-outstanding xid [] h = absurd h
 of-outstanding xid (o ∷ os) (inl h) = (o, ((zero, omega (arith), refl), h))
 of-outstanding xid (o ∷ os) (inr h) = (let m = of-outstanding xid os h in (m.0, ((suc m.1.0.0, (let lt = m.1.0.1 in omega (arith, lt)), m.1.0.2), m.1.1)))
 
-pub live_regions_are_of_outstanding : LiveRegionsAreOfOutstanding
-live_regions_are_of_outstanding opened link run earlier later r is there none =
+pub live_client_regions_are_outstanding : LiveClientRegionsAreOutstanding
+live_client_regions_are_outstanding opened link run earlier later r is there none =
     let k : ClientState = (state_at opened earlier).state in
     let all : AllLive k = kept-after (client_rules opened) AllLive (lives-after opened) (initial_client opened) earlier tt in
     let m = of-outstanding r.call k.outstanding (all-at (Lives k.outstanding) there.0 k.regions r all there.1 there.2 none) in

@@ -4,14 +4,14 @@ use Rattle.nr_wire.specs.Segment.{Segment}
 use Rattle.nr_regions.specs.declared.denied.Denied.{Denied}
 use Rattle.nr_link.specs.Reasons.{REASON_MSN, REASON_OFFSET, REASON_FORM, REASON_RESPONSE, REASON_REQUESTS, REASON_SHORT, REASON_LONG}
 use Rattle.nr_link.specs.SegmentFaults.{Readiness, SegmentFault, segment_fault}
-use Rattle.nr_laws.specs.EndCauses.{IsReplyReason}
+use Rattle.nr_laws.proofs.EndReasons.{IsMessageReason}
 use Rattle.nr_laws.proofs.EachFault.{OfReason, each-fault}
 
 -- a reason that is none of a reply's
 abbrev Apart : ℕ → Type 0
-Apart reason = IsReplyReason reason → ⊥
+Apart reason = IsMessageReason reason → ⊥
 
-pub apart : (reason : ℕ) → (reason < 18) ⊎ ((reason ≡ 20) ⊎ (21 < reason)) → IsReplyReason reason → ⊥
+pub apart : (reason : ℕ) → (reason < 18) ⊎ ((reason ≡ 20) ⊎ (21 < reason)) → IsMessageReason reason → ⊥
 apart reason (inl lt) (inl e) = omega (arith, lt, e)
 apart reason (inl lt) (inr (inl e)) = omega (arith, lt, e)
 apart reason (inl lt) (inr (inr e)) = omega (arith, lt, e)

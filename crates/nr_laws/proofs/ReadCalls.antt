@@ -27,7 +27,7 @@ use Rattle.nr_reduce.specs.ServerFrames.{with_access}
 use Rattle.nr_reduce.specs.Server.{readiness}
 use Rattle.nr_reduce.specs.Run.{end_of_side}
 use Rattle.nr_reduce.specs.RunLaws.{server_by, ends_response}
-use Rattle.nr_laws.specs.EndCauses.{KeepLaws, IsCallReason, IsCallEnd}
+use Rattle.nr_laws.specs.EndCauses.{KeepLaws, ServerEndsForCalls}
 use Rattle.nr_link.specs.Reasons.{REASON_HEAD, REASON_XID}
 use Rattle.nr_laws.specs.MatchedSoFar.{MatchedSoFar}
 use Rattle.nr_laws.specs.Payloads.{form_conveyed}
@@ -37,7 +37,8 @@ use Rattle.nr_laws.specs.Typed.{IsTyped}
 use Rattle.nr_laws.proofs.CallEnds.{RefusedAt, refused-at}
 use Rattle.nr_laws.proofs.CallRefusals.{RefusedBy}
 use Rattle.nr_laws.proofs.CallRefusals.RefusedBy.{AtMessage, AtRead}
-use Rattle.nr_laws.proofs.FirstEnds.{server-ends-for-calls}
+use Rattle.nr_laws.proofs.EndReasons.{IsCallReason, EndsForCall}
+use Rattle.nr_laws.proofs.FirstEnds.{first-server-end}
 use Rattle.nr_laws.proofs.JudgedCalls.{conveyed-ready, conveyed-head-there}
 use Rattle.nr_laws.proofs.LawsSoFar.{laws-so-far}
 use Rattle.nr_laws.proofs.OnceByXid.{at-mark}
@@ -103,11 +104,10 @@ own-xid opened link run typed c o x e =
     conveyed-ready w.xid w.call w.form c REASON_XID (omega (arith, small)) (submit_typed opened link run typed w).2 w.accepted.writable (submit_typed opened link run typed w).0 (x.xid ∙ submit_xid opened link run typed w) o x.conveyed (head-there c o e) e
 
 -- so a server that ends first ends for a payload without a call head
-pub server-ends-for-heads : (opened : LinkParameters) (link : ℕ) (run : List Mark) → IsOpened opened → IsTyped run → KeepLaws opened link run → end_of_side opened link Initiator run ≡ None
-    → (end : End) → end_of_side opened link Responder run ≡ Some end → (at : ℕ) × (end ≡ ends.Bad at REASON_HEAD)
+pub server-ends-for-calls : ServerEndsForCalls
 unfolding end_of_side
-server-ends-for-heads opened link run opens typed laws up end down =
-    let c : IsCallEnd end = server-ends-for-calls opened link run opens typed laws up end down in
+server-ends-for-calls opened link run opens typed laws up end down =
+    let c : EndsForCall end = first-server-end opened link run opens typed laws up end down in
     (c.0, c.2 ∙ ap (λ (n : ℕ). ends.Bad c.0 n) (by c.0 c.1 c.3 (down ∙ ap (λ (x : End). Some x) c.2)))
   where
     by : (at reason : ℕ) → IsCallReason reason → end_of_side opened link Responder run ≡ Some (ends.Bad at reason) → reason ≡ REASON_HEAD
@@ -121,6 +121,6 @@ pub server-stays : (opened : LinkParameters) (link : ℕ) (run : List Mark) → 
     → (end : End) → end_of_side opened link Responder run ≡ Some end → ⊥
 unfolding end_of_side
 server-stays opened link run opens typed laws conveyed up end down =
-    let c : IsCallEnd end = server-ends-for-calls opened link run opens typed laws up end down in
+    let c : EndsForCall end = first-server-end opened link run opens typed laws up end down in
     let far = laws-so-far opened link run laws.client laws.server laws.matched in
     not-refused opened link run c.1 typed far (λ p o x e. conveyed-refuses opened link run typed conveyed p c.1 o x e) (refused-at opened link run typed far c.0 c.1 c.3 (down ∙ ap (λ (x : End). Some x) c.2))

@@ -19,7 +19,7 @@ use Rattle.nr_laws.specs.FrameContents.{FrameContent, numbered_segment, frame_by
 use Rattle.nr_laws.specs.LinkInvariants.{Transit}
 use Rattle.nr_laws.proofs.Totals.{total-append}
 use Rattle.nr_laws.proofs.StreamFrames.{frames_at, spelled-append}
-use Rattle.nr_laws.specs.EndCauses.{IsCallEnd}
+use Rattle.nr_laws.proofs.EndReasons.{EndsForCall}
 use Rattle.nr_laws.proofs.Guards.{Guards}
 use Rattle.nr_laws.proofs.ServerStep.{step-up}
 use Rattle.nr_laws.proofs.AgreeingEnds.{EndsAgree, IsPlace, frame_of, taken_up, server-took}
@@ -147,7 +147,7 @@ ends-first rules s event es end Lasting e = record { first = λ now later. by no
 
 pub server-ends : (opened : LinkParameters) (k : ClientState) (d all_up left : List FrameContent) (o : IsOpened opened) (end : End) (new : List FrameContent) (s : ServerState) (u all_down : List FrameContent) (w : Transit) (n r place : ℕ) → EndsAgree opened k s u d all_up all_down w → Guards opened k s u d all_up all_down w place → w.up ≡ new ++ left
     → n ≡ total_of sends_in u → r ≡ total_of requests_in u → IsPlace u place → IsBytes (concat (frames_at Initiator n r new)) → AreSome (frames_at Initiator n r new)
-    → (end_state_after (server_rules opened) (live s) (events_of place (frames_at Initiator n r new))).ended ≡ Some end → IsCallEnd end
+    → (end_state_after (server_rules opened) (live s) (events_of place (frames_at Initiator n r new))).ended ≡ Some end → EndsForCall end
 server-ends opened k d all_up left o end [] s u all_down w n r place l g first sends requests at bytes some e = absurd (let wrong : None ≡ Some end = e in cc)
 server-ends opened k d all_up left o end (p ∷ new) s u all_down w n r place l g first sends requests at bytes some e =
     let rules = server_rules opened in
@@ -156,7 +156,7 @@ server-ends opened k d all_up left o end (p ∷ new) s u all_down w n r place l 
     let event = FrameReceived (frame_of frame place) in
     let es = events_of (place + length frame) later in
     let step = step-up opened k s u d all_up all_down w p (new ++ left) n r place o l g first sends requests at (IsBytes-left frame (concat later) bytes) some.0 in
-    (ends-first rules s event es end (IsCallEnd end) e).first (λ now. step.only end now)
+    (ends-first rules s event es end (EndsForCall end) e).first (λ now. step.only end now)
     (λ stays rest.
     let t = server-took opened k s u d all_up all_down w p (new ++ left) n r place l first sends requests at (IsBytes-left frame (concat later) bytes) stays in
     let after = server_state_after opened s event in

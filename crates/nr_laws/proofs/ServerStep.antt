@@ -41,7 +41,7 @@ use Rattle.nr_reduce.specs.ServerMessages.CallVerdict.{Refuses, IsReady}
 use Rattle.nr_reduce.specs.ServerMessages.Verdict.{EndsLink, OtherVersion, BadChunks, MakesPending}
 use Rattle.nr_reduce.specs.ServerFrames.{FrameEffect, with_verdict, frame_effect}
 use Rattle.nr_reduce.specs.Server.{server_end, server_state_after, readiness, or_refusal, refusal_end}
-use Rattle.nr_laws.specs.EndCauses.{IsCallReason, IsCallEnd}
+use Rattle.nr_laws.proofs.EndReasons.{IsCallReason, EndsForCall}
 use Rattle.nr_laws.specs.FrameContents.{FrameContent, numbered_segment, frame_bytes, total_of, sends_in, requests_in, server_frames, Carries}
 use Rattle.nr_laws.specs.FrameContents.FrameContent.{HelloFrame, SendFrame, RequestFrame, TaggedFrame}
 use Rattle.nr_laws.specs.LinkInvariants.{Transit}
@@ -137,14 +137,14 @@ refused-send k f message none kind again room bytes one is =
       pending = λ place message c h is. tt;
     }) f message none (reason-verdict k message kind again room bytes one) is
 
-call-end : (f : Frame) (refusal : Option ℕ) (end : End) → Refusal refusal → refusal_end f refusal ≡ Some end → IsCallEnd end
+call-end : (f : Frame) (refusal : Option ℕ) (end : End) → Refusal refusal → refusal_end f refusal ≡ Some end → EndsForCall end
 call-end f None end h e = absurd cc
 call-end f (Some reason) end h e = (f.at, reason, cc, h)
 
 -- ---- The frame of a frame
 
 pub record ServerStep (opened : LinkParameters) (k : ClientState) (s : ServerState) (u d all_up all_down : List FrameContent) (w : Transit) (p : FrameContent) (rest : List FrameContent) (f : Frame) : Type 0 where
-  pub only : (end : End) → server_end opened s (FrameReceived f) ≡ Some end → IsCallEnd end
+  pub only : (end : End) → server_end opened s (FrameReceived f) ≡ Some end → EndsForCall end
   pub kept : server_end opened s (FrameReceived f) ≡ None → Guards opened k (server_state_after opened s (FrameReceived f)) (u ++ p ∷ []) d all_up (all_down ++ server_frames opened s (FrameReceived f)) (taken_up w rest (server_frames opened s (FrameReceived f))) f.end
 
 by-takes : (opened : LinkParameters) (k : ClientState) (s : ServerState) (u d all_up all_down : List FrameContent) (w : Transit) (p : FrameContent) (rest : List FrameContent) (f : Frame) → Refusal (frame_effect s f).refusal → ServerTakes opened k s u d all_up all_down w p rest f → ServerStep opened k s u d all_up all_down w p rest f

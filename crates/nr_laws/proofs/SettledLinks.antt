@@ -180,8 +180,9 @@ handed-over opened link run none a kept some =
 pub calls-complete : CallsComplete
 unfolding end_of_side calls_outstanding
 calls-complete opened link run typed asked served matched settled =
-    let none = none-outstanding opened link run typed asked served matched settled in (
-      ap (λ (os : List OutstandingCall). length os) none,
-      (λ a kept. some-outcome (client opened link run).state.outcomes a.xid (outcome-of opened link run settled.client_stays none a kept)),
-      (λ due a kept. some-outcome (completed_calls link run) a.xid (handed-over opened link run due a kept (outcome-of opened link run settled.client_stays none a kept))),
-    )
+    let none = none-outstanding opened link run typed asked served matched settled in
+    record {
+      none_outstanding = ap (λ (os : List OutstandingCall). length os) none;
+      has_outcome = λ a kept. some-outcome (client opened link run).state.outcomes a.xid (outcome-of opened link run settled.client_stays none a kept);
+      has_done = λ due a kept. some-outcome (completed_calls link run) a.xid (handed-over opened link run due a kept (outcome-of opened link run settled.client_stays none a kept));
+    }

@@ -37,12 +37,10 @@ HasOutcome calls xid = (outcome : Outcome) × Contains calls (record { xid = xid
 
 -- No call is outstanding: a message of each accepted call was received. It brought an outcome of each that wasn't given up; and once all
 -- outcomes that are due are handed over, each of these has its Done.
-abbrev pub HaveCompleted : LinkParameters → ℕ → List Mark → Type 0
-HaveCompleted opened link run =
-    (calls_outstanding opened link run ≡ 0)
-    × ((a : AcceptedCall) → IsKept link run a → HasOutcome (client opened link run).state.outcomes a.xid)
-    × (outcomes_due opened link run ≡ [] → (a : AcceptedCall) → IsKept link run a → HasOutcome (completed_calls link run) a.xid)
+pub record HaveCompleted (opened : LinkParameters) (link : ℕ) (run : List Mark) : Type 0 where
+  pub none_outstanding : calls_outstanding opened link run ≡ 0
+  pub has_outcome : (a : AcceptedCall) → IsKept link run a → HasOutcome (client opened link run).state.outcomes a.xid
+  pub has_done : outcomes_due opened link run ≡ [] → (a : AcceptedCall) → IsKept link run a → HasOutcome (completed_calls link run) a.xid
 
--- On a matched link where nothing is left to do, all calls have completed.
 abbrev pub CallsComplete : Type 0
 CallsComplete = (opened : LinkParameters) (link : ℕ) (run : List Mark) → IsTyped run → Asked opened link run → Served opened link run → Matched link run → IsSettled opened link run → HaveCompleted opened link run

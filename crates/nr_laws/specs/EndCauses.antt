@@ -4,7 +4,7 @@ use Rattle.nr_wire.specs.declared.hello.Side.TheVariants.{Initiator, Responder}
 use Rattle.nr_regions.specs.declared.denied.Denied.{Denied}
 use Rattle.nr_link.specs.declared.end.End.{End}
 use Rattle.nr_link.specs.declared.end.End.TheVariants as ends
-use Rattle.nr_link.specs.Reasons.{REASON_HEAD, REASON_XID, REASON_CHUNKS}
+use Rattle.nr_link.specs.Reasons.{REASON_HEAD, REASON_XID}
 use Rattle.nr_reduce.specs.declared.mark.Mark.{Mark}
 use Rattle.nr_reduce.specs.declared.mark.LinkParameters.{LinkParameters}
 use Rattle.nr_reduce.specs.Opening.{IsOpened}
@@ -27,17 +27,13 @@ pub record KeepLaws (opened : LinkParameters) (link : ℕ) (run : List Mark) : T
 abbrev pub LawsKeptBefore : Type 0
 LawsKeptBefore = (opened : LinkParameters) (link : ℕ) (run more : List Mark) → KeepLaws opened link (run ++ more) → KeepLaws opened link run
 
--- what a server makes of a call may end it for these reasons: a payload without an RPC call head, a head with another xid
-abbrev pub IsCallReason : ℕ → Type 0
-IsCallReason reason = (reason ≡ REASON_HEAD) ⊎ (reason ≡ REASON_XID)
-
+-- what a server makes of a call may end it for one reason: a payload without an RPC call head
 abbrev pub IsCallEnd : End → Type 0
-IsCallEnd end = (at : ℕ) × (reason : ℕ) × (end ≡ ends.Bad at reason) × IsCallReason reason
+IsCallEnd end = (at : ℕ) × (end ≡ ends.Bad at REASON_HEAD)
 
--- what a client makes of a message may end it for these: lists that weren't offered, a payload without an RPC reply head, a head with
--- another xid
+-- what a client makes of a message may end it for these: a payload without an RPC reply head, a head with another xid
 abbrev pub IsReplyReason : ℕ → Type 0
-IsReplyReason reason = (reason ≡ REASON_CHUNKS) ⊎ ((reason ≡ REASON_HEAD) ⊎ (reason ≡ REASON_XID))
+IsReplyReason reason = (reason ≡ REASON_HEAD) ⊎ (reason ≡ REASON_XID)
 
 abbrev pub IsReplyEnd : End → Type 0
 IsReplyEnd end = (at : ℕ) × (reason : ℕ) × (end ≡ ends.Bad at reason) × IsReplyReason reason
@@ -46,16 +42,16 @@ IsReplyEnd end = (at : ℕ) × (reason : ℕ) × (end ≡ ends.Bad at reason) ×
 abbrev pub IsDenied : End → Type 0
 IsDenied end = (stag : ℕ) × (offset : ℕ) × (why : Denied) × (end ≡ ends.Denied stag offset why)
 
--- On a matched link whose client hasn't ended, the server ends only for what it makes of a call: no segment of the client breaks a rule
--- of the link, finds no receive, or is denied by the server's memory; each message is of a kind that a client sends, and none has the
--- xid of a call that is pending.
+-- On a matched link whose client hasn't ended, the server ends only where a call conveys a payload without an RPC call head: no segment of
+-- the client breaks a rule of the link, finds no receive, or is denied by the server's memory; each message is of a kind that a client sends,
+-- none has the xid of a call that is pending, and a payload with a head has the xid of its message.
 abbrev pub ServerEndsForCalls : Type 0
 ServerEndsForCalls = (opened : LinkParameters) (link : ℕ) (run : List Mark) → IsOpened opened → IsTyped run → KeepLaws opened link run →
     end_of_side opened link Initiator run ≡ None → (end : End) → end_of_side opened link Responder run ≡ Some end → IsCallEnd end
 
--- On a matched link whose server hasn't ended, the client ends only for what it makes of a message, or for an access that its memory
--- denies: no segment of the server breaks a rule of the link, each message can be read, and it answers a call that is outstanding and
--- whose Send is written.
+-- On a matched link whose server hasn't ended, the client ends only for what a reply is, or for an access that its memory denies: no segment
+-- of the server breaks a rule of the link, each message can be read, it answers a call that is outstanding and whose Send is written, and
+-- its lists suit what that call offered.
 abbrev pub ClientEndsForReplies : Type 0
 ClientEndsForReplies = (opened : LinkParameters) (link : ℕ) (run : List Mark) → IsOpened opened → IsTyped run → KeepLaws opened link run →
     end_of_side opened link Responder run ≡ None → (end : End) → end_of_side opened link Initiator run ≡ Some end → IsReplyEnd end ⊎ IsDenied end

@@ -18,3 +18,4 @@ pub mod ChunkOutcomes
 pub mod PlacedBytes
 pub mod RefusedMessages
 pub mod PlainLinks
+pub mod ServerRegions

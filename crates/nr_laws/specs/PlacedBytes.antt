@@ -103,8 +103,8 @@ pub record IsChunkOfCall (opened : LinkParameters) (received : List Event) (r : 
   pub chunk : (let k : ClientState = (end_state_after (client_rules opened) (initial_client opened) earlier).state in
       Contains (map (region_of call.xid place) (buffers k.stag (outstanding_of k call).plan)) (record r { until = None }))
 
-abbrev pub RegionsAreChunks : Type 0
-RegionsAreChunks = (opened : LinkParameters) (link : ℕ) (run : List Mark) (r : Region) → Contains (client opened link run).state.regions r → IsChunkOfCall opened (events link Initiator run) r
+abbrev pub ClientRegionsAreChunks : Type 0
+ClientRegionsAreChunks = (opened : LinkParameters) (link : ℕ) (run : List Mark) (r : Region) → Contains (client opened link run).state.regions r → IsChunkOfCall opened (events link Initiator run) r
 
 -- A region of a client lives only while its call is outstanding and its memory isn't taken back: with the message of its call it is closed, and
 -- with a Revoke.
@@ -114,7 +114,7 @@ pub record IsOfOutstanding (k : ClientState) (xid : ℕ) : Type 0 where
   pub own : call.xid ≡ xid
   pub kept : call.is_revoked ≡ false
 
-abbrev pub LiveRegionsAreOfOutstanding : Type 0
-LiveRegionsAreOfOutstanding = (opened : LinkParameters) (link : ℕ) (run : List Mark) (earlier later : List Event) (r : Region) → events link Initiator run ≡ earlier ++ later →
+abbrev pub LiveClientRegionsAreOutstanding : Type 0
+LiveClientRegionsAreOutstanding = (opened : LinkParameters) (link : ℕ) (run : List Mark) (earlier later : List Event) (r : Region) → events link Initiator run ≡ earlier ++ later →
     (let k : ClientState = (end_state_after (client_rules opened) (initial_client opened) earlier).state in
     Contains k.regions r → r.until ≡ None → IsOfOutstanding k r.call)

@@ -12,13 +12,14 @@ pub fn calls_complete()
     ensures { CallsComplete }
 {}
 
-/// Of a matched link that was opened with numbers and credits in range, the side that ends first ends for what the payload of
-/// a message is: a server where it has no RPC call head (RFC 5531 section 9) or one with another xid; a client where it has no
-/// such reply head, another xid, or chunks that aren't those offered, or where an access to its memory is denied. Up to that end
+/// Of a matched link that was opened with numbers and credits in range, and where each side wrote all its output whenever it wrote, the side
+/// that ends first ends for what the payload of a message is: a server where it has no RPC call head (RFC 5531 section 9); a client
+/// where it has no such reply head, or one with another xid, or where an access to its memory is denied. Up to that end
 /// no segment of either side breaks a rule of the link (RFC 5041 section 7; RFC 5040 section 7): its message number and offset, its form and
 /// its length are right, a Send finds a receive, a Read Response is expected and reaches a sink, and no side has more Read
-/// Requests open than it may. A server has an STag for each read chunk. Each message of the server has a header that can be read
-/// (RFC 8166 section 4), and answers a call that is outstanding.
+/// Requests open than it may. A server has an STag for each read chunk, and a call head has the xid of its message. Each message of the
+/// server has a header that can be read (RFC 8166 section 4), answers a call that is outstanding, and has chunks that suit what
+/// that call offered.
 pub fn segments_keep_the_rules()
     ensures server { ServerEndsForCalls }
     ensures client { ClientEndsForReplies }
@@ -26,11 +27,11 @@ pub fn segments_keep_the_rules()
     ensures before { LawsKeptBefore }
 {}
 
-/// Neither side of a matched link ends that was opened with numbers and credits in range, where each side wrote all its output whenever it
-/// wrote; no memory of a call is taken back; each offer that is given conveys a payload with an RPC call head (RFC 5531 section 9), or its
-/// message is refused by ERR_CHUNK (RFC 8166 section 4.5); and calls are answered as a plain server answers, each of whose replies has the
-/// head of a reply to its call and fits. So where nothing waits on such a link, all its calls have completed. A mark that the link was
-/// dropped changes nothing here.
+/// On a matched link that was opened with numbers and credits in range, where each side wrote all its output whenever it wrote; no memory
+/// of a call is taken back; each offer that is given conveys a payload with an RPC call head (RFC 5531 section 9), or its message is
+/// refused by ERR_CHUNK (RFC 8166 section 4.5); and calls are answered as a plain server answers, each of whose replies has the head of
+/// a reply to its call and fits: neither side ends. So where nothing waits on such a link, all its calls have completed. A mark that
+/// the link was dropped changes nothing here.
 pub fn matched_links_stay()
     ensures stays { MatchedLinksStay }
     ensures allowed { NoAccessIsDenied }

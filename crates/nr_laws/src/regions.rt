@@ -1,14 +1,27 @@
 //! What the sides of a link offer, and what becomes of it.
 
-ghost use Rattle.nr_laws.specs.PlacedBytes.{ClientBytesAreAllowed, ServerBytesAreAllowed, ReadsAreAllowed, NothingElseIsDisclosed, RegionsAreChunks, LiveRegionsAreOfOutstanding};
+ghost use Rattle.nr_laws.specs.PlacedBytes.{ClientBytesAreAllowed, ServerBytesAreAllowed, ReadsAreAllowed, NothingElseIsDisclosed, ClientRegionsAreChunks, LiveClientRegionsAreOutstanding};
+ghost use Rattle.nr_laws.specs.ServerRegions.{ServerRegionsAreChunks, SendsAddChunks, NothingElseAddsRegions, ClosedRegionsStay, LiveServerRegionsAreRead, ServerRegionsCloseWhenRead};
 
-/// On every link, whatever the peer sends. Each region of a client is a chunk of an accepted call (RFC 8166 section 3.4), and lives only while
-/// that call is outstanding and its memory isn't taken back. Each byte of a region is the one that was registered, or that of an allowed segment. A
-/// Read Request is answered with just the bytes of a region that it is allowed to read, and nothing else that a client writes is read from its
-/// regions.
+/// Which regions a side offers, and how long, whatever the peer sends. Each region of a client is a chunk of an accepted call (RFC 8166
+/// section 3.4), and lives only while that call is outstanding and its memory isn't taken back. Each region of a server is a read chunk with
+/// bytes of a call that its Send made pending (RFC 8166 section 3.4.5); each such chunk has one, which is closed once, where nothing is left to be read
+/// for it.
+pub fn offered_regions()
+    ensures client_chunks { ClientRegionsAreChunks }
+    ensures client_live { LiveClientRegionsAreOutstanding }
+    ensures server_chunks { ServerRegionsAreChunks }
+    ensures sends { SendsAddChunks }
+    ensures nothing_else { NothingElseAddsRegions }
+    ensures server_live { LiveServerRegionsAreRead }
+    ensures server_closed { ServerRegionsCloseWhenRead }
+    ensures closed_stay { ClosedRegionsStay }
+{}
+
+/// What regions hold, and what of them is disclosed, whatever the peer sends. Each byte of a region is the one that was registered, or that of
+/// an allowed segment. A Read Request is answered with just the bytes of a region that it is allowed to read, and nothing else that a client
+/// writes is read from its regions.
 pub fn offered_memory()
-    ensures chunks { RegionsAreChunks }
-    ensures live { LiveRegionsAreOfOutstanding }
     ensures client_bytes { ClientBytesAreAllowed }
     ensures server_bytes { ServerBytesAreAllowed }
     ensures reads { ReadsAreAllowed }

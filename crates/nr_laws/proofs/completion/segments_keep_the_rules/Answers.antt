@@ -1,5 +1,6 @@
 use Rattle.nr_laws.proofs.LawsBefore.{laws-kept-before}
-use Rattle.nr_laws.proofs.FirstEnds.{server-ends-for-calls, client-ends-for-replies}
+use Rattle.nr_laws.proofs.ReadCalls.{server-ends-for-calls}
+use Rattle.nr_laws.proofs.ReadReplies.{client-ends-for-replies}
 use Rattle.nr_laws.proofs.completion.segments_keep_the_rules.Goals as goal
 
 pub returns-clause-server : goal.returns-clause-server

@@ -1,12 +1,5 @@
 use Rattle.nr_laws.proofs.AllowedBytes.{client_bytes_are_allowed, server_bytes_are_allowed, reads_are_allowed, nothing_else_is_disclosed}
-use Rattle.nr_laws.proofs.OfferedChunks.{regions_are_chunks, live_regions_are_of_outstanding}
 use Rattle.nr_laws.proofs.regions.offered_memory.Goals as goal
-
-pub returns-clause-chunks : goal.returns-clause-chunks
-returns-clause-chunks c = regions_are_chunks
-
-pub returns-clause-live : goal.returns-clause-live
-returns-clause-live c = live_regions_are_of_outstanding
 
 pub returns-clause-client_bytes : goal.returns-clause-client_bytes
 returns-clause-client_bytes c = client_bytes_are_allowed
