@@ -71,7 +71,7 @@ ROLES = {
 }
 LAWS = ('once: Sends', 'once: calls', 'once: xids', 'places', 'completions', 'executed_payloads', 'replies_handed_over', 'replies_are_plain', 'journal: places',
         'chunk_outcomes: causes', 'chunk_outcomes: completed', 'chunk_outcomes: offers', 'chunk_outcomes: own plans', 'chunk_outcomes: auto', 'chunk_outcomes: changes',
-        'touches: client', 'touches: server', 'touches: client_bytes', 'touches: server_bytes', 'touches: reads', 'touches: revoked', 'grant', 'calls_complete', 'segments_keep_the_rules: client', 'segments_keep_the_rules: server',
+        'touches: client', 'touches: server', 'touches: revoked', 'offered_memory: client_bytes', 'offered_memory: server_bytes', 'offered_memory: reads', 'grant', 'calls_complete', 'segments_keep_the_rules: client', 'segments_keep_the_rules: server',
         'matched_links_stay')
 CALL_REASONS, REPLY_REASONS = (18,), (18, 19)
 
@@ -166,7 +166,7 @@ class Link:
             q = request.a[0]
             got = list(ask('memory', before['state'], f['end'], q['stag']))[q['to']:q['to'] + q['size']]
             same = list(ask('output', self.opened, before, event)) == list(ask('response', q['sink'], q['sink_to'], got))
-            self.note('touches: reads', same and len(got) == q['size'])
+            self.note('offered_memory: reads', same and len(got) == q['size'])
 
     def bytes_of_regions(self):
         for side in ('client', 'server'):
@@ -175,7 +175,7 @@ class Link:
                 own = list(r['bytes'])
                 here = [(to, b) for s, to, b in self.brought[side] if s == r['stag']]
                 holds = len(held) == len(own) and all(b == own[i] or any(to <= i < to + len(x) and x[i - to] == b for to, x in here) for i, b in enumerate(held))
-                self.note('touches: %s_bytes' % side, holds, ('brought',) if here else ())
+                self.note('offered_memory: %s_bytes' % side, holds, ('brought',) if here else ())
 
     def mark(self, m):
         if m['mark'] == 'Submit' and m['answer']['kind'] == 'Dropped' and self.names.data.get('refused_dropped') is None:
