@@ -15,7 +15,7 @@ use Rattle.nr_link.specs.ReceiveState.{ReadRequest, read_request_of, read_reques
 use Rattle.nr_endpoint.specs.SendQueue.{with_response, with_end}
 use Rattle.nr_endpoint.specs.LinkState.{LinkState}
 use Rattle.nr_endpoint.specs.Judging.{segment_end, fetch_access, next_frame, with_frame, with_segment_by, with_fpdu, with_peer_hello, with_effect, with_read_response, with_read_request}
-use Rattle.nr_endpoint.specs.Laws.{ReadsAreAllowed, IsAllowedRead, last_output, NothingElseIsRead}
+use Rattle.nr_endpoint.specs.Laws.{ReadsAreAllowed, IsAllowedRead, last_output, NothingElseIsRead, OtherFramesQueueNothing}
 use Rattle.nr_endpoint.proofs.Alive.{alive-request}
 
 -- the frame of a segment that doesn't end the side
@@ -110,3 +110,19 @@ fpdu-queues s frame (Err reason) live whole = inr refl
 pub nothing-else-is-read : NothingElseIsRead
 nothing-else-is-read s (HelloFrom side) frame live = inr (hello-queues s (next_frame s frame) (hello_of side frame) live)
 nothing-else-is-read s Fpdu frame live = fpdu-queues s frame (segment_of frame) live refl
+
+-- ---- A frame that asks for nothing queues nothing
+
+placed-queue : (s t : LinkState) (b last : Bool) (n : ℕ) → t.send_queue ≡ s.send_queue → (cond b (with_read_response last n t) t).send_queue ≡ s.send_queue
+placed-queue s t true last n same = same
+placed-queue s t false last n same = same
+
+quiet : (s : LinkState) (f : Frame) (segment : Segment) → read_request_of segment ≡ None → (with_segment_by f segment None s).send_queue ≡ s.send_queue
+unfolding with_effect
+quiet s f (Tagged last opcode stag to payload) asks =
+    placed-queue s (record s { memory = after_place s.memory stag to payload }) (eqb opcode OPCODE_READ_RESPONSE) last (length payload) refl
+quiet s f (Untagged last opcode w queue msn offset payload) asks = ap (λ (r : Option ReadRequest). with_read_request r s.memory s.send_queue) asks
+
+pub other-frames-queue-nothing : OtherFramesQueueNothing
+other-frames-queue-nothing s frame segment whole asks lives =
+    ap (λ (t : LinkState). t.send_queue) (taken s frame segment whole lives) ∙ quiet s (next_frame s frame) segment asks

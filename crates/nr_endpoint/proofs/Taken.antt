@@ -21,11 +21,11 @@ pub counted_send : (q : ReceiveQueue) (last : Bool) (payload : List ℕ) (place 
 unfolding with_segment
 counted_send q true payload place n counted some = record {
   bytes = omega (arith, counted.bytes, some);
-  told = omega (arith, counted.told, some, length-append q.notices (MessageReceived (begun_bytes q.received.begun ++ payload) ∷ []));
+  waiting = omega (arith, counted.waiting, some, length-append q.notices (MessageReceived (begun_bytes q.received.begun ++ payload) ∷ []));
 }
 counted_send q false payload place n counted some = record {
   bytes = omega (arith, counted.bytes, some, kept_len (begun_bytes q.received.begun ++ payload), length-append (begun_bytes q.received.begun) payload);
-  told = omega (arith, counted.told, length-append q.notices []);
+  waiting = omega (arith, counted.waiting, length-append q.notices []);
 }
 
 kept_same : (begun : Option (List ℕ)) → length (begun_bytes (kept_send begun)) ≡ length (begun_bytes begun)
@@ -34,7 +34,7 @@ kept_same (Some bytes) = kept_len bytes
 
 pub counted_request : (q : ReceiveQueue) (place n : ℕ) → IsCounted q place → 1 ≤ n → IsCounted (with_segment (Untagged true OPCODE_READ_REQUEST 0 0 0 0 []) q) (place + n)
 unfolding with_segment
-counted_request q place n counted some = record { bytes = omega (arith, counted.bytes, some, kept_same q.received.begun); told = omega (arith, counted.told, length-append q.notices []) }
+counted_request q place n counted some = record { bytes = omega (arith, counted.bytes, some, kept_same q.received.begun); waiting = omega (arith, counted.waiting, length-append q.notices []) }
 
 pub took_send : (s : LinkState) (q : ReceiveQueue) (last : Bool) (payload frame : List ℕ) → q ≡ with_segment (Untagged last OPCODE_SEND 0 0 0 0 payload) s.receive_queue →
     record { side = s.side; has_hello = s.has_hello; last = s.place; place = s.place + length frame; ended = s.ended; receive_queue = q; reads = s.reads; memory = s.memory; send_queue = s.send_queue }

@@ -5,4 +5,4 @@ use Rattle.nr_endpoint.specs.ReceiveQueue.{ReceiveQueue}
 
 pub record IsCounted (q : ReceiveQueue) (place : ℕ) : Type 0 where
   pub bytes : q.received.sends + (q.received.requests + length (begun_bytes q.received.begun)) ≤ place
-  pub told : length q.notices ≤ place
+  pub waiting : length q.notices ≤ place

@@ -303,6 +303,11 @@ abbrev pub NothingElseIsRead : Type 0
 NothingElseIsRead = (s : LinkState) (a : Awaited) (frame : List ℕ) → s.ended ≡ None →
     IsAllowedRead s a frame ⊎ ((with_frame s a frame).send_queue.fpdus ≡ s.send_queue.fpdus ++ last_output (with_frame s a frame).ended)
 
+-- A frame that isn't a Read Request, and doesn't end the side, leaves what there is to write as it was.
+abbrev pub OtherFramesQueueNothing : Type 0
+OtherFramesQueueNothing = (s : LinkState) (frame : List ℕ) (segment : Segment) → segment_of frame ≡ Ok segment → read_request_of segment ≡ None →
+    segment_end s (next_frame s frame) segment ≡ None → (with_frame s Fpdu frame).send_queue ≡ s.send_queue
+
 -- ---- A region, from its registration to its release
 
 -- A region that stays open holds what it held, with the payload of each allowed tagged segment over it, the later over the earlier.

@@ -1,6 +1,7 @@
 //! The calls of an endpoint's owner.
 
-ghost use Rattle.std.specs.Prelude.{◌≡◌, ◌≢◌, ℕ, ◌+◌, ◌-◌, ◌*◌, ◌^◌, ◌<◌, ◌≤◌, ◌↔◌, [], ◌∷◌, ◌++◌, length, drop, take, None, Some, is_some, Ok, Err, IfOk, OnOk, IfErr, OnErr, IsOk, IsErrAnd, IfSome, MatchResult, List, option_to_list, option_map, if◌then◌else◌, true, nat_lt};
+ghost use Rattle.nr_endpoint.specs.LinkState.{has_ended};
+ghost use Rattle.std.specs.Prelude.{false, ◌≡◌, ◌≢◌, ℕ, ◌+◌, ◌-◌, ◌*◌, ◌^◌, ◌<◌, ◌≤◌, ◌↔◌, [], ◌∷◌, ◌++◌, length, drop, take, None, Some, is_some, Ok, Err, IfOk, OnOk, IfErr, OnErr, IsOk, IsErrAnd, IfSome, MatchResult, List, option_to_list, option_map, if◌then◌else◌, true, nat_lt};
 ghost use Rattle.std.specs.Io.KnownBytes.{Appends};
 ghost use Rattle.nr_outside.specs.Faults.{Rises};
 ghost use Rattle.nr_regions.specs.RegisteredMemory.{Claim, IsHeld, bytes_in, bytes_held, claim_of, held_region};
@@ -78,6 +79,7 @@ impl Endpoint {
         ensures state { OnOk result (self.new.link ≡ after_call self.old.link (Send message.now)) }
         ensures stands { OnOk result (StandsOn self.old.link (Send message.now) self.new.link) }
         ensures err { OnErr result (self.new.link ≡ self.old.link) }
+        ensures live { OnErr result (has_ended self.old.link.state ≡ false) }
         ensures staging { self.new.staging ≡ self.old.staging }
     {
         self.link.send(message)
@@ -90,6 +92,7 @@ impl Endpoint {
         ensures state { OnOk result (self.new.link ≡ after_call self.old.link (WriteRemote stag to bytes.now)) }
         ensures stands { OnOk result (StandsOn self.old.link (WriteRemote stag to bytes.now) self.new.link) }
         ensures err { OnErr result (self.new.link ≡ self.old.link) }
+        ensures live { OnErr result (has_ended self.old.link.state ≡ false) }
         ensures staging { self.new.staging ≡ self.old.staging }
     {
         self.link.write_remote(stag, to, bytes)
@@ -112,6 +115,7 @@ impl Endpoint {
         ensures reads { IfErr result (λ e. e ≢ refusals.Memory → e ≡ refusals.Full open_reads_max) }
         ensures state { OnOk result (self.new.link ≡ after_call self.old.link (ReadRemote registration.now.stag at stag to len)) }
         ensures stands { OnOk result (StandsOn self.old.link (ReadRemote registration.now.stag at stag to len) self.new.link) }
+        ensures live { IfErr result (λ e. e ≡ refusals.Memory → has_ended self.old.link.state ≡ false) }
         ensures err { OnErr result (self.new.link ≡ self.old.link) }
         ensures staging { self.new.staging ≡ self.old.staging }
     {

@@ -1,6 +1,6 @@
 //! Laws of an endpoint, over the calls that it stands for.
 
-ghost use Rattle.nr_endpoint.specs.Laws.{PiecesJoin, StepsReach, StepsFeed, EndStays, KeepsLessThanFrame, EndedKeepsNothing, StreamIsKept, PlaceIsFed, MemoryFollowsEvents, PlacesAreAllowed, PlacesAreInOrder, ArrivalsRise, EventsAreTold, EventsAreInOrder, EventsFollowAccesses, OneFrameTellsAtItsEnd, ReadsAreAllowed, NothingElseIsRead, OpenRegionHolds, ReleasedBufferHolds, ReleasedStaysDead, ClaimsStay, NoFpduBeforeHello, FramesEndForThese, GrantsEndAlike, OffersDenyAlike, NoFrameStops, OthersComeFromStop, MemoryComesFromOutOfMemory, EndedQueuesNothing, EndIsKept, StopQueuesLast, OutOfMemoryQueuesNothing};
+ghost use Rattle.nr_endpoint.specs.Laws.{PiecesJoin, StepsReach, StepsFeed, EndStays, KeepsLessThanFrame, EndedKeepsNothing, StreamIsKept, PlaceIsFed, MemoryFollowsEvents, PlacesAreAllowed, PlacesAreInOrder, ArrivalsRise, EventsAreTold, EventsAreInOrder, EventsFollowAccesses, OneFrameTellsAtItsEnd, ReadsAreAllowed, NothingElseIsRead, OtherFramesQueueNothing, OpenRegionHolds, ReleasedBufferHolds, ReleasedStaysDead, ClaimsStay, NoFpduBeforeHello, FramesEndForThese, GrantsEndAlike, OffersDenyAlike, NoFrameStops, OthersComeFromStop, MemoryComesFromOutOfMemory, EndedQueuesNothing, EndIsKept, StopQueuesLast, OutOfMemoryQueuesNothing};
 
 /// What a side is after some bytes does not depend on how they were cut: to feed two pieces is to feed both joined, and one step on a
 /// piece and then the rest of it is the whole piece. A side that has ended stays as it is.
@@ -31,6 +31,8 @@ pub fn memory_follows_accesses()
     ensures rise { ArrivalsRise }
     ensures reads { ReadsAreAllowed }
     ensures nothing_else { NothingElseIsRead }
+    // So a feed wants no memory for a Send, an RDMA Write or a Read Response that doesn't end the side.
+    ensures others { OtherFramesQueueNothing }
     ensures while_open { OpenRegionHolds }
     ensures released { ReleasedBufferHolds }
     ensures dead { ReleasedStaysDead }

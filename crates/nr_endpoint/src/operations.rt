@@ -1,6 +1,7 @@
 //! What the owner of a side does with it.
 
-ghost use Rattle.std.specs.Prelude.{◌≡◌, ◌≢◌, ◌+◌, ◌*◌, ◌^◌, ◌<◌, ◌≤◌, ◌↔◌, [], ◌∷◌, ◌++◌, ℕ, length, take, is_some, nat_lt, if◌then◌else◌, IfOk, OnOk, IfErr, OnErr, IsErrAnd, IfSome, MatchResult, option_map, option_to_list};
+ghost use Rattle.nr_endpoint.specs.LinkState.{has_ended};
+ghost use Rattle.std.specs.Prelude.{false, ◌≡◌, ◌≢◌, ◌+◌, ◌*◌, ◌^◌, ◌<◌, ◌≤◌, ◌↔◌, [], ◌∷◌, ◌++◌, ℕ, length, take, is_some, nat_lt, if◌then◌else◌, IfOk, OnOk, IfErr, OnErr, IsErrAnd, IfSome, MatchResult, option_map, option_to_list};
 ghost use Rattle.std.specs.Io.KnownBytes.{Appends};
 ghost use Rattle.nr_outside.specs.Faults.{Rises};
 ghost use Rattle.nr_regions.specs.RegisteredMemory.{IsHeld, after_register, after_release, bytes_held, bytes_in, claim_of, held_region};
@@ -51,6 +52,7 @@ impl Link {
         requires { length message.now < 2 ^ 32 }
         ensures ok { OnOk result (self.new ≡ unless_ended self.old (record self.old { send_queue = with_send message.now self.old.send_queue })) }
         ensures err { OnErr result (self.new ≡ self.old) }
+        ensures live { OnErr result (has_ended self.old ≡ false) }
     {
         if self.ended.is_some() {
             return Ok(());
@@ -62,6 +64,7 @@ impl Link {
         requires { to + length bytes.now ≤ 2 ^ 64 }
         ensures ok { OnOk result (self.new ≡ unless_ended self.old (record self.old { send_queue = with_write stag to bytes.now self.old.send_queue })) }
         ensures err { OnErr result (self.new ≡ self.old) }
+        ensures live { OnErr result (has_ended self.old ≡ false) }
     {
         if self.ended.is_some() {
             return Ok(());
@@ -86,6 +89,7 @@ impl Link {
           reads = self.old.reads ++ record { sink = registration.now.stag; at = at; left = len } ∷ [];
         })) }
         ensures err { OnErr result (self.new ≡ self.old) }
+        ensures live { IfErr result (λ e. e ≡ refusals.Memory → has_ended self.old ≡ false) }
     {
         if self.reads.is_full() {
             return Err(ReadRefused::Full {

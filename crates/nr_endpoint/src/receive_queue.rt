@@ -26,7 +26,7 @@ pub struct BegunSend {
 }
 
 /// A Send that came whole: the first `len` bytes of its receive buffer. Between the message before it and this one, the responses to
-/// `reads_done` Read Requests became whole.
+/// `reads_done` Read Requests became whole, of which the owner wasn't told yet.
 #[derive(Drop)]
 pub struct ReceivedMessage {
     pub reads_done: u64,

@@ -1,5 +1,5 @@
 use Rattle.nr_endpoint.proofs.MemoryLaws.{memory-follows-events, places-are-allowed, open-region-holds, released-buffer-holds, released-stays-dead}
-use Rattle.nr_endpoint.proofs.ReadLaws.{reads-are-allowed, nothing-else-is-read}
+use Rattle.nr_endpoint.proofs.ReadLaws.{reads-are-allowed, nothing-else-is-read, other-frames-queue-nothing}
 use Rattle.nr_endpoint.proofs.PlaceOrder.{places-are-in-order, arrivals-rise}
 use Rattle.nr_endpoint.proofs.laws.memory_follows_accesses.Goals as goal
 
@@ -14,6 +14,9 @@ returns-clause-reads c = reads-are-allowed
 
 pub returns-clause-nothing_else : goal.returns-clause-nothing_else
 returns-clause-nothing_else c = nothing-else-is-read
+
+pub returns-clause-others : goal.returns-clause-others
+returns-clause-others c = other-frames-queue-nothing
 
 pub returns-clause-while_open : goal.returns-clause-while_open
 returns-clause-while_open c = open-region-holds
