@@ -31,7 +31,8 @@ use Rattle.nr_reduce.specs.Run.{client, server, grants_of, placed_bytes}
 use Rattle.nr_reduce.proofs.OfferedMemory.{none-found}
 use Rattle.nr_reduce.proofs.Touches.{client_allows}
 use Rattle.nr_reduce.proofs.OwnStags.{AreNumbered, own-stags, client-numbers, server-numbers}
-use Rattle.nr_laws.specs.PlacedBytes.{IsBrought, HoldsAllowed, ClientBytesAreAllowed, ServerBytesAreAllowed, ReadsAreAllowed, IsOwnOutput, AnswersRequest, NothingElseIsDisclosed}
+use Rattle.nr_laws.specs.PlacedBytes.{IsBrought, HoldsAllowed, ClientBytesAreAllowed, ServerBytesAreAllowed, ReadsAreAllowed, IsOfSubmitted, IsOwnOutput, AnswersRequest, NothingElseIsDisclosed}
+use Rattle.nr_laws.proofs.SubmittedCalls.{outstanding_are_submitted, submitted-more, each-at}
 use Rattle.nr_laws.proofs.Memory.{Gathering}
 use Rattle.nr_laws.proofs.ClientMemory.{client-gathers}
 use Rattle.nr_laws.proofs.ServerMemory.{server-gathers}
@@ -205,11 +206,8 @@ reads_are_allowed opened link run earlier later f segment request is behind own 
 
 -- ---- What else it writes
 
-own-none : (opened : LinkParameters) → IsOwnOutput opened []
-own-none opened = inl (1, [], refl)
-
-own-by : (opened : LinkParameters) (bytes more : List ℕ) → bytes ≡ more → IsOwnOutput opened more → IsOwnOutput opened bytes
-own-by opened bytes more e h = subst (λ (xs : List ℕ). IsOwnOutput opened xs) (sym e) h
+own-none : (opened : LinkParameters) (received : List Event) (ended : Option Stop) → IsOwnOutput opened received ended []
+own-none opened received ended = inl (1, [], ((λ o c. (let lt = c.1 in absurd (omega (arith, lt)))), refl))
 
 pub nothing_else_is_disclosed : NothingElseIsDisclosed
 unfolding client_output
@@ -221,21 +219,23 @@ nothing_else_is_disclosed opened link run earlier later event is = by_ended befo
     k : ClientState
     k = before.state
 
-    output : Option Stop → List ℕ
-    output o = output_for_in (client_rules opened) k event o
+    here : List Event
+    here = earlier ++ event ∷ []
 
-    sent : (a : List ℕ) (b : Bool) → IsOwnOutput opened a → IsOwnOutput opened (cond b a [])
-    sent a true h = h
-    sent a false h = own-none opened
+    after : Option Stop
+    after = (next_end_state (client_rules opened) before event).ended
 
-    frame : (f : Frame) → event ≡ FrameReceived f → before.ended ≡ None → client_end k (FrameReceived f) ≡ None → IsOwnOutput opened (client_output opened k (FrameReceived f)) ⊎ AnswersRequest opened before event
-    frame f same live none = by_hello (is_hello f) refl
+    none : IsOwnOutput opened here after []
+    none = own-none opened here after
+
+    frame : (f : Frame) → event ≡ FrameReceived f → before.ended ≡ None → client_end k (FrameReceived f) ≡ None → IsOwnOutput opened here after (client_output opened k (FrameReceived f)) ⊎ AnswersRequest opened before event
+    frame f same live quiet = by_hello (is_hello f) refl
       where
         stays : (next_end_state (client_rules opened) before (FrameReceived f)).ended ≡ None
-        stays = ap (λ (o : Option Stop). (next_end_state_in (client_rules opened) k (FrameReceived f) o).ended) live ∙ ap (λ (o : Option Stop). (next_end_state_by (client_rules opened) k (FrameReceived f) o).ended) none
+        stays = ap (λ (o : Option Stop). (next_end_state_in (client_rules opened) k (FrameReceived f) o).ended) live ∙ ap (λ (o : Option Stop). (next_end_state_by (client_rules opened) k (FrameReceived f) o).ended) quiet
 
-        by_request : (s : Segment) → frame_segment f ≡ Ok s → is_hello f ≡ false → (o : Option ReadRequest) → read_request_of s ≡ o → IsOwnOutput opened (response_output k f.end o) ⊎ AnswersRequest opened before event
-        by_request s own behind None asks = inl (own-none opened)
+        by_request : (s : Segment) → frame_segment f ≡ Ok s → is_hello f ≡ false → (o : Option ReadRequest) → read_request_of s ≡ o → IsOwnOutput opened here after (response_output k f.end o) ⊎ AnswersRequest opened before event
+        by_request s own behind None asks = inl none
         by_request s own behind (Some q) asks = inr (record {
           frame = f;
           segment = s;
@@ -247,27 +247,36 @@ nothing_else_is_disclosed opened link run earlier later event is = by_ended befo
           disclosed = reads_are_allowed opened link run earlier later f s q (is ∙ ap (λ (e : Event). earlier ++ e ∷ later) same) behind own asks stays;
         })
 
-        by_segment : (r : Result Segment ℕ) → frame_segment f ≡ r → is_hello f ≡ false → IsOwnOutput opened (response_output k f.end (segment_request r)) ⊎ AnswersRequest opened before event
-        by_segment (Err reason) own behind = inl (own-none opened)
+        by_segment : (r : Result Segment ℕ) → frame_segment f ≡ r → is_hello f ≡ false → IsOwnOutput opened here after (response_output k f.end (segment_request r)) ⊎ AnswersRequest opened before event
+        by_segment (Err reason) own behind = inl none
         by_segment (Ok s) own behind = by_request s own behind (read_request_of s) refl
 
-        by_hello : (b : Bool) → is_hello f ≡ b → IsOwnOutput opened (cond b (calls_output opened 1 k.outstanding) (response_output k f.end (segment_request (frame_segment f)))) ⊎ AnswersRequest opened before event
-        by_hello true e = inl (inl (1, k.outstanding, refl))
+        by_hello : (b : Bool) → is_hello f ≡ b → IsOwnOutput opened here after (cond b (calls_output opened 1 k.outstanding) (response_output k f.end (segment_request (frame_segment f)))) ⊎ AnswersRequest opened before event
+        by_hello true e = inl (inl (1, k.outstanding, ((λ o c. submitted-more opened earlier (event ∷ []) o (outstanding_are_submitted opened earlier o c)), refl)))
         by_hello false e = by_segment (frame_segment f) refl e
 
-    by_event : (e : Event) → event ≡ e → before.ended ≡ None → client_end k e ≡ None → IsOwnOutput opened (client_output opened k e) ⊎ AnswersRequest opened before event
-    by_event (FrameReceived f) same live none = frame f same live none
-    by_event (CallSubmitted place a) same live none =
-        inl (sent (call_output opened (k.calls_accepted + 1) (outstanding_of k a)) k.has_hello
-        (inl (k.calls_accepted + 1, outstanding_of k a ∷ [], sym (append-nil (call_output opened (k.calls_accepted + 1) (outstanding_of k a))))))
-    by_event (MemoryRevoked place xid) same live none = inl (own-none opened)
-    by_event (CallExecuted call) same live none = inl (own-none opened)
-    by_event QueueWritten same live none = inl (own-none opened)
+    by_event : (e : Event) → event ≡ e → before.ended ≡ None → client_end k e ≡ None → IsOwnOutput opened here after (client_output opened k e) ⊎ AnswersRequest opened before event
+    by_event (FrameReceived f) same live quiet = frame f same live quiet
+    by_event (CallSubmitted place a) same live quiet = inl (sent k.has_hello)
+      where
+        made : IsOfSubmitted opened here (outstanding_of k a)
+        made = record { earlier = earlier; later = []; place = place; call = a; is_submitted = ap (λ (e : Event). earlier ++ e ∷ []) same; own = refl }
 
-    by_why : (o : Option Stop) → client_end k event ≡ o → before.ended ≡ None → IsOwnOutput opened (output_for_by (client_rules opened) k event o) ⊎ AnswersRequest opened before event
-    by_why None none live = by_event event refl live none
-    by_why (Some end) none live = inl (inr (end, refl))
+        sent : (b : Bool) → IsOwnOutput opened here after (cond b (call_output opened (k.calls_accepted + 1) (outstanding_of k a)) [])
+        sent true = inl (k.calls_accepted + 1, outstanding_of k a ∷ [],
+            ((λ o c. each-at (IsOfSubmitted opened here) (outstanding_of k a ∷ []) (made, tt) o c),
+            sym (append-nil (call_output opened (k.calls_accepted + 1) (outstanding_of k a)))))
+        sent false = none
+    by_event (MemoryRevoked place xid) same live quiet = inl none
+    by_event (CallExecuted call) same live quiet = inl none
+    by_event QueueWritten same live quiet = inl none
 
-    by_ended : (o : Option Stop) → before.ended ≡ o → IsOwnOutput opened (output_for_in (client_rules opened) k event o) ⊎ AnswersRequest opened before event
+    by_why : (o : Option Stop) → client_end k event ≡ o → before.ended ≡ None → IsOwnOutput opened here after (output_for_by (client_rules opened) k event o) ⊎ AnswersRequest opened before event
+    by_why None quiet live = by_event event refl live quiet
+    by_why (Some end) ends live = inl (inr (end, (
+        ap (λ (o : Option Stop). (next_end_state_in (client_rules opened) k event o).ended) live ∙ ap (λ (o : Option Stop). (next_end_state_by (client_rules opened) k event o).ended) ends,
+        refl)))
+
+    by_ended : (o : Option Stop) → before.ended ≡ o → IsOwnOutput opened here after (output_for_in (client_rules opened) k event o) ⊎ AnswersRequest opened before event
     by_ended None live = by_why (client_end k event) refl live
-    by_ended (Some end) live = inl (own-none opened)
+    by_ended (Some end) live = inl none

@@ -178,3 +178,5 @@ pub mod SendRegions
 pub mod LiveRegions
 pub mod ClosedRegions
 pub mod AddedRegions
+pub mod SubmittedCalls
+pub mod ClosedForCalls

@@ -1,5 +1,5 @@
 -- What a completed call tells its caller.
-use Rattle.std.specs.Prelude.{ℕ, List}
+use Rattle.std.specs.Prelude.{◌≡◌, ℕ, List}
 use Rattle.nr_reduce.specs.declared.call.Outcome.TheVariants as outcomes
 use Rattle.nr_reduce.specs.declared.mark.Mark.{Mark}
 use Rattle.nr_reduce.specs.declared.mark.Mark.TheVariants as marks
@@ -15,7 +15,7 @@ use Rattle.nr_laws.specs.HandedOver.{HasReply}
 abbrev pub RepliesAreExecuted : Type 0
 RepliesAreExecuted = (opened : LinkParameters) (link : ℕ) (run before : List Mark) (xid : ℕ) (reply : List ℕ) →
     IsTyped run → MatchedSoFar opened link run → MarkAt run before (marks.Done link xid (outcomes.Reply reply)) →
-    (plan : Plan) × ((has : HasPlan opened link before xid plan) × HasReply link before xid has.call has.form reply)
+    (plan : Plan) × ((executed : List Mark) × ((has : HasPlan opened link executed xid plan) × ((own : HasReply link before xid has.call has.form reply) × (own.before ≡ executed))))
 
 -- On a matched link no call completes with another version: both sides speak version 1 (RFC 8166 section 4.2.2).
 abbrev pub NoOtherVersion : Type 0

@@ -1,6 +1,6 @@
 //! What the sides of a link offer, and what becomes of it.
 
-ghost use Rattle.nr_laws.specs.PlacedBytes.{ClientBytesAreAllowed, ServerBytesAreAllowed, ReadsAreAllowed, NothingElseIsDisclosed, ClientRegionsAreChunks, LiveClientRegionsAreOutstanding};
+ghost use Rattle.nr_laws.specs.PlacedBytes.{ClientBytesAreAllowed, ServerBytesAreAllowed, ReadsAreAllowed, NothingElseIsDisclosed, CallsAddChunks, ClientRegionsAreChunks, ClientRegionsCloseWithCalls, LiveClientRegionsAreOutstanding};
 ghost use Rattle.nr_laws.specs.ServerRegions.{ServerRegionsAreChunks, SendsAddChunks, NothingElseAddsRegions, ClosedRegionsStay, LiveServerRegionsAreRead, ServerRegionsCloseWhenRead};
 
 /// Which regions a side offers, and how long, whatever the peer sends. Each region of a client is a chunk of an accepted call (RFC 8166
@@ -9,7 +9,9 @@ ghost use Rattle.nr_laws.specs.ServerRegions.{ServerRegionsAreChunks, SendsAddCh
 /// for it.
 pub fn offered_regions()
     ensures client_chunks { ClientRegionsAreChunks }
+    ensures calls { CallsAddChunks }
     ensures client_live { LiveClientRegionsAreOutstanding }
+    ensures client_closed { ClientRegionsCloseWithCalls }
     ensures server_chunks { ServerRegionsAreChunks }
     ensures sends { SendsAddChunks }
     ensures nothing_else { NothingElseAddsRegions }

@@ -1,4 +1,5 @@
 use Rattle.nr_laws.proofs.OfferedChunks.{client_regions_are_chunks, live_client_regions_are_outstanding}
+use Rattle.nr_laws.proofs.ClosedForCalls.{client_regions_close_with_calls, calls_add_chunks}
 use Rattle.nr_laws.proofs.SendRegions.{server_regions_are_chunks}
 use Rattle.nr_laws.proofs.AddedRegions.{sends_add_chunks, nothing_else_adds_regions, closed_regions_stay}
 use Rattle.nr_laws.proofs.LiveRegions.{live_server_regions_are_read}
@@ -28,3 +29,9 @@ returns-clause-server_closed c = server_regions_close_when_read
 
 pub returns-clause-closed_stay : goal.returns-clause-closed_stay
 returns-clause-closed_stay c = closed_regions_stay
+
+pub returns-clause-client_closed : goal.returns-clause-client_closed
+returns-clause-client_closed c = client_regions_close_with_calls
+
+pub returns-clause-calls : goal.returns-clause-calls
+returns-clause-calls c = calls_add_chunks

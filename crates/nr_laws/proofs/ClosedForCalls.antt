@@ -1,0 +1,141 @@
+-- A region of a client is closed by the message of its call, or where its memory is taken back.
+use Rattle.std.proofs.Common.{◌≡◌, ℕ, Bool, true, false, cond, eqb, List, [], ◌∷◌, ◌++◌, map, Option, None, Some, Result, Ok, Err, refl, sym, ap, subst, ◌∙◌, append_assoc, append-nil, inl, inr, ◌⊎◌, eqb-true}
+use Rattle.std.specs.Prelude.{Contains}
+use Rattle.std.specs.List.{AllByRecursion}
+use Rattle.std.proofs.lemmas.List.Elements.{recursion_from_All, All-contains_itself}
+use Rattle.nr_xdr.specs.Fields.{word_at}
+use Rattle.nr_wire.specs.declared.hello.Side.TheVariants.{Initiator}
+use Rattle.nr_wire.specs.Segment.{Segment}
+use Rattle.nr_link.specs.declared.end.End.{End as Stop}
+use Rattle.nr_link.specs.Frames.{is_hello}
+use Rattle.nr_link.specs.Ending.{frame_segment}
+use Rattle.nr_link.specs.ReceiveState.{message_completed, read_request_of}
+use Rattle.nr_reduce.specs.declared.mark.LinkParameters.{LinkParameters}
+use Rattle.nr_reduce.specs.Plans.{Buffer, buffers}
+use Rattle.nr_reduce.specs.Events.{Event, events}
+use Rattle.nr_reduce.specs.Events.Event.{FrameReceived, CallSubmitted, MemoryRevoked, CallExecuted, QueueWritten}
+use Rattle.nr_reduce.specs.EndRules.{EndState, next_end_state, next_end_state_by, next_end_state_in, end_state_after}
+use Rattle.nr_reduce.specs.OfferedRegions.{Region, until_at, closed_if, regions_closed}
+use Rattle.nr_reduce.specs.ClientState.{ClientState}
+use Rattle.nr_reduce.specs.Client.{client_rules, client_end, client_state_after, initial_client, outstanding_of, region_of, with_message, with_segment}
+use Rattle.nr_reduce.specs.Run.{client}
+use Rattle.nr_reduce.proofs.Steps.{end_state_after-append}
+use Rattle.nr_laws.specs.PlacedBytes.{IsMessageOf, IsClosedForCall, ClientRegionsCloseWithCalls, CallsAddChunks}
+use Rattle.nr_laws.proofs.Revoked.{request-regions}
+use Rattle.nr_laws.proofs.Basics.{each-all, each-append}
+use Rattle.nr_laws.proofs.SendRegions.{region-of-list}
+
+abbrev at : LinkParameters → List Event → EndState ClientState
+at opened es = end_state_after (client_rules opened) (initial_client opened) es
+
+abbrev IsClosed : LinkParameters → List Event → Region → Type 0
+IsClosed opened es r = (place : ℕ) → r.until ≡ Some place → IsClosedForCall opened es r place
+
+closed-more : (opened : LinkParameters) (es more : List Event) (r : Region) → IsClosed opened es r → IsClosed opened (es ++ more) r
+closed-more opened es more r h place is =
+    let c = h place is in
+    record {
+      earlier = c.earlier;
+      later = c.later ++ more;
+      event = c.event;
+      is_received = ap (λ (xs : List Event). xs ++ more) c.is_received ∙ append_assoc c.earlier (c.event ∷ c.later) more;
+      was_live = c.was_live;
+      why = c.why;
+    }
+
+same-place : (m n : ℕ) → ◌≡◌ {A = Option ℕ} (Some m) (Some n) → m ≡ n
+same-place m n e = cc
+
+abbrev Why : ClientState → Event → ℕ → ℕ → Type 0
+Why k e xid place = IsMessageOf k e xid place ⊎ (e ≡ MemoryRevoked place xid)
+
+close-one : (opened : LinkParameters) (es : List Event) (e : Event) (p : ℕ) (x : Region) → IsClosed opened (es ++ e ∷ []) x → Contains (at opened es).state.regions x → (b : Bool) → (b ≡ true → Why (at opened es).state e x.call p) → IsClosed opened (es ++ e ∷ []) (closed_if b p x)
+close-one opened es e p x h there false why = h
+close-one opened es e p x h there true why = λ place is. by x.until refl place is
+  where
+    by : (u : Option ℕ) → x.until ≡ u → (place : ℕ) → until_at p u ≡ Some place → IsClosedForCall opened (es ++ e ∷ []) (closed_if true p x) place
+    by None none place is = record {
+      earlier = es;
+      later = [];
+      event = e;
+      is_received = refl;
+      was_live = subst (λ (u : Option ℕ). Contains (at opened es).state.regions (record x { until = u })) none there;
+      why = subst (λ (n : ℕ). Why (at opened es).state e x.call n) (same-place p place is) (why refl);
+    }
+    by (Some u) some place is =
+        let c = h place (some ∙ is) in
+        record { earlier = c.earlier; later = c.later; event = c.event; is_received = c.is_received; was_live = c.was_live; why = c.why }
+
+close-all : (opened : LinkParameters) (es : List Event) (e : Event) (p xid : ℕ) → Why (at opened es).state e xid p → (xs : List Region) → AllByRecursion (IsClosed opened (es ++ e ∷ [])) xs → AllByRecursion (Contains (at opened es).state.regions) xs
+    → AllByRecursion (IsClosed opened (es ++ e ∷ [])) (regions_closed (λ r. eqb r.call xid) p xs)
+unfolding regions_closed
+close-all opened es e p xid why [] h c = tt
+close-all opened es e p xid why (x ∷ xs) h c =
+    (close-one opened es e p x h.0 c.0 (eqb x.call xid) (λ own. subst (λ (n : ℕ). Why (at opened es).state e n p) (sym (eqb-true x.call xid own)) why), close-all opened es e p xid why xs h.1 c.1)
+
+new-open : (opened : LinkParameters) (es : List Event) (xid place : ℕ) (bs : List Buffer) → AllByRecursion (IsClosed opened es) (map (region_of xid place) bs)
+new-open opened es xid place [] = tt
+new-open opened es xid place (b ∷ bs) = ((λ p is. absurd (let wrong : None ≡ Some p = is in cc)), new-open opened es xid place bs)
+
+one-event : (opened : LinkParameters) (es : List Event) (e : Event) → AllByRecursion (IsClosed opened es) (at opened es).state.regions
+    → AllByRecursion (IsClosed opened (es ++ e ∷ [])) (next_end_state (client_rules opened) (at opened es) e).state.regions
+unfolding client_state_after
+one-event opened es e h = by_ended (at opened es).ended
+  where
+    k : ClientState
+    k = (at opened es).state
+
+    P : Region → Type 0
+    P = IsClosed opened (es ++ e ∷ [])
+
+    same : AllByRecursion P k.regions
+    same = each-all (IsClosed opened es) P k.regions (closed-more opened es (e ∷ [])) h
+
+    all : AllByRecursion (Contains k.regions) k.regions
+    all = recursion_from_All (Contains k.regions) k.regions (All-contains_itself k.regions)
+
+    by_event : (x : Event) → e ≡ x → AllByRecursion P (client_state_after opened k x).regions
+    by_event (FrameReceived f) is = by_hello (is_hello f) refl
+      where
+        by_message : (s : Segment) → frame_segment f ≡ Ok s → is_hello f ≡ false → (o : Option (List ℕ)) → message_completed k.received s ≡ o → AllByRecursion P (with_message k f.end o).regions
+        by_message s own behind None whole = same
+        by_message s own behind (Some m) whole =
+            close-all opened es e f.end (word_at 0 m) (inl (record { frame = f; segment = s; message = m; is = is; behind_hello = behind; is_segment = own; whole = whole; own = refl; ends_there = refl })) k.regions same all
+
+        by_segment : (r : Result Segment ℕ) → frame_segment f ≡ r → is_hello f ≡ false → AllByRecursion P (with_segment k f r).regions
+        by_segment (Err reason) own behind = same
+        by_segment (Ok s) own behind =
+            subst (AllByRecursion P) (sym (request-regions (with_message k f.end (message_completed k.received s)) (read_request_of s))) (by_message s own behind (message_completed k.received s) refl)
+
+        by_hello : (b : Bool) → is_hello f ≡ b → AllByRecursion P (cond b (record k { has_hello = true }) (with_segment k f (frame_segment f))).regions
+        by_hello true behind = same
+        by_hello false behind = by_segment (frame_segment f) refl behind
+    by_event (CallSubmitted place a) is = each-append P k.regions (map (region_of a.xid place) (buffers k.stag (outstanding_of k a).plan)) same (new-open opened (es ++ e ∷ []) a.xid place (buffers k.stag (outstanding_of k a).plan))
+    by_event (MemoryRevoked place xid) is = close-all opened es e place xid (inr is) k.regions same all
+    by_event (CallExecuted call) is = same
+    by_event QueueWritten is = same
+
+    by_why : (o : Option Stop) → AllByRecursion P (next_end_state_by (client_rules opened) k e o).state.regions
+    by_why None = by_event e refl
+    by_why (Some end) = same
+
+    by_ended : (o : Option Stop) → AllByRecursion P (next_end_state_in (client_rules opened) k e o).state.regions
+    by_ended None = by_why (client_end k e)
+    by_ended (Some end) = same
+
+all-events : (opened : LinkParameters) (front es : List Event) → AllByRecursion (IsClosed opened front) (at opened front).state.regions → AllByRecursion (IsClosed opened (front ++ es)) (at opened (front ++ es)).state.regions
+all-events opened front [] h = subst (λ (xs : List Event). AllByRecursion (IsClosed opened xs) (at opened xs).state.regions) (sym (append-nil front)) h
+all-events opened front (e ∷ es) h =
+    let one = subst (λ (r : EndState ClientState). AllByRecursion (IsClosed opened (front ++ e ∷ [])) r.state.regions) (sym (end_state_after-append (client_rules opened) (initial_client opened) front (e ∷ []))) (one-event opened front e h) in
+    subst (λ (xs : List Event). AllByRecursion (IsClosed opened xs) (at opened xs).state.regions) (append_assoc front (e ∷ []) es) (all-events opened (front ++ e ∷ []) es one)
+
+pub client_regions_close_with_calls : ClientRegionsCloseWithCalls
+unfolding client
+client_regions_close_with_calls opened link run r place there is =
+    region-of-list (IsClosed opened (events link Initiator run)) _ r (all-events opened [] (events link Initiator run) tt) there place is
+
+pub calls_add_chunks : CallsAddChunks
+unfolding client_state_after client_end
+calls_add_chunks opened link run earlier later place call is live =
+    ap (λ (r : EndState ClientState). r.state.regions) (end_state_after-append (client_rules opened) (initial_client opened) earlier (CallSubmitted place call ∷ []))
+    ∙ ap (λ (o : Option Stop). (next_end_state_in (client_rules opened) (at opened earlier).state (CallSubmitted place call) o).state.regions) live
