@@ -24,7 +24,7 @@ antt.STD.setdefault('pointwise', antt.Fn(3, lambda f, a, b: len(a) == len(b) and
 
 USES = [
     'use Rattle.nr_reduce.specs.ClientState.{call_payload, plan_for, memory_at}',
-    'use Rattle.nr_reduce.specs.Plans.{lists_of, call_message}',
+    'use Rattle.nr_reduce.specs.Plans.{lists_of, call_message, buffers}',
     'use Rattle.nr_header.specs.Reading.{header_of}',
     'use Rattle.nr_reduce.specs.RunLaws.{known_stream}',
     'use Rattle.nr_reduce.specs.Undone.{lists_by}',
@@ -43,7 +43,7 @@ USES = [
     'use Rattle.nr_link.specs.ReceiveState.{read_request_of}',
     'use Rattle.nr_link.specs.Output.{read_response}',
     'use Rattle.nr_link.specs.Ending.{tagged_access}',
-    'use Rattle.nr_reduce.specs.Client.{client_rules, initial_client}',
+    'use Rattle.nr_reduce.specs.Client.{client_rules, initial_client, outstanding_of}',
     'use Rattle.nr_reduce.specs.Server.{server_rules, initial_server}',
     'use Rattle.nr_laws.specs.Payloads.{form_conveyed}',
     'use Rattle.nr_reduce.specs.Served.{first_ready}',
@@ -67,12 +67,14 @@ ROLES = {
     'placed': 'λ opened link side run stag. placed_bytes opened link side run stag',
     'output': 'λ opened state event. output_for (client_rules opened) state event', 'request': 'λ segment. read_request_of segment',
     'response': 'λ sink to bytes. read_response sink to bytes', 'memory': 'λ state place stag. memory_at state place stag', 'tagged': 'λ frame segment. tagged_access frame segment',
+    'chunks': 'λ state call. buffers state.stag (outstanding_of state call).plan',
     'waits': 'λ state ended. first_ready state.ready ended',
 }
 LAWS = ('once: Sends', 'once: calls', 'once: xids', 'places', 'completions', 'executed_payloads', 'replies_handed_over', 'replies_are_plain', 'journal: places',
         'chunk_outcomes: causes', 'chunk_outcomes: completed', 'chunk_outcomes: offers', 'chunk_outcomes: own plans', 'chunk_outcomes: auto', 'chunk_outcomes: changes',
-        'touches: client', 'touches: server', 'touches: revoked', 'offered_memory: client_bytes', 'offered_memory: server_bytes', 'offered_memory: reads', 'grant', 'calls_complete', 'segments_keep_the_rules: client', 'segments_keep_the_rules: server',
-        'matched_links_stay')
+        'chunk_outcomes: nothing_added', 'touches: client', 'touches: server', 'touches: requests', 'touches: revoked', 'offered_regions: client adds', 'offered_regions: client live', 'offered_regions: client closed', 'offered_regions: server adds',
+        'offered_regions: server live', 'offered_regions: server closed', 'offered_memory: client_bytes', 'offered_memory: server_bytes', 'offered_memory: reads', 'grant', 'calls_complete', 'segments_keep_the_rules: client', 'segments_keep_the_rules: server',
+        'matched_links_stay: stays', 'matched_links_stay: clients')
 CALL_REASONS, REPLY_REASONS = (18,), (18, 19)
 
 
@@ -137,6 +139,7 @@ class Link:
             for event in ask('events', n, self.names.side(side), list(self.marks), made):
                 before = self.ends[side]
                 self.ends[side] = ask('next_' + side, self.opened, before, event)
+                self.regions(side, before, event)
                 if event.n == 'FrameReceived' and before['ended'].n == 'None':
                     self.frame(side, before, event.a[0])
                     self.memory(side, before, event)
@@ -153,6 +156,8 @@ class Link:
             denied = ask('denial', f, before['state']['regions'], access.a[0]).n == 'Some'
             stops = self.ends[side]['ended'].n == 'Some' and self.ends[side]['state'] == before['state']
             self.note('touches: ' + side, not denied or stops, ('stops',) if denied else ())
+            if side == 'server' and ask('request', segment.a[0]).n == 'Some':
+                self.note('touches: requests', stops)
 
     def memory(self, side, before, event):
         ask, f = self.names.ask, event.a[0]
@@ -167,6 +172,35 @@ class Link:
             got = list(ask('memory', before['state'], f['end'], q['stag']))[q['to']:q['to'] + q['size']]
             same = list(ask('output', self.opened, before, event)) == list(ask('response', q['sink'], q['sink_to'], got))
             self.note('offered_memory: reads', same and len(got) == q['size'])
+
+    def regions(self, side, before, event):
+        """Which regions an event adds and closes, and which of those that live are needed."""
+        old, new, k = before['state']['regions'], self.ends[side]['state']['regions'], self.ends[side]['state']
+        law = 'offered_regions: ' + side
+        self.note(law + ' adds', all(dict(a, until=None) == dict(b, until=None) for a, b in zip(old, new)) and len(new) >= len(old))
+        added = new[len(old):]
+        if side == 'client' and event.n == 'CallSubmitted' and before['ended'].n == 'None':
+            chunks = self.names.ask('chunks', before['state'], event.a[1])
+            self.note(law + ' adds', [(r['stag'], r['right'], r['bytes']) for r in added] == [(c['stag'], c['right'], c['bytes']) for c in chunks]
+                      and all(r['from'] == event.a[0] and r['call'] == event.a[1]['xid'] for r in added), ('chunks',) if chunks else ())
+        elif added:
+            f = event.a[0]
+            self.note(law + ' adds', side == 'server' and event.n == 'FrameReceived' and all(r['right'].n == 'Sink' and not any(r['bytes']) and r['from'] == f['end'] for r in added), ('chunks',))
+        for i, r in enumerate(new):
+            if r['until'].n == 'None':
+                self.note(law + ' live', self.is_needed(side, k, r))
+            elif i >= len(old) or old[i]['until'].n == 'None':
+                at, place = r['until'].a[0], event.a[0]
+                closes = event.n == 'FrameReceived' and place['end'] == at or event.n == 'MemoryRevoked' and place == at and event.a[1] == r['call']
+                self.note(law + ' closed', closes and (not self.is_needed(side, k, r)), ('revoked',) if event.n == 'MemoryRevoked' else ())
+            else:
+                self.note(law + ' closed', r == old[i])
+
+    def is_needed(self, side, k, r):
+        if side == 'client':
+            return any(o['xid'] == r['call'] and not o['is_revoked'] for o in k['outstanding'])
+        pending = any(c['number'] == r['call'] for c in k['calls'])
+        return any(q['number'] == r['call'] and (pending or q['position'] == r['position']) for q in k['reads'])
 
     def bytes_of_regions(self):
         for side in ('client', 'server'):
@@ -232,7 +266,7 @@ class Link:
             self.note('executed_payloads', conveyed.n == 'Some' and conveyed.a[0] == q, self.kind(x))
             self.note('chunk_outcomes: offers', kept == s['offer'], self.kind(x))
             held = ask('answer', s['offer'], state, q, reply).n == 'Some'
-        self.executes[x] = {'reply': reply, 'held': held}
+        self.executes[x] = {'reply': reply, 'held': held, 'adds': bool(adds)}
 
     def has_cause(self, x):
         return self.submits[x]['refused'] or x in self.executes and not self.executes[x]['held']
@@ -252,6 +286,8 @@ class Link:
                 self.note('replies_are_plain', same, self.kind(x))
         why = () if kind != 'Chunk' else ('is refused',) if self.submits[x]['refused'] else ('is not held',)
         self.note('chunk_outcomes: causes', (kind == 'Chunk') == self.has_cause(x), self.kind(x) + why)
+        if kind == 'Chunk' and e is not None:
+            self.note('chunk_outcomes: nothing_added', not e['adds'], self.kind(x))
         if self.submits[x]['form']['kind'] == 'Auto':
             self.note('chunk_outcomes: auto', kind == 'Reply', self.kind(x))
 
@@ -278,8 +314,11 @@ class Link:
                 bad = first['kind'] == 'Bad' and first['reason'] in (CALL_REASONS if s == 'server' else REPLY_REASONS)
                 self.note('segments_keep_the_rules: ' + s, bad or s == 'client' and first['kind'] == 'Denied', kinds)
         conveys = all(s['form']['kind'] != 'Given' or self.conveys(s, x) for x, s in self.submits.items())
-        if conveys and not any(m['mark'] == 'Revoke' for m in mine):
-            self.note('matched_links_stay', not stops, kinds)
+        revokes = any(m['mark'] == 'Revoke' for m in mine)
+        if conveys and not revokes:
+            self.note('matched_links_stay: stays', not stops, kinds)
+        if not revokes and ends['server'] is None:
+            self.note('matched_links_stay: clients', ends['client'] is None, kinds)
         joined = {k: {s: b''.join(bytes.fromhex(m['bytes']) for m in mine if m['mark'] == k and m['side'] == s) for s in ('client', 'server')} for k in ('Wrote', 'Fed')}
         settled = not stops and joined['Wrote']['client'] == joined['Fed']['server'] and joined['Wrote']['server'] == joined['Fed']['client']
         waits = self.names.ask('waits', self.ends['server']['state'], self.ends['server']['ended']).n == 'Some'

@@ -20,7 +20,7 @@ use Rattle.nr_reduce.specs.ClientState.{ClientState}
 use Rattle.nr_reduce.specs.Client.{client_rules, client_end, client_state_after, initial_client, outstanding_of, region_of, with_message, with_segment}
 use Rattle.nr_reduce.specs.Run.{client}
 use Rattle.nr_reduce.proofs.Steps.{end_state_after-append}
-use Rattle.nr_laws.specs.PlacedBytes.{IsMessageOf, IsClosedForCall, ClientRegionsCloseWithCalls, CallsAddChunks}
+use Rattle.nr_laws.specs.ClientRegions.{IsMessageOf, IsClosedForCall, ClientRegionsCloseWithCalls, CallsAddChunks}
 use Rattle.nr_laws.proofs.Revoked.{request-regions}
 use Rattle.nr_laws.proofs.Basics.{each-all, each-append}
 use Rattle.nr_laws.proofs.SendRegions.{region-of-list}

@@ -24,7 +24,7 @@ use Rattle.nr_link.specs.ReceiveState.{ReadRequest, message_completed, read_requ
 use Rattle.nr_reduce.specs.OfferedRegions.{until_at}
 use Rattle.nr_reduce.specs.ClientState.{OutstandingCall}
 use Rattle.nr_reduce.specs.Client.{with_message, with_request, revoked_call, written_call}
-use Rattle.nr_laws.specs.PlacedBytes.{IsChunkOfCall, ClientRegionsAreChunks, LiveClientRegionsAreOutstanding}
+use Rattle.nr_laws.specs.ClientRegions.{IsChunkOfCall, ClientRegionsAreChunks, LiveClientRegionsAreOutstanding}
 use Rattle.nr_laws.proofs.Revoked.{frame-regions}
 
 abbrev AllOf : (Region → Type 0) → List Region → Type 0

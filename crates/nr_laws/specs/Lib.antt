@@ -19,3 +19,4 @@ pub mod PlacedBytes
 pub mod RefusedMessages
 pub mod PlainLinks
 pub mod ServerRegions
+pub mod ClientRegions

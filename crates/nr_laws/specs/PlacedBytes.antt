@@ -1,24 +1,22 @@
 -- What a side's memory holds, and what it discloses, is by allowed accesses alone (RFC 5040 section 5).
-use Rattle.std.specs.Prelude.{◌≡◌, ℕ, ◌-◌, ◌≤◌, false, List, [], ◌∷◌, ◌++◌, length, map, take, drop, Option, None, Some, Ok, ◌⊎◌, Contains, slice_get}
+use Rattle.std.specs.Prelude.{◌≡◌, ℕ, ◌-◌, ◌≤◌, false, List, [], ◌∷◌, ◌++◌, length, take, drop, Option, None, Some, Ok, ◌⊎◌, Contains, slice_get}
 use Rattle.nr_wire.specs.declared.hello.Side.TheVariants.{Initiator, Responder}
 use Rattle.nr_wire.specs.Segment.{Segment}
 use Rattle.nr_regions.specs.declared.right.Right.TheVariants.{Fetch}
 use Rattle.nr_regions.specs.Access.{Allowed, Grant, TaggedSegment, access_of}
 use Rattle.nr_link.specs.Frames.{Frame, is_hello}
-use Rattle.nr_link.specs.ReceiveState.{ReadRequest, read_request_of, message_completed}
-use Rattle.nr_xdr.specs.Fields.{word_at}
+use Rattle.nr_link.specs.ReceiveState.{ReadRequest, read_request_of}
 use Rattle.nr_link.specs.declared.end.End.{End}
 use Rattle.nr_link.specs.Ending.{frame_segment, tagged_access, final_output}
 use Rattle.nr_link.specs.Output.{read_response}
 use Rattle.nr_reduce.specs.declared.mark.Mark.{Mark}
 use Rattle.nr_reduce.specs.declared.mark.LinkParameters.{LinkParameters}
 use Rattle.nr_reduce.specs.Events.{Event, events}
-use Rattle.nr_reduce.specs.Events.Event.{FrameReceived, CallSubmitted, MemoryRevoked}
+use Rattle.nr_reduce.specs.Events.Event.{FrameReceived, CallSubmitted}
 use Rattle.nr_reduce.specs.History.{AcceptedCall}
-use Rattle.nr_reduce.specs.Plans.{buffers}
 use Rattle.nr_reduce.specs.EndRules.{Rules, EndState, output_for, next_end_state, end_state_after}
 use Rattle.nr_reduce.specs.OfferedRegions.{Region, region_grants}
-use Rattle.nr_reduce.specs.Client.{client_rules, initial_client, outstanding_of, region_of, calls_output}
+use Rattle.nr_reduce.specs.Client.{client_rules, initial_client, outstanding_of, calls_output}
 use Rattle.nr_reduce.specs.Server.{server_rules, initial_server}
 use Rattle.nr_reduce.specs.ClientState.{ClientState, OutstandingCall, memory_at}
 use Rattle.nr_reduce.specs.Run.{client, server, grants_of, placed_bytes}
@@ -103,64 +101,3 @@ abbrev pub NothingElseIsDisclosed : Type 0
 NothingElseIsDisclosed = (opened : LinkParameters) (link : ℕ) (run : List Mark) (earlier later : List Event) (event : Event) →
     (let before : EndState ClientState = end_state_after (client_rules opened) (initial_client opened) earlier in
     events link Initiator run ≡ earlier ++ event ∷ later → IsOwnOutput opened (earlier ++ event ∷ []) (next_end_state (client_rules opened) before event).ended (output_for (client_rules opened) before event) ⊎ AnswersRequest opened before event)
-
--- A region is a chunk of a call that was accepted among these events, under the STag and with the right of that chunk, from there on: but
--- for where it is closed.
-pub record IsChunkOfCall (opened : LinkParameters) (received : List Event) (r : Region) : Type 0 where
-  pub earlier : List Event
-  pub later : List Event
-  pub place : ℕ
-  pub call : AcceptedCall
-  pub is_submitted : received ≡ earlier ++ CallSubmitted place call ∷ later
-  pub chunk : (let k : ClientState = (end_state_after (client_rules opened) (initial_client opened) earlier).state in
-      Contains (map (region_of call.xid place) (buffers k.stag (outstanding_of k call).plan)) (record r { until = None }))
-
-abbrev pub ClientRegionsAreChunks : Type 0
-ClientRegionsAreChunks = (opened : LinkParameters) (link : ℕ) (run : List Mark) (r : Region) → Contains (client opened link run).state.regions r → IsChunkOfCall opened (events link Initiator run) r
-
--- A region of a client lives only while its call is outstanding and its memory isn't taken back: with the message of its call it is closed, and
--- with a Revoke.
-pub record IsOfOutstanding (k : ClientState) (xid : ℕ) : Type 0 where
-  pub call : OutstandingCall
-  pub there : Contains k.outstanding call
-  pub own : call.xid ≡ xid
-  pub kept : call.is_revoked ≡ false
-
-abbrev pub LiveClientRegionsAreOutstanding : Type 0
-LiveClientRegionsAreOutstanding = (opened : LinkParameters) (link : ℕ) (run : List Mark) (earlier later : List Event) (r : Region) → events link Initiator run ≡ earlier ++ later →
-    (let k : ClientState = (end_state_after (client_rules opened) (initial_client opened) earlier).state in
-    Contains k.regions r → r.until ≡ None → IsOfOutstanding k r.call)
-
--- a frame makes the message of this xid whole, and ends at this place
-pub record IsMessageOf (k : ClientState) (event : Event) (xid place : ℕ) : Type 0 where
-  pub frame : Frame
-  pub segment : Segment
-  pub message : List ℕ
-  pub is : event ≡ FrameReceived frame
-  pub behind_hello : is_hello frame ≡ false
-  pub is_segment : frame_segment frame ≡ Ok segment
-  pub whole : message_completed k.received segment ≡ Some message
-  pub own : word_at 0 message ≡ xid
-  pub ends_there : frame.end ≡ place
-
--- A region of a client that was live before an event is closed by it: the event is the message of its call, or its memory is taken back.
-pub record IsClosedForCall (opened : LinkParameters) (received : List Event) (r : Region) (place : ℕ) : Type 0 where
-  pub earlier : List Event
-  pub later : List Event
-  pub event : Event
-  pub is_received : received ≡ earlier ++ event ∷ later
-  pub was_live : Contains (end_state_after (client_rules opened) (initial_client opened) earlier).state.regions (record r { until = None })
-  pub why : IsMessageOf (end_state_after (client_rules opened) (initial_client opened) earlier).state event r.call place ⊎ (event ≡ MemoryRevoked place r.call)
-
--- On every link, whatever the server sends: a region of a client is closed only so, there.
-abbrev pub ClientRegionsCloseWithCalls : Type 0
-ClientRegionsCloseWithCalls = (opened : LinkParameters) (link : ℕ) (run : List Mark) (r : Region) (place : ℕ) → Contains (client opened link run).state.regions r → r.until ≡ Some place →
-    IsClosedForCall opened (events link Initiator run) r place
-
--- A call that is accepted before the client ends adds a region for each chunk of its plan, in order, behind those that were there.
-abbrev pub CallsAddChunks : Type 0
-CallsAddChunks = (opened : LinkParameters) (link : ℕ) (run : List Mark) (earlier later : List Event) (place : ℕ) (call : AcceptedCall) →
-    (let before : EndState ClientState = end_state_after (client_rules opened) (initial_client opened) earlier in
-    events link Initiator run ≡ earlier ++ CallSubmitted place call ∷ later → before.ended ≡ None →
-    (end_state_after (client_rules opened) (initial_client opened) (earlier ++ CallSubmitted place call ∷ [])).state.regions
-        ≡ before.state.regions ++ map (region_of call.xid place) (buffers before.state.stag (outstanding_of before.state call).plan))

@@ -86,7 +86,7 @@ pub record HasReadLeft (k : ServerState) (r : Region) : Type 0 where
   pub own : read.number ≡ r.call
   pub of_chunk : IsPendingNumber k r.call ⊎ (read.position ≡ r.position)
 
--- On every link whose server executes only calls that are whole, whatever the client sends: a region that isn't closed has a read left.
+-- On every link whose server keeps its law so far, whatever the client sends: a region that isn't closed has a read left.
 abbrev pub LiveServerRegionsAreRead : Type 0
 LiveServerRegionsAreRead = (opened : LinkParameters) (link : ℕ) (run : List Mark) (earlier later : List Event) (r : Region) → IsTyped run → ServedSoFar opened link run → events link Responder run ≡ earlier ++ later →
     Contains (server_by opened earlier).regions r → r.until ≡ None → HasReadLeft (server_by opened earlier) r

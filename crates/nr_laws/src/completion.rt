@@ -27,11 +27,11 @@ pub fn segments_keep_the_rules()
     ensures before { LawsKeptBefore }
 {}
 
-/// On a matched link that was opened with numbers and credits in range, where each side wrote all its output whenever it wrote; no memory
-/// of a call is taken back; each offer that is given conveys a payload with an RPC call head (RFC 5531 section 9), or its message is
-/// refused by ERR_CHUNK (RFC 8166 section 4.5); and calls are answered as a plain server answers, each of whose replies has the head of
-/// a reply to its call and fits: neither side ends. So where nothing waits on such a link, all its calls have completed. A mark that
-/// the link was dropped changes nothing here.
+/// Neither side of a matched link ends, where: it was opened with numbers and credits in range; each side wrote all its output whenever it wrote; no
+/// memory of a call is taken back; each offer that is given conveys a payload with an RPC call head (RFC 5531 section 9), or its message is
+/// refused by ERR_CHUNK (RFC 8166 section 4.5); and calls are answered as a plain server answers, each of whose replies has the head of a reply to
+/// its call. So where nothing waits on such a link, no call is outstanding, and each that wasn't given up has its outcome, and its Done once all
+/// outcomes that are due are handed over. A mark that the link was dropped changes nothing here.
 pub fn matched_links_stay()
     ensures stays { MatchedLinksStay }
     ensures allowed { NoAccessIsDenied }

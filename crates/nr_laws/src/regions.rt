@@ -1,12 +1,13 @@
 //! What the sides of a link offer, and what becomes of it.
 
-ghost use Rattle.nr_laws.specs.PlacedBytes.{ClientBytesAreAllowed, ServerBytesAreAllowed, ReadsAreAllowed, NothingElseIsDisclosed, CallsAddChunks, ClientRegionsAreChunks, ClientRegionsCloseWithCalls, LiveClientRegionsAreOutstanding};
+ghost use Rattle.nr_laws.specs.PlacedBytes.{ClientBytesAreAllowed, ServerBytesAreAllowed, ReadsAreAllowed, NothingElseIsDisclosed};
+ghost use Rattle.nr_laws.specs.ClientRegions.{CallsAddChunks, ClientRegionsAreChunks, ClientRegionsCloseWithCalls, LiveClientRegionsAreOutstanding};
 ghost use Rattle.nr_laws.specs.ServerRegions.{ServerRegionsAreChunks, SendsAddChunks, NothingElseAddsRegions, ClosedRegionsStay, LiveServerRegionsAreRead, ServerRegionsCloseWhenRead};
 
-/// Which regions a side offers, and how long, whatever the peer sends. Each region of a client is a chunk of an accepted call (RFC 8166
-/// section 3.4), and lives only while that call is outstanding and its memory isn't taken back. Each region of a server is a read chunk with
-/// bytes of a call that its Send made pending (RFC 8166 section 3.4.5); each such chunk has one, which is closed once, where nothing is left to be read
-/// for it.
+/// Which regions a side offers, and how long, whatever the peer sends. An accepted call adds a region at its client for each chunk of its plan
+/// (RFC 8166 section 3.4). A region lives only while its call is outstanding and its memory isn't taken back, and is closed by the message of
+/// the call or by a Revoke. A Send that makes a call pending adds a sink at its server for each read chunk with bytes (RFC 8166 section
+/// 3.4.5), which is closed once, where nothing is left to be read for it. Nothing else adds a region.
 pub fn offered_regions()
     ensures client_chunks { ClientRegionsAreChunks }
     ensures calls { CallsAddChunks }
