@@ -263,9 +263,14 @@ nothing_else_is_disclosed opened link run earlier later event is = by_ended befo
         made = record { earlier = earlier; later = []; place = place; call = a; is_submitted = ap (λ (e : Event). earlier ++ e ∷ []) same; own = refl }
 
         sent : (b : Bool) → IsOwnOutput opened here after (cond b (call_output opened (k.calls_accepted + 1) (outstanding_of k a)) [])
-        sent true = inl (k.calls_accepted + 1, outstanding_of k a ∷ [],
-            ((λ o c. each-at (IsOfSubmitted opened here) (outstanding_of k a ∷ []) (made, tt) o c),
-            sym (append-nil (call_output opened (k.calls_accepted + 1) (outstanding_of k a)))))
+        sent true = inl (
+          k.calls_accepted + 1,
+          outstanding_of k a ∷ [],
+          (
+            (λ o c. each-at (IsOfSubmitted opened here) (outstanding_of k a ∷ []) (made, tt) o c),
+            sym (append-nil (call_output opened (k.calls_accepted + 1) (outstanding_of k a))),
+          ),
+        )
         sent false = none
     by_event (MemoryRevoked place xid) same live quiet = inl none
     by_event (CallExecuted call) same live quiet = inl none
@@ -273,9 +278,13 @@ nothing_else_is_disclosed opened link run earlier later event is = by_ended befo
 
     by_why : (o : Option Stop) → client_end k event ≡ o → before.ended ≡ None → IsOwnOutput opened here after (output_for_by (client_rules opened) k event o) ⊎ AnswersRequest opened before event
     by_why None quiet live = by_event event refl live quiet
-    by_why (Some end) ends live = inl (inr (end, (
+    by_why (Some end) ends live = inl (inr (
+      end,
+      (
         ap (λ (o : Option Stop). (next_end_state_in (client_rules opened) k event o).ended) live ∙ ap (λ (o : Option Stop). (next_end_state_by (client_rules opened) k event o).ended) ends,
-        refl)))
+        refl,
+      ),
+    ))
 
     by_ended : (o : Option Stop) → before.ended ≡ o → IsOwnOutput opened here after (output_for_in (client_rules opened) k event o) ⊎ AnswersRequest opened before event
     by_ended None live = by_why (client_end k event) refl live

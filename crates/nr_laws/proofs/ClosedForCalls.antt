@@ -14,19 +14,17 @@ use Rattle.nr_reduce.specs.declared.mark.LinkParameters.{LinkParameters}
 use Rattle.nr_reduce.specs.Plans.{Buffer, buffers}
 use Rattle.nr_reduce.specs.Events.{Event, events}
 use Rattle.nr_reduce.specs.Events.Event.{FrameReceived, CallSubmitted, MemoryRevoked, CallExecuted, QueueWritten}
-use Rattle.nr_reduce.specs.EndRules.{EndState, next_end_state, next_end_state_by, next_end_state_in, end_state_after}
+use Rattle.nr_reduce.specs.EndRules.{EndState, next_end_state, next_end_state_by, next_end_state_in}
 use Rattle.nr_reduce.specs.OfferedRegions.{Region, until_at, closed_if, regions_closed}
 use Rattle.nr_reduce.specs.ClientState.{ClientState}
 use Rattle.nr_reduce.specs.Client.{client_rules, client_end, client_state_after, initial_client, outstanding_of, region_of, with_message, with_segment}
 use Rattle.nr_reduce.specs.Run.{client}
 use Rattle.nr_reduce.proofs.Steps.{end_state_after-append}
+use Rattle.nr_laws.proofs.Outcomes.{client_by}
 use Rattle.nr_laws.specs.ClientRegions.{IsMessageOf, IsClosedForCall, ClientRegionsCloseWithCalls, CallsAddChunks}
 use Rattle.nr_laws.proofs.Revoked.{request-regions}
-use Rattle.nr_laws.proofs.Basics.{each-all, each-append}
+use Rattle.nr_laws.proofs.Basics.{each-all, each-append, some-is}
 use Rattle.nr_laws.proofs.SendRegions.{region-of-list}
-
-abbrev at : LinkParameters → List Event → EndState ClientState
-at opened es = end_state_after (client_rules opened) (initial_client opened) es
 
 abbrev IsClosed : LinkParameters → List Event → Region → Type 0
 IsClosed opened es r = (place : ℕ) → r.until ≡ Some place → IsClosedForCall opened es r place
@@ -43,13 +41,10 @@ closed-more opened es more r h place is =
       why = c.why;
     }
 
-same-place : (m n : ℕ) → ◌≡◌ {A = Option ℕ} (Some m) (Some n) → m ≡ n
-same-place m n e = cc
-
 abbrev Why : ClientState → Event → ℕ → ℕ → Type 0
 Why k e xid place = IsMessageOf k e xid place ⊎ (e ≡ MemoryRevoked place xid)
 
-close-one : (opened : LinkParameters) (es : List Event) (e : Event) (p : ℕ) (x : Region) → IsClosed opened (es ++ e ∷ []) x → Contains (at opened es).state.regions x → (b : Bool) → (b ≡ true → Why (at opened es).state e x.call p) → IsClosed opened (es ++ e ∷ []) (closed_if b p x)
+close-one : (opened : LinkParameters) (es : List Event) (e : Event) (p : ℕ) (x : Region) → IsClosed opened (es ++ e ∷ []) x → Contains (client_by opened es).state.regions x → (b : Bool) → (b ≡ true → Why (client_by opened es).state e x.call p) → IsClosed opened (es ++ e ∷ []) (closed_if b p x)
 close-one opened es e p x h there false why = h
 close-one opened es e p x h there true why = λ place is. by x.until refl place is
   where
@@ -59,31 +54,31 @@ close-one opened es e p x h there true why = λ place is. by x.until refl place 
       later = [];
       event = e;
       is_received = refl;
-      was_live = subst (λ (u : Option ℕ). Contains (at opened es).state.regions (record x { until = u })) none there;
-      why = subst (λ (n : ℕ). Why (at opened es).state e x.call n) (same-place p place is) (why refl);
+      was_live = subst (λ (u : Option ℕ). Contains (client_by opened es).state.regions (record x { until = u })) none there;
+      why = subst (λ (n : ℕ). Why (client_by opened es).state e x.call n) (some-is p place is) (why refl);
     }
     by (Some u) some place is =
         let c = h place (some ∙ is) in
         record { earlier = c.earlier; later = c.later; event = c.event; is_received = c.is_received; was_live = c.was_live; why = c.why }
 
-close-all : (opened : LinkParameters) (es : List Event) (e : Event) (p xid : ℕ) → Why (at opened es).state e xid p → (xs : List Region) → AllByRecursion (IsClosed opened (es ++ e ∷ [])) xs → AllByRecursion (Contains (at opened es).state.regions) xs
+close-all : (opened : LinkParameters) (es : List Event) (e : Event) (p xid : ℕ) → Why (client_by opened es).state e xid p → (xs : List Region) → AllByRecursion (IsClosed opened (es ++ e ∷ [])) xs → AllByRecursion (Contains (client_by opened es).state.regions) xs
     → AllByRecursion (IsClosed opened (es ++ e ∷ [])) (regions_closed (λ r. eqb r.call xid) p xs)
 unfolding regions_closed
 close-all opened es e p xid why [] h c = tt
 close-all opened es e p xid why (x ∷ xs) h c =
-    (close-one opened es e p x h.0 c.0 (eqb x.call xid) (λ own. subst (λ (n : ℕ). Why (at opened es).state e n p) (sym (eqb-true x.call xid own)) why), close-all opened es e p xid why xs h.1 c.1)
+    (close-one opened es e p x h.0 c.0 (eqb x.call xid) (λ own. subst (λ (n : ℕ). Why (client_by opened es).state e n p) (sym (eqb-true x.call xid own)) why), close-all opened es e p xid why xs h.1 c.1)
 
 new-open : (opened : LinkParameters) (es : List Event) (xid place : ℕ) (bs : List Buffer) → AllByRecursion (IsClosed opened es) (map (region_of xid place) bs)
 new-open opened es xid place [] = tt
 new-open opened es xid place (b ∷ bs) = ((λ p is. absurd (let wrong : None ≡ Some p = is in cc)), new-open opened es xid place bs)
 
-one-event : (opened : LinkParameters) (es : List Event) (e : Event) → AllByRecursion (IsClosed opened es) (at opened es).state.regions
-    → AllByRecursion (IsClosed opened (es ++ e ∷ [])) (next_end_state (client_rules opened) (at opened es) e).state.regions
+one-event : (opened : LinkParameters) (es : List Event) (e : Event) → AllByRecursion (IsClosed opened es) (client_by opened es).state.regions
+    → AllByRecursion (IsClosed opened (es ++ e ∷ [])) (next_end_state (client_rules opened) (client_by opened es) e).state.regions
 unfolding client_state_after
-one-event opened es e h = by_ended (at opened es).ended
+one-event opened es e h = by_ended (client_by opened es).ended
   where
     k : ClientState
-    k = (at opened es).state
+    k = (client_by opened es).state
 
     P : Region → Type 0
     P = IsClosed opened (es ++ e ∷ [])
@@ -123,11 +118,11 @@ one-event opened es e h = by_ended (at opened es).ended
     by_ended None = by_why (client_end k e)
     by_ended (Some end) = same
 
-all-events : (opened : LinkParameters) (front es : List Event) → AllByRecursion (IsClosed opened front) (at opened front).state.regions → AllByRecursion (IsClosed opened (front ++ es)) (at opened (front ++ es)).state.regions
-all-events opened front [] h = subst (λ (xs : List Event). AllByRecursion (IsClosed opened xs) (at opened xs).state.regions) (sym (append-nil front)) h
+all-events : (opened : LinkParameters) (front es : List Event) → AllByRecursion (IsClosed opened front) (client_by opened front).state.regions → AllByRecursion (IsClosed opened (front ++ es)) (client_by opened (front ++ es)).state.regions
+all-events opened front [] h = subst (λ (xs : List Event). AllByRecursion (IsClosed opened xs) (client_by opened xs).state.regions) (sym (append-nil front)) h
 all-events opened front (e ∷ es) h =
     let one = subst (λ (r : EndState ClientState). AllByRecursion (IsClosed opened (front ++ e ∷ [])) r.state.regions) (sym (end_state_after-append (client_rules opened) (initial_client opened) front (e ∷ []))) (one-event opened front e h) in
-    subst (λ (xs : List Event). AllByRecursion (IsClosed opened xs) (at opened xs).state.regions) (append_assoc front (e ∷ []) es) (all-events opened (front ++ e ∷ []) es one)
+    subst (λ (xs : List Event). AllByRecursion (IsClosed opened xs) (client_by opened xs).state.regions) (append_assoc front (e ∷ []) es) (all-events opened (front ++ e ∷ []) es one)
 
 pub client_regions_close_with_calls : ClientRegionsCloseWithCalls
 unfolding client
@@ -138,4 +133,4 @@ pub calls_add_chunks : CallsAddChunks
 unfolding client_state_after client_end
 calls_add_chunks opened link run earlier later place call is live =
     ap (λ (r : EndState ClientState). r.state.regions) (end_state_after-append (client_rules opened) (initial_client opened) earlier (CallSubmitted place call ∷ []))
-    ∙ ap (λ (o : Option Stop). (next_end_state_in (client_rules opened) (at opened earlier).state (CallSubmitted place call) o).state.regions) live
+    ∙ ap (λ (o : Option Stop). (next_end_state_in (client_rules opened) (client_by opened earlier).state (CallSubmitted place call) o).state.regions) live

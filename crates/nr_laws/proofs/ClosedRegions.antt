@@ -20,7 +20,7 @@ use Rattle.nr_reduce.specs.RunLaws.{server_by}
 use Rattle.nr_reduce.proofs.Steps.{end_state_after-append}
 use Rattle.nr_laws.specs.ServerRegions.{IsChunkOfFrame, HasReadLeft, IsClosedAt, ServerRegionsCloseWhenRead}
 use Rattle.nr_laws.proofs.LiveRegions.{none-left}
-use Rattle.nr_laws.proofs.Basics.{each-all, each-append}
+use Rattle.nr_laws.proofs.Basics.{each-all, each-append, some-is}
 use Rattle.nr_laws.proofs.SendRegions.{chunks_in, frame-chunks, state_at, new-each, regions-along, region-of-list, counted}
 
 abbrev IsClosed : LinkParameters → List Event → Region → Type 0
@@ -38,9 +38,6 @@ closed-more opened es more r h place is =
       was_live = c.was_live;
       nothing_left = c.nothing_left;
     }
-
-same-place : (m n : ℕ) → ◌≡◌ {A = Option ℕ} (Some m) (Some n) → m ≡ n
-same-place m n e = cc
 
 frame-event : (opened : LinkParameters) (es : List Event) (f : Frame) → AllByRecursion (IsClosed opened es) (server_by opened es).regions → (next_end_state (server_rules opened) (state_at opened es) (FrameReceived f)).ended ≡ None
     → AllByRecursion (IsClosed opened (es ++ FrameReceived f ∷ [])) (server_state_after opened (server_by opened es) (FrameReceived f)).regions
@@ -94,7 +91,7 @@ frame-event opened es f h stays = by (is_hello f) refl
           later = [];
           frame = f;
           is_received = refl;
-          ends_there = same-place f.end place is;
+          ends_there = some-is f.end place is;
           was_live = was (live none);
           nothing_left = λ h. none-left next x over (own (subst (λ (s : ServerState). HasReadLeft s (closed_if true f.end x)) (state behind) h));
         }

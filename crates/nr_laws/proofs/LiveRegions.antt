@@ -1,5 +1,6 @@
 -- A region of a server is closed as soon as nothing is left to be read for it, and not before.
 use Rattle.std.proofs.Common.{◌≡◌, ℕ, zero, suc, ◌<◌, Bool, true, false, cond, not, ◌&&◌, ◌||◌, eqb, List, [], ◌∷◌, ◌++◌, length, Option, None, Some, refl, sym, ap, subst, ◌∙◌, arith, append_assoc, append-nil, inl, inr, ◌⊎◌, eq-eqb, eqb-true}
+use Rattle.std.proofs.lemmas.Bool.{and_parts}
 use Rattle.std.specs.Prelude.{Contains, slice_index_or}
 use Rattle.std.specs.List.{filter, list_any, AllByRecursion}
 use Rattle.nr_wire.specs.declared.hello.Side.TheVariants.{Responder}
@@ -52,10 +53,6 @@ passes-any p xs x there passes = at there.0 xs there.1 there.2
     at zero (y ∷ ys) lt is = ap (λ (b : Bool). b || list_any p ys) (ap p is ∙ passes)
     at (suc k) (y ∷ ys) lt is = or-right (p y) (list_any p ys) (at k ys (omega (arith, lt)) is)
 
-both-pass : (a b : Bool) → (a && b) ≡ true → (a ≡ true) × (b ≡ true)
-both-pass true b e = (refl, e)
-both-pass false b e = absurd (let wrong : false ≡ true = e in cc)
-
 -- ---- Whether a region is over, in plain words
 
 pub left-to-read : (k : ServerState) (r : Region) → is_over k.calls k.reads r ≡ false → HasReadLeft k r
@@ -72,7 +69,7 @@ left-to-read k r e = by (list_any (λ (c : PendingCall). eqb c.number r.call) k.
         record { read = x.one; is_left = x.there; own = eqb-true x.one.number r.call x.passes; of_chunk = inl (record { call = c.one; there = c.there; own = eqb-true c.one.number r.call c.passes }) }
     by false is e =
         let x = some-one (λ (x : PendingRead). eqb x.number r.call && eqb x.position r.position) k.reads (some _ e) in
-        let both = both-pass (eqb x.one.number r.call) (eqb x.one.position r.position) x.passes in
+        let both = and_parts (eqb x.one.number r.call) (eqb x.one.position r.position) x.passes in
         record { read = x.one; is_left = x.there; own = eqb-true x.one.number r.call both.0; of_chunk = inr (eqb-true x.one.position r.position both.1) }
 
 pub none-left : (k : ServerState) (r : Region) → is_over k.calls k.reads r ≡ true → HasReadLeft k r → ⊥
@@ -133,7 +130,7 @@ is-whole : (k : ServerState) (xid : ℕ) (x : ReadyCall) (rest : List ReadyCall)
 is-whole k xid x rest agree first is c there own read left of_call =
     let w : AreWhole k.reads k.calls (x ∷ rest) = subst (λ (xs : List ReadyCall). AreWhole k.reads k.calls xs) first agree.whole_calls in
     let d = some-one (λ (c : PendingCall). eqb c.number x.number && eqb c.xid x.xid) k.calls w.0 in
-    let both = both-pass (eqb d.one.number x.number) (eqb d.one.xid x.xid) d.passes in
+    let both = and_parts (eqb d.one.number x.number) (eqb d.one.xid x.xid) d.passes in
     let same : c.number ≡ d.one.number = same-number k.calls c d.one agree.xids there d.there (own ∙ is ∙ sym (eqb-true d.one.xid x.xid both.1)) in
     none (is_read_of x.number) w.1 (passes-any (λ (r : PendingRead). eqb r.number x.number) k.reads read left (eq-eqb read.number x.number (of_call ∙ same ∙ eqb-true d.one.number x.number both.0)))
   where

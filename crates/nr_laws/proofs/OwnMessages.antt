@@ -24,7 +24,8 @@ use Rattle.nr_laws.proofs.CallWords.{CallWords, call-words}
 use Rattle.nr_laws.proofs.OnceByXid.{at-mark}
 use Rattle.nr_laws.proofs.ExecutedPayloads.{planned-by}
 use Rattle.nr_laws.proofs.OwnPlans.{payload-some, plan-suits}
-use Rattle.nr_laws.proofs.RefusedMessages.{long-enough, plan-same}
+use Rattle.nr_laws.proofs.RefusedMessages.{long-enough}
+use Rattle.nr_laws.proofs.SubmittedPlans.{plan-is}
 
 pub no_own_plan_is_refused : NoOwnPlanIsRefused
 no_own_plan_is_refused opened link run xid typed asked m own =
@@ -47,7 +48,7 @@ no_own_plan_is_refused opened link run xid typed asked m own =
     bytes = (at-mark TypedMark run has.before (marks.Submit link has.call has.form (submissions.Accepted xid)) has.at.after has.at.is typed).0
 
     stags : stag + regions_needed m.plan ≤ numbers_end
-    stags = subst (λ (p : Plan). stag + regions_needed p ≤ numbers_end) (plan-same accepted.plan m.plan (plan_for (client opened link has.before).state xid has.call has.form) accepted.planned has.planned) accepted.stags
+    stags = subst (λ (p : Plan). stag + regions_needed p ≤ numbers_end) (plan-is accepted.plan m.plan (plan_for (client opened link has.before).state xid has.call has.form) accepted.planned has.planned) accepted.stags
 
     message : List ℕ
     message = call_message xid opened.wished stag m.plan

@@ -23,9 +23,26 @@ replies_are_executed opened link run before xid reply typed far at =
           ∙ append_assoc h.before (marks.Execute link xid h.moment h.payload h.place reply ∷ h.at.after) (marks.Done link xid (outcomes.Reply reply) ∷ at.after);
     } in
     let q = executes_have_plans opened link run h.before xid h.moment h.payload h.place reply typed far there in
-    let had = plan-later opened link run h.before (marks.Execute link xid h.moment h.payload h.place reply) there.after xid q.0 there.is q.1 in
-    (q.0, (h.before, (q.1, (record { moment = h.moment; payload = h.payload; place = h.place; before = h.before; at = h.at;
-        conveyed = payloads_are_own opened link run h.before xid q.0 h.moment h.payload h.place reply typed far had there }, refl))))
+    let had = plan-later opened link run h.before (marks.Execute link xid h.moment h.payload h.place reply) there.after xid q.0 there.is q.1 in (
+      q.0,
+      (
+        h.before,
+        (
+          q.1,
+          (
+            record {
+              moment = h.moment;
+              payload = h.payload;
+              place = h.place;
+              before = h.before;
+              at = h.at;
+              conveyed = payloads_are_own opened link run h.before xid q.0 h.moment h.payload h.place reply typed far had there;
+            },
+            refl,
+          ),
+        ),
+      ),
+    )
 
 pub no_other_version : NoOtherVersion
 no_other_version opened link run before xid low high typed far at = version-never opened link run before at.after xid low high typed far at.is

@@ -26,7 +26,7 @@ use Rattle.nr_reduce.specs.declared.mark.Mark.TheVariants as marks
 use Rattle.nr_reduce.specs.declared.mark.LinkParameters.{LinkParameters}
 use Rattle.nr_reduce.specs.declared.outline.Plan.{Plan}
 use Rattle.nr_reduce.specs.Limits.{send_max}
-use Rattle.nr_reduce.specs.Plans.{TooLarge, plan_size, lists_of, call_message, entries_from, read_stag, read_list}
+use Rattle.nr_reduce.specs.Plans.{plan_size, lists_of, call_message, entries_from, read_stag, read_list}
 use Rattle.nr_reduce.specs.Chunks.{is_read_chunk_of_item, is_read_chunk_at, item_position}
 use Rattle.nr_reduce.specs.Events.{Event, events}
 use Rattle.nr_reduce.specs.Events.Event.{FrameReceived}
@@ -57,7 +57,7 @@ use Rattle.nr_laws.proofs.ServerAlong.{SaidError}
 use Rattle.nr_laws.proofs.RefusedCalls.{RefusedSubmit}
 use Rattle.nr_laws.proofs.Completed.{version-not}
 use Rattle.nr_laws.proofs.OnceByXid.{at-mark, executed-at}
-use Rattle.nr_laws.proofs.SubmittedPlans.{same-submit, own-submit}
+use Rattle.nr_laws.proofs.SubmittedPlans.{same-submit, own-submit, plan-is}
 use Rattle.nr_laws.proofs.ExecutedCalls.{frame-message, received-message, live-server, live-part}
 use Rattle.nr_laws.proofs.ExecutedPayloads.{planned-by}
 use Rattle.nr_laws.proofs.ConveyedCalls.{planned-fits, plan-reads}
@@ -127,9 +127,6 @@ long-enough opened k xid call form plan is =
 
 -- ---- The message of a Send that is refused
 
-pub plan-same : (p q : Plan) (r : Result Plan TooLarge) → r ≡ Ok p → r ≡ Ok q → p ≡ q
-plan-same p q r e f = (let s : Ok p ≡ Ok q = sym e ∙ f in cc)
-
 -- two Sends with one number have one message
 same-message : (opened : LinkParameters) (link : ℕ) (run : List Mark) (index other : ℕ) (message again : List ℕ) → MatchedSoFar opened link run → index ≡ other → WasSubmitted opened link run index message → WasSubmitted opened link run other again → message ≡ again
 same-message opened link run index other message again far same v w =
@@ -142,7 +139,7 @@ same-message opened link run index other message again far same v w =
     let m = s.mark in
     let calls : v.call ≡ w.call = cc in
     let forms : v.form ≡ w.form = cc in
-    let plans : v.accepted.plan ≡ w.accepted.plan = plan-same v.accepted.plan w.accepted.plan (plan_for (client opened link w.earlier).state w.xid w.call w.form)
+    let plans : v.accepted.plan ≡ w.accepted.plan = plan-is v.accepted.plan w.accepted.plan (plan_for (client opened link w.earlier).state w.xid w.call w.form)
     ((λ i. plan_for (client opened link (sym s.place i)).state (sym xids i) (sym calls i) (sym forms i)) ∙ v.accepted.planned) w.accepted.planned in
     v.message_is ∙ (λ i. call_message (xids i) opened.wished (client opened link (s.place i)).state.stag (plans i)) ∙ sym w.message_is
 

@@ -11,10 +11,11 @@ use Rattle.nr_link.specs.ReceiveState.{ReadRequest, message_completed, read_requ
 use Rattle.nr_reduce.specs.declared.mark.LinkParameters.{LinkParameters}
 use Rattle.nr_reduce.specs.Events.{Event}
 use Rattle.nr_reduce.specs.Events.Event.{FrameReceived, CallSubmitted, MemoryRevoked, CallExecuted, QueueWritten}
-use Rattle.nr_reduce.specs.EndRules.{EndState, next_end_state, next_end_state_by, next_end_state_in, end_state_after}
+use Rattle.nr_reduce.specs.EndRules.{EndState, next_end_state, next_end_state_by, next_end_state_in}
 use Rattle.nr_reduce.specs.ClientState.{ClientState, OutstandingCall}
 use Rattle.nr_reduce.specs.Client.{client_rules, client_end, client_state_after, initial_client, outstanding_of, with_segment, with_message, with_request, revoked_call, written_call}
 use Rattle.nr_reduce.proofs.Steps.{end_state_after-append}
+use Rattle.nr_laws.proofs.Outcomes.{client_by}
 use Rattle.nr_laws.specs.PlacedBytes.{IsOfSubmitted}
 
 abbrev Each : (OutstandingCall → Type 0) → List OutstandingCall → Type 0
@@ -56,9 +57,6 @@ submitted-more opened es more o h = record {
   own = h.own;
 }
 
-abbrev at : LinkParameters → List Event → EndState ClientState
-at opened es = end_state_after (client_rules opened) (initial_client opened) es
-
 each-message : (P : OutstandingCall → Type 0) (k : ClientState) (place : ℕ) (m : Option (List ℕ)) → Each P k.outstanding → Each P (with_message k place m).outstanding
 each-message P k place None h = h
 each-message P k place (Some m) h = each-filter P (λ o. not (eqb o.xid (word_at 0 m))) k.outstanding h
@@ -71,13 +69,13 @@ each-segment : (P : OutstandingCall → Type 0) (k : ClientState) (f : Frame) (r
 each-segment P k f (Err reason) h = h
 each-segment P k f (Ok s) h = each-request P (with_message k f.end (message_completed k.received s)) (read_request_of s) (each-message P k f.end (message_completed k.received s) h)
 
-one-event : (opened : LinkParameters) (es : List Event) (e : Event) → Each (IsOfSubmitted opened es) (at opened es).state.outstanding
-    → Each (IsOfSubmitted opened (es ++ e ∷ [])) (next_end_state (client_rules opened) (at opened es) e).state.outstanding
+one-event : (opened : LinkParameters) (es : List Event) (e : Event) → Each (IsOfSubmitted opened es) (client_by opened es).state.outstanding
+    → Each (IsOfSubmitted opened (es ++ e ∷ [])) (next_end_state (client_rules opened) (client_by opened es) e).state.outstanding
 unfolding client_state_after
-one-event opened es e h = by_ended (at opened es).ended
+one-event opened es e h = by_ended (client_by opened es).ended
   where
     k : ClientState
-    k = (at opened es).state
+    k = (client_by opened es).state
 
     P : OutstandingCall → Type 0
     P = IsOfSubmitted opened (es ++ e ∷ [])
@@ -116,11 +114,11 @@ one-event opened es e h = by_ended (at opened es).ended
     by_ended None = by_why (client_end k e)
     by_ended (Some end) = same
 
-all-events : (opened : LinkParameters) (front es : List Event) → Each (IsOfSubmitted opened front) (at opened front).state.outstanding → Each (IsOfSubmitted opened (front ++ es)) (at opened (front ++ es)).state.outstanding
-all-events opened front [] h = subst (λ (xs : List Event). Each (IsOfSubmitted opened xs) (at opened xs).state.outstanding) (sym (append-nil front)) h
+all-events : (opened : LinkParameters) (front es : List Event) → Each (IsOfSubmitted opened front) (client_by opened front).state.outstanding → Each (IsOfSubmitted opened (front ++ es)) (client_by opened (front ++ es)).state.outstanding
+all-events opened front [] h = subst (λ (xs : List Event). Each (IsOfSubmitted opened xs) (client_by opened xs).state.outstanding) (sym (append-nil front)) h
 all-events opened front (e ∷ es) h =
     let one = subst (λ (r : EndState ClientState). Each (IsOfSubmitted opened (front ++ e ∷ [])) r.state.outstanding) (sym (end_state_after-append (client_rules opened) (initial_client opened) front (e ∷ []))) (one-event opened front e h) in
-    subst (λ (xs : List Event). Each (IsOfSubmitted opened xs) (at opened xs).state.outstanding) (append_assoc front (e ∷ []) es) (all-events opened (front ++ e ∷ []) es one)
+    subst (λ (xs : List Event). Each (IsOfSubmitted opened xs) (client_by opened xs).state.outstanding) (append_assoc front (e ∷ []) es) (all-events opened (front ++ e ∷ []) es one)
 
-pub outstanding_are_submitted : (opened : LinkParameters) (es : List Event) (o : OutstandingCall) → Contains (at opened es).state.outstanding o → IsOfSubmitted opened es o
-outstanding_are_submitted opened es o c = each-at (IsOfSubmitted opened es) (at opened es).state.outstanding (all-events opened [] es tt) o c
+pub outstanding_are_submitted : (opened : LinkParameters) (es : List Event) (o : OutstandingCall) → Contains (client_by opened es).state.outstanding o → IsOfSubmitted opened es o
+outstanding_are_submitted opened es o c = each-at (IsOfSubmitted opened es) (client_by opened es).state.outstanding (all-events opened [] es tt) o c

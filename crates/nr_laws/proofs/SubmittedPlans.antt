@@ -109,7 +109,7 @@ same-submit opened link run early late rest others call other form way xid yid a
     by (Behind gap e then) = absurd (let lt = xids_differ IsPrefixOf opened link run early gap others call other form way xid yid (here ∙ ap (λ (t : List Mark). early ++ one ∷ t) then) asked_so in omega (arith, lt, same))
     by (Before gap e then) = absurd (let lt = xids_differ IsPrefixOf opened link run late gap rest other call way form yid xid (again ∙ ap (λ (t : List Mark). late ++ two ∷ t) then) asked_so in omega (arith, lt, same))
 
-plan-is : (p q : Plan) (r : Result Plan TooLarge) → r ≡ Ok p → r ≡ Ok q → p ≡ q
+pub plan-is : (p q : Plan) (r : Result Plan TooLarge) → r ≡ Ok p → r ≡ Ok q → p ≡ q
 plan-is p q r e f = (let s : Ok p ≡ Ok q = sym e ∙ f in cc)
 
 -- an accepted call of this xid is the one with the plan

@@ -77,4 +77,4 @@ CallsAddChunks = (opened : LinkParameters) (link : ℕ) (run : List Mark) (earli
     (let before : EndState ClientState = end_state_after (client_rules opened) (initial_client opened) earlier in
     events link Initiator run ≡ earlier ++ CallSubmitted place call ∷ later → before.ended ≡ None →
     (end_state_after (client_rules opened) (initial_client opened) (earlier ++ CallSubmitted place call ∷ [])).state.regions
-        ≡ before.state.regions ++ map (region_of call.xid place) (buffers before.state.stag (outstanding_of before.state call).plan))
+    ≡ before.state.regions ++ map (region_of call.xid place) (buffers before.state.stag (outstanding_of before.state call).plan))
