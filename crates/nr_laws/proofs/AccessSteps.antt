@@ -17,9 +17,9 @@ use Rattle.nr_reduce.specs.ServerState.{ServerState, PendingCall}
 use Rattle.nr_reduce.specs.Client.{client_state_after}
 use Rattle.nr_reduce.specs.Server.{server_state_after}
 use Rattle.nr_reduce.specs.ServerFrames.{frame_effect}
-use Rattle.nr_laws.specs.FrameContents.{FrameContent, numbered_segment, frame_bytes, total_of, sends_in, requests_in, client_frames, server_frames, Carries}
-use Rattle.nr_laws.specs.FrameContents.FrameContent.{HelloFrame, SendFrame, RequestFrame, TaggedFrame}
-use Rattle.nr_laws.specs.LinkInvariants.{Transit}
+use Rattle.nr_laws.proofs.FrameContents.{FrameContent, numbered_segment, frame_bytes, total_of, sends_in, requests_in, client_frames, server_frames, Carries}
+use Rattle.nr_laws.proofs.FrameContents.FrameContent.{HelloFrame, SendFrame, RequestFrame, TaggedFrame}
+use Rattle.nr_laws.proofs.LinkInvariants.{Transit}
 use Rattle.nr_laws.proofs.Totals.{total-append}
 use Rattle.nr_laws.proofs.CompletedFrames.{is-piece}
 use Rattle.nr_laws.proofs.TotalsAtServer.{segment-is}

@@ -22,8 +22,8 @@ use Rattle.nr_reduce.specs.ClientState.{ClientState, OutstandingCall, call_paylo
 use Rattle.nr_reduce.specs.Client.{client_state_after, outstanding_of, region_of, written_call, with_segment, segment_request}
 use Rattle.nr_reduce.specs.ServerState.{ServerState}
 use Rattle.nr_laws.specs.Typed.{IsTypedForm}
-use Rattle.nr_laws.specs.FrameContents.{FrameContent, call_frame, client_frames, response_frames, tagged_frame, tagged_frames, Carries}
-use Rattle.nr_laws.specs.FrameContents.FrameContent.{HelloFrame, SendFrame, RequestFrame, TaggedFrame}
+use Rattle.nr_laws.proofs.FrameContents.{FrameContent, call_frame, client_frames, response_frames, tagged_frame, tagged_frames, Carries}
+use Rattle.nr_laws.proofs.FrameContents.FrameContent.{HelloFrame, SendFrame, RequestFrame, TaggedFrame}
 use Rattle.nr_laws.proofs.TotalsAtServer.{segment-is}
 use Rattle.nr_laws.proofs.TotalsAtClient.{after-is, says-is, request_payload}
 use Rattle.nr_laws.proofs.ClientFrame.{says-hello, after-hello}

@@ -21,9 +21,9 @@ use Rattle.nr_reduce.specs.ServerState.{ServerState, PendingCall, PendingRead, R
 use Rattle.nr_reduce.specs.ServerReads.{is_read}
 use Rattle.nr_reduce.specs.ServerFrames.{FrameEffect, frame_effect}
 use Rattle.nr_reduce.specs.Server.{server_state_after, with_effect, newly_open_reads, offer_by, offer_of, answer_of_target}
-use Rattle.nr_laws.specs.FrameContents.{FrameContent, tagged_frames, write_frames, answer_frames, request_frame, effect_frames, server_frames}
-use Rattle.nr_laws.specs.FrameContents.FrameContent.{HelloFrame, SendFrame, RequestFrame, TaggedFrame}
-use Rattle.nr_laws.specs.LinkInvariants.{AreWhole}
+use Rattle.nr_laws.proofs.FrameContents.{FrameContent, tagged_frames, write_frames, answer_frames, request_frame, effect_frames, server_frames}
+use Rattle.nr_laws.proofs.FrameContents.FrameContent.{HelloFrame, SendFrame, RequestFrame, TaggedFrame}
+use Rattle.nr_laws.proofs.LinkInvariants.{AreWhole}
 use Rattle.nr_laws.proofs.AgreeingEnds.{says-hello, says-frame, after-hello}
 use Rattle.nr_laws.proofs.CallNumbers.{IsNumbered}
 use Rattle.nr_laws.proofs.AnsweredCalls.{message_xids, times, call_xids, xids-append, times-append}

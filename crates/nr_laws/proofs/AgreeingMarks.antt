@@ -30,9 +30,9 @@ use Rattle.nr_reduce.specs.Opening.{IsOpened}
 use Rattle.nr_reduce.specs.Credits.{WithinGrant, calls_outstanding, credits_granted}
 use Rattle.nr_reduce.specs.Asked.{IsAccepted}
 use Rattle.nr_reduce.specs.Served.{IsExecuted, first_ready, next_call}
-use Rattle.nr_laws.specs.FrameContents.{FrameContent, output_bytes, total_of, sends_in, requests_in, hellos_in}
-use Rattle.nr_laws.specs.FrameContents.FrameContent.{HelloFrame, SendFrame, RequestFrame, TaggedFrame}
-use Rattle.nr_laws.specs.LinkInvariants.{Transit}
+use Rattle.nr_laws.proofs.FrameContents.{FrameContent, output_bytes, total_of, sends_in, requests_in, hellos_in}
+use Rattle.nr_laws.proofs.FrameContents.FrameContent.{HelloFrame, SendFrame, RequestFrame, TaggedFrame}
+use Rattle.nr_laws.proofs.LinkInvariants.{Transit}
 use Rattle.nr_laws.proofs.PendingExecuted.{executed-there}
 use Rattle.nr_laws.proofs.TotalsAtClient.{up_more}
 use Rattle.nr_laws.proofs.Writable.{IsOutput, stream-left}

@@ -30,8 +30,8 @@ use Rattle.nr_reduce.specs.Matched.{IsPrefixOf}
 use Rattle.nr_reduce.proofs.Steps.{client-one, server-one, output_due_up-one, output_due_down-one}
 use Rattle.nr_reduce.proofs.Standing.{itself, received-one, sent-one}
 use Rattle.nr_laws.proofs.Bytes.{bytes_both}
-use Rattle.nr_laws.specs.FrameContents.{FrameContent, numbered_segment, frame_bytes, output_bytes, total_of, sends_in, requests_in}
-use Rattle.nr_laws.specs.LinkInvariants.{Transit}
+use Rattle.nr_laws.proofs.FrameContents.{FrameContent, numbered_segment, frame_bytes, output_bytes, total_of, sends_in, requests_in}
+use Rattle.nr_laws.proofs.LinkInvariants.{Transit}
 use Rattle.nr_laws.proofs.StreamFrames.{AreWritableFrom, proper-frame, IsOf, frames_at, frames-append, spelled-append}
 use Rattle.nr_laws.proofs.CompletedFrames.{fed}
 use Rattle.nr_laws.proofs.Writable.{IsOutput, stream_proper, stream-left}

@@ -31,7 +31,7 @@ use Rattle.nr_reduce.specs.Run.{client, server, grants_of, placed_bytes}
 use Rattle.nr_reduce.proofs.OfferedMemory.{none-found}
 use Rattle.nr_reduce.proofs.Touches.{client_allows}
 use Rattle.nr_reduce.proofs.OwnStags.{AreNumbered, own-stags, client-numbers, server-numbers}
-use Rattle.nr_laws.specs.PlacedBytes.{IsBrought, HoldsAllowed, ClientBytesAreAllowed, ServerBytesAreAllowed, ReadsAreAllowed, IsOfSubmitted, IsOwnOutput, AnswersRequest, NothingElseIsDisclosed}
+use Rattle.nr_laws.specs.PlacedBytes.{IsBrought, HoldsAllowed, ClientBytesAreAllowed, ServerBytesAreAllowed, ReadsAreAllowed, IsSubmittedCall, IsOwnOutput, AnswersRequest, NothingElseIsDisclosed}
 use Rattle.nr_laws.proofs.SubmittedCalls.{outstanding_are_submitted, submitted-more, each-at}
 use Rattle.nr_laws.proofs.Memory.{Gathering}
 use Rattle.nr_laws.proofs.ClientMemory.{client-gathers}
@@ -259,7 +259,7 @@ nothing_else_is_disclosed opened link run earlier later event is = by_ended befo
     by_event (FrameReceived f) same live quiet = frame f same live quiet
     by_event (CallSubmitted place a) same live quiet = inl (sent k.has_hello)
       where
-        made : IsOfSubmitted opened here (outstanding_of k a)
+        made : IsSubmittedCall opened here (outstanding_of k a)
         made = record { earlier = earlier; later = []; place = place; call = a; is_submitted = ap (λ (e : Event). earlier ++ e ∷ []) same; own = refl }
 
         sent : (b : Bool) → IsOwnOutput opened here after (cond b (call_output opened (k.calls_accepted + 1) (outstanding_of k a)) [])
@@ -267,7 +267,7 @@ nothing_else_is_disclosed opened link run earlier later event is = by_ended befo
           k.calls_accepted + 1,
           outstanding_of k a ∷ [],
           (
-            (λ o c. each-at (IsOfSubmitted opened here) (outstanding_of k a ∷ []) (made, tt) o c),
+            (λ o c. each-at (IsSubmittedCall opened here) (outstanding_of k a ∷ []) (made, tt) o c),
             sym (append-nil (call_output opened (k.calls_accepted + 1) (outstanding_of k a))),
           ),
         )

@@ -10,9 +10,9 @@ use Rattle.nr_reduce.specs.ServerState.{ServerState, PendingRead}
 use Rattle.nr_reduce.specs.ServerReads.{open_reads}
 use Rattle.nr_reduce.specs.Server.{server_end, refusal_end}
 use Rattle.nr_reduce.specs.ServerFrames.{frame_effect}
-use Rattle.nr_laws.specs.FrameContents.{FrameContent, Carries}
-use Rattle.nr_laws.specs.FrameContents.FrameContent.{TaggedFrame}
-use Rattle.nr_laws.specs.LinkInvariants.{Transit, ReadsAgree, AreResponses, ContinuesRead, HaveSinks}
+use Rattle.nr_laws.proofs.FrameContents.{FrameContent, Carries}
+use Rattle.nr_laws.proofs.FrameContents.FrameContent.{TaggedFrame}
+use Rattle.nr_laws.proofs.LinkInvariants.{Transit, ReadsAgree, AreResponses, ContinuesRead, HaveSinks}
 use Rattle.nr_laws.proofs.Sinks.{sink-allowed, sinks-taken}
 use Rattle.nr_laws.proofs.EndsOfFrames.{server-response}
 

@@ -21,8 +21,8 @@ use Rattle.nr_reduce.specs.ServerMessages.CallVerdict.{Refuses, IsReady}
 use Rattle.nr_reduce.specs.ServerMessages.Verdict.{MakesPending}
 use Rattle.nr_reduce.specs.ServerFrames.{FrameEffect, no_effect, with_verdict, frame_effect}
 use Rattle.nr_reduce.specs.Server.{newly_open_reads}
-use Rattle.nr_laws.specs.FrameContents.{FrameContent, effect_frames, request_frame, write_frames, answer_frames, tagged_frames}
-use Rattle.nr_laws.specs.FrameContents.FrameContent.{HelloFrame, SendFrame, RequestFrame, TaggedFrame}
+use Rattle.nr_laws.proofs.FrameContents.{FrameContent, effect_frames, request_frame, write_frames, answer_frames, tagged_frames}
+use Rattle.nr_laws.proofs.FrameContents.FrameContent.{HelloFrame, SendFrame, RequestFrame, TaggedFrame}
 use Rattle.nr_laws.proofs.PendingSends.{verdict-new}
 use Rattle.nr_laws.proofs.HeaderXid.{answer-xid, chunk-error-xid, version-error-xid}
 use Rattle.nr_laws.proofs.EachEffect.{send-effect, tagged-effect}

@@ -9,9 +9,9 @@ use Rattle.nr_reduce.specs.Limits.{numbers_end}
 use Rattle.nr_reduce.specs.Plans.{one_if}
 use Rattle.nr_reduce.specs.ClientState.{ClientState, OutstandingCall}
 use Rattle.nr_reduce.specs.ServerState.{ServerState, PendingCall}
-use Rattle.nr_laws.specs.FrameContents.{FrameContent, total_of, sends_in}
-use Rattle.nr_laws.specs.FrameContents.FrameContent.{SendFrame}
-use Rattle.nr_laws.specs.LinkInvariants.{Transit}
+use Rattle.nr_laws.proofs.FrameContents.{FrameContent, total_of, sends_in}
+use Rattle.nr_laws.proofs.FrameContents.FrameContent.{SendFrame}
+use Rattle.nr_laws.proofs.LinkInvariants.{Transit}
 use Rattle.nr_laws.proofs.Totals.{total-append}
 use Rattle.nr_laws.proofs.AnsweredCalls.{message_xids, times, call_xids, outstanding_xids, xids-append, times-append}
 use Rattle.nr_laws.proofs.Basics.{each-kept}

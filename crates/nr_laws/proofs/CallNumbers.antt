@@ -16,9 +16,9 @@ use Rattle.nr_reduce.specs.ServerState.{PendingCall, ServerState}
 use Rattle.nr_reduce.specs.ServerMessages.{verdict}
 use Rattle.nr_reduce.specs.ServerMessages.Verdict.{MakesPending}
 use Rattle.nr_reduce.specs.ServerFrames.{frame_effect}
-use Rattle.nr_laws.specs.FrameContents.{FrameContent, total_of, sends_in, call_frame}
-use Rattle.nr_laws.specs.FrameContents.FrameContent.{HelloFrame, SendFrame, RequestFrame, TaggedFrame}
-use Rattle.nr_laws.specs.LinkInvariants.{AreAtMost}
+use Rattle.nr_laws.proofs.FrameContents.{FrameContent, total_of, sends_in, call_frame}
+use Rattle.nr_laws.proofs.FrameContents.FrameContent.{HelloFrame, SendFrame, RequestFrame, TaggedFrame}
+use Rattle.nr_laws.proofs.LinkInvariants.{AreAtMost}
 use Rattle.nr_laws.proofs.PendingSends.{verdict-new}
 use Rattle.nr_laws.proofs.Basics.{each-append, each-kept}
 use Rattle.nr_laws.proofs.EachEffect.{held-messages, held-responses, send-effect, tagged-effect}

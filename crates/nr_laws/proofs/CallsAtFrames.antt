@@ -41,7 +41,7 @@ use Rattle.nr_reduce.specs.RunLaws.{server_by, known_stream, ends_response, IsRe
 use Rattle.nr_reduce.specs.Undone.{ChunkHolds, lists_by}
 use Rattle.nr_reduce.proofs.Conveyed.{Known, known-from, each-found}
 use Rattle.nr_reduce.proofs.Laid.{added_up}
-use Rattle.nr_laws.specs.LinkInvariants.{IsUnused}
+use Rattle.nr_laws.proofs.LinkInvariants.{IsUnused}
 use Rattle.nr_laws.specs.Payloads.{form_conveyed}
 use Rattle.nr_laws.specs.RefusedMessages.{IsRefusedMessage}
 use Rattle.nr_laws.specs.Typed.{TypedMark, IsTypedForm, IsTypedCall, IsTyped}

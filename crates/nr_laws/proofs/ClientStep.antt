@@ -37,9 +37,9 @@ use Rattle.nr_reduce.specs.Client.{client_end, client_state_after, readiness, or
 use Rattle.nr_reduce.specs.ServerState.{ServerState}
 use Rattle.nr_laws.specs.EndCauses.{IsDenied}
 use Rattle.nr_laws.proofs.EndReasons.{IsMessageReason, EndsForMessage}
-use Rattle.nr_laws.specs.FrameContents.{FrameContent, numbered_segment, frame_bytes, total_of, sends_in, requests_in, hellos_in, client_frames, Carries}
-use Rattle.nr_laws.specs.FrameContents.FrameContent.{HelloFrame, SendFrame, RequestFrame, TaggedFrame}
-use Rattle.nr_laws.specs.LinkInvariants.{Transit, hello_bit}
+use Rattle.nr_laws.proofs.FrameContents.{FrameContent, numbered_segment, frame_bytes, total_of, sends_in, requests_in, hellos_in, client_frames, Carries}
+use Rattle.nr_laws.proofs.FrameContents.FrameContent.{HelloFrame, SendFrame, RequestFrame, TaggedFrame}
+use Rattle.nr_laws.proofs.LinkInvariants.{Transit, hello_bit}
 use Rattle.nr_laws.proofs.Totals.{total-append}
 use Rattle.nr_laws.proofs.Brought.{hello-is}
 use Rattle.nr_laws.proofs.CompletedFrames.{is-piece}

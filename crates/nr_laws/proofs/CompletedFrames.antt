@@ -9,7 +9,7 @@ use Rattle.nr_wire.specs.Stream.{Split, split, awaited_after}
 use Rattle.nr_wire.proofs.Splits.{split-append}
 use Rattle.nr_link.specs.Frames.{Frame, frames_from, frames_of, frames_completed}
 use Rattle.nr_link.specs.Ending.{frame_segment}
-use Rattle.nr_laws.specs.FrameContents.{FrameContent, numbered_segment, frame_bytes, output_bytes, total_of, sends_in, requests_in, Carries}
+use Rattle.nr_laws.proofs.FrameContents.{FrameContent, numbered_segment, frame_bytes, output_bytes, total_of, sends_in, requests_in, Carries}
 use Rattle.nr_laws.proofs.StreamFrames.{AreWritableFrom, IsWritableAs, frames_at, frames-append, length-frames, front}
 use Rattle.nr_laws.proofs.Brought.{encoding-is}
 use Rattle.nr_link.proofs.Streams.{frames_from-append}

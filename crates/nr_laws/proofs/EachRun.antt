@@ -21,7 +21,7 @@ use Rattle.nr_reduce.specs.Asked.{AskedMark, IsAll}
 use Rattle.nr_reduce.specs.Served.{ServedMark}
 use Rattle.nr_reduce.proofs.Steps.{client-one, server-one}
 use Rattle.nr_laws.specs.Typed.{TypedMark}
-use Rattle.nr_laws.specs.FrameContents.FrameContent.{HelloFrame}
+use Rattle.nr_laws.proofs.FrameContents.FrameContent.{HelloFrame}
 use Rattle.nr_laws.proofs.TotalsAtClient.{totals-first}
 use Rattle.nr_reduce.specs.Opening.{IsOpened}
 use Rattle.nr_laws.proofs.Guards.{Guards}

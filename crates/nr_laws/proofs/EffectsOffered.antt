@@ -17,7 +17,7 @@ use Rattle.nr_reduce.specs.ServerMessages.{CallVerdict, by_payload, payload_of, 
 use Rattle.nr_reduce.specs.ServerMessages.CallVerdict.{Refuses, IsReady}
 use Rattle.nr_reduce.specs.ServerMessages.Verdict.{MakesPending}
 use Rattle.nr_reduce.specs.ServerFrames.{FrameEffect, no_effect, with_verdict, with_refused_call, frame_effect}
-use Rattle.nr_laws.specs.FrameContents.FrameContent.{SendFrame}
+use Rattle.nr_laws.proofs.FrameContents.FrameContent.{SendFrame}
 use Rattle.nr_laws.proofs.PendingSends.{verdict-new}
 use Rattle.nr_laws.proofs.ServerReadsOfRuns.{verdict-lists}
 use Rattle.nr_laws.proofs.OfferedAccesses.{EntryOffered, ListsOffered, CallOffered, MessageOffered, ReadOffered}

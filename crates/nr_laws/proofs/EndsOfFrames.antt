@@ -20,9 +20,9 @@ use Rattle.nr_reduce.specs.Client.{readiness as client_readiness, client_end, or
 use Rattle.nr_reduce.specs.ServerState.{ServerState, PendingRead, receives_in_use}
 use Rattle.nr_reduce.specs.Server.{readiness, server_end, or_refusal, refusal_end}
 use Rattle.nr_reduce.specs.ServerFrames.{frame_effect}
-use Rattle.nr_laws.specs.FrameContents.{FrameContent, Carries, total_of, sends_in}
-use Rattle.nr_laws.specs.FrameContents.FrameContent.{SendFrame, TaggedFrame}
-use Rattle.nr_laws.specs.LinkInvariants.{Transit, TotalsAgree, ReadsAgree, AreResponses, WithinWindow}
+use Rattle.nr_laws.proofs.FrameContents.{FrameContent, Carries, total_of, sends_in}
+use Rattle.nr_laws.proofs.FrameContents.FrameContent.{SendFrame, TaggedFrame}
+use Rattle.nr_laws.proofs.LinkInvariants.{Transit, TotalsAgree, ReadsAgree, AreResponses, WithinWindow}
 use Rattle.nr_laws.proofs.FreeReceives.{receives}
 use Rattle.nr_laws.proofs.FaultlessSegments.{send-frame, response-flaw}
 use Rattle.nr_laws.proofs.TotalsAtServer.{segment-is}

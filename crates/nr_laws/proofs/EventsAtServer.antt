@@ -7,8 +7,8 @@ use Rattle.nr_reduce.specs.Events.Event.{CallExecuted, QueueWritten}
 use Rattle.nr_reduce.specs.ClientState.{ClientState}
 use Rattle.nr_reduce.specs.ServerState.{ServerState, ReadyCall, down_max}
 use Rattle.nr_reduce.specs.Server.{offer_of, answer_of_target, server_state_after}
-use Rattle.nr_laws.specs.FrameContents.{server_frames}
-use Rattle.nr_laws.specs.LinkInvariants.{Transit}
+use Rattle.nr_laws.proofs.FrameContents.{server_frames}
+use Rattle.nr_laws.proofs.LinkInvariants.{Transit}
 use Rattle.nr_laws.proofs.TotalsAtServer.{totals-executes, totals-writes_down}
 use Rattle.nr_laws.proofs.ReadsAtClient.{reads-says_down, reads-writes_down, none-answered}
 use Rattle.nr_laws.proofs.PendingExecuted.{pending_agree-executes, executed-there}

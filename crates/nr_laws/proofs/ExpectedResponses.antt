@@ -7,9 +7,9 @@ use Rattle.nr_link.specs.Output.{segment_count, segment_payload}
 use Rattle.nr_link.specs.SegmentFaults.{is_expected}
 use Rattle.nr_reduce.specs.ServerState.{ServerState, PendingRead}
 use Rattle.nr_reduce.specs.ServerReads.{expected_response}
-use Rattle.nr_laws.specs.FrameContents.{FrameContent, tagged_frame, tagged_frames}
-use Rattle.nr_laws.specs.FrameContents.FrameContent.{HelloFrame, SendFrame, RequestFrame, TaggedFrame}
-use Rattle.nr_laws.specs.LinkInvariants.{AreResponses, ContinuesRead}
+use Rattle.nr_laws.proofs.FrameContents.{FrameContent, tagged_frame, tagged_frames}
+use Rattle.nr_laws.proofs.FrameContents.FrameContent.{HelloFrame, SendFrame, RequestFrame, TaggedFrame}
+use Rattle.nr_laws.proofs.LinkInvariants.{AreResponses, ContinuesRead}
 
 -- ---- Answers behind answers
 

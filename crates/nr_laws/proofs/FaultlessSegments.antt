@@ -15,8 +15,8 @@ use Rattle.nr_link.specs.SegmentFaults.{Readiness, SegmentFault, segment_fault, 
 use Rattle.nr_link.specs.ReceiveState.{begun_bytes, read_request_in}
 use Rattle.nr_link.specs.SegmentFaults.SegmentFault.{NoBuffer}
 use Rattle.nr_link.specs.Ending.{frame_end, frame_end_by, end_of_fault, frame_segment}
-use Rattle.nr_laws.specs.FrameContents.{Carries}
-use Rattle.nr_laws.specs.FrameContents.FrameContent.{SendFrame}
+use Rattle.nr_laws.proofs.FrameContents.{Carries}
+use Rattle.nr_laws.proofs.FrameContents.FrameContent.{SendFrame}
 
 itself : (n : ℕ) → eqb n n ≡ true
 itself n = eq-eqb n n refl

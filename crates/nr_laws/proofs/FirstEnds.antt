@@ -29,7 +29,7 @@ use Rattle.nr_reduce.proofs.Steps.{client-one, server-one, ended-stays}
 use Rattle.nr_laws.specs.Typed.{TypedMark}
 use Rattle.nr_laws.specs.EndCauses.{IsDenied}
 use Rattle.nr_laws.proofs.EndReasons.{EndsForCall, EndsForMessage, FirstServerEnd, FirstClientEnd}
-use Rattle.nr_laws.specs.FrameContents.{total_of, sends_in, requests_in}
+use Rattle.nr_laws.proofs.FrameContents.{total_of, sends_in, requests_in}
 use Rattle.nr_laws.proofs.Bytes.{bytes_both}
 use Rattle.nr_laws.proofs.StreamFrames.{frames_at}
 use Rattle.nr_laws.proofs.Writable.{IsOutput}

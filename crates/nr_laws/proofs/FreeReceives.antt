@@ -8,8 +8,8 @@ use Rattle.nr_reduce.specs.ClientState.{ClientState}
 use Rattle.nr_reduce.specs.ServerState.{ServerState, receives_in_use}
 use Rattle.nr_reduce.specs.Plans.{one_if}
 use Rattle.nr_reduce.specs.ServerReads.{open_reads}
-use Rattle.nr_laws.specs.FrameContents.{total_of, sends_in, requests_in}
-use Rattle.nr_laws.specs.LinkInvariants.{Transit, TotalsAgree, WithinWindow}
+use Rattle.nr_laws.proofs.FrameContents.{total_of, sends_in, requests_in}
+use Rattle.nr_laws.proofs.LinkInvariants.{Transit, TotalsAgree, WithinWindow}
 
 said_some : (hello_bit : Bool) (n : ℕ) → cond hello_bit n 0 ≤ n
 said_some true n = omega arith

@@ -20,9 +20,9 @@ use Rattle.nr_reduce.specs.Client.{client_rules, initial_client}
 use Rattle.nr_reduce.specs.ServerState.{ServerState, PendingRead, down_max}
 use Rattle.nr_reduce.specs.ServerFrames.{FrameEffect}
 use Rattle.nr_reduce.specs.Server.{newly_open_reads, offer_of, answer_of_target}
-use Rattle.nr_laws.specs.FrameContents.{FrameContent, request_frame, effect_frames, write_frames, answer_frames, tagged_frames, call_frame}
-use Rattle.nr_laws.specs.FrameContents.FrameContent.{HelloFrame, SendFrame, RequestFrame, TaggedFrame}
-use Rattle.nr_laws.specs.LinkInvariants.{Transit, WithinWindow}
+use Rattle.nr_laws.proofs.FrameContents.{FrameContent, request_frame, effect_frames, write_frames, answer_frames, tagged_frames, call_frame}
+use Rattle.nr_laws.proofs.FrameContents.FrameContent.{HelloFrame, SendFrame, RequestFrame, TaggedFrame}
+use Rattle.nr_laws.proofs.LinkInvariants.{Transit, WithinWindow}
 use Rattle.nr_laws.proofs.ServerInvariant.{ServerAgrees}
 use Rattle.nr_laws.proofs.Replies.{IsReply, AreReplies, answer-reply, chunk_error-reply}
 use Rattle.nr_laws.proofs.ReadLimits.{AreWithin}

@@ -26,9 +26,9 @@ use Rattle.nr_reduce.specs.ServerState.{ServerState, PendingRead}
 use Rattle.nr_reduce.specs.ServerReads.{open_reads}
 use Rattle.nr_reduce.proofs.Steps.{end_state_after-append}
 use Rattle.nr_reduce.proofs.OwnStags.{AreNumbered, own-stags, client-numbers}
-use Rattle.nr_laws.specs.FrameContents.{FrameContent, total_of, sends_in, hellos_in, request_frame, call_frame, client_frames, tagged_frames, tagged_frame, response_frames, Carries}
-use Rattle.nr_laws.specs.FrameContents.FrameContent.{HelloFrame, SendFrame, RequestFrame, TaggedFrame}
-use Rattle.nr_laws.specs.LinkInvariants.{Transit, TotalsAgree, hello_bit, ReadsAgree, WithinWindow, HasSink, HaveSinks, AreAtMost, requests_of}
+use Rattle.nr_laws.proofs.FrameContents.{FrameContent, total_of, sends_in, hellos_in, request_frame, call_frame, client_frames, tagged_frames, tagged_frame, response_frames, Carries}
+use Rattle.nr_laws.proofs.FrameContents.FrameContent.{HelloFrame, SendFrame, RequestFrame, TaggedFrame}
+use Rattle.nr_laws.proofs.LinkInvariants.{Transit, TotalsAgree, hello_bit, ReadsAgree, WithinWindow, HasSink, HaveSinks, AreAtMost, requests_of}
 use Rattle.nr_laws.proofs.Totals.{others}
 use Rattle.nr_laws.proofs.TotalsAtServer.{segment-is}
 use Rattle.nr_laws.proofs.TotalsAtClient.{down_one, after-is, says-is, request_payload, totals-hello_down, totals-send_down, totals-read_down, totals-tagged_down, bit_of}

@@ -20,9 +20,9 @@ use Rattle.nr_reduce.specs.Client.{client_rules, client_end, client_state_after,
 use Rattle.nr_reduce.specs.Server.{server_state_after}
 use Rattle.nr_reduce.proofs.Steps.{end_state_after-append}
 use Rattle.nr_reduce.proofs.Sizes.{message_size}
-use Rattle.nr_laws.specs.FrameContents.{FrameContent, call_frame, client_frames, server_frames}
-use Rattle.nr_laws.specs.FrameContents.FrameContent.{SendFrame}
-use Rattle.nr_laws.specs.LinkInvariants.{Transit}
+use Rattle.nr_laws.proofs.FrameContents.{FrameContent, call_frame, client_frames, server_frames}
+use Rattle.nr_laws.proofs.FrameContents.FrameContent.{SendFrame}
+use Rattle.nr_laws.proofs.LinkInvariants.{Transit}
 use Rattle.nr_laws.proofs.TotalsAtClient.{up_more, totals-accepts, totals-writes_up}
 use Rattle.nr_laws.proofs.ReadsAtClient.{AnswersNone, reads-says_up, reads-writes_up}
 use Rattle.nr_laws.proofs.EventsAtServer.{server-executes, server-writes}
@@ -30,7 +30,7 @@ use Rattle.nr_laws.proofs.ServerOutputs.{CallsFit}
 use Rattle.nr_laws.proofs.OwnEvents.{planned, totals-revoked, xid-revoked}
 use Rattle.nr_laws.proofs.AgreeingEnds.{EndsAgree}
 use Rattle.nr_reduce.specs.SubmitAnswer.{next_xid}
-use Rattle.nr_laws.specs.FrameContents.{total_of, sends_in}
+use Rattle.nr_laws.proofs.FrameContents.{total_of, sends_in}
 use Rattle.nr_laws.proofs.CallWords.{call-words}
 use Rattle.nr_laws.proofs.CallNumbers.{NumberedCalls, XidsFrom, xids-append, own_xids-push, own_xids-map, IsNumbered}
 use Rattle.nr_laws.proofs.ClientFrame.{calls_said}

@@ -20,9 +20,9 @@ use Rattle.nr_reduce.specs.ServerState.{ServerState}
 use Rattle.nr_reduce.specs.ServerReads.{is_over}
 use Rattle.nr_reduce.specs.ServerFrames.{FrameEffect, effect_in, frame_effect}
 use Rattle.nr_reduce.specs.Server.{server_end, server_state_after, refusal_end}
-use Rattle.nr_laws.specs.FrameContents.{FrameContent, numbered_segment, frame_bytes, effect_frames, server_frames, Carries}
-use Rattle.nr_laws.specs.FrameContents.FrameContent.{HelloFrame, SendFrame, TaggedFrame}
-use Rattle.nr_laws.specs.LinkInvariants.{Transit, TotalsAgree, ReadsAgree, AreResponses}
+use Rattle.nr_laws.proofs.FrameContents.{FrameContent, numbered_segment, frame_bytes, effect_frames, server_frames, Carries}
+use Rattle.nr_laws.proofs.FrameContents.FrameContent.{HelloFrame, SendFrame, TaggedFrame}
+use Rattle.nr_laws.proofs.LinkInvariants.{Transit, TotalsAgree, ReadsAgree, AreResponses}
 use Rattle.nr_laws.proofs.TotalsAtServer.{totals-hello_up, after-is, step-is, segment-is, with_by}
 use Rattle.nr_laws.proofs.ReadsAtClient.{reads-says_down}
 use Rattle.nr_laws.proofs.ServerInvariant.{ServerAgrees, server-takes_send, server-takes_response}
@@ -34,8 +34,8 @@ use Rattle.nr_reduce.specs.Plans.{one_if}
 use Rattle.nr_reduce.specs.ServerState.{PendingCall}
 use Rattle.std.specs.List.{find, list_any}
 use Rattle.std.proofs.lemmas.Bool.{eq-eqb, cases_lt}
-use Rattle.nr_laws.specs.LinkInvariants.{calls_sent}
-use Rattle.nr_laws.specs.FrameContents.{total_of, sends_in}
+use Rattle.nr_laws.proofs.LinkInvariants.{calls_sent}
+use Rattle.nr_laws.proofs.FrameContents.{total_of, sends_in}
 use Rattle.nr_laws.proofs.Totals.{total-append}
 use Rattle.nr_laws.proofs.ClientFrame.{calls_said}
 use Rattle.nr_laws.proofs.AnsweredCalls.{times, call_xids, effect-xids, pending-send, pending-tagged}

@@ -22,7 +22,7 @@ use Rattle.nr_reduce.specs.RunLaws.{server_by}
 use Rattle.nr_reduce.specs.Served.{ServedSoFar}
 use Rattle.nr_reduce.proofs.Once.{after-goes, whole-with}
 use Rattle.nr_laws.specs.Typed.{IsTyped}
-use Rattle.nr_laws.specs.LinkInvariants.{PendingAgree}
+use Rattle.nr_laws.proofs.LinkInvariants.{PendingAgree}
 use Rattle.nr_laws.proofs.Along.{IsNext, place_after, GoesOn, goes-first}
 use Rattle.nr_laws.proofs.Words.{payload-bytes}
 use Rattle.nr_laws.proofs.ServerOutputs.{CallsFit, fine-frame, CallFits}

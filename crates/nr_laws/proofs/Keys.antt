@@ -1,7 +1,7 @@
 -- Keys of elements: which are there, below a number, and apart.
 use Rattle.std.proofs.Common.{◌≡◌, ◌≢◌, ℕ, zero, suc, ◌≤◌, ◌<◌, Bool, true, false, not, cond, ◌||◌, ◌&&◌, eqb, List, [], ◌∷◌, ◌++◌, take, drop, refl, sym, ap, ◌∙◌, arith, eq-eqb, ne_eqb, eqb-true}
 use Rattle.std.specs.List.{filter, list_any}
-use Rattle.nr_laws.specs.LinkInvariants.{IsUnused, AreAtMost}
+use Rattle.nr_laws.proofs.LinkInvariants.{IsUnused, AreAtMost}
 
 pub any-append : {X : Type 0} (p : X → Bool) (xs ys : List X) → list_any p (xs ++ ys) ≡ (list_any p xs || list_any p ys)
 any-append p [] ys = refl

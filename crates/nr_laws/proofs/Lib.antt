@@ -1,3 +1,5 @@
+pub mod FrameContents
+pub mod LinkInvariants
 pub mod Along
 pub mod Brought
 pub mod ClientRun

@@ -20,7 +20,7 @@ use Rattle.nr_reduce.specs.RunLaws.{server_by}
 use Rattle.nr_reduce.specs.Served.{ServedSoFar}
 use Rattle.nr_reduce.proofs.Steps.{end_state_after-append}
 use Rattle.nr_laws.specs.Typed.{IsTyped}
-use Rattle.nr_laws.specs.LinkInvariants.{IsUnused, AreDistinct, AreWhole, PendingAgree}
+use Rattle.nr_laws.proofs.LinkInvariants.{IsUnused, AreDistinct, AreWhole, PendingAgree}
 use Rattle.nr_laws.specs.ServerRegions.{IsPendingNumber, HasReadLeft, LiveServerRegionsAreRead}
 use Rattle.nr_laws.proofs.Along.{GoesOn, goes-behind, places_after}
 use Rattle.nr_laws.proofs.Keys.{or-right}

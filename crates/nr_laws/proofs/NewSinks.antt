@@ -11,7 +11,7 @@ use Rattle.nr_reduce.specs.Chunks.{at_position, total_at, positions}
 use Rattle.nr_reduce.specs.OfferedRegions.{Region}
 use Rattle.nr_reduce.specs.ServerState.{ServerState, PendingCall, PendingRead, next_stag}
 use Rattle.nr_reduce.specs.ServerReads.{chunks_of, regions_from, regions_of, stag_by, read_of, reads_from, reads_of}
-use Rattle.nr_laws.specs.LinkInvariants.{HasSink, HaveSinks, AreAtMost}
+use Rattle.nr_laws.proofs.LinkInvariants.{HasSink, HaveSinks, AreAtMost}
 use Rattle.nr_laws.proofs.Sinks.{sinks-append}
 use Rattle.nr_laws.proofs.Basics.{above-zero}
 

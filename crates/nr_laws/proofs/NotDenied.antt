@@ -34,9 +34,9 @@ use Rattle.nr_laws.specs.Typed.{TypedMark, IsTyped}
 use Rattle.nr_laws.specs.Stays.{NotRevokedMark, HasNoRevoke}
 use Rattle.nr_laws.specs.EndCauses.{KeepLaws}
 use Rattle.nr_laws.proofs.EndReasons.{EndsForMessage}
-use Rattle.nr_laws.specs.FrameContents.{FrameContent, numbered_segment, frame_bytes, total_of, sends_in, requests_in, Carries}
-use Rattle.nr_laws.specs.FrameContents.FrameContent.{HelloFrame, SendFrame, RequestFrame, TaggedFrame}
-use Rattle.nr_laws.specs.LinkInvariants.{Transit}
+use Rattle.nr_laws.proofs.FrameContents.{FrameContent, numbered_segment, frame_bytes, total_of, sends_in, requests_in, Carries}
+use Rattle.nr_laws.proofs.FrameContents.FrameContent.{HelloFrame, SendFrame, RequestFrame, TaggedFrame}
+use Rattle.nr_laws.proofs.LinkInvariants.{Transit}
 use Rattle.nr_laws.proofs.Bytes.{bytes_both}
 use Rattle.nr_laws.proofs.Totals.{total-append}
 use Rattle.nr_laws.proofs.Beyond.{EndBehind, frames-behind}

@@ -5,7 +5,7 @@ use Rattle.nr_reduce.specs.declared.mark.LinkParameters.{LinkParameters}
 use Rattle.nr_reduce.specs.ClientState.{ClientState}
 use Rattle.nr_reduce.specs.ServerState.{ServerState, PendingCall, PendingRead, ReadyCall}
 use Rattle.nr_reduce.specs.ServerReads.{is_read}
-use Rattle.nr_laws.specs.LinkInvariants.{Transit, TotalsAgree, calls_sent, hello_bit, AreReady}
+use Rattle.nr_laws.proofs.LinkInvariants.{Transit, TotalsAgree, calls_sent, hello_bit, AreReady}
 
 nothing_left : {A : Type 0} (xs : List A) → length xs ≡ 0 → xs ≡ []
 nothing_left [] e = refl

@@ -17,8 +17,8 @@ use Rattle.nr_reduce.specs.Holds.{first_chunk, no_segments}
 use Rattle.nr_reduce.specs.Undone.{lists_by}
 use Rattle.nr_reduce.specs.ClientState.{ClientState, OutstandingCall}
 use Rattle.nr_reduce.specs.ServerState.{ServerState, PendingCall, PendingRead}
-use Rattle.nr_laws.specs.FrameContents.{FrameContent, call_frame}
-use Rattle.nr_laws.specs.FrameContents.FrameContent.{HelloFrame, SendFrame, RequestFrame, TaggedFrame}
+use Rattle.nr_laws.proofs.FrameContents.{FrameContent, call_frame}
+use Rattle.nr_laws.proofs.FrameContents.FrameContent.{HelloFrame, SendFrame, RequestFrame, TaggedFrame}
 use Rattle.nr_laws.proofs.AnsweredCalls.{message_xids, times, xids-append, times-append}
 use Rattle.nr_laws.proofs.Basics.{each-all}
 

@@ -15,7 +15,7 @@ use Rattle.nr_reduce.specs.Undone.{lists_by}
 use Rattle.nr_reduce.specs.Client.{region_of}
 use Rattle.nr_reduce.proofs.Laid.{added_up, sum-added}
 use Rattle.nr_laws.specs.Typed.{IsTypedForm}
-use Rattle.nr_laws.specs.FrameContents.FrameContent.{SendFrame}
+use Rattle.nr_laws.proofs.FrameContents.FrameContent.{SendFrame}
 use Rattle.nr_laws.proofs.CallWords.{call-words}
 use Rattle.nr_laws.proofs.ConveyedCalls.{planned-fits, plan-reads}
 use Rattle.nr_laws.proofs.ConveyedForms.{planned-chunk}

@@ -15,8 +15,8 @@ use Rattle.nr_reduce.specs.Server.{sends_from, requests_from, newly_open_reads, 
 use Rattle.nr_reduce.specs.Plans.{call_message}
 use Rattle.nr_reduce.specs.ClientState.{OutstandingCall}
 use Rattle.nr_reduce.specs.Client.{calls_output}
-use Rattle.nr_laws.specs.FrameContents.{FrameContent, output_bytes, total_of, sends_in, requests_in, tagged_frame, tagged_frames, request_frame, effect_frames, call_frame}
-use Rattle.nr_laws.specs.FrameContents.FrameContent.{SendFrame}
+use Rattle.nr_laws.proofs.FrameContents.{FrameContent, output_bytes, total_of, sends_in, requests_in, tagged_frame, tagged_frames, request_frame, effect_frames, call_frame}
+use Rattle.nr_laws.proofs.FrameContents.FrameContent.{SendFrame}
 use Rattle.nr_laws.proofs.Totals.{total-map-zero}
 use Rattle.nr_laws.proofs.StreamFrames.{spelled-append}
 use Rattle.nr_laws.proofs.Outputs.{send-one, AreShort, CallsShort}

@@ -20,8 +20,8 @@ use Rattle.nr_reduce.specs.ServerState.{ServerState, PendingCall, ReadyCall, dow
 use Rattle.nr_reduce.specs.Client.{client_state_after, client_output, call_output, outstanding_of, plan_or, revoked_call}
 use Rattle.nr_reduce.specs.Server.{server_state_after, server_output, offer_of, answer_of_target}
 use Rattle.nr_reduce.proofs.Sizes.{message_size}
-use Rattle.nr_laws.specs.FrameContents.{FrameContent, output_bytes, total_of, sends_in, requests_in, hellos_in, call_frame, client_frames, server_frames}
-use Rattle.nr_laws.specs.LinkInvariants.{Transit, TotalsAgree, AreDistinct, AreAtMost, IsUnused}
+use Rattle.nr_laws.proofs.FrameContents.{FrameContent, output_bytes, total_of, sends_in, requests_in, hellos_in, call_frame, client_frames, server_frames}
+use Rattle.nr_laws.proofs.LinkInvariants.{Transit, TotalsAgree, AreDistinct, AreAtMost, IsUnused}
 use Rattle.nr_laws.proofs.Totals.{total-append}
 use Rattle.nr_laws.proofs.TotalsAtClient.{totals-accepts, totals-writes_up, up_more}
 use Rattle.nr_laws.proofs.TotalsAtServer.{totals-executes, totals-writes_down, answer-counts}

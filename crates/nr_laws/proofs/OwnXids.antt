@@ -12,7 +12,7 @@ use Rattle.nr_reduce.specs.Events.Event.{FrameReceived, CallSubmitted, QueueWrit
 use Rattle.nr_reduce.specs.ClientState.{ClientState, OutstandingCall}
 use Rattle.nr_reduce.specs.Client.{client_state_after, with_segment, with_message, with_request, outstanding_of, written_call}
 use Rattle.nr_reduce.specs.SubmitAnswer.{next_xid}
-use Rattle.nr_laws.specs.LinkInvariants.{IsUnused, AreDistinct, AreAtMost}
+use Rattle.nr_laws.proofs.LinkInvariants.{IsUnused, AreDistinct, AreAtMost}
 use Rattle.nr_laws.proofs.Totals.{apart_kept, apart_push}
 use Rattle.nr_laws.proofs.Keys.{below-more, below-append, below-kept}
 use Rattle.nr_reduce.proofs.Placing.{segment-accepted}

@@ -12,7 +12,7 @@ use Rattle.nr_reduce.specs.ServerMessages.{CallVerdict, by_payload, payload_of, 
 use Rattle.nr_reduce.specs.ServerReads.{is_read}
 use Rattle.nr_reduce.specs.Server.{server_state_after}
 use Rattle.nr_reduce.specs.ServerMessages.CallVerdict.{Refuses, IsReady}
-use Rattle.nr_laws.specs.LinkInvariants.{AreDistinct, IsUnused, AreAtMost, AreReady, AreWhole, PendingAgree}
+use Rattle.nr_laws.proofs.LinkInvariants.{AreDistinct, IsUnused, AreAtMost, AreReady, AreWhole, PendingAgree}
 use Rattle.nr_laws.proofs.Totals.{apart_kept, apart_push}
 use Rattle.nr_laws.proofs.TotalsAtServer.{found_has}
 use Rattle.nr_laws.proofs.Keys.{any-append, any-left, any-right, below-kept, below-taken, below-dropped, below-append, none-absent, any-kept, or-right}

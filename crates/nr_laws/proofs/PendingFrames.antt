@@ -18,9 +18,9 @@ use Rattle.nr_reduce.specs.ServerReads.{open_reads, regions_of, reads_of}
 use Rattle.nr_reduce.specs.Server.{server_state_after}
 use Rattle.nr_reduce.specs.ServerMessages.Verdict.{EndsLink, OtherVersion, BadChunks, MakesPending}
 use Rattle.nr_reduce.specs.ServerMessages.CallVerdict.{Refuses, IsReady}
-use Rattle.nr_laws.specs.FrameContents.{Carries}
-use Rattle.nr_laws.specs.FrameContents.FrameContent.{SendFrame, TaggedFrame}
-use Rattle.nr_laws.specs.LinkInvariants.{PendingAgree, HaveSinks}
+use Rattle.nr_laws.proofs.FrameContents.{Carries}
+use Rattle.nr_laws.proofs.FrameContents.FrameContent.{SendFrame, TaggedFrame}
+use Rattle.nr_laws.proofs.LinkInvariants.{PendingAgree, HaveSinks}
 use Rattle.nr_laws.proofs.TotalsAtServer.{after-is, step-is, segment-is, with_by}
 use Rattle.nr_laws.proofs.PendingSends.{AfterEffect, pending_agree-message, pending_agree-same, verdict-new}
 use Rattle.nr_laws.proofs.PendingExecuted.{pending_agree-read}

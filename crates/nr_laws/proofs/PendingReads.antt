@@ -10,7 +10,7 @@ use Rattle.nr_reduce.specs.ServerReads.{reads_from, read_of, reads_of, regions_o
 use Rattle.nr_reduce.specs.ServerMessages.{verdict}
 use Rattle.nr_reduce.specs.ServerMessages.Verdict.{MakesPending}
 use Rattle.nr_reduce.specs.ServerFrames.{FrameEffect, with_refused_call, frame_effect}
-use Rattle.nr_laws.specs.LinkInvariants.{AreAtMost, PendingAgree}
+use Rattle.nr_laws.proofs.LinkInvariants.{AreAtMost, PendingAgree}
 use Rattle.nr_laws.proofs.Keys.{any-right}
 use Rattle.nr_laws.proofs.PendingSends.{verdict-new}
 use Rattle.nr_laws.proofs.Basics.{each-append, each-take, each-drop, each-kept}

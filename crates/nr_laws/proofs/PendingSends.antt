@@ -13,7 +13,7 @@ use Rattle.nr_reduce.specs.ServerMessages.{Verdict, CallVerdict, verdict, by_pay
 use Rattle.nr_reduce.specs.ServerReads.{is_read, reads_of, reads_from, read_of, regions_of}
 use Rattle.nr_reduce.specs.ServerMessages.Verdict.{EndsLink, OtherVersion, BadChunks, MakesPending}
 use Rattle.nr_reduce.specs.ServerMessages.CallVerdict.{Refuses, IsReady}
-use Rattle.nr_laws.specs.LinkInvariants.{AreDistinct, IsUnused, AreAtMost, AreReady, AreWhole, PendingAgree}
+use Rattle.nr_laws.proofs.LinkInvariants.{AreDistinct, IsUnused, AreAtMost, AreReady, AreWhole, PendingAgree}
 use Rattle.nr_laws.proofs.Totals.{apart_push}
 use Rattle.nr_laws.proofs.Keys.{any-left, any-right, below-more, below-append, below-absent, below-at, none-absent, AreOf, of-absent, of-below, of-append, any-others}
 use Rattle.nr_laws.proofs.HeaderXid.{header-xid}

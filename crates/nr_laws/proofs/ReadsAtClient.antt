@@ -15,9 +15,9 @@ use Rattle.nr_reduce.specs.Holds.{Answer, answer_message, first_chunk, no_segmen
 use Rattle.nr_reduce.specs.Events.Event.{FrameReceived}
 use Rattle.nr_reduce.specs.ClientState.{ClientState, memory_at}
 use Rattle.nr_reduce.specs.ServerState.{ServerState, PendingRead, credit_word}
-use Rattle.nr_laws.specs.FrameContents.{FrameContent, Carries, request_frame, client_frames, tagged_frames, write_frames, answer_frames}
-use Rattle.nr_laws.specs.FrameContents.FrameContent.{SendFrame, RequestFrame, TaggedFrame}
-use Rattle.nr_laws.specs.LinkInvariants.{Transit, AreResponses, requests_of, ReadsAgree}
+use Rattle.nr_laws.proofs.FrameContents.{FrameContent, Carries, request_frame, client_frames, tagged_frames, write_frames, answer_frames}
+use Rattle.nr_laws.proofs.FrameContents.FrameContent.{SendFrame, RequestFrame, TaggedFrame}
+use Rattle.nr_laws.proofs.LinkInvariants.{Transit, AreResponses, requests_of, ReadsAgree}
 use Rattle.nr_laws.proofs.TotalsAtServer.{segment-is}
 use Rattle.nr_laws.proofs.TotalsAtClient.{says-is, request_payload, down_one}
 use Rattle.nr_laws.proofs.ExpectedResponses.{answers-append, answers-one}

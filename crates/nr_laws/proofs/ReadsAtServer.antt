@@ -20,9 +20,9 @@ use Rattle.nr_reduce.specs.ServerReads.{open_reads, is_read, reads_of, regions_o
 use Rattle.nr_reduce.specs.Server.{newly_open_reads, server_state_after}
 use Rattle.nr_reduce.specs.ServerMessages.Verdict.{EndsLink, OtherVersion, BadChunks, MakesPending}
 use Rattle.nr_reduce.specs.ServerMessages.CallVerdict.{Refuses, IsReady}
-use Rattle.nr_laws.specs.FrameContents.{FrameContent, Carries, request_frame, effect_frames}
-use Rattle.nr_laws.specs.FrameContents.FrameContent.{HelloFrame, SendFrame, RequestFrame, TaggedFrame}
-use Rattle.nr_laws.specs.LinkInvariants.{Transit, AreResponses, ContinuesRead, requests_of, ReadsAgree}
+use Rattle.nr_laws.proofs.FrameContents.{FrameContent, Carries, request_frame, effect_frames}
+use Rattle.nr_laws.proofs.FrameContents.FrameContent.{HelloFrame, SendFrame, RequestFrame, TaggedFrame}
+use Rattle.nr_laws.proofs.LinkInvariants.{Transit, AreResponses, ContinuesRead, requests_of, ReadsAgree}
 use Rattle.nr_laws.proofs.TotalsAtServer.{shape-message, after-is, step-is, segment-is, with_by}
 use Rattle.nr_laws.proofs.EachEffect.{whole-rule}
 

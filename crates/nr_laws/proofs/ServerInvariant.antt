@@ -18,9 +18,9 @@ use Rattle.nr_reduce.specs.ServerMessages.{verdict}
 use Rattle.nr_reduce.specs.ServerReads.{is_over, regions_of, regions_from, chunks_of}
 use Rattle.nr_reduce.specs.Server.{server_state_after, server_end, refusal_end}
 use Rattle.nr_reduce.specs.ServerMessages.Verdict.{MakesPending}
-use Rattle.nr_laws.specs.FrameContents.{FrameContent, Carries}
-use Rattle.nr_laws.specs.FrameContents.FrameContent.{SendFrame, TaggedFrame}
-use Rattle.nr_laws.specs.LinkInvariants.{Transit, TotalsAgree, ReadsAgree, PendingAgree, HaveSinks, AreAtMost, WithinWindow}
+use Rattle.nr_laws.proofs.FrameContents.{FrameContent, Carries}
+use Rattle.nr_laws.proofs.FrameContents.FrameContent.{SendFrame, TaggedFrame}
+use Rattle.nr_laws.proofs.LinkInvariants.{Transit, TotalsAgree, ReadsAgree, PendingAgree, HaveSinks, AreAtMost, WithinWindow}
 use Rattle.nr_laws.proofs.TotalsAtServer.{after-is, segment-is, totals-send_up, totals-tagged_up, step-is}
 use Rattle.nr_laws.proofs.Keys.{below-more, below-append}
 use Rattle.nr_laws.proofs.PendingSends.{verdict-new}

@@ -42,9 +42,9 @@ use Rattle.nr_reduce.specs.ServerMessages.Verdict.{EndsLink, OtherVersion, BadCh
 use Rattle.nr_reduce.specs.ServerFrames.{FrameEffect, with_verdict, frame_effect}
 use Rattle.nr_reduce.specs.Server.{server_end, server_state_after, readiness, or_refusal, refusal_end}
 use Rattle.nr_laws.proofs.EndReasons.{IsCallReason, EndsForCall}
-use Rattle.nr_laws.specs.FrameContents.{FrameContent, numbered_segment, frame_bytes, total_of, sends_in, requests_in, server_frames, Carries}
-use Rattle.nr_laws.specs.FrameContents.FrameContent.{HelloFrame, SendFrame, RequestFrame, TaggedFrame}
-use Rattle.nr_laws.specs.LinkInvariants.{Transit}
+use Rattle.nr_laws.proofs.FrameContents.{FrameContent, numbered_segment, frame_bytes, total_of, sends_in, requests_in, server_frames, Carries}
+use Rattle.nr_laws.proofs.FrameContents.FrameContent.{HelloFrame, SendFrame, RequestFrame, TaggedFrame}
+use Rattle.nr_laws.proofs.LinkInvariants.{Transit}
 use Rattle.nr_laws.proofs.Totals.{total-append}
 use Rattle.nr_laws.proofs.Brought.{hello-is}
 use Rattle.nr_laws.proofs.CompletedFrames.{is-piece}

@@ -24,8 +24,8 @@ use Rattle.nr_reduce.specs.Served.{Served, first_ready, next_call}
 use Rattle.nr_reduce.specs.Matched.{Matched}
 use Rattle.nr_laws.specs.Typed.{IsTyped}
 use Rattle.nr_laws.specs.Completion.{IsSettled, IsKept, HasOutcome, CallsComplete}
-use Rattle.nr_laws.specs.FrameContents.{FrameContent, numbered_segment, output_bytes, sends_in, requests_in}
-use Rattle.nr_laws.specs.LinkInvariants.{Transit, TotalsAgree}
+use Rattle.nr_laws.proofs.FrameContents.{FrameContent, numbered_segment, output_bytes, sends_in, requests_in}
+use Rattle.nr_laws.proofs.LinkInvariants.{Transit, TotalsAgree}
 use Rattle.nr_laws.proofs.StreamFrames.{AreWritableFrom, proper-frame, IsOf, frames_at, length-frames, spelled-concat}
 use Rattle.nr_laws.proofs.Writable.{IsOutput, stream_proper, stream-left}
 use Rattle.nr_laws.proofs.NothingLeft.{nothing_in_transit, quiet}

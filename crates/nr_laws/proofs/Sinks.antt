@@ -10,7 +10,7 @@ use Rattle.nr_regions.specs.Access.{Grant, applies, grant_at, grant_offer, grant
 use Rattle.nr_reduce.specs.OfferedRegions.{Region, region_grant, region_grants, until_or, regions_closed, closed_if}
 use Rattle.nr_reduce.specs.ServerState.{PendingRead, PendingCall}
 use Rattle.nr_reduce.specs.ServerReads.{is_read, is_read_at, is_over}
-use Rattle.nr_laws.specs.LinkInvariants.{IsSink, HasSink, HaveSinks}
+use Rattle.nr_laws.proofs.LinkInvariants.{IsSink, HasSink, HaveSinks}
 use Rattle.nr_laws.proofs.Totals.{any_first}
 use Rattle.nr_reduce.proofs.OwnStags.{closed-stag}
 use Rattle.nr_laws.proofs.Keys.{or-right}

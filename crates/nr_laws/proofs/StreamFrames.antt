@@ -12,7 +12,7 @@ use Rattle.nr_wire.proofs.Frames.{partial_nil, partial_not_whole}
 use Rattle.nr_wire.proofs.Splits.{split-frame, split-partial}
 use Rattle.nr_link.specs.Output.{own_hello}
 use Rattle.nr_laws.proofs.Brought.{IsWord, encoding-is, hello-is}
-use Rattle.nr_laws.specs.FrameContents.{FrameContent, numbered_segment, frame_bytes, output_bytes, sends_in, requests_in, total_of}
+use Rattle.nr_laws.proofs.FrameContents.{FrameContent, numbered_segment, frame_bytes, output_bytes, sends_in, requests_in, total_of}
 use Rattle.nr_laws.proofs.Beyond.{behind}
 
 -- ---- Pieces that are frames

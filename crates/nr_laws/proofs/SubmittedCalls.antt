@@ -16,7 +16,7 @@ use Rattle.nr_reduce.specs.ClientState.{ClientState, OutstandingCall}
 use Rattle.nr_reduce.specs.Client.{client_rules, client_end, client_state_after, initial_client, outstanding_of, with_segment, with_message, with_request, revoked_call, written_call}
 use Rattle.nr_reduce.proofs.Steps.{end_state_after-append}
 use Rattle.nr_laws.proofs.Outcomes.{client_by}
-use Rattle.nr_laws.specs.PlacedBytes.{IsOfSubmitted}
+use Rattle.nr_laws.specs.PlacedBytes.{IsSubmittedCall}
 
 abbrev Each : (OutstandingCall → Type 0) → List OutstandingCall → Type 0
 Each P [] = Unit {0}
@@ -47,7 +47,7 @@ each-at P [] h o c = (let lt = c.1 in absurd (omega (arith, lt)))
 each-at P (x ∷ xs) h o (zero, lt, is) = subst P is h.0
 each-at P (x ∷ xs) h o (suc n, lt, is) = each-at P xs h.1 o (n, omega (arith, lt), is)
 
-pub submitted-more : (opened : LinkParameters) (es more : List Event) (o : OutstandingCall) → IsOfSubmitted opened es o → IsOfSubmitted opened (es ++ more) o
+pub submitted-more : (opened : LinkParameters) (es more : List Event) (o : OutstandingCall) → IsSubmittedCall opened es o → IsSubmittedCall opened (es ++ more) o
 submitted-more opened es more o h = record {
   earlier = h.earlier;
   later = h.later ++ more;
@@ -69,8 +69,8 @@ each-segment : (P : OutstandingCall → Type 0) (k : ClientState) (f : Frame) (r
 each-segment P k f (Err reason) h = h
 each-segment P k f (Ok s) h = each-request P (with_message k f.end (message_completed k.received s)) (read_request_of s) (each-message P k f.end (message_completed k.received s) h)
 
-one-event : (opened : LinkParameters) (es : List Event) (e : Event) → Each (IsOfSubmitted opened es) (client_by opened es).state.outstanding
-    → Each (IsOfSubmitted opened (es ++ e ∷ [])) (next_end_state (client_rules opened) (client_by opened es) e).state.outstanding
+one-event : (opened : LinkParameters) (es : List Event) (e : Event) → Each (IsSubmittedCall opened es) (client_by opened es).state.outstanding
+    → Each (IsSubmittedCall opened (es ++ e ∷ [])) (next_end_state (client_rules opened) (client_by opened es) e).state.outstanding
 unfolding client_state_after
 one-event opened es e h = by_ended (client_by opened es).ended
   where
@@ -78,10 +78,10 @@ one-event opened es e h = by_ended (client_by opened es).ended
     k = (client_by opened es).state
 
     P : OutstandingCall → Type 0
-    P = IsOfSubmitted opened (es ++ e ∷ [])
+    P = IsSubmittedCall opened (es ++ e ∷ [])
 
     same : Each P k.outstanding
-    same = each-weak (IsOfSubmitted opened es) P (submitted-more opened es (e ∷ [])) k.outstanding h
+    same = each-weak (IsSubmittedCall opened es) P (submitted-more opened es (e ∷ [])) k.outstanding h
 
     revoked : (xid : ℕ) (o : OutstandingCall) → P o → P (revoked_call xid o)
     revoked xid o p = by (eqb o.xid xid)
@@ -114,11 +114,11 @@ one-event opened es e h = by_ended (client_by opened es).ended
     by_ended None = by_why (client_end k e)
     by_ended (Some end) = same
 
-all-events : (opened : LinkParameters) (front es : List Event) → Each (IsOfSubmitted opened front) (client_by opened front).state.outstanding → Each (IsOfSubmitted opened (front ++ es)) (client_by opened (front ++ es)).state.outstanding
-all-events opened front [] h = subst (λ (xs : List Event). Each (IsOfSubmitted opened xs) (client_by opened xs).state.outstanding) (sym (append-nil front)) h
+all-events : (opened : LinkParameters) (front es : List Event) → Each (IsSubmittedCall opened front) (client_by opened front).state.outstanding → Each (IsSubmittedCall opened (front ++ es)) (client_by opened (front ++ es)).state.outstanding
+all-events opened front [] h = subst (λ (xs : List Event). Each (IsSubmittedCall opened xs) (client_by opened xs).state.outstanding) (sym (append-nil front)) h
 all-events opened front (e ∷ es) h =
-    let one = subst (λ (r : EndState ClientState). Each (IsOfSubmitted opened (front ++ e ∷ [])) r.state.outstanding) (sym (end_state_after-append (client_rules opened) (initial_client opened) front (e ∷ []))) (one-event opened front e h) in
-    subst (λ (xs : List Event). Each (IsOfSubmitted opened xs) (client_by opened xs).state.outstanding) (append_assoc front (e ∷ []) es) (all-events opened (front ++ e ∷ []) es one)
+    let one = subst (λ (r : EndState ClientState). Each (IsSubmittedCall opened (front ++ e ∷ [])) r.state.outstanding) (sym (end_state_after-append (client_rules opened) (initial_client opened) front (e ∷ []))) (one-event opened front e h) in
+    subst (λ (xs : List Event). Each (IsSubmittedCall opened xs) (client_by opened xs).state.outstanding) (append_assoc front (e ∷ []) es) (all-events opened (front ++ e ∷ []) es one)
 
-pub outstanding_are_submitted : (opened : LinkParameters) (es : List Event) (o : OutstandingCall) → Contains (client_by opened es).state.outstanding o → IsOfSubmitted opened es o
-outstanding_are_submitted opened es o c = each-at (IsOfSubmitted opened es) (client_by opened es).state.outstanding (all-events opened [] es tt) o c
+pub outstanding_are_submitted : (opened : LinkParameters) (es : List Event) (o : OutstandingCall) → Contains (client_by opened es).state.outstanding o → IsSubmittedCall opened es o
+outstanding_are_submitted opened es o c = each-at (IsSubmittedCall opened es) (client_by opened es).state.outstanding (all-events opened [] es tt) o c

@@ -21,7 +21,7 @@ use Rattle.nr_reduce.specs.RunLaws.{server_by}
 use Rattle.nr_reduce.proofs.Conveyed.{Each}
 use Rattle.nr_reduce.proofs.Once.{NumberIs, verdict-number, whole-with, rises-with}
 use Rattle.nr_reduce.proofs.OwnStags.{kept-after}
-use Rattle.nr_laws.specs.LinkInvariants.{IsUnused, AreAtMost}
+use Rattle.nr_laws.proofs.LinkInvariants.{IsUnused, AreAtMost}
 use Rattle.nr_laws.proofs.Keys.{AreOf, of-absent, below-more, below-append, below-absent, below-kept, below-taken, below-dropped}
 use Rattle.nr_laws.proofs.PendingSends.{readings-from-of}
 use Rattle.nr_laws.proofs.EachEffect.{each-effect, held-messages, held-responses}

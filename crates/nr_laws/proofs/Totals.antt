@@ -3,8 +3,8 @@ use Rattle.std.proofs.Common.{◌≡◌, ◌≢◌, ℕ, suc, ◌+◌, ◌≤◌
 use Rattle.std.specs.Prelude.{find}
 use Rattle.std.specs.List.{filter, list_any}
 use Rattle.std.proofs.lemmas.Bool.{ne_eqb, eqb-true}
-use Rattle.nr_laws.specs.FrameContents.{FrameContent, total_of}
-use Rattle.nr_laws.specs.LinkInvariants.{IsUnused, AreDistinct}
+use Rattle.nr_laws.proofs.FrameContents.{FrameContent, total_of}
+use Rattle.nr_laws.proofs.LinkInvariants.{IsUnused, AreDistinct}
 
 pub total-append : (one : FrameContent → ℕ) (xs ys : List FrameContent) → total_of one (xs ++ ys) ≡ total_of one xs + total_of one ys
 total-append one [] ys = omega arith

@@ -26,9 +26,9 @@ use Rattle.nr_reduce.specs.ClientState.{ClientState, OutstandingCall, memory_at,
 use Rattle.nr_reduce.specs.ClientMessages.{verdict, by_header, by_call, answered_call}
 use Rattle.nr_reduce.specs.Client.{end_of_verdict, message_end, or_message_end, segment_message, readiness, client_end, client_state_after, with_segment, outstanding_of, written_call, segment_request}
 use Rattle.nr_reduce.specs.ServerState.{ServerState, initial_state as server_initial_state}
-use Rattle.nr_laws.specs.FrameContents.{FrameContent, Carries, total_of, sends_in, requests_in, responses_in, hellos_in, one_if_response, tagged_frame, tagged_frames, response_frames, call_frame, client_frames}
-use Rattle.nr_laws.specs.FrameContents.FrameContent.{HelloFrame, SendFrame, RequestFrame, TaggedFrame}
-use Rattle.nr_laws.specs.LinkInvariants.{Transit, TotalsAgree, AreDistinct, calls_sent, hello_bit}
+use Rattle.nr_laws.proofs.FrameContents.{FrameContent, Carries, total_of, sends_in, requests_in, responses_in, hellos_in, one_if_response, tagged_frame, tagged_frames, response_frames, call_frame, client_frames}
+use Rattle.nr_laws.proofs.FrameContents.FrameContent.{HelloFrame, SendFrame, RequestFrame, TaggedFrame}
+use Rattle.nr_laws.proofs.LinkInvariants.{Transit, TotalsAgree, AreDistinct, calls_sent, hello_bit}
 use Rattle.nr_laws.proofs.Totals.{total-append, total-map-zero, total-map-one, length-fewer, any_found, any_first}
 use Rattle.nr_laws.proofs.TotalsAtServer.{segment-is}
 use Rattle.nr_laws.proofs.HeaderXid.{header-xid}

@@ -28,9 +28,9 @@ use Rattle.nr_header.specs.declared.header.ChunkLists.{ChunkLists}
 use Rattle.nr_rpc.specs.Reading.{call_of, target_of}
 use Rattle.nr_reduce.specs.History.{ExecutedCall}
 use Rattle.nr_reduce.specs.Holds.{Answer, answer_message, chunk_error, first_chunk, no_segments}
-use Rattle.nr_laws.specs.FrameContents.{FrameContent, Carries, numbered_segment, total_of, sends_in, requests_in, responses_in, hellos_in, one_if_response, effect_frames, request_frame, write_frames, answer_frames, tagged_frames, tagged_frame, server_frames}
-use Rattle.nr_laws.specs.FrameContents.FrameContent.{HelloFrame, SendFrame, TaggedFrame}
-use Rattle.nr_laws.specs.LinkInvariants.{Transit, TotalsAgree, AreDistinct}
+use Rattle.nr_laws.proofs.FrameContents.{FrameContent, Carries, numbered_segment, total_of, sends_in, requests_in, responses_in, hellos_in, one_if_response, effect_frames, request_frame, write_frames, answer_frames, tagged_frames, tagged_frame, server_frames}
+use Rattle.nr_laws.proofs.FrameContents.FrameContent.{HelloFrame, SendFrame, TaggedFrame}
+use Rattle.nr_laws.proofs.LinkInvariants.{Transit, TotalsAgree, AreDistinct}
 use Rattle.nr_laws.proofs.Totals.{total-append, total-map-zero, total-map-one, others, length-fewer, any_found, length-newly}
 use Rattle.nr_laws.proofs.EachEffect.{whole-rule}
 

@@ -8,8 +8,8 @@ use Rattle.nr_wire.specs.declared.stream.Awaited.TheVariants.{Hello as HelloFrom
 use Rattle.nr_wire.specs.Segment.{is_tagged_opcode}
 use Rattle.nr_link.specs.Limits.{segment_max}
 use Rattle.nr_link.specs.Output.{msn_word, segment_count}
-use Rattle.nr_laws.specs.FrameContents.{FrameContent, numbered_segment, sends_in, requests_in, hellos_in, total_of, tagged_frame, tagged_frames}
-use Rattle.nr_laws.specs.FrameContents.FrameContent.{HelloFrame, SendFrame, RequestFrame, TaggedFrame}
+use Rattle.nr_laws.proofs.FrameContents.{FrameContent, numbered_segment, sends_in, requests_in, hellos_in, total_of, tagged_frame, tagged_frames}
+use Rattle.nr_laws.proofs.FrameContents.FrameContent.{HelloFrame, SendFrame, RequestFrame, TaggedFrame}
 use Rattle.nr_laws.proofs.StreamFrames.{IsWritableAs, AreWritableFrom}
 
 abbrev pub IsWritable : FrameContent → Type 0

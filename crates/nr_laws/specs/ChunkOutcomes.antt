@@ -87,7 +87,7 @@ NoOwnPlanIsRefused = (opened : LinkParameters) (link : ℕ) (run : List Mark) (x
 
 -- ---- Where a plain server replies
 
--- On a matched link of a run whose calls are answered as a plain server answers, a call in form Auto that completes has a reply.
+-- On a matched link whose calls are answered as a plain server answers, a call in form Auto that completes has a reply.
 abbrev pub AutoHasReplies : Type 0
 AutoHasReplies = (reply_to : List Entry → Moment → List ℕ → Option (List ℕ)) (adds : Moment → List ℕ → List ℕ → List Entry)
     (opened : LinkParameters) (link : ℕ) (run earlier before : List Mark) (call : Call) (xid : ℕ) (outcome : Outcome) →
@@ -109,7 +109,7 @@ pub record IsAnswered (opened : LinkParameters) (link : ℕ) (before : List Mark
       ++ (answer_writes (offer_of (server opened link before).state xid) answer
       ++ send ((server opened link before).state.messages_queued + 1) (answer_message xid (server opened link before).state.credit (offer_of (server opened link before).state xid) answer))
 
--- On every link, whatever its client sends, so it is of each executed call that adds an entry to the journal.
+-- On every link, whatever its client sends, the reply to each executed call that adds an entry to the journal goes out.
 abbrev pub ChangesAreAnswered : Type 0
 ChangesAreAnswered = (reply_to : List Entry → Moment → List ℕ → Option (List ℕ)) (adds : Moment → List ℕ → List ℕ → List Entry)
     (opened : LinkParameters) (link : ℕ) (run before : List Mark) (xid : ℕ) (moment : Moment) (payload : List ℕ) (place : ℕ) (reply : List ℕ) →

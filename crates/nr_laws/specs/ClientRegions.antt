@@ -18,8 +18,8 @@ use Rattle.nr_reduce.specs.Client.{client_rules, initial_client, outstanding_of,
 use Rattle.nr_reduce.specs.ClientState.{ClientState, OutstandingCall}
 use Rattle.nr_reduce.specs.Run.{client}
 
--- A region is a chunk of a call that was accepted among these events, under the STag and with the right of that chunk, from there on: but
--- for where it is closed.
+-- A region is, but for its end, a chunk of a call that was accepted among these events: under the STag and with the right of that chunk, from
+-- there on.
 pub record IsChunkOfCall (opened : LinkParameters) (received : List Event) (r : Region) : Type 0 where
   pub earlier : List Event
   pub later : List Event
@@ -29,21 +29,22 @@ pub record IsChunkOfCall (opened : LinkParameters) (received : List Event) (r : 
   pub chunk : (let k : ClientState = (end_state_after (client_rules opened) (initial_client opened) earlier).state in
       Contains (map (region_of call.xid place) (buffers k.stag (outstanding_of k call).plan)) (record r { until = None }))
 
+-- On every link, whatever the server sends, each region of a client is one.
 abbrev pub ClientRegionsAreChunks : Type 0
 ClientRegionsAreChunks = (opened : LinkParameters) (link : ℕ) (run : List Mark) (r : Region) → Contains (client opened link run).state.regions r → IsChunkOfCall opened (events link Initiator run) r
 
--- A region of a client lives only while its call is outstanding and its memory isn't taken back: with the message of its call it is closed, and
--- with a Revoke.
-pub record IsOfOutstanding (k : ClientState) (xid : ℕ) : Type 0 where
+-- the call of this xid is outstanding, and its memory isn't taken back
+pub record HasOutstandingCall (k : ClientState) (xid : ℕ) : Type 0 where
   pub call : OutstandingCall
   pub there : Contains k.outstanding call
   pub own : call.xid ≡ xid
   pub kept : call.is_revoked ≡ false
 
+-- On every link, whatever the server sends, a region of a client lives only while that is so of its call.
 abbrev pub LiveClientRegionsAreOutstanding : Type 0
 LiveClientRegionsAreOutstanding = (opened : LinkParameters) (link : ℕ) (run : List Mark) (earlier later : List Event) (r : Region) → events link Initiator run ≡ earlier ++ later →
     (let k : ClientState = (end_state_after (client_rules opened) (initial_client opened) earlier).state in
-    Contains k.regions r → r.until ≡ None → IsOfOutstanding k r.call)
+    Contains k.regions r → r.until ≡ None → HasOutstandingCall k r.call)
 
 -- a frame makes the message of this xid whole, and ends at this place
 pub record IsMessageOf (k : ClientState) (event : Event) (xid place : ℕ) : Type 0 where
@@ -66,7 +67,7 @@ pub record IsClosedForCall (opened : LinkParameters) (received : List Event) (r 
   pub was_live : Contains (end_state_after (client_rules opened) (initial_client opened) earlier).state.regions (record r { until = None })
   pub why : IsMessageOf (end_state_after (client_rules opened) (initial_client opened) earlier).state event r.call place ⊎ (event ≡ MemoryRevoked place r.call)
 
--- On every link, whatever the server sends: a region of a client is closed only so, there.
+-- On every link, whatever the server sends, a region of a client is closed only so, and at that place.
 abbrev pub ClientRegionsCloseWithCalls : Type 0
 ClientRegionsCloseWithCalls = (opened : LinkParameters) (link : ℕ) (run : List Mark) (r : Region) (place : ℕ) → Contains (client opened link run).state.regions r → r.until ≡ Some place →
     IsClosedForCall opened (events link Initiator run) r place

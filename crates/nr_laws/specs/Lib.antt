@@ -6,8 +6,6 @@ pub mod Completions
 pub mod Grant
 pub mod Touches
 pub mod Places
-pub mod FrameContents
-pub mod LinkInvariants
 pub mod Completion
 pub mod EndCauses
 pub mod Payloads

@@ -44,12 +44,12 @@ pub record HoldsAllowed {S : Type 0} (rules : Rules S) (initial : EndState S) (r
   pub len : length held ≡ length r.bytes
   pub each : (at byte : ℕ) → slice_get held at ≡ Some byte → (slice_get r.bytes at ≡ Some byte) ⊎ IsBrought rules initial received grants r.stag at byte
 
--- On every link, whatever the server sends, so it is of each region that the client offered.
+-- On every link, whatever the server sends, each region that the client offered holds such bytes,
 abbrev pub ClientBytesAreAllowed : Type 0
 ClientBytesAreAllowed = (opened : LinkParameters) (link : ℕ) (run : List Mark) (r : Region) → Contains (client opened link run).state.regions r →
     HoldsAllowed (client_rules opened) (initial_client opened) (events link Initiator run) (grants_of opened link Initiator run) r (placed_bytes opened link Initiator run r.stag)
 
--- and of each that the server offered, whatever the client sends
+-- and so does each region that the server offered, whatever the client sends.
 abbrev pub ServerBytesAreAllowed : Type 0
 ServerBytesAreAllowed = (opened : LinkParameters) (link : ℕ) (run : List Mark) (r : Region) → Contains (server opened link run).state.regions r →
     HoldsAllowed (server_rules opened) (initial_server opened) (events link Responder run) (grants_of opened link Responder run) r (placed_bytes opened link Responder run r.stag)
@@ -70,7 +70,7 @@ ReadsAreAllowed = (opened : LinkParameters) (link : ℕ) (run : List Mark) (earl
     (next_end_state (client_rules opened) before (FrameReceived f)).ended ≡ None → IsDisclosed opened before f request)
 
 -- A call that goes out is one that was accepted among these events: its xid, plan and first STag are those of its Submit.
-pub record IsOfSubmitted (opened : LinkParameters) (received : List Event) (o : OutstandingCall) : Type 0 where
+pub record IsSubmittedCall (opened : LinkParameters) (received : List Event) (o : OutstandingCall) : Type 0 where
   pub earlier : List Event
   pub later : List Event
   pub place : ℕ
@@ -82,7 +82,7 @@ pub record IsOfSubmitted (opened : LinkParameters) (received : List Event) (o : 
 -- ends it.
 abbrev pub IsOwnOutput : LinkParameters → (received : List Event) → Option End → List ℕ → Type 0
 IsOwnOutput opened received ended bytes =
-    ((msn : ℕ) × (calls : List OutstandingCall) × (((o : OutstandingCall) → Contains calls o → IsOfSubmitted opened received o) × (bytes ≡ calls_output opened msn calls)))
+    ((msn : ℕ) × (calls : List OutstandingCall) × (((o : OutstandingCall) → Contains calls o → IsSubmittedCall opened received o) × (bytes ≡ calls_output opened msn calls)))
     ⊎ ((end : End) × ((ended ≡ Some end) × (bytes ≡ final_output end)))
 
 -- the event is the frame of a Read Request that is answered by an allowed access
@@ -96,7 +96,7 @@ pub record AnswersRequest (opened : LinkParameters) (before : EndState ClientSta
   pub asks : read_request_of segment ≡ Some request
   pub disclosed : IsDisclosed opened before frame request
 
--- On every link, whatever the server sends: all else that a client writes is of its own.
+-- On every link, whatever the server sends, all else that a client writes for an event is its own output.
 abbrev pub NothingElseIsDisclosed : Type 0
 NothingElseIsDisclosed = (opened : LinkParameters) (link : ℕ) (run : List Mark) (earlier later : List Event) (event : Event) →
     (let before : EndState ClientState = end_state_after (client_rules opened) (initial_client opened) earlier in

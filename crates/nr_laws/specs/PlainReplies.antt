@@ -24,8 +24,8 @@ pub record HasPlainReply (plain : PlainServer) (J : List Entry) (link : ℕ) (ru
   pub own : HasReply link run xid call form reply
   pub plainly : AtPlace plain J own.moment own.payload own.place reply
 
--- On a matched link whose calls are answered as the plain server answers, each over the journal of its moment, so it is of each reply that is
--- handed over. It holds of any plain server, by a lemma in `proofs/`. A clause can't quantify over records of relations, so here a
+-- On a matched link whose calls are answered as the plain server answers, each over the journal of its moment, each reply that is handed over
+-- is such a reply. It holds of any plain server, by a lemma in `proofs/`. A clause can't quantify over records of relations, so here a
 -- server has at most one reply to a payload at a moment over a journal.
 abbrev pub RepliesArePlain : Type 0
 RepliesArePlain = (reply_to : List Entry → Moment → List ℕ → Option (List ℕ)) (adds : Moment → List ℕ → List ℕ → List Entry) (J : List Entry)

@@ -31,7 +31,7 @@ pub record MakesCall (opened : LinkParameters) (earlier : List Event) (frame : F
   pub whole : message_completed (server_by opened earlier).received segment ≡ Some message
   pub is_pending : verdict (server_by opened earlier) message ≡ MakesPending call
 
--- a region is a read chunk of such a call, from the end of that frame on: but for where it is closed
+-- a region is, but for its end, a read chunk of such a call, from the end of that frame on
 pub record IsChunkOfFrame (opened : LinkParameters) (earlier : List Event) (frame : Frame) (r : Region) : Type 0 where
   pub call : PendingCall
   pub is_made : MakesCall opened earlier frame call
@@ -45,11 +45,11 @@ pub record IsChunkOfSend (opened : LinkParameters) (received : List Event) (r : 
   pub is_received : received ≡ earlier ++ FrameReceived frame ∷ later
   pub own : IsChunkOfFrame opened earlier frame r
 
--- On every link, whatever the client sends, so is each region that the server offered: so its right is Sink, and its bytes are zeros.
+-- On every link, whatever the client sends, each region of a server is one. So its right is Sink, and its bytes are zeros as it is offered.
 abbrev pub ServerRegionsAreChunks : Type 0
 ServerRegionsAreChunks = (opened : LinkParameters) (link : ℕ) (run : List Mark) (r : Region) → Contains (server opened link run).state.regions r → IsChunkOfSend opened (events link Responder run) r
 
--- regions, but for where they are closed
+-- regions without their ends
 abbrev pub without_end : Region → Region
 without_end r = record r { until = None }
 
@@ -101,7 +101,7 @@ pub record IsClosedAt (opened : LinkParameters) (received : List Event) (r : Reg
   pub was_live : Contains (server_by opened earlier).regions (record r { until = None }) ⊎ IsChunkOfFrame opened earlier frame r
   pub nothing_left : HasReadLeft (server_by opened (earlier ++ FrameReceived frame ∷ [])) r → ⊥
 
--- On every link, whatever the client sends: a region is closed only so, at the end of that frame.
+-- On every link, whatever the client sends, a region is closed only so, at the end of that frame.
 abbrev pub ServerRegionsCloseWhenRead : Type 0
 ServerRegionsCloseWhenRead = (opened : LinkParameters) (link : ℕ) (run : List Mark) (r : Region) (place : ℕ) → Contains (server opened link run).state.regions r → r.until ≡ Some place →
     IsClosedAt opened (events link Responder run) r place

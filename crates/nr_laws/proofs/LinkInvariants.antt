@@ -7,8 +7,8 @@ use Rattle.nr_reduce.specs.ServerReads.{open_reads, is_read}
 use Rattle.std.specs.List.{list_any}
 use Rattle.nr_regions.specs.declared.right.Right.TheVariants.{Sink}
 use Rattle.nr_reduce.specs.OfferedRegions.{Region}
-use Rattle.nr_laws.specs.FrameContents.{FrameContent, total_of, sends_in, requests_in, responses_in, hellos_in, request_frame}
-use Rattle.nr_laws.specs.FrameContents.FrameContent.{HelloFrame, SendFrame, RequestFrame, TaggedFrame}
+use Rattle.nr_laws.proofs.FrameContents.{FrameContent, total_of, sends_in, requests_in, responses_in, hellos_in, request_frame}
+use Rattle.nr_laws.proofs.FrameContents.FrameContent.{HelloFrame, SendFrame, RequestFrame, TaggedFrame}
 use Rattle.nr_wire.specs.Constants.{OPCODE_READ_RESPONSE}
 
 -- The frames that the client has queued, and those that it wrote and the server hasn't received (up); and the same of the server
