@@ -70,8 +70,8 @@ ROLES = {
     'chunks': 'λ state call. buffers state.stag (outstanding_of state call).plan',
     'waits': 'λ state ended. first_ready state.ready ended',
 }
-LAWS = ('once: Sends', 'once: calls', 'once: xids', 'places', 'completions', 'executed_payloads', 'replies_handed_over', 'replies_are_plain', 'journal: places',
-        'chunk_outcomes: causes', 'chunk_outcomes: completed', 'chunk_outcomes: offers', 'chunk_outcomes: own plans', 'chunk_outcomes: auto', 'chunk_outcomes: changes',
+LAWS = ('once: Sends', 'once: calls', 'once: xids', 'places', 'executed_payloads', 'replies_handed_over', 'replies_are_plain', 'journal: places',
+        'chunk_outcomes: causes', 'chunk_outcomes: completed', 'chunk_outcomes: version', 'chunk_outcomes: offers', 'chunk_outcomes: own plans', 'chunk_outcomes: auto', 'chunk_outcomes: changes',
         'chunk_outcomes: nothing_added', 'touches: client', 'touches: server', 'touches: requests', 'touches: revoked', 'offered_regions: client adds', 'offered_regions: client live', 'offered_regions: client closed', 'offered_regions: server adds',
         'offered_regions: server live', 'offered_regions: server closed', 'offered_memory: client_bytes', 'offered_memory: server_bytes', 'offered_memory: reads', 'grant', 'calls_complete', 'segments_keep_the_rules: client', 'segments_keep_the_rules: server',
         'matched_links_stay: stays', 'matched_links_stay: clients')
@@ -278,7 +278,7 @@ class Link:
         if not self.matched:
             return
         e = self.executes.get(x)
-        self.note('completions', kind != 'Version' and (kind != 'Reply' or e is not None), self.kind(x))
+        self.note('chunk_outcomes: version', kind != 'Version', self.kind(x))
         if kind == 'Reply':
             same = e is not None and e['reply'] == bytes_of(m['outcome']['payload'])
             self.note('replies_handed_over', same, self.kind(x))

@@ -32,6 +32,7 @@ use Rattle.nr_reduce.specs.Holds.{chunk_error}
 use Rattle.nr_reduce.specs.RunLaws.{server_by}
 use Rattle.nr_laws.specs.MatchedSoFar.{MatchedSoFar}
 use Rattle.nr_reduce.specs.Run.{client}
+use Rattle.nr_laws.specs.ChunkOutcomes.{NoOtherVersion}
 use Rattle.nr_laws.specs.Typed.{IsTyped}
 use Rattle.nr_laws.proofs.HeaderXid.{chunk-error-xid, first-word}
 use Rattle.nr_laws.proofs.ExecutedCalls.{frame-message}
@@ -217,3 +218,6 @@ version-never opened link run before after xid low high typed far is = by (outco
     by : (o : Outcome) → o ≡ outcomes.Version low high → OutcomeCause opened link before xid m o → ⊥
     by o e (OfAnswer r) = reply o e r
     by o e (OfChunk c w) = chunk o e c
+
+pub no_other_version : NoOtherVersion
+no_other_version opened link run before xid low high typed far at = version-never opened link run before at.after xid low high typed far at.is

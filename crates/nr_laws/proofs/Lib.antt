@@ -97,7 +97,6 @@ pub mod CallNumbers
 pub mod AnsweredCalls
 pub mod AnsweredSteps
 pub mod SinkCount
-pub mod ReadOutcomes
 pub mod LawsBefore
 pub mod WrittenBytes
 pub mod ConveyedCalls

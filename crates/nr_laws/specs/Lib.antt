@@ -2,7 +2,6 @@ pub mod MarkAt
 pub mod Typed
 pub mod MatchedSoFar
 pub mod Once
-pub mod Completions
 pub mod Grant
 pub mod Touches
 pub mod Places

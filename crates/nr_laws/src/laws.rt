@@ -4,8 +4,7 @@ ghost use Rattle.nr_laws.specs.Touches.{ClientIsTouched, ServerIsTouched, Server
 ghost use Rattle.nr_laws.specs.Grant.{SubmitsWithinGrant};
 ghost use Rattle.nr_laws.specs.Places.{PlacesFollow};
 ghost use Rattle.nr_laws.specs.Once.{NoSendTwice, NoCallTwice, NoXidTwice};
-ghost use Rattle.nr_laws.specs.Completions.{RepliesAreExecuted, NoOtherVersion};
-ghost use Rattle.nr_laws.specs.ChunkOutcomes.{ChunkHasCause, OthersHaveNoCause, CausedCallsComplete, OffersArePlanned, NoOwnPlanIsRefused, AutoHasReplies, ChangesAreAnswered, ChunkAddsNothing};
+ghost use Rattle.nr_laws.specs.ChunkOutcomes.{ChunkHasCause, OthersHaveNoCause, CausedCallsComplete, NoOtherVersion, OffersArePlanned, NoOwnPlanIsRefused, AutoHasReplies, ChangesAreAnswered, ChunkAddsNothing};
 
 /// No Send is executed twice, whatever a client sends, and no accepted call completes twice. On a matched link no xid is executed
 /// twice.
@@ -29,13 +28,6 @@ pub fn touches()
     ensures revoked { RevokeStands }
 {}
 
-/// On a matched link a call whose reply is handed over was accepted and then executed with just this reply before that, and no call completes
-/// with another version.
-pub fn completions()
-    ensures executed { RepliesAreExecuted }
-    ensures version { NoOtherVersion }
-{}
-
 /// On every link whose client accepts by its rule each accepted call is submitted while fewer calls are outstanding than are granted.
 pub fn grant()
     ensures { SubmitsWithinGrant }
@@ -49,6 +41,8 @@ pub fn chunk_outcomes()
     ensures others { OthersHaveNoCause }
     // Where nothing is left to do, and all outcomes that are due are handed over, each such call that wasn't given up completed with Chunk.
     ensures completed { CausedCallsComplete }
+    // No call completes with another version.
+    ensures version { NoOtherVersion }
     // The offer by which the server answers an executed call is what the plan of the call offers.
     ensures offers { OffersArePlanned }
     // On every link whose client keeps its law, a Send is refused only of a call whose offer is given.

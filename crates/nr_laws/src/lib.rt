@@ -12,6 +12,6 @@ mod regions;
 
 pub use completion::{calls_complete, matched_links_stay, segments_keep_the_rules};
 pub use handover::{replies_are_plain, replies_handed_over};
-pub use laws::{chunk_outcomes, completions, grant, once, places, touches};
+pub use laws::{chunk_outcomes, grant, once, places, touches};
 pub use payloads::executed_payloads;
 pub use regions::{offered_memory, offered_regions};

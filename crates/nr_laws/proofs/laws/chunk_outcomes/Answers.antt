@@ -4,6 +4,7 @@ use Rattle.nr_laws.proofs.PlannedOffers.{offers_are_planned}
 use Rattle.nr_laws.proofs.OwnMessages.{no_own_plan_is_refused}
 use Rattle.nr_laws.proofs.AutoReplies.{auto_has_replies}
 use Rattle.nr_laws.proofs.AnsweredChanges.{changes_are_answered, chunk_adds_nothing}
+use Rattle.nr_laws.proofs.Completed.{no_other_version}
 use Rattle.nr_laws.proofs.laws.chunk_outcomes.Goals as goal
 
 pub returns-clause-causes : goal.returns-clause-causes
@@ -29,3 +30,6 @@ returns-clause-changes c = changes_are_answered
 
 pub returns-clause-nothing_added : goal.returns-clause-nothing_added
 returns-clause-nothing_added c = chunk_adds_nothing
+
+pub returns-clause-version : goal.returns-clause-version
+returns-clause-version c = no_other_version
