@@ -4,6 +4,8 @@ use Rattle.nr_xdr.specs.Item.{Item}
 use Rattle.nr_xdr.specs.Item.Item.{Unsigned}
 use Rattle.nr_xdr.specs.Items.{ReadsAll, encodings}
 use Rattle.nr_rpc.specs.Constants.{AUTH_BODY_MAX, RPC_VERSION, CALL}
+use Rattle.nr_rpc.specs.declared.cred.Cred.{Cred}
+use Rattle.nr_rpc.specs.declared.head.CallTarget.{CallTarget}
 use Rattle.nr_rpc.specs.declared.head.CallHead.{CallHead}
 use Rattle.nr_rpc.specs.declared.head.CallHead.TheVariants as calls
 use Rattle.nr_rpc.specs.Credential.{Auth, auth_items, auth_of, no_verifier, ReadsCred, CanWriteCred, CredFits}
@@ -34,6 +36,10 @@ call_head (calls.Other xid rpcvers) = encodings (other_items xid rpcvers)
 
 abbrev pub call_encoding : CallHead → List ℕ → List ℕ
 call_encoding head args = call_head head ++ args
+
+-- the head of a call of version 2 with this credential
+abbrev pub call_of_target : CallTarget → Cred → CallHead
+call_of_target t cred = calls.Version2 t.xid t.prog t.vers t.proc cred t.args_at
 
 -- what can be written: a machine's name of at most 255 bytes, at most 16 further groups, a flavor other than 0 in another
 -- credential, a version other than 2 in another head

@@ -3,10 +3,12 @@
 ghost use Rattle.std.specs.Prelude.{◌≡◌, ℕ, List, ◌++◌, ◌^◌, ◌<◌, length, Ok, Err, IfOk, IfErr, IfSome, OnOk};
 ghost use Rattle.nr_xdr.specs.Item.{IsBytes};
 ghost use Rattle.nr_xdr.specs.Matching.{MatchesRead, MatchesValue};
-ghost use Rattle.nr_rpc.specs.Call.{ReadsCall, BeginsCall, CanWriteCall, call_head, call_encoding};
+ghost use Rattle.nr_rpc.specs.Call.{ReadsCall, BeginsCall, CanWriteCall, call_head, call_encoding, call_of_target};
+ghost use Rattle.nr_rpc.specs.Credential.{CanWriteCred};
 ghost use Rattle.nr_rpc.specs.Reading.{GivesCall, call_at, call_of, version2_at, procedure_at, head_of_start, target_of, head_xid, xid_of_call};
 
 use crate::constants::{CALL, RPC_VERSION};
+use crate::cred::Cred;
 use crate::fault::HeadFault;
 use crate::head::{CallHead, CallTarget};
 use crate::item::{RawAuth, auth, expect, pair};
@@ -170,6 +172,28 @@ fn call_xid_inner(bytes: &[u8]) -> Option<u32>
     }
 }
 
+/// Puts the head of a call of version 2 at the end.
+fn put_version2(
+    alloc: Global,
+    writer: &mut Writer,
+    target: CallTarget,
+    cred: &Cred,
+) -> Result<(), Memory>
+    requires { CanWriteCred cred.now }
+    ensures { OnOk result (writer.new ≡ writer.old ++ call_head (call_of_target target cred.now)) }
+{
+    let CallTarget {
+        xid,
+        prog,
+        vers,
+        proc,
+        ..
+    } = target;
+    put_numbers(writer, &[xid, CALL, RPC_VERSION, prog, vers, proc])?;
+    put_cred(alloc, writer, cred)?;
+    put_no_verifier(writer)
+}
+
 /// Puts a head at the end.
 fn put_call(alloc: Global, writer: &mut Writer, head: &CallHead) -> Result<(), Memory>
     requires { CanWriteCall head.now }
@@ -182,11 +206,16 @@ fn put_call(alloc: Global, writer: &mut Writer, head: &CallHead) -> Result<(), M
             vers,
             proc,
             cred,
-            ..
+            args_at,
         } => {
-            put_numbers(writer, &[*xid, CALL, RPC_VERSION, *prog, *vers, *proc])?;
-            put_cred(alloc, writer, cred)?;
-            put_no_verifier(writer)
+            let target = CallTarget {
+                xid: *xid,
+                prog: *prog,
+                vers: *vers,
+                proc: *proc,
+                args_at: *args_at,
+            };
+            put_version2(alloc, writer, target, cred)
         }
         CallHead::Other { xid, rpcvers } => put_numbers(writer, &[*xid, CALL, *rpcvers]),
     }
@@ -210,6 +239,32 @@ pub fn write_call(alloc: Global, head: &CallHead, args: &[u8]) -> Result<Octets,
     ensures memory { IfErr result (λ e. e ≡ HeadFault.Memory) }
 {
     let mut octets = call_octets(alloc, head)?;
+    octets.extend_from_slice(args)?;
+    Ok(octets)
+}
+
+/// The head of a call of version 2, as bytes.
+fn version2_octets(alloc: Global, target: CallTarget, cred: &Cred) -> Result<Octets, Memory>
+    requires { CanWriteCred cred.now }
+    ensures { IfOk result (λ o. o ≡ call_head (call_of_target target cred.now)) }
+{
+    let mut writer = Writer::new(alloc);
+    put_version2(alloc, &mut writer, target, cred)?;
+    Ok(writer.finish())
+}
+
+/// The encoding of a call of version 2 whose credential is borrowed: that of [`write_call`] for a head with this credential.
+/// `args_at` is ignored.
+pub fn write_call_of(
+    alloc: Global,
+    target: CallTarget,
+    cred: &Cred,
+    args: &[u8],
+) -> Result<Octets, Memory>
+    requires { CanWriteCred cred.now }
+    ensures { IfOk result (λ o. o ≡ call_encoding (call_of_target target cred.now) args.now) }
+{
+    let mut octets = version2_octets(alloc, target, cred)?;
     octets.extend_from_slice(args)?;
     Ok(octets)
 }

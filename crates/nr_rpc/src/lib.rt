@@ -2,8 +2,8 @@
 //!
 //! The crate stands on `nr_xdr`. A head precedes the arguments of a call or the results of a reply: it says who calls which
 //! procedure, or how the call went. [`read_call`] and [`read_reply`] read the head at the front of some bytes and say where
-//! the rest begins. [`call_target`] and [`call_xid`] answer single questions about a call without memory. [`write_call`] and
-//! [`write_reply`] write a head followed by arguments or results.
+//! the rest begins. [`call_target`] and [`call_xid`] answer single questions about a call without memory. [`write_call`],
+//! [`write_call_of`] and [`write_reply`] write a head followed by arguments or results.
 //!
 //! Verifiers, and the bodies of credentials other than AUTH_SYS, are dropped when read and written empty. The crates above
 //! give programs, procedures and results their meaning, and decide how a call is answered.
@@ -20,7 +20,7 @@ mod put;
 mod reply;
 mod sys;
 
-pub use call::{call_target, call_xid, read_call, write_call};
+pub use call::{call_target, call_xid, read_call, write_call, write_call_of};
 pub use constants::{AUTH_BODY_MAX, AUTH_SYS, GIDS_MAX, MACHINE_MAX, PROG_MISMATCH, RPC_VERSION};
 pub use cred::{Cred, Gids};
 pub use fault::HeadFault;
