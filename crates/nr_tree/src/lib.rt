@@ -9,7 +9,7 @@
 //! [`File`] and [`Directory`] hide how bytes and entries are kept: contracts see a list of bytes, and a list of entries with
 //! the next cookie. `rules.rt` has the tests of handles, names, rights, attributes and of the journal's space that the procedures share,
 //! and `replies.rt` what their replies say of nodes.
-//! The procedures themselves, with the order of their rules and their replies, stand above. docs/TREE.md tells the idea of the
+//! The procedures themselves, with the order of their rules and their replies, stand above. docs/crates/nr_tree.md has the idea of the
 //! proof.
 #![tactic(auto)]
 
