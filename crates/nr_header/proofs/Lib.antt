@@ -5,3 +5,4 @@ pub mod ReadLists
 pub mod Messages
 pub mod Written
 pub mod KindsOfMessages
+pub mod Readings

@@ -1,5 +1,5 @@
 -- The transport header (RFC 8166 section 4.2), and the bytes that encode it.
-use Rattle.std.specs.Prelude.{ℕ, ◌^◌, ◌<◌, true, false, List, [], ◌∷◌, length, All, Option, Some, None, IfSome}
+use Rattle.std.specs.Prelude.{ℕ, ◌^◌, ◌<◌, Bool, true, false, if◌then◌else◌, List, [], ◌∷◌, length, All, Option, Some, None, IfSome}
 use Rattle.nr_xdr.specs.Item.{Item}
 use Rattle.nr_xdr.specs.Item.Item.{Unsigned, Hyper, Boolean}
 use Rattle.nr_xdr.specs.Items.{AllFit, encodings}
@@ -10,6 +10,8 @@ use Rattle.nr_header.specs.declared.header.ChunkLists.{ChunkLists}
 use Rattle.nr_header.specs.declared.header.Body.{Body}
 use Rattle.nr_header.specs.declared.header.Body.TheVariants.{Msg, Nomsg, ErrVers, ErrChunk}
 use Rattle.nr_header.specs.declared.header.Header.{Header}
+use Rattle.nr_header.specs.declared.header.TransportError.{TransportError}
+use Rattle.nr_header.specs.declared.header.TransportError.TheVariants.{Vers, Chunk}
 
 -- the items of a segment, then those that follow it (RFC 8166 section 3.4)
 abbrev pub segment_items : RdmaSegment → List Item → List Item
@@ -59,6 +61,19 @@ body_items xid credit (ErrChunk version) = fixed_items xid version credit ERROR 
 -- the encoding, within the limits or not
 abbrev pub header_encoding : Header → List ℕ
 header_encoding h = encodings (body_items h.xid h.credit h.body)
+
+-- a message with these lists: RDMA_NOMSG where its stream is in a chunk, else RDMA_MSG (RFC 8166 section 4.2.4)
+abbrev pub lists_body : Bool → ChunkLists → Body
+lists_body long lists = if long then Nomsg lists else Msg lists 0
+
+-- no chunks
+abbrev pub no_lists : ChunkLists
+no_lists = record { read = []; write = []; reply = None }
+
+-- an error message with this version word
+abbrev pub error_body : ℕ → TransportError → Body
+error_body version (Vers low high) = ErrVers version low high
+error_body version Chunk = ErrChunk version
 
 -- what has an encoding: each number of segments is a word
 abbrev pub ChunksFit : ChunkLists → Type 0

@@ -1,5 +1,5 @@
 -- Which lists of chunks are within the limits, whatever their encoding.
-use Rattle.std.specs.Prelude.{◌≡◌, ◌≢◌, ℕ, ◌+◌, ◌^◌, ◌≤◌, List, [], ◌++◌, length, sum_by, All, IfSome}
+use Rattle.std.specs.Prelude.{◌≡◌, ◌≢◌, ℕ, ◌+◌, ◌^◌, ◌≤◌, List, [], ◌++◌, length, drop, sum_by, All, IfSome}
 use Rattle.nr_header.specs.Constants.{READ_SEGMENTS_MAX, WRITE_CHUNKS_MAX, CHUNK_SEGMENTS_MAX, WRITE_SEGMENTS_MAX, REPLY_SEGMENTS_MAX, PAYLOAD_MAX}
 use Rattle.nr_header.specs.declared.header.RdmaSegment.{RdmaSegment}
 use Rattle.nr_header.specs.declared.header.ReadSegment.{ReadSegment}
@@ -51,6 +51,19 @@ StreamAt (Msg lists stream_at) len = stream_at ≡ len
 StreamAt (Nomsg lists) len = Unit {0}
 StreamAt (ErrVers version low high) len = Unit {0}
 StreamAt (ErrChunk version) len = Unit {0}
+
+-- the stream of RDMA_MSG is that from its place on, which is at most the message's length
+abbrev pub StreamWithin : Body → ℕ → Type 0
+StreamWithin (Msg lists stream_at) len = stream_at ≤ len
+StreamWithin (Nomsg lists) len = Unit {0}
+StreamWithin (ErrVers version low high) len = Unit {0}
+StreamWithin (ErrChunk version) len = Unit {0}
+
+abbrev pub stream_after : Body → List ℕ → List ℕ
+stream_after (Msg lists stream_at) bytes = drop stream_at bytes
+stream_after (Nomsg lists) bytes = []
+stream_after (ErrVers version low high) bytes = []
+stream_after (ErrChunk version) bytes = []
 
 -- the message is this header, within the limits, and its stream
 pub record IsMessage (h : Header) (bytes : List ℕ) : Type 0 where

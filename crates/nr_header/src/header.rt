@@ -62,6 +62,15 @@ pub enum Body {
     ErrChunk { version: u32 },
 }
 
+/// The error that an RDMA_ERROR message reports (RFC 8166 section 4.5).
+#[derive(Clone, Copy, Debug, PartialEq, Eq)]
+pub enum TransportError {
+    /// ERR_VERS: the sender supports the versions from `low` to `high`.
+    Vers { low: u32, high: u32 },
+    /// ERR_CHUNK: the chunks of the call can't be used.
+    Chunk,
+}
+
 /// A transport header (RFC 8166 section 4.2). `credit` is the number of credits that a requester asks for or a responder grants.
 #[derive(Drop)]
 pub struct Header {

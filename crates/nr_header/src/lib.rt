@@ -4,7 +4,7 @@
 //! (RDMA_MSG, RDMA_NOMSG or RDMA_ERROR), then the chunk lists (memory that the requester offers, or that the responder filled)
 //! or an error. [`read_header`] judges a
 //! whole message: its lists are within fixed limits, or it says why not and where. [`write_header`] encodes any header,
-//! within the limits or not. The crates above decide which chunks a call offers and what they carry.
+//! within the limits or not; [`write_plain`], [`write_with_lists`] and [`write_error`] do so without a [`Header`]. The crates above decide which chunks a call offers and what they carry.
 #![tactic(auto)]
 
 mod constants;
@@ -22,8 +22,10 @@ pub use constants::{
     WRITE_CHUNKS_MAX, WRITE_SEGMENTS_MAX,
 };
 pub use fault::HeaderFault;
-pub use header::{Body, Chunk, ChunkLists, Header, RdmaSegment, ReadList, ReadSegment, WriteList};
+pub use header::{
+    Body, Chunk, ChunkLists, Header, RdmaSegment, ReadList, ReadSegment, TransportError, WriteList,
+};
 pub use inline_vec::InlineVec;
 pub use laws::{bad_messages, header_round_trip, kinds_of_messages};
 pub use reading::{credit_of, read_header, xid_of};
-pub use writing::write_header;
+pub use writing::{write_error, write_header, write_plain, write_with_lists};

@@ -2,7 +2,7 @@
 
 ghost use Rattle.std.specs.Prelude.{◌≡◌, ℕ, ◌+◌, ◌^◌, ◌<◌, ◌≤◌, nat_lt, sum_by, length, take, drop, true, false, Ok, Err, IfOk, MatchResult};
 ghost use Rattle.nr_header.specs.declared.header.Header.{Header};
-ghost use Rattle.nr_header.specs.WithinLimits.{read_total, IsMessage};
+ghost use Rattle.nr_header.specs.WithinLimits.{read_total, CanRead, IsMessage, StreamWithin, stream_after};
 ghost use Rattle.nr_xdr.specs.Fields.{word_at};
 ghost use Rattle.nr_xdr.specs.Matching.{MatchesValue};
 ghost use Rattle.nr_header.specs.Reading.{sums_pass, msg_body, nomsg_body, msg_at, nomsg_at, error_of, error_by, version1_of, body_by, in_lists, header_of};
@@ -157,7 +157,8 @@ fn body(reader: &mut Reader<'_>, bytes: &[u8]) -> Result<Body, HeaderFault>
 
 #[tactic(auto, unfolding(crate::specs::Reading::header_of, nr_xdr::specs::Reading::fixed_at, nr_xdr::specs::Reading::cursor_past, nr_xdr::specs::Item::pad_len))]
 fn read_header_inner(bytes: &[u8]) -> Result<Header, HeaderFault>
-    ensures { result ≡ header_of bytes.now }
+    ensures is { result ≡ header_of bytes.now }
+    ensures words { IfOk result (λ header. (header.xid ≡ word_at 0 bytes.now) × (header.credit ≡ word_at 8 bytes.now)) }
 {
     let mut reader = Reader::new(bytes);
     if reader.fixed(FIXED_LEN).is_err() {
@@ -182,6 +183,12 @@ pub fn read_header(bytes: &[u8]) -> Result<Header, HeaderFault>
     ensures only { (header : Header) → IsMessage header bytes.now → result ≡ Ok header }
     // Which fault it is, and where.
     ensures exact { result ≡ header_of bytes.now }
+    // Its numbers are words of the message.
+    ensures words { IfOk result (λ header. (header.xid ≡ word_at 0 bytes.now) × (header.credit ≡ word_at 8 bytes.now)) }
+    // Its stream lies within the message.
+    ensures stream { IfOk result (λ header. StreamWithin header.body (length bytes.now)) }
+    // Its lists and its stream are within the limits; each segment ends at 2^64 or before.
+    ensures limits { IfOk result (λ header. CanRead header.body (stream_after header.body bytes.now)) }
 {
     read_header_inner(bytes)
 }

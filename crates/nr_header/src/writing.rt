@@ -1,12 +1,12 @@
 //! Writing of a header: each function puts its part at the end of a writer.
 
-ghost use Rattle.std.specs.Prelude.{◌≡◌, ◌^◌, ◌<◌, [], ◌∷◌, ◌++◌, length, All, true, OnOk, IfOk, IfSome};
+ghost use Rattle.std.specs.Prelude.{◌≡◌, ◌^◌, ◌<◌, [], ◌∷◌, ◌++◌, length, All, true, false, OnOk, IfOk, IfSome};
 ghost use Rattle.nr_xdr.specs.Item.Item.{Unsigned, Boolean};
 ghost use Rattle.nr_xdr.specs.Items.{encodings};
-ghost use Rattle.nr_header.specs.Header.{segment_items, entry_items, fixed_items, read_items, segments_items, chunk_items, write_items, reply_items, lists_items, ChunksFit, CanWriteHeader, header_encoding};
+ghost use Rattle.nr_header.specs.Header.{segment_items, entry_items, fixed_items, read_items, segments_items, chunk_items, write_items, reply_items, lists_items, body_items, lists_body, no_lists, error_body, ChunksFit, CanWriteHeader, header_encoding};
 
 use crate::constants::{ERR_CHUNK, ERR_VERS, ERROR, MSG, NOMSG, VERSION};
-use crate::header::{Body, Chunk, ChunkLists, Header, RdmaSegment, ReadSegment};
+use crate::header::{Body, Chunk, ChunkLists, Header, RdmaSegment, ReadSegment, TransportError};
 use nr_xdr::{Memory, Octets, Writer};
 use std::alloc::Global;
 
@@ -127,6 +127,32 @@ fn put_versions(writer: &mut Writer, low: u32, high: u32) -> Result<(), Memory>
     writer.u32(high)
 }
 
+/// Puts an error message.
+fn put_error(
+    writer: &mut Writer,
+    xid: u32,
+    version: u32,
+    credit: u32,
+    error: TransportError,
+) -> Result<(), Memory>
+    ensures { OnOk result (writer.new ≡ writer.old ++ encodings (body_items xid credit (error_body version error))) }
+{
+    put_fixed(writer, xid, version, credit, ERROR)?;
+    match error {
+        TransportError::Vers { low, high } => put_versions(writer, low, high),
+        TransportError::Chunk => writer.u32(ERR_CHUNK),
+    }
+}
+
+/// Puts the words of lists without chunks.
+fn put_no_lists(writer: &mut Writer) -> Result<(), Memory>
+    ensures { OnOk result (writer.new ≡ writer.old ++ encodings (lists_items no_lists)) }
+{
+    writer.boolean(false)?;
+    writer.boolean(false)?;
+    writer.boolean(false)
+}
+
 /// Puts a header.
 fn put_header(writer: &mut Writer, header: &Header) -> Result<(), Memory>
     requires { CanWriteHeader header.now }
@@ -137,12 +163,14 @@ fn put_header(writer: &mut Writer, header: &Header) -> Result<(), Memory>
         Body::Msg { lists, .. } => put_with_lists(writer, xid, credit, MSG, lists),
         Body::Nomsg { lists } => put_with_lists(writer, xid, credit, NOMSG, lists),
         Body::ErrVers { version, low, high } => {
-            put_fixed(writer, xid, *version, credit, ERROR)?;
-            put_versions(writer, *low, *high)
+            let error = TransportError::Vers {
+                low: *low,
+                high: *high,
+            };
+            put_error(writer, xid, *version, credit, error)
         }
         Body::ErrChunk { version } => {
-            put_fixed(writer, xid, *version, credit, ERROR)?;
-            writer.u32(ERR_CHUNK)
+            put_error(writer, xid, *version, credit, TransportError::Chunk)
         }
     }
 }
@@ -154,5 +182,65 @@ pub fn write_header(alloc: Global, header: &Header) -> Result<Octets, Memory>
 {
     let mut writer = Writer::new(alloc);
     put_header(&mut writer, header)?;
+    Ok(writer.finish())
+}
+
+/// The encoding of RDMA_MSG without chunks, which its stream follows.
+pub fn write_plain(alloc: Global, xid: u32, credit: u32) -> Result<Octets, Memory>
+    ensures { IfOk result (λ o. o ≡ header_encoding (record { xid = xid; credit = credit; body = lists_body false no_lists })) }
+{
+    let mut writer = Writer::new(alloc);
+    put_fixed(&mut writer, xid, VERSION, credit, MSG)?;
+    put_no_lists(&mut writer)?;
+    Ok(writer.finish())
+}
+
+/// The encoding of a message of a kind that has lists, up to its stream.
+fn octets_with_lists(
+    alloc: Global,
+    xid: u32,
+    credit: u32,
+    kind: u32,
+    lists: &ChunkLists,
+) -> Result<Octets, Memory>
+    requires { ChunksFit lists.now }
+    ensures { IfOk result (λ o. o ≡ encodings (fixed_items xid VERSION credit kind (lists_items lists.now))) }
+{
+    let mut writer = Writer::new(alloc);
+    put_with_lists(&mut writer, xid, credit, kind, lists)?;
+    Ok(writer.finish())
+}
+
+/// The encoding of a message with borrowed lists, up to its stream: RDMA_NOMSG where `long`, its stream being in a chunk, else
+/// RDMA_MSG. The lists may be within the limits or not.
+pub fn write_with_lists(
+    alloc: Global,
+    xid: u32,
+    credit: u32,
+    long: bool,
+    lists: &ChunkLists,
+) -> Result<Octets, Memory>
+    requires { ChunksFit lists.now }
+    ensures { IfOk result (λ o. o ≡ header_encoding (record { xid = xid; credit = credit; body = lists_body long lists.now })) }
+{
+    if long {
+        octets_with_lists(alloc, xid, credit, NOMSG, lists)
+    } else {
+        octets_with_lists(alloc, xid, credit, MSG, lists)
+    }
+}
+
+/// The encoding of an error message with this version word.
+pub fn write_error(
+    alloc: Global,
+    xid: u32,
+    version: u32,
+    credit: u32,
+    error: TransportError,
+) -> Result<Octets, Memory>
+    ensures { IfOk result (λ o. o ≡ header_encoding (record { xid = xid; credit = credit; body = error_body version error })) }
+{
+    let mut writer = Writer::new(alloc);
+    put_error(&mut writer, xid, version, credit, error)?;
     Ok(writer.finish())
 }

@@ -1,0 +1,38 @@
+-- The stream of a header that is read, and the limits of its lists.
+use Rattle.std.proofs.Common.{◌≡◌, ℕ, List, [], ◌++◌, length, drop, Result, Ok, Err, sym, ap, subst, ◌∙◌, arith, length-append}
+use Rattle.std.specs.Prelude.{IfOk}
+use Rattle.std.proofs.Math.Seq.{drop-append_seam}
+use Rattle.nr_xdr.specs.Item.{IsBytes}
+use Rattle.nr_header.specs.declared.fault.HeaderFault.{HeaderFault}
+use Rattle.nr_header.specs.declared.header.Body.{Body}
+use Rattle.nr_header.specs.declared.header.Body.TheVariants.{Msg, Nomsg, ErrVers, ErrChunk}
+use Rattle.nr_header.specs.declared.header.Header.{Header}
+use Rattle.nr_header.specs.Reading.{header_of}
+use Rattle.nr_header.specs.WithinLimits.{CanRead, StreamAt, IsMessage, StreamWithin, stream_after}
+use Rattle.nr_header.proofs.Messages.{header_is_found}
+
+within : (body : Body) (encoded stream bytes : List ℕ) → bytes ≡ encoded ++ stream → StreamAt body (length encoded) → StreamWithin body (length bytes)
+within (Msg lists stream_at) encoded stream bytes is at = omega (arith, at, ap (λ (b : List ℕ). length b) is, length-append encoded stream)
+within (Nomsg lists) encoded stream bytes is at = tt
+within (ErrVers version low high) encoded stream bytes is at = tt
+within (ErrChunk version) encoded stream bytes is at = tt
+
+kept : (body : Body) (encoded stream bytes : List ℕ) → bytes ≡ encoded ++ stream → StreamAt body (length encoded) → CanRead body stream → CanRead body (stream_after body bytes)
+kept (Msg lists stream_at) encoded stream bytes is at can =
+    let same : stream ≡ drop stream_at bytes = sym ((λ i. drop (at i) (is i)) ∙ drop-append_seam encoded stream) in
+    subst (CanRead (Msg lists stream_at)) same can
+kept (Nomsg lists) encoded stream bytes is at can = subst (CanRead (Nomsg lists)) can.0 can
+kept (ErrVers version low high) encoded stream bytes is at can = subst (CanRead (ErrVers version low high)) can can
+kept (ErrChunk version) encoded stream bytes is at can = subst (CanRead (ErrChunk version)) can can
+
+pub stream_within : (bytes : List ℕ) (r : Result Header HeaderFault) → IsBytes bytes → r ≡ header_of bytes → IfOk r (λ h. StreamWithin h.body (length bytes))
+stream_within bytes (Ok h) fits is =
+    let m : IsMessage h bytes = header_is_found bytes (Ok h) fits is in
+    within h.body _ m.stream bytes m.parts m.place
+stream_within bytes (Err fault) fits is = tt
+
+pub limits_kept : (bytes : List ℕ) (r : Result Header HeaderFault) → IsBytes bytes → r ≡ header_of bytes → IfOk r (λ h. CanRead h.body (stream_after h.body bytes))
+limits_kept bytes (Ok h) fits is =
+    let m : IsMessage h bytes = header_is_found bytes (Ok h) fits is in
+    kept h.body _ m.stream bytes m.parts m.place m.can
+limits_kept bytes (Err fault) fits is = tt
