@@ -1,26 +1,28 @@
-"""Asks of recorded runs what the laws of nr_laws say: on which runs the premises of a law are met, and whether what it says is so.
+"""Asks of recorded runs what the laws of nr_laws say: if the premises of a law are met, and whether what it says is so.
 
-    python3 bench/laws_of_runs.py RUNDEFS [WORD]
+    python3 conformance/laws_of_runs.py [--only WORD] [--jobs N]
 
-RUNDEFS is the folder of the evaluator of definitions and of the recorded runs; WORD chooses the runs that have it in their names. That
-the recorded runs keep the laws of a link (Asked, Served) is what `check_definitions.py` there compares; here the other premises and what
-each law says are computed, from the same definitions, mark by mark. It proves nothing. It prints, for each law, on how many links and how
-often its premises were met, how often with a read chunk and with a write chunk, the first run of each, and each mark where what it
-says isn't so. Exit status: 0 none, 1 some, 2 plain_calls isn't built."""
+That the recorded runs keep the laws of a link (Asked, Served) is what check_definitions.py compares; here the other
+premises and what each law says are computed, from the same definitions, mark by mark. It proves nothing. For each law
+it prints how often its premises were met, in all and by kind (with a read chunk, with a write chunk, ..), a run of
+each, and each mark at which what it says isn't so. Exit status: 0 none, 1 some, 2 nothing could be run."""
+import argparse
+import gzip
 import json
 import multiprocessing
 import os
-import subprocess
 import sys
+from collections.abc import Iterable
+from typing import Any
 
-ROOT = os.path.dirname(os.path.dirname(os.path.abspath(__file__)))
-sys.path.insert(0, sys.argv[1])
-import antt  # noqa: E402
-from antt import call, deeply  # noqa: E402
-from check_definitions import Names, bytes_of, recorded  # noqa: E402
+from antt import ROOT
+from check_definitions import NAMES, RUNS, Names, Recorded, bytes_of, recorded, weight
+from values import CannotEvaluate, Value, call, deeply
 
-# a function of std that the evaluator's table has not
-antt.STD.setdefault('pointwise', antt.Fn(3, lambda f, a, b: len(a) == len(b) and all(antt.truth(call(f, x, y)) for x, y in zip(a, b))))
+HERE = os.path.dirname(os.path.abspath(__file__))
+PLAIN = os.path.join(HERE, 'plain.json.gz')
+# a law, whether what it says is so, of which kind the case is, the run and the mark
+Finding = tuple[str, bool, tuple[str, ...], str, int]
 
 USES = [
     'use Rattle.nr_reduce.specs.ClientState.{call_payload, plan_for, memory_at}',
@@ -48,62 +50,110 @@ USES = [
     'use Rattle.nr_laws.specs.Payloads.{form_conveyed}',
     'use Rattle.nr_reduce.specs.Served.{first_ready}',
 ]
-ROLES = {
+ROLES: dict[str, str] = {
     'events': 'λ link side before mark. events_at link side before mark',
-    'first_client': 'λ opened. initial_client opened', 'first_server': 'λ opened. initial_server opened',
+    'first_client': 'λ opened. initial_client opened',
+    'first_server': 'λ opened. initial_server opened',
     'next_client': 'λ opened state event. next_end_state (client_rules opened) state event',
     'next_server': 'λ opened state event. next_end_state (server_rules opened) state event',
-    'payload': 'λ xid call. call_payload xid call', 'conveyed': 'λ form payload. form_conveyed form payload',
+    'payload': 'λ xid call. call_payload xid call',
+    'conveyed': 'λ form payload. form_conveyed form payload',
     'plan': 'λ state xid call form. plan_for state xid call form',
     'has_head': 'λ payload. call_of payload',
-    'message': 'λ opened state xid plan. call_message xid opened.wished state.stag plan', 'lists_of': 'λ stag plan. lists_of stag plan',
-    'header': 'λ message. header_of message', 'known': 'λ message body. known_stream message body', 'lists': 'λ body. lists_by body',
-    'suits': 'λ stream read. is_read_chunk_of_item stream read', 'adds': 'λ moment payload reply. entries_of_call moment payload reply',
+    'message': 'λ opened state xid plan. call_message xid opened.wished state.stag plan',
+    'lists_of': 'λ stag plan. lists_of stag plan',
+    'header': 'λ message. header_of message',
+    'known': 'λ message body. known_stream message body',
+    'lists': 'λ body. lists_by body',
+    'suits': 'λ stream read. is_read_chunk_of_item stream read',
+    'adds': 'λ moment payload reply. entries_of_call moment payload reply',
     'offer': 'λ state xid. offer_of state xid',
-    'answer': 'λ offer state payload reply. answer_of_target offer (down_max state) reply (target_of (call_of payload))',
+    'answer': 'λ offer state payload reply. '
+              'answer_of_target offer (down_max state) reply (target_of (call_of payload))',
     'hello': 'λ frame. is_hello frame',
-    'access': 'λ frame. access_of frame', 'segment': 'λ frame. frame_segment frame',
+    'access': 'λ frame. access_of frame',
+    'segment': 'λ frame. frame_segment frame',
     'denial': 'λ frame regions access. grant_denial (region_grants frame.end regions) access frame.end',
     'placed': 'λ opened link side run stag. placed_bytes opened link side run stag',
-    'output': 'λ opened state event. output_for (client_rules opened) state event', 'request': 'λ segment. read_request_of segment',
-    'response': 'λ sink to bytes. read_response sink to bytes', 'memory': 'λ state place stag. memory_at state place stag', 'tagged': 'λ frame segment. tagged_access frame segment',
+    'output': 'λ opened state event. output_for (client_rules opened) state event',
+    'request': 'λ segment. read_request_of segment',
+    'response': 'λ sink to bytes. read_response sink to bytes',
+    'memory': 'λ state place stag. memory_at state place stag',
+    'tagged': 'λ frame segment. tagged_access frame segment',
     'chunks': 'λ state call. buffers state.stag (outstanding_of state call).plan',
     'waits': 'λ state ended. first_ready state.ready ended',
 }
-LAWS = ('once: Sends', 'once: calls', 'once: xids', 'places', 'executed_payloads', 'replies_handed_over', 'replies_are_plain', 'journal: places',
-        'chunk_outcomes: causes', 'chunk_outcomes: completed', 'chunk_outcomes: version', 'chunk_outcomes: offers', 'chunk_outcomes: own plans', 'chunk_outcomes: auto', 'chunk_outcomes: changes',
-        'chunk_outcomes: nothing_added', 'touches: client', 'touches: server', 'touches: requests', 'touches: revoked', 'offered_regions: client adds', 'offered_regions: client live', 'offered_regions: client closed', 'offered_regions: server adds',
-        'offered_regions: server live', 'offered_regions: server closed', 'offered_memory: client_bytes', 'offered_memory: server_bytes', 'offered_memory: reads', 'grant', 'calls_complete', 'segments_keep_the_rules: client', 'segments_keep_the_rules: server',
-        'matched_links_stay: stays', 'matched_links_stay: clients')
+LAWS = (
+    'once: Sends',
+    'once: calls',
+    'once: xids',
+    'places',
+    'executed_payloads',
+    'replies_handed_over',
+    'replies_are_plain',
+    'journal: places',
+    'chunk_outcomes: causes',
+    'chunk_outcomes: completed',
+    'chunk_outcomes: version',
+    'chunk_outcomes: offers',
+    'chunk_outcomes: own plans',
+    'chunk_outcomes: auto',
+    'chunk_outcomes: changes',
+    'chunk_outcomes: nothing_added',
+    'touches: client',
+    'touches: server',
+    'touches: requests',
+    'touches: revoked',
+    'offered_regions: client adds',
+    'offered_regions: client live',
+    'offered_regions: client closed',
+    'offered_regions: server adds',
+    'offered_regions: server live',
+    'offered_regions: server closed',
+    'offered_memory: client_bytes',
+    'offered_memory: server_bytes',
+    'offered_memory: reads',
+    'grant',
+    'calls_complete',
+    'segments_keep_the_rules: client',
+    'segments_keep_the_rules: server',
+    'matched_links_stay: stays',
+    'matched_links_stay: clients',
+)
 CALL_REASONS, REPLY_REASONS = (18,), (18, 19)
 
 
 class Roles(Names):
-    def __init__(self, root, spec):
+    def __init__(self, root: str, spec: Recorded) -> None:
         super().__init__(root, spec)
         for u in USES:
             self.project.use(self.module, u)
-        self.role = {}
+        self.role: dict[str, Value] = {}
         for k, text in ROLES.items():
             self.role[k] = self.project.expression(self.module, text)
 
-    def ask(self, role, *args):
+    def ask(self, role: str, *args: Value) -> Value:
         return call(self.role[role], *args)
 
 
 class Link:
     """One link of a run: what both ends are after each mark, and what is found on the way."""
 
-    def __init__(self, names, run, number, found):
+    def __init__(self, names: Roles, run: Recorded, number: int, found: list[Finding]) -> None:
         self.names, self.run, self.number, self.found = names, run, number, found
         self.opened = names.make('opened', dict(next(x for x in run['opened'] if x['link'] == number)))
         self.ends = {'client': names.ask('first_client', self.opened), 'server': names.ask('first_server', self.opened)}
-        self.marks, self.sent, self.got = [], {'client': [], 'server': []}, {'client': [], 'server': []}
+        self.marks: list[Value] = []
         self.matched = self.is_matched()
-        self.submits, self.executes, self.dones, self.numbers, self.revoked = {}, {}, {}, set(), []
-        self.brought = {'client': [], 'server': []}
+        self.submits: dict[int, Recorded] = {}
+        self.executes: dict[int, Recorded] = {}
+        self.dones: dict[int, str] = {}
+        self.numbers: set[int] = set()
+        self.revoked: list[tuple[dict[int, list[int]], list[int]]] = []
+        self.brought: dict[str, list[tuple[int, int, list[int]]]] = {'client': [], 'server': []}
 
-    def is_matched(self):
+    def is_matched(self) -> bool:
+        """Whether each side received what the other sent."""
         sent, got = {'client': b'', 'server': b''}, {'client': b'', 'server': b''}
         for m in self.run['marks']:
             if m['link'] == self.number and m['mark'] == 'Wrote':
@@ -114,12 +164,12 @@ class Link:
                     return False
         return True
 
-    def kind(self, xid):
-        """what the plan of a call has: a read chunk (with bytes or without), a write chunk, a reply chunk; an offer that is given"""
+    def kind(self, xid: int) -> tuple[str, ...]:
+        """What the plan of a call has: a read chunk (with bytes or without), a write chunk, a reply chunk; an offer that is given."""
         if xid not in self.submits:
             return ()
         p = self.submits[xid]['plan']
-        out = []
+        out: list[str] = []
         if p['read']:
             out.append('read chunk' if sum(p['read']) else 'read chunk without bytes')
         if p['write'].n == 'Some' and p['write'].a[0]:
@@ -130,10 +180,10 @@ class Link:
             out.append('given')
         return tuple(out)
 
-    def note(self, law, holds, kinds=()):
-        self.found.append((law, bool(holds), kinds, self.run['name'], len(self.marks) + 1))
+    def note(self, law: str, holds: Any, kinds: Iterable[str] = ()) -> None:
+        self.found.append((law, bool(holds), tuple(kinds), self.run['name'], len(self.marks) + 1))
 
-    def step(self, mark, made):
+    def step(self, mark: Recorded, made: Value) -> None:
         n, ask = self.number, self.names.ask
         for side in ('client', 'server'):
             for event in ask('events', n, self.names.side(side), list(self.marks), made):
@@ -144,7 +194,7 @@ class Link:
                     self.frame(side, before, event.a[0])
                     self.memory(side, before, event)
 
-    def frame(self, side, before, f):
+    def frame(self, side: str, before: Value, f: Value) -> None:
         ask = self.names.ask
         if ask('hello', f):
             return
@@ -159,7 +209,7 @@ class Link:
             if side == 'server' and ask('request', segment.a[0]).n == 'Some':
                 self.note('touches: requests', stops)
 
-    def memory(self, side, before, event):
+    def memory(self, side: str, before: Value, event: Value) -> None:
         ask, f = self.names.ask, event.a[0]
         segment = ask('segment', f)
         if ask('hello', f) or segment.n != 'Ok' or self.ends[side]['ended'].n != 'None':
@@ -170,72 +220,85 @@ class Link:
         if side == 'client' and request.n == 'Some':
             q = request.a[0]
             got = list(ask('memory', before['state'], f['end'], q['stag']))[q['to']:q['to'] + q['size']]
-            same = list(ask('output', self.opened, before, event)) == list(ask('response', q['sink'], q['sink_to'], got))
+            response = list(ask('response', q['sink'], q['sink_to'], got))
+            same = list(ask('output', self.opened, before, event)) == response
             self.note('offered_memory: reads', same and len(got) == q['size'])
 
-    def regions(self, side, before, event):
+    def regions(self, side: str, before: Value, event: Value) -> None:
         """Which regions an event adds and closes, and which of those that live are needed."""
         old, new, k = before['state']['regions'], self.ends[side]['state']['regions'], self.ends[side]['state']
         law = 'offered_regions: ' + side
-        self.note(law + ' adds', all(dict(a, until=None) == dict(b, until=None) for a, b in zip(old, new)) and len(new) >= len(old))
+        same = all(dict(a, until=None) == dict(b, until=None) for a, b in zip(old, new))
+        self.note(law + ' adds', same and len(new) >= len(old))
         added = new[len(old):]
         if side == 'client' and event.n == 'CallSubmitted' and before['ended'].n == 'None':
             chunks = self.names.ask('chunks', before['state'], event.a[1])
-            self.note(law + ' adds', [(r['stag'], r['right'], r['bytes']) for r in added] == [(c['stag'], c['right'], c['bytes']) for c in chunks]
-                      and all(r['from'] == event.a[0] and r['call'] == event.a[1]['xid'] for r in added), ('chunks',) if chunks else ())
+            fields = ('stag', 'right', 'bytes')
+            same = [[r[k] for k in fields] for r in added] == [[c[k] for k in fields] for c in chunks]
+            own = all(r['from'] == event.a[0] and r['call'] == event.a[1]['xid'] for r in added)
+            self.note(law + ' adds', same and own, ('chunks',) if chunks else ())
         elif added:
             f = event.a[0]
-            self.note(law + ' adds', side == 'server' and event.n == 'FrameReceived' and all(r['right'].n == 'Sink' and not any(r['bytes']) and r['from'] == f['end'] for r in added), ('chunks',))
+            sinks = all(r['right'].n == 'Sink' and not any(r['bytes']) and r['from'] == f['end'] for r in added)
+            self.note(law + ' adds', side == 'server' and event.n == 'FrameReceived' and sinks, ('chunks',))
         for i, r in enumerate(new):
             if r['until'].n == 'None':
                 self.note(law + ' live', self.is_needed(side, k, r))
             elif i >= len(old) or old[i]['until'].n == 'None':
                 at, place = r['until'].a[0], event.a[0]
-                closes = event.n == 'FrameReceived' and place['end'] == at or event.n == 'MemoryRevoked' and place == at and event.a[1] == r['call']
-                self.note(law + ' closed', closes and (not self.is_needed(side, k, r)), ('revoked',) if event.n == 'MemoryRevoked' else ())
+                revoked = event.n == 'MemoryRevoked'
+                closes = event.n == 'FrameReceived' and place['end'] == at
+                closes = closes or revoked and place == at and event.a[1] == r['call']
+                self.note(law + ' closed', closes and not self.is_needed(side, k, r), ('revoked',) if revoked else ())
             else:
                 self.note(law + ' closed', r == old[i])
 
-    def is_needed(self, side, k, r):
+    def is_needed(self, side: str, k: Value, r: Value) -> bool:
         if side == 'client':
             return any(o['xid'] == r['call'] and not o['is_revoked'] for o in k['outstanding'])
         pending = any(c['number'] == r['call'] for c in k['calls'])
         return any(q['number'] == r['call'] and (pending or q['position'] == r['position']) for q in k['reads'])
 
-    def bytes_of_regions(self):
+    def placed(self, side: str, stag: int) -> list[int]:
+        """What a region of a side holds after the marks so far."""
+        return list(self.names.ask('placed', self.opened, self.number, self.names.side(side), list(self.marks), stag))
+
+    def bytes_of_regions(self) -> None:
         for side in ('client', 'server'):
             for r in self.ends[side]['state']['regions']:
-                held = list(self.names.ask('placed', self.opened, self.number, self.names.side(side), list(self.marks), r['stag']))
+                held = self.placed(side, r['stag'])
                 own = list(r['bytes'])
                 here = [(to, b) for s, to, b in self.brought[side] if s == r['stag']]
-                holds = len(held) == len(own) and all(b == own[i] or any(to <= i < to + len(x) and x[i - to] == b for to, x in here) for i, b in enumerate(held))
+                came = [{x[i - to] for to, x in here if to <= i < to + len(x)} for i in range(len(held))]
+                holds = len(held) == len(own) and all(b == own[i] or b in came[i] for i, b in enumerate(held))
                 self.note('offered_memory: %s_bytes' % side, holds, ('brought',) if here else ())
 
-    def mark(self, m):
-        if m['mark'] == 'Submit' and m['answer']['kind'] == 'Dropped' and self.names.data.get('refused_dropped') is None:
-            return
+    def mark(self, m: Recorded) -> None:
         made = self.names.mark(m)
+        if made is None:
+            return
         if m['link'] == self.number:
             getattr(self, 'on_' + m['mark'].lower(), lambda m, made: None)(m, made)
             self.step(m, made)
         self.marks.append(made)
 
-    def on_submit(self, m, made):
+    def on_submit(self, m: Recorded, made: Value) -> None:
         if m['answer']['kind'] != 'Accepted':
             return
         x, state = m['answer']['xid'], self.ends['client']['state']
         c, form = self.names.call(m['call']), self.names.form(m['form'])
         run = list(self.marks)
-        self.note('grant', call(self.names.run['out'], self.opened, self.number, run) < call(self.names.run['grant'], self.opened, self.number, run),
-                  () if self.matched else ('not matched',))
+        out, grant = (call(self.names.run[k], self.opened, self.number, run) for k in ('out', 'grant'))
+        self.note('grant', out < grant, () if self.matched else ('not matched',))
         plan = self.names.ask('plan', state, x, c, form).a[0]
-        self.submits[x] = {'payload': self.names.ask('payload', x, c), 'form': m['form'], 'made': form, 'plan': plan, 'offer': self.names.ask('lists_of', state['stag'], plan),
+        self.submits[x] = {'payload': self.names.ask('payload', x, c), 'form': m['form'], 'made': form, 'plan': plan,
+                           'offer': self.names.ask('lists_of', state['stag'], plan),
                            'refused': self.is_refused(self.names.ask('message', self.opened, state, x, plan))}
         if m['form']['kind'] != 'Given':
             self.note('chunk_outcomes: own plans', not self.submits[x]['refused'], self.kind(x))
 
-    def is_refused(self, message):
-        """a bad header, or a stream that is there with another read chunk than its item's"""
+    def is_refused(self, message: list[int]) -> bool:
+        """A bad header, or a stream that is there with another read chunk than its item's."""
         header = self.names.ask('header', message)
         if header.n == 'Err':
             fault = header.a[0]
@@ -247,8 +310,9 @@ class Link:
         known = self.names.ask('known', message, body)
         return known.n == 'Some' and not self.names.ask('suits', known.a[0], read)
 
-    def on_execute(self, m, made):
-        x, q, reply, state, ask = m['xid'], bytes_of(m['payload']), bytes_of(m['reply']), self.ends['server']['state'], self.names.ask
+    def on_execute(self, m: Recorded, made: Value) -> None:
+        x, q, reply = m['xid'], bytes_of(m['payload']), bytes_of(m['reply'])
+        state, ask = self.ends['server']['state'], self.names.ask
         number = state['ready'][0]['number']
         self.note('once: Sends', number not in self.numbers, () if self.matched else ('not matched',))
         self.numbers.add(number)
@@ -257,7 +321,8 @@ class Link:
         self.run['journal'] += len(adds)
         kept = ask('offer', state, x)
         if adds:
-            self.note('chunk_outcomes: changes', ask('answer', kept, state, q, reply).n == 'Some', (self.kind(x) if self.matched else ('not matched',)))
+            kinds = self.kind(x) if self.matched else ('not matched',)
+            self.note('chunk_outcomes: changes', ask('answer', kept, state, q, reply).n == 'Some', kinds)
         held = None
         if self.matched:
             s = self.submits[x]
@@ -268,10 +333,10 @@ class Link:
             held = ask('answer', s['offer'], state, q, reply).n == 'Some'
         self.executes[x] = {'reply': reply, 'held': held, 'adds': bool(adds)}
 
-    def has_cause(self, x):
+    def has_cause(self, x: int) -> bool:
         return self.submits[x]['refused'] or x in self.executes and not self.executes[x]['held']
 
-    def on_done(self, m, made):
+    def on_done(self, m: Recorded, made: Value) -> None:
         x, kind = m['xid'], m['outcome']['kind']
         self.note('once: calls', x not in self.dones, self.kind(x))
         self.dones[x] = kind
@@ -291,20 +356,19 @@ class Link:
         if self.submits[x]['form']['kind'] == 'Auto':
             self.note('chunk_outcomes: auto', kind == 'Reply', self.kind(x))
 
-    def on_revoke(self, m, made):
+    def on_revoke(self, m: Recorded, made: Value) -> None:
         held = [r['stag'] for r in self.ends['client']['state']['regions'] if r['call'] == m['xid']]
-        side = self.names.side('client')
-        self.revoked.append((len(self.marks), {s: self.names.ask('placed', self.opened, self.number, side, list(self.marks), s) for s in held}, bytes_of(m['bytes'])))
+        self.revoked.append(({s: self.placed('client', s) for s in held}, bytes_of(m['bytes'])))
 
-    def finish(self):
+    def finish(self) -> None:
         self.bytes_of_regions()
-        side = self.names.side('client')
-        for at, held, bytes_ in self.revoked:
-            same = all(self.names.ask('placed', self.opened, self.number, side, list(self.marks), s) == b for s, b in held.items())
+        for held, bytes_ in self.revoked:
+            same = all(self.placed('client', s) == b for s, b in held.items())
             self.note('touches: revoked', same and sum(held.values(), []) == bytes_, () if self.matched else ('not matched',))
-        if not self.matched:
-            return
         mine = [m for m in self.run['marks'] if m['link'] == self.number]
+        # the laws below ask that each Wrote writes all output due
+        if not self.matched or any(m.get('cut') for m in mine):
+            return
         ends = self.run['ends'][str(self.number)]
         kinds = tuple(sorted({k for x in self.submits for k in self.kind(x)}))
         stops = [s for s in ('client', 'server') if ends[s] is not None]
@@ -313,14 +377,17 @@ class Link:
             if first is not None and (other is None or other['kind'] == 'Terminated'):
                 bad = first['kind'] == 'Bad' and first['reason'] in (CALL_REASONS if s == 'server' else REPLY_REASONS)
                 self.note('segments_keep_the_rules: ' + s, bad or s == 'client' and first['kind'] == 'Denied', kinds)
-        conveys = all(s['form']['kind'] != 'Given' or self.conveys(s, x) for x, s in self.submits.items())
+        conveys = all(s['form']['kind'] != 'Given' or self.conveys(s) for s in self.submits.values())
         revokes = any(m['mark'] == 'Revoke' for m in mine)
         if conveys and not revokes:
             self.note('matched_links_stay: stays', not stops, kinds)
         if not revokes and ends['server'] is None:
             self.note('matched_links_stay: clients', ends['client'] is None, kinds)
-        joined = {k: {s: b''.join(bytes.fromhex(m['bytes']) for m in mine if m['mark'] == k and m['side'] == s) for s in ('client', 'server')} for k in ('Wrote', 'Fed')}
-        settled = not stops and joined['Wrote']['client'] == joined['Fed']['server'] and joined['Wrote']['server'] == joined['Fed']['client']
+        def joined(kind: str, side: str) -> str:
+            return ''.join(m['bytes'] for m in mine if m['mark'] == kind and m['side'] == side)
+
+        arrived = all(joined('Wrote', s) == joined('Fed', t) for s, t in (('client', 'server'), ('server', 'client')))
+        settled = not stops and arrived
         waits = self.names.ask('waits', self.ends['server']['state'], self.ends['server']['ended']).n == 'Some'
         if settled and not waits:
             out = self.run['out'][str(self.number)]
@@ -330,34 +397,34 @@ class Link:
                 if x not in given_up and self.has_cause(x):
                     self.note('chunk_outcomes: completed', self.dones.get(x) == 'Chunk', self.kind(x))
 
-    def conveys(self, s, xid):
+    def conveys(self, s: Recorded) -> bool:
+        """Whether the message of a call conveys a payload with a call head, or is refused by ERR_CHUNK."""
         q = self.names.ask('conveyed', s['made'], s['payload'])
-        return q.n == 'Some' and self.names.ask('has_head', q.a[0]).n == 'Ok' or s['refused']
+        return bool(q.n == 'Some' and self.names.ask('has_head', q.a[0]).n == 'Ok' or s['refused'])
 
 
-STATE = {}
+STATE: dict[str, Any] = {}
 
 
-def prepare(spec):
-    STATE['names'] = deeply(Roles, ROOT, spec)
+def prepare(project: str, spec: Recorded, plain: Recorded) -> None:
+    STATE['plain'] = plain
+    STATE['names'] = deeply(Roles, project, spec)
 
 
-PLAIN_CALLS = os.path.join(ROOT, 'crates', 'plain_calls', 'out', 'plain_calls')
-CAPACITIES = (1 << 40, 0, 103, 116)  # that runs were made with; they aren't recorded
+def answers_of(run: Recorded) -> list[str]:
+    """Places and replies of a run, as plain_calls prints them."""
+    return ['%d %s' % (m['place'], m['reply']) for m in run['marks'] if m['mark'] == 'Execute']
 
 
-def is_plainly(run):
-    """Whether the replies of a run and their places are the plain server's."""
-    executes = [m for m in run['marks'] if m['mark'] == 'Execute']
-    calls = ''.join('%d %s\n' % (m['seconds'], m['payload'] or '-') for m in executes)
-    want = ['%d %s' % (m['place'], m['reply']) for m in executes]
-    return any(want == subprocess.run([PLAIN_CALLS], input='capacity %d\n%s' % (c, calls), stdout=subprocess.PIPE, text=True).stdout.split('\n')[:len(want)]
-               for c in CAPACITIES)
+def is_plainly(run: Recorded) -> bool:
+    """Whether the replies of a run and their places are those recorded of the plain server."""
+    answers = answers_of(run)
+    return not answers or answers == STATE['plain'].get(run['name'], {}).get('answers')
 
 
-def check(run):
-    def body():
-        found = []
+def check(run: Recorded) -> list[Finding]:
+    def body() -> list[Finding]:
+        found: list[Finding] = []
         run['plainly'], run['journal'] = is_plainly(run), 0
         links = [Link(STATE['names'], run, o['link'], found) for o in run['opened']]
         for m in run['marks']:
@@ -367,16 +434,17 @@ def check(run):
             link.finish()
         places(run, {link.number: link for link in links}, found)
         return found
-    return deeply(body)
+    result: list[Finding] = deeply(body)
+    return result
 
 
-def places(run, links, found):
-    """A call that is submitted behind the outcome of another has a place that isn't smaller."""
-    place, done = {}, 0
+def places(run: Recorded, links: dict[int, Link], found: list[Finding]) -> None:
+    """A call that is submitted after the outcome of another has a place that isn't smaller."""
+    place: dict[tuple[int, int], int] = {}
     for m in run['marks']:
         if m['mark'] == 'Execute':
             place[(m['link'], m['xid'])] = m['place']
-    seen = []
+    seen: list[int] = []
     for i, m in enumerate(run['marks']):
         if not links[m['link']].matched:
             continue
@@ -388,28 +456,50 @@ def places(run, links, found):
                 found.append(('places', p >= max(seen), links[m['link']].kind(m['answer']['xid']), run['name'], i + 1))
 
 
-def main():
-    if not os.path.exists(PLAIN_CALLS):
-        print('build it first: cd crates/plain_calls && rt run')
-        return 2
-    with open(os.path.join(ROOT, 'docs', 'run-names.json'), encoding='utf-8') as h:
+def print_counts(seen: dict[str, dict[str, tuple[int, str]]]) -> None:
+    """For each law how often its premises were met, in all and by kind, and the run with the simplest name."""
+    for law in LAWS:
+        for k, (n, name) in sorted(seen.get(law, {'none': (0, '-')}).items()):
+            print('%-34s %-26s %6d  %s' % (law, k or 'in all', n, name))
+
+
+def simpler(a: str, b: str) -> str:
+    """The name that says more: not a random run, and shorter."""
+    return min(a, b, key=lambda x: (x.startswith(('random_', 'hostile_')), len(x), x))
+
+
+def main(argv: list[str]) -> int:
+    p = argparse.ArgumentParser(description='Asks of recorded runs what the laws of nr_laws say.')
+    p.add_argument('--project', default=ROOT, help='the folder that has the folder crates')
+    p.add_argument('--only', default='', help='runs whose name has this word')
+    p.add_argument('--jobs', type=int, default=os.cpu_count() or 1)
+    a = p.parse_args(argv)
+    with open(NAMES, encoding='utf-8') as h:
         spec = json.load(h)
-    word = sys.argv[2] if len(sys.argv) > 2 else ''
-    runs = [r for r in recorded(os.path.join(sys.argv[1], 'runs')) if not r['needs'] and word in r['name']]
-    runs.sort(key=lambda r: -sum(len(m.get('bytes', '')) + 200 for m in r['marks']))
-    seen, wrong = {}, []
-    with multiprocessing.Pool(int(os.environ.get('JOBS', '2')), prepare, (spec,)) as pool:
+    with gzip.open(PLAIN, 'rt', encoding='utf-8') as h:
+        plain = json.load(h)
+    try:
+        names = deeply(Roles, a.project, spec)
+    except CannotEvaluate as e:
+        print("can't be evaluated: %s" % e)
+        return 2
+    runs = [r for r in recorded(RUNS) if set(r['needs']) <= names.has and a.only in r['name']]
+    if not runs:
+        print('no run is chosen')
+        return 2
+    runs.sort(key=weight, reverse=True)
+    seen: dict[str, dict[str, tuple[int, str]]] = {}
+    wrong: list[str] = []
+    with multiprocessing.Pool(max(1, a.jobs), prepare, (a.project, spec, plain)) as pool:
         for found in pool.imap_unordered(check, runs):
             for law, holds, kinds, name, at in found:
-                for k in ('',) + tuple(kinds):
-                    here = seen.setdefault(law, {}).setdefault(k, [0, name, 0])
-                    here[0] += 1
-                    here[1] = min(here[1], name, key=lambda x: (x.startswith(('random_', 'hostile_')), len(x), x))
+                for k in ('',) + kinds:
+                    here = seen.setdefault(law, {})
+                    n, first = here.get(k, (0, name))
+                    here[k] = (n + 1, simpler(first, name))
                 if not holds:
                     wrong.append('%s: not so in %s at mark %d %s' % (law, name, at, ' '.join(kinds)))
-    for law in LAWS:
-        for k, (n, name, _) in sorted(seen.get(law, {'none': [0, '-', 0]}).items()):
-            print('%-34s %-26s %6d  %s' % (law, k or 'in all', n, name))
+    print_counts(seen)
     for w in sorted(wrong):
         print(w)
     print('%d runs, %d not so' % (len(runs), len(wrong)))
@@ -417,4 +507,4 @@ def main():
 
 
 if __name__ == '__main__':
-    sys.exit(main())
+    sys.exit(main(sys.argv[1:]))

@@ -1,0 +1,40 @@
+"""Evaluates the definitions of a run, and the laws, on the recorded runs. Python's standard library is enough.
+
+    python3 conformance/run.py [--jobs N]
+
+It runs check_definitions.py, laws_of_runs.py and test_evaluator.py, one after the other, on all processors. It takes some
+twelve processor minutes. Exit status: 0 if all of them agree, else 1."""
+import argparse
+import os
+import subprocess
+import sys
+import time
+
+HERE = os.path.dirname(os.path.abspath(__file__))
+STEPS = (
+    ('The evaluator against definitions whose values are known', 'test_evaluator.py', False),
+    ('The definitions of a run on the recorded runs', 'check_definitions.py', True),
+    ('The laws on the recorded runs', 'laws_of_runs.py', True),
+)
+
+
+def step(title: str, script: str, jobs: list[str]) -> bool:
+    """Runs a script, prints what it says, and gives whether it agrees."""
+    print('== %s: %s' % (title, script), flush=True)
+    start = time.time()
+    status = subprocess.run([sys.executable, os.path.join(HERE, script), *jobs], check=False).returncode
+    print('%s, %.0f seconds\n' % ('agrees' if status == 0 else 'status %d' % status, time.time() - start), flush=True)
+    return status == 0
+
+
+def main(argv: list[str]) -> int:
+    p = argparse.ArgumentParser(description='Evaluates the definitions of a run, and the laws, on the recorded runs.')
+    p.add_argument('--jobs', type=int, default=os.cpu_count() or 1, help='how many processes work at a time')
+    a = p.parse_args(argv)
+    agrees = [step(title, script, ['--jobs', str(a.jobs)] if takes else []) for title, script, takes in STEPS]
+    print('all agree' if all(agrees) else 'NOT all agree')
+    return 0 if all(agrees) else 1
+
+
+if __name__ == '__main__':
+    sys.exit(main(sys.argv[1:]))
