@@ -1,0 +1,199 @@
+"""Compares the pages of this repository with its crates, and checks their form. It is no part of the gate.
+
+    python3 docs/check_pages.py [--only WORD]
+
+A page docs/crates/NAME.md has to name, in backticks or in a code block, each public call of the crate NAME: each function
+that its lib.rt makes public, and each public method. Tests and benchmarks have a heading each in tests.md and benches.md.
+Each name in backticks on any page has to be there: a word of the code, a file, a crate, a script. Lines have at most 160
+characters, prose 120, table cells 40 words; links lead to a file; the words of CONTRIBUTING's house list stand in no prose.
+Exit status: 0, or 1 with a line for each difference."""
+import argparse
+import glob
+import os
+import re
+import sys
+
+ROOT = os.path.dirname(os.path.dirname(os.path.abspath(__file__)))
+LINE_MAX, PROSE_MAX, CELL_MAX = 160, 120, 40
+HOUSE = (
+    (r'\bwhere\b', 'where: write if, when or that'),
+    (r'\bbehind\b', 'behind: write after'),
+    (r'\bwhole\b', 'whole: write complete'),
+    (r'\btold\b', 'told: write delivered or reported'),
+    (r'\bso many\b', 'so many: write n or at most n'),
+    (r'\b[Ww]ants? (?:of )?memory\b', 'want of memory: write out of memory'),
+)
+# words in backticks that are no names of the code: commands, numbers of formats, texts that are printed
+WORD = re.compile(r"[A-Za-z_][A-Za-z0-9_']*")
+SHELL = re.compile(r'^(rt|python3|find|git|cd|printf|grep) |^\.|^--|[{}=<>|"$]|\bC X\b')
+
+
+def read(path: str) -> str:
+    with open(path, encoding='utf-8') as h:
+        return h.read()
+
+
+def crate_names() -> list[str]:
+    lines = read(os.path.join(ROOT, 'crates.txt')).splitlines()
+    return [x.split(':')[0].split()[0] for x in lines if ':' in x and not x.startswith('#')]
+
+
+def sources(crate: str, kinds: tuple[str, ...] = ('src', 'specs', 'proofs')) -> list[str]:
+    """The files of a crate."""
+    out: list[str] = []
+    for kind in kinds:
+        out += glob.glob(os.path.join(ROOT, 'crates', crate, kind, '**', '*.*t*'), recursive=True)
+    return sorted(x for x in out if x.endswith(('.rt', '.antt')))
+
+
+def exported(crate: str) -> set[str]:
+    """The names that lib.rt makes public."""
+    lib = os.path.join(ROOT, 'crates', crate, 'src', 'lib.rt')
+    if not os.path.exists(lib):
+        return set()
+    text = re.sub(r'//[^\n]*', '', read(lib))
+    names: set[str] = set()
+    for inner in re.findall(r'\bpub use ([^;]+);', text):
+        names |= set(WORD.findall(inner.split('{', 1)[-1] if '{' in inner else inner.rsplit('::', 1)[-1]))
+    return names | set(re.findall(r'\bpub (?:const )?fn (\w+)', text)) | set(re.findall(r'\bpub mod (\w+)', text))
+
+
+def public_calls(crate: str) -> set[str]:
+    """The functions and methods of a crate that others may call."""
+    public, calls = exported(crate), set()
+    for path in sources(crate, ('src',)):
+        owner = ''
+        for line in read(path).splitlines():
+            head = re.match(r'impl(?:<[^{]*?>)?\s+(?:(?P<trait>[\w:]+)(?:<[^{]*>)?\s+for\s+)?(?P<type>\w+)', line)
+            trait = re.match(r'pub trait (\w+)', line)
+            if head:
+                owner = '' if head.group('trait') else head.group('type')
+            elif trait:
+                owner = trait.group(1)
+            elif line.startswith('}'):
+                owner = ''
+            top = re.match(r'pub (?:const )?fn (\w+)', line)
+            inner = re.match(r'    pub (?:const )?fn (\w+)', line)
+            if top and top.group(1) in public:
+                calls.add(top.group(1))
+            if inner and owner in public:
+                calls.add(inner.group(1))
+            if trait is None and owner and re.match(r'    fn (\w+)', line) and owner in public and is_trait(path, owner):
+                calls.add(re.match(r'    fn (\w+)', line).group(1))  # type: ignore[union-attr]
+    return calls
+
+
+def is_trait(path: str, name: str) -> bool:
+    return re.search(r'^pub trait %s\b' % name, read(path), re.M) is not None
+
+
+def spans(text: str) -> list[tuple[int, str]]:
+    """What stands in backticks, with its line."""
+    out: list[tuple[int, str]] = []
+    code = False
+    for n, line in enumerate(text.splitlines(), 1):
+        if line.startswith('```'):
+            code = not code
+        if not code and not line.startswith('    '):
+            out += [(n, x) for x in re.findall(r'`([^`]+)`', line)]
+    return out
+
+
+def vocabulary(crates: list[str]) -> set[str]:
+    """Each word of the code, and each name of a file, a folder or a crate."""
+    words: set[str] = set(crates)
+    for crate in crates:
+        for path in sources(crate):
+            words |= set(WORD.findall(read(path)))
+            words |= set(path.replace(os.sep, '/').split('/')) | {os.path.splitext(os.path.basename(path))[0]}
+        for path in glob.glob(os.path.join(ROOT, 'crates', crate, '*')):
+            words.add(os.path.basename(path))
+        for path in glob.glob(os.path.join(ROOT, 'crates', crate, 'must-fail', '*.edit')):
+            words.add(os.path.basename(path)[:-len('.edit')])
+    for folder in ('bench', 'conformance', 'docs', 'drills', '.ci', '.'):
+        for path in glob.glob(os.path.join(ROOT, folder, '**' if folder != '.' else '*'), recursive=folder != '.'):
+            words.add(os.path.basename(path))
+            if path.endswith(('.py', '.sh', '.json', '.txt')):
+                words |= set(WORD.findall(read(path)))
+    return words
+
+
+def check_names(page: str, text: str, words: set[str]) -> list[str]:
+    out: list[str] = []
+    for n, span in spans(text):
+        if SHELL.search(span) or ' ' in span.strip() and not re.match(r'^[\w:]+ [\w:]+$', span):
+            continue
+        for word in WORD.findall(span):
+            stem = word.strip("'_.")
+            if len(stem) > 1 and word not in words and stem not in words:
+                out.append('%s:%d: no name `%s` in the code (in `%s`)' % (page, n, word, span))
+    return out
+
+
+def check_form(page: str, text: str) -> list[str]:
+    out: list[str] = []
+    code, house = False, False
+    for n, line in enumerate(text.splitlines(), 1):
+        if line.startswith('```'):
+            code = not code
+        if line.startswith('#'):
+            house = 'House words' in line
+        table, block = line.startswith('|'), code or line.startswith('    ')
+        if len(line) > LINE_MAX:
+            out.append('%s:%d: %d characters' % (page, n, len(line)))
+        elif not table and not block and not line.startswith('#') and len(line) > PROSE_MAX and ' ' in line.strip('- '):
+            out.append('%s:%d: prose of %d characters' % (page, n, len(line)))
+        if table:
+            for cell in line.strip('|').split('|'):
+                if len(cell.split()) > CELL_MAX:
+                    out.append('%s:%d: a cell of %d words' % (page, n, len(cell.split())))
+        if not block and not house:
+            prose = re.sub(r'`[^`]*`', '', line)
+            out += ['%s:%d: %s' % (page, n, why) for pattern, why in HOUSE if re.search(pattern, prose)]
+            for link in re.findall(r'\]\(([^)#]+)[^)]*\)', line):
+                if '://' not in link and not os.path.exists(os.path.join(ROOT, os.path.dirname(page), link)):
+                    out.append('%s:%d: no file %s' % (page, n, link))
+    return out
+
+
+def check_crates(crates: list[str]) -> list[str]:
+    out: list[str] = []
+    shared = {'_tests': 'tests.md', '_bench': 'benches.md'}
+    for crate in crates:
+        kind = next((k for k in shared if crate.endswith(k)), None)
+        page = 'docs/crates/%s' % (shared[kind] if kind else crate + '.md')
+        if not os.path.exists(os.path.join(ROOT, page)):
+            out.append('%s: no page of the crate %s' % (page, crate))
+            continue
+        text = read(os.path.join(ROOT, page))
+        if kind:
+            if not re.search(r'^## .*\b%s\b' % crate, text, re.M):
+                out.append('%s: no heading of %s' % (page, crate))
+            continue
+        named = set(WORD.findall(' '.join(x for _, x in spans(text))))
+        named |= set(WORD.findall('\n'.join(x for x in text.splitlines() if x.startswith('    '))))
+        out += ['%s: the public call `%s` is missing' % (page, c) for c in sorted(public_calls(crate) - named)]
+    pages = {os.path.basename(p)[:-3] for p in glob.glob(os.path.join(ROOT, 'docs', 'crates', '*.md'))}
+    out += ['docs/crates/%s.md: no such crate' % p for p in sorted(pages - set(crates) - {'tests', 'benches'})]
+    return out
+
+
+def main(argv: list[str]) -> int:
+    p = argparse.ArgumentParser(description='Compares the pages of this repository with its crates, and checks their form.')
+    p.add_argument('--only', default='', help='differences whose line has this word')
+    a = p.parse_args(argv)
+    crates = crate_names()
+    words = vocabulary(crates)
+    pages = ['README.md', 'CONTRIBUTING.md', 'conformance/README.md']
+    pages += [os.path.relpath(x, ROOT) for x in sorted(glob.glob(os.path.join(ROOT, 'docs', '**', '*.md'), recursive=True))]
+    wrong = check_crates(crates)
+    for page in pages:
+        text = read(os.path.join(ROOT, page))
+        wrong += check_names(page, text, words) + check_form(page, text)
+    wrong = [w for w in wrong if a.only in w]
+    print('\n'.join(wrong + ['%d pages, %d differences' % (len(pages), len(wrong))]))
+    return 1 if wrong else 0
+
+
+if __name__ == '__main__':
+    sys.exit(main(sys.argv[1:]))
