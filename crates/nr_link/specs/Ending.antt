@@ -1,7 +1,9 @@
 -- Why a frame ends a side of a link, by the rules of the link and by the memory that the side offered, and what the side writes
 -- last (RFC 5040 section 7; RFC 5041 section 7).
-use Rattle.std.specs.Prelude.{ℕ, Bool, nat_lt, ◌==◌, if◌then◌else◌, List, [], ◌∷◌, length, Option, None, Some, option_and_then, Result, Ok, Err}
-use Rattle.nr_wire.specs.Constants.{OPCODE_READ_REQUEST, OPCODE_READ_RESPONSE}
+use Rattle.std.specs.Prelude.{ℕ, Bool, nat_lt, ◌==◌, if◌then◌else◌, List, [], ◌∷◌, ◌++◌, length, Option, None, Some, option_and_then, Result, Ok, Err}
+use Rattle.nr_wire.specs.Constants.{OPCODE_READ_REQUEST, OPCODE_READ_RESPONSE, REASON_FLAGS}
+use Rattle.nr_wire.specs.declared.hello.Side.{Side}
+use Rattle.nr_wire.specs.declared.hello.Side.TheVariants.{Initiator, Responder}
 use Rattle.nr_wire.specs.Hello.{Hello}
 use Rattle.nr_wire.specs.Segment.{Segment, segment_of}
 use Rattle.nr_wire.specs.Segment.Segment.{Tagged, Untagged}
@@ -14,7 +16,7 @@ use Rattle.nr_regions.specs.Access.{Grant, TaggedSegment, grant_denial}
 use Rattle.nr_link.specs.declared.end.End.{End}
 use Rattle.nr_link.specs.declared.end.End.TheVariants as ends
 use Rattle.nr_link.specs.Reasons.{denied_word, NO_BUFFER_WORD}
-use Rattle.nr_link.specs.Output.{terminate_message}
+use Rattle.nr_link.specs.Output.{terminate_message, refusing_hello}
 use Rattle.nr_link.specs.Frames.{Frame}
 use Rattle.nr_link.specs.ReceiveState.{read_request_in}
 use Rattle.nr_link.specs.SegmentFaults.{Readiness, SegmentFault, segment_fault}
@@ -82,3 +84,16 @@ final_output (ends.Denied stag offset why) = terminate_message (denied_word why)
 final_output (ends.NoBuffer msn) = terminate_message NO_BUFFER_WORD
 final_output (ends.Terminated reason) = []
 final_output ends.Memory = []
+
+-- The hello by which a responder rejects a connection whose hello asks for markers or a CRC (RFC 5044 section 7.1).
+abbrev pub rejection : Side → End → List ℕ
+rejection Initiator end = []
+rejection Responder (ends.Bad at reason) = if reason == REASON_FLAGS then refusing_hello else []
+rejection Responder (ends.Denied stag offset why) = []
+rejection Responder (ends.NoBuffer msn) = []
+rejection Responder (ends.Terminated reason) = []
+rejection Responder ends.Memory = []
+
+-- All output with which a side ends: the hello that rejects a connection, or the Terminate.
+abbrev pub last_output : Side → End → List ℕ
+last_output side end = rejection side end ++ final_output end

@@ -6,3 +6,4 @@ pub mod Output
 pub mod ReceiveState
 pub mod SegmentFaults
 pub mod Ending
+pub mod OutputItem

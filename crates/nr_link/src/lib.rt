@@ -2,10 +2,12 @@
 //! and the definitions of a run share.
 //!
 //! It stands on `nr_wire`, which frames a stream, and on `nr_regions`, which says what an access lacks. [`End`] says why a side
-//! takes no more input. The rest are definitions: the frames of a stream with their places, what a side writes for a message or
-//! an access, and which segment ends a link, in the order in which that is asked.
+//! takes no more input, and [`constants`] has the numbers of the reasons. The rest are definitions: the frames of a stream with their
+//! places, what a side writes for a message or an access, its output as a list of items, and which segment ends a link, in the order
+//! in which that is asked.
 #![tactic(auto)]
 
+pub mod constants;
 mod end;
 
 pub use end::End;
