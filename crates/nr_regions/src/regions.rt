@@ -98,7 +98,9 @@ impl Regions {
 
     /// How many STags can still be given.
     pub fn stags_left(&self) -> u64
-        ensures { result ≡ stags_left self.now.memory }
+        ensures left { result ≡ stags_left self.now.memory }
+        // It is never cut off at 0: the next STag is at most 2^32.
+        ensures sum { self.now.memory.next + result ≡ 2 ^ 32 }
     {
         0x1_0000_0000 - self.next
     }
@@ -110,6 +112,19 @@ impl Regions {
         ensures most { result ≤ 2 ^ 96 }
     {
         self.bytes
+    }
+
+    /// The present bytes of a region, whatever its right, for the owner of its registration. Takes no memory.
+    #[tactic(auto, unfolding(crate::specs::RegisteredMemory::held_region))]
+    pub fn bytes(&self, registration: &Registration) -> &[u8]
+        requires { IsHeld self.now.memory registration.now }
+        ensures bytes { result.now ≡ bytes_in (held_region self.now.memory registration.now.stag) }
+        ensures len { length result.now ≡ registration.now.len }
+    {
+        match look_up(&self.held, registration.stag()) {
+            Some(region) => region.buf.as_slice(),
+            None => unreachable!(),
+        }
     }
 
     /// Takes the memory that `more` further registrations need. Always `Ok` where the room suffices already. Either way the
