@@ -9,6 +9,8 @@ characters, prose 120, table cells 40 words; links lead to a file; the words of 
 Exit status: 0, or 1 with a line for each difference."""
 import argparse
 import glob
+import gzip
+import json
 import os
 import re
 import sys
@@ -23,7 +25,10 @@ HOUSE = (
     (r'\bso many\b', 'so many: write n or at most n'),
     (r'\b[Ww]ants? (?:of )?memory\b', 'want of memory: write out of memory'),
 )
-# words in backticks that are no names of the code: commands, numbers of formats, texts that are printed
+# words in backticks that are no names of the project: of the kit and of std, and placeholders
+OTHER = {'Display', 'malloc', 'realloc', 'incremental', 'newer', 'csv', 'md', 'Lts', 'oantt', 'NAME', 'NAME_inner', 'MOD', 'FN'}
+PLACEHOLDER = re.compile(r'^P_\w+$')
+# what is a command, or text that is printed
 WORD = re.compile(r"[A-Za-z_][A-Za-z0-9_']*")
 SHELL = re.compile(r'^(rt|python3|find|git|cd|printf|grep) |^\.|^--|[{}=<>|"$]|\bC X\b')
 
@@ -110,9 +115,14 @@ def vocabulary(crates: list[str]) -> set[str]:
             words.add(os.path.basename(path))
         for path in glob.glob(os.path.join(ROOT, 'crates', crate, 'must-fail', '*.edit')):
             words.add(os.path.basename(path)[:-len('.edit')])
+    for path in glob.glob(os.path.join(ROOT, 'conformance', 'runs', '*.json.gz')):
+        words.add(os.path.basename(path).split('.')[0])
+        with gzip.open(path, 'rt', encoding='utf-8') as h:
+            for run in json.load(h):
+                words |= {run['name'], *run['needs']}
     for folder in ('bench', 'conformance', 'docs', 'drills', '.ci', '.'):
         for path in glob.glob(os.path.join(ROOT, folder, '**' if folder != '.' else '*'), recursive=folder != '.'):
-            words.add(os.path.basename(path))
+            words |= {os.path.basename(path), os.path.splitext(os.path.basename(path))[0]}
             if path.endswith(('.py', '.sh', '.json', '.txt')):
                 words |= set(WORD.findall(read(path)))
     return words
@@ -125,7 +135,7 @@ def check_names(page: str, text: str, words: set[str]) -> list[str]:
             continue
         for word in WORD.findall(span):
             stem = word.strip("'_.")
-            if len(stem) > 1 and word not in words and stem not in words:
+            if len(stem) > 1 and not {word, stem} & (words | OTHER) and not PLACEHOLDER.match(word):
                 out.append('%s:%d: no name `%s` in the code (in `%s`)' % (page, n, word, span))
     return out
 
