@@ -29,9 +29,10 @@ USES = [
     'use Rattle.nr_reduce.specs.Plans.{lists_of, call_message, buffers}',
     'use Rattle.nr_header.specs.Reading.{header_of}',
     'use Rattle.nr_reduce.specs.RunLaws.{known_stream}',
-    'use Rattle.nr_reduce.specs.Undone.{lists_by}',
+    'use Rattle.nr_reduce.specs.Undone.{lists_by, inline_by}',
     'use Rattle.nr_plain.specs.Added.{entries_of_call}',
-    'use Rattle.nr_reduce.specs.Chunks.{is_read_chunk_of_item}',
+    'use Rattle.nr_reduce.specs.Chunks.{is_read_chunk_of_item, call_conveyed, read_bytes, whole, some_bytes}',
+    'use Rattle.nr_laws.specs.AnswersConvey.{replied_by, stream_brought, moved_brought}',
     'use Rattle.nr_reduce.specs.Run.{placed_bytes}',
     'use Rattle.nr_reduce.specs.Server.{answer_of_target, offer_of}',
     'use Rattle.nr_reduce.specs.ServerState.{down_max}',
@@ -82,6 +83,10 @@ ROLES: dict[str, str] = {
     'tagged': 'λ frame segment. tagged_access frame segment',
     'chunks': 'λ state call. buffers state.stag (outstanding_of state call).plan',
     'waits': 'λ state ended. first_ready state.ready ended',
+    'send_conveys': 'λ opened link side run message body. call_conveyed (inline_by message body) (lists_by body).read '
+                    '(read_bytes (placed_bytes opened link side run) (lists_by body).read)',
+    'answer_brings': 'λ offer answer payload. whole (replied_by (target_of (call_of payload))) '
+                     '(stream_brought offer answer) (some_bytes (moved_brought offer answer))',
 }
 LAWS = (
     'once: Sends',
@@ -91,6 +96,14 @@ LAWS = (
     'executed_payloads',
     'replies_handed_over',
     'replies_are_plain',
+    'replies_are_plain: of a link alone',
+    'sends_convey',
+    'answers_convey',
+    'sent_bytes: client',
+    'sent_bytes: server',
+    'regions_handed_back: messages',
+    'regions_handed_back: ended',
+    'regions_handed_back: done',
     'journal: places',
     'chunk_outcomes: causes',
     'chunk_outcomes: completed',
@@ -151,6 +164,8 @@ class Link:
         self.numbers: set[int] = set()
         self.revoked: list[tuple[dict[int, list[int]], list[int]]] = []
         self.brought: dict[str, list[tuple[int, int, list[int]]]] = {'client': [], 'server': []}
+        # what regions held as they were handed back: a law, and bytes by STag
+        self.handed: list[tuple[str, dict[int, list[int]]]] = []
 
     def is_matched(self) -> bool:
         """Whether each side received what the other sent."""
@@ -250,6 +265,9 @@ class Link:
                 closes = event.n == 'FrameReceived' and place['end'] == at
                 closes = closes or revoked and place == at and event.a[1] == r['call']
                 self.note(law + ' closed', closes and not self.is_needed(side, k, r), ('revoked',) if revoked else ())
+                if side == 'client' and event.n == 'FrameReceived':
+                    stood = list(self.names.ask('memory', before['state'], place['end'], r['stag']))
+                    self.handed.append(('regions_handed_back: messages', {r['stag']: stood}))
             else:
                 self.note(law + ' closed', r == old[i])
 
@@ -279,8 +297,14 @@ class Link:
             return
         if m['link'] == self.number:
             getattr(self, 'on_' + m['mark'].lower(), lambda m, made: None)(m, made)
+            lives = self.ends['client']['ended'].n == 'None'
             self.step(m, made)
-        self.marks.append(made)
+            self.marks.append(made)
+            if lives and self.ends['client']['ended'].n != 'None':
+                stood = {r['stag']: self.placed('client', r['stag']) for r in self.ends['client']['state']['regions']}
+                self.handed.append(('regions_handed_back: ended', stood))
+        else:
+            self.marks.append(made)
 
     def on_submit(self, m: Recorded, made: Value) -> None:
         if m['answer']['kind'] != 'Accepted':
@@ -291,9 +315,10 @@ class Link:
         out, grant = (call(self.names.run[k], self.opened, self.number, run) for k in ('out', 'grant'))
         self.note('grant', out < grant, () if self.matched else ('not matched',))
         plan = self.names.ask('plan', state, x, c, form).a[0]
+        message = self.names.ask('message', self.opened, state, x, plan)
         self.submits[x] = {'payload': self.names.ask('payload', x, c), 'form': m['form'], 'made': form, 'plan': plan,
-                           'offer': self.names.ask('lists_of', state['stag'], plan),
-                           'refused': self.is_refused(self.names.ask('message', self.opened, state, x, plan))}
+                           'offer': self.names.ask('lists_of', state['stag'], plan), 'message': message,
+                           'refused': self.is_refused(message)}
         if m['form']['kind'] != 'Given':
             self.note('chunk_outcomes: own plans', not self.submits[x]['refused'], self.kind(x))
 
@@ -320,9 +345,14 @@ class Link:
         self.note('journal: places', self.run['journal'] == m['place'], ('adds',) if adds else ())
         self.run['journal'] += len(adds)
         kept = ask('offer', state, x)
+        answer = ask('answer', kept, state, q, reply)
+        if answer.n == 'Some':
+            brings = ask('answer_brings', kept, answer.a[0], q)
+            kinds = self.kind(x) if self.matched else ('not matched',)
+            self.note('answers_convey', brings.n == 'Some' and list(brings.a[0]) == reply, kinds)
         if adds:
             kinds = self.kind(x) if self.matched else ('not matched',)
-            self.note('chunk_outcomes: changes', ask('answer', kept, state, q, reply).n == 'Some', kinds)
+            self.note('chunk_outcomes: changes', answer.n == 'Some', kinds)
         held = None
         if self.matched:
             s = self.submits[x]
@@ -340,6 +370,10 @@ class Link:
         x, kind = m['xid'], m['outcome']['kind']
         self.note('once: calls', x not in self.dones, self.kind(x))
         self.dones[x] = kind
+        own = [r for r in self.ends['client']['state']['regions'] if r['call'] == x]
+        if own:
+            self.note('regions_handed_back: done', all(r['until'].n == 'Some' for r in own), self.kind(x))
+            self.handed.append(('regions_handed_back: done', {r['stag']: self.placed('client', r['stag']) for r in own}))
         if not self.matched:
             return
         e = self.executes.get(x)
@@ -349,6 +383,8 @@ class Link:
             self.note('replies_handed_over', same, self.kind(x))
             if self.run['plainly']:
                 self.note('replies_are_plain', same, self.kind(x))
+                if len(self.run['opened']) > 1:
+                    self.note('replies_are_plain: of a link alone', same, self.kind(x))
         why = () if kind != 'Chunk' else ('is refused',) if self.submits[x]['refused'] else ('is not held',)
         self.note('chunk_outcomes: causes', (kind == 'Chunk') == self.has_cause(x), self.kind(x) + why)
         if kind == 'Chunk' and e is not None:
@@ -365,7 +401,21 @@ class Link:
         for held, bytes_ in self.revoked:
             same = all(self.placed('client', s) == b for s, b in held.items())
             self.note('touches: revoked', same and sum(held.values(), []) == bytes_, () if self.matched else ('not matched',))
+        matched = () if self.matched else ('not matched',)
+        for law, stood in self.handed:
+            self.note(law, all(self.placed('client', s) == b for s, b in stood.items()), matched)
         mine = [m for m in self.run['marks'] if m['link'] == self.number]
+        for side in ('client', 'server'):
+            due = list(call(self.names.run['owed'], self.opened, self.number, self.names.side(side), list(self.marks)))
+            sent = [b for m in mine if m['mark'] == 'Wrote' and m['side'] == side for b in bytes_of(m['bytes'])]
+            self.note('sent_bytes: ' + side, due[:len(sent)] == sent, matched)
+        for x, submitted in self.submits.items():
+            header = self.names.ask('header', submitted['message'])
+            if header.n == 'Ok':
+                brings = self.names.ask('send_conveys', self.opened, self.number, self.names.side('client'),
+                                        list(self.marks), submitted['message'], header.a[0]['body'])
+                want = self.names.ask('conveyed', submitted['made'], submitted['payload'])
+                self.note('sends_convey', brings == want, self.kind(x) + matched)
         # the laws below ask that each Wrote writes all output due
         if not self.matched or any(m.get('cut') for m in mine):
             return

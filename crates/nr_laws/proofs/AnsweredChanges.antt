@@ -12,11 +12,10 @@ use Rattle.nr_reduce.specs.ServerState.{ServerState, down_max}
 use Rattle.nr_reduce.specs.Server.{offer_of}
 use Rattle.nr_reduce.specs.Run.{server}
 use Rattle.nr_reduce.specs.Served.{ServedMark, IsExecuted}
-use Rattle.nr_reduce.specs.PlainJournal.{journal}
 use Rattle.nr_reduce.proofs.Calls.{execute-answered}
 use Rattle.nr_laws.specs.Typed.{TypedMark}
 use Rattle.nr_laws.specs.MarkAt.{MarkAt}
-use Rattle.nr_laws.specs.PlainLinks.{server_with, PlainOnMark}
+use Rattle.nr_laws.specs.PlainLinks.{server_with, PlainReplyMark}
 use Rattle.nr_laws.specs.RefusedMessages.{HasRefusedMessage}
 use Rattle.nr_laws.specs.ChunkOutcomes.{answer_held, ChangesAreAnswered, ChunkAddsNothing}
 use Rattle.nr_laws.proofs.OnceByXid.{at-mark, before-mark}
@@ -40,8 +39,8 @@ changes_are_answered reply_to adds opened link run before xid moment payload pla
     let es = events link Responder before in
     let k : ServerState = (server opened link before).state in
     let holds = kept-at-server opened link before first kept es [] (sym (append-nil es)) in
-    let replied = at-mark (PlainOnMark (server_with reply_to adds) link) run before mark at.after at.is plainly refl in
-    let held = plain.change (journal (server_with reply_to adds) before) moment payload reply (offer_of k xid) (down_max k) replied more (found-fits xid k.calls holds.fit).within (omega arith) in
+    let replied = at-mark (PlainReplyMark (server_with reply_to adds) link) run before mark at.after at.is plainly refl in
+    let held = plain.change replied.0 moment payload reply (offer_of k xid) (down_max k) replied.1 more (found-fits xid k.calls holds.fit).within (omega arith) in
     let a = some-of (answer_held opened link before xid payload reply) held in
     record { answer = a.0; is_held = a.1; due = (execute-answered opened link before xid moment payload place reply x).0 a.0 a.1 }
 

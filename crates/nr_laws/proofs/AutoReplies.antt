@@ -18,11 +18,10 @@ use Rattle.nr_reduce.specs.Server.{answer_of_target}
 use Rattle.nr_reduce.specs.ClientState.{call_payload}
 use Rattle.nr_reduce.specs.Run.{client}
 use Rattle.nr_reduce.specs.Asked.{AskedMark, IsAccepted}
-use Rattle.nr_reduce.specs.PlainJournal.{journal}
 use Rattle.nr_laws.specs.Typed.{TypedMark}
 use Rattle.nr_laws.specs.MarkAt.{MarkAt}
 use Rattle.nr_laws.specs.Payloads.{HasPlan}
-use Rattle.nr_laws.specs.PlainLinks.{server_with, PlainOnMark}
+use Rattle.nr_laws.specs.PlainLinks.{server_with, PlainReplyMark}
 use Rattle.nr_laws.specs.RefusedMessages.{HasRefusedMessage}
 use Rattle.nr_laws.specs.ChunkOutcomes.{AutoHasReplies}
 use Rattle.nr_laws.proofs.OnceByXid.{at-mark, before-mark}
@@ -73,8 +72,8 @@ auto_has_replies reply_to adds opened link run earlier before call xid outcome p
         let own : call_payload xid call ≡ u.payload =
         some-is (call_payload xid call) u.payload (payloads_are_own opened link run u.before xid plan u.moment u.payload u.place u.reply typed far has executed) in
         let offer = offers_are_planned opened link run u.before xid plan u.moment u.payload u.place u.reply typed far has executed in
-        let replied = at-mark (PlainOnMark (server_with reply_to adds) link) run u.before execute executed.after executed.is plainly refl in
-        plain.auto (journal (server_with reply_to adds) u.before) u.moment u.payload u.reply send_max send_max (client opened link earlier).state.stag plan (subst IsBytes own bytes) replied (omega arith)
+        let replied = at-mark (PlainReplyMark (server_with reply_to adds) link) run u.before execute executed.after executed.is plainly refl in
+        plain.auto replied.0 u.moment u.payload u.reply send_max send_max (client opened link earlier).state.stag plan (subst IsBytes own bytes) replied.1 (omega arith)
         (ap (λ (x : List ℕ). plan_of x forms.Auto send_max send_max) (sym own) ∙ planned)
         (ap (λ (o : ChunkLists). answer_of_target o send_max u.reply (target_of (call_of u.payload))) (sym offer) ∙ u.none)
 

@@ -135,7 +135,7 @@ given-conveys payload offer up down stag p chunk e holds =
     subst (λ (q : Plan). ChunkHolds chunk q → call_conveyed (inline_stream q) (lists_of stag q).read chunk ≡ given_conveyed payload offer.read_at offer.read) (is_formed payload (forms.Given offer) up down p e).is
     (given-list payload chunk offer.read_at offer.read offer.write offer.reply stag) holds
 
-plan-conveys : (payload : List ℕ) (form : Form) (down stag : ℕ) (p : Plan) (chunk : ℕ → List ℕ) → IsBytes payload → IsTypedForm form → plan_of payload form send_max down ≡ Ok p → stag + regions_needed p ≤ 2 ^ 32 → ChunkHolds chunk p
+pub plan-conveys : (payload : List ℕ) (form : Form) (down stag : ℕ) (p : Plan) (chunk : ℕ → List ℕ) → IsBytes payload → IsTypedForm form → plan_of payload form send_max down ≡ Ok p → stag + regions_needed p ≤ 2 ^ 32 → ChunkHolds chunk p
     → call_conveyed (inline_stream p) (lists_of stag p).read chunk ≡ form_conveyed form payload
 plan-conveys payload forms.Auto down stag p chunk bytes typed e stags holds = own-conveys payload forms.Auto down stag p chunk bytes tt tt e stags holds
 plan-conveys payload forms.Inline down stag p chunk bytes typed e stags holds = own-conveys payload forms.Inline down stag p chunk bytes tt tt e stags holds

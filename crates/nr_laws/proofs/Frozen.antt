@@ -46,7 +46,7 @@ use Rattle.nr_reduce.proofs.StagsLeft.{request-stag, message-stag}
 
 -- ---- Accesses to other memory
 
-abbrev NotTo : ℕ → List TaggedSegment → Type 0
+abbrev pub NotTo : ℕ → List TaggedSegment → Type 0
 NotTo stag [] = Unit {0}
 NotTo stag (a ∷ accesses) = (a.stag ≢ stag) × NotTo stag accesses
 
@@ -54,7 +54,7 @@ not-append : (stag : ℕ) (xs ys : List TaggedSegment) → NotTo stag xs → Not
 not-append stag [] ys h g = g
 not-append stag (x ∷ xs) ys h g = (h.0, not-append stag xs ys h.1 g)
 
-not-parts : (stag : ℕ) (bytes : List ℕ) (accesses : List TaggedSegment) → NotTo stag accesses → after_parts stag bytes (parts_of accesses) ≡ bytes
+pub not-parts : (stag : ℕ) (bytes : List ℕ) (accesses : List TaggedSegment) → NotTo stag accesses → after_parts stag bytes (parts_of accesses) ≡ bytes
 not-parts stag bytes [] h = refl
 not-parts stag bytes (a ∷ accesses) h =
     ap (λ (b : Bool). after_parts stag (cond b (Rattle.nr_regions.specs.RegisteredMemory.bytes_after_write bytes a.to a.payload) bytes) (parts_of accesses)) (ne_eqb a.stag stag h.0)
@@ -62,13 +62,13 @@ not-parts stag bytes (a ∷ accesses) h =
 
 -- ---- What stays
 
-record Frozen (stag p : ℕ) (bytes : List ℕ) (old : List TaggedSegment) (k : ClientState) : Type 0 where
-  only : OnlyClosed stag p k.regions
-  low : stag < k.stag
-  has : HasRegion k.regions stag bytes
-  more : List TaggedSegment
-  accesses : k.accesses_received ≡ old ++ more
-  none : NotTo stag more
+pub record Frozen (stag p : ℕ) (bytes : List ℕ) (old : List TaggedSegment) (k : ClientState) : Type 0 where
+  pub only : OnlyClosed stag p k.regions
+  pub low : stag < k.stag
+  pub has : HasRegion k.regions stag bytes
+  pub more : List TaggedSegment
+  pub accesses : k.accesses_received ≡ old ++ more
+  pub none : NotTo stag more
 
 -- an access to the STag by a frame that ends later is refused
 no-access : (stag p : ℕ) (k : ClientState) (f : Frame) (s : Segment) → OnlyClosed stag p k.regions → p < f.end → is_hello f ≡ false → frame_segment f ≡ Ok s → client_end k (FrameReceived f) ≡ None → NotTo stag (tagged_access f s)
@@ -102,14 +102,14 @@ frozen-segment stag p bytes old k f lt behind stays (Ok s) is h =
 
 -- ---- Events
 
-abbrev EventBehind : ℕ → Event → Type 0
+abbrev pub EventBehind : ℕ → Event → Type 0
 EventBehind p (FrameReceived f) = p < f.end
 EventBehind p (CallSubmitted q a) = Unit {0}
 EventBehind p (MemoryRevoked q xid) = Unit {0}
 EventBehind p (CallExecuted e) = Unit {0}
 EventBehind p QueueWritten = Unit {0}
 
-abbrev EventsBehind : ℕ → List Event → Type 0
+abbrev pub EventsBehind : ℕ → List Event → Type 0
 EventsBehind p [] = Unit {0}
 EventsBehind p (e ∷ es) = EventBehind p e × EventsBehind p es
 
@@ -145,7 +145,7 @@ frozen-next opened stag p bytes old k None e by h = by_why (client_end k e) refl
     by_why None is = frozen-event opened stag p bytes old k e by is h
     by_why (Some end) is = h
 
-frozen-all : (opened : LinkParameters) (stag p : ℕ) (bytes : List ℕ) (old : List TaggedSegment) (r : EndState ClientState) (es : List Event) → EventsBehind p es → Frozen stag p bytes old r.state → Frozen stag p bytes old (end_state_after (client_rules opened) r es).state
+pub frozen-all : (opened : LinkParameters) (stag p : ℕ) (bytes : List ℕ) (old : List TaggedSegment) (r : EndState ClientState) (es : List Event) → EventsBehind p es → Frozen stag p bytes old r.state → Frozen stag p bytes old (end_state_after (client_rules opened) r es).state
 frozen-all opened stag p bytes old r [] by h = h
 frozen-all opened stag p bytes old r (e ∷ es) by h = frozen-all opened stag p bytes old (next_end_state (client_rules opened) r e) es by.1 (frozen-next opened stag p bytes old r.state r.ended e by.0 h)
 
@@ -176,7 +176,7 @@ mark-behind p link before (marks.Lost l xid) le = tt
 mark-behind p link before (marks.Forget l xid) le = tt
 mark-behind p link before (marks.Drop l) le = tt
 
-frozen-from : (opened : LinkParameters) (link stag p : ℕ) (bytes : List ℕ) (old : List TaggedSegment) (before run : List Mark) → p ≤ length (bytes_received link Initiator before)
+pub frozen-from : (opened : LinkParameters) (link stag p : ℕ) (bytes : List ℕ) (old : List TaggedSegment) (before run : List Mark) → p ≤ length (bytes_received link Initiator before)
     → Frozen stag p bytes old (client opened link before).state → Frozen stag p bytes old (client opened link (before ++ run)).state
 frozen-from opened link stag p bytes old before [] le h = subst (λ (b : List Mark). Frozen stag p bytes old (client opened link b).state) (sym (append-nil before)) h
 frozen-from opened link stag p bytes old before (mark ∷ run) le h =
@@ -216,7 +216,7 @@ only-revoked xid stag p n (x ∷ regions) r numbers low there own = by (eqb x.st
           only-closed (λ r. eqb r.call xid) p stag p regions (only-above stag (n + 1) p regions (omega (arith, first, here)) numbers.1),
         )
 
-low-found : (n stag : ℕ) (regions : List Region) (r : Region) → AreNumbered n regions → find (λ x. eqb x.stag stag) regions ≡ Some r → (stag < n + length regions) × (r.stag ≡ stag)
+pub low-found : (n stag : ℕ) (regions : List Region) (r : Region) → AreNumbered n regions → find (λ x. eqb x.stag stag) regions ≡ Some r → (stag < n + length regions) × (r.stag ≡ stag)
 low-found n stag [] r numbers e = absurd cc
 low-found n stag (x ∷ regions) r numbers e = by (eqb x.stag stag) refl e (λ h. low-found (n + 1) stag regions r numbers.1 h)
   where
@@ -240,7 +240,7 @@ run-settled opened link run typed asked =
     settled-later (places_after 0 (events link Initiator run)) (length (bytes_received link Initiator run)) (client opened link run).state.regions (client opened link run).state.accesses_received
     (omega (arith, at, within)) k.keeps.settled
 
-run-holds : (opened : LinkParameters) (link stag : ℕ) (bytes : List ℕ) (run : List Mark) → IsTyped run → AskedSoFar opened link run → HasRegion (client opened link run).state.regions stag bytes
+pub run-holds : (opened : LinkParameters) (link stag : ℕ) (bytes : List ℕ) (run : List Mark) → IsTyped run → AskedSoFar opened link run → HasRegion (client opened link run).state.regions stag bytes
     → placed_bytes opened link Initiator run stag ≡ after_parts stag bytes (parts_of (client opened link run).state.accesses_received)
 unfolding placed_bytes grants_of
 run-holds opened link stag bytes run typed asked h =
@@ -273,7 +273,7 @@ stays-by opened r es end is =
     ap (λ (o : Option Stop). end_state_after (client_rules opened) (record { state = r.state; ended = o }) es) is
     ∙ (ended-stays (client_rules opened) r.state end es).0 ∙ ap (λ (o : Option Stop). record { state = r.state; ended = o }) (sym is)
 
-ended-run : (opened : LinkParameters) (link : ℕ) (before run : List Mark) (end : Stop) → (client opened link before).ended ≡ Some end → client opened link (before ++ run) ≡ client opened link before
+pub ended-run : (opened : LinkParameters) (link : ℕ) (before run : List Mark) (end : Stop) → (client opened link before).ended ≡ Some end → client opened link (before ++ run) ≡ client opened link before
 ended-run opened link before [] end is = ap (λ (b : List Mark). client opened link b) (append-nil before)
 ended-run opened link before (mark ∷ run) end is =
     let one : client opened link (before ++ mark ∷ []) ≡ client opened link before = client-one opened link before mark ∙ stays-by opened (client opened link before) (events_at link Initiator before mark) end is in

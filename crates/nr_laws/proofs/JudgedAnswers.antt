@@ -20,7 +20,6 @@ use Rattle.nr_reduce.specs.declared.outline.Plan.{Plan}
 use Rattle.nr_reduce.specs.History.{ExecutedCall}
 use Rattle.nr_reduce.specs.Opening.{IsOpened}
 use Rattle.nr_reduce.specs.IsPlain.{IsPlain, xid_of_reply}
-use Rattle.nr_reduce.specs.PlainJournal.{journal}
 use Rattle.nr_reduce.specs.Events.{Event, events}
 use Rattle.nr_reduce.specs.Events.Event.{FrameReceived}
 use Rattle.nr_reduce.specs.Plans.{Buffer, buffers, lists_of, read_list, write_stag, reply_stag}
@@ -43,7 +42,7 @@ use Rattle.nr_reduce.proofs.OwnStags.{ClientNumbers, client-numbers}
 use Rattle.nr_laws.specs.MatchedSoFar.{MatchedSoFar}
 use Rattle.nr_laws.specs.Typed.{TypedMark, IsTyped}
 use Rattle.nr_laws.specs.Payloads.{HasPlan}
-use Rattle.nr_laws.specs.PlainLinks.{server_with, PlainlyOn, PlainOnMark}
+use Rattle.nr_laws.specs.PlainLinks.{server_with, HasPlainReplies, PlainReplyMark}
 use Rattle.nr_laws.proofs.Along.{GoesOn, goes-behind, places_after}
 use Rattle.nr_laws.proofs.Outputs.Output.{ASegment}
 use Rattle.nr_laws.proofs.ServerAlong.{outs_of, SaidAnswer}
@@ -230,7 +229,7 @@ answer-judges opened link run reason opens typed far d j s = record {
     conveys = memory-conveys k place opened.first_stag stag plan a front 1024 u.call.prog u.call.vers u.call.proc e.reply bytes numbers.regions settled backed parts answer
 
 pub answer-ends-none : (reply_to : List Entry → Moment → List ℕ → Option (List ℕ)) (adds : Moment → List ℕ → List ℕ → List Entry) (opened : LinkParameters) (link : ℕ) (run : List Mark) (reason : ℕ) → IsOpened opened → IsTyped run → MatchedSoFar opened link run
-    → PlainlyOn (server_with reply_to adds) link run → IsPlain (server_with reply_to adds)
+    → HasPlainReplies (server_with reply_to adds) link run → IsPlain (server_with reply_to adds)
     → (d : EndsFor opened link run reason) → JudgedBy (client_by opened d.earlier).state d.frame.end d.message reason → SaidAnswer opened (events link Responder run) d.before d.message → ⊥
 answer-ends-none reply_to adds opened link run reason opens typed far plainly plain d j s = own-reply-judged j.call.xid e.reply reason reply_xid r.by_reply
   where
@@ -244,11 +243,11 @@ answer-ends-none reply_to adds opened link run reason opens typed far plainly pl
     m = r.answered.mark
 
     -- the reply has the call's xid
-    replied : (server_with reply_to adds).Replies (journal (server_with reply_to adds) m.earlier) e.moment e.payload e.reply
-    replied = at-mark (PlainOnMark (server_with reply_to adds) link) run m.earlier (execute_mark link e) m.later m.is plainly refl
+    replied : (entries : List Entry) × (server_with reply_to adds).Replies entries e.moment e.payload e.reply
+    replied = at-mark (PlainReplyMark (server_with reply_to adds) link) run m.earlier (execute_mark link e) m.later m.is plainly refl
 
     reply_xid : xid_of_reply (reply_of e.reply) ≡ Some j.call.xid
     reply_xid =
         let h = executed-head opened link m.earlier e.xid e.payload r.answered.executed.executed in
-        plain.xid (journal (server_with reply_to adds) m.earlier) e.moment e.payload e.reply r.bytes replied
+        plain.xid replied.0 e.moment e.payload e.reply r.bytes replied.1
         ∙ ap xid_of_call h.1.0 ∙ ap (λ (n : ℕ). Some n) (sym (same-xid h.0) ∙ h.1.1 ∙ sym r.own_xid)

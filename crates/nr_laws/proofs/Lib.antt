@@ -37,6 +37,11 @@ pub mod ReadsAlong
 pub mod Beyond
 pub mod Revoked
 pub mod Frozen
+pub mod HandedBack
+pub mod DoneBack
+pub mod SentBytes
+pub mod SubmittedSends
+pub mod ConveyingAnswers
 pub mod Replied
 pub mod Otherwise
 pub mod Completed
@@ -116,6 +121,7 @@ pub mod HandedOver
 pub mod ConveyedReplies
 pub mod FetchedRegions
 pub mod ClientResponses
+pub mod PlacedLinks
 pub mod PlainReplies
 pub mod SplitResponses
 pub mod FilledSinks

@@ -19,7 +19,7 @@ use Rattle.nr_reduce.specs.Server.{server_rules}
 use Rattle.nr_reduce.specs.Run.{client, server, end_of_side}
 use Rattle.nr_reduce.proofs.Steps.{AtEachMark-first, client-one, server-one}
 use Rattle.nr_laws.specs.EndCauses.{KeepLaws, IsReplyEnd, IsDenied}
-use Rattle.nr_laws.specs.PlainLinks.{server_with, PlainlyOn, PlainOnMark}
+use Rattle.nr_laws.specs.PlainLinks.{server_with, HasPlainReplies, PlainReplyMark}
 use Rattle.nr_laws.specs.Stays.{NotRevokedMark, HasNoRevoke, ConveyedMark, AreConveyedOrRefused, MatchedLinksStay, MatchedCallsComplete, NoAccessIsDenied, ClientsStay}
 use Rattle.nr_laws.specs.Typed.{TypedMark, IsTyped}
 use Rattle.nr_laws.proofs.AgreeingRuns.{other-events}
@@ -63,7 +63,7 @@ record AreAsked (reply_to : List Entry → Moment → List ℕ → Option (List 
   laws : KeepLaws opened link run
   kept : HasNoRevoke link run
   conveyed : AreConveyedOrRefused opened link run
-  plainly : PlainlyOn (server_with reply_to adds) link run
+  plainly : HasPlainReplies (server_with reply_to adds) link run
 
 asked-before : (reply_to : List Entry → Moment → List ℕ → Option (List ℕ)) (adds : Moment → List ℕ → List ℕ → List Entry) (opened : LinkParameters) (link : ℕ) (run more : List Mark) → AreAsked reply_to adds opened link (run ++ more) → AreAsked reply_to adds opened link run
 asked-before reply_to adds opened link run more h = record {
@@ -71,7 +71,7 @@ asked-before reply_to adds opened link run more h = record {
   laws = laws-kept-before opened link run more h.laws;
   kept = AtEachMark-first (NotRevokedMark link) [] run more h.kept;
   conveyed = AtEachMark-first (ConveyedMark opened link) [] run more h.conveyed;
-  plainly = AtEachMark-first (PlainOnMark (server_with reply_to adds) link) [] run more h.plainly;
+  plainly = AtEachMark-first (PlainReplyMark (server_with reply_to adds) link) [] run more h.plainly;
 }
 
 -- ---- From mark to mark

@@ -7,30 +7,32 @@ use Rattle.nr_reduce.specs.declared.mark.Mark.TheVariants as marks
 use Rattle.nr_reduce.specs.declared.mark.LinkParameters.{LinkParameters}
 use Rattle.nr_reduce.specs.declared.outline.Plan.{Plan}
 use Rattle.nr_reduce.specs.PlainJournal.{PlainServer}
-use Rattle.nr_reduce.specs.Journal.{Journaled}
-use Rattle.nr_reduce.proofs.Placing.{at_place}
 use Rattle.nr_laws.specs.MarkAt.{MarkAt}
 use Rattle.nr_laws.specs.MatchedSoFar.{MatchedSoFar}
 use Rattle.nr_laws.specs.Typed.{IsTyped}
 use Rattle.nr_laws.specs.Payloads.{HasPlan}
-use Rattle.nr_laws.specs.PlainReplies.{HasPlainReply, RepliesArePlain}
-use Rattle.nr_laws.specs.PlainLinks.{server_with, PlainOnMark, PlainlyOn}
+use Rattle.nr_laws.specs.PlainReplies.{HasPlainReply, RepliesArePlain, RepliesArePlainAtPlaces}
+use Rattle.nr_laws.specs.PlainLinks.{server_with, AtPlaceOnMark, AtPlacesOn}
 use Rattle.nr_laws.proofs.LaterMarks.{mark-later}
 use Rattle.nr_laws.proofs.OnceByXid.{at-mark}
+use Rattle.nr_laws.proofs.PlacedLinks.{at-places-on}
 use Rattle.nr_laws.proofs.OwnReplies.{executed_replies_are_handed_over}
 
 -- of any plain server, which may have several replies to choose from
 pub any-replies-are-plain : (plain : PlainServer) (J : List Entry) (opened : LinkParameters) (link : ℕ) (run before : List Mark) (xid : ℕ) (plan : Plan) (reply : List ℕ) → IsTyped run → MatchedSoFar opened link run
-    → Journaled plain J run → PlainlyOn plain link run → (has : HasPlan opened link run xid plan) → MarkAt run before (marks.Done link xid (outcomes.Reply reply)) → HasPlainReply plain J link before xid has.call has.form reply
-any-replies-are-plain plain J opened link run before xid plan reply typed far journaled plainly has at =
+    → AtPlacesOn plain J link run → (has : HasPlan opened link run xid plan) → MarkAt run before (marks.Done link xid (outcomes.Reply reply)) → HasPlainReply plain J link before xid has.call has.form reply
+any-replies-are-plain plain J opened link run before xid plan reply typed far placed has at =
     let own = executed_replies_are_handed_over opened link run before xid plan reply typed far has at in
     let execute : Mark = marks.Execute link xid own.moment own.payload own.place reply in
     let there = mark-later run before (marks.Done link xid (outcomes.Reply reply)) at.after own.before execute at.is own.at in
     record {
       own = own;
-      plainly = at_place plain J run own.before there.after link xid own.moment own.payload own.place reply there.is journaled
-          (at-mark (PlainOnMark plain link) run own.before execute there.after there.is plainly refl);
+      plainly = at-mark (AtPlaceOnMark plain J link) run own.before execute there.after there.is placed refl;
     }
 
+pub replies_are_plain_at_places : RepliesArePlainAtPlaces
+replies_are_plain_at_places reply_to adds = any-replies-are-plain (server_with reply_to adds)
+
 pub replies_are_plain : RepliesArePlain
-replies_are_plain reply_to adds = any-replies-are-plain (server_with reply_to adds)
+replies_are_plain reply_to adds J opened link run before xid plan reply typed far journaled plainly =
+    any-replies-are-plain (server_with reply_to adds) J opened link run before xid plan reply typed far (at-places-on (server_with reply_to adds) J link run journaled plainly)

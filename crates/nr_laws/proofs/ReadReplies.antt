@@ -17,7 +17,7 @@ use Rattle.nr_reduce.specs.Run.{end_of_side}
 use Rattle.nr_reduce.specs.RunLaws.{server_by}
 use Rattle.nr_laws.specs.EndCauses.{IsReplyReason, IsReplyEnd, IsDenied, ClientEndsForReplies}
 use Rattle.nr_laws.specs.MatchedSoFar.{MatchedSoFar}
-use Rattle.nr_laws.specs.PlainLinks.{server_with, PlainlyOn}
+use Rattle.nr_laws.specs.PlainLinks.{server_with, HasPlainReplies}
 use Rattle.nr_laws.specs.Typed.{IsTyped}
 use Rattle.nr_laws.proofs.Outcomes.{client_by}
 use Rattle.nr_laws.proofs.Replied.{error-kind, error-header}
@@ -58,7 +58,7 @@ message-ends-for-reply opened link run opens typed far at reason bad e = by d.sa
 -- On a matched link what a client makes of a message never ends it, where its calls are answered as a plain server answers: the reply that an
 -- answer conveys has an RPC reply head of the call's xid.
 pub client-reads-replies : (reply_to : List Entry → Moment → List ℕ → Option (List ℕ)) (adds : Moment → List ℕ → List ℕ → List Entry) (opened : LinkParameters) (link : ℕ) (run : List Mark) → IsOpened opened → IsTyped run → MatchedSoFar opened link run
-    → PlainlyOn (server_with reply_to adds) link run → IsPlain (server_with reply_to adds) → (at reason : ℕ) → IsReplyReason reason → end_of_side opened link Initiator run ≡ Some (ends.Bad at reason) → ⊥
+    → HasPlainReplies (server_with reply_to adds) link run → IsPlain (server_with reply_to adds) → (at reason : ℕ) → IsReplyReason reason → end_of_side opened link Initiator run ≡ Some (ends.Bad at reason) → ⊥
 unfolding end_of_side
 client-reads-replies reply_to adds opened link run opens typed far plainly plain at reason own e = by d.said
   where

@@ -34,7 +34,7 @@ use Rattle.nr_laws.specs.Typed.{IsTyped}
 use Rattle.nr_laws.specs.Completion.{IsSettled, IsKept}
 use Rattle.nr_laws.specs.Payloads.{HasPlan}
 use Rattle.nr_laws.specs.RefusedMessages.{HasRefusedMessage}
-use Rattle.nr_laws.specs.PlainLinks.{server_with, PlainlyOn}
+use Rattle.nr_laws.specs.PlainLinks.{server_with, HasPlainReplies}
 
 -- ---- The two causes
 
@@ -96,7 +96,7 @@ NoOwnPlanIsRefused = (opened : LinkParameters) (link : ℕ) (run : List Mark) (x
 abbrev pub AutoHasReplies : Type 0
 AutoHasReplies = (reply_to : List Entry → Moment → List ℕ → Option (List ℕ)) (adds : Moment → List ℕ → List ℕ → List Entry)
     (opened : LinkParameters) (link : ℕ) (run earlier before : List Mark) (call : Call) (xid : ℕ) (outcome : Outcome) →
-    IsPlain (server_with reply_to adds) → PlainlyOn (server_with reply_to adds) link run → IsTyped run → MatchedSoFar opened link run →
+    IsPlain (server_with reply_to adds) → HasPlainReplies (server_with reply_to adds) link run → IsTyped run → MatchedSoFar opened link run →
     MarkAt run earlier (marks.Submit link call forms.Auto (submissions.Accepted xid)) →
     MarkAt run before (marks.Done link xid outcome) → (reply : List ℕ) × (outcome ≡ outcomes.Reply reply)
 
@@ -118,7 +118,7 @@ pub record IsAnswered (opened : LinkParameters) (link : ℕ) (before : List Mark
 abbrev pub ChangesAreAnswered : Type 0
 ChangesAreAnswered = (reply_to : List Entry → Moment → List ℕ → Option (List ℕ)) (adds : Moment → List ℕ → List ℕ → List Entry)
     (opened : LinkParameters) (link : ℕ) (run before : List Mark) (xid : ℕ) (moment : Moment) (payload : List ℕ) (place : ℕ) (reply : List ℕ) →
-    IsPlain (server_with reply_to adds) → PlainlyOn (server_with reply_to adds) link run → IsTyped run → ServedSoFar opened link run →
+    IsPlain (server_with reply_to adds) → HasPlainReplies (server_with reply_to adds) link run → IsTyped run → ServedSoFar opened link run →
     MarkAt run before (marks.Execute link xid moment payload place reply) → adds moment payload reply ≢ [] →
     IsAnswered opened link before xid moment payload place reply
 
@@ -126,5 +126,5 @@ ChangesAreAnswered = (reply_to : List Entry → Moment → List ℕ → Option (
 abbrev pub ChunkAddsNothing : Type 0
 ChunkAddsNothing = (reply_to : List Entry → Moment → List ℕ → Option (List ℕ)) (adds : Moment → List ℕ → List ℕ → List Entry)
     (opened : LinkParameters) (link : ℕ) (run before done : List Mark) (xid : ℕ) (moment : Moment) (payload : List ℕ) (place : ℕ) (reply : List ℕ) →
-    IsPlain (server_with reply_to adds) → PlainlyOn (server_with reply_to adds) link run → IsTyped run → MatchedSoFar opened link run →
+    IsPlain (server_with reply_to adds) → HasPlainReplies (server_with reply_to adds) link run → IsTyped run → MatchedSoFar opened link run →
     MarkAt run before (marks.Execute link xid moment payload place reply) → MarkAt run done (marks.Done link xid outcomes.Chunk) → adds moment payload reply ≡ []

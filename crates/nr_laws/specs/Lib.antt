@@ -17,3 +17,7 @@ pub mod RefusedMessages
 pub mod PlainLinks
 pub mod ServerRegions
 pub mod ClientRegions
+pub mod HandedBack
+pub mod Sent
+pub mod SendsConvey
+pub mod AnswersConvey

@@ -16,7 +16,7 @@ use Rattle.nr_laws.specs.MatchedSoFar.{MatchedSoFar}
 use Rattle.nr_laws.specs.Typed.{IsTyped}
 use Rattle.nr_laws.specs.Payloads.{HasPlan}
 use Rattle.nr_laws.specs.HandedOver.{HasReply}
-use Rattle.nr_laws.specs.PlainLinks.{server_with, PlainlyOn}
+use Rattle.nr_laws.specs.PlainLinks.{server_with, PlainlyOn, AtPlacesOn}
 
 -- The call was executed under this xid on the link, with what its form conveys of its own payload, and these bytes are what the server
 -- replies to that over the first entries of the journal, as many as its place says; what the call adds stands behind them.
@@ -24,9 +24,17 @@ pub record HasPlainReply (plain : PlainServer) (J : List Entry) (link : ℕ) (ru
   pub own : HasReply link run xid call form reply
   pub plainly : AtPlace plain J own.moment own.payload own.place reply
 
--- On a matched link whose calls are answered as the plain server answers, each over the journal of its moment, each reply that is handed over
--- is such a reply. It holds of any plain server, by a lemma in `proofs/`. A clause can't quantify over records of relations, so here a
--- server has at most one reply to a payload at a moment over a journal.
+-- On a matched link whose calls are answered as the plain server answers, each at its place in a journal, each reply that is handed over is such a
+-- reply: whatever the run's marks of other links are. It holds of any plain server, by a lemma in `proofs/`. A clause can't quantify over records of
+-- relations, so here a server has at most one reply to a payload at a moment over a journal.
+abbrev pub RepliesArePlainAtPlaces : Type 0
+RepliesArePlainAtPlaces = (reply_to : List Entry → Moment → List ℕ → Option (List ℕ)) (adds : Moment → List ℕ → List ℕ → List Entry) (J : List Entry)
+    (opened : LinkParameters) (link : ℕ) (run before : List Mark) (xid : ℕ) (plan : Plan) (reply : List ℕ) →
+    IsTyped run → MatchedSoFar opened link run → AtPlacesOn (server_with reply_to adds) J link run →
+    (has : HasPlan opened link run xid plan) →
+    MarkAt run before (marks.Done link xid (outcomes.Reply reply)) → HasPlainReply (server_with reply_to adds) J link before xid has.call has.form reply
+
+-- So it is where each is answered over the journal of its moment, and the journal is what the run's Executes of all links add.
 abbrev pub RepliesArePlain : Type 0
 RepliesArePlain = (reply_to : List Entry → Moment → List ℕ → Option (List ℕ)) (adds : Moment → List ℕ → List ℕ → List Entry) (J : List Entry)
     (opened : LinkParameters) (link : ℕ) (run before : List Mark) (xid : ℕ) (plan : Plan) (reply : List ℕ) →

@@ -22,7 +22,7 @@ use Rattle.nr_reduce.specs.Run.{client, end_of_side}
 use Rattle.nr_reduce.specs.SoFar.{InFull}
 use Rattle.nr_laws.specs.Completion.{NothingWaits, HaveCompleted}
 use Rattle.nr_laws.specs.EndCauses.{KeepLaws, IsReplyEnd}
-use Rattle.nr_laws.specs.PlainLinks.{server_with, PlainlyOn}
+use Rattle.nr_laws.specs.PlainLinks.{server_with, HasPlainReplies}
 use Rattle.nr_laws.specs.RefusedMessages.{IsRefusedMessage}
 use Rattle.nr_laws.specs.Typed.{IsTyped}
 
@@ -61,13 +61,13 @@ AreConveyedOrRefused opened link run = AtEachMark (ConveyedMark opened link) [] 
 -- what `IsPlain` says: neither side ends.
 abbrev pub MatchedLinksStay : Type 0
 MatchedLinksStay = (reply_to : List Entry → Moment → List ℕ → Option (List ℕ)) (adds : Moment → List ℕ → List ℕ → List Entry) (opened : LinkParameters) (link : ℕ) (run : List Mark) →
-    IsOpened opened → IsTyped run → KeepLaws opened link run → HasNoRevoke link run → AreConveyedOrRefused opened link run → IsPlain (server_with reply_to adds) → PlainlyOn (server_with reply_to adds) link run →
+    IsOpened opened → IsTyped run → KeepLaws opened link run → HasNoRevoke link run → AreConveyedOrRefused opened link run → IsPlain (server_with reply_to adds) → HasPlainReplies (server_with reply_to adds) link run →
     (end_of_side opened link Initiator run ≡ None) × (end_of_side opened link Responder run ≡ None)
 
 -- So where its laws hold in full and nothing waits, all its calls have completed.
 abbrev pub MatchedCallsComplete : Type 0
 MatchedCallsComplete = (reply_to : List Entry → Moment → List ℕ → Option (List ℕ)) (adds : Moment → List ℕ → List ℕ → List Entry) (opened : LinkParameters) (link : ℕ) (run : List Mark) →
-    IsOpened opened → IsTyped run → InFull opened link run → HasNoRevoke link run → AreConveyedOrRefused opened link run → IsPlain (server_with reply_to adds) → PlainlyOn (server_with reply_to adds) link run →
+    IsOpened opened → IsTyped run → InFull opened link run → HasNoRevoke link run → AreConveyedOrRefused opened link run → IsPlain (server_with reply_to adds) → HasPlainReplies (server_with reply_to adds) link run →
     NothingWaits opened link run → HaveCompleted opened link run
 
 -- Where no memory is taken back, no access to the memory of a client is denied before its server ends, whatever its offers convey and
@@ -79,5 +79,5 @@ NoAccessIsDenied = (opened : LinkParameters) (link : ℕ) (run : List Mark) → 
 -- Where calls are answered as a plain server answers, the client doesn't end before its server, whatever its offers convey.
 abbrev pub ClientsStay : Type 0
 ClientsStay = (reply_to : List Entry → Moment → List ℕ → Option (List ℕ)) (adds : Moment → List ℕ → List ℕ → List Entry) (opened : LinkParameters) (link : ℕ) (run : List Mark) →
-    IsOpened opened → IsTyped run → KeepLaws opened link run → HasNoRevoke link run → IsPlain (server_with reply_to adds) → PlainlyOn (server_with reply_to adds) link run →
+    IsOpened opened → IsTyped run → KeepLaws opened link run → HasNoRevoke link run → IsPlain (server_with reply_to adds) → HasPlainReplies (server_with reply_to adds) link run →
     end_of_side opened link Responder run ≡ None → end_of_side opened link Initiator run ≡ None

@@ -1,5 +1,7 @@
 //! With which payloads calls are executed.
 
+ghost use Rattle.nr_laws.specs.AnswersConvey.{AnswersConvey};
+ghost use Rattle.nr_laws.specs.SendsConvey.{SendsConvey};
 ghost use Rattle.nr_laws.specs.Payloads.{ExecutesHavePlans, PayloadsAreOwn};
 
 /// On a matched link a call that is executed was accepted before that, and goes out by a plan. The payload is exactly what the call's form
@@ -7,4 +9,16 @@ ghost use Rattle.nr_laws.specs.Payloads.{ExecutesHavePlans, PayloadsAreOwn};
 pub fn executed_payloads()
     ensures planned { ExecutesHavePlans }
     ensures own { PayloadsAreOwn }
+{}
+
+/// On every link, whatever the server sends, the Send of an accepted call whose header can be read (RFC 8166 section 4) conveys what the call's form
+/// conveys of its payload: by its stream and the regions that its client offers to be read.
+pub fn sends_convey()
+    ensures { SendsConvey }
+{}
+
+/// On every link, whatever the client offered, the answer of an executed call conveys the call's reply: by its inline stream and the payloads of its
+/// RDMA Writes, cut by the lengths that it returns (RFC 8166 sections 3.4.6 and 3.5).
+pub fn answers_convey()
+    ensures { AnswersConvey }
 {}

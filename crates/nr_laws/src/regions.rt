@@ -2,6 +2,8 @@
 
 ghost use Rattle.nr_laws.specs.PlacedBytes.{ClientBytesAreAllowed, ServerBytesAreAllowed, ReadsAreAllowed, NothingElseIsDisclosed};
 ghost use Rattle.nr_laws.specs.ClientRegions.{CallsAddChunks, ClientRegionsAreChunks, ClientRegionsCloseWithCalls, LiveClientRegionsAreOutstanding};
+ghost use Rattle.nr_laws.specs.HandedBack.{ClosedRegionsStand, EndedRegionsStand, ClosedRegionsHoldWhatStood, DoneHandsBack, LostHandsBack};
+ghost use Rattle.nr_laws.specs.Sent.{ClientSendsWhatIsDue, ServerSendsWhatIsDue, SentBytesAreAllowed};
 ghost use Rattle.nr_laws.specs.ServerRegions.{ServerRegionsAreChunks, SendsAddChunks, NothingElseAddsRegions, ClosedRegionsStay, LiveServerRegionsAreRead, ServerRegionsCloseWhenRead};
 
 /// Which regions a side offers, and how long, whatever the peer sends. An accepted call adds a region at its client for each chunk of its plan
@@ -29,4 +31,23 @@ pub fn offered_memory()
     ensures server_bytes { ServerBytesAreAllowed }
     ensures reads { ReadsAreAllowed }
     ensures nothing_else { NothingElseIsDisclosed }
+{}
+
+/// What buffers hold that a client hands back, whatever the server sends. A region that was closed holds the same in every longer run, and after
+/// the client has ended all its regions do. The message of a call leaves its regions as they stood when its frame ended. So what is handed back at
+/// a Done, or of a call that is lost, is what stands from then on.
+pub fn regions_handed_back()
+    ensures closed { ClosedRegionsStand }
+    ensures ended { EndedRegionsStand }
+    ensures messages { ClosedRegionsHoldWhatStood }
+    ensures done { DoneHandsBack }
+    ensures lost { LostHandsBack }
+{}
+
+/// What has been sent, whatever the peer sends: the first of the output that is due, in order. Each byte that a client has sent is of its hello, of
+/// the Send of an accepted call, of its last output, or of the response to a Read Request that it allowed, with just the bytes that were asked for.
+pub fn sent_bytes()
+    ensures client { ClientSendsWhatIsDue }
+    ensures server { ServerSendsWhatIsDue }
+    ensures allowed { SentBytesAreAllowed }
 {}

@@ -1,0 +1,213 @@
+-- The regions of a call that is done are closed.
+use Rattle.std.proofs.Common.{◌≡◌, ℕ, ◌+◌, ◌≤◌, ◌<◌, Bool, true, false, cond, eqb, List, [], ◌∷◌, ◌++◌, map, Option, None, Some, Result, Ok, refl, sym, ap, subst, ◌∙◌, arith, eq-eqb, zero, suc, length}
+use Rattle.std.specs.Prelude.{Contains, slice_index_or}
+use Rattle.std.specs.List.{find}
+use Rattle.nr_xdr.specs.Fields.{word_at}
+use Rattle.nr_wire.specs.declared.hello.Side.TheVariants.{Initiator}
+use Rattle.nr_wire.specs.Segment.{Segment}
+use Rattle.nr_link.specs.declared.end.End.{End as Stop}
+use Rattle.nr_link.specs.Frames.{Frame, is_hello}
+use Rattle.nr_link.specs.ReceiveState.{message_completed, read_request_of}
+use Rattle.nr_link.specs.Ending.{frame_segment}
+use Rattle.nr_reduce.specs.declared.call.Outcome.{Outcome}
+use Rattle.nr_reduce.specs.declared.mark.Mark.{Mark}
+use Rattle.nr_reduce.specs.declared.mark.Mark.TheVariants as marks
+use Rattle.nr_reduce.specs.declared.mark.LinkParameters.{LinkParameters}
+use Rattle.nr_reduce.specs.History.{CompletedCall}
+use Rattle.nr_reduce.specs.Plans.{Buffer, buffers}
+use Rattle.nr_reduce.specs.Events.{Event, events}
+use Rattle.nr_reduce.specs.Events.Event.{FrameReceived, CallSubmitted, MemoryRevoked, CallExecuted, QueueWritten}
+use Rattle.nr_reduce.specs.EndRules.{EndState, next_end_state, next_end_state_by, next_end_state_in, end_state_after}
+use Rattle.nr_reduce.specs.OfferedRegions.{Region, until_at, closed_if, regions_closed}
+use Rattle.nr_reduce.specs.ClientState.{ClientState, OutstandingCall}
+use Rattle.nr_reduce.specs.Client.{client_rules, client_end, client_state_after, initial_client, outstanding_of, region_of, revoked_call, with_message, with_segment}
+use Rattle.nr_reduce.specs.SubmitAnswer.{next_xid}
+use Rattle.nr_reduce.specs.Matched.{IsPrefixOf}
+use Rattle.nr_reduce.specs.Asked.{AskedMark, AskedSoFar, IsCompleted}
+use Rattle.nr_reduce.specs.Run.{client}
+use Rattle.nr_reduce.proofs.Placing.{segment-accepted}
+use Rattle.nr_reduce.proofs.Steps.{end_state_after-append}
+use Rattle.nr_laws.specs.Typed.{TypedMark, IsTyped}
+use Rattle.nr_laws.specs.HandedBack.{Stands, DoneHandsBack}
+use Rattle.nr_laws.proofs.Along.{GoesOn, goes-first, goes-behind}
+use Rattle.nr_laws.proofs.ClientSays.{ClientGood}
+use Rattle.nr_laws.proofs.ClientRun.{client-goes}
+use Rattle.nr_laws.proofs.DoneCalls.{GivesBy, gives-by, verdict-xid}
+use Rattle.nr_laws.proofs.HandedBack.{closed_regions_stand}
+use Rattle.nr_laws.proofs.LinkInvariants.{IsUnused, AreDistinct, AreAtMost}
+use Rattle.nr_laws.proofs.OnceByXid.{at-mark, before-mark}
+use Rattle.nr_laws.proofs.Outcomes.{client_by, WasGiven, outcome-given}
+use Rattle.nr_laws.proofs.OwnXids.{OwnXids, own_xids-came, own_xids-accepts, own_xids-writes}
+use Rattle.nr_laws.proofs.Revoked.{frame-regions, request-regions}
+
+-- ---- The xids of outstanding calls are below the one that is given next
+
+xid-revoked : (w : ℕ) (o : OutstandingCall) → (revoked_call w o).xid ≡ o.xid
+xid-revoked w o = by (eqb o.xid w)
+  where
+    by : (b : Bool) → (cond b (record o { is_revoked = true }) o).xid ≡ o.xid
+    by true = refl
+    by false = refl
+
+absent-revoked : (w n : ℕ) (os : List OutstandingCall) → IsUnused (λ (o : OutstandingCall). o.xid) n os → IsUnused (λ (o : OutstandingCall). o.xid) n (map (revoked_call w) os)
+absent-revoked w n [] h = tt
+absent-revoked w n (o ∷ os) h = ((λ e. h.0 (sym (xid-revoked w o) ∙ e)), absent-revoked w n os h.1)
+
+apart-revoked : (w : ℕ) (os : List OutstandingCall) → AreDistinct (λ (o : OutstandingCall). o.xid) os → AreDistinct (λ (o : OutstandingCall). o.xid) (map (revoked_call w) os)
+apart-revoked w [] h = tt
+apart-revoked w (o ∷ os) h = (subst (λ (n : ℕ). IsUnused (λ (x : OutstandingCall). x.xid) n (map (revoked_call w) os)) (sym (xid-revoked w o)) (absent-revoked w o.xid os h.0), apart-revoked w os h.1)
+
+below-revoked : (w n : ℕ) (os : List OutstandingCall) → AreAtMost (λ (o : OutstandingCall). o.xid + 1) n os → AreAtMost (λ (o : OutstandingCall). o.xid + 1) n (map (revoked_call w) os)
+below-revoked w n [] h = tt
+below-revoked w n (o ∷ os) h = (let same = xid-revoked w o in let low = h.0 in (omega (arith, same, low), below-revoked w n os h.1))
+
+own-event : (opened : LinkParameters) (k : ClientState) (ended : Option Stop) (e : Event) → ClientGood opened (record { state = k; ended = ended }) e → OwnXids opened k → OwnXids opened (client_state_after opened k e)
+unfolding client_state_after
+own-event opened k ended (FrameReceived f) good h = own_xids-came opened k f h
+own-event opened k ended (CallSubmitted p a) good h = own_xids-accepts opened k p a good.next h
+own-event opened k ended (MemoryRevoked p xid) good h = record { apart = apart-revoked xid k.outstanding h.apart; below = below-revoked xid (next_xid opened k) k.outstanding h.below }
+own-event opened k ended (CallExecuted e) good h = h
+own-event opened k ended QueueWritten good h = own_xids-writes opened k h
+
+-- a fact that each event keeps
+keeps-next : (opened : LinkParameters) (P : ClientState → Type 0) → ((k : ClientState) (ended : Option Stop) (e : Event) → ClientGood opened (record { state = k; ended = ended }) e → P k → P (client_state_after opened k e))
+    → (k : ClientState) (ended : Option Stop) (e : Event) → ClientGood opened (record { state = k; ended = ended }) e → P k → P (next_end_state_in (client_rules opened) k e ended).state
+keeps-next opened P step k (Some end) e good h = h
+keeps-next opened P step k None e good h = by_why (client_end k e)
+  where
+    by_why : (o : Option Stop) → P (next_end_state_by (client_rules opened) k e o).state
+    by_why None = step k None e good h
+    by_why (Some end) = h
+
+keeps-all : (opened : LinkParameters) (P : ClientState → Type 0) → ((k : ClientState) (ended : Option Stop) (e : Event) → ClientGood opened (record { state = k; ended = ended }) e → P k → P (client_state_after opened k e))
+    → (place : ℕ) (r : EndState ClientState) (es : List Event) → GoesOn (client_rules opened) (ClientGood opened) place r es → P r.state → P (end_state_after (client_rules opened) r es).state
+keeps-all opened P step place r [] g h = h
+keeps-all opened P step place r (e ∷ es) g h = keeps-all opened P step _ (next_end_state (client_rules opened) r e) es g.2 (keeps-next opened P step r.state r.ended e g.1 h)
+
+found-below : (p : OutstandingCall → Bool) (n : ℕ) (os : List OutstandingCall) (o : OutstandingCall) → find p os ≡ Some o → AreAtMost (λ (x : OutstandingCall). x.xid + 1) n os → o.xid + 1 ≤ n
+found-below p n [] o e h = absurd (let wrong : None ≡ Some o = e in cc)
+found-below p n (x ∷ os) o e h = by (p x) e (λ g. found-below p n os o g h.1)
+  where
+    by : (b : Bool) → cond b (Some x) (find p os) ≡ Some o → (find p os ≡ Some o → o.xid + 1 ≤ n) → o.xid + 1 ≤ n
+    by true e later = (let same : x ≡ o = (let s : Some x ≡ Some o = e in cc) in subst (λ (q : OutstandingCall). q.xid + 1 ≤ n) same h.0)
+    by false e later = later e
+
+-- ---- The regions of a call are closed
+
+abbrev AreClosed : ℕ → List Region → Type 0
+AreClosed x [] = Unit {0}
+AreClosed x (r ∷ regions) = (r.call ≡ x → (place : ℕ) × (r.until ≡ Some place)) × AreClosed x regions
+
+closed-at : (x k : ℕ) (regions : List Region) (r : Region) → AreClosed x regions → k < length regions → slice_index_or regions k r ≡ r → r.call ≡ x → (place : ℕ) × (r.until ≡ Some place)
+closed-at x k [] r h lt is own = absurd (omega (arith, lt))
+closed-at x zero (y ∷ regions) r h lt is own = (let c = h.0 (ap (λ (q : Region). q.call) is ∙ own) in (c.0, ap (λ (q : Region). q.until) (sym is) ∙ c.1))
+closed-at x (suc k) (y ∷ regions) r h lt is own = closed-at x k regions r h.1 (omega (arith, lt)) is own
+
+closed-again : (test : Region → Bool) (place x : ℕ) (regions : List Region) → AreClosed x regions → AreClosed x (regions_closed test place regions)
+unfolding regions_closed
+closed-again test place x [] h = tt
+closed-again test place x (r ∷ regions) h = (by (test r), closed-again test place x regions h.1)
+  where
+    by : (b : Bool) → (closed_if b place r).call ≡ x → (p : ℕ) × ((closed_if b place r).until ≡ Some p)
+    by true own = (let c = h.0 own in (c.0, ap (λ (o : Option ℕ). until_at place o) c.1))
+    by false own = h.0 own
+
+closed-now : (place x : ℕ) (regions : List Region) → AreClosed x (regions_closed (λ r. eqb r.call x) place regions)
+unfolding regions_closed
+closed-now place x [] = tt
+closed-now place x (r ∷ regions) = (by (eqb r.call x) refl, closed-now place x regions)
+  where
+    some : (o : Option ℕ) → (p : ℕ) × (until_at place o ≡ Some p)
+    some None = (place, refl)
+    some (Some u) = (u, refl)
+
+    by : (b : Bool) → eqb r.call x ≡ b → (closed_if b place r).call ≡ x → (p : ℕ) × ((closed_if b place r).until ≡ Some p)
+    by true is own = some r.until
+    by false is own = absurd (let wrong : false ≡ true = sym is ∙ eq-eqb r.call x own in cc)
+
+closed-append : (x : ℕ) (rs ss : List Region) → AreClosed x rs → AreClosed x ss → AreClosed x (rs ++ ss)
+closed-append x [] ss h g = g
+closed-append x (r ∷ rs) ss h g = (h.0, closed-append x rs ss h.1 g)
+
+closed-new : (x xid place : ℕ) (bs : List Buffer) → x < xid → AreClosed x (map (region_of xid place) bs)
+closed-new x xid place [] lt = tt
+closed-new x xid place (b ∷ bs) lt = ((λ own. absurd (omega (arith, own, lt))), closed-new x xid place bs lt)
+
+record HasClosedRegions (opened : LinkParameters) (x : ℕ) (k : ClientState) : Type 0 where
+  regions : AreClosed x k.regions
+  low : x < next_xid opened k
+
+closed-event : (opened : LinkParameters) (x : ℕ) (k : ClientState) (ended : Option Stop) (e : Event) → ClientGood opened (record { state = k; ended = ended }) e → HasClosedRegions opened x k → HasClosedRegions opened x (client_state_after opened k e)
+unfolding client_state_after
+closed-event opened x k ended (FrameReceived f) good h = by (is_hello f)
+  where
+    by : (b : Bool) → HasClosedRegions opened x (cond b (record k { has_hello = true }) (with_segment k f (frame_segment f)))
+    by true = record { regions = h.regions; low = h.low }
+    by false = (let same = segment-accepted k f (frame_segment f) in let low = h.low in record {
+      regions = frame-regions (λ (rs : List Region). AreClosed x rs) k f (λ test. closed-again test f.end x k.regions) h.regions (frame_segment f);
+      low = omega (arith, same, low);
+    })
+closed-event opened x k ended (CallSubmitted p a) good h =
+    let low = h.low in
+    let next = good.next in
+    record {
+      regions = closed-append x k.regions (map (region_of a.xid p) (buffers k.stag (outstanding_of k a).plan)) h.regions (closed-new x a.xid p (buffers k.stag (outstanding_of k a).plan) (omega (arith, low, next)));
+      low = omega (arith, low);
+    }
+closed-event opened x k ended (MemoryRevoked p xid) good h = record { regions = closed-again (λ r. eqb r.call xid) p x k.regions h.regions; low = h.low }
+closed-event opened x k ended (CallExecuted e) good h = h
+closed-event opened x k ended QueueWritten good h = record { regions = h.regions; low = h.low }
+
+closed-message : (k : ClientState) (f : Frame) (s : Segment) (message : List ℕ) (x : ℕ) → message_completed k.received s ≡ Some message → x ≡ word_at 0 message → AreClosed x (with_segment k f (Ok s)).regions
+closed-message k f s message x whole own =
+    subst (λ (rs : List Region). AreClosed x rs) (sym (request-regions (with_message k f.end (message_completed k.received s)) (read_request_of s)))
+    (subst (λ (o : Option (List ℕ)). AreClosed x (with_message k f.end o).regions) (sym whole)
+    (subst (λ (n : ℕ). AreClosed x (regions_closed (λ r. eqb r.call n) f.end k.regions)) own (closed-now f.end x k.regions)))
+
+closed-frame : (opened : LinkParameters) (k : ClientState) (f : Frame) (s : Segment) (message : List ℕ) (x : ℕ) → is_hello f ≡ false → frame_segment f ≡ Ok s → message_completed k.received s ≡ Some message → x ≡ word_at 0 message → x < next_xid opened k
+    → HasClosedRegions opened x (client_state_after opened k (FrameReceived f))
+unfolding client_state_after
+closed-frame opened k f s message x behind is whole own low =
+    subst (λ (b : Bool). HasClosedRegions opened x (cond b (record k { has_hello = true }) (with_segment k f (frame_segment f)))) (sym behind)
+    (subst (λ (r : Result Segment ℕ). HasClosedRegions opened x (with_segment k f r)) (sym is)
+    (let same = segment-accepted k f (Ok s) in record { regions = closed-message k f s message x whole own; low = omega (arith, same, low) }))
+
+start-own : (opened : LinkParameters) → OwnXids opened (initial_client opened).state
+start-own opened = record { apart = tt; below = tt }
+
+closed-by-outcome : (opened : LinkParameters) (link : ℕ) (run : List Mark) (c : CompletedCall) → IsTyped run → AskedSoFar opened link run → WasGiven opened (events link Initiator run) c → HasClosedRegions opened c.xid (client opened link run).state
+unfolding client
+closed-by-outcome opened link run c typed asked w =
+    let rules = client_rules opened in
+    let before : EndState ClientState = client_by opened w.earlier in
+    let k : ClientState = before.state in
+    let g = client-goes opened link run typed asked in
+    let all : GoesOn rules (ClientGood opened) 0 (initial_client opened) (w.earlier ++ FrameReceived w.frame ∷ w.later) = subst (λ (es : List Event). GoesOn rules (ClientGood opened) 0 (initial_client opened) es) w.is g.goes in
+    let rest = goes-behind rules (ClientGood opened) 0 (initial_client opened) w.earlier (FrameReceived w.frame ∷ w.later) all in
+    let numbers : OwnXids opened k = keeps-all opened (λ (t : ClientState). OwnXids opened t) (own-event opened) 0 (initial_client opened) w.earlier (goes-first rules (ClientGood opened) 0 (initial_client opened) w.earlier (FrameReceived w.frame ∷ w.later) all) (start-own opened) in
+    let by : GivesBy k w.frame.end w.message c.xid (Some c.outcome) = gives-by k w.frame.end w.message c.xid (Some c.outcome) w.given in
+    let under = found-below _ (next_xid opened k) k.outstanding by.call by.is_call numbers.below in
+    let same = by.call_xid in
+    let now : HasClosedRegions opened c.xid (client_state_after opened k (FrameReceived w.frame)) =
+    closed-frame opened k w.frame w.segment w.message c.xid w.behind w.is_segment w.whole (verdict-xid k w.frame.end w.message c.xid (Some c.outcome) w.given) (omega (arith, under, same)) in
+    let after : EndState ClientState = next_end_state rules before (FrameReceived w.frame) in
+    let is_after : after ≡ record { state = client_state_after opened k (FrameReceived w.frame); ended = None } =
+    ap (λ (o : Option Stop). next_end_state_in rules k (FrameReceived w.frame) o) w.live ∙ ap (λ (o : Option Stop). next_end_state_by rules k (FrameReceived w.frame) o) w.stays in
+    let final : client_by opened (events link Initiator run) ≡ end_state_after rules after w.later = ap (λ (es : List Event). client_by opened es) w.is ∙ end_state_after-append rules (initial_client opened) w.earlier (FrameReceived w.frame ∷ w.later) in
+    subst (λ (r : EndState ClientState). HasClosedRegions opened c.xid r.state) (sym final)
+    (keeps-all opened (λ (t : ClientState). HasClosedRegions opened c.xid t) (closed-event opened c.xid) w.frame.end after w.later rest.2 (subst (λ (r : EndState ClientState). HasClosedRegions opened c.xid r.state) (sym is_after) now))
+
+pub done_hands_back : DoneHandsBack
+done_hands_back opened link run before xid outcome r typed asked at there own =
+    let mark : Mark = marks.Done link xid outcome in
+    let done : IsCompleted opened link before xid outcome = at-mark (AskedMark IsPrefixOf opened link) run before mark at.after at.is asked refl in
+    let c : CompletedCall = record { xid = xid; outcome = outcome } in
+    let all_closed = closed-by-outcome opened link before c (before-mark TypedMark run before mark at.after at.is typed) (before-mark (AskedMark IsPrefixOf opened link) run before mark at.after at.is asked)
+    (outcome-given opened link before c done.is_received) in
+    let closed = closed-at xid there.0 (client opened link before).state.regions r all_closed.regions there.1 there.2 own in
+    record {
+      place = closed.0;
+      closed = closed.1;
+      stands = subst (λ (whole : List Mark). Stands opened link whole before r) (sym at.is)
+          (closed_regions_stand opened link before (mark ∷ at.after) r closed.0 (subst IsTyped at.is typed) (subst (λ (whole : List Mark). AskedSoFar opened link whole) at.is asked) there closed.1);
+    }

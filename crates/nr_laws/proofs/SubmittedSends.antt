@@ -1,0 +1,207 @@
+-- What the Send of a call conveys by the regions of its client.
+use Rattle.std.proofs.Common.{◌≡◌, ℕ, ◌+◌, ◌^◌, ◌<◌, ◌≤◌, Bool, true, false, cond, ◌&&◌, eqb, List, [], ◌∷◌, ◌++◌, length, take, drop, map, Option, None, Some, IfSome, Result, Ok, refl, sym, ap, subst, ◌∙◌, arith, append_assoc, append-nil, eq-eqb}
+use Rattle.std.specs.Prelude.{sum, replicate}
+use Rattle.std.specs.List.{find, flat_map}
+use Rattle.std.proofs.Math.Seq.{take-add}
+use Rattle.std.proofs.lemmas.List.{take_all, drop-drop}
+use Rattle.std.proofs.lemmas.List.Concat.{flat_map-cons}
+use Rattle.std.proofs.lemmas.List.Sums.{sum_by-cons}
+use Rattle.nr_xdr.specs.Item.{IsBytes}
+use Rattle.nr_wire.specs.declared.hello.Side.TheVariants.{Initiator}
+use Rattle.nr_wire.specs.Segment.{Segment}
+use Rattle.nr_regions.specs.declared.right.Right.TheVariants.{Fetch, Fill}
+use Rattle.nr_header.specs.declared.header.ReadSegment.{ReadSegment}
+use Rattle.nr_link.specs.declared.end.End.{End as Stop}
+use Rattle.nr_link.specs.Frames.{Frame, is_hello}
+use Rattle.nr_link.specs.Ending.{frame_segment}
+use Rattle.nr_reduce.specs.declared.call.Call.{Call}
+use Rattle.nr_reduce.specs.declared.call.Form.{Form}
+use Rattle.nr_reduce.specs.declared.call.Submission.TheVariants as submissions
+use Rattle.nr_reduce.specs.declared.mark.Mark.{Mark}
+use Rattle.nr_reduce.specs.declared.mark.Mark.TheVariants as marks
+use Rattle.nr_reduce.specs.declared.mark.LinkParameters.{LinkParameters}
+use Rattle.nr_reduce.specs.declared.outline.Plan.{Plan}
+use Rattle.nr_reduce.specs.History.{AcceptedCall, bytes_received}
+use Rattle.nr_reduce.specs.Limits.{send_max}
+use Rattle.nr_reduce.specs.Plans.{TooLarge, Buffer, buffers, buffer_if, has_segment, write_stag, reply_stag, total, plan_of, lists_of, read_list, entries_from, regions_needed}
+use Rattle.nr_reduce.specs.Chunks.{Bytes, at_position, entry_bytes, read_bytes, call_conveyed}
+use Rattle.nr_reduce.specs.Undone.{ChunkHolds, inline_by, lists_by}
+use Rattle.nr_reduce.specs.Events.{Event, events, events_at, if_own}
+use Rattle.nr_reduce.specs.Events.Event.{FrameReceived, CallSubmitted, MemoryRevoked, CallExecuted, QueueWritten}
+use Rattle.nr_reduce.specs.EndRules.{EndState, end_state_after, next_end_state_in}
+use Rattle.nr_reduce.specs.OfferedRegions.{Region, closed_if, regions_closed}
+use Rattle.nr_reduce.specs.ClientState.{ClientState, call_payload, plan_for}
+use Rattle.nr_reduce.specs.Client.{client_rules, client_end, client_state_after, outstanding_of, plan_or, region_of, with_segment}
+use Rattle.nr_reduce.specs.Matched.{IsPrefixOf}
+use Rattle.nr_reduce.specs.Asked.{AskedMark, AskedSoFar, IsAccepted}
+use Rattle.nr_reduce.specs.Run.{client, grants_of, placed_bytes}
+use Rattle.nr_reduce.proofs.OwnStags.{AreNumbered, own-stags, kept-after, client-known}
+use Rattle.nr_reduce.proofs.Steps.{client-one}
+use Rattle.nr_laws.specs.MarkAt.{MarkAt}
+use Rattle.nr_laws.specs.Typed.{TypedMark, IsTyped}
+use Rattle.nr_laws.specs.Payloads.{HasPlan, form_conveyed}
+use Rattle.nr_laws.specs.SendsConvey.{message_of, SendConveys, SendsConvey}
+use Rattle.nr_laws.proofs.ClientMemory.{find-left, find-right, find-closed, none-from}
+use Rattle.nr_laws.proofs.ConveyedCalls.{planned-fits, plan-reads}
+use Rattle.nr_laws.proofs.ConveyedForms.{HasChunk, no-bytes, planned-chunk, plan-conveys}
+use Rattle.nr_laws.proofs.ExecutedPayloads.{planned-by}
+use Rattle.nr_laws.proofs.FetchedRegions.{IsFetched, fetched-bytes}
+use Rattle.nr_laws.proofs.OnceByXid.{at-mark}
+use Rattle.nr_laws.proofs.Revoked.{frame-regions}
+use Rattle.nr_reduce.proofs.Laid.{added_up, sum-added}
+
+-- ---- The region of a read chunk
+
+record Offers (stag : ℕ) (bytes : List ℕ) (regions : List Region) : Type 0 where
+  region : Region
+  there : find (λ x. eqb x.stag stag) regions ≡ Some region
+  own : region.stag ≡ stag
+  right : region.right ≡ Fetch
+  holds : region.bytes ≡ bytes
+
+offers-left : (stag : ℕ) (bytes : List ℕ) (xs ys : List Region) → Offers stag bytes xs → Offers stag bytes (xs ++ ys)
+offers-left stag bytes xs ys h = record { region = h.region; there = find-left stag xs ys h.region h.there; own = h.own; right = h.right; holds = h.holds }
+
+offers-closed : (test : Region → Bool) (place stag : ℕ) (bytes : List ℕ) (regions : List Region) → Offers stag bytes regions → Offers stag bytes (regions_closed test place regions)
+offers-closed test place stag bytes regions h =
+    by (test h.region) (find-closed test place stag regions h.region h.there)
+  where
+    by : (b : Bool) → find (λ x. eqb x.stag stag) (regions_closed test place regions) ≡ Some (closed_if b place h.region) → Offers stag bytes (regions_closed test place regions)
+    by true e = record { region = closed_if true place h.region; there = e; own = h.own; right = h.right; holds = h.holds }
+    by false e = record { region = h.region; there = e; own = h.own; right = h.right; holds = h.holds }
+
+offers-event : (opened : LinkParameters) (stag : ℕ) (bytes : List ℕ) (k : ClientState) (e : Event) → Offers stag bytes k.regions → Offers stag bytes (client_state_after opened k e).regions
+unfolding client_state_after
+offers-event opened stag bytes k (FrameReceived f) h = by (is_hello f)
+  where
+    by : (b : Bool) → Offers stag bytes (cond b (record k { has_hello = true }) (with_segment k f (frame_segment f))).regions
+    by true = h
+    by false = frame-regions (λ (rs : List Region). Offers stag bytes rs) k f (λ test. offers-closed test f.end stag bytes k.regions) h (frame_segment f)
+offers-event opened stag bytes k (CallSubmitted p a) h = offers-left stag bytes k.regions (map (region_of a.xid p) (buffers k.stag (outstanding_of k a).plan)) h
+offers-event opened stag bytes k (MemoryRevoked p xid) h = offers-closed (λ r. eqb r.call xid) p stag bytes k.regions h
+offers-event opened stag bytes k (CallExecuted e) h = h
+offers-event opened stag bytes k QueueWritten h = h
+
+offers-from : (opened : LinkParameters) (link stag : ℕ) (bytes : List ℕ) (before run : List Mark) → Offers stag bytes (client opened link before).state.regions → Offers stag bytes (client opened link (before ++ run)).state.regions
+offers-from opened link stag bytes before [] h = subst (λ (b : List Mark). Offers stag bytes (client opened link b).state.regions) (sym (append-nil before)) h
+offers-from opened link stag bytes before (mark ∷ run) h =
+    let next : Offers stag bytes (client opened link (before ++ mark ∷ [])).state.regions =
+    subst (λ (r : EndState ClientState). Offers stag bytes r.state.regions) (sym (client-one opened link before mark))
+    (kept-after (client_rules opened) (λ (k : ClientState). Offers stag bytes k.regions) (λ k e. offers-event opened stag bytes k e) (client opened link before) (events_at link Initiator before mark) h) in
+    subst (λ (b : List Mark). Offers stag bytes (client opened link b).state.regions) (append_assoc before (mark ∷ []) run) (offers-from opened link stag bytes (before ++ mark ∷ []) run next)
+
+-- the first of the regions of a plan with a read chunk
+first-buffer : (xid place stag : ℕ) (p : Plan) → has_segment (Some p.read) ≡ true → Offers stag p.region (map (region_of xid place) (buffers stag p))
+unfolding buffers
+first-buffer xid place stag p some =
+    subst (λ (b : Bool). Offers stag p.region (map (region_of xid place) (buffer_if b stag Fetch p.region ++ later))) (sym some)
+    (record { region = region_of xid place (record { stag = stag; right = Fetch; bytes = p.region }); there = found; own = refl; right = refl; holds = refl })
+  where
+    later : List Buffer
+    later = buffer_if (has_segment p.write) (write_stag stag p) Fill (replicate (total p.write) 0) ++ buffer_if (has_segment p.reply) (reply_stag stag p) Fill (replicate (total p.reply) 0)
+
+    found : find (λ x. eqb x.stag stag) (region_of xid place (record { stag = stag; right = Fetch; bytes = p.region }) ∷ map (region_of xid place) later) ≡ Some (region_of xid place (record { stag = stag; right = Fetch; bytes = p.region }))
+    found = ap (λ (b : Bool). cond b (Some (region_of xid place (record { stag = stag; right = Fetch; bytes = p.region }))) (find (λ x. eqb x.stag stag) (map (region_of xid place) later))) (eq-eqb stag stag refl)
+
+offers-right : (stag : ℕ) (bytes : List ℕ) (xs ys : List Region) → find (λ x. eqb x.stag stag) xs ≡ None → Offers stag bytes ys → Offers stag bytes (xs ++ ys)
+offers-right stag bytes xs ys none h = record { region = h.region; there = find-right stag xs ys none ∙ h.there; own = h.own; right = h.right; holds = h.holds }
+
+-- behind its Submit
+submit-offers : (opened : LinkParameters) (link : ℕ) (before : List Mark) (xid : ℕ) (call : Call) (form : Form) (p : Plan) → (client opened link before).ended ≡ None → plan_for (client opened link before).state xid call form ≡ Ok p → has_segment (Some p.read) ≡ true
+    → Offers (client opened link before).state.stag p.region (client opened link (before ++ marks.Submit link call form (submissions.Accepted xid) ∷ [])).state.regions
+unfolding client_end client_state_after
+submit-offers opened link before xid call form p live planned some =
+    let c : EndState ClientState = client opened link before in
+    let k : ClientState = c.state in
+    let mark : Mark = marks.Submit link call form (submissions.Accepted xid) in
+    let place : ℕ = length (bytes_received link Initiator before) in
+    let a : AcceptedCall = record { xid = xid; call = call; form = form } in
+    let one : client opened link (before ++ mark ∷ []) ≡ next_end_state_in (client_rules opened) k (CallSubmitted place a) None =
+    client-one opened link before mark
+    ∙ ap (λ (b : Bool). end_state_after (client_rules opened) c (if_own b (CallSubmitted place a ∷ []))) (own link)
+    ∙ ap (λ (o : Option Stop). next_end_state_in (client_rules opened) k (CallSubmitted place a) o) live in
+    let plan_is : (outstanding_of k a).plan ≡ p = ap (λ (r : Result Plan TooLarge). plan_or (call_payload xid call) r) planned in
+    let numbers = client-known opened link before in
+    let next = numbers.next in
+    subst (λ (r : EndState ClientState). Offers k.stag p.region r.state.regions) (sym one)
+    (offers-right k.stag p.region k.regions (map (region_of xid place) (buffers k.stag (outstanding_of k a).plan)) (none-from opened.first_stag k.stag k.regions (omega (arith, next)) numbers.regions)
+    (subst (λ (q : Plan). Offers k.stag p.region (map (region_of xid place) (buffers k.stag q))) (sym plan_is) (first-buffer xid place k.stag p some)))
+  where
+    own : (n : ℕ) → (eqb n n && true) ≡ true
+    own n = ap (λ (b : Bool). b && true) (eq-eqb n n refl)
+
+-- what memory holds of it after any run
+offers-bytes : (opened : LinkParameters) (link stag : ℕ) (bytes : List ℕ) (run : List Mark) → Offers stag bytes (client opened link run).state.regions → placed_bytes opened link Initiator run stag ≡ bytes
+unfolding placed_bytes grants_of
+offers-bytes opened link stag bytes run h =
+    let k : ClientState = (client opened link run).state in
+    let place : ℕ = length (bytes_received link Initiator run) in
+    let f : IsFetched k.regions stag = record { region = h.region; there = h.there; own = h.own; right = h.right } in
+    fetched-bytes place stag k.regions k.accesses_received (own-stags place opened.first_stag k.regions (client-known opened link run).regions) f ∙ h.holds
+
+-- ---- What the entries of a read chunk bring
+
+at-all : (position handle offset : ℕ) (lengths : List ℕ) → at_position position (entries_from position handle offset lengths) ≡ entries_from position handle offset lengths
+at-all position handle offset [] = refl
+at-all position handle offset (n ∷ lengths) =
+    let entry : ReadSegment = record { position = position; handle = handle; length = n; offset = offset } in
+    (λ i. cond (eq-eqb position position refl i) (entry ∷ at-all position handle (offset + n) lengths i) (at_position position (entries_from position handle (offset + n) lengths)))
+
+joined-entries : (memory : Bytes) (position handle offset : ℕ) (lengths : List ℕ) → flat_map (entry_bytes memory) (entries_from position handle offset lengths) ≡ take (sum lengths) (drop offset (memory handle))
+joined-entries memory position handle offset [] = refl
+joined-entries memory position handle offset (n ∷ lengths) =
+    flat_map-cons (entry_bytes memory) (record { position = position; handle = handle; length = n; offset = offset }) (entries_from position handle (offset + n) lengths)
+    ∙ ap (λ (xs : List ℕ). take n (drop offset (memory handle)) ++ xs) (joined-entries memory position handle (offset + n) lengths)
+    ∙ ap (λ (xs : List ℕ). take n (drop offset (memory handle)) ++ take (sum lengths) xs) (sym (drop-drop n offset (memory handle)))
+    ∙ sym (take-add n (sum lengths) (drop offset (memory handle)))
+    ∙ ap (λ (k : ℕ). take k (drop offset (memory handle))) (sym (sum_by-cons (λ (k : ℕ). k) n lengths))
+
+entries-bring : (memory : Bytes) (position stag : ℕ) (ns : List ℕ) (region : List ℕ) → length region ≡ added_up ns → (has_segment (Some ns) ≡ true → memory stag ≡ region) → read_bytes memory (entries_from position stag 0 ns) position ≡ region
+unfolding read_bytes
+entries-bring memory position stag [] region size holds = sym (no-bytes region size)
+entries-bring memory position stag (n ∷ ns) region size holds =
+    ap (λ (es : List ReadSegment). flat_map (entry_bytes memory) es) (at-all position stag 0 (n ∷ ns))
+    ∙ joined-entries memory position stag 0 (n ∷ ns)
+    ∙ ap (λ (xs : List ℕ). take (sum (n ∷ ns)) xs) (holds refl)
+    ∙ take_all (sum (n ∷ ns)) region (let s = sum-added (n ∷ ns) in omega (arith, s, size))
+
+chunk-holds : (memory : Bytes) (stag : ℕ) (p : Plan) → HasChunk p → (has_segment (Some p.read) ≡ true → memory stag ≡ p.region) → ChunkHolds (read_bytes memory (lists_of stag p).read) p
+unfolding lists_of
+chunk-holds memory stag p chunk holds = by p.read_at refl
+  where
+    by : (o : Option ℕ) → p.read_at ≡ o → IfSome o (λ position. read_bytes memory (read_list stag p p.read_at) position ≡ p.region)
+    by None at = tt
+    by (Some position) at = ap (λ (o : Option ℕ). read_bytes memory (read_list stag p o) position) at ∙ entries-bring memory position stag p.read p.region chunk.size holds
+
+-- ---- The law
+
+pub sends_convey : SendsConvey
+sends_convey opened link run xid plan header typed asked has reads =
+    let before : List Mark = has.before in
+    let k : ClientState = (client opened link before).state in
+    let submit : Mark = marks.Submit link has.call has.form (submissions.Accepted xid) in
+    let accepted : IsAccepted opened link before has.call has.form xid = at-mark (AskedMark IsPrefixOf opened link) run before submit has.at.after has.at.is asked refl in
+    let fine = at-mark TypedMark run before submit has.at.after has.at.is typed in
+    let payload : List ℕ = call_payload xid has.call in
+    let same : accepted.plan ≡ plan = same-plan accepted.plan plan (sym accepted.planned ∙ has.planned) in
+    let stags : k.stag + regions_needed plan ≤ 2 ^ 32 = subst (λ (p : Plan). k.stag + regions_needed p ≤ 2 ^ 32) same accepted.stags in
+    let planned : plan_of payload has.form send_max send_max ≡ Ok plan = planned-by opened link before xid has.call has.form plan has.planned in
+    let fits = planned-fits payload has.form send_max k.stag plan planned fine.0 fine.1 stags in
+    let r = plan-reads xid opened.wished k.stag plan header fits.0 fits.1 accepted.xids reads in
+    let memory : Bytes = placed_bytes opened link Initiator run in
+    let offered : has_segment (Some plan.read) ≡ true → memory k.stag ≡ plan.region = λ some.
+    offers-bytes opened link k.stag plan.region run
+    (subst (λ (whole : List Mark). Offers k.stag plan.region (client opened link whole).state.regions) (append_assoc before (submit ∷ []) has.at.after ∙ sym has.at.is)
+    (offers-from opened link k.stag plan.region (before ++ submit ∷ []) has.at.after (submit-offers opened link before xid has.call has.form plan accepted.stays has.planned some))) in
+    let holds = chunk-holds memory k.stag plan (planned-chunk payload has.form send_max send_max plan planned) offered in
+    record {
+      lists = r.lists;
+      conveys = (λ i. call_conveyed (r.inline i) (r.lists i).read (read_bytes memory (r.lists i).read))
+          ∙ plan-conveys payload has.form send_max k.stag plan (read_bytes memory (lists_of k.stag plan).read) fine.0 fine.1 planned stags holds;
+    }
+  where
+    made : Plan → Result Plan TooLarge
+    made p = Ok p
+
+    same-plan : (p q : Plan) → made p ≡ made q → p ≡ q
+    same-plan p q e = (let t : Ok p ≡ Ok q = e in cc)

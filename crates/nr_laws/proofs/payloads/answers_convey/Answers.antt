@@ -1,0 +1,5 @@
+use Rattle.nr_laws.proofs.ConveyingAnswers.{answers_convey}
+use Rattle.nr_laws.proofs.payloads.answers_convey.Goals as goal
+
+pub returns : goal.returns
+returns c = answers_convey

@@ -1,0 +1,60 @@
+-- What an answer conveys, whatever was offered (RFC 8166 sections 3.4.6 and 3.5): the payloads of its RDMA Writes, cut by the lengths that it returns,
+-- and its inline stream. Read back out of memory it would be less, where the segments of an offer overlap.
+use Rattle.std.specs.Prelude.{◌≡◌, ℕ, if◌then◌else◌, List, [], ◌∷◌, ◌++◌, take, drop, Option, None, Some}
+use Rattle.nr_header.specs.declared.header.ChunkLists.{ChunkLists}
+use Rattle.nr_rpc.specs.declared.head.CallTarget.{CallTarget}
+use Rattle.nr_rpc.specs.Reading.{call_of, target_of}
+use Rattle.nr_wire.specs.Segment.{Segment}
+use Rattle.nr_wire.specs.Segment.Segment.{Tagged, Untagged}
+use Rattle.nr_reduce.specs.declared.item.Of.{Of}
+use Rattle.nr_reduce.specs.declared.item.Of.TheVariants.{Reply}
+use Rattle.nr_reduce.specs.declared.mark.Moment.{Moment}
+use Rattle.nr_reduce.specs.declared.mark.Mark.{Mark}
+use Rattle.nr_reduce.specs.declared.mark.Mark.TheVariants as marks
+use Rattle.nr_reduce.specs.declared.mark.LinkParameters.{LinkParameters}
+use Rattle.nr_reduce.specs.Chunks.{chunk_total, whole, some_bytes}
+use Rattle.nr_reduce.specs.Holds.{Answer, answer_lists, first_chunk, no_segments}
+use Rattle.nr_reduce.specs.Undone.{answer_segments}
+use Rattle.nr_reduce.specs.Server.{offer_of}
+use Rattle.nr_reduce.specs.Served.{ServedSoFar}
+use Rattle.nr_reduce.specs.Run.{server}
+use Rattle.nr_laws.specs.ChunkOutcomes.{answer_held, IsAnswered}
+use Rattle.nr_laws.specs.MarkAt.{MarkAt}
+use Rattle.nr_laws.specs.Typed.{IsTyped}
+
+-- the payloads of tagged segments, in order
+abbrev pub payloads_of : List Segment → List ℕ
+payloads_of [] = []
+payloads_of (Tagged last opcode stag to payload ∷ segments) = payload ++ payloads_of segments
+payloads_of (Untagged last opcode w queue msn offset payload ∷ segments) = payloads_of segments
+
+-- how many bytes the answer returns in the first write chunk, and in the reply chunk
+abbrev pub moved_returned : ChunkLists → Answer → ℕ
+moved_returned offer a = chunk_total (first_chunk (answer_lists offer a).write)
+
+abbrev pub stream_returned : ChunkLists → Answer → ℕ
+stream_returned offer a = chunk_total (no_segments (answer_lists offer a).reply)
+
+-- what the Writes bring of each, and the stream: behind what moved, where the answer has it in the reply chunk, else inline
+abbrev pub moved_brought : ChunkLists → Answer → List ℕ
+moved_brought offer a = take (moved_returned offer a) (payloads_of (answer_segments offer a))
+
+abbrev pub stream_brought : ChunkLists → Answer → List ℕ
+stream_brought offer a = if a.long then take (stream_returned offer a) (drop (moved_returned offer a) (payloads_of (answer_segments offer a))) else a.stream
+
+-- the procedure whose reply is put together; a call of another RPC version names none
+abbrev pub replied_by : Option CallTarget → Of
+replied_by None = Reply 0 0 0
+replied_by (Some target) = Reply target.prog target.vers target.proc
+
+-- The answer of an executed call: it is due, by its Writes and its Send, and what it brings is the reply, put together for
+-- the procedure of the call.
+pub record ConveysItsReply (opened : LinkParameters) (link : ℕ) (before : List Mark) (xid : ℕ) (moment : Moment) (payload : List ℕ) (place : ℕ) (reply : List ℕ) : Type 0 where
+  pub answered : IsAnswered opened link before xid moment payload place reply
+  pub conveys : (let offer : ChunkLists = offer_of (server opened link before).state xid in
+      whole (replied_by (target_of (call_of payload))) (stream_brought offer answered.answer) (some_bytes (moved_brought offer answered.answer)) ≡ Some reply)
+
+-- On every link whose server keeps its law, whatever its client offered: an executed call whose offer holds an answer is answered so.
+abbrev pub AnswersConvey : Type 0
+AnswersConvey = (opened : LinkParameters) (link : ℕ) (run before : List Mark) (xid : ℕ) (moment : Moment) (payload : List ℕ) (place : ℕ) (reply : List ℕ) (answer : Answer) → IsTyped run → ServedSoFar opened link run →
+    MarkAt run before (marks.Execute link xid moment payload place reply) → answer_held opened link before xid payload reply ≡ Some answer → ConveysItsReply opened link before xid moment payload place reply
