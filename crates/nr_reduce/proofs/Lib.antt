@@ -1,3 +1,5 @@
+pub mod AnswerLists
+pub mod Compared
 pub mod Places
 pub mod Rooms
 pub mod Recut

@@ -1,5 +1,5 @@
 -- A payload cut at its item, and a payload put together again (RFC 8166 section 3.4.1).
-use Rattle.std.specs.Prelude.{◌≡◌, ℕ, ◌==◌, not, if◌then◌else◌, List, Option, None, Some, Result, Ok, Err}
+use Rattle.std.specs.Prelude.{◌≡◌, ℕ, ◌==◌, ◌≤◌, not, if◌then◌else◌, List, length, take, Option, None, Some, Result, Ok, Err}
 use Rattle.nr_reduce.specs.declared.item.Item.{Item}
 use Rattle.nr_reduce.specs.declared.item.Of.{Of}
 use Rattle.nr_reduce.specs.declared.fault.PayloadFault.{PayloadFault}
@@ -35,3 +35,8 @@ Rebuilds (Ok payload) rebuilt = rebuilt ≡ Ok payload
 Rebuilds (Err (faults.TooLarge need room)) rebuilt = ⊥
 Rebuilds (Err (faults.BadChunks why)) rebuilt = rebuilt ≡ Err why
 Rebuilds (Err faults.Memory) rebuilt = Unit {0}
+
+-- The payload is the first bytes of a room.
+abbrev pub RebuildsInto : Result ℕ Mismatch → (room : List ℕ) → Result (List ℕ) Mismatch → Type 0
+RebuildsInto (Ok len) room rebuilt = (rebuilt ≡ Ok (take len room)) × (len ≤ length room)
+RebuildsInto (Err why) room rebuilt = rebuilt ≡ Err why

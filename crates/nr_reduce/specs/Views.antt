@@ -1,13 +1,13 @@
 -- What borrowed values stand for, and steps of the code in the terms of the definitions.
-use Rattle.std.specs.Prelude.{ℕ, nat_le, if◌then◌else◌, List, [], ◌∷◌, Option, None, Some}
+use Rattle.std.specs.Prelude.{ℕ, Bool, nat_le, ◌&&◌, ◌||◌, ◌==◌, if◌then◌else◌, List, [], ◌∷◌, length, Option, None, Some}
 use Rattle.nr_header.specs.declared.header.RdmaSegment.{RdmaSegment}
 use Rattle.nr_reduce.specs.declared.item.Item.{Item}
 use Rattle.nr_reduce.specs.declared.item.Of.{Of}
 use Rattle.nr_reduce.specs.declared.holding.Parts.{Parts as BorrowedParts}
 use Rattle.nr_reduce.specs.declared.holding.Answer.{Answer as BorrowedAnswer}
 use Rattle.nr_reduce.specs.Items.{reducible_item, stream_of, moved_of}
-use Rattle.nr_reduce.specs.Chunks.{chunk_total}
-use Rattle.nr_reduce.specs.Holds.{Parts, Answer}
+use Rattle.nr_reduce.specs.Chunks.{chunk_total, filled_chunk, are_empty}
+use Rattle.nr_reduce.specs.Holds.{Parts, Answer, no_segments}
 
 abbrev pub parts_view : BorrowedParts → Parts
 parts_view p = record { stream = p.stream.now; moved = p.moved.now }
@@ -30,3 +30,11 @@ parts_for room reply (Some i) =
 unfoldable pub parts_of : Of → Option ℕ → List ℕ → Option Parts
 parts_of of None reply = Some (record { stream = reply; moved = [] })
 parts_of of (Some room) reply = parts_for room reply (reducible_item of reply)
+
+-- a segment that comes back, with those after it
+abbrev pub returns_one : (offered back : RdmaSegment) → List RdmaSegment → Bool
+returns_one o b after = b.handle == o.handle && (b.offset == o.offset && (nat_le b.length o.length && (b.length == o.length || are_empty after)))
+
+-- the reply chunk of an answer
+abbrev pub reply_of_answer : Option (List RdmaSegment) → Answer → Option (List RdmaSegment)
+reply_of_answer offered a = if a.long then Some (filled_chunk (no_segments offered) (length a.stream)) else None

@@ -1,11 +1,11 @@
 //! A payload cut at its item, and put together again (RFC 8166 section 3.4.1).
 
-ghost use Rattle.std.specs.Prelude.{◌≡◌, ◌+◌, ◌==◌, ◌<◌, ◌≤◌, ◌++◌, length, replicate, Some, IfOk, IfErr, IfSome};
+ghost use Rattle.std.specs.Prelude.{◌≡◌, ◌+◌, ◌==◌, ◌<◌, ◌≤◌, ◌++◌, length, take, replicate, Some, IfOk, IfErr, IfSome, OnErr};
 ghost use Rattle.std.specs.List.{list_all};
 ghost use Rattle.nr_xdr.specs.Item.{pad_len};
 ghost use Rattle.nr_reduce.specs.Items.{ends_with_item, reducible_item, stream_of, moved_of, restored_payload};
 ghost use Rattle.nr_reduce.specs.Chunks.{has_length, IsWhole};
-ghost use Rattle.nr_reduce.specs.Cuts.{cut_of, rebuilt_of, Rebuilds};
+ghost use Rattle.nr_reduce.specs.Cuts.{cut_of, rebuilt_of, Rebuilds, RebuildsInto};
 
 use crate::fault::{Mismatch, PayloadFault};
 use crate::item::{Cut, Item, Of, item_of};
@@ -161,4 +161,72 @@ pub fn rebuild(
         });
     }
     Ok(restored(alloc, stream, &item, moved)?)
+}
+
+/// Writes some bytes over those of a room from `at` on, and gives the offset at which they end.
+fn put_at(room: &mut Octets, at: usize, bytes: &[u8]) -> usize
+    requires { at + length bytes.now ≤ length room.old }
+    ensures end { result ≡ at + length bytes.now }
+    ensures front { take result room.new ≡ take at room.old ++ bytes.now }
+    ensures length { length room.new ≡ length room.old }
+{
+    let _len = room.len();
+    let end = at + bytes.len();
+    room.overwrite(at, bytes);
+    end
+}
+
+/// Writes the payload of a stream and an item's bytes over the first bytes of a room, and gives its length.
+#[tactic(auto, unfolding(crate::specs::Items::restored_payload))]
+fn restore_into(room: &mut Octets, stream: &[u8], item: &Item, moved: &[u8]) -> usize
+    requires place { item.now.pos ≤ length stream.now }
+    requires content { item.now.len ≤ length moved.now }
+    requires room { length stream.now + length moved.now + 3 ≤ length room.old }
+    ensures payload { take result room.new ≡ restored_payload item.now stream.now moved.now }
+    ensures within { result ≤ length room.new }
+{
+    let len = item.len as usize;
+    let (front, behind) = stream.split_at(item.pos);
+    let (content, _) = moved.split_at(len);
+    let content_at = put_at(room, 0, front);
+    let pad_at = put_at(room, content_at, content);
+    let behind_at = put_at(room, pad_at, zeros(pad_len(len)));
+    put_at(room, behind_at, behind)
+}
+
+/// Puts the payload that [`rebuild`] gives into the first bytes of a room that was taken before, and gives its length; or why
+/// there is none, and then the room is as before. Takes no memory.
+#[tactic(auto, unfolding(crate::specs::Cuts::rebuilt_of))]
+pub fn rebuild_into(
+    room: &mut Octets,
+    of: &Of,
+    stream: &[u8],
+    pos: u32,
+    moved: &[u8],
+) -> Result<usize, Mismatch>
+    requires { length stream.now + length moved.now + 3 ≤ length room.old }
+    ensures whole { IfOk result (λ len. IsWhole of.now (take len room.new) stream.now (Some moved.now)) }
+    ensures exact { RebuildsInto result room.new (rebuilt_of of.now stream.now pos moved.now) }
+    ensures refused { OnErr result (room.new ≡ room.old) }
+{
+    let Some(item) = item_of(of, stream) else {
+        return Err(Mismatch::NoItem);
+    };
+    if item.pos != pos as usize {
+        return Err(Mismatch::Position);
+    }
+    if !has_length(of, &item, moved) {
+        return Err(Mismatch::Length);
+    }
+    Ok(restore_into(room, stream, &item, moved))
+}
+
+/// The first bytes of a room, as a byte string of their own. Takes no memory.
+pub fn first_bytes(room: Octets, len: usize) -> Octets
+    requires { len ≤ length room }
+    ensures { result ≡ take len room }
+{
+    let mut bytes = room.into_vec();
+    bytes.truncate(len);
+    Octets::from_vec(bytes)
 }

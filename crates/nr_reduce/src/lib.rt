@@ -14,6 +14,7 @@
 #![tactic(auto)]
 
 mod call;
+mod comparing;
 mod cutting;
 mod fault;
 mod holding;
@@ -25,11 +26,14 @@ mod mark;
 mod memory_laws;
 mod outline;
 mod planning;
+mod reading;
+mod replying;
 mod run_laws;
 mod sequence;
 
 pub use call::{Call, Form, Lengths, Offer, Outcome, Refused, Submission};
-pub use cutting::{cut, rebuild, reducible_item};
+pub use comparing::answers_offer;
+pub use cutting::{cut, first_bytes, rebuild, rebuild_into, reducible_item};
 pub use fault::{Mismatch, PayloadFault};
 pub use holding::{Answer, answer_for, holds};
 pub use item::{Cut, Item, Of, call_item, item_of, reply_item};
@@ -40,6 +44,8 @@ pub use mark::{Entry, LinkParameters, Mark, Marks, Moment};
 pub use memory_laws::{memory_follows_regions, regions_go_on};
 pub use outline::Plan;
 pub use planning::plan;
+pub use reading::{is_read_chunk_of_item, item_position, total_at};
+pub use replying::{answer_lists, answer_message};
 pub use run_laws::{
     accepted_calls_keep_the_law, accesses_are_allowed, ended_ends_stay, ends_stand_for_marks,
     laws_so_far, nothing_twice, one_mark_more, places_rise, plans_are_accepted, sends_are_answered,
