@@ -1,0 +1,7 @@
+pub mod Limits
+pub mod Words
+pub mod Pieces
+pub mod Forms
+pub mod Lines
+pub mod Script
+pub mod Generator

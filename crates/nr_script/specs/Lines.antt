@@ -1,0 +1,119 @@
+-- The lines of a script, word by word.
+use Rattle.std.specs.Prelude.{ℕ, ◌&&◌, if◌then◌else◌, List, [], ◌∷◌, codes, Option, None, Some}
+use Rattle.std.specs.Str.{bytes_eq}
+use Rattle.nr_rpc.specs.declared.cred.Cred.{Cred}
+use Rattle.nr_rpc.specs.declared.cred.Cred.TheVariants as creds
+use Rattle.nr_wire.specs.declared.hello.Side.{Side}
+use Rattle.nr_wire.specs.declared.hello.Side.TheVariants.{Initiator, Responder}
+use Rattle.nr_reduce.specs.Limits.{most_credits}
+use Rattle.nr_script.specs.declared.script.Opening.{Opening}
+use Rattle.nr_script.specs.declared.script.Line.{Line}
+use Rattle.nr_script.specs.declared.script.Line.TheVariants as lines
+use Rattle.nr_reduce.specs.declared.call.Form.{Form}
+use Rattle.nr_script.specs.declared.program.Program.{Program}
+use Rattle.nr_script.specs.Limits.{most_clients, default_capacity, most_capacity}
+use Rattle.nr_script.specs.Words.{◌>>=◌, number_within, number_in, bytes_in, arguments_in}
+use Rattle.nr_script.specs.Forms.{form_in, program_in}
+
+-- ===== the first line
+
+-- `clients N credits G`, and then ` capacity B` if it is given: its number of bytes, or the default
+abbrev pub capacity_in : List (List ℕ) → Option ℕ
+capacity_in [] = Some default_capacity
+capacity_in (name ∷ bytes ∷ []) = if bytes_eq name (codes "capacity") then number_within 0 most_capacity bytes else None
+capacity_in words = None
+
+abbrev pub opening_of : List ℕ → List ℕ → List (List ℕ) → Option Opening
+opening_of clients credits others = do
+  n ← number_within 1 most_clients clients
+  g ← number_within 1 most_credits credits
+  b ← capacity_in others
+  Some (record { clients = n; credits = g; capacity = b })
+
+unfoldable pub opening_in : List (List ℕ) → Option Opening
+opening_in (first ∷ clients ∷ second ∷ credits ∷ others) =
+    if bytes_eq first (codes "clients") && bytes_eq second (codes "credits") then opening_of clients credits others else None
+opening_in words = None
+
+-- ===== the other lines, by what follows their first word
+
+-- one number alone, or two
+abbrev pub one_number : List (List ℕ) → Option ℕ
+one_number (word ∷ []) = number_in word
+one_number words = None
+
+abbrev pub two_numbers : List (List ℕ) → Option (ℕ × ℕ)
+two_numbers (first ∷ second ∷ []) = number_in first >>= λ n. number_in second >>= λ m. Some (n, m)
+two_numbers words = None
+
+-- AUTH_SYS of a script (RFC 5531 appendix A): stamp 0, machine `drill`, no further groups
+abbrev pub sys_cred : ℕ → ℕ → Cred
+sys_cred uid gid = creds.Sys 0 (codes "drill") uid gid []
+
+abbrev pub sys_line : ℕ → List (List ℕ) → Option Line
+sys_line client words = two_numbers words >>= λ p. Some (lines.Cred client (sys_cred p.0 p.1))
+
+abbrev pub cred_line_of : ℕ → List (List ℕ) → Option Line
+cred_line_of client (none ∷ []) = if bytes_eq none (codes "none") then Some (lines.Cred client creds.None) else None
+cred_line_of client words = sys_line client words
+
+abbrev pub cred_line : List (List ℕ) → Option Line
+cred_line [] = None
+cred_line (client ∷ others) = number_in client >>= λ c. cred_line_of c others
+
+abbrev pub target_in : List ℕ → List ℕ → List ℕ → Option (ℕ × Program × ℕ)
+target_in client program proc = number_in client >>= λ c. program_in program >>= λ p. number_in proc >>= λ n. Some (c, p, n)
+
+abbrev pub call_with : ℕ × Program × ℕ → Option Form → List ℕ → Option Line
+call_with target form args = form >>= λ f. Some (lines.Call target.0 f target.1.prog target.1.vers target.2 args)
+
+abbrev pub call_line : List (List ℕ) → Option Line
+call_line (client ∷ form ∷ program ∷ proc ∷ args ∷ []) = target_in client program proc >>= λ t. arguments_in args >>= λ bytes. call_with t (form_in form) bytes
+call_line words = None
+
+-- a client alone, or a client and a number
+abbrev pub client_line : (ℕ → Line) → List (List ℕ) → Option Line
+client_line line words = one_number words >>= λ c. Some (line c)
+
+abbrev pub number_line : (ℕ → ℕ → Line) → List (List ℕ) → Option Line
+number_line line words = two_numbers words >>= λ p. Some (line p.0 p.1)
+
+-- what goes up is written in the client's place
+abbrev pub side_in : List ℕ → Option Side
+side_in word = if bytes_eq word (codes "up") then Some Initiator else (if bytes_eq word (codes "down") then Some Responder else None)
+
+abbrev pub raw_line : List (List ℕ) → Option Line
+raw_line (client ∷ way ∷ hex ∷ []) = number_in client >>= λ c. side_in way >>= λ side. bytes_in hex >>= λ bytes. Some (lines.Raw c side bytes)
+raw_line words = None
+
+abbrev pub drain_line : List (List ℕ) → Option Line
+drain_line [] = Some lines.Drain
+drain_line (word ∷ others) = None
+
+abbrev pub later_line : List ℕ → List (List ℕ) → Option Line
+later_line name others =
+    if bytes_eq name (codes "forget") then number_line lines.Forget others
+    else (if bytes_eq name (codes "revoke") then number_line lines.Revoke others
+    else (if bytes_eq name (codes "drop") then client_line lines.Drop others
+    else (if bytes_eq name (codes "drain") then drain_line others
+    else None)))
+
+-- a line of numbers
+abbrev pub plain_line : List ℕ → List (List ℕ) → Option Line
+plain_line name others =
+    if bytes_eq name (codes "up") then number_line lines.Up others
+    else (if bytes_eq name (codes "down") then number_line lines.Down others
+    else (if bytes_eq name (codes "work") then client_line lines.Work others
+    else (if bytes_eq name (codes "tick") then client_line lines.Tick others
+    else later_line name others)))
+
+abbrev pub line_named : List ℕ → List (List ℕ) → Option Line
+line_named name others =
+    if bytes_eq name (codes "cred") then cred_line others
+    else (if bytes_eq name (codes "call") then call_line others
+    else (if bytes_eq name (codes "raw") then raw_line others
+    else plain_line name others))
+
+unfoldable pub line_in : List (List ℕ) → Option Line
+line_in [] = None
+line_in (name ∷ others) = line_named name others
